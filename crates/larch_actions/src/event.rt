@@ -1,0 +1,96 @@
+//! Layouts, names, actions and events.
+ghost use Rattle.std.specs.Prelude.{◌↔◌, IsTrue};
+
+use crate::ThreadSet;
+
+/// How many threads, mutexes, conditions and semaphores there are. A lawful layout has 1 to 64 threads and 0 to 64 of each
+/// other kind.
+#[derive(Clone, Copy, Debug, PartialEq, Eq)]
+pub struct Layout {
+    pub threads: u32,
+    pub mutexes: u32,
+    pub conditions: u32,
+    pub semaphores: u32,
+}
+
+impl Layout {
+    ghost use Rattle.larch_actions.specs.Layout.{IsLawful};
+
+    /// Whether the counts are within their limits.
+    pub fn lawful(&self) -> bool
+        ensures { IsTrue result ↔ IsLawful self.now }
+    {
+        self.threads >= 1
+            && self.threads <= 64
+            && self.mutexes <= 64
+            && self.conditions <= 64
+            && self.semaphores <= 64
+    }
+}
+
+/// The number of a thread.
+#[derive(Clone, Copy, Debug, PartialEq, Eq)]
+pub struct ThreadId(pub u32);
+
+/// The number of a mutex.
+#[derive(Clone, Copy, Debug, PartialEq, Eq)]
+pub struct MutexId(pub u32);
+
+/// The number of a condition.
+#[derive(Clone, Copy, Debug, PartialEq, Eq)]
+pub struct CondId(pub u32);
+
+/// The number of a semaphore.
+#[derive(Clone, Copy, Debug, PartialEq, Eq)]
+pub struct SemId(pub u32);
+
+/// An atomic action with its names and, where the specification leaves a choice, the choice that was made.
+#[derive(Clone, Copy, Debug, PartialEq, Eq)]
+pub enum Action {
+    Acquire { mutex: MutexId },
+    Release { mutex: MutexId },
+    /// The first part of a wait.
+    Enqueue { mutex: MutexId, cond: CondId },
+    /// The second part of a wait.
+    Resume { mutex: MutexId, cond: CondId },
+    /// The first part of an alertable wait.
+    AlertEnqueue { mutex: MutexId, cond: CondId },
+    /// The second part of an alertable wait that returns.
+    AlertReturn { mutex: MutexId, cond: CondId },
+    /// The second part of an alertable wait that raises.
+    AlertRaise { mutex: MutexId, cond: CondId },
+    /// With the threads that stay in the condition.
+    Signal { cond: CondId, left: ThreadSet },
+    Broadcast { cond: CondId },
+    P { sem: SemId },
+    V { sem: SemId },
+    Alert { who: ThreadId },
+    /// With its answer.
+    TestAlert { yes: bool },
+    AlertPReturn { sem: SemId },
+    AlertPRaise { sem: SemId },
+}
+
+/// An action by a thread.
+#[derive(Clone, Copy, Debug, PartialEq, Eq)]
+pub struct Event {
+    pub thread: ThreadId,
+    pub action: Action,
+}
+
+/// Which clause an event that isn't allowed fails first, in this order.
+#[derive(Clone, Copy, Debug, PartialEq, Eq)]
+pub enum Broken {
+    Order,
+    Requires,
+    When,
+    Ensures,
+}
+
+/// What a thread has begun: nothing, or a wait whose second part is to come.
+#[derive(Clone, Copy, Debug, PartialEq, Eq)]
+pub enum Pending {
+    Nothing,
+    Waiting { mutex: MutexId, cond: CondId },
+    AlertWaiting { mutex: MutexId, cond: CondId },
+}

@@ -1,0 +1,11 @@
+//! The published atomic actions of the threads package as plain data, the state that they speak of, and what each does to it.
+//!
+//! Promises: `State::apply` is an action's row exactly, or names the first clause that fails; `State::summary` counts the state.
+//! Stands on nothing. It does not know how the package carries the actions out.
+#![tactic(auto)]
+
+mod event;
+mod thread_set;
+
+pub use event::{Action, Broken, CondId, Event, Layout, MutexId, Pending, SemId, ThreadId};
+pub use thread_set::ThreadSet;
