@@ -11,4 +11,4 @@ pub use real::ReaderSource;
 pub use sink::{MemSink, Sink, SinkFault, put_all};
 pub use source::{Failed, MemSource, Source};
 pub use text::Text;
-pub use tree::{Entry, FileBytes, Kind, TreeError};
+pub use tree::{Entry, FileBytes, Kind, Tree, TreeError};
