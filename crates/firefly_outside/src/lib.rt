@@ -3,6 +3,8 @@
 //! calls fail. The ones of the system stand on std's readers and writers, and tell what these tell.
 #![tactic(auto)]
 
+mod paths;
+mod place;
 mod real;
 mod sink;
 mod source;

@@ -6,7 +6,7 @@ use crate::Text;
 use std::alloc::Global;
 
 /// A child of a directory.
-#[derive(Debug, Drop)]
+#[derive(Clone, Debug, Drop)]
 pub struct Entry {
     pub name: Text,
     pub kind: Kind,
