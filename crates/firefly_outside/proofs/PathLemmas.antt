@@ -14,7 +14,7 @@ plain-at : (e m : Path) → get_or (e ++ slash ∷ m) (length e) 0 ≡ slash
 plain-at e m = grind (arith, common_steps)
 
 -- a text with no slash isn't one with a slash
-plain-slash : (n e m : Path) → n ≡ e ++ slash ∷ m → All (λ b. b ≢ slash) n → ⊥
+pub plain-slash : (n e m : Path) → n ≡ e ++ slash ∷ m → All (λ b. b ≢ slash) n → ⊥
 plain-slash n e m same plain =
     let shorter : length e < length n = omega (arith, ap length same, length-append e (slash ∷ m)) in
     plain (length e) 0 shorter (ap (λ s. get_or s (length e) 0) same ∙ plain-at e m)
