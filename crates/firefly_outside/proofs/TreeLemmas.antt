@@ -1,6 +1,6 @@
 -- Adding to a tree.
-use Rattle.std.proofs.Common.{◌≡◌, ◌≢◌, ℕ, ◌+◌, ◌<◌, Bool, true, false, List, [], ◌∷◌, ◌++◌, length, get_or, sym, ◌∙◌, ap, subst, refl, inl, inr, arith, ◌⊎◌, length-append, nat_eq}
-use Rattle.std.specs.Prelude.{Option, Some, None, if◌then◌else◌, Contains, AllPairs}
+use Rattle.std.proofs.Common.{◌≡◌, ◌≢◌, Bool, true, false, List, [], ◌∷◌, ◌++◌, length, get_or, sym, ◌∙◌, ap, subst, refl, inl, inr, arith, ◌⊎◌, length-append, nat_eq}
+use Rattle.std.specs.Prelude.{Option, Some, None, if◌then◌else◌, Contains, ◌↔◌}
 use Rattle.std.specs.Option.{option_map}
 use Rattle.std.specs.List.{All}
 use Rattle.std.specs.Cmp.Lexicographic.{pointwise}
@@ -9,11 +9,14 @@ use Rattle.std.proofs.lemmas.Bool.Decides.{Decides-eqb}
 use Rattle.std.proofs.lemmas.Slice.Eq.{slice_eq-Decides}
 use Rattle.std.proofs.lemmas.List.Elements.{Contains-push_cases, All-append, All-cons, All-nil}
 use Rattle.std.proofs.lemmas.List.Quantifiers.{all_pairs_push}
-use Rattle.std.proofs.lemmas.Grind.{common_steps}
-use Rattle.firefly_outside.specs.Trees.{Path, Node, Directory, Bytes, Told, child, slash, with_last, IsName, AreEntries, IsChild, HasParent, IsBare, IsLeaf, Adds, Names}
+use Rattle.firefly_outside.specs.Trees.{Path, Node, Directory, Bytes, Told, child, slash, with_last, IsName, AreEntries, IsChild, HasParent, IsBare, IsLeaf, Adds, Names, IsListing}
 use Rattle.std.proofs.lemmas.List.{get_or_default}
 use Rattle.std.proofs.Math.Path.{fun_ext}
-use Rattle.std.specs.HashMap.{HashMap, IsReordered}
+use Rattle.std.specs.HashMap.{HashMap, IsReordered, IsClone}
+use Rattle.std.specs.Map.{lookup}
+use Rattle.std.specs.List.{AllZip, list_any, each_same}
+use Rattle.std.specs.Bool.{Decides}
+use Rattle.std.proofs.lemmas.Map.Made.{is_member-Decides}
 use Rattle.firefly_outside.specs.MemTrees.{IsWhole, told_by, node_of}
 use Rattle.firefly_outside.specs.declared.place.Place.{Place}
 use Rattle.firefly_outside.specs.declared.tree.Entry.{Entry}
@@ -182,3 +185,32 @@ IsWhole-add old new path kind node whole absent under leaf adds = record {
 -- the tree stays as it is where the map takes another order
 pub told_by-reordered : {S : Type 0} (m n : HashMap Path Place S) → IsReordered (pointwise nat_eq) m n → told_by n ≡ told_by m
 told_by-reordered m n r = fun_ext (λ q. ap (option_map node_of) (r.2 q))
+
+-- look-ups over entries that are clones one by one
+lookup-clones : (es fs : List (Path × Place)) (q : Path) → AllZip (λ x y. (y.0 ≡ x.0) × (node_of y.1 ≡ node_of x.1)) es fs
+    → option_map node_of (lookup (pointwise nat_eq q) fs) ≡ option_map node_of (lookup (pointwise nat_eq q) es)
+lookup-clones [] [] q h = refl
+lookup-clones [] (f ∷ fs) q h = absurd h
+lookup-clones (e ∷ es) [] q h = absurd h
+lookup-clones (e ∷ es) (f ∷ fs) q h = rw h.0.0 (at (pointwise nat_eq q e.0) (lookup-clones es fs q h.1))
+  where
+    at : (b : Bool) → option_map node_of (lookup (pointwise nat_eq q) fs) ≡ option_map node_of (lookup (pointwise nat_eq q) es)
+        → option_map node_of (if b then Some f.1 else lookup (pointwise nat_eq q) fs) ≡ option_map node_of (if b then Some e.1 else lookup (pointwise nat_eq q) es)
+    at true rest = ap (λ n. Some n) h.0.1
+    at false rest = rest
+
+-- the tree of a map's clone
+pub told_by-clone : {S : Type 0} (m n : HashMap Path Place S) → IsClone (λ x y. y ≡ x) (λ x y. node_of y ≡ node_of x) m n → told_by n ≡ told_by m
+told_by-clone m n h = fun_ext (λ q. lookup-clones m.entries n.entries q h)
+
+-- what `contains` answers of paths
+pub list_any-Decides : (ps : List Path) (p : Path) → Decides (list_any (λ q. pointwise nat_eq q p) ps) (Contains ps p)
+list_any-Decides ps p = is_member-Decides {eq = λ a b. pointwise nat_eq b a} (λ a b. let d = slice_eq-Decides Decides-eqb b a (pointwise nat_eq b a) refl in (λ t. sym (d.0 t), λ e. d.1 (sym e))) ps p
+
+-- the entries that a directory's copy shows
+pub IsListing-copy : (t : Told) (dir : Path) (es copy : List Entry) → IsWhole t → t dir ≡ Some (Directory es) → AllZip (λ x y. y ≡ x) es copy → AreEntries copy × IsListing t dir copy
+IsListing-copy t dir es copy whole here zipped =
+    let same : copy ≡ es = each_same es copy zipped in (
+      subst AreEntries (sym same) (whole.entries dir es here),
+      record { entries = es; here = here; same = λ e. subst (λ l. Contains l e ↔ Contains es e) (sym same) (λ h. h, λ h. h) },
+    )

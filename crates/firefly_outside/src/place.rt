@@ -13,10 +13,21 @@ use std::alloc::{AllocError, Global};
 use std::collections::HashMap;
 
 /// The entries of a directory, or the bytes of a file.
-#[derive(Clone, Debug, Drop)]
+#[derive(Debug, Drop)]
 pub enum Place {
     Dir(Vec<Entry>),
     File(Vec<u8>),
+}
+
+impl Clone for Place {
+    ghost is_clone = { λ x y. node_of y ≡ node_of x };
+
+    fn clone(&self) -> Result<Place, AllocError> {
+        match self {
+            Place::Dir(entries) => Ok(Place::Dir(entries.clone()?)),
+            Place::File(bytes) => Ok(Place::File(bytes.clone()?)),
+        }
+    }
 }
 
 /// The places by their paths.
@@ -99,4 +110,12 @@ fn put_place(places: &mut Places, key: Text, place: Place)
         Ok(_) => {}
         Err(_) => unreachable!(),
     }
+}
+
+/// A copy that makes the same tree.
+pub fn copy_of(places: &Places) -> Result<Places, AllocError>
+    ensures { IfOk result (λ copy. told_by copy ≡ told_by places.now) }
+{
+    let copy = places.clone()?;
+    Ok(copy)
 }

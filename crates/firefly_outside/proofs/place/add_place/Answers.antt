@@ -1,4 +1,4 @@
-use Rattle.std.proofs.Common.{◌≡◌, subst}
+use Rattle.std.proofs.Common.{subst}
 use Rattle.firefly_outside.specs.Trees.{Told, Adds, Names}
 use Rattle.firefly_outside.specs.MemTrees.{told_by, node_of}
 use Rattle.firefly_outside.proofs.TreeLemmas.{Adds-from_names, IsWhole-add, told_by-reordered}

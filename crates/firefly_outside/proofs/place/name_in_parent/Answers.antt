@@ -1,4 +1,3 @@
-use Rattle.std.proofs.Common.{◌≡◌}
 use Rattle.firefly_outside.specs.MemTrees.{told_by}
 use Rattle.firefly_outside.proofs.TreeLemmas.{Names-from_parent, Names-from_none}
 use Rattle.firefly_outside.proofs.place.name_in_parent.Goals as goal
