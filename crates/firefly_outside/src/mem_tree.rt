@@ -150,7 +150,8 @@ impl MemTree {
 }
 
 impl Tree for MemTree {
-    ghost use Rattle.std.specs.Prelude.{Some};
+    ghost use Rattle.std.specs.Prelude.{◌≡◌, Some, IfOk, Contains};
+    ghost use Rattle.firefly_outside.specs.Trees.{Lists, Reads, AreEntries, IsWithin, Counts};
     ghost use Rattle.firefly_outside.specs.Seen.{tree_of, weak_of, calls_of, faults_of};
 
     ghost tree = { λ m. Some (tree_of m) };
@@ -161,7 +162,14 @@ impl Tree for MemTree {
 
     ghost faults = { faults_of };
 
-    fn list(&mut self, alloc: Global, dir: &str) -> Result<Vec<Entry>, TreeError> {
+    fn list(&mut self, alloc: Global, dir: &str) -> Result<Vec<Entry>, TreeError>
+        ensures tree_stays { tree_of self.new ≡ tree_of self.old }
+        ensures weak_stays { weak_of self.new ≡ weak_of self.old }
+        ensures count { Counts (faults_of self.old) (faults_of self.new) result }
+        ensures lawful { IfOk result (λ v. AreEntries v.items) }
+        ensures told { Lists (λ v. v.items) (weak_of self.old) dir.now (calls_of self.old) (calls_of self.new) result (tree_of self.old) }
+        ensures exact { IfOk result (λ _. ¬ Contains (weak_of self.old) dir.now) }
+    {
         let Ok(path) = Text::of(alloc, dir) else {
             return Err(TreeError::Memory);
         };
@@ -180,7 +188,14 @@ impl Tree for MemTree {
         }
     }
 
-    fn read(&mut self, alloc: Global, path: &str) -> Result<FileBytes, TreeError> {
+    fn read(&mut self, alloc: Global, path: &str) -> Result<FileBytes, TreeError>
+        ensures tree_stays { tree_of self.new ≡ tree_of self.old }
+        ensures weak_stays { weak_of self.new ≡ weak_of self.old }
+        ensures count { Counts (faults_of self.old) (faults_of self.new) result }
+        ensures lawful { IfOk result IsWithin }
+        ensures told { Reads (weak_of self.old) path.now (calls_of self.old) (calls_of self.new) result (tree_of self.old) }
+        ensures exact { IfOk result (λ _. ¬ Contains (weak_of self.old) path.now) }
+    {
         let Ok(path) = Text::of(alloc, path) else {
             return Err(TreeError::Memory);
         };
