@@ -1,7 +1,8 @@
 -- Trees of files, and what a call on one tells.
-use Rattle.std.specs.Prelude.{◌≡◌, ◌≢◌, ℕ, ◌<◌, ◌≤◌, Bool, true, List, [], ◌∷◌, ◌++◌, length, Option, Some, Result, Ok, Err, ◌⊎◌, ◌↔◌, Contains, All, AllPairs, nat_lt, if◌then◌else◌}
+use Rattle.std.specs.Prelude.{◌≡◌, ◌≢◌, ℕ, ◌<◌, ◌≤◌, Bool, true, List, [], ◌∷◌, ◌++◌, length, Option, Some, None, Result, Ok, Err, ◌⊎◌, ◌↔◌, Contains, All, AllPairs, nat_lt, if◌then◌else◌}
 use Rattle.firefly_outside.specs.Causes.{Rose}
 use Rattle.firefly_outside.specs.declared.tree.Entry.{Entry}
+use Rattle.firefly_outside.specs.declared.tree.Kind.{Kind}
 use Rattle.firefly_outside.specs.declared.tree.FileBytes.{FileBytes}
 use Rattle.firefly_outside.specs.declared.tree.TreeError.{TreeError}
 use Rattle.firefly_outside.specs.declared.tree.TreeError.TheVariants.{Memory, Failed}
@@ -17,6 +18,11 @@ pub data Node : Type 0 where
 -- a tree as it is told: what is at each path
 abbrev pub Told : Type 0
 Told = Path → Option Node
+
+-- a directory with one more entry, last; a file stays as it is
+abbrev pub with_last : Node → Entry → Node
+with_last (Directory entries) e = Directory (entries ++ e ∷ [])
+with_last (Bytes bytes) e = Bytes bytes
 
 -- the byte between a directory's path and a name
 abbrev pub slash : ℕ
@@ -94,3 +100,36 @@ abbrev pub Counts : {T : Type 0} → ℕ → ℕ → Result T TreeError → Type
 Counts before now (Ok _) = now ≡ before
 Counts before now (Err Memory) = now ≡ before
 Counts before now (Err Failed) = (before ≤ now) × Rose before now
+
+-- the path is that of a name in this directory
+pub record IsChild (dir name path : Path) : Type 0 where
+  pub lawful : IsName name
+  pub is : path ≡ child dir name
+
+-- the path's parent is a directory of the tree
+pub record HasParent (t : Told) (path : Path) : Type 0 where
+  pub dir : Path
+  pub name : Path
+  pub under : IsChild dir name path
+  pub entries : List Entry
+  pub here : t dir ≡ Some (Directory entries)
+
+-- in the new tree the directory before the path's last slash, if there is one, names it last; all else is as in the old
+pub record Names (old new : Told) (path : Path) (kind : Kind) : Type 0 where
+  pub named : (dir name : Path) (es : List Entry) → path ≡ child dir name → All (λ b. b ≢ slash) name → old dir ≡ Some (Directory es) → new dir ≡ Some (Directory (es ++ record { name = name; kind = kind } ∷ []))
+  pub others : (q : Path) → ((name : Path) (es : List Entry) → path ≡ child q name → All (λ b. b ≢ slash) name → old q ≢ Some (Directory es)) → new q ≡ old q
+
+-- nothing is in the tree
+abbrev pub IsBare : Told → Type 0
+IsBare t = (q : Path) → t q ≡ None
+
+-- a directory without entries, or a file
+abbrev pub IsLeaf : Node → Type 0
+IsLeaf (Directory entries) = entries ≡ []
+IsLeaf (Bytes bytes) = Unit {0}
+
+-- the new tree has this node at the path, and its parent names it last; all else is as in the old
+pub record Adds (old new : Told) (path : Path) (kind : Kind) (node : Node) : Type 0 where
+  pub added : new path ≡ Some node
+  pub named : (dir name : Path) (es : List Entry) → IsChild dir name path → old dir ≡ Some (Directory es) → new dir ≡ Some (Directory (es ++ record { name = name; kind = kind } ∷ []))
+  pub others : (q : Path) → q ≢ path → ((name : Path) (es : List Entry) → IsChild q name path → old q ≢ Some (Directory es)) → new q ≡ old q

@@ -3,12 +3,16 @@
 //! calls fail. The ones of the system stand on std's readers and writers, and tell what these tell.
 #![tactic(auto)]
 
+mod mem_tree;
+mod paths;
+mod place;
 mod real;
 mod sink;
 mod source;
 mod text;
 mod tree;
 
+pub use mem_tree::MemTree;
 pub use real::{ReaderSource, WriterSink};
 pub use sink::{MemSink, Sink, SinkFault, put_all};
 pub use source::{Failed, MemSource, Source};

@@ -5,9 +5,12 @@ ghost use Rattle.std.specs.Cmp.Lexicographic.{pointwise, slice_cmp, nat_list_eq_
 ghost use Rattle.std.specs.Ordering.{nat_cmp};
 ghost use Rattle.std.specs.Bool.{nat_eq};
 ghost use Rattle.std.specs.Cmp;
+ghost use Rattle.std.specs.Hash as fed;
+ghost use Rattle.std.proofs.Common.{rules};
 
 use std::alloc::{AllocError, Global};
 use std::cmp::Ordering;
+use std::hash::{Hash, Hasher};
 use std::marker::Model;
 
 /// UTF-8 text, which contracts see as the list of its bytes.
@@ -40,6 +43,23 @@ impl Text {
         ensures { result.now ≡ self.now }
     {
         self.text.as_str()
+    }
+
+    /// Gives the text as a string, and takes no memory.
+    pub fn into_string(self) -> String
+        ensures { string_bytes result ≡ self }
+    {
+        self.text
+    }
+}
+
+impl Clone for Text {
+    ghost is_clone = { λ x y. y ≡ x };
+
+    fn clone(&self) -> Result<Text, AllocError> {
+        Ok(Text {
+            text: self.text.clone()?,
+        })
     }
 }
 
@@ -78,5 +98,15 @@ impl Ord for Text {
 
     fn cmp(&self, other: &Text) -> Ordering {
         self.as_str().cmp(other.as_str())
+    }
+}
+
+impl Hash for Text {
+    ghost hash_input = { λ t. fed.str t };
+
+    ghost respects_eq = { Prim.search rules };
+
+    fn hash<H: Hasher>(&self, state: &mut H) {
+        self.as_str().hash(state);
     }
 }

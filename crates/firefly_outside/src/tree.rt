@@ -1,15 +1,27 @@
 // Trees of files.
 ghost use Rattle.std.specs.Prelude.{◌≡◌, List, ℕ, IfOk, IfSome};
 ghost use Rattle.std.specs.declared.option.Option.{Option};
+ghost use Rattle.firefly_outside.specs.Trees.{IsShown};
 
 use crate::Text;
-use std::alloc::Global;
+use std::alloc::{AllocError, Global};
 
 /// A child of a directory.
 #[derive(Debug, Drop)]
 pub struct Entry {
     pub name: Text,
     pub kind: Kind,
+}
+
+impl Clone for Entry {
+    ghost is_clone = { λ x y. y ≡ x };
+
+    fn clone(&self) -> Result<Entry, AllocError> {
+        Ok(Entry {
+            name: self.name.clone()?,
+            kind: self.kind,
+        })
+    }
 }
 
 /// What a child of a directory is.
@@ -64,4 +76,23 @@ pub trait Tree: Send + Drop {
         ensures count { Counts (faults self.old) (faults self.new) result }
         ensures lawful { IfOk result IsWithin }
         ensures told { IfSome (tree self.old) (Reads (may_fail self.old) path.now (calls self.old) (calls self.new) result) };
+}
+
+/// The most bytes of a file that is shown.
+pub const MOST_BYTES: usize = 4_194_304;
+
+/// What a file of these bytes shows.
+pub fn shown(alloc: Global, bytes: &Vec<u8>) -> Result<FileBytes, AllocError>
+    ensures { IfOk result (IsShown bytes.now.items) }
+{
+    if bytes.len() > MOST_BYTES {
+        return Ok(FileBytes {
+            bytes: Vec::new(alloc),
+            long: true,
+        });
+    }
+    Ok(FileBytes {
+        bytes: Vec::from_slice(alloc, bytes)?,
+        long: false,
+    })
 }
