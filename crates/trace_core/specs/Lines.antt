@@ -1,5 +1,5 @@
 -- Reading the lines of a trace text.
-use Rattle.std.specs.Prelude.{◌≡◌, ℕ, ◌+◌, ◌^◌, ◌<◌, ◌≤◌, nat_lt, Bool, true, false, List, [], ◌∷◌, ◌++◌, if◌then◌else◌, codes, decimal, Result, Ok, Err}
+use Rattle.std.specs.Prelude.{◌≡◌, ℕ, ◌+◌, ◌^◌, ◌<◌, ◌≤◌, nat_lt, Bool, true, false, List, [], ◌∷◌, ◌++◌, if◌then◌else◌, codes, decimal, Ok}
 use Rattle.larch_actions.specs.declared.event.Layout.{Layout}
 use Rattle.larch_actions.specs.declared.event.Event.{Event}
 use Rattle.larch_actions.specs.declared.event.Action.{Action}
@@ -11,7 +11,6 @@ use Rattle.trace_core.specs.declared.line.Expect.{Expect}
 use Rattle.trace_core.specs.declared.line.Expect.TheVariants as expect
 use Rattle.trace_core.specs.Reading.{Reader, after_word, both, as_value, either, only_if, number_at}
 use Rattle.trace_core.specs.Names.{number_from, names_at, set_from}
-use Rattle.trace_core.specs.Choices.{choice}
 use Rattle.trace_core.specs.Text.{first_line, layout_line, event_line, end_line, value_line, IsRest, IsLaid, IsTrace, IsValues, MutexValue, AreValues, values_text}
 
 -- a word, and a name below the bound up to the byte that stops it

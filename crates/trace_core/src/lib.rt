@@ -6,6 +6,7 @@
 
 mod action;
 mod intake;
+pub mod laws;
 mod line;
 mod names;
 mod parts;

@@ -79,12 +79,18 @@ fn tail(bytes: &[u8], bound: u32) -> Result<(ThreadSet, &[u8]), Stop>
     let mut least = 0;
     let mut rest = bytes;
     loop {
-        let name = number_from(rest, true, least, bound)?;
+        let name = match number_from(rest, true, least, bound) {
+            Ok(name) => name,
+            Err(stop) => return Err(stop),
+        };
         left.insert(ThreadId(name.value));
         if name.stop == b'\n' {
             return Ok((left, name.rest));
         }
-        rest = word(name.rest, b"t")?;
+        rest = match word(name.rest, b"t") {
+            Ok(rest) => rest,
+            Err(stop) => return Err(stop),
+        };
         least = name.value + 1;
     }
 }

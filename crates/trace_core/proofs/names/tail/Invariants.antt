@@ -9,7 +9,7 @@ invariant-loop-name l = record {
   below : l.least < l.bound;
   same :
       (fuel : ℕ) × (seen : List ℕ) × (l.bound ≤ l.least + fuel) × (l.left ≡ set_of seen)
-          × (as_value (λ ts. set_of (onto seen ts)) (tail_at fuel l.least l.bound) l.rest ≡ as_value set_from (tail_at l.bound 0 l.bound) l.bytes);
+      × (as_value (λ ts. set_of (onto seen ts)) (tail_at fuel l.least l.bound) l.rest ≡ as_value set_from (tail_at l.bound 0 l.bound) l.bytes);
 }
 
 abbrev pub decreases-loop-name : goal.decreases-loop-name

@@ -1,4 +1,4 @@
-use Rattle.std.proofs.Common.{◌≡◌, ◌<◌, ◌^◌, length}
+use Rattle.std.proofs.Common.{◌≡◌, ◌^◌, length}
 use Rattle.trace_core.specs.Reading.{digits_at, number_at}
 use Rattle.trace_core.proofs.token.last_number.Given as goal
 
