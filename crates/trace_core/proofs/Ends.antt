@@ -68,7 +68,7 @@ values_fault l least old new r left left' lines room before now (BadLine k) f k'
 values_fault l least old new r left left' lines room before now TooLong f k' same e =
     end_long (IsValues l least) (values_begin l least) r left left' old.window f.1.0 room k' f.1.1 f.1.2 (omega (arith, f.0)) e
 values_fault l least old new r left left' lines room before now Read f k' same e =
-    (f.0, (old.window, kept_consumes r left left' old.window k' f.1, subst (Begins (IsValues l least)) (sym e) (values_begin l least)))
+    (f.0, (old.window, kept_consumes r left left' old.window k' f.1, subst (Begins (IsValues l least)) (sym e) (values_begin l least), omega (arith, ap length e)))
 
 all_values : (l : Layout) (least : ℕ) (bytes : List ℕ) → IsSomeValues l least bytes → IsValues l least bytes
 all_values l least bytes (v, vs, h, e) = (v ∷ vs, h, e)
@@ -107,7 +107,7 @@ some_reason l least ok lines room None left' before now (BadLine k) some h = h
 some_reason l least ok lines room (Some xs) left' before now (BadLine k) some h = (h.0, shown_also l least ok room xs (k - lines) some h.1)
 some_reason l least ok lines room None left' before now TooLong some h = h
 some_reason l least ok lines room (Some xs) left' before now TooLong some h = (h.0, all_begin l least (take room xs) h.1)
-some_reason l least ok lines room r left' before now Read some h = (h.0, (h.1.0, h.1.1, all_begin l least h.1.0 h.1.2))
+some_reason l least ok lines room r left' before now Read some h = (h.0, (h.1.0, h.1.1, all_begin l least h.1.0 h.1.2, h.1.3))
 
 rose_since : (first before now : ℕ) → first ≤ before → Rose before now → Rose first now
 rose_since first before now le rose = grind arith
@@ -120,9 +120,9 @@ kept_reason T lines room (Some xs) (Some ys) left' first before now (BadLine k) 
 kept_reason T lines room None r' left' first before now TooLong same le h = tt
 kept_reason T lines room (Some xs) None left' first before now TooLong same le h = absurd same
 kept_reason T lines room (Some xs) (Some ys) left' first before now TooLong same le h = subst (λ (input : List ℕ). (room < length input) × Begins T (take room input)) same h
-kept_reason T lines room None r' left' first before now Read same le h = (rose_since first before now le h.0, (h.1.0, tt, h.1.2))
+kept_reason T lines room None r' left' first before now Read same le h = (rose_since first before now le h.0, (h.1.0, tt, h.1.2, h.1.3))
 kept_reason T lines room (Some xs) None left' first before now Read same le h = absurd same
-kept_reason T lines room (Some xs) (Some ys) left' first before now Read same le h = (rose_since first before now le h.0, subst (λ (input : List ℕ). (given : List ℕ) × Consumes (Some input) left' given × Begins T given) same h.1)
+kept_reason T lines room (Some xs) (Some ys) left' first before now Read same le h = (rose_since first before now le h.0, subst (λ (input : List ℕ). (given : List ℕ) × Consumes (Some input) left' given × Begins T given × (length given ≤ room)) same h.1)
 
 left_some : (w : List ℕ) (left : Option (List ℕ)) → 0 < length w → IfSome (prepend_known w left) (λ input. 0 < length input)
 left_some w None some = tt

@@ -67,9 +67,9 @@ kept_consumes (Some xs) None left' w k same = absurd k
 kept_consumes (Some xs) (Some ys) None w k same = absurd same
 kept_consumes (Some xs) (Some ys) (Some zs) w k same = sym k ∙ ap (λ l. w ++ l) (sym same)
 
-pub failed_outcome : (x : Expect) → IsPossible x → (r left left' : Option (List ℕ)) (w : List ℕ) → Keeps r (prepend_known w left) → Keeps left left' → line_at x w ≡ Err More
-    → (given : List ℕ) × Consumes r left' given × Begins (IsTextFrom x) given
-failed_outcome x ok r left left' w k same e = (w, kept_consumes r left left' w k same, front (line_grammar x ok) (line_code x ok) w e)
+pub failed_outcome : (x : Expect) → IsPossible x → (r left left' : Option (List ℕ)) (w : List ℕ) (room : ℕ) → length w ≤ room → Keeps r (prepend_known w left) → Keeps left left' → line_at x w ≡ Err More
+    → (given : List ℕ) × Consumes r left' given × Begins (IsTextFrom x) given × (length given ≤ room)
+failed_outcome x ok r left left' w room within k same e = (w, kept_consumes r left left' w k same, front (line_grammar x ok) (line_code x ok) w e, within)
 
 pub Keeps-behind : (r left left' : Option (List ℕ)) (w : List ℕ) → Keeps r (prepend_known w left) → Keeps left left' → Keeps r (prepend_known w left')
 Keeps-behind None left left' w k same = tt
@@ -88,7 +88,7 @@ fault_outcome x ok old new r left left' lines room first before now (BadLine k) 
 fault_outcome x ok old new r left left' lines room first before now TooLong f k' same le e =
     long_outcome x ok r left left' old.window f.1.0 room k' f.1.1 f.1.2 (omega (arith, f.0)) e
 fault_outcome x ok old new r left left' lines room first before now Read f k' same le e =
-    (rose_since first before now le f.0, failed_outcome x ok r left left' old.window k' f.1 e)
+    (rose_since first before now le f.0, failed_outcome x ok r left left' old.window room (omega arith) k' f.1 e)
 
 pub take_behind : (text xs ys : List ℕ) (room room' : ℕ) → xs ≡ text ++ ys → room' + length text ≡ room → take room xs ≡ text ++ take room' ys
 take_behind text xs ys room room' c same =
@@ -132,7 +132,7 @@ reason_behind x ok y a (Some xs) (Some ys) left' lines room room' first before n
     (omega (arith, h.0, ap length c, length-append text ys), subst (Begins (IsTextFrom x)) (sym cut) (begins_behind (line_grammar x ok) (line_code x ok) y a (take room' ys) h.1))
 reason_behind x ok y a r r' left' lines room room' first before now Read c same le h =
     let text = line_text x y in
-    (rose_since first before now le h.0, (text ++ h.1.0, Consumes-trans r r' left' text h.1.0 c h.1.1, begins_behind (line_grammar x ok) (line_code x ok) y a h.1.0 h.1.2))
+    (rose_since first before now le h.0, (text ++ h.1.0, Consumes-trans r r' left' text h.1.0 c h.1.1, begins_behind (line_grammar x ok) (line_code x ok) y a h.1.0 h.1.2, omega (arith, h.1.3, length-append text h.1.0)))
 
 pub Keeps-refl : (r : Option (List ℕ)) → Keeps r r
 Keeps-refl None = tt

@@ -43,7 +43,7 @@ IsShown Text room input k = IsBrokenAt Text (take room input) k ⊎ ((length inp
 abbrev pub HasReason : (List ℕ → Type 0) → ℕ → ℕ → Option (List ℕ) → Option (List ℕ) → ℕ → ℕ → TextFault → Type 0
 HasReason Text lines room rest left' before now (BadLine k) = (lines < k) × IfSome rest (λ input. IsShown Text room input (k - lines))
 HasReason Text lines room rest left' before now TooLong = IfSome rest (λ input. (room < length input) × Begins Text (take room input))
-HasReason Text lines room rest left' before now Read = Rose before now × ((given : List ℕ) × Consumes rest left' given × Begins Text given)
+HasReason Text lines room rest left' before now Read = Rose before now × ((given : List ℕ) × Consumes rest left' given × Begins Text given × (length given ≤ room))
 
 -- none of the texts of the lawful values stands at the front of the bytes
 abbrev pub Misses : {X : Type 0} → (X → Type 0) → (X → List ℕ) → List ℕ → Type 0
