@@ -1,1 +1,6 @@
 pub mod Numbers
+pub mod Parts
+pub mod Shape
+pub mod Turns
+pub mod Uses
+pub mod Views
