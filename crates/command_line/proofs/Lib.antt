@@ -1,6 +1,9 @@
 pub mod Numbers
+pub mod Levels
 pub mod Parts
+pub mod Said
 pub mod Shape
+pub mod Texts
 pub mod Turns
 pub mod Uses
 pub mod Views

@@ -1,11 +1,11 @@
 -- Decimal text and what `parse` makes of it.
-use Rattle.std.proofs.Common.{◌≡◌, ◌≢◌, ◌∙◌, ◌^◌, ◌<◌, ◌≤◌, ℕ, List, length, get_or, arith, sym, ap, Result, Ok, Err, refl, zero, suc}
+use Rattle.std.proofs.Common.{◌≡◌, ◌≢◌, ◌∙◌, ◌^◌, ◌<◌, ◌≤◌, ℕ, List, [], ◌∷◌, length, get_or, arith, sym, ap, Result, Ok, Err, refl, zero, suc}
 use Rattle.std.specs.Prelude.{decimal, ◌==◌, false, slice_index}
 use Rattle.std.specs.Str.Parse.{AllDigits, ParsesUnsigned, digits_value}
 use Rattle.std.proofs.lemmas.Bool.{ne_eqb}
 use Rattle.std.proofs.lemmas.Str.Parse.{IsNumeralModel, numerals_by_value, tells_digits, not_in_digits}
 use Rattle.std.proofs.lemmas.Fmt.{decimal_digit, decimal_nonempty, first_decimal, digits_decimal, decimal-digits_value, parse-decimal}
-use Rattle.command_line.specs.Grammar.{IsNumber, Text}
+use Rattle.command_line.specs.Grammar.{IsDirectory, IsNumber, Text}
 use Rattle.command_line.specs.Reading.{IsPlain}
 
 own : IsNumeralModel (AllDigits 10) (digits_value 10)
@@ -33,3 +33,11 @@ parse-number least most bs r n fits h p = parse-decimal 64 n bs r (omega (arith,
 
 pub IsPlain-number : (least most : ℕ) (bs : Text) (n : ℕ) → most < 2 ^ 64 → IsNumber least most bs n → IsPlain bs
 IsPlain-number least most bs n fits h = rw h.0 (IsPlain-decimal n (omega (arith, h.2)))
+
+-- a number doesn't begin with a hyphen
+pub IsDirectory-decimal : (n : ℕ) → n < 2 ^ 64 → IsDirectory (decimal n)
+IsDirectory-decimal n fits = go (decimal n) (decimal_nonempty n fits) (not_in_digits own (decimal n) 45 (digits_decimal own n fits) (λ r. omega arith) 0 (decimal_nonempty n fits))
+  where
+    go : (text : Text) → 0 < length text → get_or text 0 0 ≢ 45 → IsDirectory text
+    go [] some ne = absurd (omega arith)
+    go (c ∷ rest) some ne = ne

@@ -1,5 +1,5 @@
 //! The commands, and the reading of all words.
-ghost use Rattle.std.specs.Prelude.{◌≡◌, IfOk, map};
+ghost use Rattle.std.specs.Prelude.{◌≡◌, ◌≢◌, [], ◌∷◌, IfOk, IsErr, codes, map};
 ghost use Rattle.std.specs.String.{string_bytes};
 ghost use Rattle.command_line.specs.Grammar.{Say, Task};
 ghost use Rattle.command_line.specs.Tasks.{task_of};
@@ -61,7 +61,10 @@ pub fn read_words<'a>(alloc: Global, words: &'a [String]) -> Result<Command<'a>,
 }
 
 // The command, where no word follows.
-fn alone<'a>(rest: &[String], command: Command<'a>) -> Result<Command<'a>, WordsFault> {
+fn alone<'a>(rest: &[String], command: Command<'a>) -> Result<Command<'a>, WordsFault>
+    ensures ok { IfOk result (λ c. (c ≡ command.entry) × (map string_bytes rest.now ≡ [])) }
+    ensures usage { result ≡ Err WordsFault.Usage → map string_bytes rest.now ≢ [] }
+{
     if rest.is_empty() {
         Ok(command)
     } else {
@@ -70,14 +73,21 @@ fn alone<'a>(rest: &[String], command: Command<'a>) -> Result<Command<'a>, Words
 }
 
 // The words after `sample`.
-fn read_sample<'a>(rest: &[String]) -> Result<Command<'a>, WordsFault> {
+fn read_sample<'a>(rest: &[String]) -> Result<Command<'a>, WordsFault>
+    ensures said { IfOk result (λ c. Say (codes "sample" ∷ map string_bytes rest.now) (task_of c)) }
+    ensures usage { IsErr result → (t : Task)
+        → Say (codes "sample" ∷ map string_bytes rest.now) t → ⊥ }
+{
     let [seed, files] = rest else {
         return Err(WordsFault::Usage);
     };
     let seed = read_number(seed.as_str(), 0, u64::MAX);
     let files = read_number(files.as_str(), 1, 20_000);
     match (seed, files) {
-        (Some(seed), Some(files)) => Ok(Command::Sample { seed, files: files as u32 }),
+        (Some(seed), Some(files)) => Ok(Command::Sample {
+            seed,
+            files: files as u32,
+        }),
         _ => Err(WordsFault::Usage),
     }
 }

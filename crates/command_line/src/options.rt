@@ -34,13 +34,18 @@ pub(crate) fn read_options<'a>(
     }
 }
 
-// No word is empty, `-` or `--`: `clap` would read these in ways of its own.
+// Each word may go to `clap`.
 fn are_offered(words: &[String]) -> bool
     ensures { IsTrue result ↔ All (λ w. IsOffered (string_bytes w)) words.now }
 {
-    words
-        .iter()
-        .all(|word| !word.is_empty() && word.as_str() != "-" && word.as_str() != "--")
+    words.iter().all(|word| is_offered(word.as_str()))
+}
+
+// The word is not empty, `-` or `--`, which `clap` would read in ways of its own.
+fn is_offered(word: &str) -> bool
+    ensures { IsTrue result ↔ IsOffered word.now }
+{
+    !matches!(word, "" | "-" | "--")
 }
 
 // The words as `clap` takes them.
