@@ -1,10 +1,10 @@
 -- When `clap` takes the words, and what its matches are then.
-use Rattle.std.proofs.Common.{◌≡◌, ◌∙◌, ◌&&◌, ◌||◌, Bool, true, false, not, cond, List, [], ◌∷◌, Option, Some, None, ap, sym, refl, is_some}
+use Rattle.std.proofs.Common.{◌≡◌, ◌∙◌, ◌||◌, Bool, true, false, not, cond, List, [], ◌∷◌, Option, Some, None, ap, sym, refl, is_some}
 use Rattle.std.specs.Prelude.{codes}
 use Rattle.std.specs.List.{AllByRecursion, fold}
 use Rattle.clap.specs.Kinds.{Kinds, or_else}
-use Rattle.clap.specs.Walk.{Held, Row, Rule, default_rows, finished, has_row, nothing_held, Walk, reading_by, settled, walk_from, with_default}
-use Rattle.clap.specs.Simple.{built, entered, matches_of, names_of}
+use Rattle.clap.specs.Walk.{Row, Rule, finished, has_row, nothing_held, Walk, with_default}
+use Rattle.clap.specs.Simple.{built, entered, matches_of}
 use Rattle.clap.specs.Takes.{is_given}
 use Rattle.clap.specs.Faults.{check_fault, default_fault, defaults_fault, entered_fault, fault_of, given_default_fault, level_fault, settle_fault, walk_fault}
 use Rattle.clap.specs.declared.error.kind.ErrorKind.TheVariants as kind
@@ -83,7 +83,7 @@ pub fault_of-passes : (words : List Text) → Passes start words → is_given (c
 fault_of-passes words h given =
     let none = (no_defaults rules (rows_at_end start words) plain_rules).0 in
     let wants : check_fault shape (finished rules (end_of start words).held) false ≡ [] =
-        ap (λ (rows : List Row). check_fault shape rows false) (finished_is words) ∙ wants_directory (rows_at_end start words) ∙ ap directory_fault given in
+    ap (λ (rows : List Row). check_fault shape rows false) (finished_is words) ∙ wants_directory (rows_at_end start words) ∙ ap directory_fault given in
     whole words ∙ rw (h.0, h.1, none, wants) refl
 
 matches-finished : (words : List Text) → matches_of index_app words ≡ finished rules (end_of start words).held

@@ -1,5 +1,5 @@
 -- Decimal text and what `parse` makes of it.
-use Rattle.std.proofs.Common.{◌≡◌, ◌≢◌, ◌∙◌, ◌^◌, ◌<◌, ◌≤◌, ℕ, List, [], ◌∷◌, length, get_or, arith, sym, ap, Result, Ok, Err, refl, zero, suc}
+use Rattle.std.proofs.Common.{◌≡◌, ◌≢◌, ◌∙◌, ◌^◌, ◌<◌, ℕ, [], ◌∷◌, length, get_or, arith, sym, ap, Result, Ok, refl, zero, suc}
 use Rattle.std.specs.Prelude.{decimal, ◌==◌, false, slice_index}
 use Rattle.std.specs.Str.Parse.{AllDigits, ParsesUnsigned, digits_value}
 use Rattle.std.proofs.lemmas.Bool.{ne_eqb}

@@ -1,5 +1,5 @@
 -- The words that the walk takes are spelt parts, and it takes all such.
-use Rattle.std.proofs.Common.{◌≡◌, ◌≢◌, ◌∙◌, ◌<◌, ◌≤◌, Bool, true, false, ℕ, List, [], ◌∷◌, ◌++◌, Option, Some, None, ap, sym, refl, zero, suc, arith, length, map, subst, append-nil, append_assoc}
+use Rattle.std.proofs.Common.{◌≡◌, ◌∙◌, ◌≤◌, Bool, true, false, ℕ, List, [], ◌∷◌, ◌++◌, Some, None, ap, sym, refl, zero, suc, arith, length, map, subst, append-nil, append_assoc}
 use Rattle.std.specs.List.{AllByRecursion, flat_map, fold}
 use Rattle.std.specs.Str.{IsUtf8}
 use Rattle.clap.specs.Kinds.{Kinds, or_else}
@@ -10,7 +10,7 @@ use Rattle.command_line.specs.Reading.{IsOffered}
 use Rattle.command_line.proofs.Shape.{Key, bare_name, dir, id_of, rule_at, rules, set, shape}
 use Rattle.command_line.proofs.Uses.{IsFresh, Pending, fresh-settle_fault, fresh-use_fault, held_at, pending_at, row_at, rows_with, settle_fault-fresh, settle_fault-hungry, settled-fresh, use_fault-fresh}
 use Rattle.command_line.proofs.Turns.{hungry, standing, turn_fault-dir, turn_fault-hungry_name, turn_fault-hungry_with_value, turn_fault-long, turn_fault-name, turn_fault-second, turn_fault-short, turn_fault-value, turn_fault-with_value, walked-dir, walked-name, walked-value, walked-with_value, with_value}
-use Rattle.command_line.proofs.Views.{View, long, named, plain, short, valued, view}
+use Rattle.command_line.proofs.Views.{long, named, plain, short, valued, view}
 
 -- a part, with the text of a number
 pub data Raw : Type 0 where
@@ -142,13 +142,14 @@ read_apart n reads s rest small rows p first given h =
   where
     rows' : List Row
     rows' = rows_with rows p
+
     number : (rest : List Text) → length rest ≤ n → AllByRecursion IsGiven rest → Passes (hungry rows' s first) rest → Found rows' (name_of s ∷ rest) (rows_at_end (hungry rows' s first) rest)
     number [] small given h = let bad = sym (settle_fault-hungry rows' s) ∙ h.1 in cc
     number (v ∷ more) small given h = elim (view v given.0.0 given.0.1) [
       | plain d ↦
-        let e = walked-value rows' s first v d in
-        let rest = reads more (omega arith) rows' (Some (set s, v)) first given.1 (later _ _ v more e h) in
-        subst (Found rows' (name_of s ∷ v ∷ more)) (ap (λ (w : Walk). rows_at_end w more) (sym e)) (found_more rows' (option_with apart s v) more _ d rest.0 rest.1)
+          let e = walked-value rows' s first v d in
+          let rest = reads more (omega arith) rows' (Some (set s, v)) first given.1 (later _ _ v more e h) in
+          subst (Found rows' (name_of s ∷ v ∷ more)) (ap (λ (w : Walk). rows_at_end w more) (sym e)) (found_more rows' (option_with apart s v) more _ d rest.0 rest.1)
       | named t is ↦ let bad = sym (turn_fault-hungry_name rows' s first t) ∙ subst (λ (w : Text). turn_fault shape [] (hungry rows' s first) w ≡ []) is (turn_of _ v more h) in cc
       | valued t text is ↦ let bad = sym (turn_fault-hungry_with_value rows' s first t text) ∙ subst (λ (w : Text). turn_fault shape [] (hungry rows' s first) w ≡ []) is (turn_of _ v more h) in cc
       | long u ↦ let bad = sym (turn_fault-long rows' (Some (bare_name s, [])) (option (bare_name s)) first v u) ∙ turn_of _ v more h in cc
@@ -178,8 +179,7 @@ accepts [] rows p first f each chain placed =
 accepts (path text ∷ rs) rows p false f each chain placed = absurd placed
 accepts (path text ∷ rs) rows p true f each chain placed =
     let e = walked-dir rows p text each.0 f in
-    let more = accepts rs (rows_with rows p) (Some (dir, text)) false chain.0 each.1 chain.1 placed in
-    (
+    let more = accepts rs (rows_with rows p) (Some (dir, text)) false chain.0 each.1 chain.1 placed in (
       earlier _ _ text (flat_map raw_words rs) e (turn_fault-dir rows p text each.0 ∙ settle_fault-fresh rows p f) more.0,
       ap (λ (v : Walk). rows_at_end v (flat_map raw_words rs)) e ∙ more.1 ∙ append_assoc (rows_with rows p) (row_at dir text ∷ []) (map raw_row rs),
     )
@@ -188,8 +188,7 @@ accepts (option_with joined s text ∷ rs) rows p first f each chain placed =
     let more = accepts rs (rows_with rows p ++ row_at (set s) text ∷ []) None first tt each.1 chain.1 placed in
     let used_up : (settled rules (held_at rows p)).rows ≡ rows_with rows p = ap (λ (x : Held). x.rows) (settled-fresh rows p f) in
     let free : use_fault false (rule_at (set s)) (text ∷ []) (settled rules (held_at rows p)).rows ≡ [] =
-        ap (use_fault false (rule_at (set s)) (text ∷ [])) used_up ∙ use_fault-fresh (set s) text (rows_with rows p) chain.0 in
-    (
+    ap (use_fault false (rule_at (set s)) (text ∷ [])) used_up ∙ use_fault-fresh (set s) text (rows_with rows p) chain.0 in (
       earlier _ _ (with_value s text) (flat_map raw_words rs) e (turn_fault-with_value rows p first s text ∙ rw (settle_fault-fresh rows p f, free) refl) more.0,
       ap (λ (v : Walk). rows_at_end v (flat_map raw_words rs)) e ∙ more.1 ∙ append_assoc (rows_with rows p) (row_at (set s) text ∷ []) (map raw_row rs),
     )
@@ -198,9 +197,8 @@ accepts (option_with apart s text ∷ rs) rows p first f each chain placed =
     let e = walked-name rows p first s f in
     let v = walked-value (rows_with rows p) s first text each.0 in
     let more = accepts rs (rows_with rows p) (Some (set s, text)) first chain.0 each.1 chain.1 placed in
-    let inner = earlier _ _ text words v (turn_fault-value (rows_with rows p) s first text each.0) more.0 in
-    (
+    let inner = earlier _ _ text words v (turn_fault-value (rows_with rows p) s first text each.0) more.0 in (
       earlier _ _ (name_of s) (text ∷ words) e (turn_fault-name rows p first s ∙ rw (settle_fault-fresh rows p f) refl) inner,
       ap (λ (w : Walk). rows_at_end w (text ∷ words)) e ∙ ap (λ (w : Walk). rows_at_end w words) v ∙ more.1
-      ∙ append_assoc (rows_with rows p) (row_at (set s) text ∷ []) (map raw_row rs),
+          ∙ append_assoc (rows_with rows p) (row_at (set s) text ∷ []) (map raw_row rs),
     )

@@ -1,5 +1,5 @@
 -- The words that say options are those that `clap` takes and whose rows hold the options.
-use Rattle.std.proofs.Common.{◌≡◌, ◌≢◌, ◌∙◌, ◌<◌, ◌≤◌, ◌^◌, Bool, true, false, cond, ℕ, zero, suc, List, [], ◌∷◌, ◌++◌, Option, Some, None, ap, ap₂, sym, refl, is_some, arith, length, map, subst}
+use Rattle.std.proofs.Common.{◌≡◌, ◌∙◌, ◌<◌, ◌≤◌, ◌^◌, Bool, true, false, cond, ℕ, zero, suc, List, [], ◌∷◌, ◌++◌, Option, Some, None, ap, ap₂, sym, refl, is_some, arith, length, map, subst}
 use Rattle.std.specs.Prelude.{All, codes, decimal, option_to_list, unwrap_or}
 use Rattle.std.specs.List.{AllByRecursion, cons_option, filter_map, flat_map}
 use Rattle.std.specs.Prelude.{String}
@@ -12,11 +12,11 @@ use Rattle.clap.specs.Walk.{Row, first_of}
 use Rattle.clap.specs.Simple.{matches_of}
 use Rattle.clap.specs.Takes.{is_given}
 use Rattle.clap.specs.Faults.{fault_of}
-use Rattle.command_line.specs.Grammar.{Form, IsDirectory, IsNumber, IsOnceOr, IsPart, Options, Part, SayOptions, Setting, Text, apart, directory, is_same, joined, least_of, mergers, most_of, name_of, number_of, numbers_of, parsers, path_of, setting, spelling, stop_after, walkers}
+use Rattle.command_line.specs.Grammar.{IsDirectory, IsNumber, IsOnceOr, IsPart, Options, Part, SayOptions, Setting, Text, apart, directory, is_same, joined, least_of, mergers, most_of, name_of, numbers_of, parsers, path_of, setting, spelling, stop_after, walkers}
 use Rattle.command_line.specs.Reading.{HoldOptions, IsNumberOr, IsOffered, IsStop, index_app}
 use Rattle.command_line.proofs.Numbers.{IsDirectory-decimal}
 use Rattle.command_line.proofs.Shape.{Key, dir, id_of, set}
-use Rattle.command_line.proofs.Parts.{Found, IsGiven, IsRaw, Raw, accepts, key_in, option_with, path, raw_row, raw_words, reads, rows_at_end, text_in}
+use Rattle.command_line.proofs.Parts.{Found, IsGiven, IsRaw, Raw, accepts, option_with, path, raw_row, raw_words, reads, rows_at_end}
 use Rattle.command_line.proofs.Levels.{fault_of-passes, matches-is, passes-fault_of, start}
 use Rattle.command_line.proofs.Texts.{IsIn, chain-first_of, chain-once, first_of-raws, first_text, is_given-raws, once-chain, placed, texts_of}
 
@@ -50,7 +50,7 @@ each_raw : (parts : List Part) → AllByRecursion IsPart parts → AllByRecursio
 each_raw [] each = tt
 each_raw (p ∷ ps) each = (IsRaw-of p each.0, each_raw ps each.1)
 
-by_recursion : {X : Type 0} (P : X → Type 0) (xs : List X) → All P xs → AllByRecursion P xs
+pub by_recursion : {X : Type 0} (P : X → Type 0) (xs : List X) → All P xs → AllByRecursion P xs
 by_recursion P [] h = tt
 by_recursion P (x ∷ xs) h = (h 0 x (omega arith), by_recursion P xs (λ k d lt. h (suc k) d (omega arith)))
 
@@ -169,8 +169,7 @@ module _ (words : List Text) (o : Options) (s : SayOptions words o) where
   are_taken =
       let chain = once-chain raws [] (λ k. (λ e. absurd (false≢true e), texts_once k)) in
       let walk = accepts raws [] None true tt (each_raw s.parts each_part) chain (placed raws true (texts_once dir)) in
-      let given : is_given (codes "dir") (map raw_row raws) ≡ true = is_given-raws dir raws ∙ ap (λ ts. is_some (first_text ts)) (paths_are s.parts ∙ s.directory) in
-      (
+      let given : is_given (codes "dir") (map raw_row raws) ≡ true = is_given-raws dir raws ∙ ap (λ ts. is_some (first_text ts)) (paths_are s.parts ∙ s.directory) in (
         fault_of-passes (flat_map raw_words raws) walk.0 (ap (is_given (codes "dir")) walk.1 ∙ given),
         subst (λ (rows : List Row). HoldOptions rows o) (sym (matches-is (flat_map raw_words raws) ∙ walk.1)) options_held,
       )

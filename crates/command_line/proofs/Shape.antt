@@ -1,14 +1,9 @@
 -- The command as `clap` builds it, and what it makes of one use of an argument.
-use Rattle.std.proofs.Common.{◌≡◌, ◌≢◌, ◌∙◌, ◌&&◌, ◌||◌, Bool, true, false, cond, ℕ, List, [], ◌∷◌, ◌++◌, Option, Some, None, append-nil, ap, sym, refl, not}
-use Rattle.std.specs.Prelude.{codes, option_map}
-use Rattle.std.specs.List.{list_any}
-use Rattle.std.specs.Str.{bytes_eq}
+use Rattle.std.proofs.Common.{◌≡◌, ℕ, List, [], ◌∷◌, Some, None, refl}
+use Rattle.std.specs.Prelude.{codes}
 use Rattle.clap.specs.Simple.{Shape, built}
-use Rattle.clap.specs.Walk.{Held, Row, Rule, Walk, arg_by_id, arg_by_index, arg_by_long, arg_by_short, at_row, has_row, idle, option, reading_by, settled, used, walked, without}
-use Rattle.clap.specs.Faults.{settle_fault, use_fault, walk_fault}
+use Rattle.clap.specs.Walk.{Rule, arg_by_id, arg_by_index, arg_by_long, arg_by_short}
 use Rattle.clap.specs.declared.builder.value_parser.ValueParser.TheVariants as vp
-use Rattle.clap.specs.declared.parser.matches.ValueSource.TheVariants.{CommandLine}
-use Rattle.clap.specs.declared.error.kind.ErrorKind.TheVariants as kind
 use Rattle.command_line.specs.Grammar.{Setting, Text, mergers, parsers, stop_after, walkers}
 use Rattle.command_line.specs.Reading.{directory_rule, index_app, option_rule}
 

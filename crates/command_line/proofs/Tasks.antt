@@ -1,9 +1,11 @@
 -- Words say one task.
-use Rattle.std.proofs.Common.{◌≡◌, ◌∙◌, ℕ, List, [], ◌∷◌, ap, ap₂, arith, codes, refl, subst, sym}
+use Rattle.std.proofs.Common.{◌≡◌, ◌∙◌, ◌≤◌, ℕ, Option, Some, None, IfSome, List, [], ◌∷◌, ap, ap₂, arith, codes, refl, subst, sym}
 use Rattle.std.specs.Prelude.{decimal}
+use Rattle.std.specs.List.{AllByRecursion, filter_map}
 use Rattle.std.proofs.lemmas.Fmt.{decimal_injective}
-use Rattle.command_line.specs.Grammar.{Options, Say, SayOptions, SayWith, Task, Text, check, index, run, sample, trace}
-use Rattle.command_line.proofs.Said.{held-same, said-taken}
+use Rattle.command_line.specs.Grammar.{AreInRange, IsDirectory, IsPart, Options, Part, Say, SayOptions, SayWith, Task, Text, directory, path_of, setting, check, index, run, sample, trace}
+use Rattle.command_line.specs.Reading.{IsNumberOr, IsStop}
+use Rattle.command_line.proofs.Said.{by_recursion, held-same, said-taken}
 
 same_options : (words : List Text) (o p : Options) → SayOptions words o → SayOptions words p → o ≡ p
 same_options words o p g h = held-same _ o p (said-taken words o g).1 (said-taken words p h).1
@@ -91,3 +93,30 @@ no_trace rest none check h = absurd (omega (arith, said_letter (codes "trace" �
 no_trace rest none run h = absurd (omega (arith, said_letter (codes "trace" ∷ rest) run h))
 no_trace rest none (index o) h = absurd (omega (arith, said_letter (codes "trace" ∷ rest) (index o) h))
 no_trace rest none (sample a n) h = absurd (omega (arith, said_letter (codes "trace" ∷ rest) (sample a n) h))
+
+-- ---- what words say is in range
+
+number_in : (default : ℕ) (text : Option Text) (n : ℕ) → 1 ≤ default → default ≤ 8 → IsNumberOr default text n → (1 ≤ n) × (n ≤ 8)
+number_in default None n low high h = (omega arith, omega arith)
+number_in default (Some text) n low high h = (h.1, h.2)
+
+stop_in : (text : Option Text) (stop : Option ℕ) → IsStop text stop → IfSome stop (λ n. n ≤ 1000000000)
+stop_in text None h = tt
+stop_in None (Some n) h = cc
+stop_in (Some text) (Some n) h = h.2
+
+first_path : (parts : List Part) (text : Text) → AllByRecursion IsPart parts → filter_map path_of parts ≡ text ∷ [] → IsDirectory text
+first_path [] text each e = cc
+first_path (directory path ∷ ps) text each e = let same : path ≡ text = cc in subst IsDirectory same each.0
+first_path (setting form s n ∷ ps) text each e = first_path ps text each.1 e
+
+pub options_in_range : (words : List Text) (o : Options) → SayOptions words o → AreInRange o
+options_in_range words o s =
+    let held = (said-taken words o s).1 in
+    record {
+      directory = first_path s.parts o.directory (by_recursion IsPart s.parts s.each) s.directory;
+      walkers = number_in 2 _ o.walkers (omega arith) (omega arith) held.walkers;
+      parsers = number_in 4 _ o.parsers (omega arith) (omega arith) held.parsers;
+      mergers = number_in 2 _ o.mergers (omega arith) (omega arith) held.mergers;
+      stop_after = stop_in _ o.stop_after held.stop_after;
+    }

@@ -1,8 +1,8 @@
 -- The texts of an argument among the parts and in the rows.
-use Rattle.std.proofs.Common.{◌≡◌, ◌≢◌, ◌∙◌, ◌&&◌, ◌||◌, ◌≤◌, ◌+◌, Bool, true, false, not, cond, ℕ, zero, suc, List, [], ◌∷◌, ◌++◌, Option, Some, None, ap, sym, refl, is_some, arith, length, map, subst, append_assoc, true≢false}
-use Rattle.std.specs.Prelude.{codes, find, option_and_then, slice_get}
+use Rattle.std.proofs.Common.{◌≡◌, ◌∙◌, ◌||◌, ◌≤◌, Bool, true, false, cond, List, [], ◌∷◌, ◌++◌, Option, Some, None, ap, sym, refl, is_some, arith, length, map, subst, append_assoc, true≢false}
+use Rattle.std.specs.Prelude.{find, option_and_then, slice_get}
 use Rattle.std.specs.Option.{option_map_or}
-use Rattle.std.specs.List.{AllByRecursion, cons_option, filter_map, list_any}
+use Rattle.std.specs.List.{AllByRecursion, cons_option, filter_map}
 use Rattle.std.specs.Str.{bytes_eq}
 use Rattle.clap.specs.Walk.{Row, first_of, has_row}
 use Rattle.std.proofs.Math.Bool.{or-false, or-true}
@@ -132,6 +132,7 @@ once-chain (r ∷ rs) rows once = (fresh (has_row (id_of (key_in r)) rows) refl,
     fresh : (b : Bool) → has_row (id_of (key_in r)) rows ≡ b → has_row (id_of (key_in r)) rows ≡ false
     fresh true e = let none = rw (same_key-itself (key_in r)) at ((once (key_in r)).0 e) in cc
     fresh false e = e
+
     go : (k : Key) (b : Bool) → same_key k (key_in r) ≡ b → (has_row (id_of k) rows ≡ true → texts_then (same_key k (key_in r)) r (texts_of k rs) ≡ []) × (length (texts_then (same_key k (key_in r)) r (texts_of k rs)) ≤ 1)
         → IsOnce (rows ++ raw_row r ∷ []) rs k
     go k true e h =

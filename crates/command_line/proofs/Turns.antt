@@ -1,16 +1,16 @@
 -- What the walk makes of one word.
-use Rattle.std.proofs.Common.{◌≡◌, ◌≢◌, ◌∙◌, ◌&&◌, ◌||◌, ◌==◌, Bool, true, false, cond, ℕ, List, [], ◌∷◌, ◌++◌, Option, Some, None, ap, ap₂, sym, refl, not, zero, suc}
+use Rattle.std.proofs.Common.{◌≡◌, ◌∙◌, ◌&&◌, ◌==◌, Bool, true, false, ℕ, List, [], ◌∷◌, ◌++◌, Option, Some, None, ap, refl}
 use Rattle.std.specs.Prelude.{codes, slice_get}
 use Rattle.std.specs.Str.{bytes_eq, chars}
 use Rattle.std.proofs.lemmas.Bool.{ne_eqb}
 use Rattle.clap.specs.Lexer.{long_of, short_of}
-use Rattle.clap.specs.Kinds.{Kinds, or_else}
-use Rattle.clap.specs.Walk.{Held, Row, Waiting, Walk, arg_by_long, has_row, idle, is_pending, option, positional, positional_held, pushed, settled, subcommand_met, takes_several, walked, used}
+use Rattle.clap.specs.Kinds.{or_else}
+use Rattle.clap.specs.Walk.{Held, Row, Waiting, Walk, arg_by_long, has_row, idle, is_pending, option, positional, positional_held, pushed, settled, subcommand_met, walked, used}
 use Rattle.clap.specs.Faults.{flags_fault, settle_fault, turn_fault, use_fault}
 use Rattle.clap.specs.declared.error.kind.ErrorKind.TheVariants as kind
 use Rattle.command_line.specs.Grammar.{IsDirectory, Setting, Text, mergers, name_of, parsers, stop_after, walkers}
-use Rattle.command_line.proofs.Shape.{Key, bare_name, dir, id_of, no_other_place, no_rule_by_short, rule_at, rule_by_id, rule_by_long, rule_by_place, rules, set, shape}
-use Rattle.command_line.proofs.Uses.{IsFresh, Pending, held_at, hungry_held, pending_at, row_at, rows_with, settle_fault-fresh, settle_fault-hungry, settled-fresh, use_fault-fresh, used-fresh}
+use Rattle.command_line.proofs.Shape.{bare_name, dir, id_of, no_other_place, no_rule_by_short, rule_at, rule_by_id, rule_by_long, rule_by_place, rules, set, shape}
+use Rattle.command_line.proofs.Uses.{IsFresh, Pending, held_at, pending_at, row_at, rows_with, settle_fault-hungry, settled-fresh, used-fresh}
 
 -- ---- where the walk stands: between two parts, or before the value of an option
 

@@ -1,13 +1,12 @@
 -- What one use of an argument does to the rows, and when it fails.
-use Rattle.std.proofs.Common.{◌≡◌, ◌≢◌, ◌∙◌, ◌&&◌, ◌||◌, Bool, true, false, cond, ℕ, List, [], ◌∷◌, ◌++◌, Option, Some, None, append-nil, ap, ap₂, sym, refl, not}
-use Rattle.std.specs.List.{list_any}
+use Rattle.std.proofs.Common.{◌≡◌, ◌∙◌, ◌&&◌, ◌||◌, Bool, true, false, cond, List, [], ◌∷◌, ◌++◌, Option, Some, None, append-nil, ap, sym, refl}
 use Rattle.std.specs.Str.{bytes_eq}
 use Rattle.clap.specs.Kinds.{Kinds, or_else}
-use Rattle.clap.specs.Walk.{Held, Row, Rule, arg_by_id, at_row, has_row, more_values, reading_by, settled, settled_rows, used, used_by_id, with_values, without}
+use Rattle.clap.specs.Walk.{Held, Row, Rule, at_row, has_row, more_values, reading_by, settled, used, used_by_id, with_values, without}
 use Rattle.clap.specs.Faults.{settle_fault, use_fault}
 use Rattle.clap.specs.declared.parser.matches.ValueSource.TheVariants.{CommandLine}
 use Rattle.clap.specs.declared.error.kind.ErrorKind.TheVariants as kind
-use Rattle.command_line.specs.Grammar.{Setting, Text, mergers, parsers, stop_after, walkers}
+use Rattle.command_line.specs.Grammar.{Setting, Text}
 use Rattle.command_line.proofs.Shape.{Key, dir, id_of, rule_at, rule_by_id, rules, set}
 
 -- the row of an argument that was given once

@@ -1,13 +1,13 @@
 -- What an offered word is: no flag, an option of the command, or a flag that the command lacks.
-use Rattle.std.proofs.Common.{◌≡◌, ◌≢◌, ◌∙◌, ◌⊎◌, ◌+◌, ◌<◌, ◌||◌, ◌==◌, Bool, true, false, cond, ℕ, List, [], ◌∷◌, ◌++◌, Option, Some, None, ap, sym, refl, suc, inl, inr, arith, length, subst}
-use Rattle.std.specs.Prelude.{codes, slice_get}
+use Rattle.std.proofs.Common.{◌≡◌, ◌≢◌, ◌∙◌, ◌⊎◌, ◌+◌, ◌==◌, Bool, true, false, ℕ, List, [], ◌∷◌, ◌++◌, Some, None, ap, sym, refl, suc, inl, inr, arith, subst}
+use Rattle.std.specs.Prelude.{slice_get}
 use Rattle.std.specs.List.{after_first, before_first, position_or_len}
 use Rattle.std.specs.Str.{IsUtf8, bytes_eq, chars}
 use Rattle.std.proofs.lemmas.Bool.{ne_eqb}
 use Rattle.std.proofs.lemmas.Bool.Decides.{eqb_tells}
 use Rattle.std.proofs.lemmas.Slice.Eq.{bytes_eq-Decides}
 use Rattle.std.proofs.lemmas.Str.{IsCharBoundary-after_ascii, IsUtf8-drop, encodes-chars}
-use Rattle.clap.specs.Lexer.{has_byte, long_of, name_and_value, short_of}
+use Rattle.clap.specs.Lexer.{has_byte, name_and_value}
 use Rattle.clap.specs.Walk.{arg_by_long}
 use Rattle.command_line.specs.Grammar.{IsDirectory, Setting, Text, mergers, name_of, parsers, stop_after, walkers}
 use Rattle.command_line.specs.Reading.{IsOffered}
@@ -31,11 +31,11 @@ split_sign [] e = cc
 split_sign (x ∷ xs) e = elim (eqb_tells x 61) [
   | inl t ↦ let yes : (x == 61) ≡ true = t.0 in rw yes (ap (λ y. y ∷ xs) t.1)
   | inr t ↦
-    let no : (x == 61) ≡ false = t.0 in
-    let n = position_or_len is_sign xs in
-    let more : 1 + n + 1 ≡ suc (n + 1) = omega arith in
-    let one : 1 + n ≡ suc n = omega arith in
-    rw (no, more, one) (ap (λ ys. x ∷ ys) (split_sign xs (rw no at e)))
+      let no : (x == 61) ≡ false = t.0 in
+      let n = position_or_len is_sign xs in
+      let more : 1 + n + 1 ≡ suc (n + 1) = omega arith in
+      let one : 1 + n ≡ suc n = omega arith in
+      rw (no, more, one) (ap (λ ys. x ∷ ys) (split_sign xs (rw no at e)))
 ]
 
 no_sign : (xs : Text) → has_byte 61 xs ≡ false → before_first is_sign xs ≡ xs
@@ -43,10 +43,10 @@ no_sign [] e = refl
 no_sign (x ∷ xs) e = elim (eqb_tells x 61) [
   | inl t ↦ let yes : (x == 61) ≡ true = t.0 in let bad : true ≡ false = rw yes at e in cc
   | inr t ↦
-    let no : (x == 61) ≡ false = t.0 in
-    let n = position_or_len is_sign xs in
-    let one : 1 + n ≡ suc n = omega arith in
-    rw (no, one) (ap (λ ys. x ∷ ys) (no_sign xs (rw no at e)))
+      let no : (x == 61) ≡ false = t.0 in
+      let n = position_or_len is_sign xs in
+      let one : 1 + n ≡ suc n = omega arith in
+      rw (no, one) (ap (λ ys. x ∷ ys) (no_sign xs (rw no at e)))
 ]
 
 -- ---- the name is an option's, or the command has none such
@@ -65,13 +65,16 @@ known name = first (bytes_eq (bare_name walkers) name) refl
         → (b : Bool) → bytes_eq (bare_name stop_after) name ≡ b → IsKnown name
     fourth no1 no2 no3 true e = inl (stop_after, same_text _ name e)
     fourth no1 no2 no3 false e = inr (rw (no1, no2, no3, e) refl)
+
     third : bytes_eq (bare_name walkers) name ≡ false → bytes_eq (bare_name parsers) name ≡ false
         → (b : Bool) → bytes_eq (bare_name mergers) name ≡ b → IsKnown name
     third no1 no2 true e = inl (mergers, same_text _ name e)
     third no1 no2 false e = fourth no1 no2 e (bytes_eq (bare_name stop_after) name) refl
+
     second : bytes_eq (bare_name walkers) name ≡ false → (b : Bool) → bytes_eq (bare_name parsers) name ≡ b → IsKnown name
     second no1 true e = inl (parsers, same_text _ name e)
     second no1 false e = third no1 e (bytes_eq (bare_name mergers) name) refl
+
     first : (b : Bool) → bytes_eq (bare_name walkers) name ≡ b → IsKnown name
     first true e = inl (walkers, same_text _ name e)
     first false e = second e (bytes_eq (bare_name parsers) name) refl

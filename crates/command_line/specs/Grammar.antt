@@ -1,6 +1,6 @@
 -- The words of the command line, and the task that they say.
 use Rattle.std.specs.Prelude.{◌≡◌, ◌≢◌, ◌^◌, ◌<◌, ◌≤◌, ℕ, Bool, true, false, List, [], ◌∷◌, ◌++◌}
-use Rattle.std.specs.Prelude.{Option, Some, None, codes, decimal, All, if◌then◌else◌, option_to_list}
+use Rattle.std.specs.Prelude.{Option, Some, None, IfSome, codes, decimal, All, if◌then◌else◌, option_to_list}
 use Rattle.std.specs.List.{filter_map, flat_map}
 
 abbrev pub Text : Type 0
@@ -102,6 +102,14 @@ pub record SayOptions (words : List Text) (o : Options) : Type 0 where
   pub mergers : IsOnceOr 2 (numbers_of Setting.mergers parts) o.mergers
   pub stop_after : numbers_of Setting.stop_after parts ≡ option_to_list o.stop_after
 
+-- what holds of options that words say
+pub record AreInRange (o : Options) : Type 0 where
+  pub directory : IsDirectory o.directory
+  pub walkers : (1 ≤ o.walkers) × (o.walkers ≤ 8)
+  pub parsers : (1 ≤ o.parsers) × (o.parsers ≤ 8)
+  pub mergers : (1 ≤ o.mergers) × (o.mergers ≤ 8)
+  pub stop_after : IfSome o.stop_after (λ n. n ≤ 1000000000)
+
 -- ---- all words
 
 pub data Task : Type 0 where
@@ -123,3 +131,16 @@ Say words (index o) = SayWith (codes "index") words o
 Say words (trace o) = SayWith (codes "trace") words o
 Say words (sample seed files) = (words ≡ codes "sample" ∷ decimal seed ∷ decimal files ∷ [])
     × (seed < 2 ^ 64) × (1 ≤ files) × (files ≤ 20000)
+
+-- only these are read with `clap`, which takes memory
+abbrev pub HasOptions : Task → Type 0
+HasOptions (index o) = Unit {0}
+HasOptions (trace o) = Unit {0}
+HasOptions _ = ⊥
+
+-- what holds of a task that words say
+abbrev pub IsInRange : Task → Type 0
+IsInRange (index o) = AreInRange o
+IsInRange (trace o) = AreInRange o
+IsInRange (sample seed files) = (1 ≤ files) × (files ≤ 20000)
+IsInRange _ = Unit {0}

@@ -1,7 +1,5 @@
 -- What the words and the answer of `read_words` are in the grammar's terms.
-use Rattle.std.specs.Prelude.{◌≤◌, List, String, map}
-use Rattle.std.specs.String.{string_bytes}
-use Rattle.command_line.specs.Grammar.{Options, Task, Text, check, index, run, sample, trace}
+use Rattle.command_line.specs.Grammar.{Options, Task, check, index, run, sample, trace}
 use Rattle.command_line.specs.declared.command.Command.{Command}
 use Rattle.command_line.specs.declared.command.Command.TheVariants as command
 use Rattle.command_line.specs.declared.command.IndexOptions.{IndexOptions}

