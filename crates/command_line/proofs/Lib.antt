@@ -1,0 +1,10 @@
+pub mod Numbers
+pub mod Levels
+pub mod Parts
+pub mod Said
+pub mod Shape
+pub mod Tasks
+pub mod Texts
+pub mod Turns
+pub mod Uses
+pub mod Views
