@@ -60,6 +60,6 @@ pub record IsUndecided (given : List ℕ) : Type 0 where
 -- why the script with these bytes wasn't read, where the bytes after it are left
 abbrev pub HasReason : Option (List ℕ) → Option (List ℕ) → ℕ → ℕ → ScriptFault → Type 0
 HasReason left left' before now Memory = Unit {0}
-HasReason left left' before now (BadLine k) = IfSome left (λ input. IsBadLine input k × (k ≤ 100001) × (IsTooLong input → ⊥))
+HasReason left left' before now (BadLine k) = IfSome left (λ input. IsBadLine input k × (IsTooLong input → ⊥))
 HasReason left left' before now TooLong = IfSome left IsTooLong
 HasReason left left' before now Read = Rose before now × ((given : List ℕ) × Consumes left left' given × IsUndecided given)

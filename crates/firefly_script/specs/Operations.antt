@@ -54,6 +54,6 @@ abbrev pub MayFollow : Layout → Holding → List Line → Type 0
 MayFollow l h [] = Unit {0}
 MayFollow l h (x ∷ xs) = MayCome l h x × MayFollow l (holding_after h x.thread.0 x.operation) xs
 
--- no thread holds a mutex of the layout
-abbrev pub AllFree : Layout → Holding → Type 0
-AllFree l h = (t m : ℕ) → t < l.threads → m < l.mutexes → h t m ≡ false
+-- no thread holds a mutex
+abbrev pub AllFree : Holding → Type 0
+AllFree h = (t m : ℕ) → h t m ≡ false

@@ -35,7 +35,7 @@ script_text l xs = layout_text l ++ 10 ∷ lines_text xs
 pub record IsScript (l : Layout) (xs : List Line) : Type 0 where
   pub lawful : IsLawful l
   pub follow : MayFollow l none_held xs
-  pub free : AllFree l (held_after none_held xs)
+  pub free : AllFree (held_after none_held xs)
 
 -- the bytes are the text of the layout and the lines
 pub record ReadsAs (bytes : List ℕ) (l : Layout) (xs : List Line) : Type 0 where

@@ -29,7 +29,9 @@ pub enum Word {
 pub fn cut(bytes: &[u8], stop: u8) -> Option<(&[u8], &[u8])>
     ensures { MatchOption result (Lacks stop bytes.now) (λ x. Lacks stop x.0.now × (bytes.now ≡ x.0.now ++ stop ∷ x.1.now)) }
 {
-    let at = memchr(stop, bytes)?;
+    let Some(at) = memchr(stop, bytes) else {
+        return None;
+    };
     Some((&bytes[..at], &bytes[at + 1..]))
 }
 
@@ -62,7 +64,9 @@ fn name(bytes: &[u8], letter: u8, count: u32) -> Option<u32>
     if *first != letter || count == 0 {
         return None;
     }
-    let number = number(digits, u64::from(count - 1))?;
+    let Some(number) = number(digits, u64::from(count - 1)) else {
+        return None;
+    };
     Some(number as u32)
 }
 
@@ -70,15 +74,15 @@ fn name(bytes: &[u8], letter: u8, count: u32) -> Option<u32>
 fn known_word(bytes: &[u8]) -> Option<Word>
     ensures { Parses (λ _. Unit {0}) word_text bytes.now result }
 {
-    if bytes == b"acquire" {
+    if bytes == b"acquire".as_slice() {
         Some(Word::Acquire)
-    } else if bytes == b"release" {
+    } else if bytes == b"release".as_slice() {
         Some(Word::Release)
-    } else if bytes == b"p" {
+    } else if bytes == b"p".as_slice() {
         Some(Word::P)
-    } else if bytes == b"v" {
+    } else if bytes == b"v".as_slice() {
         Some(Word::V)
-    } else if bytes == b"add" {
+    } else if bytes == b"add".as_slice() {
         Some(Word::Add)
     } else {
         None
@@ -87,16 +91,24 @@ fn known_word(bytes: &[u8]) -> Option<Word>
 
 // A mutex and a number.
 fn addition(bytes: &[u8], layout: &Layout) -> Option<(u32, u64)>
+    requires { IsLawful layout.now }
     ensures { Parses (λ x. (x.0 < layout.now.mutexes) × (x.1 ≤ 1000000)) (λ x. 109 ∷ (decimal x.0 ++ 32 ∷ decimal x.1)) bytes.now result }
 {
-    let (mutex, added) = cut(bytes, b' ')?;
-    let mutex = name(mutex, b'm', layout.mutexes)?;
-    let added = number(added, MOST_ADDED)?;
+    let Some((mutex, added)) = cut(bytes, b' ') else {
+        return None;
+    };
+    let Some(mutex) = name(mutex, b'm', layout.mutexes) else {
+        return None;
+    };
+    let Some(added) = number(added, MOST_ADDED) else {
+        return None;
+    };
     Some((mutex, added))
 }
 
 // The operation with this word, of which the bytes are what stands behind it.
 fn arguments(word: Word, bytes: &[u8], layout: &Layout) -> Option<Operation>
+    requires { IsLawful layout.now }
     ensures { Parses (λ o. IsNamed layout.now o × (word_of o ≡ word)) arguments_text bytes.now result }
 {
     match word {
@@ -117,7 +129,9 @@ fn arguments(word: Word, bytes: &[u8], layout: &Layout) -> Option<Operation>
             Some(Operation::V { sem })
         }
         Word::Add => {
-            let (mutex, number) = addition(bytes, layout)?;
+            let Some((mutex, number)) = addition(bytes, layout) else {
+                return None;
+            };
             let mutex = MutexId(mutex);
             Some(Operation::Add { mutex, number })
         }
@@ -126,20 +140,33 @@ fn arguments(word: Word, bytes: &[u8], layout: &Layout) -> Option<Operation>
 
 // An operation.
 fn operation(bytes: &[u8], layout: &Layout) -> Option<Operation>
+    requires { IsLawful layout.now }
     ensures { Parses (IsNamed layout.now) operation_text bytes.now result }
 {
-    let (word, behind) = cut(bytes, b' ')?;
-    let word = known_word(word)?;
+    let Some((word, behind)) = cut(bytes, b' ') else {
+        return None;
+    };
+    let Some(word) = known_word(word) else {
+        return None;
+    };
     arguments(word, behind, layout)
 }
 
 /// The line that the bytes are, without its newline.
 pub fn line(bytes: &[u8], layout: &Layout) -> Option<Line>
+    requires { IsLawful layout.now }
     ensures { Parses (IsLineOf layout.now) line_text bytes.now result }
 {
-    let (thread, behind) = cut(bytes, b' ')?;
-    let thread = ThreadId(name(thread, b't', layout.threads)?);
-    let operation = operation(behind, layout)?;
+    let Some((thread, behind)) = cut(bytes, b' ') else {
+        return None;
+    };
+    let Some(thread) = name(thread, b't', layout.threads) else {
+        return None;
+    };
+    let thread = ThreadId(thread);
+    let Some(operation) = operation(behind, layout) else {
+        return None;
+    };
     Some(Line { thread, operation })
 }
 
@@ -147,9 +174,15 @@ pub fn line(bytes: &[u8], layout: &Layout) -> Option<Line>
 fn field<'b>(bytes: &'b [u8], word: &[u8]) -> Option<(u32, &'b [u8])>
     ensures { MatchOption result ((n : ℕ) (y : List ℕ) → n ≤ 64 → bytes.now ≡ word.now ++ (decimal n ++ 32 ∷ y) → ⊥) (λ x. IsField bytes.now word.now x.0 x.1.now) }
 {
-    let behind = bytes.strip_prefix(word)?;
-    let (digits, behind) = cut(behind, b' ')?;
-    let number = number(digits, 64)?;
+    let Some(behind) = bytes.strip_prefix(word) else {
+        return None;
+    };
+    let Some((digits, behind)) = cut(behind, b' ') else {
+        return None;
+    };
+    let Some(number) = number(digits, 64) else {
+        return None;
+    };
     Some((number as u32, behind))
 }
 
@@ -157,11 +190,22 @@ fn field<'b>(bytes: &'b [u8], word: &[u8]) -> Option<(u32, &'b [u8])>
 pub fn layout(bytes: &[u8]) -> Option<Layout>
     ensures { Parses IsLawful layout_text bytes.now result }
 {
-    let (threads, behind) = field(bytes, b"threads ")?;
-    let (mutexes, behind) = field(behind, b"mutexes ")?;
-    let (conditions, behind) = field(behind, b"conditions ")?;
-    let digits = behind.strip_prefix(b"semaphores ")?;
-    let semaphores = number(digits, 64)? as u32;
+    let Some((threads, behind)) = field(bytes, b"threads ") else {
+        return None;
+    };
+    let Some((mutexes, behind)) = field(behind, b"mutexes ") else {
+        return None;
+    };
+    let Some((conditions, behind)) = field(behind, b"conditions ") else {
+        return None;
+    };
+    let Some(digits) = behind.strip_prefix(b"semaphores ") else {
+        return None;
+    };
+    let Some(semaphores) = number(digits, 64) else {
+        return None;
+    };
+    let semaphores = semaphores as u32;
     let layout = Layout {
         threads,
         mutexes,

@@ -22,7 +22,7 @@ pub struct Script {
 }
 
 impl Model for Script {
-    ghost use Rattle.std.specs.Prelude.{◌≡◌, ◌<◌, ◌×◌, length};
+    ghost use Rattle.std.specs.Prelude.{◌≡◌, ◌<◌, length};
     ghost use Rattle.firefly_script.specs.Seen.{Seen};
     ghost use Rattle.firefly_script.specs.Text.{IsScript};
 
