@@ -37,3 +37,7 @@ empty (x ∷ p) e = absurd (omega arith)
 pub takes_nothing : (left left' : Option (List ℕ)) (most : ℕ) (old new : List ℕ) → Takes most left left' old new 0 → new ≡ old
 takes_nothing left left' most old new t =
     t.behind ∙ ap (λ p. old ++ p) (empty t.piece t.count) ∙ append-nil old
+
+pub prepend_nothing : (w : List ℕ) (r : Option (List ℕ)) → w ≡ [] → prepend_known w r ≡ r
+prepend_nothing w None e = refl
+prepend_nothing w (Some xs) e = ap (λ l. Some (l ++ xs)) e

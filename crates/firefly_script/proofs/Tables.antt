@@ -15,7 +15,7 @@ use Rattle.firefly_script.specs.Held.{Shows}
 abbrev pub IsWithin : Layout → Holding → Type 0
 IsWithin l h = (t m : ℕ) → h t m ≡ true → (t < l.threads) × (m < l.mutexes)
 
-within_if : (l : Layout) (b : Bool) (h : Holding) (t m : ℕ) → t < l.threads → m < l.mutexes → IsWithin l h → IsWithin l (held_if b h t m)
+pub within_if : (l : Layout) (b : Bool) (h : Holding) (t m : ℕ) → t < l.threads → m < l.mutexes → IsWithin l h → IsWithin l (held_if b h t m)
 within_if l b h t m lt lm w u n e =
     elim (eqb_tells t u) [
       | inl p ↦

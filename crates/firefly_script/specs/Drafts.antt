@@ -68,6 +68,14 @@ pub record IsDone (xs : List Line) (rest left' : Option (List ℕ)) : Type 0 whe
   pub at_end : IsAtEnd left'
   pub free : AllFree (held_after none_held xs)
 
+-- all lines were read, up to the end of the input
+pub record IsFinished (d : Draft) (rest left' : Option (List ℕ)) : Type 0 where
+  pub follow : MayFollow d.layout none_held d.lines.items
+  pub free : AllFree (held_after none_held d.lines.items)
+  pub few : length d.lines.items ≤ 99999
+  pub at_end : IsAtEnd left'
+  pub text : IfSome rest (λ bytes. bytes ≡ lines_text d.lines.items)
+
 -- further lines may have been read before the fault
 pub record LaterFault (l : Layout) (rest left' : Option (List ℕ)) (before now : ℕ) (fault : ScriptFault) : Type 0 where
   pub lines : List Line
@@ -75,4 +83,18 @@ pub record LaterFault (l : Layout) (rest left' : Option (List ℕ)) (before now 
   pub follow : MayFollow l none_held lines
   pub consumed : Consumes rest left (lines_text lines)
   pub few : length lines ≤ 99999
-  pub fault : LineFault l lines left left' before now fault
+  pub reason : LineFault l lines left left' before now fault
+
+-- the line isn't one that may come next, or there was no memory
+abbrev pub TakeFault : Layout → List Line → List ℕ → ScriptFault → Type 0
+TakeFault l xs bytes Memory = Unit {0}
+TakeFault l xs bytes (BadLine k) = (k ≡ length xs + 2) × NoneIs l xs bytes
+TakeFault l xs bytes TooLong = ⊥
+TakeFault l xs bytes Read = ⊥
+
+-- a mutex is still held
+abbrev pub EndFault : List Line → ScriptFault → Type 0
+EndFault xs Memory = ⊥
+EndFault xs (BadLine k) = (k ≡ length xs + 2) × (AllFree (held_after none_held xs) → ⊥)
+EndFault xs TooLong = ⊥
+EndFault xs Read = ⊥

@@ -9,8 +9,10 @@ mod draft;
 mod line;
 mod next;
 mod parse;
+mod read;
 mod script;
 mod window;
 
 pub use line::{Line, Operation};
+pub use read::read_script;
 pub use script::{Script, ScriptFault};

@@ -1,12 +1,12 @@
 // Reading scripts.
-ghost use Rattle.std.specs.Prelude.{◌≡◌, ◌+◌, ◌<◌, ◌≤◌, ◌++◌, ◌∷◌, [], List, ℕ, Ok, true, false, length, IfSome, IfOk, IfErr, OnOk};
+ghost use Rattle.std.specs.Prelude.{◌≡◌, ◌+◌, ◌<◌, ◌≤◌, ◌++◌, ◌∷◌, [], List, ℕ, Ok, true, false, length, take, drop, Some, IfSome, IfOk, IfErr, OnOk, OnErr, MatchResult};
 ghost use Rattle.std.specs.Io.KnownBytes.{Consumes, IsAtEnd, prepend_known};
 ghost use Rattle.larch_actions.specs.Layout.{IsLawful};
 ghost use Rattle.firefly_script.specs.declared.line.Line.{Line};
-ghost use Rattle.firefly_script.specs.Operations.{MayFollow, none_held, held_after};
+ghost use Rattle.firefly_script.specs.Operations.{MayFollow, none_held, held_after, AllFree};
 ghost use Rattle.firefly_script.specs.Text.{layout_text, line_text, lines_text, ReadsAs};
 ghost use Rattle.firefly_script.specs.Faults.{HasReason};
-ghost use Rattle.firefly_script.specs.Drafts.{IsDraft, Takes, HeadFault, LineFault, LaterFault, IsDone};
+ghost use Rattle.firefly_script.specs.Drafts.{IsDraft, Takes, HeadFault, TakeFault, EndFault, LineFault, LaterFault, IsDone, IsFinished};
 
 use crate::draft::Draft;
 use crate::next::{Found, next};
@@ -41,30 +41,34 @@ fn head<I: Source>(window: &mut Window, input: &mut I) -> Result<Layout, ScriptF
     }
 }
 
-// The end of the input, behind so many lines.
-fn end(draft: &Draft) -> Result<bool, ScriptFault>
+// The end of the input, behind these lines.
+fn end(draft: &Draft) -> Result<(), ScriptFault>
     requires draft { IsDraft draft.now }
     requires few { length draft.now.lines.items ≤ 99999 }
-    ensures { MatchResult result (λ more. (more ≡ false) × AllFree (held_after none_held draft.now.lines.items)) (λ fault. (fault ≡ BadLine (length draft.now.lines.items + 2)) × (AllFree (held_after none_held draft.now.lines.items) → ⊥)) }
+    ensures { MatchResult result (λ _. AllFree (held_after none_held draft.now.lines.items)) (EndFault draft.now.lines.items) }
 {
     if draft.is_free() {
-        Ok(false)
+        Ok(())
     } else {
         Err(ScriptFault::BadLine(draft.lines.len() as u64 + 2))
     }
 }
 
-// Takes the next line, which stands first in the window.
-fn take<I: Source>(window: &mut Window, length: usize, draft: &mut Draft) -> Result<bool, ScriptFault>
+// Takes the line of so many bytes that stands first in the window.
+fn take(window: &mut Window, size: usize, draft: &mut Draft) -> Result<(), ScriptFault>
     requires draft { IsDraft draft.old }
     requires few { length draft.old.lines.items < 99999 }
-    requires whole { IsWhole window.old length }
+    requires whole { size < length window.old }
+    ensures line { OnOk result ((x : Line) × (take size window.old ≡ line_text x) × Takes draft.old draft.new x × (window.new ≡ drop (size + 1) window.old)) }
+    ensures fault { IfErr result (TakeFault draft.old.layout draft.old.lines.items (take size window.old)) }
+    ensures same { OnErr result (window.new ≡ window.old) }
+    ensures layout { draft.new.layout ≡ draft.old.layout }
 {
     let line = draft.lines.len() as u64 + 2;
-    match draft.take(&window.bytes()[..length]) {
+    match draft.take(&window.bytes()[..size]) {
         Ok(true) => {
-            window.skip(length + 1);
-            Ok(true)
+            window.skip(size + 1);
+            Ok(())
         }
         Ok(false) => Err(ScriptFault::BadLine(line)),
         Err(_) => Err(ScriptFault::Memory),
@@ -72,26 +76,37 @@ fn take<I: Source>(window: &mut Window, length: usize, draft: &mut Draft) -> Res
 }
 
 // Takes the next line, or the end of the input, and says whether there was a line.
-fn one<I: Source>(window: &mut Window, input: &mut I, draft: &mut Draft) -> Result<bool, ScriptFault>
+fn one<I: Source>(
+    window: &mut Window,
+    input: &mut I,
+    draft: &mut Draft,
+) -> Result<bool, ScriptFault>
     requires draft { IsDraft draft.old }
     requires few { length draft.old.lines.items < 99999 }
     ensures line { result ≡ Ok true → (x : Line) × Takes draft.old draft.new x × Consumes (prepend_known window.old (I.left input.old)) (prepend_known window.new (I.left input.new)) (line_text x ++ 10 ∷ []) }
     ensures end { result ≡ Ok false → (draft.new ≡ draft.old) × IsDone draft.old.lines.items (prepend_known window.old (I.left input.old)) (I.left input.new) }
+    ensures layout { draft.new.layout ≡ draft.old.layout }
     ensures fault { IfErr result (LineFault draft.old.layout draft.old.lines.items (prepend_known window.old (I.left input.old)) (I.left input.new) (I.faults input.old) (I.faults input.new)) }
     ensures later { I.faults input.old ≤ I.faults input.new }
 {
     let line = draft.lines.len() as u64 + 2;
     match next(window, input) {
-        Ok(Found::Whole { length }) => take(window, length, draft),
+        Ok(Found::Whole { length }) => match take(window, length, draft) {
+            Ok(()) => Ok(true),
+            Err(fault) => Err(fault),
+        },
         Ok(Found::Long) => Err(ScriptFault::BadLine(line)),
         Ok(Found::Open) => Err(ScriptFault::BadLine(line)),
-        Ok(Found::End) => end(draft),
+        Ok(Found::End) => match end(draft) {
+            Ok(()) => Ok(false),
+            Err(fault) => Err(fault),
+        },
         Err(_) => Err(ScriptFault::Read),
     }
 }
 
 // Takes the end of the input behind the last line that there may be.
-fn full<I: Source>(window: &mut Window, input: &mut I, draft: &Draft) -> Result<bool, ScriptFault>
+fn full<I: Source>(window: &mut Window, input: &mut I, draft: &Draft) -> Result<(), ScriptFault>
     requires draft { IsDraft draft.now }
     requires full { length draft.now.lines.items ≡ 99999 }
     ensures end { OnOk result (IsDone draft.now.lines.items (prepend_known window.old (I.left input.old)) (I.left input.new)) }
@@ -109,21 +124,23 @@ fn full<I: Source>(window: &mut Window, input: &mut I, draft: &Draft) -> Result<
 }
 
 // Takes all lines behind the layout line, and the end of the input.
-fn lines<I: Source>(window: &mut Window, input: &mut I, draft: &mut Draft) -> Result<(), ScriptFault>
+fn lines<I: Source>(
+    window: &mut Window,
+    input: &mut I,
+    draft: &mut Draft,
+) -> Result<(), ScriptFault>
     requires draft { IsDraft draft.old }
     requires none { draft.old.lines.items ≡ [] }
     ensures layout { draft.new.layout ≡ draft.old.layout }
-    ensures done { OnOk result (MayFollow draft.new.layout none_held draft.new.lines.items × (length draft.new.lines.items ≤ 99999) × IsDone draft.new.lines.items (Some []) (I.left input.new) × IfSome (prepend_known window.old (I.left input.old)) (λ bytes. bytes ≡ lines_text draft.new.lines.items)) }
+    ensures done { OnOk result (IsFinished draft.new (prepend_known window.old (I.left input.old)) (I.left input.new)) }
     ensures fault { IfErr result (LaterFault draft.old.layout (prepend_known window.old (I.left input.old)) (I.left input.new) (I.faults input.old) (I.faults input.new)) }
     ensures later { I.faults input.old ≤ I.faults input.new }
 {
     loop {
-        let more = if draft.lines.len() == MOST_LINES - 1 {
-            full(window, input, draft)
-        } else {
-            one(window, input, draft)
-        };
-        match more {
+        if draft.lines.len() == MOST_LINES - 1 {
+            return full(window, input, draft);
+        }
+        match one(window, input, draft) {
             Ok(true) => {}
             Ok(false) => return Ok(()),
             Err(fault) => return Err(fault),
