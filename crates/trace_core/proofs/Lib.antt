@@ -15,5 +15,9 @@ pub mod Short
 pub mod Shown
 pub mod Outcomes
 pub mod Ends
+pub mod NamesPrinted
+pub mod Added
+pub mod Flowing
+pub mod Wholes
 pub mod Grammar
 pub mod WindowParts

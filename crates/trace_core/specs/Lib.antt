@@ -10,3 +10,4 @@ pub mod Intake
 pub mod Standing
 pub mod Steps
 pub mod Reader
+pub mod Whole

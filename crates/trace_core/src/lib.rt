@@ -5,17 +5,21 @@
 #![tactic(auto)]
 
 mod action;
+mod compose;
 mod intake;
 pub mod laws;
 mod line;
 mod names;
 mod parts;
+mod print;
 mod progress;
 mod reader;
 mod step;
 mod take;
 mod token;
+mod whole;
 mod window;
 
 pub use intake::TextFault;
+pub use print::{print_end, print_event, print_head, print_value};
 pub use reader::EventReader;
