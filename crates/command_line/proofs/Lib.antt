@@ -3,6 +3,7 @@ pub mod Levels
 pub mod Parts
 pub mod Said
 pub mod Shape
+pub mod Taken
 pub mod Tasks
 pub mod Texts
 pub mod Turns

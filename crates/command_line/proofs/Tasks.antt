@@ -5,7 +5,8 @@ use Rattle.std.specs.List.{AllByRecursion, filter_map}
 use Rattle.std.proofs.lemmas.Fmt.{decimal_injective}
 use Rattle.command_line.specs.Grammar.{AreInRange, IsDirectory, IsPart, Options, Part, Say, SayOptions, SayWith, Task, Text, directory, path_of, setting, check, index, run, sample, trace}
 use Rattle.command_line.specs.Reading.{IsNumberOr, IsStop}
-use Rattle.command_line.proofs.Said.{by_recursion, held-same, said-taken}
+use Rattle.command_line.proofs.Said.{by_recursion, said-taken}
+use Rattle.command_line.proofs.Taken.{held-same}
 
 same_options : (words : List Text) (o p : Options) → SayOptions words o → SayOptions words p → o ≡ p
 same_options words o p g h = held-same _ o p (said-taken words o g).1 (said-taken words p h).1

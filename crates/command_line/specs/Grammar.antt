@@ -45,6 +45,7 @@ pub data Part : Type 0 where
   directory : Text → Part
   setting : Form → Setting → ℕ → Part
 
+-- the words of a part
 abbrev pub spelling : Part → List Text
 spelling (directory path) = path ∷ []
 spelling (setting apart s n) = name_of s ∷ decimal n ∷ []
@@ -84,6 +85,7 @@ IsOnceOr default [] n = n ≡ default
 IsOnceOr default (m ∷ []) n = n ≡ m
 IsOnceOr default (m ∷ k ∷ more) n = ⊥
 
+-- what `index` or `trace` is to do
 pub record Options : Type 0 where
   pub directory : Text
   pub walkers : ℕ
@@ -112,6 +114,7 @@ pub record AreInRange (o : Options) : Type 0 where
 
 -- ---- all words
 
+-- a command with what belongs to it
 pub data Task : Type 0 where
   check : Task
   run : Task

@@ -5,7 +5,7 @@ use Rattle.clap.specs.Simple.{on_top}
 use Rattle.clap.specs.declared.builder.action.ArgAction.TheVariants.{Set}
 use Rattle.command_line.specs.Grammar.{IsNumber, Options, Text}
 
--- ---- the command
+-- ---- the command: four options and DIR, each with one value
 
 abbrev pub option_rule : Text → Rule
 option_rule name = record (new_rule name) { long = Some name; action = Some Set }
@@ -34,6 +34,7 @@ abbrev pub IsNumberOr : ℕ → Option Text → ℕ → Type 0
 IsNumberOr default None n = n ≡ default
 IsNumberOr default (Some text) n = IsNumber 1 8 text n
 
+-- the number of the text, or none where there is no text
 abbrev pub IsStop : Option Text → Option ℕ → Type 0
 IsStop None stop = stop ≡ None
 IsStop (Some text) None = ⊥

@@ -3,7 +3,8 @@ use Rattle.std.specs.String.{string_bytes}
 use Rattle.clap.specs.Walk.{Row}
 use Rattle.command_line.specs.Reading.{HoldOptions, IsOffered}
 use Rattle.command_line.specs.Tasks.{options_of}
-use Rattle.command_line.proofs.Said.{all_texts, given_texts, said-offered, said-taken, taken-said}
+use Rattle.command_line.proofs.Said.{said-offered, said-taken}
+use Rattle.command_line.proofs.Taken.{all_texts, given_texts, taken-said}
 use Rattle.command_line.proofs.options.read_options.Goals as goal
 
 pub returns-then-not-are_offered-clause-usage : goal.returns-then-not-are_offered-clause-usage
