@@ -135,6 +135,10 @@ Say words (trace o) = SayWith (codes "trace") words o
 Say words (sample seed files) = (words ≡ codes "sample" ∷ decimal seed ∷ decimal files ∷ [])
     × (seed < 2 ^ 64) × (1 ≤ files) × (files ≤ 20000)
 
+-- the words are not in the grammar
+abbrev pub SayNothing : List Text → Type 0
+SayNothing words = (t : Task) → Say words t → ⊥
+
 -- only these are read with `clap`, which takes memory
 abbrev pub HasOptions : Task → Type 0
 HasOptions (index o) = Unit {0}

@@ -1,7 +1,7 @@
 //! The commands, and the reading of all words.
 ghost use Rattle.std.specs.Prelude.{◌≡◌, ◌≢◌, [], ◌∷◌, IfOk, IsErr, codes, map};
 ghost use Rattle.std.specs.String.{string_bytes};
-ghost use Rattle.command_line.specs.Grammar.{HasOptions, IsInRange, Say, Task};
+ghost use Rattle.command_line.specs.Grammar.{HasOptions, IsInRange, Say, SayNothing, Task};
 ghost use Rattle.command_line.specs.Tasks.{task_of};
 
 use crate::number::read_number;
@@ -39,14 +39,15 @@ pub enum WordsFault {
     Memory,
 }
 
-/// The command that the words after the program's name say.
+/// The command that the words after the program's name say. Memory may run out only for `index` and
+/// `trace`.
 pub fn read_words<'a>(alloc: Global, words: &'a [String]) -> Result<Command<'a>, WordsFault>
     ensures said { IfOk result (λ c. Say (map string_bytes words.entry.now) (task_of c)) }
     ensures only { IfOk result (λ c. (t : Task)
         → Say (map string_bytes words.entry.now) t → t ≡ task_of c) }
     ensures in_range { IfOk result (λ c. IsInRange (task_of c)) }
-    ensures usage { result ≡ Err WordsFault.Usage → (t : Task)
-        → Say (map string_bytes words.entry.now) t → ⊥ }
+    ensures usage { result ≡ Err WordsFault.Usage
+        → SayNothing (map string_bytes words.entry.now) }
     ensures memory { result ≡ Err WordsFault.Memory → (t : Task)
         → Say (map string_bytes words.entry.now) t → HasOptions t }
 {
@@ -78,8 +79,7 @@ fn alone<'a>(rest: &[String], command: Command<'a>) -> Result<Command<'a>, Words
 // The words after `sample`.
 fn read_sample<'a>(rest: &[String]) -> Result<Command<'a>, WordsFault>
     ensures said { IfOk result (λ c. Say (codes "sample" ∷ map string_bytes rest.now) (task_of c)) }
-    ensures usage { IsErr result → (t : Task)
-        → Say (codes "sample" ∷ map string_bytes rest.now) t → ⊥ }
+    ensures usage { IsErr result → SayNothing (codes "sample" ∷ map string_bytes rest.now) }
 {
     let [seed, files] = rest else {
         return Err(WordsFault::Usage);
