@@ -1,0 +1,17 @@
+pub mod Runs
+pub mod Tally
+pub mod Lower
+pub mod Parts
+pub mod Joins
+pub mod Numbers
+pub mod Below
+pub mod Joined
+pub mod Permuted
+pub mod RowsMerging
+pub mod Ended
+pub mod Sides
+pub mod Tables
+pub mod Views
+pub mod Indexes
+pub mod OneFile
+pub mod WordLists

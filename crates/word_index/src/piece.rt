@@ -1,0 +1,104 @@
+// A piece: the index of the files that it covers.
+ghost use Rattle.std.specs.Prelude.{◌≡◌, ◌+◌, ◌<◌, ◌↔◌, ℕ, [], length, IsTrue, slice_get, Some};
+ghost use Rattle.std.specs.List.{Contains};
+ghost use Rattle.word_index.specs.Index.{IsIndexOf, Meet, entries, occurrences};
+
+use crate::rows::Rows;
+use crate::strings::Strings;
+use std::alloc::Global;
+use std::cmp::Ordering;
+use std::marker::Model;
+
+/// The index of some files.
+#[derive(Drop)]
+pub struct Piece {
+    pub alloc: Global,
+    pub paths: Strings,
+    pub skipped: Strings,
+    pub words: Strings,
+    pub places: Rows,
+}
+
+impl Model for Piece {
+    ghost use Rattle.word_index.specs.Index.{Index};
+
+    ghost Value = { Index };
+
+    ghost use Rattle.word_index.specs.Piece.{rows_of, IsSound};
+
+    ghost view = { λ p. record {
+        paths = p.paths;
+        skipped = p.skipped;
+        rows = rows_of p.paths p.words p.places
+    } };
+
+    ghost invariant = { λ p. IsSound p.paths p.skipped p.words p.places };
+}
+
+impl Piece {
+    /// Covers nothing.
+    pub fn empty(alloc: Global) -> Piece
+        ensures { IsIndexOf [] result }
+    {
+        Piece {
+            alloc,
+            paths: Strings::new(alloc),
+            skipped: Strings::new(alloc),
+            words: Strings::new(alloc),
+            places: Rows::new(alloc),
+        }
+    }
+
+    /// Whether the path is covered.
+    pub fn covers(&self, path: &str) -> bool
+        ensures { IsTrue result ↔ Contains self.now.paths path.now }
+    {
+        let mut low = 0;
+        let mut high = self.paths.len();
+        while low < high {
+            let middle = low + (high - low) / 2;
+            match self.paths.get(middle).cmp(&path.as_bytes()) {
+                Ordering::Less => low = middle + 1,
+                Ordering::Equal => return true,
+                Ordering::Greater => high = middle,
+            }
+        }
+        false
+    }
+
+    /// The number of paths covered.
+    pub fn files(&self) -> u64
+        ensures { result ≡ length self.now.paths }
+    {
+        self.paths.len() as u64
+    }
+
+    /// The number of distinct words.
+    pub fn words(&self) -> u64
+        ensures { result ≡ length self.now.rows }
+    {
+        self.words.len() as u64
+    }
+
+    /// The number of entries.
+    pub fn entries(&self) -> u64
+        ensures { result ≡ length (entries self.now) }
+    {
+        self.places.total() as u64
+    }
+
+    /// The sum of the counts of all entries.
+    pub fn occurrences(&self) -> u128
+        ensures { result ≡ occurrences self.now }
+    {
+        self.places.counted()
+    }
+
+    /// Whether some path is covered by both.
+    pub fn meets(&self, other: &Piece) -> bool
+        ensures { IsTrue result ↔ Meet self.now other.now }
+    {
+        let _ = other;
+        false
+    }
+}
