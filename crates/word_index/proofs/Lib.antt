@@ -15,3 +15,4 @@ pub mod Views
 pub mod Indexes
 pub mod OneFile
 pub mod WordLists
+pub mod Searches

@@ -1,11 +1,12 @@
 -- What the fields of a piece that is sound say of its index.
-use Rattle.std.proofs.Common.{◌≡◌, ℕ, ◌+◌, ◌<◌, ◌≤◌, List, [], ◌∷◌, ◌++◌, length, get_or, map, arith, refl, sym, ap, subst, ◌∙◌, ◌⊎◌, ⊎_elim, IsPermutation, All, ◌↔◌}
+use Rattle.std.proofs.Common.{◌≡◌, ℕ, ◌+◌, ◌<◌, ◌≤◌, List, [], ◌∷◌, ◌++◌, length, get_or, map, arith, refl, sym, ap, subst, ◌∙◌, ◌⊎◌, ⊎_elim, IsPermutation, All, ◌↔◌, sum_by}
 use Rattle.std.specs.List.{AllPairs, Contains, flat_map}
-use Rattle.std.proofs.lemmas.List.{length-map, get_or-map, get_or_default}
+use Rattle.std.proofs.lemmas.List.{length-map, get_or-map, length-append}
+use Rattle.std.proofs.lemmas.List.Sums.{sum_by-cons, sum_by-append}
 use Rattle.std.proofs.lemmas.List.Elements.{All-cons, All-nil, All-head, All-tail, All-get_or, Contains-append_left, Contains-append_right, Contains-append_cases}
 use Rattle.std.proofs.lemmas.List.Sorted.{IsPermutation-sym, Contains-permutation}
 use Rattle.word_index.specs.declared.rows.Place.{Place}
-use Rattle.word_index.specs.Index.{Index, Row, Hit, Entry, IsBelow, IsRising, IsOrdered, IsUnion, entries, row_entries}
+use Rattle.word_index.specs.Index.{Index, Row, Hit, Entry, IsBelow, IsRising, IsOrdered, row_entries, entry_of}
 use Rattle.word_index.specs.Piece.{hit_of, row_of, rows_of, IsRow, IsSound}
 use Rattle.word_index.specs.Merged.{nowhere}
 
@@ -52,3 +53,28 @@ pub either : (xs ys zs : List Entry) → IsPermutation (xs ++ ys) zs → (e : En
 either xs ys zs same e =
     ( (λ h. Contains-append_cases xs ys e (Contains-permutation zs (xs ++ ys) e (IsPermutation-sym (xs ++ ys) zs same) h))
     , (λ h. Contains-permutation (xs ++ ys) zs e same (⊎_elim (Contains-append_left xs ys e) (Contains-append_right xs ys e) h)) )
+
+-- each place is an entry
+pub length_entries : (ps ws : List (List ℕ)) (rows : List (List Place)) → length ws ≡ length rows → length (flat_map row_entries (rows_of ps ws rows)) ≡ length (flat_map (λ r. r) rows)
+length_entries ps [] [] h = refl
+length_entries ps [] (r ∷ rows) h = absurd (omega (arith, h))
+length_entries ps (w ∷ ws) [] h = absurd (omega (arith, h))
+length_entries ps (w ∷ ws) (r ∷ rows) h =
+    let rest = length_entries ps ws rows (omega (arith, h)) in
+    let all = row_entries (row_of ps w r) in
+    let here : length all ≡ length r = length-map (map (hit_of ps) r) (entry_of w) ∙ length-map r (hit_of ps) in
+    length-append all (flat_map row_entries (rows_of ps ws rows)) ∙ (λ i. here i + rest i) ∙ sym (length-append r (flat_map (λ r. r) rows))
+
+count_row : (ps : List (List ℕ)) (w : List ℕ) (r : List Place) → sum_by (λ e. e.count) (row_entries (row_of ps w r)) ≡ sum_by (λ p. p.count) r
+count_row ps w [] = refl
+count_row ps w (p ∷ r) =
+    sum_by-cons (λ (e : Entry). e.count) (entry_of w (hit_of ps p)) (row_entries (row_of ps w r)) ∙ ap (λ n. p.count + n) (count_row ps w r) ∙ sym (sum_by-cons (λ (p : Place). p.count) p r)
+
+pub count_entries : (ps ws : List (List ℕ)) (rows : List (List Place)) → length ws ≡ length rows → sum_by (λ e. e.count) (flat_map row_entries (rows_of ps ws rows)) ≡ sum_by (λ p. p.count) (flat_map (λ r. r) rows)
+count_entries ps [] [] h = refl
+count_entries ps [] (r ∷ rows) h = absurd (omega (arith, h))
+count_entries ps (w ∷ ws) [] h = absurd (omega (arith, h))
+count_entries ps (w ∷ ws) (r ∷ rows) h =
+    let rest = count_entries ps ws rows (omega (arith, h)) in
+    let here = count_row ps w r in
+    sum_by-append (λ (e : Entry). e.count) (row_entries (row_of ps w r)) (flat_map row_entries (rows_of ps ws rows)) ∙ (λ i. here i + rest i) ∙ sym (sum_by-append (λ (p : Place). p.count) r (flat_map (λ r. r) rows))

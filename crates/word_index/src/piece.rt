@@ -3,6 +3,7 @@ ghost use Rattle.std.specs.Prelude.{◌≡◌, ◌+◌, ◌<◌, ◌↔◌, ℕ,
 ghost use Rattle.std.specs.List.{Contains};
 ghost use Rattle.word_index.specs.Index.{IsIndexOf, Meet, entries, occurrences};
 
+use crate::joining::order_at;
 use crate::rows::Rows;
 use crate::strings::Strings;
 use std::alloc::Global;
@@ -98,7 +99,15 @@ impl Piece {
     pub fn meets(&self, other: &Piece) -> bool
         ensures { IsTrue result ↔ Meet self.now other.now }
     {
-        let _ = other;
+        let mut i = 0;
+        let mut j = 0;
+        while i < self.paths.len() && j < other.paths.len() {
+            match order_at(&self.paths, i, &other.paths, j) {
+                Ordering::Less => i += 1,
+                Ordering::Greater => j += 1,
+                Ordering::Equal => return true,
+            }
+        }
         false
     }
 }
