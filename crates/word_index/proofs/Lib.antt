@@ -16,3 +16,4 @@ pub mod Indexes
 pub mod OneFile
 pub mod WordLists
 pub mod Searches
+pub mod Rowed

@@ -24,12 +24,12 @@ rows_push P [] (q ∷ rows) w r h = absurd (omega (arith, h))
 rows_push P (v ∷ ws) [] w r h = absurd (omega (arith, h))
 rows_push P (v ∷ ws) (q ∷ rows) w r h = ap (λ l. row_of P v q ∷ l) (rows_push P ws rows w r (omega (arith, h)))
 
-pub row_at : (P ws : List (List ℕ)) (rows : List (List Place)) (i : ℕ) (d : Row) → length ws ≡ length rows → i < length ws
+pub row_is : (P ws : List (List ℕ)) (rows : List (List Place)) (i : ℕ) (d : Row) → length ws ≡ length rows → i < length ws
   → get_or (rows_of P ws rows) i d ≡ row_of P (get_or ws i []) (get_or rows i [])
-row_at P [] rows i d h below = absurd (omega (arith, below))
-row_at P (w ∷ ws) [] i d h below = absurd (omega (arith, h))
-row_at P (w ∷ ws) (r ∷ rows) zero d h below = refl
-row_at P (w ∷ ws) (r ∷ rows) (suc i) d h below = row_at P ws rows i d (omega (arith, h)) (omega (arith, below))
+row_is P [] rows i d h below = absurd (omega (arith, below))
+row_is P (w ∷ ws) [] i d h below = absurd (omega (arith, h))
+row_is P (w ∷ ws) (r ∷ rows) zero d h below = refl
+row_is P (w ∷ ws) (r ∷ rows) (suc i) d h below = row_is P ws rows i d (omega (arith, h)) (omega (arith, below))
 
 -- the entries of the next row follow those before
 pub entries_more : (P ws : List (List ℕ)) (rows : List (List Place)) (i : ℕ) → length ws ≡ length rows → i < length ws
@@ -38,7 +38,7 @@ entries_more P ws rows i h below =
     let all = rows_of P ws rows in
     let none = row_of P (get_or ws i []) (get_or rows i []) in
     let inside : i < length all = omega (arith, below, length_rows P ws rows h) in
-    ap (flat_map row_entries) (take_more all i none inside ∙ ap (λ r. take i all ++ r ∷ []) (row_at P ws rows i none h below))
+    ap (flat_map row_entries) (take_more all i none inside ∙ ap (λ r. take i all ++ r ∷ []) (row_is P ws rows i none h below))
       ∙ flat_map-append row_entries (take i all) (none ∷ [])
       ∙ ap (λ l. flat_map row_entries (take i all) ++ l) (append-nil (row_entries none))
 

@@ -1,5 +1,5 @@
 -- The index of some files.
-use Rattle.std.specs.Prelude.{◌≡◌, ℕ, ◌<◌, Bool, true, false, List, [], length, map, filter, sum_by, Some, ◌↔◌, ◌⊎◌}
+use Rattle.std.specs.Prelude.{◌≡◌, ℕ, ◌<◌, Bool, true, false, List, [], length, map, filter, sum_by, Some, ◌↔◌, ◌⊎◌, slice_index_or}
 use Rattle.std.specs.List.{Contains, AllPairs, All, flat_map}
 use Rattle.std.specs.Ordering.{nat_cmp}
 use Rattle.std.specs.declared.cmp.Ordering.TheVariants.{Less}
@@ -36,6 +36,13 @@ pub record Index : Type 0 where
   pub paths : List (List ℕ)
   pub skipped : List (List ℕ)
   pub rows : List Row
+
+-- the row and the hit at a place
+abbrev pub row_at : Index → ℕ → Row
+row_at index at = slice_index_or index.rows at (record { word = []; hits = [] })
+
+abbrev pub hit_at : Row → ℕ → Hit
+hit_at row at = slice_index_or row.hits at (record { path = []; count = 0; line = 0 })
 
 abbrev pub entry_of : List ℕ → Hit → Entry
 entry_of word hit = record { word = word; path = hit.path; count = hit.count; line = hit.line }

@@ -20,4 +20,4 @@ mod words;
 pub use count::Seen;
 pub use merging::merge;
 pub use of_file::piece_of;
-pub use piece::Piece;
+pub use piece::{Found, Piece};

@@ -1,7 +1,7 @@
 // A piece: the index of the files that it covers.
-ghost use Rattle.std.specs.Prelude.{◌≡◌, ◌+◌, ◌<◌, ◌↔◌, ℕ, [], length, IsTrue, slice_get, Some};
+ghost use Rattle.std.specs.Prelude.{◌≡◌, ◌+◌, ◌<◌, ◌↔◌, ℕ, [], length, IsTrue, slice_index_or};
 ghost use Rattle.std.specs.List.{Contains};
-ghost use Rattle.word_index.specs.Index.{IsIndexOf, Meet, entries, occurrences};
+ghost use Rattle.word_index.specs.Index.{IsIndexOf, Meet, entries, occurrences, row_at, hit_at};
 
 use crate::joining::order_at;
 use crate::rows::Rows;
@@ -9,6 +9,14 @@ use crate::strings::Strings;
 use std::alloc::Global;
 use std::cmp::Ordering;
 use std::marker::Model;
+
+/// A file that has a word: its path, how often it has the word, and on which line first.
+#[derive(Clone, Copy)]
+pub struct Found<'a> {
+    pub path: &'a [u8],
+    pub count: u32,
+    pub line: u32,
+}
 
 /// The index of some files.
 #[derive(Drop)]
@@ -109,5 +117,59 @@ impl Piece {
             }
         }
         false
+    }
+
+    /// The number of rows, one for each word.
+    pub fn rows(&self) -> usize
+        ensures { result ≡ length self.now.rows }
+    {
+        self.words.len()
+    }
+
+    /// The word of a row.
+    pub fn word(&self, at: usize) -> &[u8]
+        requires { at < length self.now.rows }
+        ensures { result.now ≡ (row_at self.now at).word }
+    {
+        self.words.get(at)
+    }
+
+    /// The number of files that have the word of a row.
+    pub fn hits(&self, at: usize) -> usize
+        requires { at < length self.now.rows }
+        ensures { result ≡ length (row_at self.now at).hits }
+    {
+        self.places.get(at).len()
+    }
+
+    /// One of the files that have the word of a row.
+    pub fn hit(&self, at: usize, number: usize) -> Found<'_>
+        requires row { at < length self.now.rows }
+        requires hit { number < length (row_at self.now at).hits }
+        ensures path { result.path.now ≡ (hit_at (row_at self.now at) number).path }
+        ensures count { result.count ≡ (hit_at (row_at self.now at) number).count }
+        ensures line { result.line ≡ (hit_at (row_at self.now at) number).line }
+    {
+        let place = self.places.get(at)[number];
+        Found {
+            path: self.paths.get(place.path as usize),
+            count: place.count,
+            line: place.line,
+        }
+    }
+
+    /// The number of skipped paths.
+    pub fn skipped_files(&self) -> usize
+        ensures { result ≡ length self.now.skipped }
+    {
+        self.skipped.len()
+    }
+
+    /// A skipped path.
+    pub fn skipped_path(&self, at: usize) -> &[u8]
+        requires { at < length self.now.skipped }
+        ensures { result.now ≡ slice_index_or self.now.skipped at [] }
+    {
+        self.skipped.get(at)
     }
 }
