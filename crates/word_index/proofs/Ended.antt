@@ -14,14 +14,14 @@ module _ {X : Type 0} (old row block : List X) (ends : List ℕ) (fit : AreEnds 
 
   -- whichever way it went, the ends fit the block
   pub ends_fit : {E : Type 0} (r : Result (Unit {0}) E) (new : List X) (new_ends : List ℕ) (start : ℕ) → start ≡ length old
-    → OnOk r (new ≡ block) → OnOk r (new_ends ≡ ends ++ length block ∷ []) → OnErr r (new ≡ take start block) → OnErr r (new_ends ≡ ends) → AreEnds new 0 new_ends
+      → OnOk r (new ≡ block) → OnOk r (new_ends ≡ ends ++ length block ∷ []) → OnErr r (new ≡ take start block) → OnErr r (new_ends ≡ ends) → AreEnds new 0 new_ends
   ends_fit (Ok u) new new_ends start at same ended back none = ends_after same ended
   ends_fit (Err e) new new_ends start at same ended back none =
       let first : new ≡ old = back ∙ ap (λ n. take n block) at ∙ ap (take (length old)) filled ∙ take-append-le (length old) old row (omega arith) ∙ take-length old in
       rw (first, none) fit
 
   pub pushes : {E : Type 0} (r : Result (Unit {0}) E) (new : List X) (new_ends : List ℕ) → OnOk r (new ≡ block) → OnOk r (new_ends ≡ ends ++ length block ∷ [])
-    → OnOk r (parts new 0 new_ends ≡ parts old 0 ends ++ row ∷ [])
+      → OnOk r (parts new 0 new_ends ≡ parts old 0 ends ++ row ∷ [])
   pushes (Ok u) new new_ends same ended = parts_after same ended
   pushes (Err e) new new_ends same ended = tt
 

@@ -59,6 +59,7 @@ among_all {xs} {all} {numbers} {n} whole finds t here =
     subst (Contains all) same (Contains-get_or all (get_or numbers k 0) [] (All-get_or (λ m. m < length all) numbers k 0 inside finds.within))
 
 pub joined_members : {xs ys all : List (List ℕ)} {of_x of_y : List ℕ} {i j : ℕ} → length xs ≤ i → length ys ≤ j → Joined xs ys i j all of_x of_y → (t : List ℕ) → Contains all t ↔ (Contains xs t ⊎ Contains ys t)
-joined_members {xs} {ys} {all} end_x end_y joined t =
-    ( All-contains (λ u. Contains xs u ⊎ Contains ys u) all t joined.only
-    , ⊎_elim (among_all end_x joined.first t) (among_all end_y joined.second t) )
+joined_members {xs} {ys} {all} end_x end_y joined t = (
+  All-contains (λ u. Contains xs u ⊎ Contains ys u) all t joined.only,
+  ⊎_elim (among_all end_x joined.first t) (among_all end_y joined.second t),
+)

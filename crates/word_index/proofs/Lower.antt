@@ -37,8 +37,8 @@ runs_lower inside line (b ∷ bs) =
     let run = take_while is_word_byte (b ∷ bs) in
     let first = front_same (b ∷ bs) in
     (λ i. cond (word_byte_lower b i) (cond inside (more i) ((first i, line) ∷ more i)) (behind i))
-      ∙ ap (λ l. cond (is_word_byte b) l (map lowered (runs false (line_after line b) bs))) (map_cond inside (runs true line bs) ((run, line) ∷ runs true line bs))
-      ∙ map_cond (is_word_byte b) (cond inside (runs true line bs) ((run, line) ∷ runs true line bs)) (runs false (line_after line b) bs)
+    ∙ ap (λ l. cond (is_word_byte b) l (map lowered (runs false (line_after line b) bs))) (map_cond inside (runs true line bs) ((run, line) ∷ runs true line bs))
+    ∙ map_cond (is_word_byte b) (cond inside (runs true line bs) ((run, line) ∷ runs true line bs)) (runs false (line_after line b) bs)
 
 short_lower : (rs : List (List ℕ × ℕ)) → filter is_short (map lowered rs) ≡ map lowered (filter is_short rs)
 short_lower [] = refl

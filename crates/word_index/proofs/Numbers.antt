@@ -26,12 +26,12 @@ module _ {xs all : List (List ℕ)} {numbers : List ℕ} {n : ℕ} (y : List ℕ
     within = All-push (λ m. m < length (all ++ y ∷ [])) numbers (length all) wider (omega (arith, length_push all y));
     rising = all_pairs_push (λ a b. a < b) numbers (length all) old.rising old.within;
     finds = λ k below. ⊎_elim
-      (λ (lt : k < n).
+        (λ (lt : k < n).
         let before : k < length numbers = omega (arith, old.many) in
         ap (λ m. get_or (all ++ y ∷ []) m []) (get_or_append_left numbers (length all ∷ []) 0 k before) ∙ still_finds k lt)
-      (λ (ge : n ≤ k).
+        (λ (ge : n ≤ k).
         let last : length numbers ≡ k = omega (arith, old.many) in
         let here : k ≡ n = omega arith in
         ap (λ m. get_or (all ++ y ∷ []) m []) (get_or_push numbers (length all) 0 k last) ∙ get_or_push all y [] (length all) refl ∙ sym (ap (λ m. get_or xs m []) here ∙ next))
-      (cases_lt k n);
+        (cases_lt k n);
   }

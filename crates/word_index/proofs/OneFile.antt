@@ -77,13 +77,14 @@ module _ (f : File) where
   pub index_of_file : (xs : List Counted) → f.long ≡ false → AreCounted (file_words f.bytes) xs → IsIndexOf (f ∷ []) (record { paths = f.path ∷ []; skipped = []; rows = file_rows f.path xs })
   index_of_file xs short counted = record {
     ordered = subst (λ rows. IsOrdered (record { paths = f.path ∷ []; skipped = []; rows = rows })) (rows_file f.path xs)
-      (ordered_view (f.path ∷ []) [] (map (λ x. x.0.now) xs) (places_of xs) (file_sound f.path xs counted.rising));
+        (ordered_view (f.path ∷ []) [] (map (λ x. x.0.now) xs) (places_of xs) (file_sound f.path xs counted.rising));
     paths = λ p. ((λ h. h), (λ h. h));
-    skipped = λ p.
-      ( (λ h. absurd (omega (arith, h.1)))
-      , (λ h. let same = the_one f h.file h.among in let no : true ≡ false = sym h.long ∙ ap (λ (g : File). g.long) (sym same) ∙ short in cc) );
-    entries = λ e.
-      ( (λ h.
+    skipped = λ p. (
+      (λ h. absurd (omega (arith, h.1))),
+      (λ h. let same = the_one f h.file h.among in let no : true ≡ false = sym h.long ∙ ap (λ (g : File). g.long) (sym same) ∙ short in cc),
+    );
+    entries = λ e. (
+      (λ h.
           let y = from_map (as_entry f.path) (map shown xs) e (subst (λ l. Contains l e) (entries_file f.path xs) h) in
           let found = (counted.counted y.0.0 y.0.1).0 y.1 in
           record {
@@ -92,25 +93,28 @@ module _ (f : File) where
             short = short;
             path = ap (λ (e : Entry). e.path) (sym y.2);
             counted = subst (λ (e : Entry). seen_in e.word (file_words f.bytes) ≡ Some (record { count = e.count; line = e.line })) y.2 found;
-          })
-      , (λ h.
+          }),
+      (λ h.
           let same = the_one f h.file h.among in
           let found = subst (λ (g : File). seen_in e.word (file_words g.bytes) ≡ Some (record { count = e.count; line = e.line })) (sym same) h.counted in
           let path = h.path ∙ ap (λ (g : File). g.path) (sym same) in
           let word : List ℕ × Seen = (e.word, record { count = e.count; line = e.line }) in
           let is : as_entry f.path word ≡ e = ap (λ p. record { word = e.word; path = p; count = e.count; line = e.line }) (sym path) in
           subst (λ l. Contains l e) (sym (entries_file f.path xs))
-            (subst (Contains (map (as_entry f.path) (map shown xs))) is (to_map (as_entry f.path) (map shown xs) word ((counted.counted word.0 word.1).1 found)))) );
+          (subst (Contains (map (as_entry f.path) (map shown xs))) is (to_map (as_entry f.path) (map shown xs) word ((counted.counted word.0 word.1).1 found)))),
+    );
   }
 
   pub index_of_long : f.long ≡ true → IsIndexOf (f ∷ []) (record { paths = f.path ∷ []; skipped = f.path ∷ []; rows = [] })
   index_of_long long = record {
     ordered = record { paths = one_rises f.path; skipped = one_rises f.path; words = none_rise; hits = λ k d below. absurd (omega (arith, below)) };
     paths = λ p. ((λ h. h), (λ h. h));
-    skipped = λ p.
-      ( (λ h. record { file = f; among = Contains-push [] f; long = long; here = sym (the_one f.path p h) })
-      , (λ h. let same = the_one f h.file h.among in let is = ap (λ (g : File). g.path) same ∙ sym h.here in subst (Contains (f.path ∷ [])) is (Contains-push [] f.path)) );
-    entries = λ e.
-      ( (λ h. absurd (omega (arith, h.1)))
-      , (λ h. let same = the_one f h.file h.among in let no : true ≡ false = sym long ∙ ap (λ (g : File). g.long) same ∙ h.short in cc) );
+    skipped = λ p. (
+      (λ h. record { file = f; among = Contains-push [] f; long = long; here = sym (the_one f.path p h) }),
+      (λ h. let same = the_one f h.file h.among in let is = ap (λ (g : File). g.path) same ∙ sym h.here in subst (Contains (f.path ∷ [])) is (Contains-push [] f.path)),
+    );
+    entries = λ e. (
+      (λ h. absurd (omega (arith, h.1))),
+      (λ h. let same = the_one f h.file h.among in let no : true ≡ false = sym long ∙ ap (λ (g : File). g.long) same ∙ h.short in cc),
+    );
   }

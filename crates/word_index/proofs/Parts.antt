@@ -33,13 +33,13 @@ module _ {X : Type 0} where
     pub is : slice_range block low high ≡ part
 
   pub part_at : (block : List X) (start : ℕ) (ends : List ℕ) (k : ℕ) → AreEnds block start ends → k < length ends
-    → IsPart block (get_or (start ∷ ends) k 0) (get_or ends k 0) (get_or (parts block start ends) k [])
+      → IsPart block (get_or (start ∷ ends) k 0) (get_or ends k 0) (get_or (parts block start ends) k [])
   part_at block start [] k h below = absurd (omega (arith, below))
   part_at block start (e ∷ ends) zero h below = record { rising = h.0; within = start_within block e ends h.1; is = refl }
   part_at block start (e ∷ ends) (suc k) h below = part_at block e ends k h.1 (omega (arith, below))
 
   pub parts_push : (block more : List X) (start : ℕ) (ends : List ℕ) → AreEnds block start ends
-    → parts (block ++ more) start (ends ++ (length block + length more) ∷ []) ≡ parts block start ends ++ more ∷ []
+      → parts (block ++ more) start (ends ++ (length block + length more) ∷ []) ≡ parts block start ends ++ more ∷ []
   parts_push block more start [] h = ap (λ n. slice_range (block ++ more) n (length block + length more) ∷ []) h ∙ ap (λ x. x ∷ []) (slice_new block more)
   parts_push block more start (e ∷ ends) h =
       let same = slice_stays block more start e h.0 (start_within block e ends h.1) in
@@ -47,7 +47,7 @@ module _ {X : Type 0} where
       λ i. same i ∷ rest i
 
   pub ends_push : (block more : List X) (start : ℕ) (ends : List ℕ) → AreEnds block start ends
-    → AreEnds (block ++ more) start (ends ++ (length block + length more) ∷ [])
+      → AreEnds (block ++ more) start (ends ++ (length block + length more) ∷ [])
   ends_push block more start [] h = (omega (arith, h), sym (length-append block more))
   ends_push block more start (e ∷ ends) h = (h.0, ends_push block more e ends h.1)
 
@@ -57,4 +57,4 @@ module _ {X : Type 0} where
   parts_joined block start (e ∷ ends) h =
       let apart : start + (e - start) ≡ e = omega (arith, h.0) in
       ap (λ l. slice_range block start e ++ l) (parts_joined block e ends h.1 ∙ sym (drop-drop (e - start) start block ∙ ap (λ n. drop n block) apart))
-        ∙ take-append-drop (e - start) (drop start block)
+      ∙ take-append-drop (e - start) (drop start block)

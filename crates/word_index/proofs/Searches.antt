@@ -83,15 +83,15 @@ apart_first {xs} {ys} {i} {j} rise a here less = record {
   in_x = omega arith;
   in_y = a.in_y;
   of_x = λ k near there. ⊎_elim
-    (λ (lt : k < i). a.of_x k lt there)
-    (λ (ge : i ≤ k).
+      (λ (lt : k < i). a.of_x k lt there)
+      (λ (ge : i ≤ k).
       let same : i ≡ k = omega arith in
       let at : Contains ys (get_or xs i []) = subst (λ n. Contains ys (get_or xs n [])) (sym same) there in
       ⊎_elim
-        (λ (lt : at.0 < j). a.of_y at.0 lt (subst (Contains xs) (sym (found ys (get_or xs i []) at)) (Contains-get_or xs i [] here)))
-        (λ (far : j ≤ at.0). not_below (get_or xs i []) (get_or ys at.0 []) (sym (found ys (get_or xs i []) at)) (behind_place ys rise at.0 j (get_or xs i []) far at.1 less))
-        (cases_lt at.0 j))
-    (cases_lt k i);
+      (λ (lt : at.0 < j). a.of_y at.0 lt (subst (Contains xs) (sym (found ys (get_or xs i []) at)) (Contains-get_or xs i [] here)))
+      (λ (far : j ≤ at.0). not_below (get_or xs i []) (get_or ys at.0 []) (sym (found ys (get_or xs i []) at)) (behind_place ys rise at.0 j (get_or xs i []) far at.1 less))
+      (cases_lt at.0 j))
+      (cases_lt k i);
   of_y = a.of_y;
 }
 

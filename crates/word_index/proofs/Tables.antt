@@ -60,8 +60,8 @@ module _ {all : List (List ℕ)} where
   row_here s is i here = All-get_or (IsRow (length s.paths)) s.rows i [] (omega (arith, here, is.many)) is.each
 
   pub tables_first : {a b : Side} → IsSide all a → {i j : ℕ} {words : List (List ℕ)} {rows : List (List Place)} → TablesJoined all a b i j words rows
-    → i < length a.words → (j < length b.words → IsBelow (get_or a.words i []) (get_or b.words j []))
-    → TablesJoined all a b (i + 1) j (words ++ get_or a.words i [] ∷ []) (rows ++ map (moved a.numbers) (get_or a.rows i []) ∷ [])
+      → i < length a.words → (j < length b.words → IsBelow (get_or a.words i []) (get_or b.words j []))
+      → TablesJoined all a b (i + 1) j (words ++ get_or a.words i [] ∷ []) (rows ++ map (moved a.numbers) (get_or a.rows i []) ∷ [])
   tables_first {a} {b} is_a {i} {j} {words} {rows} old here less =
       let w = get_or a.words i [] in
       let r = get_or a.rows i [] in
@@ -71,18 +71,18 @@ module _ {all : List (List ℕ)} where
         many = omega (arith, old.many, length_push words w, length_push rows (map (moved a.numbers) r));
         each = All-push (IsRow (length all)) rows (map (moved a.numbers) r) old.each (row_moved is_a.finds r is);
         same = rw (entries_more a.paths a.words a.rows i is_a.many here, entries_push all words rows w (map (moved a.numbers) r) old.many, entries_moved is_a.finds w r is.within)
-          (permuted_first (front a i) (front b j) (flat_map row_entries (rows_of all words rows)) (row_entries (row_of a.paths w r)) old.same);
+            (permuted_first (front a i) (front b j) (flat_map row_entries (rows_of all words rows)) (row_entries (row_of a.paths w r)) old.same);
       }
 
   pub tables_second : {a b : Side} → IsSide all b → {i j : ℕ} {words : List (List ℕ)} {rows : List (List Place)} → TablesJoined all a b i j words rows
-    → j < length b.words → (i < length a.words → IsBelow (get_or b.words j []) (get_or a.words i []))
-    → TablesJoined all a b i (j + 1) (words ++ get_or b.words j [] ∷ []) (rows ++ map (moved b.numbers) (get_or b.rows j []) ∷ [])
+      → j < length b.words → (i < length a.words → IsBelow (get_or b.words j []) (get_or a.words i []))
+      → TablesJoined all a b i (j + 1) (words ++ get_or b.words j [] ∷ []) (rows ++ map (moved b.numbers) (get_or b.rows j []) ∷ [])
   tables_second is_b old here less = tables_flip (tables_first is_b (tables_flip old) here less)
 
   pub tables_both : {a b : Side} → IsSide all a → IsSide all b → {i j : ℕ} {words : List (List ℕ)} {rows : List (List Place)} → TablesJoined all a b i j words rows
-    → i < length a.words → j < length b.words → get_or a.words i [] ≡ get_or b.words j []
-    → (row : List Place) → AreMerged (map (moved a.numbers) (get_or a.rows i [])) (map (moved b.numbers) (get_or b.rows j [])) row
-    → TablesJoined all a b (i + 1) (j + 1) (words ++ get_or a.words i [] ∷ []) (rows ++ row ∷ [])
+      → i < length a.words → j < length b.words → get_or a.words i [] ≡ get_or b.words j []
+      → (row : List Place) → AreMerged (map (moved a.numbers) (get_or a.rows i [])) (map (moved b.numbers) (get_or b.rows j [])) row
+      → TablesJoined all a b (i + 1) (j + 1) (words ++ get_or a.words i [] ∷ []) (rows ++ row ∷ [])
   tables_both {a} {b} is_a is_b {i} {j} {words} {rows} old here there equal row merged =
       let w = get_or a.words i [] in
       let x = get_or a.rows i [] in
@@ -90,17 +90,17 @@ module _ {all : List (List ℕ)} where
       let is_x = row_here a is_a i here in
       let is_y = row_here b is_b j there in
       let both : IsPermutation (row_entries (row_of a.paths w x) ++ row_entries (row_of b.paths w y)) (row_entries (row_of all w row)) =
-        rw (← entries_moved is_a.finds w x is_x.within, ← entries_moved is_b.finds w y is_y.within) (entries_merged all w (map (moved a.numbers) x) (map (moved b.numbers) y) row merged.same) in
+      rw (← entries_moved is_a.finds w x is_x.within, ← entries_moved is_b.finds w y is_y.within) (entries_merged all w (map (moved a.numbers) x) (map (moved b.numbers) y) row merged.same) in
       record {
         order = joins_both below_trans old.order is_a.words is_b.words here there equal;
         many = omega (arith, old.many, length_push words w, length_push rows row);
         each = All-push (IsRow (length all)) rows row old.each (row_merged (length all) _ _ row (row_moved is_a.finds x is_x) (row_moved is_b.finds y is_y) merged);
         same = rw (entries_more a.paths a.words a.rows i is_a.many here, entries_more b.paths b.words b.rows j is_b.many there, ← equal, entries_push all words rows w row old.many)
-          (permuted_both (front a i) (front b j) (flat_map row_entries (rows_of all words rows)) (row_entries (row_of a.paths w x)) (row_entries (row_of b.paths w y)) (row_entries (row_of all w row)) old.same both);
+            (permuted_both (front a i) (front b j) (flat_map row_entries (rows_of all words rows)) (row_entries (row_of a.paths w x)) (row_entries (row_of b.paths w y)) (row_entries (row_of all w row)) old.same both);
       }
 
   pub tables_all : {a b : Side} → IsSide all a → IsSide all b → {i j : ℕ} {words : List (List ℕ)} {rows : List (List Place)} → length a.words ≤ i → length b.words ≤ j → TablesJoined all a b i j words rows
-    → IsTable all words rows (flat_map row_entries (rows_of a.paths a.words a.rows) ++ flat_map row_entries (rows_of b.paths b.words b.rows))
+      → IsTable all words rows (flat_map row_entries (rows_of a.paths a.words a.rows) ++ flat_map row_entries (rows_of b.paths b.words b.rows))
   tables_all {a} {b} is_a is_b {i} {j} {words} {rows} whole_a whole_b t =
       let end_a = take_all i (rows_of a.paths a.words a.rows) (omega (arith, whole_a, length_rows a.paths a.words a.rows is_a.many)) in
       let end_b = take_all j (rows_of b.paths b.words b.rows) (omega (arith, whole_b, length_rows b.paths b.words b.rows is_b.many)) in

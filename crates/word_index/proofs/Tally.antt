@@ -33,6 +33,7 @@ lines_of_push w (q ∷ ps) p = by (bytes_eq w q.0) (lines_of_push w ps p)
   where
     more : List ℕ
     more = cond (bytes_eq w p.0) (p.1 ∷ []) []
+
     by : (t : Bool) → lines_of w (ps ++ p ∷ []) ≡ lines_of w ps ++ more → map (λ p. p.1) (cond t (q ∷ filter (λ p. bytes_eq w p.0) (ps ++ p ∷ [])) (filter (λ p. bytes_eq w p.0) (ps ++ p ∷ []))) ≡ map (λ p. p.1) (cond t (q ∷ filter (λ p. bytes_eq w p.0) ps) (filter (λ p. bytes_eq w p.0) ps)) ++ more
     by true h = ap (λ ls. q.1 ∷ ls) h
     by false h = h
@@ -57,8 +58,8 @@ pub record CountsBefore {S : Type 0} (bytes : List ℕ) (at line : ℕ) (m : Ind
 module _ {S : Type 0} {bytes : List ℕ} {at line : ℕ} {m : IndexMap (Bor (List ℕ)) Seen S} (before : CountsBefore bytes at line m) where
   -- the next run is short, and was counted
   pub counts_before_next : {n : IndexMap (Bor (List ℕ)) Seen S} (word : List ℕ) (end next : ℕ) → length word ≤ 64 → at < end → end ≤ length bytes → next ≤ end + 1
-    → runs false line (drop at bytes) ≡ (word, next) ∷ runs false next (drop end bytes)
-    → AddsOne m n (word) next → CountsBefore bytes end next n
+      → runs false line (drop at bytes) ≡ (word, next) ∷ runs false next (drop end bytes)
+      → AddsOne m n (word) next → CountsBefore bytes end next n
   counts_before_next word end next short further within early found adds =
       let low = word in
       let pair : List ℕ × ℕ = (low, next) in
@@ -70,13 +71,13 @@ module _ {S : Type 0} {bytes : List ℕ} {at line : ℕ} {m : IndexMap (Bor (Lis
         early = early;
         few = omega (arith, before.few, length_push before.done pair);
         counted = λ w. adds w
-          ∙ ap (λ o. cond (bytes_eq low w) (Some (one_more o next)) (seen_at m w)) (before.counted low)
-          ∙ ap (λ o. cond (bytes_eq low w) (Some (one_more (seen_in low before.done) next)) o) (before.counted w)
-          ∙ sym (seen_in_push before.done low next w);
+            ∙ ap (λ o. cond (bytes_eq low w) (Some (one_more o next)) (seen_at m w)) (before.counted low)
+            ∙ ap (λ o. cond (bytes_eq low w) (Some (one_more (seen_in low before.done) next)) o) (before.counted w)
+            ∙ sym (seen_in_push before.done low next w);
         split = before.split
-          ∙ ap (λ rs. before.done ++ filter is_short rs) found
-          ∙ ap (λ t. before.done ++ cond t ((word, next) ∷ more) more) passes
-          ∙ sym (append_assoc before.done (pair ∷ []) more);
+            ∙ ap (λ rs. before.done ++ filter is_short rs) found
+            ∙ ap (λ t. before.done ++ cond t ((word, next) ∷ more) more) passes
+            ∙ sym (append_assoc before.done (pair ∷ []) more);
       }
 
   -- a word's count is at most the number of pairs before the place

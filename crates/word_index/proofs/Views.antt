@@ -20,19 +20,20 @@ HasHits r = (0 < length r.hits) × IsRising (map (λ h. h.path) r.hits)
 
 -- the paths of a row rise with their numbers
 row_rises : (ps : List (List ℕ)) (w : List ℕ) (row : List Place) → IsRising ps → IsRow (length ps) row → HasHits (row_of ps w row)
-row_rises ps w row rise is =
-    ( omega (arith, is.some, length-map row (hit_of ps))
-    , λ i j d before below.
-        let hits = map (hit_of ps) row in
-        let within : j < length hits = omega (arith, below, length-map hits (λ h. h.path)) in
-        let there : j < length row = omega (arith, within, length-map row (hit_of ps)) in
-        let here : i < length row = omega arith in
-        let inside : i < length hits = omega arith in
-        let none = hit_of ps nowhere in
-        let x = get_or row i nowhere in
-        let y = get_or row j nowhere in
-        rw (get_or-map (λ h. h.path) hits i none d inside, get_or-map (λ h. h.path) hits j none d within, get_or-map (hit_of ps) row i nowhere none here, get_or-map (hit_of ps) row j nowhere none there)
-          (rise x.path y.path [] (is.rising i j nowhere before there) (All-get_or (λ p. p.path < length ps) row j nowhere there is.within)) )
+row_rises ps w row rise is = (
+  omega (arith, is.some, length-map row (hit_of ps)),
+  λ i j d before below.
+      let hits = map (hit_of ps) row in
+      let within : j < length hits = omega (arith, below, length-map hits (λ h. h.path)) in
+      let there : j < length row = omega (arith, within, length-map row (hit_of ps)) in
+      let here : i < length row = omega arith in
+      let inside : i < length hits = omega arith in
+      let none = hit_of ps nowhere in
+      let x = get_or row i nowhere in
+      let y = get_or row j nowhere in
+      rw (get_or-map (λ h. h.path) hits i none d inside, get_or-map (λ h. h.path) hits j none d within, get_or-map (hit_of ps) row i nowhere none here, get_or-map (hit_of ps) row j nowhere none there)
+      (rise x.path y.path [] (is.rising i j nowhere before there) (All-get_or (λ p. p.path < length ps) row j nowhere there is.within)),
+)
 
 rows_rise : (ps ws : List (List ℕ)) (rows : List (List Place)) → IsRising ps → All (IsRow (length ps)) rows → All HasHits (rows_of ps ws rows)
 rows_rise ps [] rows rise each = All-nil HasHits
@@ -50,9 +51,10 @@ ordered_view ps skips ws rows s = record {
 
 -- the entries of both, in another order, are in both together
 pub either : (xs ys zs : List Entry) → IsPermutation (xs ++ ys) zs → (e : Entry) → Contains zs e ↔ (Contains xs e ⊎ Contains ys e)
-either xs ys zs same e =
-    ( (λ h. Contains-append_cases xs ys e (Contains-permutation zs (xs ++ ys) e (IsPermutation-sym (xs ++ ys) zs same) h))
-    , (λ h. Contains-permutation (xs ++ ys) zs e same (⊎_elim (Contains-append_left xs ys e) (Contains-append_right xs ys e) h)) )
+either xs ys zs same e = (
+  (λ h. Contains-append_cases xs ys e (Contains-permutation zs (xs ++ ys) e (IsPermutation-sym (xs ++ ys) zs same) h)),
+  (λ h. Contains-permutation (xs ++ ys) zs e same (⊎_elim (Contains-append_left xs ys e) (Contains-append_right xs ys e) h)),
+)
 
 -- each place is an entry
 pub length_entries : (ps ws : List (List ℕ)) (rows : List (List Place)) → length ws ≡ length rows → length (flat_map row_entries (rows_of ps ws rows)) ≡ length (flat_map (λ r. r) rows)

@@ -91,14 +91,15 @@ module _ (pairs : List (List ℕ × ℕ)) (es : List (Bor (List ℕ) × Seen)) (
 
   distinct_texts : IsDistinct bytes_eq (map (λ x. x.0.now) xs)
   distinct_texts = subst (IsDistinct bytes_eq) (texts_shown xs)
-    (IsDistinct-IsPermutation bytes_eq (λ x y. nat_list_eq_equiv.symm x y) (keys_of (named es)) (keys_of (map shown xs)) (IsPermutation-map (λ e. e.0) (named es) (map shown xs) ordered_same) distinct_named)
+      (IsDistinct-IsPermutation bytes_eq (λ x y. nat_list_eq_equiv.symm x y) (keys_of (named es)) (keys_of (map shown xs)) (IsPermutation-map (λ e. e.0) (named es) (map shown xs) ordered_same) distinct_named)
 
   pub words_counted : IsSorted by_text xs → ((w : List ℕ) → lookup (λ k. bytes_eq w k.now) es ≡ seen_in w pairs) → AreCounted pairs xs
   words_counted sorted counts = record {
     rising = texts_rise xs sorted distinct_texts;
-    counted = λ w s.
-      ( (λ h. sym (counts w) ∙ sym (lookup_named es w)
-          ∙ lookup-from_Contains nat_list_eq_equiv w s (named es) distinct_named (Contains-permutation (map shown xs) (named es) (w, s) (IsPermutation-sym (named es) (map shown xs) ordered_same) h))
-      , (λ h. Contains-permutation (named es) (map shown xs) (w, s) ordered_same
-          (Contains-from_lookup (λ x y e. (bytes_decides x y).0 e) w s (named es) (lookup_named es w ∙ counts w ∙ h))) );
+    counted = λ w s. (
+      (λ h. sym (counts w) ∙ sym (lookup_named es w)
+          ∙ lookup-from_Contains nat_list_eq_equiv w s (named es) distinct_named (Contains-permutation (map shown xs) (named es) (w, s) (IsPermutation-sym (named es) (map shown xs) ordered_same) h)),
+      (λ h. Contains-permutation (named es) (map shown xs) (w, s) ordered_same
+          (Contains-from_lookup (λ x y e. (bytes_decides x y).0 e) w s (named es) (lookup_named es w ∙ counts w ∙ h))),
+    );
   }

@@ -25,7 +25,10 @@ fn listed_words<'a>(alloc: Global, counts: &Counts<'a>) -> Result<Vec<Counted<'a
     ensures listed { IfOk result (λ v. v.items ≡ map listed counts.now.entries) }
     ensures unique { IsUnique (λ x y. bytes_eq x.now y.now) counts.now }
 {
-    counts.iter().map(|(word, seen)| (*word, seen.count, seen.line)).collect(alloc)
+    counts
+        .iter()
+        .map(|(word, seen)| (*word, seen.count, seen.line))
+        .collect(alloc)
 }
 
 // The words of a file in lower case, in order.
@@ -49,19 +52,28 @@ fn one_text(alloc: Global, text: &[u8]) -> Result<Strings, AllocError>
 }
 
 // The piece of a file with these words.
-fn indexed_file(alloc: Global, path: &[u8], counted: &[Counted<'_>], bytes: usize) -> Result<Piece, AllocError>
+fn indexed_file(
+    alloc: Global,
+    path: &[u8],
+    counted: &[Counted<'_>],
+    bytes: usize,
+) -> Result<Piece, AllocError>
     requires { IsRising (map (λ x. x.0.now) counted.now) }
     ensures { IfOk result (λ p. p ≡ record {
-        paths = path.now ∷ [];
-        skipped = [];
-        rows = file_rows path.now counted.now
+      paths = path.now ∷ [];
+      skipped = [];
+      rows = file_rows path.now counted.now;
     }) }
 {
     let mut words = Strings::with_room(alloc, bytes, counted.len())?;
     let mut places = Rows::with_room(alloc, counted.len(), counted.len())?;
     for &(word, count, line) in counted {
         words.push(word)?;
-        places.push_one(Place { path: 0, count, line })?;
+        places.push_one(Place {
+            path: 0,
+            count,
+            line,
+        })?;
     }
     Ok(Piece {
         alloc,

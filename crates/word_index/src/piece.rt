@@ -36,9 +36,9 @@ impl Model for Piece {
     ghost use Rattle.word_index.specs.Piece.{rows_of, IsSound};
 
     ghost view = { λ p. record {
-        paths = p.paths;
-        skipped = p.skipped;
-        rows = rows_of p.paths p.words p.places
+      paths = p.paths;
+      skipped = p.skipped;
+      rows = rows_of p.paths p.words p.places;
     } };
 
     ghost invariant = { λ p. IsSound p.paths p.skipped p.words p.places };

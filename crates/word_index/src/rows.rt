@@ -58,7 +58,13 @@ fn takes_first(xs: &[Place], of_x: &[u32], i: usize, ys: &[Place], of_y: &[u32],
 }
 
 // Adds the places of two rows under new numbers, in the order of their paths.
-fn add_merged(out: &mut Vec<Place>, xs: &[Place], of_x: &[u32], ys: &[Place], of_y: &[u32]) -> Result<(), AllocError>
+fn add_merged(
+    out: &mut Vec<Place>,
+    xs: &[Place],
+    of_x: &[u32],
+    ys: &[Place],
+    of_y: &[u32],
+) -> Result<(), AllocError>
     requires xs { All (λ p. p.path < length of_x.now) xs.now }
     requires ys { All (λ p. p.path < length of_y.now) ys.now }
     requires apart { AreApart of_x.now of_y.now }
@@ -178,7 +184,13 @@ impl Rows {
     }
 
     /// Adds the row of the places of two rows under new numbers.
-    pub fn push_merged(&mut self, xs: &[Place], of_x: &[u32], ys: &[Place], of_y: &[u32]) -> Result<(), AllocError>
+    pub fn push_merged(
+        &mut self,
+        xs: &[Place],
+        of_x: &[u32],
+        ys: &[Place],
+        of_y: &[u32],
+    ) -> Result<(), AllocError>
         requires xs { All (λ p. p.path < length of_x.now) xs.now }
         requires ys { All (λ p. p.path < length of_y.now) ys.now }
         requires apart { AreApart of_x.now of_y.now }

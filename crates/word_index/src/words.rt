@@ -39,8 +39,8 @@ pub fn next_run(bytes: &[u8], from: usize, line: u32) -> Option<Run>
     ensures { MatchOption result
         (runs false line (drop from bytes.now) ≡ [])
         (λ r. (from ≤ r.start) × (r.start < r.end) × (r.end ≤ length bytes.now) × (r.line ≤ r.start + 1)
-            × (runs false line (drop from bytes.now)
-                ≡ (slice_range bytes.now r.start r.end, r.line) ∷ runs false r.line (drop r.end bytes.now))) }
+        × (runs false line (drop from bytes.now)
+        ≡ (slice_range bytes.now r.start r.end, r.line) ∷ runs false r.line (drop r.end bytes.now))) }
 {
     let mut line = line;
     let mut at = from;
@@ -48,7 +48,11 @@ pub fn next_run(bytes: &[u8], from: usize, line: u32) -> Option<Run>
         let b = bytes[at];
         if is_word(b) {
             let end = run_end(bytes, at);
-            return Some(Run { start: at, end, line });
+            return Some(Run {
+                start: at,
+                end,
+                line,
+            });
         }
         if b == 10 {
             line += 1;

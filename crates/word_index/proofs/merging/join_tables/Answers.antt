@@ -16,7 +16,7 @@ loop-i-preserved-in-Less c =
     let s = c.a.invariant in
     let finds = rw (← c.a.view_is) at c.requires.first in
     rw (c.in_ok-push-in-Less.ensures, c.in_ok-push_moved-in-Less.ensures, c.get.ensures, c.get-in-Less.ensures, c.deref.ensures.value)
-      (tables_first (record { words = s.words; many = s.many; each = s.each; finds = finds }) c.loop-i.invariant less.0 less.1)
+    (tables_first (record { words = s.words; many = s.many; each = s.each; finds = finds }) c.loop-i.invariant less.0 less.1)
 
 pub loop-i-preserved-in-Greater : goal.loop-i-preserved-in-Greater
 loop-i-preserved-in-Greater c =
@@ -24,7 +24,7 @@ loop-i-preserved-in-Greater c =
     let s = c.b.invariant in
     let finds = rw (← c.b.view_is) at c.requires.second in
     rw (c.in_ok-push-in-Greater.ensures, c.in_ok-push_moved-in-Greater.ensures, c.get-in-Greater.ensures, c.get-in-Greater-2.ensures, c.deref-in-Greater.ensures.value)
-      (tables_second (record { words = s.words; many = s.many; each = s.each; finds = finds }) c.loop-i.invariant greater.0 greater.1)
+    (tables_second (record { words = s.words; many = s.many; each = s.each; finds = finds }) c.loop-i.invariant greater.0 greater.1)
 
 pub push_merged-requires-clause-xs_rise : goal.push_merged-requires-clause-xs_rise
 push_merged-requires-clause-xs_rise c =
@@ -50,7 +50,7 @@ loop-i-preserved c =
     let pushed = c.in_ok-push_merged-in-Equal.ensures in
     let merged = rw (c.get-in-Equal-2.ensures, c.get-in-Equal-3.ensures, c.deref-in-Equal.ensures.value, c.deref-in-Equal-2.ensures.value) at pushed.merged in
     rw (c.in_ok-push-in-Equal.ensures, pushed.is, c.get-in-Equal.ensures)
-      (tables_both (record { words = a.words; many = a.many; each = a.each; finds = finds_a }) (record { words = b.words; many = b.many; each = b.each; finds = finds_b }) c.loop-i.invariant equal.0 equal.1 equal.2 pushed.row merged)
+    (tables_both (record { words = a.words; many = a.many; each = a.each; finds = finds_a }) (record { words = b.words; many = b.many; each = b.each; finds = finds_b }) c.loop-i.invariant equal.0 equal.1 equal.2 pushed.row merged)
 
 pub returns : goal.returns
 returns c =
@@ -59,4 +59,4 @@ returns c =
     let finds_a = rw (← c.a.view_is) at c.requires.first in
     let finds_b = rw (← c.b.view_is) at c.requires.second in
     rw (← c.a.view_is, ← c.b.view_is)
-      (tables_all (record { words = a.words; many = a.many; each = a.each; finds = finds_a }) (record { words = b.words; many = b.many; each = b.each; finds = finds_b }) (omega arith) (omega arith) c.loop-i.invariant)
+    (tables_all (record { words = a.words; many = a.many; each = a.each; finds = finds_a }) (record { words = b.words; many = b.many; each = b.each; finds = finds_b }) (omega arith) (omega arith) c.loop-i.invariant)

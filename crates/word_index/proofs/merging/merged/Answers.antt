@@ -16,7 +16,7 @@ returns c =
     let paths = c.in_ok-paths.paths.all in
     rw (← c.a.view_is, ← c.b.view_is) (record {
       ordered = ordered_view paths c.in_ok-skipped.skipped.all c.in_ok-table.table.words c.in_ok-table.table.places
-        (record { paths = c.in_ok-paths.ensures.rising; skipped = c.in_ok-skipped.ensures.rising; words = table.words; many = table.many; each = table.each });
+          (record { paths = c.in_ok-paths.ensures.rising; skipped = c.in_ok-skipped.ensures.rising; words = table.words; many = table.many; each = table.each });
       paths = c.in_ok-paths.ensures.members;
       skipped = c.in_ok-skipped.ensures.members;
       entries = either _ _ _ same;

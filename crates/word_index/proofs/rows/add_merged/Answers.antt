@@ -16,7 +16,7 @@ loop-i-preserved-then-takes_first c =
     let here : c.loop-i.i < length (map f xs) = omega (arith, first.0, length-map xs f) in
     let x = get_or-map f xs c.loop-i.i nowhere nowhere first.0 in
     rw (c.in_ok-push.ensures.items, c.moved_place.ensures, ← x)
-      (merging_first c.loop-i.invariant c.requires.xs_rise here (λ more. first.1 (omega (arith, more, length-map c.args.ys.now (moved c.args.of_y.now)))))
+    (merging_first c.loop-i.invariant c.requires.xs_rise here (λ more. first.1 (omega (arith, more, length-map c.args.ys.now (moved c.args.of_y.now)))))
 
 pub loop-i-preserved : goal.loop-i-preserved
 loop-i-preserved c =
@@ -26,4 +26,4 @@ loop-i-preserved c =
     let here : c.loop-i.j < length (map f ys) = omega (arith, second.0, length-map ys f) in
     let y = get_or-map f ys c.loop-i.j nowhere nowhere second.0 in
     rw (c.in_ok-push-2.ensures.items, c.moved_place-else-takes_first.ensures, ← y)
-      (merging_second c.loop-i.invariant c.requires.ys_rise here (λ more. second.1 (omega (arith, more, length-map c.args.xs.now (moved c.args.of_x.now)))))
+    (merging_second c.loop-i.invariant c.requires.ys_rise here (λ more. second.1 (omega (arith, more, length-map c.args.xs.now (moved c.args.of_x.now)))))
