@@ -6,7 +6,7 @@ use Rattle.trace_check.specs.declared.checker.Verdict.{Verdict}
 use Rattle.trace_check.specs.declared.checker.Verdict.TheVariants as verdict
 use Rattle.trace_check.specs.Verdicts.{IsJust}
 use Rattle.firefly.specs.declared.status.Status.{Status}
-use Rattle.firefly.specs.declared.status.Status.TheVariants.{Done, Usage, ReadFault, SinkFault, Illegal, BadText, TooLong}
+use Rattle.firefly.specs.declared.status.Status.TheVariants.{Done, Usage, ReadFault, SinkFault, Stopped, Memory, Illegal, BadText, TooMany, TooLong}
 use Rattle.firefly.specs.Changes.{Change, IsStill, Gets, GetsFront, Notes}
 use Rattle.firefly.specs.Texts.{legal_line, illegal_line, input_fault_message, output_fault_message, bad_line_message, too_long_message}
 
@@ -39,6 +39,9 @@ CheckAnswers input out notes TooLong = Finds input verdict.TooLong × IsStill ou
 CheckAnswers input out notes ReadFault = Finds input verdict.ReadFault × IsStill out × Notes notes input_fault_message
 CheckAnswers input out notes SinkFault = (line : List ℕ) × IsVerdict input line × GetsFront out line × Notes notes output_fault_message
 CheckAnswers input out notes Usage = ⊥
+CheckAnswers input out notes Stopped = ⊥
+CheckAnswers input out notes Memory = ⊥
+CheckAnswers input out notes TooMany = ⊥
 
 -- the status of a verdict
 abbrev pub status_of : Verdict → Status

@@ -1,6 +1,7 @@
 pub mod Statuses
-pub mod Words
 pub mod Changes
+pub mod Looks
 pub mod Texts
 pub mod Check
+pub mod IndexCommand
 pub mod Top

@@ -3,6 +3,7 @@ use Rattle.std.specs.Prelude.{ℕ, List, ◌++◌, codes, decimal}
 use Rattle.larch_actions.specs.declared.event.Broken.{Broken}
 use Rattle.larch_actions.specs.declared.event.Broken.TheVariants.{Order, Requires, When, Ensures}
 use Rattle.trace_check.specs.declared.checker.Summary.{Summary}
+use Rattle.index_print.specs.Text.{escaped}
 
 abbrev pub legal_line : Summary → List ℕ
 legal_line s = codes "legal " ++ decimal s.events ++ codes " held " ++ decimal s.held ++ codes " waiting " ++ decimal s.waiting ++ codes " alerted " ++ decimal s.alerted ++ codes "\n"
@@ -27,6 +28,20 @@ output_fault_message = codes "firefly: output could not be written\n"
 
 abbrev pub bad_line_message : ℕ → List ℕ
 bad_line_message k = codes "firefly: bad line " ++ decimal k ++ codes "\n"
+
+-- so many files were found, and fewer are allowed
+abbrev pub stopped_message : ℕ → ℕ → List ℕ
+stopped_message found allowed = codes "firefly: stopped, " ++ decimal found ++ codes " files found, " ++ decimal allowed ++ codes " allowed\n"
+
+abbrev pub memory_message : List ℕ
+memory_message = codes "firefly: out of memory\n"
+
+abbrev pub too_many_message : List ℕ
+too_many_message = codes "firefly: 1000001 directories found, 1000000 allowed\n"
+
+-- a path, spelt as in an index text
+abbrev pub unreadable_message : List ℕ → List ℕ
+unreadable_message path = codes "firefly: " ++ escaped path ++ codes " could not be read\n"
 
 abbrev pub too_long_message : List ℕ
 too_long_message = codes "firefly: input too long\n"

@@ -5,7 +5,7 @@
 #![tactic(auto)]
 
 mod check_command;
-mod command;
+mod index_command;
 mod message;
 mod status;
 mod top;

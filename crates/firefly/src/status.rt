@@ -13,10 +13,16 @@ pub enum Status {
     ReadFault,
     /// Standard output failed before it had taken the answer.
     SinkFault,
+    /// More files were found than are allowed.
+    Stopped,
+    /// Memory ran out.
+    Memory,
     /// The trace is illegal, and the verdict stands on standard output.
     Illegal,
     /// The input has a bad line.
     BadText,
+    /// More directories were found than are allowed.
+    TooMany,
     /// The input is too long.
     TooLong,
 }
@@ -30,8 +36,11 @@ pub fn number(s: &Status) -> u8
         Status::Usage => 1,
         Status::ReadFault => 2,
         Status::SinkFault => 3,
+        Status::Stopped => 4,
+        Status::Memory => 5,
         Status::Illegal => 6,
         Status::BadText => 7,
+        Status::TooMany => 8,
         Status::TooLong => 9,
     }
 }
