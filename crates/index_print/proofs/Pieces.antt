@@ -40,12 +40,12 @@ module _ {X : Type 0} (f : X → List ℕ) (xs : List X) (i : ℕ) (d : X) (here
   next : flat_map f (take (i + 1) xs) ≡ flat_map f (take i xs) ++ f (get_or xs i d)
   next =
       ap (flat_map f) (take_more xs i d here) ∙ flat_map-append f (take i xs) (get_or xs i d ∷ [])
-        ∙ ap (λ l. flat_map f (take i xs) ++ l) (append-nil (f (get_or xs i d)))
+      ∙ ap (λ l. flat_map f (take i xs) ++ l) (append-nil (f (get_or xs i d)))
 
   rest : flat_map f xs ≡ (flat_map f (take i xs) ++ f (get_or xs i d)) ++ flat_map f (drop (i + 1) xs)
   rest =
       ap (flat_map f) (sym (take-append-drop (i + 1) xs)) ∙ flat_map-append f (take (i + 1) xs) (drop (i + 1) xs)
-        ∙ ap (λ l. l ++ flat_map f (drop (i + 1) xs)) next
+      ∙ ap (λ l. l ++ flat_map f (drop (i + 1) xs)) next
 
   module _ (t0 t1 t2 : Option (List ℕ)) (h0 h1 : List ℕ) (before : Sends t0 h0 (flat_map f (take i xs)) t1 h1) where
     pub sends_more : (h2 : List ℕ) → Sends t1 h1 (f (get_or xs i d)) t2 h2 → Sends t0 h0 (flat_map f (take (i + 1) xs)) t2 h2
@@ -53,7 +53,7 @@ module _ {X : Type 0} (f : X → List ℕ) (xs : List X) (i : ℕ) (d : X) (here
 
     pub fails_more : AppendsFront t1 t2 (h1 ++ f (get_or xs i d)) → AppendsFront t0 t2 (h0 ++ flat_map f xs)
     fails_more one = subst (λ p. AppendsFront t0 t2 (h0 ++ p)) (sym rest)
-      (fails_first t0 t2 h0 (flat_map f (take i xs) ++ f (get_or xs i d)) (flat_map f (drop (i + 1) xs)) (fails_then t0 t1 t2 h0 h1 (flat_map f (take i xs)) (f (get_or xs i d)) before one))
+        (fails_first t0 t2 h0 (flat_map f (take i xs) ++ f (get_or xs i d)) (flat_map f (drop (i + 1) xs)) (fails_then t0 t1 t2 h0 h1 (flat_map f (take i xs)) (f (get_or xs i d)) before one))
 
 plain_byte : (b : ℕ) → is_plain_byte b ≡ true → escaped_byte b ≡ b ∷ []
 plain_byte b plain = by (b == 92) (b == 10) plain
@@ -96,3 +96,7 @@ on_err_then (Err e) h f = f h
 -- what was held went behind what was sent
 pub flushed_front : (t0 t1 t2 : Option (List ℕ)) (h p : List ℕ) → Sends t0 [] p t1 h → AppendsFront t1 t2 h → AppendsFront t0 t2 p
 flushed_front t0 t1 t2 h p a k = subst (AppendsFront t0 t2) a.2 (front_behind t0 t1 t2 a.0 h a.1 k)
+
+pub on_err_if : {E : Type 0} {P : Type 0} (r : Result (Unit {0}) E) → P → OnErr r P
+on_err_if (Ok u) h = tt
+on_err_if (Err e) h = h

@@ -65,12 +65,7 @@ fn put_hits<O: Sink>(
 }
 
 // Puts the line of a word and those of the files that have it.
-fn put_row<O: Sink>(
-    held: &mut Held,
-    piece: &Piece,
-    at: usize,
-    out: &mut O,
-) -> Result<(), SinkFault>
+fn put_row<O: Sink>(held: &mut Held, piece: &Piece, at: usize, out: &mut O) -> Result<(), SinkFault>
     requires { at < length piece.now.rows }
     ensures text { Puts (O.held out.old) held.old.items (row_text (row_at piece.now at)) result (O.held out.new) held.new.items }
     ensures cause { HasCause (O.faults out.old) (O.faults out.new) result }

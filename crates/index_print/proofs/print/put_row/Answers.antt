@@ -4,7 +4,7 @@ use Rattle.index_print.proofs.print.put_row.Goals as goal
 pub returns-in_err-put_word-clause-text : goal.returns-in_err-put_word-clause-text
 returns-in_err-put_word-clause-text g c =
     puts_failed c.from_residual.result (g.O.Sink.held c.args.out.now) _ c.args.held.now.items _ _ c.from_residual.ensures.0
-      (front_of_two (g.O.Sink.held c.args.out.now) _ c.args.held.now.items _ _ c.in_err-put_word.ensures.text)
+    (front_of_two (g.O.Sink.held c.args.out.now) _ c.args.held.now.items _ _ c.in_err-put_word.ensures.text)
 
 pub returns-clause-text : goal.returns-clause-text
 returns-clause-text g c =
