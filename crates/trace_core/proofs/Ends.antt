@@ -73,7 +73,7 @@ values_fault l least old new r left left' lines room before now Read f k' same e
 all_values : (l : Layout) (least : ℕ) (bytes : List ℕ) → IsSomeValues l least bytes → IsValues l least bytes
 all_values l least bytes (v, vs, h, e) = (v ∷ vs, h, e)
 
-all_begin : (l : Layout) (least : ℕ) (bytes : List ℕ) → Begins (IsSomeValues l least) bytes → Begins (IsValues l least) bytes
+pub all_begin : (l : Layout) (least : ℕ) (bytes : List ℕ) → Begins (IsSomeValues l least) bytes → Begins (IsValues l least) bytes
 all_begin l least bytes b = (b.0, all_values l least (bytes ++ b.0) b.1)
 
 some_begin : (l : Layout) (least : ℕ) → IsPossible (expect.Values l least) → (bytes : List ℕ) → Begins (IsValues l least) bytes → Begins (IsSomeValues l least) bytes

@@ -15,6 +15,7 @@ pub mod Short
 pub mod Shown
 pub mod Outcomes
 pub mod Ends
+pub mod Asking
 pub mod NamesPrinted
 pub mod Added
 pub mod Flowing

@@ -156,7 +156,7 @@ dead_lacks x ok (Some xs) (Some ys) w room k le e = λ y a h eq.
     let o = ap (line_at x) (sym (take_more_than room w ys le) ∙ ap (take room) k ∙ eq) ∙ code.again y a h in
     absurd (cc)
 
-more_lacks : (x : Expect) → IsPossible x → (w : List ℕ) → line_at x w ≡ Err More → Misses (IsAllowed x) (line_text x) w
+pub more_lacks : (x : Expect) → IsPossible x → (w : List ℕ) → line_at x w ≡ Err More → Misses (IsAllowed x) (line_text x) w
 more_lacks x ok w e = λ y a h eq. let o = ap (line_at x) eq ∙ (line_code x ok).again y a h in absurd (cc)
 
 pub cut_lacks : (x : Expect) → IsPossible x → (r left : Option (List ℕ)) (w : List ℕ) (room : ℕ) → Keeps r (prepend_known w left) → IsAtEnd left → length w ≤ room → line_at x w ≡ Err More

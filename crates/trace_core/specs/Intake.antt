@@ -55,6 +55,10 @@ LacksAt lawful text room rest left' (BadLine k) = IfSome rest (λ input. Misses 
 LacksAt lawful text room rest left' TooLong = IfSome rest (λ input. Misses lawful text (take room input))
 LacksAt lawful text room rest left' Read = (given : List ℕ) × Consumes rest left' given × Misses lawful text given
 
+-- the bytes begin a text, and none of the texts of the lawful values stands at their front
+abbrev pub IsUndecided : {X : Type 0} → (List ℕ → Type 0) → (X → Type 0) → (X → List ℕ) → List ℕ → Type 0
+IsUndecided Text lawful text bytes = Begins Text bytes × Misses lawful text bytes
+
 -- what the first bytes show is the bad line of the whole input
 abbrev pub ShownTraceIsBad : Type 0
 ShownTraceIsBad = (room : ℕ) (input : List ℕ) (k : ℕ) → IsShown IsTrace room input k → IsBadLine IsTrace input k

@@ -4,6 +4,7 @@ use Rattle.trace_core.specs.declared.line.Expect.TheVariants as expect
 use Rattle.trace_core.specs.Intake.{rest_of, room_of}
 use Rattle.trace_core.proofs.Outcomes.{reason_behind}
 use Rattle.trace_core.proofs.Ends.{past_values, asked_reason, one_more_value, on_ok, if_err}
+use Rattle.trace_core.proofs.Asking.{value_asks, values_asks}
 use Rattle.trace_core.proofs.parts.+take_values.Goals as goal
 
 pub returns-then-least-layout-clause-fault : goal.returns-then-least-layout-clause-fault
@@ -43,3 +44,12 @@ returns-in-Err-take_line-clause-fault g t c =
     let a = rw c.in-Ok-true.field-0-test at c.in-Ok-true.ensures.asked in
     asked_reason c.args.layout.now c.args.least (c.requires, c.if-least-layout.false) c.args.intake.now c.goes_on.new.intake (g.I.Source.left c.args.input.now) (g.I.Source.left c.goes_on.new.input) (g.I.Source.left c.take_line.new.input) (g.I.Source.faults c.args.input.now) (g.I.Source.faults c.goes_on.new.input) (g.I.Source.faults c.take_line.new.input) c.in-Err-take_line.fault a c.goes_on.ensures.later
     c.in-Err-take_line.ensures.fault
+
+pub returns-in-Ok-Value-clause-asks : goal.returns-in-Ok-Value-clause-asks
+returns-in-Ok-Value-clause-asks g t c =
+    values_asks c.args.layout.now c.args.least c.in-Ok-Value.mutex c.in-Ok-Value.field-0-1 (c.requires, c.if-least-layout.false) c.args.intake.now c.goes_on.new.intake c.take_line.new.intake.window c.goes_on.ensures.asks
+    (rw c.in-Ok-Value.field-0-is at c.in-Ok-Value.ensures.asks) c.take_values.ensures.asks
+
+pub returns-in-Err-take_line-clause-asks : goal.returns-in-Err-take_line-clause-asks
+returns-in-Err-take_line-clause-asks g t c =
+    value_asks c.args.layout.now c.args.least (c.requires, c.if-least-layout.false) c.args.intake.now c.goes_on.new.intake c.goes_on.ensures.asks c.in-Err-take_line.ensures.asks_first

@@ -2,6 +2,7 @@ use Rattle.trace_core.specs.declared.line.Line.TheVariants as line
 use Rattle.trace_core.specs.declared.line.Expect.TheVariants as expect
 use Rattle.trace_core.specs.Intake.{rest_of, room_of}
 use Rattle.trace_core.proofs.Outcomes.{reason_behind, first_lacks, counts_lacks}
+use Rattle.trace_core.proofs.Asking.{asked_or_not, first_asks, head_asks}
 use Rattle.trace_core.proofs.parts.take_head.Goals as goal
 
 pub returns-in-Err-take_line-clause-fault : goal.returns-in-Err-take_line-clause-fault
@@ -22,3 +23,14 @@ returns-in-Err-take_line-clause-lacks g c =
 
 pub returns-in-Err-clause-lacks : goal.returns-in-Err-clause-lacks
 returns-in-Err-clause-lacks g c = first_lacks _ _ _ c.in-Err.fault c.in-Err.ensures.lacks
+
+pub returns-in-Err-clause-asks : goal.returns-in-Err-clause-asks
+returns-in-Err-clause-asks g c = first_asks c.args.intake.now.window c.in-Err.ensures.asks_first
+
+pub returns-in-Ok-Counts-clause-asks : goal.returns-in-Ok-Counts-clause-asks
+returns-in-Ok-Counts-clause-asks g c =
+    head_asks c.args.intake.now.window c.take_line.new.intake.window (rw c.in-Ok-Head.field-0-is at c.in-Ok-Head.ensures.asks) (asked_or_not c.in-Ok-Counts.ensures.asks)
+
+pub returns-in-Err-take_line-clause-asks : goal.returns-in-Err-take_line-clause-asks
+returns-in-Err-take_line-clause-asks g c =
+    head_asks c.args.intake.now.window c.take_line.new.intake.window (rw c.in-Ok-Head.field-0-is at c.in-Ok-Head.ensures.asks) c.in-Err-take_line.ensures.asks_first
