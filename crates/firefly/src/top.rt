@@ -3,7 +3,8 @@ ghost use Rattle.std.specs.Prelude.{◌≡◌, ◌⊎◌, ◌≤◌, length, map
 ghost use Rattle.std.specs.String.{string_bytes};
 ghost use Rattle.command_line.specs.Grammar.{Task, Say, SayNothing, HasOptions};
 ghost use Rattle.command_line.specs.Grammar as grammar;
-ghost use Rattle.firefly.specs.Changes.{change_of};
+ghost use Rattle.firefly.specs.Changes.{change_of, Notes};
+ghost use Rattle.firefly.specs.Texts.{usage_message};
 ghost use Rattle.firefly.specs.Check.{Found};
 ghost use Rattle.firefly.specs.Looks.{look_of, looks_of, Agree, KeepTrees};
 ghost use Rattle.firefly.specs.Top.{Answers, UsageAnswers, WordsWant, effects_of};
@@ -41,13 +42,22 @@ pub fn firefly<S: Tree, I: Source, O: Sink, N: Sink>(
     match read_words(alloc, words) {
         Ok(Command::Check) => run_check(input, out, notes),
         Ok(Command::Index(options)) => run_index(alloc, &options, trees, out, notes),
-        Ok(_) | Err(WordsFault::Usage) => {
-            say(notes, USAGE);
-            Status::Usage
-        }
+        Ok(Command::Run) => refuse(notes),
+        Ok(Command::Trace(_)) => refuse(notes),
+        Ok(Command::Sample { .. }) => refuse(notes),
+        Err(WordsFault::Usage) => refuse(notes),
         Err(WordsFault::Memory) => {
             say(notes, OUT_OF_MEMORY);
             Status::Memory
         }
     }
+}
+
+// Says what the words may be.
+fn refuse<N: Sink>(notes: &mut N) -> Status
+    ensures status { result ≡ Status.Usage }
+    ensures notes { Notes (change_of N.held N.faults notes.old notes.new) usage_message }
+{
+    say(notes, USAGE);
+    Status::Usage
 }

@@ -21,6 +21,10 @@ pub record Walk : Type 0 where
 abbrev pub pairs_of : {A : Type 0} → List (String A × Bool) → List (Path × Bool)
 pairs_of es = map (λ e. (string_bytes e.0, e.1)) es
 
+-- the walk that a root's path, a map of directories and a set of files are
+abbrev pub walk_at : {A S Z : Type 0} → Path → IndexMap (String A) Bool S → IndexSet (String A) Z → Walk
+walk_at root dirs files = record { root = root; dirs = pairs_of dirs.entries; files = map string_bytes files.keys }
+
 -- the walk that a root, a map of directories and a set of files are
 abbrev pub walk_of : {A S Z : Type 0} → String A → IndexMap (String A) Bool S → IndexSet (String A) Z → Walk
 walk_of root dirs files = record { root = string_bytes root; dirs = pairs_of dirs.entries; files = map string_bytes files.keys }

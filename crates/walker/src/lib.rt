@@ -10,7 +10,8 @@ mod answer;
 mod closing;
 mod found;
 mod listing;
-mod reading;
+mod noting;
+
 mod walked;
 
 pub use answer::WalkAnswer;

@@ -1,11 +1,12 @@
 // The directories and files that a walk has found.
 ghost use Rattle.std.specs.Prelude.{◌≡◌, ◌+◌, ◌≤◌, ℕ, List, length, map, IfOk, IfErr, OnOk, IfSome, MatchOption, slice_get, Some, ◌≢◌, ◌<◌, false};
 ghost use Rattle.firefly_outside.specs.Trees.{Told, Path};
-ghost use Rattle.walker.specs.Walk.{new_walk, IsUnlisted, IsWalkOf, dirs_of};
+ghost use Rattle.walker.specs.Walk.{new_walk, IsUnlisted, IsWalkOf, IsSound};
 ghost use Rattle.walker.specs.Listings.{IsListingOf, IsToldBy, Notes};
 
 use crate::Listing;
-use crate::found::{Dirs, Files, add_dirs, add_files, mark, names_below};
+use crate::found::{Dirs, Files};
+use crate::noting::note_in;
 use std::alloc::{AllocError, Global};
 use std::marker::Model;
 
@@ -48,14 +49,16 @@ impl Walked {
 
     /// The number of directories found, the root among them.
     pub fn dirs_found(&self) -> u64
-        ensures { result ≡ length self.now.dirs }
+        ensures many { result ≡ length self.now.dirs }
+        ensures sound { IsSound self.now }
     {
         self.dirs.len() as u64
     }
 
     /// The number of files found.
     pub fn files_found(&self) -> u64
-        ensures { result ≡ length self.now.files }
+        ensures many { result ≡ length self.now.files }
+        ensures sound { IsSound self.now }
     {
         self.files.len() as u64
     }
@@ -70,19 +73,14 @@ impl Walked {
         ensures err { IfErr result (λ l. (l ≡ listing) × (self.new ≡ self.old)) }
         ensures told { OnOk result ((t : Told) → IsWalkOf self.old t → IsToldBy t dir.now listing → IsWalkOf self.new t) }
     {
-        let Ok(names) = names_below(self.alloc, self.root.as_str(), &listing.files) else {
-            return Err(listing);
-        };
-        if let Err(_) = self.dirs.reserve(listing.dirs.len()) {
-            return Err(listing);
-        }
-        if let Err(_) = self.files.reserve(listing.files.len()) {
-            return Err(listing);
-        }
-        mark(&mut self.dirs, dir);
-        add_dirs(&mut self.dirs, listing.dirs);
-        add_files(&mut self.files, names);
-        Ok(())
+        note_in(
+            self.alloc,
+            self.root.as_str(),
+            &mut self.dirs,
+            &mut self.files,
+            dir,
+            listing,
+        )
     }
 
     /// The directory found at this place, if it isn't listed.
@@ -94,5 +92,23 @@ impl Walked {
             Some((dir, false)) => Some(dir.as_str()),
             _ => None,
         }
+    }
+
+    /// The path below the root of the file found at this place.
+    pub fn file_at(&self, at: usize) -> &str
+        requires { at < length self.now.files }
+        ensures { slice_get self.now.files at ≡ Some result.now }
+    {
+        match self.files.get_index(at) {
+            Some(name) => name.as_str(),
+            None => unreachable!(),
+        }
+    }
+
+    /// The root.
+    pub fn root(&self) -> &str
+        ensures { result.now ≡ self.now.root }
+    {
+        self.root.as_str()
     }
 }
