@@ -9,4 +9,4 @@
 mod lines;
 mod print;
 
-pub use print::print_index;
+pub use print::{print_index, print_path};
