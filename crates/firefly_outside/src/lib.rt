@@ -3,7 +3,9 @@
 //! calls fail. The ones of the system stand on std's readers and writers, and tell what these tell.
 #![tactic(auto)]
 
+mod dir_tree;
 mod mem_tree;
+mod names;
 mod paths;
 mod place;
 mod real;
@@ -12,6 +14,7 @@ mod source;
 mod text;
 mod tree;
 
+pub use dir_tree::DirTree;
 pub use mem_tree::MemTree;
 pub use real::{ReaderSource, WriterSink};
 pub use sink::{MemSink, Sink, SinkFault, put_all};

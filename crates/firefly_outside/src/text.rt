@@ -38,6 +38,13 @@ impl Text {
         })
     }
 
+    /// The string as a text, which takes no memory.
+    pub fn from_string(text: String) -> Text
+        ensures { result ≡ string_bytes text }
+    {
+        Text { text }
+    }
+
     /// Shows the text.
     pub fn as_str(&self) -> &str
         ensures { result.now ≡ self.now }

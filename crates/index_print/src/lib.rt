@@ -9,7 +9,7 @@
 mod lines;
 mod print;
 
-pub use print::print_index;
+pub use print::{print_index, print_path};
 
 #[cfg(test)]
 mod tests;

@@ -109,8 +109,8 @@ fn put_bytes<O: Sink>(held: &mut Held, path: &[u8], out: &mut O) -> Result<(), S
     Ok(())
 }
 
-// Puts a path as it stands on a line.
-fn put_path<O: Sink>(held: &mut Held, path: &[u8], out: &mut O) -> Result<(), SinkFault>
+/// Puts a path as it stands on a line.
+pub fn put_path<O: Sink>(held: &mut Held, path: &[u8], out: &mut O) -> Result<(), SinkFault>
     ensures text { Puts (O.held out.old) held.old.items (escaped path.now) result (O.held out.new) held.new.items }
     ensures cause { HasCause (O.faults out.old) (O.faults out.new) result }
 {

@@ -1,0 +1,18 @@
+use Rattle.std.proofs.Common.{◌≡◌, ◌∷◌, ◌++◌, List, ℕ, refl, ap, subst, sym, ◌∙◌, arith}
+use Rattle.std.specs.Prelude.{decimal}
+use Rattle.firefly_script.specs.declared.line.Operation.{Operation}
+use Rattle.firefly_script.specs.declared.line.Operation.TheVariants.{Acquire, Release, P, V, Add}
+use Rattle.firefly_script.specs.declared.parse.Word.{Word}
+use Rattle.firefly_script.specs.declared.parse.Word.TheVariants as word
+use Rattle.firefly_script.specs.Faults.{Lacks}
+use Rattle.firefly_script.specs.Parsing.{word_of, word_text, arguments_text}
+use Rattle.firefly_script.specs.Text.{operation_text}
+use Rattle.firefly_script.proofs.Injective.{text_is, word_lacks}
+use Rattle.firefly_script.proofs.Pieces.{cut_same}
+use Rattle.firefly_script.proofs.parse.operation.Goals as goal
+
+pub returns-in_default-known_word : goal.returns-in_default-known_word
+returns-in_default-known_word c o h e =
+    let f = c.in-Some.ensures in
+    let same = cut_same 32 c.in-Some.word.now (word_text (word_of o)) c.in-Some.behind.now (arguments_text o) f.0 (word_lacks (word_of o)) (sym f.1 ∙ e ∙ text_is o) in
+    c.in_default-known_word.ensures (word_of o) tt same.0
