@@ -7,3 +7,4 @@ pub mod Window
 pub mod Held
 pub mod Drafts
 pub mod Founds
+pub mod Runs

@@ -30,15 +30,17 @@ impl Model for Script {
 
     ghost view = { λ s. record { layout = s.layout; lines = s.lines.items } };
 
-    ghost invariant = { λ s. IsScript s.layout s.lines.items };
+    ghost invariant = { λ s. IsScript s.layout s.lines.items × (length s.lines.items < 100000) };
 }
 
 impl Script {
+    ghost use Rattle.larch_actions.specs.Layout.{IsLawful};
     ghost use Rattle.firefly_script.specs.Text.{IsScript};
 
     /// A script of these lines.
     pub(crate) fn new(layout: Layout, lines: Vec<Line>) -> Script
-        requires { IsScript layout lines.items }
+        requires script { IsScript layout lines.items }
+        requires few { length lines.items < 100000 }
         ensures layout { result.layout ≡ layout }
         ensures lines { result.lines ≡ lines.items }
     {
@@ -47,7 +49,8 @@ impl Script {
 
     /// How many threads, mutexes, conditions and semaphores it has.
     pub fn layout(&self) -> Layout
-        ensures { result ≡ self.now.layout }
+        ensures layout { result ≡ self.now.layout }
+        ensures lawful { IsLawful result }
     {
         self.layout
     }
@@ -56,6 +59,7 @@ impl Script {
     pub fn lines(&self) -> &[Line]
         ensures lines { result.now ≡ self.now.lines }
         ensures script { IsScript self.now.layout self.now.lines }
+        ensures few { length self.now.lines < 100000 }
     {
         self.lines.as_slice()
     }

@@ -10,3 +10,6 @@ mod lines;
 mod print;
 
 pub use print::{print_index, print_path};
+
+#[cfg(test)]
+mod tests;

@@ -1,6 +1,7 @@
 pub mod Runs
 pub mod Tally
 pub mod Lower
+pub mod Begins
 pub mod Parts
 pub mod Joins
 pub mod Numbers

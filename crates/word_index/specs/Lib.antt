@@ -8,3 +8,4 @@ pub mod Numbered
 pub mod Merged
 pub mod Table
 pub mod Counted
+pub mod Places

@@ -8,6 +8,9 @@ use crate::words::next_run;
 use indexmap::IndexMap;
 use std::alloc::{AllocError, Global};
 
+// A longer run is no word.
+const LONGEST_WORD: usize = 64;
+
 /// How often a word was seen, and the least line on which it was.
 #[derive(Clone, Copy)]
 pub struct Seen {
@@ -57,7 +60,7 @@ pub fn count_words<'a>(alloc: Global, low: &'a [u8]) -> Result<Counts<'a>, Alloc
     let mut line = 1;
     while let Some(run) = next_run(low, at, line) {
         let word = &low[run.start..run.end];
-        if word.len() <= 64 {
+        if word.len() <= LONGEST_WORD {
             add(&mut counts, word, run.line)?;
         }
         at = run.end;

@@ -21,3 +21,6 @@ pub use count::Seen;
 pub use merging::merge;
 pub use of_file::piece_of;
 pub use piece::{Found, Piece};
+
+#[cfg(test)]
+mod tests;

@@ -11,4 +11,4 @@ loop-run-preserved-in_ok-add c =
     let e = c.in-Some.ensures in
     let further : c.loop-run.at < c.in-Some.run'.end = omega (arith, e) in
     let early : c.in-Some.run'.line ≤ c.in-Some.run'.end + 1 = omega (arith, e) in
-    counts_before_next c.loop-run.invariant (slice_range c.args.low.now c.in-Some.run'.start c.in-Some.run'.end) c.in-Some.run'.end c.in-Some.run'.line c.if-word-le64.true further e.2 early e.4 c.in_ok-add.ensures
+    counts_before_next c.loop-run.invariant (slice_range c.args.low.now c.in-Some.run'.start c.in-Some.run'.end) c.in-Some.run'.end c.in-Some.run'.line c.if-word-le-LONGEST_WORD.true further e.2 early e.4 c.in_ok-add.ensures
