@@ -8,8 +8,10 @@ mod check_command;
 mod index_command;
 mod message;
 mod status;
+mod system_trees;
 mod top;
 mod verdict_line;
 
 pub use status::{Status, number};
+pub use system_trees::system_trees;
 pub use top::firefly;
