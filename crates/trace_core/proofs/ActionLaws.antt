@@ -1,5 +1,5 @@
 -- Reading an action is exact.
-use Rattle.std.proofs.Common.{◌≡◌, ℕ, ◌<◌, List, [], ◌∷◌, ◌++◌, refl, ap, subst, ◌∙◌, Bool, true, false, Ok, Err, arith}
+use Rattle.std.proofs.Common.{◌≡◌, ℕ, ◌<◌, List, [], ◌∷◌, ◌++◌, refl, ap, subst, ◌∙◌, Bool, true, false, Ok, Err, arith, ◌≢◌, get_or, drop, sym, length, length-append, append-nil}
 use Rattle.std.specs.Prelude.{codes, decimal}
 use Rattle.std.specs.declared.result.Result.{Result}
 use Rattle.larch_actions.specs.declared.event.Layout.{Layout}
@@ -14,7 +14,8 @@ use Rattle.trace_core.specs.Names.{IsRising, names_at, set_from}
 use Rattle.trace_core.specs.Reading.{Reader, or_else, after_word}
 use Rattle.trace_core.specs.Text.{members, newline}
 use Rattle.trace_core.specs.Lines.{resumed, taken, ending_at, acquire_at, release_at, p_at, v_at, enqueue_at, resume_at, signal_at, broadcast_at, alert_at, test_alert_at, alert_enqueue_at, alert_resume_at, alert_p_at, action_at}
-use Rattle.trace_core.proofs.CodeLaws.{same_code, word_code, then_code, as_code}
+use Rattle.trace_core.proofs.CodeLaws.{dead_from, same_code, word_code, then_code, as_code}
+use Rattle.trace_core.proofs.Letters.{more_from, by_letter}
 use Rattle.trace_core.proofs.Choices.{AreCodes, choice_code}
 use Rattle.trace_core.proofs.RisingSets.{names_line, names_code}
 use Rattle.trace_core.proofs.Members.{rising-members, set_from-members, below_bound, members-set_from}
@@ -183,21 +184,87 @@ kind_codes : (l : Layout) → IsLawful l → AreCodes (IsOf l) text 0 (kinds l)
 kind_codes l ok =
     (acquire_code l ok, (release_code l ok, (p_code l ok, (v_code l ok, (enqueue_code l ok, (resume_code l ok, (signal_code l ok, (broadcast_code l ok, (alert_code l ok, (test_alert_code l, (alert_enqueue_code l ok, (alert_resume_code l ok, (alert_p_code l ok, tt)))))))))))))
 
-or_assoc : {A : Type 0} (r s t : Result A Stop) → or_else (or_else r s) t ≡ or_else r (or_else s t)
-or_assoc (Ok x) s t = refl
-or_assoc (Err More) s t = refl
-or_assoc (Err Dead) s t = refl
+-- the first letters of the kinds
+abbrev letters : List ℕ
+letters = 97 ∷ 114 ∷ 112 ∷ 118 ∷ 101 ∷ 114 ∷ 115 ∷ 98 ∷ 97 ∷ 116 ∷ 97 ∷ 97 ∷ 97 ∷ []
+
+abbrev letter : ℕ → ℕ
+letter i = get_or letters i 0
+
+first_is : (a : Action) → (rest : List ℕ) × (text a ≡ letter (kind_of a) ∷ rest)
+first_is (TestAlert true) = (drop 1 (text (TestAlert true)), refl)
+first_is (TestAlert false) = (drop 1 (text (TestAlert false)), refl)
+first_is (Acquire m) = (drop 1 (text (Acquire m)), refl)
+first_is (Release m) = (drop 1 (text (Release m)), refl)
+first_is (P s) = (drop 1 (text (P s)), refl)
+first_is (V s) = (drop 1 (text (V s)), refl)
+first_is (Enqueue m c) = (drop 1 (text (Enqueue m c)), refl)
+first_is (Resume m c) = (drop 1 (text (Resume m c)), refl)
+first_is (Signal c left) = (drop 1 (text (Signal c left)), refl)
+first_is (Broadcast c) = (drop 1 (text (Broadcast c)), refl)
+first_is (Alert t) = (drop 1 (text (Alert t)), refl)
+first_is (AlertEnqueue m c) = (drop 1 (text (AlertEnqueue m c)), refl)
+first_is (AlertReturn m c) = (drop 1 (text (AlertReturn m c)), refl)
+first_is (AlertRaise m c) = (drop 1 (text (AlertRaise m c)), refl)
+first_is (AlertPReturn s) = (drop 1 (text (AlertPReturn s)), refl)
+first_is (AlertPRaise s) = (drop 1 (text (AlertPRaise s)), refl)
+
+not_first : (l : Layout) (i : ℕ) (a : Action) (c : ℕ) (bytes rest : List ℕ) → IsOf l i a → c ∷ bytes ≡ text a ++ rest → c ≡ letter i
+not_first l i a c bytes rest h e =
+    let f = first_is a in
+    let whole : c ∷ bytes ≡ letter (kind_of a) ∷ (f.0 ++ rest) = e ∙ ap (λ x. x ++ rest) f.1 in
+    let heads : c ≡ letter (kind_of a) = cc in
+    heads ∙ ap letter h.0
+
+-- what begins with another letter is no action of the kind
+other_dead : (l : Layout) (i : ℕ) (read : Reader Action) → IsCode (IsOf l i) text read → (c : ℕ) (bytes : List ℕ) → (c ≡ letter i → ⊥) → read (c ∷ bytes) ≡ Err Dead
+other_dead l i read code c bytes other =
+    dead_from (read (c ∷ bytes))
+    (λ x e. let f = code.found (c ∷ bytes) x.1 x.0 e in other (not_first l i x.0 c bytes x.1 f.0 f.1))
+    (λ e. let m = code.more (c ∷ bytes) e in other (not_first l i m.0 c (bytes ++ m.1) [] m.2 (m.3 ∙ sym (append-nil (text m.0)))))
+
+text_some : (a : Action) → 0 < length (text a)
+text_some a = let f = first_is a in omega (arith, ap length f.1)
+
+-- of no bytes any action may come
+nothing_more : (l : Layout) (read : Reader Action) → IsCode (IsNamed l) text read → read [] ≡ Err More
+nothing_more l read code =
+    more_from (read [])
+    (λ x e. let f = code.found [] x.1 x.0 e in omega (arith, ap length f.1, length-append (text x.0) x.1, text_some x.0))
+    (λ e.
+    let d = code.dead [] (text (TestAlert true) ++ []) e in
+    let a = code.again (TestAlert true) [] tt in
+    absurd (cc))
 
 or_last : {A : Type 0} (r : Result A Stop) → or_else r (Err Dead) ≡ r
 or_last (Ok x) = refl
 or_last (Err More) = refl
 or_last (Err Dead) = refl
 
-kinds_are : (l : Layout) (bytes : List ℕ) → choice (kinds l) bytes ≡ action_at l bytes
-kinds_are l bytes = simp (or_assoc, or_last)
+all_code : (l : Layout) → IsLawful l → IsCode (IsNamed l) text (choice (kinds l))
+all_code l ok =
+    let all = choice_code (IsOf l) text 13 (λ i j lt low. kinds_apart l i j lt low) 0 (kinds l) refl (kind_codes l ok) in
+    same_code all (IsNamed l) text (λ a. refl) (λ a o. o.3.1) (λ a h. (kind_of a, omega arith, kind_low a, (refl, h)))
+
+-- the first letter tells which kinds can come
+kinds_are : (l : Layout) → IsLawful l → (bytes : List ℕ) → choice (kinds l) bytes ≡ action_at l bytes
+kinds_are l ok [] = nothing_more l (choice (kinds l)) (all_code l ok)
+kinds_are l ok (c ∷ bytes) =
+    let acquire : c ≢ 97 → acquire_at l (c ∷ bytes) ≡ Err Dead = other_dead l 0 (acquire_at l) (acquire_code l ok) c bytes in
+    let release : c ≢ 114 → release_at l (c ∷ bytes) ≡ Err Dead = other_dead l 1 (release_at l) (release_code l ok) c bytes in
+    let p : c ≢ 112 → p_at l (c ∷ bytes) ≡ Err Dead = other_dead l 2 (p_at l) (p_code l ok) c bytes in
+    let v : c ≢ 118 → v_at l (c ∷ bytes) ≡ Err Dead = other_dead l 3 (v_at l) (v_code l ok) c bytes in
+    let enqueue : c ≢ 101 → enqueue_at l (c ∷ bytes) ≡ Err Dead = other_dead l 4 (enqueue_at l) (enqueue_code l ok) c bytes in
+    let resume : c ≢ 114 → resume_at l (c ∷ bytes) ≡ Err Dead = other_dead l 5 (resume_at l) (resume_code l ok) c bytes in
+    let signal : c ≢ 115 → signal_at l (c ∷ bytes) ≡ Err Dead = other_dead l 6 (signal_at l) (signal_code l ok) c bytes in
+    let broadcast : c ≢ 98 → broadcast_at l (c ∷ bytes) ≡ Err Dead = other_dead l 7 (broadcast_at l) (broadcast_code l ok) c bytes in
+    let alert : c ≢ 97 → alert_at l (c ∷ bytes) ≡ Err Dead = other_dead l 8 (alert_at l) (alert_code l ok) c bytes in
+    let test_alert : c ≢ 116 → test_alert_at (c ∷ bytes) ≡ Err Dead = other_dead l 9 test_alert_at (test_alert_code l) c bytes in
+    let alert_enqueue : c ≢ 97 → alert_enqueue_at l (c ∷ bytes) ≡ Err Dead = other_dead l 10 (alert_enqueue_at l) (alert_enqueue_code l ok) c bytes in
+    let alert_resume : c ≢ 97 → alert_resume_at l (c ∷ bytes) ≡ Err Dead = other_dead l 11 (alert_resume_at l) (alert_resume_code l ok) c bytes in
+    let alert_p : c ≢ 97 → alert_p_at l (c ∷ bytes) ≡ Err Dead = other_dead l 12 (alert_p_at l) (alert_p_code l ok) c bytes in
+    by_letter c (acquire_at l (c ∷ bytes)) (release_at l (c ∷ bytes)) (p_at l (c ∷ bytes)) (v_at l (c ∷ bytes)) (enqueue_at l (c ∷ bytes)) (resume_at l (c ∷ bytes)) (signal_at l (c ∷ bytes)) (broadcast_at l (c ∷ bytes)) (alert_at l (c ∷ bytes)) (test_alert_at (c ∷ bytes))
+    (alert_enqueue_at l (c ∷ bytes)) (alert_resume_at l (c ∷ bytes)) (alert_p_at l (c ∷ bytes)) acquire release p v enqueue resume signal broadcast alert test_alert alert_enqueue alert_resume alert_p
 
 pub action_code : (l : Layout) → IsLawful l → IsCode (IsNamed l) text (action_at l)
-action_code l ok =
-    let all = choice_code (IsOf l) text 13 (λ i j lt low. kinds_apart l i j lt low) 0 (kinds l) refl (kind_codes l ok) in
-    let named = same_code all (IsNamed l) text (λ a. refl) (λ a o. o.3.1) (λ a h. (kind_of a, omega arith, kind_low a, (refl, h))) in
-    subst (IsCode (IsNamed l) text) (λ i bytes. kinds_are l bytes i) named
+action_code l ok = subst (IsCode (IsNamed l) text) (λ i bytes. kinds_are l ok bytes i) (all_code l ok)

@@ -7,6 +7,8 @@ pub mod Choices
 pub mod Tails
 pub mod Members
 pub mod ActionKinds
+pub mod Letters
+pub mod Quick
 pub mod Pieces
 pub mod ActionLaws
 pub mod LineLaws

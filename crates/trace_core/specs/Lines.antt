@@ -1,5 +1,5 @@
 -- Reading the lines of a trace text.
-use Rattle.std.specs.Prelude.{◌≡◌, ℕ, ◌+◌, ◌^◌, ◌<◌, ◌≤◌, nat_lt, Bool, true, false, List, [], ◌∷◌, ◌++◌, if◌then◌else◌, codes, decimal, Ok}
+use Rattle.std.specs.Prelude.{◌≡◌, ℕ, ◌+◌, ◌^◌, ◌<◌, ◌≤◌, nat_lt, ◌==◌, Bool, true, false, List, [], ◌∷◌, ◌++◌, if◌then◌else◌, codes, decimal, Ok, Err, Result}
 use Rattle.larch_actions.specs.declared.event.Layout.{Layout}
 use Rattle.larch_actions.specs.declared.event.Event.{Event}
 use Rattle.larch_actions.specs.declared.event.Action.{Action}
@@ -9,9 +9,16 @@ use Rattle.trace_core.specs.declared.line.Line.{Line}
 use Rattle.trace_core.specs.declared.line.Line.TheVariants as line
 use Rattle.trace_core.specs.declared.line.Expect.{Expect}
 use Rattle.trace_core.specs.declared.line.Expect.TheVariants as expect
-use Rattle.trace_core.specs.Reading.{Reader, after_word, both, as_value, either, only_if, number_at}
+use Rattle.std.specs.declared.result.Result.{Result}
+use Rattle.trace_core.specs.declared.line.Stop.{Stop}
+use Rattle.trace_core.specs.declared.line.Stop.TheVariants.{More, Dead}
+use Rattle.trace_core.specs.Reading.{Reader, ◌>>=◌, word_at, after_word, both, as_value, either, only_if, number_at}
 use Rattle.trace_core.specs.Names.{number_from, names_at, set_from}
 use Rattle.trace_core.specs.Text.{first_line, layout_line, event_line, end_line, value_line, IsRest, IsLaid, IsTrace, IsValues, MutexValue, AreValues, values_text}
+
+-- the place of an event, and what stands before its thread's number
+abbrev pub place_at : ℕ → List ℕ → Result (List ℕ) Stop
+place_at n bytes = word_at (decimal n) bytes >>= word_at (codes " t")
 
 -- a word, and a name below the bound up to the byte that stops it
 abbrev pub named_at : List ℕ → ℕ → ℕ → Reader ℕ
@@ -73,21 +80,26 @@ alert_resume_at l = as_value resumed (both (wait_at (codes "alert-resume m") l.m
 abbrev pub alert_p_at : Layout → Reader Action
 alert_p_at l = as_value taken (both (named_at (codes "alert-p s") l.semaphores 32) (λ _. ending_at))
 
--- the kinds of action, each up to the end of its line
-abbrev pub lock_at : Layout → Reader Action
-lock_at l = either (acquire_at l) (either (release_at l) (either (p_at l) (v_at l)))
+-- the actions that begin with a, and with r
+abbrev pub a_at : Layout → Reader Action
+a_at l = either (acquire_at l) (either (alert_at l) (either (alert_enqueue_at l) (either (alert_resume_at l) (alert_p_at l))))
 
-abbrev pub condition_at : Layout → Reader Action
-condition_at l = either (enqueue_at l) (either (resume_at l) (either (signal_at l) (broadcast_at l)))
+abbrev pub r_at : Layout → Reader Action
+r_at l = either (release_at l) (resume_at l)
 
-abbrev pub alerting_at : Layout → Reader Action
-alerting_at l = either (alert_at l) test_alert_at
-
-abbrev pub alerted_at : Layout → Reader Action
-alerted_at l = either (alert_enqueue_at l) (either (alert_resume_at l) (alert_p_at l))
-
+-- an action up to the end of its line, told by its first letter
 abbrev pub action_at : Layout → Reader Action
-action_at l = either (lock_at l) (either (condition_at l) (either (alerting_at l) (alerted_at l)))
+action_at l [] = Err More
+action_at l (c ∷ bytes) =
+    if c == 97 then a_at l (c ∷ bytes)
+    else if c == 114 then r_at l (c ∷ bytes)
+    else if c == 112 then p_at l (c ∷ bytes)
+    else if c == 118 then v_at l (c ∷ bytes)
+    else if c == 101 then enqueue_at l (c ∷ bytes)
+    else if c == 115 then signal_at l (c ∷ bytes)
+    else if c == 98 then broadcast_at l (c ∷ bytes)
+    else if c == 116 then test_alert_at (c ∷ bytes)
+    else Err Dead
 
 abbrev pub event_of : ℕ × Action → Event
 event_of p = record { thread = record { 0 = p.0 }; action = p.1 }

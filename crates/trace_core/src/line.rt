@@ -6,7 +6,7 @@ ghost use Rattle.trace_core.specs.Lines.{IsPossible, event_at, event_or_end_at, 
 
 use crate::action::action;
 use crate::names::number_from;
-use crate::token::{last_number, number, word};
+use crate::token::{last_number, number, place_and_t, word};
 use itoa::Buffer;
 use larch_actions::{Event, Layout, ThreadId};
 
@@ -42,9 +42,7 @@ fn event<'b>(bytes: &'b [u8], layout: &Layout, place: u64) -> Result<(Event, &'b
     requires { IsLawful layout.now }
     ensures { Gives (λ x. (x.0, x.1.now)) result (event_at layout.now place bytes.now) }
 {
-    let mut buffer = Buffer::new();
-    let rest = word(bytes, buffer.format(place).as_bytes())?;
-    let rest = word(rest, b" t")?;
+    let rest = place_and_t(bytes, place)?;
     let (t, rest) = number(rest, 0, layout.threads, b' ')?;
     let (action, rest) = action(rest, layout)?;
     Ok((
