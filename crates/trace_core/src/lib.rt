@@ -23,3 +23,6 @@ mod window;
 pub use intake::TextFault;
 pub use print::{print_end, print_event, print_head, print_value};
 pub use reader::EventReader;
+
+#[cfg(test)]
+mod tests;
