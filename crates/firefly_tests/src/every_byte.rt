@@ -8,8 +8,9 @@ use std::process::Abort;
 use std::test::Fail;
 use trace_check::{Verdict, check};
 
-// Each kind of line.
-const WHOLE: &[u8] = b"firefly-trace 1
+// A trace with each kind of line. A function without a clause keeps the bytes out of the proofs.
+fn whole() -> &'static [u8] {
+    b"firefly-trace 1
 threads 3 mutexes 2 conditions 1 semaphores 1
 0 t0 acquire m0
 1 t0 enqueue m0 c0
@@ -37,9 +38,12 @@ threads 3 mutexes 2 conditions 1 semaphores 1
 end 23
 value m0 0
 value m1 18446744073709551615
-";
+"
+}
 
-const SHORT: &[u8] = b"firefly-trace 1
+// A short trace. A function without a clause keeps the bytes out of the proofs.
+fn short() -> &'static [u8] {
+    b"firefly-trace 1
 threads 2 mutexes 1 conditions 1 semaphores 1
 0 t0 acquire m0
 1 t0 enqueue m0 c0
@@ -48,7 +52,8 @@ threads 2 mutexes 1 conditions 1 semaphores 1
 4 t1 alert-p s0 returns
 end 5
 value m0 17
-";
+"
+}
 
 // What a byte is changed to.
 const BYTES: &[u8] = b"0139 \ntmcsvaeld-\0\xff";
@@ -64,15 +69,16 @@ fn agree(rt: &impl Abort, alloc: Global, bytes: &[u8]) -> Result<(), Fail> {
 
 #[test]
 fn each_prefix_has_the_verdict_of_the_definitions(rt: HostRuntime) -> Result<(), Fail> {
-    for k in 0..WHOLE.len() {
-        agree(&rt, rt.alloc(), &WHOLE[..k])?;
+    let bytes = whole();
+    for k in 0..bytes.len() {
+        agree(&rt, rt.alloc(), &bytes[..k])?;
     }
-    agree(&rt, rt.alloc(), WHOLE)
+    agree(&rt, rt.alloc(), bytes)
 }
 
 #[test]
 fn each_changed_byte_has_the_verdict_of_the_definitions(rt: HostRuntime) -> Result<(), Fail> {
-    let mut bytes = SHORT.to_vec(rt.alloc())?;
+    let mut bytes = short().to_vec(rt.alloc())?;
     for k in 0..bytes.len() {
         let byte = bytes[k];
         for other in BYTES {
@@ -86,8 +92,8 @@ fn each_changed_byte_has_the_verdict_of_the_definitions(rt: HostRuntime) -> Resu
 
 #[test]
 fn each_removed_byte_has_the_verdict_of_the_definitions(rt: HostRuntime) -> Result<(), Fail> {
-    for k in 0..WHOLE.len() {
-        let mut bytes = WHOLE.to_vec(rt.alloc())?;
+    for k in 0..whole().len() {
+        let mut bytes = whole().to_vec(rt.alloc())?;
         if k < bytes.len() {
             bytes.remove(k);
         }
@@ -98,8 +104,8 @@ fn each_removed_byte_has_the_verdict_of_the_definitions(rt: HostRuntime) -> Resu
 
 #[test]
 fn each_smaller_budget_is_too_long(rt: HostRuntime) -> Result<(), Fail> {
-    for k in 0..WHOLE.len() {
-        let mut input = MemSource::new(WHOLE.to_vec(rt.alloc())?);
+    for k in 0..whole().len() {
+        let mut input = MemSource::new(whole().to_vec(rt.alloc())?);
         assert_eq!(rt; check(&mut input, k as u64), Verdict::TooLong);
     }
     Ok(())
@@ -107,8 +113,8 @@ fn each_smaller_budget_is_too_long(rt: HostRuntime) -> Result<(), Fail> {
 
 #[test]
 fn a_read_that_fails_before_the_end_is_a_read_fault(rt: HostRuntime) -> Result<(), Fail> {
-    for k in 0..WHOLE.len() {
-        let mut input = MemSource::new(WHOLE.to_vec(rt.alloc())?);
+    for k in 0..whole().len() {
+        let mut input = MemSource::new(whole().to_vec(rt.alloc())?);
         input.fail_after(k);
         assert_eq!(rt; check(&mut input, 100_000), Verdict::ReadFault);
     }

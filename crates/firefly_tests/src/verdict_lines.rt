@@ -5,12 +5,17 @@ use firefly_outside::MemSource;
 use std::test::Fail;
 use trace_check::{Summary, Verdict, check};
 
-const NO_EVENT: &str = "firefly-trace 1
+// The texts. A function without a clause keeps the bytes out of the proofs.
+
+fn no_event() -> &'static str {
+    "firefly-trace 1
 threads 1 mutexes 1 conditions 0 semaphores 0
 end 0
-";
+"
+}
 
-const SIGNALLED: &str = "firefly-trace 1
+fn signalled() -> &'static str {
+    "firefly-trace 1
 threads 2 mutexes 1 conditions 1 semaphores 0
 0 t0 acquire m0
 1 t0 enqueue m0 c0
@@ -20,9 +25,11 @@ threads 2 mutexes 1 conditions 1 semaphores 0
 5 t0 resume m0 c0
 6 t0 release m0
 end 7
-";
+"
+}
 
-const NOT_SIGNALLED: &str = "firefly-trace 1
+fn not_signalled() -> &'static str {
+    "firefly-trace 1
 threads 2 mutexes 1 conditions 1 semaphores 0
 0 t0 acquire m0
 1 t0 enqueue m0 c0
@@ -31,9 +38,11 @@ threads 2 mutexes 1 conditions 1 semaphores 0
 4 t0 resume m0 c0
 5 t0 release m0
 end 6
-";
+"
+}
 
-const ALL_LEFT: &str = "firefly-trace 1
+fn all_left() -> &'static str {
+    "firefly-trace 1
 threads 3 mutexes 1 conditions 1 semaphores 0
 0 t0 acquire m0
 1 t0 enqueue m0 c0
@@ -41,9 +50,11 @@ threads 3 mutexes 1 conditions 1 semaphores 0
 3 t1 enqueue m0 c0
 4 t2 signal c0 left t0 t1
 end 5
-";
+"
+}
 
-const NOBODY_LEFT: &str = "firefly-trace 1
+fn nobody_left() -> &'static str {
+    "firefly-trace 1
 threads 3 mutexes 1 conditions 1 semaphores 0
 0 t0 acquire m0
 1 t0 enqueue m0 c0
@@ -51,15 +62,19 @@ threads 3 mutexes 1 conditions 1 semaphores 0
 3 t1 enqueue m0 c0
 4 t2 signal c0 left
 end 5
-";
+"
+}
 
-const EMPTY_CONDITION: &str = "firefly-trace 1
+fn empty_condition() -> &'static str {
+    "firefly-trace 1
 threads 1 mutexes 0 conditions 1 semaphores 0
 0 t0 signal c0 left
 end 1
-";
+"
+}
 
-const RAISED_THREAD_LEFT: &str = "firefly-trace 1
+fn raised_thread_left() -> &'static str {
+    "firefly-trace 1
 threads 2 mutexes 1 conditions 1 semaphores 0
 0 t0 acquire m0
 1 t0 alert-enqueue m0 c0
@@ -67,18 +82,22 @@ threads 2 mutexes 1 conditions 1 semaphores 0
 3 t0 alert-resume m0 c0 raises
 4 t1 signal c0 left t0
 end 5
-";
+"
+}
 
-const RELEASED_WHILE_WAITING: &str = "firefly-trace 1
+fn released_while_waiting() -> &'static str {
+    "firefly-trace 1
 threads 1 mutexes 1 conditions 1 semaphores 0
 0 t0 acquire m0
 1 t0 test-alert no
 2 t0 enqueue m0 c0
 3 t0 release m0
 end 4
-";
+"
+}
 
-const LOCKS: &str = "firefly-trace 1
+fn locks() -> &'static str {
+    "firefly-trace 1
 threads 2 mutexes 1 conditions 0 semaphores 1
 0 t0 acquire m0
 1 t1 p s0
@@ -86,9 +105,11 @@ threads 2 mutexes 1 conditions 0 semaphores 1
 3 t1 acquire m0
 4 t0 v s0
 end 5
-";
+"
+}
 
-const HELD_TWICE: &str = "firefly-trace 1
+fn held_twice() -> &'static str {
+    "firefly-trace 1
 threads 2 mutexes 1 conditions 0 semaphores 1
 0 t0 acquire m0
 1 t1 acquire m0
@@ -96,7 +117,40 @@ threads 2 mutexes 1 conditions 0 semaphores 1
 3 t1 acquire m0
 4 t0 v s0
 end 5
-";
+"
+}
+
+fn not_held() -> &'static str {
+    "firefly-trace 1\nthreads 1 mutexes 1 conditions 0 semaphores 1\n0 t0 release m0\nend 1\n"
+}
+
+fn not_alerted() -> &'static str {
+    "firefly-trace 1\nthreads 1 mutexes 1 conditions 0 semaphores 1\n0 t0 test-alert yes\nend 1\n"
+}
+
+fn taken_twice() -> &'static str {
+    "firefly-trace 1\nthreads 1 mutexes 1 conditions 0 semaphores 1\n0 t0 p s0\n1 t0 p s0\nend 2\n"
+}
+
+fn cut_in_a_line() -> &'static str {
+    "firefly-trace 1\nthreads 2 mutexes 1 conditions 1 semaphores 0\n0 t0 acquire m0\n1 t0 enqueue m0 c0\n2 t1 acq"
+}
+
+fn leading_zero() -> &'static str {
+    "firefly-trace 1\nthreads 2 mutexes 1 conditions 1 semaphores 0\n00 t0 acquire m0\n1 t0 enqueue m0 c0\n2 t1 acquire m0\n3 t1 signal c0 left\n4 t1 release m0\n5 t0 resume m0 c0\n6 t0 release m0\nend 7\n"
+}
+
+fn without_its_end() -> &'static str {
+    "firefly-trace 1\nthreads 2 mutexes 1 conditions 1 semaphores 0\n0 t0 acquire m0\n1 t0 enqueue m0 c0\n2 t1 acquire m0\n3 t1 signal c0 left\n4 t1 release m0\n5 t0 resume m0 c0\n6 t0 release m0\n"
+}
+
+fn greatest_layout() -> &'static str {
+    "firefly-trace 1\nthreads 64 mutexes 64 conditions 64 semaphores 64\nend 0\n"
+}
+
+fn too_many_threads() -> &'static str {
+    "firefly-trace 1\nthreads 65 mutexes 64 conditions 64 semaphores 64\nend 0\n"
+}
 
 #[test]
 fn a_trace_without_events_is_legal(rt: HostRuntime) -> Result<(), Fail> {
@@ -104,7 +158,7 @@ fn a_trace_without_events_is_legal(rt: HostRuntime) -> Result<(), Fail> {
     prints(
         &rt,
         alloc,
-        NO_EVENT,
+        no_event(),
         Status::Done,
         "legal 0 held 0 waiting 0 alerted 0\n",
     )?;
@@ -117,14 +171,14 @@ fn a_wait_resumes_after_a_signal_and_not_before(rt: HostRuntime) -> Result<(), F
     prints(
         &rt,
         alloc,
-        SIGNALLED,
+        signalled(),
         Status::Done,
         "legal 7 held 0 waiting 0 alerted 0\n",
     )?;
     prints(
         &rt,
         alloc,
-        NOT_SIGNALLED,
+        not_signalled(),
         Status::Illegal,
         "illegal 4 when\n",
     )?;
@@ -134,18 +188,24 @@ fn a_wait_resumes_after_a_signal_and_not_before(rt: HostRuntime) -> Result<(), F
 #[test]
 fn a_signal_leaves_nobody_or_some(rt: HostRuntime) -> Result<(), Fail> {
     let alloc = rt.alloc();
-    prints(&rt, alloc, ALL_LEFT, Status::Illegal, "illegal 4 ensures\n")?;
     prints(
         &rt,
         alloc,
-        NOBODY_LEFT,
+        all_left(),
+        Status::Illegal,
+        "illegal 4 ensures\n",
+    )?;
+    prints(
+        &rt,
+        alloc,
+        nobody_left(),
         Status::Done,
         "legal 5 held 0 waiting 2 alerted 0\n",
     )?;
     prints(
         &rt,
         alloc,
-        EMPTY_CONDITION,
+        empty_condition(),
         Status::Done,
         "legal 1 held 0 waiting 0 alerted 0\n",
     )?;
@@ -158,7 +218,7 @@ fn a_thread_that_raised_is_in_no_condition(rt: HostRuntime) -> Result<(), Fail> 
     prints(
         &rt,
         alloc,
-        RAISED_THREAD_LEFT,
+        raised_thread_left(),
         Status::Illegal,
         "illegal 4 ensures\n",
     )?;
@@ -171,7 +231,7 @@ fn no_event_stands_between_the_parts_of_a_wait(rt: HostRuntime) -> Result<(), Fa
     prints(
         &rt,
         alloc,
-        RELEASED_WHILE_WAITING,
+        released_while_waiting(),
         Status::Illegal,
         "illegal 3 order\n",
     )?;
@@ -184,11 +244,17 @@ fn locks_and_semaphores_are_held_once(rt: HostRuntime) -> Result<(), Fail> {
     prints(
         &rt,
         alloc,
-        LOCKS,
+        locks(),
         Status::Done,
         "legal 5 held 1 waiting 0 alerted 0\n",
     )?;
-    prints(&rt, alloc, HELD_TWICE, Status::Illegal, "illegal 1 when\n")?;
+    prints(
+        &rt,
+        alloc,
+        held_twice(),
+        Status::Illegal,
+        "illegal 1 when\n",
+    )?;
     Ok(())
 }
 
@@ -198,21 +264,21 @@ fn the_clause_that_fails_first_is_named(rt: HostRuntime) -> Result<(), Fail> {
     prints(
         &rt,
         alloc,
-        "firefly-trace 1\nthreads 1 mutexes 1 conditions 0 semaphores 1\n0 t0 release m0\nend 1\n",
+        not_held(),
         Status::Illegal,
         "illegal 0 requires\n",
     )?;
     prints(
         &rt,
         alloc,
-        "firefly-trace 1\nthreads 1 mutexes 1 conditions 0 semaphores 1\n0 t0 test-alert yes\nend 1\n",
+        not_alerted(),
         Status::Illegal,
         "illegal 0 ensures\n",
     )?;
     prints(
         &rt,
         alloc,
-        "firefly-trace 1\nthreads 1 mutexes 1 conditions 0 semaphores 1\n0 t0 p s0\n1 t0 p s0\nend 2\n",
+        taken_twice(),
         Status::Illegal,
         "illegal 1 when\n",
     )?;
@@ -225,21 +291,21 @@ fn a_bad_line_is_named_and_nothing_is_printed(rt: HostRuntime) -> Result<(), Fai
     says(
         &rt,
         alloc,
-        "firefly-trace 1\nthreads 2 mutexes 1 conditions 1 semaphores 0\n0 t0 acquire m0\n1 t0 enqueue m0 c0\n2 t1 acq",
+        cut_in_a_line(),
         Status::BadText,
         "firefly: bad line 5\n",
     )?;
     says(
         &rt,
         alloc,
-        "firefly-trace 1\nthreads 2 mutexes 1 conditions 1 semaphores 0\n00 t0 acquire m0\n1 t0 enqueue m0 c0\n2 t1 acquire m0\n3 t1 signal c0 left\n4 t1 release m0\n5 t0 resume m0 c0\n6 t0 release m0\nend 7\n",
+        leading_zero(),
         Status::BadText,
         "firefly: bad line 3\n",
     )?;
     says(
         &rt,
         alloc,
-        "firefly-trace 1\nthreads 2 mutexes 1 conditions 1 semaphores 0\n0 t0 acquire m0\n1 t0 enqueue m0 c0\n2 t1 acquire m0\n3 t1 signal c0 left\n4 t1 release m0\n5 t0 resume m0 c0\n6 t0 release m0\n",
+        without_its_end(),
         Status::BadText,
         "firefly: bad line 10\n",
     )?;
@@ -252,14 +318,14 @@ fn the_greatest_layout_is_read(rt: HostRuntime) -> Result<(), Fail> {
     prints(
         &rt,
         alloc,
-        "firefly-trace 1\nthreads 64 mutexes 64 conditions 64 semaphores 64\nend 0\n",
+        greatest_layout(),
         Status::Done,
         "legal 0 held 0 waiting 0 alerted 0\n",
     )?;
     says(
         &rt,
         alloc,
-        "firefly-trace 1\nthreads 65 mutexes 64 conditions 64 semaphores 64\nend 0\n",
+        too_many_threads(),
         Status::BadText,
         "firefly: bad line 2\n",
     )?;
@@ -268,7 +334,7 @@ fn the_greatest_layout_is_read(rt: HostRuntime) -> Result<(), Fail> {
 
 #[test]
 fn a_budget_of_all_bytes_is_enough_and_one_less_is_not(rt: HostRuntime) -> Result<(), Fail> {
-    let bytes = NO_EVENT.as_bytes();
+    let bytes = no_event().as_bytes();
     assert_eq!(rt; bytes.len(), 68);
     let none = Summary {
         events: 0,
@@ -285,7 +351,7 @@ fn a_budget_of_all_bytes_is_enough_and_one_less_is_not(rt: HostRuntime) -> Resul
 
 #[test]
 fn a_failed_read_is_reported_and_nothing_is_printed(rt: HostRuntime) -> Result<(), Fail> {
-    let mut input = MemSource::new(SIGNALLED.as_bytes().to_vec(rt.alloc())?);
+    let mut input = MemSource::new(signalled().as_bytes().to_vec(rt.alloc())?);
     input.fail_after(20);
     let found = run_program(rt.alloc(), &["check"], &mut input, 200)?;
     assert_eq!(rt; found.status, Status::ReadFault);
@@ -299,7 +365,7 @@ fn a_failed_read_is_reported_and_nothing_is_printed(rt: HostRuntime) -> Result<(
 
 #[test]
 fn a_full_sink_holds_the_front_of_the_line(rt: HostRuntime) -> Result<(), Fail> {
-    let mut input = MemSource::new(NO_EVENT.as_bytes().to_vec(rt.alloc())?);
+    let mut input = MemSource::new(no_event().as_bytes().to_vec(rt.alloc())?);
     let found = run_program(rt.alloc(), &["check"], &mut input, 5)?;
     assert_eq!(rt; found.status, Status::SinkFault);
     assert_eq!(rt; found.out.as_slice(), b"legal".as_slice());
@@ -316,7 +382,7 @@ fn words_that_are_no_command_are_a_usage_error(rt: HostRuntime) -> Result<(), Fa
         "usage: firefly check | run | index DIR [options] | trace DIR [options] | sample SEED FILES\n";
     let lines: [&[&str]; 5] = [&[], &["check", "x"], &["Check"], &[""], &["--", "check"]];
     for words in lines {
-        let mut input = MemSource::new(NO_EVENT.as_bytes().to_vec(rt.alloc())?);
+        let mut input = MemSource::new(no_event().as_bytes().to_vec(rt.alloc())?);
         let found = run_program(rt.alloc(), words, &mut input, 200)?;
         assert_eq!(rt; found.status, Status::Usage);
         assert_eq!(rt; found.out.len(), 0);
