@@ -79,3 +79,10 @@ module _ {S : Type 0} (look : S → Look) (x y : S) where
   first-kept (None ∷ ts) d some is agree told weak = cc
   first-kept (Some z ∷ ts) d some is agree told weak = let e : x ≡ z = cc in
       (told ∙ ap (λ v. (look v).told) e, weak ∙ ap (λ v. (look v).weak) e, kept-rest look agree.0 ts agree.1.1)
+
+module _ {S : Type 0} (look : S → Look) (told : Option Told) (x : S) (is : (look x).told ≡ told) where
+  -- one more tree that tells the same
+  pub tells-more : (trees : List (Option S)) → AllTell told (looks_of look trees) → AllTell told (looks_of look (trees ++ Some x ∷ []))
+  tells-more [] h = (is, tt)
+  tells-more (None ∷ ts) h = absurd h
+  tells-more (Some y ∷ ts) h = (h.0, tells-more ts h.1)

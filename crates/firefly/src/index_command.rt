@@ -9,9 +9,7 @@ ghost use Rattle.index_print.specs.Text.{index_text};
 ghost use Rattle.firefly.specs.Check.{Prints};
 
 use crate::Status;
-use crate::message::{
-    OUT_OF_MEMORY, OUTPUT_FAULT, TOO_MANY, say, say_stopped, say_unreadable,
-};
+use crate::message::{OUT_OF_MEMORY, OUTPUT_FAULT, TOO_MANY, say, say_stopped, say_unreadable};
 use command_line::IndexOptions;
 use firefly_outside::{Sink, Tree};
 use index_print::print_index;

@@ -7,11 +7,11 @@
 mod check_command;
 mod index_command;
 mod message;
+mod outside;
 mod status;
-mod system_trees;
 mod top;
 mod verdict_line;
 
+pub use outside::system_trees;
 pub use status::{Status, number};
-pub use system_trees::system_trees;
 pub use top::firefly;

@@ -23,13 +23,6 @@ fn main(rt: HostRuntime) -> ExitCode {
     let mut input = ReaderSource::new(rt.stdin());
     let mut out = WriterSink::new(rt.stdout());
     let mut notes = WriterSink::new(rt.stderr());
-    let status = firefly(
-        alloc,
-        &words,
-        &mut trees,
-        &mut input,
-        &mut out,
-        &mut notes,
-    );
+    let status = firefly(alloc, &words, &mut trees, &mut input, &mut out, &mut notes);
     ExitCode::from(number(&status))
 }

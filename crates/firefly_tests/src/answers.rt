@@ -1,6 +1,6 @@
 //! What a call of the program answers.
 use firefly::{Status, firefly};
-use firefly_outside::{MemSink, MemSource};
+use firefly_outside::{MemSink, MemSource, MemTree};
 use std::alloc::{AllocError, Global};
 use std::process::Abort;
 use std::test::Fail;
@@ -22,6 +22,20 @@ pub fn words_of(alloc: Global, words: &[&str]) -> Result<Vec<String>, AllocError
     Ok(all)
 }
 
+/// Trees with nothing in them.
+fn no_trees(alloc: Global) -> Result<Vec<Option<MemTree>>, AllocError> {
+    trees_of(alloc, &MemTree::new(alloc))
+}
+
+/// As many copies of the tree as a call needs.
+pub fn trees_of(alloc: Global, tree: &MemTree) -> Result<Vec<Option<MemTree>>, AllocError> {
+    let mut trees = Vec::new(alloc);
+    for _ in 0..17 {
+        trees.push(Some(tree.fork(alloc)?))?;
+    }
+    Ok(trees)
+}
+
 /// Calls the program on this input, with so much room for its answer.
 pub fn run_program(
     alloc: Global,
@@ -32,7 +46,8 @@ pub fn run_program(
     let words = words_of(alloc, words)?;
     let mut out = MemSink::with_room(alloc, room)?;
     let mut notes = MemSink::with_room(alloc, 200)?;
-    let status = firefly(&words, input, &mut out, &mut notes);
+    let mut trees = no_trees(alloc)?;
+    let status = firefly(alloc, &words, &mut trees, input, &mut out, &mut notes);
     Ok(Answer {
         status,
         out: out.bytes().to_vec(alloc)?,

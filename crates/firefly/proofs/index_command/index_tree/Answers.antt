@@ -14,20 +14,22 @@ returns-in-Stopped-clause-answers g c =
     let n = w.numbers.0 in
     let allowed : c.unwrap_or.result ≡ n = search rules in
     let dir = c.args.options.now.dir.now in
-    let notes = change_of g.N.Sink.held g.N.Sink.faults c.args.notes.now c.say_stopped.new.notes in
-    (n, w.numbers.1,
+    let notes = change_of g.N.Sink.held g.N.Sink.faults c.args.notes.now c.say_stopped.new.notes in (
+      n,
+      w.numbers.1,
       subst (λ (k : ℕ). IfSome (g.S.Tree.tree c.args.tree.now) (λ t. AreMany t dir File k)) w.numbers.2 w.answers,
       none-rose-one _ _ w.count,
       (refl, refl),
-      subst (λ (k : ℕ). Notes notes (stopped_message k n)) w.numbers.2 (subst (λ (k : ℕ). Notes notes (stopped_message c.in-Stopped.found k)) allowed c.say_stopped.ensures))
+      subst (λ (k : ℕ). Notes notes (stopped_message k n)) w.numbers.2 (subst (λ (k : ℕ). Notes notes (stopped_message c.in-Stopped.found k)) allowed c.say_stopped.ensures),
+    )
 
 pub returns-in-ReadFault-clause-answers : goal.returns-in-ReadFault-clause-answers
 returns-in-ReadFault-clause-answers g c =
     let w = c.in-ReadFault.ensures in
     let look = look_of g.S.Tree.tree g.S.Tree.may_fail g.S.Tree.calls g.S.Tree.faults in
     let dir = c.args.options.now.dir.now in
-    let path = c.in-ReadFault.path in
-    (path,
+    let path = c.in-ReadFault.path in (
+      path,
       record {
         before = look c.args.tree.now;
         now = look c.walk.new.tree;
@@ -36,4 +38,5 @@ returns-in-ReadFault-clause-answers g c =
         told = among-failed (λ t. IsFaultUnder t dir (g.S.Tree.may_fail c.args.tree.now) path) (g.S.Tree.tree c.args.tree.now) _ _ path w.answers w.failed;
       },
       (refl, refl),
-      search rules)
+      search rules,
+    )

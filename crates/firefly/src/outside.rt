@@ -2,7 +2,7 @@
 ghost use Rattle.std.specs.Prelude.{◌≡◌, IfOk, length};
 ghost use Rattle.firefly.specs.Looks.{look_of, looks_of, Agree};
 
-use firefly_outside::DirTree;
+use firefly_outside::{DirTree, Tree};
 use std::alloc::{AllocError, Global};
 use std::rt::Files;
 
@@ -15,10 +15,10 @@ pub fn system_trees<R: Files + AllocGlobal + Clone + Drop + Send>(
     alloc: Global,
 ) -> Result<Vec<Option<DirTree<R>>>, AllocError>
     ensures many { IfOk result (λ v. length v.items ≡ 17) }
-    ensures agree { IfOk result (λ v. Agree (looks_of (look_of DirTree.tree DirTree.may_fail DirTree.calls DirTree.faults) v.items)) }
+    ensures agree { IfOk result (λ v. Agree (looks_of (look_of ⟦<DirTree<R> as Tree>⟧.tree ⟦<DirTree<R> as Tree>⟧.may_fail ⟦<DirTree<R> as Tree>⟧.calls ⟦<DirTree<R> as Tree>⟧.faults) v.items)) }
 {
     let mut trees = Vec::new(alloc);
-    for _ in 0..TREES {
+    for made in 0..TREES {
         trees.push(Some(DirTree::new(rt.clone()?)))?;
     }
     Ok(trees)
