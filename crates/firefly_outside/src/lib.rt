@@ -24,3 +24,5 @@ pub use tree::{Entry, FileBytes, Kind, Tree, TreeError};
 
 #[cfg(test)]
 mod tests;
+#[cfg(test)]
+mod tree_tests;

@@ -1,7 +1,7 @@
 // A tree in memory.
 ghost use Rattle.firefly_outside.specs.MemTrees.{told_by, IsWhole};
 
-use crate::place::{Place, Places, add_place, copy_of};
+use crate::place::{Place, Places, add_place, copy_of, may_add};
 use crate::tree::shown;
 use crate::{Entry, FileBytes, Kind, Text, Tree, TreeError};
 use std::alloc::{AllocError, Global};
@@ -20,7 +20,7 @@ pub struct MemTree {
 }
 
 impl MemTree {
-    ghost use Rattle.std.specs.Prelude.{◌≡◌, ◌⊎◌, ◌++◌, ◌∷◌, List, [], None, OnOk, OnErr, IfOk};
+    ghost use Rattle.std.specs.Prelude.{◌≡◌, ◌⊎◌, ◌++◌, ◌∷◌, List, [], None, OnOk, OnErr, IfOk, IsTrue};
     ghost use Rattle.firefly_outside.specs.Trees.{HasParent, IsBare, Adds, Directory, Bytes};
     ghost use Rattle.firefly_outside.specs.Seen.{tree_of, weak_of, calls_of, faults_of, no_calls, IsEqualBut};
 
@@ -69,6 +69,13 @@ impl MemTree {
             Kind::File,
             Place::File(bytes),
         )
+    }
+
+    /// Whether something may be added at this path: nothing is there, and its parent is a directory.
+    pub fn may_add(&self, path: &str) -> Result<bool, AllocError>
+        ensures { IfOk result (λ b. IsTrue b → (tree_of self.now path.now ≡ None) × HasParent (tree_of self.now) path.now) }
+    {
+        may_add(&self.places, self.alloc, path)
     }
 
     /// A copy of the tree, with no call made and no path that is to fail.

@@ -1,10 +1,11 @@
 // What a tree in memory has at a path.
-ghost use Rattle.std.specs.Prelude.{◌≡◌, List, OnOk, OnErr, IfOk, IfSome, Some, None, if◌then◌else◌, ◌⊎◌, ◌<◌};
+ghost use Rattle.std.specs.Prelude.{◌≡◌, List, OnOk, OnErr, IfOk, IfSome, Some, None, if◌then◌else◌, ◌⊎◌, ◌<◌, IsTrue, length};
 ghost use Rattle.std.specs.Option.{option_map};
 ghost use Rattle.std.specs.Cmp.Lexicographic.{pointwise};
 ghost use Rattle.std.specs.Bool.{nat_eq};
 ghost use Rattle.std.specs.HashMap.{spare};
-ghost use Rattle.firefly_outside.specs.Trees.{Path, Told, with_last, Names, Adds, IsBare, HasParent, IsLeaf};
+ghost use Rattle.firefly_outside.specs.Trees.{Path, Told, with_last, Names, Adds, IsBare, HasParent, IsLeaf, Directory};
+ghost use Rattle.firefly_outside.specs.declared.tree.Entry.{Entry};
 ghost use Rattle.firefly_outside.specs.MemTrees.{node_of, told_by, IsWhole};
 
 use crate::paths::split_last;
@@ -118,4 +119,32 @@ pub fn copy_of(places: &Places) -> Result<Places, AllocError>
 {
     let copy = places.clone()?;
     Ok(copy)
+}
+
+/// Whether a place may be added at this path: nothing is there, and its parent is a directory.
+pub fn may_add(places: &Places, alloc: Global, path: &str) -> Result<bool, AllocError>
+    ensures { IfOk result (λ b. IsTrue b → (told_by places.now path.now ≡ None) × HasParent (told_by places.now) path.now) }
+{
+    let key = Text::of(alloc, path)?;
+    if places.contains_key(&key) {
+        return Ok(false);
+    }
+    match split_last(path) {
+        Some((dir, name)) => has_child(places, alloc, dir, name),
+        None => Ok(false),
+    }
+}
+
+// Whether the directory is there and the name is one.
+fn has_child(places: &Places, alloc: Global, dir: &str, name: &str) -> Result<bool, AllocError>
+    ensures { IfOk result (λ b. IsTrue b → (0 < length name.now) × ((es : List Entry) × (told_by places.now dir.now ≡ Some (Directory es)))) }
+{
+    if name.is_empty() {
+        return Ok(false);
+    }
+    let dir = Text::of(alloc, dir)?;
+    match places.get(&dir) {
+        Some(Place::Dir(_)) => Ok(true),
+        _ => Ok(false),
+    }
 }

@@ -1,11 +1,11 @@
 -- The first line of what is left, seen in the window.
-use Rattle.std.proofs.Common.{◌≡◌, ℕ, zero, suc, ◌+◌, ◌<◌, ◌≤◌, List, [], ◌∷◌, ◌++◌, length, take, drop, refl, ap, sym, subst, ◌∙◌, append_assoc, append-nil, Option, None, Some, IfSome, arith, length-append, length-take-le}
+use Rattle.std.proofs.Common.{◌≡◌, ℕ, ◌+◌, ◌<◌, ◌≤◌, List, [], ◌∷◌, ◌++◌, length, take, drop, refl, ap, sym, subst, ◌∙◌, append_assoc, append-nil, Option, None, Some, IfSome, arith, length-append, length-take-le}
 use Rattle.std.specs.Io.KnownBytes.{Consumes, Keeps, IsAtEnd, prepend_known}
 use Rattle.std.proofs.lemmas.List.{take-append-drop, drop_at}
 use Rattle.firefly_script.specs.Faults.{Lacks}
 use Rattle.firefly_script.specs.Founds.{IsWhole}
 use Rattle.firefly_script.specs.Drafts.{FirstIsNone}
-use Rattle.firefly_script.proofs.Pieces.{cut_same, lacks_not, lacks_append}
+use Rattle.firefly_script.proofs.Pieces.{cut_same, lacks_not}
 
 pub kept_consumes : (r left' : Option (List ℕ)) (w : List ℕ) → Keeps r (prepend_known w left') → Consumes r left' w
 kept_consumes None left' w k = tt

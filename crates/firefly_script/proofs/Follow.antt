@@ -1,8 +1,8 @@
 -- One more line behind others.
-use Rattle.std.proofs.Common.{◌≡◌, ℕ, ◌+◌, List, [], ◌∷◌, ◌++◌, refl, ap, sym, ◌∙◌}
+use Rattle.std.proofs.Common.{◌≡◌, List, [], ◌∷◌, ◌++◌, refl}
 use Rattle.larch_actions.specs.declared.event.Layout.{Layout}
 use Rattle.firefly_script.specs.declared.line.Line.{Line}
-use Rattle.firefly_script.specs.Operations.{Holding, holding_after, held_after, MayCome, MayFollow}
+use Rattle.firefly_script.specs.Operations.{Holding, holding_after, held_after, MayFollow}
 
 pub held_append : (h : Holding) (xs ys : List Line) → held_after h (xs ++ ys) ≡ held_after (held_after h xs) ys
 held_append h [] ys = refl

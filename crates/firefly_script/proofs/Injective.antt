@@ -1,5 +1,5 @@
 -- Different lines have different texts.
-use Rattle.std.proofs.Common.{◌≡◌, ℕ, ◌+◌, ◌^◌, ◌<◌, ◌≤◌, List, [], ◌∷◌, ◌++◌, refl, ap, sym, subst, ◌∙◌, append-nil, cond, arith}
+use Rattle.std.proofs.Common.{◌≡◌, ℕ, ◌^◌, ◌<◌, List, [], ◌∷◌, ◌++◌, refl, ap, sym, ◌∙◌, append-nil, cond, arith}
 use Rattle.std.proofs.lemmas.Fmt.{decimal_injective}
 use Rattle.std.specs.Prelude.{codes, decimal}
 use Rattle.std.specs.Str.{bytes_eq}
@@ -12,10 +12,10 @@ use Rattle.firefly_script.specs.declared.parse.Word.{Word}
 use Rattle.firefly_script.specs.declared.parse.Word.TheVariants as word
 use Rattle.firefly_script.specs.Faults.{Lacks}
 use Rattle.firefly_script.specs.Operations.{IsNamed}
-use Rattle.firefly_script.specs.Parsing.{IsField, IsLineOf, word_of, word_text, arguments_text}
+use Rattle.firefly_script.specs.Parsing.{IsLineOf, word_of, word_text, arguments_text}
 use Rattle.firefly_script.specs.Text.{layout_text, operation_text, line_text}
 use Rattle.firefly_script.proofs.Fields.{behind_threads, behind_mutexes, behind_conditions, mutexes_tail, conditions_tail, semaphores_tail, number_same}
-use Rattle.firefly_script.proofs.Pieces.{cut_same, lacks_decimal}
+use Rattle.firefly_script.proofs.Pieces.{cut_same}
 use Rattle.std.proofs.lemmas.List.{append_cancel_left}
 
 pub text_is : (o : Operation) → operation_text o ≡ word_text (word_of o) ++ 32 ∷ arguments_text o

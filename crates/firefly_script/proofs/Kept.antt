@@ -1,6 +1,6 @@
 -- The bytes that a window and a source have left.
-use Rattle.std.proofs.Common.{◌≡◌, ℕ, ◌+◌, ◌<◌, ◌≤◌, List, [], ◌∷◌, ◌++◌, length, refl, ap, sym, subst, ◌∙◌, append_assoc, append-nil, Option, None, Some, Result, Ok, Err, arith, length-append}
-use Rattle.std.specs.Io.KnownBytes.{Consumes, Keeps, IsAtEnd, prepend_known}
+use Rattle.std.proofs.Common.{◌≡◌, ℕ, List, [], ◌∷◌, ◌++◌, length, refl, ap, sym, ◌∙◌, append_assoc, append-nil, Option, None, Some, arith}
+use Rattle.std.specs.Io.KnownBytes.{Keeps, prepend_known}
 use Rattle.firefly_script.specs.Window.{Takes}
 use Rattle.firefly_script.specs.declared.next.Found.{Found}
 use Rattle.firefly_script.specs.declared.next.Found.TheVariants.{Whole, Long, Open, End}

@@ -1,13 +1,13 @@
 -- A line that may stand in a script is short.
-use Rattle.std.proofs.Common.{◌≡◌, ℕ, ◌+◌, ◌^◌, ◌<◌, ◌≤◌, List, [], ◌∷◌, ◌++◌, length, length-append, refl, ap, sym, ◌∙◌, arith}
+use Rattle.std.proofs.Common.{ℕ, ◌^◌, ◌<◌, ◌≤◌, List, length, length-append, ap, arith}
 use Rattle.std.proofs.lemmas.Fmt.{length-decimal-le}
-use Rattle.std.specs.Prelude.{codes, decimal}
+use Rattle.std.specs.Prelude.{decimal}
 use Rattle.larch_actions.specs.declared.event.Layout.{Layout}
 use Rattle.larch_actions.specs.Layout.{IsLawful}
 use Rattle.firefly_script.specs.declared.line.Line.{Line}
 use Rattle.firefly_script.specs.declared.line.Operation.{Operation}
 use Rattle.firefly_script.specs.declared.line.Operation.TheVariants.{Acquire, Release, P, V, Add}
-use Rattle.firefly_script.specs.Operations.{IsNamed, MayCome, none_held, held_after}
+use Rattle.firefly_script.specs.Operations.{IsNamed}
 use Rattle.firefly_script.specs.Drafts.{NoneIs, NoLayoutIs}
 use Rattle.firefly_script.specs.Text.{layout_text, operation_text, line_text}
 

@@ -1,14 +1,14 @@
 -- The table of who holds what.
-use Rattle.std.proofs.Common.{◌≡◌, ℕ, zero, suc, ◌+◌, ◌*◌, ◌/◌, ◌%◌, ◌<◌, ◌≤◌, ◌⊎◌, inl, inr, List, [], ◌∷◌, ◌++◌, length, get_or, replicate, refl, ap, sym, subst, ◌∙◌, Bool, true, false, cond, arith, rules, tests}
+use Rattle.std.proofs.Common.{◌≡◌, ℕ, zero, suc, ◌+◌, ◌*◌, ◌/◌, ◌%◌, ◌<◌, ◌⊎◌, inl, inr, List, [], ◌∷◌, length, get_or, replicate, refl, ap, sym, ◌∙◌, Bool, true, false, arith}
 use Rattle.std.proofs.lemmas.Bool.Decides.{eqb_tells}
 use Rattle.std.proofs.lemmas.List.{length-replicate}
 use Rattle.std.specs.List.{list_all}
-use Rattle.std.specs.Prelude.{eqb, not}
+use Rattle.std.specs.Prelude.{not}
 use Rattle.larch_actions.specs.declared.event.Layout.{Layout}
 use Rattle.firefly_script.specs.declared.line.Line.{Line}
 use Rattle.firefly_script.specs.declared.line.Operation.{Operation}
 use Rattle.firefly_script.specs.declared.line.Operation.TheVariants.{Acquire, Release, P, V, Add}
-use Rattle.firefly_script.specs.Operations.{Holding, none_held, held_if, holding_after, held_after, MayCome, MayFollow, IsNamed, AllFree}
+use Rattle.firefly_script.specs.Operations.{Holding, none_held, held_if, holding_after, held_after, MayFollow, IsNamed, AllFree}
 use Rattle.firefly_script.specs.Held.{Shows}
 
 -- what is held is within the layout

@@ -1,8 +1,7 @@
 -- What is found behind the first lines is the answer for the whole input.
-use Rattle.std.proofs.Common.{◌≡◌, ℕ, zero, suc, ◌+◌, ◌-◌, ◌^◌, ◌<◌, ◌≤◌, ◌⊎◌, inl, inr, List, [], ◌∷◌, ◌++◌, length, length-append, refl, ap, sym, subst, ◌∙◌, append_assoc, append-nil, Option, None, Some, IfSome, arith}
+use Rattle.std.proofs.Common.{◌≡◌, ℕ, ◌+◌, ◌<◌, ◌≤◌, ◌⊎◌, inl, inr, List, [], ◌∷◌, ◌++◌, length, length-append, refl, ap, sym, subst, ◌∙◌, append_assoc, append-nil, Option, None, Some, IfSome, arith}
 use Rattle.std.proofs.lemmas.Bool.Decides.{eqb_tells}
-use Rattle.std.proofs.lemmas.List.{append_cancel_left}
-use Rattle.std.specs.Io.KnownBytes.{Consumes, Keeps, IsAtEnd, prepend_known}
+use Rattle.std.specs.Io.KnownBytes.{Consumes}
 use Rattle.larch_actions.specs.declared.event.Layout.{Layout}
 use Rattle.larch_actions.specs.Layout.{IsLawful}
 use Rattle.firefly_outside.specs.Causes.{Rose}
@@ -15,7 +14,7 @@ use Rattle.firefly_script.specs.Operations.{none_held, held_after, MayFollow, Al
 use Rattle.firefly_script.specs.Text.{layout_text, line_text, lines_text, script_text, IsScriptText, IsScript, ReadsAs}
 use Rattle.firefly_script.proofs.Firsts.{consumes_trans}
 use Rattle.firefly_script.proofs.Follow.{follow_split, held_append}
-use Rattle.firefly_script.proofs.Fronts.{script_behind, layout_flat, line_flat, newlines_append, newlines_flat, newlines_script, script_end}
+use Rattle.firefly_script.proofs.Fronts.{script_behind, layout_flat, line_flat, newlines_append, newlines_script, script_end}
 use Rattle.firefly_script.proofs.Pieces.{cut_same, lacks_not}
 use Rattle.firefly_script.proofs.Releases.{script_begins, nothing_begins}
 

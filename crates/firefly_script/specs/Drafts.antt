@@ -1,6 +1,6 @@
 -- What was read of a script so far.
-use Rattle.std.specs.Prelude.{◌≡◌, ℕ, ◌+◌, ◌*◌, ◌<◌, ◌≤◌, Bool, true, false, List, [], ◌∷◌, ◌++◌, length, slice_index_or, take, IfSome, IfNone, Result, Ok, Err}
-use Rattle.std.specs.Io.KnownBytes.{Consumes, IsAtEnd, prepend_known}
+use Rattle.std.specs.Prelude.{◌≡◌, ℕ, ◌+◌, ◌<◌, ◌≤◌, List, [], ◌∷◌, ◌++◌, length, IfSome}
+use Rattle.std.specs.Io.KnownBytes.{Consumes, IsAtEnd}
 use Rattle.std.specs.declared.option.Option.{Option}
 use Rattle.larch_actions.specs.declared.event.Layout.{Layout}
 use Rattle.larch_actions.specs.Layout.{IsLawful}
@@ -9,7 +9,7 @@ use Rattle.firefly_script.specs.declared.line.Line.{Line}
 use Rattle.firefly_script.specs.declared.draft.Draft.{Draft}
 use Rattle.firefly_script.specs.declared.script.ScriptFault.{ScriptFault}
 use Rattle.firefly_script.specs.declared.script.ScriptFault.TheVariants.{Memory, BadLine, TooLong, Read}
-use Rattle.firefly_script.specs.Operations.{Holding, none_held, held_after, MayCome, MayFollow, AllFree}
+use Rattle.firefly_script.specs.Operations.{none_held, held_after, MayCome, MayFollow, AllFree}
 use Rattle.firefly_script.specs.Faults.{Lacks}
 use Rattle.firefly_script.specs.Held.{Shows}
 use Rattle.firefly_script.specs.Text.{layout_text, line_text, lines_text}

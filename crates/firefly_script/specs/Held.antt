@@ -1,5 +1,5 @@
 -- The table of who holds what.
-use Rattle.std.specs.Prelude.{◌≡◌, ℕ, ◌+◌, ◌*◌, ◌<◌, Bool, true, false, List, slice_index_or, length}
+use Rattle.std.specs.Prelude.{◌≡◌, ℕ, ◌+◌, ◌*◌, ◌<◌, Bool, false, List, slice_index_or, length}
 use Rattle.firefly_script.specs.Operations.{Holding}
 
 -- the entry 64 t + m says whether the thread t holds the mutex m

@@ -4,7 +4,7 @@ use Rattle.std.specs.Prelude.{Option, Some, None, IfSome, Ok, Err}
 use Rattle.firefly_outside.specs.Trees.{Path, Told, Calls, child}
 use Rattle.firefly_outside.specs.Under.{AreMany}
 use Rattle.firefly_outside.specs.declared.tree.Kind.TheVariants.{Dir, File as a_file}
-use Rattle.word_index.specs.Index.{File, Index}
+use Rattle.word_index.specs.Index.{File, Index, IsIndexOf}
 use Rattle.walker.specs.Walk.{Walk}
 use Rattle.walker.specs.TreeIndex.{IsTreeIndex, IsFileAt, IsPartOf}
 use Rattle.walker.specs.Closing.{most_dirs, Answers, CallsOnce, IsFaultUnder, failed_by}
@@ -12,7 +12,7 @@ use Rattle.walker.specs.Progress.{IsWithinLimits, ListsMore, ListsRest, IsListed
 use Rattle.walker.specs.Pile.{ReadsRest, ReadsSome}
 use Rattle.walker.specs.declared.answer.WalkAnswer.{WalkAnswer}
 use Rattle.walker.specs.declared.answer.WalkAnswer.TheVariants.{Done, Stopped, ReadFault, TooMany, Memory}
-use Rattle.walker.proofs.ListLemmas.{Contains-unmap, Distinct-map}
+use Rattle.walker.proofs.ListLemmas.{Contains-nil, Contains-unmap, Distinct-map}
 use Rattle.walker.proofs.Children.{child_name}
 use Rattle.walker.proofs.Reached.{few_dirs, few_files}
 
@@ -79,3 +79,11 @@ end_once (Some t) first w covered stop weak vague before mid now Memory e l r = 
 
 pub moved_rest : (o q : Option Told) (w : Walk) (covered weak vague : List Path) (mid now : Calls) (answer : WalkAnswer) → o ≡ q → weak ≡ vague → IfSome o (ReadsRest w covered weak mid now answer) → IfSome q (ReadsRest w covered vague mid now answer)
 moved_rest o q w covered weak vague mid now answer e f h = subst (λ (p : Option Told). IfSome p (ReadsRest w covered vague mid now answer)) e (subst (λ (v : List Path). IfSome o (ReadsRest w covered v mid now answer)) f h)
+
+-- a piece that covers nothing is a part of every walk
+pub IsPartOf-none : (o : Option Told) (w : Walk) (piece : Index) → IsIndexOf [] piece → IsPartOf o w piece
+IsPartOf-none o w piece index = record { files = []; index = index; found = λ f h. absurd (Contains-nil f h); told = at o }
+  where
+    at : (q : Option Told) → IfSome q (λ t. (f : File) → Contains [] f → IsFileAt t w.root f)
+    at None = tt
+    at (Some t) = λ f h. absurd (Contains-nil f h)

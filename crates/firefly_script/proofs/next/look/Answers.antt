@@ -1,4 +1,4 @@
-use Rattle.std.proofs.Common.{◌≡◌, ℕ, ◌+◌, ◌<◌, ◌≤◌, ◌∷◌, ◌++◌, [], List, length, take, drop, get_or, min, true, refl, ap, sym, subst, ◌∙◌, arith, length-take-le, suc}
+use Rattle.std.proofs.Common.{◌≡◌, ◌<◌, ◌≤◌, length, take, drop, get_or, true, ap, sym, subst, ◌∙◌, arith, length-take-le, suc}
 use Rattle.std.proofs.lemmas.List.{take_all, get_or-take}
 use Rattle.std.specs.Prelude.{◌==◌}
 use Rattle.firefly_script.specs.Faults.{Lacks}

@@ -1,9 +1,4 @@
-use Rattle.std.proofs.Common.{◌≡◌, ◌∷◌, ◌++◌, List, ℕ, ap, subst, sym, ◌∙◌, arith}
-use Rattle.firefly_script.specs.declared.line.Operation.{Operation}
 use Rattle.firefly_script.specs.declared.line.Operation.TheVariants.{Acquire, Release, P, V, Add}
-use Rattle.firefly_script.specs.declared.parse.Word.TheVariants as word
-use Rattle.firefly_script.specs.Parsing.{word_of, arguments_text}
-use Rattle.firefly_script.specs.Operations.{IsNamed}
 use Rattle.firefly_script.proofs.parse.arguments.Goals as goal
 
 pub returns-in_default : goal.returns-in_default

@@ -1,4 +1,4 @@
-use Rattle.std.proofs.Common.{◌≡◌, ◌+◌, ◌-◌, ◌∷◌, ◌++◌, length, take, drop, ap, ◌∙◌, subst, sym, add-one, arith, length-drop}
+use Rattle.std.proofs.Common.{◌≡◌, ◌+◌, ◌-◌, length, take, drop, subst, add-one, arith, length-drop}
 use Rattle.std.proofs.lemmas.List.{take_all}
 use Rattle.firefly_script.specs.Faults.{Lacks}
 use Rattle.firefly_script.proofs.Pieces.{lacks_take, split_at}

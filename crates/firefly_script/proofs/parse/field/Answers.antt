@@ -1,11 +1,11 @@
-use Rattle.std.proofs.Common.{◌≡◌, ◌∷◌, ◌++◌, List, ℕ, ap, subst, sym, ◌∙◌, arith}
+use Rattle.std.proofs.Common.{◌∷◌, ◌++◌, ap, subst, sym, ◌∙◌, arith}
 use Rattle.std.proofs.lemmas.Bool.Decides.{Decides-eqb}
 use Rattle.std.proofs.lemmas.List.{append_cancel_left}
 use Rattle.std.proofs.lemmas.Slice.Eq.{strip_prefix_is}
 use Rattle.std.specs.Prelude.{decimal}
 use Rattle.firefly_script.specs.Faults.{Lacks}
 use Rattle.firefly_script.proofs.Pieces.{cut_same, lacks_not, lacks_decimal}
-use Rattle.firefly_script.proofs.Fields.{at_none, at_some, number_same}
+use Rattle.firefly_script.proofs.Fields.{at_none, at_some}
 use Rattle.firefly_script.proofs.parse.field.Goals as goal
 
 pub returns-in_default : goal.returns-in_default

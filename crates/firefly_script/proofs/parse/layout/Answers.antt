@@ -1,10 +1,10 @@
-use Rattle.std.proofs.Common.{◌≡◌, ◌∷◌, ◌++◌, List, ℕ, ◌^◌, ap, subst, sym, ◌∙◌, arith}
+use Rattle.std.proofs.Common.{sym, ◌∙◌, arith}
 use Rattle.std.proofs.lemmas.Bool.Decides.{Decides-eqb}
 use Rattle.std.proofs.lemmas.Fmt.{decimal_injective}
 use Rattle.std.proofs.lemmas.List.{append_cancel_left}
 use Rattle.std.proofs.lemmas.Slice.Eq.{strip_prefix_is}
 use Rattle.std.specs.Prelude.{codes, decimal}
-use Rattle.firefly_script.proofs.Fields.{at_none, at_some, layout_of_fields, behind_threads, behind_mutexes, behind_conditions, mutexes_tail, conditions_tail, semaphores_tail}
+use Rattle.firefly_script.proofs.Fields.{at_none, at_some, behind_threads, behind_mutexes, behind_conditions, conditions_tail, semaphores_tail}
 use Rattle.firefly_script.proofs.parse.layout.Goals as goal
 
 pub returns-in_default-field : goal.returns-in_default-field

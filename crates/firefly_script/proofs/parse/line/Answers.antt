@@ -1,4 +1,4 @@
-use Rattle.std.proofs.Common.{◌≡◌, ◌∷◌, ◌++◌, List, ℕ, ap, subst, sym, ◌∙◌, arith}
+use Rattle.std.proofs.Common.{◌∷◌, subst, sym, ◌∙◌, arith}
 use Rattle.std.specs.Prelude.{decimal}
 use Rattle.firefly_script.specs.Faults.{Lacks}
 use Rattle.firefly_script.specs.Text.{operation_text}

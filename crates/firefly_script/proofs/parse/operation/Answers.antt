@@ -1,12 +1,5 @@
-use Rattle.std.proofs.Common.{◌≡◌, ◌∷◌, ◌++◌, List, ℕ, refl, ap, subst, sym, ◌∙◌, arith}
-use Rattle.std.specs.Prelude.{decimal}
-use Rattle.firefly_script.specs.declared.line.Operation.{Operation}
-use Rattle.firefly_script.specs.declared.line.Operation.TheVariants.{Acquire, Release, P, V, Add}
-use Rattle.firefly_script.specs.declared.parse.Word.{Word}
-use Rattle.firefly_script.specs.declared.parse.Word.TheVariants as word
-use Rattle.firefly_script.specs.Faults.{Lacks}
+use Rattle.std.proofs.Common.{sym, ◌∙◌}
 use Rattle.firefly_script.specs.Parsing.{word_of, word_text, arguments_text}
-use Rattle.firefly_script.specs.Text.{operation_text}
 use Rattle.firefly_script.proofs.Injective.{text_is, word_lacks}
 use Rattle.firefly_script.proofs.Pieces.{cut_same}
 use Rattle.firefly_script.proofs.parse.operation.Goals as goal

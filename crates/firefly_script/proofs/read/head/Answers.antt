@@ -1,4 +1,4 @@
-use Rattle.std.proofs.Common.{◌≡◌, ◌∷◌, ◌++◌, [], List, take, refl, ap, sym, subst, ◌∙◌}
+use Rattle.std.proofs.Common.{take, refl, ap, sym, ◌∙◌}
 use Rattle.firefly_script.specs.Drafts.{NoLayoutIs}
 use Rattle.firefly_script.specs.Text.{layout_text}
 use Rattle.firefly_script.proofs.Firsts.{whole_none, long_none, open_none, line_consumed}

@@ -1,4 +1,4 @@
-use Rattle.std.proofs.Common.{◌≡◌, ◌+◌, ◌<◌, ◌≤◌, ◌∷◌, ◌++◌, [], List, Ok, true, length, length-append, refl, ap, sym, subst, ◌∙◌, arith}
+use Rattle.std.proofs.Common.{◌∷◌, ◌++◌, [], Ok, length, length-append, ap, sym, subst, ◌∙◌, arith}
 use Rattle.std.specs.Io.KnownBytes.{Consumes, prepend_known}
 use Rattle.firefly_script.specs.Text.{line_text, lines_text}
 use Rattle.firefly_script.proofs.Firsts.{consumes_trans}

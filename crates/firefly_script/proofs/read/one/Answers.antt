@@ -1,4 +1,4 @@
-use Rattle.std.proofs.Common.{◌≡◌, ◌+◌, ◌<◌, ◌∷◌, ◌++◌, [], List, length, take, refl, ap, sym, subst, ◌∙◌, arith}
+use Rattle.std.proofs.Common.{◌+◌, arith}
 use Rattle.firefly_script.specs.Text.{line_text}
 use Rattle.firefly_script.proofs.Firsts.{line_consumed}
 use Rattle.firefly_script.proofs.LineFaults.{whole_bad, long_bad, open_bad}

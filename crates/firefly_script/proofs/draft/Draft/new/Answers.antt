@@ -1,4 +1,4 @@
-use Rattle.std.proofs.Common.{◌≡◌, [], List, sym, subst, replicate, false}
+use Rattle.std.proofs.Common.{List, sym, subst, replicate, false}
 use Rattle.firefly_script.specs.declared.line.Line.{Line}
 use Rattle.firefly_script.specs.Held.{Shows}
 use Rattle.firefly_script.specs.Operations.{MayFollow, none_held, held_after}

@@ -1,7 +1,6 @@
-use Rattle.std.proofs.Common.{◌≡◌, ℕ, ◌∷◌, ◌++◌, [], List, refl, ap, sym, subst, ◌∙◌, true, false, rules, arith}
+use Rattle.std.proofs.Common.{◌∷◌, [], refl, sym, subst, ◌∙◌}
 use Rattle.firefly_script.specs.declared.line.Line.{Line}
-use Rattle.firefly_script.specs.Operations.{Holding, held_after, none_held, MayFollow, MayDo, MayCome}
-use Rattle.firefly_script.specs.Held.{Shows}
+use Rattle.firefly_script.specs.Operations.{held_after, none_held, MayDo, MayCome}
 use Rattle.firefly_script.proofs.Follow.{held_append, follow_append}
 use Rattle.firefly_script.proofs.Injective.{line_same}
 use Rattle.firefly_script.proofs.draft.Draft.take.Goals as goal

@@ -1,4 +1,4 @@
-use Rattle.std.proofs.Common.{arith, sym, ap, ◌∙◌, ◌-◌, drop, length}
+use Rattle.std.proofs.Common.{arith, ap, ◌∙◌, ◌-◌, length}
 use Rattle.firefly_script.proofs.WindowParts.{part-grow, length-part}
 use Rattle.firefly_script.proofs.window.Window.refill.Goals as goal
 

@@ -1,4 +1,4 @@
-use Rattle.std.proofs.Common.{arith, sym, ap, ◌∙◌, drop, length}
+use Rattle.std.proofs.Common.{arith, ap, ◌∙◌, drop, length}
 use Rattle.firefly_script.proofs.WindowParts.{part-skip, length-part}
 use Rattle.firefly_script.proofs.window.Window.skip.Goals as goal
 
