@@ -9,6 +9,10 @@ mod every_byte;
 #[cfg(test)]
 mod facts;
 #[cfg(test)]
+mod index_texts;
+#[cfg(test)]
 mod plain;
+#[cfg(test)]
+mod trees;
 #[cfg(test)]
 mod verdict_lines;
