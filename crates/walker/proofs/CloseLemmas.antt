@@ -1,5 +1,5 @@
 -- What the closing walk answers, from what its two parts tell.
-use Rattle.std.proofs.Common.{◌≡◌, ◌∙◌, ℕ, ◌+◌, List, ◌++◌, map, sym, ap, subst, Contains}
+use Rattle.std.proofs.Common.{◌≡◌, ◌∙◌, ℕ, ◌+◌, List, [], ◌++◌, map, sym, ap, subst, Contains}
 use Rattle.std.specs.Prelude.{Option, Some, None, IfSome, Ok, Err}
 use Rattle.firefly_outside.specs.Trees.{Path, Told, Calls, child}
 use Rattle.firefly_outside.specs.Under.{AreMany}
