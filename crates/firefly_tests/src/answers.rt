@@ -1,4 +1,5 @@
 //! What a call of the program answers.
+use crate::trees::copies_of;
 use firefly::{Status, firefly};
 use firefly_outside::{MemSink, MemSource, MemTree};
 use std::alloc::{AllocError, Global};
@@ -22,20 +23,6 @@ pub fn words_of(alloc: Global, words: &[&str]) -> Result<Vec<String>, AllocError
     Ok(all)
 }
 
-/// Trees with nothing in them.
-fn no_trees(alloc: Global) -> Result<Vec<Option<MemTree>>, AllocError> {
-    trees_of(alloc, &MemTree::new(alloc))
-}
-
-/// As many copies of the tree as a call needs.
-pub fn trees_of(alloc: Global, tree: &MemTree) -> Result<Vec<Option<MemTree>>, AllocError> {
-    let mut trees = Vec::new(alloc);
-    for _ in 0..17 {
-        trees.push(Some(tree.fork(alloc)?))?;
-    }
-    Ok(trees)
-}
-
 /// Calls the program on this input, with so much room for its answer.
 pub fn run_program(
     alloc: Global,
@@ -43,10 +30,21 @@ pub fn run_program(
     input: &mut MemSource,
     room: usize,
 ) -> Result<Answer, AllocError> {
+    run_on(alloc, words, &MemTree::new(alloc), input, room)
+}
+
+/// Calls the program on copies of this tree.
+pub fn run_on(
+    alloc: Global,
+    words: &[&str],
+    tree: &MemTree,
+    input: &mut MemSource,
+    room: usize,
+) -> Result<Answer, AllocError> {
     let words = words_of(alloc, words)?;
+    let mut trees = copies_of(alloc, tree)?;
     let mut out = MemSink::with_room(alloc, room)?;
     let mut notes = MemSink::with_room(alloc, 200)?;
-    let mut trees = no_trees(alloc)?;
     let status = firefly(alloc, &words, &mut trees, input, &mut out, &mut notes);
     Ok(Answer {
         status,

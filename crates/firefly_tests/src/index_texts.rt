@@ -106,7 +106,7 @@ fn one_file_too_many_stops_the_index(rt: HostRuntime) -> Result<(), Fail> {
     assert_eq!(rt; found.out.len(), 0);
     assert_eq!(rt;
         found.notes.as_slice(),
-        b"firefly: stopped, 5 files found, 4 allowed\n"
+        "firefly: stopped, 5 files found, 4 allowed\n".as_bytes()
     );
     Ok(())
 }
@@ -121,7 +121,7 @@ fn a_missing_directory_is_named(rt: HostRuntime) -> Result<(), Fail> {
     assert_eq!(rt; found.out.len(), 0);
     assert_eq!(rt;
         found.notes.as_slice(),
-        b"firefly: proj could not be read\n"
+        "firefly: proj could not be read\n".as_bytes()
     );
     Ok(())
 }
@@ -132,10 +132,10 @@ fn a_full_sink_holds_the_front_of_the_index(rt: HostRuntime) -> Result<(), Fail>
     let mut input = MemSource::new(Vec::new(rt.alloc()));
     let found = run_on(rt.alloc(), &["index", "proj"], &tree, &mut input, 10)?;
     assert_eq!(rt; found.status, Status::SinkFault);
-    assert_eq!(rt; found.out.as_slice(), b"1 1\n  1 2 ");
+    assert_eq!(rt; found.out.as_slice(), "1 1\n  1 2 ".as_bytes());
     assert_eq!(rt;
         found.notes.as_slice(),
-        b"firefly: output could not be written\n"
+        "firefly: output could not be written\n".as_bytes()
     );
     Ok(())
 }
