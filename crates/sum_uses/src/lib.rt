@@ -1,0 +1,8 @@
+//! Sums that threads add up under mutexes.
+#![tactic(auto)]
+
+/// An addition under a mutex.
+pub struct Added {
+    pub mutex: u64,
+    pub amount: u64,
+}
