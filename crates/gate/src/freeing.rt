@@ -26,12 +26,29 @@ pub fn free<U: Uses, C: Change<U>, R: Wait>(rt: &R, p: &Package<U>, me: &mut Thr
     ensures freed { IsFreed C.after at me.old me.new }
     ensures stored { HasStored p.now.traced me.old → HasStored p.now.traced me.new }
 {
-    begin_event(rt, p, me);
-    clear_gate::<U, C>(p, me, at);
-    end_event(p, me, Some(e));
+    clear::<U, C, R>(rt, p, me, at, e);
     if read_length(p, me, at) != 0 {
         wake_one(rt, p, me, at);
     }
+}
+
+/// Makes the event by clearing the bit.
+#[inline]
+fn clear<U: Uses, C: Change<U>, R: Wait>(rt: &R, p: &Package<U>, me: &mut Thread<U>, at: Object, e: Event)
+    requires of { me.old.table_id ≡ p.now.table_id }
+    requires named { HasObject p.now.layout at }
+    requires outside { IsOutside me.old }
+    requires no_wait { me.old.wait ≡ None }
+    requires event { e ≡ clears at me.old.number }
+    requires may { MayFree U.allows C.after at me.old }
+    ensures event { Makes e me.old me.new }
+    ensures rest { me.new ≡ record me.old { seen = me.new.seen; mine = me.new.mine; places = me.new.places; held = me.new.held; share = me.new.share; cleared = object_of at ∷ me.old.cleared; values = me.new.values; entries = me.new.entries; lost = me.new.lost } }
+    ensures freed { IsFreed C.after at me.old me.new }
+    ensures stored { HasStored p.now.traced me.old → HasStored p.now.traced me.new }
+{
+    begin_event(rt, p, me);
+    clear_gate::<U, C>(p, me, at);
+    end_event(p, me, Some(e));
 }
 
 #[inline]
@@ -58,7 +75,6 @@ fn clear_gate<U: Uses, C: Change<U>>(p: &Package<U>, me: &mut Thread<U>, at: Obj
 /// Takes one thread out of the queue and makes it ready.
 #[cold]
 #[inline(never)]
-#[tactic(auto, using(crate::proofs::Without::mem_own, crate::proofs::Without::without_own, crate::proofs::Without::first_small))]
 fn wake_one<U: Uses, R: Wait>(rt: &R, p: &Package<U>, me: &mut Thread<U>, at: Object)
     requires of { me.old.table_id ≡ p.now.table_id }
     requires named { HasObject p.now.layout at }

@@ -18,7 +18,6 @@ const LOOKS: u32 = 16;
 
 /// Makes the event by taking the bit, after any number of sleeps.
 #[inline]
-#[tactic(auto, using(crate::proofs::Without::without_twice))]
 pub fn take<U: Uses, R: Wait>(rt: &R, p: &Package<U>, me: &mut Thread<U>, at: Object, e: Event)
     requires of { me.old.table_id ≡ p.now.table_id }
     requires named { HasObject p.now.layout at }
@@ -86,7 +85,6 @@ fn try_gate<U: Uses>(p: &Package<U>, me: &mut Thread<U>, at: Object, e: Event) -
 /// The way through the Nub, after a failed try.
 #[cold]
 #[inline(never)]
-#[tactic(auto, using(crate::proofs::Without::without_own, crate::proofs::Without::without_twice))]
 fn take_slowly<U: Uses, R: Wait>(rt: &R, p: &Package<U>, me: &mut Thread<U>, at: Object, e: Event)
     requires of { me.old.table_id ≡ p.now.table_id }
     requires named { HasObject p.now.layout at }
@@ -123,14 +121,14 @@ fn look_briefly<U: Uses>(p: &Package<U>, at: Object)
 }
 
 /// Queues the thread, tests the bit again, and sleeps if it is still set.
-#[tactic(auto, using(crate::proofs::Without::mem_last))]
 fn stand_in_line<U: Uses, R: Wait>(rt: &R, p: &Package<U>, me: &mut Thread<U>, at: Object)
     requires of { me.old.table_id ≡ p.now.table_id }
     requires named { HasObject p.now.layout at }
     requires outside { IsOutside me.old }
     requires looked { me.old.cleared ≡ [] }
     requires tried { mem (object_of at) me.old.failed ≡ true }
-    ensures { me.new ≡ record me.old { count = me.new.count; failed = without (object_of at) me.old.failed; turns = object_of at ∷ me.old.turns } }
+    ensures rest { me.new ≡ record me.old { count = me.new.count; failed = without (object_of at) me.old.failed; turns = me.new.turns } }
+    ensures turns { without (object_of at) me.new.turns ≡ without (object_of at) me.old.turns }
 {
     enter(rt, p, me, at, Why::TryFailed);
     push(p, me, at);

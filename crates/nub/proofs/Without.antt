@@ -1,12 +1,21 @@
 -- Lists of numbers with one left out, and lists of stored events with one more.
-use Rattle.std.proofs.Common.{◌≡◌, ◌≢◌, Bool, ℕ, List, [], ◌∷◌, ◌++◌, map, sym, ap, ◌∙◌, subst, refl, arith, cond, eqb, true, false}
+use Rattle.std.proofs.Common.{◌≡◌, ◌≢◌, length, Bool, ℕ, List, [], ◌∷◌, ◌++◌, map, sym, ap, ◌∙◌, subst, refl, arith, cond, eqb, true, false}
 use Rattle.std.proofs.lemmas.Bool.Decides.{nat_tests}
 use Rattle.std.proofs.lemmas.List.{map-append}
 use Rattle.larch_actions.specs.declared.event.Event.{Event}
 use Rattle.larch_actions.specs.Sets.{mem, without}
 use Rattle.nub_rule.specs.declared.package.Entry.{Entry}
 use Rattle.nub_rule.specs.Items.{Small}
-use Rattle.std.proofs.Common.{◌<◌}
+use Rattle.std.proofs.Common.{◌<◌, ◌≤◌, None, Some, Option as Opt, ⊎_elim, rules}
+use Rattle.std.proofs.lemmas.Bool.{cases_lt}
+use Rattle.nub_rule.specs.declared.view.Pen.TheVariants.{No, Read, Made}
+use Rattle.nub_rule.specs.Parts.{MayTell, made}
+use Rattle.nub_rule.specs.Known.{Known, Makes}
+use Rattle.nub.specs.Rest.{HasStored}
+use mathlib.Core.Option.{some}
+use lib.ListN.{get_elem?}
+use Rattle.std.proofs.Common.{set}
+use Rattle.atomic_table.proofs.Lists.{at_set, set_else}
 
 eqb-own : (n : ℕ) → eqb n n ≡ true
 eqb-own n = grind (arith, nat_tests)
@@ -42,3 +51,41 @@ stored_more es es' ns ns' ms ms' k e old new n m = let x : Entry = record { numb
 -- the first of small numbers is small
 pub first_small : (n x : ℕ) (xs ys : List ℕ) → ys ≡ x ∷ xs → Small n ys → x < n
 first_small n x xs ys e h = let P : List ℕ → Type 0 = λ l. Small n l in let s : Small n (x ∷ xs) = subst P e h in s.0
+
+pub less_owed : (t : ℕ) (xs : List ℕ) → xs ≡ t ∷ [] → without t xs ≡ []
+less_owed t xs e = ap (without t) e ∙ without_own t []
+
+module _ {T H W : Type 0} where
+  -- an event was made with the pen between a and d, and stored
+  pub stored_by : (traced : Bool) (a b c d : Known T H W) (e : Event) → b ≡ record a { pen = b.pen } → MayTell traced b.pen → Makes e b c → c.pen ≡ made b.pen → c.entries ≡ b.entries → c.lost ≡ b.lost
+      → d ≡ record c { pen = No; entries = d.entries; lost = d.lost }
+      → ((x : Event) (k : ℕ) → Some e ≡ Some x → c.pen ≡ Made k → traced ≡ true → d.lost ≡ false → (c.lost ≡ false) × (d.entries ≡ c.entries ++ record { number = k; event = x } ∷ []))
+      → HasStored traced a → HasStored traced d
+  stored_by traced a b c d e begin tell makes pen entries lost end store has t l =
+      let read = tell t in
+      let k = read.0 in
+      let m : c.pen ≡ Made k = pen ∙ ap made read.1 in
+      let more = store e k refl m t l in
+      let number = makes.1.number k read.1 in
+      stored_more a.entries d.entries a.places d.places a.mine d.mine k e
+          (has t (sym (ap (λ (z : Known T H W). z.lost) begin) ∙ (sym lost ∙ more.0)))
+          (more.1 ∙ ap (λ (es : List Entry). es ++ record { number = k; event = e } ∷ []) (entries ∙ ap (λ (z : Known T H W). z.entries) begin))
+          (ap (λ (z : Known T H W). z.places) end ∙ (makes.4 ∙ (ap (λ (ns : List ℕ). ns ++ length (b.seen ++ makes.0) ∷ []) (ap (λ (z : Known T H W). z.places) begin) ∙ ap (λ (n : ℕ). a.places ++ n ∷ []) (sym number))))
+          (ap (λ (z : Known T H W). z.mine) end ∙ (makes.3 ∙ ap (λ (ms : List Event). ms ++ e ∷ []) (ap (λ (z : Known T H W). z.mine) begin)))
+
+  -- a thread that slept in the queue of o stands nowhere
+  pub after_sleep : (old lv sl : Known T H W) (o : ℕ) (f : List ℕ) → old.stand ≡ None → lv ≡ record old { count = lv.count; failed = f; stand = lv.stand } → (o < 128 → sl ≡ record lv { stand = None; turns = o ∷ lv.turns }) → (128 ≤ o → sl ≡ record lv { stand = None })
+      → (sl ≡ record old { count = sl.count; failed = f; turns = sl.turns }) × (without o sl.turns ≡ without o old.turns)
+  after_sleep old lv sl o f stand left gate cond = ⊎_elim
+      (λ (l : o < 128). let g = gate l in (search rules, ap (λ (z : Known T H W). without o z.turns) g ∙ (without_own o lv.turns ∙ ap (λ (z : Known T H W). without o z.turns) left)))
+      (λ (l : 128 ≤ o). let g = cond l in (search rules, ap (λ (z : Known T H W). without o z.turns) g ∙ ap (λ (z : Known T H W). without o z.turns) left))
+      (cases_lt o 128)
+
+-- the values of the mutexes that are held stay out, after a change at m
+pub still_out : {T : Type 0} (held held' : List (Opt T)) (values values' : List (Opt (Opt T))) (m : ℕ) (h : Opt T) (a b : Opt (Opt T)) → ((k : ℕ) (x : T) → get_elem? held k ≡ some (Some x) → get_elem? values k ≡ some (Some None))
+    → held' ≡ set held m h → values' ≡ set (set values m a) m b → ((x : T) → h ≡ Some x → get_elem? values' m ≡ some (Some None))
+    → (k : ℕ) (x : T) → get_elem? held' k ≡ some (Some x) → get_elem? values' k ≡ some (Some None)
+still_out held held' values values' m h a b out hs vs own k x e = ⊎_elim
+    (λ p. subst (λ (n : ℕ). get_elem? values' n ≡ some (Some None)) (sym p.0) (own x p.1))
+    (λ p. ap (λ l. get_elem? l k) vs ∙ (set_else (set values m a) m k b p.0 ∙ (set_else values m k a p.0 ∙ out k x p.1)))
+    (at_set held m k h (Some x) (ap (λ l. get_elem? l k) (sym hs) ∙ e))

@@ -1,5 +1,5 @@
 //! Sleeping until another thread makes this one ready.
-ghost use Rattle.std.specs.Prelude.{◌≡◌, ◌<◌, ◌∷◌, [], Some, None, true, false};
+ghost use Rattle.std.specs.Prelude.{◌≡◌, ◌<◌, ◌≤◌, ◌∷◌, [], Some, None, true, false};
 ghost use Rattle.nub_rule.specs.declared.view.Stand.{Stand};
 ghost use Rattle.nub_rule.specs.Known.{StandsAs};
 ghost use Rattle.nub_rule.specs.Parts.{HasTested};
@@ -12,10 +12,11 @@ pub fn sleep<U: Uses, R: Wait>(rt: &R, p: &Package<U>, me: &mut Thread<U>, alert
     requires of { me.old.table_id ≡ p.now.table_id }
     requires plain { alertable ≡ false }
     requires outside { me.old.spin ≡ None }
-    requires tested { StandsAs (λ s. (s.at < 128) × HasTested s.stage) me.old }
+    requires tested { StandsAs (λ s. HasTested s.stage) me.old }
     requires looked { me.old.cleared ≡ [] }
     ensures ready { result ≡ true }
-    ensures woken { (s : Stand) → me.old.stand ≡ Some s → me.new ≡ record me.old { stand = None; turns = s.at ∷ me.old.turns } }
+    ensures at_gate { (s : Stand) → me.old.stand ≡ Some s → s.at < 128 → me.new ≡ record me.old { stand = None; turns = s.at ∷ me.old.turns } }
+    ensures at_cond { (s : Stand) → me.old.stand ≡ Some s → 128 ≤ s.at → me.new ≡ record me.old { stand = None } }
 {
     let _ = alertable;
     for _ in rt.forever() {

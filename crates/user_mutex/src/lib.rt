@@ -77,7 +77,7 @@ pub fn locked<U: Uses, C: Change<U>, X, F: FnOnce(&mut U::Value) -> X, R: Wait>(
     requires rest { AtRest p.now me.old }
     requires named { m.0 < p.now.layout.mutexes }
     requires lacks { get_elem? me.old.held m.0 ≡ some None }
-    requires callable { F.IsAlwaysCallable f }
+    requires callable { (x : _) → ((w : U.World) (s : U.Share) → me.old.world ≡ Some w → me.old.share ≡ Some s → U.fits w m.0 x.now me.old.number s) → F.pre f x }
     requires may { (x y : U.Value) (r : X) (w : U.World) (s : U.Share) → me.old.world ≡ Some w → me.old.share ≡ Some s → U.fits w m.0 x me.old.number s → FnOnceReturnsAtMut F.FnOnce f x r y → U.allows w m.0 me.old.number x y s (C.after w m.0 me.old.number x y s) }
     ensures rest { AtRest p.now me.new }
     ensures same { IsSame me.old me.new }

@@ -1,7 +1,6 @@
 use Rattle.std.proofs.Common.{◌≡◌}
 use Rattle.larch_actions.specs.Sets.{without}
 use Rattle.nub_rule.specs.Objects.{object_of}
-use Rattle.nub.specs.Rest.{HasStored}
 use Rattle.gate.proofs.taking.take_slowly.Given as goal
 
 abbrev pub invariant-loop : goal.invariant-loop

@@ -1,16 +1,8 @@
-use Rattle.std.proofs.Common.{◌≡◌, ◌∷◌, ◌++◌, [], false, length, ℕ, rules, refl, sym, ap, ◌∙◌}
-use Rattle.nub_rule.specs.declared.view.Pen.TheVariants.{Read, Made}
-use Rattle.nub.proofs.Without.{stored_more}
+use Rattle.std.proofs.Common.{ap, refl}
+use Rattle.nub.proofs.Without.{stored_by}
 use Rattle.gate.proofs.taking.try_take.Goals as goal
 
 pub returns-then-try_gate-eq0-clause-stored : goal.returns-then-try_gate-eq0-clause-stored
-returns-then-try_gate-eq0-clause-stored g c = λ has traced lost.
-    let a = c.args.me.now in
-    let d = c.end_event.new.me in
-    let e = c.args.e in
-    let read = c.begin_event.ensures.traced traced in
-    let makes = c.try_gate.ensures.event c.if-try_gate-eq0.true in
-    let number = makes.1.number read.0 read.1 in
-    let more = c.end_event.ensures.stored e read.0 refl ? traced lost in
-    let kept : a.lost ≡ false = ? in
-    stored_more a.entries d.entries a.places d.places a.mine d.mine read.0 e (has traced kept) ? ? ?
+returns-then-try_gate-eq0-clause-stored g c =
+    let won = c.try_gate.ensures.won c.if-try_gate-eq0.true in
+    stored_by c.args.p.now.traced c.args.me.now c.begin_event.new.me c.try_gate.new.me c.end_event.new.me c.args.e c.begin_event.ensures.pen c.begin_event.ensures.traced (c.try_gate.ensures.event c.if-try_gate-eq0.true) (ap (λ k. k.pen) won) (ap (λ k. k.entries) won) (ap (λ k. k.lost) won) c.end_event.ensures.rest c.end_event.ensures.stored
