@@ -22,7 +22,7 @@ pub fn free<U: Uses, C: Change<U>, R: Wait>(rt: &R, p: &Package<U>, me: &mut Thr
     requires event { e ≡ clears at me.old.number }
     requires may { MayFree U.allows C.after at me.old }
     ensures event { Makes e me.old me.new }
-    ensures rest { me.new ≡ record me.old { seen = me.new.seen; mine = me.new.mine; places = me.new.places; held = me.new.held; share = me.new.share; count = me.new.count; failed = me.new.failed; cleared = without (object_of at) me.old.cleared; looked = without (object_of at) me.old.looked; values = me.new.values; entries = me.new.entries; lost = me.new.lost } }
+    ensures rest { me.new ≡ record me.old { seen = me.new.seen; mine = me.new.mine; places = me.new.places; held = me.new.held; share = me.new.share; count = me.new.count; failed = me.new.failed; cleared = without (object_of at) me.old.cleared; looked = without (object_of at) me.old.looked; values = me.new.values; entries = me.new.entries; lost = me.new.lost; next = me.new.next } }
     ensures freed { IsFreed C.after at me.old me.new }
     ensures stored { HasStored p.now.traced me.old → HasStored p.now.traced me.new }
 {
@@ -42,7 +42,7 @@ fn clear<U: Uses, C: Change<U>, R: Wait>(rt: &R, p: &Package<U>, me: &mut Thread
     requires event { e ≡ clears at me.old.number }
     requires may { MayFree U.allows C.after at me.old }
     ensures event { Makes e me.old me.new }
-    ensures rest { me.new ≡ record me.old { seen = me.new.seen; mine = me.new.mine; places = me.new.places; held = me.new.held; share = me.new.share; cleared = object_of at ∷ me.old.cleared; values = me.new.values; entries = me.new.entries; lost = me.new.lost } }
+    ensures rest { me.new ≡ record me.old { seen = me.new.seen; mine = me.new.mine; places = me.new.places; held = me.new.held; share = me.new.share; cleared = object_of at ∷ me.old.cleared; values = me.new.values; entries = me.new.entries; lost = me.new.lost; next = me.new.next } }
     ensures freed { IsFreed C.after at me.old me.new }
     ensures stored { HasStored p.now.traced me.old → HasStored p.now.traced me.new }
 {

@@ -25,7 +25,7 @@ pub fn take<U: Uses, R: Wait>(rt: &R, p: &Package<U>, me: &mut Thread<U>, at: Ob
     requires looked { me.old.cleared ≡ [] }
     requires may { MayMake at me.old.number me.old.wait e }
     ensures event { Makes e me.old me.new }
-    ensures rest { me.new ≡ record me.old { seen = me.new.seen; mine = me.new.mine; places = me.new.places; held = me.new.held; count = me.new.count; wait = None; failed = me.new.failed; turns = me.new.turns; values = me.new.values; entries = me.new.entries; lost = me.new.lost } }
+    ensures rest { me.new ≡ record me.old { seen = me.new.seen; mine = me.new.mine; places = me.new.places; held = me.new.held; count = me.new.count; wait = None; failed = me.new.failed; turns = me.new.turns; values = me.new.values; entries = me.new.entries; lost = me.new.lost; next = me.new.next } }
     ensures turns { me.new.turns ≡ without (object_of at) me.old.turns }
     ensures taken { IsTaken U.fits at me.old me.new }
     ensures stored { HasStored p.now.traced me.old → HasStored p.now.traced me.new }
@@ -48,9 +48,9 @@ pub fn try_take<U: Uses, R: Wait>(
     requires named { HasObject p.now.layout at }
     requires outside { IsOutside me.old }
     requires may { MayMake at me.old.number me.old.wait e }
-    ensures lost { result ≡ false → me.new ≡ record me.old { failed = object_of at ∷ me.old.failed; turns = without (object_of at) me.old.turns } }
+    ensures lost { result ≡ false → me.new ≡ record me.old { failed = object_of at ∷ me.old.failed; turns = without (object_of at) me.old.turns; next = me.new.next } }
     ensures event { result ≡ true → Makes e me.old me.new }
-    ensures won { result ≡ true → me.new ≡ record me.old { seen = me.new.seen; mine = me.new.mine; places = me.new.places; held = me.new.held; wait = None; failed = without (object_of at) me.old.failed; turns = without (object_of at) me.old.turns; values = me.new.values; entries = me.new.entries; lost = me.new.lost } }
+    ensures won { result ≡ true → me.new ≡ record me.old { seen = me.new.seen; mine = me.new.mine; places = me.new.places; held = me.new.held; wait = None; failed = without (object_of at) me.old.failed; turns = without (object_of at) me.old.turns; values = me.new.values; entries = me.new.entries; lost = me.new.lost; next = me.new.next } }
     ensures taken { result ≡ true → IsTaken U.fits at me.old me.new }
     ensures stored { HasStored p.now.traced me.old → HasStored p.now.traced me.new }
 {
@@ -92,7 +92,7 @@ fn take_slowly<U: Uses, R: Wait>(rt: &R, p: &Package<U>, me: &mut Thread<U>, at:
     requires looked { me.old.cleared ≡ [] }
     requires may { MayMake at me.old.number me.old.wait e }
     ensures event { Makes e me.old me.new }
-    ensures rest { me.new ≡ record me.old { seen = me.new.seen; mine = me.new.mine; places = me.new.places; held = me.new.held; count = me.new.count; wait = None; failed = me.new.failed; turns = me.new.turns; values = me.new.values; entries = me.new.entries; lost = me.new.lost } }
+    ensures rest { me.new ≡ record me.old { seen = me.new.seen; mine = me.new.mine; places = me.new.places; held = me.new.held; count = me.new.count; wait = None; failed = me.new.failed; turns = me.new.turns; values = me.new.values; entries = me.new.entries; lost = me.new.lost; next = me.new.next } }
     ensures turns { me.new.turns ≡ without (object_of at) me.old.turns }
     ensures taken { IsTaken U.fits at me.old me.new }
     ensures stored { HasStored p.now.traced me.old → HasStored p.now.traced me.new }

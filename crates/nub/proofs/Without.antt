@@ -57,19 +57,17 @@ less_owed t xs e = ap (without t) e ∙ without_own t []
 
 module _ {T H W : Type 0} where
   -- an event was made with the pen between a and d, and stored
-  pub stored_by : (traced : Bool) (a b c d : Known T H W) (e : Event) → b ≡ record a { pen = b.pen } → MayTell traced b.pen → Makes e b c → c.pen ≡ made b.pen → c.entries ≡ b.entries → c.lost ≡ b.lost
+  pub stored_by : (traced : Bool) (a b c d : Known T H W) (e : Event) → b ≡ record a { pen = b.pen; next = b.next } → MayTell traced b.pen → (traced ≡ true → b.pen ≡ Read b.next) → Makes e b c → c.next ≡ b.next → c.entries ≡ b.entries → c.lost ≡ b.lost
       → d ≡ record c { pen = No; entries = d.entries; lost = d.lost }
-      → ((x : Event) (k : ℕ) → Some e ≡ Some x → c.pen ≡ Made k → traced ≡ true → d.lost ≡ false → (c.lost ≡ false) × (d.entries ≡ c.entries ++ record { number = k; event = x } ∷ []))
+      → ((x : Event) → Some e ≡ Some x → traced ≡ true → d.lost ≡ false → (c.lost ≡ false) × (d.entries ≡ c.entries ++ record { number = c.next; event = x } ∷ []))
       → HasStored traced a → HasStored traced d
-  stored_by traced a b c d e begin tell makes pen entries lost end store has t l =
-      let read = tell t in
-      let k = read.0 in
-      let m : c.pen ≡ Made k = pen ∙ ap made read.1 in
-      let more = store e k refl m t l in
-      let number = makes.1.number k read.1 in
+  stored_by traced a b c d e begin tell next makes same entries lost end store has t l =
+      let k = b.next in
+      let more = store e refl t l in
+      let number = makes.1.number k (next t) in
       stored_more a.entries d.entries a.places d.places a.mine d.mine k e
           (has t (sym (ap (λ (z : Known T H W). z.lost) begin) ∙ (sym lost ∙ more.0)))
-          (more.1 ∙ ap (λ (es : List Entry). es ++ record { number = k; event = e } ∷ []) (entries ∙ ap (λ (z : Known T H W). z.entries) begin))
+          (more.1 ∙ (ap (λ (n : ℕ). c.entries ++ record { number = n; event = e } ∷ []) same ∙ ap (λ (es : List Entry). es ++ record { number = k; event = e } ∷ []) (entries ∙ ap (λ (z : Known T H W). z.entries) begin)))
           (ap (λ (z : Known T H W). z.places) end ∙ (makes.4 ∙ (ap (λ (ns : List ℕ). ns ++ length (b.seen ++ makes.0) ∷ []) (ap (λ (z : Known T H W). z.places) begin) ∙ ap (λ (n : ℕ). a.places ++ n ∷ []) (sym number))))
           (ap (λ (z : Known T H W). z.mine) end ∙ (makes.3 ∙ ap (λ (ms : List Event). ms ++ e ∷ []) (ap (λ (z : Known T H W). z.mine) begin)))
 

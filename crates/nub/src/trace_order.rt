@@ -1,18 +1,13 @@
-//! The entries that threads have stored, put in order of their places.
-ghost use Rattle.std.specs.Prelude.{◌≡◌, ℕ, ◌<◌, ◌^◌, length, List, map, sum_by, vec_len, IfOk};
+//! The events that threads have stored, put in order of their numbers.
+ghost use Rattle.std.specs.Prelude.{◌≡◌, ℕ, ◌<◌, true, false, length, List, sum_by, vec_len, IfOk};
 ghost use Rattle.std.specs.List.{All};
+ghost use Rattle.std.specs.Option.{IfSome};
 ghost use Rattle.larch_actions.specs.declared.event.Event.{Event};
 ghost use Rattle.nub.specs.History.{AreStored, IsOf, SameAt};
 
+use nub_rule::{Entry, Stored};
 use larch_actions::{Action, Event, ThreadId};
 use std::alloc::{AllocError, Global};
-
-/// An event with its place in the history.
-#[derive(Clone, Copy, Debug, PartialEq, Eq)]
-pub struct Entry {
-    pub place: u64,
-    pub event: Event,
-}
 
 // Stands at a place until its event is written there.
 const NO_EVENT: Event = Event {
@@ -22,33 +17,53 @@ const NO_EVENT: Event = Event {
 
 /// Writes each event of the list to its place.
 fn place_all(places: &mut Vec<Event>, list: &Vec<Entry>)
-    requires { All (λ x. x.place < vec_len places.old) list.now.items }
+    requires { All (λ x. x.number < vec_len places.old) list.now.items }
     ensures length { vec_len places.new ≡ vec_len places.old }
     ensures keeps { (h : List Event) → All (IsOf h) list.now.items → (k : ℕ) → SameAt h places.old.items k → SameAt h places.new.items k }
-    ensures fills { (h : List Event) → All (IsOf h) list.now.items → All (λ x. SameAt h places.new.items x.place) list.now.items }
+    ensures fills { (h : List Event) → All (IsOf h) list.now.items → All (λ x. SameAt h places.new.items x.number) list.now.items }
 {
     for x in list {
-        places[x.place as usize] = x.event;
+        places[x.number as usize] = x.event;
     }
 }
 
-/// How many entries the lists have.
-fn count(lists: &[Vec<Entry>]) -> usize
-    requires { sum_by (λ v. length v.items) lists.now < 2 ^ 64 }
-    ensures { result ≡ sum_by (λ v. length v.items) lists.now }
+/// How many entries the lists have, unless that is past every number.
+fn count(stored: &[Stored]) -> Option<usize>
+    ensures { IfSome result (λ n. n ≡ sum_by (λ s. length s.entries.items) stored.now) }
 {
-    lists.iter().map(|list| list.len()).sum()
+    let mut total: usize = 0;
+    for s in stored {
+        total = total.checked_add(s.entries.len())?;
+    }
+    Some(total)
 }
 
-/// The history of which the threads have stored these lists. Its one refusal is want of memory, and its time is linear.
-pub fn in_order(alloc: Global, lists: &[Vec<Entry>]) -> Result<Vec<Event>, AllocError>
-    requires { (h : List Event) × (length h < 2 ^ 64) × AreStored h (map (λ v. v.items) lists.now) }
-    ensures { (h : List Event) → AreStored h (map (λ v. v.items) lists.now) → IfOk result (λ v. v.items ≡ h) }
+/// Whether every list is whole.
+fn are_whole(stored: &[Stored]) -> bool
+    ensures { result ≡ true → All (λ s. s.lost ≡ false) stored.now }
 {
-    let total = count(lists);
+    for s in stored {
+        if s.lost {
+            return false;
+        }
+    }
+    true
+}
+
+/// The history of which the threads have stored these lists, in linear time. Its one refusal is want of memory, here or when a list lost an entry.
+pub fn in_order(alloc: Global, stored: &[Stored]) -> Result<Vec<Event>, AllocError>
+    requires { (h : List Event) × AreStored h stored.now }
+    ensures { (h : List Event) → AreStored h stored.now → IfOk result (λ v. v.items ≡ h) }
+{
+    if !are_whole(stored) {
+        return Err(AllocError);
+    }
+    let Some(total) = count(stored) else {
+        return Err(AllocError);
+    };
     let mut places = vec![in alloc; NO_EVENT; total]?;
-    for list in lists {
-        place_all(&mut places, list);
+    for s in stored {
+        place_all(&mut places, &s.entries);
     }
     Ok(places)
 }

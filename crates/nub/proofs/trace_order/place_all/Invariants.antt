@@ -8,5 +8,5 @@ abbrev pub invariant-loop-x : goal.invariant-loop-x
 invariant-loop-x l = record {
   long : vec_len l.places ≡ vec_len l.initial.places;
   keeps : (h : List Event) → All (IsOf h) l.list.items → (k : ℕ) → SameAt h l.initial.places.items k → SameAt h l.places.items k;
-  fills : (h : List Event) → All (IsOf h) l.list.items → AllWithin (λ x. SameAt h l.places.items x.place) l.list.items 0 l.x-index;
+  fills : (h : List Event) → All (IsOf h) l.list.items → AllWithin (λ x. SameAt h l.places.items x.number) l.list.items 0 l.x-index;
 }
