@@ -1,0 +1,7 @@
+pub mod Each
+pub mod Members
+pub mod Runs
+pub mod Frames
+pub mod Turns
+pub mod Room
+pub mod Seats
