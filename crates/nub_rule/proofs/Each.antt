@@ -1,5 +1,6 @@
 -- Facts of each element of a list, and functions that are changed at one place.
-use Rattle.std.proofs.Common.{◌≡◌, ◌≢◌, ℕ, zero, suc, ◌<◌, ◌≤◌, cond, List, [], ◌∷◌, ◌++◌, map, length, set, refl, sym, ap, ◌∙◌, inl, inr, ◌⊎◌, ⊎_elim, subst, subst₂, arith, eq-eqb, ne_eqb}
+use Rattle.std.proofs.Common.{◌≡◌, ◌≢◌, ℕ, zero, suc, ◌+◌, ◌<◌, ◌≤◌, cond, List, [], ◌∷◌, ◌++◌, map, length, set, refl, sym, ap, ◌∙◌, inl, inr, ◌⊎◌, ⊎_elim, subst, subst₂, arith, eq-eqb, ne_eqb}
+use Rattle.std.specs.List.{range_with_len}
 use mathlib.Core.Option.{some, some-injective, some-ne-none}
 use Rattle.std.proofs.lemmas.List.{length-map}
 use lib.ListN.{get_elem?}
@@ -67,3 +68,8 @@ module _ {A : Type 0} where
   pub each-map : {B : Type 0} (f : A → B) (P : ℕ → B → Type 0) (xs : List A) → Each (λ n x. P n (f x)) xs → Each P (map f xs)
   each-map f P xs all n y at = let t = at_below xs n (subst (λ (z : ℕ). n < z) (length-map xs f) (at_within_of (map f xs) n y at)) in
       subst (P n) (some-injective (f t.0) y (sym (at_map f xs n t.0 t.1) ∙ at)) (all n t.0 t.1)
+
+  pub at_firsts : (f : ℕ → A) (a n i : ℕ) → i < n → get_elem? (map f (range_with_len a n)) i ≡ some (f (a + i))
+  at_firsts f a zero i h = absurd (omega arith)
+  at_firsts f a (suc n) zero h = let e : a ≡ a + 0 = omega arith in ap (λ (z : ℕ). some (f z)) e
+  at_firsts f a (suc n) (suc i) h = let e : (a + 1) + i ≡ a + suc i = omega arith in at_firsts f (a + 1) n i (omega arith) ∙ ap (λ (z : ℕ). some (f z)) e

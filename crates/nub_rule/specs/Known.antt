@@ -191,9 +191,11 @@ module _ {T H W : Type 0} where
 module _ {T H : Type 0} where
   -- the slots at hand are the values of the mutexes whose bits the thread has, and the queue of the object whose spin word it has
   pub record Hands (p : Part T H) (slots : List (ℕ × Slot T)) : Type 0 where
+    pub below : (o : ℕ) → p.spin ≡ Some o → o < 192
     pub queue_in : (o : ℕ) → p.spin ≡ Some o → find (queue_at o) slots ≡ Some (Queue (line_of p.queue))
-    pub queue_out : (o : ℕ) → o < 192 → p.spin ≡ None → find (queue_at o) slots ≡ None
+    pub queue_out : (o : ℕ) → o < 192 → (p.spin ≡ Some o → ⊥) → find (queue_at o) slots ≡ None
     pub value_got : (m : ℕ) (x : T) → Got p m x → (y : Opt T) × (find (value_at m) slots ≡ Some (Value y))
     pub value_lacked : (m : ℕ) → Lacks p m → find (value_at m) slots ≡ None
+    pub settled : p.spin ≡ None → p.owed ≡ []
     -- the queue has room for a thread that stands nowhere
     pub room : (o : ℕ) → p.spin ≡ Some o → p.stand ≡ None → length p.queue < 64

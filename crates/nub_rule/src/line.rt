@@ -1,5 +1,5 @@
 //! A queue in its slot.
-ghost use Rattle.std.specs.Prelude.{◌≡◌, ◌≢◌, ◌+◌, ◌<◌, ℕ, List, [], ◌∷◌, ◌++◌, length, get_or, take, Some, None, true, false};
+ghost use Rattle.std.specs.Prelude.{◌≡◌, ◌≢◌, ◌+◌, ◌<◌, ◌≤◌, ℕ, List, [], ◌∷◌, ◌++◌, length, get_or, take, Some, None, true, false};
 ghost use Rattle.larch_actions.specs.declared.event.ThreadId.{ThreadId};
 ghost use Rattle.larch_actions.specs.Sets.{mem};
 ghost use Rattle.nub_rule.specs.declared.rule.Slot.TheVariants.{Queue};
@@ -39,6 +39,7 @@ pub fn pop_line<T>(slot: &mut Slot<T>) -> (Option<ThreadId>, u64)
 // Where t stands first.
 fn place_in(line: &Line, t: u32) -> Option<usize>
     ensures none { result ≡ None → mem t line.now.items ≡ false }
+    ensures fits { length line.now.items ≤ 64 }
     ensures first { (i : ℕ) → result ≡ Some i → (i < length line.now.items) × (get_or line.now.items i 0 ≡ t) × (mem t (take i line.now.items) ≡ false) }
 {
     for i in 0..line.len() {
@@ -53,7 +54,7 @@ fn place_in(line: &Line, t: u32) -> Option<usize>
 pub fn leave_line<T>(slot: &mut Slot<T>, t: u32) -> Option<u64>
     requires { (xs : List ℕ) × (slot.old ≡ Queue (line_of xs)) }
     ensures none { (xs : List ℕ) → slot.old ≡ Queue (line_of xs) → result ≡ None → (mem t xs ≡ false) × (slot.new ≡ slot.old) }
-    ensures out { (xs : List ℕ) (n : ℕ) → slot.old ≡ Queue (line_of xs) → result ≡ Some n → (mem t xs ≡ true) × (slot.new ≡ Queue (line_of (less t xs))) × (n ≡ length (less t xs)) }
+    ensures out { (xs : List ℕ) (n : ℕ) → slot.old ≡ Queue (line_of xs) → result ≡ Some n → (mem t xs ≡ true) × (slot.new ≡ Queue (line_of (less t xs))) × (n ≡ length (less t xs)) × (n < 64) }
 {
     let Slot::Queue(line) = slot else {
         unreachable!()

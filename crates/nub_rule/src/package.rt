@@ -71,7 +71,7 @@ pub struct Thread<U: Uses> {
 }
 
 impl<U: Uses> Model for Thread<U> {
-    ghost use Rattle.std.specs.Prelude.{◌≡◌, ◌+◌, ◌≤◌, [], map, length, vec_capacity};
+    ghost use Rattle.std.specs.Prelude.{◌≡◌, ◌+◌, ◌≤◌, ◌<◌, [], map, length, vec_capacity};
     ghost use Rattle.nub_rule.specs.Slots.{IsDistinct, Below};
     ghost use Rattle.nub_rule.specs.declared.view.Kind.TheVariants.{Member};
     ghost use Rattle.nub_rule.specs.Known.{Known, known_as, Hands};
@@ -80,7 +80,7 @@ impl<U: Uses> Model for Thread<U> {
 
     ghost view = { λ t. known_as t.seat.table_id t.number t.seat.me t.entries.items t.lost };
 
-    ghost invariant = { λ t. (t.seat.me.0.kind ≡ Member) × (t.seat.me.0.number ≡ t.number) × (map (λ x. x.0) t.seat.me.1 ≡ t.hand) × IsDistinct t.seat.me.1 × Below 256 t.seat.me.1 × (length t.seat.me.0.part.held ≡ 64) × Hands t.seat.me.0.part t.seat.me.1 × (t.room.items ≡ []) × (t.number ≡ 0 → t.seat.table_id.slots ≤ 192 + vec_capacity t.room) };
+    ghost invariant = { λ t. (t.seat.me.0.kind ≡ Member) × (t.seat.me.0.number ≡ t.number) × (map (λ x. x.0) t.seat.me.1 ≡ t.hand) × IsDistinct t.seat.me.1 × Below 256 t.seat.me.1 × (length t.seat.me.0.part.held ≡ 64) × Hands t.seat.me.0.part t.seat.me.1 × (t.room.items ≡ []) × (t.number ≡ 0 → t.seat.table_id.slots ≤ 192 + vec_capacity t.room) × (t.number < 64) };
 }
 
 impl<U: Uses> Package<U> {
