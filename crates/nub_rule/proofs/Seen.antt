@@ -14,7 +14,7 @@ use Rattle.nub_rule.proofs.Turns.{keys}
 use Rattle.nub_rule.proofs.Handling.{gone}
 
 module _ {T H W : Type 0} where
-  pub as_known : (P : TableId → Sat T H W → Known T H W → Type 0) (z z' : TableId) (n : ℕ) (es : List Entry) (lo : Bool) (me me' m : Sat T H W) (a : Known T H W) → known_as z n me es lo ≡ a → z' ≡ z → me' ≡ m → P z m (known_as z n me es lo) → P z' me' a
+  pub as_known : (P : TableId → Sat T H W → Known T H W → Type 0) (z z' : TableId) (n : ℕ) (es : List Entry) (lo : Bool) {nx : ℕ} (me me' m : Sat T H W) (a : Known T H W) → known_as z n me es lo nx ≡ a → z' ≡ z → me' ≡ m → P z m (known_as z n me es lo nx) → P z' me' a
   as_known P z z' n es lo me me' m a v ez em base = subst (λ (t : TableId × Sat T H W × Known T H W). P t.0 t.1 t.2) (λ i. (sym ez i, sym em i, v i)) base
 
   -- the invariant of a thread

@@ -48,4 +48,4 @@ module _ {T H : Type 0} where
 module _ {T H W : Type 0} where
   -- the thread n, which has done nothing
   abbrev pub first_known : TableId → W → (W → ℕ → H) → ℕ → Known T H W
-  first_known z w begin n = known_as z n (record { world = Some w; kind = Member; number = n; part = fresh (Some (begin w n)); next = 0; back = [] }, []) [] false
+  first_known z w begin n = known_as z n (record { world = Some w; kind = Member; number = n; part = fresh (Some (begin w n)); next = 0; back = [] }, []) [] false 0

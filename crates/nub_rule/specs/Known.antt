@@ -70,6 +70,8 @@ pub record Known (T H W : Type 0) : Type 0 where
   -- the events that it has stored with their numbers, and whether it has lost one
   pub entries : List Entry
   pub lost : Bool
+  -- the number that it read with the pen last
+  pub next : ℕ
 
 -- the events with their places
 abbrev pub entries_of : List ℕ → List Event → List Entry
@@ -87,8 +89,8 @@ module _ {T : Type 0} where
   values_of slots = map (λ m. value_in (find (value_at m) slots)) (range_with_len 0 64)
 
 module _ {T H W : Type 0} where
-  abbrev pub known_as : TableId → ℕ → Me (Slot T) (View T H W) → List Entry → Bool → Known T H W
-  known_as z n me entries lost = let p = me.0.part in record {
+  abbrev pub known_as : TableId → ℕ → Me (Slot T) (View T H W) → List Entry → Bool → ℕ → Known T H W
+  known_as z n me entries lost next = let p = me.0.part in record {
     table_id = z;
     number = n;
     world = me.0.world;
@@ -115,6 +117,7 @@ module _ {T H W : Type 0} where
     values = values_of me.1;
     entries = entries;
     lost = lost;
+    next = next;
   }
 
   abbrev pub part_of : Known T H W → Part T H

@@ -65,6 +65,8 @@ pub struct Thread<U: Uses> {
     /// The events of a traced run, with their numbers.
     pub(crate) entries: Vec<Entry>,
     pub(crate) lost: bool,
+    /// The number that was read with the pen last.
+    pub(crate) next: u64,
     pub(crate) parker: Parker,
     /// With the first thread, room for the values of all mutexes.
     pub(crate) room: Vec<U::Value>,
@@ -78,7 +80,7 @@ impl<U: Uses> Model for Thread<U> {
 
     ghost Value = { Known U.Value U.Share U.World };
 
-    ghost view = { λ t. known_as t.seat.table_id t.number t.seat.me t.entries.items t.lost };
+    ghost view = { λ t. known_as t.seat.table_id t.number t.seat.me t.entries.items t.lost t.next };
 
     ghost invariant = { λ t. (t.seat.me.0.kind ≡ Member) × (t.seat.me.0.number ≡ t.number) × (map (λ x. x.0) t.seat.me.1 ≡ t.hand) × IsDistinct t.seat.me.1 × Below 256 t.seat.me.1 × (length t.seat.me.0.part.held ≡ 64) × Hands t.seat.me.0.part t.seat.me.1 × (t.room.items ≡ []) × (t.number ≡ 0 → t.seat.table_id.slots ≤ 192 + vec_capacity t.room) × (t.number < 64) };
 }

@@ -1,11 +1,12 @@
 //! The steps on the pen and on the number of the next event, in a traced package.
-ghost use Rattle.std.specs.Prelude.{◌≡◌, ◌≢◌, ◌+◌, ℕ, true};
+ghost use Rattle.std.specs.Prelude.{◌≡◌, ◌≢◌, ◌+◌, ◌++◌, ◌∷◌, [], ℕ, true, false};
 ghost use Rattle.nub_rule.specs.declared.view.Pen.TheVariants.{No, Taken, Read, Made, Written};
 ghost use Rattle.nub_rule.specs.Parts.{MayGivePen};
 
-use crate::package::{Package, Thread};
+use crate::package::{Entry, Package, Thread};
 use crate::rule::{GivePen, ReadNumber, TakePen, WriteNumber};
 use crate::uses::Uses;
+use larch_actions::Event;
 
 /// Tries the pen once. It wins where it answers 0.
 pub fn take_pen<U: Uses>(p: &Package<U>, me: &mut Thread<U>) -> u64
@@ -24,9 +25,11 @@ pub fn take_pen<U: Uses>(p: &Package<U>, me: &mut Thread<U>) -> u64
 pub fn read_number<U: Uses>(p: &Package<U>, me: &mut Thread<U>) -> u64
     requires of { me.old.table_id ≡ p.now.table_id }
     requires taken { me.old.pen ≡ Taken }
-    ensures { me.new ≡ record me.old { pen = Read result } }
+    ensures { me.new ≡ record me.old { pen = Read result; next = result } }
 {
-    p.table.shared.load::<ReadNumber>(&mut me.seat, 4097)
+    let found = p.table.shared.load::<ReadNumber>(&mut me.seat, 4097);
+    me.next = found;
+    found
 }
 
 /// Writes the number that follows the one of the event that was made.
@@ -48,4 +51,25 @@ pub fn give_pen<U: Uses>(p: &Package<U>, me: &mut Thread<U>) -> u64
     ensures out { me.new ≡ record me.old { pen = No } }
 {
     p.table.shared.swap::<GivePen>(&mut me.seat, 4096, 0)
+}
+
+/// The number that the thread read last.
+pub fn next_number<U: Uses>(me: &Thread<U>) -> u64
+    ensures { result ≡ me.now.next }
+{
+    me.next
+}
+
+/// Stores an event under the number that was read last, or marks the list lost where there is no memory for it. It is no step.
+pub fn store_event<U: Uses>(me: &mut Thread<U>, e: Event)
+    ensures kept { me.new ≡ record me.old { entries = me.new.entries; lost = me.new.lost } }
+    ensures stored { me.new.lost ≡ false → (me.old.lost ≡ false) × (me.new.entries ≡ me.old.entries ++ record { number = me.old.next; event = e } ∷ []) }
+{
+    let entry = Entry {
+        number: me.next,
+        event: e,
+    };
+    if me.entries.push(entry).is_err() {
+        me.lost = true;
+    }
 }

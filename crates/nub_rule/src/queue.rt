@@ -98,3 +98,11 @@ pub fn pop_queue<U: Uses>(p: &Package<U>, me: &mut Thread<U>, at: Object) -> Opt
         .store::<Pop>(&mut me.seat, 16 * o + 2, length);
     first
 }
+
+/// Looks at a bit. It is no step, and tells nothing.
+#[inline]
+pub fn peek_bit<U: Uses>(p: &Package<U>, at: Object) -> u64
+    requires { HasObject p.now.layout at }
+{
+    p.table.shared.peek(16 * at.number())
+}

@@ -10,6 +10,7 @@ use crate::package::{Package, Thread};
 use crate::rule::{ClearReady, ReadReady, SetReady};
 use crate::uses::Uses;
 use larch_actions::ThreadId;
+use std::sync::Wait;
 
 /// Makes a thread ready that was popped, and unparks it.
 pub fn set_ready<U: Uses>(p: &Package<U>, me: &mut Thread<U>, t: ThreadId) -> u64
@@ -56,4 +57,9 @@ pub fn clear_ready<U: Uses>(p: &Package<U>, me: &mut Thread<U>) -> u64
     p.table
         .shared
         .swap::<ClearReady>(&mut me.seat, 16 * me.number as usize + 3073, 0)
+}
+
+/// Sleeps until another thread unparks this one, or for no reason. It is no step, and tells nothing.
+pub fn park<U: Uses, R: Wait>(rt: &R, me: &Thread<U>) {
+    me.parker.park(rt);
 }

@@ -85,6 +85,7 @@ fn cut<U: Uses>(
         seat,
         entries,
         lost: false,
+        next: 0,
         parker,
         room,
     }
@@ -202,6 +203,7 @@ fn gather_all<U: Uses>(
             seat: own,
             entries,
             lost,
+            next: _,
             parker: _,
             room: kept,
         } = thread;

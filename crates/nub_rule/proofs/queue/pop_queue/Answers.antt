@@ -56,5 +56,5 @@ pub returns-clause-out : goal.returns-clause-out
 returns-clause-out g c = let low = object_low _ _ _ _ c.p.view_is c.p.invariant.5 c.p.invariant.2 c.args.at c.requires.named in let is = c.number-o.ensures in let o : ℕ = c.number-o.result in let near : o < 128 = omega arith in let here : c.me.inside.seat.me.0.part.spin ≡ Some o = ap (λ k. k.spin) c.me.view_is ∙ (c.requires.inside ∙ ap (λ (z : ℕ). Some z) (sym is)) in let i = c.me.invariant in let h = i.6 in let b = c.bring.ensures in let first = b.first _ (h.queue_in o here) in let same = b.same.2 in let content = same_slot o _ _ _ _ c.slot_mut.ensures.value first in let popped_now = c.pop_line-first.ensures c.me.inside.seat.me.0.part.queue content in
     let zs : List ℕ = behind c.me.inside.seat.me.0.part.queue in let r = refilled o _ (Queue (line_of zs)) _ c.me.inside.seat.me.1 c.bring.new.seat.me.1 first b.hand b.keys b.distinct b.below in
     let v = values-same c.me.inside.seat.me.1 ((o, Queue (line_of zs)) ∷ rest c.bring.new.seat.me.1) (λ m. r.elsewhere (value_at m) (λ z. omega arith)) in
-    as_known (λ z m a. let k = known_as z c.me.inside.number m c.me.inside.entries.items c.me.inside.lost in k ≡ record a { queue = behind a.queue; left = behind a.left; owed = k.owed; cleared = without (object_of c.args.at) a.cleared; looked = without (object_of c.args.at) a.looked }) _ _ _ _ _ c.me.inside.seat.me _ _ _ c.me.view_is (c.store.ensures.0 ∙ b.same.0) (c.store.ensures.2 o refl ∙ (λ j. (with_part (same j) (record (same j).part { queue = behind (same j).part.queue; owed = (same j).part.owed ++ front (same j).part.queue; left = behind (same j).part.left; cleared = without o (same j).part.cleared; looked = without o (same j).part.looked }), (o, popped_now.0 j) ∷ rest c.bring.new.seat.me.1)))
-    (λ j. record (known_as c.me.inside.seat.table_id c.me.inside.number c.me.inside.seat.me c.me.inside.entries.items c.me.inside.lost) { queue = zs; left = behind c.me.inside.seat.me.0.part.left; owed = c.me.inside.seat.me.0.part.owed ++ front c.me.inside.seat.me.0.part.queue; cleared = without (is j) c.me.inside.seat.me.0.part.cleared; looked = without (is j) c.me.inside.seat.me.0.part.looked; values = v j })
+    as_known (λ z m a. let k = known_as z c.me.inside.number m c.me.inside.entries.items c.me.inside.lost c.me.inside.next in k ≡ record a { queue = behind a.queue; left = behind a.left; owed = k.owed; cleared = without (object_of c.args.at) a.cleared; looked = without (object_of c.args.at) a.looked }) _ _ _ _ _ c.me.inside.seat.me _ _ _ c.me.view_is (c.store.ensures.0 ∙ b.same.0) (c.store.ensures.2 o refl ∙ (λ j. (with_part (same j) (record (same j).part { queue = behind (same j).part.queue; owed = (same j).part.owed ++ front (same j).part.queue; left = behind (same j).part.left; cleared = without o (same j).part.cleared; looked = without o (same j).part.looked }), (o, popped_now.0 j) ∷ rest c.bring.new.seat.me.1)))
+    (λ j. record (known_as c.me.inside.seat.table_id c.me.inside.number c.me.inside.seat.me c.me.inside.entries.items c.me.inside.lost c.me.inside.next) { queue = zs; left = behind c.me.inside.seat.me.0.part.left; owed = c.me.inside.seat.me.0.part.owed ++ front c.me.inside.seat.me.0.part.queue; cleared = without (is j) c.me.inside.seat.me.0.part.cleared; looked = without (is j) c.me.inside.seat.me.0.part.looked; values = v j })

@@ -30,12 +30,12 @@ invariant_of-me g c = let o : ℕ = c.number-o.result in let i = c.me.invariant 
     (λ away. fit_still (c.me.inside.room.items ≡ []) (λ (z : TableId). c.me.inside.number ≡ 0 → z.slots ≤ 192 + vec_capacity c.me.inside.room) _ _ c.me.inside.number c.me.inside.hand c.me.inside.seat.me _ _ c.load.ensures.0 (u.2 miss away) i refl (hands-same c.me.inside.seat.me.0.part _ c.me.inside.seat.me.1 _ (λ k. refl) refl refl refl h.room h.settled h)))
 
 pub returns-clause-empty : goal.returns-clause-empty
-returns-clause-empty g c = let o : ℕ = c.number-o.result in let is = c.number-o.ensures in λ hit. as_known (λ z m a. known_as z c.me.inside.number m c.me.inside.entries.items c.me.inside.lost ≡ record a { cleared = without (object_of c.args.at) a.cleared; looked = without (object_of c.args.at) a.looked }) _ _ _ _ _ c.me.inside.seat.me _ _ _ c.me.view_is c.load.ensures.0 ((c.load.ensures.2 o refl).0 hit) (λ j. record (known_as c.me.inside.seat.table_id c.me.inside.number c.me.inside.seat.me c.me.inside.entries.items c.me.inside.lost) { cleared = without (is j) c.me.inside.seat.me.0.part.cleared; looked = without (is j) c.me.inside.seat.me.0.part.looked })
+returns-clause-empty g c = let o : ℕ = c.number-o.result in let is = c.number-o.ensures in λ hit. as_known (λ z m a. known_as z c.me.inside.number m c.me.inside.entries.items c.me.inside.lost c.me.inside.next ≡ record a { cleared = without (object_of c.args.at) a.cleared; looked = without (object_of c.args.at) a.looked }) _ _ _ _ _ c.me.inside.seat.me _ _ _ c.me.view_is c.load.ensures.0 ((c.load.ensures.2 o refl).0 hit) (λ j. record (known_as c.me.inside.seat.table_id c.me.inside.number c.me.inside.seat.me c.me.inside.entries.items c.me.inside.lost c.me.inside.next) { cleared = without (is j) c.me.inside.seat.me.0.part.cleared; looked = without (is j) c.me.inside.seat.me.0.part.looked })
 
 pub returns-clause-seen : goal.returns-clause-seen
 returns-clause-seen g c = let o : ℕ = c.number-o.result in let is = c.number-o.ensures in let u = c.load.ensures.2 o refl in λ miss there.
-    as_known (λ z m a. known_as z c.me.inside.number m c.me.inside.entries.items c.me.inside.lost ≡ record a { looked = object_of c.args.at ∷ a.looked }) _ _ _ _ _ c.me.inside.seat.me _ _ _ c.me.view_is c.load.ensures.0 (u.1 miss ((λ j. mem (is j) (ap (λ k. k.cleared) c.me.view_is j)) ∙ there)) (λ j. record (known_as c.me.inside.seat.table_id c.me.inside.number c.me.inside.seat.me c.me.inside.entries.items c.me.inside.lost) { looked = is j ∷ c.me.inside.seat.me.0.part.looked })
+    as_known (λ z m a. known_as z c.me.inside.number m c.me.inside.entries.items c.me.inside.lost c.me.inside.next ≡ record a { looked = object_of c.args.at ∷ a.looked }) _ _ _ _ _ c.me.inside.seat.me _ _ _ c.me.view_is c.load.ensures.0 (u.1 miss ((λ j. mem (is j) (ap (λ k. k.cleared) c.me.view_is j)) ∙ there)) (λ j. record (known_as c.me.inside.seat.table_id c.me.inside.number c.me.inside.seat.me c.me.inside.entries.items c.me.inside.lost c.me.inside.next) { looked = is j ∷ c.me.inside.seat.me.0.part.looked })
 
 pub returns-clause-same : goal.returns-clause-same
 returns-clause-same g c = let o : ℕ = c.number-o.result in let is = c.number-o.ensures in let u = c.load.ensures.2 o refl in λ miss away.
-    as_known (λ z m a. known_as z c.me.inside.number m c.me.inside.entries.items c.me.inside.lost ≡ a) _ _ _ _ _ c.me.inside.seat.me _ _ _ c.me.view_is c.load.ensures.0 (u.2 miss ((λ j. mem (is j) (ap (λ k. k.cleared) c.me.view_is j)) ∙ away)) refl
+    as_known (λ z m a. known_as z c.me.inside.number m c.me.inside.entries.items c.me.inside.lost c.me.inside.next ≡ a) _ _ _ _ _ c.me.inside.seat.me _ _ _ c.me.view_is c.load.ensures.0 (u.2 miss ((λ j. mem (is j) (ap (λ k. k.cleared) c.me.view_is j)) ∙ away)) refl

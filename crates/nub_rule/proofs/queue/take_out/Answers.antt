@@ -45,7 +45,7 @@ pub returns-in_default-clause-same : goal.returns-in_default-clause-same
 returns-in_default-clause-same g c = let low = object_low _ _ _ _ c.p.view_is c.p.invariant.5 c.p.invariant.2 c.args.at c.requires.named in let is = c.number-o.ensures in let o : ℕ = c.number-o.result in let near : o < 128 = omega arith in let here : c.me.inside.seat.me.0.part.spin ≡ Some o = ap (λ k. k.spin) c.me.view_is ∙ (c.requires.inside ∙ ap (λ (z : ℕ). Some z) (sym is)) in let i = c.me.invariant in let h = i.6 in let b = c.bring.ensures in let first = b.first _ (h.queue_in o here) in let same = b.same.2 in let content = same_slot o _ _ _ _ c.slot_mut.ensures.value first in let gone_now = c.leave_line.ensures.none c.me.inside.seat.me.0.part.queue content c.in_default.is in
     let r = refilled o _ (Queue (line_of c.me.inside.seat.me.0.part.queue)) _ c.me.inside.seat.me.1 c.bring.new.seat.me.1 first b.hand b.keys b.distinct b.below in
     let v = values-same c.me.inside.seat.me.1 ((o, Queue (line_of c.me.inside.seat.me.0.part.queue)) ∷ rest c.bring.new.seat.me.1) (λ m. r.elsewhere (value_at m) (λ z. omega arith)) in
-    λ _. as_known (λ z m a. known_as z c.me.inside.number m c.me.inside.entries.items c.me.inside.lost ≡ a) _ _ _ _ _ c.me.inside.seat.me _ _ _ c.me.view_is b.same.0 (λ j. (same j, (o, (gone_now.1 ∙ content) j) ∷ rest c.bring.new.seat.me.1)) (λ j. record (known_as c.me.inside.seat.table_id c.me.inside.number c.me.inside.seat.me c.me.inside.entries.items c.me.inside.lost) { values = v j })
+    λ _. as_known (λ z m a. known_as z c.me.inside.number m c.me.inside.entries.items c.me.inside.lost c.me.inside.next ≡ a) _ _ _ _ _ c.me.inside.seat.me _ _ _ c.me.view_is b.same.0 (λ j. (same j, (o, (gone_now.1 ∙ content) j) ∷ rest c.bring.new.seat.me.1)) (λ j. record (known_as c.me.inside.seat.table_id c.me.inside.number c.me.inside.seat.me c.me.inside.entries.items c.me.inside.lost c.me.inside.next) { values = v j })
 
 pub invariant_of-me-2 : goal.invariant_of-me-2
 invariant_of-me-2 g c = let low = object_low _ _ _ _ c.p.view_is c.p.invariant.5 c.p.invariant.2 c.args.at c.requires.named in let is = c.number-o.ensures in let o : ℕ = c.number-o.result in let near : o < 128 = omega arith in let here : c.me.inside.seat.me.0.part.spin ≡ Some o = ap (λ k. k.spin) c.me.view_is ∙ (c.requires.inside ∙ ap (λ (z : ℕ). Some z) (sym is)) in let i = c.me.invariant in let h = i.6 in let b = c.bring.ensures in let first = b.first _ (h.queue_in o here) in let same = b.same.2 in let content = same_slot o _ _ _ _ c.slot_mut.ensures.value first in let left_now = c.leave_line.ensures.out c.me.inside.seat.me.0.part.queue c.in-Some.length content c.in-Some.is in let far : o < 192 = omega arith in
@@ -61,5 +61,5 @@ pub returns-clause-out : goal.returns-clause-out
 returns-clause-out g c = let low = object_low _ _ _ _ c.p.view_is c.p.invariant.5 c.p.invariant.2 c.args.at c.requires.named in let is = c.number-o.ensures in let o : ℕ = c.number-o.result in let near : o < 128 = omega arith in let here : c.me.inside.seat.me.0.part.spin ≡ Some o = ap (λ k. k.spin) c.me.view_is ∙ (c.requires.inside ∙ ap (λ (z : ℕ). Some z) (sym is)) in let i = c.me.invariant in let h = i.6 in let b = c.bring.ensures in let first = b.first _ (h.queue_in o here) in let same = b.same.2 in let content = same_slot o _ _ _ _ c.slot_mut.ensures.value first in let left_now = c.leave_line.ensures.out c.me.inside.seat.me.0.part.queue c.in-Some.length content c.in-Some.is in
     let zs : List ℕ = less c.me.inside.number c.me.inside.seat.me.0.part.queue in let r = refilled o _ (Queue (line_of zs)) _ c.me.inside.seat.me.1 c.bring.new.seat.me.1 first b.hand b.keys b.distinct b.below in
     let v = values-same c.me.inside.seat.me.1 ((o, Queue (line_of zs)) ∷ rest c.bring.new.seat.me.1) (λ m. r.elsewhere (value_at m) (λ z. omega arith)) in
-    λ _. as_known (λ z m a. known_as z c.me.inside.number m c.me.inside.entries.items c.me.inside.lost ≡ record a { queue = less a.number a.queue; left = less a.number a.left; stand = None; turns = object_of c.args.at ∷ a.turns }) _ _ _ _ _ c.me.inside.seat.me _ _ _ c.me.view_is (c.store.ensures.0 ∙ b.same.0) (c.store.ensures.2 o refl ∙ ((λ j. (with_part (same j) (record (same j).part { queue = less ((same j).number) (same j).part.queue; left = less ((same j).number) (same j).part.left; stand = None; turns = o ∷ (same j).part.turns }), (o, left_now.1 j) ∷ rest c.bring.new.seat.me.1)) ∙ (λ j. (with_part c.me.inside.seat.me.0 (record c.me.inside.seat.me.0.part { queue = less (i.1 j) c.me.inside.seat.me.0.part.queue; left = less (i.1 j) c.me.inside.seat.me.0.part.left; stand = None; turns = o ∷ c.me.inside.seat.me.0.part.turns }), (o, Queue (line_of (less c.me.inside.number c.me.inside.seat.me.0.part.queue))) ∷ rest c.bring.new.seat.me.1))))
-    (λ j. record (known_as c.me.inside.seat.table_id c.me.inside.number c.me.inside.seat.me c.me.inside.entries.items c.me.inside.lost) { queue = zs; left = less c.me.inside.number c.me.inside.seat.me.0.part.left; stand = None; turns = is j ∷ c.me.inside.seat.me.0.part.turns; values = v j })
+    λ _. as_known (λ z m a. known_as z c.me.inside.number m c.me.inside.entries.items c.me.inside.lost c.me.inside.next ≡ record a { queue = less a.number a.queue; left = less a.number a.left; stand = None; turns = object_of c.args.at ∷ a.turns }) _ _ _ _ _ c.me.inside.seat.me _ _ _ c.me.view_is (c.store.ensures.0 ∙ b.same.0) (c.store.ensures.2 o refl ∙ ((λ j. (with_part (same j) (record (same j).part { queue = less ((same j).number) (same j).part.queue; left = less ((same j).number) (same j).part.left; stand = None; turns = o ∷ (same j).part.turns }), (o, left_now.1 j) ∷ rest c.bring.new.seat.me.1)) ∙ (λ j. (with_part c.me.inside.seat.me.0 (record c.me.inside.seat.me.0.part { queue = less (i.1 j) c.me.inside.seat.me.0.part.queue; left = less (i.1 j) c.me.inside.seat.me.0.part.left; stand = None; turns = o ∷ c.me.inside.seat.me.0.part.turns }), (o, Queue (line_of (less c.me.inside.number c.me.inside.seat.me.0.part.queue))) ∷ rest c.bring.new.seat.me.1))))
+    (λ j. record (known_as c.me.inside.seat.table_id c.me.inside.number c.me.inside.seat.me c.me.inside.entries.items c.me.inside.lost c.me.inside.next) { queue = zs; left = less c.me.inside.number c.me.inside.seat.me.0.part.left; stand = None; turns = is j ∷ c.me.inside.seat.me.0.part.turns; values = v j })

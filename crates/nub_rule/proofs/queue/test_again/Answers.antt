@@ -27,7 +27,7 @@ invariant_of-me g c = let i = c.me.invariant in let h = i.6 in let u = c.load.en
     (λ miss. fit_still (c.me.inside.room.items ≡ []) (λ (z : TableId). c.me.inside.number ≡ 0 → z.slots ≤ 192 + vec_capacity c.me.inside.room) _ _ c.me.inside.number c.me.inside.hand c.me.inside.seat.me _ _ c.load.ensures.0 (u.1 miss) i refl (hands-same c.me.inside.seat.me.0.part _ c.me.inside.seat.me.1 _ (λ k. refl) refl refl refl (λ k there nowhere. h.room k there (staged_none Tested _ nowhere)) h.settled h))
 
 pub returns-clause-clear : goal.returns-clause-clear
-returns-clause-clear g c = λ hit. as_known (λ z m a. known_as z c.me.inside.number m c.me.inside.entries.items c.me.inside.lost ≡ record a { stand = staged Clear a.stand }) _ _ _ _ _ c.me.inside.seat.me _ _ _ c.me.view_is c.load.ensures.0 (c.load.ensures.2.0 hit) refl
+returns-clause-clear g c = λ hit. as_known (λ z m a. known_as z c.me.inside.number m c.me.inside.entries.items c.me.inside.lost c.me.inside.next ≡ record a { stand = staged Clear a.stand }) _ _ _ _ _ c.me.inside.seat.me _ _ _ c.me.view_is c.load.ensures.0 (c.load.ensures.2.0 hit) refl
 
 pub returns-clause-tested : goal.returns-clause-tested
-returns-clause-tested g c = λ miss. as_known (λ z m a. known_as z c.me.inside.number m c.me.inside.entries.items c.me.inside.lost ≡ record a { stand = staged Tested a.stand }) _ _ _ _ _ c.me.inside.seat.me _ _ _ c.me.view_is c.load.ensures.0 (c.load.ensures.2.1 miss) refl
+returns-clause-tested g c = λ miss. as_known (λ z m a. known_as z c.me.inside.number m c.me.inside.entries.items c.me.inside.lost c.me.inside.next ≡ record a { stand = staged Tested a.stand }) _ _ _ _ _ c.me.inside.seat.me _ _ _ c.me.view_is c.load.ensures.0 (c.load.ensures.2.1 miss) refl

@@ -31,10 +31,10 @@ invariant_of-me g c = let i = c.me.invariant in let h = i.6 in let out : c.me.in
     (λ miss. fit_still (c.me.inside.room.items ≡ []) (λ (z : TableId). c.me.inside.number ≡ 0 → z.slots ≤ 192 + vec_capacity c.me.inside.room) _ _ c.me.inside.number c.me.inside.hand c.me.inside.seat.me _ _ c.load.ensures.0 ((c.load.ensures.2.1 miss).1) i refl (hands-same c.me.inside.seat.me.0.part _ c.me.inside.seat.me.1 _ (λ k. refl) refl refl refl (λ o is. absurd (some_or_none _ o out is)) h.settled h))
 
 pub returns-clause-asleep : goal.returns-clause-asleep
-returns-clause-asleep g c = λ hit. as_known (λ z m a. known_as z c.me.inside.number m c.me.inside.entries.items c.me.inside.lost ≡ record a { stand = staged Asleep a.stand }) _ _ _ _ _ c.me.inside.seat.me _ _ _ c.me.view_is c.load.ensures.0 (c.load.ensures.2.0 hit) refl
+returns-clause-asleep g c = λ hit. as_known (λ z m a. known_as z c.me.inside.number m c.me.inside.entries.items c.me.inside.lost c.me.inside.next ≡ record a { stand = staged Asleep a.stand }) _ _ _ _ _ c.me.inside.seat.me _ _ _ c.me.view_is c.load.ensures.0 (c.load.ensures.2.0 hit) refl
 
 pub returns-clause-found : goal.returns-clause-found
-returns-clause-found g c = λ miss. as_known (λ z m a. known_as z c.me.inside.number m c.me.inside.entries.items c.me.inside.lost ≡ record a { stand = staged Found a.stand }) _ _ _ _ _ c.me.inside.seat.me _ _ _ c.me.view_is c.load.ensures.0 ((c.load.ensures.2.1 miss).1) refl
+returns-clause-found g c = λ miss. as_known (λ z m a. known_as z c.me.inside.number m c.me.inside.entries.items c.me.inside.lost c.me.inside.next ≡ record a { stand = staged Found a.stand }) _ _ _ _ _ c.me.inside.seat.me _ _ _ c.me.view_is c.load.ensures.0 ((c.load.ensures.2.1 miss).1) refl
 
 pub returns-clause-one : goal.returns-clause-one
 returns-clause-one g c = λ miss. (c.load.ensures.2.1 miss).0

@@ -28,4 +28,4 @@ pub returns-clause-found : goal.returns-clause-found
 returns-clause-found g c = (c.swap-found.ensures.2 c.args.t.0 refl).0
 
 pub returns-clause-owes : goal.returns-clause-owes
-returns-clause-owes g c = as_known (λ z m a. known_as z c.me.inside.number m c.me.inside.entries.items c.me.inside.lost ≡ record a { owed = without c.args.t.0 a.owed }) _ _ _ _ _ c.me.inside.seat.me _ _ _ c.me.view_is c.swap-found.ensures.0 ((c.swap-found.ensures.2 c.args.t.0 refl).1) refl
+returns-clause-owes g c = as_known (λ z m a. known_as z c.me.inside.number m c.me.inside.entries.items c.me.inside.lost c.me.inside.next ≡ record a { owed = without c.args.t.0 a.owed }) _ _ _ _ _ c.me.inside.seat.me _ _ _ c.me.view_is c.swap-found.ensures.0 ((c.swap-found.ensures.2 c.args.t.0 refl).1) refl
