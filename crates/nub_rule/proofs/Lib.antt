@@ -19,3 +19,4 @@ pub mod Seen
 pub mod Turns
 pub mod Room
 pub mod Seats
+pub mod Ends

@@ -1,5 +1,5 @@
 //! Opening and closing a package.
-ghost use Rattle.std.specs.Prelude.{Some, None, false, slice_index_or, ◌≡◌, ℕ, ◌+◌, ◌<◌, ◌≤◌, [], ◌∷◌, ◌++◌, map, length, replicate, IfOk, vec_len, vec_capacity};
+ghost use Rattle.std.specs.Prelude.{Some, None, false, slice_index, slice_index_or, ◌≡◌, ℕ, ◌+◌, ◌<◌, ◌≤◌, [], ◌∷◌, ◌++◌, map, length, replicate, IfOk, vec_len, vec_capacity};
 ghost use Rattle.std.specs.Mem.Slots.{slots_items, slots_filled, slots_len, IsFull};
 ghost use Rattle.std.specs.Mem.Slots.Ownership.{Filled};
 ghost use mathlib.Core.Option.{some};
@@ -37,7 +37,8 @@ pub struct Remains<U: Uses> {
 }
 
 fn words(alloc: Global) -> Result<Vec<u64>, AllocError>
-    ensures { IfOk result (λ w. w.items ≡ replicate word_count 0) }
+    ensures length { IfOk result (λ w. length w.items ≡ word_count) }
+    ensures zeros { IfOk result (λ w. (k : ℕ) → slice_index w.items k ≡ 0) }
 {
     let mut words = Vec::with_capacity(alloc, WORDS)?;
     for _i in 0..WORDS {
