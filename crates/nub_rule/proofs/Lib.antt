@@ -11,6 +11,7 @@ pub mod Spinning
 pub mod SpinSteps
 pub mod ReadySteps
 pub mod QueueSteps
+pub mod Owning
 pub mod BitSteps
 pub mod Handling
 pub mod Naming
