@@ -13,6 +13,7 @@ pub mod ReadySteps
 pub mod QueueSteps
 pub mod Owning
 pub mod BitSteps
+pub mod SemSteps
 pub mod Handling
 pub mod Naming
 pub mod Lessening
