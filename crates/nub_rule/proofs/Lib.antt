@@ -11,7 +11,9 @@ pub mod Spinning
 pub mod SpinSteps
 pub mod ReadySteps
 pub mod QueueSteps
+pub mod Owning
 pub mod BitSteps
+pub mod SemSteps
 pub mod Handling
 pub mod Naming
 pub mod Lessening

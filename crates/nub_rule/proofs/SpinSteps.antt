@@ -63,9 +63,18 @@ module _ {T H W : Type 0} (l : Layout) (traced : Bool) (w : W) (begin : W → �
             (lines-same (λ i. c.owed i ++ c.queue i) (λ i. c.owed i ++ c.queue i) words words' all n p q at few (spin-ready words 1 o low) (λ i. refl) refl lines)
             (shows-spin words words' (spin-shown words 1 o low) c.spinner c.queue c.owner c.spec all n p q at o refl refl refl free (λ k is. no_object k (sym idle_there ∙ (s.spinning n p at k).1 is)) c.shows refl)
             (pens-frame all n p q at traced (length c.log) c.writer words words' (spin-pen words 1 o low) refl c.pens)),
-        inl (hit, (xs, c.shows.count (o - 128),
+        inl (
+          hit,
+          (
+            xs,
+            c.shows.count (o - 128),
             (λ out. let room = room_to_push (length all) n xs (distinct-behind (c.owed o) xs (lines.distinct o)) (λ t is. lines.people o t (inside t is)) (at_within all n p at) (not_true (mem n xs) (λ is. stand_none p.stand o out (there is))) in omega arith),
-            small_of 64 xs (λ t is. let a = lines.people o t (inside t is) in omega arith), there, refl, refl)),
+            small_of 64 xs (λ t is. let a = lines.people o t (inside t is) in omega arith),
+            there,
+            refl,
+            refl,
+          ),
+        ),
       ))
       (λ miss. (p, keeps, tt, subst (λ b. Core l traced w holds (set words (spin_at o) (either b 1 r)) homes (set all n p)) (sym (ne_eqb r 0 miss)) (idle l traced w holds words homes all (spin_at o) n p at c), inr (miss, refl, refl)))
 

@@ -147,7 +147,7 @@ module _ {T H : Type 0} (line line' : ℕ → List ℕ) (words words' : List ℕ
         let zero : get_or words' (ready_at n) 0 ≡ 0 = ws n low ∙ gone.1 in
         let same_stand : (st : Stand) → q.stand ≡ Some st → s ≡ st = λ st e. (let z : Some s ≡ Some st = sym now ∙ e in cc) in
         lines-moved (λ k lo ne. ws k lo)
-        (λ k i ne. dite (ℕ_discrete i o) (λ e. (λ j. mem k (line' (e j))) ∙ (ap (mem k) is ∙ (mem-snoc k n (line o) (λ z. ne (sym z)) ∙ λ j. mem k (line (sym e j)))) ) (λ other. ap (mem k) (elsewhere i other)))
+        (λ k i ne. dite (ℕ_discrete i o) (λ e. (λ j. mem k (line' (e j))) ∙ (ap (mem k) is ∙ (mem-snoc k n (line o) (λ z. ne (sym z)) ∙ λ j. mem k (line (sym e j))))) (λ other. ap (mem k) (elsewhere i other)))
         (λ i. dite (ℕ_discrete i o) (λ e. subst (λ (z : ℕ). Distinct (line' z)) (sym e) (subst Distinct (sym is) (distinct-snoc (line o) n (gone.0 o) (h.distinct o)))) (λ other. subst Distinct (sym (elsewhere i other)) (h.distinct i)))
         record {
           flag = inl zero;

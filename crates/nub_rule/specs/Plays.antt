@@ -119,11 +119,14 @@ module _ {T H W : Type 0} where
   tried fits st me r me' = let p = me.0.part in (m : ℕ) → st.word ≡ bit_at m → (r ≡ 0 → Won fits m me me') × (r ≢ 0 → Becomes me (record p { failed = m ∷ p.failed; turns = without m p.turns }) me')
 
   -- the mutex m was given back, with its value
-  abbrev pub freed : (W → ℕ → ℕ → T → T → H → H) → Step (Slot T) → Sat T H W → ℕ → Sat T H W → Type 0
-  freed after st me r me' = let v = me.0 in let p = v.part in (m : ℕ) → st.word ≡ bit_at m → let e = release_event v.number m in
+  abbrev pub Freed : (W → ℕ → ℕ → T → T → H → H) → ℕ → Sat T H W → ℕ → Sat T H W → Type 0
+  Freed after m me r me' = let v = me.0 in let p = v.part in let e = release_event v.number m in
       (r ≡ 1) × (between : List Event) × (u : Opt H) × Grows v.number p between e
       × (me' ≡ (with_part v (record (told p (p.seen ++ between) e) { held = slice_set p.held m None; share = u; cleared = m ∷ p.cleared }), rest me.1))
       × ((w : W) (s : H) (x y : T) → v.world ≡ Some w → p.share ≡ Some s → Got p m x → me.1 ≡ (value_at m, Value (Some y)) ∷ rest me.1 → u ≡ Some (after w m v.number x y s))
+
+  abbrev pub freed : (W → ℕ → ℕ → T → T → H → H) → Step (Slot T) → Sat T H W → ℕ → Sat T H W → Type 0
+  freed after st me r me' = (m : ℕ) → st.word ≡ bit_at m → Freed after m me r me'
 
   -- the thread has the mutex and its slot first, with a value that the new share allows
   abbrev pub MayFree : (W → ℕ → ℕ → T → T → H → H → Type 0) → (W → ℕ → ℕ → T → T → H → H) → ℕ → Sat T H W → Type 0

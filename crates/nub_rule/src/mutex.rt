@@ -52,6 +52,7 @@ pub fn clear_bit<U: Uses, C: Change<U>>(p: &Package<U>, me: &mut Thread<U>, m: M
     ensures gone { me.new ≡ record me.old { seen = me.new.seen; mine = me.new.mine; places = me.new.places; held = slice_set me.old.held m.0 None; share = me.new.share; cleared = m.0 ∷ me.old.cleared; pen = made me.old.pen; values = slice_set me.old.values m.0 None } }
     ensures share { PicksShare C.after m.0 me.old me.new }
 {
+    prove!(m.0 < p.layout.mutexes);
     bring(&mut me.hand, &mut me.seat, 192 + m.0 as u16);
     me.hand.give();
     p.table
@@ -69,6 +70,7 @@ pub fn take_value<U: Uses>(p: &Package<U>, me: &mut Thread<U>, m: MutexId) -> U:
     ensures out { me.new ≡ record me.old { values = slice_set me.old.values m.0 (Some None) } }
     ensures is_out { IsOut me.new m.0 }
 {
+    prove!(m.0 < p.layout.mutexes);
     bring(&mut me.hand, &mut me.seat, 192 + m.0 as u16);
     take_from(me.seat.slot_mut(&p.table.shared, 192 + m.0 as usize))
 }
@@ -82,6 +84,7 @@ pub fn put_value<U: Uses>(p: &Package<U>, me: &mut Thread<U>, m: MutexId, value:
     ensures value { me.new ≡ record me.old { values = slice_set me.old.values m.0 (Some (Some value)) } }
     ensures is_in { IsIn me.new m.0 value }
 {
+    prove!(m.0 < p.layout.mutexes);
     bring(&mut me.hand, &mut me.seat, 192 + m.0 as u16);
     put_into(me.seat.slot_mut(&p.table.shared, 192 + m.0 as usize), value);
 }

@@ -29,9 +29,12 @@ pub push_line-length-requires : goal.push_line-length-requires
 push_line-length-requires g c = let is = c.number-o.ensures in let o : ℕ = c.number-o.result in let here : c.me.inside.seat.me.0.part.spin ≡ Some o = ap (λ k. k.spin) c.me.view_is ∙ (c.requires.inside ∙ ap (λ (z : ℕ). Some z) (sym is)) in let i = c.me.invariant in let h = i.6 in let b = c.bring.ensures in let first = b.first _ (h.queue_in o here) in let same = b.same.2 in let content = same_slot o _ _ _ _ c.slot_mut.ensures.value first in (c.me.inside.seat.me.0.part.queue, content, h.room o here (ap (λ k. k.stand) c.me.view_is ∙ c.requires.outside))
 
 pub store-requires : goal.store-requires
-store-requires g c = let low = object_low _ _ _ _ c.p.view_is c.p.invariant.5 c.p.invariant.2 c.args.at c.requires.named in let is = c.number-o.ensures in let o : ℕ = c.number-o.result in let near : o < 128 = omega arith in let here : c.me.inside.seat.me.0.part.spin ≡ Some o = ap (λ k. k.spin) c.me.view_is ∙ (c.requires.inside ∙ ap (λ (z : ℕ). Some z) (sym is)) in let i = c.me.invariant in let h = i.6 in let b = c.bring.ensures in let first = b.first _ (h.queue_in o here) in let same = b.same.2 in let content = same_slot o _ _ _ _ c.slot_mut.ensures.value first in let pushed_now = c.push_line-length.ensures c.me.inside.seat.me.0.part.queue content in
-    (search rules, omega arith, pushes _ _ _ _ _ _ _ o _ (c.bring.new.seat.me.0, (o, c.push_line-length.new.slot) ∷ rest c.bring.new.seat.me.1) near (ap (λ v. v.kind) same ∙ i.0) (ap (λ v. v.part.spin) same ∙ here) (ap (λ v. v.part.stand) same ∙ (ap (λ k. k.stand) c.me.view_is ∙ c.requires.outside))
-    (pushed_now.1 ∙ (λ j. length ((sym same j).part.queue ++ (sym (ap (λ v. v.number) same ∙ i.1)) j ∷ []))))
+store-requires g c = let low = object_low _ _ _ _ c.p.view_is c.p.invariant.5 c.p.invariant.2 c.args.at c.requires.named in let is = c.number-o.ensures in let o : ℕ = c.number-o.result in let near : o < 128 = omega arith in let here : c.me.inside.seat.me.0.part.spin ≡ Some o = ap (λ k. k.spin) c.me.view_is ∙ (c.requires.inside ∙ ap (λ (z : ℕ). Some z) (sym is)) in let i = c.me.invariant in let h = i.6 in let b = c.bring.ensures in let first = b.first _ (h.queue_in o here) in let same = b.same.2 in let content = same_slot o _ _ _ _ c.slot_mut.ensures.value first in let pushed_now = c.push_line-length.ensures c.me.inside.seat.me.0.part.queue content in (
+  search rules,
+  omega arith,
+  pushes _ _ _ _ _ _ _ o _ (c.bring.new.seat.me.0, (o, c.push_line-length.new.slot) ∷ rest c.bring.new.seat.me.1) near (ap (λ v. v.kind) same ∙ i.0) (ap (λ v. v.part.spin) same ∙ here) (ap (λ v. v.part.stand) same ∙ (ap (λ k. k.stand) c.me.view_is ∙ c.requires.outside))
+      (pushed_now.1 ∙ (λ j. length ((sym same j).part.queue ++ (sym (ap (λ v. v.number) same ∙ i.1)) j ∷ []))),
+)
 
 pub invariant_of-me : goal.invariant_of-me
 invariant_of-me g c = let low = object_low _ _ _ _ c.p.view_is c.p.invariant.5 c.p.invariant.2 c.args.at c.requires.named in let is = c.number-o.ensures in let o : ℕ = c.number-o.result in let near : o < 128 = omega arith in let here : c.me.inside.seat.me.0.part.spin ≡ Some o = ap (λ k. k.spin) c.me.view_is ∙ (c.requires.inside ∙ ap (λ (z : ℕ). Some z) (sym is)) in let i = c.me.invariant in let h = i.6 in let b = c.bring.ensures in let first = b.first _ (h.queue_in o here) in let same = b.same.2 in let content = same_slot o _ _ _ _ c.slot_mut.ensures.value first in let pushed_now = c.push_line-length.ensures c.me.inside.seat.me.0.part.queue content in let far : o < 192 = omega arith in

@@ -30,9 +30,12 @@ pub leave_line-requires : goal.leave_line-requires
 leave_line-requires g c = let is = c.number-o.ensures in let o : ℕ = c.number-o.result in let here : c.me.inside.seat.me.0.part.spin ≡ Some o = ap (λ k. k.spin) c.me.view_is ∙ (c.requires.inside ∙ ap (λ (z : ℕ). Some z) (sym is)) in let i = c.me.invariant in let h = i.6 in let b = c.bring.ensures in let first = b.first _ (h.queue_in o here) in let same = b.same.2 in let content = same_slot o _ _ _ _ c.slot_mut.ensures.value first in (c.me.inside.seat.me.0.part.queue, content)
 
 pub store-requires : goal.store-requires
-store-requires g c = let low = object_low _ _ _ _ c.p.view_is c.p.invariant.5 c.p.invariant.2 c.args.at c.requires.named in let is = c.number-o.ensures in let o : ℕ = c.number-o.result in let near : o < 128 = omega arith in let here : c.me.inside.seat.me.0.part.spin ≡ Some o = ap (λ k. k.spin) c.me.view_is ∙ (c.requires.inside ∙ ap (λ (z : ℕ). Some z) (sym is)) in let i = c.me.invariant in let h = i.6 in let b = c.bring.ensures in let first = b.first _ (h.queue_in o here) in let same = b.same.2 in let content = same_slot o _ _ _ _ c.slot_mut.ensures.value first in let left_now = c.leave_line.ensures.out c.me.inside.seat.me.0.part.queue c.in-Some.length content c.in-Some.is in let t = c.requires.clear in let num = ap (λ v. v.number) same ∙ i.1 in
-    (search rules, omega arith, leaves _ _ _ _ _ _ _ o _ (c.bring.new.seat.me.0, (o, c.leave_line.new.slot) ∷ rest c.bring.new.seat.me.1) t.0 near (ap (λ v. v.kind) same ∙ i.0) (ap (λ v. v.part.spin) same ∙ here)
-    ((λ j. mem (num j) (same j).part.queue) ∙ left_now.0) (left_now.2 ∙ (λ j. length (less (sym num j) (sym same j).part.queue))))
+store-requires g c = let low = object_low _ _ _ _ c.p.view_is c.p.invariant.5 c.p.invariant.2 c.args.at c.requires.named in let is = c.number-o.ensures in let o : ℕ = c.number-o.result in let near : o < 128 = omega arith in let here : c.me.inside.seat.me.0.part.spin ≡ Some o = ap (λ k. k.spin) c.me.view_is ∙ (c.requires.inside ∙ ap (λ (z : ℕ). Some z) (sym is)) in let i = c.me.invariant in let h = i.6 in let b = c.bring.ensures in let first = b.first _ (h.queue_in o here) in let same = b.same.2 in let content = same_slot o _ _ _ _ c.slot_mut.ensures.value first in let left_now = c.leave_line.ensures.out c.me.inside.seat.me.0.part.queue c.in-Some.length content c.in-Some.is in let t = c.requires.clear in let num = ap (λ v. v.number) same ∙ i.1 in (
+  search rules,
+  omega arith,
+  leaves _ _ _ _ _ _ _ o _ (c.bring.new.seat.me.0, (o, c.leave_line.new.slot) ∷ rest c.bring.new.seat.me.1) t.0 near (ap (λ v. v.kind) same ∙ i.0) (ap (λ v. v.part.spin) same ∙ here)
+      ((λ j. mem (num j) (same j).part.queue) ∙ left_now.0) (left_now.2 ∙ (λ j. length (less (sym num j) (sym same j).part.queue))),
+)
 
 pub invariant_of-me : goal.invariant_of-me
 invariant_of-me g c = let low = object_low _ _ _ _ c.p.view_is c.p.invariant.5 c.p.invariant.2 c.args.at c.requires.named in let is = c.number-o.ensures in let o : ℕ = c.number-o.result in let near : o < 128 = omega arith in let here : c.me.inside.seat.me.0.part.spin ≡ Some o = ap (λ k. k.spin) c.me.view_is ∙ (c.requires.inside ∙ ap (λ (z : ℕ). Some z) (sym is)) in let i = c.me.invariant in let h = i.6 in let b = c.bring.ensures in let first = b.first _ (h.queue_in o here) in let same = b.same.2 in let content = same_slot o _ _ _ _ c.slot_mut.ensures.value first in let gone_now = c.leave_line.ensures.none c.me.inside.seat.me.0.part.queue content c.in_default.is in let far : o < 192 = omega arith in

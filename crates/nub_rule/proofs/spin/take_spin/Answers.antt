@@ -31,8 +31,8 @@ invariant_of-me g c = let low = object_low _ _ _ _ c.p.view_is c.p.invariant.5 c
     let u = c.compare_exchange-found.ensures.2.0 o refl c.if-found-eq0.true in
     let far : o < 192 = omega arith in let near : o < 256 = omega arith in
     fit_moved (c.me.inside.room.items ≡ []) (λ (z : TableId). c.me.inside.number ≡ 0 → z.slots ≤ 192 + vec_capacity c.me.inside.room) _ _ c.me.inside.number c.me.inside.hand _ c.me.inside.seat.me _ _ _ c.compare_exchange-found.ensures.0 u.5 i
-        ((λ j. o ∷ i.2 j) ∙ sym c.take.ensures) (i.6.queue_out o far (λ z. some_or_none _ _ out z), i.3) (near, i.4) refl
-        (hands-spun c.me.inside.seat.me.0.part _ _ _ o u.0 far refl out refl refl refl refl u.2 i.6)
+    ((λ j. o ∷ i.2 j) ∙ sym c.take.ensures) (i.6.queue_out o far (λ z. some_or_none _ _ out z), i.3) (near, i.4) refl
+    (hands-spun c.me.inside.seat.me.0.part _ _ _ o u.0 far refl out refl refl refl refl u.2 i.6)
 
 pub returns-then-found-eq0-clause-won : goal.returns-then-found-eq0-clause-won
 returns-then-found-eq0-clause-won g c = let o : ℕ = c.number-o.result in let u = c.compare_exchange-found.ensures.2.0 o refl c.if-found-eq0.true in
