@@ -1,7 +1,7 @@
 -- The rule at the start, and what it leaves at the end.
-use Rattle.std.proofs.Common.{Bool, false, true, cond, Option as Opt, ◌≡◌, ◌⊎◌, ℕ, zero, suc, ◌+◌, ◌*◌, ◌<◌, ◌≤◌, List, [], ◌∷◌, ◌++◌, map, length, get_or, replicate, refl, sym, ap, ◌∙◌, subst, subst₂, inl, inr, arith, length-append, Some, None, zero-add, ⊎_elim}
+use Rattle.std.proofs.Common.{Bool, false, true, cond, Option as Opt, ◌≡◌, ◌⊎◌, ℕ, zero, suc, ◌+◌, ◌-◌, ◌*◌, ◌<◌, ◌≤◌, List, [], ◌∷◌, ◌++◌, map, length, get_or, replicate, refl, sym, ap, ◌∙◌, subst, subst₂, inl, inr, arith, length-append, Some, None, zero-add, ⊎_elim}
 use Rattle.std.specs.List.{range_with_len}
-use Rattle.std.proofs.lemmas.List.{length-replicate, length-map}
+use Rattle.std.proofs.lemmas.List.{length-replicate, length-map, map-append}
 use Rattle.std.proofs.lemmas.List.FromFn.{length-map-range_with_len}
 use mathlib.Core.Option.{Option, some, none, some-injective, some-ne-none}
 use mathlib.Core.Logic.{dite}
@@ -23,13 +23,13 @@ use Rattle.nub_rule.specs.declared.view.Stand.{Stand}
 use Rattle.nub_rule.specs.declared.view.View.{View}
 use Rattle.nub_rule.specs.declared.view.Kind.TheVariants.{Member, Collector}
 use Rattle.nub_rule.specs.Items.{no_line, Tells, Spinning, Each, Chronicle, Standing, Stands, Current, Wide, Shared, Told, PenFits}
-use Rattle.nub_rule.specs.Parts.{Got, Has, fresh, stands_at, pending_of}
+use Rattle.nub_rule.specs.Parts.{Got, Has, Lacks, fresh, stands_at, pending_of}
 use Rattle.nub_rule.specs.Places.{value_at, word_count, bit_at, spin_at, length_at, count_at, alert_at, ready_at, pen_at, number_at, sem_object, cond_object}
 use Rattle.nub_rule.specs.Rule.{opening_view, member_view, FitsAs, IsKept}
 use Rattle.nub_rule.specs.Known.{Hands}
 use Rattle.nub_rule.specs.Plays.{Sat}
-use Rattle.nub_rule.specs.Slots.{IsDistinct, Below}
-use Rattle.nub_rule.proofs.Turns.{keys}
+use Rattle.nub_rule.specs.Slots.{find, IsDistinct, Below}
+use Rattle.nub_rule.proofs.Turns.{find-here, keys}
 use Rattle.nub_rule.specs.Ends.{firsts, opening_slots, Settles, Leaves}
 use Rattle.nub_rule.proofs.Each.{at_within, at_below, same_at, at_middle, same_elements, at_firsts}
 
@@ -240,9 +240,32 @@ module _ {T H W : Type 0} where
       → (me.0.kind ≡ Member) × (me.0.number ≡ n) × (keys me.1 ≡ hand) × IsDistinct me.1 × Below 256 me.1 × (length me.0.part.held ≡ 64) × Hands me.0.part me.1 × A
   first_fits begin v me n hand A is next bare a = subst (λ (m : Sat T H W). (m.0.kind ≡ Member) × (m.0.number ≡ n) × (keys m.1 ≡ hand) × IsDistinct m.1 × Below 256 m.1 × (length m.0.part.held ≡ 64) × Hands m.0.part m.1 × A) (sym is)
       (refl, next, sym bare, tt, tt, length-replicate {A = Opt T} 64 None, record {
+        below = λ o e. absurd (none_some o e);
         queue_in = λ o e. absurd (none_some o e);
         queue_out = λ o low e. refl;
         value_got = λ m x g. absurd (none_some x (at_replicate 64 m None (Some x) g));
         value_lacked = λ m e. refl;
+        settled = λ e. refl;
         room = λ o e f. absurd (none_some o e);
       }, a)
+
+module _ {T H : Type 0} where
+  lacked : (p : Part T H) (m : ℕ) (h : Opt T) → get_elem? p.held m ≡ some h → ((x : T) → Got p m x → ⊥) → Lacks p m
+  lacked p m None at bare = at
+  lacked p m (Some x) at bare = absurd (bare x at)
+
+  -- a thread that has no bit and no spin word has no slot
+  pub no_slots : (p : Part T H) (slots : List (ℕ × Slot T)) → Hands p slots → Below 256 slots → length p.held ≡ 64 → p.spin ≡ None → ((m : ℕ) (x : T) → Got p m x → ⊥) → slots ≡ []
+  no_slots p [] h low wide free bare = refl
+  no_slots p (x ∷ xs) h low wide free bare = let below = low.0 in let here = find-here x.0 x xs refl in absurd (⊎_elim
+      (λ (l : x.0 < 192). none_some x.1 (sym (h.queue_out x.0 l (λ e. none_some x.0 (sym free ∙ e))) ∙ here))
+      (λ (l : 192 ≤ x.0).
+          let m = x.0 - 192 in
+          let e : 192 + m ≡ x.0 = omega arith in
+          let there = at_below p.held m (omega arith) in
+          let gone = h.value_lacked m (lacked p m there.0 there.1 (bare m)) in
+          none_some x.1 (sym gone ∙ (ap (λ (k : ℕ). find k (x ∷ xs)) e ∙ here)))
+      (cases_lt x.0 192))
+
+pub push_maps : {A B C : Type 0} (f : A → C) (g : B → C) (xs zs : List A) (ys : List B) (x : A) (y : B) → map f xs ≡ map g ys → zs ≡ xs ++ x ∷ [] → f x ≡ g y → map f zs ≡ map g (ys ++ y ∷ [])
+push_maps f g xs zs ys x y e z same = ap (map f) z ∙ (map-append f xs (x ∷ []) ∙ ((λ i. e i ++ same i ∷ []) ∙ sym (map-append g ys (y ∷ []))))

@@ -50,8 +50,8 @@ module _ {T H W : Type 0} where
 
 module _ {T H W : Type 0} where
   -- a thread that may give a mutex back, with its slot brought to the front
-  pub may_free : (allows : W → ℕ → ℕ → T → T → H → H → Type 0) (after : W → ℕ → ℕ → T → T → H → H) (m : ℕ) (z : TableId) (n : ℕ) (es : List Entry) (lo : Bool) (me : Sat T H W) (k : Known T H W) (v : View T H W) (ds : List (ℕ × Slot T))
-      → known_as z n me es lo ≡ k → me.0.number ≡ n → v ≡ me.0 → ((s : Slot T) → find (value_at m) me.1 ≡ Some s → ds ≡ (value_at m, s) ∷ rest ds) → MayGive allows after m k → MayFree allows after m (v, ds)
+  pub may_free : (allows : W → ℕ → ℕ → T → T → H → H → Type 0) (after : W → ℕ → ℕ → T → T → H → H) (m : ℕ) (z : TableId) (n : ℕ) (es : List Entry) (lo : Bool) {nx : ℕ} (me : Sat T H W) (k : Known T H W) (v : View T H W) (ds : List (ℕ × Slot T))
+      → known_as z n me es lo nx ≡ k → me.0.number ≡ n → v ≡ me.0 → ((s : Slot T) → find (value_at m) me.1 ≡ Some s → ds ≡ (value_at m, s) ∷ rest ds) → MayGive allows after m k → MayFree allows after m (v, ds)
   may_free allows after m z n es lo me k v ds is number same first may = let t = subst (λ (j : Known T H W). MayGive allows after m j) (sym is) may in
       subst (λ (v : View T H W). MayFree allows after m (v, ds)) (sym same)
       (t.0, t.1, t.2, first (Value (Some t.1)) (value-found m (Some t.1) me.1 t.3), λ w s world share. subst (λ (i : ℕ). allows w m i t.0 t.1 s (after w m i t.0 t.1 s)) (sym number) (t.4 w s world share))

@@ -1,5 +1,5 @@
 //! Opening and closing a package.
-ghost use Rattle.std.specs.Prelude.{Some, None, false, slice_index, slice_index_or, ◌≡◌, ℕ, ◌+◌, ◌<◌, ◌≤◌, [], ◌∷◌, ◌++◌, map, length, replicate, IfOk, vec_len, vec_capacity};
+ghost use Rattle.std.specs.Prelude.{Some, None, false, slice_index, slice_index_or, ◌≡◌, ◌≢◌, ℕ, ◌+◌, ◌<◌, ◌≤◌, [], ◌∷◌, ◌++◌, map, length, replicate, IfOk, vec_len, vec_capacity};
 ghost use Rattle.std.specs.Mem.Slots.{slots_items, slots_filled, slots_len, IsFull};
 ghost use Rattle.std.specs.Mem.Slots.Ownership.{Filled};
 ghost use mathlib.Core.Option.{some};
@@ -210,18 +210,26 @@ fn gather_all<U: Uses>(
         } = thread;
         shared.join_seat::<Gather>(&mut seat, own);
         add(&mut stored, Stored { entries, lost });
-        if number == 0 {
-            room = kept;
-        }
+        room = first_room(number, kept, room);
     }
     Gathered { seat, stored, room }
+}
+
+// The room of the first thread, whoever else has kept some.
+fn first_room<T: Drop>(number: u32, kept: Vec<T>, room: Vec<T>) -> Vec<T>
+    requires { (kept.items ≡ []) × (room.items ≡ []) }
+    ensures empty { result.items ≡ [] }
+    ensures first { number ≡ 0 → result ≡ kept }
+    ensures later { number ≢ 0 → result ≡ room }
+{
+    if number == 0 { kept } else { room }
 }
 
 // Adds x where there is room.
 fn add<T: Drop>(xs: &mut Vec<T>, x: T)
     requires { vec_len xs.old < vec_capacity xs.old }
     ensures items { xs.new.items ≡ xs.old.items ++ x ∷ [] }
-    ensures room { vec_capacity xs.new ≡ vec_capacity xs.old }
+    ensures room { vec_capacity xs.old ≤ vec_capacity xs.new }
 {
     if xs.push(x).is_err() {
         unreachable!();
@@ -240,6 +248,20 @@ fn drop_queues<T: Drop>(closed: &mut Closed<Slot<T>, Global>)
     }
 }
 
+/// The value in a slot that has one.
+fn value_in<T: Drop>(slot: Slot<T>) -> T
+    requires { (x : T) × (slot ≡ Value (Some x)) }
+    ensures { slot ≡ Value (Some result) }
+{
+    let Slot::Value(cell) = slot else {
+        unreachable!()
+    };
+    let Some(x) = cell else {
+        unreachable!()
+    };
+    x
+}
+
 /// The values in the slots.
 fn values_of<T: Drop>(mut values: Vec<T>, mut closed: Closed<Slot<T>, Global>) -> Vec<T>
     requires full { IsFull closed.slots × (192 ≤ slots_len closed.slots) }
@@ -250,9 +272,7 @@ fn values_of<T: Drop>(mut values: Vec<T>, mut closed: Closed<Slot<T>, Global>) -
 {
     drop_queues(&mut closed);
     for i in QUEUES..closed.slot_count() {
-        let Slot::Value(Some(x)) = closed.take(i) else {
-            unreachable!()
-        };
+        let x = value_in(closed.take(i));
         add(&mut values, x);
     }
     closed.free();

@@ -39,8 +39,8 @@ invariant_of-me g c = let s : ℕ = c.args.s.0 in let i = c.me.invariant in let 
 
 pub returns-clause-event : goal.returns-clause-event
 returns-clause-event g c = let s : ℕ = c.args.s.0 in let i = c.me.invariant in let u = (c.swap.ensures.2 s refl) in
-    as_known (λ z m a. Makes (v_event a.number s) a (known_as z c.me.inside.number m c.me.inside.entries.items c.me.inside.lost)) _ _ _ _ _ c.me.inside.seat.me _ _ _ c.me.view_is c.swap.ensures.0 u.2
+    as_known (λ z m a. Makes (v_event a.number s) a (known_as z c.me.inside.number m c.me.inside.entries.items c.me.inside.lost c.me.inside.next)) _ _ _ _ _ c.me.inside.seat.me _ _ _ c.me.view_is c.swap.ensures.0 u.2
     (u.0, subst (λ (n : ℕ). Grows n c.me.inside.seat.me.0.part u.0 (v_event n s)) i.1 u.1, (λ j. (c.me.inside.seat.me.0.part.seen ++ u.0) ++ v_event (i.1 j) s ∷ []), (λ j. c.me.inside.seat.me.0.part.mine ++ v_event (i.1 j) s ∷ []), refl)
 
 pub returns-clause-cleared : goal.returns-clause-cleared
-returns-clause-cleared g c = let s : ℕ = c.args.s.0 in as_known (λ z m a. let k = known_as z c.me.inside.number m c.me.inside.entries.items c.me.inside.lost in k ≡ record a { seen = k.seen; mine = k.mine; places = k.places; cleared = sem_object s ∷ a.cleared; pen = made a.pen }) _ _ _ _ _ c.me.inside.seat.me _ _ _ c.me.view_is c.swap.ensures.0 (c.swap.ensures.2 s refl).2 refl
+returns-clause-cleared g c = let s : ℕ = c.args.s.0 in as_known (λ z m a. let k = known_as z c.me.inside.number m c.me.inside.entries.items c.me.inside.lost c.me.inside.next in k ≡ record a { seen = k.seen; mine = k.mine; places = k.places; cleared = sem_object s ∷ a.cleared; pen = made a.pen }) _ _ _ _ _ c.me.inside.seat.me _ _ _ c.me.view_is c.swap.ensures.0 (c.swap.ensures.2 s refl).2 refl

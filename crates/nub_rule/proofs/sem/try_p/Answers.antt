@@ -40,12 +40,12 @@ invariant_of-me g c = let s : ℕ = c.args.s.0 in let i = c.me.invariant in let 
     (λ miss. fit_still (c.me.inside.room.items ≡ []) (λ (z : TableId). c.me.inside.number ≡ 0 → z.slots ≤ 192 + vec_capacity c.me.inside.room) _ _ c.me.inside.number c.me.inside.hand c.me.inside.seat.me _ _ c.compare_exchange.ensures.0 (u.1 miss) i refl (hands-same c.me.inside.seat.me.0.part _ c.me.inside.seat.me.1 _ (λ k. refl) refl refl refl h.room h.settled h))
 
 pub returns-clause-lost : goal.returns-clause-lost
-returns-clause-lost g c = let s : ℕ = c.args.s.0 in λ miss. as_known (λ z m a. known_as z c.me.inside.number m c.me.inside.entries.items c.me.inside.lost ≡ record a { failed = sem_object s ∷ a.failed; turns = without (sem_object s) a.turns }) _ _ _ _ _ c.me.inside.seat.me _ _ _ c.me.view_is c.compare_exchange.ensures.0 ((c.compare_exchange.ensures.2 s refl).1 miss) refl
+returns-clause-lost g c = let s : ℕ = c.args.s.0 in λ miss. as_known (λ z m a. known_as z c.me.inside.number m c.me.inside.entries.items c.me.inside.lost c.me.inside.next ≡ record a { failed = sem_object s ∷ a.failed; turns = without (sem_object s) a.turns }) _ _ _ _ _ c.me.inside.seat.me _ _ _ c.me.view_is c.compare_exchange.ensures.0 ((c.compare_exchange.ensures.2 s refl).1 miss) refl
 
 pub returns-clause-event : goal.returns-clause-event
 returns-clause-event g c = let s : ℕ = c.args.s.0 in let i = c.me.invariant in let is_event = (λ j. p_event ((i.1 ∙ ap (λ k. k.number) c.me.view_is) j) s) ∙ sym c.requires.may.1 in λ hit. let u = (c.compare_exchange.ensures.2 s refl).0 hit in
-    as_known (λ z m a. Makes c.args.e a (known_as z c.me.inside.number m c.me.inside.entries.items c.me.inside.lost)) _ _ _ _ _ c.me.inside.seat.me _ _ _ c.me.view_is c.compare_exchange.ensures.0 u.2
+    as_known (λ z m a. Makes c.args.e a (known_as z c.me.inside.number m c.me.inside.entries.items c.me.inside.lost c.me.inside.next)) _ _ _ _ _ c.me.inside.seat.me _ _ _ c.me.view_is c.compare_exchange.ensures.0 u.2
     (u.0, subst (λ (z : ℕ × Event). Grows z.0 c.me.inside.seat.me.0.part u.0 z.1) (λ j. (i.1 j, is_event j)) u.1, (λ j. (c.me.inside.seat.me.0.part.seen ++ u.0) ++ is_event j ∷ []), (λ j. c.me.inside.seat.me.0.part.mine ++ is_event j ∷ []), refl)
 
 pub returns-clause-won : goal.returns-clause-won
-returns-clause-won g c = let s : ℕ = c.args.s.0 in λ hit. as_known (λ z m a. let k = known_as z c.me.inside.number m c.me.inside.entries.items c.me.inside.lost in k ≡ record a { seen = k.seen; mine = k.mine; places = k.places; failed = without (sem_object s) a.failed; turns = without (sem_object s) a.turns; pen = made a.pen }) _ _ _ _ _ c.me.inside.seat.me _ _ _ c.me.view_is c.compare_exchange.ensures.0 ((c.compare_exchange.ensures.2 s refl).0 hit).2 refl
+returns-clause-won g c = let s : ℕ = c.args.s.0 in λ hit. as_known (λ z m a. let k = known_as z c.me.inside.number m c.me.inside.entries.items c.me.inside.lost c.me.inside.next in k ≡ record a { seen = k.seen; mine = k.mine; places = k.places; failed = without (sem_object s) a.failed; turns = without (sem_object s) a.turns; pen = made a.pen }) _ _ _ _ _ c.me.inside.seat.me _ _ _ c.me.view_is c.compare_exchange.ensures.0 ((c.compare_exchange.ensures.2 s refl).0 hit).2 refl

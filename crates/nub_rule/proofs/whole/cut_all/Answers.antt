@@ -1,4 +1,5 @@
 use Rattle.std.proofs.Common.{◌≡◌, rules, arith}
+use Rattle.std.proofs.lemmas.List.{length_push}
 use Rattle.nub_rule.specs.Ends.{first_known}
 use Rattle.nub_rule.proofs.Each.{each-snoc}
 use Rattle.nub_rule.proofs.whole.cut_all.Goals as goal
@@ -9,7 +10,7 @@ loop-parker-preserved g c = let i = c.loop-parker.invariant in let r = c.cut.ens
   kind = search rules;
   next = search rules;
   world = search rules;
-  read = search rules;
+  read = let n = i.read in let m = length_push c.loop-parker.yielded c.in-Some.parker in omega arith;
   count = search rules;
   empty = search rules;
   room = λ z. absurd (omega arith);
