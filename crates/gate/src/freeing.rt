@@ -14,7 +14,13 @@ use std::sync::Wait;
 
 /// Makes the event by clearing the bit, and makes one queued thread ready if the queue isn't empty.
 #[inline]
-pub fn free<U: Uses, C: Change<U>, R: Wait>(rt: &R, p: &Package<U>, me: &mut Thread<U>, at: Object, e: Event)
+pub fn free<U: Uses, C: Change<U>, R: Wait>(
+    rt: &R,
+    p: &Package<U>,
+    me: &mut Thread<U>,
+    at: Object,
+    e: Event,
+)
     requires of { me.old.table_id ≡ p.now.table_id }
     requires named { HasObject p.now.layout at }
     requires outside { IsOutside me.old }
@@ -34,7 +40,13 @@ pub fn free<U: Uses, C: Change<U>, R: Wait>(rt: &R, p: &Package<U>, me: &mut Thr
 
 /// Makes the event by clearing the bit.
 #[inline]
-fn clear<U: Uses, C: Change<U>, R: Wait>(rt: &R, p: &Package<U>, me: &mut Thread<U>, at: Object, e: Event)
+fn clear<U: Uses, C: Change<U>, R: Wait>(
+    rt: &R,
+    p: &Package<U>,
+    me: &mut Thread<U>,
+    at: Object,
+    e: Event,
+)
     requires of { me.old.table_id ≡ p.now.table_id }
     requires named { HasObject p.now.layout at }
     requires outside { IsOutside me.old }

@@ -3,7 +3,7 @@ use Rattle.std.proofs.Common.{◌≡◌, ◌≢◌, ◌⊎◌, Bool, ℕ, ◌+�
 use mathlib.Core.Option.{some, some-injective, some-ne-none}
 use lib.ListN.{get_elem?}
 use Rattle.std.specs.List.{All}
-use Rattle.std.proofs.lemmas.List.{length-map}
+use Rattle.std.proofs.lemmas.List.{length-map, length-replicate}
 use Rattle.atomic_table.proofs.Lists.{at_map}
 use Rattle.larch_actions.specs.declared.event.Event.{Event}
 use Rattle.larch_actions.specs.Actions.{IsClosed, by_thread}
@@ -73,23 +73,27 @@ events-of t k (e ∷ es) = events-at t k e es (eqb e.thread.0 t) (events-of t (k
 module _ {T H W : Type 0} where
   first-is : (p : Shape W) (begin : W → ℕ → H) (n : ℕ) → IsFirst p begin n (first_known {T = T} {H = H} p.table_id p.world begin n)
   first-is p begin n = record {
-      number = refl;
-      rest = record {
-          of = refl;
-          outside = record { spin = refl; queue = refl; owed = refl; left = refl; stand = refl; pen = refl };
-          wait = refl;
-          raised = refl;
-          calling = refl;
-          turns = refl;
-          cleared = refl;
-          looked = refl;
-          taken = λ m x h. absurd (none_held 64 m x h);
-          stored = λ traced lost. (refl, refl) };
-      world = refl;
-      seen = refl;
-      mine = refl;
-      lacks = λ m l. none_there 64 m l;
-      share = refl }
+    number = refl;
+    rest = record {
+      of = refl;
+      outside = record { spin = refl; queue = refl; owed = refl; left = refl; stand = refl; pen = refl };
+      wait = refl;
+      raised = refl;
+      calling = refl;
+      turns = refl;
+      cleared = refl;
+      looked = refl;
+      taken = λ m x h. absurd (none_held 64 m x h);
+      stored = λ traced lost. (refl, refl);
+    };
+    world = refl;
+    seen = refl;
+    mine = refl;
+    lacks = λ m l. none_there 64 m l;
+    size = length-replicate {A = Opt T} 64 None;
+    none = λ m x h. none_held 64 m x h;
+    share = refl;
+  }
 
   pub first_is : (p : Shape W) (begin : W → ℕ → H) (n : ℕ) (t : Known T H W) → t ≡ first_known p.table_id p.world begin n → IsFirst p begin n t
   first_is p begin n t e = let P : Known T H W → Type 0 = λ k. IsFirst p begin n k in subst P (sym e) (first-is p begin n)
@@ -110,9 +114,10 @@ module _ {T H W : Type 0} where
 
   pub whole : (holds : List T → List H → Type 0) (threads : List (Known T H W)) (values : List T) (l : Leaves holds (map (λ t. part_of t) threads) values) → IsWhole threads l.log
   whole holds threads values l = record {
-      closed = (l.spec, l.run, l.nothing_held, l.nothing_begun);
-      seen = λ n t e. (l.history.each n (part_of t) (at_map (λ t. part_of t) threads n t e)).begins;
-      own = λ n t e. (l.history.each n (part_of t) (at_map (λ t. part_of t) threads n t e)).own }
+    closed = (l.spec, l.run, l.nothing_held, l.nothing_begun);
+    seen = λ n t e. (l.history.each n (part_of t) (at_map (λ t. part_of t) threads n t e)).begins;
+    own = λ n t e. (l.history.each n (part_of t) (at_map (λ t. part_of t) threads n t e)).own;
+  }
 
   -- what the closed threads have stored, where none of it is lost, is the history
   pub are_stored : (holds : List T → List H → Type 0) (p : Shape W) (threads : List (Known T H W)) (values : List T) (stored : List Stored) (l : Leaves holds (map (λ t. part_of t) threads) values) → Each (IsDone p) threads → p.traced ≡ true
@@ -123,14 +128,15 @@ module _ {T H W : Type 0} where
       let n2 : length (map (λ t. part_of t) threads) ≡ length threads = length-map threads (λ t. part_of t) in
       let n3 : length (map (λ s. s.entries.items) stored) ≡ length (map (λ t. t.entries) threads) = ap length entries in
       record {
-          threads = λ k e m. let a = l.history.people k (get_or l.log k e) (at_get_or l.log k e m) in omega arith;
-          each = λ t d m whole.
-              let there = some_at threads t (omega arith) in
-              let k = there.0 in
-              let s = get_or stored t d in
-              let at = at_get_or stored t d m in
-              let same : s.entries.items ≡ k.entries = some-injective s.entries.items k.entries (sym (at_map (λ s. s.entries.items) stored t s at) ∙ (ap (λ xs. get_elem? xs t) entries ∙ at_map (λ t. t.entries) threads t k there.1)) in
-              let lost : s.lost ≡ k.lost = some-injective s.lost k.lost (sym (at_map (λ s. s.lost) stored t s at) ∙ (ap (λ xs. get_elem? xs t) losses ∙ at_map (λ t. t.lost) threads t k there.1)) in
-              let own = (done t k there.1).rest.stored traced (sym lost ∙ whole) in
-              let log = l.history.each t (part_of k) (at_map (λ t. part_of t) threads t k there.1) in
-              same ∙ same_entries k.entries (entries_of t l.log) (own.0 ∙ (sym log.placed ∙ sym (numbers-of t 0 l.log))) (own.1 ∙ (sym log.own ∙ sym (events-of t 0 l.log))) }
+        threads = λ k e m. let a = l.history.people k (get_or l.log k e) (at_get_or l.log k e m) in omega arith;
+        each = λ t d m whole.
+            let there = some_at threads t (omega arith) in
+            let k = there.0 in
+            let s = get_or stored t d in
+            let at = at_get_or stored t d m in
+            let same : s.entries.items ≡ k.entries = some-injective s.entries.items k.entries (sym (at_map (λ s. s.entries.items) stored t s at) ∙ (ap (λ xs. get_elem? xs t) entries ∙ at_map (λ t. t.entries) threads t k there.1)) in
+            let lost : s.lost ≡ k.lost = some-injective s.lost k.lost (sym (at_map (λ s. s.lost) stored t s at) ∙ (ap (λ xs. get_elem? xs t) losses ∙ at_map (λ t. t.lost) threads t k there.1)) in
+            let own = (done t k there.1).rest.stored traced (sym lost ∙ whole) in
+            let log = l.history.each t (part_of k) (at_map (λ t. part_of t) threads t k there.1) in
+            same ∙ same_entries k.entries (entries_of t l.log) (own.0 ∙ (sym log.placed ∙ sym (numbers-of t 0 l.log))) (own.1 ∙ (sym log.own ∙ sym (events-of t 0 l.log)));
+      }

@@ -127,8 +127,9 @@ pub whole_lists : (h : List Event) (stored : List Stored) → AreStored h stored
 whole_lists h stored are whole =
     let n : length (lists_of stored) ≡ length stored = length-map stored (λ s. s.entries.items) in
     record {
-        threads = λ i e l. let a = are.threads i e l in omega arith;
-        each = λ t l. let m : t < length stored = omega arith in let d = item_of stored t m in listed stored t d m ∙ are.each t d m (whole t d m) }
+      threads = λ i e l. let a = are.threads i e l in omega arith;
+      each = λ t l. let m : t < length stored = omega arith in let d = item_of stored t m in listed stored t d m ∙ are.each t d m (whole t d m);
+    }
 
 pub counted : (h : List Event) (stored : List Stored) → AreLists h (lists_of stored) → sum_by (λ s. length s.entries.items) stored ≡ length h
 counted h stored are = sym (sum_by-map (λ l. length l) (λ s. s.entries.items) stored) ∙ sum_stored h (lists_of stored) are

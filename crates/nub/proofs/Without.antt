@@ -44,9 +44,10 @@ without_twice t (x ∷ xs) = twice-at t x xs (eqb x t) refl (without_twice t xs)
 
 -- an event stored with its number
 pub stored_more : (es es' : List Entry) (ns ns' : List ℕ) (ms ms' : List Event) (k : ℕ) (e : Event) → (map (λ x. x.number) es ≡ ns) × (map (λ x. x.event) es ≡ ms) → es' ≡ es ++ record { number = k; event = e } ∷ [] → ns' ≡ ns ++ k ∷ [] → ms' ≡ ms ++ e ∷ [] → (map (λ x. x.number) es' ≡ ns') × (map (λ x. x.event) es' ≡ ms')
-stored_more es es' ns ns' ms ms' k e old new n m = let x : Entry = record { number = k; event = e } in
-    (ap (map (λ x. x.number)) new ∙ (map-append (λ x. x.number) es (x ∷ []) ∙ (ap (λ (l : List ℕ). l ++ k ∷ []) old.0 ∙ sym n)),
-     ap (map (λ x. x.event)) new ∙ (map-append (λ x. x.event) es (x ∷ []) ∙ (ap (λ (l : List Event). l ++ e ∷ []) old.1 ∙ sym m)))
+stored_more es es' ns ns' ms ms' k e old new n m = let x : Entry = record { number = k; event = e } in (
+  ap (map (λ x. x.number)) new ∙ (map-append (λ x. x.number) es (x ∷ []) ∙ (ap (λ (l : List ℕ). l ++ k ∷ []) old.0 ∙ sym n)),
+  ap (map (λ x. x.event)) new ∙ (map-append (λ x. x.event) es (x ∷ []) ∙ (ap (λ (l : List Event). l ++ e ∷ []) old.1 ∙ sym m)),
+)
 
 -- the first of small numbers is small
 pub first_small : (n x : ℕ) (xs ys : List ℕ) → ys ≡ x ∷ xs → Small n ys → x < n
@@ -66,10 +67,10 @@ module _ {T H W : Type 0} where
       let more = store e refl t l in
       let number = makes.1.number k (next t) in
       stored_more a.entries d.entries a.places d.places a.mine d.mine k e
-          (has t (sym (ap (λ (z : Known T H W). z.lost) begin) ∙ (sym lost ∙ more.0)))
-          (more.1 ∙ (ap (λ (n : ℕ). c.entries ++ record { number = n; event = e } ∷ []) same ∙ ap (λ (es : List Entry). es ++ record { number = k; event = e } ∷ []) (entries ∙ ap (λ (z : Known T H W). z.entries) begin)))
-          (ap (λ (z : Known T H W). z.places) end ∙ (makes.4 ∙ (ap (λ (ns : List ℕ). ns ++ length (b.seen ++ makes.0) ∷ []) (ap (λ (z : Known T H W). z.places) begin) ∙ ap (λ (n : ℕ). a.places ++ n ∷ []) (sym number))))
-          (ap (λ (z : Known T H W). z.mine) end ∙ (makes.3 ∙ ap (λ (ms : List Event). ms ++ e ∷ []) (ap (λ (z : Known T H W). z.mine) begin)))
+      (has t (sym (ap (λ (z : Known T H W). z.lost) begin) ∙ (sym lost ∙ more.0)))
+      (more.1 ∙ (ap (λ (n : ℕ). c.entries ++ record { number = n; event = e } ∷ []) same ∙ ap (λ (es : List Entry). es ++ record { number = k; event = e } ∷ []) (entries ∙ ap (λ (z : Known T H W). z.entries) begin)))
+      (ap (λ (z : Known T H W). z.places) end ∙ (makes.4 ∙ (ap (λ (ns : List ℕ). ns ++ length (b.seen ++ makes.0) ∷ []) (ap (λ (z : Known T H W). z.places) begin) ∙ ap (λ (n : ℕ). a.places ++ n ∷ []) (sym number))))
+      (ap (λ (z : Known T H W). z.mine) end ∙ (makes.3 ∙ ap (λ (ms : List Event). ms ++ e ∷ []) (ap (λ (z : Known T H W). z.mine) begin)))
 
   -- a thread that slept in the queue of o stands nowhere
   pub after_sleep : (old lv sl : Known T H W) (o : ℕ) (f : List ℕ) → old.stand ≡ None → lv ≡ record old { count = lv.count; failed = f; stand = lv.stand } → (o < 128 → sl ≡ record lv { stand = None; turns = o ∷ lv.turns }) → (128 ≤ o → sl ≡ record lv { stand = None })

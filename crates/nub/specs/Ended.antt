@@ -32,6 +32,8 @@ module _ {T H W : Type 0} where
     pub seen : t.seen ≡ []
     pub mine : t.mine ≡ []
     pub lacks : (m : ℕ) → m < 64 → get_elem? t.held m ≡ some None
+    pub size : length t.held ≡ 64
+    pub none : (m : ℕ) (x : T) → ¬ (get_elem? t.held m ≡ some (Some x))
     pub share : t.share ≡ Some (begin p.world n)
 
   -- the thread n of the package, which holds no mutex

@@ -4,9 +4,11 @@ ghost use Rattle.larch_actions.specs.declared.event.Event.{Event};
 ghost use Rattle.nub_rule.specs.declared.view.Pen.TheVariants.{No, Taken, Read, Made};
 ghost use Rattle.nub_rule.specs.Parts.{MayTell};
 
-use nub_rule::{Package, Thread, Uses, give_pen, next_number, read_number, store_event, take_pen, write_number};
 use crossbeam_utils::Backoff;
 use larch_actions::Event;
+use nub_rule::{
+    Package, Thread, Uses, give_pen, next_number, read_number, store_event, take_pen, write_number,
+};
 use std::sync::Wait;
 
 /// In a traced package takes the pen and reads the number of the next event. In an untraced one it does nothing.

@@ -8,8 +8,8 @@ ghost use Rattle.nub_rule.specs.Objects.{object_of, HasObject};
 ghost use Rattle.nub_rule.specs.Parts.{IsClear};
 ghost use Rattle.nub_rule.specs.Plays.{behind, less};
 
-use nub_rule::{Object, Package, Thread, Uses, pop_queue, push_queue, set_ready, take_out};
 use larch_actions::ThreadId;
+use nub_rule::{Object, Package, Thread, Uses, pop_queue, push_queue, set_ready, take_out};
 
 /// Puts the thread last into the queue.
 pub fn push<U: Uses>(p: &Package<U>, me: &mut Thread<U>, at: Object)

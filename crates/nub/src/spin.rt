@@ -6,8 +6,8 @@ ghost use Rattle.nub_rule.specs.Objects.{object_of, HasObject};
 ghost use Rattle.nub_rule.specs.Parts.{stands_at};
 ghost use Rattle.nub_rule.specs.Plays.{HasReason};
 
-use nub_rule::{Object, Package, Thread, Uses, Why, give_spin, take_spin};
 use crossbeam_utils::Backoff;
+use nub_rule::{Object, Package, Thread, Uses, Why, give_spin, take_spin};
 use std::sync::Wait;
 
 /// Takes the spin word of the object, for this reason.

@@ -5,8 +5,8 @@ ghost use Rattle.std.specs.Option.{IfSome};
 ghost use Rattle.larch_actions.specs.declared.event.Event.{Event};
 ghost use Rattle.nub.specs.History.{AreStored, IsOf, SameAt};
 
-use nub_rule::{Entry, Stored};
 use larch_actions::{Action, Event, ThreadId};
+use nub_rule::{Entry, Stored};
 use std::alloc::{AllocError, Global};
 
 // Stands at a place until its event is written there.

@@ -8,8 +8,8 @@ ghost use Rattle.nub.specs.Ended.{IsFirst, IsDone, KeepsLocks, IsWhole};
 
 use super::closed::Closed;
 use super::trace_order::in_order;
-use nub_rule::{Package, Remains, Thread, Uses};
 use larch_actions::Layout;
+use nub_rule::{Package, Remains, Thread, Uses};
 use std::alloc::{AllocError, Global};
 
 /// A package and its threads, in order of their numbers. Its one refusal is want of memory, and then the values are dropped.

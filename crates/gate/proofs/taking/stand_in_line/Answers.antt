@@ -19,8 +19,9 @@ returns-then-test_again-eq0 g c =
     let there : c.remove.result ≡ true = c.remove.ensures.there ∙ (ap (λ k. mem k.number k.queue) clear ∙ (ap (λ k. mem k.number k.queue) c.push.ensures ∙ mem_last c.enter.new.me.number c.enter.new.me.queue)) in
     let out = c.remove.ensures.out there in
     record {
-        rest = search rules;
-        turns = ap (λ k. without o k.turns) c.leave.ensures ∙ (ap (λ k. without o k.turns) out ∙ (without_own o c.test_again.new.me.turns ∙ (ap (λ k. without o k.turns) clear ∙ (ap (λ k. without o k.turns) c.push.ensures ∙ ap (λ k. without o k.turns) c.enter.ensures.inside)))) }
+      rest = search rules;
+      turns = ap (λ k. without o k.turns) c.leave.ensures ∙ (ap (λ k. without o k.turns) out ∙ (without_own o c.test_again.new.me.turns ∙ (ap (λ k. without o k.turns) clear ∙ (ap (λ k. without o k.turns) c.push.ensures ∙ ap (λ k. without o k.turns) c.enter.ensures.inside))));
+    }
 
 pub returns-else-test_again-eq0 : goal.returns-else-test_again-eq0
 returns-else-test_again-eq0 g c =

@@ -9,5 +9,6 @@ loop-preserved g c =
     let o = object_of c.args.at in
     let lost = c.try_take.ensures.lost c.if-try_take.false in
     record {
-        same = search rules;
-        turns = c.stand_in_line.ensures.turns ∙ (ap (λ k. without o k.turns) lost ∙ (without_twice o c.loop.me.turns ∙ c.loop.invariant.turns)) }
+      same = search rules;
+      turns = c.stand_in_line.ensures.turns ∙ (ap (λ k. without o k.turns) lost ∙ (without_twice o c.loop.me.turns ∙ c.loop.invariant.turns));
+    }

@@ -33,17 +33,18 @@ place_all-requires c = λ k d l.
 
 pub loop-s-preserved : goal.loop-s-preserved
 loop-s-preserved c = record {
-    long = search rules;
-    fills = λ h given t l.
-        let stored = c.args.stored.now in
-        let i = c.loop-s.s-index in
-        let are = whole_lists h stored given (c.are_whole.ensures (search rules)) in
-        let of = are_of h stored i c.s-item.result are c.loop-s-test.true c.s-item.is in
-        let P : List Entry → Type 0 = λ ys. All (λ x. SameAt h c.place_all.new.places.items x.number) ys in
-        ⊎_elim
-            (λ (e : t ≡ i). subst P (sym (ap (λ (n : ℕ). get_or (lists_of stored) n []) e ∙ read stored i c.s-item.result c.loop-s-test.true c.s-item.is)) (c.place_all.ensures.fills h of))
-            (λ (n : t ≢ i). λ k d m. c.place_all.ensures.keeps h of (get_or (get_or (lists_of stored) t []) k d).number (c.loop-s.invariant.fills h given t (omega arith) k d m))
-            (cases_eq t i) }
+  long = search rules;
+  fills = λ h given t l.
+      let stored = c.args.stored.now in
+      let i = c.loop-s.s-index in
+      let are = whole_lists h stored given (c.are_whole.ensures (search rules)) in
+      let of = are_of h stored i c.s-item.result are c.loop-s-test.true c.s-item.is in
+      let P : List Entry → Type 0 = λ ys. All (λ x. SameAt h c.place_all.new.places.items x.number) ys in
+      ⊎_elim
+      (λ (e : t ≡ i). subst P (sym (ap (λ (n : ℕ). get_or (lists_of stored) n []) e ∙ read stored i c.s-item.result c.loop-s-test.true c.s-item.is)) (c.place_all.ensures.fills h of))
+      (λ (n : t ≢ i). λ k d m. c.place_all.ensures.keeps h of (get_or (get_or (lists_of stored) t []) k d).number (c.loop-s.invariant.fills h given t (omega arith) k d m))
+      (cases_eq t i);
+}
 
 pub returns : goal.returns
 returns c = λ h given.
