@@ -7,7 +7,7 @@ use Rattle.std.proofs.lemmas.List.{length-set}
 use Rattle.std.proofs.lemmas.Bool.{cases_eq}
 use Rattle.std.proofs.lemmas.Bool.Decides.{nat_tests}
 use Rattle.atomic_table.proofs.Lists.{at_set}
-use Rattle.sum_uses.specs.declared.Added.{Added}
+use Rattle.sum_uses.specs.declared.added.Added.{Added}
 
 -- what a share has added under the mutex m
 abbrev pub added : ℕ → List Added → ℕ

@@ -1,8 +1,8 @@
-//! Sums that threads add up under mutexes.
+//! The use of the package by scripts.
 #![tactic(auto)]
 
-/// An addition under a mutex.
-pub struct Added {
-    pub mutex: u64,
-    pub amount: u64,
-}
+mod added;
+mod sums;
+
+pub use added::Added;
+pub use sums::{AddChange, SumUses};

@@ -13,8 +13,8 @@ ghost use Rattle.nub_rule.specs.Plays.{acquire_event, release_event};
 ghost use Rattle.nub.specs.Rest.{AtRest, Adds, IsSame};
 
 use gate::{free, take};
-use nub_rule::{Change, Object, Package, Thread, Uses, put_value, take_value};
 use larch_actions::{Action, Event, MutexId, ThreadId};
+use nub_rule::{Change, Object, Package, Thread, Uses, put_value, take_value};
 use std::sync::Wait;
 
 /// Takes the mutex, and its value.
