@@ -1,8 +1,8 @@
 -- Sets of threads as bits, and as lists.
-use Rattle.std.proofs.Common.{not, set, length, get_or, zero, suc, ◌*◌, ◌%◌, ◌⊎◌, inl, inr, ⊎_elim, subst, w64, ◌≡◌, ◌≢◌, ◌^◌, ◌<◌, ℕ, Bool, true, false, cond, eqb, List, [], ◌∷◌, ◌++◌, refl, sym, ap, ◌∙◌, arith, eq-eqb, ne_eqb}
-use Rattle.std.specs.Int.{bit_at}
+use Rattle.std.proofs.Common.{not, set, length, get_or, zero, suc, ◌*◌, ◌%◌, ◌≤◌, ◌⊎◌, bit_and, inl, inr, ⊎_elim, subst, w64, ◌≡◌, ◌≢◌, ◌^◌, ◌<◌, ℕ, Bool, true, false, cond, eqb, List, [], ◌∷◌, ◌++◌, refl, sym, ap, ◌∙◌, arith, eq-eqb, ne_eqb}
+use Rattle.std.specs.Int.{bit_at, bit_not}
 use Rattle.std.specs.Int.Bits.{bit_or}
-use Rattle.std.proofs.lemmas.Nat.Bits.{bit_at_or, bit_at-lt, bit_at-zero, bit_at-pow_same, bit_at-pow_other, bit_at_set_same, bit_at_set_other, same_from_bits, same_from_bits_below}
+use Rattle.std.proofs.lemmas.Nat.Bits.{bit_at_or, bit_at-lt, bit_at-zero, bit_at-pow_same, bit_at-pow_other, bit_at_set_same, bit_at_set_other, same_from_bits, same_from_bits_below, bit_at_clear_same, bit_at_clear_other, bit_at_above, bit_at_and}
 use mathlib.Core.Logic.{dite}
 use native.Mathlib.Decide.{ℕ_discrete}
 use Rattle.larch_actions.specs.declared.thread_set.ThreadSet.{ThreadSet}
@@ -58,6 +58,21 @@ pub in_set-insert : (n t k : ℕ) → t < 64 → eqb (bit_at (bit_or n (1 * 2 ^ 
 in_set-insert n t k low = dite (ℕ_discrete t k)
     (λ e. ap (λ b. eqb b 1) (ap (bit_at (bit_or n (1 * 2 ^ t % 18446744073709551616))) (sym e) ∙ bit_at_set_same w64 n t low) ∙ sym (ap (λ b. cond b true (eqb (bit_at n k) 1)) (eq-eqb t k e)))
     (λ ne. ap (λ b. eqb b 1) (bit_at_set_other w64 n t low k (λ z. ne (sym z))) ∙ sym (ap (λ b. cond b true (eqb (bit_at n k) 1)) (ne_eqb t k ne)))
+
+below_or : (k : ℕ) → (k < 64) ⊎ (64 ≤ k)
+below_or k = grind arith
+
+kept_bit : (n t k : ℕ) → t < 64 → n < 2 ^ 64 → (t ≡ k → ⊥) → bit_at (bit_and n (bit_not w64 (1 * 2 ^ t % 18446744073709551616))) k ≡ bit_at n k
+kept_bit n t k low fits ne = ⊎_elim
+    (λ (lt : k < 64). bit_at_clear_other w64 n t low k lt (λ z. ne (sym z)))
+    (λ (ge : 64 ≤ k). let gone = bit_at_above n 64 k fits ge in let both = bit_at_and n (bit_not w64 (1 * 2 ^ t % 18446744073709551616)) k in omega arith)
+    (below_or k)
+
+-- a set of bits that has one less
+pub in_set-remove : (n t k : ℕ) → t < 64 → n < 2 ^ 64 → eqb (bit_at (bit_and n (bit_not w64 (1 * 2 ^ t % 18446744073709551616))) k) 1 ≡ cond (eqb t k) false (eqb (bit_at n k) 1)
+in_set-remove n t k low fits = let mask = bit_not w64 (1 * 2 ^ t % 18446744073709551616) in dite (ℕ_discrete t k)
+    (λ e. ap (λ b. eqb b 1) (ap (bit_at (bit_and n mask)) (sym e) ∙ bit_at_clear_same w64 n t low) ∙ sym (ap (λ b. cond b false (eqb (bit_at n k) 1)) (eq-eqb t k e)))
+    (λ ne. ap (λ b. eqb b 1) (kept_bit n t k low fits ne) ∙ sym (ap (λ b. cond b false (eqb (bit_at n k) 1)) (ne_eqb t k ne)))
 
 is_one : (b : ℕ) → eqb b 1 ≡ true → b ≡ 1
 is_one b e = dite (ℕ_discrete b 1) (λ i. i) (λ ne. absurd (let f : false ≡ true = sym (ne_eqb b 1 ne) ∙ e in cc))

@@ -1,3 +1,4 @@
 pub mod Layout
 pub mod Sets
 pub mod Actions
+pub mod State

@@ -5,7 +5,11 @@
 #![tactic(auto)]
 
 mod event;
+mod state;
+#[cfg(test)]
+mod tests;
 mod thread_set;
 
 pub use event::{Action, Broken, CondId, Event, Layout, MutexId, Pending, SemId, ThreadId};
+pub use state::{State, Totals};
 pub use thread_set::ThreadSet;

@@ -11,6 +11,7 @@ pub struct ThreadSet {
 
 impl ThreadSet {
     ghost use Rattle.larch_actions.specs.Sets.{in_set, set_of};
+    ghost use Rattle.larch_actions.specs.Actions.{MayLeave};
 
     /// The set of no thread.
     pub fn empty() -> ThreadSet
@@ -29,11 +30,28 @@ impl ThreadSet {
         self.bits |= 1 << t.0;
     }
 
+    /// Takes a thread out.
+    pub fn remove(&mut self, t: ThreadId)
+        requires { t.0 < 64 }
+        ensures members { (k : ℕ) → in_set self.new k ≡ cond (eqb t.0 k) false (in_set self.old k) }
+    {
+        let bits = self.bits;
+        self.bits = bits & !(1 << t.0);
+    }
+
     /// Whether the thread is in the set.
     pub fn has(&self, t: ThreadId) -> bool
         requires { t.0 < 64 }
         ensures { result ≡ in_set self.now t.0 }
     {
         (self.bits >> t.0) & 1 == 1
+    }
+
+    /// Whether a Signal may leave that set of this one: no thread, or some of its threads and not all.
+    pub(crate) fn may_leave(&self, left: &ThreadSet) -> bool
+        ensures sound { result ≡ true → MayLeave (in_set self.now) (in_set left.now) }
+        ensures complete { MayLeave (in_set self.now) (in_set left.now) → result ≡ true }
+    {
+        left.bits == 0 || (left.bits | self.bits) == self.bits && left.bits != self.bits
     }
 }

@@ -1,0 +1,11 @@
+pub mod Numbers
+pub mod Levels
+pub mod Parts
+pub mod Said
+pub mod Shape
+pub mod Taken
+pub mod Tasks
+pub mod Texts
+pub mod Turns
+pub mod Uses
+pub mod Views

@@ -1,0 +1,96 @@
+//! The commands, and the reading of all words.
+ghost use Rattle.std.specs.Prelude.{◌≡◌, ◌≢◌, [], ◌∷◌, IfOk, IsErr, codes, map};
+ghost use Rattle.std.specs.String.{string_bytes};
+ghost use Rattle.command_line.specs.Grammar.{HasOptions, IsInRange, Say, SayNothing, Task};
+ghost use Rattle.command_line.specs.Tasks.{task_of};
+
+use crate::number::read_number;
+use crate::options::read_options;
+use std::alloc::Global;
+
+/// What a caller prints where the words say no command.
+pub const USAGE: &str =
+    "usage: firefly check | run | index DIR [options] | trace DIR [options] | sample SEED FILES";
+
+/// What follows `index` or `trace`. The directory is lent by the words.
+#[derive(Clone, Copy, Debug, PartialEq)]
+pub struct IndexOptions<'a> {
+    pub dir: &'a str,
+    pub walkers: u32,
+    pub parsers: u32,
+    pub mergers: u32,
+    pub stop_after: Option<u64>,
+}
+
+/// A command, as the words say it.
+#[derive(Clone, Copy, Debug, PartialEq)]
+pub enum Command<'a> {
+    Check,
+    Run,
+    Index(IndexOptions<'a>),
+    Trace(IndexOptions<'a>),
+    Sample { seed: u64, files: u32 },
+}
+
+/// Why words were not read: they say no command, or memory ran out.
+#[derive(Clone, Copy, Debug, PartialEq)]
+pub enum WordsFault {
+    Usage,
+    Memory,
+}
+
+/// The command that the words after the program's name say. Memory may run out only for `index` and
+/// `trace`.
+pub fn read_words<'a>(alloc: Global, words: &'a [String]) -> Result<Command<'a>, WordsFault>
+    ensures said { IfOk result (λ c. Say (map string_bytes words.entry.now) (task_of c)) }
+    ensures only { IfOk result (λ c. (t : Task)
+        → Say (map string_bytes words.entry.now) t → t ≡ task_of c) }
+    ensures in_range { IfOk result (λ c. IsInRange (task_of c)) }
+    ensures usage { result ≡ Err WordsFault.Usage
+        → SayNothing (map string_bytes words.entry.now) }
+    ensures memory { result ≡ Err WordsFault.Memory → (t : Task)
+        → Say (map string_bytes words.entry.now) t → HasOptions t }
+{
+    let Some((first, rest)) = words.split_first() else {
+        return Err(WordsFault::Usage);
+    };
+    match first.as_str() {
+        "check" => alone(rest, Command::Check),
+        "run" => alone(rest, Command::Run),
+        "index" => Ok(Command::Index(read_options(alloc, rest)?)),
+        "trace" => Ok(Command::Trace(read_options(alloc, rest)?)),
+        "sample" => read_sample(rest),
+        _ => Err(WordsFault::Usage),
+    }
+}
+
+// The command, where no word follows.
+fn alone<'a>(rest: &[String], command: Command<'a>) -> Result<Command<'a>, WordsFault>
+    ensures ok { IfOk result (λ c. (c ≡ command.entry) × (map string_bytes rest.now ≡ [])) }
+    ensures usage { IsErr result → map string_bytes rest.now ≢ [] }
+{
+    if rest.is_empty() {
+        Ok(command)
+    } else {
+        Err(WordsFault::Usage)
+    }
+}
+
+// The words after `sample`.
+fn read_sample<'a>(rest: &[String]) -> Result<Command<'a>, WordsFault>
+    ensures said { IfOk result (λ c. Say (codes "sample" ∷ map string_bytes rest.now) (task_of c)) }
+    ensures usage { IsErr result → SayNothing (codes "sample" ∷ map string_bytes rest.now) }
+{
+    let [seed, files] = rest else {
+        return Err(WordsFault::Usage);
+    };
+    let seed = read_number(seed.as_str(), 0, u64::MAX);
+    let files = read_number(files.as_str(), 1, 20_000);
+    match (seed, files) {
+        (Some(seed), Some(files)) => Ok(Command::Sample {
+            seed,
+            files: files as u32,
+        }),
+        _ => Err(WordsFault::Usage),
+    }
+}

@@ -1,0 +1,3 @@
+pub mod Found
+pub mod TreeLooks
+pub mod Saying

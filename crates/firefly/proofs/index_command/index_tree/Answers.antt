@@ -1,0 +1,42 @@
+use Rattle.std.proofs.Common.{◌≡◌, ℕ, ◌+◌, rules, refl, sym, inl, subst, ◌∷◌, [], Some, IfSome}
+use Rattle.firefly_outside.specs.Under.{AreMany}
+use Rattle.firefly_outside.specs.declared.tree.Kind.TheVariants.{File}
+use Rattle.walker.specs.Closing.{IsFaultUnder}
+use Rattle.firefly.specs.Changes.{Notes, change_of}
+use Rattle.firefly.specs.Looks.{look_of}
+use Rattle.firefly.specs.Texts.{stopped_message, unreadable_message}
+use Rattle.firefly.proofs.TreeLooks.{none-rose-one, among-failed}
+use Rattle.firefly.proofs.index_command.index_tree.Goals as goal
+
+pub returns-in-Stopped-clause-answers : goal.returns-in-Stopped-clause-answers
+returns-in-Stopped-clause-answers g c =
+    let w = c.in-Stopped.ensures in
+    let n = w.numbers.0 in
+    let allowed : c.unwrap_or.result ≡ n = search rules in
+    let dir = c.args.options.now.dir.now in
+    let notes = change_of g.N.Sink.held g.N.Sink.faults c.args.notes.now c.say_stopped.new.notes in (
+      n,
+      w.numbers.1,
+      subst (λ (k : ℕ). IfSome (g.S.Tree.tree c.args.tree.now) (λ t. AreMany t dir File k)) w.numbers.2 w.answers,
+      none-rose-one _ _ w.count,
+      (refl, refl),
+      subst (λ (k : ℕ). Notes notes (stopped_message k n)) w.numbers.2 (subst (λ (k : ℕ). Notes notes (stopped_message c.in-Stopped.found k)) allowed c.say_stopped.ensures),
+    )
+
+pub returns-in-ReadFault-clause-answers : goal.returns-in-ReadFault-clause-answers
+returns-in-ReadFault-clause-answers g c =
+    let w = c.in-ReadFault.ensures in
+    let look = look_of g.S.Tree.tree g.S.Tree.may_fail g.S.Tree.calls g.S.Tree.faults in
+    let dir = c.args.options.now.dir.now in
+    let path = c.in-ReadFault.path in (
+      path,
+      record {
+        before = look c.args.tree.now;
+        now = look c.walk.new.tree;
+        among = inl (refl, refl);
+        rose = w.count.1;
+        told = among-failed (λ t. IsFaultUnder t dir (g.S.Tree.may_fail c.args.tree.now) path) (g.S.Tree.tree c.args.tree.now) _ _ path w.answers w.failed;
+      },
+      (refl, refl),
+      search rules,
+    )

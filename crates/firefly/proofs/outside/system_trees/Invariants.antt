@@ -1,0 +1,11 @@
+use Rattle.std.proofs.Common.{◌≡◌, length, None}
+use Rattle.std.proofs.Common.{map}
+use Rattle.firefly.specs.Looks.{AllTell, looks_of}
+use Rattle.firefly.specs.Looks.{unseen}
+use Rattle.firefly.proofs.outside.system_trees.Given as goal
+
+abbrev pub invariant-loop-made : goal.invariant-loop-made
+invariant-loop-made g l = record {
+  many : length l.trees.items ≡ l.made;
+  told : AllTell None (looks_of (λ t. unseen t.faults) l.trees.items);
+}

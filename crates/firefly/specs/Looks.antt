@@ -1,0 +1,52 @@
+-- What is seen of the trees that were handed in, before a call and after it.
+use Rattle.std.specs.Prelude.{◌≡◌, ◌⊎◌, ℕ, List, [], ◌∷◌, Option, Some, None}
+use Rattle.firefly_outside.specs.Trees.{Told, Path, Calls}
+
+-- what is seen of one tree: what it tells, which paths may fail, the calls made on it, and its count of faults
+pub record Look : Type 0 where
+  pub told : Option Told
+  pub weak : List Path
+  pub calls : Calls
+  pub faults : ℕ
+
+abbrev pub look_of : {S : Type 0} → (S → Option Told) → (S → List Path) → (S → Calls) → (S → ℕ) → S → Look
+look_of tree weak calls faults s = record { told = tree s; weak = weak s; calls = calls s; faults = faults s }
+
+abbrev pub look_at : {S : Type 0} → (S → Look) → Option S → Option Look
+look_at look None = None
+look_at look (Some s) = Some (look s)
+
+abbrev pub looks_of : {S : Type 0} → (S → Look) → List (Option S) → List (Option Look)
+looks_of look [] = []
+looks_of look (t ∷ ts) = look_at look t ∷ looks_of look ts
+
+-- each tree is there, and tells this
+abbrev pub AllTell : Option Told → List (Option Look) → Type 0
+AllTell told [] = Unit {0}
+AllTell told (None ∷ ts) = ⊥
+AllTell told (Some l ∷ ts) = (l.told ≡ told) × AllTell told ts
+
+-- all trees are there, and tell the same tree or nothing
+abbrev pub Agree : List (Option Look) → Type 0
+Agree ts = (told : Option Told) × AllTell told ts
+
+-- what the first of them tells
+abbrev pub told_by : List (Option Look) → Option Told
+told_by [] = None
+told_by (None ∷ ts) = None
+told_by (Some l ∷ ts) = l.told
+
+-- each place holds its own tree: the trees tell what they told, and the paths that may fail are the same
+abbrev pub KeepTrees : List (Option Look) → List (Option Look) → Type 0
+KeepTrees [] [] = Unit {0}
+KeepTrees (Some a ∷ xs) (Some b ∷ ys) = (b.told ≡ a.told) × (b.weak ≡ a.weak) × KeepTrees xs ys
+KeepTrees _ _ = ⊥
+
+-- one of the trees, before the call and after it
+abbrev pub Among : List (Option Look) → List (Option Look) → Look → Look → Type 0
+Among (Some a ∷ xs) (Some b ∷ ys) old new = ((old ≡ a) × (new ≡ b)) ⊎ Among xs ys old new
+Among _ _ old new = ⊥
+
+-- a tree that tells nothing, with this count of faults
+abbrev pub unseen : ℕ → Look
+unseen faults = record { told = None; weak = []; calls = record { listed = []; files_read = []; failed = [] }; faults = faults }

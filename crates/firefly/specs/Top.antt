@@ -1,0 +1,37 @@
+-- What the top call answers.
+use Rattle.std.specs.Prelude.{◌≡◌, ◌⊎◌, List, Option}
+use Rattle.command_line.specs.Grammar.{Task, check, run, index, trace, sample}
+use Rattle.firefly.specs.declared.status.Status.{Status}
+use Rattle.firefly.specs.declared.status.Status.TheVariants.{Usage, Memory}
+use Rattle.firefly.specs.Changes.{Change, IsStill, Notes}
+use Rattle.firefly.specs.Texts.{usage_message, memory_message}
+use Rattle.firefly.specs.Check.{CheckAnswers}
+use Rattle.firefly.specs.Looks.{Look}
+use Rattle.firefly.specs.IndexCommand.{IndexAnswers}
+
+-- what a call did to the objects that were handed in
+pub record Effects : Type 0 where
+  pub trees : List (Option Look)
+  pub new_trees : List (Option Look)
+  pub input : Change
+  pub out : Change
+  pub notes : Change
+
+abbrev pub effects_of : List (Option Look) → List (Option Look) → Change → Change → Change → Effects
+effects_of trees new_trees input out notes = record { trees = trees; new_trees = new_trees; input = input; out = out; notes = notes }
+
+-- words that say no command that is built: nothing is read or printed
+abbrev pub UsageAnswers : Effects → Status → Type 0
+UsageAnswers e status = (status ≡ Usage) × (e.new_trees ≡ e.trees) × IsStill e.input × IsStill e.out × Notes e.notes usage_message
+
+-- memory ran out while the words were read
+abbrev pub WordsWant : Effects → Status → Type 0
+WordsWant e status = (status ≡ Memory) × (e.new_trees ≡ e.trees) × IsStill e.input × IsStill e.out × Notes e.notes memory_message
+
+-- the answers to each command
+abbrev pub Answers : Task → Effects → Status → Type 0
+Answers check e status = CheckAnswers e.input e.out e.notes status × (e.new_trees ≡ e.trees)
+Answers (index o) e status = IndexAnswers o e.trees e.new_trees e.out e.notes status × IsStill e.input
+Answers run e status = UsageAnswers e status
+Answers (trace o) e status = UsageAnswers e status
+Answers (sample seed files) e status = UsageAnswers e status

@@ -1,0 +1,17 @@
+//! The commands of the program, over sources, sinks and trees that are handed in.
+//!
+//! Promises: each status comes exactly by its cause, and standard output holds a whole answer, a proper prefix of one where it
+//! failed, or nothing. Stands on the crates of the commands. It does not say what the objects handed in do.
+#![tactic(auto)]
+
+mod check_command;
+mod index_command;
+mod message;
+mod outside;
+mod status;
+mod top;
+mod verdict_line;
+
+pub use outside::system_trees;
+pub use status::{Status, number};
+pub use top::firefly;

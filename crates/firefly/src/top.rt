@@ -1,0 +1,63 @@
+//! The top call.
+ghost use Rattle.std.specs.Prelude.{◌≡◌, ◌⊎◌, ◌≤◌, length, map};
+ghost use Rattle.std.specs.String.{string_bytes};
+ghost use Rattle.command_line.specs.Grammar.{Task, Say, SayNothing, HasOptions};
+ghost use Rattle.command_line.specs.Grammar as grammar;
+ghost use Rattle.firefly.specs.Changes.{change_of, Notes};
+ghost use Rattle.firefly.specs.Texts.{usage_message};
+ghost use Rattle.firefly.specs.Check.{Found};
+ghost use Rattle.firefly.specs.Looks.{look_of, looks_of, Agree, KeepTrees};
+ghost use Rattle.firefly.specs.Top.{Answers, UsageAnswers, WordsWant, effects_of};
+
+use crate::Status;
+use crate::check_command::run_check;
+use crate::index_command::run_index;
+use crate::message::{OUT_OF_MEMORY, USAGE, say};
+use command_line::{Command, WordsFault, read_words};
+use firefly_outside::{Sink, Source, Tree};
+use std::alloc::Global;
+
+/// Does what the words ask for. The words are those after the program's name.
+pub fn firefly<S: Tree, I: Source, O: Sink, N: Sink>(
+    alloc: Global,
+    words: &[String],
+    trees: &mut [Option<S>],
+    input: &mut I,
+    out: &mut O,
+    notes: &mut N,
+) -> Status
+    requires enough { 17 ≤ length trees.old }
+    requires agree { Agree (looks_of (look_of S.tree S.may_fail S.calls S.faults) trees.old) }
+    // Words that say no command.
+    ensures usage { let e = effects_of (looks_of (look_of S.tree S.may_fail S.calls S.faults) trees.old) (looks_of (look_of S.tree S.may_fail S.calls S.faults) trees.new) (change_of I.left I.faults input.old input.new) (change_of O.held O.faults out.old out.new) (change_of N.held N.faults notes.old notes.new) in
+        SayNothing (map string_bytes words.now) → UsageAnswers e result ⊎ WordsWant e result }
+    // A command.
+    ensures answers { let e = effects_of (looks_of (look_of S.tree S.may_fail S.calls S.faults) trees.old) (looks_of (look_of S.tree S.may_fail S.calls S.faults) trees.new) (change_of I.left I.faults input.old input.new) (change_of O.held O.faults out.old out.new) (change_of N.held N.faults notes.old notes.new) in
+        (t : Task) → Say (map string_bytes words.now) t → Answers t e result ⊎ (HasOptions t × WordsWant e result) }
+    // The verdict of `check` is the only one that is just.
+    ensures exact { Say (map string_bytes words.now) grammar.check → Found (change_of I.left I.faults input.old input.new) result }
+    // Each tree is in its place.
+    ensures kept { KeepTrees (looks_of (look_of S.tree S.may_fail S.calls S.faults) trees.old) (looks_of (look_of S.tree S.may_fail S.calls S.faults) trees.new) }
+{
+    match read_words(alloc, words) {
+        Ok(Command::Check) => run_check(input, out, notes),
+        Ok(Command::Index(options)) => run_index(alloc, &options, trees, out, notes),
+        Ok(Command::Run) => refuse(notes),
+        Ok(Command::Trace(_)) => refuse(notes),
+        Ok(Command::Sample { .. }) => refuse(notes),
+        Err(WordsFault::Usage) => refuse(notes),
+        Err(WordsFault::Memory) => {
+            say(notes, OUT_OF_MEMORY);
+            Status::Memory
+        }
+    }
+}
+
+// Says what the words may be.
+fn refuse<N: Sink>(notes: &mut N) -> Status
+    ensures status { result ≡ Status.Usage }
+    ensures notes { Notes (change_of N.held N.faults notes.old notes.new) usage_message }
+{
+    say(notes, USAGE);
+    Status::Usage
+}

@@ -1,0 +1,16 @@
+use Rattle.std.proofs.Common.{subst}
+use Rattle.firefly_outside.specs.Trees.{Told, Adds, Names}
+use Rattle.firefly_outside.specs.MemTrees.{told_by, node_of}
+use Rattle.firefly_outside.proofs.TreeLemmas.{Adds-from_names, IsWhole-add, told_by-reordered}
+use Rattle.firefly_outside.proofs.place.add_place.Goals as goal
+
+adds : (c : goal.After-put_place) → Adds (told_by c.args.places.now) (told_by c.put_place.new.places) c.args.path.now c.args.kind (node_of c.args.place)
+adds c = Adds-from_names (told_by c.args.places.now) (told_by c.name_in_parent.new.places) (told_by c.put_place.new.places) c.args.path.now c.args.kind (node_of c.args.place) c.requires.parent
+    (let same = told_by-reordered c.args.places.now c.reserve.new.self c.in_ok-reserve.ensures.entries in subst (λ (t : Told). Names t (told_by c.name_in_parent.new.places) c.args.path.now c.args.kind) same c.in_ok-name_in_parent.ensures.ok)
+    (rw c.in_ok-key.ensures at c.put_place.ensures)
+
+pub returns-clause-ok : goal.returns-clause-ok
+returns-clause-ok c = adds c
+
+pub returns-clause-whole : goal.returns-clause-whole
+returns-clause-whole c = IsWhole-add (told_by c.args.places.now) (told_by c.put_place.new.places) c.args.path.now c.args.kind (node_of c.args.place) c.requires.whole c.requires.absent c.requires.parent c.requires.leaf (adds c)

@@ -1,0 +1,174 @@
+// The directories and files of the system as a tree. These lines are the trusted edge.
+ghost use Rattle.std.specs.Prelude.{◌≡◌, ◌≤◌, IfOk, None, length};
+ghost use Rattle.firefly_outside.specs.Trees.{AreEntries, IsWithin, HasNoted};
+
+use crate::names::{Names, add_name, entries_of};
+use crate::tree::MOST_BYTES;
+use crate::{Entry, FileBytes, Kind, Text, Tree, TreeError};
+use std::alloc::Global;
+use std::fs::DirEntry;
+use std::io::{ErrorKind, Read};
+use std::rt::Files;
+use std::{fs, io};
+
+/// What the system has, with a count of its failures. It follows no link and passes over special files.
+#[derive(Drop)]
+pub struct DirTree<R: Files + AllocGlobal + Clone + Drop> {
+    files: R,
+    faults: u64,
+}
+
+impl<R: Files + AllocGlobal + Clone + Drop> DirTree<R> {
+    /// The system's tree, which hasn't failed yet.
+    pub fn new(files: R) -> DirTree<R> {
+        DirTree { files, faults: 0 }
+    }
+}
+
+// Counts a failure.
+fn noted(faults: &mut u64, error: TreeError) -> TreeError
+    ensures same { result ≡ error }
+    ensures noted { HasNoted faults.old faults.new error }
+{
+    if error == TreeError::Failed {
+        *faults = faults.saturating_add(1);
+    }
+    error
+}
+
+// Want of memory, or a failure.
+fn error_of(error: io::Error) -> TreeError {
+    match error.kind() {
+        ErrorKind::OutOfMemory => TreeError::Memory,
+        _ => TreeError::Failed,
+    }
+}
+
+// What an entry is: nothing for a link or a special file.
+fn kind_of<R: Files>(entry: &DirEntry<R>) -> Result<Option<Kind>, TreeError> {
+    match entry.file_type() {
+        Ok(kind) if kind.is_dir() => Ok(Some(Kind::Dir)),
+        Ok(kind) if kind.is_file() => Ok(Some(Kind::File)),
+        Ok(_) => Ok(None),
+        Err(error) => Err(error_of(error)),
+    }
+}
+
+// Adds an entry that is a directory or a file.
+fn add_entry<R: Files>(
+    alloc: Global,
+    names: &mut Names,
+    entry: &DirEntry<R>,
+) -> Result<(), TreeError> {
+    match kind_of(entry) {
+        Ok(Some(kind)) => add_name(alloc, names, entry.file_name(), kind),
+        Ok(None) => Ok(()),
+        Err(error) => Err(error),
+    }
+}
+
+// The path without slashes at its end, at which a link would be followed.
+fn bare(path: &str) -> &str {
+    let rest = path.trim_end_matches('/');
+    if rest.is_empty() { path } else { rest }
+}
+
+// Lists a directory that is no link.
+fn list_entries<R: Files + AllocGlobal + Clone + Drop>(
+    files: &R,
+    alloc: Global,
+    dir: &str,
+) -> Result<Vec<Entry>, TreeError>
+    ensures { IfOk result (λ v. AreEntries v.items) }
+{
+    match fs::symlink_metadata(files, bare(dir)) {
+        Ok(metadata) if metadata.is_dir() => {}
+        Ok(_) => return Err(TreeError::Failed),
+        Err(error) => return Err(error_of(error)),
+    }
+    let entries = match fs::read_dir(files, dir) {
+        Ok(entries) => entries,
+        Err(error) => return Err(error_of(error)),
+    };
+    let mut names = Names::new(alloc);
+    let mut seen = 0u32;
+    for entry in entries {
+        if seen == u32::MAX {
+            return Err(TreeError::Failed);
+        }
+        seen += 1;
+        let entry = match entry {
+            Ok(entry) => entry,
+            Err(error) => return Err(error_of(error)),
+        };
+        match add_entry(alloc, &mut names, &entry) {
+            Ok(()) => {}
+            Err(error) => return Err(error),
+        }
+    }
+    entries_of(alloc, names)
+}
+
+// Reads a file that is no link, at most as far as shows that it is too long.
+fn read_bytes<R: Files + AllocGlobal>(
+    files: &R,
+    alloc: Global,
+    path: &str,
+) -> Result<FileBytes, TreeError>
+    ensures { IfOk result IsWithin }
+{
+    match fs::symlink_metadata(files, path) {
+        Ok(metadata) if metadata.is_file() => {}
+        Ok(_) => return Err(TreeError::Failed),
+        Err(error) => return Err(error_of(error)),
+    }
+    let file = match fs::open(files, path) {
+        Ok(file) => file,
+        Err(error) => return Err(error_of(error)),
+    };
+    let mut bytes = Vec::new(alloc);
+    match file.take(MOST_BYTES as u64 + 1).read_to_end(&mut bytes) {
+        Ok(_) => Ok(within(alloc, bytes)),
+        Err(error) => Err(error_of(error)),
+    }
+}
+
+// What shows of a file that begins with these bytes, and ends with them if they aren't too many.
+fn within(alloc: Global, bytes: Vec<u8>) -> FileBytes
+    ensures { IsWithin result }
+{
+    if bytes.len() > MOST_BYTES {
+        FileBytes {
+            bytes: Vec::new(alloc),
+            long: true,
+        }
+    } else {
+        FileBytes { bytes, long: false }
+    }
+}
+
+impl<R: Files + AllocGlobal + Clone + Drop + Send> Tree for DirTree<R> {
+    ghost use Rattle.std.specs.Prelude.{None, []};
+
+    ghost tree = { λ _. None };
+
+    ghost calls = { λ _. record { listed = []; files_read = []; failed = [] } };
+
+    ghost may_fail = { λ _. [] };
+
+    ghost faults = { λ t. t.faults };
+
+    fn list(&mut self, alloc: Global, dir: &str) -> Result<Vec<Entry>, TreeError> {
+        match list_entries(&self.files, alloc, dir) {
+            Ok(entries) => Ok(entries),
+            Err(error) => Err(noted(&mut self.faults, error)),
+        }
+    }
+
+    fn read(&mut self, alloc: Global, path: &str) -> Result<FileBytes, TreeError> {
+        match read_bytes(&self.files, alloc, path) {
+            Ok(file) => Ok(file),
+            Err(error) => Err(noted(&mut self.faults, error)),
+        }
+    }
+}

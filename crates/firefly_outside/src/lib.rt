@@ -1,0 +1,28 @@
+//! Sources that give bytes, sinks that take them and trees of files, each with a count of its faults.
+//! A call fails only where that count rose. Sources, sinks and trees in memory say exactly which
+//! calls fail. The ones of the system stand on std's readers and writers, and tell what these tell.
+#![tactic(auto)]
+
+mod dir_tree;
+mod mem_tree;
+mod names;
+mod paths;
+mod place;
+mod real;
+mod sink;
+mod source;
+mod text;
+mod tree;
+
+pub use dir_tree::DirTree;
+pub use mem_tree::MemTree;
+pub use real::{ReaderSource, WriterSink};
+pub use sink::{MemSink, Sink, SinkFault, put_all};
+pub use source::{Failed, MemSource, Source};
+pub use text::Text;
+pub use tree::{Entry, FileBytes, Kind, Tree, TreeError};
+
+#[cfg(test)]
+mod tests;
+#[cfg(test)]
+mod tree_tests;

@@ -1,0 +1,107 @@
+-- What stands behind the first lines of a script text.
+use Rattle.std.proofs.Common.{◌≡◌, ℕ, ◌+◌, ◌^◌, ◌<◌, List, [], ◌∷◌, ◌++◌, length, refl, ap, sym, subst, ◌∙◌, append_assoc, Bool, true, false, inl, inr, arith}
+use Rattle.std.proofs.lemmas.Bool.{ne_eqb, eq-eqb}
+use Rattle.std.proofs.lemmas.Bool.Decides.{eqb_tells}
+use Rattle.std.specs.Prelude.{codes, decimal, if◌then◌else◌, ◌==◌}
+use Rattle.larch_actions.specs.declared.event.Layout.{Layout}
+use Rattle.larch_actions.specs.Layout.{IsLawful}
+use Rattle.firefly_script.specs.declared.line.Line.{Line}
+use Rattle.firefly_script.specs.declared.line.Operation.{Operation}
+use Rattle.firefly_script.specs.declared.line.Operation.TheVariants.{Acquire, Release, P, V, Add}
+use Rattle.firefly_script.specs.Faults.{Lacks, newlines}
+use Rattle.firefly_script.specs.Operations.{Holding, IsNamed, holding_after, MayCome, MayFollow}
+use Rattle.firefly_script.specs.Text.{layout_text, operation_text, line_text, lines_text, script_text}
+use Rattle.firefly_script.proofs.Injective.{line_same, layout_same}
+use Rattle.firefly_script.proofs.Pieces.{cut_same, lacks_append, lacks_decimal}
+
+-- none of the bytes is a newline, by a test that computes
+abbrev is_flat : List ℕ → Bool
+is_flat [] = true
+is_flat (c ∷ bytes) = if c == 10 then false else is_flat bytes
+
+rest_flat : (c : ℕ) (bytes : List ℕ) → is_flat (c ∷ bytes) ≡ true → is_flat bytes ≡ true
+rest_flat c bytes e =
+    elim (eqb_tells c 10) [
+      | inl p ↦ let k = rw p.0 at e in absurd (cc)
+      | inr p ↦ rw p.0 at e
+    ]
+
+flat_from : (bytes : List ℕ) → is_flat bytes ≡ true → Lacks 10 bytes
+flat_from [] e = tt
+flat_from (c ∷ bytes) e = (λ h. let k = rw (eq-eqb c 10 h) at e in absurd (cc), flat_from bytes (rest_flat c bytes e))
+
+flat_number : (word : List ℕ) (n : ℕ) (rest : List ℕ) → is_flat word ≡ true → n < 2 ^ 64 → Lacks 10 rest → Lacks 10 (word ++ (decimal n ++ rest))
+flat_number word n rest w fits r =
+    lacks_append 10 word (decimal n ++ rest) (flat_from word w) (lacks_append 10 (decimal n) rest (lacks_decimal 10 n (omega arith) fits) r)
+
+flat_last : (word : List ℕ) (n : ℕ) → is_flat word ≡ true → n < 2 ^ 64 → Lacks 10 (word ++ decimal n)
+flat_last word n w fits = lacks_append 10 word (decimal n) (flat_from word w) (lacks_decimal 10 n (omega arith) fits)
+
+pub layout_flat : (l : Layout) → IsLawful l → Lacks 10 (layout_text l)
+layout_flat l ok =
+    flat_number (codes "threads ") l.threads _ refl (omega (arith, ok.threads))
+    (flat_number (codes " mutexes ") l.mutexes _ refl (omega (arith, ok.mutexes))
+    (flat_number (codes " conditions ") l.conditions _ refl (omega (arith, ok.conditions)) (flat_last (codes " semaphores ") l.semaphores refl (omega (arith, ok.semaphores)))))
+
+operation_flat : (l : Layout) (o : Operation) → IsLawful l → IsNamed l o → Lacks 10 (operation_text o)
+operation_flat l (Acquire m) ok h = flat_last (codes "acquire m") m.0 refl (omega (arith, ok.mutexes))
+operation_flat l (Release m) ok h = flat_last (codes "release m") m.0 refl (omega (arith, ok.mutexes))
+operation_flat l (P s) ok h = flat_last (codes "p s") s.0 refl (omega (arith, ok.semaphores))
+operation_flat l (V s) ok h = flat_last (codes "v s") s.0 refl (omega (arith, ok.semaphores))
+operation_flat l (Add m n) ok h = flat_number (codes "add m") m.0 _ refl (omega (arith, h.0, ok.mutexes)) (flat_last (codes " ") n refl (omega (arith, h.1)))
+
+pub line_flat : (l : Layout) (h : Holding) (x : Line) → IsLawful l → MayCome l h x → Lacks 10 (line_text x)
+line_flat l h x ok may =
+    flat_number (codes "t") x.thread.0 _ refl (omega (arith, may.thread, ok.threads)) (lacks_append 10 (codes " ") (operation_text x.operation) (flat_from (codes " ") refl) (operation_flat l x.operation ok may.named))
+
+pub lines_append : (xs ys : List Line) → lines_text (xs ++ ys) ≡ lines_text xs ++ lines_text ys
+lines_append [] ys = refl
+lines_append (x ∷ xs) ys = ap (λ b. line_text x ++ 10 ∷ b) (lines_append xs ys) ∙ sym (append_assoc (line_text x) (10 ∷ lines_text xs) (lines_text ys))
+
+-- where lines stand at the front of the text of others, these begin with them
+pub lines_behind : (l : Layout) (h : Holding) (xs ys : List Line) (rest : List ℕ) → IsLawful l → MayFollow l h xs → MayFollow l h ys → lines_text xs ++ rest ≡ lines_text ys → (zs : List Line) × (ys ≡ xs ++ zs) × (rest ≡ lines_text zs)
+lines_behind l h [] ys rest ok p q e = (ys, refl, e)
+lines_behind l h (x ∷ xs) [] rest ok p q e = absurd (cc)
+lines_behind l h (x ∷ xs) (y ∷ ys) rest ok p q e =
+    let first : line_text x ++ 10 ∷ (lines_text xs ++ rest) ≡ line_text y ++ 10 ∷ lines_text ys = sym (append_assoc (line_text x) (10 ∷ lines_text xs) rest) ∙ e in
+    let c = cut_same 10 (line_text x) (line_text y) (lines_text xs ++ rest) (lines_text ys) (line_flat l h x ok p.0) (line_flat l h y ok q.0) first in
+    let same = line_same l ok x y (p.0.thread, p.0.named) (q.0.thread, q.0.named) c.0 in
+    let P : Line → Type 0 = λ z. MayFollow l (holding_after h z.thread.0 z.operation) ys in
+    let ih = lines_behind l (holding_after h x.thread.0 x.operation) xs ys rest ok p.1 (subst P (sym same) q.1) c.1 in
+    (ih.0, ap (λ zs. y ∷ zs) ih.1 ∙ ap (λ z. z ∷ (xs ++ ih.0)) (sym same), ih.2)
+
+pub script_behind : (k l : Layout) (h : Holding) (xs ys : List Line) (rest : List ℕ) → IsLawful k → IsLawful l → MayFollow l h xs → MayFollow k h ys → script_text l xs ++ rest ≡ script_text k ys
+    → (k ≡ l) × ((zs : List Line) × (ys ≡ xs ++ zs) × (rest ≡ lines_text zs))
+script_behind k l h xs ys rest okk ok p q e =
+    let first : layout_text l ++ 10 ∷ (lines_text xs ++ rest) ≡ layout_text k ++ 10 ∷ lines_text ys = sym (append_assoc (layout_text l) (10 ∷ lines_text xs) rest) ∙ e in
+    let c = cut_same 10 (layout_text l) (layout_text k) (lines_text xs ++ rest) (lines_text ys) (layout_flat l ok) (layout_flat k okk) first in
+    let same = layout_same k l okk ok (sym c.0) in
+    let P : Layout → Type 0 = λ z. MayFollow z h ys in
+    (same, lines_behind l h xs ys rest ok p (subst P same q) c.1)
+
+pub newlines_append : (xs ys : List ℕ) → newlines (xs ++ ys) ≡ newlines xs + newlines ys
+newlines_append [] ys = omega arith
+newlines_append (c ∷ xs) ys = omega (arith, newlines_append xs ys)
+
+pub newlines_flat : (bytes : List ℕ) → Lacks 10 bytes → newlines bytes ≡ 0
+newlines_flat [] p = refl
+newlines_flat (c ∷ bytes) p = rw (ne_eqb c 10 p.0) (omega (arith, newlines_flat bytes p.1))
+
+pub newlines_lines : (l : Layout) (h : Holding) (xs : List Line) → IsLawful l → MayFollow l h xs → newlines (lines_text xs) ≡ length xs
+newlines_lines l h [] ok p = refl
+newlines_lines l h (x ∷ xs) ok p =
+    omega (arith, newlines_append (line_text x) (10 ∷ lines_text xs), newlines_flat (line_text x) (line_flat l h x ok p.0), newlines_lines l (holding_after h x.thread.0 x.operation) xs ok p.1)
+
+pub newlines_script : (l : Layout) (h : Holding) (xs : List Line) → IsLawful l → MayFollow l h xs → newlines (script_text l xs) ≡ length xs + 1
+newlines_script l h xs ok p =
+    omega (arith, newlines_append (layout_text l) (10 ∷ lines_text xs), newlines_flat (layout_text l) (layout_flat l ok), newlines_lines l h xs ok p)
+
+lines_end : (xs : List Line) (front : List ℕ) → (body : List ℕ) × (front ++ 10 ∷ lines_text xs ≡ body ++ 10 ∷ [])
+lines_end [] front = (front, refl)
+lines_end (x ∷ xs) front =
+    let r = lines_end xs (front ++ 10 ∷ line_text x) in
+    (r.0, sym (append_assoc front (10 ∷ line_text x) (10 ∷ lines_text xs)) ∙ r.1)
+
+-- a script text ends with a newline
+pub script_end : (l : Layout) (xs : List Line) → (body : List ℕ) × (script_text l xs ≡ body ++ 10 ∷ [])
+script_end l xs = lines_end xs (layout_text l)

@@ -1,0 +1,13 @@
+pub mod Fields
+pub mod Firsts
+pub mod Follow
+pub mod Fronts
+pub mod Injective
+pub mod Kept
+pub mod Lengths
+pub mod LineFaults
+pub mod Pieces
+pub mod Releases
+pub mod Tables
+pub mod Verdicts
+pub mod WindowParts

@@ -1,0 +1,119 @@
+-- Lines that may come one after another can be ended: whatever is held may be released.
+use Rattle.std.proofs.Common.{◌≡◌, ℕ, zero, suc, ◌+◌, ◌*◌, ◌/◌, ◌%◌, ◌<◌, ◌≤◌, ◌⊎◌, inl, inr, List, [], ◌∷◌, ◌++◌, refl, ap, sym, subst, ◌∙◌, append_assoc, Bool, true, false, cond, arith}
+use Rattle.std.proofs.lemmas.Bool.Decides.{eqb_tells}
+use Rattle.larch_actions.specs.declared.event.Layout.{Layout}
+use Rattle.larch_actions.specs.Layout.{IsLawful}
+use Rattle.firefly_script.specs.declared.line.Line.{Line}
+use Rattle.firefly_script.specs.declared.line.Operation.TheVariants.{Release}
+use Rattle.firefly_script.specs.Faults.{Begins}
+use Rattle.firefly_script.specs.Operations.{Holding, held_if, held_after, none_held, MayFollow, AllFree}
+use Rattle.firefly_script.specs.Text.{layout_text, lines_text, script_text}
+use Rattle.firefly_script.proofs.Follow.{held_append, follow_append}
+use Rattle.firefly_script.proofs.Fronts.{lines_append}
+use Rattle.firefly_script.proofs.Tables.{IsWithin, held_within, none_within, within_if}
+
+release : ℕ → ℕ → Line
+release t m = record { thread = record { 0 = t }; operation = Release (record { 0 = m }) }
+
+-- the releases of what is held among the first k entries of the table
+releases : ℕ → Holding → List Line
+releases zero h = []
+releases (suc k) h = cond (h (k / 64) (k % 64)) (release (k / 64) (k % 64) ∷ releases k (held_if false h (k / 64) (k % 64))) (releases k h)
+
+known : (b : Bool) → (b ≡ true) ⊎ (b ≡ false)
+known true = inl refl
+known false = inr refl
+
+releases_follow : (l : Layout) (k : ℕ) (h : Holding) → IsWithin l h → MayFollow l h (releases k h)
+unfolding releases release
+releases_follow l zero h w = tt
+releases_follow l (suc k) h w =
+    let t = k / 64 in
+    let m = k % 64 in
+    elim (known (h t m)) [
+      | inl p ↦ let b = w t m p in rw p (record { thread = b.0; named = b.1; may = p }, releases_follow l k (held_if false h t m) (within_if l false h t m b.0 b.1 w))
+      | inr p ↦ rw p (releases_follow l k h w)
+    ]
+
+-- a release takes away
+held_less : (h : Holding) (t m u n : ℕ) → held_if false h t m u n ≡ true → (h u n ≡ true) × ((t ≡ u) × (m ≡ n) → ⊥)
+held_less h t m u n e =
+    elim (eqb_tells t u) [
+      | inl p ↦
+          elim (eqb_tells m n) [
+            | inl q ↦ let k = rw (p.0, q.0) at e in absurd (cc)
+            | inr q ↦ (rw (p.0, q.0) at e, λ s. q.1 s.1)
+          ]
+      | inr p ↦ (rw p.0 at e, λ s. p.1 s.0)
+    ]
+
+less : (a b : ℕ) → a ≤ b → (a ≡ b → ⊥) → a < b
+less a b le ne = omega arith
+
+le_cases : (a b : ℕ) → a ≤ b → (a < b) ⊎ (a ≡ b)
+le_cases a b le = elim (eqb_tells a b) [ inl p ↦ inr p.1 | inr p ↦ let ne = p.1 in inl (less a b le ne) ]
+
+apart : (k u n : ℕ) → n < 64 → k ≤ 64 * u + n → ((k / 64 ≡ u) × (k % 64 ≡ n) → ⊥) → suc k ≤ 64 * u + n
+apart k u n lt le ne =
+    elim (le_cases k (64 * u + n) le) [
+      | inl p ↦ p
+      | inr p ↦ absurd (ne (omega arith, omega arith))
+    ]
+
+releases_end : (k : ℕ) (h : Holding) (u n : ℕ) → n < 64 → held_after h (releases k h) u n ≡ true → (h u n ≡ true) × (k ≤ 64 * u + n)
+unfolding releases release
+releases_end zero h u n lt e = (e, omega arith)
+releases_end (suc k) h u n lt e =
+    let t = k / 64 in
+    let m = k % 64 in
+    elim (known (h t m)) [
+      | inl p ↦
+          let ih = releases_end k (held_if false h t m) u n lt (rw p at e) in
+          let less = held_less h t m u n ih.0 in
+          (less.0, apart k u n lt ih.1 less.1)
+      | inr p ↦
+          let ih = releases_end k h u n lt (rw p at e) in
+          (ih.0, apart k u n lt ih.1 (λ s. let x : h t m ≡ h u n = ap (λ i. h i m) s.0 ∙ ap (λ j. h u j) s.1 in let y = ih.0 in absurd (cc)))
+    ]
+
+all_released : (l : Layout) (h : Holding) → IsLawful l → IsWithin l h → AllFree (held_after h (releases 4096 h))
+all_released l h ok w t m =
+    elim (known (held_after h (releases 4096 h) t m)) [
+      | inl p ↦
+          let inside = held_within l h (releases 4096 h) (releases_follow l 4096 h w) w t m p in
+          let r = releases_end 4096 h t m (omega (arith, inside.1, ok.mutexes)) p in
+          absurd (omega (arith, r.1, inside.0, inside.1, ok.threads, ok.mutexes))
+      | inr p ↦ p
+    ]
+
+-- lines that may come one after another begin a script text
+pub script_begins : (l : Layout) (xs : List Line) → IsLawful l → MayFollow l none_held xs → Begins (script_text l xs)
+script_begins l xs ok p =
+    let h = held_after none_held xs in
+    let w = held_within l none_held xs p (none_within l) in
+    let zs = releases 4096 h in (
+      lines_text zs,
+      (
+        l,
+        xs ++ zs,
+        record {
+          script = record {
+            lawful = ok;
+            follow = follow_append l none_held xs zs p (releases_follow l 4096 h w);
+            free = subst AllFree (sym (held_append none_held xs zs)) (all_released l h ok w);
+          };
+          text = append_assoc (layout_text l) (10 ∷ lines_text xs) (lines_text zs) ∙ ap (λ b. layout_text l ++ 10 ∷ b) (sym (lines_append xs zs));
+        },
+      ),
+    )
+
+one_thread : Layout
+one_thread = record { threads = 1; mutexes = 0; conditions = 0; semaphores = 0 }
+
+one_thread_is : IsLawful one_thread
+unfolding one_thread
+one_thread_is = record { some = omega arith; threads = omega arith; mutexes = omega arith; conditions = omega arith; semaphores = omega arith }
+
+pub nothing_begins : Begins []
+nothing_begins =
+    (script_text one_thread [], (one_thread, [], record { script = record { lawful = one_thread_is; follow = tt; free = λ t m. refl }; text = refl }))

@@ -1,0 +1,222 @@
+-- What is found behind the first lines is the answer for the whole input.
+use Rattle.std.proofs.Common.{◌≡◌, ℕ, ◌+◌, ◌<◌, ◌≤◌, ◌⊎◌, inl, inr, List, [], ◌∷◌, ◌++◌, length, length-append, refl, ap, sym, subst, ◌∙◌, append_assoc, append-nil, Option, None, Some, IfSome, arith}
+use Rattle.std.proofs.lemmas.Bool.Decides.{eqb_tells}
+use Rattle.std.specs.Io.KnownBytes.{Consumes}
+use Rattle.larch_actions.specs.declared.event.Layout.{Layout}
+use Rattle.larch_actions.specs.Layout.{IsLawful}
+use Rattle.firefly_outside.specs.Causes.{Rose}
+use Rattle.firefly_script.specs.declared.line.Line.{Line}
+use Rattle.firefly_script.specs.declared.script.ScriptFault.{ScriptFault}
+use Rattle.firefly_script.specs.declared.script.ScriptFault.TheVariants.{Memory, BadLine, TooLong, Read}
+use Rattle.firefly_script.specs.Drafts.{NoneIs, NoLayoutIs, FirstIsNone, HeadFault, LineFault, LaterFault}
+use Rattle.firefly_script.specs.Faults.{Begins, Lacks, newlines, IsGoodFront, IsBadLine, IsTooLong, IsUndecided, HasReason}
+use Rattle.firefly_script.specs.Operations.{none_held, held_after, MayFollow, AllFree}
+use Rattle.firefly_script.specs.Text.{layout_text, line_text, lines_text, script_text, IsScriptText, IsScript, ReadsAs}
+use Rattle.firefly_script.proofs.Firsts.{consumes_trans}
+use Rattle.firefly_script.proofs.Follow.{follow_split, held_append}
+use Rattle.firefly_script.proofs.Fronts.{script_behind, layout_flat, line_flat, newlines_append, newlines_script, script_end}
+use Rattle.firefly_script.proofs.Pieces.{cut_same, lacks_not}
+use Rattle.firefly_script.proofs.Releases.{script_begins, nothing_begins}
+
+pub good_front : (l : Layout) (xs : List Line) → IsLawful l → MayFollow l none_held xs → IsGoodFront (script_text l xs)
+good_front l xs ok p = record { begins = script_begins l xs ok p; ended = λ some. script_end l xs }
+
+pub no_front : IsGoodFront []
+no_front = record { begins = nothing_begins; ended = λ some. absurd (some refl) }
+
+begins_front : (xs ys : List ℕ) → Begins (xs ++ ys) → Begins xs
+begins_front xs ys b = (ys ++ b.0, subst IsScriptText (append_assoc xs ys b.0) b.1)
+
+-- bytes with a newline, cut at the first
+first_newline : (bytes : List ℕ) → 0 < newlines bytes → (line : List ℕ) × (after : List ℕ) × Lacks 10 line × (bytes ≡ line ++ 10 ∷ after)
+first_newline [] some = absurd (omega arith)
+first_newline (c ∷ bytes) some =
+    elim (eqb_tells c 10) [
+      | inl p ↦ ([], bytes, tt, ap (λ d. d ∷ bytes) p.1)
+      | inr p ↦
+          let k = rw p.0 at some in
+          let s : 0 < newlines bytes = omega (arith, k) in
+          let r = first_newline bytes s in
+          (c ∷ r.0, r.1, (p.1, r.2), ap (λ l. c ∷ l) r.3)
+    ]
+
+-- of two fronts of the same bytes one begins with the other
+fronts : (a b x y : List ℕ) → a ++ x ≡ b ++ y → ((m : List ℕ) × (b ≡ a ++ m) × (x ≡ m ++ y)) ⊎ ((m : List ℕ) × (a ≡ b ++ m) × (y ≡ m ++ x))
+fronts [] b x y e = inl (b, refl, e)
+fronts (c ∷ a) [] x y e = inr (c ∷ a, refl, sym e)
+fronts (c ∷ a) (d ∷ b) x y e =
+    let head : c ≡ d = cc in
+    let tail : a ++ x ≡ b ++ y = cc in
+    elim (fronts a b x y tail) [
+      | inl r ↦ inl (r.0, ap (λ l. d ∷ l) r.1 ∙ ap (λ h. h ∷ (a ++ r.0)) (sym head), r.2)
+      | inr r ↦ inr (r.0, ap (λ l. c ∷ l) r.1 ∙ ap (λ h. h ∷ (b ++ r.0)) head, r.2)
+    ]
+
+-- the next line, if it is whole, is bad
+abbrev pub NextIsBad : List ℕ → List ℕ → Type 0
+NextIsBad front rest = (line after : List ℕ) → Lacks 10 line → rest ≡ line ++ 10 ∷ after → Begins (front ++ (line ++ 10 ∷ [])) → ⊥
+
+-- fewer than 100,000 lines and a bad one aren't too long
+not_long : (front rest : List ℕ) → newlines front < 100000 → NextIsBad front rest → IsTooLong (front ++ rest) → ⊥
+not_long front rest few bad t =
+    elim (fronts front t.before rest t.rest t.split) [
+      | inl m ↦
+          let n : newlines m.0 + newlines front ≡ 100000 = omega (arith, ap newlines m.1, newlines_append front m.0, t.counted) in
+          let f = first_newline m.0 (omega arith) in
+          let b : Begins (front ++ (f.0 ++ 10 ∷ f.1)) = subst Begins (m.1 ∙ ap (λ l. front ++ l) f.3) t.front.begins in
+          let split : front ++ (f.0 ++ 10 ∷ f.1) ≡ (front ++ (f.0 ++ 10 ∷ [])) ++ f.1 = ap (λ l. front ++ l) (sym (append_assoc f.0 (10 ∷ []) f.1)) ∙ sym (append_assoc front (f.0 ++ 10 ∷ []) f.1) in
+          bad f.0 (f.1 ++ t.rest) f.2 (m.2 ∙ ap (λ l. l ++ t.rest) f.3 ∙ append_assoc f.0 (10 ∷ f.1) t.rest) (begins_front (front ++ (f.0 ++ 10 ∷ [])) f.1 (subst Begins split b))
+      | inr m ↦ absurd (omega (arith, ap newlines m.1, newlines_append t.before m.0, t.counted))
+    ]
+
+last_newline : (xs ys body : List ℕ) → xs ++ ys ≡ body ++ 10 ∷ [] → 0 < length ys → 0 < newlines ys
+last_newline [] [] body e some = absurd (omega arith)
+last_newline [] (y ∷ ys) body e some = omega (arith, ap newlines e, newlines_append body (10 ∷ []))
+last_newline (x ∷ xs) ys [] e some =
+    let tail : xs ++ ys ≡ [] = cc in
+    absurd (omega (arith, ap length tail, length-append xs ys))
+last_newline (x ∷ xs) ys (b ∷ body) e some = let tail : xs ++ ys ≡ body ++ 10 ∷ [] = cc in last_newline xs ys body tail some
+
+-- 100,000 lines and nothing behind them aren't too long
+not_longer : (front : List ℕ) → newlines front ≡ 100000 → ((body : List ℕ) × (front ≡ body ++ 10 ∷ [])) → IsTooLong front → ⊥
+not_longer front full ends t =
+    let n = last_newline t.before t.rest ends.0 (sym t.split ∙ ends.1) t.more in
+    omega (arith, ap newlines t.split, newlines_append t.before t.rest, t.counted)
+
+module _ (l : Layout) (xs : List Line) (ok : IsLawful l) (p : MayFollow l none_held xs) where
+  -- what goes on from the lines is lines
+  behind : (rest : List ℕ) → IsScriptText (script_text l xs ++ rest) → (zs : List Line) × MayFollow l (held_after none_held xs) zs × AllFree (held_after (held_after none_held xs) zs) × (rest ≡ lines_text zs)
+  behind rest (k, ys, r) =
+      let b = script_behind k l none_held xs ys rest r.script.lawful ok p r.script.follow r.text in
+      let P : Layout → Type 0 = λ z. MayFollow z none_held ys in
+      let Q : List Line → Type 0 = λ zs. MayFollow l none_held zs in
+      let R : List Line → Type 0 = λ zs. AllFree (held_after none_held zs) in
+      let s = follow_split l none_held xs b.1.0 (subst Q b.1.1 (subst P b.0 r.script.follow)) in
+      (b.1.0, s.1, subst AllFree (held_append none_held xs b.1.0) (subst R b.1.1 r.script.free), b.1.2)
+
+  first_line : (zs : List Line) (line more : List ℕ) → Lacks 10 line → MayFollow l (held_after none_held xs) zs → line ++ 10 ∷ more ≡ lines_text zs → NoneIs l xs line → ⊥
+  first_line [] line more flat q e none = lacks_not 10 line more (subst (Lacks 10) (sym e) tt)
+  first_line (z ∷ zs) line more flat q e none =
+      none z q.0 (cut_same 10 line (line_text z) more (lines_text zs) flat (line_flat l (held_after none_held xs) z ok q.0) e).0
+
+  next_bad : (rest : List ℕ) → FirstIsNone (NoneIs l xs) rest → NextIsBad (script_text l xs) rest
+  next_bad rest none line after flat e b =
+      let split : (script_text l xs ++ (line ++ 10 ∷ [])) ++ b.0 ≡ script_text l xs ++ (line ++ 10 ∷ b.0) = append_assoc (script_text l xs) (line ++ 10 ∷ []) b.0 ∙ ap (λ r. script_text l xs ++ r) (append_assoc line (10 ∷ []) b.0) in
+      let z = behind (line ++ 10 ∷ b.0) (subst IsScriptText split b.1) in
+      first_line z.0 line b.0 flat z.1 z.3 (none line after flat e)
+
+  -- bytes with no newline behind the lines are nothing, where the whole is a script text
+  open_text : (rest : List ℕ) → Lacks 10 rest → (zs : List Line) → rest ≡ lines_text zs → AllFree (held_after (held_after none_held xs) zs) → (rest ≡ []) × AllFree (held_after none_held xs)
+  open_text rest flat [] e free = (e, free)
+  open_text rest flat (z ∷ zs) e free = absurd (lacks_not 10 (line_text z) (lines_text zs) (subst (Lacks 10) e flat))
+
+  pub bad_line : (rest : List ℕ) (k : ℕ) → length xs ≤ 99999 → k ≡ length xs + 2 → FirstIsNone (NoneIs l xs) rest → (length xs ≡ 99999 → rest ≡ []) → (rest ≡ [] → AllFree (held_after none_held xs) → ⊥)
+      → IsBadLine (script_text l xs ++ rest) k × (IsTooLong (script_text l xs ++ rest) → ⊥)
+  bad_line rest k few e none full held =
+      let n = newlines_script l none_held xs ok p in (
+        record {
+          before = script_text l xs;
+          rest = rest;
+          split = refl;
+          front = good_front l xs ok p;
+          counted = omega arith;
+          broken = next_bad rest none;
+          no_text = λ flat t. let z = behind rest t in let o = open_text rest flat z.0 z.3 z.2 in held o.0 o.1;
+        },
+        elim (eqb_tells (length xs) 99999) [
+          | inl q ↦ λ t. not_longer (script_text l xs) (omega (arith, q.1)) (script_end l xs) (subst IsTooLong (ap (λ r. script_text l xs ++ r) (full q.1) ∙ append-nil (script_text l xs)) t)
+          | inr q ↦ let ne = q.1 in not_long (script_text l xs) rest (omega arith) (next_bad rest none)
+        ],
+      )
+
+  pub too_long : (rest : List ℕ) → length xs ≡ 99999 → 0 < length rest → IsTooLong (script_text l xs ++ rest)
+  too_long rest full some = record {
+    before = script_text l xs;
+    rest = rest;
+    split = refl;
+    front = good_front l xs ok p;
+    counted = omega (arith, newlines_script l none_held xs ok p);
+    more = some;
+  }
+
+  pub undecided : (given : List ℕ) → length xs ≤ 99999 → Lacks 10 given → length given ≤ 256 → (length xs ≡ 99999 → given ≡ []) → IsUndecided (script_text l xs ++ given)
+  undecided given few flat short full =
+      let n = newlines_script l none_held xs ok p in record {
+        before = script_text l xs;
+        rest = given;
+        split = refl;
+        front = good_front l xs ok p;
+        few = omega arith;
+        open_line = flat;
+        short = short;
+        full = λ e. full (omega arith);
+      }
+
+  pub line_reason : (r rest left' : Option (List ℕ)) (before now : ℕ) (fault : ScriptFault) → Consumes r rest (script_text l xs) → length xs ≤ 99999 → LineFault l xs rest left' before now fault → HasReason r left' before now fault
+  line_reason r rest left' before now Memory c few f = tt
+  line_reason None rest left' before now (BadLine k) c few f = tt
+  line_reason (Some input) None left' before now (BadLine k) c few f = absurd c
+  line_reason (Some input) (Some bytes) left' before now (BadLine k) c few f =
+      let P : List ℕ → Type 0 = λ i. IsBadLine i k × (IsTooLong i → ⊥) in
+      subst P (sym c) (bad_line bytes k few f.0 f.1.0 f.1.1 f.1.2)
+  line_reason None rest left' before now TooLong c few f = tt
+  line_reason (Some input) None left' before now TooLong c few f = absurd c
+  line_reason (Some input) (Some bytes) left' before now TooLong c few f = subst IsTooLong (sym c) (too_long bytes f.0 f.1)
+  line_reason r rest left' before now Read c few f =
+      (f.1.rose, (script_text l xs ++ f.0, consumes_trans r rest left' (script_text l xs) f.0 c f.1.consumed, undecided f.0 few f.1.open_line f.1.short f.2))
+
+rose_since : (first before now : ℕ) → first ≤ before → Rose before now → Rose first now
+rose_since first before now le (inl h) = inl (omega arith)
+rose_since first before now le (inr h) = inr h
+
+pub reason_since : (r left' : Option (List ℕ)) (first before now : ℕ) (fault : ScriptFault) → first ≤ before → HasReason r left' before now fault → HasReason r left' first now fault
+reason_since r left' first before now Memory le h = tt
+reason_since r left' first before now (BadLine k) le h = h
+reason_since r left' first before now TooLong le h = h
+reason_since r left' first before now Read le h = (rose_since first before now le h.0, h.1)
+
+-- a layout line that is none
+head_bad : (input : List ℕ) → FirstIsNone NoLayoutIs input → NextIsBad [] input
+head_bad input none line after flat e (more, (l, xs, r)) =
+    let first : line ++ 10 ∷ more ≡ layout_text l ++ 10 ∷ lines_text xs = sym (append_assoc line (10 ∷ []) more) ∙ r.text in
+    none line after flat e l r.script.lawful (cut_same 10 line (layout_text l) more (lines_text xs) flat (layout_flat l r.script.lawful) first).0
+
+text_ends : (input : List ℕ) → Lacks 10 input → IsScriptText input → ⊥
+text_ends input flat (l, xs, r) = lacks_not 10 (layout_text l) (lines_text xs) (subst (Lacks 10) r.text flat)
+
+head_line : (input : List ℕ) → FirstIsNone NoLayoutIs input → IsBadLine input 1 × (IsTooLong input → ⊥)
+head_line input none = (
+  record {
+    before = [];
+    rest = input;
+    split = refl;
+    front = no_front;
+    counted = omega arith;
+    broken = head_bad input none;
+    no_text = text_ends input;
+  },
+  not_long [] input (omega arith) (head_bad input none),
+)
+
+pub head_reason : (r left' : Option (List ℕ)) (before now : ℕ) (fault : ScriptFault) → HeadFault r left' before now fault → HasReason r left' before now fault
+head_reason r left' before now Memory f = absurd f
+head_reason None left' before now (BadLine k) f = tt
+head_reason (Some input) left' before now (BadLine k) f =
+    let P : ℕ → Type 0 = λ i. IsBadLine input i × (IsTooLong input → ⊥) in
+    subst P (sym f.0) (head_line input f.1)
+head_reason r left' before now TooLong f = absurd f
+head_reason r left' before now Read f =
+    (f.1.rose, (f.0, f.1.consumed, record { before = []; rest = f.0; split = refl; front = no_front; few = omega arith; open_line = f.1.open_line; short = f.1.short; full = λ e. absurd (omega arith) }))
+
+pub later_reason : (l : Layout) (r rest left' : Option (List ℕ)) (first before now : ℕ) (fault : ScriptFault) → IsLawful l → Consumes r rest (layout_text l ++ 10 ∷ []) → first ≤ before → LaterFault l rest left' before now fault → HasReason r left' first now fault
+later_reason l r rest left' first before now fault ok c le f =
+    let all = consumes_trans r rest f.left (layout_text l ++ 10 ∷ []) (lines_text f.lines) c f.consumed in
+    let whole : Consumes r f.left (script_text l f.lines) = subst (Consumes r f.left) (append_assoc (layout_text l) (10 ∷ []) (lines_text f.lines)) all in
+    reason_since r left' first before now fault le (line_reason l f.lines ok f.follow r f.left left' before now fault whole f.few f.reason)
+
+-- the layout line and the lines are the text
+pub whole_text : (l k : Layout) (xs : List Line) (r rest : Option (List ℕ)) → k ≡ l → Consumes r rest (layout_text l ++ 10 ∷ []) → IfSome rest (λ bytes. bytes ≡ lines_text xs) → IsScript k xs → IfSome r (λ bytes. ReadsAs bytes k xs)
+whole_text l k xs None rest same c t s = tt
+whole_text l k xs (Some input) None same c t s = absurd c
+whole_text l k xs (Some input) (Some bytes) same c t s =
+    record { script = s; text = c ∙ append_assoc (layout_text l) (10 ∷ []) bytes ∙ ap (λ b. layout_text l ++ 10 ∷ b) t ∙ ap (λ z. script_text z xs) (sym same) }

@@ -1,0 +1,40 @@
+use Rattle.std.proofs.Common.{◌∷◌, [], refl, sym, subst, ◌∙◌}
+use Rattle.firefly_script.specs.declared.line.Line.{Line}
+use Rattle.firefly_script.specs.Operations.{held_after, none_held, MayDo, MayCome}
+use Rattle.firefly_script.proofs.Follow.{held_append, follow_append}
+use Rattle.firefly_script.proofs.Injective.{line_same}
+use Rattle.firefly_script.proofs.draft.Draft.take.Goals as goal
+
+pub returns-then-not-step-clause-refused : goal.returns-then-not-step-clause-refused
+returns-then-not-step-clause-refused c e x may is =
+    let d = c.args.self.now in
+    let h = held_after none_held d.lines.items in
+    let n = c.in-Some.ensures in
+    let same = line_same d.layout c.requires.lawful x c.in-Some.line (may.thread, may.named) n.0 (sym is ∙ n.1) in
+    let P : Line → Type 0 = λ y. MayDo h y.thread.0 y.operation in
+    let k = (c.step.ensures.may h c.requires.shows).1 (subst P same may.may) in
+    let f = c.if-not-step.true in
+    absurd (cc)
+
+pub returns-clause-taken : goal.returns-clause-taken
+returns-clause-taken c e =
+    let d = c.args.self.now in
+    let x = c.in-Some.line in
+    let h = held_after none_held d.lines.items in
+    let n = c.in-Some.ensures in
+    let f = c.if-not-step.false in
+    let may : MayCome d.layout h x = record { thread = n.0.0; named = n.0.1; may = (c.step.ensures.may h c.requires.shows).0 f } in
+    let items = c.in_ok-push.ensures.items in (
+      x,
+      n.1,
+      record {
+        may = may;
+        layout = refl;
+        lines = items;
+        draft = record {
+          lawful = c.requires.lawful;
+          follow = rw items (follow_append d.layout none_held d.lines.items (x ∷ []) c.requires.follow (may, tt));
+          shows = rw (items, held_append none_held d.lines.items (x ∷ [])) (c.step.ensures.after h c.requires.shows f);
+        };
+      },
+    )

@@ -1,0 +1,28 @@
+use Rattle.std.proofs.Common.{◌+◌, arith}
+use Rattle.firefly_script.specs.Text.{line_text}
+use Rattle.firefly_script.proofs.Firsts.{line_consumed}
+use Rattle.firefly_script.proofs.LineFaults.{whole_bad, long_bad, open_bad}
+use Rattle.firefly_script.proofs.read.one.Goals as goal
+
+pub returns-in-Ok-clause-line : goal.returns-in-Ok-clause-line
+returns-in-Ok-clause-line g c e =
+    let f = rw c.in-Ok-Whole.field-0-is at c.in-Ok-Whole.ensures.found in
+    let t = c.in-Ok.ensures.line in
+    (t.0, t.2, line_consumed _ (g.I.Source.left c.next.new.input) c.next.new.window c.take.new.window (line_text t.0) c.in-Ok-Whole.length c.in-Ok-Whole.ensures.kept f t.1 t.3)
+
+pub returns-in-Err-take-clause-fault : goal.returns-in-Err-take-clause-fault
+returns-in-Err-take-clause-fault g c =
+    let f = rw c.in-Ok-Whole.field-0-is at c.in-Ok-Whole.ensures.found in
+    whole_bad c.args.draft.now.layout c.args.draft.now.lines.items _ (g.I.Source.left c.next.new.input) c.next.new.window c.in-Ok-Whole.length _ _ c.in-Err-take.fault c.in-Ok-Whole.ensures.kept f c.requires.few c.in-Err-take.ensures.fault
+
+pub returns-in-Ok-Long-clause-fault : goal.returns-in-Ok-Long-clause-fault
+returns-in-Ok-Long-clause-fault g c =
+    let f = rw c.in-Ok-Long.field-0-is at c.in-Ok-Long.ensures.found in
+    let d = c.args.draft.now in
+    long_bad d.layout d.lines.items _ (g.I.Source.left c.next.new.input) c.next.new.window (g.I.Source.faults c.args.input.now) (g.I.Source.faults c.next.new.input) (c.len.result + 2) c.requires.draft.lawful c.in-Ok-Long.ensures.kept (omega (arith, c.len.ensures)) c.requires.few f.0 f.1
+
+pub returns-in-Ok-Open-clause-fault : goal.returns-in-Ok-Open-clause-fault
+returns-in-Ok-Open-clause-fault g c =
+    let f = rw c.in-Ok-Open.field-0-is at c.in-Ok-Open.ensures.found in
+    let d = c.args.draft.now in
+    open_bad d.layout d.lines.items _ (g.I.Source.left c.next.new.input) c.next.new.window (g.I.Source.faults c.args.input.now) (g.I.Source.faults c.next.new.input) (c.len.result + 2) c.in-Ok-Open.ensures.kept (omega (arith, c.len.ensures)) c.requires.few f.0 f.1 f.2

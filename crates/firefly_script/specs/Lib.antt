@@ -1,0 +1,10 @@
+pub mod Operations
+pub mod Text
+pub mod Faults
+pub mod Seen
+pub mod Parsing
+pub mod Window
+pub mod Held
+pub mod Drafts
+pub mod Founds
+pub mod Runs

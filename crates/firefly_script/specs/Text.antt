@@ -1,0 +1,46 @@
+-- Script texts.
+use Rattle.std.specs.Prelude.{◌≡◌, ℕ, List, [], ◌∷◌, ◌++◌, codes, decimal}
+use Rattle.larch_actions.specs.declared.event.Layout.{Layout}
+use Rattle.larch_actions.specs.Layout.{IsLawful}
+use Rattle.firefly_script.specs.declared.line.Operation.{Operation}
+use Rattle.firefly_script.specs.declared.line.Operation.TheVariants.{Acquire, Release, P, V, Add}
+use Rattle.firefly_script.specs.declared.line.Line.{Line}
+use Rattle.firefly_script.specs.Operations.{MayFollow, none_held, held_after, AllFree}
+
+-- the layout line, without its newline
+abbrev pub layout_text : Layout → List ℕ
+layout_text l =
+    codes "threads " ++ (decimal l.threads ++ (codes " mutexes " ++ (decimal l.mutexes ++ (codes " conditions " ++ (decimal l.conditions ++ (codes " semaphores " ++ decimal l.semaphores))))))
+
+abbrev pub operation_text : Operation → List ℕ
+operation_text (Acquire m) = codes "acquire m" ++ decimal m.0
+operation_text (Release m) = codes "release m" ++ decimal m.0
+operation_text (P s) = codes "p s" ++ decimal s.0
+operation_text (V s) = codes "v s" ++ decimal s.0
+operation_text (Add m n) = codes "add m" ++ (decimal m.0 ++ (codes " " ++ decimal n))
+
+-- a line, without its newline
+abbrev pub line_text : Line → List ℕ
+line_text x = codes "t" ++ (decimal x.thread.0 ++ (codes " " ++ operation_text x.operation))
+
+abbrev pub lines_text : List Line → List ℕ
+lines_text [] = []
+lines_text (x ∷ xs) = line_text x ++ 10 ∷ lines_text xs
+
+-- the one text of the layout and the lines
+abbrev pub script_text : Layout → List Line → List ℕ
+script_text l xs = layout_text l ++ 10 ∷ lines_text xs
+
+-- the lines may come one after another, and at their end no thread holds a mutex
+pub record IsScript (l : Layout) (xs : List Line) : Type 0 where
+  pub lawful : IsLawful l
+  pub follow : MayFollow l none_held xs
+  pub free : AllFree (held_after none_held xs)
+
+-- the bytes are the text of the layout and the lines
+pub record ReadsAs (bytes : List ℕ) (l : Layout) (xs : List Line) : Type 0 where
+  pub script : IsScript l xs
+  pub text : bytes ≡ script_text l xs
+
+abbrev pub IsScriptText : List ℕ → Type 0
+IsScriptText bytes = (l : Layout) × (xs : List Line) × ReadsAs bytes l xs

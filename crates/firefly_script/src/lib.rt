@@ -1,0 +1,22 @@
+//! Scripts of the threads package: what they say, their texts, and what a run of one leaves.
+//!
+//! Promises: `read_script` gives the script of the text exactly where the whole input is one of at most 100,000 lines, and else names
+//! the first bad line, that the input is too long, a failed read or want of memory. A whole bad line wins over a later failed read.
+//! Stands on firefly_outside and larch_actions. The input is never held whole: a window of 64 KiB, and what was read.
+//! Here stand the definitions that a run is held to (specs/Runs.antt), and not the run.
+#![tactic(auto)]
+
+mod draft;
+mod line;
+mod next;
+mod parse;
+mod read;
+mod script;
+mod window;
+
+pub use line::{Line, Operation};
+pub use read::read_script;
+pub use script::{Script, ScriptFault};
+
+#[cfg(test)]
+mod tests;

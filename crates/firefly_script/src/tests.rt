@@ -1,0 +1,133 @@
+use crate::line::{Line, Operation};
+use crate::read::read_script;
+use crate::script::{Script, ScriptFault};
+use firefly_outside::MemSource;
+use larch_actions::{MutexId, SemId, ThreadId};
+use std::alloc::{AllocError, Global};
+use std::test::Fail;
+
+// Reads a text, of which only the first bytes are given where a number stands.
+fn read(
+    alloc: Global,
+    text: &str,
+    given: Option<usize>,
+) -> Result<Result<Script, ScriptFault>, AllocError> {
+    let mut source = MemSource::new(Vec::from_slice(alloc, text.as_bytes())?);
+    if let Some(given) = given {
+        source.fail_after(given);
+    }
+    Ok(read_script(alloc, &mut source))
+}
+
+// The fault of a text.
+fn fault(alloc: Global, text: &str) -> Result<Option<ScriptFault>, AllocError> {
+    Ok(read(alloc, text, None)?.err())
+}
+
+#[test]
+fn lines_are_read_in_order(rt: HostRuntime) -> Result<(), Fail> {
+    let text =
+        "threads 12 mutexes 2 conditions 0 semaphores 1\nt0 p s0\nt11 acquire m1\nt11 add m1 1000000\nt11 release m1\nt0 v s0\n";
+    match read(rt.alloc(), text, None)? {
+        Ok(script) => {
+            let (t0, t11, m1, s0) = (ThreadId(0), ThreadId(11), MutexId(1), SemId(0));
+            assert_eq!(rt; script.layout().threads, 12);
+            assert_eq!(rt;
+                script.lines(),
+                [
+                    Line {
+                        thread: t0,
+                        operation: Operation::P { sem: s0 }
+                    },
+                    Line {
+                        thread: t11,
+                        operation: Operation::Acquire { mutex: m1 }
+                    },
+                    Line {
+                        thread: t11,
+                        operation: Operation::Add {
+                            mutex: m1,
+                            number: 1_000_000
+                        }
+                    },
+                    Line {
+                        thread: t11,
+                        operation: Operation::Release { mutex: m1 }
+                    },
+                    Line {
+                        thread: t0,
+                        operation: Operation::V { sem: s0 }
+                    },
+                ]
+                .as_slice()
+            );
+        }
+        Err(_) => assert!(rt; false, "refused"),
+    }
+    Ok(())
+}
+
+#[test]
+fn the_first_bad_line_is_named(rt: HostRuntime) -> Result<(), Fail> {
+    let alloc = rt.alloc();
+    let one_mutex = "threads 1 mutexes 1 conditions 0 semaphores 0\n";
+    let too_much = format!(in alloc; "{one_mutex}t0 acquire m0\nt0 add m0 1000001\n")?;
+    assert_eq!(rt;
+        fault(alloc, too_much.as_str())?,
+        Some(ScriptFault::BadLine(3))
+    );
+    let not_held = format!(in alloc; "{one_mutex}t0 release m0\n")?;
+    assert_eq!(rt;
+        fault(alloc, not_held.as_str())?,
+        Some(ScriptFault::BadLine(2))
+    );
+    let still_held = format!(in alloc; "{one_mutex}t0 acquire m0\n")?;
+    assert_eq!(rt;
+        fault(alloc, still_held.as_str())?,
+        Some(ScriptFault::BadLine(3))
+    );
+    let cut = format!(in alloc; "{one_mutex}t0 acquire m0\nt0 rel")?;
+    assert_eq!(rt; fault(alloc, cut.as_str())?, Some(ScriptFault::BadLine(3)));
+    let leading_zero = format!(in alloc; "{one_mutex}t0 acquire m00\n")?;
+    assert_eq!(rt;
+        fault(alloc, leading_zero.as_str())?,
+        Some(ScriptFault::BadLine(2))
+    );
+    assert_eq!(rt;
+        fault(alloc, "threads 0 mutexes 0 conditions 0 semaphores 0\n")?,
+        Some(ScriptFault::BadLine(1))
+    );
+    assert_eq!(rt;
+        fault(alloc, "threads 65 mutexes 0 conditions 0 semaphores 0\n")?,
+        Some(ScriptFault::BadLine(1))
+    );
+    assert_eq!(rt; fault(alloc, "")?, Some(ScriptFault::BadLine(1)));
+    Ok(())
+}
+
+#[test]
+fn a_whole_bad_line_wins_over_a_later_failed_read(rt: HostRuntime) -> Result<(), Fail> {
+    let text = "threads 1 mutexes 1 conditions 0 semaphores 0\nt0 release m0\nt0 acquire m0\n";
+    assert_eq!(rt;
+        read(rt.alloc(), text, Some(60))?.err(),
+        Some(ScriptFault::BadLine(2))
+    );
+    assert_eq!(rt;
+        read(rt.alloc(), text, Some(59))?.err(),
+        Some(ScriptFault::Read)
+    );
+    Ok(())
+}
+
+#[test]
+fn a_hundred_thousand_lines_are_read_and_no_further_byte(rt: HostRuntime) -> Result<(), Fail> {
+    let alloc = rt.alloc();
+    let mut text = String::from_str(alloc, "threads 1 mutexes 0 conditions 0 semaphores 1\n")?;
+    for _ in 0..99_999 {
+        text.push_str("t0 v s0\n")?;
+    }
+    assert_eq!(rt; fault(alloc, text.as_str())?, None);
+    text.push_str("x")?;
+    assert_eq!(rt; fault(alloc, text.as_str())?, Some(ScriptFault::TooLong));
+    Ok(())
+}

@@ -1,0 +1,88 @@
+//! What a call of the program answers.
+use firefly::{Status, firefly};
+use firefly_outside::{MemSink, MemSource, MemTree};
+use std::alloc::{AllocError, Global};
+use std::process::Abort;
+use std::test::Fail;
+
+/// The status of a call, and what it wrote.
+#[derive(Drop)]
+pub struct Answer {
+    pub status: Status,
+    pub out: Vec<u8>,
+    pub notes: Vec<u8>,
+}
+
+/// The words as the program gets them.
+pub fn words_of(alloc: Global, words: &[&str]) -> Result<Vec<String>, AllocError> {
+    let mut all = Vec::new(alloc);
+    for word in words {
+        all.push(String::from_str(alloc, word)?)?;
+    }
+    Ok(all)
+}
+
+/// Trees with nothing in them.
+fn no_trees(alloc: Global) -> Result<Vec<Option<MemTree>>, AllocError> {
+    trees_of(alloc, &MemTree::new(alloc))
+}
+
+/// As many copies of the tree as a call needs.
+pub fn trees_of(alloc: Global, tree: &MemTree) -> Result<Vec<Option<MemTree>>, AllocError> {
+    let mut trees = Vec::new(alloc);
+    for _ in 0..17 {
+        trees.push(Some(tree.fork(alloc)?))?;
+    }
+    Ok(trees)
+}
+
+/// Calls the program on this input, with so much room for its answer.
+pub fn run_program(
+    alloc: Global,
+    words: &[&str],
+    input: &mut MemSource,
+    room: usize,
+) -> Result<Answer, AllocError> {
+    let words = words_of(alloc, words)?;
+    let mut out = MemSink::with_room(alloc, room)?;
+    let mut notes = MemSink::with_room(alloc, 200)?;
+    let mut trees = no_trees(alloc)?;
+    let status = firefly(alloc, &words, &mut trees, input, &mut out, &mut notes);
+    Ok(Answer {
+        status,
+        out: out.bytes().to_vec(alloc)?,
+        notes: notes.bytes().to_vec(alloc)?,
+    })
+}
+
+/// The command `check` writes this line for this text, with this status.
+pub fn prints(
+    rt: &impl Abort,
+    alloc: Global,
+    text: &str,
+    status: Status,
+    line: &str,
+) -> Result<(), Fail> {
+    let mut input = MemSource::new(text.as_bytes().to_vec(alloc)?);
+    let found = run_program(alloc, &["check"], &mut input, 200)?;
+    assert_eq!(rt; found.status, status, "{text}");
+    assert_eq!(rt; found.out.as_slice(), line.as_bytes(), "{text}");
+    assert_eq!(rt; found.notes.len(), 0, "{text}");
+    Ok(())
+}
+
+/// The command `check` writes nothing for this text, and this message.
+pub fn says(
+    rt: &impl Abort,
+    alloc: Global,
+    text: &str,
+    status: Status,
+    message: &str,
+) -> Result<(), Fail> {
+    let mut input = MemSource::new(text.as_bytes().to_vec(alloc)?);
+    let found = run_program(alloc, &["check"], &mut input, 200)?;
+    assert_eq!(rt; found.status, status, "{text}");
+    assert_eq!(rt; found.out.len(), 0, "{text}");
+    assert_eq!(rt; found.notes.as_slice(), message.as_bytes(), "{text}");
+    Ok(())
+}

@@ -1,0 +1,122 @@
+//! Each prefix of a trace and each change of one byte, against the verdict read off the definitions.
+ghost use Rattle.std.specs.Prelude.{◌<◌, length};
+
+use crate::plain::plain_verdict;
+use firefly_outside::MemSource;
+use std::alloc::Global;
+use std::process::Abort;
+use std::test::Fail;
+use trace_check::{Verdict, check};
+
+// A trace with each kind of line. A function without a clause keeps the bytes out of the proofs.
+fn whole() -> &'static [u8] {
+    b"firefly-trace 1
+threads 3 mutexes 2 conditions 1 semaphores 1
+0 t0 acquire m0
+1 t0 enqueue m0 c0
+2 t1 acquire m0
+3 t1 alert-enqueue m0 c0
+4 t2 signal c0 left t1
+5 t0 resume m0 c0
+6 t2 alert t1
+7 t0 release m0
+8 t1 alert-resume m0 c0 raises
+9 t1 release m0
+10 t1 acquire m1
+11 t1 alert-enqueue m1 c0
+12 t2 broadcast c0
+13 t1 alert-resume m1 c0 returns
+14 t1 release m1
+15 t0 p s0
+16 t0 v s0
+17 t0 alert-p s0 returns
+18 t2 alert t0
+19 t0 alert-p s0 raises
+20 t1 test-alert no
+21 t2 alert t2
+22 t2 test-alert yes
+end 23
+value m0 0
+value m1 18446744073709551615
+"
+}
+
+// A short trace. A function without a clause keeps the bytes out of the proofs.
+fn short() -> &'static [u8] {
+    b"firefly-trace 1
+threads 2 mutexes 1 conditions 1 semaphores 1
+0 t0 acquire m0
+1 t0 enqueue m0 c0
+2 t1 signal c0 left
+3 t0 resume m0 c0
+4 t1 alert-p s0 returns
+end 5
+value m0 17
+"
+}
+
+// What a byte is changed to.
+const BYTES: &[u8] = b"0139 \ntmcsvaeld-\0\xff";
+
+// The checker and the definitions agree on this input.
+fn agree(rt: &impl Abort, alloc: Global, bytes: &[u8]) -> Result<(), Fail> {
+    let mut input = MemSource::new(bytes.to_vec(alloc)?);
+    let found = check(&mut input, 100_000);
+    let want = plain_verdict(alloc, bytes)?;
+    assert_eq!(rt; found, want);
+    Ok(())
+}
+
+#[test]
+fn each_prefix_has_the_verdict_of_the_definitions(rt: HostRuntime) -> Result<(), Fail> {
+    let bytes = whole();
+    for k in 0..bytes.len() {
+        agree(&rt, rt.alloc(), &bytes[..k])?;
+    }
+    agree(&rt, rt.alloc(), bytes)
+}
+
+#[test]
+fn each_changed_byte_has_the_verdict_of_the_definitions(rt: HostRuntime) -> Result<(), Fail> {
+    let mut bytes = short().to_vec(rt.alloc())?;
+    for k in 0..bytes.len() {
+        let byte = bytes[k];
+        for other in BYTES {
+            bytes[k] = *other;
+            agree(&rt, rt.alloc(), &bytes)?;
+        }
+        bytes[k] = byte;
+    }
+    Ok(())
+}
+
+#[test]
+fn each_removed_byte_has_the_verdict_of_the_definitions(rt: HostRuntime) -> Result<(), Fail> {
+    for k in 0..whole().len() {
+        let mut bytes = whole().to_vec(rt.alloc())?;
+        if k < bytes.len() {
+            bytes.remove(k);
+        }
+        agree(&rt, rt.alloc(), &bytes)?;
+    }
+    Ok(())
+}
+
+#[test]
+fn each_smaller_budget_is_too_long(rt: HostRuntime) -> Result<(), Fail> {
+    for k in 0..whole().len() {
+        let mut input = MemSource::new(whole().to_vec(rt.alloc())?);
+        assert_eq!(rt; check(&mut input, k as u64), Verdict::TooLong);
+    }
+    Ok(())
+}
+
+#[test]
+fn a_read_that_fails_before_the_end_is_a_read_fault(rt: HostRuntime) -> Result<(), Fail> {
+    for k in 0..whole().len() {
+        let mut input = MemSource::new(whole().to_vec(rt.alloc())?);
+        input.fail_after(k);
+        assert_eq!(rt; check(&mut input, 100_000), Verdict::ReadFault);
+    }
+    Ok(())
+}

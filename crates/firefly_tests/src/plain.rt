@@ -1,0 +1,358 @@
+//! The verdict on a text that is there as a whole: each line that can come is written out and compared.
+use crate::facts::Facts;
+use larch_actions::{Action, CondId, Event, Layout, MutexId, SemId, ThreadId, ThreadSet};
+use std::alloc::{AllocError, Global};
+use trace_check::{Summary, Verdict};
+
+// An action with its text.
+#[derive(Drop)]
+struct Named {
+    text: String,
+    action: Action,
+}
+
+// Where a reading is: before the first line, before the layout line, among the events, or among the values from this mutex on.
+#[derive(Clone, Copy, PartialEq, Eq)]
+enum Stage {
+    First,
+    Second,
+    Events,
+    Values(u32),
+}
+
+#[derive(Drop)]
+struct Reading {
+    stage: Stage,
+    layout: Layout,
+    actions: Vec<Named>,
+    facts: Facts,
+    place: u64,
+}
+
+fn add(actions: &mut Vec<Named>, text: String, action: Action) -> Result<(), AllocError> {
+    actions.push(Named { text, action })?;
+    Ok(())
+}
+
+fn add_waits(alloc: Global, actions: &mut Vec<Named>, m: u32, c: u32) -> Result<(), AllocError> {
+    let mutex = MutexId(m);
+    let cond = CondId(c);
+    add(
+        actions,
+        format!(in alloc; "enqueue m{m} c{c}")?,
+        Action::Enqueue { mutex, cond },
+    )?;
+    add(
+        actions,
+        format!(in alloc; "resume m{m} c{c}")?,
+        Action::Resume { mutex, cond },
+    )?;
+    add(
+        actions,
+        format!(in alloc; "alert-enqueue m{m} c{c}")?,
+        Action::AlertEnqueue { mutex, cond },
+    )?;
+    add(
+        actions,
+        format!(in alloc; "alert-resume m{m} c{c} returns")?,
+        Action::AlertReturn { mutex, cond },
+    )?;
+    add(
+        actions,
+        format!(in alloc; "alert-resume m{m} c{c} raises")?,
+        Action::AlertRaise { mutex, cond },
+    )
+}
+
+fn add_semaphore(alloc: Global, actions: &mut Vec<Named>, s: u32) -> Result<(), AllocError> {
+    let sem = SemId(s);
+    add(actions, format!(in alloc; "p s{s}")?, Action::P { sem })?;
+    add(actions, format!(in alloc; "v s{s}")?, Action::V { sem })?;
+    add(
+        actions,
+        format!(in alloc; "alert-p s{s} returns")?,
+        Action::AlertPReturn { sem },
+    )?;
+    add(
+        actions,
+        format!(in alloc; "alert-p s{s} raises")?,
+        Action::AlertPRaise { sem },
+    )
+}
+
+// The signal that leaves the threads whose bits are set.
+fn add_signal(
+    alloc: Global,
+    actions: &mut Vec<Named>,
+    c: u32,
+    threads: u32,
+    bits: u32,
+) -> Result<(), AllocError> {
+    let mut text = format!(in alloc; "signal c{c} left")?;
+    let mut left = ThreadSet::empty();
+    for t in 0..threads.min(10) {
+        if (bits >> t) & 1 == 1 {
+            left.insert(ThreadId(t));
+            let name = format!(in alloc; " t{t}")?;
+            text.push_str(name.as_str())?;
+        }
+    }
+    add(
+        actions,
+        text,
+        Action::Signal {
+            cond: CondId(c),
+            left,
+        },
+    )
+}
+
+// The actions of a layout of at most ten threads.
+fn actions_of(alloc: Global, layout: &Layout) -> Result<Vec<Named>, AllocError> {
+    let mut actions = Vec::new(alloc);
+    for m in 0..layout.mutexes {
+        add(
+            &mut actions,
+            format!(in alloc; "acquire m{m}")?,
+            Action::Acquire { mutex: MutexId(m) },
+        )?;
+        add(
+            &mut actions,
+            format!(in alloc; "release m{m}")?,
+            Action::Release { mutex: MutexId(m) },
+        )?;
+        for c in 0..layout.conditions {
+            add_waits(alloc, &mut actions, m, c)?;
+        }
+    }
+    for c in 0..layout.conditions {
+        add(
+            &mut actions,
+            format!(in alloc; "broadcast c{c}")?,
+            Action::Broadcast { cond: CondId(c) },
+        )?;
+        for bits in 0..1 << layout.threads.min(10) {
+            add_signal(alloc, &mut actions, c, layout.threads, bits)?;
+        }
+    }
+    for s in 0..layout.semaphores {
+        add_semaphore(alloc, &mut actions, s)?;
+    }
+    for t in 0..layout.threads {
+        add(
+            &mut actions,
+            format!(in alloc; "alert t{t}")?,
+            Action::Alert { who: ThreadId(t) },
+        )?;
+    }
+    add(
+        &mut actions,
+        format!(in alloc; "test-alert yes")?,
+        Action::TestAlert { yes: true },
+    )?;
+    add(
+        &mut actions,
+        format!(in alloc; "test-alert no")?,
+        Action::TestAlert { yes: false },
+    )?;
+    Ok(actions)
+}
+
+// The number in a range whose text, with these words round it, stands at the front of the line.
+fn number_in(
+    alloc: Global,
+    line: &[u8],
+    front: &str,
+    least: u32,
+    after: &str,
+) -> Result<Option<u32>, AllocError> {
+    for n in least..65 {
+        let text = format!(in alloc; "{front}{n}{after}")?;
+        if line.starts_with(text.as_bytes()) {
+            return Ok(Some(n));
+        }
+    }
+    Ok(None)
+}
+
+fn layout_in(alloc: Global, line: &[u8]) -> Result<Option<Layout>, AllocError> {
+    let Some(threads) = number_in(alloc, line, "threads ", 1, " mutexes ")? else {
+        return Ok(None);
+    };
+    let front = format!(in alloc; "threads {threads} mutexes ")?;
+    let Some(mutexes) = number_in(alloc, line, front.as_str(), 0, " conditions ")? else {
+        return Ok(None);
+    };
+    let front = format!(in alloc; "threads {threads} mutexes {mutexes} conditions ")?;
+    let Some(conditions) = number_in(alloc, line, front.as_str(), 0, " semaphores ")? else {
+        return Ok(None);
+    };
+    for semaphores in 0..65 {
+        let text = format!(in alloc;
+            "threads {threads} mutexes {mutexes} conditions {conditions} semaphores {semaphores}"
+        )?;
+        if line == text.as_bytes() {
+            return Ok(Some(Layout {
+                threads,
+                mutexes,
+                conditions,
+                semaphores,
+            }));
+        }
+    }
+    Ok(None)
+}
+
+// A number without a leading zero, of at most 64 bits.
+fn is_value(digits: &[u8]) -> bool {
+    if digits == b"0".as_slice() {
+        return true;
+    }
+    let greatest = b"18446744073709551615";
+    let plain = !digits.is_empty()
+        && !digits.starts_with(b"0")
+        && digits.iter().all(|d| *d >= b'0' && *d <= b'9');
+    plain
+        && (digits.len() < greatest.len()
+            || (digits.len() == greatest.len() && digits <= greatest.as_slice()))
+}
+
+impl Reading {
+    fn new(alloc: Global) -> Reading {
+        Reading {
+            stage: Stage::First,
+            layout: Layout {
+                threads: 1,
+                mutexes: 0,
+                conditions: 0,
+                semaphores: 0,
+            },
+            actions: Vec::new(alloc),
+            facts: Facts::new(alloc),
+            place: 0,
+        }
+    }
+
+    fn event_in(&self, alloc: Global, line: &[u8]) -> Result<Option<Event>, AllocError> {
+        let place = self.place;
+        for t in 0..self.layout.threads {
+            let front = format!(in alloc; "{place} t{t} ")?;
+            if line.starts_with(front.as_bytes()) {
+                for named in &self.actions {
+                    let text = format!(in alloc; "{place} t{t} {}", named.text.as_str())?;
+                    if line == text.as_bytes() {
+                        return Ok(Some(Event {
+                            thread: ThreadId(t),
+                            action: named.action,
+                        }));
+                    }
+                }
+            }
+        }
+        Ok(None)
+    }
+
+    // Takes a line among the events, and says what is wrong with it.
+    fn event_line(
+        &mut self,
+        alloc: Global,
+        line: &[u8],
+        number: u64,
+    ) -> Result<Option<Verdict>, AllocError> {
+        let place = self.place;
+        let end = format!(in alloc; "end {place}")?;
+        if line == end.as_bytes() {
+            self.stage = Stage::Values(0);
+            return Ok(None);
+        }
+        let Some(event) = self.event_in(alloc, line)? else {
+            return Ok(Some(Verdict::BadLine(number)));
+        };
+        if let Some(why) = self.facts.broken(&event) {
+            return Ok(Some(Verdict::Illegal { place, why }));
+        }
+        self.facts.act(&event)?;
+        self.place = place.saturating_add(1);
+        Ok(None)
+    }
+
+    fn value_line(
+        &mut self,
+        alloc: Global,
+        line: &[u8],
+        number: u64,
+        least: u32,
+    ) -> Result<Option<Verdict>, AllocError> {
+        for m in least..self.layout.mutexes {
+            let front = format!(in alloc; "value m{m} ")?;
+            if let Some(digits) = line.strip_prefix(front.as_bytes()) {
+                if is_value(digits) {
+                    self.stage = Stage::Values(m.saturating_add(1));
+                    return Ok(None);
+                }
+            }
+        }
+        Ok(Some(Verdict::BadLine(number)))
+    }
+
+    // Takes the line of this number, and says what is wrong with it.
+    fn line(
+        &mut self,
+        alloc: Global,
+        line: &[u8],
+        number: u64,
+    ) -> Result<Option<Verdict>, AllocError> {
+        match self.stage {
+            Stage::First => {
+                if line != b"firefly-trace 1".as_slice() {
+                    return Ok(Some(Verdict::BadLine(number)));
+                }
+                self.stage = Stage::Second;
+                Ok(None)
+            }
+            Stage::Second => {
+                let Some(layout) = layout_in(alloc, line)? else {
+                    return Ok(Some(Verdict::BadLine(number)));
+                };
+                self.layout = layout;
+                self.actions = actions_of(alloc, &layout)?;
+                self.stage = Stage::Events;
+                Ok(None)
+            }
+            Stage::Events => self.event_line(alloc, line, number),
+            Stage::Values(least) => self.value_line(alloc, line, number, least),
+        }
+    }
+
+    // The verdict at the end of the input, after so many whole lines.
+    fn end(&self, cut: bool, lines: u64) -> Verdict {
+        match self.stage {
+            Stage::Values(_) if !cut => Verdict::Legal(Summary {
+                events: self.place,
+                held: self.facts.held.len() as u64,
+                waiting: self.facts.waits.len() as u64,
+                alerted: self.facts.alerted.len() as u64,
+            }),
+            _ => Verdict::BadLine(lines.saturating_add(1)),
+        }
+    }
+}
+
+/// The verdict on the whole input.
+pub fn plain_verdict(alloc: Global, bytes: &[u8]) -> Result<Verdict, AllocError> {
+    let mut reading = Reading::new(alloc);
+    let mut line = Vec::new(alloc);
+    let mut lines: u64 = 0;
+    for b in bytes {
+        if *b == b'\n' {
+            lines = lines.saturating_add(1);
+            if let Some(verdict) = reading.line(alloc, &line, lines)? {
+                return Ok(verdict);
+            }
+            line.clear();
+        } else {
+            line.push(*b)?;
+        }
+    }
+    Ok(reading.end(!line.is_empty(), lines))
+}

@@ -1,0 +1,20 @@
+use Rattle.std.proofs.Common.{[]}
+use Rattle.std.specs.List.{flat_map}
+use Rattle.index_print.specs.Text.{row_text, skipped_line, index_text}
+use Rattle.index_print.proofs.Fronts.{sends_then, fails_then}
+use Rattle.index_print.proofs.Pieces.{on_err_if, on_err_then, flushed_front}
+use Rattle.index_print.proofs.print.print_index.Goals as goal
+
+pub returns-in_err-put_all_skipped-clause-err : goal.returns-in_err-put_all_skipped-clause-err
+returns-in_err-put_all_skipped-clause-err g c =
+    let piece = c.args.piece.now in
+    let rows = rw c.new-held.ensures at c.in_ok-put_rows.ensures.text in
+    on_err_if c.from_residual-in_err-put_all_skipped.result
+    (fails_then (g.O.Sink.held c.args.out.now) _ _ [] _ (flat_map row_text piece.rows) (flat_map skipped_line piece.skipped) rows c.in_err-put_all_skipped.ensures.text)
+
+pub returns-clause-err : goal.returns-clause-err
+returns-clause-err g c =
+    let piece = c.args.piece.now in
+    let rows = rw c.new-held.ensures at c.in_ok-put_rows.ensures.text in
+    let all = sends_then (g.O.Sink.held c.args.out.now) _ _ [] _ _ (flat_map row_text piece.rows) (flat_map skipped_line piece.skipped) rows c.in_ok-put_all_skipped.ensures.text in
+    on_err_then c.flush.result c.flush.ensures.err (flushed_front (g.O.Sink.held c.args.out.now) _ _ _ (index_text piece) all)

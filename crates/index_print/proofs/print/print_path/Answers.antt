@@ -1,0 +1,36 @@
+use Rattle.std.proofs.Common.{[], ◌++◌}
+use Rattle.index_print.specs.Text.{escaped}
+use Rattle.index_print.proofs.Fronts.{sends_then, fails_then, fails_first}
+use Rattle.index_print.proofs.Pieces.{on_err_if, on_err_then, flushed_front}
+use Rattle.index_print.proofs.print.print_path.Goals as goal
+
+pub returns-in_err-put-clause-err : goal.returns-in_err-put-clause-err
+returns-in_err-put-clause-err g c =
+    let before = c.args.before.now in let path = escaped c.args.path.now in
+    let failed = rw c.new-held.ensures at c.in_err-put.ensures.text in
+    on_err_if c.from_residual.result
+    (fails_first (g.O.Sink.held c.args.out.now) _ [] (before ++ path) c.args.after.now (fails_first (g.O.Sink.held c.args.out.now) _ [] before path failed))
+
+pub returns-in_err-put_path-clause-err : goal.returns-in_err-put_path-clause-err
+returns-in_err-put_path-clause-err g c =
+    let before = c.args.before.now in let path = escaped c.args.path.now in
+    let first = rw c.new-held.ensures at c.in_ok-put.ensures.text in
+    on_err_if c.from_residual-in_err-put_path.result
+    (fails_first (g.O.Sink.held c.args.out.now) _ [] (before ++ path) c.args.after.now
+    (fails_then (g.O.Sink.held c.args.out.now) _ _ [] _ before path first c.in_err-put_path.ensures.text))
+
+pub returns-in_err-put-2-clause-err : goal.returns-in_err-put-2-clause-err
+returns-in_err-put-2-clause-err g c =
+    let before = c.args.before.now in let path = escaped c.args.path.now in
+    let first = rw c.new-held.ensures at c.in_ok-put.ensures.text in
+    let both = sends_then (g.O.Sink.held c.args.out.now) _ _ [] _ _ before path first c.in_ok-put_path.ensures.text in
+    on_err_if c.from_residual-in_err-put-2.result
+    (fails_then (g.O.Sink.held c.args.out.now) _ _ [] _ (before ++ path) c.args.after.now both c.in_err-put-2.ensures.text)
+
+pub returns-clause-err : goal.returns-clause-err
+returns-clause-err g c =
+    let before = c.args.before.now in let path = escaped c.args.path.now in let after = c.args.after.now in
+    let first = rw c.new-held.ensures at c.in_ok-put.ensures.text in
+    let both = sends_then (g.O.Sink.held c.args.out.now) _ _ [] _ _ before path first c.in_ok-put_path.ensures.text in
+    let all = sends_then (g.O.Sink.held c.args.out.now) _ _ [] _ _ (before ++ path) after both c.in_ok-put-2.ensures.text in
+    on_err_then c.flush.result c.flush.ensures.err (flushed_front (g.O.Sink.held c.args.out.now) _ _ _ ((before ++ path) ++ after) all)

@@ -1,0 +1,36 @@
+-- The index text.
+use Rattle.std.specs.Prelude.{◌≡◌, ℕ, List, [], ◌∷◌, ◌++◌, length, decimal, codes, ◌==◌, ◌&&◌, not, Bool, if◌then◌else◌}
+use Rattle.std.specs.List.{flat_map}
+use Rattle.word_index.specs.Index.{Hit, Row, Index}
+
+abbrev pub newline : List ℕ
+newline = 10 ∷ []
+
+-- a backslash is written twice, and a newline as a backslash and `n`
+abbrev pub escaped_byte : ℕ → List ℕ
+escaped_byte b = if b == 92 then 92 ∷ 92 ∷ [] else (if b == 10 then 92 ∷ 110 ∷ [] else b ∷ [])
+
+-- neither of the two
+abbrev pub is_plain_byte : ℕ → Bool
+is_plain_byte b = not (b == 92) && not (b == 10)
+
+abbrev pub escaped : List ℕ → List ℕ
+escaped path = flat_map escaped_byte path
+
+-- a word and the number of files that have it
+abbrev pub word_line : Row → List ℕ
+word_line row = row.word ++ codes " " ++ decimal (length row.hits) ++ newline
+
+-- a file that has the word: the count, the first line and the path
+abbrev pub hit_line : Hit → List ℕ
+hit_line hit = codes "  " ++ decimal hit.count ++ codes " " ++ decimal hit.line ++ codes " " ++ escaped hit.path ++ newline
+
+abbrev pub row_text : Row → List ℕ
+row_text row = word_line row ++ flat_map hit_line row.hits
+
+abbrev pub skipped_line : List ℕ → List ℕ
+skipped_line path = codes "skipped: " ++ escaped path ++ newline
+
+-- the words in order with their files, and then the skipped files
+abbrev pub index_text : Index → List ℕ
+index_text index = flat_map row_text index.rows ++ flat_map skipped_line index.skipped

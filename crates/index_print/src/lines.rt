@@ -1,0 +1,131 @@
+// Bytes on their way to a sink, in large pieces.
+ghost use Rattle.std.specs.Prelude.{◌≡◌, [], ◌∷◌, ◌++◌, OnOk, OnErr, decimal};
+ghost use Rattle.std.specs.List.{list_all};
+ghost use Rattle.std.specs.Io.KnownBytes.{Appends};
+ghost use Rattle.firefly_outside.specs.Causes.{HasCause, AppendsFront};
+ghost use Rattle.index_print.specs.Sent.{Sends, Puts};
+ghost use Rattle.index_print.specs.Text.{newline, is_plain_byte, escaped, escaped_byte};
+
+use arrayvec::ArrayVec;
+use firefly_outside::{Sink, SinkFault, put_all};
+use itoa::Buffer;
+
+/// What is held back for now.
+pub type Held = ArrayVec<u8, 16384>;
+
+/// Puts all that is held.
+pub fn flush<O: Sink>(held: &mut Held, out: &mut O) -> Result<(), SinkFault>
+    ensures ok { OnOk result (Appends (O.held out.old) (O.held out.new) held.old.items) }
+    ensures empty { OnOk result (held.new.items ≡ []) }
+    ensures err { OnErr result (AppendsFront (O.held out.old) (O.held out.new) held.old.items) }
+    ensures cause { HasCause (O.faults out.old) (O.faults out.new) result }
+{
+    match put_all(out, held.as_slice()) {
+        Ok(()) => {
+            held.clear();
+            Ok(())
+        }
+        Err(fault) => Err(fault),
+    }
+}
+
+// Puts what is held and then the piece.
+#[cold]
+#[inline(never)]
+fn put_both<O: Sink>(held: &mut Held, piece: &[u8], out: &mut O) -> Result<(), SinkFault>
+    ensures text { Puts (O.held out.old) held.old.items piece.now result (O.held out.new) held.new.items }
+    ensures cause { HasCause (O.faults out.old) (O.faults out.new) result }
+{
+    flush(held, out)?;
+    put_all(out, piece)
+}
+
+/// Holds the piece, or puts what is held and the piece where there is no room.
+#[inline]
+pub fn put<O: Sink>(held: &mut Held, piece: &[u8], out: &mut O) -> Result<(), SinkFault>
+    ensures text { Puts (O.held out.old) held.old.items piece.now result (O.held out.new) held.new.items }
+    ensures cause { HasCause (O.faults out.old) (O.faults out.new) result }
+{
+    if piece.len() > 16384 - held.len() {
+        return put_both(held, piece, out);
+    }
+    match held.try_extend_from_slice(piece) {
+        Ok(()) => Ok(()),
+        Err(_) => Err(SinkFault),
+    }
+}
+
+// Puts a number.
+fn put_number<O: Sink>(held: &mut Held, number: u64, out: &mut O) -> Result<(), SinkFault>
+    ensures text { Puts (O.held out.old) held.old.items (decimal number) result (O.held out.new) held.new.items }
+    ensures cause { HasCause (O.faults out.old) (O.faults out.new) result }
+{
+    let mut buffer = Buffer::new();
+    put(held, buffer.format(number).as_bytes(), out)
+}
+
+/// Puts a piece and a number.
+pub fn put_with_number<O: Sink>(
+    held: &mut Held,
+    piece: &[u8],
+    number: u64,
+    out: &mut O,
+) -> Result<(), SinkFault>
+    ensures text { Puts (O.held out.old) held.old.items (piece.now ++ decimal number) result (O.held out.new) held.new.items }
+    ensures cause { HasCause (O.faults out.old) (O.faults out.new) result }
+{
+    put(held, piece, out)?;
+    put_number(held, number, out)
+}
+
+// Whether each byte of the path stands for itself on a line.
+fn is_plain(path: &[u8]) -> bool
+    ensures { result ≡ list_all is_plain_byte path.now }
+{
+    path.iter().all(|byte| *byte != b'\\' && *byte != b'\n')
+}
+
+// Puts a byte, or what stands for it on a line.
+fn put_escaped_byte<O: Sink>(held: &mut Held, byte: u8, out: &mut O) -> Result<(), SinkFault>
+    ensures text { Puts (O.held out.old) held.old.items (escaped_byte byte) result (O.held out.new) held.new.items }
+    ensures cause { HasCause (O.faults out.old) (O.faults out.new) result }
+{
+    match byte {
+        b'\\' => put(held, b"\\\\", out),
+        b'\n' => put(held, b"\\n", out),
+        _ => put(held, &[byte], out),
+    }
+}
+
+// Puts a path byte by byte.
+#[cold]
+fn put_bytes<O: Sink>(held: &mut Held, path: &[u8], out: &mut O) -> Result<(), SinkFault>
+    ensures text { Puts (O.held out.old) held.old.items (escaped path.now) result (O.held out.new) held.new.items }
+    ensures cause { HasCause (O.faults out.old) (O.faults out.new) result }
+{
+    for byte in path {
+        put_escaped_byte(held, *byte, out)?;
+    }
+    Ok(())
+}
+
+/// Puts a path as it stands on a line.
+pub fn put_path<O: Sink>(held: &mut Held, path: &[u8], out: &mut O) -> Result<(), SinkFault>
+    ensures text { Puts (O.held out.old) held.old.items (escaped path.now) result (O.held out.new) held.new.items }
+    ensures cause { HasCause (O.faults out.old) (O.faults out.new) result }
+{
+    if is_plain(path) {
+        put(held, path, out)
+    } else {
+        put_bytes(held, path, out)
+    }
+}
+
+/// Puts a path as it stands on a line, and ends the line.
+pub fn put_path_line<O: Sink>(held: &mut Held, path: &[u8], out: &mut O) -> Result<(), SinkFault>
+    ensures text { Puts (O.held out.old) held.old.items (escaped path.now ++ newline) result (O.held out.new) held.new.items }
+    ensures cause { HasCause (O.faults out.old) (O.faults out.new) result }
+{
+    put_path(held, path, out)?;
+    put(held, b"\n", out)
+}

@@ -1,0 +1,7 @@
+use Rattle.std.proofs.Common.{ap, ◌∙◌}
+use Rattle.larch_actions.specs.Actions.{Spec, put}
+use Rattle.larch_actions.specs.declared.event.Pending.TheVariants.{Nothing}
+use Rattle.larch_actions.proofs.state.State.end_wait.Goals as goal
+
+pub returns-clause-spec : goal.returns-clause-spec
+returns-clause-spec c = c.set_pending.ensures.spec ∙ ap (λ (z : Spec). record z { pending = put z.pending c.args.t.0 Nothing }) c.set_holder.ensures.spec

@@ -1,0 +1,140 @@
+//! The state of the specification, and the step of each action on it.
+ghost use Rattle.std.specs.Prelude.{◌≡◌, ◌<◌, ◌↔◌, IsTrue, OnOk, OnErr, IfErr, true, false};
+ghost use mathlib.Core.Option.{none, some};
+ghost use Rattle.larch_actions.specs.Layout.{IsLawful, HasNames};
+ghost use Rattle.larch_actions.specs.Sets.{in_set};
+ghost use Rattle.larch_actions.specs.Actions.{at_first, Acts, Fails, put, without_member};
+ghost use Rattle.larch_actions.specs.State.{Moment, spec_of, holder_of, Answers, held, waiting, alerted};
+
+mod parts;
+mod steps;
+
+use crate::{Action, Broken, Event, Layout, MutexId, Pending, ThreadId, ThreadSet};
+use std::marker::Model;
+
+/// How many mutexes are held, how many threads are between the two parts of a wait, and how many are alerted.
+#[derive(Clone, Copy, Debug, PartialEq, Eq)]
+pub struct Totals {
+    pub held: u64,
+    pub waiting: u64,
+    pub alerted: u64,
+}
+
+/// The state of the specification for one layout.
+#[derive(Drop)]
+pub struct State {
+    layout: Layout,
+    holders: [Option<ThreadId>; 64],
+    members: [ThreadSet; 64],
+    available: [bool; 64],
+    alerts: ThreadSet,
+    pending: [Pending; 64],
+}
+
+impl Model for State {
+    ghost use Rattle.larch_actions.specs.Layout.{IsLawful};
+    ghost use Rattle.larch_actions.specs.State.{Moment};
+
+    ghost Value = { Moment };
+
+    ghost view = { λ s. record { layout = s.layout; holders = s.holders; members = s.members; available = s.available; alerts = s.alerts; pending = s.pending } };
+
+    ghost invariant = { λ s. IsLawful s.layout };
+}
+
+impl State {
+    /// The first state: nothing is held, waited for or alerted, and each semaphore is available.
+    pub fn new(layout: Layout) -> State
+        requires { IsLawful layout }
+        ensures layout { result.layout ≡ layout }
+        ensures first { spec_of result ≡ at_first }
+    {
+        State {
+            layout,
+            holders: [None; 64],
+            members: [ThreadSet::empty(); 64],
+            available: [true; 64],
+            alerts: ThreadSet::empty(),
+            pending: [Pending::Nothing; 64],
+        }
+    }
+
+    /// Makes the step of the event where it keeps the order and its action's row. Else it says which of Order, Requires,
+    /// When and Ensures the event fails first, and the state stays as it was.
+    pub fn apply(&mut self, e: &Event) -> Result<(), Broken>
+        requires { HasNames self.old.layout e.now }
+        ensures ok { OnOk result (Acts (spec_of self.old) e.now (spec_of self.new)) }
+        ensures refused { IfErr result (Fails (spec_of self.old) e.now) }
+        ensures same { OnErr result (self.new ≡ self.old) }
+        ensures layout { self.new.layout ≡ self.old.layout }
+    {
+        let _ = &self.layout;
+        let t = e.thread;
+        match e.action {
+            Action::Acquire { mutex } => self.acquire(t, mutex),
+            Action::Release { mutex } => self.release(t, mutex),
+            Action::Enqueue { mutex, cond } => self.enqueue(t, mutex, cond),
+            Action::Resume { mutex, cond } => self.resume(t, mutex, cond),
+            Action::AlertEnqueue { mutex, cond } => self.alert_enqueue(t, mutex, cond),
+            Action::AlertReturn { mutex, cond } => self.alert_return(t, mutex, cond),
+            Action::AlertRaise { mutex, cond } => self.alert_raise(t, mutex, cond),
+            Action::Signal { cond, left } => self.signal(t, cond, left),
+            Action::Broadcast { cond } => self.broadcast(t, cond),
+            Action::P { sem } => self.p(t, sem),
+            Action::V { sem } => self.v(t, sem),
+            Action::Alert { who } => self.alert(t, who),
+            Action::TestAlert { yes } => self.test_alert(t, yes),
+            Action::AlertPReturn { sem } => self.alert_p_return(t, sem),
+            Action::AlertPRaise { sem } => self.alert_p_raise(t, sem),
+        }
+    }
+
+    /// Counts what is held, waited for and alerted.
+    pub fn summary(&self) -> Totals
+        ensures held { result.held ≡ held self.now.layout (spec_of self.now) }
+        ensures waiting { result.waiting ≡ waiting self.now.layout (spec_of self.now) }
+        ensures alerted { result.alerted ≡ alerted self.now.layout (spec_of self.now) }
+    {
+        Totals {
+            held: self.count_held(),
+            waiting: self.count_waiting(),
+            alerted: self.count_alerted(),
+        }
+    }
+
+    fn count_held(&self) -> u64
+        ensures { result ≡ held self.now.layout (spec_of self.now) }
+    {
+        let mut count = 0;
+        for m in 0..self.layout.mutexes {
+            if !self.is_free(MutexId(m)) {
+                count += 1;
+            }
+        }
+        count
+    }
+
+    fn count_waiting(&self) -> u64
+        ensures { result ≡ waiting self.now.layout (spec_of self.now) }
+    {
+        let mut count = 0;
+        for t in 0..self.layout.threads {
+            if !self.has_begun(ThreadId(t), Pending::Nothing) {
+                count += 1;
+            }
+        }
+        count
+    }
+
+    fn count_alerted(&self) -> u64
+        ensures { result ≡ alerted self.now.layout (spec_of self.now) }
+    {
+        let mut count = 0;
+        for t in 0..self.layout.threads {
+            if self.is_alerted(ThreadId(t)) {
+                count += 1;
+            }
+        }
+        count
+    }
+}

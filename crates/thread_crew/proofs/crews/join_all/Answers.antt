@@ -1,0 +1,27 @@
+use Rattle.std.proofs.Common.{◌≡◌, ◌∷◌, [], length, ap, subst, ◌∙◌, append_assoc, arith, sym}
+use Rattle.std.specs.Vec.Iter.{into_iter_items}
+use Rattle.std.specs.List.{AllZip}
+use Rattle.thread_crew.specs.Crews.{IsRunning, Turns}
+use Rattle.thread_crew.proofs.Zips.{zip_push, zip_turn, all_yielded}
+use Rattle.thread_crew.proofs.crews.join_all.Goals as goal
+
+pub loop-one-preserved : goal.loop-one-preserved
+loop-one-preserved g c =
+    let at = c.loop-one in
+    let x = c.in-Some.one in
+    let steps : into_iter_items at.one-iterator ≡ x ∷ into_iter_items c.next.new.self = c.in-Some.ensures.steps.0 in
+    let gone = c.in-Some.ensures.steps.1 in
+    let was = at.invariant in
+    let short = ap length steps in
+    record {
+      whole = append_assoc at.yielded (x ∷ []) _ ∙ rw (← steps) was.whole;
+      left = (let left = was.left in omega arith);
+      room = (let room = was.room in let cap = c.in-Ok.ensures.capacity in let len = c.in-Ok.ensures.len in omega arith);
+      turned = rw c.in-Ok.ensures.items (zip_push (Turns (IsRunning g.T.Task.run_gives) g.T.Task.run_gives) at.yielded _ x _ was.turned c.result_of.ensures);
+    }
+
+pub returns : goal.returns
+returns g c jobs given =
+    let at = c.loop-one in
+    let all = all_yielded at.yielded _ _ at.invariant.whole (sym at.invariant.left ∙ c.in-None.ensures.steps.0) ∙ c.into_iter-one-iterator.ensures.into_iter_gives.0 in
+    zip_turn (IsRunning g.T.Task.run_gives) g.T.Task.run_gives jobs _ _ given (subst (λ l. AllZip (Turns (IsRunning g.T.Task.run_gives) g.T.Task.run_gives) l at.results.items) all at.invariant.turned)

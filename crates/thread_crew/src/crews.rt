@@ -1,0 +1,176 @@
+ghost use Rattle.std.specs.Prelude.{◌≡◌, ◌≤◌, ◌+◌, [], List, vec_len, vec_capacity, IfOk, IfErr, length, Bool};
+ghost use Rattle.std.specs.List.{AllZip, AllByRecursion};
+ghost use Rattle.thread_crew.specs.Crews.{IsChildOf, IsRunning, Turns};
+
+use crate::child::{Child, Running};
+use crate::outcome::{Finished, NotRun};
+use crate::task::{Gives, Task};
+use std::alloc::Global;
+use std::snapshot::Snapshot;
+use std::sync::Wait;
+use std::thread;
+use std::thread::{Scope, Threads};
+
+/// Runs a closure that could not be started.
+fn settle<T: Task<Output = X>, X: Drop, F: FnOnce() -> X + Drop>(
+    child: Child<X, Gives<T>, F>,
+) -> Running<X, Gives<T>>
+    requires { (job : T) × IsChildOf T.run_gives F.pre F.post job child }
+    ensures { Turns (IsChildOf T.run_gives F.pre F.post) (IsRunning T.run_gives) child result }
+{
+    match child {
+        Child::Started(handle) => Running::Going(handle),
+        Child::Held(f) => Running::Done(f()),
+    }
+}
+
+/// The result of one job.
+fn result_of<R: Threads, T: Task<Output = X>, X: Drop>(rt: &R, one: Running<X, Gives<T>>) -> X
+    ensures { Turns (IsRunning T.run_gives) T.run_gives one result }
+{
+    match one {
+        Running::Going(handle) => handle.join(rt),
+        Running::Done(result) => result,
+    }
+}
+
+/// Runs what could not be started.
+fn run_held<T: Task<Output = X>, X: Drop, F: FnOnce() -> X + Drop>(
+    children: Vec<Child<X, Gives<T>, F>>,
+    mut running: Vec<Running<X, Gives<T>>>,
+) -> Vec<Running<X, Gives<T>>>
+    requires ready { (jobs : List T) × AllZip (IsChildOf T.run_gives F.pre F.post) jobs children.items }
+    requires room { (running.items ≡ []) × (vec_len children ≤ vec_capacity running) }
+    ensures len { vec_len result ≡ vec_len children }
+    ensures turned { (jobs : List T) → AllZip (IsChildOf T.run_gives F.pre F.post) jobs children.items → AllZip (IsRunning T.run_gives) jobs result.items }
+{
+    for child in children {
+        let Ok(()) = running.push(settle(child)) else {
+            unreachable!()
+        };
+    }
+    running
+}
+
+/// Joins each thread, in order.
+fn join_all<R: Threads, T: Task<Output = X>, X: Drop>(
+    rt: &R,
+    running: Vec<Running<X, Gives<T>>>,
+    mut results: Vec<X>,
+) -> Vec<X>
+    requires room { (results.items ≡ []) × (vec_len running ≤ vec_capacity results) }
+    ensures { (jobs : List T) → AllZip (IsRunning T.run_gives) jobs running.items → AllZip T.run_gives jobs result.items }
+{
+    for one in running {
+        let Ok(()) = results.push(result_of(rt, one)) else {
+            unreachable!()
+        };
+    }
+    results
+}
+
+/// Whether some job was not started.
+fn some_held<T: Task<Output = X>, X, F>(children: &Vec<Child<X, Gives<T>, F>>) -> bool {
+    for child in children {
+        if let Child::Held(_) = child {
+            return true;
+        }
+    }
+    false
+}
+
+/// Starts the jobs, calls `between`, runs here what could not be started, and joins all.
+fn in_scope<
+    's,
+    E,
+    R: Threads,
+    T: Task<Output = X> + Send + Drop + 's,
+    X: Send + Drop + 's,
+    M: FnOnce(bool) -> Y + Drop,
+    Y,
+>(
+    scope: &'s Scope<'s, E>,
+    rt: &R,
+    alloc: Global,
+    jobs: Vec<T>,
+    starts: usize,
+    running: Vec<Running<X, Gives<T>>>,
+    results: Vec<X>,
+    between: M,
+) -> Result<Finished<X, Y>, NotRun<T, M>>
+    requires runs { AllByRecursion T.can_run jobs.items }
+    requires running { (running.items ≡ []) × (vec_len jobs ≤ vec_capacity running) }
+    requires results { (results.items ≡ []) × (vec_len jobs ≤ vec_capacity results) }
+    requires between { (refused : Bool) → M.pre between refused }
+    ensures done { IfOk result (λ r. AllZip T.run_gives jobs.items r.results.items) }
+    ensures between { IfOk result (λ r. (refused : Bool) × M.post between refused r.between) }
+    ensures jobs_back { IfErr result (λ back. back.jobs ≡ jobs) }
+    ensures between_back { IfErr result (λ back. back.between ≡ between) }
+{
+    let Ok(mut children) = Vec::with_capacity(alloc, jobs.len()) else {
+        return Err(NotRun { jobs, between });
+    };
+    for job in jobs {
+        let promise = Gives {
+            task: Snapshot::of(&job),
+        };
+        let work = move || -> X
+            requires { T.can_run job }
+            ensures { T.run_gives job result }
+        { job.run() };
+        let child = if children.len() < starts {
+            match scope.spawn_with(promise, work) {
+                Ok(handle) => Child::Started(handle),
+                Err(refused) => Child::Held(refused.value),
+            }
+        } else {
+            drop(promise);
+            Child::Held(work)
+        };
+        let Ok(()) = children.push(child) else {
+            unreachable!()
+        };
+    }
+    let between = between(some_held(&children));
+    let results = join_all(rt, run_held(children, running), results);
+    Ok(Finished { results, between })
+}
+
+/// Runs each job in a thread of its own, where it is below `starts` and a thread can be made, and else here once the others were started.
+/// Before that `between` is called here, and told whether some job was not started.
+/// On `Err` there was no memory, and nothing has run.
+pub fn run_crew<
+    R: Threads + Wait,
+    T: Task<Output = X> + Send + Drop,
+    X: Send + Drop,
+    M: FnOnce(bool) -> Y + Drop,
+    Y,
+>(
+    rt: &R,
+    alloc: Global,
+    jobs: Vec<T>,
+    starts: usize,
+    between: M,
+) -> Result<Finished<X, Y>, NotRun<T, M>>
+    requires jobs { AllByRecursion T.can_run jobs.items }
+    requires between { (refused : Bool) → M.pre between refused }
+    ensures done { IfOk result (λ r. AllZip T.run_gives jobs.items r.results.items) }
+    ensures between { IfOk result (λ r. (refused : Bool) × M.post between refused r.between) }
+    ensures jobs_back { IfErr result (λ back. back.jobs ≡ jobs) }
+    ensures between_back { IfErr result (λ back. back.between ≡ between) }
+{
+    let Ok(running) = Vec::with_capacity(alloc, jobs.len()) else {
+        return Err(NotRun { jobs, between });
+    };
+    let Ok(results) = Vec::with_capacity(alloc, jobs.len()) else {
+        return Err(NotRun { jobs, between });
+    };
+    thread::scope(
+        thread::scope_env(),
+        rt,
+        |scope| -> Result<Finished<X, Y>, NotRun<T, M>>
+            requires { AllByRecursion T.can_run jobs.items × ((running.items ≡ []) × (vec_len jobs ≤ vec_capacity running)) × ((results.items ≡ []) × (vec_len jobs ≤ vec_capacity results)) × ((refused : Bool) → M.pre between refused) }
+            ensures { IfOk result (λ r. AllZip T.run_gives jobs.items r.results.items × ((refused : Bool) × M.post between refused r.between)) × IfErr result (λ back. (back.jobs ≡ jobs) × (back.between ≡ between)) }
+        { in_scope(scope, rt, alloc, jobs, starts, running, results, between) },
+    )
+}

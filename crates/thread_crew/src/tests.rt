@@ -1,0 +1,92 @@
+ghost use Rattle.std.specs.Prelude.{◌<◌};
+
+use crate::{Call, Finished, NotRun, run_crew};
+use std::alloc::{AllocError, Global};
+use std::sync::Wait;
+use std::sync::atomic::{AtomicBool, Ordering};
+use std::test::Fail;
+use std::thread::Threads;
+
+/// Two jobs wait here for each other, for at most 50,000,000 turns.
+#[derive(Drop)]
+struct Meeting {
+    here: [AtomicBool; 2],
+}
+
+impl Meeting {
+    fn new() -> Meeting {
+        Meeting {
+            here: [AtomicBool::new(false), AtomicBool::new(false)],
+        }
+    }
+
+    // Whether the other was seen in time.
+    fn meet(&self, me: usize) -> bool
+        requires { me < 2 }
+    {
+        self.here[me].store(true, Ordering::SeqCst);
+        for _ in 0..50_000_000u64 {
+            if self.here[1 - me].load(Ordering::SeqCst) {
+                return true;
+            }
+        }
+        false
+    }
+}
+
+// Runs three jobs, of which the first two meet, and answers whether they met and whether a start was refused.
+fn meet_in_crew<R: Threads + Wait>(
+    rt: &R,
+    alloc: Global,
+    starts: usize,
+) -> Result<(bool, bool), AllocError> {
+    let meeting = Meeting::new();
+    let f = |me: usize| -> bool { if me < 2 { meeting.meet(me) } else { true } };
+    let mut jobs = Vec::new(alloc);
+    for me in 0..3usize {
+        jobs.push(Call { f: &f, job: me })?;
+    }
+    match run_crew(rt, alloc, jobs, starts, |refused: bool| refused) {
+        Ok(Finished { results, between }) => Ok((results.iter().all(|met| *met), between)),
+        Err(
+            NotRun {
+                jobs: _,
+                between: _,
+            },
+        ) => Err(AllocError),
+    }
+}
+
+#[test]
+fn two_threads_meet(rt: HostRuntime) -> Result<(), Fail> {
+    let (met, refused) = meet_in_crew(&rt, rt.alloc(), 3)?;
+    assert!(rt; met);
+    assert!(rt; !refused);
+    Ok(())
+}
+
+#[test]
+fn a_refused_job_runs_on_the_caller_beside_the_started_one(rt: HostRuntime) -> Result<(), Fail> {
+    let (met, refused) = meet_in_crew(&rt, rt.alloc(), 1)?;
+    assert!(rt; met);
+    assert!(rt; refused);
+    Ok(())
+}
+
+#[test]
+fn all_jobs_run_on_the_caller_where_none_is_started(rt: HostRuntime) -> Result<(), Fail> {
+    let alloc = rt.alloc();
+    let f = |x: u64| x ^ 1;
+    let mut jobs = Vec::new(alloc);
+    for job in 0..3u64 {
+        jobs.push(Call { f: &f, job })?;
+    }
+    match run_crew(&rt, alloc, jobs, 0, |refused: bool| refused) {
+        Ok(Finished { results, between }) => {
+            assert_eq!(rt; results.as_slice(), [1, 0, 3].as_slice());
+            assert!(rt; between);
+        }
+        Err(_not_run) => assert!(rt; false, "memory"),
+    }
+    Ok(())
+}

@@ -1,0 +1,22 @@
+-- What several pieces add one after another.
+use Rattle.std.proofs.Common.{◌≡◌, ℕ, List, ◌++◌, ap, ◌∙◌, append_assoc}
+use Rattle.std.specs.Prelude.{codes, decimal}
+use Rattle.larch_actions.specs.declared.event.Layout.{Layout}
+use Rattle.trace_core.specs.Text.{layout_line, newline}
+
+pub added_two : (old mid new p q : List ℕ) → mid ≡ old ++ p → new ≡ mid ++ q → new ≡ old ++ (p ++ q)
+added_two old mid new p q e f = f ∙ ap (λ l. l ++ q) e ∙ append_assoc old p q
+
+layout_parts : (l : Layout) → (codes "threads " ++ decimal l.threads) ++ ((codes " mutexes " ++ decimal l.mutexes) ++ ((codes " conditions " ++ decimal l.conditions) ++ ((codes " semaphores " ++ decimal l.semaphores) ++ newline))) ≡ layout_line l
+layout_parts l = simp append_assoc
+
+five : (a p q r s t : List ℕ) → ((((a ++ p) ++ q) ++ r) ++ s) ++ t ≡ a ++ (p ++ (q ++ (r ++ (s ++ t))))
+five a p q r s t = simp append_assoc
+
+pub added_layout : (l : Layout) (old a b c d new : List ℕ) → a ≡ old ++ (codes "threads " ++ decimal l.threads) → b ≡ a ++ (codes " mutexes " ++ decimal l.mutexes) → c ≡ b ++ (codes " conditions " ++ decimal l.conditions) → d ≡ c ++ (codes " semaphores " ++ decimal l.semaphores) → new ≡ d ++ newline → new ≡ old ++ layout_line l
+added_layout l old a b c d new e f g h i =
+    let p = codes "threads " ++ decimal l.threads in
+    let q = codes " mutexes " ++ decimal l.mutexes in
+    let r = codes " conditions " ++ decimal l.conditions in
+    let s = codes " semaphores " ++ decimal l.semaphores in
+    i ∙ ap (λ x. x ++ newline) (h ∙ ap (λ x. x ++ s) (g ∙ ap (λ x. x ++ r) (f ∙ ap (λ x. x ++ q) e))) ∙ five old p q r s newline ∙ ap (λ x. old ++ x) (layout_parts l)

@@ -1,0 +1,22 @@
+-- Where the quick ways of reading agree with the plain ones.
+use Rattle.std.proofs.Common.{◌≡◌, ℕ, ◌^◌, List, [], ◌∷◌, ◌++◌, refl, ap, sym, ◌∙◌, append_assoc, get_or, Ok, arith}
+use Rattle.std.proofs.lemmas.Bool.{eq-eqb}
+use Rattle.std.specs.Prelude.{codes, decimal}
+use Rattle.larch_actions.specs.declared.event.Layout.{Layout}
+use Rattle.trace_core.specs.Reading.{word_at, number_at}
+use Rattle.trace_core.specs.Lines.{place_at, a_at, action_at}
+use Rattle.trace_core.proofs.Words.{word_at-again}
+use Rattle.trace_core.proofs.Numbers.{number_at-found}
+
+pub a_first : (l : Layout) (bytes : List ℕ) → get_or bytes 0 0 ≡ 97 → action_at l bytes ≡ a_at l bytes
+a_first l [] h = absurd (omega (arith, h))
+a_first l (c ∷ bytes) h = rw (eq-eqb c 97 h) refl
+
+place_is : (n : ℕ) (rest : List ℕ) → place_at n (decimal n ++ (32 ∷ rest)) ≡ word_at (codes "t") rest
+place_is n rest = rw (word_at-again (decimal n) (32 ∷ rest)) refl
+
+-- a number with a space behind it is the place
+pub place_read : (n place : ℕ) (bytes rest : List ℕ) → n ≡ place → number_at 0 (2 ^ 64) 32 bytes ≡ Ok (n, rest) → place_at place bytes ≡ word_at (codes "t") rest
+place_read n place bytes rest same e =
+    let f = number_at-found 0 (2 ^ 64) 32 (omega arith) bytes rest n e in
+    ap (λ m. place_at m bytes) (sym same) ∙ ap (place_at n) (f.1 ∙ append_assoc (decimal n) (32 ∷ []) rest) ∙ place_is n rest

@@ -1,0 +1,36 @@
+use Rattle.trace_core.specs.declared.line.Line.TheVariants as line
+use Rattle.trace_core.specs.declared.line.Expect.TheVariants as expect
+use Rattle.trace_core.specs.Intake.{rest_of, room_of}
+use Rattle.trace_core.proofs.Outcomes.{reason_behind, first_lacks, counts_lacks}
+use Rattle.trace_core.proofs.Asking.{asked_or_not, first_asks, head_asks}
+use Rattle.trace_core.proofs.parts.take_head.Goals as goal
+
+pub returns-in-Err-take_line-clause-fault : goal.returns-in-Err-take_line-clause-fault
+returns-in-Err-take_line-clause-fault g c =
+    let h = c.in-Ok-Head.ensures in
+    let taken = rw c.in-Ok-Head.field-0-is at h.line in
+    let room = rw c.in-Ok-Head.field-0-is at h.room in
+    reason_behind expect.Head tt line.Head tt
+    _ (rest_of c.take_line.new.intake (g.I.Source.left c.take_line.new.input)) _ _ _ (room_of c.take_line.new.intake) _ (g.I.Source.faults c.take_line.new.input) _
+    c.in-Err-take_line.fault taken.1 room h.later (rw h.lines at c.in-Err-take_line.ensures.fault)
+
+pub returns-in-Err-take_line-clause-lacks : goal.returns-in-Err-take_line-clause-lacks
+returns-in-Err-take_line-clause-lacks g c =
+    let h = c.in-Ok-Head.ensures in
+    let taken = rw c.in-Ok-Head.field-0-is at h.line in
+    let room = rw c.in-Ok-Head.field-0-is at h.room in
+    counts_lacks _ (rest_of c.take_line.new.intake (g.I.Source.left c.take_line.new.input)) _ _ (room_of c.take_line.new.intake) c.in-Err-take_line.fault taken.1 room c.in-Err-take_line.ensures.lacks
+
+pub returns-in-Err-clause-lacks : goal.returns-in-Err-clause-lacks
+returns-in-Err-clause-lacks g c = first_lacks _ _ _ c.in-Err.fault c.in-Err.ensures.lacks
+
+pub returns-in-Err-clause-asks : goal.returns-in-Err-clause-asks
+returns-in-Err-clause-asks g c = first_asks c.args.intake.now.window c.in-Err.ensures.asks_first
+
+pub returns-in-Ok-Counts-clause-asks : goal.returns-in-Ok-Counts-clause-asks
+returns-in-Ok-Counts-clause-asks g c =
+    head_asks c.args.intake.now.window c.take_line.new.intake.window (rw c.in-Ok-Head.field-0-is at c.in-Ok-Head.ensures.asks) (asked_or_not c.in-Ok-Counts.ensures.asks)
+
+pub returns-in-Err-take_line-clause-asks : goal.returns-in-Err-take_line-clause-asks
+returns-in-Err-take_line-clause-asks g c =
+    head_asks c.args.intake.now.window c.take_line.new.intake.window (rw c.in-Ok-Head.field-0-is at c.in-Ok-Head.ensures.asks) c.in-Err-take_line.ensures.asks_first

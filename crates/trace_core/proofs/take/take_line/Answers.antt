@@ -1,0 +1,62 @@
+use Rattle.std.proofs.Common.{◌≡◌, ◌+◌, ◌-◌, length, ap, arith}
+use Rattle.trace_core.proofs.Outcomes.{read_outcome, length_outcome, dead_outcome, cut_outcome, Keeps-behind, dead_lacks, cut_lacks, fault_lacks, fault_outcome}
+use Rattle.trace_core.proofs.Short.{more_short}
+use Rattle.trace_core.proofs.take.take_line.Goals as goal
+
+pub returns-in-Ok-clause-line : goal.returns-in-Ok-clause-line
+returns-in-Ok-clause-line g c =
+    read_outcome c.args.expect.now c.requires _ _ _ _ _ c.loop-line.invariant.rest c.in-Ok.ensures.line
+
+pub returns-in-Ok-clause-room : goal.returns-in-Ok-clause-room
+returns-in-Ok-clause-room g c =
+    let l = length_outcome c.args.expect.now c.requires _ _ _ c.in-Ok.ensures.line in
+    omega (arith, c.loop-line.invariant.room, c.in-Ok.ensures.given, c.in-Ok.ensures.budget)
+
+pub returns-in-Err-Dead-clause-fault : goal.returns-in-Err-Dead-clause-fault
+returns-in-Err-Dead-clause-fault g c =
+    let h = c.in-Err-Dead.ensures in
+    let one : c.read.new.intake.lines + 1 - c.args.intake.now.lines ≡ 1 = omega (arith, c.loop-line.invariant.lines, h.same_lines) in (
+      omega (arith, c.loop-line.invariant.lines, h.same_lines),
+      rw one (dead_outcome c.args.expect.now c.requires _ _ c.loop-line.intake.window _ c.loop-line.invariant.rest (omega (arith, c.loop-line.invariant.room)) (rw c.in-Err-Dead.field-0-is at h.stop)),
+    )
+
+pub fill-requires : goal.fill-requires
+fill-requires g c =
+    let h = c.in-Err-More.ensures in
+    omega (arith, more_short c.args.expect.now c.requires c.loop-line.intake.window (rw c.in-Err-More.field-0-is at h.stop), ap length h.same_window)
+
+pub returns-in-Ok-false-clause-fault : goal.returns-in-Ok-false-clause-fault
+returns-in-Ok-false-clause-fault g c =
+    let h = c.in-Err-More.ensures in
+    let e = rw c.in-Err-More.field-0-is at h.stop in
+    let f = rw c.in-Ok-false.field-0-test at c.in-Ok-false.ensures.filled in
+    let one : c.fill.new.self.lines + 1 - c.args.intake.now.lines ≡ 1 = omega (arith, c.loop-line.invariant.lines, h.same_lines, f.0.1) in (
+      omega (arith, c.loop-line.invariant.lines, h.same_lines, f.0.1),
+      rw one (cut_outcome c.args.expect.now c.requires _ (g.I.Source.left c.fill.new.input) c.loop-line.intake.window _ (Keeps-behind _ _ _ _ c.loop-line.invariant.rest f.3) f.4 (omega (arith, c.loop-line.invariant.room)) e),
+    )
+
+pub returns-in-Err-clause-fault : goal.returns-in-Err-clause-fault
+returns-in-Err-clause-fault g c =
+    let h = c.in-Err-More.ensures in
+    let e = rw c.in-Err-More.field-0-is at h.stop in
+    fault_outcome c.args.expect.now c.requires c.read.new.intake c.fill.new.self _ _ _ _ _ _ _ _ c.in-Err.fault c.in-Err.ensures.filled (rw h.same_window c.loop-line.invariant.rest)
+    (omega (arith, c.loop-line.invariant.room, h.given, h.budget, ap length h.same_window)) c.loop-line.invariant.later (rw h.same_window e)
+
+pub returns-in-Err-Dead-clause-lacks : goal.returns-in-Err-Dead-clause-lacks
+returns-in-Err-Dead-clause-lacks g c =
+    let h = c.in-Err-Dead.ensures in
+    dead_lacks c.args.expect.now c.requires _ _ c.loop-line.intake.window _ c.loop-line.invariant.rest (omega (arith, c.loop-line.invariant.room)) (rw c.in-Err-Dead.field-0-is at h.stop)
+
+pub returns-in-Ok-false-clause-lacks : goal.returns-in-Ok-false-clause-lacks
+returns-in-Ok-false-clause-lacks g c =
+    let h = c.in-Err-More.ensures in
+    let e = rw c.in-Err-More.field-0-is at h.stop in
+    let f = rw c.in-Ok-false.field-0-test at c.in-Ok-false.ensures.filled in
+    cut_lacks c.args.expect.now c.requires _ (g.I.Source.left c.fill.new.input) c.loop-line.intake.window _ (Keeps-behind _ _ _ _ c.loop-line.invariant.rest f.3) f.4 (omega (arith, c.loop-line.invariant.room)) e
+
+pub returns-in-Err-clause-lacks : goal.returns-in-Err-clause-lacks
+returns-in-Err-clause-lacks g c =
+    let h = c.in-Err-More.ensures in
+    let e = rw c.in-Err-More.field-0-is at h.stop in
+    fault_lacks c.args.expect.now c.requires c.read.new.intake c.fill.new.self _ _ _ _ _ _ c.in-Err.fault c.in-Err.ensures.filled (rw h.same_window c.loop-line.invariant.rest)
+    (omega (arith, c.loop-line.invariant.room, h.given, h.budget, ap length h.same_window)) (rw h.same_window e)

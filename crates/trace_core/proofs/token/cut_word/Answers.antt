@@ -1,0 +1,7 @@
+use Rattle.std.proofs.Common.{arith}
+use Rattle.trace_core.proofs.Words.{word_at-short}
+use Rattle.trace_core.proofs.token.cut_word.Goals as goal
+
+pub returns : goal.returns
+returns c =
+    rw (← c.loop-i.invariant) (word_at-short c.args.word.now c.args.bytes.now c.loop-i.i (omega (arith, c.requires)) (omega arith))

@@ -1,0 +1,13 @@
+pub mod Text
+pub mod Prefixes
+pub mod Codes
+pub mod Reading
+pub mod Names
+pub mod Choices
+pub mod Lines
+pub mod Window
+pub mod Intake
+pub mod Standing
+pub mod Steps
+pub mod Reader
+pub mod Whole

@@ -1,0 +1,49 @@
+-- What the steps of a reader do.
+use Rattle.std.specs.Prelude.{◌≡◌, ℕ, ◌+◌, ◌≤◌, List, ◌++◌, length, IfSome}
+use Rattle.std.specs.Io.KnownBytes.{Consumes}
+use Rattle.std.specs.declared.option.Option.{Option}
+use Rattle.larch_actions.specs.declared.event.Layout.{Layout}
+use Rattle.larch_actions.specs.declared.event.Event.{Event}
+use Rattle.larch_actions.specs.Layout.{IsLawful, HasNames}
+use Rattle.trace_core.specs.declared.intake.TextFault.{TextFault}
+use Rattle.trace_core.specs.declared.progress.Phase.TheVariants as phase
+use Rattle.trace_core.specs.Intake.{HasReason, LacksAt}
+use Rattle.trace_core.specs.Standing.{Standing}
+use Rattle.trace_core.specs.Text.{MutexValue, AreValues, first_line, layout_line, event_line, end_line, values_text}
+
+-- the bytes of the text were read
+pub record Passes (old new : Standing) (text : List ℕ) (count : ℕ) : Type 0 where
+  pub bytes : Consumes old.rest new.rest text
+  pub room : new.room + length text ≡ old.room
+  pub lines : new.lines ≡ old.lines + count
+
+-- the head of the text with this layout was read, and events come next
+pub record TakesHead (old new : Standing) (l : Layout) : Type 0 where
+  pub lawful : IsLawful l
+  pub passes : Passes old new (first_line ++ layout_line l) 2
+  pub phase : new.phase ≡ phase.Events
+  pub layout : new.layout ≡ l
+  pub place : new.place ≡ 0
+
+-- the line of the event in its place was read
+pub record TakesEvent (old new : Standing) (event : Event) : Type 0 where
+  pub names : HasNames old.layout event
+  pub passes : Passes old new (event_line old.place event) 1
+  pub phase : new.phase ≡ phase.Events
+  pub layout : new.layout ≡ old.layout
+  pub place : new.place ≡ old.place + 1
+
+-- the bytes are the end line and value lines
+abbrev pub IsEnding : Layout → ℕ → List ℕ → Type 0
+IsEnding l n bytes = (vs : List MutexValue) × AreValues l 0 vs × (bytes ≡ end_line n ++ values_text vs)
+
+-- the end line, the value lines and the end of the input were read, within what may be read
+pub record TakesEnd (old new : Standing) : Type 0 where
+  pub whole : IfSome old.rest (λ bytes. IsEnding old.layout old.place bytes × (length bytes ≤ old.room))
+  pub phase : new.phase ≡ phase.Ended
+
+-- The fault has its reason, and stays. None of the texts of the lawful values was there to be given.
+pub record Breaks {X : Type 0} (Text : List ℕ → Type 0) (lawful : X → Type 0) (text : X → List ℕ) (old new : Standing) (left' : Option (List ℕ)) (before now : ℕ) (fault : TextFault) : Type 0 where
+  pub reason : HasReason Text old.lines old.room old.rest left' before now fault
+  pub lacks : LacksAt lawful text old.room old.rest left' fault
+  pub phase : new.phase ≡ phase.Failed fault

@@ -1,0 +1,112 @@
+-- Trace texts.
+use Rattle.std.specs.Prelude.{◌≡◌, ℕ, zero, suc, ◌+◌, ◌^◌, ◌<◌, ◌≤◌, true, false, List, [], ◌∷◌, ◌++◌, if◌then◌else◌, length, codes, decimal}
+use Rattle.std.specs.List.{AllByRecursion}
+use Rattle.larch_actions.specs.declared.event.Layout.{Layout}
+use Rattle.larch_actions.specs.declared.event.Event.{Event}
+use Rattle.larch_actions.specs.declared.event.Action.{Action}
+use Rattle.larch_actions.specs.declared.event.Action.TheVariants.{Acquire, Release, Enqueue, Resume, AlertEnqueue, AlertReturn, AlertRaise, Signal, Broadcast, P, V, Alert, TestAlert, AlertPReturn, AlertPRaise}
+use Rattle.larch_actions.specs.declared.thread_set.ThreadSet.{ThreadSet}
+use Rattle.larch_actions.specs.Layout.{IsLawful, HasNames}
+use Rattle.larch_actions.specs.Sets.{in_set}
+
+abbrev pub newline : List ℕ
+newline = 10 ∷ []
+
+abbrev pub first_line : List ℕ
+first_line = codes "firefly-trace 1" ++ newline
+
+abbrev pub layout_line : Layout → List ℕ
+layout_line l =
+    codes "threads " ++ decimal l.threads ++ codes " mutexes " ++ decimal l.mutexes ++ codes " conditions " ++ decimal l.conditions ++ codes " semaphores " ++ decimal l.semaphores ++ newline
+
+-- which of n threads from t on are in the set
+unfoldable pub members_from : ThreadSet → ℕ → ℕ → List ℕ
+members_from s t zero = []
+members_from s t (suc n) = if in_set s t then t ∷ members_from s (t + 1) n else members_from s (t + 1) n
+
+-- the threads of the set, strictly rising
+unfoldable pub members : ThreadSet → List ℕ
+members s = members_from s 0 64
+
+-- the names of the threads, each behind a space
+abbrev pub names_text : List ℕ → List ℕ
+names_text [] = []
+names_text (t ∷ ts) = codes " t" ++ decimal t ++ names_text ts
+
+-- a word, and the names of a mutex and a condition
+abbrev pub wait_text : List ℕ → ℕ → ℕ → List ℕ
+wait_text word m c = word ++ codes " m" ++ decimal m ++ codes " c" ++ decimal c
+
+abbrev pub action_text : Action → List ℕ
+action_text (Acquire m) = codes "acquire m" ++ decimal m.0
+action_text (Release m) = codes "release m" ++ decimal m.0
+action_text (Enqueue m c) = wait_text (codes "enqueue") m.0 c.0
+action_text (Resume m c) = wait_text (codes "resume") m.0 c.0
+action_text (AlertEnqueue m c) = wait_text (codes "alert-enqueue") m.0 c.0
+action_text (AlertReturn m c) = wait_text (codes "alert-resume") m.0 c.0 ++ codes " returns"
+action_text (AlertRaise m c) = wait_text (codes "alert-resume") m.0 c.0 ++ codes " raises"
+action_text (Signal c left) = codes "signal c" ++ decimal c.0 ++ codes " left" ++ names_text (members left)
+action_text (Broadcast c) = codes "broadcast c" ++ decimal c.0
+action_text (P s) = codes "p s" ++ decimal s.0
+action_text (V s) = codes "v s" ++ decimal s.0
+action_text (Alert t) = codes "alert t" ++ decimal t.0
+action_text (TestAlert true) = codes "test-alert yes"
+action_text (TestAlert false) = codes "test-alert no"
+action_text (AlertPReturn s) = codes "alert-p s" ++ decimal s.0 ++ codes " returns"
+action_text (AlertPRaise s) = codes "alert-p s" ++ decimal s.0 ++ codes " raises"
+
+-- the line of the event at this place
+abbrev pub event_line : ℕ → Event → List ℕ
+event_line n e = decimal n ++ codes " t" ++ decimal e.thread.0 ++ codes " " ++ action_text e.action ++ newline
+
+abbrev pub end_line : ℕ → List ℕ
+end_line n = codes "end " ++ decimal n ++ newline
+
+-- a mutex, and the value behind it
+pub record MutexValue : Type 0 where
+  pub mutex : ℕ
+  pub value : ℕ
+
+abbrev pub value_line : MutexValue → List ℕ
+value_line v = codes "value m" ++ decimal v.mutex ++ codes " " ++ decimal v.value ++ newline
+
+abbrev pub values_text : List MutexValue → List ℕ
+values_text [] = []
+values_text (v ∷ vs) = value_line v ++ values_text vs
+
+-- values of mutexes in strictly rising order from least on
+abbrev pub AreValues : Layout → ℕ → List MutexValue → Type 0
+AreValues l least [] = Unit {0}
+AreValues l least (v ∷ vs) = (least ≤ v.mutex) × (v.mutex < l.mutexes) × (v.value < 2 ^ 64) × AreValues l (v.mutex + 1) vs
+
+-- the text from the event at place n on
+abbrev pub rest_text : ℕ → List Event → List MutexValue → List ℕ
+rest_text n [] vs = end_line n ++ values_text vs
+rest_text n (e ∷ es) vs = event_line n e ++ rest_text (n + 1) es vs
+
+-- the one text of the layout, the events and the values
+abbrev pub trace_text : Layout → List Event → List MutexValue → List ℕ
+trace_text l es vs = first_line ++ layout_line l ++ rest_text 0 es vs
+
+-- The bytes are the text of the layout, the events and the values, all of whose names are lawful.
+pub record ReadsAs (bytes : List ℕ) (l : Layout) (es : List Event) (vs : List MutexValue) : Type 0 where
+  pub lawful : IsLawful l
+  pub named : AllByRecursion (HasNames l) es
+  pub few : length es < 2 ^ 64
+  pub valued : AreValues l 0 vs
+  pub text : bytes ≡ trace_text l es vs
+
+abbrev pub IsTrace : List ℕ → Type 0
+IsTrace bytes = (l : Layout) × (es : List Event) × (vs : List MutexValue) × ReadsAs bytes l es vs
+
+-- value lines of mutexes from least on
+abbrev pub IsValues : Layout → ℕ → List ℕ → Type 0
+IsValues l least bytes = (vs : List MutexValue) × AreValues l least vs × (bytes ≡ values_text vs)
+
+-- the rest of a trace text from the event at place n on
+abbrev pub IsRest : Layout → ℕ → List ℕ → Type 0
+IsRest l n bytes = (es : List Event) × (vs : List MutexValue) × AllByRecursion (HasNames l) es × (n + length es < 2 ^ 64) × AreValues l 0 vs × (bytes ≡ rest_text n es vs)
+
+-- the rest of a trace text from the layout line on
+abbrev pub IsLaid : List ℕ → Type 0
+IsLaid bytes = (l : Layout) × (rest : List ℕ) × IsLawful l × IsRest l 0 rest × (bytes ≡ layout_line l ++ rest)

@@ -1,0 +1,28 @@
+//! Trace texts: a reader that gives the events of a text one after another, and printers of its lines.
+//! The reader is exact: it gives what the text says, or the text's bad line as soon as the bytes show it.
+//! It stands on the sources and sinks of firefly_outside and the events of larch_actions.
+//! It takes no memory, and says nothing of whether a trace is legal.
+#![tactic(auto)]
+
+mod action;
+mod compose;
+mod intake;
+pub mod laws;
+mod line;
+mod names;
+mod parts;
+mod print;
+mod progress;
+mod reader;
+mod step;
+mod take;
+mod token;
+mod whole;
+mod window;
+
+pub use intake::TextFault;
+pub use print::{print_end, print_event, print_head, print_value};
+pub use reader::EventReader;
+
+#[cfg(test)]
+mod tests;

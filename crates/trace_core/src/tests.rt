@@ -1,0 +1,233 @@
+// Each kind of line, read and printed, and texts that are no traces.
+ghost use Rattle.std.specs.Prelude.{◌≡◌, ◌^◌, ◌-◌, ◌<◌, None};
+ghost use Rattle.trace_core.specs.declared.progress.Phase.TheVariants as phase;
+ghost use Rattle.firefly_outside.specs.Memory.{source_faults};
+ghost use Rattle.trace_core.specs.Reader.{standing};
+
+use crate::laws::print_whole;
+use crate::{EventReader, TextFault, print_end, print_event, print_head, print_value};
+use firefly_outside::{Failed, MemSink, MemSource, SinkFault, Source};
+use larch_actions::{Action, CondId, Event, Layout, MutexId, SemId, ThreadId, ThreadSet};
+use std::test::Fail;
+
+const HEAD: &[u8] = b"firefly-trace 1\nthreads 12 mutexes 2 conditions 1 semaphores 1\n";
+
+const EACH: &[u8] = b"firefly-trace 1
+threads 12 mutexes 2 conditions 1 semaphores 1
+0 t0 acquire m0
+1 t11 release m1
+2 t0 enqueue m0 c0
+3 t1 resume m0 c0
+4 t2 alert-enqueue m1 c0
+5 t2 alert-resume m1 c0 returns
+6 t2 alert-resume m1 c0 raises
+7 t3 signal c0 left t1 t4 t11
+8 t3 signal c0 left
+9 t4 broadcast c0
+10 t5 p s0
+11 t5 v s0
+12 t6 alert t1
+13 t1 test-alert yes
+14 t1 test-alert no
+15 t7 alert-p s0 returns
+16 t7 alert-p s0 raises
+end 17
+value m0 18446744073709551615
+value m1 0
+";
+
+// Gives one byte at a time.
+#[derive(Drop)]
+struct Slow {
+    inner: MemSource,
+}
+
+impl Source for Slow {
+    ghost left = { λ s. None };
+
+    ghost faults = { λ s. source_faults s.inner };
+
+    fn next(&mut self, buf: &mut [u8]) -> Result<usize, Failed> {
+        self.inner.next(&mut buf[..1])
+    }
+}
+
+// How many events the text has.
+fn count<I: Source>(input: &mut I, budget: u64) -> Result<u64, TextFault>
+    requires { budget < 2 ^ 64 - 1 }
+{
+    let mut reader = EventReader::new(input, budget);
+    count_events(&mut reader)
+}
+
+fn count_events<I: Source>(reader: &mut EventReader<I>) -> Result<u64, TextFault>
+    requires { (standing I.left reader.old).phase ≡ phase.Head }
+{
+    match reader.head() {
+        Ok(_) => {}
+        Err(fault) => return Err(fault),
+    }
+    let mut count = 0u64;
+    for _ in 0..u64::MAX {
+        match reader.next_event() {
+            Ok(Some(_)) => count = count.wrapping_add(1),
+            Ok(None) => break,
+            Err(fault) => return Err(fault),
+        }
+    }
+    Ok(count)
+}
+
+#[test]
+fn each_kind_of_line_is_read(rt: HostRuntime) -> Result<(), Fail> {
+    let mut whole = MemSource::new(EACH.to_vec(rt.alloc())?);
+    assert_eq!(rt; count(&mut whole, 10_000), Ok(17));
+    let mut slow = Slow {
+        inner: MemSource::new(EACH.to_vec(rt.alloc())?),
+    };
+    assert_eq!(rt; count(&mut slow, 10_000), Ok(17));
+    Ok(())
+}
+
+#[test]
+fn bad_lines_show(rt: HostRuntime) -> Result<(), Fail> {
+    let cases: [(&[u8], TextFault); 12] = [
+        (b"00 t0 acquire m0\nend 1\n", TextFault::BadLine(3)),
+        (b"0  t0 acquire m0\nend 1\n", TextFault::BadLine(3)),
+        (b"0 t0 acquire m0 \nend 1\n", TextFault::BadLine(3)),
+        (b"0 t0 acquire m00\nend 1\n", TextFault::BadLine(3)),
+        (b"0 t12 acquire m0\nend 1\n", TextFault::BadLine(3)),
+        (b"0 t0 signal c0 left t4 t1\nend 1\n", TextFault::BadLine(3)),
+        (b"0 t0 signal c0 left t11 t", TextFault::BadLine(3)),
+        (b"0 t0 acquire m0\nend 2\n", TextFault::BadLine(4)),
+        (b"end 0\nvalue m1 0\nvalue m0 0\n", TextFault::BadLine(5)),
+        (
+            b"end 0\nvalue m0 18446744073709551616\n",
+            TextFault::BadLine(4),
+        ),
+        (b"end 0\nvalue m1 7\n\n", TextFault::BadLine(5)),
+        (b"0 t0 acquire m0\n", TextFault::BadLine(4)),
+    ];
+    for (text, want) in cases {
+        let mut bytes = HEAD.to_vec(rt.alloc())?;
+        bytes.extend_from_slice(text)?;
+        let mut source = MemSource::new(bytes);
+        assert_eq!(rt; count(&mut source, 10_000), Err(want));
+    }
+    Ok(())
+}
+
+#[test]
+fn long_texts_and_failed_reads(rt: HostRuntime) -> Result<(), Fail> {
+    let mut long = MemSource::new(EACH.to_vec(rt.alloc())?);
+    assert_eq!(rt; count(&mut long, 100), Err(TextFault::TooLong));
+    let mut failing = MemSource::new(EACH.to_vec(rt.alloc())?);
+    failing.fail_after(100);
+    assert_eq!(rt; count(&mut failing, 10_000), Err(TextFault::Read));
+    Ok(())
+}
+
+fn set_of_three() -> ThreadSet {
+    let mut left = ThreadSet::empty();
+    left.insert(ThreadId(4));
+    left.insert(ThreadId(11));
+    left.insert(ThreadId(1));
+    left
+}
+
+fn event(thread: u32, action: Action) -> Event {
+    Event {
+        thread: ThreadId(thread),
+        action,
+    }
+}
+
+fn waits() -> [Event; 9] {
+    let mutex = MutexId(1);
+    let cond = CondId(0);
+    let left = set_of_three();
+    let first = MutexId(0);
+    [
+        event(0, Action::Acquire { mutex: first }),
+        event(11, Action::Release { mutex }),
+        event(0, Action::Enqueue { mutex: first, cond }),
+        event(1, Action::Resume { mutex: first, cond }),
+        event(2, Action::AlertEnqueue { mutex, cond }),
+        event(2, Action::AlertReturn { mutex, cond }),
+        event(2, Action::AlertRaise { mutex, cond }),
+        event(3, Action::Signal { cond, left }),
+        event(
+            3,
+            Action::Signal {
+                cond,
+                left: ThreadSet::empty(),
+            },
+        ),
+    ]
+}
+
+fn others() -> [Event; 8] {
+    let sem = SemId(0);
+    [
+        event(4, Action::Broadcast { cond: CondId(0) }),
+        event(5, Action::P { sem }),
+        event(5, Action::V { sem }),
+        event(6, Action::Alert { who: ThreadId(1) }),
+        event(1, Action::TestAlert { yes: true }),
+        event(1, Action::TestAlert { yes: false }),
+        event(7, Action::AlertPReturn { sem }),
+        event(7, Action::AlertPRaise { sem }),
+    ]
+}
+
+#[test]
+fn each_kind_of_line_is_printed(rt: HostRuntime) -> Result<(), Fail> {
+    let mut sink = MemSink::with_room(rt.alloc(), 2000)?;
+    let layout = Layout {
+        threads: 12,
+        mutexes: 2,
+        conditions: 1,
+        semaphores: 1,
+    };
+    print_head(&layout, &mut sink)?;
+    let mut place = 0u64;
+    for e in waits() {
+        print_event(place, &e, &mut sink)?;
+        place = place.wrapping_add(1);
+    }
+    for e in others() {
+        print_event(place, &e, &mut sink)?;
+        place = place.wrapping_add(1);
+    }
+    print_end(17, &mut sink)?;
+    print_value(MutexId(0), u64::MAX, &mut sink)?;
+    print_value(MutexId(1), 0, &mut sink)?;
+    assert_eq!(rt; sink.bytes(), EACH);
+    Ok(())
+}
+
+#[test]
+fn whole_text_is_printed(rt: HostRuntime) -> Result<(), Fail> {
+    let layout = Layout {
+        threads: 1,
+        mutexes: 1,
+        conditions: 0,
+        semaphores: 0,
+    };
+    let events = [Event {
+        thread: ThreadId(0),
+        action: Action::Acquire { mutex: MutexId(0) },
+    }];
+    let mut sink = MemSink::with_room(rt.alloc(), 100)?;
+    print_whole(&layout, &events, &[5], &mut sink)?;
+    let text: &[u8] =
+        b"firefly-trace 1\nthreads 1 mutexes 1 conditions 0 semaphores 0\n0 t0 acquire m0\nend 1\nvalue m0 5\n";
+    assert_eq!(rt; sink.bytes(), text);
+    let mut small = MemSink::with_room(rt.alloc(), 20)?;
+    assert_eq!(rt;
+        print_whole(&layout, &events, &[5], &mut small),
+        Err(SinkFault)
+    );
+    assert_eq!(rt; small.bytes(), b"firefly-trace 1\nthre".as_slice());
+    Ok(())
+}

@@ -1,0 +1,10 @@
+pub mod FoundLemmas
+pub mod ListLemmas
+pub mod Children
+pub mod WalkLemmas
+pub mod NoteLemmas
+pub mod Reached
+pub mod Steps
+pub mod PileLemmas
+pub mod ReadLemmas
+pub mod CloseLemmas

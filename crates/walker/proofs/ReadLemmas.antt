@@ -1,0 +1,258 @@
+-- The files of a walk as they are read.
+use Rattle.std.proofs.Common.{◌≡◌, ◌≢◌, ◌∙◌, ℕ, ◌+◌, ◌<◌, List, [], ◌∷◌, ◌++◌, length, map, sym, ap, subst, refl, arith, inl, inr, ◌⊎◌, Contains, take, slice_get}
+use Rattle.std.specs.Prelude.{Option, Some, None, IfSome, Result, Ok, Err}
+use Rattle.std.proofs.lemmas.List.{append_assoc, append-nil, map-append, take_more, get_or-take, length-take, take_all}
+use Rattle.std.proofs.lemmas.List.Elements.{Contains-append_cases, Contains-append_left, Contains-append_right, Contains-push, Contains-push_cases}
+use Rattle.firefly_outside.specs.Trees.{Path, Told, Calls, Reads, IsFault, child}
+use Rattle.firefly_outside.specs.Under.{IsUnder, IsThere}
+use Rattle.firefly_outside.specs.declared.tree.Kind.TheVariants.{File as a_file}
+use Rattle.firefly_outside.specs.declared.tree.TreeError.TheVariants as TreeError
+use Rattle.word_index.specs.Index.{File, Index, IsIndexOf}
+use Rattle.walker.specs.Walk.{Walk, IsSound, IsWalkOf}
+use Rattle.walker.specs.TreeIndex.{IsTreeIndex, IsFileAt, IsPartOf}
+use Rattle.walker.specs.Closing.{failed_by}
+use Rattle.walker.specs.Progress.{IsListedWhole}
+use Rattle.walker.specs.Pile.{IsPileOf, AreApart, HasRead, ReadsSome, StopsReading, ReadsNext, ReadsAt, ReadsRest, IsNextFile, with_read, with_reads}
+use Rattle.walker.specs.declared.answer.WalkAnswer.{WalkAnswer}
+use Rattle.walker.specs.declared.answer.WalkAnswer.TheVariants.{Done, Stopped, ReadFault, TooMany, Memory}
+use Rattle.walker.proofs.ListLemmas.{Distinct, HasOrigin, Contains-nil, Contains-cons_cases, Contains-map, Contains-unmap, AllPairs-nil, AllPairs-append, All-from}
+use Rattle.walker.proofs.PileLemmas.{AllPairs-one, AreApart-push, NoMeet, pile_paths}
+use Rattle.walker.proofs.Steps.{some_at}
+use Rattle.walker.proofs.Reached.{file_reached, found_if_reached}
+use Rattle.std.proofs.lemmas.List.Kept.{AllPairs-cons}
+
+abbrev pub paths_of : List File → List Path
+paths_of files = map (λ f. f.path) files
+
+-- what tells of a file that could not be read
+pub told_read_fault : (o : Option Told) (weak : List Path) (root name path at : Path) (before now : Calls) → at ≡ child root name → path ≡ child root name
+    → IfSome o (Reads weak at before now (Err TreeError.Failed)) → IfSome o (ReadsNext {T = Index} root name weak before now (Err (ReadFault path)))
+told_read_fault None weak root name path at before now e f h = tt
+told_read_fault (Some t) weak root name path at before now e f h = (f, subst (λ (p : Path). IsFault weak p (IsThere t a_file p) before now) e h)
+
+-- an element isn't before its place in a list of distinct ones
+not_before : (xs : List Path) (at : ℕ) (x : Path) → Distinct xs → slice_get xs at ≡ Some x → ¬ Contains (take at xs) x
+not_before xs at x apart here h =
+    let s = some_at xs at x here in
+    let early : h.0 < at = omega (arith, h.1, length-take at xs) in
+    apart h.0 at x early s.0 (sym (get_or-take at xs h.0 x early) ∙ h.2 ∙ sym s.1)
+
+take_next : (xs : List Path) (at : ℕ) (x : Path) → slice_get xs at ≡ Some x → take (at + 1) xs ≡ take at xs ++ x ∷ []
+take_next xs at x here = let s = some_at xs at x here in take_more xs at x s.0 ∙ ap (λ y. take at xs ++ y ∷ []) s.1
+
+paths_push : (files : List File) (f : File) (name : Path) → f.path ≡ name → paths_of (files ++ f ∷ []) ≡ paths_of files ++ name ∷ []
+paths_push files f name called = map-append (λ (g : File). g.path) files (f ∷ []) ∙ ap (λ q. paths_of files ++ q ∷ []) called
+
+-- a file that is covered
+pub HasRead-covered : (o : Option Told) (w : Walk) (covered : List Path) (start before : Calls) (at : ℕ) (pieces : List Index) (name : Path) → slice_get w.files at ≡ Some name → Contains covered name
+    → HasRead o w covered start before at pieces → HasRead o w covered start before (at + 1) pieces
+HasRead-covered o w covered start before at pieces name here is h = record {
+  files = h.files;
+  pile = h.pile;
+  once = h.once;
+  early = λ p k. (subst (λ (ps : List Path). Contains ps p) (sym (take_next w.files at name here)) (Contains-append_left (take at w.files) (name ∷ []) p (h.early p k).0), (h.early p k).1);
+  all = λ p k. elim (Contains-push_cases (take at w.files) name p (subst (λ (ps : List Path). Contains ps p) (take_next w.files at name here) k)) [
+    | inl was ↦ h.all p was
+    | inr same ↦ inl (subst (λ (q : Path). Contains covered q) same is)
+  ];
+  told = h.told;
+}
+
+reads_push : (start : Calls) (root : Path) (names : List Path) (name : Path) → with_read (with_reads start root names) (child root name) ≡ with_reads start root (names ++ name ∷ [])
+reads_push start root names name = ap (λ l. record start { files_read = l }) (append_assoc start.files_read (map (child root) names) (child root name ∷ []) ∙ ap (λ l. start.files_read ++ l) (sym (map-append (child root) names (name ∷ []))))
+
+-- one more file among those read
+module _ (o : Option Told) (w : Walk) (covered : List Path) (start before : Calls) (at : ℕ) (pieces : List Index) (name : Path)
+    (sound : IsSound w) (here : slice_get w.files at ≡ Some name) (fresh : ¬ Contains covered name) (h : HasRead o w covered start before at pieces) where
+  pub names_once : Distinct (paths_of h.files ++ name ∷ [])
+  names_once = AllPairs-append (λ p q. p ≢ q) (paths_of h.files) (name ∷ []) h.once (AllPairs-one (λ p q. p ≢ q) name)
+      (λ p q k m same. elim (Contains-cons_cases name [] q m) [
+        | inl is ↦ not_before w.files at name sound.files here (subst (λ (r : Path). Contains (take at w.files) r) (same ∙ sym is) (h.early p k).0)
+        | inr none ↦ Contains-nil q none
+      ])
+
+  pub names_fresh : (p : Path) → Contains (paths_of h.files ++ name ∷ []) p → ¬ Contains covered p
+  names_fresh p k is = elim (Contains-push_cases (paths_of h.files) name p k) [
+    | inl was ↦ (h.early p was).1 is
+    | inr same ↦ fresh (subst (λ (q : Path). Contains covered q) (sym same) is)
+  ]
+
+  pub HasRead-next : (now : Calls) (more : List Index) (next : Index) → (f : IsNextFile o w.root name next) → ((fs gs : List File) → IsPileOf pieces fs → IsIndexOf gs next → IsPileOf more (fs ++ gs))
+      → IfSome o (λ _. now ≡ with_read before (child w.root name)) → HasRead o w covered start now (at + 1) more
+  HasRead-next now more next f pile calls = record {
+    files = h.files ++ f.file ∷ [];
+    pile = pile h.files (f.file ∷ []) h.pile f.index;
+    once = subst Distinct (sym are) names_once;
+    early = λ p k. elim (Contains-push_cases (paths_of h.files) name p (subst (λ (ps : List Path). Contains ps p) are k)) [
+      | inl was ↦ (subst (λ (ps : List Path). Contains ps p) (sym (take_next w.files at name here)) (Contains-append_left (take at w.files) (name ∷ []) p (h.early p was).0), (h.early p was).1)
+      | inr same ↦ (subst (λ (ps : List Path). Contains ps p) (sym (take_next w.files at name here)) (subst (λ (q : Path). Contains (take at w.files ++ name ∷ []) q) same (Contains-push (take at w.files) name)), subst (λ (q : Path). ¬ Contains covered q) same fresh)
+    ];
+    all = λ p k. elim (Contains-push_cases (take at w.files) name p (subst (λ (ps : List Path). Contains ps p) (take_next w.files at name here) k)) [
+      | inl was ↦ elim (h.all p was) [ inl c ↦ inl c | inr r ↦ inr (subst (λ (ps : List Path). Contains ps p) (sym are) (Contains-append_left (paths_of h.files) (name ∷ []) p r)) ]
+      | inr same ↦ inr (subst (λ (ps : List Path). Contains ps p) (sym are) (subst (λ (q : Path). Contains (paths_of h.files ++ name ∷ []) q) same (Contains-push (paths_of h.files) name)))
+    ];
+    told = tells o h.told f.told calls;
+  }
+    where
+      are : paths_of (h.files ++ f.file ∷ []) ≡ paths_of h.files ++ name ∷ []
+      are = paths_push h.files f.file name f.called
+
+      tells : (q : Option Told) → IfSome q (λ t. ((g : File) → Contains h.files g → IsFileAt t w.root g) × (before ≡ with_reads start w.root (paths_of h.files)))
+          → IfSome q (λ t. IsFileAt t w.root f.file) → IfSome q (λ _. now ≡ with_read before (child w.root name))
+          → IfSome q (λ t. ((g : File) → Contains (h.files ++ f.file ∷ []) g → IsFileAt t w.root g) × (now ≡ with_reads start w.root (paths_of (h.files ++ f.file ∷ []))))
+      tells None was new k = tt
+      tells (Some t) was new k = (
+        λ g m. elim (Contains-push_cases h.files f.file g m) [ inl old ↦ was.0 g old | inr same ↦ subst (IsFileAt t w.root) same new ],
+        k ∙ ap (λ (c : Calls). with_read c (child w.root name)) was.1 ∙ reads_push start w.root (paths_of h.files) name ∙ ap (with_reads start w.root) (sym are),
+      )
+
+  -- memory wants or the file can't be read
+  pub stops_next : (answer : WalkAnswer) (weak : List Path) (now : Calls) → IfSome o (ReadsNext {T = Index} w.root name weak before now (Err answer))
+      → IfSome o (λ t. IsWalkOf w t → StopsReading w weak answer t × ReadsSome w covered start now answer)
+  stops_next answer weak now k = stops o answer h.told k
+    where
+      some : (answer : WalkAnswer) (names : List Path) → Distinct names → ((p : Path) → Contains names p → ¬ Contains covered p) → now ≡ record (with_reads start w.root names) { failed = start.failed ++ failed_by answer } → ReadsSome w covered start now answer
+      some answer names once new is = record {
+        names = names;
+        once = once;
+        fresh = new;
+        listed = ap (λ (c : Calls). c.listed) is;
+        read = ap (λ (c : Calls). c.files_read) is;
+        failed = ap (λ (c : Calls). c.failed) is;
+      }
+
+      among : Contains w.files name
+      among = let s = some_at w.files at name here in (at, s.0, s.1)
+
+      no_more : (c : Calls) → c ≡ record c { failed = c.failed ++ [] }
+      no_more c = ap (λ l. record c { failed = l }) (sym (append-nil c.failed))
+
+      stops : (q : Option Told) (answer : WalkAnswer) → IfSome q (λ t. ((g : File) → Contains h.files g → IsFileAt t w.root g) × (before ≡ with_reads start w.root (paths_of h.files)))
+          → IfSome q (ReadsNext {T = Index} w.root name weak before now (Err answer)) → IfSome q (λ t. IsWalkOf w t → StopsReading w weak answer t × ReadsSome w covered start now answer)
+      stops None answer was k = tt
+      stops (Some t) (Done piece) was k = absurd k
+      stops (Some t) (Stopped many) was k = absurd k
+      stops (Some t) (ReadFault path) was k = λ walk. (
+        record {
+          kind = a_file;
+          under = subst (IsUnder t w.root a_file) (sym k.0) (file_reached t w walk (child w.root name) (Contains-map (child w.root) w.files name among));
+          may = subst (λ (p : Path). Contains weak p ⊎ ¬ IsThere t a_file p) (sym k.0) k.1.may;
+        },
+        some (ReadFault path) (paths_of h.files) h.once (λ p m. (h.early p m).1)
+            (k.1.noted ∙ ap (λ (c : Calls). record c { failed = c.failed ++ child w.root name ∷ [] }) was.1 ∙ ap (λ (p : Path). record (with_reads start w.root (paths_of h.files)) { failed = start.failed ++ p ∷ [] }) (sym k.0)),
+      )
+      stops (Some t) (TooMany many) was k = absurd k
+      stops (Some t) Memory was (inl same) = λ walk. (tt, some Memory (paths_of h.files) h.once (λ p m. (h.early p m).1) (same ∙ was.1 ∙ no_more (with_reads start w.root (paths_of h.files))))
+      stops (Some t) Memory was (inr more) = λ walk. (
+        tt,
+        some Memory (paths_of h.files ++ name ∷ []) names_once names_fresh
+            (more ∙ ap (λ (c : Calls). with_read c (child w.root name)) was.1 ∙ reads_push start w.root (paths_of h.files) name ∙ no_more (with_reads start w.root (paths_of h.files ++ name ∷ []))),
+      )
+
+-- nothing is read yet
+pub HasRead-none : (o : Option Told) (w : Walk) (covered : List Path) (c : Calls) (pieces : List Index) → pieces ≡ [] → HasRead o w covered c c 0 pieces
+HasRead-none o w covered c pieces none = record {
+  files = [];
+  pile = subst (λ (l : List Index). IsPileOf l []) (sym none) refl;
+  once = AllPairs-nil (λ p q. p ≢ q);
+  early = λ p k. absurd (Contains-nil p k);
+  all = λ p k. absurd (omega (arith, k.1, length-take 0 w.files));
+  told = tells o;
+}
+  where
+    tells : (q : Option Told) → IfSome q (λ t. ((f : File) → Contains [] f → IsFileAt t w.root f) × (c ≡ with_reads c w.root []))
+    tells None = tt
+    tells (Some t) = (λ f k. absurd (Contains-nil f k), ap (λ l. record c { files_read = l }) (sym (append-nil c.files_read)))
+
+-- the piece of the start meets none of the pile
+pub apart_first : (o : Option Told) (w : Walk) (first : Index) (start now : Calls) (at : ℕ) (pieces : List Index) → HasRead o w first.paths start now at pieces → AreApart pieces → AreApart (first ∷ pieces)
+apart_first o w first start now at pieces h apart =
+    AllPairs-cons NoMeet first pieces (All-from (NoMeet first) pieces (λ a k meet. (h.early meet.0 (pile_paths pieces h.files a meet.0 h.pile k meet.2)).1 meet.1)) apart
+
+-- the next piece meets none of the pile
+pub apart_next : (o : Option Told) (w : Walk) (covered : List Path) (start before : Calls) (at : ℕ) (pieces : List Index) (name : Path) (next : Index) → IsSound w → slice_get w.files at ≡ Some name
+    → HasRead o w covered start before at pieces → IsNextFile o w.root name next → AreApart pieces → AreApart (pieces ++ next ∷ [])
+apart_next o w covered start before at pieces name next sound here h f apart = AreApart-push pieces next apart (λ a k meet.
+    let read = pile_paths pieces h.files a meet.0 h.pile k meet.1 in
+    elim (Contains-cons_cases f.file.path [] meet.0 ((f.index.paths meet.0).0 meet.2)) [
+      | inl is ↦ not_before w.files at name sound.files here (subst (λ (p : Path). Contains (take at w.files) p) (sym is ∙ f.called) (h.early meet.0 read).0)
+      | inr none ↦ Contains-nil meet.0 none
+    ])
+
+-- all is read and covered: the index of the tree
+pub tree_index : (t : Told) (w : Walk) (first whole : Index) (start now : Calls) (pieces : List Index) → IsWalkOf w t → IsListedWhole w → (part : IsPartOf (Some t) w first) → (h : HasRead (Some t) w first.paths start now (length w.files) pieces)
+    → IsIndexOf (part.files ++ h.files) whole → IsTreeIndex t w.root whole
+tree_index t w first whole start now pieces walk listed part h index = record {
+  files = part.files ++ h.files;
+  index = index;
+  under = λ f k. file_reached t w walk (child w.root f.path) (Contains-map (child w.root) w.files f.path (found f k));
+  told = λ f k. elim (Contains-append_cases part.files h.files f k) [ inl was ↦ part.told f was | inr new ↦ h.told.0 f new ];
+  all = λ p under. at p (Contains-unmap (child w.root) w.files p (found_if_reached t w walk listed a_file p under));
+}
+  where
+    ends : take (length w.files) w.files ≡ w.files
+    ends = take_all (length w.files) w.files (omega arith)
+
+    found : (f : File) → Contains (part.files ++ h.files) f → Contains w.files f.path
+    found f k = elim (Contains-append_cases part.files h.files f k) [
+      | inl was ↦ part.found f was
+      | inr new ↦ subst (λ (ps : List Path). Contains ps f.path) ends (h.early f.path (Contains-map (λ (g : File). g.path) h.files f new)).0
+    ]
+
+    at : (p : Path) → HasOrigin (child w.root) w.files p → (f : File) × Contains (part.files ++ h.files) f × (p ≡ child w.root f.path)
+    at p o = elim (h.all o.origin (subst (λ (ps : List Path). Contains ps o.origin) (sym ends) o.among)) [
+      | inl covered ↦ (let g = Contains-unmap (λ (f : File). f.path) part.files o.origin ((part.index.paths o.origin).0 covered) in
+          (g.origin, Contains-append_left part.files h.files g.origin g.among, sym o.is ∙ ap (child w.root) (sym g.is)))
+      | inr read ↦ (let g = Contains-unmap (λ (f : File). f.path) h.files o.origin read in
+          (g.origin, Contains-append_right part.files h.files g.origin g.among, sym o.is ∙ ap (child w.root) (sym g.is)))
+    ]
+
+-- memory wants behind a read
+pub read_lost : (o : Option Told) (root name : Path) (weak : List Path) (before now : Calls) (p : Index) → IfSome o (ReadsNext {T = Index} root name weak before now (Ok p)) → IfSome o (ReadsNext {T = Index} root name weak before now (Err Memory))
+read_lost None root name weak before now p h = tt
+read_lost (Some t) root name weak before now p h = inr h
+
+-- over a tree that tells the same
+pub moved_read : {T : Type 0} (o q : Option Told) (w : Walk) (covered : List Path) (at : ℕ) (weak vague : List Path) (before now : Calls) (old new : List Index) (r : Result T WalkAnswer) → o ≡ q → weak ≡ vague
+    → ReadsAt o w covered at weak before now old new r → ReadsAt q w covered at vague before now old new r
+moved_read o q w covered at weak vague before now old new r e f h = subst (λ (p : Option Told). ReadsAt p w covered at vague before now old new r) e (subst (λ (v : List Path). ReadsAt o w covered at v before now old new r) f h)
+
+-- a walk that stops while it reads
+pub read_stopped : (o : Option Told) (w : Walk) (covered : List Path) (at : ℕ) (weak : List Path) (start before now : Calls) (old new : List Index) (answer : WalkAnswer) → IfSome o (IsWalkOf w) → HasRead o w covered start before at old
+    → ReadsAt {T = Unit {0}} o w covered at weak before now old new (Err answer) → IfSome o (λ t. StopsReading w weak answer t × ReadsSome w covered start now answer)
+read_stopped o w covered at weak start before now old new answer walk h k = both o walk (k start h)
+  where
+    both : (q : Option Told) → IfSome q (IsWalkOf w) → IfSome q (λ t. IsWalkOf w t → StopsReading w weak answer t × ReadsSome w covered start now answer) → IfSome q (λ t. StopsReading w weak answer t × ReadsSome w covered start now answer)
+    both None a b = tt
+    both (Some t) a b = b a
+
+-- what the end of the reading tells
+pub rest_stops : (o : Option Told) (w : Walk) (covered weak : List Path) (before now : Calls) (answer : WalkAnswer) → IfSome o (λ t. StopsReading w weak answer t × ReadsSome w covered before now answer) → IfSome o (ReadsRest w covered weak before now answer)
+rest_stops None w covered weak before now answer h = tt
+rest_stops (Some t) w covered weak before now (Done piece) h = absurd h.0
+rest_stops (Some t) w covered weak before now (Stopped many) h = absurd h.0
+rest_stops (Some t) w covered weak before now (ReadFault path) h = h
+rest_stops (Some t) w covered weak before now (TooMany many) h = absurd h.0
+rest_stops (Some t) w covered weak before now Memory h = h.1
+
+all_reads : (t : Told) (w : Walk) (covered : List Path) (before now : Calls) (at : ℕ) (pieces : List Index) (answer : WalkAnswer) → failed_by answer ≡ [] → HasRead (Some t) w covered before now at pieces → ReadsSome w covered before now answer
+all_reads t w covered before now at pieces answer none h = record {
+  names = paths_of h.files;
+  once = h.once;
+  fresh = λ p k. (h.early p k).1;
+  listed = ap (λ (c : Calls). c.listed) h.told.1;
+  read = ap (λ (c : Calls). c.files_read) h.told.1;
+  failed = ap (λ (c : Calls). c.failed) h.told.1 ∙ sym (ap (λ l. before.failed ++ l) none ∙ append-nil before.failed);
+}
+
+pub rest_done : (o : Option Told) (w : Walk) (first whole : Index) (weak : List Path) (before now : Calls) (pieces : List Index) → IfSome o (IsWalkOf w) → IsListedWhole w → IsPartOf o w first → HasRead o w first.paths before now (length w.files) pieces
+    → ((fs gs : List File) → IsIndexOf fs first → IsPileOf pieces gs → IsIndexOf (fs ++ gs) whole) → IfSome o (ReadsRest w first.paths weak before now (Done whole))
+rest_done None w first whole weak before now pieces walk listed part h index = tt
+rest_done (Some t) w first whole weak before now pieces walk listed part h index = (
+  tree_index t w first whole before now pieces walk listed part h (index part.files h.files part.index h.pile),
+  all_reads t w first.paths before now (length w.files) pieces (Done whole) refl h,
+)
+
+pub rest_lost : (o : Option Told) (w : Walk) (covered weak : List Path) (before now : Calls) (pieces : List Index) → HasRead o w covered before now (length w.files) pieces → IfSome o (ReadsRest w covered weak before now Memory)
+rest_lost None w covered weak before now pieces h = tt
+rest_lost (Some t) w covered weak before now pieces h = all_reads t w covered before now (length w.files) pieces Memory refl h

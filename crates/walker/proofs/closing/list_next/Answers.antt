@@ -1,0 +1,28 @@
+use Rattle.std.proofs.Common.{subst}
+use Rattle.firefly_outside.specs.Trees.{Path}
+use Rattle.walker.specs.Listings.{Notes}
+use Rattle.walker.proofs.Steps.{Grows-noted, below_next, told_ok, told_unnoted, told_memory, told_fault}
+use Rattle.walker.proofs.closing.list_next.Goals as goal
+
+pub returns-in-Ok-note-clause-grows : goal.returns-in-Ok-note-clause-grows
+returns-in-Ok-note-clause-grows g c = Grows-noted c.args.walked.now c.note.new.self c.as_str-path.result.now c.in-Ok.listing c.in-Ok-note.ensures.ok
+
+pub returns-in-Ok-note-clause-below : goal.returns-in-Ok-note-clause-below
+returns-in-Ok-note-clause-below g c = λ at here. below_next c.args.walked.now c.note.new.self c.args.dir c.in-Ok.listing at
+    (subst (λ (p : Path). Notes c.args.walked.now c.note.new.self p c.in-Ok.listing) c.as_str-path.ensures c.in-Ok-note.ensures.ok) here
+
+pub returns-in-Ok-note-clause-told : goal.returns-in-Ok-note-clause-told
+returns-in-Ok-note-clause-told g c = told_ok (g.S.Tree.tree c.args.tree.now) c.args.walked.now c.note.new.self c.args.dir c.as_str-path.result.now (g.S.Tree.may_fail c.args.tree.now) (g.S.Tree.calls c.args.tree.now) (g.S.Tree.calls c.list_dir.new.tree)
+    c.requires c.as_str-path.ensures c.in-Ok.listing c.in-Ok.ensures.told c.in-Ok-note.ensures.ok c.in-Ok-note.ensures.told
+
+pub returns-in-Ok-clause-told : goal.returns-in-Ok-clause-told
+returns-in-Ok-clause-told g c = told_unnoted (g.S.Tree.tree c.args.tree.now) c.args.walked.now c.note.new.self c.args.dir c.as_str-path.result.now (g.S.Tree.may_fail c.args.tree.now) (g.S.Tree.calls c.args.tree.now) (g.S.Tree.calls c.list_dir.new.tree)
+    c.requires c.as_str-path.ensures c.in-Ok.listing c.in-Ok.ensures.told
+
+pub returns-in-Err-Memory-clause-told : goal.returns-in-Err-Memory-clause-told
+returns-in-Err-Memory-clause-told g c = told_memory (g.S.Tree.tree c.args.tree.now) c.args.walked.now c.args.walked.now c.args.dir c.as_str-path.result.now (g.S.Tree.may_fail c.args.tree.now) (g.S.Tree.calls c.args.tree.now) (g.S.Tree.calls c.list_dir.new.tree)
+    c.requires c.as_str-path.ensures (rw c.in-Err-Memory.field-0-is at c.in-Err-Memory.ensures.told)
+
+pub returns-clause-told : goal.returns-clause-told
+returns-clause-told g c = told_fault (g.S.Tree.tree c.args.tree.now) c.args.walked.now c.args.walked.now c.args.dir c.as_str-path.result.now (g.S.Tree.may_fail c.args.tree.now) (g.S.Tree.calls c.args.tree.now) (g.S.Tree.calls c.list_dir.new.tree)
+    c.requires c.as_str-path.ensures (rw c.in-Err-Failed.field-0-is at c.in-Err-Failed.ensures.told)

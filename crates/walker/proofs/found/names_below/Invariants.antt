@@ -1,0 +1,7 @@
+use Rattle.std.proofs.Common.{◌≡◌, map, take}
+use Rattle.std.specs.String.{string_bytes}
+use Rattle.firefly_outside.specs.Trees.{child}
+use Rattle.walker.proofs.found.names_below.Given as goal
+
+abbrev pub invariant-loop-file : goal.invariant-loop-file
+invariant-loop-file l = map (λ s. child l.root (string_bytes s)) l.names.items ≡ take l.file-index l.files.items

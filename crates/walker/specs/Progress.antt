@@ -1,0 +1,64 @@
+-- How far a closing walk has come.
+use Rattle.std.specs.Prelude.{◌≡◌, ◌≢◌, ℕ, ◌+◌, ◌≤◌, ◌<◌, false, List, ◌++◌, length, take, Option, Some, Contains, AllPairs, Result, Ok, Err}
+use Rattle.firefly_outside.specs.Trees.{Path, Told, Calls}
+use Rattle.walker.specs.Walk.{Walk, IsSound, IsListed, IsUnlisted, IsWalkOf}
+use Rattle.walker.specs.Closing.{most_dirs, HasRisen, Answers, CallsOnce}
+use Rattle.walker.specs.declared.answer.WalkAnswer.{WalkAnswer}
+use Rattle.walker.specs.declared.answer.WalkAnswer.TheVariants.{Done, Stopped, ReadFault, TooMany, Memory}
+
+-- neither limit is passed
+pub record IsWithinLimits (w : Walk) (stop : Option ℕ) : Type 0 where
+  pub dirs : length w.dirs ≤ most_dirs
+  pub files : (n : ℕ) → stop ≡ Some n → length w.files ≤ n
+
+-- a limit is passed, of the directories first
+abbrev pub IsPassed : Walk → Option ℕ → WalkAnswer → Type 0
+IsPassed w stop (Done piece) = ⊥
+IsPassed w stop (Stopped many) = (length w.dirs ≤ most_dirs) × ((n : ℕ) × (stop ≡ Some n) × (many ≡ n + 1) × (n < length w.files))
+IsPassed w stop (ReadFault path) = ⊥
+IsPassed w stop (TooMany many) = (many ≡ most_dirs + 1) × (most_dirs < length w.dirs)
+IsPassed w stop Memory = ⊥
+
+-- the count after a step that may end the walk
+abbrev pub StepCounts : {T : Type 0} → ℕ → ℕ → Result T WalkAnswer → Type 0
+StepCounts before now (Ok v) = now ≡ before
+StepCounts before now (Err answer) = HasRisen before now answer
+
+-- only listings were made, each of a directory that wasn't listed, once
+pub record ListsMore (first w : Walk) (before now : Calls) : Type 0 where
+  pub dirs : List Path
+  pub listed : now.listed ≡ before.listed ++ dirs
+  pub read : now.files_read ≡ before.files_read
+  pub failed : now.failed ≡ before.failed
+  pub once : AllPairs (λ p q. p ≢ q) dirs
+  pub fresh : (p : Path) → Contains dirs p → ¬ IsListed first p
+  pub marks : (p : Path) → Contains dirs p → IsListed w p
+  pub stays : (p : Path) → IsListed first p → IsListed w p
+
+-- a walk that stops while it lists: what the answer says of the tree, and which calls were made since the start
+abbrev pub StopsListing : Walk → List Path → Calls → Calls → WalkAnswer → Told → Type 0
+StopsListing old weak before now answer t = IsSound old → IsWalkOf old t → (first : Walk) (start : Calls) → first.root ≡ old.root → ListsMore first old start before
+    → (stop : Option ℕ) → Answers first.root stop weak answer t × ((covered : List Path) → CallsOnce first covered start now answer)
+
+-- what one step of listing tells
+abbrev pub ListsAt : {T : Type 0} → Walk → Walk → List Path → Calls → Calls → Result T WalkAnswer → Told → Type 0
+ListsAt old new weak before now (Ok v) t = (IsWalkOf old t → IsWalkOf new t) × (IsSound old → (first : Walk) (start : Calls) → ListsMore first old start before → ListsMore first new start now)
+ListsAt old new weak before now (Err answer) t = StopsListing old weak before now answer t
+
+-- what listing the rest tells
+abbrev pub ListsRest : {T : Type 0} → Walk → Walk → Option ℕ → List Path → Calls → Calls → Result T WalkAnswer → Told → Type 0
+ListsRest first w stop weak before now (Ok v) t = IsWalkOf w t × ListsMore first w before now
+ListsRest first w stop weak before now (Err answer) t = Answers first.root stop weak answer t × ((covered : List Path) → CallsOnce first covered before now answer)
+
+-- each directory found is listed
+abbrev pub IsListedWhole : Walk → Type 0
+IsListedWhole w = (p : Path) → ¬ IsUnlisted w p
+
+-- the directories before this place are listed
+abbrev pub IsListedBelow : Walk → ℕ → Type 0
+IsListedBelow w at = (p : Path) → ¬ Contains (take at w.dirs) (p, false)
+
+-- the root stays, and so do the files found
+pub record Grows (old new : Walk) : Type 0 where
+  pub root : new.root ≡ old.root
+  pub files : (p : Path) → Contains old.files p → Contains new.files p

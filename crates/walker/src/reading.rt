@@ -1,0 +1,175 @@
+// The files of a walk that was listed whole.
+ghost use Rattle.std.specs.Prelude.{◌≡◌, ◌++◌, ◌∷◌, [], ◌+◌, ◌≤◌, ◌<◌, ℕ, List, Option, Some, length, IfSome, IfOk, OnOk, IfErr, AllPairs, Contains, map, take};
+ghost use Rattle.firefly_outside.specs.Trees.{Calls};
+ghost use Rattle.word_index.specs.Index.{File, Meet, IsIndexOf};
+ghost use Rattle.walker.specs.Walk.{IsWalkOf, IsSound};
+ghost use Rattle.walker.specs.TreeIndex.{IsPartOf, IsFileAt};
+ghost use Rattle.walker.specs.Closing.{HasRisen};
+ghost use Rattle.walker.specs.Progress.{StepCounts, IsListedWhole};
+ghost use Rattle.walker.specs.Pile.{IsPileOf, AreApart, ReadsNext, ReadsRest, IsReadEnd, IsRead, ReadsAt, HasRead, IsNextFile};
+
+use crate::listing::child_path;
+use crate::{WalkAnswer, Walked};
+use firefly_outside::{Tree, TreeError};
+use std::alloc::{AllocError, Global};
+use word_index::{Piece, merge, piece_of};
+
+/// Reads what the piece doesn't cover, and gives the index of it all.
+pub fn read_rest<S: Tree>(alloc: Global, tree: &mut S, walked: &Walked, piece: Piece) -> WalkAnswer
+    requires sound { IsSound walked.now }
+    requires listed { IsListedWhole walked.now }
+    requires told { IfSome (S.tree tree.old) (IsWalkOf walked.now) }
+    requires part { IsPartOf (S.tree tree.old) walked.now piece }
+    ensures tree_stays { S.tree tree.new ≡ S.tree tree.old }
+    ensures weak_stays { S.may_fail tree.new ≡ S.may_fail tree.old }
+    ensures count { HasRisen (S.faults tree.old) (S.faults tree.new) result }
+    ensures end { IsReadEnd result }
+    ensures told { IfSome (S.tree tree.old) (ReadsRest walked.now piece.paths (S.may_fail tree.old) (S.calls tree.old) (S.calls tree.new) result) }
+{
+    let mut pile = Vec::new(alloc);
+    match read_files(alloc, tree, walked, &piece, &mut pile) {
+        Ok(()) => match whole_of(piece, pile) {
+            Ok(index) => WalkAnswer::Done(index),
+            Err(_) => WalkAnswer::Memory,
+        },
+        Err(answer) => answer,
+    }
+}
+
+// Reads the files found that the piece doesn't cover, in their order.
+fn read_files<S: Tree>(
+    alloc: Global,
+    tree: &mut S,
+    walked: &Walked,
+    piece: &Piece,
+    pile: &mut Vec<Piece>,
+) -> Result<(), WalkAnswer>
+    requires sound { IsSound walked.now }
+    requires empty { pile.old.items ≡ [] }
+    requires told { IfSome (S.tree tree.old) (IsWalkOf walked.now) }
+    ensures tree_stays { S.tree tree.new ≡ S.tree tree.old }
+    ensures weak_stays { S.may_fail tree.new ≡ S.may_fail tree.old }
+    ensures count { StepCounts (S.faults tree.old) (S.faults tree.new) result }
+    ensures apart { OnOk result (AreApart pile.new.items) }
+    ensures end { IfErr result IsReadEnd }
+    ensures read { IsRead (S.tree tree.old) walked.now piece.now.paths (S.may_fail tree.old) (S.calls tree.old) (S.calls tree.new) pile.new.items result }
+{
+    for at in 0..walked.files_found() as usize {
+        match read_at(alloc, tree, walked, piece, pile, at) {
+            Ok(()) => {}
+            Err(answer) => return Err(answer),
+        }
+    }
+    Ok(())
+}
+
+// Reads the file found at this place, if the piece doesn't cover it.
+fn read_at<S: Tree>(
+    alloc: Global,
+    tree: &mut S,
+    walked: &Walked,
+    piece: &Piece,
+    pile: &mut Vec<Piece>,
+    at: usize,
+) -> Result<(), WalkAnswer>
+    requires within { at < length walked.now.files }
+    requires sound { IsSound walked.now }
+    requires apart { AreApart pile.old.items }
+    requires read { (start : Calls) × HasRead (S.tree tree.old) walked.now piece.now.paths start (S.calls tree.old) at pile.old.items }
+    ensures tree_stays { S.tree tree.new ≡ S.tree tree.old }
+    ensures weak_stays { S.may_fail tree.new ≡ S.may_fail tree.old }
+    ensures count { StepCounts (S.faults tree.old) (S.faults tree.new) result }
+    ensures apart { OnOk result (AreApart pile.new.items) }
+    ensures end { IfErr result IsReadEnd }
+    ensures step { ReadsAt (S.tree tree.old) walked.now piece.now.paths at (S.may_fail tree.old) (S.calls tree.old) (S.calls tree.new) pile.old.items pile.new.items result }
+{
+    let name = walked.file_at(at);
+    if piece.covers(name) {
+        return Ok(());
+    }
+    let next = match read_next(alloc, tree, walked, name) {
+        Ok(next) => next,
+        Err(answer) => return Err(answer),
+    };
+    match add_piece(pile, next) {
+        Ok(()) => Ok(()),
+        Err(_) => Err(WalkAnswer::Memory),
+    }
+}
+
+// Reads one file.
+fn read_next<S: Tree>(
+    alloc: Global,
+    tree: &mut S,
+    walked: &Walked,
+    name: &str,
+) -> Result<Piece, WalkAnswer>
+    ensures tree_stays { S.tree tree.new ≡ S.tree tree.old }
+    ensures weak_stays { S.may_fail tree.new ≡ S.may_fail tree.old }
+    ensures count { StepCounts (S.faults tree.old) (S.faults tree.new) result }
+    ensures file { IfOk result (IsNextFile (S.tree tree.old) walked.now.root name.now) }
+    ensures end { IfErr result IsReadEnd }
+    ensures told { IfSome (S.tree tree.old) (ReadsNext walked.now.root name.now (S.may_fail tree.old) (S.calls tree.old) (S.calls tree.new) result) }
+{
+    let Ok(path) = child_path(alloc, walked.root(), name) else {
+        return Err(WalkAnswer::Memory);
+    };
+    match tree.read(alloc, path.as_str()) {
+        Ok(file) => match piece_of(alloc, name, &file) {
+            Ok(piece) => Ok(piece),
+            Err(_) => Err(WalkAnswer::Memory),
+        },
+        Err(TreeError::Memory) => Err(WalkAnswer::Memory),
+        Err(TreeError::Failed) => Err(WalkAnswer::ReadFault(path)),
+    }
+}
+
+// Puts a piece on the pile, and merges those on top that are of like size.
+fn add_piece(pile: &mut Vec<Piece>, next: Piece) -> Result<(), AllocError>
+    requires { AreApart (pile.old.items ++ next ∷ []) }
+    ensures apart { OnOk result (AreApart pile.new.items) }
+    ensures index { OnOk result ((fs gs : List File) → IsPileOf pile.old.items fs → IsIndexOf gs next → IsPileOf pile.new.items (fs ++ gs)) }
+{
+    let mut top = next;
+    while let Some(below) = pile.pop() {
+        if below.files() > top.files() {
+            return match pile.push(below) {
+                Ok(()) => put_on(pile, top),
+                Err(_) => Err(AllocError),
+            };
+        }
+        top = match merge(below, top) {
+            Ok(piece) => piece,
+            Err(_) => return Err(AllocError),
+        };
+    }
+    put_on(pile, top)
+}
+
+fn put_on(pile: &mut Vec<Piece>, top: Piece) -> Result<(), AllocError>
+    ensures { OnOk result (pile.new.items ≡ pile.old.items ++ top ∷ []) }
+{
+    pile.push(top)?;
+    Ok(())
+}
+
+// Merges all pieces of the pile with the first.
+fn whole_of(first: Piece, pile: Vec<Piece>) -> Result<Piece, AllocError>
+    requires { AreApart (first ∷ pile.items) }
+    ensures { IfOk result (λ p. (fs gs : List File) → IsIndexOf fs first → IsPileOf pile.items gs → IsIndexOf (fs ++ gs) p) }
+{
+    let mut pile = pile;
+    let Some(mut top) = pile.pop() else {
+        return Ok(first);
+    };
+    while let Some(below) = pile.pop() {
+        top = match merge(below, top) {
+            Ok(piece) => piece,
+            Err(_) => return Err(AllocError),
+        };
+    }
+    match merge(first, top) {
+        Ok(piece) => Ok(piece),
+        Err(_) => Err(AllocError),
+    }
+}

@@ -1,0 +1,14 @@
+use Rattle.std.proofs.Common.{arith, map, length, ◌≤◌, ◌<◌, ◌-◌, ◌^◌, ◌+◌, take, drop, length-take, length-drop}
+use Rattle.std.specs.List.{slice_range}
+use Rattle.word_index.proofs.Tally.{counts_before_next, count_fits}
+use Rattle.word_index.proofs.count.count_words.Goals as goal
+
+pub add-requires : goal.add-requires
+add-requires c = count_fits c.loop-run.invariant _ (2 ^ 32) (omega (arith, c.in-Some.ensures, c.requires))
+
+pub loop-run-preserved-in_ok-add : goal.loop-run-preserved-in_ok-add
+loop-run-preserved-in_ok-add c =
+    let e = c.in-Some.ensures in
+    let further : c.loop-run.at < c.in-Some.run'.end = omega (arith, e) in
+    let early : c.in-Some.run'.line ≤ c.in-Some.run'.end + 1 = omega (arith, e) in
+    counts_before_next c.loop-run.invariant (slice_range c.args.low.now c.in-Some.run'.start c.in-Some.run'.end) c.in-Some.run'.end c.in-Some.run'.line c.if-word-le-LONGEST_WORD.true further e.2 early e.4 c.in_ok-add.ensures

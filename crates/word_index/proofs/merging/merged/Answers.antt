@@ -1,0 +1,23 @@
+use Rattle.std.proofs.Common.{◌≡◌, List, ℕ, sym}
+use Rattle.word_index.specs.Index.{entries}
+use Rattle.word_index.proofs.Sides.{numbers_apart}
+use Rattle.word_index.proofs.Views.{ordered_view, either}
+use Rattle.word_index.proofs.merging.merged.Goals as goal
+
+pub join_tables-requires-clause-apart : goal.join_tables-requires-clause-apart
+join_tables-requires-clause-apart c =
+    let meet = rw (← c.a.view_is, ← c.b.view_is) at c.requires in
+    numbers_apart c.in_ok-paths.ensures.first c.in_ok-paths.ensures.second (λ p here there. meet (p, here, there))
+
+pub returns : goal.returns
+returns c =
+    let table = c.in_ok-table.ensures in
+    let same = rw (← c.a.view_is, ← c.b.view_is) at table.same in
+    let paths = c.in_ok-paths.paths.all in
+    rw (← c.a.view_is, ← c.b.view_is) (record {
+      ordered = ordered_view paths c.in_ok-skipped.skipped.all c.in_ok-table.table.words c.in_ok-table.table.places
+          (record { paths = c.in_ok-paths.ensures.rising; skipped = c.in_ok-skipped.ensures.rising; words = table.words; many = table.many; each = table.each });
+      paths = c.in_ok-paths.ensures.members;
+      skipped = c.in_ok-skipped.ensures.members;
+      entries = either _ _ _ same;
+    })

@@ -1,0 +1,17 @@
+use Rattle.std.proofs.Common.{◌≡◌, length, map, ◌∷◌, [], ◌++◌, ap, ◌∙◌, OnOk, subst, sym}
+use Rattle.word_index.specs.Numbered.{moved}
+use Rattle.word_index.proofs.Ended.{ends_fit, pushes}
+use Rattle.word_index.proofs.rows.Rows.push_one.Goals as goal
+
+pub invariant_of-self-2 : goal.invariant_of-self-2
+invariant_of-self-2 c =
+    let old = c.self.inside in
+    let e = c.end_row.ensures in
+    ends_fit old.places.items (c.args.place ∷ []) c.push.new.self.items old.ends.items c.self.invariant c.in_ok-push.ensures.items c.end_row.result _ _ c.len-start.result (c.len-start.ensures ∙ old.places.ok.0) e.same e.ended e.back e.none
+
+pub returns : goal.returns
+returns c =
+    let old = c.self.inside in
+    let e = c.end_row.ensures in
+    let p = pushes old.places.items (c.args.place ∷ []) c.push.new.self.items old.ends.items c.self.invariant c.in_ok-push.ensures.items c.end_row.result _ _ e.same e.ended in
+    rw (← c.self.view_is) p

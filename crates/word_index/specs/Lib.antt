@@ -1,0 +1,11 @@
+pub mod Words
+pub mod Counts
+pub mod Blocks
+pub mod Index
+pub mod Piece
+pub mod Read
+pub mod Numbered
+pub mod Merged
+pub mod Table
+pub mod Counted
+pub mod Places

@@ -1,0 +1,87 @@
+// The merge of two pieces.
+ghost use Rattle.std.specs.Prelude.{◌≡◌, ◌++◌, List, ℕ, length, IfOk, IfErr};
+ghost use Rattle.std.specs.List.{Contains};
+ghost use Rattle.word_index.specs.Index.{File, IsIndexOf, IsUnion, Meet, entries};
+ghost use Rattle.word_index.specs.Numbered.{IsNumbered, AreApart};
+ghost use Rattle.word_index.specs.Table.{IsTable};
+
+use crate::Piece;
+use crate::joining::{Union, join_texts, order_at};
+use crate::rows::Rows;
+use crate::strings::Strings;
+use std::alloc::AllocError;
+use std::cmp::Ordering;
+
+// Words with their places.
+#[derive(Drop)]
+struct Table {
+    words: Strings,
+    places: Rows,
+}
+
+// The words of both, each with its places in both, under the numbers of the union of the paths.
+fn join_tables(a: &Piece, b: &Piece, paths: &Union) -> Result<Table, AllocError>
+    requires first { IsNumbered a.now.paths paths.now.all paths.now.of_a.items (length a.now.paths) }
+    requires second { IsNumbered b.now.paths paths.now.all paths.now.of_b.items (length b.now.paths) }
+    requires apart { AreApart paths.now.of_a.items paths.now.of_b.items }
+    ensures { IfOk result (λ t. IsTable paths.now.all t.words t.places (entries a.now ++ entries b.now)) }
+{
+    let most = a.words.len().saturating_add(b.words.len());
+    let bytes = a.words.bytes().saturating_add(b.words.bytes());
+    let total = a.places.total().saturating_add(b.places.total());
+    let mut words = Strings::with_room(a.alloc, bytes, most)?;
+    let mut places = Rows::with_room(a.alloc, total, most)?;
+    let mut i = 0;
+    let mut j = 0;
+    while i < a.words.len() || j < b.words.len() {
+        match order_at(&a.words, i, &b.words, j) {
+            Ordering::Less => {
+                words.push(a.words.get(i))?;
+                places.push_moved(a.places.get(i), &paths.of_a)?;
+                i += 1;
+            }
+            Ordering::Greater => {
+                words.push(b.words.get(j))?;
+                places.push_moved(b.places.get(j), &paths.of_b)?;
+                j += 1;
+            }
+            Ordering::Equal => {
+                words.push(a.words.get(i))?;
+                places.push_merged(a.places.get(i), &paths.of_a, b.places.get(j), &paths.of_b)?;
+                i += 1;
+                j += 1;
+            }
+        }
+    }
+    Ok(Table { words, places })
+}
+
+fn merged(a: &Piece, b: &Piece) -> Result<Piece, AllocError>
+    requires { ¬ Meet a.now b.now }
+    ensures { IfOk result (IsUnion a.now b.now) }
+{
+    let paths = join_texts(a.alloc, &a.paths, &b.paths)?;
+    let skipped = join_texts(a.alloc, &a.skipped, &b.skipped)?;
+    let table = join_tables(a, b, &paths)?;
+    Ok(Piece {
+        alloc: a.alloc,
+        paths: paths.all,
+        skipped: skipped.all,
+        words: table.words,
+        places: table.places,
+    })
+}
+
+/// The index of the files of both. Where memory fails, both come back as they were.
+pub fn merge(a: Piece, b: Piece) -> Result<Piece, (Piece, Piece)>
+    requires { ¬ Meet a b }
+    ensures union { IfOk result (IsUnion a b) }
+    ensures index { IfOk result (λ p. (fs gs : List File) →
+        IsIndexOf fs a → IsIndexOf gs b → IsIndexOf (fs ++ gs) p) }
+    ensures back { IfErr result (λ e. e ≡ (a, b)) }
+{
+    match merged(&a, &b) {
+        Ok(p) => Ok(p),
+        Err(_) => Err((a, b)),
+    }
+}

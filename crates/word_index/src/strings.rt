@@ -1,0 +1,81 @@
+// Byte strings in one block of memory.
+ghost use Rattle.std.specs.Prelude.{◌≡◌, ◌+◌, ◌<◌, ◌≤◌, ℕ, List, [], ◌∷◌, ◌++◌, length, IfOk, OnOk, slice_index, slice_index_or};
+
+use crate::blocks::part_of;
+use std::alloc::{AllocError, Global};
+use std::marker::Model;
+
+/// Byte strings one behind the other.
+#[derive(Drop)]
+pub struct Strings {
+    text: Vec<u8>,
+    ends: Vec<usize>,
+}
+
+impl Model for Strings {
+    ghost use Rattle.std.specs.Prelude.{ℕ, List};
+    ghost use Rattle.word_index.specs.Blocks.{parts, AreEnds};
+
+    ghost Value = { List (List ℕ) };
+
+    ghost view = { λ s. parts s.text.items 0 s.ends.items };
+
+    ghost invariant = { λ s. AreEnds s.text.items 0 s.ends.items };
+}
+
+impl Strings {
+    pub fn new(alloc: Global) -> Strings
+        ensures { result ≡ [] }
+    {
+        Strings {
+            text: Vec::new(alloc),
+            ends: Vec::new(alloc),
+        }
+    }
+
+    /// Strings with room for so many of so many bytes in all.
+    pub fn with_room(alloc: Global, bytes: usize, many: usize) -> Result<Strings, AllocError>
+        ensures { IfOk result (λ s. s ≡ []) }
+    {
+        Ok(Strings {
+            text: Vec::with_capacity(alloc, bytes)?,
+            ends: Vec::with_capacity(alloc, many)?,
+        })
+    }
+
+    #[inline(always)]
+    pub fn len(&self) -> usize
+        ensures { result ≡ length self.now }
+    {
+        self.ends.len()
+    }
+
+    /// The number of bytes of all.
+    pub fn bytes(&self) -> usize {
+        self.text.len()
+    }
+
+    #[inline(always)]
+    pub fn get(&self, at: usize) -> &[u8]
+        requires { at < length self.now }
+        ensures { result.now ≡ slice_index_or self.now at [] }
+    {
+        part_of(&self.text, &self.ends, at)
+    }
+
+    /// Adds a string at the end.
+    pub fn push(&mut self, s: &[u8]) -> Result<(), AllocError>
+        ensures { OnOk result (self.new ≡ self.old ++ s.now ∷ []) }
+    {
+        let start = self.text.len();
+        self.text.extend_from_slice(s)?;
+        let end = self.text.len();
+        match self.ends.push(end) {
+            Ok(()) => Ok(()),
+            Err(_) => {
+                self.text.truncate(start);
+                Err(AllocError)
+            }
+        }
+    }
+}

@@ -1,0 +1,45 @@
+// Pieces of small files.
+use crate::{Piece, merge, piece_of};
+use firefly_outside::FileBytes;
+use std::alloc::Global;
+use std::test::Fail;
+
+// The piece of a file with these bytes.
+fn piece(alloc: Global, path: &str, bytes: &[u8]) -> Result<Piece, Fail> {
+    let file = FileBytes {
+        bytes: bytes.to_vec(alloc)?,
+        long: false,
+    };
+    Ok(piece_of(alloc, path, &file)?)
+}
+
+#[test]
+fn a_merge_counts_both_files(rt: HostRuntime) -> Result<(), Fail> {
+    let readme = piece(rt.alloc(), "README", b"Firefly index\n")?;
+    let run = piece(
+        rt.alloc(),
+        "src/run.rs",
+        b"fn run(n) {}\r\n// run twice\r\nrun\r\n",
+    )?;
+    if readme.meets(&run) {
+        return Err(Fail::from("a path is in both"));
+    }
+    let Ok(index) = merge(readme, run) else {
+        return Err(Fail::from("no memory"));
+    };
+    assert_eq!(rt; index.files(), 2);
+    assert_eq!(rt; index.words(), 6);
+    assert_eq!(rt; index.entries(), 6);
+    assert_eq!(rt; index.occurrences(), 8);
+    assert!(rt; index.covers("src/run.rs"));
+    assert!(rt; !index.covers("src"));
+    Ok(())
+}
+
+#[test]
+fn a_piece_meets_itself_and_no_empty_one(rt: HostRuntime) -> Result<(), Fail> {
+    let piece = piece(rt.alloc(), "a", b"")?;
+    assert!(rt; piece.meets(&piece));
+    assert!(rt; !piece.meets(&Piece::empty(rt.alloc())));
+    Ok(())
+}
