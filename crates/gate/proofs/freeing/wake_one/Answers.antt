@@ -1,0 +1,32 @@
+use Rattle.std.proofs.Common.{◌≡◌, ◌++◌, ◌∷◌, [], true, List, ℕ, rules, ap, sym, subst, ◌∙◌}
+use Rattle.larch_actions.specs.Sets.{mem, without}
+use Rattle.nub_rule.specs.Plays.{behind}
+use Rattle.nub.proofs.Without.{mem_own, less_owed, first_small}
+use Rattle.gate.proofs.freeing.wake_one.Goals as goal
+
+pub wake-requires-clause-owed : goal.wake-requires-clause-owed
+wake-requires-clause-owed g c κs within =
+    let t = c.in-Some.t.0 in
+    let first = c.pop.ensures.first c.in-Some.t c.in-Some.is in
+    let owed : c.pop.new.me.owed ≡ t ∷ [] = first.1 ∙ ap (λ k. k.owed ++ t ∷ []) c.enter.ensures.inside in
+    subst (λ (l : List ℕ). mem t l ≡ true) (sym owed) (mem_own t [])
+
+pub wake-requires-clause-named : goal.wake-requires-clause-named
+wake-requires-clause-named g c κs within =
+    let first = c.pop.ensures.first c.in-Some.t c.in-Some.is in
+    first_small 64 c.in-Some.t.0 (behind c.enter.new.me.queue) c.enter.new.me.queue first.0 c.enter.ensures.small
+
+pub leave-requires-clause-owes_none : goal.leave-requires-clause-owes_none
+leave-requires-clause-owes_none g c κs within =
+    let t = c.in-Some.t.0 in
+    let first = c.pop.ensures.first c.in-Some.t c.in-Some.is in
+    let owed : c.pop.new.me.owed ≡ t ∷ [] = first.1 ∙ ap (λ k. k.owed ++ t ∷ []) c.enter.ensures.inside in
+    ap (λ k. k.owed) c.wake.ensures ∙ less_owed t c.pop.new.me.owed owed
+
+pub returns-in-Some : goal.returns-in-Some
+returns-in-Some g c =
+    let t = c.in-Some.t.0 in
+    let first = c.pop.ensures.first c.in-Some.t c.in-Some.is in
+    let owed : c.pop.new.me.owed ≡ t ∷ [] = first.1 ∙ ap (λ k. k.owed ++ t ∷ []) c.enter.ensures.inside in
+    let none : c.wake.new.me.owed ≡ [] = ap (λ k. k.owed) c.wake.ensures ∙ less_owed t c.pop.new.me.owed owed in
+    search rules

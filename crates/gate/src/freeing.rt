@@ -1,0 +1,105 @@
+//! Clearing the bit.
+ghost use Rattle.std.specs.Prelude.{◌≡◌, ◌≢◌, ◌<◌, ℕ, [], ◌∷◌, Some, None, true, false};
+ghost use Rattle.larch_actions.specs.Sets.{mem, without};
+ghost use Rattle.gate.specs.Gates.{MayFree, IsFreed, clears};
+ghost use Rattle.nub_rule.specs.Known.{Makes};
+ghost use Rattle.nub_rule.specs.Objects.{object_of, HasObject};
+ghost use Rattle.nub_rule.specs.Parts.{MayTell, made};
+ghost use Rattle.nub.specs.Rest.{HasStored, IsOutside};
+
+use larch_actions::Event;
+use nub::{begin_event, end_event, enter, leave, pop, wake};
+use nub_rule::{Change, Object, Package, Thread, Uses, Why, clear_bit, clear_sem, read_length};
+use std::sync::Wait;
+
+/// Makes the event by clearing the bit, and makes one queued thread ready if the queue isn't empty.
+#[inline]
+pub fn free<U: Uses, C: Change<U>, R: Wait>(
+    rt: &R,
+    p: &Package<U>,
+    me: &mut Thread<U>,
+    at: Object,
+    e: Event,
+)
+    requires of { me.old.table_id ≡ p.now.table_id }
+    requires named { HasObject p.now.layout at }
+    requires outside { IsOutside me.old }
+    requires no_wait { me.old.wait ≡ None }
+    requires event { e ≡ clears at me.old.number }
+    requires may { MayFree U.allows C.after at me.old }
+    ensures event { Makes e me.old me.new }
+    ensures rest { me.new ≡ record me.old { seen = me.new.seen; mine = me.new.mine; places = me.new.places; held = me.new.held; share = me.new.share; count = me.new.count; failed = me.new.failed; cleared = without (object_of at) me.old.cleared; looked = without (object_of at) me.old.looked; values = me.new.values; entries = me.new.entries; lost = me.new.lost; next = me.new.next } }
+    ensures freed { IsFreed C.after at me.old me.new }
+    ensures stored { HasStored p.now.traced me.old → HasStored p.now.traced me.new }
+{
+    clear::<U, C, R>(rt, p, me, at, e);
+    if read_length(p, me, at) != 0 {
+        wake_one(rt, p, me, at);
+    }
+}
+
+/// Makes the event by clearing the bit.
+#[inline]
+fn clear<U: Uses, C: Change<U>, R: Wait>(
+    rt: &R,
+    p: &Package<U>,
+    me: &mut Thread<U>,
+    at: Object,
+    e: Event,
+)
+    requires of { me.old.table_id ≡ p.now.table_id }
+    requires named { HasObject p.now.layout at }
+    requires outside { IsOutside me.old }
+    requires no_wait { me.old.wait ≡ None }
+    requires event { e ≡ clears at me.old.number }
+    requires may { MayFree U.allows C.after at me.old }
+    ensures event { Makes e me.old me.new }
+    ensures rest { me.new ≡ record me.old { seen = me.new.seen; mine = me.new.mine; places = me.new.places; held = me.new.held; share = me.new.share; cleared = object_of at ∷ me.old.cleared; values = me.new.values; entries = me.new.entries; lost = me.new.lost; next = me.new.next } }
+    ensures freed { IsFreed C.after at me.old me.new }
+    ensures stored { HasStored p.now.traced me.old → HasStored p.now.traced me.new }
+{
+    begin_event(rt, p, me);
+    clear_gate::<U, C>(p, me, at);
+    end_event(p, me, Some(e));
+}
+
+#[inline]
+fn clear_gate<U: Uses, C: Change<U>>(p: &Package<U>, me: &mut Thread<U>, at: Object)
+    requires of { me.old.table_id ≡ p.now.table_id }
+    requires named { HasObject p.now.layout at }
+    requires outside { (me.old.wait ≡ None) × (me.old.stand ≡ None) }
+    requires may { MayFree U.allows C.after at me.old }
+    requires pen { MayTell p.now.traced me.old.pen }
+    ensures event { Makes (clears at me.old.number) me.old me.new }
+    ensures rest { me.new ≡ record me.old { seen = me.new.seen; mine = me.new.mine; places = me.new.places; held = me.new.held; share = me.new.share; cleared = object_of at ∷ me.old.cleared; pen = made me.old.pen; values = me.new.values } }
+    ensures freed { IsFreed C.after at me.old me.new }
+{
+    match at {
+        Object::Mutex(m) => {
+            clear_bit::<U, C>(p, me, m);
+        }
+        Object::Sem(s) => {
+            clear_sem(p, me, s);
+        }
+    }
+}
+
+/// Takes one thread out of the queue and makes it ready.
+#[cold]
+#[inline(never)]
+fn wake_one<U: Uses, R: Wait>(rt: &R, p: &Package<U>, me: &mut Thread<U>, at: Object)
+    requires of { me.old.table_id ≡ p.now.table_id }
+    requires named { HasObject p.now.layout at }
+    requires outside { IsOutside me.old }
+    requires looked { mem (object_of at) me.old.looked ≡ true }
+    ensures { me.new ≡ record me.old { count = me.new.count; failed = without (object_of at) me.old.failed; cleared = without (object_of at) me.old.cleared; looked = without (object_of at) me.old.looked } }
+{
+    enter(rt, p, me, at, Why::QueueSeen);
+    match pop(p, me, at) {
+        Some(t) => {
+            wake(p, me, t);
+            leave(rt, p, me, at);
+        }
+        None => leave(rt, p, me, at),
+    }
+}

@@ -1,0 +1,142 @@
+//! Taking the bit.
+ghost use Rattle.std.specs.Prelude.{◌≡◌, ◌≢◌, ◌<◌, ℕ, [], ◌∷◌, Some, None, true, false};
+ghost use Rattle.larch_actions.specs.Sets.{mem, without};
+ghost use Rattle.gate.specs.Gates.{MayMake, IsTaken};
+ghost use Rattle.nub_rule.specs.Known.{Makes, StandsAs};
+ghost use Rattle.nub_rule.specs.Objects.{object_of, HasObject};
+ghost use Rattle.nub_rule.specs.Parts.{MayTell, made, HasTested};
+ghost use Rattle.nub.specs.Rest.{HasStored, IsOutside};
+
+use crossbeam_utils::Backoff;
+use larch_actions::Event;
+use nub::{begin_event, end_event, enter, leave, push, remove, sleep};
+use nub_rule::{Object, Package, Thread, Uses, Why, peek_bit, test_again, try_bit, try_p};
+use std::sync::Wait;
+
+// How often a thread looks at a bit before it goes on.
+const LOOKS: u32 = 16;
+
+/// Makes the event by taking the bit, after any number of sleeps.
+#[inline]
+pub fn take<U: Uses, R: Wait>(rt: &R, p: &Package<U>, me: &mut Thread<U>, at: Object, e: Event)
+    requires of { me.old.table_id ≡ p.now.table_id }
+    requires named { HasObject p.now.layout at }
+    requires outside { IsOutside me.old }
+    requires looked { me.old.cleared ≡ [] }
+    requires may { MayMake at me.old.number me.old.wait e }
+    ensures event { Makes e me.old me.new }
+    ensures rest { me.new ≡ record me.old { seen = me.new.seen; mine = me.new.mine; places = me.new.places; held = me.new.held; count = me.new.count; wait = None; failed = me.new.failed; turns = me.new.turns; values = me.new.values; entries = me.new.entries; lost = me.new.lost; next = me.new.next } }
+    ensures turns { me.new.turns ≡ without (object_of at) me.old.turns }
+    ensures taken { IsTaken U.fits at me.old me.new }
+    ensures stored { HasStored p.now.traced me.old → HasStored p.now.traced me.new }
+{
+    if !try_take(rt, p, me, at, e) {
+        take_slowly(rt, p, me, at, e);
+    }
+}
+
+/// Tries the bit once. It answers whether it took the bit, and so made the event.
+#[inline]
+pub fn try_take<U: Uses, R: Wait>(
+    rt: &R,
+    p: &Package<U>,
+    me: &mut Thread<U>,
+    at: Object,
+    e: Event,
+) -> bool
+    requires of { me.old.table_id ≡ p.now.table_id }
+    requires named { HasObject p.now.layout at }
+    requires outside { IsOutside me.old }
+    requires may { MayMake at me.old.number me.old.wait e }
+    ensures lost { result ≡ false → me.new ≡ record me.old { failed = object_of at ∷ me.old.failed; turns = without (object_of at) me.old.turns; next = me.new.next } }
+    ensures event { result ≡ true → Makes e me.old me.new }
+    ensures won { result ≡ true → me.new ≡ record me.old { seen = me.new.seen; mine = me.new.mine; places = me.new.places; held = me.new.held; wait = None; failed = without (object_of at) me.old.failed; turns = without (object_of at) me.old.turns; values = me.new.values; entries = me.new.entries; lost = me.new.lost; next = me.new.next } }
+    ensures taken { result ≡ true → IsTaken U.fits at me.old me.new }
+    ensures stored { HasStored p.now.traced me.old → HasStored p.now.traced me.new }
+{
+    begin_event(rt, p, me);
+    if try_gate(p, me, at, e) == 0 {
+        end_event(p, me, Some(e));
+        true
+    } else {
+        end_event(p, me, None);
+        false
+    }
+}
+
+#[inline]
+fn try_gate<U: Uses>(p: &Package<U>, me: &mut Thread<U>, at: Object, e: Event) -> u64
+    requires of { me.old.table_id ≡ p.now.table_id }
+    requires named { HasObject p.now.layout at }
+    requires outside { (me.old.spin ≡ None) × (me.old.stand ≡ None) }
+    requires may { MayMake at me.old.number me.old.wait e }
+    requires pen { MayTell p.now.traced me.old.pen }
+    ensures lost { result ≢ 0 → me.new ≡ record me.old { failed = object_of at ∷ me.old.failed; turns = without (object_of at) me.old.turns } }
+    ensures event { result ≡ 0 → Makes e me.old me.new }
+    ensures won { result ≡ 0 → me.new ≡ record me.old { seen = me.new.seen; mine = me.new.mine; places = me.new.places; held = me.new.held; wait = None; failed = without (object_of at) me.old.failed; turns = without (object_of at) me.old.turns; pen = made me.old.pen; values = me.new.values } }
+    ensures taken { result ≡ 0 → IsTaken U.fits at me.old me.new }
+{
+    match at {
+        Object::Mutex(m) => try_bit(p, me, m, e),
+        Object::Sem(s) => try_p(p, me, s, e),
+    }
+}
+
+/// The way through the Nub, after a failed try.
+#[cold]
+#[inline(never)]
+fn take_slowly<U: Uses, R: Wait>(rt: &R, p: &Package<U>, me: &mut Thread<U>, at: Object, e: Event)
+    requires of { me.old.table_id ≡ p.now.table_id }
+    requires named { HasObject p.now.layout at }
+    requires outside { IsOutside me.old }
+    requires looked { me.old.cleared ≡ [] }
+    requires may { MayMake at me.old.number me.old.wait e }
+    ensures event { Makes e me.old me.new }
+    ensures rest { me.new ≡ record me.old { seen = me.new.seen; mine = me.new.mine; places = me.new.places; held = me.new.held; count = me.new.count; wait = None; failed = me.new.failed; turns = me.new.turns; values = me.new.values; entries = me.new.entries; lost = me.new.lost; next = me.new.next } }
+    ensures turns { me.new.turns ≡ without (object_of at) me.old.turns }
+    ensures taken { IsTaken U.fits at me.old me.new }
+    ensures stored { HasStored p.now.traced me.old → HasStored p.now.traced me.new }
+{
+    for _ in rt.forever() {
+        look_briefly(p, at);
+        if try_take(rt, p, me, at, e) {
+            return;
+        }
+        stand_in_line(rt, p, me, at);
+    }
+    unreachable!()
+}
+
+/// Waits a short while for the bit to be clear. It is no step, and tells nothing.
+fn look_briefly<U: Uses>(p: &Package<U>, at: Object)
+    requires { HasObject p.now.layout at }
+{
+    let backoff = Backoff::new();
+    for _ in 0..LOOKS {
+        if peek_bit(p, at) == 0 || backoff.is_completed() {
+            return;
+        }
+        backoff.snooze();
+    }
+}
+
+/// Queues the thread, tests the bit again, and sleeps if it is still set.
+fn stand_in_line<U: Uses, R: Wait>(rt: &R, p: &Package<U>, me: &mut Thread<U>, at: Object)
+    requires of { me.old.table_id ≡ p.now.table_id }
+    requires named { HasObject p.now.layout at }
+    requires outside { IsOutside me.old }
+    requires looked { me.old.cleared ≡ [] }
+    requires tried { mem (object_of at) me.old.failed ≡ true }
+    ensures rest { me.new ≡ record me.old { count = me.new.count; failed = without (object_of at) me.old.failed; turns = me.new.turns } }
+    ensures turns { without (object_of at) me.new.turns ≡ without (object_of at) me.old.turns }
+{
+    enter(rt, p, me, at, Why::TryFailed);
+    push(p, me, at);
+    if test_again(p, me, at) == 0 {
+        remove(p, me, at);
+        leave(rt, p, me, at);
+    } else {
+        leave(rt, p, me, at);
+        sleep(rt, p, me, false);
+    }
+}

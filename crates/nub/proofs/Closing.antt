@@ -1,0 +1,142 @@
+-- What the threads that a package begins and ends with know.
+use Rattle.std.proofs.Common.{◌≡◌, ◌≢◌, ◌⊎◌, Bool, ℕ, ◌+◌, ◌<◌, ◌≤◌, List, [], ◌∷◌, ◌++◌, length, get_or, replicate, map, sym, ap, ◌∙◌, subst, refl, arith, cond, eqb, true, false, suc, zero, Some, None, Option as Opt, rules}
+use mathlib.Core.Option.{some, some-injective, some-ne-none}
+use lib.ListN.{get_elem?}
+use Rattle.std.specs.List.{All}
+use Rattle.std.proofs.lemmas.List.{length-map, length-replicate}
+use Rattle.atomic_table.proofs.Lists.{at_map}
+use Rattle.larch_actions.specs.declared.event.Event.{Event}
+use Rattle.larch_actions.specs.Actions.{IsClosed, by_thread}
+use Rattle.nub_rule.specs.declared.package.Entry.{Entry}
+use Rattle.nub_rule.specs.declared.package.Stored.{Stored}
+use Rattle.nub_rule.specs.declared.view.Part.{Part}
+use Rattle.nub_rule.specs.Ends.{first_known, Leaves}
+use Rattle.nub_rule.specs.Items.{Each, Told, Chronicle, Shared, places_from}
+use Rattle.nub_rule.specs.Known.{Known, Shape, part_of, Holds, IsOut}
+use Rattle.nub.specs.Rest.{AtRest, IsOutside}
+use Rattle.nub.specs.Ended.{IsFirst, IsDone, IsWhole, KeepsLocks}
+use Rattle.nub.specs.History.{AreStored, entries_from, entries_of}
+
+none_there : {A : Type 0} (n m : ℕ) → m < n → get_elem? (replicate {A = Opt A} n None) m ≡ some None
+none_there zero m l = absurd (omega arith)
+none_there (suc n) zero l = refl
+none_there (suc n) (suc m) l = none_there n m (omega arith)
+
+none_held : {A : Type 0} (n m : ℕ) (x : A) → get_elem? (replicate {A = Opt A} n None) m ≡ some (Some x) → ⊥
+none_held zero m x e = some-ne-none (Some x) (sym e)
+none_held (suc n) zero x e = let f = some-injective None (Some x) e in cc
+none_held (suc n) (suc m) x e = none_held n m x e
+
+at_get_or : {A : Type 0} (xs : List A) (k : ℕ) (d : A) → k < length xs → get_elem? xs k ≡ some (get_or xs k d)
+at_get_or [] k d l = absurd (omega arith)
+at_get_or (x ∷ xs) zero d l = refl
+at_get_or (x ∷ xs) (suc k) d l = at_get_or xs k d (omega arith)
+
+some_at : {A : Type 0} (xs : List A) (k : ℕ) → k < length xs → (x : A) × (get_elem? xs k ≡ some x)
+some_at [] k l = absurd (omega arith)
+some_at (x ∷ xs) zero l = (x, refl)
+some_at (x ∷ xs) (suc k) l = some_at xs k (omega arith)
+
+abbrev entry : ℕ → Event → Entry
+entry k e = record { number = k; event = e }
+
+-- entries are the same where their numbers and events are
+same_entries : (xs ys : List Entry) → map (λ x. x.number) xs ≡ map (λ x. x.number) ys → map (λ x. x.event) xs ≡ map (λ x. x.event) ys → xs ≡ ys
+same_entries [] [] n e = refl
+same_entries [] (y ∷ ys) n e = cc
+same_entries (x ∷ xs) [] n e = cc
+same_entries (x ∷ xs) (y ∷ ys) n e =
+    let nh : x.number ≡ y.number = cc in
+    let eh : x.event ≡ y.event = cc in
+    let nt : map (λ x. x.number) xs ≡ map (λ x. x.number) ys = cc in
+    let et : map (λ x. x.event) xs ≡ map (λ x. x.event) ys = cc in
+    let rest = same_entries xs ys nt et in
+    let head : x ≡ y = ap (λ (k : ℕ). entry k x.event) nh ∙ ap (λ (v : Event). entry y.number v) eh in
+    cc
+
+numbers-at : (t k : ℕ) (e : Event) (es : List Event) (b : Bool) → map (λ x. x.number) (entries_from t (k + 1) es) ≡ places_from (k + 1) t es → map (λ x. x.number) (cond b (record { number = k; event = e } ∷ entries_from t (k + 1) es) (entries_from t (k + 1) es)) ≡ cond b (k ∷ places_from (k + 1) t es) (places_from (k + 1) t es)
+numbers-at t k e es true h = ap (λ (l : List ℕ). k ∷ l) h
+numbers-at t k e es false h = h
+
+events-at : (t k : ℕ) (e : Event) (es : List Event) (b : Bool) → map (λ x. x.event) (entries_from t (k + 1) es) ≡ by_thread t es → map (λ x. x.event) (cond b (record { number = k; event = e } ∷ entries_from t (k + 1) es) (entries_from t (k + 1) es)) ≡ cond b (e ∷ by_thread t es) (by_thread t es)
+events-at t k e es true h = ap (λ (l : List Event). e ∷ l) h
+events-at t k e es false h = h
+
+numbers-of : (t k : ℕ) (es : List Event) → map (λ x. x.number) (entries_from t k es) ≡ places_from k t es
+numbers-of t k [] = refl
+numbers-of t k (e ∷ es) = numbers-at t k e es (eqb e.thread.0 t) (numbers-of t (k + 1) es)
+
+events-of : (t k : ℕ) (es : List Event) → map (λ x. x.event) (entries_from t k es) ≡ by_thread t es
+events-of t k [] = refl
+events-of t k (e ∷ es) = events-at t k e es (eqb e.thread.0 t) (events-of t (k + 1) es)
+
+module _ {T H W : Type 0} where
+  first-is : (p : Shape W) (begin : W → ℕ → H) (n : ℕ) → IsFirst p begin n (first_known {T = T} {H = H} p.table_id p.world begin n)
+  first-is p begin n = record {
+    number = refl;
+    rest = record {
+      of = refl;
+      outside = record { spin = refl; queue = refl; owed = refl; left = refl; stand = refl; pen = refl };
+      wait = refl;
+      raised = refl;
+      calling = refl;
+      turns = refl;
+      cleared = refl;
+      looked = refl;
+      taken = λ m x h. absurd (none_held 64 m x h);
+      stored = λ traced lost. (refl, refl);
+    };
+    world = refl;
+    seen = refl;
+    mine = refl;
+    lacks = λ m l. none_there 64 m l;
+    size = length-replicate {A = Opt T} 64 None;
+    none = λ m x h. none_held 64 m x h;
+    share = refl;
+  }
+
+  pub first_is : (p : Shape W) (begin : W → ℕ → H) (n : ℕ) (t : Known T H W) → t ≡ first_known p.table_id p.world begin n → IsFirst p begin n t
+  first_is p begin n t e = let P : Known T H W → Type 0 = λ k. IsFirst p begin n k in subst P (sym e) (first-is p begin n)
+
+  shares-are : (threads : List (Known T H W)) (shares : List H) → length shares ≡ length (map (λ t. part_of t) threads) → Each (Shared shares) (map (λ t. part_of t) threads) → map (λ t. t.share) threads ≡ map (λ s. Some s) shares
+  shares-are [] [] n each = refl
+  shares-are [] (s ∷ shares) n each = absurd (omega arith)
+  shares-are (t ∷ threads) [] n each = absurd (omega arith)
+  shares-are (t ∷ threads) (s ∷ shares) n each =
+      let own = each 0 (part_of t) refl in
+      let same : own.0 ≡ s = sym (some-injective s own.0 own.2) in
+      let rest = shares-are threads shares (omega arith) (λ k. each (suc k)) in
+      let head : t.share ≡ Some s = own.1 ∙ ap (λ (z : H). Some z) same in
+      cc
+
+  pub keeps_locks : (holds : List T → List H → Type 0) (threads : List (Known T H W)) (values : List T) → Leaves holds (map (λ t. part_of t) threads) values → KeepsLocks holds threads values
+  keeps_locks holds threads values l = record { shares = l.shares; each_share = shares-are threads l.shares l.each_share l.shared; kept = l.kept }
+
+  pub whole : (holds : List T → List H → Type 0) (threads : List (Known T H W)) (values : List T) (l : Leaves holds (map (λ t. part_of t) threads) values) → IsWhole threads l.log
+  whole holds threads values l = record {
+    closed = (l.spec, l.run, l.nothing_held, l.nothing_begun);
+    seen = λ n t e. (l.history.each n (part_of t) (at_map (λ t. part_of t) threads n t e)).begins;
+    own = λ n t e. (l.history.each n (part_of t) (at_map (λ t. part_of t) threads n t e)).own;
+  }
+
+  -- what the closed threads have stored, where none of it is lost, is the history
+  pub are_stored : (holds : List T → List H → Type 0) (p : Shape W) (threads : List (Known T H W)) (values : List T) (stored : List Stored) (l : Leaves holds (map (λ t. part_of t) threads) values) → Each (IsDone p) threads → p.traced ≡ true
+      → map (λ s. s.entries.items) stored ≡ map (λ t. t.entries) threads → map (λ s. s.lost) stored ≡ map (λ t. t.lost) threads → AreStored l.log stored
+  are_stored holds p threads values stored l done traced entries losses =
+      let n0 : length (map (λ s. s.entries.items) stored) ≡ length stored = length-map stored (λ s. s.entries.items) in
+      let n1 : length (map (λ t. t.entries) threads) ≡ length threads = length-map threads (λ t. t.entries) in
+      let n2 : length (map (λ t. part_of t) threads) ≡ length threads = length-map threads (λ t. part_of t) in
+      let n3 : length (map (λ s. s.entries.items) stored) ≡ length (map (λ t. t.entries) threads) = ap length entries in
+      record {
+        threads = λ k e m. let a = l.history.people k (get_or l.log k e) (at_get_or l.log k e m) in omega arith;
+        each = λ t d m whole.
+            let there = some_at threads t (omega arith) in
+            let k = there.0 in
+            let s = get_or stored t d in
+            let at = at_get_or stored t d m in
+            let same : s.entries.items ≡ k.entries = some-injective s.entries.items k.entries (sym (at_map (λ s. s.entries.items) stored t s at) ∙ (ap (λ xs. get_elem? xs t) entries ∙ at_map (λ t. t.entries) threads t k there.1)) in
+            let lost : s.lost ≡ k.lost = some-injective s.lost k.lost (sym (at_map (λ s. s.lost) stored t s at) ∙ (ap (λ xs. get_elem? xs t) losses ∙ at_map (λ t. t.lost) threads t k there.1)) in
+            let own = (done t k there.1).rest.stored traced (sym lost ∙ whole) in
+            let log = l.history.each t (part_of k) (at_map (λ t. part_of t) threads t k there.1) in
+            same ∙ same_entries k.entries (entries_of t l.log) (own.0 ∙ (sym log.placed ∙ sym (numbers-of t 0 l.log))) (own.1 ∙ (sym log.own ∙ sym (events-of t 0 l.log)));
+      }

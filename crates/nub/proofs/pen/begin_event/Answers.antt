@@ -1,0 +1,5 @@
+use Rattle.std.proofs.Common.{ap}
+use Rattle.nub.proofs.pen.begin_event.Goals as goal
+
+pub returns-then-traced-clause-traced : goal.returns-then-traced-clause-traced
+returns-then-traced-clause-traced g c = λ traced. (c.begin_traced.new.me.next, ap (λ k. k.pen) c.begin_traced.ensures.read, c.begin_traced.ensures.below)

@@ -1,0 +1,9 @@
+use Rattle.std.proofs.Common.{ap, sym, ◌∙◌}
+use Rattle.nub_rule.specs.Ends.{first_known}
+use Rattle.nub.proofs.Closing.{first_is}
+use Rattle.nub.proofs.whole.open_package.Goals as goal
+
+pub returns-clause-threads : goal.returns-clause-threads
+returns-clause-threads g c = λ n t e.
+    let p = c.in_ok-package.package in
+    first_is p g.U.Uses.begin n t (c.in_ok-package.ensures.threads n t e ∙ ap (λ w. first_known p.table_id w g.U.Uses.begin n) (sym c.in_ok-package.ensures.package.2))

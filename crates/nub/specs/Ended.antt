@@ -1,0 +1,55 @@
+-- What a package begins with, and what contracts see of it once it is closed.
+use Rattle.std.specs.Prelude.{◌≡◌, ℕ, ◌<◌, Bool, true, List, [], map, length, Option as Opt, Some, None}
+use Rattle.std.proofs.Common.{Vec, Global}
+use mathlib.Core.Option.{some}
+use lib.ListN.{get_elem?}
+use Rattle.larch_actions.specs.declared.event.Layout.{Layout}
+use Rattle.larch_actions.specs.declared.event.Event.{Event}
+use Rattle.larch_actions.specs.Actions.{IsClosed, StartsWith, by_thread}
+use Rattle.nub_rule.specs.Known.{Known, Shape}
+use Rattle.nub_rule.specs.Items.{Each}
+use Rattle.nub.specs.Rest.{AtRest}
+
+-- the layout, the last released value of each mutex, and the whole history of a traced run
+pub record Ended (T : Type 0) : Type 0 where
+  pub layout : Layout
+  pub values : List T
+  pub trace : Opt (List Event)
+
+abbrev pub trace_of : Opt (Vec Event Global) → Opt (List Event)
+trace_of None = None
+trace_of (Some v) = Some v.items
+
+abbrev pub ended : {T : Type 0} → Layout → Vec T Global → Opt (Vec Event Global) → Ended T
+ended l values trace = record { layout = l; values = values.items; trace = trace_of trace }
+
+module _ {T H W : Type 0} where
+  -- the thread n of the package, which has done nothing and has its first share
+  pub record IsFirst (p : Shape W) (begin : W → ℕ → H) (n : ℕ) (t : Known T H W) : Type 0 where
+    pub number : t.number ≡ n
+    pub rest : AtRest p t
+    pub world : t.world ≡ Some p.world
+    pub seen : t.seen ≡ []
+    pub mine : t.mine ≡ []
+    pub lacks : (m : ℕ) → m < 64 → get_elem? t.held m ≡ some None
+    pub size : length t.held ≡ 64
+    pub none : (m : ℕ) (x : T) → ¬ (get_elem? t.held m ≡ some (Some x))
+    pub share : t.share ≡ Some (begin p.world n)
+
+  -- the thread n of the package, which holds no mutex
+  pub record IsDone (p : Shape W) (n : ℕ) (t : Known T H W) : Type 0 where
+    pub number : t.number ≡ n
+    pub rest : AtRest p t
+    pub lacks : (m : ℕ) (x : T) → ¬ (get_elem? t.held m ≡ some (Some x))
+
+  -- the lock invariant holds of the values and the shares of the threads
+  pub record KeepsLocks (holds : List T → List H → Type 0) (threads : List (Known T H W)) (values : List T) : Type 0 where
+    pub shares : List H
+    pub each_share : map (λ t. t.share) threads ≡ map (λ s. Some s) shares
+    pub kept : holds values shares
+
+  -- the list is the whole history of the threads: it is legal and closed, each has seen a beginning of it, and its part by each is that thread's own events
+  pub record IsWhole (threads : List (Known T H W)) (h : List Event) : Type 0 where
+    pub closed : IsClosed h
+    pub seen : Each (λ n t. StartsWith h t.seen) threads
+    pub own : Each (λ n t. by_thread n h ≡ t.mine) threads

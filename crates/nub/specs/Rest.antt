@@ -1,0 +1,46 @@
+-- Where a thread has no call open, and what a call adds.
+use Rattle.std.specs.Prelude.{◌≡◌, ℕ, Bool, true, false, List, [], ◌∷◌, ◌++◌, map, Some, None}
+use Rattle.larch_actions.specs.declared.event.Event.{Event}
+use Rattle.larch_actions.specs.Actions.{IsLegal, StartsWith, by_thread}
+use Rattle.nub_rule.specs.declared.view.Pen.TheVariants.{No}
+use Rattle.nub_rule.specs.Known.{Known, Shape, Holds, IsOut}
+
+module _ {T H W : Type 0} where
+  -- the thread has no spin word and no pen, owes nobody a ready word, and stands in no queue
+  pub record IsOutside (k : Known T H W) : Type 0 where
+    pub spin : k.spin ≡ None
+    pub queue : k.queue ≡ []
+    pub owed : k.owed ≡ []
+    pub left : k.left ≡ []
+    pub stand : k.stand ≡ None
+    pub pen : k.pen ≡ No
+
+  -- in a traced package each own event was stored with its place, unless the list is lost
+  abbrev pub HasStored : Bool → Known T H W → Type 0
+  HasStored traced k = traced ≡ true → k.lost ≡ false → (map (λ x. x.number) k.entries ≡ k.places) × (map (λ x. x.event) k.entries ≡ k.mine)
+
+  -- the thread is of the package, and no call of it is open
+  pub record AtRest (p : Shape W) (k : Known T H W) : Type 0 where
+    pub of : k.table_id ≡ p.table_id
+    pub outside : IsOutside k
+    pub wait : k.wait ≡ None
+    pub raised : k.raised ≡ None
+    pub calling : k.calling ≡ None
+    pub turns : k.turns ≡ []
+    pub cleared : k.cleared ≡ []
+    pub looked : k.looked ≡ []
+    pub taken : (m : ℕ) (x : T) → Holds k m x → IsOut k m
+    pub stored : HasStored p.traced k
+
+  -- a call added these own events and then e: the history that was seen grew to a legal one that ends with e, and the own events are the thread's part of it
+  pub record Adds (es : List Event) (e : Event) (a b : Known T H W) : Type 0 where
+    pub mine : b.mine ≡ (a.mine ++ es) ++ e ∷ []
+    pub legal : IsLegal b.seen
+    pub grows : StartsWith b.seen a.seen
+    pub ends : (before : List Event) × (b.seen ≡ before ++ e ∷ [])
+    pub own : by_thread b.number b.seen ≡ b.mine
+
+  -- the thread is the same, in the same world
+  pub record IsSame (a b : Known T H W) : Type 0 where
+    pub number : b.number ≡ a.number
+    pub world : b.world ≡ a.world

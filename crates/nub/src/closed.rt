@@ -1,0 +1,48 @@
+//! What is left of a package that was closed.
+ghost use Rattle.std.specs.Prelude.{◌≡◌, MatchOption};
+
+use larch_actions::{Event, Layout};
+use nub_rule::Uses;
+use std::marker::Model;
+
+/// What is left of a package that was closed. Only closing makes one.
+#[derive(Drop)]
+pub struct Closed<U: Uses> {
+    pub(crate) layout: Layout,
+    pub(crate) values: Vec<U::Value>,
+    pub(crate) trace: Option<Vec<Event>>,
+}
+
+impl<U: Uses> Model for Closed<U> {
+    ghost use Rattle.nub.specs.Ended.{Ended, ended};
+
+    ghost Value = { Ended U.Value };
+
+    ghost view = { λ c. ended c.layout c.values c.trace };
+}
+
+impl<U: Uses> Closed<U> {
+    /// The layout of the package.
+    pub fn layout(&self) -> Layout
+        ensures { result ≡ self.now.layout }
+    {
+        self.layout
+    }
+
+    /// The value of each mutex, as it was last released.
+    pub fn values(&self) -> &[U::Value]
+        ensures { result.now ≡ self.now.values }
+    {
+        self.values.as_slice()
+    }
+
+    /// The whole history of the package, where the run was traced.
+    pub fn trace(&self) -> Option<&[Event]>
+        ensures { MatchOption result (self.now.trace ≡ None) (λ x. self.now.trace ≡ Some x.now) }
+    {
+        match &self.trace {
+            Some(events) => Some(events.as_slice()),
+            None => None,
+        }
+    }
+}

@@ -1,0 +1,22 @@
+//! The Nub: opening and closing a package, spin words, queues, sleeping and the pen.
+//!
+//! Promises: a package opens with threads that have done nothing and have their first shares; a traced package closes with the whole
+//! history of its threads, legal and closed. Spin words are taken only for a reason. Stands on the steps of `nub_rule` and sleeps by
+//! `crossbeam_utils`. Nothing is said of progress, fairness or time.
+#![tactic(auto)]
+
+mod closed;
+mod pen;
+mod queue;
+mod sleeping;
+mod spin;
+mod trace_order;
+mod whole;
+
+pub use closed::Closed;
+pub use pen::{begin_event, end_event};
+pub use queue::{pop, push, remove, wake};
+pub use sleeping::sleep;
+pub use spin::{enter, leave};
+pub use trace_order::in_order;
+pub use whole::{close_package, open_package};

@@ -1,0 +1,78 @@
+//! The pen: in a traced package a step that may be an event is made with it.
+ghost use Rattle.std.specs.Prelude.{◌≡◌, ◌≢◌, ◌<◌, ℕ, ◌++◌, ◌∷◌, [], Some, None, true, false};
+ghost use Rattle.larch_actions.specs.declared.event.Event.{Event};
+ghost use Rattle.nub_rule.specs.declared.view.Pen.TheVariants.{No, Taken, Read, Made};
+ghost use Rattle.nub_rule.specs.Parts.{MayTell};
+
+use crossbeam_utils::Backoff;
+use larch_actions::Event;
+use nub_rule::{
+    Package, Thread, Uses, give_pen, next_number, read_number, store_event, take_pen, write_number,
+};
+use std::sync::Wait;
+
+/// In a traced package takes the pen and reads the number of the next event. In an untraced one it does nothing.
+#[inline]
+pub fn begin_event<U: Uses, R: Wait>(rt: &R, p: &Package<U>, me: &mut Thread<U>)
+    requires of { me.old.table_id ≡ p.now.table_id }
+    requires out { me.old.pen ≡ No }
+    ensures pen { me.new ≡ record me.old { pen = me.new.pen; next = me.new.next } }
+    ensures traced { MayTell p.now.traced me.new.pen }
+    ensures number { p.now.traced ≡ true → me.new.pen ≡ Read me.new.next }
+    ensures untraced { p.now.traced ≡ false → me.new.pen ≡ No }
+{
+    if p.traced() {
+        begin_traced(rt, p, me);
+    }
+}
+
+/// In a traced package stores the event that was made, under its number, and gives the pen back. In an untraced one it does nothing.
+#[inline]
+pub fn end_event<U: Uses>(p: &Package<U>, me: &mut Thread<U>, made: Option<Event>)
+    requires of { me.old.table_id ≡ p.now.table_id }
+    requires pen { p.now.traced ≡ true → (me.old.next < 18446744073709551615) × (made ≡ None → me.old.pen ≡ Read me.old.next) × ((e : Event) → made ≡ Some e → me.old.pen ≡ Made me.old.next) }
+    requires out { p.now.traced ≡ false → me.old.pen ≡ No }
+    ensures rest { me.new ≡ record me.old { pen = No; entries = me.new.entries; lost = me.new.lost } }
+    ensures none { made ≡ None → (me.new.entries ≡ me.old.entries) × (me.new.lost ≡ me.old.lost) }
+    ensures stored { (e : Event) → made ≡ Some e → p.now.traced ≡ true → me.new.lost ≡ false → (me.old.lost ≡ false) × (me.new.entries ≡ me.old.entries ++ record { number = me.old.next; event = e } ∷ []) }
+{
+    if p.traced() {
+        end_traced(p, me, made);
+    }
+}
+
+fn begin_traced<U: Uses, R: Wait>(rt: &R, p: &Package<U>, me: &mut Thread<U>)
+    requires of { me.old.table_id ≡ p.now.table_id }
+    requires traced { p.now.traced ≡ true }
+    requires out { me.old.pen ≡ No }
+    ensures read { me.new ≡ record me.old { pen = Read me.new.next; next = me.new.next } }
+    ensures below { me.new.next < 18446744073709551615 }
+{
+    let backoff = Backoff::new();
+    for _ in rt.forever() {
+        if take_pen(p, me) == 0 {
+            if read_number(p, me) < u64::MAX {
+                return;
+            }
+            give_pen(p, me);
+        }
+        backoff.snooze();
+    }
+    unreachable!()
+}
+
+fn end_traced<U: Uses>(p: &Package<U>, me: &mut Thread<U>, made: Option<Event>)
+    requires of { me.old.table_id ≡ p.now.table_id }
+    requires below { me.old.next < 18446744073709551615 }
+    requires pen { (made ≡ None → me.old.pen ≡ Read me.old.next) × ((e : Event) → made ≡ Some e → me.old.pen ≡ Made me.old.next) }
+    ensures rest { me.new ≡ record me.old { pen = No; entries = me.new.entries; lost = me.new.lost } }
+    ensures none { made ≡ None → (me.new.entries ≡ me.old.entries) × (me.new.lost ≡ me.old.lost) }
+    ensures stored { (e : Event) → made ≡ Some e → me.new.lost ≡ false → (me.old.lost ≡ false) × (me.new.entries ≡ me.old.entries ++ record { number = me.old.next; event = e } ∷ []) }
+{
+    if let Some(event) = made {
+        store_event(me, event);
+        let number = next_number(me);
+        write_number(p, me, number + 1);
+    }
+    give_pen(p, me);
+}

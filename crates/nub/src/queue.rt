@@ -1,0 +1,59 @@
+//! The queue of an object, under its spin word.
+ghost use Rattle.std.specs.Prelude.{◌≡◌, ◌<◌, ◌∷◌, ◌++◌, [], Some, None, true, false};
+ghost use Rattle.larch_actions.specs.Sets.{mem, without};
+ghost use Rattle.nub_rule.specs.declared.view.Stage.TheVariants.{Pushed};
+ghost use Rattle.nub_rule.specs.Known.{StandsAs};
+ghost use Rattle.larch_actions.specs.declared.event.ThreadId.{ThreadId};
+ghost use Rattle.nub_rule.specs.Objects.{object_of, HasObject};
+ghost use Rattle.nub_rule.specs.Parts.{IsClear};
+ghost use Rattle.nub_rule.specs.Plays.{behind, less};
+
+use larch_actions::ThreadId;
+use nub_rule::{Object, Package, Thread, Uses, pop_queue, push_queue, set_ready, take_out};
+
+/// Puts the thread last into the queue.
+pub fn push<U: Uses>(p: &Package<U>, me: &mut Thread<U>, at: Object)
+    requires of { me.old.table_id ≡ p.now.table_id }
+    requires named { HasObject p.now.layout at }
+    requires inside { me.old.spin ≡ Some (object_of at) }
+    requires outside { me.old.stand ≡ None }
+    ensures { me.new ≡ record me.old { queue = me.old.queue ++ me.old.number ∷ []; left = me.old.left ++ me.old.number ∷ []; stand = Some record { at = object_of at; stage = Pushed } } }
+{
+    push_queue(p, me, at);
+}
+
+/// Takes the thread out of the queue, after it found the bit clear. It answers whether the thread was in it.
+pub fn remove<U: Uses>(p: &Package<U>, me: &mut Thread<U>, at: Object) -> bool
+    requires of { me.old.table_id ≡ p.now.table_id }
+    requires named { HasObject p.now.layout at }
+    requires inside { me.old.spin ≡ Some (object_of at) }
+    requires clear { StandsAs (λ s. (s.at ≡ object_of at) × IsClear s.stage) me.old }
+    ensures there { result ≡ mem me.old.number me.old.queue }
+    ensures out { result ≡ true → me.new ≡ record me.old { queue = less me.old.number me.old.queue; left = less me.old.number me.old.left; stand = None; turns = object_of at ∷ me.old.turns } }
+    ensures same { result ≡ false → me.new ≡ me.old }
+{
+    take_out(p, me, at)
+}
+
+/// Takes the first out of the queue. The thread owes it its ready word then.
+pub fn pop<U: Uses>(p: &Package<U>, me: &mut Thread<U>, at: Object) -> Option<ThreadId>
+    requires of { me.old.table_id ≡ p.now.table_id }
+    requires named { HasObject p.now.layout at }
+    requires inside { me.old.spin ≡ Some (object_of at) }
+    ensures none { result ≡ None → me.old.queue ≡ [] }
+    ensures first { (t : ThreadId) → result ≡ Some t → (me.old.queue ≡ t.0 ∷ behind me.old.queue) × (me.new.owed ≡ me.old.owed ++ t.0 ∷ []) }
+    ensures out { me.new ≡ record me.old { queue = behind me.old.queue; left = behind me.old.left; owed = me.new.owed; cleared = without (object_of at) me.old.cleared; looked = without (object_of at) me.old.looked } }
+    ensures owes { result ≡ None → me.new.owed ≡ me.old.owed }
+{
+    pop_queue(p, me, at)
+}
+
+/// Makes a thread ready that was popped, and wakes it.
+pub fn wake<U: Uses>(p: &Package<U>, me: &mut Thread<U>, t: ThreadId)
+    requires of { me.old.table_id ≡ p.now.table_id }
+    requires owed { mem t.0 me.old.owed ≡ true }
+    requires named { t.0 < 64 }
+    ensures { me.new ≡ record me.old { owed = without t.0 me.old.owed } }
+{
+    set_ready(p, me, t);
+}

@@ -1,0 +1,30 @@
+//! Sleeping until another thread makes this one ready.
+ghost use Rattle.std.specs.Prelude.{◌≡◌, ◌<◌, ◌≤◌, ◌∷◌, [], Some, None, true, false};
+ghost use Rattle.nub_rule.specs.declared.view.Stand.{Stand};
+ghost use Rattle.nub_rule.specs.Known.{StandsAs};
+ghost use Rattle.nub_rule.specs.Parts.{HasTested};
+
+use nub_rule::{Package, Thread, Uses, clear_ready, park, read_ready};
+use std::sync::Wait;
+
+/// Sleeps until the ready word is found set, and clears it.
+pub fn sleep<U: Uses, R: Wait>(rt: &R, p: &Package<U>, me: &mut Thread<U>, alertable: bool) -> bool
+    requires of { me.old.table_id ≡ p.now.table_id }
+    requires plain { alertable ≡ false }
+    requires outside { me.old.spin ≡ None }
+    requires tested { StandsAs (λ s. HasTested s.stage) me.old }
+    requires looked { me.old.cleared ≡ [] }
+    ensures ready { result ≡ true }
+    ensures at_gate { (s : Stand) → me.old.stand ≡ Some s → s.at < 128 → me.new ≡ record me.old { stand = None; turns = s.at ∷ me.old.turns } }
+    ensures at_cond { (s : Stand) → me.old.stand ≡ Some s → 128 ≤ s.at → me.new ≡ record me.old { stand = None } }
+{
+    let _ = alertable;
+    for _ in rt.forever() {
+        if read_ready(p, me) != 0 {
+            clear_ready(p, me);
+            return true;
+        }
+        park(rt, me);
+    }
+    unreachable!()
+}

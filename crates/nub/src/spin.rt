@@ -1,0 +1,44 @@
+//! Into the Nub and out of it, under a spin word.
+ghost use Rattle.std.specs.Prelude.{◌≡◌, ◌<◌, [], length, Some, None, true};
+ghost use Rattle.larch_actions.specs.Sets.{mem, without};
+ghost use Rattle.nub_rule.specs.Items.{Small};
+ghost use Rattle.nub_rule.specs.Objects.{object_of, HasObject};
+ghost use Rattle.nub_rule.specs.Parts.{stands_at};
+ghost use Rattle.nub_rule.specs.Plays.{HasReason};
+
+use crossbeam_utils::Backoff;
+use nub_rule::{Object, Package, Thread, Uses, Why, give_spin, take_spin};
+use std::sync::Wait;
+
+/// Takes the spin word of the object, for this reason.
+pub fn enter<U: Uses, R: Wait>(rt: &R, p: &Package<U>, me: &mut Thread<U>, at: Object, why: Why)
+    requires of { me.old.table_id ≡ p.now.table_id }
+    requires named { HasObject p.now.layout at }
+    requires outside { me.old.spin ≡ None }
+    requires reason { HasReason (object_of at) me.old.failed me.old.looked why }
+    ensures inside { me.new ≡ record me.old { spin = Some (object_of at); queue = me.new.queue; owed = []; left = me.new.queue; count = me.new.count; failed = without (object_of at) me.old.failed } }
+    ensures small { Small 64 me.new.queue }
+    ensures there { mem me.old.number me.new.queue ≡ true → stands_at me.old.stand (object_of at) ≡ true }
+{
+    let backoff = Backoff::new();
+    for _ in rt.forever() {
+        if take_spin(p, me, at, why) == 0 {
+            return;
+        }
+        backoff.snooze();
+    }
+    unreachable!()
+}
+
+/// Gives the spin word of the object back.
+pub fn leave<U: Uses, R: Wait>(rt: &R, p: &Package<U>, me: &mut Thread<U>, at: Object)
+    requires of { me.old.table_id ≡ p.now.table_id }
+    requires named { HasObject p.now.layout at }
+    requires inside { me.old.spin ≡ Some (object_of at) }
+    requires owes_none { me.old.owed ≡ [] }
+    requires even { me.old.left ≡ me.old.queue }
+    ensures { me.new ≡ record me.old { spin = None; queue = []; left = [] } }
+{
+    let _ = rt;
+    give_spin(p, me, at);
+}

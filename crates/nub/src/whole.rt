@@ -1,0 +1,65 @@
+//! Opening and closing a package.
+ghost use Rattle.std.specs.Prelude.{◌≡◌, ℕ, List, Some, None, true, false, length, IfOk, is_ok};
+ghost use Rattle.larch_actions.specs.declared.event.Event.{Event};
+ghost use Rattle.larch_actions.specs.Layout.{IsLawful};
+ghost use Rattle.nub_rule.specs.Ends.{firsts};
+ghost use Rattle.nub_rule.specs.Items.{Each};
+ghost use Rattle.nub.specs.Ended.{IsFirst, IsDone, KeepsLocks, IsWhole};
+
+use super::closed::Closed;
+use super::trace_order::in_order;
+use larch_actions::Layout;
+use nub_rule::{Package, Remains, Thread, Uses};
+use std::alloc::{AllocError, Global};
+
+/// A package and its threads, in order of their numbers. Its one refusal is want of memory, and then the values are dropped.
+pub fn open_package<U: Uses>(
+    alloc: Global,
+    layout: Layout,
+    world: &U::World,
+    values: Vec<U::Value>,
+    traced: bool,
+) -> Result<(Package<U>, Vec<Thread<U>>), AllocError>
+    requires lawful { IsLawful layout }
+    requires values { length values.items ≡ layout.mutexes }
+    requires holds { U.holds world.now values.items (firsts (U.begin world.now) layout.threads) }
+    ensures package { IfOk result (λ o. (o.0.layout ≡ layout) × (o.0.traced ≡ traced) × (o.0.world ≡ world.now)) }
+    ensures count { IfOk result (λ o. length o.1.items ≡ layout.threads) }
+    ensures threads { IfOk result (λ o. Each (IsFirst o.0 U.begin) o.1.items) }
+{
+    let (package, threads) = nub_rule::open_package(alloc, layout, world, values, traced)?;
+    Ok((package, threads))
+}
+
+/// Closes a package whose threads have all come back, in order of their numbers, each at rest and without a mutex.
+///
+/// In a traced run its one refusal is want of memory, here or before, where a thread's list lost an entry. The values are then dropped.
+pub fn close_package<U: Uses>(
+    p: Package<U>,
+    threads: Vec<Thread<U>>,
+) -> Result<Closed<U>, AllocError>
+    requires count { length threads.items ≡ p.layout.threads }
+    requires threads { Each (IsDone p) threads.items }
+    ensures layout { IfOk result (λ c. c.layout ≡ p.layout) }
+    ensures values { IfOk result (λ c. (length c.values ≡ p.layout.mutexes) × KeepsLocks (U.holds p.world) threads.items c.values) }
+    ensures untraced { p.traced ≡ false → (is_ok result ≡ true) × IfOk result (λ c. c.trace ≡ None) }
+    ensures traced { p.traced ≡ true → IfOk result (λ c. (h : List Event) × (c.trace ≡ Some h) × IsWhole threads.items h) }
+{
+    let alloc = *threads.allocator();
+    let layout = p.layout();
+    let traced = p.traced();
+    let Remains { values, stored } = nub_rule::close_package(alloc, p, threads);
+    if !traced {
+        return Ok(Closed {
+            layout,
+            values,
+            trace: None,
+        });
+    }
+    let events = in_order(alloc, stored.as_slice())?;
+    Ok(Closed {
+        layout,
+        values,
+        trace: Some(events),
+    })
+}

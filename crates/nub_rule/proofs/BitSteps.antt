@@ -1,0 +1,294 @@
+-- The steps on the bit of a mutex keep the rule.
+use Rattle.std.proofs.Common.{Bool, true, false, cond, eqb, ◌≡◌, ◌≢◌, ℕ, ◌+◌, ◌<◌, ◌≤◌, ◌⊎◌, List, [], ◌∷◌, ◌++◌, length, get_or, set, refl, sym, ap, ◌∙◌, subst, inl, inr, ⊎_elim, arith, length-set, length-append, get_or-set_same, Some, None, eq-eqb, ne_eqb}
+use Rattle.std.specs.Prelude.{Option as Opt}
+use mathlib.Core.Logic.{dite}
+use mathlib.Core.Option.{Option, some, none, some-injective, some-ne-none}
+use native.Mathlib.Decide.{ℕ_discrete}
+use prog.Atomic.{either}
+use lib.ListN.{get_elem?}
+use Rattle.larch_actions.specs.declared.event.Event.{Event}
+use Rattle.larch_actions.specs.declared.event.Action.{Action}
+use Rattle.larch_actions.specs.declared.event.Action.TheVariants.{Acquire, Resume, AlertReturn, Release}
+use Rattle.larch_actions.specs.declared.event.Layout.{Layout}
+use Rattle.larch_actions.specs.declared.event.Pending.{Pending}
+use Rattle.larch_actions.specs.declared.event.Pending.TheVariants.{Nothing, Waiting, AlertWaiting}
+use Rattle.larch_actions.specs.Actions.{Spec, at_first, Acts, MayAct, IsRun, by_thread, put}
+use Rattle.larch_actions.specs.Sets.{mem, without}
+use Rattle.atomic_table.specs.Table.{Me, step, Allows, keeps, takes, gives, put_back, rest}
+use Rattle.atomic_table.proofs.Lists.{set_else, set_here}
+use Rattle.nub_rule.specs.declared.rule.Slot.{Slot}
+use Rattle.nub_rule.specs.declared.rule.Slot.TheVariants.{Value}
+use Rattle.nub_rule.specs.declared.view.Part.{Part}
+use Rattle.nub_rule.specs.declared.view.Pen.TheVariants.{Read}
+use Rattle.nub_rule.specs.declared.view.Wait.{Wait}
+use Rattle.nub_rule.specs.declared.view.View.{View}
+use Rattle.nub_rule.specs.declared.view.Kind.TheVariants.{Member}
+use Rattle.nub_rule.specs.Items.{Each, Marks, Flag, Says, Standing, Current, Shared, Owned, Tells, Shows, Pens, Core}
+use Rattle.nub_rule.specs.Parts.{is_at, Got, Has, Lacks, made, MayTell, waits_on, counts_in, pending_of}
+use Rattle.nub_rule.specs.Places.{bit_at, value_at, queue_at, cond_object}
+use Rattle.nub_rule.specs.Plays.{with_part, told, Grows, event, acquire_event, release_event, taken_action, MayTake, tried, freed, Won, Freed, Becomes, MayFree}
+use Rattle.nub_rule.specs.Rule.{FitsAs, IsKept}
+use Rattle.nub_rule.proofs.Each.{at_within, at_below, each-set, put-here, put-else}
+use Rattle.nub_rule.proofs.Members.{Steps, member_steps}
+use Rattle.nub_rule.proofs.Runs.{leads-snoc}
+use Rattle.nub_rule.proofs.Frames.{SameShown, other, bit-spins, bit-ready, bit-pen, mutex-shown, sizes-frame, told-event, shared-frame, spins-frame, lines-frame}
+use Rattle.nub_rule.proofs.Standing.{not_true, some_none, stand_none, mem-behind, lines-same}
+use Rattle.nub_rule.proofs.SpinSteps.{nobody-by, one-by}
+use Rattle.nub_rule.proofs.Penning.{either_way, pens-event, numbered-by}
+use Rattle.nub_rule.proofs.Beside.{Alike, still}
+use Rattle.nub_rule.proofs.Handling.{same_slot}
+use Rattle.nub_rule.proofs.Owning.{lacking, owned-take, owned-give}
+use Rattle.nub_rule.proofs.Showing.{shows-wins, shows-clears}
+
+both_false : (b : Bool) → cond b false false ≡ false
+both_false true = refl
+both_false false = refl
+
+counts-none : (w : Wait) (c k : ℕ) → w.member ≡ None → counts_in (Some w) c k ≡ false
+counts-none w c k e = ap (λ m. cond (eqb w.cond.0 c) (is_at m k) false) e ∙ both_false (eqb w.cond.0 c)
+
+value_same : {T : Type 0} (k : ℕ) (x y : T) (xs : List (ℕ × Slot T)) → (k, Value (Some x)) ∷ xs ≡ (k, Value (Some y)) ∷ xs → x ≡ y
+value_same {T} k x y xs e = let a : Value (Some x) ≡ Value (Some y) = same_slot k (Value (Some x)) (Value (Some y)) ((k, Value (Some x)) ∷ xs) xs refl e in let b : Some x ≡ Some y = cc in cc
+
+pub by_taking : (n m : ℕ) (o : Opt Wait) (e : Event) → MayTake n m o e → e ≡ event n (taken_action m o)
+by_taking n m o e may = ⊎_elim
+    (λ (t : (o ≡ None) × (e ≡ acquire_event n m)). t.1 ∙ ap (λ (o : Opt Wait). event n (taken_action m o)) (sym t.0))
+    (λ (t : (x : Wait) × (o ≡ Some x) × (x.mutex.0 ≡ m) × (x.member ≡ None) × (e ≡ event n (taken_action m (Some x)))). t.4 ∙ ap (λ (o : Opt Wait). event n (taken_action m o)) (sym t.1))
+    may
+
+module _ {T H W : Type 0} (l : Layout) (traced : Bool) (w : W) (begin : W → ℕ → H) (holds : W → List T → List H → Type 0) where
+  -- the state after n took m, with these pending
+  abbrev took : Spec → ℕ → ℕ → (ℕ → Pending) → Spec
+  took spec m n f = record spec { holder = put spec.holder m (some n); pending = f }
+
+  -- by the event e the thread n may take m, and waits no longer
+  abbrev Taking : Event → ℕ → ℕ → Part T H → Type 0
+  Taking e m n p = (words : List ℕ) (homes : List (Option (Slot T))) (all : List (Part T H)) (c : Core l traced w holds words homes all) → get_elem? all n ≡ some p → c.owner m ≡ none
+      → (f : ℕ → Pending) × Acts c.spec e (took c.spec m n f) × (f n ≡ Nothing) × ((j : ℕ) → j ≢ n → f j ≡ c.spec.pending j) × ((k : ℕ) → k ≢ m → waits_on p.wait k ≡ false) × ((c k : ℕ) → counts_in p.wait c k ≡ false)
+
+  taking-acquire : (m n : ℕ) (p : Part T H) → p.wait ≡ None → Taking (acquire_event n m) m n p
+  taking-acquire m n p out words homes all c at free = let t = c.shows.tells n p at in
+      let idle : c.spec.pending n ≡ Nothing = t.pends ∙ ap pending_of out in
+      (c.spec.pending, (record { order = idle; requires_met = tt; when_met = c.shows.free m free; choice_met = tt }, refl), idle, (λ j ne. refl), (λ k ne. ap (λ w. waits_on w k) out), λ c k. ap (λ w. counts_in w c k) out)
+
+  -- the thread was taken out of the condition
+  taking-second : (n : ℕ) (p : Part T H) (x : Wait) → p.wait ≡ Some x → x.member ≡ None → p.stand ≡ None → Taking (event n (taken_action x.mutex.0 (Some x))) x.mutex.0 n p
+  taking-second n p x in_wait outside apart words homes all c at free = let t = c.shows.tells n p at in let s = c.shows in
+      let m : ℕ = x.mutex.0 in
+      let not_counted : (c k : ℕ) → counts_in p.wait c k ≡ false = λ c k. ap (λ w. counts_in w c k) in_wait ∙ counts-none x c k outside in
+      let o : ℕ = cond_object x.cond.0 in
+      let unqueued : mem n (c.queue o) ≡ false = not_true (mem n (c.queue o)) (λ is. stand_none p.stand o apart ((c.lines.stands n p at).lined o (mem-behind n (c.owed o) (c.queue o) is)).0) in
+      let out : c.spec.members x.cond.0 n ≡ false = s.members x.cond.0 n ∙ (ap (λ b. cond b true (s.counting x.cond.0 n)) (s.inside x.cond.0 n unqueued) ∙ (t.counts x.cond.0 ∙ not_counted x.cond.0 (s.count x.cond.0))) in
+      let f = put c.spec.pending n Nothing in
+      let pends : c.spec.pending n ≡ cond x.alertable (AlertWaiting x.mutex x.cond) (Waiting x.mutex x.cond) = t.pends ∙ ap pending_of in_wait in (
+        f,
+        either_way x.alertable
+            (λ is. subst (λ (a : Action). Acts c.spec (event n a) (took c.spec m n f)) (sym (ap (λ b. cond b (AlertReturn x.mutex x.cond) (Resume x.mutex x.cond)) is))
+            (record { order = pends ∙ ap (λ b. cond b (AlertWaiting x.mutex x.cond) (Waiting x.mutex x.cond)) is; requires_met = tt; when_met = (s.free m free, out); choice_met = tt }, refl))
+            (λ is. subst (λ (a : Action). Acts c.spec (event n a) (took c.spec m n f)) (sym (ap (λ b. cond b (AlertReturn x.mutex x.cond) (Resume x.mutex x.cond)) is))
+            (record { order = pends ∙ ap (λ b. cond b (AlertWaiting x.mutex x.cond) (Waiting x.mutex x.cond)) is; requires_met = tt; when_met = (s.free m free, out); choice_met = tt }, refl)),
+        put-here c.spec.pending n Nothing,
+        (λ j ne. put-else c.spec.pending n j Nothing ne),
+        (λ k ne. ap (λ w. waits_on w k) in_wait ∙ ne_eqb x.mutex.0 k (λ e. ne (sym e))),
+        not_counted,
+      )
+
+  taking : (m n : ℕ) (p : Part T H) (e : Event) → p.stand ≡ None → MayTake n m p.wait e → Taking (event n (taken_action m p.wait)) m n p
+  taking m n p e apart may = ⊎_elim
+      (λ (t : (p.wait ≡ None) × (e ≡ acquire_event n m)). subst (λ (o : Opt Wait). Taking (event n (taken_action m o)) m n p) (sym t.0) (taking-acquire m n p t.0))
+      (λ (t : (x : Wait) × (p.wait ≡ Some x) × (x.mutex.0 ≡ m) × (x.member ≡ None) × (e ≡ event n (taken_action m (Some x)))).
+      subst (λ (o : Opt Wait). Taking (event n (taken_action m o)) m n p) (sym t.1) (subst (λ (k : ℕ). Taking (event n (taken_action k (Some t.0))) k n p) t.2 (taking-second n p t.0 t.1 t.3 apart)))
+      may
+
+  -- the part of the thread that wins the mutex m with the value x
+  abbrev winner : Part T H → ℕ → T → List Event → Event → Part T H
+  winner p m x log e = record (told p log e) { held = set p.held m (Some x); wait = None; failed = without m p.failed; turns = without m p.turns }
+
+  -- what the winner of the mutex m learns
+  abbrev Wins : (W → ℕ → T → ℕ → H → Type 0) → Event → ℕ → ℕ → Part T H → List (ℕ × Slot T) → Part T H → List (ℕ × Slot T) → Type 0
+  Wins fits e m n p cs q ds = (x : T) × (between : List Event) × ((s : H) → p.share ≡ Some s → fits w m x n s) × Grows n p between e × Lacks p m × (get_elem? (set p.held m (Some x)) m ≡ some (Some x))
+      × (q ≡ winner p m x (p.seen ++ between) e) × (ds ≡ (value_at m, Value (Some x)) ∷ cs)
+
+  module _ (fits : W → ℕ → T → ℕ → H → Type 0)
+      (law : (values : List T) (shares : List H) → holds w values shares → (m : ℕ) (x : T) → get_elem? values m ≡ some x → (t : ℕ) (s : H) → get_elem? shares t ≡ some s → fits w m x t s) where
+    tries_at : (e : Event) (n m : ℕ) (p : Part T H) (cs : List (ℕ × Slot T)) → m < l.mutexes → e.thread.0 ≡ n → MayTell traced p.pen → Taking e m n p
+        → Steps l traced w begin holds n (bit_at m) (λ x. either (eqb x 0) 1 x) p cs (λ r q ds. ((r ≡ 0) × Wins fits e m n p cs q ds) ⊎ ((r ≢ 0) × (q ≡ record p { failed = m ∷ p.failed; turns = without m p.turns }) × (ds ≡ cs)))
+    tries_at e n m p cs inside by may taking words homes all c at small = let r : ℕ = get_or words (bit_at m) 0 in let lawful = c.sizes.lawful in let ws = c.sizes.words_wide in let hs = c.sizes.homes_wide in
+        let far : m < 192 = omega arith in let near : m < 64 = omega arith in dite (ℕ_discrete r 0)
+        (λ hit.
+        let o = c.owned in
+        let free = nobody-by r (c.owner m) (o.bits m inside) hit in
+        let found = at_below c.values m (let z = o.values_wide in omega arith) in
+        let x = found.0 in
+        let wide : length p.held ≡ 64 = c.sizes.parts_wide n p at in
+        let chronicle = c.told.each n p at in
+        let seen = chronicle.begins in
+        let q = winner p m x (p.seen ++ seen.0) e in
+        let longer : q.seen ≡ c.log ++ e ∷ [] = ap (λ (z : List Event). z ++ e ∷ []) (sym seen.1) in
+        let placed : q.places ≡ p.places ++ length c.log ∷ [] = ap (λ (z : List Event). p.places ++ length z ∷ []) (sym seen.1) in
+        let take = taking words homes all c at free in
+        let spec' = took c.spec m n take.0 in
+        let run = leads-snoc at_first c.log c.spec e spec' c.run take.1 in
+        let told' = told-event all n p q at c.log e by longer refl placed c.told in
+        let words' : List ℕ = set words (bit_at m) 1 in
+        let homes' : List (Option (Slot T)) = set homes (value_at m) none in
+        let more : length (c.log ++ e ∷ []) ≡ length c.log + 1 = length-append c.log (e ∷ []) in (
+          q,
+          takes (value_at m) (Value (Some x)),
+          o.at_home m inside x found.1 free,
+          subst (λ b. Core l traced w holds (set words (bit_at m) (either b 1 r)) homes' (set all n q)) (sym (eq-eqb r 0 hit)) record {
+            log = c.log ++ e ∷ [];
+            spec = spec';
+            owner = put c.owner m (some n);
+            spinner = c.spinner;
+            writer = c.writer;
+            queue = c.queue;
+            owed = c.owed;
+            values = c.values;
+            shares = c.shares;
+            sizes = sizes-frame all n p q at l words words' homes homes' (length-set words (bit_at m) 1) (length-set homes (value_at m) none) (length-set p.held m (Some x)) c.sizes;
+            run = run;
+            told = told';
+            owned = owned-take l (holds w) c.owner c.values c.shares words homes all n m p q at o wide (omega arith) inside lawful x free found.1 refl refl;
+            spins = spins-frame all n p q at c.spinner c.queue c.owed words words' homes homes' (bit-spins words 1 m far) (λ k lo. set_else homes (value_at m) (queue_at k) none (λ z. omega arith)) refl refl refl c.spins;
+            lines = lines-frame all n p q at (λ k. c.owed k ++ c.queue k) words words' c.sizes.few (bit-ready words 1 m far) refl c.lines;
+            shows = shows-wins words words' (mutex-shown words 1 m near) c.spinner c.queue c.owner c.spec all n p q at m take.0 refl refl refl take.4 take.5 take.2 take.3 c.shows;
+            pens = subst (λ (z : ℕ). Pens traced z words' c.writer (set all n q)) (sym more) (pens-event traced (length c.log) words c.writer all n p q at words' (bit-pen words 1 m far).0 (bit-pen words 1 m far).1 may refl c.pens);
+          },
+          inl (
+            hit,
+            (
+              x,
+              seen.0,
+              (λ s is. let u = o.shared n p at in let f : Some u.0 ≡ Some s = sym u.1 ∙ is in let g : u.0 ≡ s = cc in law c.values c.shares o.kept m x found.1 n s (u.2 ∙ ap some g)),
+              record {
+                legal = (spec', subst (λ (z : List Event). IsRun z spec') (sym longer) run);
+                own = ap (by_thread n) longer ∙ (told'.each n q (set_here all n q (at_within all n p at))).own;
+                number = λ k is. numbered-by traced (length c.log) words c.writer all n p q at c.pens k is ∙ ap (λ (z : List Event). length z) seen.1;
+              },
+              lacking p m (omega arith) (λ has. some-ne-none n (sym ((o.standing n p at m).0 has) ∙ free)),
+              set_here p.held m (Some x) (omega arith),
+              refl,
+              refl,
+            ),
+          ),
+        ))
+        (λ miss. let q : Part T H = record p { failed = m ∷ p.failed; turns = without m p.turns } in (
+          q,
+          keeps,
+          tt,
+          subst (λ b. Core l traced w holds (set words (bit_at m) (either b 1 r)) homes (set all n q)) (sym (ne_eqb r 0 miss))
+              (still l traced w holds words homes all (bit_at m) n p q at record { seen = refl; mine = refl; places = refl; held = refl; share = refl } refl refl refl refl refl refl refl c
+              (lines-same (λ k. c.owed k ++ c.queue k) (λ k. c.owed k ++ c.queue k) words words all n p q at c.sizes.few (λ t lo. refl) (λ k. refl) refl c.lines)),
+          inr (miss, refl, refl),
+        ))
+
+    pub tries : (slots id m : ℕ) (e : Event) (me : Me (Slot T) (View T H W)) → m < l.mutexes → me.0.kind ≡ Member → me.0.part.stand ≡ None → MayTake me.0.number m me.0.part.wait e → MayTell traced me.0.part.pen
+        → Allows (IsKept l traced w begin holds) slots id me (bit_at m) (λ x. either (eqb x 0) 1 x) (tried fits (step slots (bit_at m) 0 1 none) me)
+    tries slots id m e me inside kind apart may pen = let v = me.0 in let n = v.number in let p = v.part in let ev = event n (taken_action m p.wait) in member_steps l traced w begin holds slots id (bit_at m) (λ x. either (eqb x 0) 1 x) v me.1
+        (λ r q ds. ((r ≡ 0) × Wins fits ev m n p me.1 q ds) ⊎ ((r ≢ 0) × (q ≡ record p { failed = m ∷ p.failed; turns = without m p.turns }) × (ds ≡ me.1))) (tried fits (step slots (bit_at m) 0 1 none) me) kind
+        (λ r q ds world t k is. let same : m ≡ k = omega arith in subst (λ (k : ℕ). (r ≡ 0 → Won fits k me (with_part v q, ds)) × (r ≢ 0 → Becomes me (record p { failed = k ∷ p.failed; turns = without k p.turns }) (with_part v q, ds))) same (⊎_elim
+        (λ (u : (r ≡ 0) × Wins fits ev m n p me.1 q ds). (
+          (λ _. let x = u.1 in (x.0, x.1, (λ w' s is has. let e : Some w ≡ Some w' = sym world ∙ is in let f : w ≡ w' = cc in subst (λ (z : W). fits z m x.0 n s) f (x.2 s has)), x.3, x.4, x.5, λ i. (with_part v (x.6 i), x.7 i))),
+          λ miss. absurd (miss u.0),
+        ))
+        (λ (u : (r ≢ 0) × (q ≡ record p { failed = m ∷ p.failed; turns = without m p.turns }) × (ds ≡ me.1)). ((λ hit. absurd (u.0 hit)), λ _ i. (with_part v (u.1 i), u.2 i))) t))
+        (tries_at ev n m p me.1 inside refl pen (taking m n p e apart may))
+
+  -- what the thread n learns that frees the mutex m
+  abbrev Frees : (H → H) → ℕ → ℕ → Part T H → List (ℕ × Slot T) → Part T H → List (ℕ × Slot T) → Type 0
+  Frees next m n p cs q ds = (s : H) × (p.share ≡ Some s) × (between : List Event) × Grows n p between (release_event n m)
+      × (q ≡ record (told p (p.seen ++ between) (release_event n m)) { held = set p.held m None; share = Some (next s); cleared = m ∷ p.cleared }) × (ds ≡ rest cs)
+
+  module _ (allows : W → ℕ → ℕ → T → T → H → H → Type 0)
+      (law : (values : List T) (shares : List H) → holds w values shares → (m : ℕ) (x y : T) → get_elem? values m ≡ some x → (t : ℕ) (s r : H) → get_elem? shares t ≡ some s → allows w m t x y s r → holds w (set values m y) (set shares t r)) where
+    frees_at : (n m : ℕ) (p : Part T H) (cs : List (ℕ × Slot T)) (x y : T) (next : H → H) → m < l.mutexes → p.wait ≡ None → Got p m x → cs ≡ (value_at m, Value (Some y)) ∷ rest cs → MayTell traced p.pen → ((s : H) → p.share ≡ Some s → allows w m n x y s (next s))
+        → Steps l traced w begin holds n (bit_at m) (λ _. 0) p cs (λ r q ds. (r ≡ 1) × Frees next m n p cs q ds)
+    frees_at n m p cs x y next inside out got first may allowed words homes all c at small =
+        let lawful = c.sizes.lawful in let ws = c.sizes.words_wide in let hs = c.sizes.homes_wide in
+        let far : m < 192 = omega arith in let near : m < 64 = omega arith in
+        let e = release_event n m in
+        let o = c.owned in
+        let mine = o.shared n p at in
+        let s : H = mine.0 in
+        let u : H = next s in
+        let own : c.owner m ≡ some n = (o.standing n p at m).0 (x, got) in
+        let here : get_elem? c.values m ≡ some x = o.current n p at m x got in
+        let wide : length p.held ≡ 64 = c.sizes.parts_wide n p at in
+        let seen = (c.told.each n p at).begins in
+        let q : Part T H = record (told p (p.seen ++ seen.0) e) { held = set p.held m None; share = Some u; cleared = m ∷ p.cleared } in
+        let longer : q.seen ≡ c.log ++ e ∷ [] = ap (λ (z : List Event). z ++ e ∷ []) (sym seen.1) in
+        let placed : q.places ≡ p.places ++ length c.log ∷ [] = ap (λ (z : List Event). p.places ++ length z ∷ []) (sym seen.1) in
+        let t = c.shows.tells n p at in
+        let held : c.spec.holder m ≡ some n = t.holds m own ∙ ap (λ w. cond (waits_on w m) none (some n)) out in
+        let idle : c.spec.pending n ≡ Nothing = t.pends ∙ ap pending_of out in
+        let spec' : Spec = record c.spec { holder = put c.spec.holder m none } in
+        let acts : Acts c.spec e spec' = (record { order = idle; requires_met = held; when_met = tt; choice_met = tt }, refl) in
+        let run = leads-snoc at_first c.log c.spec e spec' c.run acts in
+        let told' = told-event all n p q at c.log e refl longer refl placed c.told in
+        let words' : List ℕ = set words (bit_at m) 0 in
+        let line : Slot T = Value (Some y) in
+        let homes' : List (Option (Slot T)) = set homes (value_at m) (some line) in
+        let more : length (c.log ++ e ∷ []) ≡ length c.log + 1 = length-append c.log (e ∷ []) in (
+          q,
+          gives,
+          tt,
+          subst (λ (z : List (Option (Slot T))). Core l traced w holds words' z (set all n q)) (ap (put_back homes) (sym first)) record {
+            log = c.log ++ e ∷ [];
+            spec = spec';
+            owner = put c.owner m none;
+            spinner = c.spinner;
+            writer = c.writer;
+            queue = c.queue;
+            owed = c.owed;
+            values = set c.values m y;
+            shares = set c.shares n u;
+            sizes = sizes-frame all n p q at l words words' homes homes' (length-set words (bit_at m) 0) (length-set homes (value_at m) (some line)) (length-set p.held m None) c.sizes;
+            run = run;
+            told = told';
+            owned = owned-give l (holds w) c.owner c.values c.shares words homes all n m p q at o wide (omega arith) inside lawful y u own (omega arith) (at_within c.values m x here) (at_within c.shares n s mine.2) (law c.values c.shares o.kept m x y here n s u mine.2 (allowed s mine.1)) refl refl;
+            spins = spins-frame all n p q at c.spinner c.queue c.owed words words' homes homes' (bit-spins words 0 m far) (λ k lo. set_else homes (value_at m) (queue_at k) (some line) (λ z. omega arith)) refl refl refl c.spins;
+            lines = lines-frame all n p q at (λ k. c.owed k ++ c.queue k) words words' c.sizes.few (bit-ready words 0 m far) refl c.lines;
+            shows = shows-clears words words' (mutex-shown words 0 m near) c.spinner c.queue c.owner c.spec all n p q at m (put c.spec.holder m none) refl refl refl refl own (put-here c.spec.holder m none) (λ k ne. put-else c.spec.holder m k none ne) c.shows;
+            pens = subst (λ (z : ℕ). Pens traced z words' c.writer (set all n q)) (sym more) (pens-event traced (length c.log) words c.writer all n p q at words' (bit-pen words 0 m far).0 (bit-pen words 0 m far).1 may refl c.pens);
+          },
+          (
+            one-by (get_or words (bit_at m) 0) n (c.owner m) (o.bits m inside) own,
+            (
+              s,
+              mine.1,
+              seen.0,
+              record {
+                legal = (spec', subst (λ (z : List Event). IsRun z spec') (sym longer) run);
+                own = ap (by_thread n) longer ∙ (told'.each n q (set_here all n q (at_within all n p at))).own;
+                number = λ k is. numbered-by traced (length c.log) words c.writer all n p q at c.pens k is ∙ ap (λ (z : List Event). length z) seen.1;
+              },
+              refl,
+              refl,
+            ),
+          ),
+        )
+
+    pub frees : (after : W → ℕ → ℕ → T → T → H → H) (slots id m : ℕ) (me : Me (Slot T) (View T H W)) → m < l.mutexes → me.0.kind ≡ Member → me.0.part.wait ≡ None → MayTell traced me.0.part.pen → MayFree allows after m me
+        → Allows (IsKept l traced w begin holds) slots id me (bit_at m) (λ _. 0) (freed after (step slots (bit_at m) 0 0 none) me)
+    frees after slots id m me inside kind out pen may st r wide at small = let v = me.0 in let n = v.number in let p = v.part in let x : T = may.0 in let y : T = may.1 in
+        let world : v.world ≡ Some w = (subst (FitsAs l.threads r.given w begin r.all r.seat_of id v) kind (r.fits id v at)).0 in
+        let next = λ (s : H). after w m n x y s in
+        member_steps l traced w begin holds slots id (bit_at m) (λ _. 0) v me.1 (λ r q ds. (r ≡ 1) × Frees next m n p me.1 q ds) (freed after (step slots (bit_at m) 0 0 none) me) kind
+        (λ r q ds world' t' k is. let t = t'.1 in let same : m ≡ k = omega arith in subst (λ (k : ℕ). Freed after k me r (with_part v q, ds)) same (
+          t'.0,
+          t.2,
+          Some (next t.0),
+          t.3,
+          (λ i. (with_part v (t.4 i), t.5 i)),
+          λ w' s' x' y' is' share' got' first'.
+              let a : Some x ≡ Some x' = some-injective (Some x) (Some x') (sym may.2 ∙ got') in
+              let b : x ≡ x' = cc in
+              let c : Some t.0 ≡ Some s' = sym t.1 ∙ share' in
+              let d : t.0 ≡ s' = cc in
+              let g : Some w ≡ Some w' = sym world ∙ is' in
+              let h : w ≡ w' = cc in
+              let e = value_same (value_at m) y y' (rest me.1) (sym may.3 ∙ first') in
+              λ j. Some (after (h j) m n (b j) (e j) (d j)),
+        ))
+        (frees_at n m p me.1 x y next inside out may.2 may.3 pen (λ s is. may.4 w s world is)) st r wide at small

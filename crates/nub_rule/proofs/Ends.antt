@@ -1,0 +1,271 @@
+-- The rule at the start, and what it leaves at the end.
+use Rattle.std.proofs.Common.{Bool, false, true, cond, Option as Opt, ◌≡◌, ◌⊎◌, ℕ, zero, suc, ◌+◌, ◌-◌, ◌*◌, ◌<◌, ◌≤◌, List, [], ◌∷◌, ◌++◌, map, length, get_or, replicate, refl, sym, ap, ◌∙◌, subst, subst₂, inl, inr, arith, length-append, Some, None, zero-add, ⊎_elim}
+use Rattle.std.specs.List.{range_with_len}
+use Rattle.std.proofs.lemmas.List.{length-replicate, length-map, map-append}
+use Rattle.std.proofs.lemmas.List.FromFn.{length-map-range_with_len}
+use mathlib.Core.Option.{Option, some, none, some-injective, some-ne-none}
+use mathlib.Core.Logic.{dite}
+use Rattle.std.proofs.lemmas.Bool.{cases_lt}
+use native.Mathlib.Decide.{ℕ_discrete}
+use lib.ListN.{get_elem?}
+use Rattle.larch_actions.specs.declared.event.Event.{Event}
+use Rattle.larch_actions.specs.declared.event.Layout.{Layout}
+use Rattle.larch_actions.specs.declared.event.Pending.TheVariants.{Nothing}
+use Rattle.larch_actions.specs.Layout.{IsLawful}
+use Rattle.larch_actions.specs.Actions.{at_first}
+use Rattle.atomic_table.specs.Table.{opening, Final, Seen}
+use Rattle.atomic_table.specs.Seated.{TableId}
+use Rattle.atomic_table.proofs.Lists.{at_map, at_longer}
+use Rattle.nub_rule.specs.declared.rule.Slot.{Slot}
+use Rattle.nub_rule.specs.declared.rule.Slot.TheVariants.{Value, Queue}
+use Rattle.nub_rule.specs.declared.view.Part.{Part}
+use Rattle.nub_rule.specs.declared.view.Stand.{Stand}
+use Rattle.nub_rule.specs.declared.view.View.{View}
+use Rattle.nub_rule.specs.declared.view.Kind.TheVariants.{Member, Collector}
+use Rattle.nub_rule.specs.Items.{no_line, Tells, Spinning, Each, Chronicle, Standing, Stands, Current, Wide, Shared, Told, PenFits}
+use Rattle.nub_rule.specs.Parts.{Got, Has, Lacks, fresh, stands_at, pending_of}
+use Rattle.nub_rule.specs.Places.{value_at, word_count, bit_at, spin_at, length_at, count_at, alert_at, ready_at, pen_at, number_at, sem_object, cond_object}
+use Rattle.nub_rule.specs.Rule.{opening_view, member_view, FitsAs, IsKept}
+use Rattle.nub_rule.specs.Known.{Hands}
+use Rattle.nub_rule.specs.Plays.{Sat}
+use Rattle.nub_rule.specs.Slots.{find, IsDistinct, Below}
+use Rattle.nub_rule.proofs.Turns.{find-here, keys}
+use Rattle.nub_rule.specs.Ends.{firsts, opening_slots, Settles, Leaves}
+use Rattle.nub_rule.proofs.Each.{at_within, at_below, same_at, at_middle, same_elements, at_firsts}
+
+module _ {A : Type 0} where
+  at_beyond : (xs ys : List A) (i : ℕ) → get_elem? (xs ++ ys) (length xs + i) ≡ get_elem? ys i
+  at_beyond [] ys i = ap (get_elem? ys) (zero-add i)
+  at_beyond (x ∷ xs) ys i = let e : suc (length xs) + i ≡ suc (length xs + i) = omega arith in ap (get_elem? (x ∷ (xs ++ ys))) e ∙ at_beyond xs ys i
+
+  at_replicate : (n i : ℕ) (a b : A) → get_elem? (replicate n a) i ≡ some b → a ≡ b
+  at_replicate zero i a b e = absurd (some-ne-none b (sym e))
+  at_replicate (suc n) zero a b e = some-injective a b e
+  at_replicate (suc n) (suc i) a b e = at_replicate n i a b e
+
+  replicate_there : (n i : ℕ) (a : A) → i < n → get_elem? (replicate n a) i ≡ some a
+  replicate_there zero i a h = absurd (omega arith)
+  replicate_there (suc n) zero a h = refl
+  replicate_there (suc n) (suc i) a h = replicate_there n i a (omega arith)
+
+  pub each-firsts : (P : ℕ → A → Type 0) (f : ℕ → A) (n : ℕ) → ((i : ℕ) → i < n → P i (f i)) → Each P (firsts f n)
+  each-firsts P f n all i x at = let low : i < n = subst (λ (z : ℕ). i < z) (length-map-range_with_len f 0 n) (at_within (firsts f n) i x at) in
+      let e : f (0 + i) ≡ x = same_at (firsts f n) i (f (0 + i)) x (at_firsts f 0 n i low) at in
+      subst (P i) (ap f (sym (zero-add i)) ∙ e) (all i low)
+
+nobody : (o : Option ℕ) → ((n : ℕ) → o ≡ some n → ⊥) → o ≡ none
+nobody none h = refl
+nobody (some n) h = absurd (h n refl)
+
+ft : false ≡ true → ⊥
+ft e = cc
+
+none_some : {A : Type 0} (o : A) → None ≡ Some o → ⊥
+none_some o e = cc
+
+only_first : {A : Type 0} (x y : A) (i : ℕ) → get_elem? (x ∷ []) i ≡ some y → (i ≡ 0) × (x ≡ y)
+only_first x y zero e = (refl, some-injective x y e)
+only_first x y (suc i) e = absurd (some-ne-none y (sym e))
+
+module _ {T : Type 0} where
+  slots_wide : (n : ℕ) (values : List T) → length (map some (replicate n (Queue no_line) ++ map (λ x. Value (Some x)) values)) ≡ n + length values
+  slots_wide n values = length-map (replicate n (Queue no_line) ++ map (λ (x : T). Value (Some x)) values) some
+      ∙ (length-append (replicate n (Queue no_line)) (map (λ (x : T). Value (Some x)) values) ∙ (λ i. length-replicate {A = Slot T} n (Queue no_line) i + length-map values (λ (x : T). Value (Some x)) i))
+
+  slot_there : (n : ℕ) (values : List T) (m : ℕ) (x : T) → get_elem? values m ≡ some x → get_elem? (map some (replicate n (Queue no_line) ++ map (λ x. Value (Some x)) values)) (n + m) ≡ some (some (Value (Some x)))
+  slot_there n values m x at = at_map some (replicate n (Queue no_line) ++ map (λ (x : T). Value (Some x)) values) (n + m) (Value (Some x))
+      (ap (λ (z : ℕ). get_elem? (replicate n (Queue no_line) ++ map (λ (x : T). Value (Some x)) values) (z + m)) (sym (length-replicate {A = Slot T} n (Queue no_line)))
+      ∙ (at_beyond (replicate n (Queue no_line)) (map (λ (x : T). Value (Some x)) values) m ∙ at_map (λ (x : T). Value (Some x)) values m x at))
+
+  queue_there : (n : ℕ) (values : List T) (o : ℕ) → o < n → get_elem? (map some (replicate n (Queue no_line) ++ map (λ x. Value (Some x)) values)) o ≡ some (some (Queue no_line))
+  queue_there n values o low = at_map some (replicate n (Queue no_line) ++ map (λ (x : T). Value (Some x)) values) o (Queue no_line)
+      (at_longer (replicate n (Queue no_line)) (map (λ (x : T). Value (Some x)) values) o (Queue no_line) (replicate_there n o (Queue no_line) low))
+
+module _ {T H W : Type 0} (l : Layout) (traced : Bool) (w : W) (begin : W → ℕ → H) (holds : W → List T → List H → Type 0) where
+  pub opens : (ws : List ℕ) (values : List T) → length ws ≡ word_count → ((k : ℕ) → get_or ws k 0 ≡ 0) → length values ≡ l.mutexes → IsLawful l → holds w values (firsts (begin w) l.threads)
+      → IsKept l traced w begin holds (opening ws (opening_slots values) (opening_view w begin))
+  opens ws values wide_words zeros many lawful first =
+      let all = firsts (λ n. fresh {T = T} (Some (begin w n))) l.threads in
+      let wide : length all ≡ l.threads = length-map-range_with_len (λ n. fresh {T = T} (Some (begin w n))) 0 l.threads in
+      let none_got : (p : Part T H) → p.held ≡ replicate 64 None → (m : ℕ) (x : T) → Got p m x → ⊥ = λ p e m x g. let z : None ≡ Some x = at_replicate 64 m None (Some x) (ap (λ h. get_elem? h m) (sym e) ∙ g) in none_some x z in
+      let zero_ne_one : (k : ℕ) → get_or ws k 0 ≡ 1 → ⊥ = λ k e. let z = zeros k in absurd (omega arith) in
+      record {
+        all = all;
+        seat_of = λ _. 0;
+        given = 0;
+        count = wide;
+        seated = omega arith;
+        fits = λ id v at. let o = only_first (opening_view {T = T} w begin) v id at in subst₂ (λ (a : ℕ) (b : View T H W). FitsAs l.threads 0 w begin all (λ _. 0) a b b.kind) (sym o.0) o.1
+            (refl, refl, refl, λ n lo hi. (refl, at_firsts (λ n. fresh {T = T} (Some (begin w n))) 0 l.threads n hi ∙ ap (λ (z : ℕ). some (fresh {T = T} (Some (begin w z)))) (zero-add n)));
+        core = record {
+          log = [];
+          spec = at_first;
+          owner = λ _. none;
+          spinner = λ _. none;
+          writer = none;
+          queue = λ _. [];
+          owed = λ _. [];
+          values = values;
+          shares = firsts (begin w) l.threads;
+          sizes = record {
+            words_wide = wide_words;
+            homes_wide = slots_wide 192 values ∙ ap (λ (z : ℕ). 192 + z) many;
+            lawful = lawful.mutexes;
+            few = subst (λ (z : ℕ). z ≤ 64) (sym wide) lawful.threads;
+            parts_wide = each-firsts Wide (λ n. fresh (Some (begin w n))) l.threads (λ i low. length-replicate {A = Opt T} 64 None);
+          };
+          run = refl;
+          told = record {
+            people = λ i e at. absurd (some-ne-none e (sym at));
+            each = each-firsts (Chronicle []) (λ n. fresh (Some (begin w n))) l.threads (λ i low. record { begins = ([], refl); own = refl; placed = refl });
+            longest = inl refl;
+          };
+          owned = record {
+            standing = each-firsts (Standing (λ _. none)) (λ n. fresh (Some (begin w n))) l.threads (λ i low m. ((λ has. absurd (none_got (fresh (Some (begin w i))) refl m has.0 has.1)), λ is. absurd (some-ne-none i (sym is))));
+            within = λ m n is. absurd (some-ne-none n (sym is));
+            bits = λ m low. inl (zeros (bit_at m), refl);
+            at_home = λ m low x at free. slot_there 192 values m x at;
+            values_wide = many;
+            current = each-firsts (Current values) (λ n. fresh (Some (begin w n))) l.threads (λ i low m x g. absurd (none_got (fresh (Some (begin w i))) refl m x g));
+            shares_wide = length-map-range_with_len (begin w) 0 l.threads ∙ sym wide;
+            shared = each-firsts (Shared (firsts (begin w) l.threads)) (λ n. fresh (Some (begin w n))) l.threads
+                (λ i low. (begin w i, refl, at_firsts (begin w) 0 l.threads i low ∙ ap (λ (z : ℕ). some (begin w z)) (zero-add i)));
+            kept = first;
+          };
+          spins = record {
+            spin = λ o low. inl (zeros (spin_at o), refl);
+            home = λ o low free. queue_there 192 values o low;
+            measured = λ o low. zeros (length_at o);
+            settled = λ o free. refl;
+            spinning = each-firsts (Spinning (λ _. none) (λ _. []) (λ _. [])) (λ n. fresh (Some (begin w n))) l.threads (λ i low o. ((λ is. absurd (none_some o is)), λ is. absurd (some-ne-none i (sym is))));
+          };
+          lines = record {
+            distinct = λ o. tt;
+            people = λ o t is. absurd (ft is);
+            stands = each-firsts (Stands ws (λ o. [])) (λ n. fresh (Some (begin w n))) l.threads (λ i low. record {
+              flag = inl (zeros (ready_at i));
+              lined = λ o is. absurd (ft is);
+              ready = λ is. absurd (zero_ne_one (ready_at i) is);
+              kept = λ s is. absurd (none_some s is);
+              found = λ s is f. absurd (none_some s is);
+            });
+          };
+          shows = record {
+            left = λ _. [];
+            count = λ _. 0;
+            counting = λ _ _. false;
+            free = λ m is. refl;
+            members = λ c t. refl;
+            counted = λ c low. zeros (count_at (cond_object c));
+            avails = λ s low. inl (zeros (bit_at (sem_object s)), refl);
+            alerts = λ t low. inl (zeros (alert_at t), refl);
+            whole = λ c is. refl;
+            inside = λ c t is. refl;
+            strangers = λ t past. refl;
+            tells = each-firsts (Tells (λ _. none) (λ _. none) at_first (λ _. []) (λ _. 0) (λ _ _. false)) (λ n. fresh (Some (begin w n))) l.threads (λ i low. record {
+              holds = λ m is. absurd (some-ne-none i (sym is));
+              pends = refl;
+              counts = λ c. refl;
+              risen = λ c k hi. refl;
+              knows = λ c is. absurd (some-ne-none i (sym is));
+              even = λ x is. absurd (none_some x is);
+            });
+          };
+          pens = record {
+            flag = inl (zeros pen_at, refl);
+            free = λ is free. zeros number_at;
+            untraced = λ is. refl;
+            pens = each-firsts (λ n p. PenFits 0 (get_or ws number_at 0) none n p.pen) (λ n. fresh (Some (begin w n))) l.threads (λ i low is. some-ne-none i (sym is));
+          };
+        };
+      }
+
+  -- what a collector leaves that has taken every thread back, none of which has a mutex or is in a wait
+  pub closes : (id : ℕ) (v : View T H W) (ws : List ℕ) (xs : List (Slot T)) → v.kind ≡ Collector → length v.back ≡ l.threads → ((n : ℕ) (p : Part T H) → get_elem? v.back n ≡ some p → ((m : ℕ) (x : T) → Got p m x → ⊥) × (p.wait ≡ None))
+      → Final (Seen (IsKept l traced w begin holds) id v) ws xs → Settles l.mutexes (holds w) v.back xs
+  closes id v ws xs kind whole idle f =
+      let s = f.0 in
+      let r = f.1.0 in
+      let c = r.core in
+      let k : FitsAs l.threads r.given w begin r.all r.seat_of id v Collector = subst (FitsAs l.threads r.given w begin r.all r.seat_of id v) kind (r.fits id v f.1.1) in
+      let back : v.back ≡ r.all = same_elements v.back r.all (whole ∙ sym r.count) (λ n p at. (k.2 n p at).1) in
+      let rest : (n : ℕ) (p : Part T H) → get_elem? r.all n ≡ some p → ((m : ℕ) (x : T) → Got p m x → ⊥) × (p.wait ≡ None) = λ n p at. idle n p (ap (λ ps. get_elem? ps n) back ∙ at) in
+      let free : (m : ℕ) → c.owner m ≡ none = λ m. nobody (c.owner m) (λ n is. let low = (c.owned.within m n is).1 in let p = at_below r.all n low in let has = (c.owned.standing n p.0 p.1 m).1 is in (rest n p.0 p.1).0 m has.0 has.1) in
+      record {
+        values = c.values;
+        leaves = subst (λ (ps : List (Part T H)). Leaves (holds w) ps c.values) (sym back) (record {
+          log = c.log;
+          spec = c.spec;
+          shares = c.shares;
+          run = c.run;
+          nothing_held = λ m. c.shows.free m (free m);
+          nothing_begun = λ t. ⊎_elim
+              (λ (low : t < length r.all). let p = at_below r.all t low in (c.shows.tells t p.0 p.1).pends ∙ ap pending_of (rest t p.0 p.1).1)
+              (λ (past : length r.all ≤ t). c.shows.strangers t past)
+              (cases_lt t (length r.all));
+          history = c.told;
+          kept = c.owned.kept;
+          each_share = c.owned.shares_wide;
+          shared = c.owned.shared;
+        });
+        many = c.owned.values_wide;
+        values_there = λ m x at. let lv = c.owned.values_wide in let low = at_within c.values m x at in f.4 (value_at m) (Value (Some x)) (c.owned.at_home m (omega arith) x at (free m));
+      }
+
+module _ {T : Type 0} where
+  value_same : (x y : T) → Value (Some x) ≡ Value (Some y) → x ≡ y
+  value_same x y e = cc
+
+  -- one more value is taken out of its slot
+  pub one_more : (slots : List (Slot T)) (xs zs : List T) (n i : ℕ) (y : T) → zs ≡ xs ++ y ∷ [] → n + length xs ≡ i → get_elem? slots i ≡ some (Value (Some y))
+      → ((m : ℕ) (x : T) → n + m < i → get_elem? slots (n + m) ≡ some (Value (Some x)) → get_elem? xs m ≡ some x)
+      → (m : ℕ) (x : T) → n + m < i + 1 → get_elem? slots (n + m) ≡ some (Value (Some x)) → get_elem? zs m ≡ some x
+  one_more slots xs zs n i y is long here so_far m x low at = dite (ℕ_discrete m (length xs))
+      (λ e. let there : n + m ≡ i = omega arith in
+      let s : y ≡ x = value_same y x (some-injective (Value (Some y)) (Value (Some x)) (sym here ∙ (ap (get_elem? slots) (sym there) ∙ at))) in ap (get_elem? zs) e ∙ (at_middle xs [] zs y is ∙ ap some s))
+      (λ ne. ap (λ l. get_elem? l m) is ∙ at_longer xs (y ∷ []) m x (so_far m x (omega arith) at))
+
+module _ {T H : Type 0} where
+  pub slot_values : (n : ℕ) (holds : List T → List H → Type 0) (parts : List (Part T H)) (xs : List (Slot T)) → length xs ≡ 192 + n → Settles n holds parts xs → (m : ℕ) → 192 + m < length xs → (x : T) × (get_elem? xs (192 + m) ≡ some (Value (Some x)))
+  slot_values n holds parts xs wide s m low = let many = s.many in let v = at_below s.values m (omega arith) in (v.0, s.values_there m v.0 v.1)
+
+  pub leaves : (n : ℕ) (holds : List T → List H → Type 0) (parts : List (Part T H)) (xs : List (Slot T)) (values : List T) → Settles n holds parts xs → length values ≡ n → ((m : ℕ) (x : T) → get_elem? xs (192 + m) ≡ some (Value (Some x)) → get_elem? values m ≡ some x)
+      → Leaves holds parts values
+  leaves n holds parts xs values s many found = let same : s.values ≡ values = same_elements s.values values (s.many ∙ sym many) (λ m x at. found m x (s.values_there m x at)) in
+      subst (λ (vs : List T). Leaves holds parts vs) same s.leaves
+
+module _ {T H W : Type 0} where
+  -- a thread that was given out fits
+  pub first_fits : (begin : W → ℕ → H) (v : View T H W) (me : Sat T H W) (n : ℕ) (hand : List ℕ) (A : Type 0) → me ≡ (member_view begin v, []) → v.next ≡ n → hand ≡ [] → A
+      → (me.0.kind ≡ Member) × (me.0.number ≡ n) × (keys me.1 ≡ hand) × IsDistinct me.1 × Below 256 me.1 × (length me.0.part.held ≡ 64) × Hands me.0.part me.1 × A
+  first_fits begin v me n hand A is next bare a = subst (λ (m : Sat T H W). (m.0.kind ≡ Member) × (m.0.number ≡ n) × (keys m.1 ≡ hand) × IsDistinct m.1 × Below 256 m.1 × (length m.0.part.held ≡ 64) × Hands m.0.part m.1 × A) (sym is)
+      (refl, next, sym bare, tt, tt, length-replicate {A = Opt T} 64 None, record {
+        below = λ o e. absurd (none_some o e);
+        queue_in = λ o e. absurd (none_some o e);
+        queue_out = λ o low e. refl;
+        value_got = λ m x g. absurd (none_some x (at_replicate 64 m None (Some x) g));
+        value_lacked = λ m e. refl;
+        settled = λ e. refl;
+        room = λ o e f. absurd (none_some o e);
+      }, a)
+
+module _ {T H : Type 0} where
+  lacked : (p : Part T H) (m : ℕ) (h : Opt T) → get_elem? p.held m ≡ some h → ((x : T) → Got p m x → ⊥) → Lacks p m
+  lacked p m None at bare = at
+  lacked p m (Some x) at bare = absurd (bare x at)
+
+  -- a thread that has no bit and no spin word has no slot
+  pub no_slots : (p : Part T H) (slots : List (ℕ × Slot T)) → Hands p slots → Below 256 slots → length p.held ≡ 64 → p.spin ≡ None → ((m : ℕ) (x : T) → Got p m x → ⊥) → slots ≡ []
+  no_slots p [] h low wide free bare = refl
+  no_slots p (x ∷ xs) h low wide free bare = let below = low.0 in let here = find-here x.0 x xs refl in absurd (⊎_elim
+      (λ (l : x.0 < 192). none_some x.1 (sym (h.queue_out x.0 l (λ e. none_some x.0 (sym free ∙ e))) ∙ here))
+      (λ (l : 192 ≤ x.0).
+          let m = x.0 - 192 in
+          let e : 192 + m ≡ x.0 = omega arith in
+          let there = at_below p.held m (omega arith) in
+          let gone = h.value_lacked m (lacked p m there.0 there.1 (bare m)) in
+          none_some x.1 (sym gone ∙ (ap (λ (k : ℕ). find k (x ∷ xs)) e ∙ here)))
+      (cases_lt x.0 192))
+
+pub push_maps : {A B C : Type 0} (f : A → C) (g : B → C) (xs zs : List A) (ys : List B) (x : A) (y : B) → map f xs ≡ map g ys → zs ≡ xs ++ x ∷ [] → f x ≡ g y → map f zs ≡ map g (ys ++ y ∷ [])
+push_maps f g xs zs ys x y e z same = ap (map f) z ∙ (map-append f xs (x ∷ []) ∙ ((λ i. e i ++ same i ∷ []) ∙ sym (map-append g ys (y ∷ []))))

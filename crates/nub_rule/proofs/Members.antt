@@ -1,0 +1,65 @@
+-- A step by the seat of a thread keeps the rule where it keeps the items.
+use Rattle.std.proofs.Common.{Bool, ◌≡◌, ◌≢◌, ℕ, ◌<◌, List, get_or, set, sym, ap, ◌∙◌, subst, ⊎_elim, arith, length-set, Some}
+use mathlib.Core.Option.{Option, some}
+use lib.ListN.{get_elem?}
+use Rattle.larch_actions.specs.declared.event.Layout.{Layout}
+use Rattle.atomic_table.specs.Table.{Me, Act, Valid, Allows, carried_after, homes_after}
+use Rattle.atomic_table.proofs.Lists.{at_set, set_else, set_here}
+use Rattle.nub_rule.specs.declared.rule.Slot.{Slot}
+use Rattle.nub_rule.specs.declared.view.Part.{Part}
+use Rattle.nub_rule.specs.declared.view.View.{View}
+use Rattle.nub_rule.specs.declared.view.Kind.{Kind}
+use Rattle.nub_rule.specs.declared.view.Kind.TheVariants.{Root, Member, Collector, Spent}
+use Rattle.nub_rule.specs.Items.{Core}
+use Rattle.nub_rule.specs.Plays.{with_part}
+use Rattle.nub_rule.specs.Rule.{FitsAs, SeatFits, IsKept}
+use Rattle.nub_rule.proofs.Each.{at_within}
+
+module _ {T H W : Type 0} (threads given : ℕ) (w : W) (begin : W → ℕ → H) (all : List (Part T H)) (seat_of : ℕ → ℕ) where
+  -- another seat fits still after the part of a thread has changed
+  others_fit : (n : ℕ) (q : Part T H) (own id : ℕ) → 0 < own → seat_of n ≡ own → id ≢ own → (v : View T H W) (k : Kind) → FitsAs threads given w begin all seat_of id v k → FitsAs threads given w begin (set all n q) seat_of id v k
+  others_fit n q own id up sits ne v Root f =
+      let apart : (k : ℕ) → seat_of k ≡ 0 → k ≢ n = λ k z e. let t = ap seat_of e in omega arith in (
+        f.0,
+        f.1,
+        f.2,
+        (λ k lo hi. let r = f.3 k lo hi in (r.0, set_else all n k q (apart k r.0) ∙ r.1)),
+      )
+  others_fit n q own id up sits ne v Member f = (f.0, f.1, f.2, f.3, set_else all n v.number q (λ e. let t = ap seat_of e in let u = f.3 in ne (omega arith)) ∙ f.4)
+  others_fit n q own id up sits ne v Collector f =
+      let apart : (k : ℕ) → seat_of k ≡ 0 → k ≢ n = λ k z e. let t = ap seat_of e in omega arith in
+      (f.0, f.1, (λ k p at. let r = f.2 k p at in (r.0, set_else all n k q (apart k r.0) ∙ r.1)))
+  others_fit n q own id up sits ne v Spent f = tt
+
+module _ {T H W : Type 0} (l : Layout) (traced : Bool) (w : W) (begin : W → ℕ → H) (holds : W → List T → List H → Type 0) where
+  -- what a step of the thread n has to show: a new part and an act that keep the items
+  abbrev pub Steps : ℕ → ℕ → (ℕ → ℕ) → Part T H → List (ℕ × Slot T) → (ℕ → Part T H → List (ℕ × Slot T) → Type 0) → Type 0
+  Steps n i f p cs then = (words : List ℕ) (homes : List (Option (Slot T))) (all : List (Part T H)) → Core l traced w holds words homes all → get_elem? all n ≡ some p → get_or words i 0 < 18446744073709551616
+      → (q : Part T H) × (a : Act (Slot T)) × Valid homes cs a × Core l traced w holds (set words i (f (get_or words i 0))) (homes_after homes cs a) (set all n q) × then (get_or words i 0) q (carried_after cs a)
+
+  pub member_steps : (slots id i : ℕ) (f : ℕ → ℕ) (v : View T H W) (cs : List (ℕ × Slot T)) (then : ℕ → Part T H → List (ℕ × Slot T) → Type 0) (then' : ℕ → Me (Slot T) (View T H W) → Type 0)
+      → v.kind ≡ Member → ((r : ℕ) (q : Part T H) (ds : List (ℕ × Slot T)) → v.world ≡ Some w → then r q ds → then' r (with_part v q, ds))
+      → Steps v.number i f v.part cs then → Allows (IsKept l traced w begin holds) slots id (v, cs) i f then'
+  member_steps slots id i f v cs then then' kind tells steps s r wide at small =
+      let sf = r.fits id v at in
+      let own : FitsAs l.threads r.given w begin r.all r.seat_of id v Member = subst (FitsAs l.threads r.given w begin r.all r.seat_of id v) kind sf in
+      let t = steps s.words s.homes r.all r.core own.4 small in
+      let q = t.0 in (
+        with_part v q,
+        t.1,
+        t.2,
+        record {
+          all = set r.all v.number q;
+          seat_of = r.seat_of;
+          given = r.given;
+          count = length-set r.all v.number q ∙ r.count;
+          seated = subst (λ (z : ℕ). 0 < z) (sym (length-set s.views id (with_part v q))) r.seated;
+          fits = λ j u e. ⊎_elim
+              (λ (h : (j ≡ id) × (with_part v q ≡ u)). subst (λ (z : ℕ × View T H W). SeatFits l.threads r.given w begin (set r.all v.number q) r.seat_of z.0 z.1) (λ k. (sym h.0 k, h.1 k))
+              (subst (FitsAs l.threads r.given w begin (set r.all v.number q) r.seat_of id (with_part v q)) (sym kind) (own.0, own.1, own.2, own.3, set_here r.all v.number q (at_within r.all v.number v.part own.4))))
+              (λ (h : (j ≢ id) × (get_elem? s.views j ≡ some u)). let o = r.fits j u h.1 in others_fit l.threads r.given w begin r.all r.seat_of v.number q id j own.1 own.3 h.0 u u.kind o)
+              (at_set s.views id j (with_part v q) u e);
+          core = t.3;
+        },
+        tells _ q _ own.0 t.4,
+      )

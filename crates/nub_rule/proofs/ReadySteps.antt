@@ -1,0 +1,122 @@
+-- The steps on a ready word keep the rule.
+use Rattle.std.proofs.Common.{Bool, true, false, ◌≡◌, ◌≢◌, ℕ, ◌<◌, ◌≤◌, ◌⊎◌, List, [], ◌∷◌, ◌++◌, length, get_or, set, refl, sym, ap, ◌∙◌, subst, inl, inr, ⊎_elim, arith, length-set, get_or-set_same, Some, None}
+use Rattle.std.specs.Prelude.{Option as Opt}
+use mathlib.Core.Logic.{dite}
+use mathlib.Core.Option.{Option, some, none}
+use native.Mathlib.Decide.{ℕ_discrete}
+use lib.ListN.{get_elem?}
+use Rattle.larch_actions.specs.declared.event.Layout.{Layout}
+use Rattle.larch_actions.specs.Actions.{put}
+use Rattle.larch_actions.specs.Sets.{mem, without}
+use Rattle.atomic_table.specs.Table.{Me, step, Allows, keeps}
+use Rattle.nub_rule.specs.declared.rule.Slot.{Slot}
+use Rattle.nub_rule.specs.declared.view.Part.{Part}
+use Rattle.nub_rule.specs.declared.view.Stand.{Stand}
+use Rattle.nub_rule.specs.declared.view.Stage.{Stage}
+use Rattle.nub_rule.specs.declared.view.Stage.TheVariants.{Asleep, Found}
+use Rattle.nub_rule.specs.declared.view.View.{View}
+use Rattle.nub_rule.specs.declared.view.Kind.TheVariants.{Member}
+use Rattle.nub_rule.specs.Items.{Core, Lines}
+use Rattle.nub_rule.specs.Parts.{staged, turned, IsFound}
+use Rattle.nub_rule.specs.Places.{ready_at, spin_at, length_at}
+use Rattle.nub_rule.specs.Plays.{with_part, readied, looked_ready, unreadied}
+use Rattle.nub_rule.specs.Rule.{IsKept}
+use Rattle.nub_rule.proofs.Each.{at_within, at_below, put-here, put-else}
+use Rattle.nub_rule.proofs.Members.{Steps, member_steps}
+use Rattle.nub_rule.proofs.Frames.{SameReady, other, ready-bits, ready-spins, ready-shown, ready-pen, spins-frame, shows-frame, pens-frame}
+use Rattle.nub_rule.proofs.Standing.{some_none, false_true, mem-append, distinct-apart, without-append, without-absent, lines-ready, lines-unready, lines-stage}
+use Rattle.nub_rule.proofs.Spinning.{spins-change}
+use Rattle.nub_rule.proofs.Beside.{Alike, beside, still}
+
+-- whom a thread owes, it owes inside
+inside_of : (o : Opt ℕ) (xs : List ℕ) (t : ℕ) → (o ≡ None → xs ≡ []) → mem t xs ≡ true → (k : ℕ) × (o ≡ Some k)
+inside_of None xs t h there = absurd (false_true (sym (ap (mem t) (h refl)) ∙ there))
+inside_of (Some k) xs t h there = (k, refl)
+
+module _ {T H W : Type 0} (l : Layout) (traced : Bool) (w : W) (begin : W → ℕ → H) (holds : W → List T → List H → Type 0) where
+  pub readies : (slots id t : ℕ) (me : Me (Slot T) (View T H W)) → t < 64 → me.0.kind ≡ Member → (me.0.part.spin ≡ None → me.0.part.owed ≡ []) → ((o : ℕ) → me.0.part.spin ≡ Some o → o < 192) → mem t me.0.part.owed ≡ true
+      → Allows (IsKept l traced w begin holds) slots id me (ready_at t) (λ _. 1) (readied (step slots (ready_at t) 1 0 none) me)
+  readies slots id t me low kind settled inside there = let v = me.0 in let n = v.number in let p = v.part in let q : Part T H = record p { owed = without t p.owed } in
+      let spins = inside_of p.spin p.owed t settled there in let o = spins.0 in let here = spins.1 in let below = inside o here in
+      member_steps l traced w begin holds slots id (ready_at t) (λ _. 1) v me.1 (λ r s ds. (r ≡ 0) × (s ≡ q) × (ds ≡ me.1)) (readied (step slots (ready_at t) 1 0 none) me) kind
+      (λ r s ds world u k is. let e : t ≡ k = omega arith in (u.0, (λ i. (with_part v (u.1 i), u.2 i)) ∙ (λ i. (with_part v (record p { owed = without (e i) p.owed }), me.1))))
+      (λ words homes all c at small.
+      let s = c.spins in
+      let lines = c.lines in
+      let mine = (s.spinning n p at o).0 here in
+      let owes : mem t (c.owed o) ≡ true = ap (mem t) (sym mine.2) ∙ there in
+      let inline : mem t (c.owed o ++ c.queue o) ≡ true = mem-append t (c.owed o) (c.queue o) owes in
+      let zs : List ℕ = without t (c.owed o) in
+      let owed' = put c.owed o zs in
+      let words' : List ℕ = set words (ready_at t) 1 in
+      let wide = c.sizes.words_wide in
+      let is : owed' o ++ c.queue o ≡ without t (c.owed o ++ c.queue o) =
+      (λ i. put-here c.owed o zs i ++ sym (without-absent t (c.queue o) (distinct-apart t (c.owed o) (c.queue o) (lines.distinct o) owes)) i) ∙ sym (without-append t (c.owed o) (c.queue o)) in
+      let there' = at_below all t (lines.people o t inline) in
+      let zero = ((lines.stands t there'.0 there'.1).lined o inline).1 in (
+        q,
+        keeps,
+        tt,
+        beside l traced w holds words words' homes homes all n p q at (length-set words (ready_at t) 1) refl (ready-bits words 1 t low) (λ m. refl) record { seen = refl; mine = refl; places = refl; held = refl; share = refl } c.spinner c.writer c.queue owed' c
+            (spins-change c.spinner c.queue c.owed words homes all n p q at s o (c.queue o) zs c.queue owed' words' below here refl mine.1 (ap (without t) mine.2) refl (λ k ne. refl) (put-here c.owed o zs) (λ k ne. put-else c.owed o k zs ne)
+            (λ k lo. (ready-spins words 1 t low k lo).0) ((ready-spins words 1 t low o below).1 ∙ s.measured o below) (λ k lo ne. (ready-spins words 1 t low k lo).1))
+            (lines-ready (λ i. c.owed i ++ c.queue i) (λ i. owed' i ++ c.queue i) words words' all n p q at c.sizes.few t o (λ k lo ne. other words (ready_at t) (ready_at k) 1 (λ z. ne (omega arith))) (get_or-set_same words (ready_at t) 1 0 (omega arith))
+            is (λ k ne. ap (λ z. z ++ c.queue k) (put-else c.owed o k zs ne)) inline refl lines)
+            (shows-frame all n p q at c.spinner c.queue c.owner c.spec words words' (ready-shown words 1 t low) refl refl refl refl c.shows)
+            (pens-frame all n p q at traced (length c.log) c.writer words words' (ready-pen words 1 t low) refl c.pens),
+        (zero, refl, refl),
+      ))
+
+  -- the stand at a stage that the words show
+  restages : (n i : ℕ) (p : Part T H) (s : Stand) (g : Stage) (words : List ℕ) (homes : List (Option (Slot T))) (all : List (Part T H)) → get_elem? all n ≡ some p → p.stand ≡ Some s → (c : Core l traced w holds words homes all) → (IsFound g → get_or words (ready_at n) 0 ≡ 1)
+      → Core l traced w holds (set words i (get_or words i 0)) homes (set all n (record p { stand = staged g p.stand }))
+  restages n i p s g words homes all at stood c found = let q : Part T H = record p { stand = staged g p.stand } in
+      still l traced w holds words homes all i n p q at record { seen = refl; mine = refl; places = refl; held = refl; share = refl } refl refl refl refl refl refl refl c
+      (lines-stage (λ o. c.owed o ++ c.queue o) (λ o. c.owed o ++ c.queue o) words words all n p q at c.sizes.few s (record s { stage = g }) (λ t lo. refl) (λ o. refl) stood (ap (staged g) stood) refl found c.lines)
+
+  -- the bit is read after a push, or the own ready word before a sleep
+  pub retests : (slots id i : ℕ) (me : Me (Slot T) (View T H W)) (s : Stand) (a b : Stage) → me.0.kind ≡ Member → me.0.part.stand ≡ Some s → (IsFound a → ⊥) → (IsFound b → ⊥)
+      → Allows (IsKept l traced w begin holds) slots id me i (λ x. x) (λ r me'. (r ≡ 0 → me' ≡ (with_part me.0 (record me.0.part { stand = staged a me.0.part.stand }), me.1)) × (r ≢ 0 → me' ≡ (with_part me.0 (record me.0.part { stand = staged b me.0.part.stand }), me.1)))
+  retests slots id i me s a b kind stood na nb = let v = me.0 in let n = v.number in let p = v.part in
+      member_steps l traced w begin holds slots id i (λ x. x) v me.1 (λ r q ds. ((r ≡ 0) × (q ≡ record p { stand = staged a p.stand }) × (ds ≡ me.1)) ⊎ ((r ≢ 0) × (q ≡ record p { stand = staged b p.stand }) × (ds ≡ me.1)))
+      (λ r me'. (r ≡ 0 → me' ≡ (with_part v (record p { stand = staged a p.stand }), me.1)) × (r ≢ 0 → me' ≡ (with_part v (record p { stand = staged b p.stand }), me.1))) kind
+      (λ r q ds world t. ⊎_elim
+      (λ (u : (r ≡ 0) × (q ≡ record p { stand = staged a p.stand }) × (ds ≡ me.1)). ((λ _. λ j. (with_part v (u.1 j), u.2 j)), λ miss. absurd (miss u.0)))
+      (λ (u : (r ≢ 0) × (q ≡ record p { stand = staged b p.stand }) × (ds ≡ me.1)). ((λ hit. absurd (u.0 hit)), λ _. λ j. (with_part v (u.1 j), u.2 j))) t)
+      (λ words homes all c at small. dite (ℕ_discrete (get_or words i 0) 0)
+      (λ hit. (record p { stand = staged a p.stand }, keeps, tt, restages n i p s a words homes all at stood c (λ f. absurd (na f)), inl (hit, refl, refl)))
+      (λ miss. (record p { stand = staged b p.stand }, keeps, tt, restages n i p s b words homes all at stood c (λ f. absurd (nb f)), inr (miss, refl, refl))))
+
+  pub looks : (slots id : ℕ) (me : Me (Slot T) (View T H W)) (s : Stand) → me.0.kind ≡ Member → me.0.part.stand ≡ Some s → Allows (IsKept l traced w begin holds) slots id me (ready_at me.0.number) (λ x. x) (looked_ready (step slots (ready_at me.0.number) 0 0 none) me)
+  looks slots id me s kind stood = let v = me.0 in let n = v.number in let p = v.part in let i = ready_at n in
+      member_steps l traced w begin holds slots id i (λ x. x) v me.1 (λ r q ds. ((r ≡ 0) × (q ≡ record p { stand = staged Asleep p.stand }) × (ds ≡ me.1)) ⊎ ((r ≡ 1) × (q ≡ record p { stand = staged Found p.stand }) × (ds ≡ me.1)))
+      (looked_ready (step slots i 0 0 none) me) kind
+      (λ r q ds world t. ⊎_elim
+      (λ (u : (r ≡ 0) × (q ≡ record p { stand = staged Asleep p.stand }) × (ds ≡ me.1)). ((λ _. λ j. (with_part v (u.1 j), u.2 j)), λ miss. absurd (miss u.0)))
+      (λ (u : (r ≡ 1) × (q ≡ record p { stand = staged Found p.stand }) × (ds ≡ me.1)). ((λ hit. absurd (let z = u.0 in omega arith)), λ _. (u.0, λ j. (with_part v (u.1 j), u.2 j)))) t)
+      (λ words homes all c at small. ⊎_elim
+      (λ (hit : get_or words i 0 ≡ 0). (record p { stand = staged Asleep p.stand }, keeps, tt, restages n i p s Asleep words homes all at stood c (λ f. absurd f), inl (hit, refl, refl)))
+      (λ (one : get_or words i 0 ≡ 1). (record p { stand = staged Found p.stand }, keeps, tt, restages n i p s Found words homes all at stood c (λ _. one), inr (one, refl, refl)))
+      (c.lines.stands n p at).flag)
+
+  pub unreadies : (slots id : ℕ) (me : Me (Slot T) (View T H W)) (s : Stand) → me.0.number < 64 → me.0.kind ≡ Member → me.0.part.stand ≡ Some s → IsFound s.stage → Allows (IsKept l traced w begin holds) slots id me (ready_at me.0.number) (λ _. 0) (unreadied (step slots (ready_at me.0.number) 0 0 none) me)
+  unreadies slots id me s low kind stood found = let v = me.0 in let n = v.number in let p = v.part in let i = ready_at n in let q : Part T H = record p { stand = None; turns = turned p.stand p.turns } in
+      member_steps l traced w begin holds slots id i (λ _. 0) v me.1 (λ r x ds. (r ≡ 1) × (x ≡ q) × (ds ≡ me.1)) (unreadied (step slots i 0 0 none) me) kind
+      (λ r x ds world t. (t.0, λ j. (with_part v (t.1 j), t.2 j)))
+      (λ words homes all c at small. let words' : List ℕ = set words i 0 in let one = (c.lines.stands n p at).found s stood found in let wide = c.sizes.words_wide in (
+        q,
+        keeps,
+        tt,
+        beside l traced w holds words words' homes homes all n p q at (length-set words i 0) refl (ready-bits words 0 n low) (λ m. refl) record { seen = refl; mine = refl; places = refl; held = refl; share = refl } c.spinner c.writer c.queue c.owed c
+            (spins-frame all n p q at c.spinner c.queue c.owed words words' homes homes (ready-spins words 0 n low) (λ k lo. refl) refl refl refl c.spins)
+            (lines-unready (λ k. c.owed k ++ c.queue k) (λ k. c.owed k ++ c.queue k) words words' all n p q at c.sizes.few (λ k lo ne. other words i (ready_at k) 0 (λ z. ne (omega arith))) (λ k. refl) one (get_or-set_same words i 0 0 (omega arith)) refl c.lines)
+            (shows-frame all n p q at c.spinner c.queue c.owner c.spec words words' (ready-shown words 0 n low) refl refl refl refl c.shows)
+            (pens-frame all n p q at traced (length c.log) c.writer words words' (ready-pen words 0 n low) refl c.pens),
+        (one, refl, refl),
+      ))
+
+  pub looks_by : (slots id n : ℕ) (me : Me (Slot T) (View T H W)) (s : Stand) → me.0.number ≡ n → me.0.kind ≡ Member → me.0.part.stand ≡ Some s → Allows (IsKept l traced w begin holds) slots id me (ready_at n) (λ x. x) (looked_ready (step slots (ready_at n) 0 0 none) me)
+  looks_by slots id n me s e kind stood = subst (λ (n : ℕ). Allows (IsKept l traced w begin holds) slots id me (ready_at n) (λ x. x) (looked_ready (step slots (ready_at n) 0 0 none) me)) e (looks slots id me s kind stood)
+
+  pub unreadies_by : (slots id n : ℕ) (me : Me (Slot T) (View T H W)) (s : Stand) → me.0.number ≡ n → n < 64 → me.0.kind ≡ Member → me.0.part.stand ≡ Some s → IsFound s.stage → Allows (IsKept l traced w begin holds) slots id me (ready_at n) (λ _. 0) (unreadied (step slots (ready_at n) 0 0 none) me)
+  unreadies_by slots id n me s e low kind stood found = subst (λ (n : ℕ). Allows (IsKept l traced w begin holds) slots id me (ready_at n) (λ _. 0) (unreadied (step slots (ready_at n) 0 0 none) me)) e (unreadies slots id me s (subst (λ (k : ℕ). k < 64) (sym e) low) kind stood found)

@@ -1,0 +1,60 @@
+-- What a step tells of a seat, said of the thread as contracts see it; and that the thread stays one.
+use Rattle.std.proofs.Common.{Bool, ◌≡◌, ◌≢◌, ℕ, ◌+◌, ◌<◌, ◌≤◌, List, [], ◌∷◌, map, length, refl, sym, ap, ◌∙◌, subst, Some, None}
+use Rattle.std.specs.Prelude.{Option as Opt}
+use Rattle.atomic_table.specs.Table.{rest}
+use Rattle.atomic_table.specs.Seated.{TableId}
+use Rattle.nub_rule.specs.declared.package.Entry.{Entry}
+use Rattle.nub_rule.specs.declared.rule.Slot.{Slot}
+use Rattle.nub_rule.specs.declared.view.Part.{Part}
+use Rattle.nub_rule.specs.declared.view.View.{View}
+use Rattle.nub_rule.specs.declared.view.Kind.TheVariants.{Member}
+use Rattle.nub_rule.specs.declared.rule.Slot.TheVariants.{Value}
+use Rattle.nub_rule.specs.Known.{Known, known_as, Hands, MayGive}
+use Rattle.nub_rule.specs.Places.{value_at}
+use Rattle.nub_rule.specs.Plays.{Sat, with_part, MayFree}
+use Rattle.nub_rule.specs.Slots.{find, IsDistinct, Below, behind_first}
+use Rattle.nub_rule.proofs.Turns.{keys}
+use Rattle.nub_rule.proofs.Handling.{gone, value-found}
+
+module _ {T H W : Type 0} where
+  pub as_known : (P : TableId → Sat T H W → Known T H W → Type 0) (z z' : TableId) (n : ℕ) (es : List Entry) (lo : Bool) {nx : ℕ} (me me' m : Sat T H W) (a : Known T H W) → known_as z n me es lo nx ≡ a → z' ≡ z → me' ≡ m → P z m (known_as z n me es lo nx) → P z' me' a
+  as_known P z z' n es lo me me' m a v ez em base = subst (λ (t : TableId × Sat T H W × Known T H W). P t.0 t.1 t.2) (λ i. (sym ez i, sym em i, v i)) base
+
+  -- the invariant of a thread
+  abbrev pub Fit : Type 0 → (TableId → Type 0) → TableId → ℕ → List ℕ → Sat T H W → Type 0
+  Fit A R z n hand me = (me.0.kind ≡ Member) × (me.0.number ≡ n) × (map (λ x. x.0) me.1 ≡ hand) × IsDistinct me.1 × Below 256 me.1 × (length me.0.part.held ≡ 64) × Hands me.0.part me.1 × A × R z × (n < 64)
+
+  -- only the part has changed
+  pub fit_still : (A : Type 0) (R : TableId → Type 0) (z z' : TableId) (n : ℕ) (hand : List ℕ) (me me' : Sat T H W) (q : Part T H) → z' ≡ z → me' ≡ (with_part me.0 q, me.1) → Fit A R z n hand me → length q.held ≡ length me.0.part.held → Hands q me.1 → Fit A R z' n hand me'
+  fit_still A R z z' n hand me me' q ez em f held hands = subst (λ (t : TableId × Sat T H W). Fit A R t.0 n hand t.1) (λ i. (sym ez i, sym em i)) (f.0, f.1, f.2, f.3, f.4, held ∙ f.5, hands, f.7, f.8, f.9)
+
+  -- the part and the slots at hand have changed
+  pub fit_moved : (A : Type 0) (R : TableId → Type 0) (z z' : TableId) (n : ℕ) (hand hand' : List ℕ) (me me' : Sat T H W) (q : Part T H) (ds : List (ℕ × Slot T)) → z' ≡ z → me' ≡ (with_part me.0 q, ds) → Fit A R z n hand me → keys ds ≡ hand' → IsDistinct ds → Below 256 ds → length q.held ≡ length me.0.part.held → Hands q ds → Fit A R z' n hand' me'
+  fit_moved A R z z' n hand hand' me me' q ds ez em f ks d low held hands = subst (λ (t : TableId × Sat T H W). Fit A R t.0 n hand' t.1) (λ i. (sym ez i, sym em i)) (f.0, f.1, ks, d, low, held ∙ f.5, hands, f.7, f.8, f.9)
+
+module _ {T : Type 0} where
+  below_rest : (n : ℕ) (xs : List (ℕ × Slot T)) → Below n xs → Below n (rest xs)
+  below_rest n [] b = tt
+  below_rest n (x ∷ xs) b = b.1
+
+  keys_rest : (xs : List (ℕ × Slot T)) → keys (rest xs) ≡ behind_first (keys xs)
+  keys_rest [] = refl
+  keys_rest (x ∷ xs) = refl
+
+module _ {T H W : Type 0} where
+  -- the slot that was brought to the front is given back
+  pub fit_given : (A : Type 0) (R : TableId → Type 0) (z z' : TableId) (n slot : ℕ) (s : Slot T) (hand hand' : List ℕ) (me me' : Sat T H W) (q : Part T H) (xs : List (ℕ × Slot T)) → z' ≡ z → me' ≡ (with_part me.0 q, rest xs) → (me.0.kind ≡ Member) → (me.0.number ≡ n) → (length me.0.part.held ≡ 64) → A → R z → n < 64
+      → keys xs ≡ hand → hand' ≡ behind_first hand → IsDistinct xs → Below 256 xs → xs ≡ (slot, s) ∷ rest xs → length q.held ≡ length me.0.part.held → Hands q (rest xs) → Fit A R z' n hand' me'
+  fit_given A R z z' n slot s hand hand' me me' q xs ez em kind number wide a r low64 ks hs d low first held hands = subst (λ (t : TableId × Sat T H W). Fit A R t.0 n hand' t.1) (λ i. (sym ez i, sym em i))
+      (kind, number, keys_rest xs ∙ (ap behind_first ks ∙ sym hs), (gone slot xs s d first).2, below_rest 256 xs low, held ∙ wide, hands, a, r, low64)
+
+module _ {T H W : Type 0} where
+  -- a thread that may give a mutex back, with its slot brought to the front
+  pub may_free : (allows : W → ℕ → ℕ → T → T → H → H → Type 0) (after : W → ℕ → ℕ → T → T → H → H) (m : ℕ) (z : TableId) (n : ℕ) (es : List Entry) (lo : Bool) {nx : ℕ} (me : Sat T H W) (k : Known T H W) (v : View T H W) (ds : List (ℕ × Slot T))
+      → known_as z n me es lo nx ≡ k → me.0.number ≡ n → v ≡ me.0 → ((s : Slot T) → find (value_at m) me.1 ≡ Some s → ds ≡ (value_at m, s) ∷ rest ds) → MayGive allows after m k → MayFree allows after m (v, ds)
+  may_free allows after m z n es lo me k v ds is number same first may = let t = subst (λ (j : Known T H W). MayGive allows after m j) (sym is) may in
+      subst (λ (v : View T H W). MayFree allows after m (v, ds)) (sym same)
+      (t.0, t.1, t.2, first (Value (Some t.1)) (value-found m (Some t.1) me.1 t.3), λ w s world share. subst (λ (i : ℕ). allows w m i t.0 t.1 s (after w m i t.0 t.1 s)) (sym number) (t.4 w s world share))
+
+pub value_of : {T : Type 0} (a b : Opt T) → (let s : Slot T = Value a in s) ≡ Value b → a ≡ b
+value_of a b e = cc

@@ -1,0 +1,116 @@
+-- The steps on a spin word keep the rule.
+use Rattle.std.proofs.Common.{Bool, true, false, ◌≡◌, ◌≢◌, ℕ, eqb, ◌-◌, ◌<◌, ◌≤◌, ◌⊎◌, List, [], ◌∷◌, ◌++◌, length, get_or, set, refl, sym, ap, ◌∙◌, subst, inl, inr, ⊎_elim, arith, length-set, Some, None, eq-eqb, ne_eqb}
+use mathlib.Core.Logic.{dite}
+use mathlib.Core.Option.{Option, some, none}
+use native.Mathlib.Decide.{ℕ_discrete}
+use prog.Atomic.{either}
+use lib.ListN.{get_elem?}
+use Rattle.larch_actions.specs.declared.event.Layout.{Layout}
+use Rattle.larch_actions.specs.Actions.{put}
+use Rattle.larch_actions.specs.Sets.{mem, without}
+use Rattle.atomic_table.specs.Table.{Me, step, Allows, keeps, takes, gives, put_back, rest}
+use Rattle.atomic_table.proofs.Lists.{set_else}
+use Rattle.nub_rule.specs.declared.rule.Slot.{Slot}
+use Rattle.nub_rule.specs.declared.rule.Slot.TheVariants.{Queue}
+use Rattle.nub_rule.specs.declared.view.Part.{Part}
+use Rattle.nub_rule.specs.declared.view.View.{View}
+use Rattle.nub_rule.specs.declared.view.Kind.TheVariants.{Member}
+use Rattle.nub_rule.specs.Items.{Small, line_of, Marks, Core}
+use Rattle.nub_rule.specs.Parts.{stands_at}
+use Rattle.nub_rule.specs.Places.{spin_at, queue_at, value_at}
+use Rattle.nub_rule.specs.Plays.{with_part, spun, unspun}
+use Rattle.nub_rule.specs.Rule.{IsKept}
+use Rattle.nub_rule.proofs.Each.{at_within}
+use Rattle.nub_rule.proofs.Members.{Steps, member_steps}
+use Rattle.nub_rule.proofs.Frames.{spin-bits, spin-ready, spin-shown, spin-pen, pens-frame}
+use Rattle.nub_rule.proofs.Standing.{no_object, not_true, some_none, stand_none, distinct-behind, mem-behind, lines-same}
+use Rattle.nub_rule.proofs.Counting.{room_to_push, small_of}
+use Rattle.nub_rule.proofs.Showing.{shows-spin, shows-unspin}
+use Rattle.nub_rule.proofs.Spinning.{only_here, spins-take, spins-give}
+use Rattle.nub_rule.proofs.Beside.{Alike, beside, idle}
+
+pub nobody-by : (x : ℕ) (owner : Option ℕ) → Marks x owner → x ≡ 0 → owner ≡ none
+nobody-by x owner m z = ⊎_elim (λ (t : (x ≡ 0) × (owner ≡ none)). t.1) (λ (t : (x ≡ 1) × ((k : ℕ) × (owner ≡ some k))). let u = t.0 in absurd (omega arith)) m
+
+pub one-by : (x n : ℕ) (owner : Option ℕ) → Marks x owner → owner ≡ some n → x ≡ 1
+one-by x n owner m own = ⊎_elim (λ (t : (x ≡ 0) × (owner ≡ none)). absurd (let z : none ≡ some n = sym t.1 ∙ own in cc)) (λ (t : (x ≡ 1) × ((k : ℕ) × (owner ≡ some k))). t.0) m
+
+module _ {T H W : Type 0} (l : Layout) (traced : Bool) (w : W) (begin : W → ℕ → H) (holds : W → List T → List H → Type 0) where
+  -- the winner of a spin word learns the queue
+  abbrev Spun : ℕ → ℕ → Part T H → List (ℕ × Slot T) → Part T H → List (ℕ × Slot T) → Type 0
+  Spun n o p cs q ds = (xs : List ℕ) × (k : ℕ) × (p.stand ≡ None → length xs < 64) × Small 64 xs × (mem n xs ≡ true → stands_at p.stand o ≡ true) × (q ≡ record p { spin = Some o; queue = xs; owed = []; left = xs; count = k; failed = without o p.failed }) × (ds ≡ (queue_at o, Queue (line_of xs)) ∷ cs)
+
+  spins_at : (n o : ℕ) (p : Part T H) (cs : List (ℕ × Slot T)) → o < 192 → p.spin ≡ None
+      → Steps l traced w begin holds n (spin_at o) (λ x. either (eqb x 0) 1 x) p cs (λ r q ds. ((r ≡ 0) × Spun n o p cs q ds) ⊎ ((r ≢ 0) × (q ≡ p) × (ds ≡ cs)))
+  spins_at n o p cs low idle_there words homes all c at small = let r : ℕ = get_or words (spin_at o) 0 in let s = c.spins in dite (ℕ_discrete r 0)
+      (λ hit.
+      let free : c.spinner o ≡ none = nobody-by r (c.spinner o) (s.spin o low) hit in
+      let xs : List ℕ = c.queue o in
+      let q : Part T H = record p { spin = Some o; queue = xs; owed = []; left = xs; count = c.shows.count (o - 128); failed = without o p.failed } in
+      let words' : List ℕ = set words (spin_at o) 1 in
+      let homes' : List (Option (Slot T)) = set homes (queue_at o) none in
+      let lines = c.lines in
+      let few = c.sizes.few in
+      let inside : (t : ℕ) → mem t xs ≡ true → mem t (c.owed o ++ c.queue o) ≡ true = λ t there. mem-behind t (c.owed o) xs there in
+      let there : mem n xs ≡ true → stands_at p.stand o ≡ true = λ is. ((lines.stands n p at).lined o (inside n is)).0 in (
+        q,
+        takes (queue_at o) (Queue (line_of xs)),
+        s.home o low free,
+        subst (λ b. Core l traced w holds (set words (spin_at o) (either b 1 r)) homes' (set all n q)) (sym (eq-eqb r 0 hit))
+            (beside l traced w holds words words' homes homes' all n p q at (length-set words (spin_at o) 1) (length-set homes (queue_at o) none) (spin-bits words 1 o low) (λ m. set_else homes (queue_at o) (value_at m) none (λ z. omega arith))
+            record { seen = refl; mine = refl; places = refl; held = refl; share = refl } (put c.spinner o (some n)) c.writer c.queue c.owed c
+            (spins-take c.spinner c.queue c.owed words homes all n p q at s o low c.sizes.words_wide free idle_there refl refl refl)
+            (lines-same (λ i. c.owed i ++ c.queue i) (λ i. c.owed i ++ c.queue i) words words' all n p q at few (spin-ready words 1 o low) (λ i. refl) refl lines)
+            (shows-spin words words' (spin-shown words 1 o low) c.spinner c.queue c.owner c.spec all n p q at o refl refl refl free (λ k is. no_object k (sym idle_there ∙ (s.spinning n p at k).1 is)) c.shows refl)
+            (pens-frame all n p q at traced (length c.log) c.writer words words' (spin-pen words 1 o low) refl c.pens)),
+        inl (
+          hit,
+          (
+            xs,
+            c.shows.count (o - 128),
+            (λ out. let room = room_to_push (length all) n xs (distinct-behind (c.owed o) xs (lines.distinct o)) (λ t is. lines.people o t (inside t is)) (at_within all n p at) (not_true (mem n xs) (λ is. stand_none p.stand o out (there is))) in omega arith),
+            small_of 64 xs (λ t is. let a = lines.people o t (inside t is) in omega arith),
+            there,
+            refl,
+            refl,
+          ),
+        ),
+      ))
+      (λ miss. (p, keeps, tt, subst (λ b. Core l traced w holds (set words (spin_at o) (either b 1 r)) homes (set all n p)) (sym (ne_eqb r 0 miss)) (idle l traced w holds words homes all (spin_at o) n p at c), inr (miss, refl, refl)))
+
+  pub spins : (slots id o : ℕ) (me : Me (Slot T) (View T H W)) → o < 192 → me.0.kind ≡ Member → me.0.part.spin ≡ None → Allows (IsKept l traced w begin holds) slots id me (spin_at o) (λ x. either (eqb x 0) 1 x) (spun (step slots (spin_at o) 0 1 none) me)
+  spins slots id o me low kind idle_there = let v = me.0 in let n = v.number in let p = v.part in member_steps l traced w begin holds slots id (spin_at o) (λ x. either (eqb x 0) 1 x) v me.1
+      (λ r q ds. ((r ≡ 0) × Spun n o p me.1 q ds) ⊎ ((r ≢ 0) × (q ≡ p) × (ds ≡ me.1))) (spun (step slots (spin_at o) 0 1 none) me) kind
+      (λ r q ds world t. ⊎_elim
+      (λ (u : (r ≡ 0) × Spun n o p me.1 q ds). (
+        (λ k is hit. let e : o ≡ k = omega arith in
+            let x = u.1 in (x.0, x.1, x.2, x.3, (λ there. (λ i. stands_at p.stand (sym e i)) ∙ x.4 there), (λ i. (with_part v (x.5 i), x.6 i)) ∙ (λ i. (with_part v (record p { spin = Some (e i); queue = x.0; owed = []; left = x.0; count = x.1; failed = without (e i) p.failed }), (queue_at (e i), Queue (line_of x.0)) ∷ me.1)))),
+        λ miss. absurd (miss u.0),
+      ))
+      (λ (u : (r ≢ 0) × (q ≡ p) × (ds ≡ me.1)). ((λ k is hit. absurd (u.0 hit)), λ _. λ i. (with_part v (u.1 i), u.2 i))) t)
+      (spins_at n o p me.1 low idle_there)
+
+  pub unspins : (slots id o : ℕ) (me : Me (Slot T) (View T H W)) → o < 192 → me.0.kind ≡ Member → me.0.part.spin ≡ Some o → me.0.part.owed ≡ [] → me.0.part.left ≡ me.0.part.queue → me.1 ≡ (queue_at o, Queue (line_of me.0.part.queue)) ∷ rest me.1
+      → Allows (IsKept l traced w begin holds) slots id me (spin_at o) (λ _. 0) (unspun (step slots (spin_at o) 0 0 none) me)
+  unspins slots id o me low kind here none_owed even first = let v = me.0 in let n = v.number in let p = v.part in let q : Part T H = record p { spin = None; queue = []; left = [] } in
+      member_steps l traced w begin holds slots id (spin_at o) (λ _. 0) v me.1 (λ r s ds. (r ≡ 1) × (s ≡ q) × (ds ≡ rest me.1)) (unspun (step slots (spin_at o) 0 0 none) me) kind
+      (λ r s ds world t. (t.0, λ i. (with_part v (t.1 i), t.2 i)))
+      (λ words homes all c at small.
+      let s = c.spins in
+      let mine = (s.spinning n p at o).0 here in
+      let line : Slot T = Queue (line_of p.queue) in
+      let words' : List ℕ = set words (spin_at o) 0 in
+      let homes' : List (Option (Slot T)) = set homes (queue_at o) (some line) in
+      let hs = c.sizes.homes_wide in (
+        q,
+        gives,
+        tt,
+        subst (λ (z : List (Option (Slot T))). Core l traced w holds words' z (set all n q)) (ap (put_back homes) (sym first))
+            (beside l traced w holds words words' homes homes' all n p q at (length-set words (spin_at o) 0) (length-set homes (queue_at o) (some line)) (spin-bits words 0 o low) (λ m. set_else homes (queue_at o) (value_at m) (some line) (λ z. omega arith))
+            record { seen = refl; mine = refl; places = refl; held = refl; share = refl } (put c.spinner o none) c.writer c.queue c.owed c
+            (spins-give c.spinner c.queue c.owed words homes all n p q at s o low c.sizes.words_wide (omega arith) here none_owed refl)
+            (lines-same (λ i. c.owed i ++ c.queue i) (λ i. c.owed i ++ c.queue i) words words' all n p q at c.sizes.few (spin-ready words 0 o low) (λ i. refl) refl c.lines)
+            (shows-unspin words words' (spin-shown words 0 o low) c.spinner c.queue c.owner c.spec all n p q at o refl refl mine.0 (only_here c.spinner c.queue c.owed words homes all n p q at s o here) (even ∙ mine.1) c.shows)
+            (pens-frame all n p q at traced (length c.log) c.writer words words' (spin-pen words 0 o low) refl c.pens)),
+        (one-by (get_or words (spin_at o) 0) n (c.spinner o) (s.spin o low) mine.0, refl, refl),
+      ))

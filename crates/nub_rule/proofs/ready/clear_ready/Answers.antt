@@ -1,0 +1,41 @@
+use Rattle.std.proofs.Common.{rules, arith, true, false, ◌≡◌, ◌≢◌, ◌+◌, ◌≤◌, ◌<◌, ◌∙◌, ◌∷◌, ◌++◌, [], ℕ, List, ap, sym, subst, length, refl, Some, None, vec_capacity, set}
+use mathlib.Core.Logic.{dite}
+use native.Mathlib.Decide.{ℕ_discrete}
+use Rattle.larch_actions.specs.Sets.{mem, without}
+use Rattle.atomic_table.specs.Seated.{TableId}
+use Rattle.nub_rule.specs.declared.rule.Slot.TheVariants.{Value, Queue}
+use Rattle.nub_rule.specs.declared.view.Stage.TheVariants.{Pushed, Clear, Tested, Asleep, Found}
+use Rattle.nub_rule.specs.Items.{Small, no_line, line_of}
+use Rattle.nub_rule.specs.Known.{known_as, Makes}
+use Rattle.nub_rule.specs.Objects.{object_of}
+use Rattle.nub_rule.specs.Parts.{stands_at, staged, turned, made}
+use Rattle.nub_rule.specs.Places.{sem_object, value_at}
+use Rattle.nub_rule.specs.Plays.{with_part, behind, front, less}
+use Rattle.nub_rule.specs.Slots.{find}
+use Rattle.nub_rule.proofs.Naming.{object_low, mutex_low, sem_low, lawful_now, some_or_none, staged_none}
+use Rattle.nub_rule.proofs.Handling.{values-same, values-set, value-found, value-there, gone, hands-same, hands-spun, hands-unspun, hands-queue, hands-won, hands-freed, hands-value}
+use Rattle.nub_rule.proofs.Seen.{as_known, fit_still, fit_moved, fit_given}
+use Rattle.atomic_table.specs.Table.{step, Allows}
+use mathlib.Core.Option.{none}
+use Rattle.std.specs.Prelude.{ltb}
+use Rattle.nub_rule.specs.Places.{ready_at}
+use Rattle.nub_rule.specs.Plays.{unreadied}
+use Rattle.nub_rule.proofs.Naming.{turned-gate, turned-cond}
+use Rattle.nub_rule.proofs.ReadySteps.{unreadies_by}
+use Rattle.nub_rule.proofs.ready.clear_ready.Goals as goal
+
+pub swap-requires : goal.swap-requires
+swap-requires g c = let i = c.me.invariant in let t = c.requires.ready in
+    (search rules, (let low = i.9 in omega arith), unreadies_by _ _ _ _ _ _ _ _ c.me.inside.seat.me t.0 i.1 i.9 i.0 (ap (λ k. k.stand) c.me.view_is ∙ t.1) t.2)
+
+pub invariant_of-me : goal.invariant_of-me
+invariant_of-me g c = let i = c.me.invariant in let h = i.6 in let out : c.me.inside.seat.me.0.part.spin ≡ None = ap (λ k. k.spin) c.me.view_is ∙ c.requires.outside in fit_still (c.me.inside.room.items ≡ []) (λ (z : TableId). c.me.inside.number ≡ 0 → z.slots ≤ 192 + vec_capacity c.me.inside.room) _ _ c.me.inside.number c.me.inside.hand c.me.inside.seat.me _ _ c.swap.ensures.0 (c.swap.ensures.2.1) i refl (hands-same c.me.inside.seat.me.0.part _ c.me.inside.seat.me.1 _ (λ k. refl) refl refl refl (λ o is. absurd (some_or_none _ o out is)) h.settled h)
+
+pub returns-clause-found : goal.returns-clause-found
+returns-clause-found g c = c.swap.ensures.2.0
+
+pub returns-clause-at_gate : goal.returns-clause-at_gate
+returns-clause-at_gate g c = λ s is low. as_known (λ z m a. known_as z c.me.inside.number m c.me.inside.entries.items c.me.inside.lost c.me.inside.next ≡ record a { stand = None; turns = turned a.stand a.turns }) _ _ _ _ _ c.me.inside.seat.me _ _ _ c.me.view_is c.swap.ensures.0 (c.swap.ensures.2.1) refl ∙ (λ j. record c.args.me.now { stand = None; turns = turned-gate c.args.me.now.stand c.args.me.now.turns s is low j })
+
+pub returns-clause-at_cond : goal.returns-clause-at_cond
+returns-clause-at_cond g c = λ s is hi. as_known (λ z m a. known_as z c.me.inside.number m c.me.inside.entries.items c.me.inside.lost c.me.inside.next ≡ record a { stand = None; turns = turned a.stand a.turns }) _ _ _ _ _ c.me.inside.seat.me _ _ _ c.me.view_is c.swap.ensures.0 (c.swap.ensures.2.1) refl ∙ (λ j. record c.args.me.now { stand = None; turns = turned-cond c.args.me.now.stand c.args.me.now.turns s is hi j })

@@ -1,0 +1,40 @@
+use Rattle.std.proofs.Common.{rules, arith, true, false, ◌≡◌, ◌≢◌, ◌+◌, ◌≤◌, ◌<◌, ◌∙◌, ◌∷◌, ◌++◌, [], ℕ, List, ap, sym, subst, length, refl, Some, None, vec_capacity, set}
+use mathlib.Core.Logic.{dite}
+use native.Mathlib.Decide.{ℕ_discrete}
+use Rattle.larch_actions.specs.Sets.{mem, without}
+use Rattle.atomic_table.specs.Seated.{TableId}
+use Rattle.nub_rule.specs.declared.rule.Slot.TheVariants.{Value, Queue}
+use Rattle.nub_rule.specs.declared.view.Stage.TheVariants.{Pushed, Clear, Tested, Asleep, Found}
+use Rattle.nub_rule.specs.Items.{Small, no_line, line_of}
+use Rattle.nub_rule.specs.Known.{known_as, Makes}
+use Rattle.nub_rule.specs.Objects.{object_of}
+use Rattle.nub_rule.specs.Parts.{stands_at, staged, turned, made}
+use Rattle.nub_rule.specs.Places.{sem_object, value_at}
+use Rattle.nub_rule.specs.Plays.{with_part, behind, front, less}
+use Rattle.nub_rule.specs.Slots.{find}
+use Rattle.nub_rule.proofs.Naming.{object_low, mutex_low, sem_low, lawful_now, some_or_none, staged_none}
+use Rattle.nub_rule.proofs.Handling.{values-same, values-set, value-found, value-there, gone, hands-same, hands-spun, hands-unspun, hands-queue, hands-won, hands-freed, hands-value}
+use Rattle.nub_rule.proofs.Seen.{as_known, fit_still, fit_moved, fit_given}
+use Rattle.atomic_table.specs.Table.{step, Allows}
+use mathlib.Core.Option.{none}
+use Rattle.nub_rule.specs.Places.{ready_at}
+use Rattle.nub_rule.specs.Plays.{looked_ready}
+use Rattle.nub_rule.proofs.ReadySteps.{looks_by}
+use Rattle.nub_rule.proofs.ready.read_ready.Goals as goal
+
+pub load-requires : goal.load-requires
+load-requires g c = let i = c.me.invariant in let t = c.requires.tested in (search rules, (let low = i.9 in omega arith), looks_by _ _ _ _ _ _ _ _ c.me.inside.seat.me t.0 i.1 i.0 (ap (λ k. k.stand) c.me.view_is ∙ t.1))
+
+pub invariant_of-me : goal.invariant_of-me
+invariant_of-me g c = let i = c.me.invariant in let h = i.6 in let out : c.me.inside.seat.me.0.part.spin ≡ None = ap (λ k. k.spin) c.me.view_is ∙ c.requires.outside in dite (ℕ_discrete c.load.result 0)
+    (λ hit. fit_still (c.me.inside.room.items ≡ []) (λ (z : TableId). c.me.inside.number ≡ 0 → z.slots ≤ 192 + vec_capacity c.me.inside.room) _ _ c.me.inside.number c.me.inside.hand c.me.inside.seat.me _ _ c.load.ensures.0 (c.load.ensures.2.0 hit) i refl (hands-same c.me.inside.seat.me.0.part _ c.me.inside.seat.me.1 _ (λ k. refl) refl refl refl (λ o is. absurd (some_or_none _ o out is)) h.settled h))
+    (λ miss. fit_still (c.me.inside.room.items ≡ []) (λ (z : TableId). c.me.inside.number ≡ 0 → z.slots ≤ 192 + vec_capacity c.me.inside.room) _ _ c.me.inside.number c.me.inside.hand c.me.inside.seat.me _ _ c.load.ensures.0 ((c.load.ensures.2.1 miss).1) i refl (hands-same c.me.inside.seat.me.0.part _ c.me.inside.seat.me.1 _ (λ k. refl) refl refl refl (λ o is. absurd (some_or_none _ o out is)) h.settled h))
+
+pub returns-clause-asleep : goal.returns-clause-asleep
+returns-clause-asleep g c = λ hit. as_known (λ z m a. known_as z c.me.inside.number m c.me.inside.entries.items c.me.inside.lost c.me.inside.next ≡ record a { stand = staged Asleep a.stand }) _ _ _ _ _ c.me.inside.seat.me _ _ _ c.me.view_is c.load.ensures.0 (c.load.ensures.2.0 hit) refl
+
+pub returns-clause-found : goal.returns-clause-found
+returns-clause-found g c = λ miss. as_known (λ z m a. known_as z c.me.inside.number m c.me.inside.entries.items c.me.inside.lost c.me.inside.next ≡ record a { stand = staged Found a.stand }) _ _ _ _ _ c.me.inside.seat.me _ _ _ c.me.view_is c.load.ensures.0 ((c.load.ensures.2.1 miss).1) refl
+
+pub returns-clause-one : goal.returns-clause-one
+returns-clause-one g c = λ miss. (c.load.ensures.2.1 miss).0

@@ -1,0 +1,31 @@
+use Rattle.std.proofs.Common.{rules, arith, true, false, ◌≡◌, ◌≢◌, ◌+◌, ◌≤◌, ◌<◌, ◌∙◌, ◌∷◌, ◌++◌, [], ℕ, List, ap, sym, subst, length, refl, Some, None, vec_capacity, set}
+use mathlib.Core.Logic.{dite}
+use native.Mathlib.Decide.{ℕ_discrete}
+use Rattle.larch_actions.specs.Sets.{mem, without}
+use Rattle.atomic_table.specs.Seated.{TableId}
+use Rattle.nub_rule.specs.declared.rule.Slot.TheVariants.{Value, Queue}
+use Rattle.nub_rule.specs.declared.view.Stage.TheVariants.{Pushed, Clear, Tested, Asleep, Found}
+use Rattle.nub_rule.specs.Items.{Small, no_line, line_of}
+use Rattle.nub_rule.specs.Known.{known_as, Makes}
+use Rattle.nub_rule.specs.Objects.{object_of}
+use Rattle.nub_rule.specs.Parts.{stands_at, staged, turned, made}
+use Rattle.nub_rule.specs.Places.{sem_object, value_at}
+use Rattle.nub_rule.specs.Plays.{with_part, behind, front, less}
+use Rattle.nub_rule.specs.Slots.{find}
+use Rattle.nub_rule.proofs.Naming.{object_low, mutex_low, sem_low, lawful_now, some_or_none, staged_none}
+use Rattle.nub_rule.proofs.Handling.{values-same, values-set, value-found, value-there, gone, hands-same, hands-spun, hands-unspun, hands-queue, hands-won, hands-freed, hands-value}
+use Rattle.nub_rule.proofs.Seen.{as_known, fit_still, fit_moved, fit_given}
+use Rattle.nub_rule.proofs.ReadySteps.{readies}
+use Rattle.nub_rule.proofs.ready.set_ready.Goals as goal
+
+pub swap-found-requires : goal.swap-found-requires
+swap-found-requires g c = let i = c.me.invariant in let h = i.6 in (search rules, search rules, readies _ _ _ _ _ _ _ _ _ c.requires.named i.0 h.settled h.below (ap (λ k. mem c.args.t.0 k.owed) c.me.view_is ∙ c.requires.owed))
+
+pub invariant_of-me : goal.invariant_of-me
+invariant_of-me g c = let i = c.me.invariant in let h = i.6 in fit_still (c.me.inside.room.items ≡ []) (λ (z : TableId). c.me.inside.number ≡ 0 → z.slots ≤ 192 + vec_capacity c.me.inside.room) _ _ c.me.inside.number c.me.inside.hand c.me.inside.seat.me _ _ c.swap-found.ensures.0 ((c.swap-found.ensures.2 c.args.t.0 refl).1) i refl (hands-same c.me.inside.seat.me.0.part _ c.me.inside.seat.me.1 _ (λ k. refl) refl refl refl h.room (λ z. ap (without c.args.t.0) (h.settled z)) h)
+
+pub returns-clause-found : goal.returns-clause-found
+returns-clause-found g c = (c.swap-found.ensures.2 c.args.t.0 refl).0
+
+pub returns-clause-owes : goal.returns-clause-owes
+returns-clause-owes g c = as_known (λ z m a. known_as z c.me.inside.number m c.me.inside.entries.items c.me.inside.lost c.me.inside.next ≡ record a { owed = without c.args.t.0 a.owed }) _ _ _ _ _ c.me.inside.seat.me _ _ _ c.me.view_is c.swap-found.ensures.0 ((c.swap-found.ensures.2 c.args.t.0 refl).1) refl

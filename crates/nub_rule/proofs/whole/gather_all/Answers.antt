@@ -1,0 +1,55 @@
+use Rattle.std.proofs.Common.{rules, arith, vec_capacity, ◌≢◌, [], map, append_assoc, ⊎_elim, ◌≡◌, ◌+◌, ◌++◌, ◌∷◌, ◌∙◌, ap, sym, length, length-append}
+use lib.ListN.{get_elem?}
+use Rattle.std.proofs.lemmas.List.{length-map, map-append}
+use Rattle.std.proofs.lemmas.Bool.{cases_eq}
+use Rattle.nub_rule.specs.Known.{part_of}
+use Rattle.nub_rule.proofs.Each.{at_middle}
+use Rattle.nub_rule.proofs.Ends.{no_slots, push_maps}
+use Rattle.nub_rule.proofs.Seats.{collects, joins}
+use Rattle.nub_rule.proofs.whole.gather_all.Goals as goal
+
+pub load_new_seat-seat-requires : goal.load_new_seat-seat-requires
+load_new_seat-seat-requires g c = (search rules, collects _ _ _ g.U.Uses.begin _ _ _)
+
+pub join_seat-requires : goal.join_seat-requires
+join_seat-requires g c = let t = c.in-Some.thread in let i = c.loop-thread.invariant in
+    let f = c.requires.threads (length c.loop-thread.yielded) t (at_middle c.loop-thread.yielded c.next.new.self.rest.items c.args.threads.items t (i.all ∙ ap (λ l. c.loop-thread.yielded ++ l) c.in-Some.ensures.steps.0)) in
+    let n : length c.loop-thread.seat.me.0.back ≡ length c.loop-thread.yielded = ap length i.back ∙ length-map c.loop-thread.yielded _ in
+    let v = c.thread.view_is in
+    (search rules, ap (λ k. k.table_id) v ∙ f.1, no_slots c.thread.inside.seat.me.0.part c.thread.inside.seat.me.1 c.thread.invariant.6 c.thread.invariant.4 c.thread.invariant.5 (ap (λ k. k.spin) v ∙ f.2) (λ m x h. f.3 m x (ap (λ k. get_elem? k.held m) (sym v) ∙ h)), search rules, joins _ _ _ _ _ _ _ _ _ i.kind c.thread.invariant.0 (c.thread.invariant.1 ∙ (ap (λ k. k.number) v ∙ (f.0 ∙ sym n))))
+
+pub add-requires : goal.add-requires
+add-requires g c = let i = c.loop-thread.invariant in
+    let n : length c.loop-thread.stored.items ≡ length c.loop-thread.yielded = sym (length-map c.loop-thread.stored.items (λ s. s.lost)) ∙ (ap length i.losses ∙ length-map c.loop-thread.yielded _) in
+    let m : length c.args.threads.items ≡ length c.loop-thread.yielded + length (c.in-Some.thread ∷ c.next.new.self.rest.items) = ap length (i.all ∙ ap (λ l. c.loop-thread.yielded ++ l) c.in-Some.ensures.steps.0) ∙ length-append _ _ in
+    let s = i.shelf in
+    omega arith
+
+pub loop-thread-preserved : goal.loop-thread-preserved
+loop-thread-preserved g c = let t = c.in-Some.thread in let i = c.loop-thread.invariant in let v = c.thread.view_is in
+    let f = c.requires.threads (length c.loop-thread.yielded) t (at_middle c.loop-thread.yielded c.next.new.self.rest.items c.args.threads.items t (i.all ∙ ap (λ l. c.loop-thread.yielded ++ l) c.in-Some.ensures.steps.0)) in
+    let num : c.thread.inside.number ≡ t.number = ap (λ k. k.number) v in
+    record {
+      of = search rules;
+      kind = search rules;
+      back = ap (λ m. m.0.back) c.join_seat.ensures.2 ∙ (ap (λ l. l ++ c.thread.inside.seat.me.0.part ∷ []) i.back ∙ (ap (λ q. map (λ t. part_of t) c.loop-thread.yielded ++ q ∷ []) (ap (λ k. part_of k) v) ∙ sym (map-append (λ t. part_of t) c.loop-thread.yielded (t ∷ []))));
+      all = i.all ∙ (ap (λ l. c.loop-thread.yielded ++ l) c.in-Some.ensures.steps.0 ∙ sym (append_assoc c.loop-thread.yielded (t ∷ []) c.next.new.self.rest.items));
+      entries = push_maps (λ s. s.entries.items) (λ t. t.entries) c.loop-thread.stored.items c.add.new.xs.items c.loop-thread.yielded _ t i.entries c.add.ensures.items (ap (λ k. k.entries) v);
+      losses = push_maps (λ s. s.lost) (λ t. t.lost) c.loop-thread.stored.items c.add.new.xs.items c.loop-thread.yielded _ t i.losses c.add.ensures.items (ap (λ k. k.lost) v);
+      shelf = let a = i.shelf in let b = c.add.ensures.room in omega arith;
+      empty = c.first_room-room.ensures.empty;
+      room = λ _. ⊎_elim
+          (λ (e : t.number ≡ 0).
+              let is = c.first_room-room.ensures.first (num ∙ e) in
+              let fits = c.thread.invariant.8 (num ∙ e) in
+              let slots : c.thread.inside.seat.table_id.slots ≡ c.args.shared.now.table_id.slots = ap (λ z. z.slots) (ap (λ k. k.table_id) v ∙ f.1) in
+              let same : vec_capacity c.first_room-room.result ≡ vec_capacity c.thread.inside.room = ap (λ r. vec_capacity r) is in
+              omega arith)
+          (λ (e : t.number ≢ 0).
+              let is = c.first_room-room.ensures.later (λ z. e (sym num ∙ z)) in
+              let order = f.0 in
+              let fits = i.room (omega arith) in
+              let same : vec_capacity c.first_room-room.result ≡ vec_capacity c.loop-thread.room = ap (λ r. vec_capacity r) is in
+              omega arith)
+          (cases_eq t.number 0);
+    }

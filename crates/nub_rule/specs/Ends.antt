@@ -1,0 +1,51 @@
+-- What a package begins with, and what it leaves.
+use Rattle.std.specs.Prelude.{false, ◌≡◌, ℕ, ◌<◌, List, [], ◌∷◌, ◌++◌, map, length, replicate, Some, None}
+use Rattle.std.specs.List.{range_with_len}
+use mathlib.Core.Option.{none, some}
+use lib.ListN.{get_elem?}
+use Rattle.larch_actions.specs.declared.event.Event.{Event}
+use Rattle.larch_actions.specs.declared.event.Pending.TheVariants.{Nothing}
+use Rattle.larch_actions.specs.Actions.{Spec, IsRun, StartsWith, by_thread}
+use Rattle.atomic_table.specs.Seated.{TableId}
+use Rattle.nub_rule.specs.declared.rule.Slot.{Slot}
+use Rattle.nub_rule.specs.declared.rule.Slot.TheVariants.{Value, Queue}
+use Rattle.nub_rule.specs.declared.view.Kind.TheVariants.{Member}
+use Rattle.nub_rule.specs.declared.view.Part.{Part}
+use Rattle.nub_rule.specs.Items.{no_line, Each, Told, Shared}
+use Rattle.nub_rule.specs.Parts.{fresh}
+use Rattle.nub_rule.specs.Known.{Known, known_as, part_of}
+use Rattle.nub_rule.specs.Places.{value_at}
+
+-- f 0, f 1 and so on, n of them
+abbrev pub firsts : {A : Type 0} → (ℕ → A) → ℕ → List A
+firsts f n = map f (range_with_len 0 n)
+
+-- a slot for the queue of each object, and then one for each value
+abbrev pub opening_slots : {T : Type 0} → List T → List (Slot T)
+opening_slots {T} values = replicate 192 (Queue no_line) ++ map (λ x. Value (Some x)) values
+
+module _ {T H : Type 0} where
+  -- with the shares of these threads the values keep the lock invariant, and one list of events is legal and closed and has the parts of all of them
+  pub record Leaves (holds : List T → List H → Type 0) (parts : List (Part T H)) (values : List T) : Type 0 where
+    pub log : List Event
+    pub spec : Spec
+    pub shares : List H
+    pub run : IsRun log spec
+    pub nothing_held : (m : ℕ) → spec.holder m ≡ none
+    pub nothing_begun : (t : ℕ) → spec.pending t ≡ Nothing
+    pub history : Told log parts
+    pub kept : holds values shares
+    pub each_share : length shares ≡ length parts
+    pub shared : Each (Shared shares) parts
+
+  -- the same of the values in the slots
+  pub record Settles (mutexes : ℕ) (holds : List T → List H → Type 0) (parts : List (Part T H)) (xs : List (Slot T)) : Type 0 where
+    pub values : List T
+    pub leaves : Leaves holds parts values
+    pub many : length values ≡ mutexes
+    pub values_there : Each (λ m x. get_elem? xs (value_at m) ≡ some (Value (Some x))) values
+
+module _ {T H W : Type 0} where
+  -- the thread n, which has done nothing
+  abbrev pub first_known : TableId → W → (W → ℕ → H) → ℕ → Known T H W
+  first_known z w begin n = known_as z n (record { world = Some w; kind = Member; number = n; part = fresh (Some (begin w n)); next = 0; back = [] }, []) [] false 0

@@ -1,0 +1,195 @@
+-- The items of the rule. Each reads the parts that it names and no others.
+use Rattle.std.specs.Prelude.{Bool, true, false, Option as Opt, ◌≡◌, ◌≢◌, ℕ, suc, ◌+◌, ◌<◌, ◌≤◌, ◌⊎◌, cond, eqb, List, [], ◌∷◌, ◌++◌, length, slice_index, Some, None}
+use mathlib.Core.Option.{Option, none, some}
+use lib.ListN.{get_elem?}
+use Rattle.larch_actions.specs.declared.event.Layout.{Layout}
+use Rattle.larch_actions.specs.declared.event.Event.{Event}
+use Rattle.larch_actions.specs.declared.event.Pending.TheVariants.{Nothing}
+use Rattle.larch_actions.specs.Actions.{Spec, IsRun, StartsWith, by_thread}
+use Rattle.larch_actions.specs.Sets.{mem}
+use Rattle.nub_rule.specs.declared.rule.Slot.{Slot}
+use Rattle.nub_rule.specs.declared.rule.Slot.TheVariants.{Value, Queue}
+use Rattle.nub_rule.specs.declared.view.Part.{Part}
+use Rattle.nub_rule.specs.declared.view.Wait.{Wait}
+use Rattle.nub_rule.specs.declared.view.Stand.{Stand}
+use Rattle.nub_rule.specs.declared.view.Pen.{Pen}
+use Rattle.nub_rule.specs.declared.view.Pen.TheVariants.{No, Taken, Read, Made, Written}
+use Rattle.nub_rule.specs.Places.{bit_at, spin_at, length_at, count_at, alert_at, ready_at, pen_at, number_at, word_count, queue_at, value_at, sem_object, cond_object}
+use Rattle.nub_rule.specs.Parts.{Got, Has, stands_at, IsFound, waits_on, counts_in, pending_of}
+use Rattle.arrayvec.specs.ArrayVec.{ArrayVec}
+
+-- what is true of each element and its place
+abbrev pub Each : {A : Type 0} → (ℕ → A → Type 0) → List A → Type 0
+Each P xs = (n : ℕ) (x : _) → get_elem? xs n ≡ some x → P n x
+
+abbrev pub line_of : List ℕ → ArrayVec ℕ
+line_of xs = record { items = xs }
+
+abbrev pub no_line : ArrayVec ℕ
+no_line = line_of []
+
+-- a number is 1 exactly where there is an owner, else 0
+abbrev pub Marks : ℕ → Option ℕ → Type 0
+Marks x owner = ((x ≡ 0) × (owner ≡ none)) ⊎ ((x ≡ 1) × ((n : ℕ) × (owner ≡ some n)))
+
+abbrev pub Flag : List ℕ → ℕ → Option ℕ → Type 0
+Flag words i owner = Marks (slice_index words i) owner
+
+-- a number is 1 where the answer is yes, and 0 where it is no
+abbrev pub Says : ℕ → Bool → Type 0
+Says x b = ((x ≡ 0) × (b ≡ false)) ⊎ ((x ≡ 1) × (b ≡ true))
+
+-- no thread stands twice in the list
+abbrev pub Distinct : List ℕ → Type 0
+Distinct [] = Unit {0}
+Distinct (x ∷ xs) = (mem x xs ≡ false) × Distinct xs
+
+-- each is below n
+abbrev pub Small : ℕ → List ℕ → Type 0
+Small n [] = Unit {0}
+Small n (x ∷ xs) = (x < n) × Small n xs
+
+-- the places at which the list has events of the thread, where its first place is i
+abbrev pub places_from : ℕ → ℕ → List Event → List ℕ
+places_from i t [] = []
+places_from i t (e ∷ es) = cond (eqb e.thread.0 t) (i ∷ places_from (i + 1) t es) (places_from (i + 1) t es)
+
+-- the value of a mutex whose bit nobody has is at home
+abbrev pub AtHome : {T : Type 0} → List (Option (Slot T)) → List T → (ℕ → Option ℕ) → ℕ → Type 0
+AtHome {T} homes values owner m = (x : T) → get_elem? values m ≡ some x → owner m ≡ none → get_elem? homes (value_at m) ≡ some (some (Value (Some x)))
+
+-- of the pen of the thread n, where there are so many events and the number word is this
+abbrev pub PenFits : ℕ → ℕ → Option ℕ → ℕ → Pen → Type 0
+PenFits total word writer n No = writer ≢ some n
+PenFits total word writer n Taken = (writer ≡ some n) × (word ≡ total)
+PenFits total word writer n (Read k) = (writer ≡ some n) × (word ≡ total) × (k ≡ word)
+PenFits total word writer n (Made k) = (writer ≡ some n) × (total ≡ k + 1) × (k ≡ word)
+PenFits total word writer n Written = (writer ≡ some n) × (word ≡ total)
+
+module _ {T H : Type 0} where
+  -- what was seen begins the history, and the own events are the thread's part of it
+  pub record Chronicle (log : List Event) (n : ℕ) (p : Part T H) : Type 0 where
+    pub begins : StartsWith log p.seen
+    pub own : by_thread n log ≡ p.mine
+    pub placed : places_from 0 n log ≡ p.places
+
+  -- HISTORY: the list of all events. Each is by a thread, each thread has seen a beginning of the list, and some thread the whole, unless it is empty
+  pub record Told (log : List Event) (all : List (Part T H)) : Type 0 where
+    pub people : Each (λ i e. e.thread.0 < length all) log
+    pub each : Each (Chronicle log) all
+    pub longest : (log ≡ []) ⊎ ((n : ℕ) × (p : Part T H) × (get_elem? all n ≡ some p) × (p.seen ≡ log))
+
+  -- the thread has the bit of a mutex exactly where it is its owner
+  abbrev pub Standing : (ℕ → Option ℕ) → ℕ → Part T H → Type 0
+  Standing owner n p = (m : ℕ) → (Has p m → owner m ≡ some n) × (owner m ≡ some n → Has p m)
+
+  -- the value got is the value last released
+  abbrev pub Current : List T → ℕ → Part T H → Type 0
+  Current values n p = (m : ℕ) (x : T) → Got p m x → get_elem? values m ≡ some x
+
+  -- the share of the thread
+  abbrev pub Shared : List H → ℕ → Part T H → Type 0
+  Shared shares n p = (s : H) × (p.share ≡ Some s) × (get_elem? shares n ≡ some s)
+
+  abbrev pub Wide : ℕ → Part T H → Type 0
+  Wide n p = length p.held ≡ 64
+
+  -- MUTEX BITS, VALUES AND SHARES: a bit is 1 exactly where one thread has it; the lock invariant holds of the values last released and the shares
+  pub record Owned (l : Layout) (holds : List T → List H → Type 0) (owner : ℕ → Option ℕ) (values : List T) (shares : List H) (words : List ℕ) (homes : List (Option (Slot T))) (all : List (Part T H)) : Type 0 where
+    pub standing : Each (Standing owner) all
+    pub within : (m n : ℕ) → owner m ≡ some n → (m < l.mutexes) × (n < length all)
+    pub bits : (m : ℕ) → m < l.mutexes → Flag words (bit_at m) (owner m)
+    pub at_home : (m : ℕ) → m < l.mutexes → AtHome homes values owner m
+    pub values_wide : length values ≡ l.mutexes
+    pub current : Each (Current values) all
+    pub shares_wide : length shares ≡ length all
+    pub shared : Each (Shared shares) all
+    pub kept : holds values shares
+
+  -- the thread has the spin word of an object exactly where it spins there, and knows the queue and whom it owes
+  abbrev pub Spinning : (ℕ → Option ℕ) → (ℕ → List ℕ) → (ℕ → List ℕ) → ℕ → Part T H → Type 0
+  Spinning spinner queue owed n p = (o : ℕ) → (p.spin ≡ Some o → (spinner o ≡ some n) × (p.queue ≡ queue o) × (p.owed ≡ owed o)) × (spinner o ≡ some n → p.spin ≡ Some o)
+
+  -- SPIN WORDS AND QUEUES: a spin word is 1 exactly where one thread has it, the queue is at home where nobody has, and the length word is its length
+  pub record Spins (spinner : ℕ → Option ℕ) (queue owed : ℕ → List ℕ) (words : List ℕ) (homes : List (Option (Slot T))) (all : List (Part T H)) : Type 0 where
+    pub spin : (o : ℕ) → o < 192 → Flag words (spin_at o) (spinner o)
+    pub home : (o : ℕ) → o < 192 → spinner o ≡ none → get_elem? homes (queue_at o) ≡ some (some (Queue (line_of (queue o))))
+    pub measured : (o : ℕ) → o < 192 → slice_index words (length_at o) ≡ length (queue o)
+    pub settled : (o : ℕ) → spinner o ≡ none → owed o ≡ []
+    pub spinning : Each (Spinning spinner queue owed) all
+
+  -- where the thread n stands: whoever waits in a line stands there and isn't ready, whoever stands is in the line or ready
+  pub record Stands (words : List ℕ) (line : ℕ → List ℕ) (n : ℕ) (p : Part T H) : Type 0 where
+    pub flag : (slice_index words (ready_at n) ≡ 0) ⊎ (slice_index words (ready_at n) ≡ 1)
+    pub lined : (o : ℕ) → mem n (line o) ≡ true → (stands_at p.stand o ≡ true) × (slice_index words (ready_at n) ≡ 0)
+    pub ready : slice_index words (ready_at n) ≡ 1 → (s : Stand) × (p.stand ≡ Some s)
+    pub kept : (s : Stand) → p.stand ≡ Some s → (mem n (line s.at) ≡ true) ⊎ (slice_index words (ready_at n) ≡ 1)
+    pub found : (s : Stand) → p.stand ≡ Some s → IsFound s.stage → slice_index words (ready_at n) ≡ 1
+
+  -- LINES AND READY WORDS: the line of an object is those that are owed, and then the queue
+  pub record Lines (line : ℕ → List ℕ) (words : List ℕ) (all : List (Part T H)) : Type 0 where
+    pub distinct : (o : ℕ) → Distinct (line o)
+    pub people : (o t : ℕ) → mem t (line o) ≡ true → t < length all
+    pub stands : Each (Stands words line) all
+
+  -- what the thread n knows and tells of the state of the specification
+  pub record Tells (spinner owner : ℕ → Option ℕ) (spec : Spec) (left : ℕ → List ℕ) (count : ℕ → ℕ) (counting : ℕ → ℕ → Bool) (n : ℕ) (p : Part T H) : Type 0 where
+    pub holds : (m : ℕ) → owner m ≡ some n → spec.holder m ≡ cond (waits_on p.wait m) none (some n)
+    pub pends : spec.pending n ≡ pending_of p.wait
+    pub counts : (c : ℕ) → counting c n ≡ counts_in p.wait c (count c)
+    pub risen : (c k : ℕ) → count c < k → counts_in p.wait c k ≡ false
+    pub knows : (c : ℕ) → spinner (cond_object c) ≡ some n → (p.left ≡ left c) × (p.count ≡ count c)
+    pub even : (w : Wait) → p.wait ≡ Some w → p.left ≡ p.queue
+
+  -- MEANING OF THE WORDS: what words and views show of the state of the specification
+  pub record Shows (words : List ℕ) (spinner : ℕ → Option ℕ) (queue : ℕ → List ℕ) (owner : ℕ → Option ℕ) (spec : Spec) (all : List (Part T H)) : Type 0 where
+    -- the threads in the queue of a condition that no advance has taken, its count, and who is in it by its view
+    pub left : ℕ → List ℕ
+    pub count : ℕ → ℕ
+    pub counting : ℕ → ℕ → Bool
+    pub free : (m : ℕ) → owner m ≡ none → spec.holder m ≡ none
+    pub members : (c t : ℕ) → spec.members c t ≡ cond (mem t (left c)) true (counting c t)
+    pub counted : (c : ℕ) → c < 64 → slice_index words (count_at (cond_object c)) ≡ count c
+    -- the bit of a semaphore is 0 exactly where it is available
+    pub avails : (s : ℕ) → s < 64 → Says (slice_index words (bit_at (sem_object s))) (cond (spec.avail s) false true)
+    pub alerts : (t : ℕ) → t < 64 → Says (slice_index words (alert_at t)) (spec.alerts t)
+    pub whole : (c : ℕ) → spinner (cond_object c) ≡ none → left c ≡ queue (cond_object c)
+    pub inside : (c t : ℕ) → mem t (queue (cond_object c)) ≡ false → mem t (left c) ≡ false
+    pub strangers : (t : ℕ) → length all ≤ t → spec.pending t ≡ Nothing
+    pub tells : Each (Tells spinner owner spec left count counting) all
+
+  -- NUMBERING: one thread at most has the pen. In a traced package the number word is the number of events while the pen is free. In an untraced one nobody has it
+  pub record Pens (traced : Bool) (total : ℕ) (words : List ℕ) (writer : Option ℕ) (all : List (Part T H)) : Type 0 where
+    pub flag : Flag words pen_at writer
+    pub free : traced ≡ true → writer ≡ none → slice_index words number_at ≡ total
+    pub untraced : traced ≡ false → writer ≡ none
+    pub pens : Each (λ n p. PenFits total (slice_index words number_at) writer n p.pen) all
+
+  -- how long the lists are
+  pub record Sizes (l : Layout) (words : List ℕ) (homes : List (Option (Slot T))) (all : List (Part T H)) : Type 0 where
+    pub words_wide : length words ≡ word_count
+    pub homes_wide : length homes ≡ 192 + l.mutexes
+    pub lawful : l.mutexes ≤ 64
+    pub few : length all ≤ 64
+    pub parts_wide : Each Wide all
+
+  -- all items, over the words, the slots at home and the part of each thread
+  pub record Core {W : Type 0} (l : Layout) (traced : Bool) (w : W) (holds : W → List T → List H → Type 0) (words : List ℕ) (homes : List (Option (Slot T))) (all : List (Part T H)) : Type 0 where
+    pub log : List Event
+    pub spec : Spec
+    -- who has each mutex's bit, each spin word and the pen, each queue, and who is owed
+    pub owner : ℕ → Option ℕ
+    pub spinner : ℕ → Option ℕ
+    pub writer : Option ℕ
+    pub queue : ℕ → List ℕ
+    pub owed : ℕ → List ℕ
+    pub values : List T
+    pub shares : List H
+    pub sizes : Sizes l words homes all
+    pub run : IsRun log spec
+    pub told : Told log all
+    pub owned : Owned l (holds w) owner values shares words homes all
+    pub spins : Spins spinner queue owed words homes all
+    pub lines : Lines (λ o. owed o ++ queue o) words all
+    pub shows : Shows words spinner queue owner spec all
+    pub pens : Pens traced (length log) words writer all

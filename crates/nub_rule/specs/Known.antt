@@ -1,0 +1,204 @@
+-- What contracts see of a package and of a thread.
+use Rattle.std.specs.Prelude.{Bool, true, ◌≡◌, ◌⊎◌, ◌≢◌, ℕ, ◌<◌, List, [], ◌∷◌, ◌++◌, length, map, Option as Opt, Some, None}
+use Rattle.std.specs.List.{range_with_len}
+use mathlib.Core.Option.{some}
+use lib.ListN.{get_elem?}
+use Rattle.larch_actions.specs.declared.event.Event.{Event}
+use Rattle.larch_actions.specs.declared.event.Layout.{Layout}
+use Rattle.larch_actions.specs.Sets.{mem}
+use Rattle.atomic_table.specs.Table.{Me}
+use Rattle.atomic_table.specs.Seated.{TableId}
+use Rattle.nub_rule.specs.declared.package.Entry.{Entry}
+use Rattle.nub_rule.specs.declared.rule.About.{About}
+use Rattle.nub_rule.specs.declared.rule.Slot.{Slot}
+use Rattle.nub_rule.specs.declared.rule.Slot.TheVariants.{Value, Queue}
+use Rattle.nub_rule.specs.declared.view.Part.{Part}
+use Rattle.nub_rule.specs.declared.view.Wait.{Wait}
+use Rattle.nub_rule.specs.declared.view.Stand.{Stand}
+use Rattle.nub_rule.specs.declared.view.Pen.{Pen}
+use Rattle.nub_rule.specs.declared.view.Pen.TheVariants.{No, Taken, Read, Made, Written}
+use Rattle.nub_rule.specs.declared.view.View.{View}
+use Rattle.nub_rule.specs.Items.{line_of, Each}
+use Rattle.nub_rule.specs.Parts.{Got, Lacks}
+use Rattle.nub_rule.specs.Places.{value_at, queue_at}
+use Rattle.nub_rule.specs.Plays.{Grows}
+use Rattle.nub_rule.specs.Slots.{find}
+
+-- what contracts see of a package
+pub record Shape (W : Type 0) : Type 0 where
+  -- which package it is
+  pub table_id : TableId
+  pub layout : Layout
+  pub traced : Bool
+  pub world : W
+
+abbrev pub shape_of : {W : Type 0} → TableId → About W → Shape W
+shape_of z l = record { table_id = z; layout = l.layout; traced = l.traced; world = l.world.value }
+
+pub record Known (T H W : Type 0) : Type 0 where
+  -- which package it is of
+  pub table_id : TableId
+  pub number : ℕ
+  pub world : Opt W
+  -- the history at its last event, its own events, and the place of each in the history
+  pub seen : List Event
+  pub mine : List Event
+  pub places : List ℕ
+  -- for each mutex, the value got where the thread has the bit
+  pub held : List (Opt T)
+  pub share : Opt H
+  -- the object whose spin word it has, the queue there, those whom it owes their ready word, those of the queue that are still in the condition, and its count
+  pub spin : Opt ℕ
+  pub queue : List ℕ
+  pub owed : List ℕ
+  pub left : List ℕ
+  pub count : ℕ
+  -- where it is in a wait, and in whose queue it stands
+  pub wait : Opt Wait
+  pub stand : Opt Stand
+  -- the gates at which a try failed; whose queue it has left and that it hasn't tried since; that it cleared, without a look at the queue since; and of these those where it found a queue
+  pub failed : List ℕ
+  pub turns : List ℕ
+  pub cleared : List ℕ
+  pub looked : List ℕ
+  pub pen : Pen
+  pub alerted : Bool
+  pub calling : Opt ℕ
+  pub raised : Opt ℕ
+  -- for each mutex, where the thread has the bit, its value, unless it was taken out
+  pub values : List (Opt (Opt T))
+  -- the events that it has stored with their numbers, and whether it has lost one
+  pub entries : List Entry
+  pub lost : Bool
+  -- the number that it read with the pen last
+  pub next : ℕ
+
+-- the events with their places
+abbrev pub entries_of : List ℕ → List Event → List Entry
+entries_of [] es = []
+entries_of (n ∷ ns) [] = []
+entries_of (n ∷ ns) (e ∷ es) = record { number = n; event = e } ∷ entries_of ns es
+
+module _ {T : Type 0} where
+  abbrev pub value_in : Opt (Slot T) → Opt (Opt T)
+  value_in None = None
+  value_in (Some (Value y)) = Some y
+  value_in (Some (Queue q)) = None
+
+  abbrev pub values_of : List (ℕ × Slot T) → List (Opt (Opt T))
+  values_of slots = map (λ m. value_in (find (value_at m) slots)) (range_with_len 0 64)
+
+module _ {T H W : Type 0} where
+  abbrev pub known_as : TableId → ℕ → Me (Slot T) (View T H W) → List Entry → Bool → ℕ → Known T H W
+  known_as z n me entries lost next = let p = me.0.part in record {
+    table_id = z;
+    number = n;
+    world = me.0.world;
+    seen = p.seen;
+    mine = p.mine;
+    places = p.places;
+    held = p.held;
+    share = p.share;
+    spin = p.spin;
+    queue = p.queue;
+    owed = p.owed;
+    left = p.left;
+    count = p.count;
+    wait = p.wait;
+    stand = p.stand;
+    failed = p.failed;
+    turns = p.turns;
+    cleared = p.cleared;
+    looked = p.looked;
+    pen = p.pen;
+    alerted = p.alerted;
+    calling = p.calling;
+    raised = p.raised;
+    values = values_of me.1;
+    entries = entries;
+    lost = lost;
+    next = next;
+  }
+
+  abbrev pub part_of : Known T H W → Part T H
+  part_of k = record {
+    seen = k.seen;
+    mine = k.mine;
+    places = k.places;
+    held = k.held;
+    share = k.share;
+    spin = k.spin;
+    queue = k.queue;
+    owed = k.owed;
+    left = k.left;
+    count = k.count;
+    wait = k.wait;
+    stand = k.stand;
+    failed = k.failed;
+    turns = k.turns;
+    cleared = k.cleared;
+    looked = k.looked;
+    pen = k.pen;
+    alerted = k.alerted;
+    calling = k.calling;
+    raised = k.raised;
+  }
+
+  -- the thread has the bit of the mutex, and got x with it
+  abbrev pub Holds : Known T H W → ℕ → T → Type 0
+  Holds k m x = get_elem? k.held m ≡ some (Some x)
+
+  -- the value of the mutex is with the thread and out of its slot
+  abbrev pub IsOut : Known T H W → ℕ → Type 0
+  IsOut k m = get_elem? k.values m ≡ some (Some None)
+
+  -- the value of the mutex is with the thread and in its slot
+  abbrev pub IsIn : Known T H W → ℕ → T → Type 0
+  IsIn k m y = get_elem? k.values m ≡ some (Some (Some y))
+
+  -- an event was made: the history that was seen grew to a legal one that ends with it, and the own events are the thread's part of that. In a traced package its place is the number that was read
+  abbrev pub Makes : Event → Known T H W → Known T H W → Type 0
+  Makes e a b = (between : List Event) × Grows a.number (part_of a) between e × (b.seen ≡ (a.seen ++ between) ++ e ∷ []) × (b.mine ≡ a.mine ++ e ∷ []) × (b.places ≡ a.places ++ length (a.seen ++ between) ∷ [])
+
+  -- the thread may give the mutex back: it has it, and its slot has a value that the picked share allows
+  abbrev pub MayGive : (W → ℕ → ℕ → T → T → H → H → Type 0) → (W → ℕ → ℕ → T → T → H → H) → ℕ → Known T H W → Type 0
+  MayGive allows after m k = (x : T) × (y : T) × Holds k m x × IsIn k m y × ((w : W) (s : H) → k.world ≡ Some w → k.share ≡ Some s → allows w m k.number x y s (after w m k.number x y s))
+
+  -- the share afterwards is the one that was picked
+  abbrev pub PicksShare : (W → ℕ → ℕ → T → T → H → H) → ℕ → Known T H W → Known T H W → Type 0
+  PicksShare after m a b = (w : W) (s : H) (x y : T) → a.world ≡ Some w → a.share ≡ Some s → Holds a m x → IsIn a m y → b.share ≡ Some (after w m a.number x y s)
+
+  -- the thread has no mutex's bit
+  abbrev pub HasNone : Known T H W → Type 0
+  HasNone k = (m : ℕ) (x : T) → ¬ Holds k m x
+
+  -- nothing of a call is open: it is in no wait, queue or Nub, owes nobody, has looked at the queue of each bit that it cleared and tried each bit for which it has the turn, has no pen, has taken each value, and has stored each of its events or lost one
+  pub record AtRest (traced : Bool) (k : Known T H W) : Type 0 where
+    pub wait : k.wait ≡ None
+    pub stand : k.stand ≡ None
+    pub spin : k.spin ≡ None
+    pub owed : k.owed ≡ []
+    pub turns : k.turns ≡ []
+    pub cleared : k.cleared ≡ []
+    pub looked : k.looked ≡ []
+    pub pen : k.pen ≡ No
+    pub calling : k.calling ≡ None
+    pub raised : k.raised ≡ None
+    pub taken : (m : ℕ) (x : T) → Holds k m x → IsOut k m
+    pub stored : traced ≡ true → (k.lost ≡ true) ⊎ (k.entries ≡ entries_of k.places k.mine)
+
+  -- the thread stands at the object, at a stage of this sort
+  abbrev pub StandsAs : (Stand → Type 0) → Known T H W → Type 0
+  StandsAs P k = (s : Stand) × (k.stand ≡ Some s) × P s
+
+module _ {T H : Type 0} where
+  -- the slots at hand are the values of the mutexes whose bits the thread has, and the queue of the object whose spin word it has
+  pub record Hands (p : Part T H) (slots : List (ℕ × Slot T)) : Type 0 where
+    pub below : (o : ℕ) → p.spin ≡ Some o → o < 192
+    pub queue_in : (o : ℕ) → p.spin ≡ Some o → find (queue_at o) slots ≡ Some (Queue (line_of p.queue))
+    pub queue_out : (o : ℕ) → o < 192 → (p.spin ≡ Some o → ⊥) → find (queue_at o) slots ≡ None
+    pub value_got : (m : ℕ) (x : T) → Got p m x → (y : Opt T) × (find (value_at m) slots ≡ Some (Value y))
+    pub value_lacked : (m : ℕ) → Lacks p m → find (value_at m) slots ≡ None
+    pub settled : p.spin ≡ None → p.owed ≡ []
+    -- the queue has room for a thread that stands nowhere
+    pub room : (o : ℕ) → p.spin ≡ Some o → p.stand ≡ None → length p.queue < 64

@@ -1,0 +1,9 @@
+pub mod Places
+pub mod Objects
+pub mod Slots
+pub mod Parts
+pub mod Items
+pub mod Rule
+pub mod Plays
+pub mod Known
+pub mod Ends

@@ -1,0 +1,16 @@
+-- The numbers of objects.
+use Rattle.std.specs.Prelude.{ℕ, ◌+◌, ◌<◌}
+use Rattle.larch_actions.specs.declared.event.Layout.{Layout}
+use Rattle.nub_rule.specs.declared.object.Object.{Object}
+use Rattle.nub_rule.specs.declared.object.Object.TheVariants.{Mutex, Sem}
+use Rattle.nub_rule.specs.Places.{sem_object}
+
+-- mutexes come first, then semaphores
+abbrev pub object_of : Object → ℕ
+object_of (Mutex m) = m.0
+object_of (Sem s) = sem_object s.0
+
+-- the layout has the object
+abbrev pub HasObject : Layout → Object → Type 0
+HasObject l (Mutex m) = m.0 < l.mutexes
+HasObject l (Sem s) = s.0 < l.semaphores

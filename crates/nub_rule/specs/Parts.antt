@@ -1,0 +1,96 @@
+-- What the view of one thread says.
+use Rattle.std.specs.Prelude.{Bool, true, false, Option as Opt, ◌≡◌, ℕ, ◌<◌, cond, eqb, ltb, List, [], ◌∷◌, replicate, Some, None}
+use mathlib.Core.Option.{some}
+use lib.ListN.{get_elem?}
+use Rattle.larch_actions.specs.declared.event.Pending.{Pending}
+use Rattle.larch_actions.specs.declared.event.Pending.TheVariants.{Nothing, Waiting, AlertWaiting}
+use Rattle.nub_rule.specs.declared.view.Part.{Part}
+use Rattle.nub_rule.specs.declared.view.Wait.{Wait}
+use Rattle.nub_rule.specs.declared.view.Stand.{Stand}
+use Rattle.nub_rule.specs.declared.view.Stage.{Stage}
+use Rattle.nub_rule.specs.declared.view.Stage.TheVariants.{Pushed, Clear, Tested, Asleep, Alerted, Found}
+use Rattle.nub_rule.specs.declared.view.Pen.{Pen}
+use Rattle.nub_rule.specs.declared.view.Pen.TheVariants.{No, Taken, Read, Made, Written}
+
+-- the thread stands at the object
+abbrev pub stands_at : Opt Stand → ℕ → Bool
+stands_at None o = false
+stands_at (Some s) o = eqb s.at o
+
+-- the stand at a further stage
+abbrev pub staged : Stage → Opt Stand → Opt Stand
+staged g None = None
+staged g (Some s) = Some (record s { stage = g })
+
+-- the thread hasn't tested the bit since its push
+abbrev pub IsUntested : Stage → Type 0
+IsUntested Pushed = Unit {0}
+IsUntested Clear = Unit {0}
+IsUntested _ = ⊥
+
+-- the thread has tested the bit since its push
+abbrev pub HasTested : Stage → Type 0
+HasTested Pushed = ⊥
+HasTested Clear = ⊥
+HasTested _ = Unit {0}
+
+abbrev pub IsClear : Stage → Type 0
+IsClear Clear = Unit {0}
+IsClear _ = ⊥
+
+abbrev pub IsFound : Stage → Type 0
+IsFound Found = Unit {0}
+IsFound _ = ⊥
+
+-- whoever left the queue of a gate has its turn there
+abbrev pub turned : Opt Stand → List ℕ → List ℕ
+turned None xs = xs
+turned (Some s) xs = cond (ltb s.at 128) (s.at ∷ xs) xs
+
+abbrev pub is_at : Opt ℕ → ℕ → Bool
+is_at None k = false
+is_at (Some n) k = eqb n k
+
+-- the thread is between the two parts of a wait on the mutex m
+abbrev pub waits_on : Opt Wait → ℕ → Bool
+waits_on None m = false
+waits_on (Some w) m = eqb w.mutex.0 m
+
+-- the thread is in the condition c by what its view says, where the count is k
+abbrev pub counts_in : Opt Wait → ℕ → ℕ → Bool
+counts_in None c k = false
+counts_in (Some w) c k = cond (eqb w.cond.0 c) (is_at w.member k) false
+
+abbrev pub pending_of : Opt Wait → Pending
+pending_of None = Nothing
+pending_of (Some w) = cond w.alertable (AlertWaiting w.mutex w.cond) (Waiting w.mutex w.cond)
+
+-- the pen after an event
+abbrev pub made : Pen → Pen
+made (Read k) = Made k
+made p = p
+
+-- in a traced package an event is made with the pen, its number read and not the greatest
+abbrev pub MayTell : Bool → Pen → Type 0
+MayTell traced pen = traced ≡ true → (k : ℕ) × (pen ≡ Read k) × (k < 18446744073709551615)
+
+-- the pen may be given back: no event waits for its number to be written
+abbrev pub MayGivePen : Pen → Type 0
+MayGivePen No = ⊥
+MayGivePen (Made k) = ⊥
+MayGivePen _ = Unit {0}
+
+module _ {T H : Type 0} where
+  -- the thread has the bit of the mutex, and got this value with it
+  abbrev pub Got : Part T H → ℕ → T → Type 0
+  Got p m x = get_elem? p.held m ≡ some (Some x)
+
+  abbrev pub Has : Part T H → ℕ → Type 0
+  Has p m = (x : T) × Got p m x
+
+  abbrev pub Lacks : Part T H → ℕ → Type 0
+  Lacks p m = get_elem? p.held m ≡ some None
+
+  -- a thread that has done nothing
+  abbrev pub fresh : Opt H → Part T H
+  fresh s = record { seen = []; mine = []; places = []; held = replicate 64 None; share = s; spin = None; queue = []; owed = []; left = []; count = 0; wait = None; stand = None; failed = []; turns = []; cleared = []; looked = []; pen = No; alerted = false; calling = None; raised = None }

@@ -1,0 +1,50 @@
+-- Where the words and the slots of a table stand, whatever the layout. Words of different objects and threads are on different cache lines.
+use Rattle.std.specs.Prelude.{ℕ, ◌+◌, ◌*◌}
+
+-- objects: mutexes from 0 on, semaphores from 64 on, conditions from 128 on
+abbrev pub sem_object : ℕ → ℕ
+sem_object s = 64 + s
+
+abbrev pub cond_object : ℕ → ℕ
+cond_object c = 128 + c
+
+-- the bit of a mutex or semaphore
+abbrev pub bit_at : ℕ → ℕ
+bit_at o = 16 * o
+
+-- the spin word of an object
+abbrev pub spin_at : ℕ → ℕ
+spin_at o = 16 * o + 1
+
+-- the length word of an object's queue
+abbrev pub length_at : ℕ → ℕ
+length_at o = 16 * o + 2
+
+-- the count of a condition
+abbrev pub count_at : ℕ → ℕ
+count_at o = 16 * o + 3
+
+-- the words of a thread
+abbrev pub alert_at : ℕ → ℕ
+alert_at t = 16 * t + 3072
+
+abbrev pub ready_at : ℕ → ℕ
+ready_at t = 16 * t + 3073
+
+-- the pen, and the number of the next event
+abbrev pub pen_at : ℕ
+pen_at = 4096
+
+abbrev pub number_at : ℕ
+number_at = 4097
+
+abbrev pub word_count : ℕ
+word_count = 4112
+
+-- the slot of an object's queue
+abbrev pub queue_at : ℕ → ℕ
+queue_at o = o
+
+-- the slot of a mutex's value
+abbrev pub value_at : ℕ → ℕ
+value_at m = 192 + m

@@ -1,0 +1,180 @@
+-- What each kind of step tells of the seat before and after.
+use Rattle.std.specs.Prelude.{cond, eqb, true, false, ◌≡◌, ◌≢◌, ◌⊎◌, ◌+◌, ℕ, ◌<◌, List, [], ◌∷◌, ◌++◌, length, slice_set, Some, None, Option as Opt}
+use mathlib.Core.Option.{some}
+use lib.ListN.{get_elem?}
+use Rattle.larch_actions.specs.declared.event.Event.{Event}
+use Rattle.larch_actions.specs.declared.event.Action.{Action}
+use Rattle.larch_actions.specs.declared.event.Action.TheVariants.{Acquire, Release, Resume, AlertReturn, P, V}
+use Rattle.larch_actions.specs.Actions.{IsLegal, by_thread}
+use Rattle.larch_actions.specs.Sets.{mem, without}
+use Rattle.atomic_table.specs.Table.{Me, Step, rest}
+use Rattle.nub_rule.specs.declared.object.Why.{Why}
+use Rattle.nub_rule.specs.declared.object.Why.TheVariants.{TryFailed, QueueSeen}
+use Rattle.nub_rule.specs.declared.rule.Slot.{Slot}
+use Rattle.nub_rule.specs.declared.rule.Slot.TheVariants.{Value, Queue}
+use Rattle.nub_rule.specs.declared.view.Part.{Part}
+use Rattle.nub_rule.specs.declared.view.Pen.{Pen}
+use Rattle.nub_rule.specs.declared.view.Pen.TheVariants.{No, Taken, Read, Made, Written}
+use Rattle.nub_rule.specs.declared.view.Stage.TheVariants.{Pushed, Clear, Tested, Asleep, Found}
+use Rattle.nub_rule.specs.declared.view.View.{View}
+use Rattle.nub_rule.specs.declared.view.Wait.{Wait}
+use Rattle.nub_rule.specs.Items.{Small, line_of}
+use Rattle.nub_rule.specs.Parts.{Got, Lacks, made, stands_at, staged, turned}
+use Rattle.nub_rule.specs.Places.{value_at, spin_at, length_at, queue_at, bit_at, ready_at, sem_object}
+
+abbrev pub Sat : Type 0 → Type 0 → Type 0 → Type 0
+Sat T H W = Me (Slot T) (View T H W)
+
+abbrev pub event : ℕ → Action → Event
+event t a = record { thread = record { 0 = t }; action = a }
+
+abbrev pub acquire_event : ℕ → ℕ → Event
+acquire_event t m = event t (Acquire record { 0 = m })
+
+abbrev pub release_event : ℕ → ℕ → Event
+release_event t m = event t (Release record { 0 = m })
+
+abbrev pub p_event : ℕ → ℕ → Event
+p_event t s = event t (P record { 0 = s })
+
+abbrev pub v_event : ℕ → ℕ → Event
+v_event t s = event t (V record { 0 = s })
+
+-- the action by which a thread takes the bit of the mutex m, by what it has begun
+abbrev pub taken_action : ℕ → Opt Wait → Action
+taken_action m None = Acquire record { 0 = m }
+taken_action m (Some w) = cond w.alertable (AlertReturn w.mutex w.cond) (Resume w.mutex w.cond)
+
+-- the thread n may take the mutex m by the event e: it has begun nothing, or a wait on m, and has left the condition
+abbrev pub MayTake : ℕ → ℕ → Opt Wait → Event → Type 0
+MayTake n m wait e = ((wait ≡ None) × (e ≡ acquire_event n m)) ⊎ ((w : Wait) × (wait ≡ Some w) × (w.mutex.0 ≡ m) × (w.member ≡ None) × (e ≡ event n (taken_action m (Some w))))
+
+-- the reason for which a thread takes a spin word
+abbrev pub HasReason : ℕ → List ℕ → List ℕ → Why → Type 0
+HasReason o failed looked TryFailed = mem o failed ≡ true
+HasReason o failed looked QueueSeen = mem o looked ≡ true
+
+-- all but the first, and the first alone
+abbrev pub behind : List ℕ → List ℕ
+behind [] = []
+behind (x ∷ xs) = xs
+
+abbrev pub front : List ℕ → List ℕ
+front [] = []
+front (x ∷ xs) = x ∷ []
+
+-- the list less its first t
+abbrev pub less : ℕ → List ℕ → List ℕ
+less t [] = []
+less t (x ∷ xs) = cond (eqb x t) xs (x ∷ less t xs)
+
+module _ {T H : Type 0} where
+  -- the part after an event of its thread
+  abbrev pub told : Part T H → List Event → Event → Part T H
+  told p log e = record p { seen = log ++ e ∷ []; mine = p.mine ++ e ∷ []; places = p.places ++ length log ∷ []; pen = made p.pen }
+
+  -- the history that was seen grew to a legal one that ends with the event, and the own events are the thread's part of it
+  pub record Grows (n : ℕ) (p : Part T H) (between : List Event) (e : Event) : Type 0 where
+    pub legal : IsLegal ((p.seen ++ between) ++ e ∷ [])
+    pub own : by_thread n ((p.seen ++ between) ++ e ∷ []) ≡ p.mine ++ e ∷ []
+    pub number : (k : ℕ) → p.pen ≡ Read k → k ≡ length (p.seen ++ between)
+
+module _ {T H W : Type 0} where
+  abbrev pub with_part : View T H W → Part T H → View T H W
+  with_part v p = record v { part = p }
+
+  -- only the part of the view has changed, to this
+  abbrev pub Becomes : Sat T H W → Part T H → Sat T H W → Type 0
+  Becomes me q me' = me' ≡ (with_part me.0 q, me.1)
+
+  -- the spin word of an object was tried: who wins gets the queue, and is in it only if it stands there
+  abbrev pub spun : Step (Slot T) → Sat T H W → ℕ → Sat T H W → Type 0
+  spun st me r me' = let p = me.0.part in ((o : ℕ) → st.word ≡ spin_at o → r ≡ 0 → (xs : List ℕ) × (k : ℕ) × (p.stand ≡ None → length xs < 64) × Small 64 xs × (mem me.0.number xs ≡ true → stands_at p.stand o ≡ true)
+      × (me' ≡ (with_part me.0 (record p { spin = Some o; queue = xs; owed = []; left = xs; count = k; failed = without o p.failed }), (queue_at o, Queue (line_of xs)) ∷ me.1))) × (r ≢ 0 → me' ≡ me)
+
+  -- the spin word was given back
+  abbrev pub unspun : Step (Slot T) → Sat T H W → ℕ → Sat T H W → Type 0
+  unspun st me r me' = (r ≡ 1) × (me' ≡ (with_part me.0 (record me.0.part { spin = None; queue = []; left = [] }), rest me.1))
+
+  -- a thread that is owed was made ready
+  abbrev pub readied : Step (Slot T) → Sat T H W → ℕ → Sat T H W → Type 0
+  readied st me r me' = let p = me.0.part in (t : ℕ) → st.word ≡ ready_at t → (r ≡ 0) × Becomes me (record p { owed = without t p.owed }) me'
+
+  -- the own ready word was read
+  abbrev pub looked_ready : Step (Slot T) → Sat T H W → ℕ → Sat T H W → Type 0
+  looked_ready st me r me' = let p = me.0.part in (r ≡ 0 → Becomes me (record p { stand = staged Asleep p.stand }) me') × (r ≢ 0 → (r ≡ 1) × Becomes me (record p { stand = staged Found p.stand }) me')
+
+  -- the own ready word was cleared
+  abbrev pub unreadied : Step (Slot T) → Sat T H W → ℕ → Sat T H W → Type 0
+  unreadied st me r me' = let p = me.0.part in (r ≡ 1) × Becomes me (record p { stand = None; turns = turned p.stand p.turns }) me'
+
+  -- the mutex m was taken, with its value
+  abbrev pub Won : (W → ℕ → T → ℕ → H → Type 0) → ℕ → Sat T H W → Sat T H W → Type 0
+  Won fits m me me' = let v = me.0 in let p = v.part in let e = event v.number (taken_action m p.wait) in
+      (x : T) × (between : List Event) × ((w : W) (s : H) → v.world ≡ Some w → p.share ≡ Some s → fits w m x v.number s) × Grows v.number p between e × Lacks p m × (get_elem? (slice_set p.held m (Some x)) m ≡ some (Some x))
+      × (me' ≡ (with_part v (record (told p (p.seen ++ between) e) { held = slice_set p.held m (Some x); wait = None; failed = without m p.failed; turns = without m p.turns }), (value_at m, Value (Some x)) ∷ me.1))
+
+  -- the bit of a mutex was tried
+  abbrev pub tried : (W → ℕ → T → ℕ → H → Type 0) → Step (Slot T) → Sat T H W → ℕ → Sat T H W → Type 0
+  tried fits st me r me' = let p = me.0.part in (m : ℕ) → st.word ≡ bit_at m → (r ≡ 0 → Won fits m me me') × (r ≢ 0 → Becomes me (record p { failed = m ∷ p.failed; turns = without m p.turns }) me')
+
+  -- the mutex m was given back, with its value
+  abbrev pub Freed : (W → ℕ → ℕ → T → T → H → H) → ℕ → Sat T H W → ℕ → Sat T H W → Type 0
+  Freed after m me r me' = let v = me.0 in let p = v.part in let e = release_event v.number m in
+      (r ≡ 1) × (between : List Event) × (u : Opt H) × Grows v.number p between e
+      × (me' ≡ (with_part v (record (told p (p.seen ++ between) e) { held = slice_set p.held m None; share = u; cleared = m ∷ p.cleared }), rest me.1))
+      × ((w : W) (s : H) (x y : T) → v.world ≡ Some w → p.share ≡ Some s → Got p m x → me.1 ≡ (value_at m, Value (Some y)) ∷ rest me.1 → u ≡ Some (after w m v.number x y s))
+
+  abbrev pub freed : (W → ℕ → ℕ → T → T → H → H) → Step (Slot T) → Sat T H W → ℕ → Sat T H W → Type 0
+  freed after st me r me' = (m : ℕ) → st.word ≡ bit_at m → Freed after m me r me'
+
+  -- the thread has the mutex and its slot first, with a value that the new share allows
+  abbrev pub MayFree : (W → ℕ → ℕ → T → T → H → H → Type 0) → (W → ℕ → ℕ → T → T → H → H) → ℕ → Sat T H W → Type 0
+  MayFree allows after m me = let v = me.0 in let p = v.part in
+      (x : T) × (y : T) × Got p m x × (me.1 ≡ (value_at m, Value (Some y)) ∷ rest me.1) × ((w : W) (s : H) → v.world ≡ Some w → p.share ≡ Some s → allows w m v.number x y s (after w m v.number x y s))
+
+  -- the length of a queue was read
+  abbrev pub measured : Step (Slot T) → Sat T H W → ℕ → Sat T H W → Type 0
+  measured st me r me' = let p = me.0.part in (o : ℕ) → st.word ≡ length_at o → (r ≡ 0 → Becomes me (record p { cleared = without o p.cleared; looked = without o p.looked }) me')
+      × (r ≢ 0 → mem o p.cleared ≡ true → Becomes me (record p { looked = o ∷ p.looked }) me') × (r ≢ 0 → mem o p.cleared ≡ false → me' ≡ me)
+
+  -- the thread was put last into the queue of a gate
+  abbrev pub pushed : Step (Slot T) → Sat T H W → ℕ → Sat T H W → Type 0
+  pushed st me r me' = let p = me.0.part in let n = me.0.number in (o : ℕ) → st.word ≡ length_at o → Becomes me (record p { queue = p.queue ++ n ∷ []; left = p.left ++ n ∷ []; stand = Some record { at = o; stage = Pushed } }) me'
+
+  -- the bit was read after the push
+  abbrev pub retested : Step (Slot T) → Sat T H W → ℕ → Sat T H W → Type 0
+  retested st me r me' = let p = me.0.part in (r ≡ 0 → Becomes me (record p { stand = staged Clear p.stand }) me') × (r ≢ 0 → Becomes me (record p { stand = staged Tested p.stand }) me')
+
+  -- the thread left the queue of a gate, in which it was
+  abbrev pub took_out : Step (Slot T) → Sat T H W → ℕ → Sat T H W → Type 0
+  took_out st me r me' = let p = me.0.part in let n = me.0.number in (o : ℕ) → st.word ≡ length_at o → Becomes me (record p { queue = less n p.queue; left = less n p.left; stand = None; turns = o ∷ p.turns }) me'
+
+  -- the first, if there is one, left the queue of a gate, and is owed its ready word
+  abbrev pub popped : Step (Slot T) → Sat T H W → ℕ → Sat T H W → Type 0
+  popped st me r me' = let p = me.0.part in (o : ℕ) → st.word ≡ length_at o
+      → Becomes me (record p { queue = behind p.queue; owed = p.owed ++ front p.queue; left = behind p.left; cleared = without o p.cleared; looked = without o p.looked }) me'
+
+  -- the bit of a semaphore was tried, by an event with this action
+  abbrev pub tried_p : (ℕ → Action) → Step (Slot T) → Sat T H W → ℕ → Sat T H W → Type 0
+  tried_p action st me r me' = let v = me.0 in let p = v.part in (s : ℕ) → st.word ≡ bit_at (sem_object s) → let o = sem_object s in let e = event v.number (action s) in
+      (r ≡ 0 → (between : List Event) × Grows v.number p between e × Becomes me (record (told p (p.seen ++ between) e) { failed = without o p.failed; turns = without o p.turns }) me')
+      × (r ≢ 0 → Becomes me (record p { failed = o ∷ p.failed; turns = without o p.turns }) me')
+
+  -- the bit of a semaphore was cleared
+  abbrev pub cleared_v : Step (Slot T) → Sat T H W → ℕ → Sat T H W → Type 0
+  cleared_v st me r me' = let v = me.0 in let p = v.part in (s : ℕ) → st.word ≡ bit_at (sem_object s) → let e = v_event v.number s in
+      (between : List Event) × Grows v.number p between e × Becomes me (record (told p (p.seen ++ between) e) { cleared = sem_object s ∷ p.cleared }) me'
+
+  -- the pen was tried, the number read and written, and the pen given back
+  abbrev pub penned : Step (Slot T) → Sat T H W → ℕ → Sat T H W → Type 0
+  penned st me r me' = (r ≡ 0 → Becomes me (record me.0.part { pen = Taken }) me') × (r ≢ 0 → me' ≡ me)
+
+  abbrev pub numbered : Step (Slot T) → Sat T H W → ℕ → Sat T H W → Type 0
+  numbered st me r me' = Becomes me (record me.0.part { pen = Read r }) me'
+
+  abbrev pub wrote : Step (Slot T) → Sat T H W → ℕ → Sat T H W → Type 0
+  wrote st me r me' = Becomes me (record me.0.part { pen = Written }) me'
+
+  abbrev pub unpenned : Step (Slot T) → Sat T H W → ℕ → Sat T H W → Type 0
+  unpenned st me r me' = (r ≡ 1) × Becomes me (record me.0.part { pen = No }) me'

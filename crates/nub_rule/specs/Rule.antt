@@ -1,0 +1,64 @@
+-- The rule of the table: the views are those of the threads, and the items hold of the threads.
+use Rattle.std.specs.Prelude.{Bool, ◌+◌, ◌++◌, None, Option as Opt, ◌≡◌, ℕ, ◌<◌, ◌≤◌, List, [], ◌∷◌, length, Some}
+use mathlib.Core.Option.{some}
+use lib.ListN.{get_elem?}
+use Rattle.larch_actions.specs.declared.event.Layout.{Layout}
+use Rattle.atomic_table.specs.Table.{State}
+use Rattle.nub_rule.specs.declared.rule.Slot.{Slot}
+use Rattle.nub_rule.specs.declared.view.Part.{Part}
+use Rattle.nub_rule.specs.declared.view.View.{View}
+use Rattle.nub_rule.specs.declared.view.Kind.{Kind}
+use Rattle.nub_rule.specs.declared.view.Kind.TheVariants.{Root, Member, Collector, Spent}
+use Rattle.nub_rule.specs.Parts.{fresh}
+use Rattle.nub_rule.specs.Items.{Core}
+
+-- a thread's first share, where the world is known
+abbrev pub begun : {H W : Type 0} → (W → ℕ → H) → ℕ → Opt W → Opt H
+begun begin n (Some w) = Some (begin w n)
+begun begin n None = None
+
+module _ {T H W : Type 0} where
+  module _ (threads given : ℕ) (w : W) (begin : W → ℕ → H) (all : List (Part T H)) (seat_of : ℕ → ℕ) (id : ℕ) where
+    -- what the seat id is for. A thread that was not given out yet, or came back, has the seat 0
+    abbrev pub FitsAs : View T H W → Kind → Type 0
+    FitsAs v Root = (v.world ≡ Some w) × (id ≡ 0) × (v.next ≡ given) × ((n : ℕ) → given ≤ n → n < threads → (seat_of n ≡ 0) × (get_elem? all n ≡ some (fresh (Some (begin w n)))))
+    FitsAs v Member = (v.world ≡ Some w) × (0 < id) × (v.number < given) × (seat_of v.number ≡ id) × (get_elem? all v.number ≡ some v.part)
+    FitsAs v Collector = (v.world ≡ Some w) × (length v.back ≤ given) × ((n : ℕ) (p : Part T H) → get_elem? v.back n ≡ some p → (seat_of n ≡ 0) × (get_elem? all n ≡ some p))
+    FitsAs v Spent = Unit {0}
+
+    abbrev pub SeatFits : View T H W → Type 0
+    SeatFits v = FitsAs v v.kind
+
+  abbrev pub opening_view : W → (W → ℕ → H) → View T H W
+  opening_view w begin = record { world = Some w; kind = Root; number = 0; part = fresh (Some (begin w 0)); next = 0; back = [] }
+
+  -- the root, after it has given out the next number
+  abbrev pub left_view : View T H W → View T H W
+  left_view v = record v { next = v.next + 1 }
+
+  -- the new seat, for the next number
+  abbrev pub member_view : (W → ℕ → H) → View T H W → View T H W
+  member_view begin v = record v { kind = Member; number = v.next; part = fresh (begun begin v.next v.world) }
+
+  abbrev pub collector_view : W → View T H W
+  collector_view w = record { world = Some w; kind = Collector; number = 0; part = fresh None; next = 0; back = [] }
+
+  -- the first view, as that of a collector
+  abbrev pub collecting : View T H W → View T H W
+  collecting v = record v { kind = Collector; part = fresh None }
+
+  -- the collector, after it took in a thread
+  abbrev pub both_views : View T H W → View T H W → View T H W
+  both_views v u = record v { back = v.back ++ u.part ∷ [] }
+
+  abbrev pub spent_view : View T H W
+  spent_view = record { world = None; kind = Spent; number = 0; part = fresh None; next = 0; back = [] }
+
+  pub record IsKept (l : Layout) (traced : Bool) (w : W) (begin : W → ℕ → H) (holds : W → List T → List H → Type 0) (s : State (Slot T) (View T H W)) : Type 0 where
+    pub all : List (Part T H)
+    pub seat_of : ℕ → ℕ
+    pub given : ℕ
+    pub count : length all ≡ l.threads
+    pub seated : 0 < length s.views
+    pub fits : (id : ℕ) (v : View T H W) → get_elem? s.views id ≡ some v → SeatFits l.threads given w begin all seat_of id v
+    pub core : Core l traced w holds s.words s.homes all

@@ -1,0 +1,33 @@
+//! The words of the threads package, what each thread knows of them, the rule between any two steps, and each kind of step.
+//!
+//! Promises: every package keeps the rule of specs/Items.antt between any two steps; each function here is one kind of step, with
+//! its condition on the own view, its event and its change of the view; opening and closing. Stands on `atomic_table`, and sleeps by
+//! `crossbeam_utils`. It says nothing of progress, and knows no call that takes more than one step.
+#![tactic(auto)]
+
+mod cell;
+mod hand;
+mod line;
+mod mutex;
+mod object;
+mod package;
+mod pen;
+mod queue;
+mod ready;
+mod rule;
+mod sem;
+mod spin;
+mod uses;
+mod view;
+mod whole;
+
+pub use mutex::{clear_bit, put_value, take_value, try_bit};
+pub use object::{Object, Why};
+pub use package::{Entry, Package, Stored, Thread};
+pub use pen::{give_pen, next_number, read_number, store_event, take_pen, write_number};
+pub use queue::{peek_bit, pop_queue, push_queue, read_length, take_out, test_again};
+pub use ready::{clear_ready, park, read_ready, set_ready};
+pub use sem::{clear_sem, try_p};
+pub use spin::{give_spin, take_spin};
+pub use uses::{Change, NoChange, Uses};
+pub use whole::{Remains, close_package, open_package};

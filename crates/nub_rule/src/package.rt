@@ -1,0 +1,113 @@
+//! A package and its threads.
+ghost use Rattle.std.specs.Prelude.{◌≡◌};
+
+use crate::hand::Hand;
+use crate::rule::{About, Kept, Slot};
+use crate::uses::Uses;
+use crate::view::View;
+use atomic_table::{Seat, Table};
+use crossbeam_utils::sync::{Parker, Unparker};
+use larch_actions::{Event, Layout};
+use std::alloc::Global;
+use std::marker::Model;
+
+/// A stored event, with its number.
+#[derive(Clone, Copy, Debug, PartialEq, Eq)]
+pub struct Entry {
+    pub number: u64,
+    pub event: Event,
+}
+
+/// What a thread has stored, once its package is closed.
+#[derive(Drop)]
+pub struct Stored {
+    pub entries: Vec<Entry>,
+    pub lost: bool,
+}
+
+/// One table of words and slots, which its threads share.
+#[derive(Drop)]
+pub struct Package<U: Uses> {
+    pub(crate) layout: Layout,
+    pub(crate) traced: bool,
+    pub(crate) table: Table<
+        Slot<U::Value>,
+        View<U::Value, U::Share, U::World>,
+        About<U::World>,
+        Kept<U>,
+        Global,
+    >,
+    /// Of each thread, by its number.
+    pub(crate) unparkers: Vec<Unparker>,
+    /// Room for what the threads have stored.
+    pub(crate) shelf: Vec<Stored>,
+}
+
+impl<U: Uses> Model for Package<U> {
+    ghost use Rattle.std.specs.Prelude.{◌≡◌, ◌+◌, ◌≤◌, [], vec_capacity};
+    ghost use Rattle.larch_actions.specs.Layout.{IsLawful};
+    ghost use Rattle.nub_rule.specs.Known.{Shape, shape_of};
+    ghost use Rattle.nub_rule.specs.Places.{word_count};
+
+    ghost Value = { Shape U.World };
+
+    ghost view = { λ p. shape_of p.table.shared.table_id p.table.shared.key };
+
+    ghost invariant = { λ p. (p.table.shared.table_id.words ≡ word_count) × (p.table.shared.table_id.slots ≡ 192 + p.layout.mutexes) × IsLawful p.layout × (p.shelf.items ≡ []) × (p.layout.threads ≤ vec_capacity p.shelf) × (p.table.shared.key.layout ≡ p.layout) × (p.table.shared.key.traced ≡ p.traced) };
+}
+
+/// The right of one thread to step with a package.
+#[derive(Drop)]
+pub struct Thread<U: Uses> {
+    pub(crate) number: u32,
+    pub(crate) hand: Hand,
+    pub(crate) seat: Seat<Slot<U::Value>, View<U::Value, U::Share, U::World>>,
+    /// The events of a traced run, with their numbers.
+    pub(crate) entries: Vec<Entry>,
+    pub(crate) lost: bool,
+    /// The number that was read with the pen last.
+    pub(crate) next: u64,
+    pub(crate) parker: Parker,
+    /// With the first thread, room for the values of all mutexes.
+    pub(crate) room: Vec<U::Value>,
+}
+
+impl<U: Uses> Model for Thread<U> {
+    ghost use Rattle.std.specs.Prelude.{◌≡◌, ◌+◌, ◌≤◌, ◌<◌, [], map, length, vec_capacity};
+    ghost use Rattle.nub_rule.specs.Slots.{IsDistinct, Below};
+    ghost use Rattle.nub_rule.specs.declared.view.Kind.TheVariants.{Member};
+    ghost use Rattle.nub_rule.specs.Known.{Known, known_as, Hands};
+
+    ghost Value = { Known U.Value U.Share U.World };
+
+    ghost view = { λ t. known_as t.seat.table_id t.number t.seat.me t.entries.items t.lost t.next };
+
+    ghost invariant = { λ t. (t.seat.me.0.kind ≡ Member) × (t.seat.me.0.number ≡ t.number) × (map (λ x. x.0) t.seat.me.1 ≡ t.hand) × IsDistinct t.seat.me.1 × Below 256 t.seat.me.1 × (length t.seat.me.0.part.held ≡ 64) × Hands t.seat.me.0.part t.seat.me.1 × (t.room.items ≡ []) × (t.number ≡ 0 → t.seat.table_id.slots ≤ 192 + vec_capacity t.room) × (t.number < 64) };
+}
+
+impl<U: Uses> Package<U> {
+    /// How many threads, mutexes, conditions and semaphores it has.
+    pub fn layout(&self) -> Layout
+        ensures { result ≡ self.now.layout }
+    {
+        self.layout
+    }
+
+    /// Whether its events are numbered and stored.
+    #[inline]
+    pub fn traced(&self) -> bool
+        ensures { result ≡ self.now.traced }
+    {
+        self.traced
+    }
+}
+
+impl<U: Uses> Thread<U> {
+    /// Its number.
+    #[inline]
+    pub fn number(&self) -> u32
+        ensures { result ≡ self.now.number }
+    {
+        self.number
+    }
+}

@@ -1,0 +1,75 @@
+//! The steps on the pen and on the number of the next event, in a traced package.
+ghost use Rattle.std.specs.Prelude.{◌≡◌, ◌≢◌, ◌+◌, ◌++◌, ◌∷◌, [], ℕ, true, false};
+ghost use Rattle.nub_rule.specs.declared.view.Pen.TheVariants.{No, Taken, Read, Made, Written};
+ghost use Rattle.nub_rule.specs.Parts.{MayGivePen};
+
+use crate::package::{Entry, Package, Thread};
+use crate::rule::{GivePen, ReadNumber, TakePen, WriteNumber};
+use crate::uses::Uses;
+use larch_actions::Event;
+
+/// Tries the pen once. It wins where it answers 0.
+pub fn take_pen<U: Uses>(p: &Package<U>, me: &mut Thread<U>) -> u64
+    requires of { me.old.table_id ≡ p.now.table_id }
+    requires traced { p.now.traced ≡ true }
+    requires out { me.old.pen ≡ No }
+    ensures lost { result ≢ 0 → me.new ≡ me.old }
+    ensures won { result ≡ 0 → me.new ≡ record me.old { pen = Taken } }
+{
+    p.table
+        .shared
+        .compare_exchange::<TakePen>(&mut me.seat, 4096, 0, 1)
+}
+
+/// Reads the number of the next event.
+pub fn read_number<U: Uses>(p: &Package<U>, me: &mut Thread<U>) -> u64
+    requires of { me.old.table_id ≡ p.now.table_id }
+    requires taken { me.old.pen ≡ Taken }
+    ensures { me.new ≡ record me.old { pen = Read result; next = result } }
+{
+    let found = p.table.shared.load::<ReadNumber>(&mut me.seat, 4097);
+    me.next = found;
+    found
+}
+
+/// Writes the number that follows the one of the event that was made.
+pub fn write_number<U: Uses>(p: &Package<U>, me: &mut Thread<U>, number: u64)
+    requires of { me.old.table_id ≡ p.now.table_id }
+    requires made { (k : ℕ) × (me.old.pen ≡ Made k) × (number ≡ k + 1) }
+    ensures { me.new ≡ record me.old { pen = Written } }
+{
+    p.table
+        .shared
+        .store::<WriteNumber>(&mut me.seat, 4097, number);
+}
+
+/// Gives the pen back.
+pub fn give_pen<U: Uses>(p: &Package<U>, me: &mut Thread<U>) -> u64
+    requires of { me.old.table_id ≡ p.now.table_id }
+    requires may { MayGivePen me.old.pen }
+    ensures found { result ≡ 1 }
+    ensures out { me.new ≡ record me.old { pen = No } }
+{
+    p.table.shared.swap::<GivePen>(&mut me.seat, 4096, 0)
+}
+
+/// The number that the thread read last.
+pub fn next_number<U: Uses>(me: &Thread<U>) -> u64
+    ensures { result ≡ me.now.next }
+{
+    me.next
+}
+
+/// Stores an event under the number that was read last, or marks the list lost where there is no memory for it. It is no step.
+pub fn store_event<U: Uses>(me: &mut Thread<U>, e: Event)
+    ensures kept { me.new ≡ record me.old { entries = me.new.entries; lost = me.new.lost } }
+    ensures stored { me.new.lost ≡ false → (me.old.lost ≡ false) × (me.new.entries ≡ me.old.entries ++ record { number = me.old.next; event = e } ∷ []) }
+{
+    let entry = Entry {
+        number: me.next,
+        event: e,
+    };
+    if me.entries.push(entry).is_err() {
+        me.lost = true;
+    }
+}

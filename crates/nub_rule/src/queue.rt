@@ -1,0 +1,108 @@
+//! The steps on the queue of a mutex or semaphore, under its spin word, and the look at its length.
+ghost use Rattle.std.specs.Prelude.{◌≡◌, ◌≢◌, ◌+◌, ◌<◌, ℕ, List, [], ◌∷◌, ◌++◌, length, Some, None, true, false};
+ghost use Rattle.larch_actions.specs.Sets.{mem, without};
+ghost use Rattle.nub_rule.specs.declared.rule.Slot.TheVariants.{Queue};
+ghost use Rattle.nub_rule.specs.declared.view.Stage.TheVariants.{Pushed, Clear, Tested};
+ghost use Rattle.nub_rule.specs.Items.{line_of};
+ghost use Rattle.nub_rule.specs.Known.{StandsAs};
+ghost use Rattle.nub_rule.specs.Objects.{object_of, HasObject};
+ghost use Rattle.nub_rule.specs.Parts.{staged, IsUntested, IsClear};
+ghost use Rattle.nub_rule.specs.Plays.{behind, less};
+
+use crate::hand::bring;
+use crate::line::{leave_line, pop_line, push_line};
+use crate::object::Object;
+use crate::package::{Package, Thread};
+use crate::rule::{Pop, Push, ReadLength, TakeOut, TestAgain};
+use crate::uses::Uses;
+use larch_actions::ThreadId;
+
+/// Reads the length of a queue, after a clearing of the bit.
+#[inline]
+pub fn read_length<U: Uses>(p: &Package<U>, me: &mut Thread<U>, at: Object) -> u64
+    requires of { me.old.table_id ≡ p.now.table_id }
+    requires named { HasObject p.now.layout at }
+    ensures empty { result ≡ 0 → me.new ≡ record me.old { cleared = without (object_of at) me.old.cleared; looked = without (object_of at) me.old.looked } }
+    ensures seen { result ≢ 0 → mem (object_of at) me.old.cleared ≡ true → me.new ≡ record me.old { looked = object_of at ∷ me.old.looked } }
+    ensures same { result ≢ 0 → mem (object_of at) me.old.cleared ≡ false → me.new ≡ me.old }
+{
+    let o = at.number();
+    p.table.shared.load::<ReadLength>(&mut me.seat, 16 * o + 2)
+}
+
+/// Puts the thread last into the queue.
+pub fn push_queue<U: Uses>(p: &Package<U>, me: &mut Thread<U>, at: Object)
+    requires of { me.old.table_id ≡ p.now.table_id }
+    requires named { HasObject p.now.layout at }
+    requires inside { me.old.spin ≡ Some (object_of at) }
+    requires outside { me.old.stand ≡ None }
+    ensures { me.new ≡ record me.old { queue = me.old.queue ++ me.old.number ∷ []; left = me.old.left ++ me.old.number ∷ []; stand = Some record { at = object_of at; stage = Pushed } } }
+{
+    let o = at.number();
+    bring(&mut me.hand, &mut me.seat, o as u16);
+    let length = push_line(me.seat.slot_mut(&p.table.shared, o), me.number);
+    p.table
+        .shared
+        .store::<Push>(&mut me.seat, 16 * o + 2, length);
+}
+
+/// Reads the bit again, after the push.
+pub fn test_again<U: Uses>(p: &Package<U>, me: &mut Thread<U>, at: Object) -> u64
+    requires of { me.old.table_id ≡ p.now.table_id }
+    requires named { HasObject p.now.layout at }
+    requires inside { me.old.spin ≡ Some (object_of at) }
+    requires untested { StandsAs (λ s. (s.at ≡ object_of at) × IsUntested s.stage) me.old }
+    ensures clear { result ≡ 0 → me.new ≡ record me.old { stand = staged Clear me.old.stand } }
+    ensures tested { result ≢ 0 → me.new ≡ record me.old { stand = staged Tested me.old.stand } }
+{
+    let o = at.number();
+    p.table.shared.load::<TestAgain>(&mut me.seat, 16 * o)
+}
+
+/// Takes the thread out of the queue, after it found the bit clear. It answers whether the thread was in it.
+pub fn take_out<U: Uses>(p: &Package<U>, me: &mut Thread<U>, at: Object) -> bool
+    requires of { me.old.table_id ≡ p.now.table_id }
+    requires named { HasObject p.now.layout at }
+    requires inside { me.old.spin ≡ Some (object_of at) }
+    requires clear { StandsAs (λ s. (s.at ≡ object_of at) × IsClear s.stage) me.old }
+    ensures there { result ≡ mem me.old.number me.old.queue }
+    ensures out { result ≡ true → me.new ≡ record me.old { queue = less me.old.number me.old.queue; left = less me.old.number me.old.left; stand = None; turns = object_of at ∷ me.old.turns } }
+    ensures same { result ≡ false → me.new ≡ me.old }
+{
+    let o = at.number();
+    bring(&mut me.hand, &mut me.seat, o as u16);
+    let Some(length) = leave_line(me.seat.slot_mut(&p.table.shared, o), me.number) else {
+        return false;
+    };
+    p.table
+        .shared
+        .store::<TakeOut>(&mut me.seat, 16 * o + 2, length);
+    true
+}
+
+/// Takes the first out of the queue. The thread owes it its ready word then.
+pub fn pop_queue<U: Uses>(p: &Package<U>, me: &mut Thread<U>, at: Object) -> Option<ThreadId>
+    requires of { me.old.table_id ≡ p.now.table_id }
+    requires named { HasObject p.now.layout at }
+    requires inside { me.old.spin ≡ Some (object_of at) }
+    ensures none { result ≡ None → me.old.queue ≡ [] }
+    ensures first { (t : ThreadId) → result ≡ Some t → (me.old.queue ≡ t.0 ∷ behind me.old.queue) × (me.new.owed ≡ me.old.owed ++ t.0 ∷ []) }
+    ensures out { me.new ≡ record me.old { queue = behind me.old.queue; left = behind me.old.left; owed = me.new.owed; cleared = without (object_of at) me.old.cleared; looked = without (object_of at) me.old.looked } }
+    ensures owes { result ≡ None → me.new.owed ≡ me.old.owed }
+{
+    let o = at.number();
+    bring(&mut me.hand, &mut me.seat, o as u16);
+    let (first, length) = pop_line(me.seat.slot_mut(&p.table.shared, o));
+    p.table
+        .shared
+        .store::<Pop>(&mut me.seat, 16 * o + 2, length);
+    first
+}
+
+/// Looks at a bit. It is no step, and tells nothing.
+#[inline]
+pub fn peek_bit<U: Uses>(p: &Package<U>, at: Object) -> u64
+    requires { HasObject p.now.layout at }
+{
+    p.table.shared.peek(16 * at.number())
+}

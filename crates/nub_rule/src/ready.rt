@@ -1,0 +1,65 @@
+//! The steps on the ready word of a thread, by which it is woken.
+ghost use Rattle.std.specs.Prelude.{◌≡◌, ◌≢◌, ◌<◌, ◌≤◌, [], ◌∷◌, Some, None, true};
+ghost use Rattle.larch_actions.specs.Sets.{mem, without};
+ghost use Rattle.nub_rule.specs.declared.view.Stand.{Stand};
+ghost use Rattle.nub_rule.specs.declared.view.Stage.TheVariants.{Asleep, Found};
+ghost use Rattle.nub_rule.specs.Known.{StandsAs};
+ghost use Rattle.nub_rule.specs.Parts.{staged, HasTested, IsFound};
+
+use crate::package::{Package, Thread};
+use crate::rule::{ClearReady, ReadReady, SetReady};
+use crate::uses::Uses;
+use larch_actions::ThreadId;
+use std::sync::Wait;
+
+/// Makes a thread ready that was popped, and unparks it.
+pub fn set_ready<U: Uses>(p: &Package<U>, me: &mut Thread<U>, t: ThreadId) -> u64
+    requires of { me.old.table_id ≡ p.now.table_id }
+    requires owed { mem t.0 me.old.owed ≡ true }
+    requires named { t.0 < 64 }
+    ensures found { result ≡ 0 }
+    ensures owes { me.new ≡ record me.old { owed = without t.0 me.old.owed } }
+{
+    let found = p
+        .table
+        .shared
+        .swap::<SetReady>(&mut me.seat, 16 * t.0 as usize + 3073, 1);
+    if let Some(unparker) = p.unparkers.get(t.0 as usize) {
+        unparker.unpark();
+    }
+    found
+}
+
+/// Reads the own ready word, after the second test. Where it is 0, the thread may sleep.
+pub fn read_ready<U: Uses>(p: &Package<U>, me: &mut Thread<U>) -> u64
+    requires of { me.old.table_id ≡ p.now.table_id }
+    requires outside { me.old.spin ≡ None }
+    requires tested { StandsAs (λ s. HasTested s.stage) me.old }
+    requires looked { me.old.cleared ≡ [] }
+    ensures asleep { result ≡ 0 → me.new ≡ record me.old { stand = staged Asleep me.old.stand } }
+    ensures found { result ≢ 0 → me.new ≡ record me.old { stand = staged Found me.old.stand } }
+    ensures one { result ≢ 0 → result ≡ 1 }
+{
+    p.table
+        .shared
+        .load::<ReadReady>(&mut me.seat, 16 * me.number as usize + 3073)
+}
+
+/// Clears the own ready word, which was found set. The thread stands nowhere then.
+pub fn clear_ready<U: Uses>(p: &Package<U>, me: &mut Thread<U>) -> u64
+    requires of { me.old.table_id ≡ p.now.table_id }
+    requires outside { me.old.spin ≡ None }
+    requires ready { StandsAs (λ s. IsFound s.stage) me.old }
+    ensures found { result ≡ 1 }
+    ensures at_gate { (s : Stand) → me.old.stand ≡ Some s → s.at < 128 → me.new ≡ record me.old { stand = None; turns = s.at ∷ me.old.turns } }
+    ensures at_cond { (s : Stand) → me.old.stand ≡ Some s → 128 ≤ s.at → me.new ≡ record me.old { stand = None } }
+{
+    p.table
+        .shared
+        .swap::<ClearReady>(&mut me.seat, 16 * me.number as usize + 3073, 0)
+}
+
+/// Sleeps until another thread unparks this one, or for no reason. It is no step, and tells nothing.
+pub fn park<U: Uses, R: Wait>(rt: &R, me: &Thread<U>) {
+    me.parker.park(rt);
+}

@@ -1,0 +1,52 @@
+//! The steps on a spin word. Its holder alone changes the queue of the object.
+ghost use Rattle.std.specs.Prelude.{◌≡◌, ◌≢◌, ◌<◌, [], length, Some, None, true};
+ghost use Rattle.larch_actions.specs.Sets.{mem, without};
+ghost use Rattle.nub_rule.specs.Items.{Small};
+ghost use Rattle.nub_rule.specs.Objects.{object_of, HasObject};
+ghost use Rattle.nub_rule.specs.Parts.{stands_at};
+ghost use Rattle.nub_rule.specs.Plays.{HasReason};
+
+use crate::hand::bring;
+use crate::object::{Object, Why};
+use crate::package::{Package, Thread};
+use crate::rule::{GiveSpin, TakeSpin};
+use crate::uses::Uses;
+
+/// Tries the spin word of an object once, for a reason in the view. It wins where it answers 0, and then knows the queue.
+pub fn take_spin<U: Uses>(p: &Package<U>, me: &mut Thread<U>, at: Object, why: Why) -> u64
+    requires of { me.old.table_id ≡ p.now.table_id }
+    requires named { HasObject p.now.layout at }
+    requires outside { me.old.spin ≡ None }
+    requires reason { HasReason (object_of at) me.old.failed me.old.looked why }
+    ensures lost { result ≢ 0 → me.new ≡ me.old }
+    ensures won { result ≡ 0 → me.new ≡ record me.old { spin = Some (object_of at); queue = me.new.queue; owed = []; left = me.new.queue; count = me.new.count; failed = without (object_of at) me.old.failed } }
+    ensures small { result ≡ 0 → Small 64 me.new.queue }
+    ensures room { result ≡ 0 → me.old.stand ≡ None → length me.new.queue < 64 }
+    ensures there { result ≡ 0 → mem me.old.number me.new.queue ≡ true → stands_at me.old.stand (object_of at) ≡ true }
+{
+    let o = at.number();
+    let found = p
+        .table
+        .shared
+        .compare_exchange::<TakeSpin>(&mut me.seat, 16 * o + 1, 0, 1);
+    if found == 0 {
+        me.hand.take(o as u16);
+    }
+    found
+}
+
+/// Gives the spin word of an object back, with its queue.
+pub fn give_spin<U: Uses>(p: &Package<U>, me: &mut Thread<U>, at: Object) -> u64
+    requires of { me.old.table_id ≡ p.now.table_id }
+    requires named { HasObject p.now.layout at }
+    requires inside { me.old.spin ≡ Some (object_of at) }
+    requires owes_none { me.old.owed ≡ [] }
+    requires even { me.old.left ≡ me.old.queue }
+    ensures found { result ≡ 1 }
+    ensures outside { me.new ≡ record me.old { spin = None; queue = []; left = [] } }
+{
+    let o = at.number();
+    bring(&mut me.hand, &mut me.seat, o as u16);
+    me.hand.give();
+    p.table.shared.swap::<GiveSpin>(&mut me.seat, 16 * o + 1, 0)
+}

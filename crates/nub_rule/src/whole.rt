@@ -1,0 +1,300 @@
+//! Opening and closing a package.
+ghost use Rattle.std.specs.Prelude.{Some, None, false, slice_index, slice_index_or, ◌≡◌, ◌≢◌, ℕ, ◌+◌, ◌<◌, ◌≤◌, [], ◌∷◌, ◌++◌, map, length, replicate, IfOk, vec_len, vec_capacity};
+ghost use Rattle.std.specs.Mem.Slots.{slots_items, slots_filled, slots_len, IsFull};
+ghost use Rattle.std.specs.Mem.Slots.Ownership.{Filled};
+ghost use mathlib.Core.Option.{some};
+ghost use lib.ListN.{get_elem?};
+ghost use Rattle.larch_actions.specs.Layout.{IsLawful};
+ghost use Rattle.nub_rule.specs.declared.rule.Slot.TheVariants.{Value};
+ghost use Rattle.nub_rule.specs.declared.view.Kind.TheVariants.{Root, Collector};
+ghost use Rattle.nub_rule.specs.Items.{Each};
+ghost use Rattle.nub_rule.specs.Rule.{left_view, member_view};
+ghost use Rattle.nub_rule.specs.Known.{known_as, part_of, HasNone};
+ghost use Rattle.nub_rule.specs.Ends.{firsts, opening_slots, first_known, Leaves};
+ghost use Rattle.nub_rule.specs.Places.{word_count};
+
+use crate::hand::Hand;
+use crate::package::{Entry, Package, Stored, Thread};
+use crate::rule::{About, Collect, Cut, Gather, Kept, Line, Slot};
+use crate::uses::Uses;
+use crate::view::View;
+use atomic_table::{Closed, Seat, Shared, Table};
+use crossbeam_utils::sync::{Parker, Unparker};
+use larch_actions::Layout;
+use std::alloc::{AllocError, Global};
+use std::mem;
+use std::snapshot::Snapshot;
+
+const QUEUES: usize = 192;
+
+const WORDS: usize = 4112;
+
+/// What a package leaves: the values last released, and what each thread has stored.
+#[derive(Drop)]
+pub struct Remains<U: Uses> {
+    pub values: Vec<U::Value>,
+    pub stored: Vec<Stored>,
+}
+
+fn words(alloc: Global) -> Result<Vec<u64>, AllocError>
+    ensures length { IfOk result (λ w. length w.items ≡ word_count) }
+    ensures zeros { IfOk result (λ w. (k : ℕ) → slice_index w.items k ≡ 0) }
+{
+    let mut words = Vec::with_capacity(alloc, WORDS)?;
+    for _i in 0..WORDS {
+        words.push(0)?;
+    }
+    Ok(words)
+}
+
+fn slots_of<T: Drop>(alloc: Global, values: Vec<T>) -> Result<Vec<Slot<T>>, AllocError>
+    ensures { IfOk result (λ s. s.items ≡ opening_slots values.items) }
+{
+    let mut slots = Vec::new(alloc);
+    for _i in 0..QUEUES {
+        slots.push(Slot::Queue(Line::new()))?;
+    }
+    for x in values {
+        slots.push(Slot::Value(Some(x)))?;
+    }
+    Ok(slots)
+}
+
+/// The thread with this number, cut off the first seat.
+fn cut<U: Uses>(
+    p: &Package<U>,
+    root: &mut Seat<Slot<U::Value>, View<U::Value, U::Share, U::World>>,
+    number: u32,
+    parker: Parker,
+    entries: Vec<Entry>,
+    room: Vec<U::Value>,
+) -> Thread<U>
+    requires of { root.old.table_id ≡ p.now.table_id }
+    requires root { root.old.me.0.kind ≡ Root }
+    requires next { (root.old.me.0.next ≡ number) × (number < p.now.layout.threads) }
+    requires world { root.old.me.0.world ≡ Some p.now.world }
+    requires empty { (entries.items ≡ []) × (room.items ≡ []) }
+    requires room { number ≡ 0 → p.now.layout.mutexes ≤ vec_capacity room }
+    ensures of { root.new.table_id ≡ root.old.table_id }
+    ensures root { root.new.me.0 ≡ left_view root.old.me.0 }
+    ensures thread { result ≡ first_known root.old.table_id p.now.world U.begin number }
+{
+    let seat = p.table.shared.split_seat::<Cut<U>>(root);
+    Thread {
+        number,
+        hand: Hand::new(),
+        seat,
+        entries,
+        lost: false,
+        next: 0,
+        parker,
+        room,
+    }
+}
+
+/// The threads, in order of their numbers.
+fn cut_all<U: Uses>(
+    alloc: Global,
+    p: &Package<U>,
+    mut root: Seat<Slot<U::Value>, View<U::Value, U::Share, U::World>>,
+    parkers: Vec<Parker>,
+    mut room: Vec<U::Value>,
+) -> Result<Vec<Thread<U>>, AllocError>
+    requires of { root.table_id ≡ p.now.table_id }
+    requires root { (root.me.0.kind ≡ Root) × (root.me.0.next ≡ 0) }
+    requires world { root.me.0.world ≡ Some p.now.world }
+    requires parkers { length parkers.items ≡ p.now.layout.threads }
+    requires room { (room.items ≡ []) × (p.now.layout.mutexes ≤ vec_capacity room) }
+    ensures count { IfOk result (λ o. length o.items ≡ p.now.layout.threads) }
+    ensures threads { IfOk result (λ o. Each (λ n t. t ≡ first_known p.now.table_id p.now.world U.begin n) o.items) }
+{
+    let mut threads = Vec::new(alloc);
+    let mut number = 0;
+    for parker in parkers {
+        let own = mem::replace(&mut room, Vec::new(alloc));
+        threads.push(cut(p, &mut root, number, parker, Vec::new(alloc), own))?;
+        number += 1;
+    }
+    Ok(threads)
+}
+
+/// So many parkers, and the other end of each.
+fn parkers_of(alloc: Global, count: u32) -> Result<(Vec<Parker>, Vec<Unparker>), AllocError>
+    ensures { IfOk result (λ o. length o.0.items ≡ count) }
+{
+    let mut parkers = Vec::new(alloc);
+    let mut unparkers = Vec::new(alloc);
+    for _i in 0..count {
+        let parker = Parker::new(alloc)?;
+        unparkers.push(parker.unparker().clone()?)?;
+        parkers.push(parker)?;
+    }
+    Ok((parkers, unparkers))
+}
+
+/// A package and its threads, in order of their numbers.
+pub fn open_package<U: Uses>(
+    alloc: Global,
+    layout: Layout,
+    world: &U::World,
+    values: Vec<U::Value>,
+    traced: bool,
+) -> Result<(Package<U>, Vec<Thread<U>>), AllocError>
+    requires lawful { IsLawful layout }
+    requires values { length values.items ≡ layout.mutexes }
+    requires holds { U.holds world.now values.items (firsts (U.begin world.now) layout.threads) }
+    ensures package { IfOk result (λ o. (o.0.layout ≡ layout) × (o.0.traced ≡ traced) × (o.0.world ≡ world.now)) }
+    ensures count { IfOk result (λ o. length o.1.items ≡ layout.threads) }
+    ensures threads { IfOk result (λ o. Each (λ n t. t ≡ first_known o.0.table_id world.now U.begin n) o.1.items) }
+{
+    let slots = slots_of(alloc, values)?;
+    let words = words(alloc)?;
+    let (parkers, unparkers) = parkers_of(alloc, layout.threads)?;
+    let room = Vec::with_capacity(alloc, layout.mutexes as usize)?;
+    let shelf = Vec::with_capacity(alloc, layout.threads as usize)?;
+    let about = About {
+        layout,
+        traced,
+        world: Snapshot::of(world),
+    };
+    let Ok((table, root)) = Table::new(alloc, words.as_slice(), slots, &about) else {
+        return Err(AllocError);
+    };
+    let package = Package {
+        layout,
+        traced,
+        table,
+        unparkers,
+        shelf,
+    };
+    let threads = cut_all(alloc, &package, root, parkers, room)?;
+    Ok((package, threads))
+}
+
+/// What the threads give back.
+struct Gathered<U: Uses> {
+    seat: Seat<Slot<U::Value>, View<U::Value, U::Share, U::World>>,
+    stored: Vec<Stored>,
+    room: Vec<U::Value>,
+}
+
+/// A seat that has taken every thread back, and what they have stored.
+fn gather_all<U: Uses>(
+    alloc: Global,
+    shared: &Shared<Slot<U::Value>, View<U::Value, U::Share, U::World>, About<U::World>, Kept<U>>,
+    threads: Vec<Thread<U>>,
+    mut stored: Vec<Stored>,
+) -> Gathered<U>
+    requires words { 0 < shared.now.table_id.words }
+    requires threads { Each (λ n t. (t.number ≡ n) × (t.table_id ≡ shared.now.table_id) × (t.spin ≡ None) × HasNone t) threads.items }
+    requires some { 1 ≤ length threads.items }
+    requires shelf { (stored.items ≡ []) × (length threads.items ≤ vec_capacity stored) }
+    ensures of { result.seat.table_id ≡ shared.now.table_id }
+    ensures kind { result.seat.me.0.kind ≡ Collector }
+    ensures back { result.seat.me.0.back ≡ map (λ t. part_of t) threads.items }
+    ensures stored { (map (λ s. s.entries.items) result.stored.items ≡ map (λ t. t.entries) threads.items) × (map (λ s. s.lost) result.stored.items ≡ map (λ t. t.lost) threads.items) }
+    ensures room { (result.room.items ≡ []) × (shared.now.table_id.slots ≤ 192 + vec_capacity result.room) }
+{
+    let (_, mut seat) = shared.load_new_seat::<Collect>(0);
+    let mut room = Vec::new(alloc);
+    for thread in threads {
+        let Thread {
+            number,
+            hand: _,
+            seat: own,
+            entries,
+            lost,
+            next: _,
+            parker: _,
+            room: kept,
+        } = thread;
+        shared.join_seat::<Gather>(&mut seat, own);
+        add(&mut stored, Stored { entries, lost });
+        room = first_room(number, kept, room);
+    }
+    Gathered { seat, stored, room }
+}
+
+// The room of the first thread, whoever else has kept some.
+fn first_room<T: Drop>(number: u32, kept: Vec<T>, room: Vec<T>) -> Vec<T>
+    requires { (kept.items ≡ []) × (room.items ≡ []) }
+    ensures empty { result.items ≡ [] }
+    ensures first { number ≡ 0 → result ≡ kept }
+    ensures later { number ≢ 0 → result ≡ room }
+{
+    if number == 0 { kept } else { room }
+}
+
+// Adds x where there is room.
+fn add<T: Drop>(xs: &mut Vec<T>, x: T)
+    requires { vec_len xs.old < vec_capacity xs.old }
+    ensures items { xs.new.items ≡ xs.old.items ++ x ∷ [] }
+    ensures room { vec_capacity xs.old ≤ vec_capacity xs.new }
+{
+    if xs.push(x).is_err() {
+        unreachable!();
+    }
+}
+
+/// Lets the slots of the queues go.
+fn drop_queues<T: Drop>(closed: &mut Closed<Slot<T>, Global>)
+    requires { IsFull closed.old.slots × (192 ≤ slots_len closed.old.slots) }
+    ensures len { slots_len closed.new.slots ≡ slots_len closed.old.slots }
+    ensures items { slots_items closed.new.slots ≡ slots_items closed.old.slots }
+    ensures filled { Filled (slots_filled closed.new.slots) 192 (slots_len closed.new.slots) × ((k : ℕ) → k < 192 → slice_index_or (slots_filled closed.new.slots) k false ≡ false) }
+{
+    for i in 0..QUEUES {
+        drop(closed.take(i));
+    }
+}
+
+/// The value in a slot that has one.
+fn value_in<T: Drop>(slot: Slot<T>) -> T
+    requires { (x : T) × (slot ≡ Value (Some x)) }
+    ensures { slot ≡ Value (Some result) }
+{
+    let Slot::Value(cell) = slot else {
+        unreachable!()
+    };
+    let Some(x) = cell else {
+        unreachable!()
+    };
+    x
+}
+
+/// The values in the slots.
+fn values_of<T: Drop>(mut values: Vec<T>, mut closed: Closed<Slot<T>, Global>) -> Vec<T>
+    requires full { IsFull closed.slots × (192 ≤ slots_len closed.slots) }
+    requires room { (values.items ≡ []) × (slots_len closed.slots ≤ 192 + vec_capacity values) }
+    requires values { (m : ℕ) → 192 + m < slots_len closed.slots → (x : T) × (get_elem? (slots_items closed.slots) (192 + m) ≡ some (Value (Some x))) }
+    ensures count { 192 + length result.items ≡ slots_len closed.slots }
+    ensures values { (m : ℕ) (x : T) → get_elem? (slots_items closed.slots) (192 + m) ≡ some (Value (Some x)) → get_elem? result.items m ≡ some x }
+{
+    drop_queues(&mut closed);
+    for i in QUEUES..closed.slot_count() {
+        let x = value_in(closed.take(i));
+        add(&mut values, x);
+    }
+    closed.free();
+    values
+}
+
+/// Closes a package whose threads have all come back, with no bit and no spin word had and no wait begun. It takes no memory.
+pub fn close_package<U: Uses>(alloc: Global, p: Package<U>, threads: Vec<Thread<U>>) -> Remains<U>
+    requires count { length threads.items ≡ p.layout.threads }
+    requires threads { Each (λ n t. (t.number ≡ n) × (t.table_id ≡ p.table_id) × (t.spin ≡ None) × HasNone t) threads.items }
+    requires rest { Each (λ n t. t.wait ≡ None) threads.items }
+    ensures values { (length result.values.items ≡ p.layout.mutexes) × Leaves (U.holds p.world) (map (λ t. part_of t) threads.items) result.values.items }
+    ensures stored { (map (λ s. s.entries.items) result.stored.items ≡ map (λ t. t.entries) threads.items) × (map (λ s. s.lost) result.stored.items ≡ map (λ t. t.lost) threads.items) }
+{
+    let Package {
+        layout: _,
+        traced: _,
+        table,
+        unparkers: _,
+        shelf,
+    } = p;
+    let Gathered { seat, stored, room } = gather_all(alloc, &table.shared, threads, shelf);
+    let values = values_of(room, table.close_with(seat));
+    Remains { values, stored }
+}

@@ -1,0 +1,5 @@
+/// An addition under a mutex.
+pub struct Added {
+    pub mutex: u64,
+    pub amount: u64,
+}
