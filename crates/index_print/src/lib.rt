@@ -10,6 +10,3 @@ mod lines;
 mod print;
 
 pub use print::{print_index, print_path};
-
-#[cfg(test)]
-mod tests;
