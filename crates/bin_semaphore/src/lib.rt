@@ -9,8 +9,8 @@ ghost use Rattle.nub_rule.specs.Plays.{p_event, v_event};
 ghost use Rattle.nub.specs.Rest.{AtRest, Adds, IsSame};
 
 use gate::{free, take};
-use nub_rule::{NoChange, Object, Package, Thread, Uses};
 use larch_actions::{Action, Event, SemId, ThreadId};
+use nub_rule::{NoChange, Object, Package, Thread, Uses};
 use std::sync::Wait;
 
 /// Makes the semaphore unavailable, once it is available.

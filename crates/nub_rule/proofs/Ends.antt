@@ -238,16 +238,24 @@ module _ {T H W : Type 0} where
   -- a thread that was given out fits
   pub first_fits : (begin : W → ℕ → H) (v : View T H W) (me : Sat T H W) (n : ℕ) (hand : List ℕ) (A : Type 0) → me ≡ (member_view begin v, []) → v.next ≡ n → hand ≡ [] → A
       → (me.0.kind ≡ Member) × (me.0.number ≡ n) × (keys me.1 ≡ hand) × IsDistinct me.1 × Below 256 me.1 × (length me.0.part.held ≡ 64) × Hands me.0.part me.1 × A
-  first_fits begin v me n hand A is next bare a = subst (λ (m : Sat T H W). (m.0.kind ≡ Member) × (m.0.number ≡ n) × (keys m.1 ≡ hand) × IsDistinct m.1 × Below 256 m.1 × (length m.0.part.held ≡ 64) × Hands m.0.part m.1 × A) (sym is)
-      (refl, next, sym bare, tt, tt, length-replicate {A = Opt T} 64 None, record {
-        below = λ o e. absurd (none_some o e);
-        queue_in = λ o e. absurd (none_some o e);
-        queue_out = λ o low e. refl;
-        value_got = λ m x g. absurd (none_some x (at_replicate 64 m None (Some x) g));
-        value_lacked = λ m e. refl;
-        settled = λ e. refl;
-        room = λ o e f. absurd (none_some o e);
-      }, a)
+  first_fits begin v me n hand A is next bare a = subst (λ (m : Sat T H W). (m.0.kind ≡ Member) × (m.0.number ≡ n) × (keys m.1 ≡ hand) × IsDistinct m.1 × Below 256 m.1 × (length m.0.part.held ≡ 64) × Hands m.0.part m.1 × A) (sym is) (
+    refl,
+    next,
+    sym bare,
+    tt,
+    tt,
+    length-replicate {A = Opt T} 64 None,
+    record {
+      below = λ o e. absurd (none_some o e);
+      queue_in = λ o e. absurd (none_some o e);
+      queue_out = λ o low e. refl;
+      value_got = λ m x g. absurd (none_some x (at_replicate 64 m None (Some x) g));
+      value_lacked = λ m e. refl;
+      settled = λ e. refl;
+      room = λ o e f. absurd (none_some o e);
+    },
+    a,
+  )
 
 module _ {T H : Type 0} where
   lacked : (p : Part T H) (m : ℕ) (h : Opt T) → get_elem? p.held m ≡ some h → ((x : T) → Got p m x → ⊥) → Lacks p m
@@ -260,11 +268,11 @@ module _ {T H : Type 0} where
   no_slots p (x ∷ xs) h low wide free bare = let below = low.0 in let here = find-here x.0 x xs refl in absurd (⊎_elim
       (λ (l : x.0 < 192). none_some x.1 (sym (h.queue_out x.0 l (λ e. none_some x.0 (sym free ∙ e))) ∙ here))
       (λ (l : 192 ≤ x.0).
-          let m = x.0 - 192 in
-          let e : 192 + m ≡ x.0 = omega arith in
-          let there = at_below p.held m (omega arith) in
-          let gone = h.value_lacked m (lacked p m there.0 there.1 (bare m)) in
-          none_some x.1 (sym gone ∙ (ap (λ (k : ℕ). find k (x ∷ xs)) e ∙ here)))
+      let m = x.0 - 192 in
+      let e : 192 + m ≡ x.0 = omega arith in
+      let there = at_below p.held m (omega arith) in
+      let gone = h.value_lacked m (lacked p m there.0 there.1 (bare m)) in
+      none_some x.1 (sym gone ∙ (ap (λ (k : ℕ). find k (x ∷ xs)) e ∙ here)))
       (cases_lt x.0 192))
 
 pub push_maps : {A B C : Type 0} (f : A → C) (g : B → C) (xs zs : List A) (ys : List B) (x : A) (y : B) → map f xs ≡ map g ys → zs ≡ xs ++ x ∷ [] → f x ≡ g y → map f zs ≡ map g (ys ++ y ∷ [])

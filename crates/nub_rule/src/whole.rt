@@ -256,9 +256,7 @@ fn value_in<T: Drop>(slot: Slot<T>) -> T
     let Slot::Value(cell) = slot else {
         unreachable!()
     };
-    let Some(x) = cell else {
-        unreachable!()
-    };
+    let Some(x) = cell else { unreachable!() };
     x
 }
 

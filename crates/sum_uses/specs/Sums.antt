@@ -67,12 +67,13 @@ still_small m k x y s r ok h = ⊎_elim
 
 pub after_sums : (w : Prim.Unit {0}) (values : List ℕ) (shares : List (List Added)) → AreSums values shares → (m x y : ℕ) → get_elem? values m ≡ some x → (t : ℕ) (s r : List Added) → get_elem? shares t ≡ some s → GrowsAlike m x y s r → AreSums (slice_set values m y) (slice_set shares t r)
 after_sums w values shares h m x y at t s r there ok = record {
-    few = let a = length-set shares t r in let b = h.few in omega arith;
-    small = λ j u e k. ⊎_elim
-        (λ (p : (j ≡ t) × (r ≡ u)). let same : added k r ≡ added k u = ap (added k) p.1 in let a = still_small m k x y s r ok (h.small t s there k) in omega arith)
-        (λ (p : (j ≢ t) × (get_elem? shares j ≡ some u)). h.small j u p.1 k)
-        (at_set shares t j r u e);
-    sums = λ k z e. let sum = total_set k shares t s r there in ⊎_elim
-        (λ (p : (k ≡ m) × (y ≡ z)). let a = h.sums m x at in let b = p.1 in let c = ok.alike in let d = total_set m shares t s r there in let f : total k (slice_set shares t r) ≡ total m (slice_set shares t r) = ap (λ (n : ℕ). total n (slice_set shares t r)) p.0 in omega arith)
-        (λ (p : (k ≢ m) × (get_elem? values k ≡ some z)). let a = h.sums k z p.1 in let b = ok.others k p.0 in omega arith)
-        (at_set values m k y z e) }
+  few = let a = length-set shares t r in let b = h.few in omega arith;
+  small = λ j u e k. ⊎_elim
+      (λ (p : (j ≡ t) × (r ≡ u)). let same : added k r ≡ added k u = ap (added k) p.1 in let a = still_small m k x y s r ok (h.small t s there k) in omega arith)
+      (λ (p : (j ≢ t) × (get_elem? shares j ≡ some u)). h.small j u p.1 k)
+      (at_set shares t j r u e);
+  sums = λ k z e. let sum = total_set k shares t s r there in ⊎_elim
+      (λ (p : (k ≡ m) × (y ≡ z)). let a = h.sums m x at in let b = p.1 in let c = ok.alike in let d = total_set m shares t s r there in let f : total k (slice_set shares t r) ≡ total m (slice_set shares t r) = ap (λ (n : ℕ). total n (slice_set shares t r)) p.0 in omega arith)
+      (λ (p : (k ≢ m) × (get_elem? values k ≡ some z)). let a = h.sums k z p.1 in let b = ok.others k p.0 in omega arith)
+      (at_set values m k y z e);
+}

@@ -40,16 +40,16 @@ loop-thread-preserved g c = let t = c.in-Some.thread in let i = c.loop-thread.in
       empty = c.first_room-room.ensures.empty;
       room = λ _. ⊎_elim
           (λ (e : t.number ≡ 0).
-              let is = c.first_room-room.ensures.first (num ∙ e) in
-              let fits = c.thread.invariant.8 (num ∙ e) in
-              let slots : c.thread.inside.seat.table_id.slots ≡ c.args.shared.now.table_id.slots = ap (λ z. z.slots) (ap (λ k. k.table_id) v ∙ f.1) in
-              let same : vec_capacity c.first_room-room.result ≡ vec_capacity c.thread.inside.room = ap (λ r. vec_capacity r) is in
-              omega arith)
+          let is = c.first_room-room.ensures.first (num ∙ e) in
+          let fits = c.thread.invariant.8 (num ∙ e) in
+          let slots : c.thread.inside.seat.table_id.slots ≡ c.args.shared.now.table_id.slots = ap (λ z. z.slots) (ap (λ k. k.table_id) v ∙ f.1) in
+          let same : vec_capacity c.first_room-room.result ≡ vec_capacity c.thread.inside.room = ap (λ r. vec_capacity r) is in
+          omega arith)
           (λ (e : t.number ≢ 0).
-              let is = c.first_room-room.ensures.later (λ z. e (sym num ∙ z)) in
-              let order = f.0 in
-              let fits = i.room (omega arith) in
-              let same : vec_capacity c.first_room-room.result ≡ vec_capacity c.loop-thread.room = ap (λ r. vec_capacity r) is in
-              omega arith)
+          let is = c.first_room-room.ensures.later (λ z. e (sym num ∙ z)) in
+          let order = f.0 in
+          let fits = i.room (omega arith) in
+          let same : vec_capacity c.first_room-room.result ≡ vec_capacity c.loop-thread.room = ap (λ r. vec_capacity r) is in
+          omega arith)
           (cases_eq t.number 0);
     }
