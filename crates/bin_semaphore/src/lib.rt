@@ -4,6 +4,9 @@
 //! Nothing is said of waiting: not that a P ever returns, nor that anyone is served before another.
 #![tactic(auto)]
 
+#[cfg(test)]
+mod tests;
+
 ghost use Rattle.std.specs.Prelude.{◌≡◌, ◌<◌, []};
 ghost use Rattle.nub_rule.specs.Plays.{p_event, v_event};
 ghost use Rattle.nub.specs.Rest.{AtRest, Adds, IsSame};

@@ -1,0 +1,31 @@
+-- What adding does to the sums, and lists read in two ways.
+use Rattle.std.proofs.Common.{◌≡◌, ℕ, ◌<◌, ◌≤◌, List, [], ◌∷◌, length, map, get_or, zero, suc, arith, sym, ap, ◌∙◌, refl}
+use mathlib.Core.Option.{some, some-injective, some-ne-none}
+use lib.ListN.{get_elem?}
+use Rattle.std.specs.List.{range_with_len}
+use Rattle.std.proofs.lemmas.List.FromFn.{length-map-range_with_len}
+use Rattle.nub_rule.specs.Ends.{firsts}
+use Rattle.sum_uses.specs.declared.added.Added.{Added}
+use Rattle.sum_uses.specs.Sums.{added, total, AreSums}
+
+none-total : (m : ℕ) (ts : List ℕ) → total m (map (λ t. []) ts) ≡ 0
+none-total m [] = refl
+none-total m (t ∷ ts) = let h = none-total m ts in omega arith
+
+none-added : (ts : List ℕ) (t : ℕ) (s : List Added) → get_elem? (map (λ t. []) ts) t ≡ some s → s ≡ []
+none-added [] t s e = absurd (some-ne-none s (sym e))
+none-added (x ∷ ts) zero s e = sym (some-injective [] s e)
+none-added (x ∷ ts) (suc t) s e = none-added ts t s e
+
+-- at first, where each value is 0
+pub sums_begin : (values : List ℕ) (n : ℕ) → ((m x : ℕ) → get_elem? values m ≡ some x → x ≡ 0) → n ≤ 256 → AreSums values (firsts (λ t. []) n)
+sums_begin values n none few = record {
+  few = let e = length-map-range_with_len {X = List Added} (λ t. []) 0 n in omega arith;
+  small = λ t s e m. let h : added m s ≡ 0 = ap (added m) (none-added (range_with_len 0 n) t s e) in omega arith;
+  sums = λ m x e. none m x e ∙ sym (none-total m (range_with_len 0 n));
+}
+
+pub from_at : {A : Type 0} (xs : List A) (n : ℕ) (t : A) → get_elem? xs n ≡ some t → (n < length xs) × (t ≡ get_or xs n t)
+from_at [] n t e = absurd (some-ne-none t (sym e))
+from_at (x ∷ xs) zero t e = (omega arith, sym (some-injective x t e))
+from_at (x ∷ xs) (suc n) t e = let r = from_at xs n t e in let low = r.0 in (omega arith, r.1)
