@@ -12,7 +12,7 @@ pub fn copies_of(alloc: Global, tree: &MemTree) -> Result<Vec<Option<MemTree>>, 
     ensures agree { IfOk result (λ v. Agree (looks_of (look_of ⟦<MemTree as Tree>⟧.tree ⟦<MemTree as Tree>⟧.may_fail ⟦<MemTree as Tree>⟧.calls ⟦<MemTree as Tree>⟧.faults) v.items)) }
 {
     let mut trees = Vec::new(alloc);
-    for made in 0..17 {
+    for made in 0..17usize {
         trees.push(Some(tree.fork(alloc)?))?;
     }
     Ok(trees)
