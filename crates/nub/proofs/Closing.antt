@@ -1,5 +1,5 @@
 -- What the threads that a package begins and ends with know.
-use Rattle.std.proofs.Common.{◌≡◌, ◌≢◌, ◌⊎◌, Bool, ℕ, ◌+◌, ◌<◌, ◌≤◌, List, [], ◌∷◌, ◌++◌, length, get_or, replicate, map, sym, ap, ◌∙◌, subst, refl, arith, cond, eqb, true, false, suc, zero, Some, None, Option as Opt, rules}
+use Rattle.std.proofs.Common.{◌≡◌, ◌≢◌, ◌⊎◌, Bool, ℕ, ◌+◌, ◌<◌, ◌≤◌, List, [], ◌∷◌, ◌++◌, length, get_or, replicate, map, sym, ap, ◌∙◌, subst, refl, arith, cond, eqb, true, false, suc, zero, Some, None, Option as Opt, rules, inl, inr, ⊎_elim}
 use mathlib.Core.Option.{some, some-injective, some-ne-none}
 use lib.ListN.{get_elem?}
 use Rattle.std.specs.List.{All}
@@ -112,9 +112,19 @@ module _ {T H W : Type 0} where
   pub keeps_locks : (holds : List T → List H → Type 0) (threads : List (Known T H W)) (values : List T) → Leaves holds (map (λ t. part_of t) threads) values → KeepsLocks holds threads values
   keeps_locks holds threads values l = record { shares = l.shares; each_share = shares-are threads l.shares l.each_share l.shared; kept = l.kept }
 
+  part_at : (threads : List (Known T H W)) (n : ℕ) (p : Part T H) → get_elem? (map (λ t. part_of t) threads) n ≡ some p → (t : Known T H W) × (get_elem? threads n ≡ some t) × (t.seen ≡ p.seen)
+  part_at [] n p e = absurd (some-ne-none p (sym e))
+  part_at (t ∷ threads) zero p e = (t, refl, ap (λ q. q.seen) (some-injective (part_of t) p e))
+  part_at (t ∷ threads) (suc n) p e = part_at threads n p e
+
   pub whole : (holds : List T → List H → Type 0) (threads : List (Known T H W)) (values : List T) (l : Leaves holds (map (λ t. part_of t) threads) values) → IsWhole threads l.log
   whole holds threads values l = record {
     closed = (l.spec, l.run, l.nothing_held, l.nothing_begun);
+    people = λ i e at. let few = l.history.people i e at in let many = length-map threads (λ t. part_of t) in omega arith;
+    longest = ⊎_elim
+        (λ (none : l.log ≡ []). inl none)
+        (λ (t : (n : ℕ) × (p : Part T H) × (get_elem? (map (λ t. part_of t) threads) n ≡ some p) × (p.seen ≡ l.log)). let k = part_at threads t.0 t.1 t.2 in inr (t.0, k.0, k.1, k.2 ∙ t.3))
+        l.history.longest;
     seen = λ n t e. (l.history.each n (part_of t) (at_map (λ t. part_of t) threads n t e)).begins;
     own = λ n t e. (l.history.each n (part_of t) (at_map (λ t. part_of t) threads n t e)).own;
   }
