@@ -117,20 +117,27 @@ fn read_bytes<R: Files + AllocGlobal>(
 ) -> Result<FileBytes, TreeError>
     ensures { IfOk result IsWithin }
 {
-    match fs::symlink_metadata(files, path) {
-        Ok(metadata) if metadata.is_file() => {}
+    let length = match fs::symlink_metadata(files, path) {
+        Ok(metadata) if metadata.is_file() => metadata.len(),
         Ok(_) => return Err(TreeError::Failed),
         Err(error) => return Err(error_of(error)),
-    }
+    };
     let file = match fs::open(files, path) {
         Ok(file) => file,
         Err(error) => return Err(error_of(error)),
     };
-    let mut bytes = Vec::new(alloc);
+    let Ok(mut bytes) = Vec::with_capacity(alloc, room_for(length)) else {
+        return Err(TreeError::Memory);
+    };
     match file.take(MOST_BYTES as u64 + 1).read_to_end(&mut bytes) {
         Ok(_) => Ok(within(alloc, bytes)),
         Err(error) => Err(error_of(error)),
     }
+}
+
+// How many bytes are read of a file that says to have so many: all, and one to see its end.
+fn room_for(length: u64) -> usize {
+    length.min(MOST_BYTES as u64) as usize + 1
 }
 
 // What shows of a file that begins with these bytes, and ends with them if they aren't too many.

@@ -1,7 +1,10 @@
 //! What a call of the program answers.
+ghost use Rattle.std.specs.Prelude.{◌≤◌, length};
+ghost use Rattle.firefly.specs.Looks.{look_of, looks_of, Agree};
+
 use crate::trees::copies_of;
 use firefly::{Status, firefly};
-use firefly_outside::{MemSink, MemSource, MemTree};
+use firefly_outside::{MemSink, MemSource, MemTree, Tree};
 use std::alloc::{AllocError, Global};
 use std::process::Abort;
 use std::test::Fail;
@@ -41,11 +44,25 @@ pub fn run_on(
     input: &mut MemSource,
     room: usize,
 ) -> Result<Answer, AllocError> {
-    let words = words_of(alloc, words)?;
     let mut trees = copies_of(alloc, tree)?;
+    answer_of(alloc, words, &mut trees, input, room)
+}
+
+/// Calls the program on these trees.
+pub fn answer_of<S: Tree>(
+    alloc: Global,
+    words: &[&str],
+    trees: &mut [Option<S>],
+    input: &mut MemSource,
+    room: usize,
+) -> Result<Answer, AllocError>
+    requires enough { 17 ≤ length trees.old }
+    requires agree { Agree (looks_of (look_of S.tree S.may_fail S.calls S.faults) trees.old) }
+{
+    let words = words_of(alloc, words)?;
     let mut out = MemSink::with_room(alloc, room)?;
     let mut notes = MemSink::with_room(alloc, 200)?;
-    let status = firefly(alloc, &words, &mut trees, input, &mut out, &mut notes);
+    let status = firefly(alloc, &words, trees, input, &mut out, &mut notes);
     Ok(Answer {
         status,
         out: out.bytes().to_vec(alloc)?,

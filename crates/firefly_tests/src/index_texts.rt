@@ -24,7 +24,8 @@ fn logo_file() -> &'static [u8] {
     &[0x00, 0xff, 0x0a, 0x41, 0x62, 0x80, 0x39]
 }
 
-fn project_index() -> &'static str {
+/// The index of the project.
+pub fn project_index() -> &'static str {
     "1 1
   1 2 src/main.rs
 9 1
@@ -53,8 +54,8 @@ twice 1
 "
 }
 
-// A project of three directories and five files.
-fn project(alloc: Global) -> Result<MemTree, Fail> {
+/// A project of three directories and five files.
+pub fn project(alloc: Global) -> Result<MemTree, Fail> {
     let mut tree = MemTree::new(alloc);
     tree.add_dir("proj")?;
     put_dir(&mut tree, "proj/src")?;

@@ -4,6 +4,12 @@
 #[cfg(test)]
 mod answers;
 #[cfg(test)]
+mod crowd;
+#[cfg(test)]
+mod index_calls;
+#[cfg(test)]
+mod index_limits;
+#[cfg(test)]
 mod index_texts;
 #[cfg(test)]
 mod trees;

@@ -6,7 +6,7 @@ use firefly_outside::{MemTree, Tree};
 use std::alloc::{AllocError, Global};
 use std::test::Fail;
 
-/// As many copies of the tree as a call of the program needs. The paths that are to fail in it fail in each.
+/// As many copies of the tree as a call of the program needs, none of which fails.
 pub fn copies_of(alloc: Global, tree: &MemTree) -> Result<Vec<Option<MemTree>>, AllocError>
     ensures many { IfOk result (λ v. length v.items ≡ 17) }
     ensures agree { IfOk result (λ v. Agree (looks_of (look_of ⟦<MemTree as Tree>⟧.tree ⟦<MemTree as Tree>⟧.may_fail ⟦<MemTree as Tree>⟧.calls ⟦<MemTree as Tree>⟧.faults) v.items)) }
@@ -14,6 +14,24 @@ pub fn copies_of(alloc: Global, tree: &MemTree) -> Result<Vec<Option<MemTree>>, 
     let mut trees = Vec::new(alloc);
     for made in 0..17usize {
         trees.push(Some(tree.fork(alloc)?))?;
+    }
+    Ok(trees)
+}
+
+/// Such copies of the tree, each of which fails at this path.
+pub fn copies_failing_at(
+    alloc: Global,
+    tree: &MemTree,
+    path: &str,
+) -> Result<Vec<Option<MemTree>>, AllocError>
+    ensures many { IfOk result (λ v. length v.items ≡ 17) }
+    ensures agree { IfOk result (λ v. Agree (looks_of (look_of ⟦<MemTree as Tree>⟧.tree ⟦<MemTree as Tree>⟧.may_fail ⟦<MemTree as Tree>⟧.calls ⟦<MemTree as Tree>⟧.faults) v.items)) }
+{
+    let mut trees = Vec::new(alloc);
+    for made in 0..17usize {
+        let mut copy = tree.fork(alloc)?;
+        copy.fail_at(path)?;
+        trees.push(Some(copy))?;
     }
     Ok(trees)
 }

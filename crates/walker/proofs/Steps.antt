@@ -2,15 +2,16 @@
 use Rattle.std.proofs.Common.{◌≡◌, ◌≢◌, ◌∙◌, ℕ, ◌+◌, ◌<◌, ◌≤◌, Bool, true, false, ◌||◌, List, [], ◌∷◌, ◌++◌, length, map, sym, ap, subst, refl, arith, inl, inr, ◌⊎◌, Contains, AllPairs, get_or, take, slice_get, zero, suc}
 use Rattle.std.specs.Prelude.{Option, Some, None, IfSome, Result, Ok, Err, OnOk}
 use Rattle.std.proofs.lemmas.List.{append_assoc, append-nil, get_or_default, take_more, take-append-le, length-map, length-take}
-use Rattle.std.proofs.lemmas.List.Elements.{Contains-push_cases, Contains-append_left}
+use Rattle.std.proofs.lemmas.List.Elements.{Contains-push, Contains-push_cases, Contains-append_left}
 use Rattle.std.proofs.lemmas.List.Quantifiers.{all_pairs_push}
 use Rattle.firefly_outside.specs.Trees.{Path, Told, Calls, child, IsFault}
 use Rattle.firefly_outside.specs.Under.{IsThere, IsUnder, AreMany}
 use Rattle.firefly_outside.specs.declared.tree.Kind.TheVariants.{File, Dir}
 use Rattle.walker.specs.Walk.{Walk, IsListed, IsUnlisted, IsSound, IsWalkOf, marked}
 use Rattle.walker.specs.Listings.{Notes, IsToldBy, ListsDir, with_listed}
+use Rattle.walker.specs.Pile.{IsReadEnd}
 use Rattle.walker.specs.Closing.{Answers, CallsOnce, failed_by, IsNumbered, HasRisen}
-use Rattle.walker.specs.Progress.{IsPassed, ListsMore, StopsListing, ListsAt, ListsRest, IsListedBelow, IsListedWhole, Grows}
+use Rattle.walker.specs.Progress.{IsPassed, ListsMore, EndsPassed, StopsListing, ListsAt, ListsRest, IsListedBelow, IsListedWhole, Grows}
 use Rattle.firefly_outside.specs.declared.tree.TreeError.TheVariants as TreeError
 use Rattle.std.specs.Bool.{nat_eq}
 use Rattle.std.specs.Cmp.Lexicographic.{pointwise}
@@ -23,7 +24,7 @@ use Rattle.walker.specs.declared.listing.Listing.{Listing}
 use Rattle.walker.specs.declared.answer.WalkAnswer.{WalkAnswer}
 use Rattle.walker.specs.declared.answer.WalkAnswer.TheVariants.{Done, Stopped, ReadFault, TooMany, Memory}
 use Rattle.walker.proofs.ListLemmas.{HasOrigin, Contains-nil, Contains-map, Contains-unmap, AllPairs-nil}
-use Rattle.walker.proofs.WalkLemmas.{listed_stays, listed_now, listed_once, found_unlisted}
+use Rattle.walker.proofs.WalkLemmas.{listed_stays, listed_now, listed_from, listed_once, found_unlisted}
 use Rattle.walker.proofs.Reached.{dir_reached, many_dirs, many_files}
 
 -- nothing was called yet
@@ -37,10 +38,14 @@ ListsMore-refl w c = record {
   fresh = λ p h. absurd (Contains-nil p h);
   marks = λ p h. absurd (Contains-nil p h);
   stays = λ p h. h;
+  only = λ p h. inl h;
 }
 
 noted_listed : (old new : Walk) (dir : Path) (l : Listing) → Notes old new dir l → (d : Path) → IsListed old d → IsListed new d
 noted_listed old new dir l n d h = subst (λ (ds : List (Path × Bool)). Contains ds (d, true)) (sym n.dirs) (listed_stays old dir l.dirs.items [] d h)
+
+noted_from : (old new : Walk) (dir : Path) (l : Listing) → Notes old new dir l → (d : Path) → IsListed new d → IsListed old d ⊎ (d ≡ dir)
+noted_from old new dir l n d h = listed_from old dir l.dirs.items [] d (subst (λ (ds : List (Path × Bool)). Contains ds (d, true)) n.dirs h)
 
 noted_now : (old new : Walk) (dir : Path) (l : Listing) → Notes old new dir l → IsUnlisted old dir → IsListed new dir
 noted_now old new dir l n off = subst (λ (ds : List (Path × Bool)). Contains ds (dir, true)) (sym n.dirs) (listed_now old dir l.dirs.items [] off)
@@ -70,6 +75,10 @@ module _ (first old : Walk) (start before : Calls) (dir : Path) (sound : IsSound
       | inr here ↦ subst (IsListed new) here (noted_now old new dir l n off)
     ];
     stays = λ p h. noted_listed old new dir l n p (m.stays p h);
+    only = λ p h. elim (noted_from old new dir l n p h) [
+      | inl was ↦ elim (m.only p was) [ | inl early ↦ inl early | inr among ↦ inr (Contains-append_left m.dirs (dir ∷ []) p among) ]
+      | inr is ↦ inr (subst (λ (q : Path). Contains (m.dirs ++ dir ∷ []) q) (sym is) (Contains-push m.dirs dir))
+    ];
   }
 
   -- memory wants after a listing
@@ -291,3 +300,21 @@ OnOk-map (Err e) P Q f h = tt
 pub moved_step : (o q : Option Told) (old new : Walk) (weak vague : List Path) (before now : Calls) (r : Result (Unit {0}) WalkAnswer) → o ≡ q → weak ≡ vague
     → IfSome o (ListsAt {T = Unit {0}} old new weak before now r) → IfSome q (ListsAt {T = Unit {0}} old new vague before now r)
 moved_step o q old new weak vague before now r e f h = subst (λ (p : Option Told). IfSome p (ListsAt {T = Unit {0}} old new vague before now r)) e (subst (λ (w : List Path). IfSome o (ListsAt {T = Unit {0}} old new w before now r)) f h)
+
+-- a limit that the walk passes now
+pub ends_passed : (o : Option Told) (first w : Walk) (stop : Option ℕ) (start now : Calls) (answer : WalkAnswer) → IfSome o (IsGoing first w start now) → IsPassed w stop answer → IfSome o (EndsPassed first stop start now answer)
+ends_passed None first w stop start now answer g p = tt
+ends_passed (Some t) first w stop start now (Done piece) g p = absurd p
+ends_passed (Some t) first w stop start now (Stopped many) g p = record { walk = w; told = g.0; more = g.1; passed = p }
+ends_passed (Some t) first w stop start now (ReadFault path) g p = absurd p
+ends_passed (Some t) first w stop start now (TooMany many) g p = record { walk = w; told = g.0; more = g.1; passed = p }
+ends_passed (Some t) first w stop start now Memory g p = absurd p
+
+-- no limit is told
+pub ends_plain : (o : Option Told) (first : Walk) (stop : Option ℕ) (start now : Calls) (answer : WalkAnswer) → IsReadEnd answer → IfSome o (EndsPassed first stop start now answer)
+ends_plain None first stop start now answer h = tt
+ends_plain (Some t) first stop start now (Done piece) h = tt
+ends_plain (Some t) first stop start now (Stopped many) h = absurd h
+ends_plain (Some t) first stop start now (ReadFault path) h = tt
+ends_plain (Some t) first stop start now (TooMany many) h = absurd h
+ends_plain (Some t) first stop start now Memory h = tt

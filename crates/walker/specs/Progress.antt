@@ -1,5 +1,5 @@
 -- How far a closing walk has come.
-use Rattle.std.specs.Prelude.{◌≡◌, ◌≢◌, ℕ, ◌+◌, ◌≤◌, ◌<◌, false, List, ◌++◌, length, take, Option, Some, Contains, AllPairs, Result, Ok, Err}
+use Rattle.std.specs.Prelude.{◌≡◌, ◌≢◌, ◌⊎◌, ℕ, ◌+◌, ◌≤◌, ◌<◌, false, List, ◌++◌, length, take, Option, Some, Contains, AllPairs, Result, Ok, Err}
 use Rattle.firefly_outside.specs.Trees.{Path, Told, Calls}
 use Rattle.walker.specs.Walk.{Walk, IsSound, IsListed, IsUnlisted, IsWalkOf}
 use Rattle.walker.specs.Closing.{most_dirs, HasRisen, Answers, CallsOnce}
@@ -34,6 +34,22 @@ pub record ListsMore (first w : Walk) (before now : Calls) : Type 0 where
   pub fresh : (p : Path) → Contains dirs p → ¬ IsListed first p
   pub marks : (p : Path) → Contains dirs p → IsListed w p
   pub stays : (p : Path) → IsListed first p → IsListed w p
+  pub only : (p : Path) → IsListed w p → IsListed first p ⊎ Contains dirs p
+
+-- the walk as the listings made so far leave it passes a limit, which is told: of the directories first
+pub record HasPassed (first : Walk) (stop : Option ℕ) (before now : Calls) (answer : WalkAnswer) (t : Told) : Type 0 where
+  pub walk : Walk
+  pub told : IsWalkOf walk t
+  pub more : ListsMore first walk before now
+  pub passed : IsPassed walk stop answer
+
+-- a stop and too many directories are answered where the directories and files found so far pass a limit
+abbrev pub EndsPassed : Walk → Option ℕ → Calls → Calls → WalkAnswer → Told → Type 0
+EndsPassed first stop before now (Done piece) t = Unit {0}
+EndsPassed first stop before now (Stopped many) t = HasPassed first stop before now (Stopped many) t
+EndsPassed first stop before now (ReadFault path) t = Unit {0}
+EndsPassed first stop before now (TooMany many) t = HasPassed first stop before now (TooMany many) t
+EndsPassed first stop before now Memory t = Unit {0}
 
 -- a walk that stops while it lists: what the answer says of the tree, and which calls were made since the start
 abbrev pub StopsListing : Walk → List Path → Calls → Calls → WalkAnswer → Told → Type 0

@@ -1,5 +1,5 @@
 use Rattle.std.proofs.Common.{◌∙◌, sym}
-use Rattle.walker.proofs.Steps.{going_start, Grows-refl, rest_passed}
+use Rattle.walker.proofs.Steps.{going_start, Grows-refl, rest_passed, ends_passed, ends_plain}
 use Rattle.walker.proofs.CloseLemmas.{stopped_answer, stopped_once, IsPartOf-grows, end_answer, end_once, moved_rest}
 use Rattle.walker.proofs.closing.close_walk.Goals as goal
 
@@ -27,3 +27,10 @@ returns-in-Ok-clause-once g c = end_once (g.S.Tree.tree c.args.tree.now) c.args.
     (g.S.Tree.calls c.args.tree.now) (g.S.Tree.calls c.list_rest.new.tree) (g.S.Tree.calls c.read_rest.new.tree) c.read_rest.result c.list_rest.ensures.grows.root c.in-Ok.ensures.told
     (moved_rest (g.S.Tree.tree c.list_rest.new.tree) (g.S.Tree.tree c.args.tree.now) c.list_rest.new.walked c.args.piece.paths (g.S.Tree.may_fail c.list_rest.new.tree) (g.S.Tree.may_fail c.args.tree.now) (g.S.Tree.calls c.list_rest.new.tree) (g.S.Tree.calls c.read_rest.new.tree) c.read_rest.result
     c.list_rest.ensures.tree_stays c.list_rest.ensures.weak_stays c.read_rest.ensures.told)
+
+pub returns-in-Some-clause-passed : goal.returns-in-Some-clause-passed
+returns-in-Some-clause-passed g c = ends_passed (g.S.Tree.tree c.args.tree.now) c.args.walked c.args.walked c.args.stop_after (g.S.Tree.calls c.args.tree.now) (g.S.Tree.calls c.args.tree.now) c.in-Some.answer
+    (going_start (g.S.Tree.tree c.args.tree.now) c.args.walked (g.S.Tree.calls c.args.tree.now) c.requires.told) c.in-Some.ensures.limits
+
+pub returns-in-Ok-clause-passed : goal.returns-in-Ok-clause-passed
+returns-in-Ok-clause-passed g c = ends_plain (g.S.Tree.tree c.args.tree.now) c.args.walked c.args.stop_after (g.S.Tree.calls c.args.tree.now) (g.S.Tree.calls c.read_rest.new.tree) c.read_rest.result c.read_rest.ensures.end

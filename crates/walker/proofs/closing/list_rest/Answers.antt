@@ -1,6 +1,6 @@
 use Rattle.std.proofs.Common.{◌∙◌, arith}
 use Rattle.std.specs.Prelude.{Ok, Err}
-use Rattle.walker.proofs.Steps.{Grows-trans, going_next, rest_stopped, rest_passed, moved_step, below_all}
+use Rattle.walker.proofs.Steps.{Grows-trans, going_next, rest_stopped, rest_passed, ends_passed, ends_plain, moved_step, below_all}
 use Rattle.walker.proofs.closing.list_rest.Goals as goal
 
 pub returns-in-Err-clause-numbers : goal.returns-in-Err-clause-numbers
@@ -37,3 +37,14 @@ loop-at-preserved g c = record {
 
 pub returns-clause-listed : goal.returns-clause-listed
 returns-clause-listed g c = below_all c.loop-at.walked c.loop-at.at (omega (arith, c.loop-at-test.false, c.dirs_found.ensures.many)) c.loop-at.invariant.below
+
+pub returns-in-Err-clause-passed : goal.returns-in-Err-clause-passed
+returns-in-Err-clause-passed g c = ends_plain (g.S.Tree.tree c.args.tree.now) c.args.walked.now c.args.stop_after (g.S.Tree.calls c.args.tree.now) (g.S.Tree.calls c.list_at.new.tree) c.in-Err.answer c.in-Err.ensures.plain
+
+pub returns-in-Some-clause-passed : goal.returns-in-Some-clause-passed
+returns-in-Some-clause-passed g c = ends_passed (g.S.Tree.tree c.args.tree.now) c.args.walked.now c.list_at.new.walked c.args.stop_after (g.S.Tree.calls c.args.tree.now) (g.S.Tree.calls c.list_at.new.tree) c.in-Some.answer
+    (going_next (g.S.Tree.tree c.args.tree.now) c.args.walked.now c.loop-at.walked c.list_at.new.walked (g.S.Tree.may_fail c.args.tree.now) (g.S.Tree.calls c.args.tree.now) (g.S.Tree.calls c.loop-at.tree) (g.S.Tree.calls c.list_at.new.tree)
+    c.dirs_found.ensures.sound c.loop-at.invariant.told
+    (moved_step (g.S.Tree.tree c.loop-at.tree) (g.S.Tree.tree c.args.tree.now) c.loop-at.walked c.list_at.new.walked (g.S.Tree.may_fail c.loop-at.tree) (g.S.Tree.may_fail c.args.tree.now)
+    (g.S.Tree.calls c.loop-at.tree) (g.S.Tree.calls c.list_at.new.tree) (Ok tt) c.loop-at.invariant.tree c.loop-at.invariant.weak c.in-Ok.ensures.told))
+    c.in-Some.ensures.limits

@@ -1,0 +1,12 @@
+use Rattle.std.proofs.Common.{rules}
+use Rattle.firefly_tests.proofs.Crowds.{numbered_entries, one_more}
+use Rattle.firefly_tests.proofs.crowd.entries_of.Goals as goal
+
+pub loop-number-preserved : goal.loop-number-preserved
+loop-number-preserved c = record {
+  many = search rules;
+  named = search rules;
+}
+
+pub returns : goal.returns
+returns c = numbered_entries c.loop-number.entries.items (omega arith) c.loop-number.invariant.named

@@ -1,0 +1,116 @@
+//! Calls of the command `index`: its words, its faults, and the walk and the merge that it stands on.
+use crate::answers::{answer_of, run_on};
+use crate::index_texts::{project, project_index};
+use crate::trees::{copies_failing_at, put_file};
+use firefly::Status;
+use firefly_outside::{MemSink, MemSource, MemTree, Tree};
+use index_print::print_index;
+use std::alloc::Global;
+use std::test::Fail;
+use walker::{WalkAnswer, Walked, close_walk};
+use word_index::{Piece, merge, piece_of};
+
+#[test]
+fn other_words_after_index_are_a_usage_error(rt: HostRuntime) -> Result<(), Fail> {
+    let usage =
+        "usage: firefly check | run | index DIR [options] | trace DIR [options] | sample SEED FILES\n";
+    let tree = project(rt.alloc())?;
+    let lines: [&[&str]; 9] = [
+        &["index"],
+        &["index", "a", "b"],
+        &["index", "--", "a"],
+        &["index", "-proj"],
+        &["index", "proj", "--parsers", "9"],
+        &["index", "proj", "--walkers", "03"],
+        &["index", "a", "--walkers", "2", "--walkers", "2"],
+        &["index", "proj", "--stop-after", "1000000001"],
+        &["index", "proj", "--help"],
+    ];
+    for words in lines {
+        let mut input = MemSource::new(Vec::new(rt.alloc()));
+        let found = run_on(rt.alloc(), words, &tree, &mut input, 1000)?;
+        assert_eq!(rt; found.status, Status::Usage, "{words:?}");
+        assert_eq!(rt; found.out.len(), 0, "{words:?}");
+        assert_eq!(rt; found.notes.as_slice(), usage.as_bytes(), "{words:?}");
+    }
+    Ok(())
+}
+
+#[test]
+fn any_other_word_is_a_directory(rt: HostRuntime) -> Result<(), Fail> {
+    for name in ["help", "./-name", "proj/", "check"] {
+        let mut tree = MemTree::new(rt.alloc());
+        tree.add_dir(name)?;
+        let path = format!(in rt.alloc(); "{name}/a")?;
+        put_file(&mut tree, path.as_str(), b"Word\n".to_vec(rt.alloc())?)?;
+        let mut input = MemSource::new(Vec::new(rt.alloc()));
+        let found = run_on(rt.alloc(), &["index", name], &tree, &mut input, 1000)?;
+        assert_eq!(rt; found.status, Status::Done, "{name}");
+        assert_eq!(rt; found.out.as_slice(), b"word 1\n  1 1 a\n".as_slice(), "{name}");
+    }
+    Ok(())
+}
+
+#[test]
+fn a_path_that_fails_is_named(rt: HostRuntime) -> Result<(), Fail> {
+    let tree = project(rt.alloc())?;
+    for path in ["proj", "proj/doc", "proj/README", "proj/src/run.rs"] {
+        let mut trees = copies_failing_at(rt.alloc(), &tree, path)?;
+        let mut input = MemSource::new(Vec::new(rt.alloc()));
+        let found = answer_of(rt.alloc(), &["index", "proj"], &mut trees, &mut input, 1000)?;
+        let message = format!(in rt.alloc(); "firefly: {path} could not be read\n")?;
+        assert_eq!(rt; found.status, Status::ReadFault, "{path}");
+        assert_eq!(rt; found.out.len(), 0, "{path}");
+        assert_eq!(rt; found.notes.as_slice(), message.as_bytes(), "{path}");
+    }
+    Ok(())
+}
+
+// Whether this is the text of the piece.
+fn is_text(alloc: Global, piece: &Piece, text: &str) -> Result<bool, Fail> {
+    let mut out = MemSink::with_room(alloc, 1000)?;
+    let is_put = print_index(piece, &mut out).is_ok();
+    Ok(is_put && out.bytes() == text.as_bytes())
+}
+
+#[test]
+fn a_walk_from_nothing_gives_the_index(rt: HostRuntime) -> Result<(), Fail> {
+    let mut tree = project(rt.alloc())?;
+    let walked = Walked::new(rt.alloc(), "proj")?;
+    let piece = Piece::empty(rt.alloc());
+    match close_walk(rt.alloc(), &mut tree, "proj", walked, piece, None) {
+        WalkAnswer::Done(piece) => {
+            assert!(rt; is_text(rt.alloc(), &piece, project_index())?);
+            assert_eq!(rt; piece.files(), 5);
+        }
+        _ => assert!(rt; false, "no index"),
+    }
+    assert_eq!(rt; tree.listed().len(), 3);
+    assert_eq!(rt; tree.files_read().len(), 5);
+    Ok(())
+}
+
+// The piece of one file of the tree.
+fn piece_at(alloc: Global, tree: &mut MemTree, name: &str) -> Result<Piece, Fail> {
+    let path = format!(in alloc; "proj/{name}")?;
+    let file = tree.read(alloc, path.as_str())?;
+    Ok(piece_of(alloc, name, &file)?)
+}
+
+#[test]
+fn two_files_merge(rt: HostRuntime) -> Result<(), Fail> {
+    let mut tree = project(rt.alloc())?;
+    let readme = piece_at(rt.alloc(), &mut tree, "README")?;
+    let run = piece_at(rt.alloc(), &mut tree, "src/run.rs")?;
+    if readme.meets(&run) {
+        return Err(Fail::from("a path is in both"));
+    }
+    let Ok(both) = merge(readme, run) else {
+        return Err(Fail::from("no memory"));
+    };
+    assert_eq!(rt; both.files(), 2);
+    assert_eq!(rt; both.words(), 6);
+    assert_eq!(rt; both.entries(), 6);
+    assert_eq!(rt; both.occurrences(), 8);
+    Ok(())
+}

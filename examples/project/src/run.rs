@@ -1,0 +1,3 @@
+fn run(n) {}
+// run twice
+run
