@@ -54,11 +54,11 @@ all_named l (e ∷ es) own people =
     let first = own e.thread.0 low in
     let head = rw (eq-eqb e.thread.0 e.thread.0 refl) at first in
     let rest : (t : ℕ) → t < l.threads → Named l (by_thread t es) = λ t within.
-        let part = own t within in
-        elim (eqb_tells e.thread.0 t) [
-          | inl p ↦ let k = rw p.0 at part in k.1
-          | inr p ↦ let k = rw p.0 at part in k
-        ] in
+    let part = own t within in
+    elim (eqb_tells e.thread.0 t) [
+      | inl p ↦ let k = rw p.0 at part in k.1
+      | inr p ↦ let k = rw p.0 at part in k
+    ] in
     ((low, head.0), all_named l es rest (λ k d m. people (suc k) d (omega arith)))
 
 -- events by so many threads, each thread's being those of its lines

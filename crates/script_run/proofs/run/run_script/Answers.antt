@@ -24,8 +24,8 @@ returns-clause-trace g c =
     if_ok c.close_package.result _ _
     (λ r w.
     let own : (t : ℕ) → t < c.args.script.now.layout.threads → AreEventsOf c.args.script.now.lines t (by_thread t w.0) = λ t low.
-        let Q : List Line → Type 0 = λ xs. AreEventsOf xs t (by_thread t w.0) in
-        subst Q lines (rows_of c.in_ok-pkg.pkg c.lines.result.now c.in_ok-threads.threads.items c.args.script.now.layout.threads w.0 count played w.2 t low) in (
+    let Q : List Line → Type 0 = λ xs. AreEventsOf xs t (by_thread t w.0) in
+    subst Q lines (rows_of c.in_ok-pkg.pkg c.lines.result.now c.in_ok-threads.threads.items c.args.script.now.layout.threads w.0 count played w.2 t low) in (
       w.0,
       w.1,
       w.2.closed,
