@@ -1,0 +1,113 @@
+-- The calls of a line.
+use Rattle.std.proofs.Common.{◌≡◌, ℕ, zero, suc, ◌+◌, ◌-◌, ◌^◌, ◌<◌, ◌≤◌, List, [], ◌∷◌, ◌++◌, length, get_or, refl, ap, sym, subst, ◌∙◌, append-nil, Bool, true, false, Some, None, arith}
+use mathlib.Core.Option.{some, some-ne-none}
+use lib.ListN.{get_elem?, set}
+use Rattle.std.proofs.lemmas.List.{length-set}
+use Rattle.larch_actions.specs.declared.event.Layout.{Layout}
+use Rattle.larch_actions.specs.declared.event.MutexId.{MutexId}
+use Rattle.larch_actions.specs.declared.event.SemId.{SemId}
+use Rattle.larch_actions.specs.declared.event.Action.TheVariants as action
+use Rattle.larch_actions.specs.declared.event.Event.{Event}
+use Rattle.nub_rule.specs.Known.{Shape}
+use Rattle.nub.specs.Rest.{AtRest, Adds, IsSame}
+use Rattle.sum_uses.specs.declared.added.Added.{Added}
+use Rattle.sum_uses.specs.Sums.{IsAbove, GrowsAlike}
+use Rattle.firefly_script.specs.declared.line.Operation.{Operation}
+use Rattle.firefly_script.specs.declared.line.Operation.TheVariants.{Acquire, Release, P, V, Add}
+use Rattle.firefly_script.specs.declared.line.Line.{Line}
+use Rattle.firefly_script.specs.Operations.{Holding, IsNamed, MayDo, none_held, held_after, holding_after, held_if, MayFollow}
+use Rattle.script_run.specs.Playing.{Player, HasNumber, IsPlaying}
+use Rattle.firefly_script.specs.Runs.{IsRow, lines_of, total, added_by, event}
+use Rattle.script_run.proofs.Plays.{Stays, played, acquired, released, may_release, untouched, added_to, number_small}
+use Rattle.script_run.proofs.Rows.{total_small}
+
+-- what the thread may do, at its own number and this operation
+pub may_own : (h : Holding) (u t : ℕ) (o q : Operation) → u ≡ t → o ≡ q → MayDo h u o → MayDo h t q
+may_own h u t o q e f m = let P : ℕ → Type 0 = λ v. MayDo h v q in subst P e (let Q : Operation → Type 0 = λ r. MayDo h u r in subst Q f m)
+
+-- the sums of fewer than 99,999 lines are small
+pub sums_small : (l : Layout) (t m : ℕ) (xs : List Line) → MayFollow l none_held xs → length xs < 99999 → total (lines_of t xs) m ≤ 100000000000
+sums_small l t m xs f few = let s = total_small l none_held t m xs f in omega arith
+
+-- the value got with a mutex that is held
+pub got : (held : List _) (m number : ℕ) (share : List Added) (sum : ℕ) (b : Bool) → b ≡ true → HasNumber b held m number share sum → (x : ℕ) × (get_elem? held m ≡ some (Some x))
+got held m number share sum true e (x, h, le, small, q) = (x, h)
+got held m number share sum false e h = absurd (cc)
+
+module _ (p : Shape (Prim.Unit {0})) (xs : List Line) (numbers : List ℕ) (a : Player) (line : Line) (s : IsPlaying p a.number xs numbers a) (own : line.thread.0 ≡ a.number) where
+  abbrev sums : ℕ → ℕ
+  sums m = total (lines_of a.number xs) m
+
+  abbrev h : Holding
+  h = held_after none_held xs
+
+  stays : (b : Player) → AtRest p b → IsSame a b → length b.held ≡ 64 → Stays p a.number xs b
+  stays b rest same size = record { rest = rest; number = same.number; world = same.world ∙ s.world; held_size = size }
+
+  -- after an event of its own
+  after_event : (o : Operation) (e : Event) (numbers' : List ℕ) (b : Player) (share : List Added) → line.operation ≡ o → IsRow a.number o (e ∷ []) → AtRest p b → IsSame a b → Adds [] e a b → length b.held ≡ 64 → length numbers' ≡ 64 → b.share ≡ Some share
+      → ((m : ℕ) → m < 64 → HasNumber (holding_after h a.number o a.number m) b.held m (get_or numbers' m 0) share (sums m + added_by o m))
+      → IsPlaying p a.number (xs ++ line ∷ []) numbers' b
+  after_event o e numbers' b share is row rest same adds held_size size is_share each =
+      let R : Operation → Type 0 = λ q. IsRow a.number q (e ∷ []) in
+      let E : Operation → Type 0 = λ q. (m : ℕ) → m < 64 → HasNumber (holding_after h a.number q a.number m) b.held m (get_or numbers' m 0) share (sums m + added_by q m) in
+      played p a.number xs line numbers' a.mine (e ∷ []) b share own (stays b rest same held_size) size s.events (subst R (sym is) row) (adds.mine ∙ ap (λ l. l ++ e ∷ []) (append-nil a.mine)) is_share (subst E (sym is) each)
+
+  pub after_acquire : (m : MutexId) (x : ℕ) (b : Player) → line.operation ≡ Acquire m → m.0 < 64 → MayDo h line.thread.0 line.operation → AtRest p b → IsSame a b → Adds [] (event a.number (action.Acquire m)) a b → b.held ≡ set a.held m.0 (Some x) → b.share ≡ a.share → IsAbove m.0 x s.share
+      → IsPlaying p a.number (xs ++ line ∷ []) (set numbers m.0 x) b
+  after_acquire m x b is low may rest same adds held share above =
+      let free = may_own h line.thread.0 a.number line.operation (Acquire m) own is may in
+      let P : List _ → Type 0 = λ l. (k : ℕ) → k < 64 → HasNumber (held_if true h a.number m.0 a.number k) l k (get_or (set numbers m.0 x) k 0) s.share (sums k + 0) in
+      after_event (Acquire m) (event a.number (action.Acquire m)) (set numbers m.0 x) b s.share is refl rest same adds (ap length held ∙ length-set a.held m.0 (Some x) ∙ s.held_size) (length-set numbers m.0 x ∙ s.size) (share ∙ s.is_share)
+      (subst P (sym held) (acquired h a.number m.0 a.held numbers s.share sums low s.size s.held_size s.each x free above))
+
+  pub after_release : (m : MutexId) (x : ℕ) (b : Player) → line.operation ≡ Release m → m.0 < 64 → MayDo h line.thread.0 line.operation → get_elem? a.held m.0 ≡ some (Some x) → AtRest p b → IsSame a b → Adds [] (event a.number (action.Release m)) a b → b.held ≡ set a.held m.0 None
+      → b.share ≡ Some (record { mutex = m.0; amount = get_or numbers m.0 0 - x } ∷ s.share) → IsPlaying p a.number (xs ++ line ∷ []) numbers b
+  after_release m x b is low may has rest same adds held share =
+      let mine = may_own h line.thread.0 a.number line.operation (Release m) own is may in
+      let P : List _ → Type 0 = λ l. (k : ℕ) → k < 64 → HasNumber (held_if false h a.number m.0 a.number k) l k (get_or numbers k 0) (record { mutex = m.0; amount = get_or numbers m.0 0 - x } ∷ s.share) (sums k + 0) in
+      after_event (Release m) (event a.number (action.Release m)) numbers b (record { mutex = m.0; amount = get_or numbers m.0 0 - x } ∷ s.share) is refl rest same adds (ap length held ∙ length-set a.held m.0 None ∙ s.held_size) s.size share
+      (subst P (sym held) (released h a.number m.0 a.held numbers s.share sums low s.size s.held_size s.each x mine has))
+
+  pub after_p : (k : SemId) (b : Player) → line.operation ≡ P k → AtRest p b → IsSame a b → Adds [] (event a.number (action.P k)) a b → b.held ≡ a.held → b.share ≡ a.share → IsPlaying p a.number (xs ++ line ∷ []) numbers b
+  after_p k b is rest same adds held share =
+      let Q : List _ → Type 0 = λ l. (m : ℕ) → m < 64 → HasNumber (h a.number m) l m (get_or numbers m 0) s.share (sums m + 0) in
+      after_event (P k) (event a.number (action.P k)) numbers b s.share is refl rest same adds (ap length held ∙ s.held_size) s.size (share ∙ s.is_share)
+      (subst Q (sym held) (untouched h a.number 0 a.held numbers s.share sums (omega arith) s.size s.held_size s.each))
+
+  pub after_v : (k : SemId) (b : Player) → line.operation ≡ V k → AtRest p b → IsSame a b → Adds [] (event a.number (action.V k)) a b → b.held ≡ a.held → b.share ≡ a.share → IsPlaying p a.number (xs ++ line ∷ []) numbers b
+  after_v k b is rest same adds held share =
+      let Q : List _ → Type 0 = λ l. (m : ℕ) → m < 64 → HasNumber (h a.number m) l m (get_or numbers m 0) s.share (sums m + 0) in
+      after_event (V k) (event a.number (action.V k)) numbers b s.share is refl rest same adds (ap length held ∙ s.held_size) s.size (share ∙ s.is_share)
+      (subst Q (sym held) (untouched h a.number 0 a.held numbers s.share sums (omega arith) s.size s.held_size s.each))
+
+  pub after_add : (m : MutexId) (n : ℕ) → line.operation ≡ Add m n → m.0 < 64 → MayDo h line.thread.0 line.operation → IsPlaying p a.number (xs ++ line ∷ []) (set numbers m.0 (get_or numbers m.0 0 + n)) a
+  after_add m n is low may =
+      let mine = may_own h line.thread.0 a.number line.operation (Add m n) own is may in
+      let R : Operation → Type 0 = λ q. IsRow a.number q [] in
+      let E : Operation → Type 0 = λ q. (k : ℕ) → k < 64 → HasNumber (holding_after h a.number q a.number k) a.held k (get_or (set numbers m.0 (get_or numbers m.0 0 + n)) k 0) s.share (sums k + added_by q k) in
+      let st : Stays p a.number xs a = record { rest = s.rest; number = refl; world = s.world; held_size = s.held_size } in
+      played p a.number xs line (set numbers m.0 (get_or numbers m.0 0 + n)) a.mine [] a s.share own st (length-set numbers m.0 (get_or numbers m.0 0 + n) ∙ s.size) s.events (subst R (sym is) refl) (sym (append-nil a.mine)) s.is_share
+      (subst E (sym is) (added_to h a.number m.0 a.held numbers s.share sums low s.size s.held_size s.each n mine))
+
+  -- what a release needs
+  pub release_needs : (m : MutexId) (l : Layout) → line.operation ≡ Release m → m.0 < 64 → MayDo h line.thread.0 line.operation → MayFollow l none_held xs → length xs < 99999
+      → (x : ℕ) × (get_elem? a.held m.0 ≡ some (Some x)) × GrowsAlike m.0 x (get_or numbers m.0 0) s.share (record { mutex = m.0; amount = get_or numbers m.0 0 - x } ∷ s.share)
+  release_needs m l is low may follow few =
+      let mine = may_own h line.thread.0 a.number line.operation (Release m) own is may in
+      let x = got a.held m.0 (get_or numbers m.0 0) s.share (sums m.0) (h a.number m.0) mine (s.each m.0 low) in
+      (x.0, x.1, may_release h a.number m.0 a.held numbers s.share sums low s.size s.held_size s.each x.0 mine x.1 (sums_small l a.number m.0 xs follow few))
+
+  pub add_fits : (m : MutexId) (n : ℕ) (l : Layout) → line.operation ≡ Add m n → n ≤ 1000000 → m.0 < 64 → MayDo h line.thread.0 line.operation → MayFollow l none_held xs → length xs < 99999 → get_or numbers m.0 0 + n < 2 ^ 64
+  add_fits m n l is small low may follow few =
+      let mine = may_own h line.thread.0 a.number line.operation (Add m n) own is may in
+      let k = number_small h a.number m.0 a.held numbers s.share sums low s.size s.held_size s.each mine (sums_small l a.number m.0 xs follow few) in
+      omega arith
+
+pub elem_low : {A : Type 0} (l : List A) (i : ℕ) (x : A) → get_elem? l i ≡ some x → i < length l
+elem_low [] i x e = absurd (some-ne-none x (sym e))
+elem_low (y ∷ l) zero x e = omega arith
+elem_low (y ∷ l) (suc i) x e = let ih = elem_low l i x e in omega arith
+
+pub named_own : (l : Layout) (o q : Operation) → o ≡ q → IsNamed l o → IsNamed l q
+named_own l o q e n = let P : Operation → Type 0 = λ r. IsNamed l r in subst P e n

@@ -1,0 +1,8 @@
+pub mod Calls
+pub mod Closing
+pub mod Crew
+pub mod Plays
+pub mod Rows
+pub mod Sums
+pub mod Whole
+pub mod Named

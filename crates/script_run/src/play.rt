@@ -1,0 +1,67 @@
+// The part of one thread in the run of a script.
+ghost use Rattle.std.specs.Prelude.{◌≡◌, ◌<◌, ◌∷◌, ◌++◌, [], List, length};
+ghost use Rattle.larch_actions.specs.Layout.{IsLawful};
+ghost use Rattle.firefly_script.specs.declared.line.Line.{Line};
+ghost use Rattle.firefly_script.specs.Operations.{none_held, held_after, MayCome, MayFollow};
+ghost use Rattle.firefly_script.specs.Text.{IsScript};
+ghost use Rattle.script_run.specs.Playing.{IsPlaying, IsPlayed};
+ghost use Rattle.nub.specs.Ended.{IsFirst};
+
+use bin_semaphore::{p, v};
+use firefly_script::{Line, Operation};
+use nub_rule::{Package, Thread};
+use std::sync::Wait;
+use sum_uses::{AddChange, SumUses};
+use user_mutex::{acquire, release};
+
+// Makes the call of one line of the thread.
+fn play_line<R: Wait>(
+    rt: &R,
+    pkg: &Package<SumUses>,
+    me: &mut Thread<SumUses>,
+    numbers: &mut [u64],
+    line: &Line,
+)
+    requires lawful { IsLawful pkg.now.layout }
+    requires own { line.now.thread.0 ≡ me.old.number }
+    requires playing { (xs : List Line) × IsPlaying pkg.now me.old.number xs numbers.old me.old × MayCome pkg.now.layout (held_after none_held xs) line.now × MayFollow pkg.now.layout none_held xs × (length xs < 99999) }
+    ensures { (xs : List Line) → IsPlaying pkg.now me.old.number xs numbers.old me.old → MayCome pkg.now.layout (held_after none_held xs) line.now → MayFollow pkg.now.layout none_held xs → length xs < 99999 → IsPlaying pkg.now me.old.number (xs ++ line.now ∷ []) numbers.new me.new }
+{
+    match &line.operation {
+        Operation::Acquire { mutex } => {
+            numbers[mutex.0 as usize] = acquire(rt, pkg, me, *mutex);
+        }
+        Operation::Release { mutex } => {
+            let number = numbers[mutex.0 as usize];
+            release::<SumUses, AddChange, R>(rt, pkg, me, *mutex, number);
+        }
+        Operation::P { sem } => p(rt, pkg, me, *sem),
+        Operation::V { sem } => v(rt, pkg, me, *sem),
+        Operation::Add { mutex, number } => {
+            numbers[mutex.0 as usize] += *number;
+        }
+    }
+}
+
+/// Plays the lines of the thread.
+pub fn play<R: Wait>(
+    rt: &R,
+    pkg: &Package<SumUses>,
+    me: Thread<SumUses>,
+    lines: &[Line],
+) -> Thread<SumUses>
+    requires script { IsScript pkg.now.layout lines.now }
+    requires few { length lines.now < 100000 }
+    requires first { IsFirst pkg.now (λ w t. []) me.number me }
+    ensures { IsPlayed pkg.now lines.now me.number result }
+{
+    let mut me = me;
+    let number = me.number();
+    let mut numbers = [0u64; 64];
+    for line in lines {
+        if line.thread.0 == number {
+            play_line(rt, pkg, &mut me, &mut numbers, line);
+        }
+    }
+    me
+}

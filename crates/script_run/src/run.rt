@@ -1,0 +1,85 @@
+// Running scripts.
+ghost use Rattle.std.specs.Prelude.{◌≡◌, ◌<◌, ℕ, List, [], map, replicate, length, slice_index, IfOk, Some};
+ghost use Rattle.std.specs.List.{AllByRecursion};
+ghost use Rattle.larch_actions.specs.declared.event.Event.{Event};
+ghost use Rattle.larch_actions.specs.Layout.{HasNames};
+ghost use Rattle.larch_actions.specs.Actions.{IsClosed, by_thread};
+ghost use Rattle.nub_rule.specs.Items.{Each};
+ghost use Rattle.nub.specs.Ended.{IsFirst};
+ghost use Rattle.firefly_script.specs.Text.{IsScript};
+ghost use Rattle.firefly_script.specs.Runs.{AreEventsOf, total};
+ghost use Rattle.script_run.specs.Playing.{IsPlayed};
+
+use crate::play::play;
+use firefly_script::{Line, Script};
+use nub::{Closed, close_package, open_package};
+use nub_rule::{Package, Thread};
+use std::alloc::{AllocError, Global};
+use std::sync::Wait;
+use std::thread::Threads;
+use sum_uses::SumUses;
+use thread_crew::{Call, run_crew};
+
+// The numbers behind the mutexes at first.
+fn zeros(alloc: Global, count: u32) -> Result<Vec<u64>, AllocError>
+    ensures { IfOk result (λ v. v.items ≡ replicate count 0) }
+{
+    vec![in alloc; 0; count as usize]
+}
+
+// Each job with the closure that does it.
+fn calls<'a, F, T: Drop>(
+    alloc: Global,
+    jobs: Vec<T>,
+    f: &'a F,
+) -> Result<Vec<Call<'a, F, T>>, AllocError>
+    ensures { IfOk result (λ v. v.items ≡ map (λ j. record { f = f.entry; job = j }) jobs.items) }
+{
+    jobs.into_iter().map(|job| Call { f, job }).collect(alloc)
+}
+
+// Plays the lines of each thread in a thread of its own.
+fn play_all<R: Threads + Wait + Sync>(
+    rt: &R,
+    alloc: Global,
+    pkg: &Package<SumUses>,
+    threads: Vec<Thread<SumUses>>,
+    lines: &[Line],
+) -> Result<Vec<Thread<SumUses>>, AllocError>
+    requires script { IsScript pkg.now.layout lines.now }
+    requires few { length lines.now < 100000 }
+    requires threads { Each (IsFirst pkg.now (λ w t. [])) threads.items }
+    ensures count { IfOk result (λ ts. length ts.items ≡ length threads.items) }
+    ensures played { IfOk result (λ ts. Each (IsPlayed pkg.now lines.now) ts.items) }
+{
+    let f = |me: Thread<SumUses>| -> Thread<SumUses>
+        requires { IsFirst pkg.now (λ w t. []) me.number me × IsScript pkg.now.layout lines.now × (length lines.now < 100000) }
+        ensures { IsPlayed pkg.entry.now lines.entry.now me.number result }
+    { play(rt, pkg, me, lines) };
+    let jobs = calls(alloc, threads, &f)?;
+    let starts = jobs.len();
+    match run_crew(rt, alloc, jobs, starts, |_refused: bool| {}) {
+        Ok(finished) => Ok(finished.results),
+        Err(_) => Err(AllocError),
+    }
+}
+
+/// Runs a script: a thread for each number in a traced package of its own, which is closed when all have ended.
+///
+/// Where a thread can't be started, its lines are played here once all others were started. A run may wait for ever.
+pub fn run_script<R: Threads + Wait + Sync>(
+    rt: &R,
+    alloc: Global,
+    script: &Script,
+) -> Result<Closed<SumUses>, AllocError>
+    ensures layout { IfOk result (λ c. c.layout ≡ script.now.layout) }
+    ensures trace { IfOk result (λ c. (h : List Event) × (c.trace ≡ Some h) × IsClosed h × AllByRecursion (HasNames script.now.layout) h × ((t : ℕ) → t < script.now.layout.threads → AreEventsOf script.now.lines t (by_thread t h))) }
+    ensures count { IfOk result (λ c. length c.values ≡ script.now.layout.mutexes) }
+    ensures values { IfOk result (λ c. (m : ℕ) → m < script.now.layout.mutexes → slice_index c.values m ≡ total script.now.lines m) }
+{
+    let layout = script.layout();
+    let values = zeros(alloc, layout.mutexes)?;
+    let (pkg, threads) = open_package::<SumUses>(alloc, layout, &(), values, true)?;
+    let threads = play_all(rt, alloc, &pkg, threads, script.lines())?;
+    close_package(pkg, threads)
+}

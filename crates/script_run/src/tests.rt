@@ -1,0 +1,60 @@
+use crate::run_script;
+use firefly_outside::MemSource;
+use firefly_script::{Script, read_script};
+use larch_actions::{Action, Event, MutexId, SemId, ThreadId};
+use std::alloc::Global;
+use std::test::Fail;
+
+// The script with this text.
+fn script(alloc: Global, text: &str) -> Result<Script, Fail> {
+    let mut source = MemSource::new(Vec::from_slice(alloc, text.as_bytes())?);
+    Ok(read_script(alloc, &mut source)?)
+}
+
+#[test]
+fn the_calls_of_one_thread_come_in_their_order(rt: HostRuntime) -> Result<(), Fail> {
+    let alloc = rt.alloc();
+    let text =
+        "threads 1 mutexes 2 conditions 0 semaphores 1\nt0 p s0\nt0 acquire m1\nt0 add m1 7\nt0 release m1\nt0 v s0\n";
+    let closed = run_script(&rt, alloc, &script(alloc, text)?)?;
+    assert_eq!(rt; closed.values(), [0, 7].as_slice());
+    let (thread, m1, s0) = (ThreadId(0), MutexId(1), SemId(0));
+    let events = closed.trace().ok_or("no trace")?;
+    assert_eq!(rt;
+        events,
+        [
+            Event {
+                thread,
+                action: Action::P { sem: s0 }
+            },
+            Event {
+                thread,
+                action: Action::Acquire { mutex: m1 }
+            },
+            Event {
+                thread,
+                action: Action::Release { mutex: m1 }
+            },
+            Event {
+                thread,
+                action: Action::V { sem: s0 }
+            },
+        ]
+        .as_slice()
+    );
+    Ok(())
+}
+
+#[test]
+fn what_two_threads_add_is_the_sum(rt: HostRuntime) -> Result<(), Fail> {
+    let alloc = rt.alloc();
+    let mut text = String::from_str(alloc, "threads 2 mutexes 1 conditions 0 semaphores 0\n")?;
+    for _ in 0..1000 {
+        text.push_str("t0 acquire m0\nt0 add m0 1\nt0 release m0\n")?;
+        text.push_str("t1 acquire m0\nt1 add m0 1\nt1 release m0\n")?;
+    }
+    let closed = run_script(&rt, alloc, &script(alloc, text.as_str())?)?;
+    assert_eq!(rt; closed.values(), [2000].as_slice());
+    assert_eq!(rt; closed.trace().ok_or("no trace")?.len(), 4000);
+    Ok(())
+}
