@@ -1,10 +1,12 @@
-//! Tests of the program: its answers on traces and on trees in memory, compared with ones written down by hand.
+//! Tests of the program: its answers on traces, scripts and trees in memory, compared with ones written down by hand.
 #![tactic(auto)]
 
 #[cfg(test)]
 mod answers;
 #[cfg(test)]
 mod index_texts;
+#[cfg(test)]
+mod run_texts;
 #[cfg(test)]
 mod trees;
 #[cfg(test)]
