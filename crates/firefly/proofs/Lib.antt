@@ -1,3 +1,5 @@
+pub mod Accepted
 pub mod Found
 pub mod TreeLooks
 pub mod Saying
+pub mod Ran

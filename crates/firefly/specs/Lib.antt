@@ -4,4 +4,6 @@ pub mod Looks
 pub mod Texts
 pub mod Check
 pub mod IndexCommand
+pub mod RunCommand
 pub mod Top
+pub mod Laws

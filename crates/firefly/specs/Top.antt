@@ -6,6 +6,7 @@ use Rattle.firefly.specs.declared.status.Status.TheVariants.{Usage, Memory}
 use Rattle.firefly.specs.Changes.{Change, IsStill, Notes}
 use Rattle.firefly.specs.Texts.{usage_message, memory_message}
 use Rattle.firefly.specs.Check.{CheckAnswers}
+use Rattle.firefly.specs.RunCommand.{RunAnswers}
 use Rattle.firefly.specs.Looks.{Look}
 use Rattle.firefly.specs.IndexCommand.{IndexAnswers}
 
@@ -31,7 +32,7 @@ WordsWant e status = (status ≡ Memory) × (e.new_trees ≡ e.trees) × IsStill
 -- the answers to each command
 abbrev pub Answers : Task → Effects → Status → Type 0
 Answers check e status = CheckAnswers e.input e.out e.notes status × (e.new_trees ≡ e.trees)
+Answers run e status = RunAnswers e.input e.out e.notes status × (e.new_trees ≡ e.trees)
 Answers (index o) e status = IndexAnswers o e.trees e.new_trees e.out e.notes status × IsStill e.input
-Answers run e status = UsageAnswers e status
 Answers (trace o) e status = UsageAnswers e status
 Answers (sample seed files) e status = UsageAnswers e status

@@ -6,12 +6,16 @@
 
 mod check_command;
 mod index_command;
+pub mod laws;
 mod message;
 mod outside;
+mod run_command;
 mod status;
 mod top;
 mod verdict_line;
 
+pub use firefly_script::{Script, ScriptFault, read_script};
 pub use outside::system_trees;
+pub use script_run::run_script;
 pub use status::{Status, number};
 pub use top::firefly;

@@ -6,6 +6,7 @@ ghost use Rattle.command_line.specs.Grammar as grammar;
 ghost use Rattle.firefly.specs.Changes.{change_of, Notes};
 ghost use Rattle.firefly.specs.Texts.{usage_message};
 ghost use Rattle.firefly.specs.Check.{Found};
+ghost use Rattle.firefly.specs.RunCommand.{Decides};
 ghost use Rattle.firefly.specs.Looks.{look_of, looks_of, Agree, KeepTrees};
 ghost use Rattle.firefly.specs.Top.{Answers, UsageAnswers, WordsWant, effects_of};
 
@@ -13,12 +14,16 @@ use crate::Status;
 use crate::check_command::run_check;
 use crate::index_command::run_index;
 use crate::message::{OUT_OF_MEMORY, USAGE, say};
+use crate::run_command::run_input;
 use command_line::{Command, WordsFault, read_words};
 use firefly_outside::{Sink, Source, Tree};
 use std::alloc::Global;
+use std::sync::Wait;
+use std::thread::Threads;
 
 /// Does what the words ask for. The words are those after the program's name.
-pub fn firefly<S: Tree, I: Source, O: Sink, N: Sink>(
+pub fn firefly<R: Threads + Wait + Sync, S: Tree, I: Source, O: Sink, N: Sink>(
+    rt: &R,
     alloc: Global,
     words: &[String],
     trees: &mut [Option<S>],
@@ -36,13 +41,15 @@ pub fn firefly<S: Tree, I: Source, O: Sink, N: Sink>(
         (t : Task) → Say (map string_bytes words.now) t → Answers t e result ⊎ (HasOptions t × WordsWant e result) }
     // The verdict of `check` is the only one that is just.
     ensures exact { Say (map string_bytes words.now) grammar.check → Found (change_of I.left I.faults input.old input.new) result }
+    // The bytes of a script decide whether `run` runs it.
+    ensures run_exact { Say (map string_bytes words.now) grammar.run → Decides (change_of I.left I.faults input.old input.new) result }
     // Each tree is in its place.
     ensures kept { KeepTrees (looks_of (look_of S.tree S.may_fail S.calls S.faults) trees.old) (looks_of (look_of S.tree S.may_fail S.calls S.faults) trees.new) }
 {
     match read_words(alloc, words) {
         Ok(Command::Check) => run_check(input, out, notes),
         Ok(Command::Index(options)) => run_index(alloc, &options, trees, out, notes),
-        Ok(Command::Run) => refuse(notes),
+        Ok(Command::Run) => run_input(rt, alloc, input, out, notes),
         Ok(Command::Trace(_)) => refuse(notes),
         Ok(Command::Sample { .. }) => refuse(notes),
         Err(WordsFault::Usage) => refuse(notes),

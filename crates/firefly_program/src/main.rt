@@ -23,6 +23,8 @@ fn main(rt: HostRuntime) -> ExitCode {
     let mut input = ReaderSource::new(rt.stdin());
     let mut out = WriterSink::new(rt.stdout());
     let mut notes = WriterSink::new(rt.stderr());
-    let status = firefly(alloc, &words, &mut trees, &mut input, &mut out, &mut notes);
+    let status = firefly(
+        &rt, alloc, &words, &mut trees, &mut input, &mut out, &mut notes,
+    );
     ExitCode::from(number(&status))
 }

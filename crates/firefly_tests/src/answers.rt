@@ -7,7 +7,9 @@ use firefly::{Status, firefly};
 use firefly_outside::{MemSink, MemSource, MemTree, Tree};
 use std::alloc::{AllocError, Global};
 use std::process::Abort;
+use std::sync::Wait;
 use std::test::Fail;
+use std::thread::Threads;
 
 /// The status of a call, and what it wrote.
 #[derive(Drop)]
@@ -27,17 +29,19 @@ pub fn words_of(alloc: Global, words: &[&str]) -> Result<Vec<String>, AllocError
 }
 
 /// Calls the program on this input, with so much room for its answer.
-pub fn run_program(
+pub fn run_program<R: Threads + Wait + Sync>(
+    rt: &R,
     alloc: Global,
     words: &[&str],
     input: &mut MemSource,
     room: usize,
 ) -> Result<Answer, AllocError> {
-    run_on(alloc, words, &MemTree::new(alloc), input, room)
+    run_on(rt, alloc, words, &MemTree::new(alloc), input, room)
 }
 
 /// Calls the program on copies of this tree.
-pub fn run_on(
+pub fn run_on<R: Threads + Wait + Sync>(
+    rt: &R,
     alloc: Global,
     words: &[&str],
     tree: &MemTree,
@@ -45,11 +49,12 @@ pub fn run_on(
     room: usize,
 ) -> Result<Answer, AllocError> {
     let mut trees = copies_of(alloc, tree)?;
-    answer_of(alloc, words, &mut trees, input, room)
+    answer_of(rt, alloc, words, &mut trees, input, room)
 }
 
 /// Calls the program on these trees.
-pub fn answer_of<S: Tree>(
+pub fn answer_of<R: Threads + Wait + Sync, S: Tree>(
+    rt: &R,
     alloc: Global,
     words: &[&str],
     trees: &mut [Option<S>],
@@ -62,7 +67,7 @@ pub fn answer_of<S: Tree>(
     let words = words_of(alloc, words)?;
     let mut out = MemSink::with_room(alloc, room)?;
     let mut notes = MemSink::with_room(alloc, 200)?;
-    let status = firefly(alloc, &words, trees, input, &mut out, &mut notes);
+    let status = firefly(rt, alloc, &words, trees, input, &mut out, &mut notes);
     Ok(Answer {
         status,
         out: out.bytes().to_vec(alloc)?,
@@ -71,15 +76,15 @@ pub fn answer_of<S: Tree>(
 }
 
 /// The command `check` writes this line for this text, with this status.
-pub fn prints(
-    rt: &impl Abort,
+pub fn prints<R: Abort + Threads + Wait + Sync>(
+    rt: &R,
     alloc: Global,
     text: &str,
     status: Status,
     line: &str,
 ) -> Result<(), Fail> {
     let mut input = MemSource::new(text.as_bytes().to_vec(alloc)?);
-    let found = run_program(alloc, &["check"], &mut input, 200)?;
+    let found = run_program(rt, alloc, &["check"], &mut input, 200)?;
     assert_eq!(rt; found.status, status, "{text}");
     assert_eq!(rt; found.out.as_slice(), line.as_bytes(), "{text}");
     assert_eq!(rt; found.notes.len(), 0, "{text}");
@@ -87,15 +92,15 @@ pub fn prints(
 }
 
 /// The command `check` writes nothing for this text, and this message.
-pub fn says(
-    rt: &impl Abort,
+pub fn says<R: Abort + Threads + Wait + Sync>(
+    rt: &R,
     alloc: Global,
     text: &str,
     status: Status,
     message: &str,
 ) -> Result<(), Fail> {
     let mut input = MemSource::new(text.as_bytes().to_vec(alloc)?);
-    let found = run_program(alloc, &["check"], &mut input, 200)?;
+    let found = run_program(rt, alloc, &["check"], &mut input, 200)?;
     assert_eq!(rt; found.status, status, "{text}");
     assert_eq!(rt; found.out.len(), 0, "{text}");
     assert_eq!(rt; found.notes.as_slice(), message.as_bytes(), "{text}");

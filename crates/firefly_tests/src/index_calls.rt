@@ -28,7 +28,7 @@ fn other_words_after_index_are_a_usage_error(rt: HostRuntime) -> Result<(), Fail
     ];
     for words in lines {
         let mut input = MemSource::new(Vec::new(rt.alloc()));
-        let found = run_on(rt.alloc(), words, &tree, &mut input, 1000)?;
+        let found = run_on(&rt, rt.alloc(), words, &tree, &mut input, 1000)?;
         assert_eq!(rt; found.status, Status::Usage, "{words:?}");
         assert_eq!(rt; found.out.len(), 0, "{words:?}");
         assert_eq!(rt; found.notes.as_slice(), usage.as_bytes(), "{words:?}");
@@ -44,7 +44,7 @@ fn any_other_word_is_a_directory(rt: HostRuntime) -> Result<(), Fail> {
         let path = format!(in rt.alloc(); "{name}/a")?;
         put_file(&mut tree, path.as_str(), b"Word\n".to_vec(rt.alloc())?)?;
         let mut input = MemSource::new(Vec::new(rt.alloc()));
-        let found = run_on(rt.alloc(), &["index", name], &tree, &mut input, 1000)?;
+        let found = run_on(&rt, rt.alloc(), &["index", name], &tree, &mut input, 1000)?;
         assert_eq!(rt; found.status, Status::Done, "{name}");
         assert_eq!(rt; found.out.as_slice(), b"word 1\n  1 1 a\n".as_slice(), "{name}");
     }
@@ -57,7 +57,7 @@ fn a_path_that_fails_is_named(rt: HostRuntime) -> Result<(), Fail> {
     for path in ["proj", "proj/doc", "proj/README", "proj/src/run.rs"] {
         let mut trees = copies_failing_at(rt.alloc(), &tree, path)?;
         let mut input = MemSource::new(Vec::new(rt.alloc()));
-        let found = answer_of(rt.alloc(), &["index", "proj"], &mut trees, &mut input, 1000)?;
+        let found = answer_of(&rt, rt.alloc(), &["index", "proj"], &mut trees, &mut input, 1000)?;
         let message = format!(in rt.alloc(); "firefly: {path} could not be read\n")?;
         assert_eq!(rt; found.status, Status::ReadFault, "{path}");
         assert_eq!(rt; found.out.len(), 0, "{path}");

@@ -26,7 +26,7 @@ fn a_longer_run_is_no_word_and_a_longer_file_is_skipped(rt: HostRuntime) -> Resu
     let mut text = vec![in alloc; b'x'; 64]?;
     text.extend_from_slice(b" 1\n  1 1 a\nskipped: d\n")?;
     let mut input = MemSource::new(Vec::new(alloc));
-    let found = run_on(alloc, &["index", "w"], &tree, &mut input, 1000)?;
+    let found = run_on(&rt, alloc, &["index", "w"], &tree, &mut input, 1000)?;
     assert_eq!(rt; found.status, Status::Done);
     assert_eq!(rt; found.out.as_slice(), text.as_slice());
     assert_eq!(rt; found.notes.len(), 0);
@@ -38,7 +38,7 @@ fn a_million_directories_below_the_root_are_too_many(rt: HostRuntime) -> Result<
     let alloc = rt.alloc();
     let mut trees = crowded_trees(alloc, 1_000_000)?;
     let mut input = MemSource::new(Vec::new(alloc));
-    let found = answer_of(alloc, &["index", "big"], &mut trees, &mut input, 1000)?;
+    let found = answer_of(&rt, alloc, &["index", "big"], &mut trees, &mut input, 1000)?;
     assert_eq!(rt; found.status, Status::TooMany);
     assert_eq!(rt; found.out.len(), 0);
     assert_eq!(rt;

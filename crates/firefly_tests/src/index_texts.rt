@@ -89,7 +89,7 @@ fn a_project_is_indexed(rt: HostRuntime) -> Result<(), Fail> {
         &["index", "proj", "--stop-after", "5"],
     ] {
         let mut input = MemSource::new(Vec::new(rt.alloc()));
-        let found = run_on(rt.alloc(), words, &tree, &mut input, 1000)?;
+        let found = run_on(&rt, rt.alloc(), words, &tree, &mut input, 1000)?;
         assert_eq!(rt; found.status, Status::Done);
         assert_eq!(rt; found.out.as_slice(), project_index().as_bytes());
         assert_eq!(rt; found.notes.len(), 0);
@@ -102,7 +102,7 @@ fn one_file_too_many_stops_the_index(rt: HostRuntime) -> Result<(), Fail> {
     let tree = project(rt.alloc())?;
     let mut input = MemSource::new(Vec::new(rt.alloc()));
     let words = ["index", "proj", "--stop-after", "4"];
-    let found = run_on(rt.alloc(), &words, &tree, &mut input, 1000)?;
+    let found = run_on(&rt, rt.alloc(), &words, &tree, &mut input, 1000)?;
     assert_eq!(rt; found.status, Status::Stopped);
     assert_eq!(rt; found.out.len(), 0);
     assert_eq!(rt;
@@ -117,7 +117,7 @@ fn a_missing_directory_is_named(rt: HostRuntime) -> Result<(), Fail> {
     let mut tree = MemTree::new(rt.alloc());
     tree.add_dir("other")?;
     let mut input = MemSource::new(Vec::new(rt.alloc()));
-    let found = run_on(rt.alloc(), &["index", "proj"], &tree, &mut input, 1000)?;
+    let found = run_on(&rt, rt.alloc(), &["index", "proj"], &tree, &mut input, 1000)?;
     assert_eq!(rt; found.status, Status::ReadFault);
     assert_eq!(rt; found.out.len(), 0);
     assert_eq!(rt;
@@ -131,7 +131,7 @@ fn a_missing_directory_is_named(rt: HostRuntime) -> Result<(), Fail> {
 fn a_full_sink_holds_the_front_of_the_index(rt: HostRuntime) -> Result<(), Fail> {
     let tree = project(rt.alloc())?;
     let mut input = MemSource::new(Vec::new(rt.alloc()));
-    let found = run_on(rt.alloc(), &["index", "proj"], &tree, &mut input, 10)?;
+    let found = run_on(&rt, rt.alloc(), &["index", "proj"], &tree, &mut input, 10)?;
     assert_eq!(rt; found.status, Status::SinkFault);
     assert_eq!(rt; found.out.as_slice(), "1 1\n  1 2 ".as_bytes());
     assert_eq!(rt;
@@ -146,11 +146,11 @@ fn an_empty_directory_has_an_empty_index(rt: HostRuntime) -> Result<(), Fail> {
     let mut tree = MemTree::new(rt.alloc());
     tree.add_dir("e")?;
     let mut input = MemSource::new(Vec::new(rt.alloc()));
-    let found = run_on(rt.alloc(), &["index", "e"], &tree, &mut input, 0)?;
+    let found = run_on(&rt, rt.alloc(), &["index", "e"], &tree, &mut input, 0)?;
     assert_eq!(rt; found.status, Status::Done);
     assert_eq!(rt; found.out.len(), 0);
     put_file(&mut tree, "e/empty", Vec::new(rt.alloc()))?;
-    let found = run_on(rt.alloc(), &["index", "e"], &tree, &mut input, 0)?;
+    let found = run_on(&rt, rt.alloc(), &["index", "e"], &tree, &mut input, 0)?;
     assert_eq!(rt; found.status, Status::Done);
     assert_eq!(rt; found.out.len(), 0);
     Ok(())

@@ -1,4 +1,4 @@
-//! Tests of the program: its answers on traces and on trees in memory, compared with ones written down by hand.
+//! Tests of the program: its answers on traces, scripts and trees in memory, compared with ones written down by hand.
 #![tactic(auto)]
 
 #[cfg(test)]
@@ -11,6 +11,8 @@ mod index_calls;
 mod index_limits;
 #[cfg(test)]
 mod index_texts;
+#[cfg(test)]
+mod run_texts;
 #[cfg(test)]
 mod trees;
 #[cfg(test)]

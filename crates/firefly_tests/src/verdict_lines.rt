@@ -353,7 +353,7 @@ fn a_budget_of_all_bytes_is_enough_and_one_less_is_not(rt: HostRuntime) -> Resul
 fn a_failed_read_is_reported_and_nothing_is_printed(rt: HostRuntime) -> Result<(), Fail> {
     let mut input = MemSource::new(signalled().as_bytes().to_vec(rt.alloc())?);
     input.fail_after(20);
-    let found = run_program(rt.alloc(), &["check"], &mut input, 200)?;
+    let found = run_program(&rt, rt.alloc(), &["check"], &mut input, 200)?;
     assert_eq!(rt; found.status, Status::ReadFault);
     assert_eq!(rt; found.out.len(), 0);
     assert_eq!(rt;
@@ -366,7 +366,7 @@ fn a_failed_read_is_reported_and_nothing_is_printed(rt: HostRuntime) -> Result<(
 #[test]
 fn a_full_sink_holds_the_front_of_the_line(rt: HostRuntime) -> Result<(), Fail> {
     let mut input = MemSource::new(no_event().as_bytes().to_vec(rt.alloc())?);
-    let found = run_program(rt.alloc(), &["check"], &mut input, 5)?;
+    let found = run_program(&rt, rt.alloc(), &["check"], &mut input, 5)?;
     assert_eq!(rt; found.status, Status::SinkFault);
     assert_eq!(rt; found.out.as_slice(), b"legal".as_slice());
     assert_eq!(rt;
@@ -383,7 +383,7 @@ fn words_that_are_no_command_are_a_usage_error(rt: HostRuntime) -> Result<(), Fa
     let lines: [&[&str]; 5] = [&[], &["check", "x"], &["Check"], &[""], &["--", "check"]];
     for words in lines {
         let mut input = MemSource::new(no_event().as_bytes().to_vec(rt.alloc())?);
-        let found = run_program(rt.alloc(), words, &mut input, 200)?;
+        let found = run_program(&rt, rt.alloc(), words, &mut input, 200)?;
         assert_eq!(rt; found.status, Status::Usage);
         assert_eq!(rt; found.out.len(), 0);
         assert_eq!(rt; found.notes.as_slice(), usage.as_bytes());

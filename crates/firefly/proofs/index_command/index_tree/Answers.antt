@@ -1,10 +1,10 @@
-use Rattle.std.proofs.Common.{◌≡◌, ℕ, ◌+◌, rules, refl, sym, inl, subst, ◌∷◌, [], Some, IfSome}
+use Rattle.std.proofs.Common.{◌≡◌, ℕ, rules, refl, inl, subst, IfSome}
 use Rattle.firefly_outside.specs.Under.{AreMany}
 use Rattle.firefly_outside.specs.declared.tree.Kind.TheVariants.{File}
 use Rattle.walker.specs.Closing.{IsFaultUnder}
 use Rattle.firefly.specs.Changes.{Notes, change_of}
 use Rattle.firefly.specs.Looks.{look_of}
-use Rattle.firefly.specs.Texts.{stopped_message, unreadable_message}
+use Rattle.firefly.specs.Texts.{stopped_message}
 use Rattle.firefly.proofs.TreeLooks.{none-rose-one, among-failed}
 use Rattle.firefly.proofs.index_command.index_tree.Goals as goal
 

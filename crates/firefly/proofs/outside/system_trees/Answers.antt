@@ -1,4 +1,4 @@
-use Rattle.std.proofs.Common.{rules, refl, None, arith}
+use Rattle.std.proofs.Common.{rules, refl, None}
 use Rattle.firefly.specs.Looks.{unseen}
 use Rattle.firefly.proofs.TreeLooks.{tells-more}
 use Rattle.firefly.proofs.outside.system_trees.Goals as goal

@@ -1,5 +1,4 @@
 use Rattle.std.proofs.Common.{◌≡◌, length, None}
-use Rattle.std.proofs.Common.{map}
 use Rattle.firefly.specs.Looks.{AllTell, looks_of}
 use Rattle.firefly.specs.Looks.{unseen}
 use Rattle.firefly.proofs.outside.system_trees.Given as goal

@@ -18,6 +18,9 @@ returns-in-Ok-Sample-clause-kept g c = kept-same _ c.requires.agree
 pub returns-in-Err-Usage-clause-exact : goal.returns-in-Err-Usage-clause-exact
 returns-in-Err-Usage-clause-exact g c = λ said bytes v told mine other f. absurd (c.in-Err-Usage.ensures.usage (search rules) grammar.check said)
 
+pub returns-in-Err-Usage-clause-run_exact : goal.returns-in-Err-Usage-clause-run_exact
+returns-in-Err-Usage-clause-run_exact g c = λ said bytes told read some. absurd (c.in-Err-Usage.ensures.usage (search rules) grammar.run said)
+
 pub returns-in-Err-Usage-clause-kept : goal.returns-in-Err-Usage-clause-kept
 returns-in-Err-Usage-clause-kept g c = kept-same _ c.requires.agree
 

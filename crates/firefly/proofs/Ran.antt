@@ -1,0 +1,90 @@
+-- The numbers of the mutexes, and the status for the bytes of an input.
+use Rattle.std.proofs.Common.{◌≡◌, ◌≢◌, ◌⊎◌, ℕ, zero, suc, ◌+◌, ◌<◌, ◌≤◌, List, [], ◌∷◌, length, get_or, refl, ap, sym, ◌∙◌, subst, inl, inr, Some, None, IfSome, Option, arith}
+use Rattle.larch_actions.specs.declared.event.Event.{Event}
+use Rattle.larch_actions.specs.Actions.{IsClosed, by_thread}
+use Rattle.trace_core.specs.Text.{MutexValue, ReadsAs, trace_text}
+use Rattle.trace_core.specs.Whole.{numbered}
+use Rattle.larch_actions.specs.declared.event.Layout.{Layout}
+use Rattle.firefly_script.specs.declared.line.Line.{Line}
+use Rattle.firefly_script.specs.declared.script.ScriptFault.TheVariants as script
+use Rattle.firefly_script.specs.Faults.{IsBadLine, IsTooLong}
+use Rattle.firefly_script.specs.Runs.{AreEventsOf, total}
+use Rattle.firefly_script.specs.Text as text
+use Rattle.firefly_script.proofs.Answered.{one_answer}
+use Rattle.firefly.specs.declared.status.Status.{Status}
+use Rattle.firefly.specs.declared.status.Status.TheVariants.{Done, ReadFault, SinkFault, Memory, BadText, TooLong}
+use Rattle.firefly.specs.Changes.{Change}
+use Rattle.firefly.specs.RunCommand.{totals_from, IsTraceOf, Runs, Refuses, Decides}
+
+pub numbered_totals : (xs : List Line) (k n : ℕ) (vs : List ℕ) → length vs ≡ n → ((m : ℕ) → m < n → get_or vs m 0 ≡ total xs (k + m)) → numbered k vs ≡ totals_from k n xs
+numbered_totals xs k zero [] size each = refl
+numbered_totals xs k zero (v ∷ vs) size each = absurd (omega arith)
+numbered_totals xs k (suc n) [] size each = absurd (omega arith)
+numbered_totals xs k (suc n) (v ∷ vs) size each =
+    let here : k + 0 ≡ k = omega arith in
+    let first : v ≡ total xs k = each 0 (omega arith) ∙ ap (λ i. total xs i) here in
+    let rest = numbered_totals xs (k + 1) n vs (omega arith) (λ m low. let next : k + suc m ≡ k + 1 + m = omega arith in each (suc m) (omega arith) ∙ ap (λ i. total xs i) next) in
+    let head : (let a : MutexValue = record { mutex = k; value = v } in a) ≡ record { mutex = k; value = total xs k } = ap (λ (x : ℕ). let a : MutexValue = record { mutex = k; value = x } in a) first in
+    cc
+
+-- the printed text under equal names
+pub under_names : (P : List ℕ → Type 0) (k l : Layout) (es h : List Event) (vs ws : List ℕ) → k ≡ l → es ≡ h → vs ≡ ws → P (trace_text k es (numbered 0 vs)) → P (trace_text l h (numbered 0 ws))
+under_names P k l es h vs ws el eh ev p =
+    let L : Layout → Type 0 = λ z. P (trace_text z h (numbered 0 ws)) in
+    let E : List Event → Type 0 = λ z. P (trace_text k z (numbered 0 ws)) in
+    let V : List ℕ → Type 0 = λ z. P (trace_text k es (numbered 0 z)) in
+    subst L el (subst E eh (subst V ev p))
+
+pub same_some : {A : Type 0} (o : Option A) (x y : A) → o ≡ Some x → o ≡ Some y → x ≡ y
+same_some o x y p q = cc
+
+-- what a run left is its trace
+pub is_trace : (k l : Layout) (xs : List Line) (h : List Event) (vs bytes : List ℕ) → k ≡ l → length vs ≡ l.mutexes → ((m : ℕ) → m < l.mutexes → get_or vs m 0 ≡ total xs m) → ReadsAs bytes k h (numbered 0 vs) → IsClosed h
+    → ((t : ℕ) → t < l.threads → AreEventsOf xs t (by_thread t h)) → IsTraceOf l xs bytes
+is_trace k l xs h vs bytes same size each reads closed own =
+    let L : Layout → Type 0 = λ z. ReadsAs bytes z h (numbered 0 vs) in
+    let V : List MutexValue → Type 0 = λ z. ReadsAs bytes l h z in
+    let first : (m : ℕ) → m < l.mutexes → get_or vs m 0 ≡ total xs (0 + m) = λ m low. let z : m ≡ 0 + m = omega arith in each m low ∙ ap (λ i. total xs i) z in
+    record {
+      events = h;
+      reads = subst V (numbered_totals xs 0 l.mutexes vs size first) (subst L same reads);
+      closed = closed;
+      own = own;
+    }
+
+-- what the option has, where it is known
+pub known : {A : Type 0} (P : A → Type 0) (o : Option A) (x : A) → o ≡ Some x → IfSome o P → P x
+known P o x e h = subst (λ z. IfSome z P) e h
+
+module _ (input out notes : Change) (l : Layout) (xs : List Line) (status : Status) (few : length xs < 100000) (whole : IfSome input.old (λ bytes. text.ReadsAs bytes l xs)) where
+  ended : Runs l xs out notes status → status ≢ Memory → (status ≡ Done) ⊎ (status ≡ SinkFault)
+  ended (inl (bytes, trace, inl p)) some = inl p.0
+  ended (inl (bytes, trace, inr p)) some = inr p.0
+  ended (inr m) some = absurd (some m.0)
+
+  pub ran_decides : Runs l xs out notes status → Decides input status
+  ran_decides runs bytes told read some =
+      let text = known (λ b. text.ReadsAs b l xs) input.old bytes told whole in
+      record {
+        done = λ short. ended runs some;
+        bad_line = λ k bad long. absurd (one_answer.text_or_bad bytes k (l, xs, text, few) bad);
+        too_long = λ long. absurd (one_answer.text_or_long bytes (l, xs, text, few) long);
+      }
+
+pub bad_line_decides : (input : Change) (k : ℕ) → Refuses input (script.BadLine k) → Decides input BadText
+bad_line_decides input k h bytes told read some =
+    let b = known (λ i. IsBadLine i k × (IsTooLong i → ⊥)) input.old bytes told h in
+    record {
+      done = λ short. absurd (one_answer.text_or_bad bytes k short b.0);
+      bad_line = λ j bad long. refl;
+      too_long = λ long. absurd (b.1 long);
+    }
+
+pub too_long_decides : (input : Change) → Refuses input script.TooLong → Decides input TooLong
+too_long_decides input h bytes told read some =
+    let t = known IsTooLong input.old bytes told h in
+    record {
+      done = λ short. absurd (one_answer.text_or_long bytes short t);
+      bad_line = λ k bad long. absurd (long t);
+      too_long = λ long. refl;
+    }

@@ -1,0 +1,73 @@
+-- What the command `run` answers.
+use Rattle.std.specs.Prelude.{◌≡◌, ◌≢◌, ◌⊎◌, ℕ, zero, suc, ◌+◌, ◌<◌, List, [], ◌∷◌, length, Some, IfSome}
+use Rattle.std.specs.Io.KnownBytes.{IsAtEnd}
+use Rattle.larch_actions.specs.declared.event.Layout.{Layout}
+use Rattle.larch_actions.specs.declared.event.Event.{Event}
+use Rattle.larch_actions.specs.Actions.{IsClosed, by_thread}
+use Rattle.trace_core.specs.Text.{MutexValue, ReadsAs}
+use Rattle.firefly_script.specs.declared.line.Line.{Line}
+use Rattle.firefly_script.specs.declared.script.ScriptFault.{ScriptFault}
+use Rattle.firefly_script.specs.declared.script.ScriptFault.TheVariants as script
+use Rattle.firefly_script.specs.Faults.{HasReason, IsBadLine, IsTooLong, IsShortText}
+use Rattle.firefly_script.specs.Runs.{AreEventsOf, total}
+use Rattle.firefly_script.specs.Text as text
+use Rattle.firefly.specs.declared.status.Status.{Status}
+use Rattle.firefly.specs.declared.status.Status.TheVariants.{Done, Usage, ReadFault, SinkFault, Stopped, Memory, Illegal, BadText, TooMany, TooLong}
+use Rattle.firefly.specs.Changes.{Change, IsStill, Gets, GetsFront, Notes}
+use Rattle.firefly.specs.Check.{Prints}
+use Rattle.firefly.specs.Texts.{input_fault_message, output_fault_message, bad_line_message, memory_message, too_long_message}
+
+-- n mutexes from k on, each with the sum of all that the lines add under it
+abbrev pub totals_from : ℕ → ℕ → List Line → List MutexValue
+totals_from k zero xs = []
+totals_from k (suc n) xs = record { mutex = k; value = total xs k } ∷ totals_from (k + 1) n xs
+
+-- The trace of a run of these lines: a legal and closed list of events, of which each thread's are those of its lines, in order. Each mutex has its sum.
+pub record IsTraceOf (l : Layout) (xs : List Line) (bytes : List ℕ) : Type 0 where
+  pub events : List Event
+  pub reads : ReadsAs bytes l events (totals_from 0 l.mutexes xs)
+  pub closed : IsClosed events
+  pub own : (t : ℕ) → t < l.threads → AreEventsOf xs t (by_thread t events)
+
+-- the whole input is a script, and the bytes are the trace of a run of it
+pub record IsRunOf (input : Change) (bytes : List ℕ) : Type 0 where
+  pub layout : Layout
+  pub lines : List Line
+  pub rules : text.IsScript layout lines
+  pub few : length lines < 100000
+  pub whole : IfSome input.old (λ given. text.ReadsAs given layout lines)
+  pub end : IsAtEnd input.new
+  pub trace : IsTraceOf layout lines bytes
+
+-- why the script isn't read
+abbrev pub Refuses : Change → ScriptFault → Type 0
+Refuses input fault = HasReason input.old input.new input.before input.now fault
+
+-- the run of a script ended and its trace was printed, or memory ran out
+abbrev pub Runs : Layout → List Line → Change → Change → Status → Type 0
+Runs l xs out notes answer =
+    ((bytes : List ℕ) × IsTraceOf l xs bytes × Prints bytes Done out notes answer)
+    ⊎ ((answer ≡ Memory) × IsStill out × Notes notes memory_message)
+
+-- each status by its cause
+abbrev pub RunAnswers : Change → Change → Change → Status → Type 0
+RunAnswers input out notes Done = (bytes : List ℕ) × IsRunOf input bytes × Gets out bytes × IsStill notes
+RunAnswers input out notes SinkFault = (bytes : List ℕ) × IsRunOf input bytes × GetsFront out bytes × Notes notes output_fault_message
+RunAnswers input out notes BadText = (k : ℕ) × Refuses input (script.BadLine k) × IsStill out × Notes notes (bad_line_message k)
+RunAnswers input out notes TooLong = Refuses input script.TooLong × IsStill out × Notes notes too_long_message
+RunAnswers input out notes ReadFault = Refuses input script.Read × IsStill out × Notes notes input_fault_message
+RunAnswers input out notes Memory = IsStill out × Notes notes memory_message
+RunAnswers input out notes Usage = ⊥
+RunAnswers input out notes Stopped = ⊥
+RunAnswers input out notes Illegal = ⊥
+RunAnswers input out notes TooMany = ⊥
+
+-- the status for an input of these bytes, where no read failed and memory didn't run out: a script is run, a bad line or too long an input is named
+pub record IsExact (bytes : List ℕ) (status : Status) : Type 0 where
+  pub done : IsShortText bytes → (status ≡ Done) ⊎ (status ≡ SinkFault)
+  pub bad_line : (k : ℕ) → IsBadLine bytes k → (IsTooLong bytes → ⊥) → status ≡ BadText
+  pub too_long : IsTooLong bytes → status ≡ TooLong
+
+-- where the input tells its bytes, these decide, unless a read or the sink failed or memory ran out
+abbrev pub Decides : Change → Status → Type 0
+Decides input status = (bytes : List ℕ) → input.old ≡ Some bytes → status ≢ ReadFault → status ≢ Memory → IsExact bytes status
