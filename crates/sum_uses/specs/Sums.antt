@@ -37,6 +37,10 @@ pub record GrowsAlike (m x y : ℕ) (s r : List Added) : Type 0 where
   pub others : (k : ℕ) → k ≢ m → added k r ≡ added k s
   pub small : added m r ≤ 100000000000
 
+-- the share after the value of the mutex m has grown from x to y
+abbrev pub grown : ℕ → ℕ → ℕ → List Added → List Added
+grown m x y s = record { mutex = m; amount = y - x } ∷ s
+
 added_at : (m : ℕ) (shares : List (List Added)) (t : ℕ) (s : List Added) → get_elem? shares t ≡ some s → added m s ≤ total m shares
 added_at m [] t s e = absurd (some-ne-none s (sym e))
 added_at m (x ∷ xs) zero s e = let h : added m x ≡ added m s = ap (added m) (some-injective x s e) in omega arith

@@ -1,11 +1,13 @@
-ghost use Rattle.std.specs.Prelude.{◌-◌, [], ◌∷◌};
-ghost use Rattle.sum_uses.specs.Sums.{AreSums, IsAbove, GrowsAlike, fits_sums, after_sums};
+//! Sums under mutexes.
+ghost use Rattle.std.specs.Prelude.{◌≡◌, ◌+◌, ◌≤◌, ℕ, List, []};
+ghost use Rattle.sum_uses.specs.declared.added.Added.{Added};
+ghost use Rattle.sum_uses.specs.Sums.{AreSums, IsAbove, GrowsAlike, added, grown, fits_sums, after_sums};
 
 use crate::added::Added;
 use nub_rule::{Change, Uses};
 use std::collections::LinkedList;
 
-/// Sums under mutexes.
+/// Each value is the sum of what all threads have added under its mutex, and a share is what one thread has added.
 pub struct SumUses;
 
 impl Uses for SumUses {
@@ -32,5 +34,18 @@ impl Uses for SumUses {
 pub struct AddChange;
 
 impl Change<SumUses> for AddChange {
-    ghost after = { λ w m t x y s. record { mutex = m; amount = y - x } ∷ s };
+    ghost after = { λ w m t x y s. grown m x y s };
+}
+
+/// The value that the holder of a mutex gives back after an addition to the one that it got. It may be given back with `AddChange`,
+/// while its thread has added little.
+#[inline]
+pub fn add_to(got: u64, amount: u64) -> u64
+    requires got { got ≤ 25600000000000 }
+    requires amount { amount ≤ 100000000000 }
+    ensures sum { result ≡ got + amount }
+    ensures allowed { (m : ℕ) (s : List Added) → added m s + amount ≤ 100000000000 → GrowsAlike m got result s (grown m got result s) }
+    ensures share { (m : ℕ) (s : List Added) → added m (grown m got result s) ≡ added m s + amount }
+{
+    got + amount
 }

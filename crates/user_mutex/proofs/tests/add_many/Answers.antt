@@ -1,8 +1,8 @@
 use Rattle.std.proofs.Common.{lit<, refl, [], ◌≡◌, slice_set, ◌≤◌, ◌-◌, ◌+◌, ℕ, List, Some, None, rules, arith, ap, sym, subst, ◌∙◌}
 use lib.ListN.{get_elem?}
 use Rattle.sum_uses.specs.declared.added.Added.{Added}
-use Rattle.sum_uses.specs.Sums.{added}
-use Rattle.user_mutex.proofs.Adding.{add_to, adding_grows, added_own}
+use Rattle.sum_uses.specs.Sums.{added, grown}
+use Rattle.sum_uses.proofs.Adding.{adding_grows, added_own}
 use Rattle.std.proofs.lemmas.Option.{same_Some}
 use Rattle.atomic_table.proofs.Lists.{set_again}
 use Rattle.user_mutex.proofs.tests.add_many.Goals as goal
@@ -17,11 +17,11 @@ pub locked-requires-clause-may : goal.locked-requires-clause-may
 locked-requires-clause-may g c κs within = λ x y r w s world share fits returns.
     let own = c.loop-i.invariant.share in
     let same : own.0 ≡ s = same_Some own.0 s (sym own.1 ∙ share) in
-    let now : added 0 s ≡ c.loop-i._i = ap (added 0) (sym same) ∙ own.2 in
+    let now : added c.args.m.0 s ≡ c.loop-i._i = ap (added c.args.m.0) (sym same) ∙ own.2 in
     let up : y ≡ x + 1 = search rules in
     let few = c.requires.few in
     let loop = c.loop-i-test.true in
-    adding_grows 0 x y s (omega arith) (omega arith)
+    adding_grows c.args.m.0 x y s (omega arith) (omega arith)
 
 pub loop-i-preserved : goal.loop-i-preserved
 loop-i-preserved g c =
@@ -33,14 +33,14 @@ loop-i-preserved g c =
     let returns = answer.2 in
     let up : y ≡ x + 1 = search rules in
     let after = (answer.3 tt s (c.loop-i.invariant.world ∙ c.requires.first.1.world) own.1).1 in
-    let more = added_own 0 x y s in
+    let more = added_own c.args.m.0 x y s in
     let now = own.2 in
     record {
       rest = search rules;
       number = search rules;
       world = search rules;
-      held = c.locked.ensures.held ∙ (ap (λ h. slice_set h 0 None) c.loop-i.invariant.held ∙ set_again c.args.me.held 0 None (c.requires.first.1.lacks 0 (lit< tt)));
-      share = (add_to 0 x y s, after, omega arith);
+      held = c.locked.ensures.held ∙ (ap (λ h. slice_set h c.args.m.0 None) c.loop-i.invariant.held ∙ set_again c.args.me.held c.args.m.0 None (c.requires.first.1.lacks c.args.m.0 (let low = c.requires.named.0 in omega arith)));
+      share = (grown c.args.m.0 x y s, after, omega arith);
     }
 
 pub loop-i-init : goal.loop-i-init

@@ -10,5 +10,5 @@ invariant-loop-i g l = record {
   number : l.me.number ≡ l.initial.me.number;
   world : l.me.world ≡ l.initial.me.world;
   held : l.me.held ≡ l.initial.me.held;
-  share : (s : List Added) × (l.me.share ≡ Some s) × (added 0 s ≡ l._i);
+  share : (s : List Added) × (l.me.share ≡ Some s) × (added l.m.0 s ≡ l._i);
 }

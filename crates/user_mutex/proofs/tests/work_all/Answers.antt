@@ -1,6 +1,6 @@
 use Rattle.std.proofs.Common.{◌≡◌, ◌<◌, length, get_or, rules, arith, sym, subst}
 use Rattle.nub.specs.Ended.{IsDone}
-use Rattle.user_mutex.proofs.tests.add_all.Goals as goal
+use Rattle.user_mutex.proofs.tests.work_all.Goals as goal
 
 pub returns-clause-done : goal.returns-clause-done
 returns-clause-done g c = λ i x l e.

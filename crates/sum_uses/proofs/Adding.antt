@@ -7,20 +7,16 @@ use Rattle.std.proofs.lemmas.List.FromFn.{length-map-range_with_len}
 use Rattle.std.proofs.lemmas.Bool.Decides.{nat_tests}
 use Rattle.nub_rule.specs.Ends.{firsts}
 use Rattle.sum_uses.specs.declared.added.Added.{Added}
-use Rattle.sum_uses.specs.Sums.{added, total, AreSums, GrowsAlike}
+use Rattle.sum_uses.specs.Sums.{added, total, AreSums, GrowsAlike, grown}
 
--- one more addition under the mutex m, of what the value has grown
-abbrev pub add_to : ℕ → ℕ → ℕ → List Added → List Added
-add_to m x y s = record { mutex = m; amount = y - x } ∷ s
-
-pub added_own : (m x y : ℕ) (s : List Added) → added m (add_to m x y s) ≡ (y - x) + added m s
+pub added_own : (m x y : ℕ) (s : List Added) → added m (grown m x y s) ≡ (y - x) + added m s
 added_own m x y s = grind (arith, nat_tests)
 
-added_else : (m k x y : ℕ) (s : List Added) → k ≢ m → added k (add_to m x y s) ≡ added k s
+added_else : (m k x y : ℕ) (s : List Added) → k ≢ m → added k (grown m x y s) ≡ added k s
 added_else m k x y s n = grind (arith, nat_tests)
 
 -- adding is allowed where the value rises and the share stays small
-pub adding_grows : (m x y : ℕ) (s : List Added) → x ≤ y → added m s + (y - x) ≤ 100000000000 → GrowsAlike m x y s (add_to m x y s)
+pub adding_grows : (m x y : ℕ) (s : List Added) → x ≤ y → added m s + (y - x) ≤ 100000000000 → GrowsAlike m x y s (grown m x y s)
 adding_grows m x y s up few = let own = added_own m x y s in record {
   rises = up;
   alike = omega arith;
@@ -49,9 +45,10 @@ sums_begin values n none few = record {
   sums = λ m x e. none m x e ∙ sym (none-total m (range_with_len 0 n));
 }
 
-pub one_zero : (m x : ℕ) → get_elem? (0 ∷ []) m ≡ some x → x ≡ 0
-one_zero zero x e = sym (some-injective 0 x e)
-one_zero (suc m) x e = absurd (some-ne-none x (sym e))
+pub two_zeros : (m x : ℕ) → get_elem? (0 ∷ 0 ∷ []) m ≡ some x → x ≡ 0
+two_zeros zero x e = sym (some-injective 0 x e)
+two_zeros (suc zero) x e = sym (some-injective 0 x e)
+two_zeros (suc (suc m)) x e = absurd (some-ne-none x (sym e))
 
 pub from_at : {A : Type 0} (xs : List A) (n : ℕ) (t : A) → get_elem? xs n ≡ some t → (n < length xs) × (t ≡ get_or xs n t)
 from_at [] n t e = absurd (some-ne-none t (sym e))
