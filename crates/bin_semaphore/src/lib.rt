@@ -49,5 +49,5 @@ pub fn v<U: Uses, R: Wait>(rt: &R, pkg: &Package<U>, me: &mut Thread<U>, s: SemI
         thread: ThreadId(me.number()),
         action: Action::V { sem: s },
     };
-    free::<U, NoChange, R>(rt, pkg, me, Object::Sem(s), e);
+    free::<U, NoChange, R>(rt, pkg, me, Object::Sem(s), Some(e));
 }

@@ -41,7 +41,7 @@ first_newline (c ∷ bytes) some =
     ]
 
 -- of two fronts of the same bytes one begins with the other
-fronts : (a b x y : List ℕ) → a ++ x ≡ b ++ y → ((m : List ℕ) × (b ≡ a ++ m) × (x ≡ m ++ y)) ⊎ ((m : List ℕ) × (a ≡ b ++ m) × (y ≡ m ++ x))
+pub fronts : (a b x y : List ℕ) → a ++ x ≡ b ++ y → ((m : List ℕ) × (b ≡ a ++ m) × (x ≡ m ++ y)) ⊎ ((m : List ℕ) × (a ≡ b ++ m) × (y ≡ m ++ x))
 fronts [] b x y e = inl (b, refl, e)
 fronts (c ∷ a) [] x y e = inr (c ∷ a, refl, sym e)
 fronts (c ∷ a) (d ∷ b) x y e =
@@ -56,20 +56,25 @@ fronts (c ∷ a) (d ∷ b) x y e =
 abbrev pub NextIsBad : List ℕ → List ℕ → Type 0
 NextIsBad front rest = (line after : List ℕ) → Lacks 10 line → rest ≡ line ++ 10 ∷ after → Begins (front ++ (line ++ 10 ∷ [])) → ⊥
 
+-- no script text goes on over a bad line
+pub ends_before : (front rest m more : List ℕ) → NextIsBad front rest → rest ≡ m ++ more → Begins (front ++ m) → 0 < newlines m → ⊥
+ends_before front rest m more bad e begins some =
+    let f = first_newline m some in
+    let b : Begins (front ++ (f.0 ++ 10 ∷ f.1)) = subst Begins (ap (λ l. front ++ l) f.3) begins in
+    let split : front ++ (f.0 ++ 10 ∷ f.1) ≡ (front ++ (f.0 ++ 10 ∷ [])) ++ f.1 = ap (λ l. front ++ l) (sym (append_assoc f.0 (10 ∷ []) f.1)) ∙ sym (append_assoc front (f.0 ++ 10 ∷ []) f.1) in
+    bad f.0 (f.1 ++ more) f.2 (e ∙ ap (λ l. l ++ more) f.3 ∙ append_assoc f.0 (10 ∷ f.1) more) (begins_front (front ++ (f.0 ++ 10 ∷ [])) f.1 (subst Begins split b))
+
 -- fewer than 100,000 lines and a bad one aren't too long
 not_long : (front rest : List ℕ) → newlines front < 100000 → NextIsBad front rest → IsTooLong (front ++ rest) → ⊥
 not_long front rest few bad t =
     elim (fronts front t.before rest t.rest t.split) [
       | inl m ↦
           let n : newlines m.0 + newlines front ≡ 100000 = omega (arith, ap newlines m.1, newlines_append front m.0, t.counted) in
-          let f = first_newline m.0 (omega arith) in
-          let b : Begins (front ++ (f.0 ++ 10 ∷ f.1)) = subst Begins (m.1 ∙ ap (λ l. front ++ l) f.3) t.front.begins in
-          let split : front ++ (f.0 ++ 10 ∷ f.1) ≡ (front ++ (f.0 ++ 10 ∷ [])) ++ f.1 = ap (λ l. front ++ l) (sym (append_assoc f.0 (10 ∷ []) f.1)) ∙ sym (append_assoc front (f.0 ++ 10 ∷ []) f.1) in
-          bad f.0 (f.1 ++ t.rest) f.2 (m.2 ∙ ap (λ l. l ++ t.rest) f.3 ∙ append_assoc f.0 (10 ∷ f.1) t.rest) (begins_front (front ++ (f.0 ++ 10 ∷ [])) f.1 (subst Begins split b))
+          ends_before front rest m.0 t.rest bad m.2 (subst Begins m.1 t.front.begins) (omega arith)
       | inr m ↦ absurd (omega (arith, ap newlines m.1, newlines_append t.before m.0, t.counted))
     ]
 
-last_newline : (xs ys body : List ℕ) → xs ++ ys ≡ body ++ 10 ∷ [] → 0 < length ys → 0 < newlines ys
+pub last_newline : (xs ys body : List ℕ) → xs ++ ys ≡ body ++ 10 ∷ [] → 0 < length ys → 0 < newlines ys
 last_newline [] [] body e some = absurd (omega arith)
 last_newline [] (y ∷ ys) body e some = omega (arith, ap newlines e, newlines_append body (10 ∷ []))
 last_newline (x ∷ xs) ys [] e some =

@@ -5,7 +5,9 @@ use Rattle.std.specs.declared.option.Option.{Option}
 use Rattle.firefly_outside.specs.Causes.{Rose}
 use Rattle.firefly_script.specs.declared.script.ScriptFault.{ScriptFault}
 use Rattle.firefly_script.specs.declared.script.ScriptFault.TheVariants.{Memory, BadLine, TooLong, Read}
-use Rattle.firefly_script.specs.Text.{IsScriptText}
+use Rattle.larch_actions.specs.declared.event.Layout.{Layout}
+use Rattle.firefly_script.specs.declared.line.Line.{Line}
+use Rattle.firefly_script.specs.Text.{IsScriptText, ReadsAs}
 
 -- some script text begins with the bytes
 abbrev pub Begins : List ℕ → Type 0
@@ -63,3 +65,13 @@ HasReason left left' before now Memory = Unit {0}
 HasReason left left' before now (BadLine k) = IfSome left (λ input. IsBadLine input k × (IsTooLong input → ⊥))
 HasReason left left' before now TooLong = IfSome left IsTooLong
 HasReason left left' before now Read = Rose before now × ((given : List ℕ) × Consumes left left' given × IsUndecided given)
+
+-- the bytes are the text of a script of at most 100,000 lines
+abbrev pub IsShortText : List ℕ → Type 0
+IsShortText bytes = (l : Layout) × (xs : List Line) × ReadsAs bytes l xs × (length xs < 100000)
+
+-- Of an input at most one of these holds: it is a script of at most 100,000 lines, a line of it is bad, it is too long. It has at most one bad line.
+pub record OneAnswer : Type 0 where
+  pub text_or_bad : (input : List ℕ) (k : ℕ) → IsShortText input → IsBadLine input k → ⊥
+  pub text_or_long : (input : List ℕ) → IsShortText input → IsTooLong input → ⊥
+  pub one_line : (input : List ℕ) (j k : ℕ) → IsBadLine input j → IsBadLine input k → j ≡ k

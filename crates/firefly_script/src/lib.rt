@@ -7,6 +7,7 @@
 #![tactic(auto)]
 
 mod draft;
+mod laws;
 mod line;
 mod next;
 mod parse;
@@ -14,6 +15,7 @@ mod read;
 mod script;
 mod window;
 
+pub use laws::one_answer;
 pub use line::{Line, Operation};
 pub use read::read_script;
 pub use script::{Script, ScriptFault};

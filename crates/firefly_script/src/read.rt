@@ -4,7 +4,7 @@ ghost use Rattle.std.specs.Io.KnownBytes.{Consumes, IsAtEnd, prepend_known};
 ghost use Rattle.larch_actions.specs.Layout.{IsLawful};
 ghost use Rattle.firefly_script.specs.declared.line.Line.{Line};
 ghost use Rattle.firefly_script.specs.Operations.{MayFollow, none_held, held_after, AllFree};
-ghost use Rattle.firefly_script.specs.Text.{layout_text, line_text, lines_text, ReadsAs};
+ghost use Rattle.firefly_script.specs.Text.{layout_text, line_text, lines_text, IsScript, ReadsAs};
 ghost use Rattle.firefly_script.specs.Faults.{HasReason};
 ghost use Rattle.firefly_script.specs.Drafts.{IsDraft, Takes, HeadFault, TakeFault, EndFault, LineFault, LaterFault, IsDone, IsFinished};
 
@@ -151,6 +151,7 @@ fn lines<I: Source>(
 /// Reads the script that the input is.
 pub fn read_script<I: Source>(alloc: Global, input: &mut I) -> Result<Script, ScriptFault>
     ensures script { IfOk result (λ s. IfSome (I.left input.old) (λ bytes. ReadsAs bytes s.layout s.lines)) }
+    ensures rules { IfOk result (λ s. IsScript s.layout s.lines) }
     ensures few { IfOk result (λ s. length s.lines < 100000) }
     ensures end { OnOk result (IsAtEnd (I.left input.new)) }
     ensures fault { IfErr result (HasReason (I.left input.old) (I.left input.new) (I.faults input.old) (I.faults input.new)) }

@@ -19,15 +19,15 @@ pub fn free<U: Uses, C: Change<U>, R: Wait>(
     p: &Package<U>,
     me: &mut Thread<U>,
     at: Object,
-    e: Event,
+    e: Option<Event>,
 )
     requires of { me.old.table_id ≡ p.now.table_id }
     requires named { HasObject p.now.layout at }
     requires outside { IsOutside me.old }
     requires no_wait { me.old.wait ≡ None }
-    requires event { e ≡ clears at me.old.number }
+    requires event { e ≡ Some (clears at me.old.number) }
     requires may { MayFree U.allows C.after at me.old }
-    ensures event { Makes e me.old me.new }
+    ensures event { Makes (clears at me.old.number) me.old me.new }
     ensures rest { me.new ≡ record me.old { seen = me.new.seen; mine = me.new.mine; places = me.new.places; held = me.new.held; share = me.new.share; count = me.new.count; failed = me.new.failed; cleared = without (object_of at) me.old.cleared; looked = without (object_of at) me.old.looked; values = me.new.values; entries = me.new.entries; lost = me.new.lost; next = me.new.next } }
     ensures freed { IsFreed C.after at me.old me.new }
     ensures stored { HasStored p.now.traced me.old → HasStored p.now.traced me.new }
@@ -45,22 +45,22 @@ fn clear<U: Uses, C: Change<U>, R: Wait>(
     p: &Package<U>,
     me: &mut Thread<U>,
     at: Object,
-    e: Event,
+    e: Option<Event>,
 )
     requires of { me.old.table_id ≡ p.now.table_id }
     requires named { HasObject p.now.layout at }
     requires outside { IsOutside me.old }
     requires no_wait { me.old.wait ≡ None }
-    requires event { e ≡ clears at me.old.number }
+    requires event { e ≡ Some (clears at me.old.number) }
     requires may { MayFree U.allows C.after at me.old }
-    ensures event { Makes e me.old me.new }
+    ensures event { Makes (clears at me.old.number) me.old me.new }
     ensures rest { me.new ≡ record me.old { seen = me.new.seen; mine = me.new.mine; places = me.new.places; held = me.new.held; share = me.new.share; cleared = object_of at ∷ me.old.cleared; values = me.new.values; entries = me.new.entries; lost = me.new.lost; next = me.new.next } }
     ensures freed { IsFreed C.after at me.old me.new }
     ensures stored { HasStored p.now.traced me.old → HasStored p.now.traced me.new }
 {
     begin_event(rt, p, me);
     clear_gate::<U, C>(p, me, at);
-    end_event(p, me, Some(e));
+    end_event(p, me, e);
 }
 
 #[inline]

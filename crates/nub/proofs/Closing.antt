@@ -1,5 +1,5 @@
 -- What the threads that a package begins and ends with know.
-use Rattle.std.proofs.Common.{◌≡◌, ◌≢◌, ◌⊎◌, Bool, ℕ, ◌+◌, ◌<◌, ◌≤◌, List, [], ◌∷◌, ◌++◌, length, get_or, replicate, map, sym, ap, ◌∙◌, subst, refl, arith, cond, eqb, true, false, suc, zero, Some, None, Option as Opt, rules}
+use Rattle.std.proofs.Common.{◌≡◌, ◌≢◌, ◌⊎◌, Bool, ℕ, ◌+◌, ◌<◌, ◌≤◌, List, [], ◌∷◌, ◌++◌, length, get_or, replicate, map, sym, ap, ◌∙◌, subst, refl, arith, cond, eqb, true, false, suc, zero, Some, None, Option as Opt, rules, inl, inr, ⊎_elim}
 use mathlib.Core.Option.{some, some-injective, some-ne-none}
 use lib.ListN.{get_elem?}
 use Rattle.std.specs.List.{All}
@@ -112,9 +112,26 @@ module _ {T H W : Type 0} where
   pub keeps_locks : (holds : List T → List H → Type 0) (threads : List (Known T H W)) (values : List T) → Leaves holds (map (λ t. part_of t) threads) values → KeepsLocks holds threads values
   keeps_locks holds threads values l = record { shares = l.shares; each_share = shares-are threads l.shares l.each_share l.shared; kept = l.kept }
 
+  -- each event of the history is by one of the threads
+  by-threads : (threads : List (Known T H W)) (log : List Event) → Told log (map (λ t. part_of t) threads) → All (λ e. e.thread.0 < length threads) log
+  by-threads threads log told k e m =
+      let a = told.people k (get_or log k e) (at_get_or log k e m) in
+      let n : length (map (λ t. part_of t) threads) ≡ length threads = length-map threads (λ t. part_of t) in
+      omega arith
+
+  part_at : (threads : List (Known T H W)) (n : ℕ) (p : Part T H) → get_elem? (map (λ t. part_of t) threads) n ≡ some p → (t : Known T H W) × (get_elem? threads n ≡ some t) × (t.seen ≡ p.seen)
+  part_at [] n p e = absurd (some-ne-none p (sym e))
+  part_at (t ∷ threads) zero p e = (t, refl, ap (λ q. q.seen) (some-injective (part_of t) p e))
+  part_at (t ∷ threads) (suc n) p e = part_at threads n p e
+
   pub whole : (holds : List T → List H → Type 0) (threads : List (Known T H W)) (values : List T) (l : Leaves holds (map (λ t. part_of t) threads) values) → IsWhole threads l.log
   whole holds threads values l = record {
     closed = (l.spec, l.run, l.nothing_held, l.nothing_begun);
+    people = by-threads threads l.log l.history;
+    longest = ⊎_elim
+        (λ (none : l.log ≡ []). inl none)
+        (λ (t : (n : ℕ) × (p : Part T H) × (get_elem? (map (λ t. part_of t) threads) n ≡ some p) × (p.seen ≡ l.log)). let k = part_at threads t.0 t.1 t.2 in inr (t.0, k.0, k.1, k.2 ∙ t.3))
+        l.history.longest;
     seen = λ n t e. (l.history.each n (part_of t) (at_map (λ t. part_of t) threads n t e)).begins;
     own = λ n t e. (l.history.each n (part_of t) (at_map (λ t. part_of t) threads n t e)).own;
   }
@@ -125,10 +142,9 @@ module _ {T H W : Type 0} where
   are_stored holds p threads values stored l done traced entries losses =
       let n0 : length (map (λ s. s.entries.items) stored) ≡ length stored = length-map stored (λ s. s.entries.items) in
       let n1 : length (map (λ t. t.entries) threads) ≡ length threads = length-map threads (λ t. t.entries) in
-      let n2 : length (map (λ t. part_of t) threads) ≡ length threads = length-map threads (λ t. part_of t) in
       let n3 : length (map (λ s. s.entries.items) stored) ≡ length (map (λ t. t.entries) threads) = ap length entries in
       record {
-        threads = λ k e m. let a = l.history.people k (get_or l.log k e) (at_get_or l.log k e m) in omega arith;
+        threads = λ k e m. let a = by-threads threads l.log l.history k e m in omega arith;
         each = λ t d m whole.
             let there = some_at threads t (omega arith) in
             let k = there.0 in

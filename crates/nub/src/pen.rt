@@ -19,7 +19,7 @@ pub fn begin_event<U: Uses, R: Wait>(rt: &R, p: &Package<U>, me: &mut Thread<U>)
     ensures pen { me.new ≡ record me.old { pen = me.new.pen; next = me.new.next } }
     ensures traced { MayTell p.now.traced me.new.pen }
     ensures number { p.now.traced ≡ true → me.new.pen ≡ Read me.new.next }
-    ensures untraced { p.now.traced ≡ false → me.new.pen ≡ No }
+    ensures untraced { p.now.traced ≡ false → me.new ≡ me.old }
 {
     if p.traced() {
         begin_traced(rt, p, me);
@@ -33,6 +33,7 @@ pub fn end_event<U: Uses>(p: &Package<U>, me: &mut Thread<U>, made: Option<Event
     requires pen { p.now.traced ≡ true → (me.old.next < 18446744073709551615) × (made ≡ None → me.old.pen ≡ Read me.old.next) × ((e : Event) → made ≡ Some e → me.old.pen ≡ Made me.old.next) }
     requires out { p.now.traced ≡ false → me.old.pen ≡ No }
     ensures rest { me.new ≡ record me.old { pen = No; entries = me.new.entries; lost = me.new.lost } }
+    ensures untraced { p.now.traced ≡ false → me.new ≡ me.old }
     ensures none { made ≡ None → (me.new.entries ≡ me.old.entries) × (me.new.lost ≡ me.old.lost) }
     ensures stored { (e : Event) → made ≡ Some e → p.now.traced ≡ true → me.new.lost ≡ false → (me.old.lost ≡ false) × (me.new.entries ≡ me.old.entries ++ record { number = me.old.next; event = e } ∷ []) }
 {

@@ -19,6 +19,7 @@ pub mod Naming
 pub mod Lessening
 pub mod Seen
 pub mod Turns
+pub mod Having
 pub mod Room
 pub mod Seats
 pub mod Ends

@@ -1,11 +1,10 @@
 -- What contracts see of a package and of a thread.
-use Rattle.std.specs.Prelude.{Bool, true, ◌≡◌, ◌⊎◌, ◌≢◌, ℕ, ◌<◌, List, [], ◌∷◌, ◌++◌, length, map, Option as Opt, Some, None}
+use Rattle.std.specs.Prelude.{Bool, ◌≡◌, ℕ, ◌<◌, List, [], ◌∷◌, ◌++◌, length, map, Option as Opt, Some, None}
 use Rattle.std.specs.List.{range_with_len}
 use mathlib.Core.Option.{some}
 use lib.ListN.{get_elem?}
 use Rattle.larch_actions.specs.declared.event.Event.{Event}
 use Rattle.larch_actions.specs.declared.event.Layout.{Layout}
-use Rattle.larch_actions.specs.Sets.{mem}
 use Rattle.atomic_table.specs.Table.{Me}
 use Rattle.atomic_table.specs.Seated.{TableId}
 use Rattle.nub_rule.specs.declared.package.Entry.{Entry}
@@ -16,9 +15,8 @@ use Rattle.nub_rule.specs.declared.view.Part.{Part}
 use Rattle.nub_rule.specs.declared.view.Wait.{Wait}
 use Rattle.nub_rule.specs.declared.view.Stand.{Stand}
 use Rattle.nub_rule.specs.declared.view.Pen.{Pen}
-use Rattle.nub_rule.specs.declared.view.Pen.TheVariants.{No, Taken, Read, Made, Written}
 use Rattle.nub_rule.specs.declared.view.View.{View}
-use Rattle.nub_rule.specs.Items.{line_of, Each}
+use Rattle.nub_rule.specs.Items.{line_of}
 use Rattle.nub_rule.specs.Parts.{Got, Lacks}
 use Rattle.nub_rule.specs.Places.{value_at, queue_at}
 use Rattle.nub_rule.specs.Plays.{Grows}
@@ -72,12 +70,6 @@ pub record Known (T H W : Type 0) : Type 0 where
   pub lost : Bool
   -- the number that it read with the pen last
   pub next : ℕ
-
--- the events with their places
-abbrev pub entries_of : List ℕ → List Event → List Entry
-entries_of [] es = []
-entries_of (n ∷ ns) [] = []
-entries_of (n ∷ ns) (e ∷ es) = record { number = n; event = e } ∷ entries_of ns es
 
 module _ {T : Type 0} where
   abbrev pub value_in : Opt (Slot T) → Opt (Opt T)
@@ -171,21 +163,6 @@ module _ {T H W : Type 0} where
   -- the thread has no mutex's bit
   abbrev pub HasNone : Known T H W → Type 0
   HasNone k = (m : ℕ) (x : T) → ¬ Holds k m x
-
-  -- nothing of a call is open: it is in no wait, queue or Nub, owes nobody, has looked at the queue of each bit that it cleared and tried each bit for which it has the turn, has no pen, has taken each value, and has stored each of its events or lost one
-  pub record AtRest (traced : Bool) (k : Known T H W) : Type 0 where
-    pub wait : k.wait ≡ None
-    pub stand : k.stand ≡ None
-    pub spin : k.spin ≡ None
-    pub owed : k.owed ≡ []
-    pub turns : k.turns ≡ []
-    pub cleared : k.cleared ≡ []
-    pub looked : k.looked ≡ []
-    pub pen : k.pen ≡ No
-    pub calling : k.calling ≡ None
-    pub raised : k.raised ≡ None
-    pub taken : (m : ℕ) (x : T) → Holds k m x → IsOut k m
-    pub stored : traced ≡ true → (k.lost ≡ true) ⊎ (k.entries ≡ entries_of k.places k.mine)
 
   -- the thread stands at the object, at a stage of this sort
   abbrev pub StandsAs : (Stand → Type 0) → Known T H W → Type 0

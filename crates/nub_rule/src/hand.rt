@@ -27,6 +27,7 @@ impl Model for Hand {
 
 impl Hand {
     ghost use Rattle.std.specs.Prelude.{◌≡◌, [], ◌∷◌, ◌<◌, ◌≤◌, length};
+    ghost use Rattle.larch_actions.specs.Sets.{mem};
     ghost use Rattle.nub_rule.specs.Slots.{behind_first, turned_hand, starts_with};
 
     pub fn new() -> Hand
@@ -43,6 +44,21 @@ impl Hand {
         ensures { result ≡ starts_with self.now slot }
     {
         self.top == Some(slot)
+    }
+
+    /// Whether the slot is at hand.
+    pub fn has(&self, slot: u16) -> bool
+        ensures { result ≡ mem slot self.now }
+    {
+        if self.top == Some(slot) {
+            return true;
+        }
+        for i in 0..self.below.len() {
+            if self.below[i] == slot {
+                return true;
+            }
+        }
+        false
     }
 
     /// Puts a slot first.

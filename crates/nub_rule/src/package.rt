@@ -7,7 +7,7 @@ use crate::uses::Uses;
 use crate::view::View;
 use atomic_table::{Seat, Table};
 use crossbeam_utils::sync::{Parker, Unparker};
-use larch_actions::{Event, Layout};
+use larch_actions::{Event, Layout, MutexId};
 use std::alloc::Global;
 use std::marker::Model;
 
@@ -103,11 +103,22 @@ impl<U: Uses> Package<U> {
 }
 
 impl<U: Uses> Thread<U> {
+    ghost use Rattle.std.specs.Prelude.{◌≡◌, true, false};
+    ghost use Rattle.nub_rule.specs.Known.{Holds};
+
     /// Its number.
     #[inline]
     pub fn number(&self) -> u32
         ensures { result ≡ self.now.number }
     {
         self.number
+    }
+
+    /// Whether it has the mutex.
+    pub fn has(&self, m: MutexId) -> bool
+        ensures yes { result ≡ true → (x : U.Value) × Holds self.now m.0 x }
+        ensures no { result ≡ false → (x : U.Value) → ¬ Holds self.now m.0 x }
+    {
+        m.0 < 64 && self.hand.has(192 + m.0 as u16)
     }
 }

@@ -65,7 +65,7 @@ pub fn release<U: Uses, C: Change<U>, R: Wait>(
         thread: ThreadId(me.number()),
         action: Action::Release { mutex: m },
     };
-    free::<U, C, R>(rt, p, me, Object::Mutex(m), e);
+    free::<U, C, R>(rt, p, me, Object::Mutex(m), Some(e));
 }
 
 /// Takes the mutex, lets f work on its value, and gives it back.
