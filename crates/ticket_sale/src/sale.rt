@@ -1,6 +1,5 @@
 //! The sale.
-ghost use Rattle.std.specs.Prelude.{◌≡◌, ◌≢◌, ◌<◌, ◌≤◌, ◌^◌, ℕ, List, [], ◌∷◌, length, map, sum_by, IfOk, false};
-ghost use Rattle.nub_rule.specs.Items.{Each};
+ghost use Rattle.std.specs.Prelude.{◌≡◌, ◌+◌, ◌<◌, ◌≤◌, ◌^◌, ℕ, length, map, sum_by, IfOk, true, false};
 ghost use Rattle.nub.specs.Ended.{IsFirst};
 ghost use Rattle.ticket_sale.specs.Sales.{HasSold};
 ghost use Rattle.user_mutex.specs.EachAt.{EachAt};
@@ -21,6 +20,18 @@ pub struct Seller {
     pub sold: u32,
 }
 
+/// Takes one ticket, if any is left.
+fn take_one(left: &mut u32) -> bool
+    ensures taken { result ≡ true → left.old ≡ left.new + 1 }
+    ensures none { result ≡ false → (left.old ≡ 0) × (left.new ≡ 0) }
+{
+    let any = *left > 0;
+    if any {
+        *left -= 1;
+    }
+    any
+}
+
 /// Sells one ticket after the other, until none is left.
 fn sell<R: Wait>(rt: &R, p: &Package<Tickets>, me: Thread<Tickets>) -> Seller
     requires named { 0 < p.now.layout.mutexes }
@@ -30,14 +41,14 @@ fn sell<R: Wait>(rt: &R, p: &Package<Tickets>, me: Thread<Tickets>) -> Seller
 {
     let mut me = me;
     let mut sold = 0u32;
-    for _i in rt.forever() {
-        let any = locked::<Tickets, Sale, bool, _, R>(rt, p, &mut me, MutexId(0), |left| {
-            let any = *left > 0;
-            if any {
-                *left -= 1;
-            }
-            any
-        });
+    for _ in rt.forever() {
+        let any = locked::<Tickets, Sale, bool, _, R>(
+            rt,
+            p,
+            &mut me,
+            MutexId(0),
+            |left| take_one(left),
+        );
         if !any {
             return Seller { thread: me, sold };
         }
@@ -81,6 +92,13 @@ fn count(sellers: &[Seller]) -> u64
     all
 }
 
+/// The threads of the sellers.
+fn threads_of(alloc: Global, sellers: Vec<Seller>) -> Result<Vec<Thread<Tickets>>, AllocError>
+    ensures { IfOk result (λ v. v.items ≡ map (λ s. s.thread) sellers.items) }
+{
+    sellers.into_iter().map(|s| s.thread).collect(alloc)
+}
+
 /// Sells the tickets by so many threads, and answers how many they say that they have sold.
 pub fn sale<R: Threads + Wait + Sync>(
     rt: &R,
@@ -101,7 +119,7 @@ pub fn sale<R: Threads + Wait + Sync>(
     let (p, threads) = open_package::<Tickets>(alloc, layout, &tickets, left, false)?;
     let sellers = sell_all(rt, &p, threads)?;
     let sold = count(&sellers);
-    let threads = sellers.into_iter().map(|s| s.thread).collect(alloc)?;
+    let threads = threads_of(alloc, sellers)?;
     close_package(p, threads)?;
     Ok(sold)
 }
