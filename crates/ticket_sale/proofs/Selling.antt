@@ -1,5 +1,5 @@
 -- What all sellers together have sold.
-use Rattle.std.proofs.Common.{◌≡◌, ◌<◌, ℕ, ◌+◌, List, [], ◌∷◌, length, map, sum_by, zero, suc, arith, sym, ap, ◌∙◌, refl, true, false, Some, Option as Opt}
+use Rattle.std.proofs.Common.{◌≡◌, ◌<◌, ℕ, ◌+◌, List, [], ◌∷◌, length, get_or, map, sum_by, zero, suc, arith, sym, ap, ◌∙◌, refl, true, false, Some, Option as Opt}
 use mathlib.Core.Option.{some, some-injective, some-ne-none}
 use lib.ListN.{get_elem?}
 use Rattle.std.specs.List.{range_with_len}
@@ -85,3 +85,9 @@ pub thread-at : (sellers : List Seller) (n : ℕ) (t : Known ℕ Sold ℕ) → g
 thread-at [] n t e = absurd (some-ne-none t (sym e))
 thread-at (x ∷ sellers) zero t e = (x, refl, some-injective x.thread t e)
 thread-at (x ∷ sellers) (suc n) t e = thread-at sellers n t e
+
+-- what stands at a place is read there
+pub read-at : (sellers : List Seller) (n : ℕ) (x : Seller) → get_elem? sellers n ≡ some x → x ≡ get_or sellers n x
+read-at [] n x e = absurd (some-ne-none x (sym e))
+read-at (y ∷ sellers) zero x e = sym (some-injective y x e)
+read-at (y ∷ sellers) (suc n) x e = read-at sellers n x e
