@@ -18,7 +18,7 @@ use Rattle.nub_rule.specs.declared.view.View.{View}
 use Rattle.nub_rule.specs.declared.view.Kind.TheVariants.{Member}
 use Rattle.nub_rule.specs.Items.{Core, Lines}
 use Rattle.nub_rule.specs.Parts.{staged, turned, IsFound}
-use Rattle.nub_rule.specs.Places.{ready_at, spin_at, length_at}
+use Rattle.nub_rule.specs.Places.{bit_at, ready_at, spin_at, length_at}
 use Rattle.nub_rule.specs.Plays.{with_part, readied, looked_ready, unreadied}
 use Rattle.nub_rule.specs.Rule.{IsKept}
 use Rattle.nub_rule.proofs.Each.{at_within, at_below, put-here, put-else}
@@ -74,13 +74,13 @@ module _ {T H W : Type 0} (l : Layout) (traced : Bool) (w : W) (begin : W → �
       still l traced w holds words homes all i n p q at record { seen = refl; mine = refl; places = refl; held = refl; share = refl } refl refl refl refl refl refl refl c
       (lines-stage (λ o. c.owed o ++ c.queue o) (λ o. c.owed o ++ c.queue o) words words all n p q at c.sizes.few s (record s { stage = g }) (λ t lo. refl) (λ o. refl) stood (ap (staged g) stood) refl found c.lines)
 
-  -- the bit is read after a push, or the own ready word before a sleep
+  -- the bit is read after a push
   pub retests : (slots id i : ℕ) (me : Me (Slot T) (View T H W)) (s : Stand) (a b : Stage) → me.0.kind ≡ Member → me.0.part.stand ≡ Some s → (IsFound a → ⊥) → (IsFound b → ⊥)
-      → Allows (IsKept l traced w begin holds) slots id me i (λ x. x) (λ r me'. (r ≡ 0 → me' ≡ (with_part me.0 (record me.0.part { stand = staged a me.0.part.stand }), me.1)) × (r ≢ 0 → me' ≡ (with_part me.0 (record me.0.part { stand = staged b me.0.part.stand }), me.1)))
+      → Allows (IsKept l traced w begin holds) slots id me i (λ x. x) (λ r me'. (u : Stand) → me.0.part.stand ≡ Some u → i ≡ bit_at u.at → (r ≡ 0 → me' ≡ (with_part me.0 (record me.0.part { stand = staged a me.0.part.stand }), me.1)) × (r ≢ 0 → me' ≡ (with_part me.0 (record me.0.part { stand = staged b me.0.part.stand }), me.1)))
   retests slots id i me s a b kind stood na nb = let v = me.0 in let n = v.number in let p = v.part in
       member_steps l traced w begin holds slots id i (λ x. x) v me.1 (λ r q ds. ((r ≡ 0) × (q ≡ record p { stand = staged a p.stand }) × (ds ≡ me.1)) ⊎ ((r ≢ 0) × (q ≡ record p { stand = staged b p.stand }) × (ds ≡ me.1)))
-      (λ r me'. (r ≡ 0 → me' ≡ (with_part v (record p { stand = staged a p.stand }), me.1)) × (r ≢ 0 → me' ≡ (with_part v (record p { stand = staged b p.stand }), me.1))) kind
-      (λ r q ds world t. ⊎_elim
+      (λ r me'. (u : Stand) → p.stand ≡ Some u → i ≡ bit_at u.at → (r ≡ 0 → me' ≡ (with_part v (record p { stand = staged a p.stand }), me.1)) × (r ≢ 0 → me' ≡ (with_part v (record p { stand = staged b p.stand }), me.1))) kind
+      (λ r q ds world t. λ here stands word. ⊎_elim
       (λ (u : (r ≡ 0) × (q ≡ record p { stand = staged a p.stand }) × (ds ≡ me.1)). ((λ _. λ j. (with_part v (u.1 j), u.2 j)), λ miss. absurd (miss u.0)))
       (λ (u : (r ≢ 0) × (q ≡ record p { stand = staged b p.stand }) × (ds ≡ me.1)). ((λ hit. absurd (u.0 hit)), λ _. λ j. (with_part v (u.1 j), u.2 j))) t)
       (λ words homes all c at small. dite (ℕ_discrete (get_or words i 0) 0)

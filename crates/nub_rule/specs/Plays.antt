@@ -16,6 +16,7 @@ use Rattle.nub_rule.specs.declared.view.Part.{Part}
 use Rattle.nub_rule.specs.declared.view.Pen.{Pen}
 use Rattle.nub_rule.specs.declared.view.Pen.TheVariants.{No, Taken, Read, Made, Written}
 use Rattle.nub_rule.specs.declared.view.Stage.TheVariants.{Pushed, Clear, Tested, Asleep, Found}
+use Rattle.nub_rule.specs.declared.view.Stand.{Stand}
 use Rattle.nub_rule.specs.declared.view.View.{View}
 use Rattle.nub_rule.specs.declared.view.Wait.{Wait}
 use Rattle.nub_rule.specs.Items.{Small, line_of}
@@ -142,9 +143,9 @@ module _ {T H W : Type 0} where
   abbrev pub pushed : Step (Slot T) → Sat T H W → ℕ → Sat T H W → Type 0
   pushed st me r me' = let p = me.0.part in let n = me.0.number in (o : ℕ) → st.word ≡ length_at o → Becomes me (record p { queue = p.queue ++ n ∷ []; left = p.left ++ n ∷ []; stand = Some record { at = o; stage = Pushed } }) me'
 
-  -- the bit was read after the push
+  -- the bit of the object at which the thread stands was read after the push
   abbrev pub retested : Step (Slot T) → Sat T H W → ℕ → Sat T H W → Type 0
-  retested st me r me' = let p = me.0.part in (r ≡ 0 → Becomes me (record p { stand = staged Clear p.stand }) me') × (r ≢ 0 → Becomes me (record p { stand = staged Tested p.stand }) me')
+  retested st me r me' = let p = me.0.part in (s : Stand) → p.stand ≡ Some s → st.word ≡ bit_at s.at → (r ≡ 0 → Becomes me (record p { stand = staged Clear p.stand }) me') × (r ≢ 0 → Becomes me (record p { stand = staged Tested p.stand }) me')
 
   -- the thread left the queue of a gate, in which it was
   abbrev pub took_out : Step (Slot T) → Sat T H W → ℕ → Sat T H W → Type 0

@@ -2,7 +2,7 @@ use Rattle.std.proofs.Common.{arith, sym, ap, ◌∙◌}
 use mathlib.Core.Option.{some-ne-none}
 use lib.ListN.{get_elem?}
 use Rattle.atomic_table.proofs.Lists.{at_index}
-use Rattle.bin_semaphore.proofs.Adding.{sums_begin, from_at}
+use Rattle.sum_uses.proofs.Adding.{sums_begin, from_at}
 use Rattle.bin_semaphore.proofs.tests.run_all.Goals as goal
 
 pub open_package-requires-clause-holds : goal.open_package-requires-clause-holds
