@@ -1,11 +1,9 @@
 -- Entries that are named by numbers.
-use Rattle.std.proofs.Common.{◌≡◌, ◌≢◌, ◌∙◌, ℕ, zero, suc, ◌+◌, ◌<◌, ◌^◌, List, [], ◌∷◌, ◌++◌, length, ap, sym, subst, arith, decimal, All}
+use Rattle.std.proofs.Common.{◌≡◌, ◌≢◌, ◌∙◌, ℕ, zero, suc, ◌+◌, ◌<◌, ◌^◌, List, [], ◌∷◌, length, sym, subst, arith, decimal, All}
 use Rattle.std.specs.Prelude.{AllPairs, slice_index_or}
-use Rattle.core.specs.Str.Parse.{AllDigits}
+use Rattle.std.specs.Str.Parse.{AllDigits}
 use Rattle.std.proofs.lemmas.Fmt.{decimal_injective, decimal_is_IsNumeral}
-use Rattle.core.proofs.str.Digits.{digit_from_value}
-use Rattle.std.proofs.lemmas.List.{get_or_push, get_or_append_left, length_push}
-use Rattle.std.proofs.lemmas.List.Elements.{All-from_get_or}
+use Rattle.std.proofs.lemmas.Str.Parse.{digit_from_value}
 use Rattle.firefly_outside.specs.Trees.{IsName, AreEntries, slash}
 use Rattle.firefly_outside.specs.declared.tree.Entry.{Entry}
 
@@ -19,7 +17,7 @@ AreNumbered es = (k : ℕ) (d : Entry) → k < length es → (slice_index_or es 
 
 no_slash : (ds : List ℕ) → AllDigits 10 ds → All (λ b. b ≢ slash) ds
 no_slash [] d k e within = absurd (omega arith)
-no_slash (c ∷ cs) d zero e within same = omega (arith, digit_from_value c d.0)
+no_slash (c ∷ cs) d zero e within = λ same. omega (arith, digit_from_value c d.0, same)
 no_slash (c ∷ cs) d (suc k) e within = no_slash cs d.1 k e (omega arith)
 
 lawful_name : (k : ℕ) → k < 2 ^ 64 → IsName (name_of k)
@@ -29,7 +27,7 @@ lawful_name k small = record {
 }
   where
     plain : All (λ b. b ≢ slash) (name_of k)
-    plain zero e within same = omega arith
+    plain zero e within = λ same. omega (arith, same)
     plain (suc i) e within = no_slash (decimal k) (decimal_is_IsNumeral k small).0.1 i e (omega arith)
 
 tail_of : {x y : ℕ} {xs ys : List ℕ} → x ∷ xs ≡ y ∷ ys → xs ≡ ys
@@ -42,12 +40,3 @@ numbered_entries es small named = record {
       let alike : decimal i ≡ decimal j = tail_of (sym (named i d (omega arith)) ∙ same ∙ named j d within) in
       omega (arith, decimal_injective i j (omega arith) (omega arith) alike);
 }
-
-pub one_more : (es : List Entry) (e : Entry) → AreNumbered es → e.name ≡ name_of (length es) → AreNumbered (es ++ e ∷ [])
-one_more es e named is k d within = elim (before_or_last k (length es) (rw length_push es e within)) [
-  | inl early ↦ ap (λ (x : Entry). x.name) (get_or_append_left es (e ∷ []) d k early) ∙ named k d early
-  | inr last ↦ ap (λ (x : Entry). x.name) (get_or_push es e d k (sym last)) ∙ is ∙ ap name_of (sym last)
-]
-  where
-    before_or_last : (k n : ℕ) → k < n + 1 → (k < n) ⊎ (k ≡ n)
-    before_or_last k n h = omega arith

@@ -55,7 +55,7 @@ impl Tree for Crowd {
     }
 
     fn read(&mut self, alloc: Global, path: &str) -> Result<FileBytes, TreeError> {
-        let _ = (alloc, path);
+        let _ = path;
         self.faults = self.faults.saturating_add(1);
         Err(TreeError::Failed)
     }

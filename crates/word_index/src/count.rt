@@ -50,12 +50,17 @@ fn add<'a>(counts: &mut Counts<'a>, word: &'a [u8], line: u32) -> Result<(), All
     Ok(())
 }
 
+// Room for the words of a file of so many bytes, to begin with. A map that grows puts all its words to new places.
+fn first_room(bytes: usize) -> usize {
+    (bytes / 8).min(256)
+}
+
 /// Counts the words of a file in lower case.
 pub fn count_words<'a>(alloc: Global, low: &'a [u8]) -> Result<Counts<'a>, AllocError>
     requires { length low.now + 1 < 2 ^ 32 }
     ensures { IfOk result (λ counts. (w : List ℕ) → seen_at counts w ≡ seen_in w (short_runs low.now)) }
 {
-    let mut counts = IndexMap::new(alloc);
+    let mut counts = IndexMap::with_capacity(alloc, first_room(low.len()))?;
     let mut at = 0;
     let mut line = 1;
     while let Some(run) = next_run(low, at, line) {

@@ -1,5 +1,5 @@
-use Rattle.std.proofs.Common.{rules}
-use Rattle.firefly_tests.proofs.Crowds.{numbered_entries, one_more}
+use Rattle.std.proofs.Common.{rules, arith}
+use Rattle.firefly_tests.proofs.Crowds.{numbered_entries}
 use Rattle.firefly_tests.proofs.crowd.entries_of.Goals as goal
 
 pub loop-number-preserved : goal.loop-number-preserved
