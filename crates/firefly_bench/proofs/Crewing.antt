@@ -1,5 +1,5 @@
 -- What holds of each thread, as it goes into a crew and as it comes back.
-use Rattle.std.proofs.Common.{◌≡◌, ℕ, ◌+◌, ◌*◌, List, [], ◌∷◌, length, map, Option, zero, suc, Some, arith, ap, sym, ◌∙◌, refl}
+use Rattle.std.proofs.Common.{◌≡◌, ◌<◌, slice_index_or, ℕ, ◌+◌, ◌*◌, List, [], ◌∷◌, length, map, Option, zero, suc, Some, arith, ap, sym, subst, ◌∙◌, refl}
 use mathlib.Core.Option.{some, some-injective, some-ne-none}
 use lib.ListN.{get_elem?}
 use Rattle.std.specs.List.{AllZip, AllByRecursion}
@@ -28,19 +28,12 @@ each_one P Q f [] h = tt
 each_one P Q f (x ∷ xs) h = (f 0 x (h 0 x refl), each_one (λ n. P (suc n)) Q (λ n. f (suc n)) xs (λ n. h (suc n)))
 
 -- what each of the threads left is true of it and its place
-pub each_left : {A B C : Type 0} (P : ℕ → A → Type 0) (Q : ℕ → B → Type 0) (g : C → B) (xs : List A) (cs : List C) → Each P xs → AllZip (λ x c. (n : ℕ) → P n x → Q n (g c)) xs cs → Each Q (map g cs)
-each_left P Q g [] [] h k n y e = absurd (some-ne-none y (sym e))
-each_left P Q g [] (c ∷ cs) h k n y e = absurd k
-each_left P Q g (x ∷ xs) [] h k n y e = absurd k
-each_left P Q g (x ∷ xs) (c ∷ cs) h k zero y e = let s : g c ≡ y = some-injective (g c) y e in rw (sym s) (k.0 0 (h 0 x refl))
-each_left P Q g (x ∷ xs) (c ∷ cs) h k (suc n) y e = each_left (λ n. P (suc n)) (λ n. Q (suc n)) g xs cs (λ n. h (suc n)) (let r = k.1 in more P Q g xs cs r) n y e
-
--- with each place one further
-more : {A B C : Type 0} (P : ℕ → A → Type 0) (Q : ℕ → B → Type 0) (g : C → B) (xs : List A) (cs : List C) → AllZip (λ x c. (n : ℕ) → P n x → Q n (g c)) xs cs → AllZip (λ x c. (n : ℕ) → P (suc n) x → Q (suc n) (g c)) xs cs
-more P Q g [] [] k = tt
-more P Q g [] (c ∷ cs) k = absurd k
-more P Q g (x ∷ xs) [] k = absurd k
-more P Q g (x ∷ xs) (c ∷ cs) k = (λ n. k.0 (suc n), more P Q g xs cs k.1)
+pub each_left : {A B C : Type 0} (P : ℕ → A → Type 0) (Q : ℕ → B → Type 0) (R : A → C → Type 0) (g : C → B) → ((x : A) (c : C) → R x c → (n : ℕ) → P n x → Q n (g c)) → (xs : List A) (cs : List C) → Each P xs → AllZip R xs cs → Each Q (map g cs)
+each_left P Q R g f [] [] h k n y e = absurd (some-ne-none y (sym e))
+each_left P Q R g f [] (c ∷ cs) h k n y e = absurd k
+each_left P Q R g f (x ∷ xs) [] h k n y e = absurd k
+each_left P Q R g f (x ∷ xs) (c ∷ cs) h k zero y e = subst (Q 0) (some-injective (g c) y e) (f x c k.0 0 (h 0 x refl))
+each_left P Q R g f (x ∷ xs) (c ∷ cs) h k (suc n) y e = each_left (λ n. P (suc n)) (λ n. Q (suc n)) R g (λ x c r n. f x c r (suc n)) xs cs (λ n. h (suc n)) k.1 n y e
 
 pub left_length : {A B C : Type 0} (R : A → C → Type 0) (g : C → B) (xs : List A) (cs : List C) → AllZip R xs cs → length (map g cs) ≡ length xs
 left_length R g [] [] h = refl
@@ -48,13 +41,13 @@ left_length R g [] (c ∷ cs) h = absurd h
 left_length R g (x ∷ xs) [] h = absurd h
 left_length R g (x ∷ xs) (c ∷ cs) h = let e = left_length R g xs cs h.1 in omega arith
 
-rest_of : {A : Type 0} → List A → List A
+abbrev rest_of : {A : Type 0} → List A → List A
 rest_of [] = []
 rest_of (x ∷ xs) = xs
 
 -- the sum of shares each of which has added this much
 pub same_total : {A : Type 0} (share : A → Option (List Added)) (amount : ℕ) (xs : List A) (shares : List (List Added)) → ((n : ℕ) (x : A) → get_elem? xs n ≡ some x → (s : List Added) × (share x ≡ Some s) × (added 0 s ≡ amount)) → map share xs ≡ map (λ s. Some s) shares → total 0 shares ≡ length xs * amount
-same_total share amount [] [] h e = refl
+same_total share amount [] [] h e = omega arith
 same_total share amount [] (s ∷ ss) h e = let n : 0 ≡ suc (length (map (λ s. Some s) ss)) = ap length e in absurd (omega arith)
 same_total share amount (x ∷ xs) [] h e = let n : suc (length (map share xs)) ≡ 0 = ap length e in absurd (omega arith)
 same_total share amount (x ∷ xs) (s ∷ ss) h e =
@@ -64,3 +57,7 @@ same_total share amount (x ∷ xs) (s ∷ ss) h e =
     let here : added 0 s ≡ amount = ap (added 0) (sym same) ∙ own.2 in
     let rest : total 0 ss ≡ length xs * amount = same_total share amount xs ss (λ n. h (suc n)) (ap rest_of e) in
     omega arith
+
+pub first_at : (xs : List ℕ) → 0 < length xs → get_elem? xs 0 ≡ some (slice_index_or xs 0 0)
+first_at [] h = absurd (omega arith)
+first_at (x ∷ xs) h = refl

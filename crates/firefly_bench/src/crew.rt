@@ -38,9 +38,9 @@ fn parted(alloc: Global, left: Vec<Left>) -> Result<(Vec<Thread<SumUses>>, u64),
 {
     let mut threads = Vec::new(alloc);
     let mut sum = 0u64;
-    for Left { me, number } in left {
-        threads.push(me)?;
-        sum = sum.wrapping_add(number);
+    for one in left {
+        sum = sum.wrapping_add(one.number);
+        threads.push(one.me)?;
     }
     Ok((threads, sum))
 }
@@ -60,5 +60,6 @@ pub fn at_once<R: Threads + Wait, F: Fn(Thread<SumUses>) -> Left + Sync>(
     let Ok(finished) = run_crew(rt, alloc, jobs, count, |_refused: bool| ()) else {
         return Err(AllocError);
     };
-    parted(alloc, finished.results)
+    let (threads, sum) = parted(alloc, finished.results)?;
+    Ok((threads, sum))
 }

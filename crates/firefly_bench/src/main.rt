@@ -39,7 +39,10 @@ fn run<R: Threads + Wait + Sync + Print>(rt: &R, alloc: Global, words: &[&str]) 
             outside,
         } => {
             let sums = add_at_once(rt, alloc, threads, times, outside)?;
-            println!(rt; "contended {} {times} sum {} own {}", threads.number, sums.value, sums.own)?;
+            println!(rt;
+                "contended {} {times} sum {} own {}",
+                threads.number, sums.value, sums.own
+            )?;
         }
         Workload::Semaphore { times } => {
             let sum = turn_at_once(rt, alloc, 1, times)?;

@@ -62,8 +62,13 @@ pub fn turn_at_once<R: Threads + Wait + Sync>(
         conditions: 0,
         semaphores: count,
     };
-    let (shared, mut threads) =
-        open_package::<SumUses>(alloc, layout, &(), Vec::new(alloc), false)?;
+    let (shared, mut threads) = open_package::<SumUses>(
+        alloc,
+        layout,
+        &(),
+        Vec::new(alloc),
+        false,
+    )?;
     first_to_begin(rt, &shared, &mut threads);
     let (threads, sum) = at_once(
         rt,

@@ -11,7 +11,9 @@ pub struct Count {
 /// What is run, and how often.
 pub enum Workload {
     /// One thread acquires, adds 1 and releases.
-    Uncontended { times: u32 },
+    Uncontended {
+        times: u32,
+    },
     /// Threads at once do the same, each with so many turns on a number of its own after each release.
     Contended {
         threads: Count,
@@ -19,9 +21,13 @@ pub enum Workload {
         outside: u32,
     },
     /// One thread makes P, adds 1 and makes V.
-    Semaphore { times: u32 },
+    Semaphore {
+        times: u32,
+    },
     /// Two threads in turns: each makes P of its own semaphore, adds 1 and makes V of the other's.
-    SemPingpong { times: u32 },
+    SemPingpong {
+        times: u32,
+    },
 }
 
 impl Count {

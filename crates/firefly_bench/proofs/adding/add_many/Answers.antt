@@ -46,8 +46,11 @@ pub loop-i-init : goal.loop-i-init
 loop-i-init g c = let f = c.requires.first.1 in record { rest = f.rest; number = refl; world = refl; held = refl; share = ([], f.share, refl) }
 
 pub returns : goal.returns
-returns g c = λ n first. record { share = c.loop-i.invariant.share; done = record {
-  number = c.loop-i.invariant.number ∙ first.number;
-  rest = c.loop-i.invariant.rest;
-  lacks = λ m x h. first.none m x (ap (λ hs. get_elem? hs m) (sym c.loop-i.invariant.held) ∙ h);
-} }
+returns g c = λ n first. record {
+  share = (let own = c.loop-i.invariant.share in let sum = own.2 in let over = c.loop-i-test.false in (own.0, own.1, omega arith));
+  done = record {
+    number = c.loop-i.invariant.number ∙ first.number;
+    rest = c.loop-i.invariant.rest;
+    lacks = λ m x h. first.none m x (ap (λ hs. get_elem? hs m) (sym c.loop-i.invariant.held) ∙ h);
+  };
+}
