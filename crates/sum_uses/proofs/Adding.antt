@@ -45,10 +45,13 @@ sums_begin values n none few = record {
   sums = λ m x e. none m x e ∙ sym (none-total m (range_with_len 0 n));
 }
 
+pub one_zero : (m x : ℕ) → get_elem? (0 ∷ []) m ≡ some x → x ≡ 0
+one_zero zero x e = sym (some-injective 0 x e)
+one_zero (suc m) x e = absurd (some-ne-none x (sym e))
+
 pub two_zeros : (m x : ℕ) → get_elem? (0 ∷ 0 ∷ []) m ≡ some x → x ≡ 0
 two_zeros zero x e = sym (some-injective 0 x e)
-two_zeros (suc zero) x e = sym (some-injective 0 x e)
-two_zeros (suc (suc m)) x e = absurd (some-ne-none x (sym e))
+two_zeros (suc m) x e = one_zero m x e
 
 pub from_at : {A : Type 0} (xs : List A) (n : ℕ) (t : A) → get_elem? xs n ≡ some t → (n < length xs) × (t ≡ get_or xs n t)
 from_at [] n t e = absurd (some-ne-none t (sym e))

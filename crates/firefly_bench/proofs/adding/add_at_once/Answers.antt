@@ -1,7 +1,7 @@
 use Rattle.std.proofs.Common.{◌≡◌, ◌*◌, ◌<◌, [], length, ap, sym, ◌∙◌, arith, rules, slice_index_or}
 use lib.ListN.{get_elem?}
 use Rattle.nub.specs.Ended.{IsFirst}
-use Rattle.user_mutex.proofs.Adding.{sums_begin, one_zero}
+use Rattle.sum_uses.proofs.Adding.{sums_begin, one_zero}
 use Rattle.firefly_bench.specs.Workloads.{HasAdded}
 use Rattle.firefly_bench.proofs.Crewing.{each_one, each_left, left_length, same_total, first_at}
 use Rattle.firefly_bench.proofs.adding.add_at_once.Goals as goal

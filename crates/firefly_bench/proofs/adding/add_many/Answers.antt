@@ -1,8 +1,8 @@
 use Rattle.std.proofs.Common.{lit<, refl, [], ◌≡◌, slice_set, ◌≤◌, ◌-◌, ◌+◌, ℕ, List, Some, None, rules, arith, ap, sym, subst, ◌∙◌}
 use lib.ListN.{get_elem?}
 use Rattle.sum_uses.specs.declared.added.Added.{Added}
-use Rattle.sum_uses.specs.Sums.{added}
-use Rattle.user_mutex.proofs.Adding.{add_to, adding_grows, added_own}
+use Rattle.sum_uses.specs.Sums.{added, grown}
+use Rattle.sum_uses.proofs.Adding.{adding_grows, added_own}
 use Rattle.std.proofs.lemmas.Option.{same_Some}
 use Rattle.atomic_table.proofs.Lists.{set_again}
 use Rattle.firefly_bench.proofs.adding.add_many.Goals as goal
@@ -39,7 +39,7 @@ loop-i-preserved g c =
       number = search rules;
       world = search rules;
       held = c.locked.ensures.held ∙ (ap (λ h. slice_set h 0 None) c.loop-i.invariant.held ∙ set_again c.args.me.held 0 None (c.requires.first.1.lacks 0 (lit< tt)));
-      share = (add_to 0 x y s, after, omega arith);
+      share = (grown 0 x y s, after, omega arith);
     }
 
 pub loop-i-init : goal.loop-i-init

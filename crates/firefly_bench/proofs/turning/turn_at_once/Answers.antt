@@ -2,7 +2,7 @@ use Rattle.std.proofs.Common.{◌≡◌, ◌<◌, length, ap, sym, ◌∙◌, ar
 use mathlib.Core.Option.{some-ne-none}
 use lib.ListN.{get_elem?}
 use Rattle.nub.specs.Ended.{IsDone}
-use Rattle.user_mutex.proofs.Adding.{sums_begin, from_at}
+use Rattle.sum_uses.proofs.Adding.{sums_begin, from_at}
 use Rattle.firefly_bench.proofs.Crewing.{each_one, each_left, left_length}
 use Rattle.firefly_bench.proofs.turning.turn_at_once.Goals as goal
 
