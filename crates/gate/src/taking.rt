@@ -13,9 +13,9 @@ use nub::{begin_event, end_event, enter, leave, push, remove, sleep};
 use nub_rule::{Object, Package, Thread, Uses, Why, peek_bit, test_again, try_bit, try_p};
 use std::sync::Wait;
 
-// How often a thread looks at a bit before it goes on. So many looks only spin: where that isn't enough it sleeps, and leaves its
-// processor to whoever needs it.
-const LOOKS: u32 = 7;
+// How often a thread looks at a bit before it goes on, each time after twice as many pauses. That is about the time that sleeping and
+// waking take: who waits longer sleeps, and leaves the processor to others.
+const LOOKS: u32 = 5;
 
 /// Makes the event by taking the bit, after any number of sleeps.
 #[inline(always)]
@@ -55,6 +55,9 @@ pub fn try_take<U: Uses, R: Wait>(
     ensures taken { result ≡ true → IsTaken U.fits at me.old me.new }
     ensures stored { HasStored p.now.traced me.old → HasStored p.now.traced me.new }
 {
+    if !p.traced() {
+        return try_gate(p, me, at, e) == 0;
+    }
     begin_event(rt, p, me);
     if try_gate(p, me, at, e) == 0 {
         end_event(p, me, Some(e));

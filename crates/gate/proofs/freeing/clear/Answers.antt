@@ -8,5 +8,5 @@ use Rattle.gate.proofs.freeing.clear.Goals as goal
 pub returns-clause-stored : goal.returns-clause-stored
 returns-clause-stored g c =
     let same = ap (clears c.args.at) (ap (λ k. k.number) c.begin_event.ensures.pen) ∙ sym c.requires.event in
-    let makes = subst (λ (x : Event). Makes x c.begin_event.new.me c.clear_gate.new.me) same c.clear_gate.ensures.event in
-    stored_by c.args.p.now.traced c.args.me.now c.begin_event.new.me c.clear_gate.new.me c.end_event.new.me c.args.e c.begin_event.ensures.pen c.begin_event.ensures.traced c.begin_event.ensures.number makes (ap (λ k. k.next) c.clear_gate.ensures.rest) (ap (λ k. k.entries) c.clear_gate.ensures.rest) (ap (λ k. k.lost) c.clear_gate.ensures.rest) c.end_event.ensures.rest c.end_event.ensures.stored
+    let makes = subst (λ (x : Event). Makes x c.begin_event.new.me c.clear_gate-2.new.me) same c.clear_gate-2.ensures.event in
+    stored_by c.args.p.now.traced c.args.me.now c.begin_event.new.me c.clear_gate-2.new.me c.end_event.new.me c.args.e c.begin_event.ensures.pen c.begin_event.ensures.traced c.begin_event.ensures.number makes (ap (λ k. k.next) c.clear_gate-2.ensures.rest) (ap (λ k. k.entries) c.clear_gate-2.ensures.rest) (ap (λ k. k.lost) c.clear_gate-2.ensures.rest) c.end_event.ensures.rest c.end_event.ensures.stored
