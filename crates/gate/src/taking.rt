@@ -13,9 +13,8 @@ use nub::{begin_event, end_event, enter, leave, push, remove, sleep};
 use nub_rule::{Object, Package, Thread, Uses, Why, peek_bit, test_again, try_bit, try_p};
 use std::sync::Wait;
 
-// How often a thread looks at a bit before it goes on, each time after twice as many pauses. That is about the time that sleeping and
-// waking take: who waits longer sleeps, and leaves the processor to others.
-const LOOKS: u32 = 5;
+// How often a thread looks at a bit before it goes on: first it only pauses between two looks, then it yields its processor.
+const LOOKS: u32 = 16;
 
 /// Makes the event by taking the bit, after any number of sleeps.
 #[inline(always)]
@@ -118,7 +117,7 @@ fn look_briefly<U: Uses>(p: &Package<U>, at: Object)
 {
     let backoff = Backoff::new();
     for _ in 0..LOOKS {
-        if peek_bit(p, at) == 0 {
+        if peek_bit(p, at) == 0 || backoff.is_completed() {
             return;
         }
         backoff.snooze();
