@@ -58,6 +58,10 @@ fn clear<U: Uses, C: Change<U>, R: Wait>(
     ensures freed { IsFreed C.after at me.old me.new }
     ensures stored { HasStored p.now.traced me.old → HasStored p.now.traced me.new }
 {
+    if !p.traced() {
+        clear_gate::<U, C>(p, me, at);
+        return;
+    }
     begin_event(rt, p, me);
     clear_gate::<U, C>(p, me, at);
     end_event(p, me, e);

@@ -13,11 +13,11 @@ use nub::{begin_event, end_event, enter, leave, push, remove, sleep};
 use nub_rule::{Object, Package, Thread, Uses, Why, peek_bit, test_again, try_bit, try_p};
 use std::sync::Wait;
 
-// How often a thread looks at a bit before it goes on.
+// How often a thread looks at a bit before it goes on: first it only pauses between two looks, then it yields its processor.
 const LOOKS: u32 = 16;
 
 /// Makes the event by taking the bit, after any number of sleeps.
-#[inline]
+#[inline(always)]
 pub fn take<U: Uses, R: Wait>(rt: &R, p: &Package<U>, me: &mut Thread<U>, at: Object, e: Event)
     requires of { me.old.table_id ≡ p.now.table_id }
     requires named { HasObject p.now.layout at }
@@ -36,7 +36,7 @@ pub fn take<U: Uses, R: Wait>(rt: &R, p: &Package<U>, me: &mut Thread<U>, at: Ob
 }
 
 /// Tries the bit once. It answers whether it took the bit, and so made the event.
-#[inline]
+#[inline(always)]
 pub fn try_take<U: Uses, R: Wait>(
     rt: &R,
     p: &Package<U>,
@@ -54,6 +54,9 @@ pub fn try_take<U: Uses, R: Wait>(
     ensures taken { result ≡ true → IsTaken U.fits at me.old me.new }
     ensures stored { HasStored p.now.traced me.old → HasStored p.now.traced me.new }
 {
+    if !p.traced() {
+        return try_gate(p, me, at, e) == 0;
+    }
     begin_event(rt, p, me);
     if try_gate(p, me, at, e) == 0 {
         end_event(p, me, Some(e));
@@ -64,7 +67,7 @@ pub fn try_take<U: Uses, R: Wait>(
     }
 }
 
-#[inline]
+#[inline(always)]
 fn try_gate<U: Uses>(p: &Package<U>, me: &mut Thread<U>, at: Object, e: Event) -> u64
     requires of { me.old.table_id ≡ p.now.table_id }
     requires named { HasObject p.now.layout at }
@@ -82,9 +85,8 @@ fn try_gate<U: Uses>(p: &Package<U>, me: &mut Thread<U>, at: Object, e: Event) -
     }
 }
 
-/// The way through the Nub, after a failed try.
-#[cold]
-#[inline(never)]
+/// The way through the Nub, after a failed try. What it calls is out of line, and the event isn't handed to it in memory.
+#[inline(always)]
 fn take_slowly<U: Uses, R: Wait>(rt: &R, p: &Package<U>, me: &mut Thread<U>, at: Object, e: Event)
     requires of { me.old.table_id ≡ p.now.table_id }
     requires named { HasObject p.now.layout at }
@@ -108,6 +110,8 @@ fn take_slowly<U: Uses, R: Wait>(rt: &R, p: &Package<U>, me: &mut Thread<U>, at:
 }
 
 /// Waits a short while for the bit to be clear. It is no step, and tells nothing.
+#[cold]
+#[inline(never)]
 fn look_briefly<U: Uses>(p: &Package<U>, at: Object)
     requires { HasObject p.now.layout at }
 {
@@ -121,6 +125,8 @@ fn look_briefly<U: Uses>(p: &Package<U>, at: Object)
 }
 
 /// Queues the thread, tests the bit again, and sleeps if it is still set.
+#[cold]
+#[inline(never)]
 fn stand_in_line<U: Uses, R: Wait>(rt: &R, p: &Package<U>, me: &mut Thread<U>, at: Object)
     requires of { me.old.table_id ≡ p.now.table_id }
     requires named { HasObject p.now.layout at }

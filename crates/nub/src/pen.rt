@@ -42,6 +42,8 @@ pub fn end_event<U: Uses>(p: &Package<U>, me: &mut Thread<U>, made: Option<Event
     }
 }
 
+#[cold]
+#[inline(never)]
 fn begin_traced<U: Uses, R: Wait>(rt: &R, p: &Package<U>, me: &mut Thread<U>)
     requires of { me.old.table_id ≡ p.now.table_id }
     requires traced { p.now.traced ≡ true }

@@ -26,5 +26,8 @@ pub fn put_into<T: Drop>(slot: &mut Slot<T>, x: T)
     requires { slot.old ≡ Value None }
     ensures { slot.new ≡ Value (Some x) }
 {
-    *slot = Slot::Value(Some(x));
+    let Slot::Value(value) = slot else {
+        unreachable!()
+    };
+    *value = Some(x);
 }

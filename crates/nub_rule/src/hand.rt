@@ -83,6 +83,7 @@ impl Hand {
 
     /// The first slot goes behind the others.
     #[cold]
+    #[inline(never)]
     pub fn turn(&mut self)
         requires { length self.old ≤ 256 }
         ensures { self.new ≡ turned_hand self.old }

@@ -61,6 +61,7 @@ pub fn next_number<U: Uses>(me: &Thread<U>) -> u64
 }
 
 /// Stores an event under the number that was read last, or marks the list lost where there is no memory for it. It is no step.
+#[inline]
 pub fn store_event<U: Uses>(me: &mut Thread<U>, e: Event)
     ensures kept { me.new ≡ record me.old { entries = me.new.entries; lost = me.new.lost } }
     ensures stored { me.new.lost ≡ false → (me.old.lost ≡ false) × (me.new.entries ≡ me.old.entries ++ record { number = me.old.next; event = e } ∷ []) }

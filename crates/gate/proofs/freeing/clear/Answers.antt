@@ -9,5 +9,5 @@ pub returns-clause-stored : goal.returns-clause-stored
 returns-clause-stored g c =
     let e = clears c.args.at c.args.me.now.number in
     let same = ap (clears c.args.at) (ap (λ k. k.number) c.begin_event.ensures.pen) in
-    let makes = subst (λ (x : Event). Makes x c.begin_event.new.me c.clear_gate.new.me) same c.clear_gate.ensures.event in
-    stored_by c.args.p.now.traced c.args.me.now c.begin_event.new.me c.clear_gate.new.me c.end_event.new.me e c.begin_event.ensures.pen c.begin_event.ensures.traced c.begin_event.ensures.number makes (ap (λ k. k.next) c.clear_gate.ensures.rest) (ap (λ k. k.entries) c.clear_gate.ensures.rest) (ap (λ k. k.lost) c.clear_gate.ensures.rest) c.end_event.ensures.rest (λ x is. c.end_event.ensures.stored x (c.requires.event ∙ is))
+    let makes = subst (λ (x : Event). Makes x c.begin_event.new.me c.clear_gate-2.new.me) same c.clear_gate-2.ensures.event in
+    stored_by c.args.p.now.traced c.args.me.now c.begin_event.new.me c.clear_gate-2.new.me c.end_event.new.me e c.begin_event.ensures.pen c.begin_event.ensures.traced c.begin_event.ensures.number makes (ap (λ k. k.next) c.clear_gate-2.ensures.rest) (ap (λ k. k.entries) c.clear_gate-2.ensures.rest) (ap (λ k. k.lost) c.clear_gate-2.ensures.rest) c.end_event.ensures.rest (λ x is. c.end_event.ensures.stored x (c.requires.event ∙ is))
