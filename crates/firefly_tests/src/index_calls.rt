@@ -46,7 +46,11 @@ fn any_other_word_is_a_directory(rt: HostRuntime) -> Result<(), Fail> {
         let mut input = MemSource::new(Vec::new(rt.alloc()));
         let found = run_on(&rt, rt.alloc(), &["index", name], &tree, &mut input, 1000)?;
         assert_eq!(rt; found.status, Status::Done, "{name}");
-        assert_eq!(rt; found.out.as_slice(), b"word 1\n  1 1 a\n".as_slice(), "{name}");
+        assert_eq!(rt;
+            found.out.as_slice(),
+            b"word 1\n  1 1 a\n".as_slice(),
+            "{name}"
+        );
     }
     Ok(())
 }

@@ -76,7 +76,7 @@ module _ (first old : Walk) (start before : Calls) (dir : Path) (sound : IsSound
     ];
     stays = λ p h. noted_listed old new dir l n p (m.stays p h);
     only = λ p h. elim (noted_from old new dir l n p h) [
-      | inl was ↦ elim (m.only p was) [ | inl early ↦ inl early | inr among ↦ inr (Contains-append_left m.dirs (dir ∷ []) p among) ]
+      | inl was ↦ elim (m.only p was) [ inl early ↦ inl early | inr among ↦ inr (Contains-append_left m.dirs (dir ∷ []) p among) ]
       | inr is ↦ inr (subst (λ (q : Path). Contains (m.dirs ++ dir ∷ []) q) (sym is) (Contains-push m.dirs dir))
     ];
   }
