@@ -200,10 +200,11 @@ fn a_failed_read_of_a_script_is_reported(rt: HostRuntime) -> Result<(), Fail> {
 fn a_full_sink_holds_the_front_of_the_trace(rt: HostRuntime) -> Result<(), Fail> {
     let alloc = rt.alloc();
     let whole = four_events().as_bytes();
-    for room in [0usize, 1, 16, 100, whole.len() - 1] {
+    for room in [0, 1, 16, 100, whole.len().saturating_sub(1)] {
         let found = run(&rt, alloc, five_lines(), room)?;
         assert_eq!(rt; found.status, Status::SinkFault);
-        assert_eq!(rt; found.out.as_slice(), &whole[..room]);
+        assert_eq!(rt; found.out.len(), room);
+        assert!(rt; whole.starts_with(found.out.as_slice()));
         assert_eq!(rt;
             found.notes.as_slice(),
             "firefly: output could not be written\n".as_bytes()
