@@ -30,9 +30,30 @@ pub fn take<U: Uses, R: Wait>(rt: &R, p: &Package<U>, me: &mut Thread<U>, at: Ob
     ensures taken { IsTaken U.fits at me.old me.new }
     ensures stored { HasStored p.now.traced me.old → HasStored p.now.traced me.new }
 {
-    if !try_take(rt, p, me, at, e) {
+    if !try_untraced(p, me, at, e) {
         take_slowly(rt, p, me, at, e);
     }
+}
+
+/// In an untraced package tries the bit once, and answers whether it took the bit, and so made the event. It calls nothing that may
+/// wait. In a traced package, where a try needs the pen, it answers false.
+#[inline(always)]
+fn try_untraced<U: Uses>(p: &Package<U>, me: &mut Thread<U>, at: Object, e: Event) -> bool
+    requires of { me.old.table_id ≡ p.now.table_id }
+    requires named { HasObject p.now.layout at }
+    requires outside { IsOutside me.old }
+    requires may { MayMake at me.old.number me.old.wait e }
+    ensures untraced { result ≡ true → p.now.traced ≡ false }
+    ensures lost { result ≡ false → me.new ≡ record me.old { failed = me.new.failed; turns = me.new.turns } }
+    ensures turns { result ≡ false → without (object_of at) me.new.turns ≡ without (object_of at) me.old.turns }
+    ensures event { result ≡ true → Makes e me.old me.new }
+    ensures won { result ≡ true → me.new ≡ record me.old { seen = me.new.seen; mine = me.new.mine; places = me.new.places; held = me.new.held; wait = None; failed = without (object_of at) me.old.failed; turns = without (object_of at) me.old.turns; values = me.new.values } }
+    ensures taken { result ≡ true → IsTaken U.fits at me.old me.new }
+{
+    if p.traced() {
+        return false;
+    }
+    try_gate(p, me, at, e) == 0
 }
 
 /// Tries the bit once. It answers whether it took the bit, and so made the event.
