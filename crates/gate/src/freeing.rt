@@ -7,7 +7,7 @@ ghost use Rattle.nub_rule.specs.Objects.{object_of, HasObject};
 ghost use Rattle.nub_rule.specs.Parts.{MayTell, made};
 ghost use Rattle.nub.specs.Rest.{HasStored, IsOutside};
 
-use larch_actions::Event;
+use larch_actions::{Action, Event, ThreadId};
 use nub::{begin_event, end_event, enter, leave, pop, wake};
 use nub_rule::{Change, Object, Package, Thread, Uses, Why, clear_bit, clear_sem, read_length};
 use std::sync::Wait;
@@ -32,39 +32,57 @@ pub fn free<U: Uses, C: Change<U>, R: Wait>(
     ensures freed { IsFreed C.after at me.old me.new }
     ensures stored { HasStored p.now.traced me.old → HasStored p.now.traced me.new }
 {
-    clear::<U, C, R>(rt, p, me, at, e);
+    let _event = e;
+    if p.traced() {
+        clear_traced::<U, C, R>(rt, p, me, at);
+    } else {
+        clear_gate::<U, C>(p, me, at);
+    }
     if read_length(p, me, at) != 0 {
         wake_one(rt, p, me, at);
     }
 }
 
-/// Makes the event by clearing the bit.
-#[inline]
-fn clear<U: Uses, C: Change<U>, R: Wait>(
+/// Makes the event by clearing the bit, with the pen. It makes the event anew, so that nobody hands it over in memory.
+#[cold]
+#[inline(never)]
+fn clear_traced<U: Uses, C: Change<U>, R: Wait>(
     rt: &R,
     p: &Package<U>,
     me: &mut Thread<U>,
     at: Object,
-    e: Option<Event>,
 )
     requires of { me.old.table_id ≡ p.now.table_id }
     requires named { HasObject p.now.layout at }
     requires outside { IsOutside me.old }
     requires no_wait { me.old.wait ≡ None }
-    requires event { e ≡ Some (clears at me.old.number) }
     requires may { MayFree U.allows C.after at me.old }
     ensures event { Makes (clears at me.old.number) me.old me.new }
     ensures rest { me.new ≡ record me.old { seen = me.new.seen; mine = me.new.mine; places = me.new.places; held = me.new.held; share = me.new.share; cleared = object_of at ∷ me.old.cleared; values = me.new.values; entries = me.new.entries; lost = me.new.lost; next = me.new.next } }
     ensures freed { IsFreed C.after at me.old me.new }
     ensures stored { HasStored p.now.traced me.old → HasStored p.now.traced me.new }
 {
-    if !p.traced() {
-        clear_gate::<U, C>(p, me, at);
-        return;
-    }
+    let e = clearing(at, me.number());
     begin_event(rt, p, me);
     clear_gate::<U, C>(p, me, at);
-    end_event(p, me, e);
+    end_event(p, me, Some(e));
+}
+
+/// The event by which the thread of this number clears the bit.
+fn clearing(at: Object, number: u32) -> Event
+    ensures { result ≡ clears at number }
+{
+    let thread = ThreadId(number);
+    match at {
+        Object::Mutex(mutex) => Event {
+            thread,
+            action: Action::Release { mutex },
+        },
+        Object::Sem(sem) => Event {
+            thread,
+            action: Action::V { sem },
+        },
+    }
 }
 
 #[inline]

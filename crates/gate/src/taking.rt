@@ -7,14 +7,17 @@ ghost use Rattle.nub_rule.specs.Objects.{object_of, HasObject};
 ghost use Rattle.nub_rule.specs.Parts.{MayTell, made, HasTested};
 ghost use Rattle.nub.specs.Rest.{HasStored, IsOutside};
 
-use crossbeam_utils::Backoff;
 use larch_actions::Event;
 use nub::{begin_event, end_event, enter, leave, push, remove, sleep};
 use nub_rule::{Object, Package, Thread, Uses, Why, peek_bit, test_again, try_bit, try_p};
 use std::sync::Wait;
+use std::{hint, thread};
 
-// How often a thread looks at a bit before it goes on: first it only pauses between two looks, then it yields its processor.
-const LOOKS: u32 = 16;
+// How often a thread looks at a bit with a pause between two looks, which is a few times as long as a mutex is mostly held.
+const LOOKS: u32 = 100;
+
+// How often it yields its processor then, before it goes on.
+const YIELDS: u32 = 4;
 
 /// Makes the event by taking the bit, after any number of sleeps.
 #[inline(always)]
@@ -30,9 +33,30 @@ pub fn take<U: Uses, R: Wait>(rt: &R, p: &Package<U>, me: &mut Thread<U>, at: Ob
     ensures taken { IsTaken U.fits at me.old me.new }
     ensures stored { HasStored p.now.traced me.old → HasStored p.now.traced me.new }
 {
-    if !try_take(rt, p, me, at, e) {
+    if !try_untraced(p, me, at, e) {
         take_slowly(rt, p, me, at, e);
     }
+}
+
+/// In an untraced package tries the bit once, and answers whether it took the bit, and so made the event. It calls nothing that may
+/// wait. In a traced package, where a try needs the pen, it answers false.
+#[inline(always)]
+fn try_untraced<U: Uses>(p: &Package<U>, me: &mut Thread<U>, at: Object, e: Event) -> bool
+    requires of { me.old.table_id ≡ p.now.table_id }
+    requires named { HasObject p.now.layout at }
+    requires outside { IsOutside me.old }
+    requires may { MayMake at me.old.number me.old.wait e }
+    ensures untraced { result ≡ true → p.now.traced ≡ false }
+    ensures lost { result ≡ false → me.new ≡ record me.old { failed = me.new.failed; turns = me.new.turns } }
+    ensures turns { result ≡ false → without (object_of at) me.new.turns ≡ without (object_of at) me.old.turns }
+    ensures event { result ≡ true → Makes e me.old me.new }
+    ensures won { result ≡ true → me.new ≡ record me.old { seen = me.new.seen; mine = me.new.mine; places = me.new.places; held = me.new.held; wait = None; failed = without (object_of at) me.old.failed; turns = without (object_of at) me.old.turns; values = me.new.values } }
+    ensures taken { result ≡ true → IsTaken U.fits at me.old me.new }
+{
+    if p.traced() {
+        return false;
+    }
+    try_gate(p, me, at, e) == 0
 }
 
 /// Tries the bit once. It answers whether it took the bit, and so made the event.
@@ -115,12 +139,17 @@ fn take_slowly<U: Uses, R: Wait>(rt: &R, p: &Package<U>, me: &mut Thread<U>, at:
 fn look_briefly<U: Uses>(p: &Package<U>, at: Object)
     requires { HasObject p.now.layout at }
 {
-    let backoff = Backoff::new();
     for _ in 0..LOOKS {
-        if peek_bit(p, at) == 0 || backoff.is_completed() {
+        if peek_bit(p, at) == 0 {
             return;
         }
-        backoff.snooze();
+        hint::spin_loop();
+    }
+    for _ in 0..YIELDS {
+        if peek_bit(p, at) == 0 {
+            return;
+        }
+        thread::yield_now();
     }
 }
 
