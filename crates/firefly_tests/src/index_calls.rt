@@ -61,7 +61,14 @@ fn a_path_that_fails_is_named(rt: HostRuntime) -> Result<(), Fail> {
     for path in ["proj", "proj/doc", "proj/README", "proj/src/run.rs"] {
         let mut trees = copies_failing_at(rt.alloc(), &tree, path)?;
         let mut input = MemSource::new(Vec::new(rt.alloc()));
-        let found = answer_of(&rt, rt.alloc(), &["index", "proj"], &mut trees, &mut input, 1000)?;
+        let found = answer_of(
+            &rt,
+            rt.alloc(),
+            &["index", "proj"],
+            &mut trees,
+            &mut input,
+            1000,
+        )?;
         let message = format!(in rt.alloc(); "firefly: {path} could not be read\n")?;
         assert_eq!(rt; found.status, Status::ReadFault, "{path}");
         assert_eq!(rt; found.out.len(), 0, "{path}");
