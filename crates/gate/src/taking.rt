@@ -7,17 +7,14 @@ ghost use Rattle.nub_rule.specs.Objects.{object_of, HasObject};
 ghost use Rattle.nub_rule.specs.Parts.{MayTell, made, HasTested};
 ghost use Rattle.nub.specs.Rest.{HasStored, IsOutside};
 
+use crossbeam_utils::Backoff;
 use larch_actions::Event;
 use nub::{begin_event, end_event, enter, leave, push, remove, sleep};
 use nub_rule::{Object, Package, Thread, Uses, Why, peek_bit, test_again, try_bit, try_p};
 use std::sync::Wait;
-use std::{hint, thread};
 
-// How often a thread looks at a bit with a pause between two looks, which is a few times as long as a mutex is mostly held.
-const LOOKS: u32 = 100;
-
-// How often it yields its processor then, before it goes on.
-const YIELDS: u32 = 4;
+// How often a thread looks at a bit before it goes on: first it only pauses between two looks, then it yields its processor.
+const LOOKS: u32 = 16;
 
 /// Makes the event by taking the bit, after any number of sleeps.
 #[inline(always)]
@@ -139,17 +136,12 @@ fn take_slowly<U: Uses, R: Wait>(rt: &R, p: &Package<U>, me: &mut Thread<U>, at:
 fn look_briefly<U: Uses>(p: &Package<U>, at: Object)
     requires { HasObject p.now.layout at }
 {
+    let backoff = Backoff::new();
     for _ in 0..LOOKS {
-        if peek_bit(p, at) == 0 {
+        if peek_bit(p, at) == 0 || backoff.is_completed() {
             return;
         }
-        hint::spin_loop();
-    }
-    for _ in 0..YIELDS {
-        if peek_bit(p, at) == 0 {
-            return;
-        }
-        thread::yield_now();
+        backoff.snooze();
     }
 }
 
