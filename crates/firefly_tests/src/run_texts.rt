@@ -113,6 +113,15 @@ fn a_layout_alone_runs_without_events(rt: HostRuntime) -> Result<(), Fail> {
 }
 
 #[test]
+fn the_largest_layout_opens_and_closes(rt: HostRuntime) -> Result<(), Fail> {
+    let text = "threads 64 mutexes 64 conditions 64 semaphores 64\n";
+    let found = run(&rt, rt.alloc(), text, 4000)?;
+    is_accepted(&rt, rt.alloc(), &found, 0)?;
+    assert!(rt; ends_with(&found.out, "value m62 0\nvalue m63 0\n"));
+    Ok(())
+}
+
+#[test]
 fn the_calls_of_one_thread_are_printed_in_their_order(rt: HostRuntime) -> Result<(), Fail> {
     let found = run(&rt, rt.alloc(), five_lines(), 1000)?;
     assert_eq!(rt; found.status, Status::Done);
