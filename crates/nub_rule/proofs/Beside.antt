@@ -1,8 +1,6 @@
 -- A step that makes no event and changes no mutex's bit, value or share; and what never changes.
-use Rattle.std.proofs.Common.{Bool, ◌≡◌, ◌≢◌, ℕ, ◌<◌, ◌≤◌, List, ◌++◌, length, get_or, set, refl, sym, ap, ◌∙◌, subst, length-set, arith, get_or-set_same}
-use mathlib.Core.Logic.{dite}
+use Rattle.std.proofs.Common.{Bool, ◌≡◌, ℕ, List, ◌++◌, length, get_or, set, refl, sym, ap, subst}
 use mathlib.Core.Option.{Option, some}
-use native.Mathlib.Decide.{ℕ_discrete}
 use lib.ListN.{get_elem?}
 use lib.Seq.{set-get_or}
 use Rattle.atomic_table.proofs.Lists.{set_again}
@@ -11,8 +9,7 @@ use Rattle.nub_rule.specs.declared.rule.Slot.{Slot}
 use Rattle.nub_rule.specs.declared.view.Part.{Part}
 use Rattle.nub_rule.specs.Items.{Spins, Lines, Shows, Pens, Core}
 use Rattle.nub_rule.specs.Places.{value_at}
-use Rattle.nub_rule.proofs.Each.{at_within}
-use Rattle.nub_rule.proofs.Frames.{SameBits, SameSpins, SameReady, SameShown, SamePen, sizes-frame, told-frame, owned-frame, spins-frame, lines-frame, shows-frame, pens-frame}
+use Rattle.nub_rule.proofs.Frames.{SameBits, sizes-frame, told-frame, owned-frame, spins-frame, shows-frame, pens-frame}
 
 module _ {T H W : Type 0} (l : Layout) (traced : Bool) (w : W) (holds : W → List T → List H → Type 0) where
   -- the parts of p that the history, the mutexes and their values read are those of q

@@ -1,6 +1,5 @@
 -- The rule at the start, and what it leaves at the end.
-use Rattle.std.proofs.Common.{Bool, false, true, cond, Option as Opt, ◌≡◌, ◌⊎◌, ℕ, zero, suc, ◌+◌, ◌-◌, ◌*◌, ◌<◌, ◌≤◌, List, [], ◌∷◌, ◌++◌, map, length, get_or, replicate, refl, sym, ap, ◌∙◌, subst, subst₂, inl, inr, arith, length-append, Some, None, zero-add, ⊎_elim}
-use Rattle.std.specs.List.{range_with_len}
+use Rattle.std.proofs.Common.{Bool, false, true, Option as Opt, ◌≡◌, ℕ, zero, suc, ◌+◌, ◌-◌, ◌<◌, ◌≤◌, List, [], ◌∷◌, ◌++◌, map, length, get_or, replicate, refl, sym, ap, ◌∙◌, subst, subst₂, inl, arith, length-append, Some, None, zero-add, ⊎_elim}
 use Rattle.std.proofs.lemmas.List.{length-replicate, length-map, map-append}
 use Rattle.std.proofs.lemmas.List.FromFn.{length-map-range_with_len}
 use mathlib.Core.Option.{Option, some, none, some-injective, some-ne-none}
@@ -8,22 +7,18 @@ use mathlib.Core.Logic.{dite}
 use Rattle.std.proofs.lemmas.Bool.{cases_lt}
 use native.Mathlib.Decide.{ℕ_discrete}
 use lib.ListN.{get_elem?}
-use Rattle.larch_actions.specs.declared.event.Event.{Event}
 use Rattle.larch_actions.specs.declared.event.Layout.{Layout}
-use Rattle.larch_actions.specs.declared.event.Pending.TheVariants.{Nothing}
 use Rattle.larch_actions.specs.Layout.{IsLawful}
 use Rattle.larch_actions.specs.Actions.{at_first}
 use Rattle.atomic_table.specs.Table.{opening, Final, Seen}
-use Rattle.atomic_table.specs.Seated.{TableId}
 use Rattle.atomic_table.proofs.Lists.{at_map, at_longer}
 use Rattle.nub_rule.specs.declared.rule.Slot.{Slot}
 use Rattle.nub_rule.specs.declared.rule.Slot.TheVariants.{Value, Queue}
 use Rattle.nub_rule.specs.declared.view.Part.{Part}
-use Rattle.nub_rule.specs.declared.view.Stand.{Stand}
 use Rattle.nub_rule.specs.declared.view.View.{View}
 use Rattle.nub_rule.specs.declared.view.Kind.TheVariants.{Member, Collector}
-use Rattle.nub_rule.specs.Items.{no_line, Tells, Spinning, Each, Chronicle, Standing, Stands, Current, Wide, Shared, Told, PenFits}
-use Rattle.nub_rule.specs.Parts.{Got, Has, Lacks, fresh, stands_at, pending_of}
+use Rattle.nub_rule.specs.Items.{no_line, Tells, Spinning, Each, Chronicle, Standing, Stands, Current, Wide, Shared, PenFits}
+use Rattle.nub_rule.specs.Parts.{Got, Lacks, fresh, pending_of}
 use Rattle.nub_rule.specs.Places.{value_at, word_count, bit_at, spin_at, length_at, count_at, alert_at, ready_at, pen_at, number_at, sem_object, cond_object}
 use Rattle.nub_rule.specs.Rule.{opening_view, member_view, FitsAs, IsKept}
 use Rattle.nub_rule.specs.Known.{Hands}

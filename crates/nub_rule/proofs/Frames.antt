@@ -1,7 +1,7 @@
 -- What keeps each item where its parts stay.
-use Rattle.std.proofs.Common.{Bool, true, false, cond, append-nil, ◌≡◌, ◌≢◌, ℕ, ◌+◌, ◌<◌, ◌≤◌, ◌⊎◌, List, [], ◌∷◌, ◌++◌, length, get_or, set, refl, sym, ap, ◌∙◌, subst, inl, inr, ⊎_elim, arith, get_or-set_other, length-set, Some, None}
+use Rattle.std.proofs.Common.{Bool, true, false, cond, append-nil, ◌≡◌, ◌≢◌, ℕ, ◌+◌, ◌<◌, ◌≤◌, ◌⊎◌, List, [], ◌∷◌, ◌++◌, length, get_or, set, refl, sym, ap, ◌∙◌, subst, inl, inr, ⊎_elim, arith, get_or-set_other, length-set}
 use mathlib.Core.Logic.{dite}
-use mathlib.Core.Option.{Option, some, none, some-injective, some-ne-none}
+use mathlib.Core.Option.{Option, some, none}
 use native.Mathlib.Decide.{ℕ_discrete}
 use lib.ListN.{get_elem?}
 use Rattle.larch_actions.specs.declared.event.Event.{Event}
@@ -12,9 +12,8 @@ use Rattle.atomic_table.proofs.Lists.{set_else, set_here}
 use Rattle.nub_rule.specs.declared.rule.Slot.{Slot}
 use Rattle.nub_rule.specs.declared.view.Part.{Part}
 use Rattle.nub_rule.specs.declared.view.Pen.{Pen}
-use Rattle.nub_rule.specs.declared.view.Pen.TheVariants.{No, Taken, Read, Made, Written}
-use Rattle.nub_rule.specs.Items.{Each, Chronicle, Told, Standing, Current, Shared, Wide, Marks, Says, AtHome, Owned, Spinning, Spins, Stands, Lines, Tells, Shows, PenFits, Pens, Sizes}
-use Rattle.nub_rule.specs.Parts.{waits_on, counts_in, pending_of, IsFound, stands_at}
+use Rattle.nub_rule.specs.Items.{Each, Chronicle, Told, Standing, Current, Shared, Wide, Marks, Says, Owned, Spinning, Spins, Stands, Lines, Tells, Shows, PenFits, Pens, Sizes}
+use Rattle.nub_rule.specs.Parts.{waits_on, counts_in, pending_of, stands_at}
 use Rattle.nub_rule.specs.Places.{bit_at, spin_at, length_at, count_at, alert_at, ready_at, pen_at, number_at, queue_at, value_at, sem_object, cond_object}
 use Rattle.nub_rule.proofs.Each.{each-set, each-snoc, same_at, at_within}
 use Rattle.nub_rule.proofs.Runs.{by_thread-other, by_thread-own, places-other, places-own, starts-more}

@@ -1,8 +1,7 @@
 -- The slots at hand, and the values as contracts see them.
-use Rattle.std.proofs.Common.{◌≡◌, ◌≢◌, ℕ, ◌+◌, ◌<◌, ◌≤◌, cond, List, [], ◌∷◌, map, length, set, refl, sym, ap, ◌∙◌, subst, arith, Some, None, zero-add, length-set}
+use Rattle.std.proofs.Common.{◌≡◌, ◌≢◌, ℕ, ◌<◌, List, [], ◌∷◌, map, length, set, refl, sym, ap, ◌∙◌, subst, arith, Some, None, zero-add, length-set}
 use Rattle.std.specs.Prelude.{Option as Opt}
 use Rattle.std.specs.List.{range_with_len}
-use Rattle.std.proofs.lemmas.List.{length-map}
 use Rattle.std.proofs.lemmas.List.FromFn.{length-map-range_with_len}
 use mathlib.Core.Logic.{dite}
 use mathlib.Core.Option.{some, some-injective}
@@ -15,7 +14,6 @@ use Rattle.nub_rule.specs.declared.rule.Slot.TheVariants.{Value, Queue}
 use Rattle.nub_rule.specs.declared.view.Part.{Part}
 use Rattle.nub_rule.specs.Items.{line_of}
 use Rattle.nub_rule.specs.Known.{value_in, values_of, Hands}
-use Rattle.nub_rule.specs.Parts.{Got, Lacks}
 use Rattle.nub_rule.specs.Places.{queue_at, value_at}
 use Rattle.nub_rule.specs.Slots.{find, IsDistinct, Below}
 use Rattle.nub_rule.proofs.Each.{at_within, same_elements, at_firsts}

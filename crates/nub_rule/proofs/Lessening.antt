@@ -1,5 +1,5 @@
 -- A list less its first t.
-use Rattle.std.proofs.Common.{true, false, cond, eqb, ◌≡◌, ◌≢◌, ℕ, zero, suc, ◌+◌, ◌<◌, ◌≤◌, List, [], ◌∷◌, ◌++◌, length, get_or, take, remove, refl, sym, ap, ◌∙◌, subst, arith, eq-eqb, ne_eqb, Some}
+use Rattle.std.proofs.Common.{true, false, cond, ◌≡◌, ◌≢◌, ℕ, zero, suc, ◌+◌, ◌<◌, ◌≤◌, List, [], ◌∷◌, length, get_or, take, remove, refl, sym, ap, ◌∙◌, arith, eq-eqb, ne_eqb, Some}
 use mathlib.Core.Logic.{dite}
 use native.Mathlib.Decide.{ℕ_discrete}
 use Rattle.larch_actions.specs.Sets.{mem}

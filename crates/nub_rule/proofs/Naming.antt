@@ -1,5 +1,5 @@
 -- The numbers of what a layout has.
-use Rattle.std.proofs.Common.{refl, cond, ◌∷◌, List, lt-ltb, le-ltb, Bool, ◌≡◌, ℕ, ◌<◌, ◌≤◌, ap, sym, ◌∙◌, subst, arith, Some, None}
+use Rattle.std.proofs.Common.{refl, cond, ◌∷◌, List, lt-ltb, le-ltb, ◌≡◌, ℕ, ◌<◌, ◌≤◌, ap, sym, ◌∙◌, subst, arith, Some, None}
 use Rattle.std.specs.Prelude.{Option as Opt}
 use Rattle.atomic_table.specs.Seated.{TableId}
 use Rattle.larch_actions.specs.declared.event.Layout.{Layout}

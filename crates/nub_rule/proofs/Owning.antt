@@ -1,37 +1,21 @@
 -- The bits of mutexes, their values and shares: how a try and a clearing change them.
-use Rattle.std.proofs.Common.{Bool, true, false, cond, eqb, ◌≡◌, ◌≢◌, ℕ, ◌+◌, ◌<◌, ◌≤◌, ◌⊎◌, List, [], ◌∷◌, ◌++◌, length, get_or, set, refl, sym, ap, ◌∙◌, subst, inl, inr, ⊎_elim, arith, length-set, length-append, get_or-set_same, Some, None, eq-eqb, ne_eqb}
+use Rattle.std.proofs.Common.{◌≡◌, ℕ, ◌<◌, ◌≤◌, List, length, set, sym, ap, ◌∙◌, subst, inl, inr, arith, length-set, get_or-set_same, Some, None}
 use Rattle.std.specs.Prelude.{Option as Opt}
 use mathlib.Core.Logic.{dite}
 use mathlib.Core.Option.{Option, some, none, some-injective, some-ne-none}
 use native.Mathlib.Decide.{ℕ_discrete}
-use prog.Atomic.{either}
 use lib.ListN.{get_elem?}
-use Rattle.larch_actions.specs.declared.event.Event.{Event}
-use Rattle.larch_actions.specs.declared.event.Action.{Action}
-use Rattle.larch_actions.specs.declared.event.Action.TheVariants.{Acquire, Resume, AlertReturn, Release}
 use Rattle.larch_actions.specs.declared.event.Layout.{Layout}
-use Rattle.larch_actions.specs.declared.event.Pending.{Pending}
-use Rattle.larch_actions.specs.declared.event.Pending.TheVariants.{Nothing, Waiting, AlertWaiting}
-use Rattle.larch_actions.specs.Actions.{Spec, at_first, Acts, MayAct, IsRun, by_thread, put}
-use Rattle.larch_actions.specs.Sets.{mem, without}
-use Rattle.atomic_table.specs.Table.{Me, step, Allows, keeps, takes, gives, put_back, rest}
+use Rattle.larch_actions.specs.Actions.{put}
 use Rattle.atomic_table.proofs.Lists.{set_else, set_here}
 use Rattle.nub_rule.specs.declared.rule.Slot.{Slot}
 use Rattle.nub_rule.specs.declared.rule.Slot.TheVariants.{Value}
 use Rattle.nub_rule.specs.declared.view.Part.{Part}
-use Rattle.nub_rule.specs.declared.view.Pen.TheVariants.{Read}
-use Rattle.nub_rule.specs.declared.view.Wait.{Wait}
-use Rattle.nub_rule.specs.declared.view.View.{View}
-use Rattle.nub_rule.specs.declared.view.Kind.TheVariants.{Member}
-use Rattle.nub_rule.specs.Items.{Each, Marks, Flag, Says, Standing, Current, Shared, Owned, Tells, Shows, Core}
-use Rattle.nub_rule.specs.Parts.{is_at, Got, Has, Lacks, made, MayTell, waits_on, counts_in, pending_of}
-use Rattle.nub_rule.specs.Places.{bit_at, value_at, queue_at, cond_object}
-use Rattle.nub_rule.specs.Plays.{with_part, told, Grows, event, acquire_event, release_event, taken_action, MayTake, tried, freed, MayFree}
-use Rattle.nub_rule.specs.Rule.{FitsAs, IsKept}
+use Rattle.nub_rule.specs.Items.{Marks, Flag, Standing, Current, Shared, Owned}
+use Rattle.nub_rule.specs.Parts.{Has, Lacks}
+use Rattle.nub_rule.specs.Places.{bit_at, value_at}
 use Rattle.nub_rule.proofs.Each.{at_within, at_below, each-set, put-here, put-else}
-use Rattle.nub_rule.proofs.Members.{Steps, member_steps}
-use Rattle.nub_rule.proofs.Runs.{leads-snoc}
-use Rattle.nub_rule.proofs.Frames.{SameShown, other, bit-spins, bit-ready, bit-pen, mutex-shown, sizes-frame, told-event, shared-frame, spins-frame, lines-frame}
+use Rattle.nub_rule.proofs.Frames.{other, shared-frame}
 
 module _ {T H : Type 0} where
   -- who has a list with something at m, has a place there

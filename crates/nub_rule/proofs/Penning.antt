@@ -1,12 +1,11 @@
 -- The pen is taken and given, the number is read and written.
-use Rattle.std.proofs.Common.{Bool, true, false, ◌≡◌, ◌≢◌, ℕ, ◌+◌, eqb, ◌<◌, ◌≤◌, ◌⊎◌, List, [], ◌∷◌, ◌++◌, length, get_or, set, refl, sym, ap, ◌∙◌, subst, inl, inr, ⊎_elim, arith, length-set, get_or-set_same, eq-eqb, ne_eqb}
+use Rattle.std.proofs.Common.{Bool, true, false, ◌≡◌, ◌≢◌, ℕ, ◌+◌, eqb, ◌≤◌, ◌⊎◌, List, ◌++◌, length, get_or, set, refl, sym, ap, ◌∙◌, subst, inl, inr, ⊎_elim, arith, length-set, get_or-set_same, eq-eqb, ne_eqb}
 use mathlib.Core.Logic.{dite}
 use mathlib.Core.Option.{Option, some, none, some-injective, some-ne-none}
 use native.Mathlib.Decide.{ℕ_discrete}
 use prog.Atomic.{either}
 use lib.ListN.{get_elem?}
 use Rattle.larch_actions.specs.declared.event.Layout.{Layout}
-use Rattle.larch_actions.specs.declared.event.Event.{Event}
 use Rattle.atomic_table.specs.Table.{Me, step, Allows, keeps}
 use Rattle.nub_rule.specs.declared.rule.Slot.{Slot}
 use Rattle.nub_rule.specs.declared.view.Part.{Part}
@@ -14,13 +13,13 @@ use Rattle.nub_rule.specs.declared.view.Pen.{Pen}
 use Rattle.nub_rule.specs.declared.view.Pen.TheVariants.{No, Taken, Read, Made, Written}
 use Rattle.nub_rule.specs.declared.view.View.{View}
 use Rattle.nub_rule.specs.declared.view.Kind.TheVariants.{Member}
-use Rattle.nub_rule.specs.Items.{Each, Marks, PenFits, Pens, Core}
+use Rattle.nub_rule.specs.Items.{Marks, PenFits, Pens, Core}
 use Rattle.nub_rule.specs.Parts.{made, MayTell, MayGivePen}
 use Rattle.nub_rule.specs.Places.{pen_at, number_at}
 use Rattle.nub_rule.specs.Plays.{with_part, penned, numbered, wrote, unpenned}
 use Rattle.nub_rule.specs.Rule.{IsKept}
 use Rattle.nub_rule.proofs.Each.{each-set}
-use Rattle.nub_rule.proofs.Members.{Steps, member_steps}
+use Rattle.nub_rule.proofs.Members.{member_steps}
 use Rattle.nub_rule.proofs.Frames.{other, pen-bits, pen-spins, pen-ready, pen-shown, spins-frame, lines-frame, shows-frame}
 use Rattle.nub_rule.proofs.Beside.{Alike, beside, idle}
 

@@ -1,5 +1,5 @@
 -- The steps on the queue of a gate keep the rule.
-use Rattle.std.proofs.Common.{Bool, true, false, cond, eqb, ◌≡◌, ◌≢◌, ℕ, ◌<◌, ◌≤◌, ◌⊎◌, List, [], ◌∷◌, ◌++◌, length, get_or, set, refl, sym, ap, ◌∙◌, subst, inl, inr, ⊎_elim, arith, length-set, get_or-set_same, append_assoc, append-nil, Some, None}
+use Rattle.std.proofs.Common.{Bool, true, false, ◌≡◌, ◌≢◌, ℕ, ◌<◌, List, [], ◌∷◌, ◌++◌, length, get_or, set, refl, sym, ap, ◌∙◌, subst, arith, length-set, get_or-set_same, append_assoc, Some, None}
 use mathlib.Core.Logic.{dite}
 use mathlib.Core.Option.{Option, some, none}
 use native.Mathlib.Decide.{ℕ_discrete}
@@ -15,14 +15,13 @@ use Rattle.nub_rule.specs.declared.view.Stage.TheVariants.{Pushed}
 use Rattle.nub_rule.specs.declared.view.View.{View}
 use Rattle.nub_rule.specs.declared.view.Kind.TheVariants.{Member}
 use Rattle.nub_rule.specs.Items.{Core, Lines, Distinct}
-use Rattle.nub_rule.specs.Parts.{stands_at}
 use Rattle.nub_rule.specs.Places.{length_at, spin_at}
 use Rattle.nub_rule.specs.Plays.{Becomes, with_part, measured, pushed, took_out, popped, behind, front, less}
 use Rattle.nub_rule.specs.Rule.{IsKept}
-use Rattle.nub_rule.proofs.Each.{at_within, put-here, put-else}
-use Rattle.nub_rule.proofs.Members.{Steps, member_steps}
+use Rattle.nub_rule.proofs.Each.{put-here, put-else}
+use Rattle.nub_rule.proofs.Members.{member_steps}
 use Rattle.nub_rule.proofs.Frames.{other, length-bits, length-ready, length-shown, length-pen, pens-frame}
-use Rattle.nub_rule.proofs.Standing.{false_true, both_ways, not_true, mem-behind, distinct-apart, distinct-behind, without-append, without-absent, less-without, lines-push, lines-leave, lines-same}
+use Rattle.nub_rule.proofs.Standing.{both_ways, not_true, mem-behind, distinct-apart, distinct-behind, without-append, without-absent, less-without, lines-push, lines-leave, lines-same}
 use Rattle.nub_rule.proofs.Showing.{shows-gate}
 use Rattle.nub_rule.proofs.Spinning.{only_here, spins-change}
 use Rattle.nub_rule.proofs.Beside.{Alike, beside, still}

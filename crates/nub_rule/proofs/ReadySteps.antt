@@ -1,5 +1,5 @@
 -- The steps on a ready word keep the rule.
-use Rattle.std.proofs.Common.{Bool, true, false, ◌≡◌, ◌≢◌, ℕ, ◌<◌, ◌≤◌, ◌⊎◌, List, [], ◌∷◌, ◌++◌, length, get_or, set, refl, sym, ap, ◌∙◌, subst, inl, inr, ⊎_elim, arith, length-set, get_or-set_same, Some, None}
+use Rattle.std.proofs.Common.{Bool, true, ◌≡◌, ◌≢◌, ℕ, ◌<◌, ◌⊎◌, List, [], ◌++◌, length, get_or, set, refl, sym, ap, ◌∙◌, subst, inl, inr, ⊎_elim, arith, length-set, get_or-set_same, Some, None}
 use Rattle.std.specs.Prelude.{Option as Opt}
 use mathlib.Core.Logic.{dite}
 use mathlib.Core.Option.{Option, some, none}
@@ -16,17 +16,17 @@ use Rattle.nub_rule.specs.declared.view.Stage.{Stage}
 use Rattle.nub_rule.specs.declared.view.Stage.TheVariants.{Asleep, Found}
 use Rattle.nub_rule.specs.declared.view.View.{View}
 use Rattle.nub_rule.specs.declared.view.Kind.TheVariants.{Member}
-use Rattle.nub_rule.specs.Items.{Core, Lines}
+use Rattle.nub_rule.specs.Items.{Core}
 use Rattle.nub_rule.specs.Parts.{staged, turned, IsFound}
-use Rattle.nub_rule.specs.Places.{bit_at, ready_at, spin_at, length_at}
+use Rattle.nub_rule.specs.Places.{bit_at, ready_at}
 use Rattle.nub_rule.specs.Plays.{with_part, readied, looked_ready, unreadied}
 use Rattle.nub_rule.specs.Rule.{IsKept}
-use Rattle.nub_rule.proofs.Each.{at_within, at_below, put-here, put-else}
-use Rattle.nub_rule.proofs.Members.{Steps, member_steps}
-use Rattle.nub_rule.proofs.Frames.{SameReady, other, ready-bits, ready-spins, ready-shown, ready-pen, spins-frame, shows-frame, pens-frame}
-use Rattle.nub_rule.proofs.Standing.{some_none, false_true, mem-append, distinct-apart, without-append, without-absent, lines-ready, lines-unready, lines-stage}
+use Rattle.nub_rule.proofs.Each.{at_below, put-here, put-else}
+use Rattle.nub_rule.proofs.Members.{member_steps}
+use Rattle.nub_rule.proofs.Frames.{other, ready-bits, ready-spins, ready-shown, ready-pen, spins-frame, shows-frame, pens-frame}
+use Rattle.nub_rule.proofs.Standing.{false_true, mem-append, distinct-apart, without-append, without-absent, lines-ready, lines-unready, lines-stage}
 use Rattle.nub_rule.proofs.Spinning.{spins-change}
-use Rattle.nub_rule.proofs.Beside.{Alike, beside, still}
+use Rattle.nub_rule.proofs.Beside.{beside, still}
 
 -- whom a thread owes, it owes inside
 inside_of : (o : Opt ℕ) (xs : List ℕ) (t : ℕ) → (o ≡ None → xs ≡ []) → mem t xs ≡ true → (k : ℕ) × (o ≡ Some k)

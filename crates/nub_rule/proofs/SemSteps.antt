@@ -1,43 +1,34 @@
 -- The steps on the bit of a semaphore keep the rule.
-use Rattle.std.proofs.Common.{Bool, true, false, cond, eqb, ◌≡◌, ◌≢◌, ℕ, ◌+◌, ◌<◌, ◌≤◌, ◌⊎◌, List, [], ◌∷◌, ◌++◌, length, get_or, set, refl, sym, ap, ◌∙◌, subst, inl, inr, ⊎_elim, arith, length-set, length-append, get_or-set_same, Some, None, eq-eqb, ne_eqb}
-use Rattle.std.specs.Prelude.{Option as Opt}
+use Rattle.std.proofs.Common.{Bool, true, false, cond, eqb, ◌≡◌, ◌≢◌, ℕ, ◌+◌, ◌<◌, ◌⊎◌, List, [], ◌∷◌, ◌++◌, length, get_or, set, refl, sym, ap, ◌∙◌, subst, inl, inr, ⊎_elim, arith, length-set, length-append, get_or-set_same, None, eq-eqb, ne_eqb}
 use mathlib.Core.Logic.{dite}
-use mathlib.Core.Option.{Option, some, none, some-injective, some-ne-none}
+use mathlib.Core.Option.{Option, some, none}
 use native.Mathlib.Decide.{ℕ_discrete}
 use prog.Atomic.{either}
 use lib.ListN.{get_elem?}
 use Rattle.larch_actions.specs.declared.event.Event.{Event}
-use Rattle.larch_actions.specs.declared.event.Action.{Action}
-use Rattle.larch_actions.specs.declared.event.Action.TheVariants.{P, V}
+use Rattle.larch_actions.specs.declared.event.Action.TheVariants.{P}
 use Rattle.larch_actions.specs.declared.event.Layout.{Layout}
-use Rattle.larch_actions.specs.declared.event.Pending.{Pending}
-use Rattle.larch_actions.specs.declared.event.Pending.TheVariants.{Nothing, Waiting, AlertWaiting}
-use Rattle.larch_actions.specs.Actions.{Spec, at_first, Acts, MayAct, IsRun, by_thread, put}
-use Rattle.larch_actions.specs.Sets.{mem, without}
-use Rattle.atomic_table.specs.Table.{Me, step, Allows, keeps, takes, gives, put_back, rest}
-use Rattle.atomic_table.proofs.Lists.{set_else, set_here}
+use Rattle.larch_actions.specs.declared.event.Pending.TheVariants.{Nothing}
+use Rattle.larch_actions.specs.Actions.{Spec, at_first, Acts, IsRun, by_thread, put}
+use Rattle.larch_actions.specs.Sets.{without}
+use Rattle.atomic_table.specs.Table.{Me, step, Allows, keeps}
+use Rattle.atomic_table.proofs.Lists.{set_here}
 use Rattle.nub_rule.specs.declared.rule.Slot.{Slot}
-use Rattle.nub_rule.specs.declared.rule.Slot.TheVariants.{Value}
 use Rattle.nub_rule.specs.declared.view.Part.{Part}
-use Rattle.nub_rule.specs.declared.view.Pen.TheVariants.{Read}
-use Rattle.nub_rule.specs.declared.view.Wait.{Wait}
 use Rattle.nub_rule.specs.declared.view.View.{View}
 use Rattle.nub_rule.specs.declared.view.Kind.TheVariants.{Member}
-use Rattle.nub_rule.specs.Items.{Each, Marks, Flag, Says, Standing, Current, Shared, Owned, Tells, Shows, Pens, Core}
-use Rattle.nub_rule.specs.Parts.{is_at, Got, Has, Lacks, made, MayTell, waits_on, counts_in, pending_of}
-use Rattle.nub_rule.specs.Places.{bit_at, count_at, alert_at, value_at, queue_at, sem_object, cond_object}
-use Rattle.nub_rule.specs.Plays.{with_part, told, Grows, event, acquire_event, release_event, taken_action, MayTake, p_event, v_event, tried_p, cleared_v, Becomes}
-use Rattle.nub_rule.specs.Rule.{FitsAs, IsKept}
-use Rattle.nub_rule.proofs.Each.{at_within, at_below, each-set, put-here, put-else}
-use Rattle.nub_rule.proofs.Members.{Steps, member_steps}
+use Rattle.nub_rule.specs.Items.{Says, Pens, Core}
+use Rattle.nub_rule.specs.Parts.{MayTell, pending_of}
+use Rattle.nub_rule.specs.Places.{bit_at, count_at, alert_at, sem_object, cond_object}
+use Rattle.nub_rule.specs.Plays.{with_part, told, Grows, p_event, v_event, tried_p, cleared_v, Becomes}
+use Rattle.nub_rule.specs.Rule.{IsKept}
+use Rattle.nub_rule.proofs.Each.{at_within}
+use Rattle.nub_rule.proofs.Members.{member_steps}
 use Rattle.nub_rule.proofs.Runs.{leads-snoc}
-use Rattle.nub_rule.proofs.Frames.{SameShown, other, bit-spins, bit-ready, bit-pen, sem-bits, sizes-frame, told-event, owned-frame, shared-frame, spins-frame, lines-frame}
-use Rattle.nub_rule.proofs.Standing.{not_true, some_none, stand_none, mem-behind, lines-same}
-use Rattle.nub_rule.proofs.SpinSteps.{nobody-by, one-by}
-use Rattle.nub_rule.proofs.Penning.{either_way, pens-event, numbered-by}
-use Rattle.nub_rule.proofs.Beside.{Alike, still}
-use Rattle.nub_rule.proofs.Handling.{same_slot}
-use Rattle.nub_rule.proofs.Owning.{lacking, owned-take, owned-give}
+use Rattle.nub_rule.proofs.Frames.{other, bit-spins, bit-ready, bit-pen, sem-bits, sizes-frame, told-event, owned-frame, spins-frame, lines-frame}
+use Rattle.nub_rule.proofs.Standing.{lines-same}
+use Rattle.nub_rule.proofs.Penning.{pens-event, numbered-by}
+use Rattle.nub_rule.proofs.Beside.{still}
 use Rattle.nub_rule.proofs.Showing.{shows-sem}
 
 available : (b : Bool) → cond b false true ≡ false → b ≡ true

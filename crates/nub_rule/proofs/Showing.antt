@@ -1,5 +1,5 @@
 -- What the words and the views show of the specification's state, when a spin word is taken or given, or the queue of a gate changes.
-use Rattle.std.proofs.Common.{Bool, true, false, cond, eqb, ◌≡◌, ◌≢◌, ℕ, ◌+◌, ◌-◌, ◌<◌, ◌≤◌, ◌⊎◌, List, [], ◌∷◌, ◌++◌, length, get_or, set, refl, sym, ap, ◌∙◌, subst, inl, inr, ⊎_elim, arith, length-set, Some, None, eq-eqb, ne_eqb}
+use Rattle.std.proofs.Common.{Bool, true, false, cond, ◌≡◌, ◌≢◌, ℕ, ◌-◌, ◌<◌, ◌≤◌, List, get_or, set, sym, ap, ◌∙◌, subst, arith, length-set, None}
 use mathlib.Core.Logic.{dite}
 use mathlib.Core.Option.{Option, some, none, some-injective, some-ne-none}
 use native.Mathlib.Decide.{ℕ_discrete}
@@ -9,8 +9,7 @@ use Rattle.larch_actions.specs.declared.event.Pending.TheVariants.{Nothing}
 use Rattle.larch_actions.specs.Actions.{Spec, put}
 use Rattle.larch_actions.specs.Sets.{mem}
 use Rattle.nub_rule.specs.declared.view.Part.{Part}
-use Rattle.nub_rule.specs.declared.view.Wait.{Wait}
-use Rattle.nub_rule.specs.Items.{Each, Says, Tells, Shows}
+use Rattle.nub_rule.specs.Items.{Says, Tells, Shows}
 use Rattle.nub_rule.specs.Parts.{waits_on, counts_in, pending_of}
 use Rattle.nub_rule.specs.Places.{bit_at, count_at, alert_at, sem_object, cond_object}
 use Rattle.nub_rule.proofs.Each.{at_within, each-set, put-here, put-else}

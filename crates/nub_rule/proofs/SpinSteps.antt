@@ -1,10 +1,9 @@
 -- The steps on a spin word keep the rule.
-use Rattle.std.proofs.Common.{Bool, true, false, ◌≡◌, ◌≢◌, ℕ, eqb, ◌-◌, ◌<◌, ◌≤◌, ◌⊎◌, List, [], ◌∷◌, ◌++◌, length, get_or, set, refl, sym, ap, ◌∙◌, subst, inl, inr, ⊎_elim, arith, length-set, Some, None, eq-eqb, ne_eqb}
+use Rattle.std.proofs.Common.{Bool, true, ◌≡◌, ◌≢◌, ℕ, eqb, ◌-◌, ◌<◌, ◌⊎◌, List, [], ◌∷◌, ◌++◌, length, get_or, set, refl, sym, ap, ◌∙◌, subst, inl, inr, ⊎_elim, arith, length-set, Some, None, eq-eqb, ne_eqb}
 use mathlib.Core.Logic.{dite}
 use mathlib.Core.Option.{Option, some, none}
 use native.Mathlib.Decide.{ℕ_discrete}
 use prog.Atomic.{either}
-use lib.ListN.{get_elem?}
 use Rattle.larch_actions.specs.declared.event.Layout.{Layout}
 use Rattle.larch_actions.specs.Actions.{put}
 use Rattle.larch_actions.specs.Sets.{mem, without}
@@ -23,11 +22,11 @@ use Rattle.nub_rule.specs.Rule.{IsKept}
 use Rattle.nub_rule.proofs.Each.{at_within}
 use Rattle.nub_rule.proofs.Members.{Steps, member_steps}
 use Rattle.nub_rule.proofs.Frames.{spin-bits, spin-ready, spin-shown, spin-pen, pens-frame}
-use Rattle.nub_rule.proofs.Standing.{no_object, not_true, some_none, stand_none, distinct-behind, mem-behind, lines-same}
+use Rattle.nub_rule.proofs.Standing.{no_object, not_true, stand_none, distinct-behind, mem-behind, lines-same}
 use Rattle.nub_rule.proofs.Counting.{room_to_push, small_of}
 use Rattle.nub_rule.proofs.Showing.{shows-spin, shows-unspin}
 use Rattle.nub_rule.proofs.Spinning.{only_here, spins-take, spins-give}
-use Rattle.nub_rule.proofs.Beside.{Alike, beside, idle}
+use Rattle.nub_rule.proofs.Beside.{beside, idle}
 
 pub nobody-by : (x : ℕ) (owner : Option ℕ) → Marks x owner → x ≡ 0 → owner ≡ none
 nobody-by x owner m z = ⊎_elim (λ (t : (x ≡ 0) × (owner ≡ none)). t.1) (λ (t : (x ≡ 1) × ((k : ℕ) × (owner ≡ some k))). let u = t.0 in absurd (omega arith)) m

@@ -9,7 +9,7 @@ use Rattle.larch_actions.specs.Sets.{mem, without}
 use Rattle.larch_actions.proofs.Sets.{mem-here, mem-else, mem-last, mem-snoc, mem-gone, mem-without}
 use Rattle.nub_rule.specs.declared.view.Part.{Part}
 use Rattle.nub_rule.specs.declared.view.Stand.{Stand}
-use Rattle.nub_rule.specs.Items.{Each, Distinct, Small, Stands, Lines}
+use Rattle.nub_rule.specs.Items.{Distinct, Stands, Lines}
 use Rattle.nub_rule.specs.Parts.{stands_at, IsFound}
 use Rattle.nub_rule.specs.Places.{ready_at}
 use Rattle.nub_rule.specs.Plays.{less}

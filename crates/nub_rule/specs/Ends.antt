@@ -1,11 +1,11 @@
 -- What a package begins with, and what it leaves.
-use Rattle.std.specs.Prelude.{false, ◌≡◌, ℕ, ◌<◌, List, [], ◌∷◌, ◌++◌, map, length, replicate, Some, None}
+use Rattle.std.specs.Prelude.{false, ◌≡◌, ℕ, List, [], ◌++◌, map, length, replicate, Some}
 use Rattle.std.specs.List.{range_with_len}
 use mathlib.Core.Option.{none, some}
 use lib.ListN.{get_elem?}
 use Rattle.larch_actions.specs.declared.event.Event.{Event}
 use Rattle.larch_actions.specs.declared.event.Pending.TheVariants.{Nothing}
-use Rattle.larch_actions.specs.Actions.{Spec, IsRun, StartsWith, by_thread}
+use Rattle.larch_actions.specs.Actions.{Spec, IsRun}
 use Rattle.atomic_table.specs.Seated.{TableId}
 use Rattle.nub_rule.specs.declared.rule.Slot.{Slot}
 use Rattle.nub_rule.specs.declared.rule.Slot.TheVariants.{Value, Queue}
@@ -13,7 +13,7 @@ use Rattle.nub_rule.specs.declared.view.Kind.TheVariants.{Member}
 use Rattle.nub_rule.specs.declared.view.Part.{Part}
 use Rattle.nub_rule.specs.Items.{no_line, Each, Told, Shared}
 use Rattle.nub_rule.specs.Parts.{fresh}
-use Rattle.nub_rule.specs.Known.{Known, known_as, part_of}
+use Rattle.nub_rule.specs.Known.{Known, known_as}
 use Rattle.nub_rule.specs.Places.{value_at}
 
 -- f 0, f 1 and so on, n of them

@@ -1,5 +1,5 @@
 -- The items of the rule. Each reads the parts that it names and no others.
-use Rattle.std.specs.Prelude.{Bool, true, false, Option as Opt, ◌≡◌, ◌≢◌, ℕ, suc, ◌+◌, ◌<◌, ◌≤◌, ◌⊎◌, cond, eqb, List, [], ◌∷◌, ◌++◌, length, slice_index, Some, None}
+use Rattle.std.specs.Prelude.{Bool, true, false, ◌≡◌, ◌≢◌, ℕ, ◌+◌, ◌<◌, ◌≤◌, ◌⊎◌, cond, eqb, List, [], ◌∷◌, ◌++◌, length, slice_index, Some}
 use mathlib.Core.Option.{Option, none, some}
 use lib.ListN.{get_elem?}
 use Rattle.larch_actions.specs.declared.event.Layout.{Layout}

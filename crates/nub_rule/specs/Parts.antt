@@ -8,9 +8,9 @@ use Rattle.nub_rule.specs.declared.view.Part.{Part}
 use Rattle.nub_rule.specs.declared.view.Wait.{Wait}
 use Rattle.nub_rule.specs.declared.view.Stand.{Stand}
 use Rattle.nub_rule.specs.declared.view.Stage.{Stage}
-use Rattle.nub_rule.specs.declared.view.Stage.TheVariants.{Pushed, Clear, Tested, Asleep, Alerted, Found}
+use Rattle.nub_rule.specs.declared.view.Stage.TheVariants.{Pushed, Clear, Found}
 use Rattle.nub_rule.specs.declared.view.Pen.{Pen}
-use Rattle.nub_rule.specs.declared.view.Pen.TheVariants.{No, Taken, Read, Made, Written}
+use Rattle.nub_rule.specs.declared.view.Pen.TheVariants.{No, Read, Made}
 
 -- the thread stands at the object
 abbrev pub stands_at : Opt Stand → ℕ → Bool

@@ -1,5 +1,5 @@
 -- What each kind of step tells of the seat before and after.
-use Rattle.std.specs.Prelude.{cond, eqb, true, false, ◌≡◌, ◌≢◌, ◌⊎◌, ◌+◌, ℕ, ◌<◌, List, [], ◌∷◌, ◌++◌, length, slice_set, Some, None, Option as Opt}
+use Rattle.std.specs.Prelude.{cond, eqb, true, false, ◌≡◌, ◌≢◌, ◌⊎◌, ℕ, ◌<◌, List, [], ◌∷◌, ◌++◌, length, slice_set, Some, None, Option as Opt}
 use mathlib.Core.Option.{some}
 use lib.ListN.{get_elem?}
 use Rattle.larch_actions.specs.declared.event.Event.{Event}
@@ -13,8 +13,7 @@ use Rattle.nub_rule.specs.declared.object.Why.TheVariants.{TryFailed, QueueSeen}
 use Rattle.nub_rule.specs.declared.rule.Slot.{Slot}
 use Rattle.nub_rule.specs.declared.rule.Slot.TheVariants.{Value, Queue}
 use Rattle.nub_rule.specs.declared.view.Part.{Part}
-use Rattle.nub_rule.specs.declared.view.Pen.{Pen}
-use Rattle.nub_rule.specs.declared.view.Pen.TheVariants.{No, Taken, Read, Made, Written}
+use Rattle.nub_rule.specs.declared.view.Pen.TheVariants.{No, Taken, Read, Written}
 use Rattle.nub_rule.specs.declared.view.Stage.TheVariants.{Pushed, Clear, Tested, Asleep, Found}
 use Rattle.nub_rule.specs.declared.view.Stand.{Stand}
 use Rattle.nub_rule.specs.declared.view.View.{View}

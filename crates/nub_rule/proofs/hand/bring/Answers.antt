@@ -1,6 +1,6 @@
-use Rattle.std.proofs.Common.{rules, ◌∷◌, ap, sym, ◌∙◌, subst}
+use Rattle.std.proofs.Common.{rules, ap, sym, ◌∙◌, subst}
 use Rattle.nub_rule.specs.Slots.{find, IsDistinct, Below}
-use Rattle.nub_rule.proofs.Turns.{nearer, keys_turned, turns_find, turns_distinct, turns_below, first_by}
+use Rattle.nub_rule.proofs.Turns.{nearer, keys_turned, turns_find, turns_distinct, turns_below}
 use Rattle.nub_rule.proofs.Room.{hand_fits}
 use Rattle.nub_rule.proofs.hand.bring.Goals as goal
 

@@ -1,6 +1,6 @@
-use Rattle.std.proofs.Common.{rules, arith, ◌≡◌, ◌≢◌, ◌<◌, ◌∙◌, ℕ, ap, sym, false, take, get_or, length, subst}
+use Rattle.std.proofs.Common.{rules, ◌≡◌, ◌<◌, ◌∙◌, ℕ, ap, sym, false, take, get_or, length, subst}
 use Rattle.larch_actions.specs.Sets.{mem}
-use Rattle.nub_rule.proofs.Lessening.{take-more, take-all, some_is}
+use Rattle.nub_rule.proofs.Lessening.{take-more, some_is}
 use Rattle.nub_rule.proofs.line.place_in.Goals as goal
 
 pub returns-then-deref-i-clause-first : goal.returns-then-deref-i-clause-first

@@ -1,20 +1,13 @@
-use Rattle.std.proofs.Common.{rules, arith, true, false, ◌≡◌, ◌≢◌, ◌+◌, ◌≤◌, ◌<◌, ◌∙◌, ◌∷◌, ◌++◌, [], ℕ, List, ap, sym, subst, length, refl, Some, None, vec_capacity, set}
-use mathlib.Core.Logic.{dite}
-use native.Mathlib.Decide.{ℕ_discrete}
-use Rattle.larch_actions.specs.Sets.{mem, without}
+use Rattle.std.proofs.Common.{rules, arith, ◌≡◌, ◌+◌, ◌≤◌, ◌<◌, ◌∙◌, ◌∷◌, [], ℕ, List, ap, sym, subst, length, refl, Some, None, vec_capacity}
 use Rattle.atomic_table.specs.Seated.{TableId}
-use Rattle.nub_rule.specs.declared.rule.Slot.TheVariants.{Value, Queue}
-use Rattle.nub_rule.specs.declared.view.Stage.TheVariants.{Pushed, Clear, Tested, Asleep, Found}
-use Rattle.nub_rule.specs.Items.{Small, no_line, line_of}
-use Rattle.nub_rule.specs.Known.{known_as, Makes}
-use Rattle.nub_rule.specs.Objects.{object_of}
-use Rattle.nub_rule.specs.Parts.{stands_at, staged, turned, made}
-use Rattle.nub_rule.specs.Places.{sem_object, value_at}
-use Rattle.nub_rule.specs.Plays.{with_part, behind, front, less}
-use Rattle.nub_rule.specs.Slots.{find}
-use Rattle.nub_rule.proofs.Naming.{object_low, mutex_low, sem_low, lawful_now, some_or_none, staged_none}
-use Rattle.nub_rule.proofs.Handling.{values-same, values-set, value-found, value-there, gone, hands-same, hands-spun, hands-unspun, hands-queue, hands-won, hands-freed, hands-value}
-use Rattle.nub_rule.proofs.Seen.{as_known, fit_still, fit_moved, fit_given}
+use Rattle.nub_rule.specs.declared.rule.Slot.TheVariants.{Queue}
+use Rattle.nub_rule.specs.Items.{line_of}
+use Rattle.nub_rule.specs.Known.{known_as}
+use Rattle.nub_rule.specs.Places.{value_at}
+use Rattle.nub_rule.specs.Plays.{with_part}
+use Rattle.nub_rule.proofs.Naming.{object_low}
+use Rattle.nub_rule.proofs.Handling.{values-same, gone, hands-same, hands-unspun}
+use Rattle.nub_rule.proofs.Seen.{as_known, fit_given}
 use Rattle.atomic_table.specs.Table.{rest}
 use Rattle.nub_rule.proofs.SpinSteps.{unspins}
 use Rattle.nub_rule.proofs.spin.give_spin.Goals as goal

@@ -6,14 +6,12 @@ use Rattle.nub_rule.specs.Items.{Small, no_line, line_of}
 use Rattle.nub_rule.specs.Known.{known_as}
 use Rattle.nub_rule.specs.Objects.{object_of}
 use Rattle.nub_rule.specs.Parts.{stands_at}
-use Rattle.nub_rule.specs.Slots.{find}
 use Rattle.nub_rule.proofs.Handling.{values-same, hands-spun}
 use Rattle.nub_rule.proofs.Naming.{object_low, some_or_none}
 use Rattle.nub_rule.proofs.Room.{room_for}
 use Rattle.nub_rule.proofs.Seen.{as_known, fit_moved}
 use Rattle.nub_rule.proofs.SpinSteps.{spins}
 use Rattle.nub_rule.proofs.Turns.{find-else}
-use Rattle.nub_rule.proofs.spin.take_spin.Given.{Over}
 use Rattle.nub_rule.proofs.spin.take_spin.Goals as goal
 
 pub compare_exchange-found-requires : goal.compare_exchange-found-requires

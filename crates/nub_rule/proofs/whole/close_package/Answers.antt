@@ -1,8 +1,7 @@
-use Rattle.std.proofs.Common.{rules, ◌≡◌, ℕ, ◌+◌, Bool, List, map, length, sym, ap, ◌∙◌, subst, None}
-use mathlib.Core.Option.{some}
+use Rattle.std.proofs.Common.{rules, ◌≡◌, ℕ, List, length, sym, ap, ◌∙◌, subst, None}
 use lib.ListN.{get_elem?}
 use Rattle.std.proofs.lemmas.List.{length-map}
-use Rattle.std.specs.Mem.Slots.{slots_items, slots_len, slots_counts}
+use Rattle.std.specs.Mem.Slots.{slots_items, slots_counts}
 use Rattle.larch_actions.specs.declared.event.Layout.{Layout}
 use Rattle.nub_rule.specs.declared.view.Part.{Part}
 use Rattle.nub_rule.specs.Known.{part_of}

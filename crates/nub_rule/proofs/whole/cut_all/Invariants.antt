@@ -1,4 +1,4 @@
-use Rattle.std.proofs.Common.{◌≡◌, ◌≤◌, ◌+◌, [], length, vec_capacity}
+use Rattle.std.proofs.Common.{◌≡◌, ◌≤◌, [], length, vec_capacity}
 use Rattle.nub_rule.specs.declared.view.Kind.TheVariants.{Root}
 use Rattle.nub_rule.specs.Items.{Each}
 use Rattle.nub_rule.specs.Ends.{first_known}
