@@ -271,7 +271,7 @@ module _ {T H W : Type 0} (l : Layout) (traced : Bool) (w : W) (begin : W → �
     pub frees : (after : W → ℕ → ℕ → T → T → H → H) (slots id m : ℕ) (me : Me (Slot T) (View T H W)) → m < l.mutexes → me.0.kind ≡ Member → me.0.part.wait ≡ None → MayTell traced me.0.part.pen → MayFree allows after m me
         → Allows (IsKept l traced w begin holds) slots id me (bit_at m) (λ _. 0) (freed after (step slots (bit_at m) 0 0 none) me)
     frees after slots id m me inside kind out pen may st r wide at small = let v = me.0 in let n = v.number in let p = v.part in let x : T = may.0 in let y : T = may.1 in
-        let world : v.world ≡ Some w = (subst (FitsAs l.threads r.given w begin r.all r.seat_of id v) kind (r.fits id v at)).0 in
+        let world : v.world ≡ Some w = (subst (FitsAs l.threads r.given w begin r.all r.seat_of id v) kind (r.fits id v at)).world in
         let next = λ (s : H). after w m n x y s in
         member_steps l traced w begin holds slots id (bit_at m) (λ _. 0) v me.1 (λ r q ds. (r ≡ 1) × Frees next m n p me.1 q ds) (freed after (step slots (bit_at m) 0 0 none) me) kind
         (λ r q ds world' t' k is. let t = t'.1 in let same : m ≡ k = omega arith in subst (λ (k : ℕ). Freed after k me r (with_part v q, ds)) same (

@@ -16,15 +16,16 @@ use Rattle.nub_rule.specs.declared.rule.Slot.{Slot}
 use Rattle.nub_rule.specs.declared.rule.Slot.TheVariants.{Value, Queue}
 use Rattle.nub_rule.specs.declared.view.Part.{Part}
 use Rattle.nub_rule.specs.declared.view.View.{View}
-use Rattle.nub_rule.specs.declared.view.Kind.TheVariants.{Member, Collector}
+use Rattle.nub_rule.specs.declared.view.Kind.TheVariants.{Collector}
 use Rattle.nub_rule.specs.Items.{no_line, Tells, Spinning, Each, Chronicle, Standing, Stands, Current, Wide, Shared, PenFits}
 use Rattle.nub_rule.specs.Parts.{Got, Lacks, fresh, pending_of}
 use Rattle.nub_rule.specs.Places.{value_at, word_count, bit_at, spin_at, length_at, count_at, alert_at, ready_at, pen_at, number_at, sem_object, cond_object}
 use Rattle.nub_rule.specs.Rule.{opening_view, member_view, FitsAs, IsKept}
-use Rattle.nub_rule.specs.Known.{Hands}
+use Rattle.atomic_table.specs.Seated.{TableId}
+use Rattle.nub_rule.specs.Known.{Hands, IsThread}
 use Rattle.nub_rule.specs.Plays.{Sat}
-use Rattle.nub_rule.specs.Slots.{find, IsDistinct, Below}
-use Rattle.nub_rule.proofs.Turns.{find-here, keys}
+use Rattle.nub_rule.specs.Slots.{find, Below}
+use Rattle.nub_rule.proofs.Turns.{find-here}
 use Rattle.nub_rule.specs.Ends.{firsts, opening_slots, Settles, Leaves}
 use Rattle.nub_rule.proofs.Each.{at_within, at_below, same_at, at_middle, same_elements, at_firsts}
 
@@ -91,7 +92,7 @@ module _ {T H W : Type 0} (l : Layout) (traced : Bool) (w : W) (begin : W → �
         count = wide;
         seated = omega arith;
         fits = λ id v at. let o = only_first (opening_view {T = T} w begin) v id at in subst₂ (λ (a : ℕ) (b : View T H W). FitsAs l.threads 0 w begin all (λ _. 0) a b b.kind) (sym o.0) o.1
-            (refl, refl, refl, λ n lo hi. (refl, at_firsts (λ n. fresh {T = T} (Some (begin w n))) 0 l.threads n hi ∙ ap (λ (z : ℕ). some (fresh {T = T} (Some (begin w z)))) (zero-add n)));
+            record { world = refl; first = refl; next = refl; unborn = λ n lo hi. (refl, at_firsts (λ n. fresh {T = T} (Some (begin w n))) 0 l.threads n hi ∙ ap (λ (z : ℕ). some (fresh {T = T} (Some (begin w z)))) (zero-add n)) };
         core = record {
           log = [];
           spec = at_first;
@@ -183,7 +184,7 @@ module _ {T H W : Type 0} (l : Layout) (traced : Bool) (w : W) (begin : W → �
       let r = f.1.0 in
       let c = r.core in
       let k : FitsAs l.threads r.given w begin r.all r.seat_of id v Collector = subst (FitsAs l.threads r.given w begin r.all r.seat_of id v) kind (r.fits id v f.1.1) in
-      let back : v.back ≡ r.all = same_elements v.back r.all (whole ∙ sym r.count) (λ n p at. (k.2 n p at).1) in
+      let back : v.back ≡ r.all = same_elements v.back r.all (whole ∙ sym r.count) (λ n p at. (k.came_back n p at).1) in
       let rest : (n : ℕ) (p : Part T H) → get_elem? r.all n ≡ some p → ((m : ℕ) (x : T) → Got p m x → ⊥) × (p.wait ≡ None) = λ n p at. idle n p (ap (λ ps. get_elem? ps n) back ∙ at) in
       let free : (m : ℕ) → c.owner m ≡ none = λ m. nobody (c.owner m) (λ n is. let low = (c.owned.within m n is).1 in let p = at_below r.all n low in let has = (c.owned.standing n p.0 p.1 m).1 is in (rest n p.0 p.1).0 m has.0 has.1) in
       record {
@@ -231,16 +232,15 @@ module _ {T H : Type 0} where
 
 module _ {T H W : Type 0} where
   -- a thread that was given out fits
-  pub first_fits : (begin : W → ℕ → H) (v : View T H W) (me : Sat T H W) (n : ℕ) (hand : List ℕ) (A : Type 0) → me ≡ (member_view begin v, []) → v.next ≡ n → hand ≡ [] → A
-      → (me.0.kind ≡ Member) × (me.0.number ≡ n) × (keys me.1 ≡ hand) × IsDistinct me.1 × Below 256 me.1 × (length me.0.part.held ≡ 64) × Hands me.0.part me.1 × A
-  first_fits begin v me n hand A is next bare a = subst (λ (m : Sat T H W). (m.0.kind ≡ Member) × (m.0.number ≡ n) × (keys m.1 ≡ hand) × IsDistinct m.1 × Below 256 m.1 × (length m.0.part.held ≡ 64) × Hands m.0.part m.1 × A) (sym is) (
-    refl,
-    next,
-    sym bare,
-    tt,
-    tt,
-    length-replicate {A = Opt T} 64 None,
-    record {
+  pub first_fits : (begin : W → ℕ → H) (v : View T H W) (z : TableId) (me : Sat T H W) (n : ℕ) (hand : List ℕ) (kept : List T) (room : ℕ) → me ≡ (member_view begin v, []) → v.next ≡ n → hand ≡ [] → kept ≡ [] → (n ≡ 0 → z.slots ≤ value_at room) → n < 64 → IsThread z n hand me kept room
+  first_fits begin v z me n hand kept room is next empty bare roomy few = subst (λ (m : Sat T H W). IsThread z n hand m kept room) (sym is) record {
+    member = refl;
+    numbered = next;
+    keyed = sym empty;
+    distinct = tt;
+    below = tt;
+    wide = length-replicate {A = Opt T} 64 None;
+    hands = record {
       below = λ o e. absurd (none_some o e);
       queue_in = λ o e. absurd (none_some o e);
       queue_out = λ o low e. refl;
@@ -248,9 +248,11 @@ module _ {T H W : Type 0} where
       value_lacked = λ m e. refl;
       settled = λ e. refl;
       room = λ o e f. absurd (none_some o e);
-    },
-    a,
-  )
+    };
+    bare = bare;
+    roomy = roomy;
+    few = few;
+  }
 
 module _ {T H : Type 0} where
   lacked : (p : Part T H) (m : ℕ) (h : Opt T) → get_elem? p.held m ≡ some h → ((x : T) → Got p m x → ⊥) → Lacks p m

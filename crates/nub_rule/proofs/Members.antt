@@ -19,16 +19,13 @@ module _ {T H W : Type 0} (threads given : ℕ) (w : W) (begin : W → ℕ → H
   -- another seat fits still after the part of a thread has changed
   others_fit : (n : ℕ) (q : Part T H) (own id : ℕ) → 0 < own → seat_of n ≡ own → id ≢ own → (v : View T H W) (k : Kind) → FitsAs threads given w begin all seat_of id v k → FitsAs threads given w begin (set all n q) seat_of id v k
   others_fit n q own id up sits ne v Root f =
-      let apart : (k : ℕ) → seat_of k ≡ 0 → k ≢ n = λ k z e. let t = ap seat_of e in omega arith in (
-        f.0,
-        f.1,
-        f.2,
-        (λ k lo hi. let r = f.3 k lo hi in (r.0, set_else all n k q (apart k r.0) ∙ r.1)),
-      )
-  others_fit n q own id up sits ne v Member f = (f.0, f.1, f.2, f.3, set_else all n v.number q (λ e. let t = ap seat_of e in let u = f.3 in ne (omega arith)) ∙ f.4)
+      let apart : (k : ℕ) → seat_of k ≡ 0 → k ≢ n = λ k z e. let t = ap seat_of e in omega arith in
+      record { world = f.world; first = f.first; next = f.next; unborn = λ k lo hi. let r = f.unborn k lo hi in (r.0, set_else all n k q (apart k r.0) ∙ r.1) }
+  others_fit n q own id up sits ne v Member f =
+      record { world = f.world; later = f.later; given_out = f.given_out; sits = f.sits; own = set_else all n v.number q (λ e. let t = ap seat_of e in let u = f.sits in ne (omega arith)) ∙ f.own }
   others_fit n q own id up sits ne v Collector f =
       let apart : (k : ℕ) → seat_of k ≡ 0 → k ≢ n = λ k z e. let t = ap seat_of e in omega arith in
-      (f.0, f.1, (λ k p at. let r = f.2 k p at in (r.0, set_else all n k q (apart k r.0) ∙ r.1)))
+      record { world = f.world; few = f.few; came_back = λ k p at. let r = f.came_back k p at in (r.0, set_else all n k q (apart k r.0) ∙ r.1) }
   others_fit n q own id up sits ne v Spent f = tt
 
 module _ {T H W : Type 0} (l : Layout) (traced : Bool) (w : W) (begin : W → ℕ → H) (holds : W → List T → List H → Type 0) where
@@ -43,7 +40,7 @@ module _ {T H W : Type 0} (l : Layout) (traced : Bool) (w : W) (begin : W → �
   member_steps slots id i f v cs then then' kind tells steps s r wide at small =
       let sf = r.fits id v at in
       let own : FitsAs l.threads r.given w begin r.all r.seat_of id v Member = subst (FitsAs l.threads r.given w begin r.all r.seat_of id v) kind sf in
-      let t = steps s.words s.homes r.all r.core own.4 small in
+      let t = steps s.words s.homes r.all r.core own.own small in
       let q = t.0 in (
         with_part v q,
         t.1,
@@ -56,10 +53,10 @@ module _ {T H W : Type 0} (l : Layout) (traced : Bool) (w : W) (begin : W → �
           seated = subst (λ (z : ℕ). 0 < z) (sym (length-set s.views id (with_part v q))) r.seated;
           fits = λ j u e. ⊎_elim
               (λ (h : (j ≡ id) × (with_part v q ≡ u)). subst (λ (z : ℕ × View T H W). SeatFits l.threads r.given w begin (set r.all v.number q) r.seat_of z.0 z.1) (λ k. (sym h.0 k, h.1 k))
-              (subst (FitsAs l.threads r.given w begin (set r.all v.number q) r.seat_of id (with_part v q)) (sym kind) (own.0, own.1, own.2, own.3, set_here r.all v.number q (at_within r.all v.number v.part own.4))))
-              (λ (h : (j ≢ id) × (get_elem? s.views j ≡ some u)). let o = r.fits j u h.1 in others_fit l.threads r.given w begin r.all r.seat_of v.number q id j own.1 own.3 h.0 u u.kind o)
+              (subst (FitsAs l.threads r.given w begin (set r.all v.number q) r.seat_of id (with_part v q)) (sym kind) record { world = own.world; later = own.later; given_out = own.given_out; sits = own.sits; own = set_here r.all v.number q (at_within r.all v.number v.part own.own) }))
+              (λ (h : (j ≢ id) × (get_elem? s.views j ≡ some u)). let o = r.fits j u h.1 in others_fit l.threads r.given w begin r.all r.seat_of v.number q id j own.later own.sits h.0 u u.kind o)
               (at_set s.views id j (with_part v q) u e);
           core = t.3;
         },
-        tells _ q _ own.0 t.4,
+        tells _ q _ own.world t.4,
       )

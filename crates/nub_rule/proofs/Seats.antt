@@ -17,16 +17,26 @@ use Rattle.nub_rule.proofs.Each.{put-here, put-else, at_new, at_within}
 module _ {T H W : Type 0} (threads given : ℕ) (w : W) (begin : W → ℕ → H) (all : List (Part T H)) (seat_of : ℕ → ℕ) where
   -- a seat fits still after the thread n, that another seat had, has gone back
   back_fit : (n own id : ℕ) → seat_of n ≡ own → 0 < own → id ≢ own → (v : View T H W) (k : Kind) → FitsAs threads given w begin all seat_of id v k → FitsAs threads given w begin all (put seat_of n 0) id v k
-  back_fit n own id sits up ne v Root f = (f.0, f.1, f.2, λ k lo hi. let r = f.3 k lo hi in (put-else seat_of n k 0 (λ e. let t = ap seat_of e in let u = r.0 in absurd (omega arith)) ∙ r.0, r.1))
-  back_fit n own id sits up ne v Member f = (f.0, f.1, f.2, put-else seat_of n v.number 0 (λ e. ne (sym f.3 ∙ (ap seat_of e ∙ sits))) ∙ f.3, f.4)
-  back_fit n own id sits up ne v Collector f = (f.0, f.1, λ k p at. let r = f.2 k p at in (put-else seat_of n k 0 (λ e. let t = ap seat_of e in let u = r.0 in absurd (omega arith)) ∙ r.0, r.1))
+  back_fit n own id sits up ne v Root f =
+      record { world = f.world; first = f.first; next = f.next; unborn = λ k lo hi. let r = f.unborn k lo hi in (put-else seat_of n k 0 (λ e. let t = ap seat_of e in let u = r.0 in absurd (omega arith)) ∙ r.0, r.1) }
+  back_fit n own id sits up ne v Member f =
+      record { world = f.world; later = f.later; given_out = f.given_out; sits = put-else seat_of n v.number 0 (λ e. ne (sym f.sits ∙ (ap seat_of e ∙ sits))) ∙ f.sits; own = f.own }
+  back_fit n own id sits up ne v Collector f =
+      record { world = f.world; few = f.few; came_back = λ k p at. let r = f.came_back k p at in (put-else seat_of n k 0 (λ e. let t = ap seat_of e in let u = r.0 in absurd (omega arith)) ∙ r.0, r.1) }
   back_fit n own id sits up ne v Spent f = tt
 
   -- a seat but the root's fits still after the thread that was to be given next has gone to the seat x
   given_fit : (x id : ℕ) → seat_of given ≡ 0 → id ≢ 0 → (v : View T H W) (k : Kind) → FitsAs threads given w begin all seat_of id v k → FitsAs threads (given + 1) w begin all (put seat_of given x) id v k
-  given_fit x id free ne v Root f = absurd (ne f.1)
-  given_fit x id free ne v Member f = (f.0, f.1, (let low = f.2 in omega arith), put-else seat_of given v.number x (λ e. let t = ap seat_of e in let u = f.3 in let up = f.1 in absurd (omega arith)) ∙ f.3, f.4)
-  given_fit x id free ne v Collector f = let low = f.1 in (f.0, omega arith, λ k p at. let r = f.2 k p at in (put-else seat_of given k x (λ e. let t = at_within v.back k p at in absurd (omega arith)) ∙ r.0, r.1))
+  given_fit x id free ne v Root f = absurd (ne f.first)
+  given_fit x id free ne v Member f = record {
+    world = f.world;
+    later = f.later;
+    given_out = let low = f.given_out in omega arith;
+    sits = put-else seat_of given v.number x (λ e. let t = ap seat_of e in let u = f.sits in let up = f.later in absurd (omega arith)) ∙ f.sits;
+    own = f.own;
+  }
+  given_fit x id free ne v Collector f = let low = f.few in
+      record { world = f.world; few = omega arith; came_back = λ k p at. let r = f.came_back k p at in (put-else seat_of given k x (λ e. let t = at_within v.back k p at in absurd (omega arith)) ∙ r.0, r.1) }
   given_fit x id free ne v Spent f = tt
 
 module _ {T H W : Type 0} (l : Layout) (traced : Bool) (w : W) (begin : W → ℕ → H) (holds : W → List T → List H → Type 0) where
@@ -34,8 +44,8 @@ module _ {T H W : Type 0} (l : Layout) (traced : Bool) (w : W) (begin : W → �
   splits id v kind more s r at =
       let root : FitsAs l.threads r.given w begin r.all r.seat_of id v Root = subst (FitsAs l.threads r.given w begin r.all r.seat_of id v) kind (r.fits id v at) in
       let x : ℕ = length s.views in
-      let next = root.2 in
-      let first = root.3 r.given (omega arith) (omega arith) in
+      let next = root.next in
+      let first = root.unborn r.given (omega arith) (omega arith) in
       let seats = put r.seat_of r.given x in
       let up = r.seated in
       let fits = FitsAs l.threads (r.given + 1) w begin r.all seats in
@@ -49,16 +59,21 @@ module _ {T H W : Type 0} (l : Layout) (traced : Bool) (w : W) (begin : W → �
         fits = λ j u e. ⊎_elim
             (λ (h : get_elem? (set s.views id (left_view v)) j ≡ some u). ⊎_elim
             (λ (i : (j ≡ id) × (left_view v ≡ u)). subst₂ (λ (a : ℕ) (b : View T H W). fits a b b.kind) (sym i.0) i.1
-            (subst (fits id (left_view v)) (sym kind) (root.0, root.1, ap (λ (z : ℕ). z + 1) next, λ n lo hi. let o = root.3 n (omega arith) hi in (put-else r.seat_of r.given n x (λ z. omega arith) ∙ o.0, o.1))))
-            (λ (i : (j ≢ id) × (get_elem? s.views j ≡ some u)). given_fit l.threads r.given w begin r.all r.seat_of x j first.0 (λ z. i.0 (z ∙ sym root.1)) u u.kind (r.fits j u i.1))
+            (subst (fits id (left_view v)) (sym kind) record {
+              world = root.world;
+              first = root.first;
+              next = ap (λ (z : ℕ). z + 1) next;
+              unborn = λ n lo hi. let o = root.unborn n (omega arith) hi in (put-else r.seat_of r.given n x (λ z. omega arith) ∙ o.0, o.1);
+            }))
+            (λ (i : (j ≢ id) × (get_elem? s.views j ≡ some u)). given_fit l.threads r.given w begin r.all r.seat_of x j first.0 (λ z. i.0 (z ∙ sym root.first)) u u.kind (r.fits j u i.1))
             (at_set s.views id j (left_view v) u h))
-            (λ (h : (j ≡ length (set s.views id (left_view v))) × (member_view begin v ≡ u)). subst₂ (λ (a : ℕ) (b : View T H W). fits a b b.kind) (sym (h.0 ∙ there)) h.1 (
-              root.0,
-              up,
-              omega arith,
-              ap (put r.seat_of r.given x) next ∙ put-here r.seat_of r.given x,
-              ap (get_elem? r.all) next ∙ (first.1 ∙ (λ i. some (fresh {T = T} (begun begin (sym next i) (sym root.0 i))))),
-            ))
+            (λ (h : (j ≡ length (set s.views id (left_view v))) × (member_view begin v ≡ u)). subst₂ (λ (a : ℕ) (b : View T H W). fits a b b.kind) (sym (h.0 ∙ there)) h.1 record {
+              world = root.world;
+              later = up;
+              given_out = omega arith;
+              sits = ap (put r.seat_of r.given x) next ∙ put-here r.seat_of r.given x;
+              own = ap (get_elem? r.all) next ∙ (first.1 ∙ (λ i. some (fresh {T = T} (begun begin (sym next i) (sym root.world i)))));
+            })
             (at_new (set s.views id (left_view v)) (member_view begin v) u j e);
         core = r.core;
       }
@@ -84,15 +99,15 @@ module _ {T H W : Type 0} (l : Layout) (traced : Bool) (w : W) (begin : W → �
             (λ (h : (j ≡ other) × (spent_view ≡ x)). subst (λ (b : View T H W). fits j b b.kind) h.1 tt)
             (λ (h : (j ≢ other) × (get_elem? views j ≡ some x)). ⊎_elim
             (λ (i : (j ≡ id) × (both_views v u ≡ x)). subst₂ (λ (a : ℕ) (b : View T H W). fits a b b.kind) (sym i.0) i.1
-            (subst (fits id (both_views v u)) (sym kind) (
-              c.0,
-              (let low = m.2 in omega arith),
-              λ k p f. ⊎_elim
-                  (λ (g : get_elem? v.back k ≡ some p). let o = c.2 k p g in (put-else r.seat_of n k 0 (λ z. let y = at_within v.back k p g in absurd (omega arith)) ∙ o.0, o.1))
-                  (λ (g : (k ≡ length v.back) × (u.part ≡ p)). let here : k ≡ n = g.0 ∙ sym order in (ap (put r.seat_of n 0) here ∙ put-here r.seat_of n 0, ap (get_elem? r.all) here ∙ (m.4 ∙ ap some g.1)))
-                  (at_new v.back u.part p k f),
-            )))
-            (λ (i : (j ≢ id) × (get_elem? s.views j ≡ some x)). back j m.3 m.1 h.0 x x.kind (r.fits j x i.1))
+            (subst (fits id (both_views v u)) (sym kind) record {
+              world = c.world;
+              few = let low = m.given_out in omega arith;
+              came_back = λ k p f. ⊎_elim
+                  (λ (g : get_elem? v.back k ≡ some p). let o = c.came_back k p g in (put-else r.seat_of n k 0 (λ z. let y = at_within v.back k p g in absurd (omega arith)) ∙ o.0, o.1))
+                  (λ (g : (k ≡ length v.back) × (u.part ≡ p)). let here : k ≡ n = g.0 ∙ sym order in (ap (put r.seat_of n 0) here ∙ put-here r.seat_of n 0, ap (get_elem? r.all) here ∙ (m.own ∙ ap some g.1)))
+                  (at_new v.back u.part p k f);
+            }))
+            (λ (i : (j ≢ id) × (get_elem? s.views j ≡ some x)). back j m.sits m.later h.0 x x.kind (r.fits j x i.1))
             (at_set s.views id j (both_views v u) x h.1))
             (at_set views other j spent_view x e);
         core = r.core;
@@ -108,7 +123,7 @@ module _ {T H W : Type 0} (l : Layout) (traced : Bool) (w : W) (begin : W → �
       count = r.count;
       seated = let up = r.seated in omega (arith, length-append s.views (collector_view {T = T} {H = H} w ∷ []));
       fits = λ j u e. ⊎_elim (λ (h : get_elem? s.views j ≡ some u). r.fits j u h)
-          (λ (h : (j ≡ length s.views) × (collector_view w ≡ u)). subst (λ (b : View T H W). FitsAs l.threads r.given w begin r.all r.seat_of j b b.kind) h.1 (refl, omega arith, λ n p f. absurd (some-ne-none p (sym f))))
+          (λ (h : (j ≡ length s.views) × (collector_view w ≡ u)). subst (λ (b : View T H W). FitsAs l.threads r.given w begin r.all r.seat_of j b b.kind) h.1 record { world = refl; few = omega arith; came_back = λ n p f. absurd (some-ne-none p (sym f)) })
           (at_new s.views (collector_view w) u j e);
       core = r.core;
     },

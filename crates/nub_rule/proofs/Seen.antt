@@ -1,5 +1,5 @@
 -- What a step tells of a seat, said of the thread as contracts see it; and that the thread stays one.
-use Rattle.std.proofs.Common.{Bool, ◌≡◌, ℕ, ◌<◌, List, [], ◌∷◌, map, length, refl, sym, ap, ◌∙◌, subst, Some}
+use Rattle.std.proofs.Common.{Bool, ◌≡◌, ℕ, ◌<◌, ◌≤◌, List, [], ◌∷◌, length, refl, sym, ap, ◌∙◌, subst, Some}
 use Rattle.std.specs.Prelude.{Option as Opt}
 use Rattle.atomic_table.specs.Table.{rest}
 use Rattle.atomic_table.specs.Seated.{TableId}
@@ -9,7 +9,7 @@ use Rattle.nub_rule.specs.declared.view.Part.{Part}
 use Rattle.nub_rule.specs.declared.view.View.{View}
 use Rattle.nub_rule.specs.declared.view.Kind.TheVariants.{Member}
 use Rattle.nub_rule.specs.declared.rule.Slot.TheVariants.{Value}
-use Rattle.nub_rule.specs.Known.{Known, known_as, Hands, MayGive}
+use Rattle.nub_rule.specs.Known.{Known, known_as, Hands, IsThread, MayGive}
 use Rattle.nub_rule.specs.Places.{value_at}
 use Rattle.nub_rule.specs.Plays.{Sat, with_part, MayFree}
 use Rattle.nub_rule.specs.Slots.{find, IsDistinct, Below, behind_first}
@@ -20,17 +20,36 @@ module _ {T H W : Type 0} where
   pub as_known : (P : TableId → Sat T H W → Known T H W → Type 0) (z z' : TableId) (n : ℕ) (es : List Entry) (lo : Bool) {nx : ℕ} (me me' m : Sat T H W) (a : Known T H W) → known_as z n me es lo nx ≡ a → z' ≡ z → me' ≡ m → P z m (known_as z n me es lo nx) → P z' me' a
   as_known P z z' n es lo me me' m a v ez em base = subst (λ (t : TableId × Sat T H W × Known T H W). P t.0 t.1 t.2) (λ i. (sym ez i, sym em i, v i)) base
 
-  -- the invariant of a thread
-  abbrev pub Fit : Type 0 → (TableId → Type 0) → TableId → ℕ → List ℕ → Sat T H W → Type 0
-  Fit A R z n hand me = (me.0.kind ≡ Member) × (me.0.number ≡ n) × (map (λ x. x.0) me.1 ≡ hand) × IsDistinct me.1 × Below 256 me.1 × (length me.0.part.held ≡ 64) × Hands me.0.part me.1 × A × R z × (n < 64)
-
   -- only the part has changed
-  pub fit_still : (A : Type 0) (R : TableId → Type 0) (z z' : TableId) (n : ℕ) (hand : List ℕ) (me me' : Sat T H W) (q : Part T H) → z' ≡ z → me' ≡ (with_part me.0 q, me.1) → Fit A R z n hand me → length q.held ≡ length me.0.part.held → Hands q me.1 → Fit A R z' n hand me'
-  fit_still A R z z' n hand me me' q ez em f held hands = subst (λ (t : TableId × Sat T H W). Fit A R t.0 n hand t.1) (λ i. (sym ez i, sym em i)) (f.0, f.1, f.2, f.3, f.4, held ∙ f.5, hands, f.7, f.8, f.9)
+  pub fit_still : (z z' : TableId) (n : ℕ) (hand : List ℕ) (me me' : Sat T H W) (q : Part T H) {kept : List T} {room : ℕ} → z' ≡ z → me' ≡ (with_part me.0 q, me.1) → IsThread z n hand me kept room → length q.held ≡ length me.0.part.held → Hands q me.1 → IsThread z' n hand me' kept room
+  fit_still z z' n hand me me' q {kept} {room} ez em f held hands = subst (λ (t : TableId × Sat T H W). IsThread t.0 n hand t.1 kept room) (λ i. (sym ez i, sym em i)) record {
+    member = f.member;
+    numbered = f.numbered;
+    keyed = f.keyed;
+    distinct = f.distinct;
+    below = f.below;
+    wide = held ∙ f.wide;
+    hands = hands;
+    bare = f.bare;
+    roomy = f.roomy;
+    few = f.few;
+  }
 
   -- the part and the slots at hand have changed
-  pub fit_moved : (A : Type 0) (R : TableId → Type 0) (z z' : TableId) (n : ℕ) (hand hand' : List ℕ) (me me' : Sat T H W) (q : Part T H) (ds : List (ℕ × Slot T)) → z' ≡ z → me' ≡ (with_part me.0 q, ds) → Fit A R z n hand me → keys ds ≡ hand' → IsDistinct ds → Below 256 ds → length q.held ≡ length me.0.part.held → Hands q ds → Fit A R z' n hand' me'
-  fit_moved A R z z' n hand hand' me me' q ds ez em f ks d low held hands = subst (λ (t : TableId × Sat T H W). Fit A R t.0 n hand' t.1) (λ i. (sym ez i, sym em i)) (f.0, f.1, ks, d, low, held ∙ f.5, hands, f.7, f.8, f.9)
+  pub fit_moved : (z z' : TableId) (n : ℕ) (hand hand' : List ℕ) (me me' : Sat T H W) (q : Part T H) (ds : List (ℕ × Slot T)) {kept : List T} {room : ℕ} → z' ≡ z → me' ≡ (with_part me.0 q, ds) → IsThread z n hand me kept room → keys ds ≡ hand' → IsDistinct ds → Below 256 ds → length q.held ≡ length me.0.part.held → Hands q ds
+      → IsThread z' n hand' me' kept room
+  fit_moved z z' n hand hand' me me' q ds {kept} {room} ez em f ks d low held hands = subst (λ (t : TableId × Sat T H W). IsThread t.0 n hand' t.1 kept room) (λ i. (sym ez i, sym em i)) record {
+    member = f.member;
+    numbered = f.numbered;
+    keyed = ks;
+    distinct = d;
+    below = low;
+    wide = held ∙ f.wide;
+    hands = hands;
+    bare = f.bare;
+    roomy = f.roomy;
+    few = f.few;
+  }
 
 module _ {T : Type 0} where
   below_rest : (n : ℕ) (xs : List (ℕ × Slot T)) → Below n xs → Below n (rest xs)
@@ -43,10 +62,20 @@ module _ {T : Type 0} where
 
 module _ {T H W : Type 0} where
   -- the slot that was brought to the front is given back
-  pub fit_given : (A : Type 0) (R : TableId → Type 0) (z z' : TableId) (n slot : ℕ) (s : Slot T) (hand hand' : List ℕ) (me me' : Sat T H W) (q : Part T H) (xs : List (ℕ × Slot T)) → z' ≡ z → me' ≡ (with_part me.0 q, rest xs) → (me.0.kind ≡ Member) → (me.0.number ≡ n) → (length me.0.part.held ≡ 64) → A → R z → n < 64
-      → keys xs ≡ hand → hand' ≡ behind_first hand → IsDistinct xs → Below 256 xs → xs ≡ (slot, s) ∷ rest xs → length q.held ≡ length me.0.part.held → Hands q (rest xs) → Fit A R z' n hand' me'
-  fit_given A R z z' n slot s hand hand' me me' q xs ez em kind number wide a r low64 ks hs d low first held hands = subst (λ (t : TableId × Sat T H W). Fit A R t.0 n hand' t.1) (λ i. (sym ez i, sym em i))
-      (kind, number, keys_rest xs ∙ (ap behind_first ks ∙ sym hs), (gone slot xs s d first).2, below_rest 256 xs low, held ∙ wide, hands, a, r, low64)
+  pub fit_given : (z z' : TableId) (n slot : ℕ) (s : Slot T) (hand hand' : List ℕ) (me me' : Sat T H W) (q : Part T H) (xs : List (ℕ × Slot T)) {kept : List T} {room : ℕ} → z' ≡ z → me' ≡ (with_part me.0 q, rest xs) → (me.0.kind ≡ Member) → (me.0.number ≡ n) → (length me.0.part.held ≡ 64) → kept ≡ [] → (n ≡ 0 → z.slots ≤ value_at room) → n < 64
+      → keys xs ≡ hand → hand' ≡ behind_first hand → IsDistinct xs → Below 256 xs → xs ≡ (slot, s) ∷ rest xs → length q.held ≡ length me.0.part.held → Hands q (rest xs) → IsThread z' n hand' me' kept room
+  fit_given z z' n slot s hand hand' me me' q xs {kept} {room} ez em kind number wide bare roomy few ks hs d low first held hands = subst (λ (t : TableId × Sat T H W). IsThread t.0 n hand' t.1 kept room) (λ i. (sym ez i, sym em i)) record {
+    member = kind;
+    numbered = number;
+    keyed = keys_rest xs ∙ (ap behind_first ks ∙ sym hs);
+    distinct = (gone slot xs s d first).2;
+    below = below_rest 256 xs low;
+    wide = held ∙ wide;
+    hands = hands;
+    bare = bare;
+    roomy = roomy;
+    few = few;
+  }
 
 module _ {T H W : Type 0} where
   -- a thread that may give a mutex back, with its slot brought to the front

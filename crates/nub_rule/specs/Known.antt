@@ -1,13 +1,15 @@
 -- What contracts see of a package and of a thread.
-use Rattle.std.specs.Prelude.{Bool, ◌≡◌, ℕ, ◌<◌, List, [], ◌∷◌, ◌++◌, length, map, Option as Opt, Some, None}
+use Rattle.std.specs.Prelude.{Bool, ◌≡◌, ℕ, ◌<◌, ◌≤◌, List, [], ◌∷◌, ◌++◌, length, map, Option as Opt, Some, None}
 use Rattle.std.specs.List.{range_with_len}
 use mathlib.Core.Option.{some}
 use lib.ListN.{get_elem?}
 use Rattle.larch_actions.specs.declared.event.Event.{Event}
 use Rattle.larch_actions.specs.declared.event.Layout.{Layout}
+use Rattle.larch_actions.specs.Layout.{IsLawful}
 use Rattle.atomic_table.specs.Table.{Me}
 use Rattle.atomic_table.specs.Seated.{TableId}
 use Rattle.nub_rule.specs.declared.package.Entry.{Entry}
+use Rattle.nub_rule.specs.declared.package.Stored.{Stored}
 use Rattle.nub_rule.specs.declared.rule.About.{About}
 use Rattle.nub_rule.specs.declared.rule.Slot.{Slot}
 use Rattle.nub_rule.specs.declared.rule.Slot.TheVariants.{Value, Queue}
@@ -16,11 +18,12 @@ use Rattle.nub_rule.specs.declared.view.Wait.{Wait}
 use Rattle.nub_rule.specs.declared.view.Stand.{Stand}
 use Rattle.nub_rule.specs.declared.view.Pen.{Pen}
 use Rattle.nub_rule.specs.declared.view.View.{View}
+use Rattle.nub_rule.specs.declared.view.Kind.TheVariants.{Member}
 use Rattle.nub_rule.specs.Items.{line_of}
 use Rattle.nub_rule.specs.Parts.{Got, Lacks}
-use Rattle.nub_rule.specs.Places.{value_at, queue_at}
-use Rattle.nub_rule.specs.Plays.{Grows}
-use Rattle.nub_rule.specs.Slots.{find}
+use Rattle.nub_rule.specs.Places.{value_at, queue_at, word_count}
+use Rattle.nub_rule.specs.Plays.{Sat, Grows}
+use Rattle.nub_rule.specs.Slots.{find, IsDistinct, Below}
 
 -- what contracts see of a package
 pub record Shape (W : Type 0) : Type 0 where
@@ -179,3 +182,27 @@ module _ {T H : Type 0} where
     pub settled : p.spin ≡ None → p.owed ≡ []
     -- the queue has room for a thread that stands nowhere
     pub room : (o : ℕ) → p.spin ≡ Some o → p.stand ≡ None → length p.queue < 64
+
+-- what is true of each package: the table has the words and slots of its layout, its key tells the layout and whether it is traced, and the shelf has room for what each thread has stored
+pub record IsPackage {W : Type 0} (z : TableId) (key : About W) (layout : Layout) (traced : Bool) (shelf : List Stored) (room : ℕ) : Type 0 where
+  pub words : z.words ≡ word_count
+  pub slots : z.slots ≡ value_at layout.mutexes
+  pub lawful : IsLawful layout
+  pub bare : shelf ≡ []
+  pub roomy : layout.threads ≤ room
+  pub laid_out : key.layout ≡ layout
+  pub traced_so : key.traced ≡ traced
+
+module _ {T H W : Type 0} where
+  -- what is true of each thread: its seat has its number, its hand has the numbers of its slots, which are those that its view tells, and the first thread has room for the value of each mutex
+  pub record IsThread (z : TableId) (number : ℕ) (hand : List ℕ) (me : Sat T H W) (kept : List T) (room : ℕ) : Type 0 where
+    pub member : me.0.kind ≡ Member
+    pub numbered : me.0.number ≡ number
+    pub keyed : map (λ x. x.0) me.1 ≡ hand
+    pub distinct : IsDistinct me.1
+    pub below : Below 256 me.1
+    pub wide : length me.0.part.held ≡ 64
+    pub hands : Hands me.0.part me.1
+    pub bare : kept ≡ []
+    pub roomy : number ≡ 0 → z.slots ≤ value_at room
+    pub few : number < 64

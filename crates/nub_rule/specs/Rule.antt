@@ -19,11 +19,32 @@ begun begin n None = None
 
 module _ {T H W : Type 0} where
   module _ (threads given : ℕ) (w : W) (begin : W → ℕ → H) (all : List (Part T H)) (seat_of : ℕ → ℕ) (id : ℕ) where
-    -- what the seat id is for. A thread that was not given out yet, or came back, has the seat 0
+    -- the seat id is the first, which gives the numbers out. A thread that was not given out yet, or came back, has the seat 0
+    pub record IsRoot (v : View T H W) : Type 0 where
+      pub world : v.world ≡ Some w
+      pub first : id ≡ 0
+      pub next : v.next ≡ given
+      pub unborn : (n : ℕ) → given ≤ n → n < threads → (seat_of n ≡ 0) × (get_elem? all n ≡ some (fresh (Some (begin w n))))
+
+    -- it is the seat of a thread, and its view has the thread's part
+    pub record IsMember (v : View T H W) : Type 0 where
+      pub world : v.world ≡ Some w
+      pub later : 0 < id
+      pub given_out : v.number < given
+      pub sits : seat_of v.number ≡ id
+      pub own : get_elem? all v.number ≡ some v.part
+
+    -- it takes the threads back, in order of their numbers
+    pub record IsCollector (v : View T H W) : Type 0 where
+      pub world : v.world ≡ Some w
+      pub few : length v.back ≤ given
+      pub came_back : (n : ℕ) (p : Part T H) → get_elem? v.back n ≡ some p → (seat_of n ≡ 0) × (get_elem? all n ≡ some p)
+
+    -- what the seat id is for
     abbrev pub FitsAs : View T H W → Kind → Type 0
-    FitsAs v Root = (v.world ≡ Some w) × (id ≡ 0) × (v.next ≡ given) × ((n : ℕ) → given ≤ n → n < threads → (seat_of n ≡ 0) × (get_elem? all n ≡ some (fresh (Some (begin w n)))))
-    FitsAs v Member = (v.world ≡ Some w) × (0 < id) × (v.number < given) × (seat_of v.number ≡ id) × (get_elem? all v.number ≡ some v.part)
-    FitsAs v Collector = (v.world ≡ Some w) × (length v.back ≤ given) × ((n : ℕ) (p : Part T H) → get_elem? v.back n ≡ some p → (seat_of n ≡ 0) × (get_elem? all n ≡ some p))
+    FitsAs v Root = IsRoot v
+    FitsAs v Member = IsMember v
+    FitsAs v Collector = IsCollector v
     FitsAs v Spent = Unit {0}
 
     abbrev pub SeatFits : View T H W → Type 0

@@ -44,16 +44,14 @@ pub struct Package<U: Uses> {
 }
 
 impl<U: Uses> Model for Package<U> {
-    ghost use Rattle.std.specs.Prelude.{◌≡◌, ◌+◌, ◌≤◌, [], vec_capacity};
-    ghost use Rattle.larch_actions.specs.Layout.{IsLawful};
-    ghost use Rattle.nub_rule.specs.Known.{Shape, shape_of};
-    ghost use Rattle.nub_rule.specs.Places.{word_count};
+    ghost use Rattle.std.specs.Prelude.{vec_capacity};
+    ghost use Rattle.nub_rule.specs.Known.{Shape, shape_of, IsPackage};
 
     ghost Value = { Shape U.World };
 
     ghost view = { λ p. shape_of p.table.shared.table_id p.table.shared.key };
 
-    ghost invariant = { λ p. (p.table.shared.table_id.words ≡ word_count) × (p.table.shared.table_id.slots ≡ 192 + p.layout.mutexes) × IsLawful p.layout × (p.shelf.items ≡ []) × (p.layout.threads ≤ vec_capacity p.shelf) × (p.table.shared.key.layout ≡ p.layout) × (p.table.shared.key.traced ≡ p.traced) };
+    ghost invariant = { λ p. IsPackage p.table.shared.table_id p.table.shared.key p.layout p.traced p.shelf.items (vec_capacity p.shelf) };
 }
 
 /// The right of one thread to step with a package.
@@ -73,16 +71,14 @@ pub struct Thread<U: Uses> {
 }
 
 impl<U: Uses> Model for Thread<U> {
-    ghost use Rattle.std.specs.Prelude.{◌≡◌, ◌+◌, ◌≤◌, ◌<◌, [], map, length, vec_capacity};
-    ghost use Rattle.nub_rule.specs.Slots.{IsDistinct, Below};
-    ghost use Rattle.nub_rule.specs.declared.view.Kind.TheVariants.{Member};
-    ghost use Rattle.nub_rule.specs.Known.{Known, known_as, Hands};
+    ghost use Rattle.std.specs.Prelude.{vec_capacity};
+    ghost use Rattle.nub_rule.specs.Known.{Known, known_as, IsThread};
 
     ghost Value = { Known U.Value U.Share U.World };
 
     ghost view = { λ t. known_as t.seat.table_id t.number t.seat.me t.entries.items t.lost t.next };
 
-    ghost invariant = { λ t. (t.seat.me.0.kind ≡ Member) × (t.seat.me.0.number ≡ t.number) × (map (λ x. x.0) t.seat.me.1 ≡ t.hand) × IsDistinct t.seat.me.1 × Below 256 t.seat.me.1 × (length t.seat.me.0.part.held ≡ 64) × Hands t.seat.me.0.part t.seat.me.1 × (t.room.items ≡ []) × (t.number ≡ 0 → t.seat.table_id.slots ≤ 192 + vec_capacity t.room) × (t.number < 64) };
+    ghost invariant = { λ t. IsThread t.seat.table_id t.number t.hand t.seat.me t.room.items (vec_capacity t.room) };
 }
 
 impl<U: Uses> Package<U> {

@@ -1,5 +1,4 @@
-use Rattle.std.proofs.Common.{rules, arith, ◌≡◌, ◌+◌, ◌≤◌, ◌∙◌, [], ap, refl, None, vec_capacity}
-use Rattle.atomic_table.specs.Seated.{TableId}
+use Rattle.std.proofs.Common.{rules, arith, ◌≡◌, ◌∙◌, ap, refl, None}
 use Rattle.nub_rule.specs.Known.{known_as}
 use Rattle.nub_rule.specs.Parts.{turned}
 use Rattle.nub_rule.proofs.Naming.{some_or_none}
@@ -11,10 +10,10 @@ use Rattle.nub_rule.proofs.ready.clear_ready.Goals as goal
 
 pub swap-requires : goal.swap-requires
 swap-requires g c = let i = c.me.invariant in let t = c.requires.ready in
-    (search rules, (let low = i.9 in omega arith), unreadies_by _ _ _ _ _ _ _ _ c.me.inside.seat.me t.0 i.1 i.9 i.0 (ap (λ k. k.stand) c.me.view_is ∙ t.1) t.2)
+    (search rules, (let low = i.few in omega arith), unreadies_by _ _ _ _ _ _ _ _ c.me.inside.seat.me t.0 i.numbered i.few i.member (ap (λ k. k.stand) c.me.view_is ∙ t.1) t.2)
 
 pub invariant_of-me : goal.invariant_of-me
-invariant_of-me g c = let i = c.me.invariant in let h = i.6 in let out : c.me.inside.seat.me.0.part.spin ≡ None = ap (λ k. k.spin) c.me.view_is ∙ c.requires.outside in fit_still (c.me.inside.room.items ≡ []) (λ (z : TableId). c.me.inside.number ≡ 0 → z.slots ≤ 192 + vec_capacity c.me.inside.room) _ _ c.me.inside.number c.me.inside.hand c.me.inside.seat.me _ _ c.swap.ensures.0 (c.swap.ensures.2.1) i refl (hands-same c.me.inside.seat.me.0.part _ c.me.inside.seat.me.1 _ (λ k. refl) refl refl refl (λ o is. absurd (some_or_none _ o out is)) h.settled h)
+invariant_of-me g c = let i = c.me.invariant in let h = i.hands in let out : c.me.inside.seat.me.0.part.spin ≡ None = ap (λ k. k.spin) c.me.view_is ∙ c.requires.outside in fit_still _ _ c.me.inside.number c.me.inside.hand c.me.inside.seat.me _ _ c.swap.ensures.0 (c.swap.ensures.2.1) i refl (hands-same c.me.inside.seat.me.0.part _ c.me.inside.seat.me.1 _ (λ k. refl) refl refl refl (λ o is. absurd (some_or_none _ o out is)) h.settled h)
 
 pub returns-clause-found : goal.returns-clause-found
 returns-clause-found g c = c.swap.ensures.2.0

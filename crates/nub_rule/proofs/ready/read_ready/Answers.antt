@@ -1,7 +1,6 @@
-use Rattle.std.proofs.Common.{rules, arith, ◌≡◌, ◌+◌, ◌≤◌, ◌∙◌, [], ap, refl, None, vec_capacity}
+use Rattle.std.proofs.Common.{rules, arith, ◌≡◌, ◌∙◌, ap, refl, None}
 use mathlib.Core.Logic.{dite}
 use native.Mathlib.Decide.{ℕ_discrete}
-use Rattle.atomic_table.specs.Seated.{TableId}
 use Rattle.nub_rule.specs.declared.view.Stage.TheVariants.{Asleep, Found}
 use Rattle.nub_rule.specs.Known.{known_as}
 use Rattle.nub_rule.specs.Parts.{staged}
@@ -12,12 +11,12 @@ use Rattle.nub_rule.proofs.ReadySteps.{looks_by}
 use Rattle.nub_rule.proofs.ready.read_ready.Goals as goal
 
 pub load-requires : goal.load-requires
-load-requires g c = let i = c.me.invariant in let t = c.requires.tested in (search rules, (let low = i.9 in omega arith), looks_by _ _ _ _ _ _ _ _ c.me.inside.seat.me t.0 i.1 i.0 (ap (λ k. k.stand) c.me.view_is ∙ t.1))
+load-requires g c = let i = c.me.invariant in let t = c.requires.tested in (search rules, (let low = i.few in omega arith), looks_by _ _ _ _ _ _ _ _ c.me.inside.seat.me t.0 i.numbered i.member (ap (λ k. k.stand) c.me.view_is ∙ t.1))
 
 pub invariant_of-me : goal.invariant_of-me
-invariant_of-me g c = let i = c.me.invariant in let h = i.6 in let out : c.me.inside.seat.me.0.part.spin ≡ None = ap (λ k. k.spin) c.me.view_is ∙ c.requires.outside in dite (ℕ_discrete c.load.result 0)
-    (λ hit. fit_still (c.me.inside.room.items ≡ []) (λ (z : TableId). c.me.inside.number ≡ 0 → z.slots ≤ 192 + vec_capacity c.me.inside.room) _ _ c.me.inside.number c.me.inside.hand c.me.inside.seat.me _ _ c.load.ensures.0 (c.load.ensures.2.0 hit) i refl (hands-same c.me.inside.seat.me.0.part _ c.me.inside.seat.me.1 _ (λ k. refl) refl refl refl (λ o is. absurd (some_or_none _ o out is)) h.settled h))
-    (λ miss. fit_still (c.me.inside.room.items ≡ []) (λ (z : TableId). c.me.inside.number ≡ 0 → z.slots ≤ 192 + vec_capacity c.me.inside.room) _ _ c.me.inside.number c.me.inside.hand c.me.inside.seat.me _ _ c.load.ensures.0 ((c.load.ensures.2.1 miss).1) i refl (hands-same c.me.inside.seat.me.0.part _ c.me.inside.seat.me.1 _ (λ k. refl) refl refl refl (λ o is. absurd (some_or_none _ o out is)) h.settled h))
+invariant_of-me g c = let i = c.me.invariant in let h = i.hands in let out : c.me.inside.seat.me.0.part.spin ≡ None = ap (λ k. k.spin) c.me.view_is ∙ c.requires.outside in dite (ℕ_discrete c.load.result 0)
+    (λ hit. fit_still _ _ c.me.inside.number c.me.inside.hand c.me.inside.seat.me _ _ c.load.ensures.0 (c.load.ensures.2.0 hit) i refl (hands-same c.me.inside.seat.me.0.part _ c.me.inside.seat.me.1 _ (λ k. refl) refl refl refl (λ o is. absurd (some_or_none _ o out is)) h.settled h))
+    (λ miss. fit_still _ _ c.me.inside.number c.me.inside.hand c.me.inside.seat.me _ _ c.load.ensures.0 ((c.load.ensures.2.1 miss).1) i refl (hands-same c.me.inside.seat.me.0.part _ c.me.inside.seat.me.1 _ (λ k. refl) refl refl refl (λ o is. absurd (some_or_none _ o out is)) h.settled h))
 
 pub returns-clause-asleep : goal.returns-clause-asleep
 returns-clause-asleep g c = λ hit. as_known (λ z m a. known_as z c.me.inside.number m c.me.inside.entries.items c.me.inside.lost c.me.inside.next ≡ record a { stand = staged Asleep a.stand }) _ _ _ _ _ c.me.inside.seat.me _ _ _ c.me.view_is c.load.ensures.0 (c.load.ensures.2.0 hit) refl

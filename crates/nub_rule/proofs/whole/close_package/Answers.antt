@@ -27,13 +27,13 @@ settled g c = let e = c.gather_all-seat.ensures in let key = c.p.inside.table.sh
 
 pub values_of-values-requires-clause-values : goal.values_of-values-requires-clause-values
 values_of-values-requires-clause-values g c = let s = settled g c in let n = (slots_counts c.close_with.result.slots).0 in let z = c.p.invariant in let about : c.p.inside.table.shared.key.layout ≡ c.args.p.layout = ap (λ s. s.layout) c.p.view_is in
-    let same : c.p.inside.layout.mutexes ≡ c.args.p.layout.mutexes = ap (λ (l : Layout). l.mutexes) (sym c.p.invariant.5 ∙ about) in
+    let same : c.p.inside.layout.mutexes ≡ c.args.p.layout.mutexes = ap (λ (l : Layout). l.mutexes) (sym c.p.invariant.laid_out ∙ about) in
     λ m low. slot_values c.args.p.layout.mutexes _ _ (slots_items c.close_with.result.slots) (search rules) s m (search rules)
 
 pub returns-clause-values : goal.returns-clause-values
 returns-clause-values g c = let s = settled g (goal.at.returns-clause-values g c).After-close_with in let e = c.gather_all-seat.ensures in
     let about : c.p.inside.table.shared.key.layout ≡ c.args.p.layout = ap (λ s. s.layout) c.p.view_is in
-    let same : c.p.inside.layout.mutexes ≡ c.args.p.layout.mutexes = ap (λ (l : Layout). l.mutexes) (sym c.p.invariant.5 ∙ about) in
+    let same : c.p.inside.layout.mutexes ≡ c.args.p.layout.mutexes = ap (λ (l : Layout). l.mutexes) (sym c.p.invariant.laid_out ∙ about) in
     let v = c.values_of-values in
     let long : length v.result.items ≡ c.args.p.layout.mutexes = search rules in
     (long, subst (λ (l : List (Part g.row.U-Value.Denot g.row.U-Share.Denot)). Leaves (g.U.Uses.holds c.args.p.world) l v.result.items) e.back (leaves c.args.p.layout.mutexes _ _ _ v.result.items s long v.ensures.values))

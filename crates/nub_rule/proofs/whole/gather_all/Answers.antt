@@ -16,7 +16,7 @@ join_seat-requires g c = let t = c.in-Some.thread in let i = c.loop-thread.invar
     let f = c.requires.threads (length c.loop-thread.yielded) t (at_middle c.loop-thread.yielded c.next.new.self.rest.items c.args.threads.items t (i.all ∙ ap (λ l. c.loop-thread.yielded ++ l) c.in-Some.ensures.steps.0)) in
     let n : length c.loop-thread.seat.me.0.back ≡ length c.loop-thread.yielded = ap length i.back ∙ length-map c.loop-thread.yielded _ in
     let v = c.thread.view_is in
-    (search rules, ap (λ k. k.table_id) v ∙ f.1, no_slots c.thread.inside.seat.me.0.part c.thread.inside.seat.me.1 c.thread.invariant.6 c.thread.invariant.4 c.thread.invariant.5 (ap (λ k. k.spin) v ∙ f.2) (λ m x h. f.3 m x (ap (λ k. get_elem? k.held m) (sym v) ∙ h)), search rules, joins _ _ _ _ _ _ _ _ _ i.kind c.thread.invariant.0 (c.thread.invariant.1 ∙ (ap (λ k. k.number) v ∙ (f.0 ∙ sym n))))
+    (search rules, ap (λ k. k.table_id) v ∙ f.1, no_slots c.thread.inside.seat.me.0.part c.thread.inside.seat.me.1 c.thread.invariant.hands c.thread.invariant.below c.thread.invariant.wide (ap (λ k. k.spin) v ∙ f.2) (λ m x h. f.3 m x (ap (λ k. get_elem? k.held m) (sym v) ∙ h)), search rules, joins _ _ _ _ _ _ _ _ _ i.kind c.thread.invariant.member (c.thread.invariant.numbered ∙ (ap (λ k. k.number) v ∙ (f.0 ∙ sym n))))
 
 pub add-requires : goal.add-requires
 add-requires g c = let i = c.loop-thread.invariant in
@@ -41,7 +41,7 @@ loop-thread-preserved g c = let t = c.in-Some.thread in let i = c.loop-thread.in
       room = λ _. ⊎_elim
           (λ (e : t.number ≡ 0).
           let is = c.first_room-room.ensures.first (num ∙ e) in
-          let fits = c.thread.invariant.8 (num ∙ e) in
+          let fits = c.thread.invariant.roomy (num ∙ e) in
           let slots : c.thread.inside.seat.table_id.slots ≡ c.args.shared.now.table_id.slots = ap (λ z. z.slots) (ap (λ k. k.table_id) v ∙ f.1) in
           let same : vec_capacity c.first_room-room.result ≡ vec_capacity c.thread.inside.room = ap (λ r. vec_capacity r) is in
           omega arith)
