@@ -1,5 +1,5 @@
 -- The words of the command line, and the task that they say.
-use Rattle.std.specs.Prelude.{◌≡◌, ◌≢◌, ◌^◌, ◌<◌, ◌≤◌, ℕ, Bool, true, false, List, [], ◌∷◌, ◌++◌}
+use Rattle.std.specs.Prelude.{◌≡◌, ◌≢◌, ◌⊎◌, ◌^◌, ◌<◌, ◌≤◌, ℕ, Bool, true, false, List, [], ◌∷◌, ◌++◌}
 use Rattle.std.specs.Prelude.{Option, Some, None, IfSome, codes, decimal, All, if◌then◌else◌, option_to_list}
 use Rattle.std.specs.List.{filter_map, flat_map}
 
@@ -144,6 +144,10 @@ abbrev pub HasOptions : Task → Type 0
 HasOptions (index o) = Unit {0}
 HasOptions (trace o) = Unit {0}
 HasOptions _ = ⊥
+
+-- options may follow the first word
+abbrev pub BeginOptions : List Text → Type 0
+BeginOptions words = (rest : List Text) × ((words ≡ codes "index" ∷ rest) ⊎ (words ≡ codes "trace" ∷ rest))
 
 -- what holds of a task that words say
 abbrev pub IsInRange : Task → Type 0

@@ -1,16 +1,12 @@
 //! The commands, and the reading of all words.
 ghost use Rattle.std.specs.Prelude.{◌≡◌, ◌≢◌, [], ◌∷◌, IfOk, IsErr, codes, map};
 ghost use Rattle.std.specs.String.{string_bytes};
-ghost use Rattle.command_line.specs.Grammar.{HasOptions, IsInRange, Say, SayNothing, Task};
+ghost use Rattle.command_line.specs.Grammar.{BeginOptions, HasOptions, IsInRange, Say, SayNothing, Task};
 ghost use Rattle.command_line.specs.Tasks.{task_of};
 
 use crate::number::read_number;
 use crate::options::read_options;
 use std::alloc::Global;
-
-/// What a caller prints where the words say no command.
-pub const USAGE: &str =
-    "usage: firefly check | run | index DIR [options] | trace DIR [options] | sample SEED FILES";
 
 /// What follows `index` or `trace`. The directory is lent by the words.
 #[derive(Clone, Copy, Debug, PartialEq)]
@@ -39,8 +35,8 @@ pub enum WordsFault {
     Memory,
 }
 
-/// The command that the words after the program's name say. Memory may run out only for `index` and
-/// `trace`.
+/// The command that the words after the program's name say. Memory may run out only where the first
+/// word is `index` or `trace`.
 pub fn read_words<'a>(alloc: Global, words: &'a [String]) -> Result<Command<'a>, WordsFault>
     ensures said { IfOk result (λ c. Say (map string_bytes words.entry.now) (task_of c)) }
     ensures only { IfOk result (λ c. (t : Task)
@@ -50,6 +46,7 @@ pub fn read_words<'a>(alloc: Global, words: &'a [String]) -> Result<Command<'a>,
         → SayNothing (map string_bytes words.entry.now) }
     ensures memory { result ≡ Err WordsFault.Memory → (t : Task)
         → Say (map string_bytes words.entry.now) t → HasOptions t }
+    ensures begun { result ≡ Err WordsFault.Memory → BeginOptions (map string_bytes words.entry.now) }
 {
     let Some((first, rest)) = words.split_first() else {
         return Err(WordsFault::Usage);
@@ -68,6 +65,7 @@ pub fn read_words<'a>(alloc: Global, words: &'a [String]) -> Result<Command<'a>,
 fn alone<'a>(rest: &[String], command: Command<'a>) -> Result<Command<'a>, WordsFault>
     ensures ok { IfOk result (λ c. (c ≡ command.entry) × (map string_bytes rest.now ≡ [])) }
     ensures usage { IsErr result → map string_bytes rest.now ≢ [] }
+    ensures memory { result ≢ Err WordsFault.Memory }
 {
     if rest.is_empty() {
         Ok(command)
@@ -80,6 +78,7 @@ fn alone<'a>(rest: &[String], command: Command<'a>) -> Result<Command<'a>, Words
 fn read_sample<'a>(rest: &[String]) -> Result<Command<'a>, WordsFault>
     ensures said { IfOk result (λ c. Say (codes "sample" ∷ map string_bytes rest.now) (task_of c)) }
     ensures usage { IsErr result → SayNothing (codes "sample" ∷ map string_bytes rest.now) }
+    ensures memory { result ≢ Err WordsFault.Memory }
 {
     let [seed, files] = rest else {
         return Err(WordsFault::Usage);

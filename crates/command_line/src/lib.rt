@@ -10,7 +10,7 @@ mod command;
 mod number;
 mod options;
 
-pub use command::{Command, IndexOptions, USAGE, WordsFault, read_words};
+pub use command::{Command, IndexOptions, WordsFault, read_words};
 
 #[cfg(test)]
 mod tests;

@@ -1,4 +1,4 @@
-use Rattle.std.proofs.Common.{◌≡◌, ◌∙◌, ◌∷◌, Err, List, ap, codes, map, subst, sym}
+use Rattle.std.proofs.Common.{◌≡◌, ◌∙◌, ◌∷◌, Err, List, ap, codes, inl, inr, map, subst, sym}
 use Rattle.std.specs.String.{string_bytes}
 use Rattle.std.proofs.lemmas.Result.{IfOk-weaker}
 use Rattle.command_line.specs.Grammar.{Say, Text, index, trace}
@@ -47,3 +47,15 @@ returns-in_ok-read_options-in-index-clause-in_range c = options_in_range (map st
 
 pub returns-in_ok-read_options-in-trace-clause-in_range : goal.returns-in_ok-read_options-in-trace-clause-in_range
 returns-in_ok-read_options-in-trace-clause-in_range c = options_in_range (map string_bytes c.in-Some.rest.now) _ c.in_ok-read_options-in-trace.ensures.said
+
+pub returns-in_err-read_options-in-index-clause-begun : goal.returns-in_err-read_options-in-index-clause-begun
+returns-in_err-read_options-in-index-clause-begun c = λ e.
+    let words : map string_bytes c.args.words.now ≡ codes "index" ∷ map string_bytes c.in-Some.rest.now =
+    ap (map string_bytes) c.in-Some.ensures.cases.0 ∙ ap (λ w. w ∷ map string_bytes c.in-Some.rest.now) (sym c.as_str.ensures.value ∙ c.in-index.is) in
+    (map string_bytes c.in-Some.rest.now, inl words)
+
+pub returns-in_err-read_options-in-trace-clause-begun : goal.returns-in_err-read_options-in-trace-clause-begun
+returns-in_err-read_options-in-trace-clause-begun c = λ e.
+    let words : map string_bytes c.args.words.now ≡ codes "trace" ∷ map string_bytes c.in-Some.rest.now =
+    ap (map string_bytes) c.in-Some.ensures.cases.0 ∙ ap (λ w. w ∷ map string_bytes c.in-Some.rest.now) (sym c.as_str.ensures.value ∙ c.in-trace.is) in
+    (map string_bytes c.in-Some.rest.now, inr words)
