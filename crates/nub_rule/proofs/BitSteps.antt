@@ -1,5 +1,5 @@
 -- The steps on the bit of a mutex keep the rule.
-use Rattle.std.proofs.Common.{Bool, true, false, cond, eqb, ◌≡◌, ◌≢◌, ℕ, ◌+◌, ◌<◌, ◌⊎◌, List, [], ◌∷◌, ◌++◌, length, get_or, set, refl, sym, ap, ◌∙◌, subst, inl, inr, ⊎_elim, arith, length-set, length-append, Some, None, eq-eqb, ne_eqb}
+use Rattle.std.proofs.Common.{get_or-set_same, Bool, true, false, cond, eqb, ◌≡◌, ◌≢◌, ℕ, ◌+◌, ◌<◌, ◌⊎◌, List, [], ◌∷◌, ◌++◌, length, get_or, set, refl, sym, ap, ◌∙◌, subst, inl, inr, ⊎_elim, arith, length-set, length-append, Some, None, eq-eqb, ne_eqb}
 use Rattle.std.specs.Prelude.{Option as Opt}
 use mathlib.Core.Logic.{dite}
 use mathlib.Core.Option.{Option, some, none, some-injective, some-ne-none}
@@ -30,11 +30,12 @@ use Rattle.nub_rule.specs.Rule.{FitsAs, IsKept}
 use Rattle.nub_rule.proofs.Each.{at_within, at_below, put-here, put-else}
 use Rattle.nub_rule.proofs.Members.{Steps, member_steps}
 use Rattle.nub_rule.proofs.Runs.{leads-snoc}
-use Rattle.nub_rule.proofs.Frames.{bit-spins, bit-ready, bit-pen, mutex-shown, sizes-frame, told-event, spins-frame, lines-frame}
+use Rattle.nub_rule.proofs.Frames.{other, bit-spins, bit-ready, bit-pen, mutex-shown, sizes-frame, told-event, spins-frame, lines-frame}
 use Rattle.nub_rule.proofs.Standing.{not_true, stand_none, mem-behind, lines-same}
 use Rattle.nub_rule.proofs.SpinSteps.{nobody-by, one-by}
 use Rattle.nub_rule.proofs.Penning.{either_way, pens-event, numbered-by}
 use Rattle.nub_rule.proofs.Beside.{still}
+use Rattle.nub_rule.proofs.Owing.{owes-try, owes-clear}
 use Rattle.nub_rule.proofs.Handling.{same_slot}
 use Rattle.nub_rule.proofs.Owning.{lacking, owned-take, owned-give}
 use Rattle.nub_rule.proofs.Showing.{shows-wins, shows-clears}
@@ -153,6 +154,7 @@ module _ {T H W : Type 0} (l : Layout) (traced : Bool) (w : W) (begin : W → �
             lines = lines-frame all n p q at (λ k. c.owed k ++ c.queue k) words words' c.sizes.few (bit-ready words 1 m far) refl c.lines;
             shows = shows-wins words words' (mutex-shown words 1 m near) c.spinner c.queue c.owner c.spec all n p q at m take.0 refl refl refl take.4 take.5 take.2 take.3 c.shows;
             pens = subst (λ (z : ℕ). Pens traced z words' c.writer (set all n q)) (sym more) (pens-event traced (length c.log) words c.writer all n p q at words' (bit-pen words 1 m far).0 (bit-pen words 1 m far).1 may refl c.pens);
+            owes = owes-try c.queue words words' all n p q at m (λ k lo ne. other words (bit_at m) (bit_at k) 1 (λ z. ne (omega arith))) (λ z. let y = get_or-set_same words (bit_at m) 1 0 (omega arith) in omega arith) refl refl refl c.owes;
           },
           inl (
             hit,
@@ -178,7 +180,8 @@ module _ {T H W : Type 0} (l : Layout) (traced : Bool) (w : W) (begin : W → �
           tt,
           subst (λ b. Core l traced w holds (set words (bit_at m) (either b 1 r)) homes (set all n q)) (sym (ne_eqb r 0 miss))
               (still l traced w holds words homes all (bit_at m) n p q at record { seen = refl; mine = refl; places = refl; held = refl; share = refl } refl refl refl refl refl refl refl c
-              (lines-same (λ k. c.owed k ++ c.queue k) (λ k. c.owed k ++ c.queue k) words words all n p q at c.sizes.few (λ t lo. refl) (λ k. refl) refl c.lines)),
+              (lines-same (λ k. c.owed k ++ c.queue k) (λ k. c.owed k ++ c.queue k) words words all n p q at c.sizes.few (λ t lo. refl) (λ k. refl) refl c.lines)
+              (owes-try c.queue words words all n p q at m (λ k lo ne. refl) miss refl refl refl c.owes)),
           inr (miss, refl, refl),
         ))
 
@@ -201,9 +204,9 @@ module _ {T H W : Type 0} (l : Layout) (traced : Bool) (w : W) (begin : W → �
 
   module _ (allows : W → ℕ → ℕ → T → T → H → H → Type 0)
       (law : (values : List T) (shares : List H) → holds w values shares → (m : ℕ) (x y : T) → get_elem? values m ≡ some x → (t : ℕ) (s r : H) → get_elem? shares t ≡ some s → allows w m t x y s r → holds w (set values m y) (set shares t r)) where
-    frees_at : (n m : ℕ) (p : Part T H) (cs : List (ℕ × Slot T)) (x y : T) (next : H → H) → m < l.mutexes → p.wait ≡ None → Got p m x → cs ≡ (value_at m, Value (Some y)) ∷ rest cs → MayTell traced p.pen → ((s : H) → p.share ≡ Some s → allows w m n x y s (next s))
+    frees_at : (n m : ℕ) (p : Part T H) (cs : List (ℕ × Slot T)) (x y : T) (next : H → H) → m < l.mutexes → p.wait ≡ None → p.stand ≡ None → Got p m x → cs ≡ (value_at m, Value (Some y)) ∷ rest cs → MayTell traced p.pen → ((s : H) → p.share ≡ Some s → allows w m n x y s (next s))
         → Steps l traced w begin holds n (bit_at m) (λ _. 0) p cs (λ r q ds. (r ≡ 1) × Frees next m n p cs q ds)
-    frees_at n m p cs x y next inside out got first may allowed words homes all c at small =
+    frees_at n m p cs x y next inside out apart got first may allowed words homes all c at small =
         let lawful = c.sizes.lawful in let ws = c.sizes.words_wide in let hs = c.sizes.homes_wide in
         let far : m < 192 = omega arith in let near : m < 64 = omega arith in
         let e = release_event n m in
@@ -250,6 +253,7 @@ module _ {T H W : Type 0} (l : Layout) (traced : Bool) (w : W) (begin : W → �
             lines = lines-frame all n p q at (λ k. c.owed k ++ c.queue k) words words' c.sizes.few (bit-ready words 0 m far) refl c.lines;
             shows = shows-clears words words' (mutex-shown words 0 m near) c.spinner c.queue c.owner c.spec all n p q at m (put c.spec.holder m none) refl refl refl refl own (put-here c.spec.holder m none) (λ k ne. put-else c.spec.holder m k none ne) c.shows;
             pens = subst (λ (z : ℕ). Pens traced z words' c.writer (set all n q)) (sym more) (pens-event traced (length c.log) words c.writer all n p q at words' (bit-pen words 0 m far).0 (bit-pen words 0 m far).1 may refl c.pens);
+            owes = owes-clear c.queue words words' all n p q at m (λ k lo ne. other words (bit_at m) (bit_at k) 0 (λ z. ne (omega arith))) apart refl refl refl c.owes;
           },
           (
             one-by (get_or words (bit_at m) 0) n (c.owner m) (o.bits m inside) own,
@@ -268,9 +272,9 @@ module _ {T H W : Type 0} (l : Layout) (traced : Bool) (w : W) (begin : W → �
           ),
         )
 
-    pub frees : (after : W → ℕ → ℕ → T → T → H → H) (slots id m : ℕ) (me : Me (Slot T) (View T H W)) → m < l.mutexes → me.0.kind ≡ Member → me.0.part.wait ≡ None → MayTell traced me.0.part.pen → MayFree allows after m me
+    pub frees : (after : W → ℕ → ℕ → T → T → H → H) (slots id m : ℕ) (me : Me (Slot T) (View T H W)) → m < l.mutexes → me.0.kind ≡ Member → me.0.part.wait ≡ None → me.0.part.stand ≡ None → MayTell traced me.0.part.pen → MayFree allows after m me
         → Allows (IsKept l traced w begin holds) slots id me (bit_at m) (λ _. 0) (freed after (step slots (bit_at m) 0 0 none) me)
-    frees after slots id m me inside kind out pen may st r wide at small = let v = me.0 in let n = v.number in let p = v.part in let x : T = may.0 in let y : T = may.1 in
+    frees after slots id m me inside kind out apart pen may st r wide at small = let v = me.0 in let n = v.number in let p = v.part in let x : T = may.0 in let y : T = may.1 in
         let world : v.world ≡ Some w = (subst (FitsAs l.threads r.given w begin r.all r.seat_of id v) kind (r.fits id v at)).world in
         let next = λ (s : H). after w m n x y s in
         member_steps l traced w begin holds slots id (bit_at m) (λ _. 0) v me.1 (λ r q ds. (r ≡ 1) × Frees next m n p me.1 q ds) (freed after (step slots (bit_at m) 0 0 none) me) kind
@@ -290,4 +294,4 @@ module _ {T H W : Type 0} (l : Layout) (traced : Bool) (w : W) (begin : W → �
               let e = value_same (value_at m) y y' (rest me.1) (sym may.3 ∙ first') in
               λ j. Some (after (h j) m n (b j) (e j) (d j)),
         ))
-        (frees_at n m p me.1 x y next inside out may.2 may.3 pen (λ s is. may.4 w s world is)) st r wide at small
+        (frees_at n m p me.1 x y next inside out apart may.2 may.3 pen (λ s is. may.4 w s world is)) st r wide at small

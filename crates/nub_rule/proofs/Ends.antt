@@ -19,6 +19,7 @@ use Rattle.nub_rule.specs.declared.view.View.{View}
 use Rattle.nub_rule.specs.declared.view.Kind.TheVariants.{Collector}
 use Rattle.nub_rule.specs.Items.{no_line, Tells, Spinning, Each, Chronicle, Standing, Stands, Current, Wide, Shared, PenFits}
 use Rattle.nub_rule.specs.Parts.{Got, Lacks, fresh, pending_of}
+use Rattle.nub_rule.specs.Owed.{SleepsSound}
 use Rattle.nub_rule.specs.Places.{value_at, word_count, bit_at, spin_at, length_at, count_at, alert_at, ready_at, pen_at, number_at, sem_object, cond_object}
 use Rattle.nub_rule.specs.Rule.{opening_view, member_view, FitsAs, IsKept}
 use Rattle.atomic_table.specs.Seated.{TableId}
@@ -172,6 +173,10 @@ module _ {T H W : Type 0} (l : Layout) (traced : Bool) (w : W) (begin : W → �
             free = λ is free. zeros number_at;
             untraced = λ is. refl;
             pens = each-firsts (λ n p. PenFits 0 (get_or ws number_at 0) none n p.pen) (λ n. fresh (Some (begin w n))) l.threads (λ i low is. some-ne-none i (sym is));
+          };
+          owes = record {
+            looks = λ o low free queued. absurd (queued refl);
+            sound = each-firsts (λ n p. SleepsSound p) (λ n. fresh (Some (begin w n))) l.threads (λ i low s is asleep. absurd (none_some s is));
           };
         };
       }

@@ -16,6 +16,7 @@ pub mod BitSteps
 pub mod SemSteps
 pub mod Handling
 pub mod Naming
+pub mod Owing
 pub mod Lessening
 pub mod Seen
 pub mod Turns

@@ -15,12 +15,13 @@ use Rattle.nub_rule.specs.declared.view.View.{View}
 use Rattle.nub_rule.specs.declared.view.Kind.TheVariants.{Member}
 use Rattle.nub_rule.specs.Items.{Marks, PenFits, Pens, Core}
 use Rattle.nub_rule.specs.Parts.{made, MayTell, MayGivePen}
-use Rattle.nub_rule.specs.Places.{pen_at, number_at}
+use Rattle.nub_rule.specs.Places.{bit_at, pen_at, number_at}
 use Rattle.nub_rule.specs.Plays.{with_part, penned, numbered, wrote, unpenned}
 use Rattle.nub_rule.specs.Rule.{IsKept}
 use Rattle.nub_rule.proofs.Each.{each-set}
 use Rattle.nub_rule.proofs.Members.{member_steps}
 use Rattle.nub_rule.proofs.Frames.{other, pen-bits, pen-spins, pen-ready, pen-shown, spins-frame, lines-frame, shows-frame}
+use Rattle.nub_rule.proofs.Owing.{owes-frame}
 use Rattle.nub_rule.proofs.Beside.{Alike, beside, idle}
 
 same_pen : {A : Type 0} (a b c : A) → a ≡ b → a ≡ c → b ≡ c
@@ -151,6 +152,7 @@ module _ {T H W : Type 0} (l : Layout) (traced : Bool) (w : W) (begin : W → �
       (lines-frame all n p q at (λ o. c.owed o ++ c.queue o) words (set words i y) c.sizes.few (pen-ready words y i hi) refl c.lines)
       (shows-frame all n p q at c.spinner c.queue c.owner c.spec words (set words i y) (pen-shown words y i hi) refl refl refl refl c.shows)
       pens
+      (owes-frame c.queue words (set words i y) all n p q at (λ k lo. other words i (bit_at k) y (λ z. omega arith)) refl refl refl c.owes)
 
   pub takes_pen : (slots id : ℕ) (me : Me (Slot T) (View T H W)) → traced ≡ true → me.0.kind ≡ Member → me.0.part.pen ≡ No → Allows (IsKept l traced w begin holds) slots id me pen_at (λ x. either (eqb x 0) 1 x) (penned (step slots pen_at 0 1 none) me)
   takes_pen slots id me traces kind out = let v = me.0 in let n = v.number in let p = v.part in let q : Part T H = record p { pen = Taken } in member_steps l traced w begin holds slots id pen_at (λ x. either (eqb x 0) 1 x) v me.1

@@ -7,6 +7,7 @@ use lib.ListN.{get_elem?}
 use Rattle.larch_actions.specs.declared.event.Layout.{Layout}
 use Rattle.larch_actions.specs.Actions.{put}
 use Rattle.larch_actions.specs.Sets.{mem, without}
+use Rattle.larch_actions.proofs.Sets.{mem-here}
 use Rattle.atomic_table.specs.Table.{Me, Act, Valid, step, Allows, keeps, homes_after, carried_after}
 use Rattle.nub_rule.specs.declared.rule.Slot.{Slot}
 use Rattle.nub_rule.specs.declared.view.Part.{Part}
@@ -15,15 +16,18 @@ use Rattle.nub_rule.specs.declared.view.Stage.TheVariants.{Pushed}
 use Rattle.nub_rule.specs.declared.view.View.{View}
 use Rattle.nub_rule.specs.declared.view.Kind.TheVariants.{Member}
 use Rattle.nub_rule.specs.Items.{Core, Lines, Distinct}
-use Rattle.nub_rule.specs.Places.{length_at, spin_at}
+use Rattle.nub_rule.specs.Places.{length_at, spin_at, bit_at}
 use Rattle.nub_rule.specs.Plays.{Becomes, with_part, measured, pushed, took_out, popped, behind, front, less}
 use Rattle.nub_rule.specs.Rule.{IsKept}
-use Rattle.nub_rule.proofs.Each.{put-here, put-else}
+use Rattle.nub_rule.proofs.Each.{put-here, put-else, at_below}
 use Rattle.nub_rule.proofs.Members.{member_steps}
+use Rattle.nub_rule.specs.Parts.{stands_at}
+use Rattle.nub_rule.specs.Owed.{Owes}
 use Rattle.nub_rule.proofs.Frames.{other, length-bits, length-ready, length-shown, length-pen, pens-frame}
 use Rattle.nub_rule.proofs.Standing.{both_ways, not_true, mem-behind, distinct-apart, distinct-behind, without-append, without-absent, less-without, lines-push, lines-leave, lines-same}
 use Rattle.nub_rule.proofs.Showing.{shows-gate}
 use Rattle.nub_rule.proofs.Spinning.{only_here, spins-change}
+use Rattle.nub_rule.proofs.Owing.{SameGates, owes-frame, owes-empty, owes-push, owes-leave, owes-pop}
 use Rattle.nub_rule.proofs.Beside.{Alike, beside, still}
 
 -- in distinct halves nobody is in both
@@ -35,12 +39,30 @@ popped-line : (xs ys : List ℕ) → (xs ++ front ys) ++ behind ys ≡ xs ++ ys
 popped-line xs [] = append_assoc xs [] []
 popped-line xs (y ∷ ys) = append_assoc xs (y ∷ []) ys
 
+none_long : (xs : List ℕ) → length xs ≡ 0 → xs ≡ []
+none_long [] e = refl
+none_long (x ∷ xs) e = absurd (omega arith)
+
+-- a step on a length word leaves the bits
+bits-stay : (o : ℕ) → o < 192 → (words : List ℕ) (x : ℕ) → SameGates words (set words (length_at o) x)
+bits-stay o low words x k lo = other words (length_at o) (bit_at k) x (λ z. omega arith)
+
+-- the first of the queue of o stands there, and isn't behind itself
+first_stands : {T H : Type 0} (all : List (Part T H)) (owed queue words : List ℕ) (line : ℕ → List ℕ) (queue' : List ℕ) (o : ℕ) → Lines line words all → line o ≡ owed ++ queue → queue' ≡ behind queue
+    → (x : ℕ) (xs : List ℕ) → queue ≡ x ∷ xs → (r : Part T H) × (get_elem? all x ≡ some r) × (stands_at r.stand o ≡ true) × (queue' ≡ xs) × (mem x xs ≡ false)
+first_stands all owed queue words line queue' o lines is after x xs e =
+    let here : mem x queue ≡ true = ap (mem x) e ∙ mem-here x x xs refl in
+    let there : mem x (line o) ≡ true = ap (mem x) is ∙ mem-behind x owed queue here in
+    let t = at_below all x (lines.people o x there) in
+    let d : Distinct (x ∷ xs) = subst Distinct e (distinct-behind owed queue (subst Distinct is (lines.distinct o))) in
+    (t.0, t.1, ((lines.stands x t.0 t.1).lined o there).0, after ∙ ap behind e, d.0)
+
 module _ {T H W : Type 0} (l : Layout) (traced : Bool) (w : W) (begin : W → ℕ → H) (holds : W → List T → List H → Type 0) where
   -- the thread n, which has the spin word of the gate o, changes the queue to ys and those that it owes to zs
   requeues : (n o : ℕ) (p q : Part T H) (ys zs : List ℕ) (words : List ℕ) (homes : List (Option (Slot T))) (all : List (Part T H)) → get_elem? all n ≡ some p → o < 128 → p.spin ≡ Some o → Alike l traced w holds p q → q.spin ≡ p.spin → q.queue ≡ ys → q.owed ≡ zs → (p.left ≡ p.queue → q.left ≡ q.queue)
-      → q.wait ≡ p.wait → q.pen ≡ p.pen → (c : Core l traced w holds words homes all) → Lines (λ i. put c.owed o zs i ++ put c.queue o ys i) (set words (length_at o) (length ys)) (set all n q)
+      → q.wait ≡ p.wait → q.pen ≡ p.pen → (c : Core l traced w holds words homes all) → Lines (λ i. put c.owed o zs i ++ put c.queue o ys i) (set words (length_at o) (length ys)) (set all n q) → Owes (put c.queue o ys) (set words (length_at o) (length ys)) (set all n q)
       → Core l traced w holds (set words (length_at o) (length ys)) homes (set all n q)
-  requeues n o p q ys zs words homes all at low here a es eq eo el ew ep c lines =
+  requeues n o p q ys zs words homes all at low here a es eq eo el ew ep c lines owes =
       let s = c.spins in let words' : List ℕ = set words (length_at o) (length ys) in let far : o < 192 = omega arith in let wide = c.sizes.words_wide in
       beside l traced w holds words words' homes homes all n p q at (length-set words (length_at o) (length ys)) refl (length-bits words (length ys) o far) (λ m. refl) a c.spinner c.writer (put c.queue o ys) (put c.owed o zs) c
       (spins-change c.spinner c.queue c.owed words homes all n p q at s o ys zs (put c.queue o ys) (put c.owed o zs) words' far here es eq eo (put-here c.queue o ys) (λ k ne. put-else c.queue o k ys ne) (put-here c.owed o zs) (λ k ne. put-else c.owed o k zs ne)
@@ -48,24 +70,26 @@ module _ {T H W : Type 0} (l : Layout) (traced : Bool) (w : W) (begin : W → �
       lines
       (shows-gate words words' (length-shown words (length ys) o far) c.spinner c.queue c.owner c.spec all n p q at o ys low ew el (only_here c.spinner c.queue c.owed words homes all n p q at s o here) c.shows)
       (pens-frame all n p q at traced (length c.log) c.writer words words' (length-pen words (length ys) o far) ep c.pens)
+      owes
 
   -- a step that changes what the view remembers of gates alone
-  notes : (n i : ℕ) (p : Part T H) (failed turns cleared looked : List ℕ) (words : List ℕ) (homes : List (Option (Slot T))) (all : List (Part T H)) → get_elem? all n ≡ some p → Core l traced w holds words homes all
+  notes : (n i : ℕ) (p : Part T H) (failed turns cleared looked : List ℕ) (words : List ℕ) (homes : List (Option (Slot T))) (all : List (Part T H)) → get_elem? all n ≡ some p → (c : Core l traced w holds words homes all) → Owes c.queue words (set all n (record p { failed = failed; turns = turns; cleared = cleared; looked = looked }))
       → Core l traced w holds (set words i (get_or words i 0)) homes (set all n (record p { failed = failed; turns = turns; cleared = cleared; looked = looked }))
-  notes n i p failed turns cleared looked words homes all at c = let q : Part T H = record p { failed = failed; turns = turns; cleared = cleared; looked = looked } in
+  notes n i p failed turns cleared looked words homes all at c owes = let q : Part T H = record p { failed = failed; turns = turns; cleared = cleared; looked = looked } in
       still l traced w holds words homes all i n p q at record { seen = refl; mine = refl; places = refl; held = refl; share = refl } refl refl refl refl refl refl refl c
       (lines-same (λ o. c.owed o ++ c.queue o) (λ o. c.owed o ++ c.queue o) words words all n p q at c.sizes.few (λ t lo. refl) (λ o. refl) refl c.lines)
+      owes
 
-  pub lengths : (slots id o : ℕ) (me : Me (Slot T) (View T H W)) → me.0.kind ≡ Member → Allows (IsKept l traced w begin holds) slots id me (length_at o) (λ x. x) (measured (step slots (length_at o) 0 0 none) me)
-  lengths slots id o me kind = let v = me.0 in let n = v.number in let p = v.part in let i = length_at o in
+  pub lengths : (slots id o : ℕ) (me : Me (Slot T) (View T H W)) → o < 192 → me.0.kind ≡ Member → Allows (IsKept l traced w begin holds) slots id me (length_at o) (λ x. x) (measured (step slots (length_at o) 0 0 none) me)
+  lengths slots id o me far kind = let v = me.0 in let n = v.number in let p = v.part in let i = length_at o in
       let Out : ℕ → Part T H → Type 0 = λ r q. (r ≡ 0 → q ≡ record p { cleared = without o p.cleared; looked = without o p.looked }) × (r ≢ 0 → mem o p.cleared ≡ true → q ≡ record p { looked = o ∷ p.looked }) × (r ≢ 0 → mem o p.cleared ≡ false → q ≡ p) in
       member_steps l traced w begin holds slots id i (λ x. x) v me.1 (λ r q ds. Out r q × (ds ≡ me.1)) (measured (step slots i 0 0 none) me) kind
       (λ r q ds world t k is. let e : o ≡ k = omega arith in subst (λ (k : ℕ). (r ≡ 0 → Becomes me (record p { cleared = without k p.cleared; looked = without k p.looked }) (with_part v q, ds)) × (r ≢ 0 → mem k p.cleared ≡ true → Becomes me (record p { looked = k ∷ p.looked }) (with_part v q, ds)) × (r ≢ 0 → mem k p.cleared ≡ false → (with_part v q, ds) ≡ me)) e
       ((λ hit j. (with_part v (t.0.0 hit j), t.1 j)), (λ miss is' j. (with_part v (t.0.1 miss is' j), t.1 j)), (λ miss out j. (with_part v (t.0.2 miss out j), t.1 j))))
       (λ words homes all c at small. dite (ℕ_discrete (get_or words i 0) 0)
-      (λ hit. (record p { cleared = without o p.cleared; looked = without o p.looked }, keeps, tt, notes n i p p.failed p.turns (without o p.cleared) (without o p.looked) words homes all at c, (((λ _. refl), (λ miss. absurd (miss hit)), (λ miss. absurd (miss hit))), refl)))
+      (λ hit. (record p { cleared = without o p.cleared; looked = without o p.looked }, keeps, tt, let q : Part T H = record p { cleared = without o p.cleared; looked = without o p.looked } in notes n i p p.failed p.turns (without o p.cleared) (without o p.looked) words homes all at c (owes-empty c.queue words words all n p q at o (λ k lo. refl) (none_long (c.queue o) (sym (c.spins.measured o far) ∙ hit)) refl refl refl c.owes), (((λ _. refl), (λ miss. absurd (miss hit)), (λ miss. absurd (miss hit))), refl)))
       (λ miss. elim (mem o p.cleared) as (λ b. b ≡ mem o p.cleared → (q : Part T H) × (a : Act (Slot T)) × Valid homes me.1 a × Core l traced w holds (set words i (get_or words i 0)) (homes_after homes me.1 a) (set all n q) × (Out (get_or words i 0) q × (carried_after me.1 a ≡ me.1)))
-      [ true ↦ (λ is. (record p { looked = o ∷ p.looked }, keeps, tt, notes n i p p.failed p.turns p.cleared (o ∷ p.looked) words homes all at c, (((λ hit. absurd (miss hit)), (λ _ _. refl), (λ _ out. both_ways (mem o p.cleared) (sym is) out)), refl))) | false ↦ (λ is. (p, keeps, tt, notes n i p p.failed p.turns p.cleared p.looked words homes all at c, (((λ hit. absurd (miss hit)), (λ _ is'. both_ways (mem o p.cleared) is' (sym is)), (λ _ _. refl)), refl))) ] refl))
+      [ true ↦ (λ is. (record p { looked = o ∷ p.looked }, keeps, tt, let q : Part T H = record p { looked = o ∷ p.looked } in notes n i p p.failed p.turns p.cleared (o ∷ p.looked) words homes all at c (owes-frame c.queue words words all n p q at (λ k lo. refl) refl refl refl c.owes), (((λ hit. absurd (miss hit)), (λ _ _. refl), (λ _ out. both_ways (mem o p.cleared) (sym is) out)), refl))) | false ↦ (λ is. (p, keeps, tt, notes n i p p.failed p.turns p.cleared p.looked words homes all at c (owes-frame c.queue words words all n p p at (λ k lo. refl) refl refl refl c.owes), (((λ hit. absurd (miss hit)), (λ _ is'. both_ways (mem o p.cleared) is' (sym is)), (λ _ _. refl)), refl))) ] refl))
 
   pub pushes : (slots id o r : ℕ) (me : Me (Slot T) (View T H W)) → o < 128 → me.0.kind ≡ Member → me.0.part.spin ≡ Some o → me.0.part.stand ≡ None → r ≡ length (me.0.part.queue ++ me.0.number ∷ [])
       → Allows (IsKept l traced w begin holds) slots id me (length_at o) (λ _. r) (λ _. pushed (step slots (length_at o) r 0 none) me r)
@@ -85,7 +109,8 @@ module _ {T H W : Type 0} (l : Layout) (traced : Bool) (w : W) (begin : W → �
         keeps,
         tt,
         requeues n o p q ys (c.owed o) words homes all at low here record { seen = refl; mine = refl; places = refl; held = refl; share = refl } refl refl mine.2 (λ e. ap (λ z. z ++ n ∷ []) e) refl refl c
-            (lines-push line line' words words' all n p q at c.sizes.few o st (length-ready words (length ys) o far) is (λ k ne i. put-else c.owed o k (c.owed o) ne i ++ put-else c.queue o k ys ne i) out refl refl (λ f. f) c.lines),
+            (lines-push line line' words words' all n p q at c.sizes.few o st (length-ready words (length ys) o far) is (λ k ne i. put-else c.owed o k (c.owed o) ne i ++ put-else c.queue o k ys ne i) out refl refl (λ f. f) c.lines)
+            (owes-push c.queue (put c.queue o ys) words words' all n p q at o st (bits-stay o far words (length ys)) (put-here c.queue o ys ∙ ap (λ z. z ++ n ∷ []) mine.1) (λ k ne. put-else c.queue o k ys ne) out refl refl tt (λ f. f) refl refl c.owes),
         (refl, refl),
       )))
 
@@ -110,7 +135,8 @@ module _ {T H W : Type 0} (l : Layout) (traced : Bool) (w : W) (begin : W → �
         keeps,
         tt,
         requeues n o p q ys (c.owed o) words homes all at low here record { seen = refl; mine = refl; places = refl; held = refl; share = refl } refl refl mine.2 (λ e. ap (less n) e) refl refl c
-            (lines-leave line line' words words' all n p q at c.sizes.few o (length-ready words (length ys) o far) is (λ k ne i. put-else c.owed o k (c.owed o) ne i ++ put-else c.queue o k ys ne i) (mem-behind n (c.owed o) (c.queue o) queued) refl c.lines),
+            (lines-leave line line' words words' all n p q at c.sizes.few o (length-ready words (length ys) o far) is (λ k ne i. put-else c.owed o k (c.owed o) ne i ++ put-else c.queue o k ys ne i) (mem-behind n (c.owed o) (c.queue o) queued) refl c.lines)
+            (owes-leave c.queue (put c.queue o ys) words words' all n p q at o (bits-stay o far words (length ys)) (λ k ne. put-else c.queue o k ys ne) ((c.lines.stands n p at).lined o (mem-behind n (c.owed o) (c.queue o) queued)).0 refl refl refl c.owes),
         (refl, refl),
       )))
 
@@ -134,6 +160,8 @@ module _ {T H W : Type 0} (l : Layout) (traced : Bool) (w : W) (begin : W → �
         keeps,
         tt,
         requeues n o p q ys zs words homes all at low here record { seen = refl; mine = refl; places = refl; held = refl; share = refl } refl refl refl (λ e. ap behind e) refl refl c
-            (lines-same line line' words words' all n p q at c.sizes.few (length-ready words (length ys) o far) same refl c.lines),
+            (lines-same line line' words words' all n p q at c.sizes.few (length-ready words (length ys) o far) same refl c.lines)
+            (owes-pop c.queue (put c.queue o ys) words words' all n p q at o (bits-stay o far words (length ys))
+            (first_stands all (c.owed o) (c.queue o) words line (put c.queue o ys o) o c.lines refl (put-here c.queue o ys ∙ ap behind mine.1)) (λ e. put-here c.queue o ys ∙ (ap behind mine.1 ∙ ap behind e)) (λ k ne. put-else c.queue o k ys ne) refl refl refl c.owes),
         (refl, refl),
       )))

@@ -17,8 +17,9 @@ use Rattle.nub_rule.specs.declared.view.Stage.TheVariants.{Asleep, Found}
 use Rattle.nub_rule.specs.declared.view.View.{View}
 use Rattle.nub_rule.specs.declared.view.Kind.TheVariants.{Member}
 use Rattle.nub_rule.specs.Items.{Core}
-use Rattle.nub_rule.specs.Parts.{staged, turned, IsFound}
+use Rattle.nub_rule.specs.Parts.{staged, turned, IsFound, IsUntested, HasTested}
 use Rattle.nub_rule.specs.Places.{bit_at, ready_at}
+use Rattle.nub_rule.specs.Owed.{IsAsleep}
 use Rattle.nub_rule.specs.Plays.{with_part, readied, looked_ready, unreadied}
 use Rattle.nub_rule.specs.Rule.{IsKept}
 use Rattle.nub_rule.proofs.Each.{at_below, put-here, put-else}
@@ -27,6 +28,7 @@ use Rattle.nub_rule.proofs.Frames.{other, ready-bits, ready-spins, ready-shown, 
 use Rattle.nub_rule.proofs.Standing.{false_true, mem-append, distinct-apart, without-append, without-absent, lines-ready, lines-unready, lines-stage}
 use Rattle.nub_rule.proofs.Spinning.{spins-change}
 use Rattle.nub_rule.proofs.Beside.{beside, still}
+use Rattle.nub_rule.proofs.Owing.{owes-frame, owes-stage, owes-unready, tested-not}
 
 -- whom a thread owes, it owes inside
 inside_of : (o : Opt ℕ) (xs : List ℕ) (t : ℕ) → (o ≡ None → xs ≡ []) → mem t xs ≡ true → (k : ℕ) × (o ≡ Some k)
@@ -63,40 +65,42 @@ module _ {T H W : Type 0} (l : Layout) (traced : Bool) (w : W) (begin : W → �
             (lines-ready (λ i. c.owed i ++ c.queue i) (λ i. owed' i ++ c.queue i) words words' all n p q at c.sizes.few t o (λ k lo ne. other words (ready_at t) (ready_at k) 1 (λ z. ne (omega arith))) (get_or-set_same words (ready_at t) 1 0 (omega arith))
             is (λ k ne. ap (λ z. z ++ c.queue k) (put-else c.owed o k zs ne)) inline refl lines)
             (shows-frame all n p q at c.spinner c.queue c.owner c.spec words words' (ready-shown words 1 t low) refl refl refl refl c.shows)
-            (pens-frame all n p q at traced (length c.log) c.writer words words' (ready-pen words 1 t low) refl c.pens),
+            (pens-frame all n p q at traced (length c.log) c.writer words words' (ready-pen words 1 t low) refl c.pens)
+            (owes-frame c.queue words words' all n p q at (λ k lo. other words (ready_at t) (bit_at k) 1 (λ z. omega arith)) refl refl refl c.owes),
         (zero, refl, refl),
       ))
 
   -- the stand at a stage that the words show
-  restages : (n i : ℕ) (p : Part T H) (s : Stand) (g : Stage) (words : List ℕ) (homes : List (Option (Slot T))) (all : List (Part T H)) → get_elem? all n ≡ some p → p.stand ≡ Some s → (c : Core l traced w holds words homes all) → (IsFound g → get_or words (ready_at n) 0 ≡ 1)
+  restages : (n i : ℕ) (p : Part T H) (s : Stand) (g : Stage) (words : List ℕ) (homes : List (Option (Slot T))) (all : List (Part T H)) → get_elem? all n ≡ some p → p.stand ≡ Some s → (c : Core l traced w holds words homes all) → (IsFound g → get_or words (ready_at n) 0 ≡ 1) → (IsUntested s.stage → get_or words (bit_at s.at) 0 ≡ 0 → IsUntested g) → (IsAsleep g → p.cleared ≡ [])
       → Core l traced w holds (set words i (get_or words i 0)) homes (set all n (record p { stand = staged g p.stand }))
-  restages n i p s g words homes all at stood c found = let q : Part T H = record p { stand = staged g p.stand } in
+  restages n i p s g words homes all at stood c found untested asleep = let q : Part T H = record p { stand = staged g p.stand } in
       still l traced w holds words homes all i n p q at record { seen = refl; mine = refl; places = refl; held = refl; share = refl } refl refl refl refl refl refl refl c
       (lines-stage (λ o. c.owed o ++ c.queue o) (λ o. c.owed o ++ c.queue o) words words all n p q at c.sizes.few s (record s { stage = g }) (λ t lo. refl) (λ o. refl) stood (ap (staged g) stood) refl found c.lines)
+      (owes-stage c.queue words words all n p q at s (record s { stage = g }) (λ k lo. refl) stood (ap (staged g) stood) refl untested asleep refl refl c.owes)
 
   -- the bit is read after a push
-  pub retests : (slots id i : ℕ) (me : Me (Slot T) (View T H W)) (s : Stand) (a b : Stage) → me.0.kind ≡ Member → me.0.part.stand ≡ Some s → (IsFound a → ⊥) → (IsFound b → ⊥)
+  pub retests : (slots id i : ℕ) (me : Me (Slot T) (View T H W)) (s : Stand) (a b : Stage) → me.0.kind ≡ Member → me.0.part.stand ≡ Some s → i ≡ bit_at s.at → IsUntested a → (IsFound a → ⊥) → (IsFound b → ⊥) → (IsAsleep a → ⊥) → (IsAsleep b → ⊥)
       → Allows (IsKept l traced w begin holds) slots id me i (λ x. x) (λ r me'. (u : Stand) → me.0.part.stand ≡ Some u → i ≡ bit_at u.at → (r ≡ 0 → me' ≡ (with_part me.0 (record me.0.part { stand = staged a me.0.part.stand }), me.1)) × (r ≢ 0 → me' ≡ (with_part me.0 (record me.0.part { stand = staged b me.0.part.stand }), me.1)))
-  retests slots id i me s a b kind stood na nb = let v = me.0 in let n = v.number in let p = v.part in
+  retests slots id i me s a b kind stood word untested na nb sa sb = let v = me.0 in let n = v.number in let p = v.part in
       member_steps l traced w begin holds slots id i (λ x. x) v me.1 (λ r q ds. ((r ≡ 0) × (q ≡ record p { stand = staged a p.stand }) × (ds ≡ me.1)) ⊎ ((r ≢ 0) × (q ≡ record p { stand = staged b p.stand }) × (ds ≡ me.1)))
       (λ r me'. (u : Stand) → p.stand ≡ Some u → i ≡ bit_at u.at → (r ≡ 0 → me' ≡ (with_part v (record p { stand = staged a p.stand }), me.1)) × (r ≢ 0 → me' ≡ (with_part v (record p { stand = staged b p.stand }), me.1))) kind
       (λ r q ds world t. λ here stands word. ⊎_elim
       (λ (u : (r ≡ 0) × (q ≡ record p { stand = staged a p.stand }) × (ds ≡ me.1)). ((λ _. λ j. (with_part v (u.1 j), u.2 j)), λ miss. absurd (miss u.0)))
       (λ (u : (r ≢ 0) × (q ≡ record p { stand = staged b p.stand }) × (ds ≡ me.1)). ((λ hit. absurd (u.0 hit)), λ _. λ j. (with_part v (u.1 j), u.2 j))) t)
       (λ words homes all c at small. dite (ℕ_discrete (get_or words i 0) 0)
-      (λ hit. (record p { stand = staged a p.stand }, keeps, tt, restages n i p s a words homes all at stood c (λ f. absurd (na f)), inl (hit, refl, refl)))
-      (λ miss. (record p { stand = staged b p.stand }, keeps, tt, restages n i p s b words homes all at stood c (λ f. absurd (nb f)), inr (miss, refl, refl))))
+      (λ hit. (record p { stand = staged a p.stand }, keeps, tt, restages n i p s a words homes all at stood c (λ f. absurd (na f)) (λ _ _. untested) (λ f. absurd (sa f)), inl (hit, refl, refl)))
+      (λ miss. (record p { stand = staged b p.stand }, keeps, tt, restages n i p s b words homes all at stood c (λ f. absurd (nb f)) (λ _ zero. absurd (miss ((λ j. get_or words (word j) 0) ∙ zero))) (λ f. absurd (sb f)), inr (miss, refl, refl))))
 
-  pub looks : (slots id : ℕ) (me : Me (Slot T) (View T H W)) (s : Stand) → me.0.kind ≡ Member → me.0.part.stand ≡ Some s → Allows (IsKept l traced w begin holds) slots id me (ready_at me.0.number) (λ x. x) (looked_ready (step slots (ready_at me.0.number) 0 0 none) me)
-  looks slots id me s kind stood = let v = me.0 in let n = v.number in let p = v.part in let i = ready_at n in
+  pub looks : (slots id : ℕ) (me : Me (Slot T) (View T H W)) (s : Stand) → me.0.kind ≡ Member → me.0.part.stand ≡ Some s → HasTested s.stage → me.0.part.cleared ≡ [] → Allows (IsKept l traced w begin holds) slots id me (ready_at me.0.number) (λ x. x) (looked_ready (step slots (ready_at me.0.number) 0 0 none) me)
+  looks slots id me s kind stood tested looked = let v = me.0 in let n = v.number in let p = v.part in let i = ready_at n in
       member_steps l traced w begin holds slots id i (λ x. x) v me.1 (λ r q ds. ((r ≡ 0) × (q ≡ record p { stand = staged Asleep p.stand }) × (ds ≡ me.1)) ⊎ ((r ≡ 1) × (q ≡ record p { stand = staged Found p.stand }) × (ds ≡ me.1)))
       (looked_ready (step slots i 0 0 none) me) kind
       (λ r q ds world t. ⊎_elim
       (λ (u : (r ≡ 0) × (q ≡ record p { stand = staged Asleep p.stand }) × (ds ≡ me.1)). ((λ _. λ j. (with_part v (u.1 j), u.2 j)), λ miss. absurd (miss u.0)))
       (λ (u : (r ≡ 1) × (q ≡ record p { stand = staged Found p.stand }) × (ds ≡ me.1)). ((λ hit. absurd (let z = u.0 in omega arith)), λ _. (u.0, λ j. (with_part v (u.1 j), u.2 j)))) t)
       (λ words homes all c at small. ⊎_elim
-      (λ (hit : get_or words i 0 ≡ 0). (record p { stand = staged Asleep p.stand }, keeps, tt, restages n i p s Asleep words homes all at stood c (λ f. absurd f), inl (hit, refl, refl)))
-      (λ (one : get_or words i 0 ≡ 1). (record p { stand = staged Found p.stand }, keeps, tt, restages n i p s Found words homes all at stood c (λ _. one), inr (one, refl, refl)))
+      (λ (hit : get_or words i 0 ≡ 0). (record p { stand = staged Asleep p.stand }, keeps, tt, restages n i p s Asleep words homes all at stood c (λ f. absurd f) (λ u _. absurd (tested-not s.stage tested u)) (λ _. looked), inl (hit, refl, refl)))
+      (λ (one : get_or words i 0 ≡ 1). (record p { stand = staged Found p.stand }, keeps, tt, restages n i p s Found words homes all at stood c (λ _. one) (λ u _. absurd (tested-not s.stage tested u)) (λ f. absurd f), inr (one, refl, refl)))
       (c.lines.stands n p at).flag)
 
   pub unreadies : (slots id : ℕ) (me : Me (Slot T) (View T H W)) (s : Stand) → me.0.number < 64 → me.0.kind ≡ Member → me.0.part.stand ≡ Some s → IsFound s.stage → Allows (IsKept l traced w begin holds) slots id me (ready_at me.0.number) (λ _. 0) (unreadied (step slots (ready_at me.0.number) 0 0 none) me)
@@ -111,12 +115,13 @@ module _ {T H W : Type 0} (l : Layout) (traced : Bool) (w : W) (begin : W → �
             (spins-frame all n p q at c.spinner c.queue c.owed words words' homes homes (ready-spins words 0 n low) (λ k lo. refl) refl refl refl c.spins)
             (lines-unready (λ k. c.owed k ++ c.queue k) (λ k. c.owed k ++ c.queue k) words words' all n p q at c.sizes.few (λ k lo ne. other words i (ready_at k) 0 (λ z. ne (omega arith))) (λ k. refl) one (get_or-set_same words i 0 0 (omega arith)) refl c.lines)
             (shows-frame all n p q at c.spinner c.queue c.owner c.spec words words' (ready-shown words 0 n low) refl refl refl refl c.shows)
-            (pens-frame all n p q at traced (length c.log) c.writer words words' (ready-pen words 0 n low) refl c.pens),
+            (pens-frame all n p q at traced (length c.log) c.writer words words' (ready-pen words 0 n low) refl c.pens)
+            (owes-unready c.queue words words' all n p q at s (λ k lo. other words i (bit_at k) 0 (λ z. omega arith)) stood refl refl refl c.owes),
         (one, refl, refl),
       ))
 
-  pub looks_by : (slots id n : ℕ) (me : Me (Slot T) (View T H W)) (s : Stand) → me.0.number ≡ n → me.0.kind ≡ Member → me.0.part.stand ≡ Some s → Allows (IsKept l traced w begin holds) slots id me (ready_at n) (λ x. x) (looked_ready (step slots (ready_at n) 0 0 none) me)
-  looks_by slots id n me s e kind stood = subst (λ (n : ℕ). Allows (IsKept l traced w begin holds) slots id me (ready_at n) (λ x. x) (looked_ready (step slots (ready_at n) 0 0 none) me)) e (looks slots id me s kind stood)
+  pub looks_by : (slots id n : ℕ) (me : Me (Slot T) (View T H W)) (s : Stand) → me.0.number ≡ n → me.0.kind ≡ Member → me.0.part.stand ≡ Some s → HasTested s.stage → me.0.part.cleared ≡ [] → Allows (IsKept l traced w begin holds) slots id me (ready_at n) (λ x. x) (looked_ready (step slots (ready_at n) 0 0 none) me)
+  looks_by slots id n me s e kind stood tested looked = subst (λ (n : ℕ). Allows (IsKept l traced w begin holds) slots id me (ready_at n) (λ x. x) (looked_ready (step slots (ready_at n) 0 0 none) me)) e (looks slots id me s kind stood tested looked)
 
   pub unreadies_by : (slots id n : ℕ) (me : Me (Slot T) (View T H W)) (s : Stand) → me.0.number ≡ n → n < 64 → me.0.kind ≡ Member → me.0.part.stand ≡ Some s → IsFound s.stage → Allows (IsKept l traced w begin holds) slots id me (ready_at n) (λ _. 0) (unreadied (step slots (ready_at n) 0 0 none) me)
   unreadies_by slots id n me s e low kind stood found = subst (λ (n : ℕ). Allows (IsKept l traced w begin holds) slots id me (ready_at n) (λ _. 0) (unreadied (step slots (ready_at n) 0 0 none) me)) e (unreadies slots id me s (subst (λ (k : ℕ). k < 64) (sym e) low) kind stood found)

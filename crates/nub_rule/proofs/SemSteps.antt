@@ -29,6 +29,8 @@ use Rattle.nub_rule.proofs.Frames.{other, bit-spins, bit-ready, bit-pen, sem-bit
 use Rattle.nub_rule.proofs.Standing.{lines-same}
 use Rattle.nub_rule.proofs.Penning.{pens-event, numbered-by}
 use Rattle.nub_rule.proofs.Beside.{still}
+use Rattle.nub_rule.specs.Owed.{Owes}
+use Rattle.nub_rule.proofs.Owing.{owes-try, owes-clear}
 use Rattle.nub_rule.proofs.Showing.{shows-sem}
 
 available : (b : Bool) → cond b false true ≡ false → b ≡ true
@@ -47,8 +49,9 @@ module _ {T H W : Type 0} (l : Layout) (traced : Bool) (w : W) (begin : W → �
   -- an event by which the bit of the semaphore s becomes x
   marks : (e : Event) (n s x : ℕ) (b : Bool) (p : Part T H) (failed turns cleared : List ℕ) (words : List ℕ) (homes : List (Option (Slot T))) (all : List (Part T H)) (c : Core l traced w holds words homes all) → get_elem? all n ≡ some p → s < 64 → e.thread.0 ≡ n → MayTell traced p.pen
       → Acts c.spec e (record c.spec { avail = put c.spec.avail s b }) → Says x (cond b false true)
+      → ((q : Part T H) → q.stand ≡ p.stand → q.turns ≡ turns → q.cleared ≡ cleared → Owes c.queue (set words (bit_at (sem_object s)) x) (set all n q))
       → (q : Part T H) × Core l traced w holds (set words (bit_at (sem_object s)) x) homes (set all n q) × Learns e n p (λ z. record (told p z e) { failed = failed; turns = turns; cleared = cleared }) q
-  marks e n s x b p failed turns cleared words homes all c at low by may acts says =
+  marks e n s x b p failed turns cleared words homes all c at low by may acts says owes =
       let o : ℕ = sem_object s in
       let far : o < 192 = omega arith in
       let wide = c.sizes.words_wide in
@@ -81,6 +84,7 @@ module _ {T H W : Type 0} (l : Layout) (traced : Bool) (w : W) (begin : W → �
           shows = shows-sem words words' c.spinner c.queue c.owner c.spec all n p q at s b low (λ k lo. other words (bit_at o) (count_at (cond_object k)) x (λ z. omega arith)) (λ k lo ne. other words (bit_at o) (bit_at (sem_object k)) x (λ z. ne (omega arith))) (λ k lo. other words (bit_at o) (alert_at k) x (λ z. omega arith))
               (subst (λ (z : ℕ). Says z (cond b false true)) (sym (get_or-set_same words (bit_at o) x 0 (omega arith))) says) refl refl refl refl c.shows;
           pens = subst (λ (z : ℕ). Pens traced z words' c.writer (set all n q)) (sym more) (pens-event traced (length c.log) words c.writer all n p q at words' (bit-pen words x o far).0 (bit-pen words x o far).1 may refl c.pens);
+          owes = owes q refl refl refl;
         },
         (
           seen.0,
@@ -108,7 +112,8 @@ module _ {T H W : Type 0} (l : Layout) (traced : Bool) (w : W) (begin : W → �
       (λ hit.
       let free = zero-shows r (c.spec.avail s) (c.shows.avails s low) hit in
       let idle : c.spec.pending n ≡ Nothing = (c.shows.tells n p at).pends ∙ ap pending_of out in
-      let m = marks e n s 1 false p (without o p.failed) (without o p.turns) p.cleared words homes all c at low refl may (record { order = idle; requires_met = tt; when_met = free; choice_met = tt }, refl) (inr (refl, refl)) in
+      let m = marks e n s 1 false p (without o p.failed) (without o p.turns) p.cleared words homes all c at low refl may (record { order = idle; requires_met = tt; when_met = free; choice_met = tt }, refl) (inr (refl, refl))
+      (λ q es et ec. owes-try c.queue words (set words (bit_at o) 1) all n p q at o (λ k lo ne. other words (bit_at o) (bit_at k) 1 (λ z. ne (omega arith))) (λ z. let y = get_or-set_same words (bit_at o) 1 0 (omega arith) in omega arith) es ec et c.owes) in
       (m.0, keeps, tt, subst (λ b. Core l traced w holds (set words (bit_at o) (either b 1 r)) homes (set all n m.0)) (sym (eq-eqb r 0 hit)) m.1, inl (hit, m.2, refl)))
       (λ miss. let q : Part T H = record p { failed = o ∷ p.failed; turns = without o p.turns } in (
         q,
@@ -116,18 +121,20 @@ module _ {T H W : Type 0} (l : Layout) (traced : Bool) (w : W) (begin : W → �
         tt,
         subst (λ b. Core l traced w holds (set words (bit_at o) (either b 1 r)) homes (set all n q)) (sym (ne_eqb r 0 miss))
             (still l traced w holds words homes all (bit_at o) n p q at record { seen = refl; mine = refl; places = refl; held = refl; share = refl } refl refl refl refl refl refl refl c
-            (lines-same (λ k. c.owed k ++ c.queue k) (λ k. c.owed k ++ c.queue k) words words all n p q at c.sizes.few (λ t lo. refl) (λ k. refl) refl c.lines)),
+            (lines-same (λ k. c.owed k ++ c.queue k) (λ k. c.owed k ++ c.queue k) words words all n p q at c.sizes.few (λ t lo. refl) (λ k. refl) refl c.lines)
+            (owes-try c.queue words words all n p q at o (λ k lo ne. refl) miss refl refl refl c.owes)),
         inr (miss, refl, refl),
       )))
 
-  pub clears_v : (slots id s : ℕ) (me : Me (Slot T) (View T H W)) → s < 64 → me.0.kind ≡ Member → me.0.part.wait ≡ None → MayTell traced me.0.part.pen
+  pub clears_v : (slots id s : ℕ) (me : Me (Slot T) (View T H W)) → s < 64 → me.0.kind ≡ Member → me.0.part.wait ≡ None → me.0.part.stand ≡ None → MayTell traced me.0.part.pen
       → Allows (IsKept l traced w begin holds) slots id me (bit_at (sem_object s)) (λ _. 0) (cleared_v (step slots (bit_at (sem_object s)) 0 0 none) me)
-  clears_v slots id s me low kind out may = let v = me.0 in let n = v.number in let p = v.part in let o : ℕ = sem_object s in let e = v_event n s in
+  clears_v slots id s me low kind out apart may = let v = me.0 in let n = v.number in let p = v.part in let o : ℕ = sem_object s in let e = v_event n s in
       member_steps l traced w begin holds slots id (bit_at o) (λ _. 0) v me.1
       (λ r q ds. Learns e n p (λ z. record (told p z e) { failed = p.failed; turns = p.turns; cleared = o ∷ p.cleared }) q × (ds ≡ me.1)) (cleared_v (step slots (bit_at o) 0 0 none) me) kind
       (λ r q ds world t k is. let same : s ≡ k = omega arith in subst (λ (k : ℕ). (between : List Event) × Grows n p between (v_event n k) × Becomes me (record (told p (p.seen ++ between) (v_event n k)) { cleared = sem_object k ∷ p.cleared }) (with_part v q, ds)) same
       (t.0.0, t.0.1, λ i. (with_part v (t.0.2 i), t.1 i)))
       (λ words homes all c at small.
       let idle : c.spec.pending n ≡ Nothing = (c.shows.tells n p at).pends ∙ ap pending_of out in
-      let m = marks e n s 0 true p p.failed p.turns (o ∷ p.cleared) words homes all c at low refl may (record { order = idle; requires_met = tt; when_met = tt; choice_met = tt }, refl) (inl (refl, refl)) in
+      let m = marks e n s 0 true p p.failed p.turns (o ∷ p.cleared) words homes all c at low refl may (record { order = idle; requires_met = tt; when_met = tt; choice_met = tt }, refl) (inl (refl, refl))
+      (λ q es et ec. owes-clear c.queue words (set words (bit_at o) 0) all n p q at o (λ k lo ne. other words (bit_at o) (bit_at k) 0 (λ z. ne (omega arith))) apart es ec et c.owes) in
       (m.0, keeps, tt, m.1, (m.2, refl)))

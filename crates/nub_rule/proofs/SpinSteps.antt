@@ -16,17 +16,18 @@ use Rattle.nub_rule.specs.declared.view.View.{View}
 use Rattle.nub_rule.specs.declared.view.Kind.TheVariants.{Member}
 use Rattle.nub_rule.specs.Items.{Small, line_of, Marks, Core}
 use Rattle.nub_rule.specs.Parts.{stands_at}
-use Rattle.nub_rule.specs.Places.{spin_at, queue_at, value_at}
+use Rattle.nub_rule.specs.Places.{bit_at, spin_at, queue_at, value_at}
 use Rattle.nub_rule.specs.Plays.{with_part, spun, unspun}
 use Rattle.nub_rule.specs.Rule.{IsKept}
 use Rattle.nub_rule.proofs.Each.{at_within}
 use Rattle.nub_rule.proofs.Members.{Steps, member_steps}
-use Rattle.nub_rule.proofs.Frames.{spin-bits, spin-ready, spin-shown, spin-pen, pens-frame}
+use Rattle.nub_rule.proofs.Frames.{spin-bits, spin-ready, spin-shown, spin-pen, pens-frame, other}
 use Rattle.nub_rule.proofs.Standing.{no_object, not_true, stand_none, distinct-behind, mem-behind, lines-same}
 use Rattle.nub_rule.proofs.Counting.{room_to_push, small_of}
 use Rattle.nub_rule.proofs.Showing.{shows-spin, shows-unspin}
 use Rattle.nub_rule.proofs.Spinning.{only_here, spins-take, spins-give}
 use Rattle.nub_rule.proofs.Beside.{beside, idle}
+use Rattle.nub_rule.proofs.Owing.{owes-frame}
 
 pub nobody-by : (x : ℕ) (owner : Option ℕ) → Marks x owner → x ≡ 0 → owner ≡ none
 nobody-by x owner m z = ⊎_elim (λ (t : (x ≡ 0) × (owner ≡ none)). t.1) (λ (t : (x ≡ 1) × ((k : ℕ) × (owner ≡ some k))). let u = t.0 in absurd (omega arith)) m
@@ -61,7 +62,8 @@ module _ {T H W : Type 0} (l : Layout) (traced : Bool) (w : W) (begin : W → �
             (spins-take c.spinner c.queue c.owed words homes all n p q at s o low c.sizes.words_wide free idle_there refl refl refl)
             (lines-same (λ i. c.owed i ++ c.queue i) (λ i. c.owed i ++ c.queue i) words words' all n p q at few (spin-ready words 1 o low) (λ i. refl) refl lines)
             (shows-spin words words' (spin-shown words 1 o low) c.spinner c.queue c.owner c.spec all n p q at o refl refl refl free (λ k is. no_object k (sym idle_there ∙ (s.spinning n p at k).1 is)) c.shows refl)
-            (pens-frame all n p q at traced (length c.log) c.writer words words' (spin-pen words 1 o low) refl c.pens)),
+            (pens-frame all n p q at traced (length c.log) c.writer words words' (spin-pen words 1 o low) refl c.pens)
+            (owes-frame c.queue words words' all n p q at (λ k lo. other words (spin_at o) (bit_at k) 1 (λ z. omega arith)) refl refl refl c.owes)),
         inl (
           hit,
           (
@@ -110,6 +112,7 @@ module _ {T H W : Type 0} (l : Layout) (traced : Bool) (w : W) (begin : W → �
             (spins-give c.spinner c.queue c.owed words homes all n p q at s o low c.sizes.words_wide (omega arith) here none_owed refl)
             (lines-same (λ i. c.owed i ++ c.queue i) (λ i. c.owed i ++ c.queue i) words words' all n p q at c.sizes.few (spin-ready words 0 o low) (λ i. refl) refl c.lines)
             (shows-unspin words words' (spin-shown words 0 o low) c.spinner c.queue c.owner c.spec all n p q at o refl refl mine.0 (only_here c.spinner c.queue c.owed words homes all n p q at s o here) (even ∙ mine.1) c.shows)
-            (pens-frame all n p q at traced (length c.log) c.writer words words' (spin-pen words 0 o low) refl c.pens)),
+            (pens-frame all n p q at traced (length c.log) c.writer words words' (spin-pen words 0 o low) refl c.pens)
+            (owes-frame c.queue words words' all n p q at (λ k lo. other words (spin_at o) (bit_at k) 0 (λ z. omega arith)) refl refl refl c.owes)),
         (one-by (get_or words (spin_at o) 0) n (c.spinner o) (s.spin o low) mine.0, refl, refl),
       ))

@@ -2,6 +2,7 @@ pub mod Places
 pub mod Objects
 pub mod Slots
 pub mod Parts
+pub mod Owed
 pub mod Items
 pub mod Rule
 pub mod Plays

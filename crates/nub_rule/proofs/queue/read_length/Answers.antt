@@ -12,7 +12,7 @@ use Rattle.nub_rule.proofs.QueueSteps.{lengths}
 use Rattle.nub_rule.proofs.queue.read_length.Goals as goal
 
 pub load-requires : goal.load-requires
-load-requires g c = let low = object_low _ _ _ _ c.p.view_is c.p.invariant.laid_out c.p.invariant.lawful c.args.at c.requires.named in let is = c.number-o.ensures in let o : ℕ = c.number-o.result in let near : o < 128 = omega arith in (search rules, omega arith, lengths _ _ _ _ _ _ _ o c.me.inside.seat.me c.me.invariant.member)
+load-requires g c = let low = object_low _ _ _ _ c.p.view_is c.p.invariant.laid_out c.p.invariant.lawful c.args.at c.requires.named in let is = c.number-o.ensures in let o : ℕ = c.number-o.result in let near : o < 128 = omega arith in (search rules, omega arith, lengths _ _ _ _ _ _ _ o c.me.inside.seat.me (omega arith) c.me.invariant.member)
 
 pub invariant_of-me : goal.invariant_of-me
 invariant_of-me g c = let o : ℕ = c.number-o.result in let i = c.me.invariant in let h = i.hands in let u = c.load.ensures.2 o refl in dite (ℕ_discrete c.load.result 0)

@@ -11,7 +11,7 @@ use Rattle.nub_rule.proofs.ReadySteps.{retests}
 use Rattle.nub_rule.proofs.queue.test_again.Goals as goal
 
 pub load-requires : goal.load-requires
-load-requires g c = let low = object_low _ _ _ _ c.p.view_is c.p.invariant.laid_out c.p.invariant.lawful c.args.at c.requires.named in let is = c.number-o.ensures in let o : ℕ = c.number-o.result in let near : o < 128 = omega arith in let t = c.requires.untested in (search rules, omega arith, retests _ _ _ _ _ _ _ _ c.me.inside.seat.me t.0 Clear Tested c.me.invariant.member (ap (λ k. k.stand) c.me.view_is ∙ t.1) (λ f. f) (λ f. f))
+load-requires g c = let low = object_low _ _ _ _ c.p.view_is c.p.invariant.laid_out c.p.invariant.lawful c.args.at c.requires.named in let is = c.number-o.ensures in let o : ℕ = c.number-o.result in let near : o < 128 = omega arith in let t = c.requires.untested in (search rules, omega arith, retests _ _ _ _ _ _ _ _ c.me.inside.seat.me t.0 Clear Tested c.me.invariant.member (ap (λ k. k.stand) c.me.view_is ∙ t.1) (ap (λ (k : ℕ). 16 * k) (is ∙ sym t.2.0)) tt (λ f. f) (λ f. f) (λ f. f) (λ f. f))
 
 pub invariant_of-me : goal.invariant_of-me
 invariant_of-me g c = let i = c.me.invariant in let h = i.hands in let t = c.requires.untested in let stood = ap (λ k. k.stand) c.me.view_is ∙ t.1 in let word : 16 * c.number-o.result ≡ 16 * t.0.at = ap (λ (k : ℕ). 16 * k) (c.number-o.ensures ∙ sym t.2.0) in let u = c.load.ensures.2 t.0 stood word in dite (ℕ_discrete c.load.result 0)

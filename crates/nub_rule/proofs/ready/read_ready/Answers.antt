@@ -11,7 +11,7 @@ use Rattle.nub_rule.proofs.ReadySteps.{looks_by}
 use Rattle.nub_rule.proofs.ready.read_ready.Goals as goal
 
 pub load-requires : goal.load-requires
-load-requires g c = let i = c.me.invariant in let t = c.requires.tested in (search rules, (let low = i.few in omega arith), looks_by _ _ _ _ _ _ _ _ c.me.inside.seat.me t.0 i.numbered i.member (ap (λ k. k.stand) c.me.view_is ∙ t.1))
+load-requires g c = let i = c.me.invariant in let t = c.requires.tested in (search rules, (let low = i.few in omega arith), looks_by _ _ _ _ _ _ _ _ c.me.inside.seat.me t.0 i.numbered i.member (ap (λ k. k.stand) c.me.view_is ∙ t.1) t.2 (ap (λ k. k.cleared) c.me.view_is ∙ c.requires.looked))
 
 pub invariant_of-me : goal.invariant_of-me
 invariant_of-me g c = let i = c.me.invariant in let h = i.hands in let out : c.me.inside.seat.me.0.part.spin ≡ None = ap (λ k. k.spin) c.me.view_is ∙ c.requires.outside in dite (ℕ_discrete c.load.result 0)
