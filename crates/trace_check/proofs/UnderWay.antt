@@ -46,14 +46,14 @@ pub few : (budget : ℕ) (left₀ : Option (List ℕ)) (before : ℕ) (st : Stan
 few budget left₀ before st now m count u = omega (arith, length-front_text st.layout u.events, u.counted, u.room)
 
 -- another event may stand behind the next
-possible : (budget : ℕ) (left₀ : Option (List ℕ)) (before : ℕ) (st : Standing) (now : ℕ) (m : Moment) (count : ℕ) → budget < 2 ^ 64 - 1 → IsUnderWay budget left₀ before st now m count → IsLawful st.layout × (st.place + 1 < 2 ^ 64)
+pub possible : (budget : ℕ) (left₀ : Option (List ℕ)) (before : ℕ) (st : Standing) (now : ℕ) (m : Moment) (count : ℕ) → budget < 2 ^ 64 - 1 → IsUnderWay budget left₀ before st now m count → IsLawful st.layout × (st.place + 1 < 2 ^ 64)
 possible budget left₀ before st now m count fits u = (u.lawful, omega (arith, few budget left₀ before st now m count u, u.place))
 
 length-push : (xs ys : List ℕ) (n m room room' : ℕ) → room + n ≡ m → room' + length ys ≡ room → length xs ≡ n → room' + length (xs ++ ys) ≡ m
 length-push xs ys n m room room' a b c = omega (arith, length-append xs ys)
 
 -- the bytes up to the end of this event's line
-read_on : (budget : ℕ) (left₀ : Option (List ℕ)) (before now : ℕ) (p p' : Standing) (m : Moment) (count : ℕ) (e : Event)
+pub read_on : (budget : ℕ) (left₀ : Option (List ℕ)) (before now : ℕ) (p p' : Standing) (m : Moment) (count : ℕ) (e : Event)
     → (u : IsUnderWay budget left₀ before p now m count) → TakesEvent p p' e
     → Consumes left₀ p'.rest (front_text p.layout (u.events ++ e ∷ [])) × (p'.room + length (front_text p.layout (u.events ++ e ∷ [])) ≡ budget)
 read_on budget left₀ before now p p' m count e u t =
@@ -67,7 +67,7 @@ read_on budget left₀ before now p p' m count e u t =
       length-push (front_text p.layout u.events) (event_line p.place e) _ budget p.room p'.room u.room t.passes.room refl,
     )
 
-pub step_on : (budget : ℕ) (left₀ : Option (List ℕ)) (before now now' : ℕ) (p p' : Standing) (m m' : Moment) (count : ℕ) (e : Event) → budget < 2 ^ 64 - 1
+unfoldable pub step_on : (budget : ℕ) (left₀ : Option (List ℕ)) (before now now' : ℕ) (p p' : Standing) (m m' : Moment) (count : ℕ) (e : Event) → budget < 2 ^ 64 - 1
     → IsUnderWay budget left₀ before p now m count → TakesEvent p p' e → Acts (spec_of m) e (spec_of m') → m'.layout ≡ m.layout → now ≤ now' → IsUnderWay budget left₀ before p' now' m' (count + 1)
 step_on budget left₀ before now now' p p' m m' count e fits u t a same le =
     let r = read_on budget left₀ before now p p' m count e u t in record {
@@ -87,11 +87,11 @@ step_on budget left₀ before now now' p p' m m' count e fits u t a same le =
           (rw (t.layout, t.place, t.passes.lines) at h));
     }
 
-consumes_some : (bytes : List ℕ) (r : Option (List ℕ)) (text : List ℕ) → Consumes (Some bytes) r text → (ys : List ℕ) × (bytes ≡ text ++ ys) × (r ≡ Some ys)
+pub consumes_some : (bytes : List ℕ) (r : Option (List ℕ)) (text : List ℕ) → Consumes (Some bytes) r text → (ys : List ℕ) × (bytes ≡ text ++ ys) × (r ≡ Some ys)
 consumes_some bytes None text c = absurd c
 consumes_some bytes (Some ys) text c = (ys, c, refl)
 
-Consumes-split : (a c : Option (List ℕ)) (xs ys : List ℕ) → Consumes a c (xs ++ ys) → (b : Option (List ℕ)) × Consumes a b xs × Consumes b c ys
+pub Consumes-split : (a c : Option (List ℕ)) (xs ys : List ℕ) → Consumes a c (xs ++ ys) → (b : Option (List ℕ)) × Consumes a b xs × Consumes b c ys
 Consumes-split None c xs ys h = (None, tt, tt)
 Consumes-split (Some x) None xs ys h = absurd h
 Consumes-split (Some x) (Some z) xs ys h = (Some (ys ++ z), h ∙ append_assoc xs ys z, refl)
@@ -121,7 +121,7 @@ no_fault l' events place last seen bytes lawful names run at cut fits misses = �
           absurd (no_more l' l place events s.1.0 seen more at s.0 tail longer s.1.2 misses)
     ]
 
-whole_at : (r : Option (List ℕ)) (ys : List ℕ) (Holds : List ℕ → Type 0) → r ≡ Some ys → IfSome r Holds → Holds ys
+pub whole_at : (r : Option (List ℕ)) (ys : List ℕ) (Holds : List ℕ → Type 0) → r ≡ Some ys → IfSome r Holds → Holds ys
 whole_at r ys Holds e h = let Q : Option (List ℕ) → Type 0 = λ o. IfSome o Holds in subst Q e h
 
 within_budget : (budget : ℕ) (left₀ : Option (List ℕ)) (before now : ℕ) (p : Standing) (m : Moment) (count : ℕ) → budget < 2 ^ 64 - 1
@@ -136,7 +136,7 @@ within_budget budget (Some bytes) before now p m count fits u misses =
     (whole_at p.rest b.0 (λ input. Misses (HasNames p.layout) (event_line p.place) (take p.room input)) b.2 misses)
 
 -- an event that fails
-pub fails_on : (budget : ℕ) (left₀ : Option (List ℕ)) (before now : ℕ) (p p' : Standing) (m : Moment) (count : ℕ) (e : Event) (why : Broken)
+unfoldable pub fails_on : (budget : ℕ) (left₀ : Option (List ℕ)) (before now : ℕ) (p p' : Standing) (m : Moment) (count : ℕ) (e : Event) (why : Broken)
     → IsUnderWay budget left₀ before p now m count → TakesEvent p p' e → Fails (spec_of m) e why → IfSome left₀ (λ bytes. IsIllegalText budget bytes count why)
 fails_on budget None before now p p' m count e why u t f = tt
 fails_on budget (Some bytes) before now p p' m count e why u t f =
@@ -205,7 +205,7 @@ head_fault budget left₀ left' before now (fault.BadLine k) h l = bad_just budg
 head_fault budget left₀ left' before now fault.TooLong h l = long_just budget left₀ h (no_head budget left₀ l)
 head_fault budget left₀ left' before now fault.Read h l = (h.0, cut_in_head left₀ left' before now budget h l)
 
-pub ends_on : (budget : ℕ) (left₀ : Option (List ℕ)) (before now : ℕ) (p p' : Standing) (m : Moment) (count : ℕ) (s : Summary) → budget < 2 ^ 64 - 1
+unfoldable pub ends_on : (budget : ℕ) (left₀ : Option (List ℕ)) (before now : ℕ) (p p' : Standing) (m : Moment) (count : ℕ) (s : Summary) → budget < 2 ^ 64 - 1
     → IsUnderWay budget left₀ before p now m count → TakesEnd p p' → s.events ≡ count → s.held ≡ held m.layout (spec_of m) → s.waiting ≡ waiting m.layout (spec_of m) → s.alerted ≡ alerted m.layout (spec_of m)
     → IfSome left₀ (λ bytes. IsLegalText budget bytes s)
 ends_on budget None before now p p' m count s fits u t e h w a = tt
@@ -233,7 +233,7 @@ ends_on budget (Some bytes) before now p p' m count s fits u t e h w a =
       };
     }
 
-pub starts_on : (budget : ℕ) (left₀ : Option (List ℕ)) (before now : ℕ) (p p' : Standing) (l : Layout) (m : Moment)
+unfoldable pub starts_on : (budget : ℕ) (left₀ : Option (List ℕ)) (before now : ℕ) (p p' : Standing) (l : Layout) (m : Moment)
     → p.rest ≡ left₀ → p.room ≡ budget → p.lines ≡ 0 → TakesHead p p' l → before ≤ now → m.layout ≡ l → spec_of m ≡ at_first → IsUnderWay budget left₀ before p' now m 0
 starts_on budget left₀ before now p p' l m rest room lines t le laid first =
     let bytes : Consumes left₀ p'.rest (first_line ++ layout_line l) = rw rest at t.passes.bytes in

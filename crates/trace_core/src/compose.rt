@@ -6,8 +6,8 @@ ghost use Rattle.trace_core.specs.Text.{newline, first_line, layout_line, member
 use itoa::Buffer;
 use larch_actions::{Action, CondId, Event, Layout, MutexId, ThreadId, ThreadSet};
 
-// Adds the piece.
-fn add(buf: &mut [u8], at: usize, piece: &[u8]) -> usize
+/// Adds the piece.
+pub fn add(buf: &mut [u8], at: usize, piece: &[u8]) -> usize
     requires { at + length piece.now ≤ length buf.old }
     ensures text { take result buf.new ≡ take at buf.old ++ piece.now }
     ensures end { result ≡ at + length piece.now }
@@ -17,8 +17,8 @@ fn add(buf: &mut [u8], at: usize, piece: &[u8]) -> usize
     end
 }
 
-// Adds the number.
-fn add_number(buf: &mut [u8], at: usize, n: u64) -> usize
+/// Adds the number.
+pub fn add_number(buf: &mut [u8], at: usize, n: u64) -> usize
     requires { at + 20 ≤ length buf.old }
     ensures text { take result buf.new ≡ take at buf.old ++ decimal n }
     ensures end { result ≡ at + length (decimal n) }
@@ -121,7 +121,7 @@ fn add_action(buf: &mut [u8], at: usize, action: &Action) -> usize
     }
 }
 
-// Adds the line of the event in this place.
+/// Adds the line of the event in this place, with its newline.
 pub fn add_event(buf: &mut [u8], at: usize, place: u64, e: &Event) -> usize
     requires { at + 410 ≤ length buf.old }
     ensures text { take result buf.new ≡ take at buf.old ++ event_line place e.now }

@@ -20,6 +20,7 @@ mod token;
 mod whole;
 mod window;
 
+pub use compose::{add, add_event, add_number};
 pub use intake::TextFault;
 pub use print::{print_end, print_event, print_head, print_value};
 pub use reader::EventReader;
