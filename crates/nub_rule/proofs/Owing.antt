@@ -13,7 +13,7 @@ use Rattle.nub_rule.specs.declared.view.Part.{Part}
 use Rattle.nub_rule.specs.declared.view.Stage.{Stage}
 use Rattle.nub_rule.specs.declared.view.Stage.TheVariants.{Pushed, Clear, Tested, Asleep, Alerted, Found}
 use Rattle.nub_rule.specs.declared.view.Stand.{Stand}
-use Rattle.nub_rule.specs.Owed.{IsAsleep, HasCleared, HasTurn, IsUnsure, MustLook, SomebodyMustLook, SleepsSound, Owes}
+use Rattle.nub_rule.specs.Owed.{IsAsleep, HasCleared, HasTurn, IsUnsure, MustLook, SomebodyMustLook, SleepsSound, WakeOwed}
 use Rattle.nub_rule.specs.Parts.{stands_at, IsUntested, HasTested, turned}
 use Rattle.nub_rule.specs.Places.{bit_at}
 use Rattle.nub_rule.proofs.Each.{at_within, same_at, each-set}
@@ -57,7 +57,7 @@ module _ {T H : Type 0} (queue queue' : ℕ → List ℕ) (words words' : List �
     pub others : (j : ℕ) (r : Part T H) → j ≢ n → MustLook k (queue k) j r → MustLook k (queue' k) j r
 
   -- a step keeps the item where at each gate that is free with a queue somebody new must look, or whoever had to must still
-  owes-step : ((k : ℕ) → k < 128 → get_or words' (bit_at k) 0 ≡ 0 → queue' k ≢ [] → SomebodyMustLook k (queue' k) (set all n q) ⊎ Kept k) → SleepsSound q → Owes queue words all → Owes queue' words' (set all n q)
+  owes-step : ((k : ℕ) → k < 128 → get_or words' (bit_at k) 0 ≡ 0 → queue' k ≢ [] → SomebodyMustLook k (queue' k) (set all n q) ⊎ Kept k) → SleepsSound q → WakeOwed queue words all → WakeOwed queue' words' (set all n q)
   owes-step each sleeps h = record {
     looks = λ k low free queued. ⊎_elim (λ (t : SomebodyMustLook k (queue' k) (set all n q)). t)
         (λ (t : Kept k). let u = h.looks k low t.free t.queued in dite (ℕ_discrete u.0 n)
@@ -97,7 +97,7 @@ module _ {T H : Type 0} (queue queue' : ℕ → List ℕ) (words words' : List �
 
   -- the thread n is put last into the queue of o, and hasn't tested the bit
   pub owes-push : (o : ℕ) (s : Stand) → SameGates words words' → queue' o ≡ queue o ++ n ∷ [] → ((k : ℕ) → k ≢ o → queue' k ≡ queue k) → p.stand ≡ None → q.stand ≡ Some s → s.at ≡ o → IsUntested s.stage → (IsAsleep s.stage → ⊥) → q.cleared ≡ p.cleared → q.turns ≡ p.turns
-      → Owes queue words all → Owes queue' words' (set all n q)
+      → WakeOwed queue words all → WakeOwed queue' words' (set all n q)
   owes-push o s ws is elsewhere out now there untested awake ec et = owes-step
       (λ k low free queued. dite (ℕ_discrete k o)
       (λ e. inl (by-own k (inr (inr (s, now, there ∙ sym e, untested, (λ i. mem n (queue' (e i))) ∙ (ap (mem n) is ∙ mem-last n (queue o)))))))
@@ -105,7 +105,7 @@ module _ {T H : Type 0} (queue queue' : ℕ → List ℕ) (words words' : List �
       (λ r e asleep. absurd (awake (subst (λ (z : Stand). IsAsleep z.stage) (same_stand q.stand r s e now) asleep)))
 
   -- the thread n leaves the queue of o, in which it stood, and has its turn there
-  pub owes-leave : (o : ℕ) → SameGates words words' → ((k : ℕ) → k ≢ o → queue' k ≡ queue k) → stands_at p.stand o ≡ true → q.stand ≡ None → q.cleared ≡ p.cleared → q.turns ≡ o ∷ p.turns → Owes queue words all → Owes queue' words' (set all n q)
+  pub owes-leave : (o : ℕ) → SameGates words words' → ((k : ℕ) → k ≢ o → queue' k ≡ queue k) → stands_at p.stand o ≡ true → q.stand ≡ None → q.cleared ≡ p.cleared → q.turns ≡ o ∷ p.turns → WakeOwed queue words all → WakeOwed queue' words' (set all n q)
   owes-leave o ws elsewhere there now ec et = owes-step
       (λ k low free queued. dite (ℕ_discrete k o)
       (λ e. inl (by-own k (inr (inl (inl (ap (mem k) et ∙ mem-here k o p.turns (sym e)))))))
@@ -114,7 +114,7 @@ module _ {T H : Type 0} (queue queue' : ℕ → List ℕ) (words words' : List �
 
   -- the first is popped from the queue of o, and the thread n, who popped it, owes no look there
   pub owes-pop : (o : ℕ) → SameGates words words' → ((x : ℕ) (xs : List ℕ) → queue o ≡ x ∷ xs → (r : Part T H) × (get_elem? all x ≡ some r) × (stands_at r.stand o ≡ true) × (queue' o ≡ xs) × (mem x xs ≡ false)) → (queue o ≡ [] → queue' o ≡ []) → ((k : ℕ) → k ≢ o → queue' k ≡ queue k)
-      → q.stand ≡ p.stand → q.cleared ≡ without o p.cleared → q.turns ≡ p.turns → Owes queue words all → Owes queue' words' (set all n q)
+      → q.stand ≡ p.stand → q.cleared ≡ without o p.cleared → q.turns ≡ p.turns → WakeOwed queue words all → WakeOwed queue' words' (set all n q)
   owes-pop o ws first none_there elsewhere es ec et h = owes-step
       (λ k low free queued. dite (ℕ_discrete k o)
       (λ e. inl (subst (λ (z : ℕ). SomebodyMustLook z (queue' z) (set all n q)) (sym e) (popped (queue o) refl (λ z. queued (ap queue' e ∙ z)))))
@@ -129,13 +129,13 @@ module _ {T H : Type 0} (queue queue' : ℕ → List ℕ) (words words' : List �
 
 module _ {T H : Type 0} (queue : ℕ → List ℕ) (words words' : List ℕ) (all : List (Part T H)) (n : ℕ) (p q : Part T H) (at : get_elem? all n ≡ some p) where
   -- WAKE OWED reads the bits and queues of gates, and where each thread stands with what it remembers of gates
-  pub owes-frame : SameGates words words' → q.stand ≡ p.stand → q.cleared ≡ p.cleared → q.turns ≡ p.turns → Owes queue words all → Owes queue words' (set all n q)
+  pub owes-frame : SameGates words words' → q.stand ≡ p.stand → q.cleared ≡ p.cleared → q.turns ≡ p.turns → WakeOwed queue words all → WakeOwed queue words' (set all n q)
   owes-frame ws es ec et h = owes-step queue queue words words' all n p q at
       (λ k low free queued. inr (kept-by queue queue words words' all n p q at k refl queued (ws k low) free (own-notes queue queue words words' all n p q at k refl es (λ c. ap (mem k) ec ∙ c) (λ t. ap (mem k) et ∙ t))))
       (λ r e asleep. ec ∙ h.sound n p at r (sym es ∙ e) asleep) h
 
   -- the thread n found no queue at o
-  pub owes-empty : (o : ℕ) → SameGates words words' → queue o ≡ [] → q.stand ≡ p.stand → q.cleared ≡ without o p.cleared → q.turns ≡ p.turns → Owes queue words all → Owes queue words' (set all n q)
+  pub owes-empty : (o : ℕ) → SameGates words words' → queue o ≡ [] → q.stand ≡ p.stand → q.cleared ≡ without o p.cleared → q.turns ≡ p.turns → WakeOwed queue words all → WakeOwed queue words' (set all n q)
   owes-empty o ws empty es ec et h = owes-step queue queue words words' all n p q at
       (λ k low free queued. dite (ℕ_discrete k o)
       (λ e. absurd (queued (ap queue e ∙ empty)))
@@ -143,7 +143,7 @@ module _ {T H : Type 0} (queue : ℕ → List ℕ) (words words' : List ℕ) (al
       (λ r e asleep. ec ∙ ap (without o) (h.sound n p at r (sym es ∙ e) asleep)) h
 
   -- the thread n tried the bit of o, which is set now
-  pub owes-try : (o : ℕ) → ((k : ℕ) → k < 128 → k ≢ o → get_or words' (bit_at k) 0 ≡ get_or words (bit_at k) 0) → (get_or words' (bit_at o) 0 ≡ 0 → ⊥) → q.stand ≡ p.stand → q.cleared ≡ p.cleared → q.turns ≡ without o p.turns → Owes queue words all → Owes queue words' (set all n q)
+  pub owes-try : (o : ℕ) → ((k : ℕ) → k < 128 → k ≢ o → get_or words' (bit_at k) 0 ≡ get_or words (bit_at k) 0) → (get_or words' (bit_at o) 0 ≡ 0 → ⊥) → q.stand ≡ p.stand → q.cleared ≡ p.cleared → q.turns ≡ without o p.turns → WakeOwed queue words all → WakeOwed queue words' (set all n q)
   owes-try o ws set_now es ec et h = owes-step queue queue words words' all n p q at
       (λ k low free queued. dite (ℕ_discrete k o)
       (λ e. absurd (set_now ((λ i. get_or words' (bit_at (sym e i)) 0) ∙ free)))
@@ -151,7 +151,7 @@ module _ {T H : Type 0} (queue : ℕ → List ℕ) (words words' : List ℕ) (al
       (λ r e asleep. ec ∙ h.sound n p at r (sym es ∙ e) asleep) h
 
   -- the thread n, which stands nowhere, cleared the bit of o
-  pub owes-clear : (o : ℕ) → ((k : ℕ) → k < 128 → k ≢ o → get_or words' (bit_at k) 0 ≡ get_or words (bit_at k) 0) → p.stand ≡ None → q.stand ≡ p.stand → q.cleared ≡ o ∷ p.cleared → q.turns ≡ p.turns → Owes queue words all → Owes queue words' (set all n q)
+  pub owes-clear : (o : ℕ) → ((k : ℕ) → k < 128 → k ≢ o → get_or words' (bit_at k) 0 ≡ get_or words (bit_at k) 0) → p.stand ≡ None → q.stand ≡ p.stand → q.cleared ≡ o ∷ p.cleared → q.turns ≡ p.turns → WakeOwed queue words all → WakeOwed queue words' (set all n q)
   owes-clear o ws out es ec et = owes-step queue queue words words' all n p q at
       (λ k low free queued. dite (ℕ_discrete k o)
       (λ e. inl (by-own queue queue words words' all n p q at k (inl (ap (mem k) ec ∙ mem-here k o p.cleared (sym e)))))
@@ -159,7 +159,7 @@ module _ {T H : Type 0} (queue : ℕ → List ℕ) (words words' : List ℕ) (al
       (λ r e asleep. absurd (some_none q.stand r (es ∙ out) e))
 
   -- the thread n stands where it stood, at another stage: untested still where it was and the bit is clear, and asleep only with no look owed
-  pub owes-stage : (s r : Stand) → SameGates words words' → p.stand ≡ Some s → q.stand ≡ Some r → r.at ≡ s.at → (IsUntested s.stage → get_or words (bit_at s.at) 0 ≡ 0 → IsUntested r.stage) → (IsAsleep r.stage → p.cleared ≡ []) → q.cleared ≡ p.cleared → q.turns ≡ p.turns → Owes queue words all → Owes queue words' (set all n q)
+  pub owes-stage : (s r : Stand) → SameGates words words' → p.stand ≡ Some s → q.stand ≡ Some r → r.at ≡ s.at → (IsUntested s.stage → get_or words (bit_at s.at) 0 ≡ 0 → IsUntested r.stage) → (IsAsleep r.stage → p.cleared ≡ []) → q.cleared ≡ p.cleared → q.turns ≡ p.turns → WakeOwed queue words all → WakeOwed queue words' (set all n q)
   owes-stage s r ws was now there untested asleep ec et = owes-step queue queue words words' all n p q at
       (λ k low free queued. let before : get_or words (bit_at k) 0 ≡ 0 = sym (ws k low) ∙ free in inr (kept-by queue queue words words' all n p q at k refl queued (ws k low) free
       (⊎_elim (λ (c : HasCleared k p). inl (ap (mem k) ec ∙ c))
@@ -171,7 +171,7 @@ module _ {T H : Type 0} (queue : ℕ → List ℕ) (words words' : List ℕ) (al
       (λ u e is. ec ∙ asleep (subst (λ (z : Stand). IsAsleep z.stage) (same_stand q.stand u r e now) is))
 
   -- the thread n, which was ready, stands nowhere now and has its turn
-  pub owes-unready : (s : Stand) → SameGates words words' → p.stand ≡ Some s → q.stand ≡ None → q.cleared ≡ p.cleared → q.turns ≡ turned p.stand p.turns → Owes queue words all → Owes queue words' (set all n q)
+  pub owes-unready : (s : Stand) → SameGates words words' → p.stand ≡ Some s → q.stand ≡ None → q.cleared ≡ p.cleared → q.turns ≡ turned p.stand p.turns → WakeOwed queue words all → WakeOwed queue words' (set all n q)
   owes-unready s ws was now ec et = owes-step queue queue words words' all n p q at
       (λ k low free queued. let turn : (r : Stand) → p.stand ≡ Some r → r.at ≡ k → mem k q.turns ≡ true = λ r e there. ap (mem k) et ∙ turned-here p.stand r p.turns k e there low in inr (kept-by queue queue words words' all n p q at k refl queued (ws k low) free
       (⊎_elim (λ (c : HasCleared k p). inl (ap (mem k) ec ∙ c))

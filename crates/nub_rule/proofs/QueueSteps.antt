@@ -22,7 +22,7 @@ use Rattle.nub_rule.specs.Rule.{IsKept}
 use Rattle.nub_rule.proofs.Each.{put-here, put-else, at_below}
 use Rattle.nub_rule.proofs.Members.{member_steps}
 use Rattle.nub_rule.specs.Parts.{stands_at}
-use Rattle.nub_rule.specs.Owed.{Owes}
+use Rattle.nub_rule.specs.Owed.{WakeOwed}
 use Rattle.nub_rule.proofs.Frames.{other, length-bits, length-ready, length-shown, length-pen, pens-frame}
 use Rattle.nub_rule.proofs.Standing.{both_ways, not_true, mem-behind, distinct-apart, distinct-behind, without-append, without-absent, less-without, lines-push, lines-leave, lines-same}
 use Rattle.nub_rule.proofs.Showing.{shows-gate}
@@ -60,7 +60,7 @@ first_stands all owed queue words line queue' o lines is after x xs e =
 module _ {T H W : Type 0} (l : Layout) (traced : Bool) (w : W) (begin : W → ℕ → H) (holds : W → List T → List H → Type 0) where
   -- the thread n, which has the spin word of the gate o, changes the queue to ys and those that it owes to zs
   requeues : (n o : ℕ) (p q : Part T H) (ys zs : List ℕ) (words : List ℕ) (homes : List (Option (Slot T))) (all : List (Part T H)) → get_elem? all n ≡ some p → o < 128 → p.spin ≡ Some o → Alike l traced w holds p q → q.spin ≡ p.spin → q.queue ≡ ys → q.owed ≡ zs → (p.left ≡ p.queue → q.left ≡ q.queue)
-      → q.wait ≡ p.wait → q.pen ≡ p.pen → (c : Core l traced w holds words homes all) → Lines (λ i. put c.owed o zs i ++ put c.queue o ys i) (set words (length_at o) (length ys)) (set all n q) → Owes (put c.queue o ys) (set words (length_at o) (length ys)) (set all n q)
+      → q.wait ≡ p.wait → q.pen ≡ p.pen → (c : Core l traced w holds words homes all) → Lines (λ i. put c.owed o zs i ++ put c.queue o ys i) (set words (length_at o) (length ys)) (set all n q) → WakeOwed (put c.queue o ys) (set words (length_at o) (length ys)) (set all n q)
       → Core l traced w holds (set words (length_at o) (length ys)) homes (set all n q)
   requeues n o p q ys zs words homes all at low here a es eq eo el ew ep c lines owes =
       let s = c.spins in let words' : List ℕ = set words (length_at o) (length ys) in let far : o < 192 = omega arith in let wide = c.sizes.words_wide in
@@ -73,7 +73,7 @@ module _ {T H W : Type 0} (l : Layout) (traced : Bool) (w : W) (begin : W → �
       owes
 
   -- a step that changes what the view remembers of gates alone
-  notes : (n i : ℕ) (p : Part T H) (failed turns cleared looked : List ℕ) (words : List ℕ) (homes : List (Option (Slot T))) (all : List (Part T H)) → get_elem? all n ≡ some p → (c : Core l traced w holds words homes all) → Owes c.queue words (set all n (record p { failed = failed; turns = turns; cleared = cleared; looked = looked }))
+  notes : (n i : ℕ) (p : Part T H) (failed turns cleared looked : List ℕ) (words : List ℕ) (homes : List (Option (Slot T))) (all : List (Part T H)) → get_elem? all n ≡ some p → (c : Core l traced w holds words homes all) → WakeOwed c.queue words (set all n (record p { failed = failed; turns = turns; cleared = cleared; looked = looked }))
       → Core l traced w holds (set words i (get_or words i 0)) homes (set all n (record p { failed = failed; turns = turns; cleared = cleared; looked = looked }))
   notes n i p failed turns cleared looked words homes all at c owes = let q : Part T H = record p { failed = failed; turns = turns; cleared = cleared; looked = looked } in
       still l traced w holds words homes all i n p q at record { seen = refl; mine = refl; places = refl; held = refl; share = refl } refl refl refl refl refl refl refl c

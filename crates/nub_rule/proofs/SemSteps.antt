@@ -29,7 +29,7 @@ use Rattle.nub_rule.proofs.Frames.{other, bit-spins, bit-ready, bit-pen, sem-bit
 use Rattle.nub_rule.proofs.Standing.{lines-same}
 use Rattle.nub_rule.proofs.Penning.{pens-event, numbered-by}
 use Rattle.nub_rule.proofs.Beside.{still}
-use Rattle.nub_rule.specs.Owed.{Owes}
+use Rattle.nub_rule.specs.Owed.{WakeOwed}
 use Rattle.nub_rule.proofs.Owing.{owes-try, owes-clear}
 use Rattle.nub_rule.proofs.Showing.{shows-sem}
 
@@ -49,7 +49,7 @@ module _ {T H W : Type 0} (l : Layout) (traced : Bool) (w : W) (begin : W → �
   -- an event by which the bit of the semaphore s becomes x
   marks : (e : Event) (n s x : ℕ) (b : Bool) (p : Part T H) (failed turns cleared : List ℕ) (words : List ℕ) (homes : List (Option (Slot T))) (all : List (Part T H)) (c : Core l traced w holds words homes all) → get_elem? all n ≡ some p → s < 64 → e.thread.0 ≡ n → MayTell traced p.pen
       → Acts c.spec e (record c.spec { avail = put c.spec.avail s b }) → Says x (cond b false true)
-      → ((q : Part T H) → q.stand ≡ p.stand → q.turns ≡ turns → q.cleared ≡ cleared → Owes c.queue (set words (bit_at (sem_object s)) x) (set all n q))
+      → ((q : Part T H) → q.stand ≡ p.stand → q.turns ≡ turns → q.cleared ≡ cleared → WakeOwed c.queue (set words (bit_at (sem_object s)) x) (set all n q))
       → (q : Part T H) × Core l traced w holds (set words (bit_at (sem_object s)) x) homes (set all n q) × Learns e n p (λ z. record (told p z e) { failed = failed; turns = turns; cleared = cleared }) q
   marks e n s x b p failed turns cleared words homes all c at low by may acts says owes =
       let o : ℕ = sem_object s in

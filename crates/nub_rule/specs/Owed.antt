@@ -40,6 +40,6 @@ module _ {T H : Type 0} where
   SleepsSound p = (s : Stand) → p.stand ≡ Some s → IsAsleep s.stage → p.cleared ≡ []
 
   -- WAKE OWED: where a bit is 0 and threads queue, somebody is bound to look, and nobody sleeps who has cleared a bit and has yet to look at its queue
-  pub record Owes (queue : ℕ → List ℕ) (words : List ℕ) (all : List (Part T H)) : Type 0 where
+  pub record WakeOwed (queue : ℕ → List ℕ) (words : List ℕ) (all : List (Part T H)) : Type 0 where
     pub looks : (o : ℕ) → o < 128 → slice_index words (bit_at o) ≡ 0 → queue o ≢ [] → SomebodyMustLook o (queue o) all
     pub sound : (n : ℕ) (p : Part T H) → get_elem? all n ≡ some p → SleepsSound p
