@@ -131,6 +131,7 @@ module _ {T H W : Type 0} (l : Layout) (traced : Bool) (w : W) (begin : W → �
           };
           spins = record {
             spin = λ o low. inl (zeros (spin_at o), refl);
+            within = λ o n is. absurd (some-ne-none n (sym is));
             home = λ o low free. queue_there 192 values o low;
             measured = λ o low. zeros (length_at o);
             settled = λ o free. refl;
@@ -170,6 +171,7 @@ module _ {T H W : Type 0} (l : Layout) (traced : Bool) (w : W) (begin : W → �
           };
           pens = record {
             flag = inl (zeros pen_at, refl);
+            within = λ n is. absurd (some-ne-none n (sym is));
             free = λ is free. zeros number_at;
             untraced = λ is. refl;
             pens = each-firsts (λ n p. PenFits 0 (get_or ws number_at 0) none n p.pen) (λ n. fresh (Some (begin w n))) l.threads (λ i low is. some-ne-none i (sym is));

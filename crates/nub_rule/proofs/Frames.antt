@@ -175,6 +175,7 @@ module _ {T H : Type 0} (all : List (Part T H)) (n : ℕ) (p q : Part T H) (at :
       → q.spin ≡ p.spin → q.queue ≡ p.queue → q.owed ≡ p.owed → Spins spinner queue owed words homes all → Spins spinner queue owed words' homes' (set all n q)
   spins-frame spinner queue owed words words' homes homes' ws hs es eq eo s = record {
     spin = λ o low. subst (λ (x : ℕ). Marks x (spinner o)) (sym (ws o low).0) (s.spin o low);
+    within = λ o k is. subst (λ (z : ℕ). k < z) (sym (length-set all n q)) (s.within o k is);
     home = λ o low free. hs o low ∙ s.home o low free;
     measured = λ o low. (ws o low).1 ∙ s.measured o low;
     settled = s.settled;
@@ -228,6 +229,7 @@ module _ {T H : Type 0} (all : List (Part T H)) (n : ℕ) (p q : Part T H) (at :
   pens-frame traced total writer words words' ws e h = let moved : (k : ℕ) (a b : Pen) → b ≡ a → PenFits total (get_or words number_at 0) writer k a → PenFits total (get_or words' number_at 0) writer k b =
       λ k a b is f. subst (λ (z : ℕ × Pen). PenFits total z.0 writer k z.1) (λ i. (sym ws.1 i, sym is i)) f in record {
         flag = subst (λ (x : ℕ). Marks x writer) (sym ws.0) h.flag;
+        within = λ k is. subst (λ (z : ℕ). k < z) (sym (length-set all n q)) (h.within k is);
         free = λ is none_has. ws.1 ∙ h.free is none_has;
         untraced = h.untraced;
         pens = each-set (λ k r. PenFits total (get_or words number_at 0) writer k r.pen) (λ k r. PenFits total (get_or words' number_at 0) writer k r.pen) all n q (moved n p.pen q.pen e (h.pens n p at)) (λ k r ne at' f. moved k r.pen r.pen refl f) h.pens;

@@ -24,3 +24,5 @@ pub mod Having
 pub mod Room
 pub mod Seats
 pub mod Ends
+pub mod History
+pub mod Law

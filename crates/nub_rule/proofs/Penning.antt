@@ -1,5 +1,5 @@
 -- The pen is taken and given, the number is read and written.
-use Rattle.std.proofs.Common.{Bool, true, false, ◌≡◌, ◌≢◌, ℕ, ◌+◌, eqb, ◌≤◌, ◌⊎◌, List, ◌++◌, length, get_or, set, refl, sym, ap, ◌∙◌, subst, inl, inr, ⊎_elim, arith, length-set, get_or-set_same, eq-eqb, ne_eqb}
+use Rattle.std.proofs.Common.{Bool, true, false, ◌≡◌, ◌≢◌, ℕ, ◌<◌, ◌+◌, eqb, ◌≤◌, ◌⊎◌, List, ◌++◌, length, get_or, set, refl, sym, ap, ◌∙◌, subst, inl, inr, ⊎_elim, arith, length-set, get_or-set_same, eq-eqb, ne_eqb}
 use mathlib.Core.Logic.{dite}
 use mathlib.Core.Option.{Option, some, none, some-injective, some-ne-none}
 use native.Mathlib.Decide.{ℕ_discrete}
@@ -18,7 +18,7 @@ use Rattle.nub_rule.specs.Parts.{made, MayTell, MayGivePen}
 use Rattle.nub_rule.specs.Places.{bit_at, pen_at, number_at}
 use Rattle.nub_rule.specs.Plays.{with_part, penned, numbered, wrote, unpenned}
 use Rattle.nub_rule.specs.Rule.{IsKept}
-use Rattle.nub_rule.proofs.Each.{each-set}
+use Rattle.nub_rule.proofs.Each.{at_within, each-set}
 use Rattle.nub_rule.proofs.Members.{member_steps}
 use Rattle.nub_rule.proofs.Frames.{other, pen-bits, pen-spins, pen-ready, pen-shown, spins-frame, lines-frame, shows-frame}
 use Rattle.nub_rule.proofs.Owing.{owes-frame}
@@ -88,6 +88,7 @@ module _ {T H : Type 0} (traced : Bool) (total : ℕ) (words : List ℕ) (writer
       let old : PenFits total (get_or words number_at 0) writer n (Read r.0) = subst (PenFits total (get_or words number_at 0) writer n) r.1 (h.pens n p at) in
       let own : writer ≡ some n = old.0 in record {
         flag = subst (λ (x : ℕ). Marks x writer) (sym ep) h.flag;
+        within = λ k is. subst (λ (z : ℕ). k < z) (sym (length-set all n q)) (h.within k is);
         free = λ _ none_has. absurd (some-ne-none n (sym own ∙ none_has));
         untraced = h.untraced;
         pens = each-set (λ k r. PenFits total (get_or words number_at 0) writer k r.pen) (λ k r. PenFits (total + 1) (get_or words' number_at 0) writer k r.pen) all n q
@@ -98,6 +99,7 @@ module _ {T H : Type 0} (traced : Bool) (total : ℕ) (words : List ℕ) (writer
       (λ lacks.
       let out : writer ≡ none = h.untraced lacks in record {
         flag = subst (λ (x : ℕ). Marks x writer) (sym ep) h.flag;
+        within = λ k is. subst (λ (z : ℕ). k < z) (sym (length-set all n q)) (h.within k is);
         free = λ traces none_has. absurd (true_false (sym traces ∙ lacks));
         untraced = h.untraced;
         pens = each-set (λ k r. PenFits total (get_or words number_at 0) writer k r.pen) (λ k r. PenFits (total + 1) (get_or words' number_at 0) writer k r.pen) all n q
@@ -112,6 +114,7 @@ module _ {T H : Type 0} (traced : Bool) (total : ℕ) (words : List ℕ) (writer
   pub pens-take : (words' : List ℕ) → traced ≡ true → get_or words' pen_at 0 ≡ 1 → get_or words' number_at 0 ≡ get_or words number_at 0 → writer ≡ none → q.pen ≡ Taken → Pens traced total words writer all → Pens traced total words' (some n) (set all n q)
   pens-take words' traces one en out is h = record {
     flag = inr (one, (n, refl));
+    within = λ k is. subst (λ (z : ℕ). k < z) (sym (length-set all n q)) (subst (λ (z : ℕ). z < length all) (some-injective n k is) (at_within all n p at));
     free = λ _ none_has. absurd (some-ne-none n none_has);
     untraced = λ lacks. absurd (true_false (sym traces ∙ lacks));
     pens = each-set (λ k r. PenFits total (get_or words number_at 0) writer k r.pen) (λ k r. PenFits total (get_or words' number_at 0) (some n) k r.pen) all n q
@@ -122,6 +125,7 @@ module _ {T H : Type 0} (traced : Bool) (total : ℕ) (words : List ℕ) (writer
   pub pens-give : (words' : List ℕ) → get_or words' pen_at 0 ≡ 0 → get_or words' number_at 0 ≡ get_or words number_at 0 → MayGivePen p.pen → q.pen ≡ No → Pens traced total words writer all → Pens traced total words' none (set all n q)
   pens-give words' zero en may is h = let old = may-give total (get_or words number_at 0) n writer p.pen may (h.pens n p at) in record {
     flag = inl (zero, refl);
+    within = λ k is. absurd (some-ne-none k (sym is));
     free = λ _ _. en ∙ old.1;
     untraced = λ _. refl;
     pens = each-set (λ k r. PenFits total (get_or words number_at 0) writer k r.pen) (λ k r. PenFits total (get_or words' number_at 0) none k r.pen) all n q
@@ -133,6 +137,7 @@ module _ {T H : Type 0} (traced : Bool) (total : ℕ) (words : List ℕ) (writer
   pub pens-own : (words' : List ℕ) → get_or words' pen_at 0 ≡ get_or words pen_at 0 → writer ≡ some n → PenFits total (get_or words' number_at 0) (some n) n q.pen → Pens traced total words writer all → Pens traced total words' writer (set all n q)
   pens-own words' ep own now h = record {
     flag = subst (λ (x : ℕ). Marks x writer) (sym ep) h.flag;
+    within = λ k is. subst (λ (z : ℕ). k < z) (sym (length-set all n q)) (h.within k is);
     free = λ _ none_has. absurd (some-ne-none n (sym own ∙ none_has));
     untraced = h.untraced;
     pens = each-set (λ k r. PenFits total (get_or words number_at 0) writer k r.pen) (λ k r. PenFits total (get_or words' number_at 0) writer k r.pen) all n q

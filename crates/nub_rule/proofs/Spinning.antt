@@ -1,5 +1,5 @@
 -- Spin words and queues: how steps change them.
-use Rattle.std.proofs.Common.{◌≡◌, ◌≢◌, ℕ, ◌<◌, List, [], length, get_or, set, sym, ap, ◌∙◌, subst, inl, inr, arith, get_or-set_same, Some, None}
+use Rattle.std.proofs.Common.{◌≡◌, ◌≢◌, ℕ, ◌<◌, List, [], length, get_or, set, length-set, sym, ap, ◌∙◌, subst, inl, inr, arith, get_or-set_same, Some, None}
 use mathlib.Core.Logic.{dite}
 use mathlib.Core.Option.{Option, some, none, some-injective, some-ne-none}
 use native.Mathlib.Decide.{ℕ_discrete}
@@ -11,7 +11,7 @@ use Rattle.nub_rule.specs.declared.rule.Slot.TheVariants.{Queue}
 use Rattle.nub_rule.specs.declared.view.Part.{Part}
 use Rattle.nub_rule.specs.Items.{Marks, Flag, Spinning, Spins, line_of}
 use Rattle.nub_rule.specs.Places.{spin_at, length_at, queue_at, word_count}
-use Rattle.nub_rule.proofs.Each.{each-set, put-here, put-else}
+use Rattle.nub_rule.proofs.Each.{at_within, each-set, put-here, put-else}
 use Rattle.nub_rule.proofs.Frames.{other}
 use Rattle.nub_rule.proofs.Standing.{same_object, no_object}
 
@@ -31,6 +31,9 @@ module _ {T H : Type 0} (spinner : ℕ → Option ℕ) (queue owed : ℕ → Lis
         spin = λ k lo. dite (ℕ_discrete k o)
             (λ e. subst (λ (z : ℕ). Flag words' (spin_at z) (spinner' z)) (sym e) (inr (get_or-set_same words (spin_at o) 1 0 (omega arith), (n, now))))
             (λ ne. subst (λ (z : ℕ × Option ℕ). Marks z.0 z.1) (λ i. (sym (other words (spin_at o) (spin_at k) 1 (λ z. ne (omega arith))) i, sym (put-else spinner o k (some n) ne) i)) (s.spin k lo));
+        within = λ k j is. subst (λ (z : ℕ). j < z) (sym (length-set all n q)) (dite (ℕ_discrete k o)
+            (λ e. subst (λ (z : ℕ). z < length all) (some-injective n j (sym now ∙ (ap spinner' (sym e) ∙ is))) (at_within all n p at))
+            (λ ne. s.within k j (sym (put-else spinner o k (some n) ne) ∙ is)));
         home = λ k lo none_has. dite (ℕ_discrete k o)
             (λ e. absurd (some-ne-none n (sym now ∙ (ap spinner' (sym e) ∙ none_has))))
             (λ ne. set_else homes (queue_at o) (queue_at k) none ne ∙ s.home k lo (sym (put-else spinner o k (some n) ne) ∙ none_has));
@@ -58,6 +61,9 @@ module _ {T H : Type 0} (spinner : ℕ → Option ℕ) (queue owed : ℕ → Lis
         spin = λ k lo. dite (ℕ_discrete k o)
             (λ e. subst (λ (z : ℕ). Flag words' (spin_at z) (spinner' z)) (sym e) (inl (get_or-set_same words (spin_at o) 0 0 (omega arith), now)))
             (λ ne. subst (λ (z : ℕ × Option ℕ). Marks z.0 z.1) (λ i. (sym (other words (spin_at o) (spin_at k) 0 (λ z. ne (omega arith))) i, sym (put-else spinner o k none ne) i)) (s.spin k lo));
+        within = λ k j is. subst (λ (z : ℕ). j < z) (sym (length-set all n q)) (dite (ℕ_discrete k o)
+            (λ e. absurd (some-ne-none j (sym is ∙ (ap spinner' e ∙ now))))
+            (λ ne. s.within k j (sym (put-else spinner o k none ne) ∙ is)));
         home = λ k lo free. dite (ℕ_discrete k o)
             (λ e. subst (λ (z : ℕ). get_elem? homes' (queue_at z) ≡ some (some (Queue (line_of (queue z))))) (sym e)
             (set_here homes (queue_at o) (some line) long ∙ ap (λ (z : List ℕ). some (some (Queue (line_of z)))) mine.1))
@@ -87,6 +93,7 @@ module _ {T H : Type 0} (spinner : ℕ → Option ℕ) (queue owed : ℕ → Lis
   spins-change o ys zs queue' owed' words' low here es eq eo qh qe oh oe ws long ls =
       let own : spinner o ≡ some n = ((s.spinning n p at o).0 here).0 in record {
         spin = λ k lo. subst (λ (x : ℕ). Marks x (spinner k)) (sym (ws k lo)) (s.spin k lo);
+        within = λ k j is. subst (λ (z : ℕ). j < z) (sym (length-set all n q)) (s.within k j is);
         home = λ k lo free. dite (ℕ_discrete k o)
             (λ e. absurd (some-ne-none n (sym own ∙ (ap spinner (sym e) ∙ free))))
             (λ ne. s.home k lo free ∙ ap (λ (z : List ℕ). some (some (Queue (line_of z)))) (sym (qe k ne)));

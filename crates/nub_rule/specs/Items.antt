@@ -114,6 +114,7 @@ module _ {T H : Type 0} where
   -- SPIN WORDS AND QUEUES: a spin word is 1 exactly where one thread has it, the queue is at home where nobody has, and the length word is its length
   pub record Spins (spinner : ℕ → Option ℕ) (queue owed : ℕ → List ℕ) (words : List ℕ) (homes : List (Option (Slot T))) (all : List (Part T H)) : Type 0 where
     pub spin : (o : ℕ) → o < 192 → Flag words (spin_at o) (spinner o)
+    pub within : (o n : ℕ) → spinner o ≡ some n → n < length all
     pub home : (o : ℕ) → o < 192 → spinner o ≡ none → get_elem? homes (queue_at o) ≡ some (some (Queue (line_of (queue o))))
     pub measured : (o : ℕ) → o < 192 → slice_index words (length_at o) ≡ length (queue o)
     pub settled : (o : ℕ) → spinner o ≡ none → owed o ≡ []
@@ -162,6 +163,7 @@ module _ {T H : Type 0} where
   -- NUMBERING: one thread at most has the pen. In a traced package the number word is the number of events while the pen is free. In an untraced one nobody has it
   pub record Pens (traced : Bool) (total : ℕ) (words : List ℕ) (writer : Option ℕ) (all : List (Part T H)) : Type 0 where
     pub flag : Flag words pen_at writer
+    pub within : (n : ℕ) → writer ≡ some n → n < length all
     pub free : traced ≡ true → writer ≡ none → slice_index words number_at ≡ total
     pub untraced : traced ≡ false → writer ≡ none
     pub pens : Each (λ n p. PenFits total (slice_index words number_at) writer n p.pen) all

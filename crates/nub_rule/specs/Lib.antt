@@ -8,3 +8,4 @@ pub mod Rule
 pub mod Plays
 pub mod Known
 pub mod Ends
+pub mod PackageRule

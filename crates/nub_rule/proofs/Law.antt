@@ -1,0 +1,309 @@
+-- The invariant says the rule in its own words: from the items to what is said of words, slots and views.
+use Rattle.std.proofs.Common.{Bool, true, false, cond, ◌≡◌, ◌≢◌, ℕ, suc, ◌+◌, ◌<◌, ◌≤◌, ◌⊎◌, List, [], ◌∷◌, ◌++◌, length, get_or, refl, sym, ap, ◌∙◌, subst, inl, inr, ⊎_elim, arith, Some, eq-eqb}
+use Rattle.std.specs.Prelude.{◌↔◌}
+use Rattle.std.proofs.lemmas.Bool.{cases_lt}
+use mathlib.Core.Logic.{dite}
+use mathlib.Core.Option.{Option, some, none, some-injective, some-ne-none}
+use native.Mathlib.Decide.{ℕ_discrete}
+use lib.ListN.{get_elem?}
+use Rattle.larch_actions.specs.declared.event.Event.{Event}
+use Rattle.larch_actions.specs.declared.event.Action.{Action}
+use Rattle.larch_actions.specs.declared.event.Action.TheVariants.{Enqueue, AlertEnqueue, AlertRaise, Signal, Broadcast}
+use Rattle.larch_actions.specs.declared.event.Layout.{Layout}
+use Rattle.larch_actions.specs.Actions.{Spec, MeetsChoice, Leads, acted, at_first, put}
+use Rattle.larch_actions.specs.Sets.{mem, in_set}
+use Rattle.larch_actions.proofs.Sets.{mem-here, mem-else}
+use Rattle.nub_rule.specs.declared.rule.Slot.{Slot}
+use Rattle.nub_rule.specs.declared.rule.Slot.TheVariants.{Queue}
+use Rattle.nub_rule.specs.declared.view.Part.{Part}
+use Rattle.nub_rule.specs.declared.view.Pen.{Pen}
+use Rattle.nub_rule.specs.declared.view.Pen.TheVariants.{No, Taken, Read, Made, Written}
+use Rattle.nub_rule.specs.declared.view.Stand.{Stand}
+use Rattle.nub_rule.specs.declared.view.View.{View}
+use Rattle.nub_rule.specs.declared.view.Kind.{Kind}
+use Rattle.nub_rule.specs.declared.view.Kind.TheVariants.{Root, Member, Collector}
+use Rattle.nub_rule.specs.Rule.{FitsAs, IsKept}
+use Rattle.atomic_table.specs.Table.{State}
+use Rattle.nub_rule.specs.Items.{Each, Marks, Says, PenFits, Core, line_of}
+use Rattle.nub_rule.specs.Parts.{Has, counts_in, is_at, stands_at, waits_on}
+use Rattle.nub_rule.specs.Places.{alert_at, bit_at, cond_object, count_at, number_at, pen_at, ready_at, sem_object, spin_at}
+use Rattle.nub_rule.specs.PackageRule.{AnyView, IsFlagOf, IsKnown, SaysHolds, OwesAt, Owes, History, Meaning, MutexBits, SpinWords, QueuedThreads, ReadyWords, CountsRead, ValuesAndShares, Numbering, PackageRule, AreViews}
+use Rattle.nub_rule.proofs.Each.{at_below, put-at, put-else, same_at}
+use Rattle.nub_rule.proofs.Standing.{both_ways, distinct-apart, distinct-behind, false_true, mem-append, mem-behind, not_true, stand_none, stand_same, stand_some}
+
+-- who has something is nobody or somebody
+whose : {A : Type 0} (o : Option ℕ) → (o ≡ none → A) → ((n : ℕ) → o ≡ some n → A) → A
+whose none f g = f refl
+whose (some n) f g = g n refl
+
+either : {A : Type 0} (b : Bool) → (b ≡ true → A) → (b ≡ false → A) → A
+either true f g = f refl
+either false f g = g refl
+
+mem-either : (t : ℕ) (xs ys : List ℕ) → mem t (xs ++ ys) ≡ true → (mem t xs ≡ true) ⊎ (mem t ys ≡ true)
+mem-either t [] ys e = inr e
+mem-either t (x ∷ xs) ys e = dite (ℕ_discrete x t)
+    (λ is. inl (mem-here t x xs is))
+    (λ ne. ⊎_elim (λ (l : mem t xs ≡ true). inl (mem-else t x xs ne ∙ l)) (λ (r : mem t ys ≡ true). inr r) (mem-either t xs ys (sym (mem-else t x (xs ++ ys) ne) ∙ e)))
+
+holder-of : (b : Bool) (k n : ℕ) (h : Option ℕ) → h ≡ cond b none (some k) → h ≡ some n → (b ≡ false) × (k ≡ n)
+holder-of true k n h e is = absurd (some-ne-none n (sym is ∙ e))
+holder-of false k n h e is = (refl, some-injective k n (sym e ∙ is))
+
+one-zero : (x : ℕ) → x ≡ 0 → x ≡ 1 → ⊥
+one-zero x a b = absurd (omega arith)
+
+says-not : (x : ℕ) (b : Bool) → Says x (cond b false true) → (b ≡ true) ↔ (x ≡ 0)
+says-not x true s = ((λ _. ⊎_elim (λ (t : (x ≡ 0) × (false ≡ false)). t.0) (λ (t : (x ≡ 1) × (false ≡ true)). absurd (false_true t.1)) s), λ _. refl)
+says-not x false s = ((λ e. absurd (false_true e)), λ e. ⊎_elim (λ (t : (x ≡ 0) × (true ≡ false)). absurd (false_true (sym t.1))) (λ (t : (x ≡ 1) × (true ≡ true)). absurd (one-zero x e t.0)) s)
+
+says-is : (x : ℕ) (b : Bool) → Says x b → (b ≡ true) ↔ (x ≡ 1)
+says-is x true s = ((λ _. ⊎_elim (λ (t : (x ≡ 0) × (true ≡ false)). absurd (false_true (sym t.1))) (λ (t : (x ≡ 1) × (true ≡ true)). t.0) s), λ _. refl)
+says-is x false s = ((λ e. absurd (false_true e)), λ e. ⊎_elim (λ (t : (x ≡ 0) × (false ≡ false)). absurd (one-zero x t.0 e)) (λ (t : (x ≡ 1) × (false ≡ true)). absurd (false_true t.1)) s)
+
+-- a condition that no action of the threads puts a stranger into
+putting : (f : ℕ → ℕ → Bool) (c₀ : ℕ) (g : ℕ → Bool) (k : ℕ) → g k ≡ false → ((c : ℕ) → f c k ≡ false) → (c : ℕ) → put f c₀ g c k ≡ false
+putting f c₀ g k own h c = dite (ℕ_discrete c c₀) (λ e. ap (λ (z : ℕ → Bool). z k) (put-at f c₀ g c e) ∙ own) (λ ne. ap (λ (z : ℕ → Bool). z k) (put-else f c₀ c g ne) ∙ h c)
+
+past : (t k n : ℕ) → t < n → n ≤ k → k ≢ t
+past t k n a b e = absurd (omega arith)
+
+strangers-stay : (n t : ℕ) (s : Spec) (a : Action) → t < n → MeetsChoice t s a → ((c k : ℕ) → n ≤ k → s.members c k ≡ false) → (c k : ℕ) → n ≤ k → (acted t s a).members c k ≡ false
+strangers-stay n t s (Enqueue m d) low met h c k hi = putting s.members d.0 (put (s.members d.0) t true) k (put-else (s.members d.0) t k true (past t k n low hi) ∙ h d.0 k hi) (λ e. h e k hi) c
+strangers-stay n t s (AlertEnqueue m d) low met h c k hi = putting s.members d.0 (put (s.members d.0) t true) k (put-else (s.members d.0) t k true (past t k n low hi) ∙ h d.0 k hi) (λ e. h e k hi) c
+strangers-stay n t s (AlertRaise m d) low met h c k hi = putting s.members d.0 (put (s.members d.0) t false) k (put-else (s.members d.0) t k false (past t k n low hi) ∙ h d.0 k hi) (λ e. h e k hi) c
+strangers-stay n t s (Signal d left) low met h c k hi = putting s.members d.0 (in_set left) k
+    (⊎_elim (λ (none_stays : (j : ℕ) → in_set left j ≡ false). none_stays k)
+    (λ (r : ((j : ℕ) → in_set left j ≡ true → s.members d.0 j ≡ true) × ((j : ℕ) × (s.members d.0 j ≡ true) × (in_set left j ≡ false))). not_true (in_set left k) (λ e. false_true (sym (h d.0 k hi) ∙ r.0 k e))) met)
+    (λ e. h e k hi) c
+strangers-stay n t s (Broadcast d) low met h c k hi = putting s.members d.0 (λ _. false) k refl (λ e. h e k hi) c
+strangers-stay n t s _ low met h c k hi = h c k hi
+
+strangers-out : (n : ℕ) (s t : Spec) (es : List Event) → Leads s es t → Each (λ i e. e.thread.0 < n) es → ((c k : ℕ) → n ≤ k → s.members c k ≡ false) → (c k : ℕ) → n ≤ k → t.members c k ≡ false
+strangers-out n s t [] is low h = λ c k hi. ap (λ (z : Spec). z.members c k) (sym is) ∙ h c k hi
+strangers-out n s t (e ∷ es) is low h = strangers-out n is.0 t es is.2 (λ i f at. low (i + 1) f (ap (get_elem? (e ∷ es)) (one-more i) ∙ at))
+    (λ c k hi. ap (λ (z : Spec). z.members c k) is.1.1 ∙ strangers-stay n e.thread.0 s e.action (low 0 e refl) is.1.0.choice_met h c k hi)
+  where
+    one-more : (i : ℕ) → i + 1 ≡ suc i
+    one-more i = omega arith
+
+pen-has : (total word n : ℕ) (writer : Option ℕ) (pen : Pen) → PenFits total word writer n pen → (pen ≢ No → writer ≡ some n) × (writer ≡ some n → pen ≢ No)
+pen-has total word n writer No f = ((λ ne. absurd (ne refl)), λ is _. f is)
+pen-has total word n writer Taken f = ((λ _. f.0), λ _ e. cc)
+pen-has total word n writer (Read k) f = ((λ _. f.0), λ _ e. cc)
+pen-has total word n writer (Made k) f = ((λ _. f.0), λ _ e. cc)
+pen-has total word n writer Written f = ((λ _. f.0), λ _ e. cc)
+
+module _ {T H : Type 0} where
+  -- a word that marks an owner is the flag of what the owner alone says
+  flag-of : (all : List (Part T H)) (x : ℕ) (owner : Option ℕ) (P : Part T H → Type 0) → Marks x owner → ((n : ℕ) → owner ≡ some n → n < length all) → Each (λ n p. (P p → owner ≡ some n) × (owner ≡ some n → P p)) all → IsFlagOf x P all
+  flag-of all x owner P marks within each = ⊎_elim
+      (λ (t : (x ≡ 0) × (owner ≡ none)). inl (t.0, λ n p at has. some-ne-none n (sym ((each n p at).0 has) ∙ t.1)))
+      (λ (t : (x ≡ 1) × ((n : ℕ) × (owner ≡ some n))). let n = t.1.0 in let own = t.1.1 in let v = at_below all n (within n own) in
+      inr (t.0, (n, v.0, v.1, (each n v.0 v.1).1 own, λ k q at has. some-injective k n (sym ((each k q at).0 has) ∙ own))))
+      marks
+
+module _ {T H W : Type 0} (l : Layout) (traced : Bool) (w : W) (holds : W → List T → List H → Type 0) (words : List ℕ) (homes : List (Option (Slot T))) (all : List (Part T H)) (c : Core l traced w holds words homes all) where
+  history : History c.log all
+  history = record {
+    begins = λ n p at. (c.told.each n p at).begins;
+    longest = c.told.longest;
+    own = λ n p at. (c.told.each n p at).own;
+    people = c.told.people;
+  }
+
+  -- who has the spin word of an object has its queue in its view, and those whom it owes
+  spins-at : (o n : ℕ) → c.spinner o ≡ some n → (p : Part T H) × (get_elem? all n ≡ some p) × (p.spin ≡ Some o) × (p.queue ≡ c.queue o) × (p.owed ≡ c.owed o)
+  spins-at o n is = let v = at_below all n (c.spins.within o n is) in let t = c.spins.spinning n v.0 v.1 o in let here = t.1 is in let k = t.0 here in (v.0, v.1, here, k.1, k.2)
+
+  -- a thread that is owed is in the line of the object
+  owed-line : (o k t : ℕ) (q : Part T H) → get_elem? all k ≡ some q → OwesAt o q t → (c.spinner o ≡ some k) × (mem t (c.owed o) ≡ true)
+  owed-line o k t q at owes = let s = (c.spins.spinning k q at o).0 owes.0 in (s.0, ap (mem t) (sym s.2) ∙ owes.1)
+
+  -- whoever is in a line stands there and isn't ready
+  in-line : (o n : ℕ) (p : Part T H) → get_elem? all n ≡ some p → mem n (c.owed o ++ c.queue o) ≡ true → (stands_at p.stand o ≡ true) × (get_or words (ready_at n) 0 ≡ 0)
+  in-line o n p at there = (c.lines.stands n p at).lined o there
+
+  queued : (o n : ℕ) (p : Part T H) → get_elem? all n ≡ some p → mem n (c.queue o) ≡ true → (stands_at p.stand o ≡ true) × (get_or words (ready_at n) 0 ≡ 0)
+  queued o n p at there = in-line o n p at (mem-behind n (c.owed o) (c.queue o) there)
+
+  owed : (o k n : ℕ) (q p : Part T H) → get_elem? all k ≡ some q → get_elem? all n ≡ some p → OwesAt o q n → (stands_at p.stand o ≡ true) × (get_or words (ready_at n) 0 ≡ 0)
+  owed o k n q p at' at owes = in-line o n p at (mem-append n (c.owed o) (c.queue o) (owed-line o k n q at' owes).1)
+
+  holding : (m n : ℕ) (p : Part T H) → get_elem? all n ≡ some p → Has p m → c.spec.holder m ≡ cond (waits_on p.wait m) none (some n)
+  holding m n p at has = (c.shows.tells n p at).holds m ((c.owned.standing n p at m).0 has)
+
+  holder : (m n : ℕ) → (c.spec.holder m ≡ some n) ↔ ((p : Part T H) × (get_elem? all n ≡ some p) × SaysHolds p m)
+  holder m n = (
+    (λ is. whose (c.owner m)
+        (λ free. absurd (some-ne-none n (sym is ∙ c.shows.free m free)))
+        (λ k own. let v = at_below all k (c.owned.within m k own).1 in let has = (c.owned.standing k v.0 v.1 m).1 own in
+        let h = holder-of (waits_on v.0.wait m) k n (c.spec.holder m) (holding m k v.0 v.1 has) is in
+        (v.0, ap (get_elem? all) (sym h.1) ∙ v.1, (has, h.0)))),
+    λ (p, at, says). holding m n p at says.0 ∙ ap (λ b. cond b none (some n)) says.1,
+  )
+
+  known : (of : Part T H → List ℕ) (o : ℕ) (xs : List ℕ) → o < 192 → ((n : ℕ) (p : Part T H) → get_elem? all n ≡ some p → c.spinner o ≡ some n → of p ≡ xs) → (c.spinner o ≡ none → c.queue o ≡ xs) → IsKnown of homes all o xs
+  known of o xs low has free = whose (c.spinner o)
+      (λ e. inr ((λ n p at is. some-ne-none n (sym ((c.spins.spinning n p at o).0 is).0 ∙ e)), c.spins.home o low e ∙ ap (λ (z : List ℕ). some (some (Queue (line_of z)))) (free e)))
+      (λ n e. let v = spins-at o n e in inl (n, v.0, v.1, (v.2, has n v.0 v.1 e)))
+
+  out-of-all : (d n : ℕ) → length all ≤ n → c.spec.members d n ≡ false
+  out-of-all = strangers-out (length all) at_first c.spec c.log c.run c.told.people (λ _ _ _. refl)
+
+  members : (d n : ℕ) → d < 64 → (c.spec.members d n ≡ true) ↔ ((mem n (c.shows.left d) ≡ true) ⊎ ((p : Part T H) × (get_elem? all n ≡ some p) × (counts_in p.wait d (get_or words (count_at (cond_object d)) 0) ≡ true)))
+  members d n low =
+      let is = c.shows.members d n in
+      let now = c.shows.counted d low in
+      let own : (p : Part T H) → get_elem? all n ≡ some p → c.shows.counting d n ≡ counts_in p.wait d (get_or words (count_at (cond_object d)) 0) = λ p at. (c.shows.tells n p at).counts d ∙ ap (counts_in p.wait d) (sym now) in (
+        (λ e. either (mem n (c.shows.left d)) (λ there. inl there)
+            (λ gone. ⊎_elim
+            (λ (lo : n < length all). let v = at_below all n lo in inr (v.0, v.1, sym (own v.0 v.1) ∙ (sym (ap (λ b. cond b true (c.shows.counting d n)) gone) ∙ (sym is ∙ e))))
+            (λ (hi : length all ≤ n). both_ways (c.spec.members d n) e (out-of-all d n hi))
+            (cases_lt n (length all)))),
+        ⊎_elim (λ (there : mem n (c.shows.left d) ≡ true). is ∙ ap (λ b. cond b true (c.shows.counting d n)) there)
+            (λ (t : (p : Part T H) × (get_elem? all n ≡ some p) × (counts_in p.wait d (get_or words (count_at (cond_object d)) 0) ≡ true)). is ∙ (ap (λ b. cond (mem n (c.shows.left d)) true b) (own t.0 t.1 ∙ t.2) ∙ yes (mem n (c.shows.left d)))),
+      )
+    where
+      yes : (b : Bool) → cond b true true ≡ true
+      yes true = refl
+      yes false = refl
+
+  meaning : Meaning words homes all c.queue c.shows.left c.spec
+  meaning = record {
+    holder = holder;
+    avail = λ s low. says-not (get_or words (bit_at (sem_object s)) 0) (c.spec.avail s) (c.shows.avails s low);
+    alerts = λ t low. says-is (get_or words (alert_at t) 0) (c.spec.alerts t) (c.shows.alerts t low);
+    pending = λ n p at. (c.shows.tells n p at).pends;
+    nobody = c.shows.strangers;
+    members = members;
+    left_known = λ d low. known (λ p. p.left) (cond_object d) (c.shows.left d) (omega arith) (λ n p at is. ((c.shows.tells n p at).knows d is).0) (λ free. sym (c.shows.whole d free));
+    left_in = λ d t there. either (mem t (c.queue (cond_object d))) (λ e. e) (λ out. both_ways (mem t (c.shows.left d)) there (c.shows.inside d t out));
+    none_taken = λ n p at v d waits spins. let s = (c.spins.spinning n p at (cond_object d)).0 spins in let t = c.shows.tells n p at in sym (t.knows d s.0).0 ∙ (t.even v waits ∙ s.1);
+  }
+
+  mutex_bits : MutexBits l.mutexes words all c.spec
+  mutex_bits = record {
+    bit = λ m low. flag-of all (get_or words (bit_at m) 0) (c.owner m) (λ p. Has p m) (c.owned.bits m low) (λ n own. (c.owned.within m n own).1) (λ n p at. c.owned.standing n p at m);
+    holder_has = λ n p at m is. let t = (holder m n).0 is in subst (λ (z : Part T H). Has z m) (same_at all n t.0 p t.1 at) t.2.0;
+    between = λ n p at m has ne. either (waits_on p.wait m) (λ e. e) (λ out. absurd (ne (holding m n p at has ∙ ap (λ b. cond b none (some n)) out)));
+  }
+
+  spin_words : SpinWords words homes all c.queue
+  spin_words = record {
+    spin = λ o low. flag-of all (get_or words (spin_at o) 0) (c.spinner o) (λ p. p.spin ≡ Some o) (c.spins.spin o low) (c.spins.within o) (λ n p at. let t = c.spins.spinning n p at o in ((λ is. (t.0 is).0), t.1));
+    queue_known = λ o low. known (λ p. p.queue) o (c.queue o) low (λ n p at is. let t = c.spins.spinning n p at o in (t.0 (t.1 is)).1) (λ _. refl);
+    distinct = λ o. distinct-behind (c.owed o) (c.queue o) (c.lines.distinct o);
+    threads = λ o t there. c.lines.people o t (mem-behind t (c.owed o) (c.queue o) there);
+    length_word = c.spins.measured;
+  }
+
+  queued_threads : QueuedThreads words all c.queue
+  queued_threads = record {
+    waits = λ n p at o there. stand_some p.stand o (queued o n p at there).0;
+    elsewhere = λ n p at out. (
+      (λ o. not_true (mem n (c.queue o)) (λ there. stand_none p.stand o out (queued o n p at there).0)),
+      ⊎_elim (λ (z : get_or words (ready_at n) 0 ≡ 0). z) (λ (z : get_or words (ready_at n) 0 ≡ 1). let u = (c.lines.stands n p at).ready z in absurd (stand_none p.stand u.0.at out (ap (λ s. stands_at s u.0.at) u.1 ∙ eq-eqb u.0.at u.0.at refl))) (c.lines.stands n p at).flag,
+      λ k q at' owes. stand_none p.stand owes.0 out (owed owes.0 k n q p at' at owes.1).0,
+    );
+  }
+
+  -- a thread that is owed at an object stands there and is in no queue
+  owed-only : (n : ℕ) (p : Part T H) → get_elem? all n ≡ some p → AnyView (λ q. Owes q n) all → ((o : ℕ) → mem n (c.queue o) ≡ false) × ((s : Stand) × (p.stand ≡ Some s))
+  owed-only n p at (k, q, at', some_object) = let o = some_object.0 in let owes = some_object.1 in let here = owed o k n q p at' at owes in let s = stand_some p.stand o here.0 in (
+    (λ j. not_true (mem n (c.queue j)) (λ there.
+        let e : j ≡ o = stand_same p.stand j o (queued j n p at there).0 here.0 in
+        both_ways (mem n (c.queue o)) (ap (λ i. mem n (c.queue i)) (sym e) ∙ there) (distinct-apart n (c.owed o) (c.queue o) (c.lines.distinct o) (owed-line o k n q at' owes).1))),
+    (s.0, s.1),
+  )
+
+  ready_words : ReadyWords words all c.queue
+  ready_words = record {
+    flag = λ n p at. (c.lines.stands n p at).flag;
+    kept = λ n p at s is. ⊎_elim
+        (λ (there : mem n (c.owed s.at ++ c.queue s.at) ≡ true). ⊎_elim
+        (λ (o : mem n (c.owed s.at) ≡ true). inr (inr (whose (c.spinner s.at)
+        (λ free. absurd (false_true (sym (ap (mem n) (c.spins.settled s.at free)) ∙ o)))
+        (λ k own. let v = spins-at s.at k own in (k, v.0, v.1, (v.2, ap (mem n) v.4 ∙ o))))))
+        (λ (o : mem n (c.queue s.at) ≡ true). inl o)
+        (mem-either n (c.owed s.at) (c.queue s.at) there))
+        (λ (one : get_or words (ready_at n) 0 ≡ 1). inr (inl one))
+        ((c.lines.stands n p at).kept s is);
+    ready = λ n p at. ⊎_elim
+        (λ (one : get_or words (ready_at n) 0 ≡ 1). ((λ o. not_true (mem n (c.queue o)) (λ there. one-zero (get_or words (ready_at n) 0) (queued o n p at there).1 one)), (c.lines.stands n p at).ready one))
+        (λ (owes : AnyView (λ q. Owes q n) all). owed-only n p at owes);
+    unowed = λ n p at one k q at' owes. one-zero (get_or words (ready_at n) 0) (owed owes.0 k n q p at' at owes.1).1 one;
+    owed_once = λ t j q at owes k r at' owes'.
+        let a = owed-line owes.0 j t q at owes.1 in
+        let b = owed-line owes'.0 k t r at' owes'.1 in
+        let v = at_below all t (c.lines.people owes.0 t (mem-append t (c.owed owes.0) (c.queue owes.0) a.1)) in
+        let e : owes.0 ≡ owes'.0 = stand_same v.0.stand owes.0 owes'.0 (owed owes.0 j t q v.0 at v.1 owes.1).0 (owed owes'.0 k t r v.0 at' v.1 owes'.1).0 in
+        some-injective j k (sym a.0 ∙ (ap c.spinner e ∙ b.0));
+    found = λ n p at. (c.lines.stands n p at).found;
+  }
+
+  counts_read : CountsRead words all
+  counts_read = record {
+    risen = λ n p at v k waits read low. ⊎_elim
+        (λ (hi : get_or words (count_at (cond_object v.cond.0)) 0 < k).
+        let now = c.shows.counted v.cond.0 low in
+        let out = (c.shows.tells n p at).risen v.cond.0 k (omega arith) in
+        let in' : counts_in p.wait v.cond.0 k ≡ true = ap (λ z. counts_in z v.cond.0 k) waits ∙ (ap (λ b. cond b (is_at v.member k) false) (eq-eqb v.cond.0 v.cond.0 refl) ∙ (ap (λ z. is_at z k) read ∙ eq-eqb k k refl)) in
+        both_ways (counts_in p.wait v.cond.0 k) in' out)
+        (λ (lo : k ≤ get_or words (count_at (cond_object v.cond.0)) 0). lo)
+        (cases_lt (get_or words (count_at (cond_object v.cond.0)) 0) k);
+    known = λ n p at d low spins. ((c.shows.tells n p at).knows d ((c.spins.spinning n p at (cond_object d)).0 spins).0).1 ∙ sym (c.shows.counted d low);
+  }
+
+  values_and_shares : ValuesAndShares l.mutexes (holds w) homes all c.values c.shares
+  values_and_shares = record {
+    kept = c.owned.kept;
+    each_value = c.owned.values_wide;
+    got = c.owned.current;
+    home = λ m x low at none_has. c.owned.at_home m low x at (whose (c.owner m) (λ free. free)
+        (λ k own. let v = at_below all k (c.owned.within m k own).1 in absurd (none_has k v.0 v.1 ((c.owned.standing k v.0 v.1 m).1 own))));
+    each_share = c.owned.shares_wide;
+    share = c.owned.shared;
+  }
+
+  numbering : Numbering traced c.log words all
+  numbering = let has = λ (n : ℕ) (p : Part T H) (at : get_elem? all n ≡ some p). pen-has (length c.log) (get_or words number_at 0) n c.writer p.pen (c.pens.pens n p at) in record {
+    pen = flag-of all (get_or words pen_at 0) c.writer (λ p. p.pen ≢ No) c.pens.flag c.pens.within has;
+    untraced = λ lacks n p at other. some-ne-none n (sym ((has n p at).0 other) ∙ c.pens.untraced lacks);
+    free = λ traces zero. c.pens.free traces (⊎_elim (λ (t : (get_or words pen_at 0 ≡ 0) × (c.writer ≡ none)). t.1) (λ (t : (get_or words pen_at 0 ≡ 1) × ((n : ℕ) × (c.writer ≡ some n))). absurd (one-zero (get_or words pen_at 0) zero t.0)) c.pens.flag);
+    read = λ n p at k is. let f = subst (PenFits (length c.log) (get_or words number_at 0) c.writer n) is (c.pens.pens n p at) in f.2 ∙ f.1;
+    made = λ n p at k is. let f = subst (PenFits (length c.log) (get_or words number_at 0) c.writer n) is (c.pens.pens n p at) in f.1;
+    places = λ n p at. (c.told.each n p at).placed;
+  }
+
+  pub rule-of : PackageRule l traced (holds w) words homes all
+  rule-of = record {
+    log = c.log;
+    state = c.spec;
+    queue = c.queue;
+    left = c.shows.left;
+    values = c.values;
+    shares = c.shares;
+    history = history;
+    run = c.run;
+    meaning = meaning;
+    mutex_bits = mutex_bits;
+    spin_words = spin_words;
+    queued_threads = queued_threads;
+    ready_words = ready_words;
+    counts_read = counts_read;
+    values_and_shares = values_and_shares;
+    numbering = numbering;
+  }
+
+module _ {T H W : Type 0} (l : Layout) (traced : Bool) (w : W) (begin : W → ℕ → H) (holds : W → List T → List H → Type 0) (s : State (Slot T) (View T H W)) (k : IsKept l traced w begin holds s) where
+  fits-as : (id : ℕ) (v : View T H W) (kind : Kind) → get_elem? s.views id ≡ some v → v.kind ≡ kind → FitsAs l.threads k.given w begin k.all k.seat_of id v kind
+  fits-as id v kind at is = subst (FitsAs l.threads k.given w begin k.all k.seat_of id v) is (k.fits id v at)
+
+  pub are-views : AreViews l.threads w begin s.views k.all
+  are-views = record {
+    count = k.count;
+    seated = λ id v at is. (fits-as id v Member at is).own;
+    back = λ id v at is n p there. ((fits-as id v Collector at is).came_back n p there).1;
+    to_come = λ id v at is n lo hi. let r = fits-as id v Root at is in (r.unborn n (subst (λ (z : ℕ). z ≤ n) r.next lo) hi).1;
+  }

@@ -1,0 +1,205 @@
+-- THE RULE, said in public: what is true between any two steps of the words, the slots at home and the views of the threads. The law
+-- `laws::the_rule_says` shows it of every state that meets the invariant.
+use Rattle.std.specs.Prelude.{Bool, Option as Opt, true, false, ◌≡◌, ◌≢◌, ◌↔◌, ◌⊎◌, ℕ, ◌+◌, ◌<◌, ◌≤◌, List, [], ◌++◌, length, slice_index, slice_set, Some, None}
+use mathlib.Core.Option.{Option, some}
+use lib.ListN.{get_elem?}
+use Rattle.larch_actions.specs.declared.event.Layout.{Layout}
+use Rattle.larch_actions.specs.declared.event.Event.{Event}
+use Rattle.larch_actions.specs.declared.event.Pending.TheVariants.{Nothing}
+use Rattle.larch_actions.specs.Actions.{Spec, IsRun, Leads, StartsWith, by_thread}
+use Rattle.larch_actions.specs.Sets.{mem}
+use Rattle.atomic_table.specs.Table.{State}
+use Rattle.nub_rule.specs.declared.rule.Slot.{Slot}
+use Rattle.nub_rule.specs.declared.rule.Slot.TheVariants.{Value, Queue}
+use Rattle.nub_rule.specs.declared.view.Kind.TheVariants.{Root, Member, Collector}
+use Rattle.nub_rule.specs.declared.view.Part.{Part}
+use Rattle.nub_rule.specs.declared.view.Pen.TheVariants.{No, Read, Made}
+use Rattle.nub_rule.specs.declared.view.Stand.{Stand}
+use Rattle.nub_rule.specs.declared.view.View.{View}
+use Rattle.nub_rule.specs.declared.view.Wait.{Wait}
+use Rattle.nub_rule.specs.Items.{Each, Distinct, line_of, places_from}
+use Rattle.nub_rule.specs.Parts.{Got, Has, IsFound, counts_in, fresh, pending_of, waits_on}
+use Rattle.nub_rule.specs.Places.{alert_at, bit_at, cond_object, count_at, length_at, number_at, pen_at, queue_at, ready_at, sem_object, spin_at, value_at}
+use Rattle.nub_rule.specs.Rule.{IsKept}
+
+-- the count of the condition c, and whether the thread n is ready
+abbrev pub count_now : List ℕ → ℕ → ℕ
+count_now words c = slice_index words (count_at (cond_object c))
+
+abbrev pub IsReady : List ℕ → ℕ → Type 0
+IsReady words n = slice_index words (ready_at n) ≡ 1
+
+-- the thread n is in no queue
+abbrev pub IsInNone : (ℕ → List ℕ) → ℕ → Type 0
+IsInNone queue n = (o : ℕ) → mem n (queue o) ≡ false
+
+-- what a thread has pushed itself onto, since it last cleared its ready word or took itself out
+abbrev pub StandsSomewhere : Opt Stand → Type 0
+StandsSomewhere stand = (s : Stand) × (stand ≡ Some s)
+
+module _ {T H : Type 0} where
+  -- the view of the thread n is such
+  abbrev pub ViewIs : List (Part T H) → ℕ → (Part T H → Type 0) → Type 0
+  ViewIs views n P = (p : Part T H) × (get_elem? views n ≡ some p) × P p
+
+  -- some view is such, and no view is
+  abbrev pub AnyView : (Part T H → Type 0) → List (Part T H) → Type 0
+  AnyView P views = (n : ℕ) × (p : Part T H) × (get_elem? views n ≡ some p) × P p
+
+  abbrev pub NoView : (Part T H → Type 0) → List (Part T H) → Type 0
+  NoView P views = Each (λ n p. ¬ P p) views
+
+  -- the word is 1 and one view is such and no other, or it is 0 and none is
+  abbrev pub IsFlagOf : ℕ → (Part T H → Type 0) → List (Part T H) → Type 0
+  IsFlagOf word P views = ((word ≡ 0) × NoView P views)
+      ⊎ ((word ≡ 1) × ((n : ℕ) × (p : Part T H) × (get_elem? views n ≡ some p) × P p × Each (λ k q. P q → k ≡ n) views))
+
+  -- the view says that its thread holds the mutex: it has it, and isn't in a wait on it
+  abbrev pub SaysHolds : Part T H → ℕ → Type 0
+  SaysHolds p m = Has p m × (waits_on p.wait m ≡ false)
+
+  -- the view has the spin word of the object, and popped the thread t there and owes it its ready word
+  abbrev pub OwesAt : ℕ → Part T H → ℕ → Type 0
+  OwesAt o p t = (p.spin ≡ Some o) × (mem t p.owed ≡ true)
+
+  abbrev pub Owes : Part T H → ℕ → Type 0
+  Owes p t = (o : ℕ) × OwesAt o p t
+
+  -- the list is what the holder of the object's spin word has in its view, or where nobody has that word the queue at home
+  abbrev pub IsKnown : (Part T H → List ℕ) → List (Option (Slot T)) → List (Part T H) → ℕ → List ℕ → Type 0
+  IsKnown known homes views o xs = AnyView (λ p. (p.spin ≡ Some o) × (known p ≡ xs)) views
+      ⊎ (NoView (λ p. p.spin ≡ Some o) views × (get_elem? homes (queue_at o) ≡ some (some (Queue (line_of xs)))))
+
+  -- HISTORY: one list, the longest that any thread has seen; each has seen a beginning of it, and its part by each thread is that thread's own events
+  pub record History (log : List Event) (views : List (Part T H)) : Type 0 where
+    pub begins : Each (λ n p. StartsWith log p.seen) views
+    pub longest : (log ≡ []) ⊎ AnyView (λ p. p.seen ≡ log) views
+    pub own : Each (λ n p. by_thread n log ≡ p.mine) views
+    pub people : Each (λ i e. e.thread.0 < length views) log
+
+  -- MEANING OF THE WORDS: the state of the specification for which words, slots and views stand
+  pub record Meaning (words : List ℕ) (homes : List (Option (Slot T))) (views : List (Part T H)) (queue left : ℕ → List ℕ) (state : Spec) : Type 0 where
+    -- a mutex is held by the thread whose view says so, else by nobody
+    pub holder : (m n : ℕ) → (state.holder m ≡ some n) ↔ ViewIs views n (λ p. SaysHolds p m)
+    -- a semaphore is available exactly where its bit is 0, and a thread is alerted exactly where its alert word is 1
+    pub avail : (s : ℕ) → s < 64 → (state.avail s ≡ true) ↔ (slice_index words (bit_at (sem_object s)) ≡ 0)
+    pub alerts : (t : ℕ) → t < 64 → (state.alerts t ≡ true) ↔ (slice_index words (alert_at t) ≡ 1)
+    -- what a thread has begun is in its view
+    pub pending : Each (λ n p. state.pending n ≡ pending_of p.wait) views
+    pub nobody : (t : ℕ) → length views ≤ t → state.pending t ≡ Nothing
+    -- in a condition are those of its queue that no advance has taken, and those that read the count, or took themselves out, when it was what it is now
+    pub members : (c n : ℕ) → c < 64 → (state.members c n ≡ true)
+        ↔ ((mem n (left c) ≡ true) ⊎ ViewIs views n (λ p. counts_in p.wait c (count_now words c) ≡ true))
+    -- the holder of a condition's spin word knows whom no advance has taken: some of its queue. A thread in a wait has taken nobody
+    pub left_known : (c : ℕ) → c < 64 → IsKnown (λ p. p.left) homes views (cond_object c) (left c)
+    pub left_in : (c t : ℕ) → mem t (left c) ≡ true → mem t (queue (cond_object c)) ≡ true
+    pub none_taken : Each (λ n p. (w : Wait) (c : ℕ) → p.wait ≡ Some w → p.spin ≡ Some (cond_object c) → left c ≡ queue (cond_object c)) views
+
+  -- MUTEX BITS: the bit is 1 exactly where one view has the mutex. A holder has it, and who has it and isn't its holder is in a wait on it
+  pub record MutexBits (mutexes : ℕ) (words : List ℕ) (views : List (Part T H)) (state : Spec) : Type 0 where
+    pub bit : (m : ℕ) → m < mutexes → IsFlagOf (slice_index words (bit_at m)) (λ p. Has p m) views
+    pub holder_has : Each (λ n p. (m : ℕ) → state.holder m ≡ some n → Has p m) views
+    pub between : Each (λ n p. (m : ℕ) → Has p m → state.holder m ≢ some n → waits_on p.wait m ≡ true) views
+
+  -- SPIN WORDS AND QUEUES: a spin word is 1 exactly where one view has it. The queue is in that view, else at home. It lists distinct threads,
+  -- and its length word is its length
+  pub record SpinWords (words : List ℕ) (homes : List (Option (Slot T))) (views : List (Part T H)) (queue : ℕ → List ℕ) : Type 0 where
+    pub spin : (o : ℕ) → o < 192 → IsFlagOf (slice_index words (spin_at o)) (λ p. p.spin ≡ Some o) views
+    pub queue_known : (o : ℕ) → o < 192 → IsKnown (λ p. p.queue) homes views o (queue o)
+    pub distinct : (o : ℕ) → Distinct (queue o)
+    pub threads : (o t : ℕ) → mem t (queue o) ≡ true → t < length views
+    pub length_word : (o : ℕ) → o < 192 → slice_index words (length_at o) ≡ length (queue o)
+
+  -- QUEUED THREADS: a thread in the queue of an object is in a call that waits there: it pushed itself, and since then neither took itself out nor
+  -- cleared its ready word. A thread that stands nowhere, as one at rest, is in no queue, has ready word 0, and nobody owes it that
+  pub record QueuedThreads (words : List ℕ) (views : List (Part T H)) (queue : ℕ → List ℕ) : Type 0 where
+    pub waits : Each (λ n p. (o : ℕ) → mem n (queue o) ≡ true → (s : Stand) × (p.stand ≡ Some s) × (s.at ≡ o)) views
+    pub elsewhere : Each (λ n p. p.stand ≡ None → IsInNone queue n × (slice_index words (ready_at n) ≡ 0) × NoView (λ q. Owes q n) views) views
+
+  -- READY WORDS: a ready word is 0 or 1
+  pub record ReadyWords (words : List ℕ) (views : List (Part T H)) (queue : ℕ → List ℕ) : Type 0 where
+    pub flag : Each (λ n p. (slice_index words (ready_at n) ≡ 0) ⊎ IsReady words n) views
+    -- who stands at an object is in its queue, or is ready, or is owed its ready word by the holder of the spin word who popped it
+    pub kept : Each (λ n p. (s : Stand) → p.stand ≡ Some s → (mem n (queue s.at) ≡ true) ⊎ (IsReady words n ⊎ AnyView (λ q. OwesAt s.at q n) views)) views
+    -- who is ready, or is owed its ready word, is in no queue, and has pushed itself since it last cleared its ready word or took itself out
+    pub ready : Each (λ n p. (IsReady words n ⊎ AnyView (λ q. Owes q n) views) → IsInNone queue n × StandsSomewhere p.stand) views
+    -- nobody owes a ready word that is 1, and at most one thread owes a thread its ready word
+    pub unowed : Each (λ n p. IsReady words n → NoView (λ q. Owes q n) views) views
+    pub owed_once : (t : ℕ) → Each (λ j q. Owes q t → Each (λ k r. Owes r t → j ≡ k) views) views
+    -- who read its own ready word as 1 and hasn't cleared it finds 1
+    pub found : Each (λ n p. (s : Stand) → p.stand ≡ Some s → IsFound s.stage → IsReady words n) views
+
+  -- COUNTS READ: a count that a view has read is at most the count now, and the holder of the condition's spin word knows the count
+  pub record CountsRead (words : List ℕ) (views : List (Part T H)) : Type 0 where
+    pub risen : Each (λ n p. (w : Wait) (k : ℕ) → p.wait ≡ Some w → w.member ≡ Some k → w.cond.0 < 64 → k ≤ count_now words w.cond.0) views
+    pub known : Each (λ n p. (c : ℕ) → c < 64 → p.spin ≡ Some (cond_object c) → p.count ≡ count_now words c) views
+
+  -- VALUES AND SHARES: the lock invariant holds of the values last released and all shares. The value got with a mutex is the one last released;
+  -- of a mutex that nobody has it is at home
+  pub record ValuesAndShares (mutexes : ℕ) (holds : List T → List H → Type 0) (homes : List (Option (Slot T))) (views : List (Part T H)) (values : List T) (shares : List H) : Type 0 where
+    pub kept : holds values shares
+    pub each_value : length values ≡ mutexes
+    pub got : Each (λ n p. (m : ℕ) (x : T) → Got p m x → get_elem? values m ≡ some x) views
+    pub home : (m : ℕ) (x : T) → m < mutexes → get_elem? values m ≡ some x → NoView (λ p. Has p m) views
+        → get_elem? homes (value_at m) ≡ some (some (Value (Some x)))
+    pub each_share : length shares ≡ length views
+    pub share : Each (λ n p. (s : H) × (p.share ≡ Some s) × (get_elem? shares n ≡ some s)) views
+
+  -- NUMBERING: one view at most has the pen, in an untraced package none. While the pen is free the number word of a traced package is the number
+  -- of events. The places of a thread are those of its own events in the history
+  pub record Numbering (traced : Bool) (log : List Event) (words : List ℕ) (views : List (Part T H)) : Type 0 where
+    pub pen : IsFlagOf (slice_index words pen_at) (λ p. p.pen ≢ No) views
+    pub untraced : traced ≡ false → NoView (λ p. p.pen ≢ No) views
+    pub free : traced ≡ true → slice_index words pen_at ≡ 0 → slice_index words number_at ≡ length log
+    -- the number that a view has read with the pen is that of the next event, and after that event its own
+    pub read : Each (λ n p. (k : ℕ) → p.pen ≡ Read k → k ≡ length log) views
+    pub made : Each (λ n p. (k : ℕ) → p.pen ≡ Made k → length log ≡ k + 1) views
+    pub places : Each (λ n p. places_from 0 n log ≡ p.places) views
+
+  -- all items
+  pub record PackageRule (l : Layout) (traced : Bool) (holds : List T → List H → Type 0) (words : List ℕ) (homes : List (Option (Slot T))) (views : List (Part T H)) : Type 0 where
+    -- the history and the state to which it leads
+    pub log : List Event
+    pub state : Spec
+    -- the queue of each object, and of the queue of each condition those that are in the condition
+    pub queue : ℕ → List ℕ
+    pub left : ℕ → List ℕ
+    -- the value last released of each mutex, and the share of each thread
+    pub values : List T
+    pub shares : List H
+    pub history : History log views
+    pub run : IsRun log state
+    pub meaning : Meaning words homes views queue left state
+    pub mutex_bits : MutexBits l.mutexes words views state
+    pub spin_words : SpinWords words homes views queue
+    pub queued_threads : QueuedThreads words views queue
+    pub ready_words : ReadyWords words views queue
+    pub counts_read : CountsRead words views
+    pub values_and_shares : ValuesAndShares l.mutexes holds homes views values shares
+    pub numbering : Numbering traced log words views
+
+module _ {T H W : Type 0} where
+  -- the views of the threads, by their numbers: those of the seats of threads, those that have come back to a collector, and new ones for the threads
+  -- that the first seat has yet to give out
+  pub record AreViews (threads : ℕ) (w : W) (begin : W → ℕ → H) (seats : List (View T H W)) (views : List (Part T H)) : Type 0 where
+    pub count : length views ≡ threads
+    pub seated : (id : ℕ) (v : View T H W) → get_elem? seats id ≡ some v → v.kind ≡ Member → get_elem? views v.number ≡ some v.part
+    pub back : (id : ℕ) (v : View T H W) → get_elem? seats id ≡ some v → v.kind ≡ Collector → Each (λ n p. get_elem? views n ≡ some p) v.back
+    pub to_come : (id : ℕ) (v : View T H W) → get_elem? seats id ≡ some v → v.kind ≡ Root → (n : ℕ) → v.next ≤ n → n < threads → get_elem? views n ≡ some (fresh (Some (begin w n)))
+
+  -- whatever state meets the invariant, the rule holds of its words, its slots at home and the views of its threads
+  abbrev pub RuleHolds : (W → ℕ → H) → (W → List T → List H → Type 0) → Type 0
+  RuleHolds begin holds = (l : Layout) (traced : Bool) (w : W) (s : State (Slot T) (View T H W)) → IsKept l traced w begin holds s
+      → (views : List (Part T H)) × AreViews l.threads w begin s.views views × PackageRule l traced (holds w) s.words s.homes views
+
+  -- words and views determine the history and the state: over the same views there is one of each
+  abbrev pub OneHistory : (W → List T → List H → Type 0) → Type 0
+  OneHistory holds = (l : Layout) (traced : Bool) (w : W) (words words' : List ℕ) (homes homes' : List (Option (Slot T))) (views : List (Part T H))
+      → (r : PackageRule l traced (holds w) words homes views) (r' : PackageRule l traced (holds w) words' homes' views) → (r'.log ≡ r.log) × (r'.state ≡ r.state)
+
+  -- where one thread's view changed and that thread's own events grew by these, the history grew by them, and they lead from the state before to the
+  -- state after. With one event this is that event's action; with none the history and the state are what they were
+  abbrev pub EachStep : (W → List T → List H → Type 0) → Type 0
+  EachStep holds = (l : Layout) (traced : Bool) (w : W) (words words' : List ℕ) (homes homes' : List (Option (Slot T))) (views : List (Part T H)) (n : ℕ) (p q : Part T H) (es : List Event)
+      → get_elem? views n ≡ some p → StartsWith q.seen p.seen → q.mine ≡ p.mine ++ es
+      → (r : PackageRule l traced (holds w) words homes views) (r' : PackageRule l traced (holds w) words' homes' (slice_set views n q)) → (r'.log ≡ r.log ++ es) × Leads r.state es r'.state
