@@ -27,8 +27,9 @@ use Rattle.atomic_table.specs.Table.{State}
 use Rattle.nub_rule.specs.Items.{Each, Marks, Says, PenFits, Core, line_of}
 use Rattle.nub_rule.specs.Parts.{Has, counts_in, is_at, stands_at, waits_on}
 use Rattle.nub_rule.specs.Places.{alert_at, bit_at, cond_object, count_at, number_at, pen_at, ready_at, sem_object, spin_at}
-use Rattle.nub_rule.specs.PackageRule.{AnyView, IsFlagOf, IsKnown, SaysHolds, OwesAt, Owes, History, Meaning, MutexBits, SpinWords, QueuedThreads, ReadyWords, CountsRead, ValuesAndShares, Numbering, PackageRule, AreViews}
+use Rattle.nub_rule.specs.PackageRule.{AnyView, IsFlagOf, IsKnown, SaysHolds, OwesAt, Owes, History, Meaning, MutexBits, SpinWords, QueuedThreads, ReadyWords, NoWakeLost, IsReady, CountsRead, ValuesAndShares, Numbering, PackageRule, AreViews}
 use Rattle.nub_rule.proofs.Each.{at_below, put-at, put-else, same_at}
+use Rattle.nub_rule.proofs.Owing.{bound-nowhere, bound-asleep}
 use Rattle.nub_rule.proofs.Standing.{both_ways, distinct-apart, distinct-behind, false_true, mem-append, mem-behind, not_true, stand_none, stand_same, stand_some}
 
 -- who has something is nobody or somebody
@@ -242,6 +243,19 @@ module _ {T H W : Type 0} (l : Layout) (traced : Bool) (w : W) (holds : W → Li
     found = λ n p at. (c.lines.stands n p at).found;
   }
 
+  no_wake_lost : NoWakeLost words all c.queue
+  no_wake_lost = record {
+    looks = c.owes.looks;
+    at_rest = λ n p at out none_left none_cleared o. bound-nowhere o (c.queue o) n p out none_left none_cleared;
+    asleep = λ n p at s is sleeps o. bound-asleep o (c.queue o) n p s is sleeps (c.owes.sound n p at s is sleeps);
+    waits = λ n p at s is low. ⊎_elim
+        (λ (queued : mem n (c.queue s.at) ≡ true). inr (inr (dite (ℕ_discrete (get_or words (bit_at s.at) 0) 0)
+        (λ free. inr (c.owes.looks s.at low free (λ none_there. false_true (sym (ap (mem n) none_there) ∙ queued))))
+        (λ set_there. inl set_there))))
+        (λ (r : IsReady words n ⊎ AnyView (λ q. OwesAt s.at q n) all). ⊎_elim (λ (one : IsReady words n). inl one) (λ (owed : AnyView (λ q. OwesAt s.at q n) all). inr (inl owed)) r)
+        (ready_words.kept n p at s is);
+  }
+
   counts_read : CountsRead words all
   counts_read = record {
     risen = λ n p at v k waits read low. ⊎_elim
@@ -291,6 +305,7 @@ module _ {T H W : Type 0} (l : Layout) (traced : Bool) (w : W) (holds : W → Li
     spin_words = spin_words;
     queued_threads = queued_threads;
     ready_words = ready_words;
+    no_wake_lost = no_wake_lost;
     counts_read = counts_read;
     values_and_shares = values_and_shares;
     numbering = numbering;

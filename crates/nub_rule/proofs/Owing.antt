@@ -18,7 +18,7 @@ use Rattle.nub_rule.specs.Parts.{stands_at, IsUntested, HasTested, turned}
 use Rattle.nub_rule.specs.Places.{bit_at}
 use Rattle.nub_rule.proofs.Each.{at_within, same_at, each-set}
 use Rattle.nub_rule.proofs.Naming.{turned-gate, turned-cond}
-use Rattle.nub_rule.proofs.Standing.{some_none, stand_none, stand_some, stand_same, stand_at}
+use Rattle.nub_rule.proofs.Standing.{false_true, some_none, stand_none, stand_some, stand_same, stand_at}
 
 -- the bits of gates stay
 abbrev pub SameGates : List ℕ → List ℕ → Type 0
@@ -47,6 +47,31 @@ turned-more (Some s) xs k there = ⊎_elim
     (λ (low : s.at < 128). ap (mem k) (turned-gate (Some s) xs s refl low) ∙ mem-more k s.at xs there)
     (λ (hi : 128 ≤ s.at). ap (mem k) (turned-cond (Some s) xs s refl hi) ∙ there)
     (cases_lt s.at 128)
+
+nobody-in : (k : ℕ) (xs : List ℕ) → xs ≡ [] → mem k xs ≡ true → ⊥
+nobody-in k xs e there = false_true (sym (ap (mem k) e) ∙ there)
+
+asleep-not : (g : Stage) → IsAsleep g → IsUntested g → ⊥
+asleep-not Pushed s u = s
+asleep-not Clear s u = s
+asleep-not Tested s u = u
+asleep-not Asleep s u = u
+asleep-not Alerted s u = u
+asleep-not Found s u = u
+
+module _ {T H : Type 0} (o : ℕ) (queue : List ℕ) (n : ℕ) (p : Part T H) where
+  -- who stands nowhere, has no turn and has cleared nothing is bound nowhere
+  pub bound-nowhere : p.stand ≡ None → p.turns ≡ [] → p.cleared ≡ [] → MustLook o queue n p → ⊥
+  bound-nowhere out et ec = ⊎_elim (λ (c : HasCleared o p). nobody-in o p.cleared ec c)
+      (λ (m : HasTurn o queue n p ⊎ IsUnsure o queue n p). ⊎_elim
+      (λ (t : HasTurn o queue n p). ⊎_elim (λ (u : mem o p.turns ≡ true). nobody-in o p.turns et u) (λ (u : (stands_at p.stand o ≡ true) × (mem n queue ≡ false)). stand_none p.stand o out u.0) t)
+      (λ (t : IsUnsure o queue n p). some_none p.stand t.0 out t.1) m)
+
+  -- who sleeps and has cleared nothing is bound by a turn alone
+  pub bound-asleep : (s : Stand) → p.stand ≡ Some s → IsAsleep s.stage → p.cleared ≡ [] → MustLook o queue n p → HasTurn o queue n p
+  bound-asleep s is sleeps ec = ⊎_elim (λ (c : HasCleared o p). absurd (nobody-in o p.cleared ec c))
+      (λ (m : HasTurn o queue n p ⊎ IsUnsure o queue n p). ⊎_elim (λ (t : HasTurn o queue n p). t)
+      (λ (t : IsUnsure o queue n p). absurd (asleep-not s.stage sleeps (subst (λ (z : Stand). IsUntested z.stage) (same_stand p.stand t.0 s t.1 is) t.3))) m)
 
 module _ {T H : Type 0} (queue queue' : ℕ → List ℕ) (words words' : List ℕ) (all : List (Part T H)) (n : ℕ) (p q : Part T H) (at : get_elem? all n ≡ some p) where
   -- the gate k was free with a queue before, and whoever had to look at it must still

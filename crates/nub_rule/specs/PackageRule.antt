@@ -18,6 +18,7 @@ use Rattle.nub_rule.specs.declared.view.Stand.{Stand}
 use Rattle.nub_rule.specs.declared.view.View.{View}
 use Rattle.nub_rule.specs.declared.view.Wait.{Wait}
 use Rattle.nub_rule.specs.Items.{Each, Distinct, line_of, places_from}
+use Rattle.nub_rule.specs.Owed.{HasTurn, IsAsleep, MustLook, SomebodyMustLook}
 use Rattle.nub_rule.specs.Parts.{Got, Has, IsFound, counts_in, fresh, pending_of, waits_on}
 use Rattle.nub_rule.specs.Places.{alert_at, bit_at, cond_object, count_at, length_at, number_at, pen_at, queue_at, ready_at, sem_object, spin_at, value_at}
 use Rattle.nub_rule.specs.Rule.{IsKept}
@@ -129,6 +130,18 @@ module _ {T H : Type 0} where
     -- who read its own ready word as 1 and hasn't cleared it finds 1
     pub found : Each (λ n p. (s : Stand) → p.stand ≡ Some s → IsFound s.stage → IsReady words n) views
 
+  -- WAKE OWED, at the gates, which are the mutexes and semaphores. Where the bit is 0 and the queue isn't empty, at least one thread is bound to look:
+  -- it has cleared the bit and hasn't looked at the queue since, or it left the queue and hasn't tried the bit since, or it stands in the queue and
+  -- since its push hasn't found the bit set
+  pub record NoWakeLost (words : List ℕ) (views : List (Part T H)) (queue : ℕ → List ℕ) : Type 0 where
+    pub looks : (o : ℕ) → o < 128 → slice_index words (bit_at o) ≡ 0 → queue o ≢ [] → SomebodyMustLook o (queue o) views
+    -- a thread at rest is bound nowhere, and one that sleeps only by having left a queue
+    pub at_rest : Each (λ n p. p.stand ≡ None → p.turns ≡ [] → p.cleared ≡ [] → (o : ℕ) → ¬ MustLook o (queue o) n p) views
+    pub asleep : Each (λ n p. (s : Stand) → p.stand ≡ Some s → IsAsleep s.stage → (o : ℕ) → MustLook o (queue o) n p → HasTurn o (queue o) n p) views
+    -- so whoever stands at a gate is ready, or the holder of its spin word owes it its ready word, or the bit is set, or somebody is bound to look
+    pub waits : Each (λ n p. (s : Stand) → p.stand ≡ Some s → s.at < 128
+        → IsReady words n ⊎ (AnyView (λ q. OwesAt s.at q n) views ⊎ ((slice_index words (bit_at s.at) ≢ 0) ⊎ SomebodyMustLook s.at (queue s.at) views))) views
+
   -- COUNTS READ: a count that a view has read is at most the count now, and the holder of the condition's spin word knows the count
   pub record CountsRead (words : List ℕ) (views : List (Part T H)) : Type 0 where
     pub risen : Each (λ n p. (w : Wait) (k : ℕ) → p.wait ≡ Some w → w.member ≡ Some k → w.cond.0 < 64 → k ≤ count_now words w.cond.0) views
@@ -174,6 +187,7 @@ module _ {T H : Type 0} where
     pub spin_words : SpinWords words homes views queue
     pub queued_threads : QueuedThreads words views queue
     pub ready_words : ReadyWords words views queue
+    pub no_wake_lost : NoWakeLost words views queue
     pub counts_read : CountsRead words views
     pub values_and_shares : ValuesAndShares l.mutexes holds homes views values shares
     pub numbering : Numbering traced log words views
