@@ -1,7 +1,7 @@
 //! The top call.
 ghost use Rattle.std.specs.Prelude.{◌≡◌, ◌⊎◌, ◌≤◌, length, map};
 ghost use Rattle.std.specs.String.{string_bytes};
-ghost use Rattle.command_line.specs.Grammar.{Task, Say, SayNothing, HasOptions};
+ghost use Rattle.command_line.specs.Grammar.{BeginOptions, Task, Say, SayNothing, HasOptions};
 ghost use Rattle.command_line.specs.Grammar as grammar;
 ghost use Rattle.firefly.specs.Changes.{change_of, Notes};
 ghost use Rattle.firefly.specs.Texts.{usage_message};
@@ -35,7 +35,7 @@ pub fn firefly<R: Threads + Wait + Sync, S: Tree, I: Source, O: Sink, N: Sink>(
     requires agree { Agree (looks_of (look_of S.tree S.may_fail S.calls S.faults) trees.old) }
     // Words that say no command.
     ensures usage { let e = effects_of (looks_of (look_of S.tree S.may_fail S.calls S.faults) trees.old) (looks_of (look_of S.tree S.may_fail S.calls S.faults) trees.new) (change_of I.left I.faults input.old input.new) (change_of O.held O.faults out.old out.new) (change_of N.held N.faults notes.old notes.new) in
-        SayNothing (map string_bytes words.now) → UsageAnswers e result ⊎ WordsWant e result }
+        SayNothing (map string_bytes words.now) → UsageAnswers e result ⊎ (BeginOptions (map string_bytes words.now) × WordsWant e result) }
     // A command.
     ensures answers { let e = effects_of (looks_of (look_of S.tree S.may_fail S.calls S.faults) trees.old) (looks_of (look_of S.tree S.may_fail S.calls S.faults) trees.new) (change_of I.left I.faults input.old input.new) (change_of O.held O.faults out.old out.new) (change_of N.held N.faults notes.old notes.new) in
         (t : Task) → Say (map string_bytes words.now) t → Answers t e result ⊎ (HasOptions t × WordsWant e result) }
