@@ -14,6 +14,8 @@ mod index_texts;
 #[cfg(test)]
 mod run_texts;
 #[cfg(test)]
+mod statuses;
+#[cfg(test)]
 mod trees;
 #[cfg(test)]
 mod verdict_lines;
