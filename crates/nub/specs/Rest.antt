@@ -1,9 +1,10 @@
 -- Where a thread has no call open, and what a call adds.
-use Rattle.std.specs.Prelude.{◌≡◌, ℕ, Bool, true, false, List, [], ◌∷◌, ◌++◌, map, Some, None}
+use Rattle.std.specs.Prelude.{◌≡◌, ℕ, Bool, true, false, List, [], ◌∷◌, ◌++◌, map, None}
 use Rattle.larch_actions.specs.declared.event.Event.{Event}
 use Rattle.larch_actions.specs.Actions.{IsLegal, StartsWith, by_thread}
 use Rattle.nub_rule.specs.declared.view.Pen.TheVariants.{No}
-use Rattle.nub_rule.specs.Known.{Known, Shape, Holds, IsOut}
+use Rattle.nub_rule.specs.Known.{Known, Shape, Holds, IsOut, part_of}
+use Rattle.nub_rule.specs.Owed.{MustLook}
 
 module _ {T H W : Type 0} where
   -- the thread has no spin word and no pen, owes nobody a ready word, and stands in no queue
@@ -31,6 +32,10 @@ module _ {T H W : Type 0} where
     pub looked : k.looked ≡ []
     pub taken : (m : ℕ) (x : T) → Holds k m x → IsOut k m
     pub stored : HasStored p.traced k
+
+  -- the thread is bound to look at no mutex or semaphore, whatever its queue
+  abbrev pub IsBoundNowhere : Known T H W → Type 0
+  IsBoundNowhere k = (o : ℕ) (queue : List ℕ) → ¬ MustLook o queue k.number (part_of k)
 
   -- a call added these own events and then e: the history that was seen grew to a legal one that ends with e, and the own events are the thread's part of it
   pub record Adds (es : List Event) (e : Event) (a b : Known T H W) : Type 0 where
