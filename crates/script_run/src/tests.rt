@@ -58,3 +58,36 @@ fn what_two_threads_add_is_the_sum(rt: HostRuntime) -> Result<(), Fail> {
     assert_eq!(rt; closed.trace().ok_or("no trace")?.len(), 4000);
     Ok(())
 }
+
+// It ends in every schedule of two threads, and never where one of them is played after the other.
+#[test]
+fn threads_that_wait_for_each_other_end(rt: HostRuntime) -> Result<(), Fail> {
+    let alloc = rt.alloc();
+    let text =
+        "threads 2 mutexes 0 conditions 0 semaphores 2\nt0 p s0\nt0 v s1\nt0 p s0\nt0 v s1\nt1 p s1\nt1 v s0\nt1 p s1\nt1 v s0\n";
+    let closed = run_script(&rt, alloc, &script(alloc, text)?)?;
+    assert_eq!(rt; closed.trace().ok_or("no trace")?.len(), 8);
+    Ok(())
+}
+
+// Threads 1 to 3 sleep on semaphores of their own while thread 0 is busy, and it wakes each of them. It ends in every schedule.
+#[test]
+fn each_sleeper_is_woken_by_its_own_unparker(rt: HostRuntime) -> Result<(), Fail> {
+    let alloc = rt.alloc();
+    let mut text = String::from_str(
+        alloc,
+        "threads 4 mutexes 0 conditions 0 semaphores 7\nt0 p s0\nt0 p s1\nt0 p s2\n",
+    )?;
+    for _ in 0..1000 {
+        text.push_str("t0 p s6\nt0 v s6\n")?;
+    }
+    text.push_str(
+        "t0 v s3\nt0 v s4\nt0 v s5\nt0 p s0\nt0 p s1\nt0 p s2\nt0 v s3\nt0 v s4\nt0 v s5\n",
+    )?;
+    text.push_str("t1 p s3\nt1 v s0\nt1 p s3\nt1 v s0\n")?;
+    text.push_str("t2 p s4\nt2 v s1\nt2 p s4\nt2 v s1\n")?;
+    text.push_str("t3 p s5\nt3 v s2\nt3 p s5\nt3 v s2\n")?;
+    let closed = run_script(&rt, alloc, &script(alloc, text.as_str())?)?;
+    assert_eq!(rt; closed.trace().ok_or("no trace")?.len(), 2024);
+    Ok(())
+}
