@@ -1,41 +1,26 @@
 -- What stands behind the first lines of a script text.
-use Rattle.std.proofs.Common.{◌≡◌, ℕ, ◌+◌, ◌^◌, ◌<◌, List, [], ◌∷◌, ◌++◌, length, refl, ap, sym, subst, ◌∙◌, append_assoc, Bool, true, false, inl, inr, arith}
-use Rattle.std.proofs.lemmas.Bool.{ne_eqb, eq-eqb}
-use Rattle.std.proofs.lemmas.Bool.Decides.{eqb_tells}
-use Rattle.std.specs.Prelude.{codes, decimal, if◌then◌else◌, ◌==◌}
+use Rattle.std.proofs.Common.{◌≡◌, ℕ, ◌+◌, ◌^◌, ◌<◌, List, [], ◌∷◌, ◌++◌, length, refl, ap, sym, subst, ◌∙◌, append_assoc, true, arith}
+use Rattle.std.proofs.lemmas.Bool.{ne_eqb}
+use Rattle.std.specs.Prelude.{codes, decimal}
 use Rattle.larch_actions.specs.declared.event.Layout.{Layout}
 use Rattle.larch_actions.specs.Layout.{IsLawful}
 use Rattle.firefly_script.specs.declared.line.Line.{Line}
 use Rattle.firefly_script.specs.declared.line.Operation.{Operation}
-use Rattle.firefly_script.specs.declared.line.Operation.TheVariants.{Acquire, Release, P, V, Add}
 use Rattle.firefly_script.specs.Faults.{Lacks, newlines}
 use Rattle.firefly_script.specs.Operations.{Holding, IsNamed, holding_after, MayCome, MayFollow}
+use Rattle.firefly_script.specs.Table.{word_text, kinds_of, word_of, numbers_of, operands_text}
 use Rattle.firefly_script.specs.Text.{layout_text, operation_text, line_text, lines_text, script_text}
 use Rattle.firefly_script.proofs.Injective.{line_same, layout_same}
-use Rattle.firefly_script.proofs.Pieces.{cut_same, lacks_append, lacks_decimal}
+use Rattle.firefly_script.proofs.Operands.{operands_flat}
+use Rattle.firefly_script.proofs.Pieces.{cut_same, lacks_append, lacks_decimal, is_lacking, lacks_from}
+use Rattle.firefly_script.proofs.Rows.{fits}
 
--- none of the bytes is a newline, by a test that computes
-abbrev is_flat : List ℕ → Bool
-is_flat [] = true
-is_flat (c ∷ bytes) = if c == 10 then false else is_flat bytes
-
-rest_flat : (c : ℕ) (bytes : List ℕ) → is_flat (c ∷ bytes) ≡ true → is_flat bytes ≡ true
-rest_flat c bytes e =
-    elim (eqb_tells c 10) [
-      | inl p ↦ let k = rw p.0 at e in absurd (cc)
-      | inr p ↦ rw p.0 at e
-    ]
-
-flat_from : (bytes : List ℕ) → is_flat bytes ≡ true → Lacks 10 bytes
-flat_from [] e = tt
-flat_from (c ∷ bytes) e = (λ h. let k = rw (eq-eqb c 10 h) at e in absurd (cc), flat_from bytes (rest_flat c bytes e))
-
-flat_number : (word : List ℕ) (n : ℕ) (rest : List ℕ) → is_flat word ≡ true → n < 2 ^ 64 → Lacks 10 rest → Lacks 10 (word ++ (decimal n ++ rest))
+flat_number : (word : List ℕ) (n : ℕ) (rest : List ℕ) → is_lacking 10 word ≡ true → n < 2 ^ 64 → Lacks 10 rest → Lacks 10 (word ++ (decimal n ++ rest))
 flat_number word n rest w fits r =
-    lacks_append 10 word (decimal n ++ rest) (flat_from word w) (lacks_append 10 (decimal n) rest (lacks_decimal 10 n (omega arith) fits) r)
+    lacks_append 10 word (decimal n ++ rest) (lacks_from 10 word w) (lacks_append 10 (decimal n) rest (lacks_decimal 10 n (omega arith) fits) r)
 
-flat_last : (word : List ℕ) (n : ℕ) → is_flat word ≡ true → n < 2 ^ 64 → Lacks 10 (word ++ decimal n)
-flat_last word n w fits = lacks_append 10 word (decimal n) (flat_from word w) (lacks_decimal 10 n (omega arith) fits)
+flat_last : (word : List ℕ) (n : ℕ) → is_lacking 10 word ≡ true → n < 2 ^ 64 → Lacks 10 (word ++ decimal n)
+flat_last word n w fits = lacks_append 10 word (decimal n) (lacks_from 10 word w) (lacks_decimal 10 n (omega arith) fits)
 
 pub layout_flat : (l : Layout) → IsLawful l → Lacks 10 (layout_text l)
 layout_flat l ok =
@@ -44,15 +29,12 @@ layout_flat l ok =
     (flat_number (codes " conditions ") l.conditions _ refl (omega (arith, ok.conditions)) (flat_last (codes " semaphores ") l.semaphores refl (omega (arith, ok.semaphores)))))
 
 operation_flat : (l : Layout) (o : Operation) → IsLawful l → IsNamed l o → Lacks 10 (operation_text o)
-operation_flat l (Acquire m) ok h = flat_last (codes "acquire m") m.0 refl (omega (arith, ok.mutexes))
-operation_flat l (Release m) ok h = flat_last (codes "release m") m.0 refl (omega (arith, ok.mutexes))
-operation_flat l (P s) ok h = flat_last (codes "p s") s.0 refl (omega (arith, ok.semaphores))
-operation_flat l (V s) ok h = flat_last (codes "v s") s.0 refl (omega (arith, ok.semaphores))
-operation_flat l (Add m n) ok h = flat_number (codes "add m") m.0 _ refl (omega (arith, h.0, ok.mutexes)) (flat_last (codes " ") n refl (omega (arith, h.1)))
+operation_flat l o ok h =
+    lacks_append 10 (word_text (word_of o)) (operands_text (kinds_of (word_of o)) (numbers_of o)) (fits (word_of o)).flat (operands_flat l ok (kinds_of (word_of o)) (numbers_of o) h)
 
 pub line_flat : (l : Layout) (h : Holding) (x : Line) → IsLawful l → MayCome l h x → Lacks 10 (line_text x)
 line_flat l h x ok may =
-    flat_number (codes "t") x.thread.0 _ refl (omega (arith, may.thread, ok.threads)) (lacks_append 10 (codes " ") (operation_text x.operation) (flat_from (codes " ") refl) (operation_flat l x.operation ok may.named))
+    flat_number (codes "t") x.thread.0 _ refl (omega (arith, may.thread, ok.threads)) (lacks_append 10 (codes " ") (operation_text x.operation) (lacks_from 10 (codes " ") refl) (operation_flat l x.operation ok may.named))
 
 pub lines_append : (xs ys : List Line) → lines_text (xs ++ ys) ≡ lines_text xs ++ lines_text ys
 lines_append [] ys = refl

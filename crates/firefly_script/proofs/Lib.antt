@@ -7,8 +7,10 @@ pub mod Injective
 pub mod Kept
 pub mod Lengths
 pub mod LineFaults
+pub mod Operands
 pub mod Pieces
 pub mod Releases
+pub mod Rows
 pub mod Tables
 pub mod Verdicts
 pub mod WindowParts

@@ -1,10 +1,11 @@
 -- Bytes cut at the first byte of a kind.
-use Rattle.std.proofs.Common.{◌≡◌, ℕ, zero, suc, ◌+◌, ◌%◌, ◌^◌, ◌<◌, ◌≤◌, List, [], ◌∷◌, ◌++◌, length, take, drop, get_or, refl, ap, sym, ◌∙◌, true, arith}
+use Rattle.std.proofs.Common.{◌≡◌, ℕ, zero, suc, ◌+◌, ◌%◌, ◌^◌, ◌<◌, ◌≤◌, List, [], ◌∷◌, ◌++◌, length, take, drop, get_or, refl, ap, sym, ◌∙◌, Bool, true, false, inl, inr, arith}
 use Rattle.std.proofs.lemmas.Bool.{eqb-true, eq-eqb}
-use Rattle.std.proofs.lemmas.Fmt.{decimal_by_steps}
+use Rattle.std.proofs.lemmas.Bool.Decides.{eqb_tells}
+use Rattle.std.proofs.lemmas.Fmt.{decimal_by_steps, length-decimal-le}
 use Rattle.std.proofs.lemmas.List.{take-append-drop}
 use Rattle.std.proofs.Math.Seq.{drop-cons}
-use Rattle.std.specs.Prelude.{decimal, ◌==◌}
+use Rattle.std.specs.Prelude.{decimal, if◌then◌else◌, ◌==◌}
 use Rattle.firefly_script.specs.Faults.{Lacks}
 
 pub lacks_take : (c : ℕ) (xs : List ℕ) (n : ℕ) → n ≤ length xs → ((k : ℕ) → 0 ≤ k → k < n → (get_or xs k 0 == c) ≡ true → ⊥) → Lacks c (take n xs)
@@ -53,3 +54,22 @@ take_front zero k xs le = refl
 take_front (suc n) zero xs le = absurd (omega arith)
 take_front (suc n) (suc k) [] le = refl
 take_front (suc n) (suc k) (x ∷ xs) le = ap (λ l. x ∷ l) (take_front n k xs (omega arith))
+
+-- none of the bytes is c, by a test that computes
+abbrev pub is_lacking : ℕ → List ℕ → Bool
+is_lacking c [] = true
+is_lacking c (x ∷ xs) = if x == c then false else is_lacking c xs
+
+rest_lacking : (c x : ℕ) (xs : List ℕ) → is_lacking c (x ∷ xs) ≡ true → is_lacking c xs ≡ true
+rest_lacking c x xs e =
+    elim (eqb_tells x c) [
+      | inl p ↦ let k = rw p.0 at e in absurd (cc)
+      | inr p ↦ rw p.0 at e
+    ]
+
+pub lacks_from : (c : ℕ) (xs : List ℕ) → is_lacking c xs ≡ true → Lacks c xs
+lacks_from c [] e = tt
+lacks_from c (x ∷ xs) e = (λ h. let k = rw (eq-eqb x c h) at e in absurd (cc), lacks_from c xs (rest_lacking c x xs e))
+
+pub decimal_short : (n : ℕ) → n < 2 ^ 64 → length (decimal n) ≤ 20
+decimal_short n fits = length-decimal-le 20 n (omega arith) (omega arith) fits

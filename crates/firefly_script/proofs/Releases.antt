@@ -31,7 +31,7 @@ releases_follow l (suc k) h w =
     let t = k / 64 in
     let m = k % 64 in
     elim (known (h t m)) [
-      | inl p ↦ let b = w t m p in rw p (record { thread = b.0; named = b.1; may = p }, releases_follow l k (held_if false h t m) (within_if l false h t m b.0 b.1 w))
+      | inl p ↦ let b = w t m p in rw p (record { thread = b.0; named = (b.1, tt); may = p }, releases_follow l k (held_if false h t m) (within_if l false h t m b.0 b.1 w))
       | inr p ↦ rw p (releases_follow l k h w)
     ]
 

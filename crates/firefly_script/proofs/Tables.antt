@@ -7,8 +7,11 @@ use Rattle.std.specs.Prelude.{not}
 use Rattle.larch_actions.specs.declared.event.Layout.{Layout}
 use Rattle.firefly_script.specs.declared.line.Line.{Line}
 use Rattle.firefly_script.specs.declared.line.Operation.{Operation}
-use Rattle.firefly_script.specs.declared.line.Operation.TheVariants.{Acquire, Release, P, V, Add}
-use Rattle.firefly_script.specs.Operations.{Holding, none_held, held_if, holding_after, held_after, MayFollow, IsNamed, AllFree}
+use Rattle.firefly_script.specs.declared.table.Use.{Use}
+use Rattle.firefly_script.specs.declared.table.Use.TheVariants.{Takes, Gives, Needs, Nothing}
+use Rattle.firefly_script.specs.Table.{use_of}
+use Rattle.firefly_script.proofs.Rows.{UseWithin, named_use}
+use Rattle.firefly_script.specs.Operations.{Holding, none_held, held_if, holding_with, holding_after, held_after, MayFollow, IsNamed, AllFree}
 use Rattle.firefly_script.specs.Held.{Shows}
 
 -- what is held is within the layout
@@ -26,12 +29,14 @@ within_if l b h t m lt lm w u n e =
       | inr p ↦ w u n (rw p.0 at e)
     ]
 
+within_with : (l : Layout) (h : Holding) (t : ℕ) (u : Use) → t < l.threads → UseWithin l u → IsWithin l h → IsWithin l (holding_with h t u)
+within_with l h t (Takes m) lt n w = within_if l true h t m.0 lt n w
+within_with l h t (Gives m) lt n w = within_if l false h t m.0 lt n w
+within_with l h t (Needs m) lt n w = w
+within_with l h t Nothing lt n w = w
+
 pub within_after : (l : Layout) (h : Holding) (t : ℕ) (o : Operation) → t < l.threads → IsNamed l o → IsWithin l h → IsWithin l (holding_after h t o)
-within_after l h t (Acquire m) lt n w = within_if l true h t m.0 lt n w
-within_after l h t (Release m) lt n w = within_if l false h t m.0 lt n w
-within_after l h t (P s) lt n w = w
-within_after l h t (V s) lt n w = w
-within_after l h t (Add m k) lt n w = w
+within_after l h t o lt n w = within_with l h t (use_of o) lt (named_use l o n) w
 
 pub held_within : (l : Layout) (h : Holding) (xs : List Line) → MayFollow l h xs → IsWithin l h → IsWithin l (held_after h xs)
 held_within l h [] f w = w

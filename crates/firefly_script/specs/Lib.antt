@@ -1,3 +1,4 @@
+pub mod Table
 pub mod Operations
 pub mod Text
 pub mod Faults

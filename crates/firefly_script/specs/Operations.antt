@@ -1,17 +1,15 @@
 -- What the lines of a script say, and which line may come next.
-use Rattle.std.specs.Prelude.{◌≡◌, ℕ, ◌<◌, ◌≤◌, Bool, true, false, cond, eqb, List, [], ◌∷◌}
+use Rattle.std.specs.Prelude.{◌≡◌, ℕ, ◌<◌, Bool, true, false, cond, eqb, List, [], ◌∷◌}
 use Rattle.larch_actions.specs.declared.event.Layout.{Layout}
 use Rattle.firefly_script.specs.declared.line.Operation.{Operation}
-use Rattle.firefly_script.specs.declared.line.Operation.TheVariants.{Acquire, Release, P, V, Add}
 use Rattle.firefly_script.specs.declared.line.Line.{Line}
+use Rattle.firefly_script.specs.declared.table.Use.{Use}
+use Rattle.firefly_script.specs.declared.table.Use.TheVariants.{Takes, Gives, Needs, Nothing}
+use Rattle.firefly_script.specs.Table.{word_of, kinds_of, numbers_of, use_of, AreWithin}
 
 -- each name is below the count of its kind, and no number is too large
 abbrev pub IsNamed : Layout → Operation → Type 0
-IsNamed l (Acquire m) = m.0 < l.mutexes
-IsNamed l (Release m) = m.0 < l.mutexes
-IsNamed l (P s) = s.0 < l.semaphores
-IsNamed l (V s) = s.0 < l.semaphores
-IsNamed l (Add m n) = (m.0 < l.mutexes) × (n ≤ 1000000)
+IsNamed l o = AreWithin l (kinds_of (word_of o)) (numbers_of o)
 
 -- which thread holds which mutex
 abbrev pub Holding : Type 0
@@ -24,20 +22,25 @@ none_held t m = false
 abbrev pub held_if : Bool → Holding → ℕ → ℕ → Holding
 held_if b h t m u n = cond (eqb t u) (cond (eqb m n) b (h u n)) (h u n)
 
+-- the thread t may use the mutex so
+abbrev pub MayUse : Holding → ℕ → Use → Type 0
+MayUse h t (Takes m) = h t m.0 ≡ false
+MayUse h t (Gives m) = h t m.0 ≡ true
+MayUse h t (Needs m) = h t m.0 ≡ true
+MayUse h t Nothing = Unit {0}
+
+abbrev pub holding_with : Holding → ℕ → Use → Holding
+holding_with h t (Takes m) = held_if true h t m.0
+holding_with h t (Gives m) = held_if false h t m.0
+holding_with h t (Needs m) = h
+holding_with h t Nothing = h
+
 -- the thread t may do this
 abbrev pub MayDo : Holding → ℕ → Operation → Type 0
-MayDo h t (Acquire m) = h t m.0 ≡ false
-MayDo h t (Release m) = h t m.0 ≡ true
-MayDo h t (P s) = Unit {0}
-MayDo h t (V s) = Unit {0}
-MayDo h t (Add m n) = h t m.0 ≡ true
+MayDo h t o = MayUse h t (use_of o)
 
 abbrev pub holding_after : Holding → ℕ → Operation → Holding
-holding_after h t (Acquire m) = held_if true h t m.0
-holding_after h t (Release m) = held_if false h t m.0
-holding_after h t (P s) = h
-holding_after h t (V s) = h
-holding_after h t (Add m n) = h
+holding_after h t o = holding_with h t (use_of o)
 
 -- the line may come next
 pub record MayCome (l : Layout) (h : Holding) (x : Line) : Type 0 where

@@ -1,39 +1,38 @@
 -- Reading what stands in bytes.
-use Rattle.std.specs.Prelude.{◌≡◌, ℕ, ◌<◌, ◌≤◌, List, ◌∷◌, ◌++◌, codes, decimal, Option, MatchOption}
-use Rattle.firefly_script.specs.declared.line.Operation.{Operation}
-use Rattle.firefly_script.specs.declared.line.Operation.TheVariants.{Acquire, Release, P, V, Add}
+use Rattle.std.specs.Prelude.{◌≡◌, ℕ, ◌<◌, ◌≤◌, List, [], ◌∷◌, ◌++◌, decimal, length, take, Option, MatchOption}
 use Rattle.larch_actions.specs.declared.event.Layout.{Layout}
-use Rattle.firefly_script.specs.Operations.{IsNamed}
 use Rattle.firefly_script.specs.declared.line.Line.{Line}
-use Rattle.firefly_script.specs.declared.parse.Word.{Word}
-use Rattle.firefly_script.specs.declared.parse.Word.TheVariants as word
+use Rattle.firefly_script.specs.declared.table.Kind.{Kind}
+use Rattle.firefly_script.specs.declared.table.Numbers.{Numbers}
+use Rattle.firefly_script.specs.Faults.{Lacks}
+use Rattle.firefly_script.specs.Operations.{IsNamed}
+use Rattle.firefly_script.specs.Table.{AreWithin, operands_text, listed}
 
 -- the value whose text the bytes are, or None where they are the text of no lawful value
 abbrev pub Parses : {X : Type 0} → (X → Type 0) → (X → List ℕ) → List ℕ → Option X → Type 0
 Parses {X} lawful text bytes result =
     MatchOption result ((x : X) → lawful x → bytes ≡ text x → ⊥) (λ x. lawful x × (bytes ≡ text x))
 
--- the word of an operation, and what stands behind it
-abbrev pub word_of : Operation → Word
-word_of (Acquire m) = word.Acquire
-word_of (Release m) = word.Release
-word_of (P s) = word.P
-word_of (V s) = word.V
-word_of (Add m n) = word.Add
+-- the bytes begin with a space, or are none
+abbrev pub IsBehind : List ℕ → Type 0
+IsBehind [] = Unit {0}
+IsBehind (c ∷ bytes) = c ≡ 32
 
-abbrev pub word_text : Word → List ℕ
-word_text word.Acquire = codes "acquire"
-word_text word.Release = codes "release"
-word_text word.P = codes "p"
-word_text word.V = codes "v"
-word_text word.Add = codes "add"
+-- the bytes before the first space, and those from there on
+pub record AreParted (bytes front behind : List ℕ) : Type 0 where
+  pub bare : Lacks 32 front
+  pub from_space : IsBehind behind
+  pub text : bytes ≡ front ++ behind
 
-abbrev pub arguments_text : Operation → List ℕ
-arguments_text (Acquire m) = 109 ∷ decimal m.0
-arguments_text (Release m) = 109 ∷ decimal m.0
-arguments_text (P s) = 115 ∷ decimal s.0
-arguments_text (V s) = 115 ∷ decimal s.0
-arguments_text (Add m n) = 109 ∷ (decimal m.0 ++ 32 ∷ decimal n)
+-- these numbers stand behind a word, and no others
+abbrev pub Are : Layout → List Kind → List ℕ → List ℕ → Type 0
+Are l ks bytes ns = AreWithin l ks ns × (bytes ≡ operands_text ks ns)
+
+abbrev pub NoneAre : Layout → List Kind → List ℕ → Type 0
+NoneAre l ks bytes = (ns : List ℕ) → Are l ks bytes ns → ⊥
+
+abbrev pub first_of : List Kind → Numbers → List ℕ
+first_of ks x = take (length ks) (listed x)
 
 -- the word, the number and a space stand before the bytes y, and no others
 pub record IsField (bytes word : List ℕ) (n : ℕ) (y : List ℕ) : Type 0 where

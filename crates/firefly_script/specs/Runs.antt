@@ -34,11 +34,8 @@ AreEventsOf xs t es = AreRows t (lines_of t xs) es
 
 -- what the call adds to the number of the mutex m
 abbrev pub added_by : Operation → ℕ → ℕ
-added_by (Acquire k) m = 0
-added_by (Release k) m = 0
-added_by (P s) m = 0
-added_by (V s) m = 0
 added_by (Add k n) m = cond (eqb k.0 m) n 0
+added_by _ m = 0
 
 -- what all the lines add to the number of the mutex m
 abbrev pub total : List Line → ℕ → ℕ

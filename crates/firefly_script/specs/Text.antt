@@ -3,21 +3,18 @@ use Rattle.std.specs.Prelude.{◌≡◌, ℕ, List, [], ◌∷◌, ◌++◌, cod
 use Rattle.larch_actions.specs.declared.event.Layout.{Layout}
 use Rattle.larch_actions.specs.Layout.{IsLawful}
 use Rattle.firefly_script.specs.declared.line.Operation.{Operation}
-use Rattle.firefly_script.specs.declared.line.Operation.TheVariants.{Acquire, Release, P, V, Add}
 use Rattle.firefly_script.specs.declared.line.Line.{Line}
 use Rattle.firefly_script.specs.Operations.{MayFollow, none_held, held_after, AllFree}
+use Rattle.firefly_script.specs.Table.{word_text, kinds_of, word_of, numbers_of, operands_text}
 
 -- the layout line, without its newline
 abbrev pub layout_text : Layout → List ℕ
 layout_text l =
     codes "threads " ++ (decimal l.threads ++ (codes " mutexes " ++ (decimal l.mutexes ++ (codes " conditions " ++ (decimal l.conditions ++ (codes " semaphores " ++ decimal l.semaphores))))))
 
+-- the word, and what stands behind it
 abbrev pub operation_text : Operation → List ℕ
-operation_text (Acquire m) = codes "acquire m" ++ decimal m.0
-operation_text (Release m) = codes "release m" ++ decimal m.0
-operation_text (P s) = codes "p s" ++ decimal s.0
-operation_text (V s) = codes "v s" ++ decimal s.0
-operation_text (Add m n) = codes "add m" ++ (decimal m.0 ++ (codes " " ++ decimal n))
+operation_text o = word_text (word_of o) ++ operands_text (kinds_of (word_of o)) (numbers_of o)
 
 -- a line, without its newline
 abbrev pub line_text : Line → List ℕ

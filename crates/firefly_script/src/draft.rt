@@ -10,6 +10,7 @@ ghost use Rattle.firefly_script.specs.declared.line.Line.{Line};
 
 use crate::line::{Line, Operation};
 use crate::parse;
+use crate::table::{Use, mutex_use};
 use larch_actions::Layout;
 use std::alloc::{AllocError, Global};
 
@@ -30,22 +31,21 @@ fn step(held: &mut [bool], thread: u32, operation: &Operation, layout: &Layout) 
     ensures may { (h : Holding) → Shows held.old h → IsTrue result ↔ MayDo h thread operation.now }
     ensures after { (h : Holding) → Shows held.old h → IsTrue result → Shows held.new (holding_after h thread operation.now) }
 {
-    match operation {
-        Operation::Acquire { mutex } => {
+    match mutex_use(operation) {
+        Use::Takes(mutex) => {
             let at = 64 * thread as usize + mutex.0 as usize;
             let may = !held[at];
             held[at] = true;
             may
         }
-        Operation::Release { mutex } => {
+        Use::Gives(mutex) => {
             let at = 64 * thread as usize + mutex.0 as usize;
             let may = held[at];
             held[at] = false;
             may
         }
-        Operation::P { sem: _ } => true,
-        Operation::V { sem: _ } => true,
-        Operation::Add { mutex, number: _ } => held[64 * thread as usize + mutex.0 as usize],
+        Use::Needs(mutex) => held[64 * thread as usize + mutex.0 as usize],
+        Use::Nothing => true,
     }
 }
 

@@ -13,6 +13,7 @@ mod next;
 mod parse;
 mod read;
 mod script;
+mod table;
 mod window;
 
 pub use laws::one_answer;

@@ -1,29 +1,21 @@
 // What stands in the bytes of one line.
-ghost use Rattle.std.specs.Prelude.{◌≡◌, ◌<◌, ◌≤◌, ◌++◌, ◌∷◌, List, ℕ, codes, decimal, MatchOption};
+ghost use Rattle.std.specs.Prelude.{◌≡◌, ◌<◌, ◌≤◌, ◌++◌, ◌∷◌, List, ℕ, codes, decimal, length, MatchOption};
 ghost use Rattle.larch_actions.specs.Layout.{IsLawful};
 ghost use Rattle.firefly_script.specs.Faults.{Lacks};
 ghost use Rattle.firefly_script.specs.Operations.{IsNamed};
+ghost use Rattle.firefly_script.specs.Table.{IsWithin, operand_text};
 ghost use Rattle.firefly_script.specs.Text.{layout_text, line_text, operation_text};
-ghost use Rattle.firefly_script.specs.Parsing.{Parses, IsField, word_of, word_text, arguments_text, IsLineOf};
+ghost use Rattle.firefly_script.specs.Parsing.{Parses, IsField, AreParted, Are, NoneAre, first_of, IsLineOf};
 
 use crate::line::{Line, Operation};
+use crate::table::{Kind, Numbers, kinds, known_word, make};
 use itoa::Buffer;
-use larch_actions::{Layout, MutexId, SemId, ThreadId};
+use larch_actions::{Layout, ThreadId};
 use memchr::memchr;
 use std::str;
 
 /// The greatest number that an `add` may have.
 pub const MOST_ADDED: u64 = 1_000_000;
-
-/// The first word of an operation.
-#[derive(Clone, Copy, Debug, PartialEq, Eq)]
-pub enum Word {
-    Acquire,
-    Release,
-    P,
-    V,
-    Add,
-}
 
 /// The bytes before the first `stop`, and those after it.
 pub fn cut(bytes: &[u8], stop: u8) -> Option<(&[u8], &[u8])>
@@ -70,72 +62,54 @@ fn name(bytes: &[u8], letter: u8, count: u32) -> Option<u32>
     Some(number as u32)
 }
 
-// The word that the bytes are.
-fn known_word(bytes: &[u8]) -> Option<Word>
-    ensures { Parses (λ _. Unit {0}) word_text bytes.now result }
+// The bytes before the first space, and those from there on.
+fn parted(bytes: &[u8]) -> (&[u8], &[u8])
+    ensures { AreParted bytes.now result.0.now result.1.now }
 {
-    if bytes == b"acquire".as_slice() {
-        Some(Word::Acquire)
-    } else if bytes == b"release".as_slice() {
-        Some(Word::Release)
-    } else if bytes == b"p".as_slice() {
-        Some(Word::P)
-    } else if bytes == b"v".as_slice() {
-        Some(Word::V)
-    } else if bytes == b"add".as_slice() {
-        Some(Word::Add)
-    } else {
-        None
+    let Some(at) = memchr(b' ', bytes) else {
+        return (bytes, &[]);
+    };
+    (&bytes[..at], &bytes[at..])
+}
+
+// What stands behind a word: a name or a number.
+fn operand(bytes: &[u8], kind: Kind, layout: &Layout) -> Option<u64>
+    ensures { Parses (IsWithin layout.now kind) (operand_text kind) bytes.now result }
+{
+    match kind {
+        Kind::Mutex => Some(u64::from(name(bytes, b'm', layout.mutexes)?)),
+        Kind::Semaphore => Some(u64::from(name(bytes, b's', layout.semaphores)?)),
+        Kind::Amount => number(bytes, MOST_ADDED),
     }
 }
 
-// A mutex and a number.
-fn addition(bytes: &[u8], layout: &Layout) -> Option<(u32, u64)>
-    requires { IsLawful layout.now }
-    ensures { Parses (λ x. (x.0 < layout.now.mutexes) × (x.1 ≤ 1000000)) (λ x. 109 ∷ (decimal x.0 ++ 32 ∷ decimal x.1)) bytes.now result }
+// All that stands behind a word, each behind a space.
+fn operands(bytes: &[u8], kinds: &[Kind], layout: &Layout) -> Option<Numbers>
+    requires lawful { IsLawful layout.now }
+    requires few { length kinds.now ≤ 2 }
+    ensures { MatchOption result (NoneAre layout.now kinds.now bytes.now) (λ x. Are layout.now kinds.now bytes.now (first_of kinds.now x)) }
 {
-    let Some((mutex, added)) = cut(bytes, b' ') else {
+    let [kind, later @ ..] = kinds else {
+        if bytes.is_empty() {
+            return Some(Numbers {
+                first: 0,
+                second: 0,
+            });
+        }
         return None;
     };
-    let Some(mutex) = name(mutex, b'm', layout.mutexes) else {
+    let [b' ', behind @ ..] = bytes else {
         return None;
     };
-    let Some(added) = number(added, MOST_ADDED) else {
+    let (piece, more) = parted(behind);
+    let Some(first) = operand(piece, *kind, layout) else {
         return None;
     };
-    Some((mutex, added))
-}
-
-// The operation with this word, of which the bytes are what stands behind it.
-fn arguments(word: Word, bytes: &[u8], layout: &Layout) -> Option<Operation>
-    requires { IsLawful layout.now }
-    ensures { Parses (λ o. IsNamed layout.now o × (word_of o ≡ word)) arguments_text bytes.now result }
-{
-    match word {
-        Word::Acquire => {
-            let mutex = MutexId(name(bytes, b'm', layout.mutexes)?);
-            Some(Operation::Acquire { mutex })
-        }
-        Word::Release => {
-            let mutex = MutexId(name(bytes, b'm', layout.mutexes)?);
-            Some(Operation::Release { mutex })
-        }
-        Word::P => {
-            let sem = SemId(name(bytes, b's', layout.semaphores)?);
-            Some(Operation::P { sem })
-        }
-        Word::V => {
-            let sem = SemId(name(bytes, b's', layout.semaphores)?);
-            Some(Operation::V { sem })
-        }
-        Word::Add => {
-            let Some((mutex, number)) = addition(bytes, layout) else {
-                return None;
-            };
-            let mutex = MutexId(mutex);
-            Some(Operation::Add { mutex, number })
-        }
-    }
+    let Some(others) = operands(more, later, layout) else {
+        return None;
+    };
+    let second = others.first;
+    Some(Numbers { first, second })
 }
 
 // An operation.
@@ -143,13 +117,14 @@ fn operation(bytes: &[u8], layout: &Layout) -> Option<Operation>
     requires { IsLawful layout.now }
     ensures { Parses (IsNamed layout.now) operation_text bytes.now result }
 {
-    let Some((word, behind)) = cut(bytes, b' ') else {
-        return None;
-    };
+    let (word, behind) = parted(bytes);
     let Some(word) = known_word(word) else {
         return None;
     };
-    arguments(word, behind, layout)
+    let Some(numbers) = operands(behind, kinds(word), layout) else {
+        return None;
+    };
+    Some(make(word, numbers))
 }
 
 /// The line that the bytes are, without its newline.

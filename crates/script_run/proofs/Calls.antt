@@ -5,7 +5,6 @@ use lib.ListN.{get_elem?, set}
 use Rattle.std.proofs.lemmas.List.{length-set}
 use Rattle.larch_actions.specs.declared.event.Layout.{Layout}
 use Rattle.larch_actions.specs.declared.event.MutexId.{MutexId}
-use Rattle.larch_actions.specs.declared.event.SemId.{SemId}
 use Rattle.larch_actions.specs.declared.event.Action.TheVariants as action
 use Rattle.larch_actions.specs.declared.event.Event.{Event}
 use Rattle.nub_rule.specs.Known.{Shape}
@@ -13,9 +12,12 @@ use Rattle.nub.specs.Rest.{AtRest, Adds, IsSame}
 use Rattle.sum_uses.specs.declared.added.Added.{Added}
 use Rattle.sum_uses.specs.Sums.{IsAbove, GrowsAlike}
 use Rattle.firefly_script.specs.declared.line.Operation.{Operation}
-use Rattle.firefly_script.specs.declared.line.Operation.TheVariants.{Acquire, Release, P, V, Add}
+use Rattle.firefly_script.specs.declared.line.Operation.TheVariants.{Acquire, Release, Add}
 use Rattle.firefly_script.specs.declared.line.Line.{Line}
-use Rattle.firefly_script.specs.Operations.{Holding, IsNamed, MayDo, none_held, held_after, holding_after, held_if, MayFollow}
+use Rattle.firefly_script.specs.declared.table.Use.{Use}
+use Rattle.firefly_script.specs.declared.table.Use.TheVariants.{Nothing}
+use Rattle.firefly_script.specs.Operations.{Holding, IsNamed, MayDo, none_held, held_after, holding_with, holding_after, held_if, MayFollow}
+use Rattle.firefly_script.specs.Table.{use_of}
 use Rattle.script_run.specs.Playing.{Player, HasNumber, IsPlaying}
 use Rattle.firefly_script.specs.Runs.{IsRow, lines_of, total, added_by, event}
 use Rattle.script_run.proofs.Plays.{Stays, played, acquired, released, may_release, untouched, added_to, number_small}
@@ -69,17 +71,17 @@ module _ (p : Shape (Prim.Unit {0})) (xs : List Line) (numbers : List ℕ) (a : 
       after_event (Release m) (event a.number (action.Release m)) numbers b (record { mutex = m.0; amount = get_or numbers m.0 0 - x } ∷ s.share) is refl rest same adds (ap length held ∙ length-set a.held m.0 None ∙ s.held_size) s.size share
       (subst P (sym held) (released h a.number m.0 a.held numbers s.share sums low s.size s.held_size s.each x mine has))
 
-  pub after_p : (k : SemId) (b : Player) → line.operation ≡ P k → AtRest p b → IsSame a b → Adds [] (event a.number (action.P k)) a b → b.held ≡ a.held → b.share ≡ a.share → IsPlaying p a.number (xs ++ line ∷ []) numbers b
-  after_p k b is rest same adds held share =
+  -- an event that uses no mutex
+  pub after_quiet : (o : Operation) (e : Event) (b : Player) → line.operation ≡ o → IsRow a.number o (e ∷ []) → use_of o ≡ Nothing → ((m : ℕ) → added_by o m ≡ 0)
+      → AtRest p b → IsSame a b → Adds [] e a b → b.held ≡ a.held → b.share ≡ a.share → IsPlaying p a.number (xs ++ line ∷ []) numbers b
+  after_quiet o e b is row none adds_none rest same adds held share =
       let Q : List _ → Type 0 = λ l. (m : ℕ) → m < 64 → HasNumber (h a.number m) l m (get_or numbers m 0) s.share (sums m + 0) in
-      after_event (P k) (event a.number (action.P k)) numbers b s.share is refl rest same adds (ap length held ∙ s.held_size) s.size (share ∙ s.is_share)
-      (subst Q (sym held) (untouched h a.number 0 a.held numbers s.share sums (omega arith) s.size s.held_size s.each))
-
-  pub after_v : (k : SemId) (b : Player) → line.operation ≡ V k → AtRest p b → IsSame a b → Adds [] (event a.number (action.V k)) a b → b.held ≡ a.held → b.share ≡ a.share → IsPlaying p a.number (xs ++ line ∷ []) numbers b
-  after_v k b is rest same adds held share =
-      let Q : List _ → Type 0 = λ l. (m : ℕ) → m < 64 → HasNumber (h a.number m) l m (get_or numbers m 0) s.share (sums m + 0) in
-      after_event (V k) (event a.number (action.V k)) numbers b s.share is refl rest same adds (ap length held ∙ s.held_size) s.size (share ∙ s.is_share)
-      (subst Q (sym held) (untouched h a.number 0 a.held numbers s.share sums (omega arith) s.size s.held_size s.each))
+      let each = subst Q (sym held) (untouched h a.number 0 a.held numbers s.share sums (omega arith) s.size s.held_size s.each) in
+      after_event o e numbers b s.share is row rest same adds (ap length held ∙ s.held_size) s.size (share ∙ s.is_share)
+      (λ m low.
+      let U : Use → Type 0 = λ u. HasNumber (holding_with h a.number u a.number m) b.held m (get_or numbers m 0) s.share (sums m + added_by o m) in
+      let N : ℕ → Type 0 = λ n. HasNumber (h a.number m) b.held m (get_or numbers m 0) s.share (sums m + n) in
+      subst U (sym none) (subst N (sym (adds_none m)) (each m low)))
 
   pub after_add : (m : MutexId) (n : ℕ) → line.operation ≡ Add m n → m.0 < 64 → MayDo h line.thread.0 line.operation → IsPlaying p a.number (xs ++ line ∷ []) (set numbers m.0 (get_or numbers m.0 0 + n)) a
   after_add m n is low may =

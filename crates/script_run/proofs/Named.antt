@@ -22,10 +22,10 @@ abbrev Lawful : Layout → List Line → Type 0
 Lawful l xs = AllByRecursion (λ x. IsNamed l x.operation) xs
 
 row_named : (l : Layout) (t : ℕ) (o : Operation) (es : List Event) → IsNamed l o → IsRow t o es → Named l es
-row_named l t (Acquire m) es h r = subst (Named l) (sym r) (h, tt)
-row_named l t (Release m) es h r = subst (Named l) (sym r) (h, tt)
-row_named l t (P s) es h r = subst (Named l) (sym r) (h, tt)
-row_named l t (V s) es h r = subst (Named l) (sym r) (h, tt)
+row_named l t (Acquire m) es h r = subst (Named l) (sym r) (h.0, tt)
+row_named l t (Release m) es h r = subst (Named l) (sym r) (h.0, tt)
+row_named l t (P s) es h r = subst (Named l) (sym r) (h.0, tt)
+row_named l t (V s) es h r = subst (Named l) (sym r) (h.0, tt)
 row_named l t (Add m n) es h r = subst (Named l) (sym r) tt
 
 named_append : (l : Layout) (xs ys : List Event) → Named l xs → Named l ys → Named l (xs ++ ys)

@@ -12,10 +12,11 @@ use Rattle.nub_rule.specs.Known.{Shape}
 use Rattle.nub.specs.Rest.{AtRest}
 use Rattle.sum_uses.specs.declared.added.Added.{Added}
 use Rattle.sum_uses.specs.Sums.{added, IsAbove, GrowsAlike}
-use Rattle.firefly_script.specs.declared.line.Operation.{Operation}
-use Rattle.firefly_script.specs.declared.line.Operation.TheVariants.{Acquire, Release, P, V, Add}
+use Rattle.firefly_script.specs.declared.table.Use.{Use}
+use Rattle.firefly_script.specs.declared.table.Use.TheVariants.{Takes, Gives, Needs, Nothing}
+use Rattle.firefly_script.specs.Table.{use_of}
 use Rattle.firefly_script.specs.declared.line.Line.{Line}
-use Rattle.firefly_script.specs.Operations.{Holding, none_held, held_after, holding_after, held_if}
+use Rattle.firefly_script.specs.Operations.{Holding, none_held, held_after, holding_with, holding_after, held_if}
 use Rattle.script_run.specs.Playing.{Player, HasNumber, IsPlaying}
 use Rattle.firefly_script.specs.Runs.{IsRow, AreRows, AreEventsOf, lines_of, total, added_by}
 use Rattle.firefly_script.proofs.Follow.{held_append}
@@ -50,12 +51,11 @@ module _ (p : Shape (Prim.Unit {0})) (t : ℕ) (xs : List Line) where
   }
 
   -- a line of another thread changes nothing
-  held_by_other : (u : ℕ) (h : Holding) (m : ℕ) (o : Operation) → (u ≡ t → ⊥) → holding_after h u o t m ≡ h t m
-  held_by_other u h m (Acquire k) ne = rw (ne_eqb u t ne) refl
-  held_by_other u h m (Release k) ne = rw (ne_eqb u t ne) refl
-  held_by_other u h m (P s) ne = refl
-  held_by_other u h m (V s) ne = refl
-  held_by_other u h m (Add k n) ne = refl
+  held_by_other : (u : ℕ) (h : Holding) (m : ℕ) (x : Use) → (u ≡ t → ⊥) → holding_with h u x t m ≡ h t m
+  held_by_other u h m (Takes k) ne = rw (ne_eqb u t ne) refl
+  held_by_other u h m (Gives k) ne = rw (ne_eqb u t ne) refl
+  held_by_other u h m (Needs k) ne = refl
+  held_by_other u h m Nothing ne = refl
 
   pub passed : (x : Line) (numbers : List ℕ) (b : Player) → (x.thread.0 ≡ t → ⊥) → IsPlaying p t xs numbers b → IsPlaying p t (xs ++ x ∷ []) numbers b
   passed x numbers b other s = record {
@@ -68,7 +68,7 @@ module _ (p : Shape (Prim.Unit {0})) (t : ℕ) (xs : List Line) where
     share = s.share;
     is_share = s.is_share;
     each = λ m low.
-        let held : held_after none_held (xs ++ x ∷ []) t m ≡ held_after none_held xs t m = ap (λ h. h t m) (held_append none_held xs (x ∷ [])) ∙ held_by_other x.thread.0 (held_after none_held xs) m x.operation other in
+        let held : held_after none_held (xs ++ x ∷ []) t m ≡ held_after none_held xs t m = ap (λ h. h t m) (held_append none_held xs (x ∷ [])) ∙ held_by_other x.thread.0 (held_after none_held xs) m (use_of x.operation) other in
         let P : Bool → Type 0 = λ c. HasNumber c b.held m (get_or numbers m 0) s.share (total (lines_of t xs) m) in
         let Q : List Line → Type 0 = λ ys. HasNumber (held_after none_held (xs ++ x ∷ []) t m) b.held m (get_or numbers m 0) s.share (total ys m) in
         subst Q (sym (other_line t xs x other)) (subst P (sym held) (s.each m low));

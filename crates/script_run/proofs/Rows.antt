@@ -5,7 +5,7 @@ use Rattle.std.proofs.lemmas.Bool.Decides.{eqb_tells}
 use Rattle.larch_actions.specs.declared.event.Layout.{Layout}
 use Rattle.larch_actions.specs.declared.event.Event.{Event}
 use Rattle.firefly_script.specs.declared.line.Operation.{Operation}
-use Rattle.firefly_script.specs.declared.line.Operation.TheVariants.{Acquire, Release, P, V, Add}
+use Rattle.firefly_script.specs.declared.line.Operation.TheVariants.{Add}
 use Rattle.firefly_script.specs.declared.line.Line.{Line}
 use Rattle.firefly_script.specs.Operations.{Holding, IsNamed, holding_after, MayFollow}
 use Rattle.firefly_script.specs.Runs.{IsRow, AreRows, AreEventsOf, lines_of, added_by, total}
@@ -42,11 +42,8 @@ pub total_own : (t : ℕ) (xs : List Line) (x : Line) (m : ℕ) → x.thread.0 �
 total_own t xs x m e = ap (λ ys. total ys m) (own_line t xs x e) ∙ total_snoc (lines_of t xs) x m
 
 added_small : (l : Layout) (o : Operation) (m : ℕ) → IsNamed l o → added_by o m ≤ 1000000
-added_small l (Acquire k) m h = omega arith
-added_small l (Release k) m h = omega arith
-added_small l (P s) m h = omega arith
-added_small l (V s) m h = omega arith
-added_small l (Add k n) m h = elim (eqb_tells k.0 m) [ inl p ↦ rw p.0 h.1 | inr p ↦ rw p.0 (omega arith) ]
+added_small l (Add k n) m h = elim (eqb_tells k.0 m) [ inl p ↦ rw p.0 h.1.0 | inr p ↦ rw p.0 (omega arith) ]
+added_small l _ m h = omega arith
 
 pub total_small : (l : Layout) (h : Holding) (t m : ℕ) (xs : List Line) → MayFollow l h xs → total (lines_of t xs) m ≤ length xs * 1000000
 total_small l h t m [] f = omega arith

@@ -1,0 +1,98 @@
+-- What stands behind a word, whichever kinds these are.
+use Rattle.std.proofs.Common.{◌≡◌, ℕ, ◌-◌, ◌*◌, ◌^◌, ◌<◌, ◌≤◌, List, [], ◌∷◌, ◌++◌, length, length-append, take, drop, get_or, refl, sym, subst, ◌∙◌, arith}
+use Rattle.std.proofs.lemmas.Fmt.{decimal_injective}
+use Rattle.std.proofs.lemmas.List.{append_cancel_left, take_all}
+use Rattle.std.specs.Prelude.{decimal}
+use Rattle.larch_actions.specs.declared.event.Layout.{Layout}
+use Rattle.larch_actions.specs.Layout.{IsLawful}
+use Rattle.firefly_script.specs.declared.table.Kind.{Kind}
+use Rattle.firefly_script.specs.declared.table.Kind.TheVariants.{Mutex, Semaphore, Amount}
+use Rattle.firefly_script.specs.Faults.{Lacks}
+use Rattle.firefly_script.specs.Parsing.{IsBehind, AreParted, Are}
+use Rattle.firefly_script.specs.Table.{letter, IsWithin, AreWithin, operand_text, operands_text}
+use Rattle.firefly_script.proofs.Pieces.{lacks_append, lacks_decimal, decimal_short}
+
+letter_lacks : (c : ℕ) (k : Kind) → c < 48 → Lacks c (letter k)
+letter_lacks c Mutex low = (λ e. omega arith, tt)
+letter_lacks c Semaphore low = (λ e. omega arith, tt)
+letter_lacks c Amount low = tt
+
+letter_short : (k : Kind) → length (letter k) ≤ 1
+letter_short Mutex = omega arith
+letter_short Semaphore = omega arith
+letter_short Amount = omega arith
+
+pub operands_behind : (ks : List Kind) (ns : List ℕ) → IsBehind (operands_text ks ns)
+operands_behind [] ns = tt
+operands_behind (k ∷ ks) [] = tt
+operands_behind (k ∷ ks) (n ∷ ns) = refl
+
+-- what stands before the first space, and from there on, is determined
+pub part_same : (xs ys a b : List ℕ) → Lacks 32 xs → Lacks 32 ys → IsBehind a → IsBehind b → xs ++ a ≡ ys ++ b → (xs ≡ ys) × (a ≡ b)
+part_same [] [] a b p q f g e = (refl, e)
+part_same [] (y ∷ ys) [] b p q f g e = absurd (cc)
+part_same [] (y ∷ ys) (c ∷ a) b p q f g e = let h : c ≡ y = cc in absurd (q.0 (sym h ∙ f))
+part_same (x ∷ xs) [] a [] p q f g e = absurd (cc)
+part_same (x ∷ xs) [] a (c ∷ b) p q f g e = let h : x ≡ c = cc in absurd (p.0 (h ∙ g))
+part_same (x ∷ xs) (y ∷ ys) a b p q f g e =
+    let head : x ≡ y = cc in
+    let tail : xs ++ a ≡ ys ++ b = cc in
+    let ih = part_same xs ys a b p.1 q.1 f g tail in
+    (let same = ih.0 in cc, ih.1)
+
+module _ (l : Layout) (ok : IsLawful l) where
+  within_fits : (k : Kind) (n : ℕ) → IsWithin l k n → n < 2 ^ 64
+  within_fits Mutex n h = omega (arith, ok.mutexes)
+  within_fits Semaphore n h = omega (arith, ok.semaphores)
+  within_fits Amount n h = omega arith
+
+  pub operand_lacks : (c : ℕ) (k : Kind) (n : ℕ) → c < 48 → IsWithin l k n → Lacks c (operand_text k n)
+  operand_lacks c k n low h = lacks_append c (letter k) (decimal n) (letter_lacks c k low) (lacks_decimal c n low (within_fits k n h))
+
+  pub operands_flat : (ks : List Kind) (ns : List ℕ) → AreWithin l ks ns → Lacks 10 (operands_text ks ns)
+  operands_flat [] ns h = tt
+  operands_flat (k ∷ ks) [] h = tt
+  operands_flat (k ∷ ks) (n ∷ ns) h = (
+    λ e. omega arith,
+    lacks_append 10 (operand_text k n) (operands_text ks ns) (operand_lacks 10 k n (omega arith) h.0) (operands_flat ks ns h.1),
+  )
+
+  pub operands_short : (ks : List Kind) (ns : List ℕ) → AreWithin l ks ns → length (operands_text ks ns) ≤ 22 * length ks
+  operands_short [] ns h = omega arith
+  operands_short (k ∷ ks) [] h = omega arith
+  operands_short (k ∷ ks) (n ∷ ns) h =
+      let a = letter_short k in
+      let b = decimal_short n (within_fits k n h.0) in
+      let ih = operands_short ks ns h.1 in
+      simp length-append (omega arith)
+
+  operand_same : (k : Kind) (n m : ℕ) → IsWithin l k n → IsWithin l k m → operand_text k n ≡ operand_text k m → n ≡ m
+  operand_same k n m p q e = decimal_injective n m (within_fits k n p) (within_fits k m q) (append_cancel_left (letter k) _ _ e)
+
+  pub operands_same : (ks : List Kind) (ns ms : List ℕ) → AreWithin l ks ns → AreWithin l ks ms → operands_text ks ns ≡ operands_text ks ms → ns ≡ ms
+  operands_same [] [] [] p q e = refl
+  operands_same [] [] (m ∷ ms) p q e = absurd q
+  operands_same [] (n ∷ ns) ms p q e = absurd p
+  operands_same (k ∷ ks) [] ms p q e = absurd p
+  operands_same (k ∷ ks) (n ∷ ns) [] p q e = absurd q
+  operands_same (k ∷ ks) (n ∷ ns) (m ∷ ms) p q e =
+      let tail : operand_text k n ++ operands_text ks ns ≡ operand_text k m ++ operands_text ks ms = cc in
+      let c = part_same _ _ _ _ (operand_lacks 32 k n (omega arith) p.0) (operand_lacks 32 k m (omega arith) q.0) (operands_behind ks ns) (operands_behind ks ms) tail in
+      let first = operand_same k n m p.0 q.0 c.0 in
+      let others = operands_same ks ns ms p.1 q.1 c.1 in
+      cc
+
+  -- where these numbers stand behind a space each, the first stands before the next space, and the others from there on
+  pub parts_of : (ks : List Kind) (d : Kind) (bytes front behind ns : List ℕ) → 1 ≤ length ks → AreParted (take (length bytes - 1) (drop 1 bytes)) front behind → Are l ks bytes ns
+      → (m : ℕ) × (ms : List ℕ) × IsWithin l (get_or ks 0 d) m × (front ≡ operand_text (get_or ks 0 d) m) × Are l (take (length ks - 1) (drop 1 ks)) behind ms
+  parts_of [] d bytes front behind ns some p a = absurd (omega arith)
+  parts_of (k ∷ ks) d bytes front behind [] some p a = absurd a.0
+  parts_of (k ∷ ks) d [] front behind (n ∷ ns) some p a = let e = a.1 in absurd (cc)
+  parts_of (k ∷ ks) d (c ∷ bytes) front behind (n ∷ ns) some p a =
+      let e = a.1 in
+      let tail : bytes ≡ operand_text k n ++ operands_text ks ns = cc in
+      let rest : take (length (c ∷ bytes) - 1) bytes ≡ bytes = take_all _ bytes (omega arith) in
+      let kinds : take (length (k ∷ ks) - 1) ks ≡ ks = take_all _ ks (omega arith) in
+      let same = part_same front (operand_text k n) behind (operands_text ks ns) p.bare (operand_lacks 32 k n (omega arith) a.0.0) p.from_space (operands_behind ks ns) (sym p.text ∙ rest ∙ tail) in
+      let P : List Kind → Type 0 = λ q. Are l q behind ns in
+      (n, ns, a.0.0, same.0, subst P (sym kinds) (a.0.1, same.1))

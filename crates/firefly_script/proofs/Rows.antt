@@ -1,0 +1,81 @@
+-- What the rows of the table keep, and what is known of an operation by its row.
+use Rattle.std.proofs.Common.{◌≡◌, ℕ, ◌<◌, ◌≤◌, List, length, refl, ap, sym, ◌∙◌, cond, true, arith}
+use Rattle.std.specs.Prelude.{codes}
+use Rattle.std.specs.Str.{bytes_eq}
+use Rattle.larch_actions.specs.declared.event.Layout.{Layout}
+use Rattle.firefly_script.specs.declared.line.Operation.{Operation}
+use Rattle.firefly_script.specs.declared.line.Operation.TheVariants.{Acquire, Release, P, V, Add}
+use Rattle.firefly_script.specs.declared.table.Word.{Word}
+use Rattle.firefly_script.specs.declared.table.Word.TheVariants as word
+use Rattle.firefly_script.specs.declared.table.Use.{Use}
+use Rattle.firefly_script.specs.declared.table.Use.TheVariants.{Takes, Gives, Needs, Nothing}
+use Rattle.firefly_script.specs.Faults.{Lacks}
+use Rattle.firefly_script.specs.Operations.{IsNamed}
+use Rattle.firefly_script.specs.Parsing.{AreParted}
+use Rattle.firefly_script.specs.Table.{word_text, kinds_of, made, word_of, numbers_of, use_of, operands_text}
+use Rattle.firefly_script.specs.Text.{operation_text}
+use Rattle.firefly_script.proofs.Operands.{part_same, operands_behind}
+use Rattle.firefly_script.proofs.Pieces.{is_lacking, lacks_from}
+
+-- a word has no space and no newline and is short, and at most two things stand behind it
+pub record IsFit (w : Word) : Type 0 where
+  pub bare : Lacks 32 (word_text w)
+  pub flat : Lacks 10 (word_text w)
+  pub short : length (word_text w) ≤ 20
+  pub few : length (kinds_of w) ≤ 2
+
+fit : (w : Word) → is_lacking 32 (word_text w) ≡ true → is_lacking 10 (word_text w) ≡ true → length (word_text w) ≤ 20 → length (kinds_of w) ≤ 2 → IsFit w
+fit w b f short few = record { bare = lacks_from 32 (word_text w) b; flat = lacks_from 10 (word_text w) f; short = short; few = few }
+
+pub fits : (w : Word) → IsFit w
+fits word.Acquire = fit word.Acquire refl refl (omega arith) (omega arith)
+fits word.Release = fit word.Release refl refl (omega arith) (omega arith)
+fits word.P = fit word.P refl refl (omega arith) (omega arith)
+fits word.V = fit word.V refl refl (omega arith) (omega arith)
+fits word.Add = fit word.Add refl refl (omega arith) (omega arith)
+
+-- the word with this text
+abbrev word_from : List ℕ → Word
+word_from bytes =
+    cond (bytes_eq bytes (codes "acquire")) word.Acquire
+    (cond (bytes_eq bytes (codes "release")) word.Release
+    (cond (bytes_eq bytes (codes "p")) word.P
+    (cond (bytes_eq bytes (codes "v")) word.V
+    word.Add)))
+
+word_back : (w : Word) → word_from (word_text w) ≡ w
+word_back word.Acquire = refl
+word_back word.Release = refl
+word_back word.P = refl
+word_back word.V = refl
+word_back word.Add = refl
+
+pub word_same : (v w : Word) → word_text v ≡ word_text w → v ≡ w
+word_same v w e = sym (word_back v) ∙ ap word_from e ∙ word_back w
+
+-- an operation is made of its word and its numbers
+pub built : (o : Operation) → o ≡ made (word_of o) (numbers_of o)
+built (Acquire m) = refl
+built (Release m) = refl
+built (P s) = refl
+built (V s) = refl
+built (Add m n) = refl
+
+-- the mutex that is used is within the layout
+abbrev pub UseWithin : Layout → Use → Type 0
+UseWithin l (Takes m) = m.0 < l.mutexes
+UseWithin l (Gives m) = m.0 < l.mutexes
+UseWithin l (Needs m) = m.0 < l.mutexes
+UseWithin l Nothing = Unit {0}
+
+pub named_use : (l : Layout) (o : Operation) → IsNamed l o → UseWithin l (use_of o)
+named_use l (Acquire m) n = n.0
+named_use l (Release m) n = n.0
+named_use l (P s) n = tt
+named_use l (V s) n = tt
+named_use l (Add m k) n = n.0
+
+-- the word of an operation's text, and what stands behind it
+pub word_parts : (o : Operation) (bytes front behind : List ℕ) → AreParted bytes front behind → bytes ≡ operation_text o → (front ≡ word_text (word_of o)) × (behind ≡ operands_text (kinds_of (word_of o)) (numbers_of o))
+word_parts o bytes front behind p e =
+    part_same front (word_text (word_of o)) behind (operands_text (kinds_of (word_of o)) (numbers_of o)) p.bare (fits (word_of o)).bare p.from_space (operands_behind (kinds_of (word_of o)) (numbers_of o)) (sym p.text ∙ e)

@@ -1,0 +1,118 @@
+//! The table of operations: for each its word, what stands behind the word, and what it does with a mutex.
+//!
+//! A further operation is a row in each function here and in specs/Table.antt. Texts and their reading follow from the rows.
+ghost use Rattle.std.specs.Prelude.{◌≡◌, ◌<◌, ◌^◌};
+ghost use Rattle.firefly_script.specs.Parsing.{Parses};
+ghost use Rattle.firefly_script.specs.Table.{word_text, kinds_of, made, use_of, listed, AreSmall};
+
+use crate::line::Operation;
+use larch_actions::{MutexId, SemId};
+
+/// The first word of an operation.
+#[derive(Clone, Copy, Debug, PartialEq, Eq)]
+pub enum Word {
+    Acquire,
+    Release,
+    P,
+    V,
+    Add,
+}
+
+/// What may stand behind a word.
+#[derive(Clone, Copy, Debug, PartialEq, Eq)]
+pub enum Kind {
+    Mutex,
+    Semaphore,
+    /// A number that may be added.
+    Amount,
+}
+
+/// The numbers behind a word, in order. Where fewer stand there, the others are 0.
+#[derive(Clone, Copy, Debug, PartialEq, Eq)]
+pub struct Numbers {
+    pub first: u64,
+    pub second: u64,
+}
+
+/// What an operation asks of a mutex, and does with it.
+#[derive(Clone, Copy, Debug, PartialEq, Eq)]
+pub enum Use {
+    /// The thread doesn't hold it, and holds it then.
+    Takes(MutexId),
+    /// The thread holds it, and doesn't then.
+    Gives(MutexId),
+    /// The thread holds it, and still does then.
+    Needs(MutexId),
+    /// It asks nothing.
+    Nothing,
+}
+
+/// The word that the bytes are.
+pub fn known_word(bytes: &[u8]) -> Option<Word>
+    ensures { Parses (λ _. Unit {0}) word_text bytes.now result }
+{
+    if bytes == b"acquire".as_slice() {
+        Some(Word::Acquire)
+    } else if bytes == b"release".as_slice() {
+        Some(Word::Release)
+    } else if bytes == b"p".as_slice() {
+        Some(Word::P)
+    } else if bytes == b"v".as_slice() {
+        Some(Word::V)
+    } else if bytes == b"add".as_slice() {
+        Some(Word::Add)
+    } else {
+        None
+    }
+}
+
+/// What stands behind the word.
+pub fn kinds(word: Word) -> &'static [Kind]
+    ensures { result.now ≡ kinds_of word }
+{
+    match word {
+        Word::Acquire => &[Kind::Mutex],
+        Word::Release => &[Kind::Mutex],
+        Word::P => &[Kind::Semaphore],
+        Word::V => &[Kind::Semaphore],
+        Word::Add => &[Kind::Mutex, Kind::Amount],
+    }
+}
+
+/// The operation with this word, and these numbers behind it.
+pub fn make(word: Word, numbers: Numbers) -> Operation
+    requires small { AreSmall (kinds_of word) (listed numbers) }
+    ensures { result ≡ made word (listed numbers) }
+{
+    match word {
+        Word::Acquire => Operation::Acquire {
+            mutex: MutexId(numbers.first as u32),
+        },
+        Word::Release => Operation::Release {
+            mutex: MutexId(numbers.first as u32),
+        },
+        Word::P => Operation::P {
+            sem: SemId(numbers.first as u32),
+        },
+        Word::V => Operation::V {
+            sem: SemId(numbers.first as u32),
+        },
+        Word::Add => Operation::Add {
+            mutex: MutexId(numbers.first as u32),
+            number: numbers.second,
+        },
+    }
+}
+
+/// What the operation does with a mutex.
+pub fn mutex_use(operation: &Operation) -> Use
+    ensures { result ≡ use_of operation.now }
+{
+    match operation {
+        Operation::Acquire { mutex } => Use::Takes(*mutex),
+        Operation::Release { mutex } => Use::Gives(*mutex),
+        Operation::P { sem: _ } => Use::Nothing,
+        Operation::V { sem: _ } => Use::Nothing,
+        Operation::Add { mutex, number: _ } => Use::Needs(*mutex),
+    }
+}
