@@ -3,7 +3,7 @@ ghost use Rattle.std.specs.Prelude.{◌≡◌, ◌≢◌, ◌<◌, ℕ, [], ◌�
 ghost use Rattle.larch_actions.specs.Sets.{mem, without};
 ghost use Rattle.gate.specs.Gates.{MayFree, IsFreed, clears};
 ghost use Rattle.nub_rule.specs.Known.{Makes};
-ghost use Rattle.nub_rule.specs.Objects.{object_of, HasObject};
+ghost use Rattle.nub_rule.specs.Objects.{object_of, HasObject, IsGate};
 ghost use Rattle.nub_rule.specs.Parts.{MayTell, made};
 ghost use Rattle.nub.specs.Rest.{HasStored, IsOutside};
 
@@ -22,6 +22,7 @@ pub fn free<U: Uses, C: Change<U>, R: Wait>(
     e: Option<Event>,
 )
     requires of { me.old.table_id ≡ p.now.table_id }
+    requires gate { IsGate at }
     requires named { HasObject p.now.layout at }
     requires outside { IsOutside me.old }
     requires no_wait { me.old.wait ≡ None }
@@ -53,6 +54,7 @@ fn clear_traced<U: Uses, C: Change<U>, R: Wait>(
     at: Object,
 )
     requires of { me.old.table_id ≡ p.now.table_id }
+    requires gate { IsGate at }
     requires named { HasObject p.now.layout at }
     requires outside { IsOutside me.old }
     requires no_wait { me.old.wait ≡ None }
@@ -70,6 +72,7 @@ fn clear_traced<U: Uses, C: Change<U>, R: Wait>(
 
 /// The event by which the thread of this number clears the bit.
 fn clearing(at: Object, number: u32) -> Event
+    requires { IsGate at }
     ensures { result ≡ clears at number }
 {
     let thread = ThreadId(number);
@@ -88,6 +91,7 @@ fn clearing(at: Object, number: u32) -> Event
 #[inline]
 fn clear_gate<U: Uses, C: Change<U>>(p: &Package<U>, me: &mut Thread<U>, at: Object)
     requires of { me.old.table_id ≡ p.now.table_id }
+    requires gate { IsGate at }
     requires named { HasObject p.now.layout at }
     requires outside { (me.old.wait ≡ None) × (me.old.stand ≡ None) }
     requires may { MayFree U.allows C.after at me.old }
@@ -111,6 +115,7 @@ fn clear_gate<U: Uses, C: Change<U>>(p: &Package<U>, me: &mut Thread<U>, at: Obj
 #[inline(never)]
 fn wake_one<U: Uses, R: Wait>(rt: &R, p: &Package<U>, me: &mut Thread<U>, at: Object)
     requires of { me.old.table_id ≡ p.now.table_id }
+    requires gate { IsGate at }
     requires named { HasObject p.now.layout at }
     requires outside { IsOutside me.old }
     requires looked { mem (object_of at) me.old.looked ≡ true }

@@ -3,7 +3,7 @@ ghost use Rattle.std.specs.Prelude.{◌≡◌, ◌≢◌, ◌<◌, ℕ, [], ◌�
 ghost use Rattle.larch_actions.specs.Sets.{mem, without};
 ghost use Rattle.gate.specs.Gates.{MayMake, IsTaken};
 ghost use Rattle.nub_rule.specs.Known.{Makes, StandsAs};
-ghost use Rattle.nub_rule.specs.Objects.{object_of, HasObject};
+ghost use Rattle.nub_rule.specs.Objects.{object_of, HasObject, IsGate};
 ghost use Rattle.nub_rule.specs.Parts.{MayTell, made, HasTested};
 ghost use Rattle.nub.specs.Rest.{HasStored, IsOutside};
 
@@ -20,6 +20,7 @@ const LOOKS: u32 = 16;
 #[inline(always)]
 pub fn take<U: Uses, R: Wait>(rt: &R, p: &Package<U>, me: &mut Thread<U>, at: Object, e: Event)
     requires of { me.old.table_id ≡ p.now.table_id }
+    requires gate { IsGate at }
     requires named { HasObject p.now.layout at }
     requires outside { IsOutside me.old }
     requires looked { me.old.cleared ≡ [] }
@@ -40,6 +41,7 @@ pub fn take<U: Uses, R: Wait>(rt: &R, p: &Package<U>, me: &mut Thread<U>, at: Ob
 #[inline(always)]
 fn try_untraced<U: Uses>(p: &Package<U>, me: &mut Thread<U>, at: Object, e: Event) -> bool
     requires of { me.old.table_id ≡ p.now.table_id }
+    requires gate { IsGate at }
     requires named { HasObject p.now.layout at }
     requires outside { IsOutside me.old }
     requires may { MayMake at me.old.number me.old.wait e }
@@ -66,6 +68,7 @@ pub fn try_take<U: Uses, R: Wait>(
     e: Event,
 ) -> bool
     requires of { me.old.table_id ≡ p.now.table_id }
+    requires gate { IsGate at }
     requires named { HasObject p.now.layout at }
     requires outside { IsOutside me.old }
     requires may { MayMake at me.old.number me.old.wait e }
@@ -91,6 +94,7 @@ pub fn try_take<U: Uses, R: Wait>(
 #[inline(always)]
 fn try_gate<U: Uses>(p: &Package<U>, me: &mut Thread<U>, at: Object, e: Event) -> u64
     requires of { me.old.table_id ≡ p.now.table_id }
+    requires gate { IsGate at }
     requires named { HasObject p.now.layout at }
     requires outside { (me.old.spin ≡ None) × (me.old.stand ≡ None) }
     requires may { MayMake at me.old.number me.old.wait e }
@@ -110,6 +114,7 @@ fn try_gate<U: Uses>(p: &Package<U>, me: &mut Thread<U>, at: Object, e: Event) -
 #[inline(always)]
 fn take_slowly<U: Uses, R: Wait>(rt: &R, p: &Package<U>, me: &mut Thread<U>, at: Object, e: Event)
     requires of { me.old.table_id ≡ p.now.table_id }
+    requires gate { IsGate at }
     requires named { HasObject p.now.layout at }
     requires outside { IsOutside me.old }
     requires looked { me.old.cleared ≡ [] }
@@ -150,6 +155,7 @@ fn look_briefly<U: Uses>(p: &Package<U>, at: Object)
 #[inline(never)]
 fn stand_in_line<U: Uses, R: Wait>(rt: &R, p: &Package<U>, me: &mut Thread<U>, at: Object)
     requires of { me.old.table_id ≡ p.now.table_id }
+    requires gate { IsGate at }
     requires named { HasObject p.now.layout at }
     requires outside { IsOutside me.old }
     requires looked { me.old.cleared ≡ [] }

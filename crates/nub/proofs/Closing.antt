@@ -1,19 +1,18 @@
 -- What the threads that a package begins and ends with know.
-use Rattle.std.proofs.Common.{◌≡◌, ◌≢◌, ◌⊎◌, Bool, ℕ, ◌+◌, ◌<◌, ◌≤◌, List, [], ◌∷◌, ◌++◌, length, get_or, replicate, map, sym, ap, ◌∙◌, subst, refl, arith, cond, eqb, true, false, suc, zero, Some, None, Option as Opt, rules, inl, inr, ⊎_elim}
+use Rattle.std.proofs.Common.{◌≡◌, Bool, ℕ, ◌+◌, ◌<◌, List, [], ◌∷◌, length, get_or, replicate, map, sym, ap, ◌∙◌, subst, refl, arith, cond, eqb, true, false, suc, zero, Some, None, Option as Opt, inl, inr, ⊎_elim}
 use mathlib.Core.Option.{some, some-injective, some-ne-none}
 use lib.ListN.{get_elem?}
 use Rattle.std.specs.List.{All}
 use Rattle.std.proofs.lemmas.List.{length-map, length-replicate}
 use Rattle.atomic_table.proofs.Lists.{at_map}
 use Rattle.larch_actions.specs.declared.event.Event.{Event}
-use Rattle.larch_actions.specs.Actions.{IsClosed, by_thread}
+use Rattle.larch_actions.specs.Actions.{by_thread}
 use Rattle.nub_rule.specs.declared.package.Entry.{Entry}
 use Rattle.nub_rule.specs.declared.package.Stored.{Stored}
 use Rattle.nub_rule.specs.declared.view.Part.{Part}
 use Rattle.nub_rule.specs.Ends.{first_known, Leaves}
-use Rattle.nub_rule.specs.Items.{Each, Told, Chronicle, Shared, places_from}
-use Rattle.nub_rule.specs.Known.{Known, Shape, part_of, Holds, IsOut}
-use Rattle.nub.specs.Rest.{AtRest, IsOutside}
+use Rattle.nub_rule.specs.Items.{Each, Told, Shared, places_from}
+use Rattle.nub_rule.specs.Known.{Known, Shape, part_of}
 use Rattle.nub.specs.Ended.{IsFirst, IsDone, IsWhole, KeepsLocks}
 use Rattle.nub.specs.History.{AreStored, entries_from, entries_of}
 

@@ -1,5 +1,5 @@
 -- Lists of numbers with one left out, and lists of stored events with one more.
-use Rattle.std.proofs.Common.{◌≡◌, ◌≢◌, length, Bool, ℕ, List, [], ◌∷◌, ◌++◌, map, sym, ap, ◌∙◌, subst, refl, arith, cond, eqb, true, false}
+use Rattle.std.proofs.Common.{◌≡◌, length, Bool, ℕ, List, [], ◌∷◌, ◌++◌, map, sym, ap, ◌∙◌, subst, refl, arith, cond, eqb, true, false}
 use Rattle.std.proofs.lemmas.Bool.Decides.{nat_tests}
 use Rattle.std.proofs.lemmas.List.{map-append}
 use Rattle.larch_actions.specs.declared.event.Event.{Event}
@@ -8,8 +8,8 @@ use Rattle.nub_rule.specs.declared.package.Entry.{Entry}
 use Rattle.nub_rule.specs.Items.{Small}
 use Rattle.std.proofs.Common.{◌<◌, ◌≤◌, None, Some, Option as Opt, ⊎_elim, rules}
 use Rattle.std.proofs.lemmas.Bool.{cases_lt}
-use Rattle.nub_rule.specs.declared.view.Pen.TheVariants.{No, Read, Made}
-use Rattle.nub_rule.specs.Parts.{MayTell, made}
+use Rattle.nub_rule.specs.declared.view.Pen.TheVariants.{No, Read}
+use Rattle.nub_rule.specs.Parts.{MayTell}
 use Rattle.nub_rule.specs.Known.{Known, Makes}
 use Rattle.nub.specs.Rest.{HasStored}
 use mathlib.Core.Option.{some}

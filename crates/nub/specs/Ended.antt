@@ -1,5 +1,5 @@
 -- What a package begins with, and what contracts see of it once it is closed.
-use Rattle.std.specs.Prelude.{◌≡◌, ◌⊎◌, ℕ, ◌<◌, Bool, true, List, [], map, length, Option as Opt, Some, None}
+use Rattle.std.specs.Prelude.{◌≡◌, ◌⊎◌, ℕ, ◌<◌, List, [], map, length, Option as Opt, Some, None}
 use Rattle.std.proofs.Common.{Vec, Global}
 use Rattle.std.specs.List.{All}
 use mathlib.Core.Option.{some}

@@ -4,8 +4,9 @@ ghost use Rattle.larch_actions.specs.Sets.{mem, without};
 ghost use Rattle.nub_rule.specs.declared.view.Stage.TheVariants.{Pushed};
 ghost use Rattle.nub_rule.specs.Known.{StandsAs};
 ghost use Rattle.larch_actions.specs.declared.event.ThreadId.{ThreadId};
-ghost use Rattle.nub_rule.specs.Objects.{object_of, HasObject};
+ghost use Rattle.nub_rule.specs.Objects.{object_of, HasObject, IsGate};
 ghost use Rattle.nub_rule.specs.Parts.{IsClear};
+ghost use Rattle.nub_rule.specs.Places.{most_threads};
 ghost use Rattle.nub_rule.specs.Plays.{behind, less};
 
 use larch_actions::ThreadId;
@@ -17,7 +18,7 @@ pub fn push<U: Uses>(p: &Package<U>, me: &mut Thread<U>, at: Object)
     requires named { HasObject p.now.layout at }
     requires inside { me.old.spin ≡ Some (object_of at) }
     requires outside { me.old.stand ≡ None }
-    ensures { me.new ≡ record me.old { queue = me.old.queue ++ me.old.number ∷ []; left = me.old.left ++ me.old.number ∷ []; stand = Some record { at = object_of at; stage = Pushed } } }
+    ensures gate { IsGate at → me.new ≡ record me.old { queue = me.old.queue ++ me.old.number ∷ []; left = me.old.left ++ me.old.number ∷ []; stand = Some record { at = object_of at; stage = Pushed } } }
 {
     push_queue(p, me, at);
 }
@@ -42,7 +43,7 @@ pub fn pop<U: Uses>(p: &Package<U>, me: &mut Thread<U>, at: Object) -> Option<Th
     requires inside { me.old.spin ≡ Some (object_of at) }
     ensures none { result ≡ None → me.old.queue ≡ [] }
     ensures first { (t : ThreadId) → result ≡ Some t → (me.old.queue ≡ t.0 ∷ behind me.old.queue) × (me.new.owed ≡ me.old.owed ++ t.0 ∷ []) }
-    ensures out { me.new ≡ record me.old { queue = behind me.old.queue; left = behind me.old.left; owed = me.new.owed; cleared = without (object_of at) me.old.cleared; looked = without (object_of at) me.old.looked } }
+    ensures gate { IsGate at → me.new ≡ record me.old { queue = behind me.old.queue; left = behind me.old.left; owed = me.new.owed; cleared = without (object_of at) me.old.cleared; looked = without (object_of at) me.old.looked } }
     ensures owes { result ≡ None → me.new.owed ≡ me.old.owed }
 {
     pop_queue(p, me, at)
@@ -52,7 +53,7 @@ pub fn pop<U: Uses>(p: &Package<U>, me: &mut Thread<U>, at: Object) -> Option<Th
 pub fn wake<U: Uses>(p: &Package<U>, me: &mut Thread<U>, t: ThreadId)
     requires of { me.old.table_id ≡ p.now.table_id }
     requires owed { mem t.0 me.old.owed ≡ true }
-    requires named { t.0 < 64 }
+    requires named { t.0 < most_threads }
     ensures { me.new ≡ record me.old { owed = without t.0 me.old.owed } }
 {
     set_ready(p, me, t);

@@ -4,7 +4,8 @@ ghost use Rattle.larch_actions.specs.Sets.{mem, without};
 ghost use Rattle.nub_rule.specs.Items.{Small};
 ghost use Rattle.nub_rule.specs.Objects.{object_of, HasObject};
 ghost use Rattle.nub_rule.specs.Parts.{stands_at};
-ghost use Rattle.nub_rule.specs.Plays.{HasReason};
+ghost use Rattle.nub_rule.specs.Places.{most_threads};
+ghost use Rattle.nub_rule.specs.Known.{HasReason};
 
 use crossbeam_utils::Backoff;
 use nub_rule::{Object, Package, Thread, Uses, Why, give_spin, take_spin};
@@ -15,9 +16,9 @@ pub fn enter<U: Uses, R: Wait>(rt: &R, p: &Package<U>, me: &mut Thread<U>, at: O
     requires of { me.old.table_id ≡ p.now.table_id }
     requires named { HasObject p.now.layout at }
     requires outside { me.old.spin ≡ None }
-    requires reason { HasReason (object_of at) me.old.failed me.old.looked why }
+    requires reason { HasReason (object_of at) me.old why }
     ensures inside { me.new ≡ record me.old { spin = Some (object_of at); queue = me.new.queue; owed = []; left = me.new.queue; count = me.new.count; failed = without (object_of at) me.old.failed } }
-    ensures small { Small 64 me.new.queue }
+    ensures small { Small most_threads me.new.queue }
     ensures there { mem me.old.number me.new.queue ≡ true → stands_at me.old.stand (object_of at) ≡ true }
 {
     let backoff = Backoff::new();

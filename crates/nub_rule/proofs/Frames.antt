@@ -94,7 +94,7 @@ module _ (words : List ℕ) (x : ℕ) where
     pub sem-bits : SameBits words (set words (bit_at (sem_object t)) x)
     sem-bits m lo = other words (bit_at (sem_object t)) (bit_at m) x (λ z. omega arith)
 
-  module _ (i : ℕ) (hi : 4096 ≤ i) where
+  module _ (i : ℕ) (from : pen_at ≤ i) (to : i ≤ number_at) where
     pub pen-bits : SameBits words (set words i x)
     pen-bits m lo = other words i (bit_at m) x (λ z. omega arith)
 

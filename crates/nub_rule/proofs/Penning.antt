@@ -150,14 +150,14 @@ module _ {T H W : Type 0} (l : Layout) (traced : Bool) (w : W) (begin : W → �
   alike p x = record { seen = refl; mine = refl; places = refl; held = refl; share = refl }
 
   -- a step on the pen or the number
-  with_pen : (words : List ℕ) (homes : List (Option (Slot T))) (all : List (Part T H)) (n i y : ℕ) (p : Part T H) (x : Pen) (writer' : Option ℕ) → 4096 ≤ i → get_elem? all n ≡ some p → (c : Core l traced w holds words homes all) → Pens traced (length c.log) (set words i y) writer' (set all n (record p { pen = x }))
+  with_pen : (words : List ℕ) (homes : List (Option (Slot T))) (all : List (Part T H)) (n i y : ℕ) (p : Part T H) (x : Pen) (writer' : Option ℕ) → pen_at ≤ i → i ≤ number_at → get_elem? all n ≡ some p → (c : Core l traced w holds words homes all) → Pens traced (length c.log) (set words i y) writer' (set all n (record p { pen = x }))
       → Core l traced w holds (set words i y) homes (set all n (record p { pen = x }))
-  with_pen words homes all n i y p x writer' hi at c pens = let q : Part T H = record p { pen = x } in beside l traced w holds words (set words i y) homes homes all n p q at (length-set words i y) refl (pen-bits words y i hi) (λ m. refl) (alike p x) c.spinner writer' c.queue c.owed c
-      (spins-frame all n p q at c.spinner c.queue c.owed words (set words i y) homes homes (pen-spins words y i hi) (λ o lo. refl) refl refl refl c.spins)
-      (lines-frame all n p q at (λ o. c.owed o ++ c.queue o) words (set words i y) c.sizes.few (pen-ready words y i hi) refl c.lines)
-      (shows-frame all n p q at c.spinner c.queue c.owner c.spec words (set words i y) (pen-shown words y i hi) refl refl refl refl c.shows)
+  with_pen words homes all n i y p x writer' lo hi at c pens = let q : Part T H = record p { pen = x } in beside l traced w holds words (set words i y) homes homes all n p q at (length-set words i y) refl (pen-bits words y i lo hi) (λ m. refl) (alike p x) c.spinner writer' c.queue c.owed c
+      (spins-frame all n p q at c.spinner c.queue c.owed words (set words i y) homes homes (pen-spins words y i lo hi) (λ o lo. refl) refl refl refl c.spins)
+      (lines-frame all n p q at (λ o. c.owed o ++ c.queue o) words (set words i y) c.sizes.few (pen-ready words y i lo hi) refl c.lines)
+      (shows-frame all n p q at c.spinner c.queue c.owner c.spec words (set words i y) (pen-shown words y i lo hi) refl refl refl refl c.shows)
       pens
-      (owes-frame c.queue words (set words i y) all n p q at (λ k lo. other words i (bit_at k) y (λ z. omega arith)) refl refl refl c.owes)
+      (owes-frame c.queue words (set words i y) all n p q at (λ k up. other words i (bit_at k) y (λ z. omega arith)) refl refl refl c.owes)
 
   pub takes_pen : (slots id : ℕ) (me : Me (Slot T) (View T H W)) → traced ≡ true → me.0.kind ≡ Member → me.0.part.pen ≡ No → Allows (IsKept l traced w begin holds) slots id me pen_at (λ x. either (eqb x 0) 1 x) (penned (step slots pen_at 0 1 none) me)
   takes_pen slots id me traces kind out = let v = me.0 in let n = v.number in let p = v.part in let q : Part T H = record p { pen = Taken } in member_steps l traced w begin holds slots id pen_at (λ x. either (eqb x 0) 1 x) v me.1
@@ -171,7 +171,7 @@ module _ {T H W : Type 0} (l : Layout) (traced : Bool) (w : W) (begin : W → �
         keeps,
         tt,
         subst (λ b. Core l traced w holds (set words pen_at (either b 1 r)) homes (set all n q)) (sym (eq-eqb r 0 hit))
-            (with_pen words homes all n pen_at 1 p Taken (some n) (omega arith) at c
+            (with_pen words homes all n pen_at 1 p Taken (some n) (omega arith) (omega arith) at c
             (pens-take traced (length c.log) words c.writer all n p q at (set words pen_at 1) traces (get_or-set_same words pen_at 1 0 (omega arith)) (other words pen_at number_at 1 (λ z. omega arith)) free refl c.pens)),
         inl (hit, refl, refl),
       ))
@@ -186,7 +186,7 @@ module _ {T H W : Type 0} (l : Layout) (traced : Bool) (w : W) (begin : W → �
         q,
         keeps,
         tt,
-        with_pen words homes all n number_at r p (Read r) c.writer (omega arith) at c
+        with_pen words homes all n number_at r p (Read r) c.writer (omega arith) (omega arith) at c
             (pens-own traced (length c.log) words c.writer all n p q at words' (other words number_at pen_at r (λ z. omega arith)) old.0 (refl, same ∙ old.1, sym same) c.pens),
         (refl, refl),
       ))
@@ -200,7 +200,7 @@ module _ {T H W : Type 0} (l : Layout) (traced : Bool) (w : W) (begin : W → �
         q,
         keeps,
         tt,
-        with_pen words homes all n number_at x p Written c.writer (omega arith) at c
+        with_pen words homes all n number_at x p Written c.writer (omega arith) (omega arith) at c
             (pens-own traced (length c.log) words c.writer all n p q at words' (other words number_at pen_at x (λ z. omega arith)) old.0 (refl, same ∙ (next ∙ sym old.1)) c.pens),
         (refl, refl),
       ))
@@ -215,7 +215,7 @@ module _ {T H W : Type 0} (l : Layout) (traced : Bool) (w : W) (begin : W → �
         q,
         keeps,
         tt,
-        with_pen words homes all n pen_at 0 p No none (omega arith) at c
+        with_pen words homes all n pen_at 0 p No none (omega arith) (omega arith) at c
             (pens-give traced (length c.log) words c.writer all n p q at words' (get_or-set_same words pen_at 0 0 (omega arith)) (other words pen_at number_at 0 (λ z. omega arith)) may refl c.pens),
         (one, refl, refl),
       ))

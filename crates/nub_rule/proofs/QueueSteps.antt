@@ -17,7 +17,7 @@ use Rattle.nub_rule.specs.declared.view.View.{View}
 use Rattle.nub_rule.specs.declared.view.Kind.TheVariants.{Member}
 use Rattle.nub_rule.specs.Items.{Core, Lines, Distinct}
 use Rattle.nub_rule.specs.Places.{length_at, spin_at, bit_at}
-use Rattle.nub_rule.specs.Plays.{Becomes, with_part, measured, pushed, took_out, popped, behind, front, less}
+use Rattle.nub_rule.specs.Plays.{Becomes, with_part, measured, pushed_gate, took_out, popped_gate, behind, front, less}
 use Rattle.nub_rule.specs.Rule.{IsKept}
 use Rattle.nub_rule.proofs.Each.{put-here, put-else, at_below}
 use Rattle.nub_rule.proofs.Members.{member_steps}
@@ -91,12 +91,12 @@ module _ {T H W : Type 0} (l : Layout) (traced : Bool) (w : W) (begin : W → �
       (λ miss. elim (mem o p.cleared) as (λ b. b ≡ mem o p.cleared → (q : Part T H) × (a : Act (Slot T)) × Valid homes me.1 a × Core l traced w holds (set words i (get_or words i 0)) (homes_after homes me.1 a) (set all n q) × (Out (get_or words i 0) q × (carried_after me.1 a ≡ me.1)))
       [ true ↦ (λ is. (record p { looked = o ∷ p.looked }, keeps, tt, let q : Part T H = record p { looked = o ∷ p.looked } in notes n i p p.failed p.turns p.cleared (o ∷ p.looked) words homes all at c (owes-frame c.queue words words all n p q at (λ k lo. refl) refl refl refl c.owes), (((λ hit. absurd (miss hit)), (λ _ _. refl), (λ _ out. both_ways (mem o p.cleared) (sym is) out)), refl))) | false ↦ (λ is. (p, keeps, tt, notes n i p p.failed p.turns p.cleared p.looked words homes all at c (owes-frame c.queue words words all n p p at (λ k lo. refl) refl refl refl c.owes), (((λ hit. absurd (miss hit)), (λ _ is'. both_ways (mem o p.cleared) is' (sym is)), (λ _ _. refl)), refl))) ] refl))
 
-  pub pushes : (slots id o r : ℕ) (me : Me (Slot T) (View T H W)) → o < 128 → me.0.kind ≡ Member → me.0.part.spin ≡ Some o → me.0.part.stand ≡ None → r ≡ length (me.0.part.queue ++ me.0.number ∷ [])
-      → Allows (IsKept l traced w begin holds) slots id me (length_at o) (λ _. r) (λ _. pushed (step slots (length_at o) r 0 none) me r)
-  pushes slots id o r me low kind here out long = let v = me.0 in let n = v.number in let p = v.part in let ys : List ℕ = p.queue ++ n ∷ [] in let st : Stand = record { at = o; stage = Pushed } in
+  pub pushes_gate : (slots id o r : ℕ) (me : Me (Slot T) (View T H W)) → o < 128 → me.0.kind ≡ Member → me.0.part.spin ≡ Some o → me.0.part.stand ≡ None → r ≡ length (me.0.part.queue ++ me.0.number ∷ [])
+      → Allows (IsKept l traced w begin holds) slots id me (length_at o) (λ _. r) (λ _. pushed_gate (step slots (length_at o) r 0 none) me r)
+  pushes_gate slots id o r me low kind here out long = let v = me.0 in let n = v.number in let p = v.part in let ys : List ℕ = p.queue ++ n ∷ [] in let st : Stand = record { at = o; stage = Pushed } in
       let q : Part T H = record p { queue = ys; left = p.left ++ n ∷ []; stand = Some st } in
-      subst (λ (z : ℕ). Allows (IsKept l traced w begin holds) slots id me (length_at o) (λ _. z) (λ _. pushed (step slots (length_at o) z 0 none) me z)) (sym long)
-      (member_steps l traced w begin holds slots id (length_at o) (λ _. length ys) v me.1 (λ x s ds. (s ≡ q) × (ds ≡ me.1)) (λ _. pushed (step slots (length_at o) (length ys) 0 none) me (length ys)) kind
+      subst (λ (z : ℕ). Allows (IsKept l traced w begin holds) slots id me (length_at o) (λ _. z) (λ _. pushed_gate (step slots (length_at o) z 0 none) me z)) (sym long)
+      (member_steps l traced w begin holds slots id (length_at o) (λ _. length ys) v me.1 (λ x s ds. (s ≡ q) × (ds ≡ me.1)) (λ _. pushed_gate (step slots (length_at o) (length ys) 0 none) me (length ys)) kind
       (λ x s ds world t k is. let e : o ≡ k = omega arith in (λ i. (with_part v (t.0 i), t.1 i)) ∙ (λ i. (with_part v (record p { queue = ys; left = p.left ++ n ∷ []; stand = Some record { at = e i; stage = Pushed } }), me.1)))
       (λ words homes all c at small.
       let mine = (c.spins.spinning n p at o).0 here in
@@ -140,12 +140,12 @@ module _ {T H W : Type 0} (l : Layout) (traced : Bool) (w : W) (begin : W → �
         (refl, refl),
       )))
 
-  pub pops : (slots id o r : ℕ) (me : Me (Slot T) (View T H W)) → o < 128 → me.0.kind ≡ Member → me.0.part.spin ≡ Some o → r ≡ length (behind me.0.part.queue)
-      → Allows (IsKept l traced w begin holds) slots id me (length_at o) (λ _. r) (λ _. popped (step slots (length_at o) r 0 none) me r)
-  pops slots id o r me low kind here long = let v = me.0 in let n = v.number in let p = v.part in let ys : List ℕ = behind p.queue in
+  pub pops_gate : (slots id o r : ℕ) (me : Me (Slot T) (View T H W)) → o < 128 → me.0.kind ≡ Member → me.0.part.spin ≡ Some o → r ≡ length (behind me.0.part.queue)
+      → Allows (IsKept l traced w begin holds) slots id me (length_at o) (λ _. r) (λ _. popped_gate (step slots (length_at o) r 0 none) me r)
+  pops_gate slots id o r me low kind here long = let v = me.0 in let n = v.number in let p = v.part in let ys : List ℕ = behind p.queue in
       let q : Part T H = record p { queue = ys; owed = p.owed ++ front p.queue; left = behind p.left; cleared = without o p.cleared; looked = without o p.looked } in
-      subst (λ (z : ℕ). Allows (IsKept l traced w begin holds) slots id me (length_at o) (λ _. z) (λ _. popped (step slots (length_at o) z 0 none) me z)) (sym long)
-      (member_steps l traced w begin holds slots id (length_at o) (λ _. length ys) v me.1 (λ x s ds. (s ≡ q) × (ds ≡ me.1)) (λ _. popped (step slots (length_at o) (length ys) 0 none) me (length ys)) kind
+      subst (λ (z : ℕ). Allows (IsKept l traced w begin holds) slots id me (length_at o) (λ _. z) (λ _. popped_gate (step slots (length_at o) z 0 none) me z)) (sym long)
+      (member_steps l traced w begin holds slots id (length_at o) (λ _. length ys) v me.1 (λ x s ds. (s ≡ q) × (ds ≡ me.1)) (λ _. popped_gate (step slots (length_at o) (length ys) 0 none) me (length ys)) kind
       (λ x s ds world t k is. let e : o ≡ k = omega arith in (λ i. (with_part v (t.0 i), t.1 i)) ∙ (λ i. (with_part v (record p { queue = ys; owed = p.owed ++ front p.queue; left = behind p.left; cleared = without (e i) p.cleared; looked = without (e i) p.looked }), me.1)))
       (λ words homes all c at small.
       let mine = (c.spins.spinning n p at o).0 here in

@@ -14,7 +14,7 @@ use Rattle.nub_rule.specs.declared.view.Wait.{Wait}
 use Rattle.nub_rule.specs.declared.view.Stand.{Stand}
 use Rattle.nub_rule.specs.declared.view.Pen.{Pen}
 use Rattle.nub_rule.specs.declared.view.Pen.TheVariants.{No, Taken, Read, Made, Written}
-use Rattle.nub_rule.specs.Places.{bit_at, spin_at, length_at, count_at, alert_at, ready_at, pen_at, number_at, word_count, queue_at, value_at, sem_object, cond_object}
+use Rattle.nub_rule.specs.Places.{most_threads, bit_at, spin_at, length_at, count_at, alert_at, ready_at, pen_at, number_at, word_count, queue_at, value_at, sem_object, cond_object}
 use Rattle.nub_rule.specs.Owed.{WakeOwed}
 use Rattle.nub_rule.specs.Parts.{Got, Has, stands_at, IsFound, waits_on, counts_in, pending_of}
 use Rattle.arrayvec.specs.ArrayVec.{ArrayVec}
@@ -173,7 +173,7 @@ module _ {T H : Type 0} where
     pub words_wide : length words ≡ word_count
     pub homes_wide : length homes ≡ 192 + l.mutexes
     pub lawful : l.mutexes ≤ 64
-    pub few : length all ≤ 64
+    pub few : length all ≤ most_threads
     pub parts_wide : Each Wide all
 
   -- all items, over the words, the slots at home and the part of each thread

@@ -1,5 +1,5 @@
 -- What contracts see of a package and of a thread.
-use Rattle.std.specs.Prelude.{Bool, ◌≡◌, ℕ, ◌<◌, ◌≤◌, List, [], ◌∷◌, ◌++◌, length, map, Option as Opt, Some, None}
+use Rattle.std.specs.Prelude.{Bool, true, ◌≡◌, ℕ, ◌<◌, ◌≤◌, List, [], ◌∷◌, ◌++◌, length, map, Option as Opt, Some, None}
 use Rattle.std.specs.List.{range_with_len}
 use mathlib.Core.Option.{some}
 use lib.ListN.{get_elem?}
@@ -8,6 +8,9 @@ use Rattle.larch_actions.specs.declared.event.Layout.{Layout}
 use Rattle.larch_actions.specs.Layout.{IsLawful}
 use Rattle.atomic_table.specs.Table.{Me}
 use Rattle.atomic_table.specs.Seated.{TableId}
+use Rattle.larch_actions.specs.Sets.{mem}
+use Rattle.nub_rule.specs.declared.object.Why.{Why}
+use Rattle.nub_rule.specs.declared.object.Why.TheVariants.{TryFailed, QueueSeen}
 use Rattle.nub_rule.specs.declared.package.Entry.{Entry}
 use Rattle.nub_rule.specs.declared.package.Stored.{Stored}
 use Rattle.nub_rule.specs.declared.rule.About.{About}
@@ -21,7 +24,7 @@ use Rattle.nub_rule.specs.declared.view.View.{View}
 use Rattle.nub_rule.specs.declared.view.Kind.TheVariants.{Member}
 use Rattle.nub_rule.specs.Items.{line_of}
 use Rattle.nub_rule.specs.Parts.{Got, Lacks}
-use Rattle.nub_rule.specs.Places.{value_at, queue_at, word_count}
+use Rattle.nub_rule.specs.Places.{most_threads, value_at, queue_at, word_count}
 use Rattle.nub_rule.specs.Plays.{Sat, Grows}
 use Rattle.nub_rule.specs.Slots.{find, IsDistinct, Below}
 
@@ -163,6 +166,11 @@ module _ {T H W : Type 0} where
   abbrev pub PicksShare : (W → ℕ → ℕ → T → T → H → H) → ℕ → Known T H W → Known T H W → Type 0
   PicksShare after m a b = (w : W) (s : H) (x y : T) → a.world ≡ Some w → a.share ≡ Some s → Holds a m x → IsIn a m y → b.share ≡ Some (after w m a.number x y s)
 
+  -- the reason in the view for which a thread takes the spin word of the object
+  abbrev pub HasReason : ℕ → Known T H W → Why → Type 0
+  HasReason o k TryFailed = mem o k.failed ≡ true
+  HasReason o k QueueSeen = mem o k.looked ≡ true
+
   -- the thread has no mutex's bit
   abbrev pub HasNone : Known T H W → Type 0
   HasNone k = (m : ℕ) (x : T) → ¬ Holds k m x
@@ -181,7 +189,7 @@ module _ {T H : Type 0} where
     pub value_lacked : (m : ℕ) → Lacks p m → find (value_at m) slots ≡ None
     pub settled : p.spin ≡ None → p.owed ≡ []
     -- the queue has room for a thread that stands nowhere
-    pub room : (o : ℕ) → p.spin ≡ Some o → p.stand ≡ None → length p.queue < 64
+    pub room : (o : ℕ) → p.spin ≡ Some o → p.stand ≡ None → length p.queue < most_threads
 
 -- what is true of each package: the table has the words and slots of its layout, its key tells the layout and whether it is traced, and the shelf has room for what each thread has stored
 pub record IsPackage {W : Type 0} (z : TableId) (key : About W) (layout : Layout) (traced : Bool) (shelf : List Stored) (room : ℕ) : Type 0 where
@@ -205,4 +213,4 @@ module _ {T H W : Type 0} where
     pub hands : Hands me.0.part me.1
     pub bare : kept ≡ []
     pub roomy : number ≡ 0 → z.slots ≤ value_at room
-    pub few : number < 64
+    pub few : number < most_threads

@@ -10,6 +10,11 @@ abbrev pub object_of : Object → ℕ
 object_of (Mutex m) = m.0
 object_of (Sem s) = sem_object s.0
 
+-- the object has a bit with its queue
+abbrev pub IsGate : Object → Type 0
+IsGate (Mutex m) = Unit {0}
+IsGate (Sem s) = Unit {0}
+
 -- the layout has the object
 abbrev pub HasObject : Layout → Object → Type 0
 HasObject l (Mutex m) = m.0 < l.mutexes

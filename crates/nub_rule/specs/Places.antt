@@ -1,6 +1,10 @@
 -- Where the words and the slots of a table stand, whatever the layout. Words of different objects and threads are on different cache lines.
 use Rattle.std.specs.Prelude.{ℕ, ◌+◌, ◌*◌}
 
+-- so many threads at most
+abbrev pub most_threads : ℕ
+most_threads = 64
+
 -- objects: mutexes from 0 on, semaphores from 64 on, conditions from 128 on
 abbrev pub sem_object : ℕ → ℕ
 sem_object s = 64 + s
@@ -24,22 +28,22 @@ length_at o = 16 * o + 2
 abbrev pub count_at : ℕ → ℕ
 count_at o = 16 * o + 3
 
--- the words of a thread
-abbrev pub alert_at : ℕ → ℕ
-alert_at t = 16 * t + 3072
-
-abbrev pub ready_at : ℕ → ℕ
-ready_at t = 16 * t + 3073
-
 -- the pen, and the number of the next event
 abbrev pub pen_at : ℕ
-pen_at = 4096
+pen_at = 3072
 
 abbrev pub number_at : ℕ
-number_at = 4097
+number_at = 3073
+
+-- the words of a thread, which come last, so that more threads only make the table longer
+abbrev pub alert_at : ℕ → ℕ
+alert_at t = 16 * t + 3088
+
+abbrev pub ready_at : ℕ → ℕ
+ready_at t = 16 * t + 3089
 
 abbrev pub word_count : ℕ
-word_count = 4112
+word_count = 3088 + 16 * most_threads
 
 -- the slot of an object's queue
 abbrev pub queue_at : ℕ → ℕ

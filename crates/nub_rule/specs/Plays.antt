@@ -8,8 +8,6 @@ use Rattle.larch_actions.specs.declared.event.Action.TheVariants.{Acquire, Relea
 use Rattle.larch_actions.specs.Actions.{IsLegal, by_thread}
 use Rattle.larch_actions.specs.Sets.{mem, without}
 use Rattle.atomic_table.specs.Table.{Me, Step, rest}
-use Rattle.nub_rule.specs.declared.object.Why.{Why}
-use Rattle.nub_rule.specs.declared.object.Why.TheVariants.{TryFailed, QueueSeen}
 use Rattle.nub_rule.specs.declared.rule.Slot.{Slot}
 use Rattle.nub_rule.specs.declared.rule.Slot.TheVariants.{Value, Queue}
 use Rattle.nub_rule.specs.declared.view.Part.{Part}
@@ -20,7 +18,7 @@ use Rattle.nub_rule.specs.declared.view.View.{View}
 use Rattle.nub_rule.specs.declared.view.Wait.{Wait}
 use Rattle.nub_rule.specs.Items.{Small, line_of}
 use Rattle.nub_rule.specs.Parts.{Got, Lacks, made, stands_at, staged, turned}
-use Rattle.nub_rule.specs.Places.{value_at, spin_at, length_at, queue_at, bit_at, ready_at, sem_object}
+use Rattle.nub_rule.specs.Places.{most_threads, value_at, spin_at, length_at, queue_at, bit_at, ready_at, sem_object}
 
 abbrev pub Sat : Type 0 → Type 0 → Type 0 → Type 0
 Sat T H W = Me (Slot T) (View T H W)
@@ -48,11 +46,6 @@ taken_action m (Some w) = cond w.alertable (AlertReturn w.mutex w.cond) (Resume 
 -- the thread n may take the mutex m by the event e: it has begun nothing, or a wait on m, and has left the condition
 abbrev pub MayTake : ℕ → ℕ → Opt Wait → Event → Type 0
 MayTake n m wait e = ((wait ≡ None) × (e ≡ acquire_event n m)) ⊎ ((w : Wait) × (wait ≡ Some w) × (w.mutex.0 ≡ m) × (w.member ≡ None) × (e ≡ event n (taken_action m (Some w))))
-
--- the reason for which a thread takes a spin word
-abbrev pub HasReason : ℕ → List ℕ → List ℕ → Why → Type 0
-HasReason o failed looked TryFailed = mem o failed ≡ true
-HasReason o failed looked QueueSeen = mem o looked ≡ true
 
 -- all but the first, and the first alone
 abbrev pub behind : List ℕ → List ℕ
@@ -89,7 +82,7 @@ module _ {T H W : Type 0} where
 
   -- the spin word of an object was tried: who wins gets the queue, and is in it only if it stands there
   abbrev pub spun : Step (Slot T) → Sat T H W → ℕ → Sat T H W → Type 0
-  spun st me r me' = let p = me.0.part in ((o : ℕ) → st.word ≡ spin_at o → r ≡ 0 → (xs : List ℕ) × (k : ℕ) × (p.stand ≡ None → length xs < 64) × Small 64 xs × (mem me.0.number xs ≡ true → stands_at p.stand o ≡ true)
+  spun st me r me' = let p = me.0.part in ((o : ℕ) → st.word ≡ spin_at o → r ≡ 0 → (xs : List ℕ) × (k : ℕ) × (p.stand ≡ None → length xs < most_threads) × Small most_threads xs × (mem me.0.number xs ≡ true → stands_at p.stand o ≡ true)
       × (me' ≡ (with_part me.0 (record p { spin = Some o; queue = xs; owed = []; left = xs; count = k; failed = without o p.failed }), (queue_at o, Queue (line_of xs)) ∷ me.1))) × (r ≢ 0 → me' ≡ me)
 
   -- the spin word was given back
@@ -139,8 +132,8 @@ module _ {T H W : Type 0} where
       × (r ≢ 0 → mem o p.cleared ≡ true → Becomes me (record p { looked = o ∷ p.looked }) me') × (r ≢ 0 → mem o p.cleared ≡ false → me' ≡ me)
 
   -- the thread was put last into the queue of a gate
-  abbrev pub pushed : Step (Slot T) → Sat T H W → ℕ → Sat T H W → Type 0
-  pushed st me r me' = let p = me.0.part in let n = me.0.number in (o : ℕ) → st.word ≡ length_at o → Becomes me (record p { queue = p.queue ++ n ∷ []; left = p.left ++ n ∷ []; stand = Some record { at = o; stage = Pushed } }) me'
+  abbrev pub pushed_gate : Step (Slot T) → Sat T H W → ℕ → Sat T H W → Type 0
+  pushed_gate st me r me' = let p = me.0.part in let n = me.0.number in (o : ℕ) → st.word ≡ length_at o → Becomes me (record p { queue = p.queue ++ n ∷ []; left = p.left ++ n ∷ []; stand = Some record { at = o; stage = Pushed } }) me'
 
   -- the bit of the object at which the thread stands was read after the push
   abbrev pub retested : Step (Slot T) → Sat T H W → ℕ → Sat T H W → Type 0
@@ -151,8 +144,8 @@ module _ {T H W : Type 0} where
   took_out st me r me' = let p = me.0.part in let n = me.0.number in (o : ℕ) → st.word ≡ length_at o → Becomes me (record p { queue = less n p.queue; left = less n p.left; stand = None; turns = o ∷ p.turns }) me'
 
   -- the first, if there is one, left the queue of a gate, and is owed its ready word
-  abbrev pub popped : Step (Slot T) → Sat T H W → ℕ → Sat T H W → Type 0
-  popped st me r me' = let p = me.0.part in (o : ℕ) → st.word ≡ length_at o
+  abbrev pub popped_gate : Step (Slot T) → Sat T H W → ℕ → Sat T H W → Type 0
+  popped_gate st me r me' = let p = me.0.part in (o : ℕ) → st.word ≡ length_at o
       → Becomes me (record p { queue = behind p.queue; owed = p.owed ++ front p.queue; left = behind p.left; cleared = without o p.cleared; looked = without o p.looked }) me'
 
   -- the bit of a semaphore was tried, by an event with this action

@@ -13,6 +13,7 @@ mod mutex;
 mod object;
 mod package;
 mod pen;
+mod places;
 mod queue;
 mod ready;
 mod rule;

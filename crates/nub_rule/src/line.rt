@@ -4,6 +4,7 @@ ghost use Rattle.larch_actions.specs.declared.event.ThreadId.{ThreadId};
 ghost use Rattle.larch_actions.specs.Sets.{mem};
 ghost use Rattle.nub_rule.specs.declared.rule.Slot.TheVariants.{Queue};
 ghost use Rattle.nub_rule.specs.Items.{line_of};
+ghost use Rattle.nub_rule.specs.Places.{most_threads};
 ghost use Rattle.nub_rule.specs.Plays.{behind, less};
 
 use crate::rule::{Line, Slot};
@@ -11,7 +12,7 @@ use larch_actions::ThreadId;
 
 /// Puts t last, and answers the length.
 pub fn push_line<T>(slot: &mut Slot<T>, t: u32) -> u64
-    requires { (xs : List ℕ) × (slot.old ≡ Queue (line_of xs)) × (length xs < 64) }
+    requires { (xs : List ℕ) × (slot.old ≡ Queue (line_of xs)) × (length xs < most_threads) }
     ensures { (xs : List ℕ) → slot.old ≡ Queue (line_of xs) → (slot.new ≡ Queue (line_of (xs ++ t ∷ []))) × (result ≡ length (xs ++ t ∷ [])) }
 {
     let Slot::Queue(line) = slot else {
@@ -39,7 +40,7 @@ pub fn pop_line<T>(slot: &mut Slot<T>) -> (Option<ThreadId>, u64)
 // Where t stands first.
 fn place_in(line: &Line, t: u32) -> Option<usize>
     ensures none { result ≡ None → mem t line.now.items ≡ false }
-    ensures fits { length line.now.items ≤ 64 }
+    ensures fits { length line.now.items ≤ most_threads }
     ensures first { (i : ℕ) → result ≡ Some i → (i < length line.now.items) × (get_or line.now.items i 0 ≡ t) × (mem t (take i line.now.items) ≡ false) }
 {
     for i in 0..line.len() {
@@ -54,7 +55,7 @@ fn place_in(line: &Line, t: u32) -> Option<usize>
 pub fn leave_line<T>(slot: &mut Slot<T>, t: u32) -> Option<u64>
     requires { (xs : List ℕ) × (slot.old ≡ Queue (line_of xs)) }
     ensures none { (xs : List ℕ) → slot.old ≡ Queue (line_of xs) → result ≡ None → (mem t xs ≡ false) × (slot.new ≡ slot.old) }
-    ensures out { (xs : List ℕ) (n : ℕ) → slot.old ≡ Queue (line_of xs) → result ≡ Some n → (mem t xs ≡ true) × (slot.new ≡ Queue (line_of (less t xs))) × (n ≡ length (less t xs)) × (n < 64) }
+    ensures out { (xs : List ℕ) (n : ℕ) → slot.old ≡ Queue (line_of xs) → result ≡ Some n → (mem t xs ≡ true) × (slot.new ≡ Queue (line_of (less t xs))) × (n ≡ length (less t xs)) × (n < most_threads) }
 {
     let Slot::Queue(line) = slot else {
         unreachable!()

@@ -4,6 +4,7 @@ ghost use Rattle.nub_rule.specs.declared.view.Pen.TheVariants.{No, Taken, Read, 
 ghost use Rattle.nub_rule.specs.Parts.{MayGivePen};
 
 use crate::package::{Entry, Package, Thread};
+use crate::places::{NUMBER, PEN};
 use crate::rule::{GivePen, ReadNumber, TakePen, WriteNumber};
 use crate::uses::Uses;
 use larch_actions::Event;
@@ -18,7 +19,7 @@ pub fn take_pen<U: Uses>(p: &Package<U>, me: &mut Thread<U>) -> u64
 {
     p.table
         .shared
-        .compare_exchange::<TakePen>(&mut me.seat, 4096, 0, 1)
+        .compare_exchange::<TakePen>(&mut me.seat, PEN, 0, 1)
 }
 
 /// Reads the number of the next event.
@@ -27,7 +28,7 @@ pub fn read_number<U: Uses>(p: &Package<U>, me: &mut Thread<U>) -> u64
     requires taken { me.old.pen ≡ Taken }
     ensures { me.new ≡ record me.old { pen = Read result; next = result } }
 {
-    let found = p.table.shared.load::<ReadNumber>(&mut me.seat, 4097);
+    let found = p.table.shared.load::<ReadNumber>(&mut me.seat, NUMBER);
     me.next = found;
     found
 }
@@ -40,7 +41,7 @@ pub fn write_number<U: Uses>(p: &Package<U>, me: &mut Thread<U>, number: u64)
 {
     p.table
         .shared
-        .store::<WriteNumber>(&mut me.seat, 4097, number);
+        .store::<WriteNumber>(&mut me.seat, NUMBER, number);
 }
 
 /// Gives the pen back.
@@ -50,7 +51,7 @@ pub fn give_pen<U: Uses>(p: &Package<U>, me: &mut Thread<U>) -> u64
     ensures found { result ≡ 1 }
     ensures out { me.new ≡ record me.old { pen = No } }
 {
-    p.table.shared.swap::<GivePen>(&mut me.seat, 4096, 0)
+    p.table.shared.swap::<GivePen>(&mut me.seat, PEN, 0)
 }
 
 /// The number that the thread read last.

@@ -5,7 +5,7 @@ ghost use Rattle.nub_rule.specs.declared.rule.Slot.TheVariants.{Queue};
 ghost use Rattle.nub_rule.specs.declared.view.Stage.TheVariants.{Pushed, Clear, Tested};
 ghost use Rattle.nub_rule.specs.Items.{line_of};
 ghost use Rattle.nub_rule.specs.Known.{StandsAs};
-ghost use Rattle.nub_rule.specs.Objects.{object_of, HasObject};
+ghost use Rattle.nub_rule.specs.Objects.{object_of, HasObject, IsGate};
 ghost use Rattle.nub_rule.specs.Parts.{staged, IsUntested, IsClear};
 ghost use Rattle.nub_rule.specs.Plays.{behind, less};
 
@@ -13,7 +13,7 @@ use crate::hand::bring;
 use crate::line::{leave_line, pop_line, push_line};
 use crate::object::Object;
 use crate::package::{Package, Thread};
-use crate::rule::{Pop, Push, ReadLength, TakeOut, TestAgain};
+use crate::rule::{PopGate, PushGate, ReadLength, TakeOut, TestAgain};
 use crate::uses::Uses;
 use larch_actions::ThreadId;
 
@@ -36,6 +36,19 @@ pub fn push_queue<U: Uses>(p: &Package<U>, me: &mut Thread<U>, at: Object)
     requires named { HasObject p.now.layout at }
     requires inside { me.old.spin ≡ Some (object_of at) }
     requires outside { me.old.stand ≡ None }
+    ensures gate { IsGate at → me.new ≡ record me.old { queue = me.old.queue ++ me.old.number ∷ []; left = me.old.left ++ me.old.number ∷ []; stand = Some record { at = object_of at; stage = Pushed } } }
+{
+    match at {
+        Object::Mutex(_) | Object::Sem(_) => push_gate(p, me, at),
+    }
+}
+
+fn push_gate<U: Uses>(p: &Package<U>, me: &mut Thread<U>, at: Object)
+    requires of { me.old.table_id ≡ p.now.table_id }
+    requires named { HasObject p.now.layout at }
+    requires gate { IsGate at }
+    requires inside { me.old.spin ≡ Some (object_of at) }
+    requires outside { me.old.stand ≡ None }
     ensures { me.new ≡ record me.old { queue = me.old.queue ++ me.old.number ∷ []; left = me.old.left ++ me.old.number ∷ []; stand = Some record { at = object_of at; stage = Pushed } } }
 {
     let o = at.number();
@@ -43,7 +56,7 @@ pub fn push_queue<U: Uses>(p: &Package<U>, me: &mut Thread<U>, at: Object)
     let length = push_line(me.seat.slot_mut(&p.table.shared, o), me.number);
     p.table
         .shared
-        .store::<Push>(&mut me.seat, 16 * o + 2, length);
+        .store::<PushGate>(&mut me.seat, 16 * o + 2, length);
 }
 
 /// Reads the bit again, after the push.
@@ -86,16 +99,31 @@ pub fn pop_queue<U: Uses>(p: &Package<U>, me: &mut Thread<U>, at: Object) -> Opt
     requires named { HasObject p.now.layout at }
     requires inside { me.old.spin ≡ Some (object_of at) }
     ensures none { result ≡ None → me.old.queue ≡ [] }
+    ensures owes { result ≡ None → me.new.owed ≡ me.old.owed }
+    ensures first { (t : ThreadId) → result ≡ Some t → (me.old.queue ≡ t.0 ∷ behind me.old.queue) × (me.new.owed ≡ me.old.owed ++ t.0 ∷ []) }
+    ensures gate { IsGate at → me.new ≡ record me.old { queue = behind me.old.queue; left = behind me.old.left; owed = me.new.owed; cleared = without (object_of at) me.old.cleared; looked = without (object_of at) me.old.looked } }
+{
+    match at {
+        Object::Mutex(_) | Object::Sem(_) => pop_gate(p, me, at),
+    }
+}
+
+fn pop_gate<U: Uses>(p: &Package<U>, me: &mut Thread<U>, at: Object) -> Option<ThreadId>
+    requires of { me.old.table_id ≡ p.now.table_id }
+    requires named { HasObject p.now.layout at }
+    requires gate { IsGate at }
+    requires inside { me.old.spin ≡ Some (object_of at) }
+    ensures none { result ≡ None → me.old.queue ≡ [] }
+    ensures owes { result ≡ None → me.new.owed ≡ me.old.owed }
     ensures first { (t : ThreadId) → result ≡ Some t → (me.old.queue ≡ t.0 ∷ behind me.old.queue) × (me.new.owed ≡ me.old.owed ++ t.0 ∷ []) }
     ensures out { me.new ≡ record me.old { queue = behind me.old.queue; left = behind me.old.left; owed = me.new.owed; cleared = without (object_of at) me.old.cleared; looked = without (object_of at) me.old.looked } }
-    ensures owes { result ≡ None → me.new.owed ≡ me.old.owed }
 {
     let o = at.number();
     bring(&mut me.hand, &mut me.seat, o as u16);
     let (first, length) = pop_line(me.seat.slot_mut(&p.table.shared, o));
     p.table
         .shared
-        .store::<Pop>(&mut me.seat, 16 * o + 2, length);
+        .store::<PopGate>(&mut me.seat, 16 * o + 2, length);
     first
 }
 

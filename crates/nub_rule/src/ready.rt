@@ -4,9 +4,11 @@ ghost use Rattle.larch_actions.specs.Sets.{mem, without};
 ghost use Rattle.nub_rule.specs.declared.view.Stand.{Stand};
 ghost use Rattle.nub_rule.specs.declared.view.Stage.TheVariants.{Asleep, Found};
 ghost use Rattle.nub_rule.specs.Known.{StandsAs};
+ghost use Rattle.nub_rule.specs.Places.{most_threads};
 ghost use Rattle.nub_rule.specs.Parts.{staged, HasTested, IsFound};
 
 use crate::package::{Package, Thread};
+use crate::places::ready_word;
 use crate::rule::{ClearReady, ReadReady, SetReady};
 use crate::uses::Uses;
 use larch_actions::ThreadId;
@@ -16,14 +18,14 @@ use std::sync::Wait;
 pub fn set_ready<U: Uses>(p: &Package<U>, me: &mut Thread<U>, t: ThreadId) -> u64
     requires of { me.old.table_id ≡ p.now.table_id }
     requires owed { mem t.0 me.old.owed ≡ true }
-    requires named { t.0 < 64 }
+    requires named { t.0 < most_threads }
     ensures found { result ≡ 0 }
     ensures owes { me.new ≡ record me.old { owed = without t.0 me.old.owed } }
 {
     let found = p
         .table
         .shared
-        .swap::<SetReady>(&mut me.seat, 16 * t.0 as usize + 3073, 1);
+        .swap::<SetReady>(&mut me.seat, ready_word(t.0), 1);
     if let Some(unparker) = p.unparkers.get(t.0 as usize) {
         unparker.unpark();
     }
@@ -42,7 +44,7 @@ pub fn read_ready<U: Uses>(p: &Package<U>, me: &mut Thread<U>) -> u64
 {
     p.table
         .shared
-        .load::<ReadReady>(&mut me.seat, 16 * me.number as usize + 3073)
+        .load::<ReadReady>(&mut me.seat, ready_word(me.number))
 }
 
 /// Clears the own ready word, which was found set. The thread stands nowhere then.
@@ -56,7 +58,7 @@ pub fn clear_ready<U: Uses>(p: &Package<U>, me: &mut Thread<U>) -> u64
 {
     p.table
         .shared
-        .swap::<ClearReady>(&mut me.seat, 16 * me.number as usize + 3073, 0)
+        .swap::<ClearReady>(&mut me.seat, ready_word(me.number), 0)
 }
 
 /// Sleeps until another thread unparks this one, or for no reason. It is no step, and tells nothing.

@@ -1,4 +1,5 @@
 //! The rule of the table, and what each kind of step tells.
+use crate::places::MOST_THREADS;
 use crate::uses::{Change, Uses};
 use crate::view::View;
 use arrayvec::ArrayVec;
@@ -8,7 +9,7 @@ use std::marker::PhantomData;
 use std::snapshot::Snapshot;
 
 /// The numbers of threads in a queue.
-pub type Line = ArrayVec<u32, 64>;
+pub type Line = ArrayVec<u32, MOST_THREADS>;
 
 /// What a slot of the table holds.
 #[derive(Drop)]
@@ -128,13 +129,13 @@ impl<T, H, W> Play<Slot<T>, View<T, H, W>> for ReadLength {
     ghost then = { measured };
 }
 
-/// Writes the length of a queue after a push.
-pub struct Push;
+/// Writes the length of a gate's queue after a push.
+pub struct PushGate;
 
-impl<T, H, W> Play<Slot<T>, View<T, H, W>> for Push {
-    ghost use Rattle.nub_rule.specs.Plays.{pushed};
+impl<T, H, W> Play<Slot<T>, View<T, H, W>> for PushGate {
+    ghost use Rattle.nub_rule.specs.Plays.{pushed_gate};
 
-    ghost then = { pushed };
+    ghost then = { pushed_gate };
 }
 
 /// Reads the bit after a push.
@@ -155,13 +156,13 @@ impl<T, H, W> Play<Slot<T>, View<T, H, W>> for TakeOut {
     ghost then = { took_out };
 }
 
-/// Writes the length of a queue after its first has left it.
-pub struct Pop;
+/// Writes the length of a gate's queue after its first has left it.
+pub struct PopGate;
 
-impl<T, H, W> Play<Slot<T>, View<T, H, W>> for Pop {
-    ghost use Rattle.nub_rule.specs.Plays.{popped};
+impl<T, H, W> Play<Slot<T>, View<T, H, W>> for PopGate {
+    ghost use Rattle.nub_rule.specs.Plays.{popped_gate};
 
-    ghost then = { popped };
+    ghost then = { popped_gate };
 }
 
 /// Tries the bit of a semaphore by a P.

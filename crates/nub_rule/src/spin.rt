@@ -4,7 +4,8 @@ ghost use Rattle.larch_actions.specs.Sets.{mem, without};
 ghost use Rattle.nub_rule.specs.Items.{Small};
 ghost use Rattle.nub_rule.specs.Objects.{object_of, HasObject};
 ghost use Rattle.nub_rule.specs.Parts.{stands_at};
-ghost use Rattle.nub_rule.specs.Plays.{HasReason};
+ghost use Rattle.nub_rule.specs.Places.{most_threads};
+ghost use Rattle.nub_rule.specs.Known.{HasReason};
 
 use crate::hand::bring;
 use crate::object::{Object, Why};
@@ -17,11 +18,11 @@ pub fn take_spin<U: Uses>(p: &Package<U>, me: &mut Thread<U>, at: Object, why: W
     requires of { me.old.table_id ≡ p.now.table_id }
     requires named { HasObject p.now.layout at }
     requires outside { me.old.spin ≡ None }
-    requires reason { HasReason (object_of at) me.old.failed me.old.looked why }
+    requires reason { HasReason (object_of at) me.old why }
     ensures lost { result ≢ 0 → me.new ≡ me.old }
     ensures won { result ≡ 0 → me.new ≡ record me.old { spin = Some (object_of at); queue = me.new.queue; owed = []; left = me.new.queue; count = me.new.count; failed = without (object_of at) me.old.failed } }
-    ensures small { result ≡ 0 → Small 64 me.new.queue }
-    ensures room { result ≡ 0 → me.old.stand ≡ None → length me.new.queue < 64 }
+    ensures small { result ≡ 0 → Small most_threads me.new.queue }
+    ensures room { result ≡ 0 → me.old.stand ≡ None → length me.new.queue < most_threads }
     ensures there { result ≡ 0 → mem me.old.number me.new.queue ≡ true → stands_at me.old.stand (object_of at) ≡ true }
 {
     let o = at.number();

@@ -15,6 +15,7 @@ ghost use Rattle.nub_rule.specs.Places.{word_count};
 
 use crate::hand::Hand;
 use crate::package::{Entry, Package, Stored, Thread};
+use crate::places::{QUEUES, WORDS};
 use crate::rule::{About, Collect, Cut, Gather, Kept, Line, Slot};
 use crate::uses::Uses;
 use crate::view::View;
@@ -24,10 +25,6 @@ use larch_actions::Layout;
 use std::alloc::{AllocError, Global};
 use std::mem;
 use std::snapshot::Snapshot;
-
-const QUEUES: usize = 192;
-
-const WORDS: usize = 4112;
 
 /// What a package leaves: the values last released, and what each thread has stored.
 #[derive(Drop)]

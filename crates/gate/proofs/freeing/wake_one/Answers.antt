@@ -1,5 +1,6 @@
 use Rattle.std.proofs.Common.{◌≡◌, ◌++◌, ◌∷◌, [], true, List, ℕ, rules, ap, sym, subst, ◌∙◌}
 use Rattle.larch_actions.specs.Sets.{mem, without}
+use Rattle.nub_rule.specs.Places.{most_threads}
 use Rattle.nub_rule.specs.Plays.{behind}
 use Rattle.nub.proofs.Without.{mem_own, less_owed, first_small}
 use Rattle.gate.proofs.freeing.wake_one.Goals as goal
@@ -14,7 +15,7 @@ wake-requires-clause-owed g c κs within =
 pub wake-requires-clause-named : goal.wake-requires-clause-named
 wake-requires-clause-named g c κs within =
     let first = c.pop.ensures.first c.in-Some.t c.in-Some.is in
-    first_small 64 c.in-Some.t.0 (behind c.enter.new.me.queue) c.enter.new.me.queue first.0 c.enter.ensures.small
+    first_small most_threads c.in-Some.t.0 (behind c.enter.new.me.queue) c.enter.new.me.queue first.0 c.enter.ensures.small
 
 pub leave-requires-clause-owes_none : goal.leave-requires-clause-owes_none
 leave-requires-clause-owes_none g c κs within =

@@ -7,7 +7,7 @@ use Rattle.nub.proofs.Without.{mem_last, without_own, after_sleep}
 use Rattle.gate.proofs.taking.stand_in_line.Goals as goal
 
 pub test_again-requires-clause-untested : goal.test_again-requires-clause-untested
-test_again-requires-clause-untested g c κs within = (record { at = object_of c.args.at; stage = Pushed }, ap (λ k. k.stand) c.push.ensures, (search rules, tt))
+test_again-requires-clause-untested g c κs within = (record { at = object_of c.args.at; stage = Pushed }, ap (λ k. k.stand) (c.push.ensures.gate c.requires.gate), (search rules, tt))
 
 pub sleep-requires-clause-tested : goal.sleep-requires-clause-tested
 sleep-requires-clause-tested g c κs within = (record { at = object_of c.args.at; stage = Tested }, search rules, tt)
@@ -16,11 +16,11 @@ pub returns-then-test_again-eq0 : goal.returns-then-test_again-eq0
 returns-then-test_again-eq0 g c =
     let o = object_of c.args.at in
     let clear = c.test_again.ensures.clear c.if-test_again-eq0.true in
-    let there : c.remove.result ≡ true = c.remove.ensures.there ∙ (ap (λ k. mem k.number k.queue) clear ∙ (ap (λ k. mem k.number k.queue) c.push.ensures ∙ mem_last c.enter.new.me.number c.enter.new.me.queue)) in
+    let there : c.remove.result ≡ true = c.remove.ensures.there ∙ (ap (λ k. mem k.number k.queue) clear ∙ (ap (λ k. mem k.number k.queue) (c.push.ensures.gate c.requires.gate) ∙ mem_last c.enter.new.me.number c.enter.new.me.queue)) in
     let out = c.remove.ensures.out there in
     record {
       rest = search rules;
-      turns = ap (λ k. without o k.turns) c.leave.ensures ∙ (ap (λ k. without o k.turns) out ∙ (without_own o c.test_again.new.me.turns ∙ (ap (λ k. without o k.turns) clear ∙ (ap (λ k. without o k.turns) c.push.ensures ∙ ap (λ k. without o k.turns) c.enter.ensures.inside))));
+      turns = ap (λ k. without o k.turns) c.leave.ensures ∙ (ap (λ k. without o k.turns) out ∙ (without_own o c.test_again.new.me.turns ∙ (ap (λ k. without o k.turns) clear ∙ (ap (λ k. without o k.turns) (c.push.ensures.gate c.requires.gate) ∙ ap (λ k. without o k.turns) c.enter.ensures.inside))));
     }
 
 pub returns-else-test_again-eq0 : goal.returns-else-test_again-eq0

@@ -1,4 +1,4 @@
-use Rattle.std.proofs.Common.{ap, refl}
+use Rattle.std.proofs.Common.{ap}
 use Rattle.nub.proofs.Without.{stored_by}
 use Rattle.gate.proofs.taking.try_take.Goals as goal
 

@@ -1,11 +1,11 @@
-use Rattle.std.proofs.Common.{◌≡◌, ◌≢◌, ◌+◌, ℕ, ◌<◌, ◌≤◌, List, [], length, map, get_or, false, rules, arith, sym, ◌∙◌, subst, ⊎_elim, ap}
+use Rattle.std.proofs.Common.{◌≡◌, ◌≢◌, ℕ, ◌<◌, List, [], length, get_or, rules, arith, sym, ◌∙◌, subst, ⊎_elim, ap}
 use Rattle.std.specs.List.{All}
 use Rattle.std.proofs.lemmas.List.{length-map}
 use Rattle.std.proofs.lemmas.Bool.{cases_eq}
 use Rattle.larch_actions.specs.declared.event.Event.{Event}
 use Rattle.nub_rule.specs.declared.package.Entry.{Entry}
 use Rattle.nub_rule.specs.declared.package.Stored.{Stored}
-use Rattle.nub.specs.History.{AreStored, IsOf, SameAt}
+use Rattle.nub.specs.History.{IsOf, SameAt}
 use Rattle.nub.proofs.Places.{AreLists, entries_are_of, filled, listed, lists_of, whole_lists, counted}
 use Rattle.nub.proofs.trace_order.in_order.Goals as goal
 

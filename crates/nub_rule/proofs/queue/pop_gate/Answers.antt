@@ -12,8 +12,8 @@ use Rattle.nub_rule.proofs.Seen.{as_known, fit_moved}
 use Rattle.std.proofs.Common.{append-nil}
 use Rattle.atomic_table.specs.Table.{rest}
 use Rattle.nub_rule.proofs.Lessening.{length-behind, front-of, front-none}
-use Rattle.nub_rule.proofs.QueueSteps.{pops}
-use Rattle.nub_rule.proofs.queue.pop_queue.Goals as goal
+use Rattle.nub_rule.proofs.QueueSteps.{pops_gate}
+use Rattle.nub_rule.proofs.queue.pop_gate.Goals as goal
 
 pub bring-requires-clause-there : goal.bring-requires-clause-there
 bring-requires-clause-there g c = let is = c.number-o.ensures in let o : ℕ = c.number-o.result in let here : c.me.inside.seat.me.0.part.spin ≡ Some o = ap (λ k. k.spin) c.me.view_is ∙ (c.requires.inside ∙ ap (λ (z : ℕ). Some z) (sym is)) in (Queue (line_of c.me.inside.seat.me.0.part.queue), c.me.invariant.hands.queue_in o here)
@@ -28,7 +28,7 @@ pub store-requires : goal.store-requires
 store-requires g c = let low = object_low _ _ _ _ c.p.view_is c.p.invariant.laid_out c.p.invariant.lawful c.args.at c.requires.named in let is = c.number-o.ensures in let o : ℕ = c.number-o.result in let near : o < 128 = omega arith in let here : c.me.inside.seat.me.0.part.spin ≡ Some o = ap (λ k. k.spin) c.me.view_is ∙ (c.requires.inside ∙ ap (λ (z : ℕ). Some z) (sym is)) in let i = c.me.invariant in let h = i.hands in let b = c.bring.ensures in let first = b.first _ (h.queue_in o here) in let same = b.same.2 in let content = same_slot o _ _ _ _ c.slot_mut.ensures.value first in let popped_now = c.pop_line-first.ensures c.me.inside.seat.me.0.part.queue content in (
   search rules,
   omega arith,
-  pops _ _ _ _ _ _ _ o _ (c.bring.new.seat.me.0, (o, c.pop_line-first.new.slot) ∷ rest c.bring.new.seat.me.1) near (ap (λ v. v.kind) same ∙ i.member) (ap (λ v. v.part.spin) same ∙ here)
+  pops_gate _ _ _ _ _ _ _ o _ (c.bring.new.seat.me.0, (o, c.pop_line-first.new.slot) ∷ rest c.bring.new.seat.me.1) near (ap (λ v. v.kind) same ∙ i.member) (ap (λ v. v.part.spin) same ∙ here)
       (popped_now.1 ∙ (λ j. length (behind (sym same j).part.queue))),
 )
 
