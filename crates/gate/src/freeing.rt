@@ -12,7 +12,8 @@ use nub::{begin_event, end_event, enter, leave, pop, wake};
 use nub_rule::{Change, Object, Package, Thread, Uses, Why, clear_bit, clear_sem, read_length};
 use std::sync::Wait;
 
-/// Makes the event by clearing the bit, and makes one queued thread ready if the queue isn't empty.
+/// Makes the event by clearing the bit, and makes one queued thread ready if the queue isn't empty. It may wait for the pen, or for the
+/// spin word of the queue, which their holders give back after a few steps; never for a mutex or a semaphore.
 #[inline]
 pub fn free<U: Uses, C: Change<U>, R: Wait>(
     rt: &R,
@@ -33,18 +34,22 @@ pub fn free<U: Uses, C: Change<U>, R: Wait>(
     ensures freed { IsFreed C.after at me.old me.new }
     ensures stored { HasStored p.now.traced me.old → HasStored p.now.traced me.new }
 {
+    // The event follows from the object and the thread, so the argument is only what the caller says it is.
     let _event = e;
     if p.traced() {
         clear_traced::<U, C, R>(rt, p, me, at);
     } else {
         clear_gate::<U, C>(p, me, at);
     }
+    // The length is read after the clearing: a thread that pushed itself before the clearing is seen here, one that pushes later finds the
+    // bit clear at its second test. Read before, a push between the two would be seen by neither.
     if read_length(p, me, at) != 0 {
         wake_one(rt, p, me, at);
     }
 }
 
-/// Makes the event by clearing the bit, with the pen. It makes the event anew, so that nobody hands it over in memory.
+/// Makes the event by clearing the bit, with the pen. The event is built here: passing 16 bytes through a cold call would make the processor
+/// wait for its own store.
 #[cold]
 #[inline(never)]
 fn clear_traced<U: Uses, C: Change<U>, R: Wait>(
@@ -124,9 +129,12 @@ fn wake_one<U: Uses, R: Wait>(rt: &R, p: &Package<U>, me: &mut Thread<U>, at: Ob
     enter(rt, p, me, at, Why::QueueSeen);
     match pop(p, me, at) {
         Some(t) => {
+            // Woken inside: as long as this thread owes t its ready word it keeps the spin word, so whoever is in a line or owed can be told
+            // by the spin words alone, and no thread leaves the Nub owing anybody.
             wake(p, me, t);
             leave(rt, p, me, at);
         }
+        // Those that were seen have left by themselves, or another thread has popped them.
         None => leave(rt, p, me, at),
     }
 }

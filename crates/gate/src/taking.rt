@@ -16,7 +16,8 @@ use std::sync::Wait;
 // How often a thread looks at a bit before it goes on: first it only pauses between two looks, then it yields its processor.
 const LOOKS: u32 = 16;
 
-/// Makes the event by taking the bit, after any number of sleeps.
+/// Makes the event by taking the bit, after any number of sleeps. It may wait: it goes on when it has taken the bit, which another thread
+/// must have cleared. Nothing says that it ever does.
 #[inline(always)]
 pub fn take<U: Uses, R: Wait>(rt: &R, p: &Package<U>, me: &mut Thread<U>, at: Object, e: Event)
     requires of { me.old.table_id ≡ p.now.table_id }
@@ -58,7 +59,8 @@ fn try_untraced<U: Uses>(p: &Package<U>, me: &mut Thread<U>, at: Object, e: Even
     try_gate(p, me, at, e) == 0
 }
 
-/// Tries the bit once. It answers whether it took the bit, and so made the event.
+/// Tries the bit once. It answers whether it took the bit, and so made the event. In a traced package it may wait for the pen, which its
+/// holder gives back after a step or two.
 #[inline(always)]
 pub fn try_take<U: Uses, R: Wait>(
     rt: &R,
@@ -81,6 +83,7 @@ pub fn try_take<U: Uses, R: Wait>(
     if !p.traced() {
         return try_gate(p, me, at, e) == 0;
     }
+    // The pen is taken before the bit is known to be free, since the try may be the event and its number must be read by then.
     begin_event(rt, p, me);
     if try_gate(p, me, at, e) == 0 {
         end_event(p, me, Some(e));
@@ -110,7 +113,8 @@ fn try_gate<U: Uses>(p: &Package<U>, me: &mut Thread<U>, at: Object, e: Event) -
     }
 }
 
-/// The way through the Nub, after a failed try. What it calls is out of line, and the event isn't handed to it in memory.
+/// The way through the Nub, after a failed try. What it calls is out of line, and takes no event: an event of 16 bytes that is stored to
+/// be passed and loaded again at once would stall the processor.
 #[inline(always)]
 fn take_slowly<U: Uses, R: Wait>(rt: &R, p: &Package<U>, me: &mut Thread<U>, at: Object, e: Event)
     requires of { me.old.table_id ≡ p.now.table_id }
@@ -126,16 +130,18 @@ fn take_slowly<U: Uses, R: Wait>(rt: &R, p: &Package<U>, me: &mut Thread<U>, at:
     ensures stored { HasStored p.now.traced me.old → HasStored p.now.traced me.new }
 {
     for _ in rt.forever() {
+        // Most bits are clear again within a few looks, and a look writes nothing: so the holder's cache line is not taken from it.
         look_briefly(p, at);
         if try_take(rt, p, me, at, e) {
             return;
         }
+        // After a sleep, too, the bit is tried anew: whoever woke this thread has not kept the bit for it.
         stand_in_line(rt, p, me, at);
     }
     unreachable!()
 }
 
-/// Waits a short while for the bit to be clear. It is no step, and tells nothing.
+/// Waits a short while for the bit to be clear. Not an atomic step of the rule: the view stays.
 #[cold]
 #[inline(never)]
 fn look_briefly<U: Uses>(p: &Package<U>, at: Object)
@@ -150,7 +156,8 @@ fn look_briefly<U: Uses>(p: &Package<U>, at: Object)
     }
 }
 
-/// Queues the thread, tests the bit again, and sleeps if it is still set.
+/// Queues the thread, tests the bit again, and sleeps if it is still set. It may wait: it goes on when it has left the queue, by itself or
+/// popped by a thread that cleared the bit.
 #[cold]
 #[inline(never)]
 fn stand_in_line<U: Uses, R: Wait>(rt: &R, p: &Package<U>, me: &mut Thread<U>, at: Object)
@@ -165,10 +172,15 @@ fn stand_in_line<U: Uses, R: Wait>(rt: &R, p: &Package<U>, me: &mut Thread<U>, a
 {
     enter(rt, p, me, at, Why::TryFailed);
     push(p, me, at);
+    // Whoever clears the bit reads the length of the queue after that. So the bit is tested after the push: either this test finds it clear,
+    // or the clearing comes later and its look finds this thread in the queue. Tested before the push, the bit could be cleared, and the
+    // queue found empty, in between, and this thread would sleep with nobody to wake it.
     if test_again(p, me, at) == 0 {
+        // Out of the queue again, under the same spin word: nobody can have popped this thread meanwhile.
         remove(p, me, at);
         leave(rt, p, me, at);
     } else {
+        // The spin word is given back before the sleep: who wakes this thread needs it to pop it.
         leave(rt, p, me, at);
         sleep(rt, p, me, false);
     }

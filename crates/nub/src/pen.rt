@@ -11,7 +11,8 @@ use nub_rule::{
 };
 use std::sync::Wait;
 
-/// In a traced package takes the pen and reads the number of the next event. In an untraced one it does nothing.
+/// In a traced package takes the pen and reads the number of the next event. It spins while another thread has the pen. In an untraced one it
+/// does nothing.
 #[inline]
 pub fn begin_event<U: Uses, R: Wait>(rt: &R, p: &Package<U>, me: &mut Thread<U>)
     requires of { me.old.table_id ≡ p.now.table_id }
@@ -57,6 +58,7 @@ fn begin_traced<U: Uses, R: Wait>(rt: &R, p: &Package<U>, me: &mut Thread<U>)
             if read_number(p, me) < u64::MAX {
                 return;
             }
+            // No number is left for an event. The pen goes back, since nobody may wait with it.
             give_pen(p, me);
         }
         backoff.snooze();
@@ -73,6 +75,7 @@ fn end_traced<U: Uses>(p: &Package<U>, me: &mut Thread<U>, made: Option<Event>)
     ensures stored { (e : Event) → made ≡ Some e → me.new.lost ≡ false → (me.old.lost ≡ false) × (me.new.entries ≡ me.old.entries ++ record { number = me.old.next; event = e } ∷ []) }
 {
     if let Some(event) = made {
+        // Stored before the number is written: the number that was read is this event's until the pen goes back.
         store_event(me, event);
         let number = next_number(me);
         write_number(p, me, number + 1);

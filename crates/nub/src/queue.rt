@@ -49,7 +49,7 @@ pub fn pop<U: Uses>(p: &Package<U>, me: &mut Thread<U>, at: Object) -> Option<Th
     pop_queue(p, me, at)
 }
 
-/// Makes a thread ready that was popped, and wakes it.
+/// Makes a thread ready that was popped, and wakes it. It never waits.
 pub fn wake<U: Uses>(p: &Package<U>, me: &mut Thread<U>, t: ThreadId)
     requires of { me.old.table_id ≡ p.now.table_id }
     requires owed { mem t.0 me.old.owed ≡ true }

@@ -7,7 +7,8 @@ ghost use Rattle.nub_rule.specs.Parts.{HasTested};
 use nub_rule::{Package, Thread, Uses, clear_ready, park, read_ready};
 use std::sync::Wait;
 
-/// Sleeps until the ready word is found set, and clears it.
+/// Sleeps until the ready word is found set, and clears it; it answers true then. It may wait for ever: only a thread that pops this one sets
+/// its ready word. `alertable` is false as long as nothing can be alerted.
 pub fn sleep<U: Uses, R: Wait>(rt: &R, p: &Package<U>, me: &mut Thread<U>, alertable: bool) -> bool
     requires of { me.old.table_id ≡ p.now.table_id }
     requires plain { alertable ≡ false }
@@ -20,7 +21,10 @@ pub fn sleep<U: Uses, R: Wait>(rt: &R, p: &Package<U>, me: &mut Thread<U>, alert
 {
     let _ = alertable;
     for _ in rt.forever() {
+        // The ready word decides, not the parking: a thread may be unparked for nothing, or before it parks, which makes its next park return
+        // at once. So the word is read before each park, and no wake that comes between the two is lost.
         if read_ready(p, me) != 0 {
+            // Cleared by its own thread alone, and only when found set: nobody sets it twice for one push.
             clear_ready(p, me);
             return true;
         }

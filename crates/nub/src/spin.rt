@@ -11,7 +11,8 @@ use crossbeam_utils::Backoff;
 use nub_rule::{Object, Package, Thread, Uses, Why, give_spin, take_spin};
 use std::sync::Wait;
 
-/// Takes the spin word of the object, for this reason.
+/// Takes the spin word of the object, for this reason. It spins while another thread has the word, and never sleeps: who has a spin word
+/// gives it back after a few steps, none of which waits.
 pub fn enter<U: Uses, R: Wait>(rt: &R, p: &Package<U>, me: &mut Thread<U>, at: Object, why: Why)
     requires of { me.old.table_id ≡ p.now.table_id }
     requires named { HasObject p.now.layout at }
@@ -23,15 +24,17 @@ pub fn enter<U: Uses, R: Wait>(rt: &R, p: &Package<U>, me: &mut Thread<U>, at: O
 {
     let backoff = Backoff::new();
     for _ in rt.forever() {
+        // A failed try changes nothing in the view, so the reason still stands at the next.
         if take_spin(p, me, at, why) == 0 {
             return;
         }
+        // First pauses, then the processor is given up: the holder may be waiting for it.
         backoff.snooze();
     }
     unreachable!()
 }
 
-/// Gives the spin word of the object back.
+/// Gives the spin word of the object back. It never waits.
 pub fn leave<U: Uses, R: Wait>(rt: &R, p: &Package<U>, me: &mut Thread<U>, at: Object)
     requires of { me.old.table_id ≡ p.now.table_id }
     requires named { HasObject p.now.layout at }

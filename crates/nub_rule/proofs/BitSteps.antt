@@ -30,7 +30,7 @@ use Rattle.nub_rule.specs.Rule.{FitsAs, IsKept}
 use Rattle.nub_rule.proofs.Each.{at_within, at_below, put-here, put-else}
 use Rattle.nub_rule.proofs.Members.{Steps, member_steps}
 use Rattle.nub_rule.proofs.Runs.{leads-snoc}
-use Rattle.nub_rule.proofs.Frames.{other, bit-spins, bit-ready, bit-pen, mutex-shown, sizes-frame, told-event, spins-frame, lines-frame}
+use Rattle.nub_rule.proofs.Frames.{other, sizes-frame, told-event, spins-frame, lines-frame, ready-stay, spins-stay, shown-stay, pen-stay}
 use Rattle.nub_rule.proofs.Standing.{not_true, stand_none, mem-behind, lines-same}
 use Rattle.nub_rule.proofs.SpinSteps.{nobody-by, one-by}
 use Rattle.nub_rule.proofs.Penning.{either_way, pens-event, numbered-by}
@@ -67,26 +67,25 @@ module _ {T H W : Type 0} (l : Layout) (traced : Bool) (w : W) (begin : W → �
       → (f : ℕ → Pending) × Acts c.spec e (took c.spec m n f) × (f n ≡ Nothing) × ((j : ℕ) → j ≢ n → f j ≡ c.spec.pending j) × ((k : ℕ) → k ≢ m → waits_on p.wait k ≡ false) × ((c k : ℕ) → counts_in p.wait c k ≡ false)
 
   taking-acquire : (m n : ℕ) (p : Part T H) → p.wait ≡ None → Taking (acquire_event n m) m n p
-  taking-acquire m n p out words homes all c at free = let t = c.shows.tells n p at in
-      let idle : c.spec.pending n ≡ Nothing = t.pends ∙ ap pending_of out in
-      (c.spec.pending, (record { order = idle; requires_met = tt; when_met = c.shows.free m free; choice_met = tt }, refl), idle, (λ j ne. refl), (λ k ne. ap (λ w. waits_on w k) out), λ c k. ap (λ w. counts_in w c k) out)
+  taking-acquire m n p out words homes all c at free = let idle : c.spec.pending n ≡ Nothing = c.shows.pendings.pends n p at ∙ ap pending_of out in
+      (c.spec.pending, (record { order = idle; requires_met = tt; when_met = c.shows.holders.free m free; choice_met = tt }, refl), idle, (λ j ne. refl), (λ k ne. ap (λ w. waits_on w k) out), λ c k. ap (λ w. counts_in w c k) out)
 
   -- the thread was taken out of the condition
   taking-second : (n : ℕ) (p : Part T H) (x : Wait) → p.wait ≡ Some x → x.member ≡ None → p.stand ≡ None → Taking (event n (taken_action x.mutex.0 (Some x))) x.mutex.0 n p
-  taking-second n p x in_wait outside apart words homes all c at free = let t = c.shows.tells n p at in let s = c.shows in
+  taking-second n p x in_wait outside apart words homes all c at free = let s = c.shows.conditions in let t = s.knows n p at in
       let m : ℕ = x.mutex.0 in
       let not_counted : (c k : ℕ) → counts_in p.wait c k ≡ false = λ c k. ap (λ w. counts_in w c k) in_wait ∙ counts-none x c k outside in
       let o : ℕ = cond_object x.cond.0 in
       let unqueued : mem n (c.queue o) ≡ false = not_true (mem n (c.queue o)) (λ is. stand_none p.stand o apart ((c.lines.stands n p at).lined o (mem-behind n (c.owed o) (c.queue o) is)).0) in
-      let out : c.spec.members x.cond.0 n ≡ false = s.members x.cond.0 n ∙ (ap (λ b. cond b true (s.counting x.cond.0 n)) (s.inside x.cond.0 n unqueued) ∙ (t.counts x.cond.0 ∙ not_counted x.cond.0 (s.count x.cond.0))) in
+      let out : c.spec.members x.cond.0 n ≡ false = s.member x.cond.0 n ∙ (ap (λ b. cond b true (s.counting x.cond.0 n)) (s.queued x.cond.0 n unqueued) ∙ (t.counts x.cond.0 ∙ not_counted x.cond.0 (s.count x.cond.0))) in
       let f = put c.spec.pending n Nothing in
-      let pends : c.spec.pending n ≡ cond x.alertable (AlertWaiting x.mutex x.cond) (Waiting x.mutex x.cond) = t.pends ∙ ap pending_of in_wait in (
+      let pends : c.spec.pending n ≡ cond x.alertable (AlertWaiting x.mutex x.cond) (Waiting x.mutex x.cond) = c.shows.pendings.pends n p at ∙ ap pending_of in_wait in (
         f,
         either_way x.alertable
             (λ is. subst (λ (a : Action). Acts c.spec (event n a) (took c.spec m n f)) (sym (ap (λ b. cond b (AlertReturn x.mutex x.cond) (Resume x.mutex x.cond)) is))
-            (record { order = pends ∙ ap (λ b. cond b (AlertWaiting x.mutex x.cond) (Waiting x.mutex x.cond)) is; requires_met = tt; when_met = (s.free m free, out); choice_met = tt }, refl))
+            (record { order = pends ∙ ap (λ b. cond b (AlertWaiting x.mutex x.cond) (Waiting x.mutex x.cond)) is; requires_met = tt; when_met = (c.shows.holders.free m free, out); choice_met = tt }, refl))
             (λ is. subst (λ (a : Action). Acts c.spec (event n a) (took c.spec m n f)) (sym (ap (λ b. cond b (AlertReturn x.mutex x.cond) (Resume x.mutex x.cond)) is))
-            (record { order = pends ∙ ap (λ b. cond b (AlertWaiting x.mutex x.cond) (Waiting x.mutex x.cond)) is; requires_met = tt; when_met = (s.free m free, out); choice_met = tt }, refl)),
+            (record { order = pends ∙ ap (λ b. cond b (AlertWaiting x.mutex x.cond) (Waiting x.mutex x.cond)) is; requires_met = tt; when_met = (c.shows.holders.free m free, out); choice_met = tt }, refl)),
         put-here c.spec.pending n Nothing,
         (λ j ne. put-else c.spec.pending n j Nothing ne),
         (λ k ne. ap (λ w. waits_on w k) in_wait ∙ ne_eqb x.mutex.0 k (λ e. ne (sym e))),
@@ -150,10 +149,10 @@ module _ {T H W : Type 0} (l : Layout) (traced : Bool) (w : W) (begin : W → �
             run = run;
             told = told';
             owned = owned-take l (holds w) c.owner c.values c.shares words homes all n m p q at o wide (omega arith) inside lawful x free found.1 refl refl;
-            spins = spins-frame all n p q at c.spinner c.queue c.owed words words' homes homes' (bit-spins words 1 m far) (λ k lo. set_else homes (value_at m) (queue_at k) none (λ z. omega arith)) refl refl refl c.spins;
-            lines = lines-frame all n p q at (λ k. c.owed k ++ c.queue k) words words' c.sizes.few (bit-ready words 1 m far) refl c.lines;
-            shows = shows-wins words words' (mutex-shown words 1 m near) c.spinner c.queue c.owner c.spec all n p q at m take.0 refl refl refl take.4 take.5 take.2 take.3 c.shows;
-            pens = subst (λ (z : ℕ). Pens traced z words' c.writer (set all n q)) (sym more) (pens-event traced (length c.log) words c.writer all n p q at words' (bit-pen words 1 m far).0 (bit-pen words 1 m far).1 may refl c.pens);
+            spins = spins-frame all n p q at c.spinner c.queue c.owed words words' homes homes' (spins-stay words (bit_at m) 1 (λ k up z. omega arith) (λ k up z. omega arith)) (λ k lo. set_else homes (value_at m) (queue_at k) none (λ z. omega arith)) refl refl refl c.spins;
+            lines = lines-frame all n p q at (λ k. c.owed k ++ c.queue k) words words' c.sizes.few (ready-stay words (bit_at m) 1 (λ k up z. omega arith)) refl c.lines;
+            shows = shows-wins words words' (shown-stay words (bit_at m) 1 (λ k up z. omega arith) (λ k up z. omega arith) (λ k up z. omega arith)) c.spinner c.queue c.owner c.spec all n p q at m take.0 refl refl refl take.4 take.5 take.2 take.3 c.shows;
+            pens = subst (λ (z : ℕ). Pens traced z words' c.writer (set all n q)) (sym more) (pens-event traced (length c.log) words c.writer all n p q at words' (pen-stay words (bit_at m) 1 (λ z. omega arith) (λ z. omega arith)).0 (pen-stay words (bit_at m) 1 (λ z. omega arith) (λ z. omega arith)).1 may refl c.pens);
             owes = owes-try c.queue words words' all n p q at m (λ k lo ne. other words (bit_at m) (bit_at k) 1 (λ z. ne (omega arith))) (λ z. let y = get_or-set_same words (bit_at m) 1 0 (omega arith) in omega arith) refl refl refl c.owes;
           },
           inl (
@@ -221,9 +220,8 @@ module _ {T H W : Type 0} (l : Layout) (traced : Bool) (w : W) (begin : W → �
         let q : Part T H = record (told p (p.seen ++ seen.0) e) { held = set p.held m None; share = Some u; cleared = m ∷ p.cleared } in
         let longer : q.seen ≡ c.log ++ e ∷ [] = ap (λ (z : List Event). z ++ e ∷ []) (sym seen.1) in
         let placed : q.places ≡ p.places ++ length c.log ∷ [] = ap (λ (z : List Event). p.places ++ length z ∷ []) (sym seen.1) in
-        let t = c.shows.tells n p at in
-        let held : c.spec.holder m ≡ some n = t.holds m own ∙ ap (λ w. cond (waits_on w m) none (some n)) out in
-        let idle : c.spec.pending n ≡ Nothing = t.pends ∙ ap pending_of out in
+        let held : c.spec.holder m ≡ some n = c.shows.holders.holds n p at m own ∙ ap (λ w. cond (waits_on w m) none (some n)) out in
+        let idle : c.spec.pending n ≡ Nothing = c.shows.pendings.pends n p at ∙ ap pending_of out in
         let spec' : Spec = record c.spec { holder = put c.spec.holder m none } in
         let acts : Acts c.spec e spec' = (record { order = idle; requires_met = held; when_met = tt; choice_met = tt }, refl) in
         let run = leads-snoc at_first c.log c.spec e spec' c.run acts in
@@ -249,10 +247,10 @@ module _ {T H W : Type 0} (l : Layout) (traced : Bool) (w : W) (begin : W → �
             run = run;
             told = told';
             owned = owned-give l (holds w) c.owner c.values c.shares words homes all n m p q at o wide (omega arith) inside lawful y u own (omega arith) (at_within c.values m x here) (at_within c.shares n s mine.2) (law c.values c.shares o.kept m x y here n s u mine.2 (allowed s mine.1)) refl refl;
-            spins = spins-frame all n p q at c.spinner c.queue c.owed words words' homes homes' (bit-spins words 0 m far) (λ k lo. set_else homes (value_at m) (queue_at k) (some line) (λ z. omega arith)) refl refl refl c.spins;
-            lines = lines-frame all n p q at (λ k. c.owed k ++ c.queue k) words words' c.sizes.few (bit-ready words 0 m far) refl c.lines;
-            shows = shows-clears words words' (mutex-shown words 0 m near) c.spinner c.queue c.owner c.spec all n p q at m (put c.spec.holder m none) refl refl refl refl own (put-here c.spec.holder m none) (λ k ne. put-else c.spec.holder m k none ne) c.shows;
-            pens = subst (λ (z : ℕ). Pens traced z words' c.writer (set all n q)) (sym more) (pens-event traced (length c.log) words c.writer all n p q at words' (bit-pen words 0 m far).0 (bit-pen words 0 m far).1 may refl c.pens);
+            spins = spins-frame all n p q at c.spinner c.queue c.owed words words' homes homes' (spins-stay words (bit_at m) 0 (λ k up z. omega arith) (λ k up z. omega arith)) (λ k lo. set_else homes (value_at m) (queue_at k) (some line) (λ z. omega arith)) refl refl refl c.spins;
+            lines = lines-frame all n p q at (λ k. c.owed k ++ c.queue k) words words' c.sizes.few (ready-stay words (bit_at m) 0 (λ k up z. omega arith)) refl c.lines;
+            shows = shows-clears words words' (shown-stay words (bit_at m) 0 (λ k up z. omega arith) (λ k up z. omega arith) (λ k up z. omega arith)) c.spinner c.queue c.owner c.spec all n p q at m (put c.spec.holder m none) refl refl refl refl (put-here c.spec.holder m none) (λ k ne. put-else c.spec.holder m k none ne) c.shows;
+            pens = subst (λ (z : ℕ). Pens traced z words' c.writer (set all n q)) (sym more) (pens-event traced (length c.log) words c.writer all n p q at words' (pen-stay words (bit_at m) 0 (λ z. omega arith) (λ z. omega arith)).0 (pen-stay words (bit_at m) 0 (λ z. omega arith) (λ z. omega arith)).1 may refl c.pens);
             owes = owes-clear c.queue words words' all n p q at m (λ k lo ne. other words (bit_at m) (bit_at k) 0 (λ z. ne (omega arith))) apart refl refl refl c.owes;
           },
           (

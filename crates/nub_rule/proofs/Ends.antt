@@ -1,5 +1,5 @@
 -- The rule at the start, and what it leaves at the end.
-use Rattle.std.proofs.Common.{Bool, false, true, Option as Opt, ◌≡◌, ℕ, zero, suc, ◌+◌, ◌-◌, ◌<◌, ◌≤◌, List, [], ◌∷◌, ◌++◌, map, length, get_or, replicate, refl, sym, ap, ◌∙◌, subst, subst₂, inl, arith, length-append, Some, None, zero-add, ⊎_elim}
+use Rattle.std.proofs.Common.{cond, Bool, false, true, Option as Opt, ◌≡◌, ℕ, zero, suc, ◌+◌, ◌-◌, ◌<◌, ◌≤◌, List, [], ◌∷◌, ◌++◌, map, length, get_or, replicate, refl, sym, ap, ◌∙◌, subst, subst₂, inl, arith, length-append, Some, None, zero-add, ⊎_elim}
 use Rattle.std.proofs.lemmas.List.{length-replicate, length-map, map-append}
 use Rattle.std.proofs.lemmas.List.FromFn.{length-map-range_with_len}
 use mathlib.Core.Option.{Option, some, none, some-injective, some-ne-none}
@@ -9,6 +9,7 @@ use native.Mathlib.Decide.{ℕ_discrete}
 use lib.ListN.{get_elem?}
 use Rattle.larch_actions.specs.declared.event.Layout.{Layout}
 use Rattle.larch_actions.specs.Layout.{IsLawful}
+use Rattle.larch_actions.specs.declared.event.Pending.TheVariants.{Nothing}
 use Rattle.larch_actions.specs.Actions.{at_first}
 use Rattle.atomic_table.specs.Table.{opening, Final, Seen}
 use Rattle.atomic_table.proofs.Lists.{at_map, at_longer}
@@ -17,10 +18,10 @@ use Rattle.nub_rule.specs.declared.rule.Slot.TheVariants.{Value, Queue}
 use Rattle.nub_rule.specs.declared.view.Part.{Part}
 use Rattle.nub_rule.specs.declared.view.View.{View}
 use Rattle.nub_rule.specs.declared.view.Kind.TheVariants.{Collector}
-use Rattle.nub_rule.specs.Items.{no_line, Tells, Spinning, Each, Chronicle, Standing, Stands, Current, Wide, Shared, PenFits}
-use Rattle.nub_rule.specs.Parts.{Got, Lacks, fresh, pending_of}
+use Rattle.nub_rule.specs.Items.{no_line, Knows, Spinning, Each, Chronicle, Standing, Stands, Current, Wide, Shared, PenFits}
+use Rattle.nub_rule.specs.Parts.{Got, Lacks, fresh, pending_of, waits_on}
 use Rattle.nub_rule.specs.Owed.{SleepsSound}
-use Rattle.nub_rule.specs.Places.{value_at, word_count, bit_at, spin_at, length_at, count_at, alert_at, ready_at, pen_at, number_at, sem_object, cond_object}
+use Rattle.nub_rule.specs.Places.{most_threads, value_at, word_count, bit_at, spin_at, length_at, count_at, alert_at, ready_at, pen_at, number_at, sem_object, cond_object}
 use Rattle.nub_rule.specs.Rule.{opening_view, member_view, FitsAs, IsKept}
 use Rattle.atomic_table.specs.Seated.{TableId}
 use Rattle.nub_rule.specs.Known.{Hands, IsThread}
@@ -108,7 +109,7 @@ module _ {T H W : Type 0} (l : Layout) (traced : Bool) (w : W) (begin : W → �
             words_wide = wide_words;
             homes_wide = slots_wide 192 values ∙ ap (λ (z : ℕ). 192 + z) many;
             lawful = lawful.mutexes;
-            few = subst (λ (z : ℕ). z ≤ 64) (sym wide) lawful.threads;
+            few = subst (λ (z : ℕ). z ≤ most_threads) (sym wide) lawful.threads;
             parts_wide = each-firsts Wide (λ n. fresh (Some (begin w n))) l.threads (λ i low. length-replicate {A = Opt T} 64 None);
           };
           run = refl;
@@ -149,25 +150,20 @@ module _ {T H W : Type 0} (l : Layout) (traced : Bool) (w : W) (begin : W → �
             });
           };
           shows = record {
-            left = λ _. [];
-            count = λ _. 0;
-            counting = λ _ _. false;
-            free = λ m is. refl;
-            members = λ c t. refl;
-            counted = λ c low. zeros (count_at (cond_object c));
-            avails = λ s low. inl (zeros (bit_at (sem_object s)), refl);
+            holders = record { free = λ m is. refl; holds = each-firsts (λ i p. (m : ℕ) → none ≡ some i → none ≡ cond (waits_on p.wait m) none (some i)) (λ n. fresh (Some (begin w n))) l.threads (λ i low m is. is) };
+            pendings = record { strangers = λ t past. refl; pends = each-firsts (λ i p. Nothing ≡ pending_of p.wait) (λ n. fresh (Some (begin w n))) l.threads (λ i low. refl) };
+            semaphores = λ s low. inl (zeros (bit_at (sem_object s)), refl);
             alerts = λ t low. inl (zeros (alert_at t), refl);
-            whole = λ c is. refl;
-            inside = λ c t is. refl;
-            strangers = λ t past. refl;
-            tells = each-firsts (Tells (λ _. none) (λ _. none) at_first (λ _. []) (λ _. 0) (λ _ _. false)) (λ n. fresh (Some (begin w n))) l.threads (λ i low. record {
-              holds = λ m is. absurd (some-ne-none i (sym is));
-              pends = refl;
-              counts = λ c. refl;
-              risen = λ c k hi. refl;
-              knows = λ c is. absurd (some-ne-none i (sym is));
-              even = λ x is. absurd (none_some x is);
-            });
+            conditions = record {
+              left = λ _. [];
+              count = λ _. 0;
+              counting = λ _ _. false;
+              member = λ c t. refl;
+              counted = λ c low. zeros (count_at (cond_object c));
+              whole = λ c is. refl;
+              queued = λ c t is. refl;
+              knows = each-firsts (Knows (λ _. none) (λ _. []) (λ _. 0) (λ _ _. false)) (λ n. fresh (Some (begin w n))) l.threads (λ i low. record { counts = λ c. refl; risen = λ c k hi. refl; inside = λ c is. absurd (some-ne-none i (sym is)); even = λ x is. absurd (none_some x is) });
+            };
           };
           pens = record {
             flag = inl (zeros pen_at, refl);
@@ -201,10 +197,10 @@ module _ {T H W : Type 0} (l : Layout) (traced : Bool) (w : W) (begin : W → �
           spec = c.spec;
           shares = c.shares;
           run = c.run;
-          nothing_held = λ m. c.shows.free m (free m);
+          nothing_held = λ m. c.shows.holders.free m (free m);
           nothing_begun = λ t. ⊎_elim
-              (λ (low : t < length r.all). let p = at_below r.all t low in (c.shows.tells t p.0 p.1).pends ∙ ap pending_of (rest t p.0 p.1).1)
-              (λ (past : length r.all ≤ t). c.shows.strangers t past)
+              (λ (low : t < length r.all). let p = at_below r.all t low in c.shows.pendings.pends t p.0 p.1 ∙ ap pending_of (rest t p.0 p.1).1)
+              (λ (past : length r.all ≤ t). c.shows.pendings.strangers t past)
               (cases_lt t (length r.all));
           history = c.told;
           kept = c.owned.kept;

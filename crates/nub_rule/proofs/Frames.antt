@@ -6,15 +6,16 @@ use native.Mathlib.Decide.{ℕ_discrete}
 use lib.ListN.{get_elem?}
 use Rattle.larch_actions.specs.declared.event.Event.{Event}
 use Rattle.larch_actions.specs.declared.event.Layout.{Layout}
+use Rattle.larch_actions.specs.declared.event.Pending.{Pending}
 use Rattle.larch_actions.specs.Actions.{Spec, StartsWith}
 use Rattle.larch_actions.specs.Sets.{mem}
 use Rattle.atomic_table.proofs.Lists.{set_else, set_here}
 use Rattle.nub_rule.specs.declared.rule.Slot.{Slot}
 use Rattle.nub_rule.specs.declared.view.Part.{Part}
 use Rattle.nub_rule.specs.declared.view.Pen.{Pen}
-use Rattle.nub_rule.specs.Items.{Each, Chronicle, Told, Standing, Current, Shared, Wide, Marks, Says, Owned, Spinning, Spins, Stands, Lines, Tells, Shows, PenFits, Pens, Sizes}
+use Rattle.nub_rule.specs.Items.{Each, Chronicle, Told, Standing, Current, Shared, Wide, Marks, Says, Owned, Spinning, Spins, Stands, Lines, Semaphores, Alerts, Holders, Pendings, Knows, Conditions, Shows, PenFits, Pens, Sizes}
 use Rattle.nub_rule.specs.Parts.{waits_on, counts_in, pending_of, stands_at}
-use Rattle.nub_rule.specs.Places.{bit_at, spin_at, length_at, count_at, alert_at, ready_at, pen_at, number_at, queue_at, value_at, sem_object, cond_object}
+use Rattle.nub_rule.specs.Places.{most_threads, bit_at, spin_at, length_at, count_at, alert_at, ready_at, pen_at, number_at, queue_at, value_at, sem_object, cond_object}
 use Rattle.nub_rule.proofs.Each.{each-set, each-snoc, same_at, at_within}
 use Rattle.nub_rule.proofs.Runs.{by_thread-other, by_thread-own, places-other, places-own, starts-more}
 
@@ -26,12 +27,21 @@ abbrev pub SameSpins : List ℕ → List ℕ → Type 0
 SameSpins words words' = (o : ℕ) → o < 192 → (get_or words' (spin_at o) 0 ≡ get_or words (spin_at o) 0) × (get_or words' (length_at o) 0 ≡ get_or words (length_at o) 0)
 
 abbrev pub SameReady : List ℕ → List ℕ → Type 0
-SameReady words words' = (t : ℕ) → t < 64 → get_or words' (ready_at t) 0 ≡ get_or words (ready_at t) 0
+SameReady words words' = (t : ℕ) → t < most_threads → get_or words' (ready_at t) 0 ≡ get_or words (ready_at t) 0
+
+abbrev pub SameCounts : List ℕ → List ℕ → Type 0
+SameCounts words words' = (c : ℕ) → c < 64 → get_or words' (count_at (cond_object c)) 0 ≡ get_or words (count_at (cond_object c)) 0
+
+abbrev pub SameSems : List ℕ → List ℕ → Type 0
+SameSems words words' = (s : ℕ) → s < 64 → get_or words' (bit_at (sem_object s)) 0 ≡ get_or words (bit_at (sem_object s)) 0
+
+abbrev pub SameAlerts : List ℕ → List ℕ → Type 0
+SameAlerts words words' = (t : ℕ) → t < most_threads → get_or words' (alert_at t) 0 ≡ get_or words (alert_at t) 0
 
 pub record SameShown (words words' : List ℕ) : Type 0 where
-  pub counts : (c : ℕ) → c < 64 → get_or words' (count_at (cond_object c)) 0 ≡ get_or words (count_at (cond_object c)) 0
-  pub sems : (s : ℕ) → s < 64 → get_or words' (bit_at (sem_object s)) 0 ≡ get_or words (bit_at (sem_object s)) 0
-  pub alerts : (t : ℕ) → t < 64 → get_or words' (alert_at t) 0 ≡ get_or words (alert_at t) 0
+  pub counts : SameCounts words words'
+  pub sems : SameSems words words'
+  pub alerts : SameAlerts words words'
 
 abbrev pub SamePen : List ℕ → List ℕ → Type 0
 SamePen words words' = (get_or words' pen_at 0 ≡ get_or words pen_at 0) × (get_or words' number_at 0 ≡ get_or words number_at 0)
@@ -39,73 +49,29 @@ SamePen words words' = (get_or words' pen_at 0 ≡ get_or words pen_at 0) × (ge
 pub other : (words : List ℕ) (i j x : ℕ) → j ≢ i → get_or (set words i x) j 0 ≡ get_or words j 0
 other words i j x ne = get_or-set_other words i j x 0 (λ z. ne (omega arith))
 
--- a step on one word leaves the words of the other items
-module _ (words : List ℕ) (x : ℕ) where
-  module _ (o : ℕ) (low : o < 192) where
-    pub spin-bits : SameBits words (set words (spin_at o) x)
-    spin-bits m lo = other words (spin_at o) (bit_at m) x (λ z. omega arith)
+-- a step on the word i leaves the words of each item that doesn't read it
+module _ (words : List ℕ) (i x : ℕ) where
+  pub bits-stay : ((m : ℕ) → m < 64 → bit_at m ≢ i) → SameBits words (set words i x)
+  bits-stay ne m lo = other words i (bit_at m) x (ne m lo)
 
-    pub spin-ready : SameReady words (set words (spin_at o) x)
-    spin-ready t lo = other words (spin_at o) (ready_at t) x (λ z. omega arith)
+  pub spins-stay : ((o : ℕ) → o < 192 → spin_at o ≢ i) → ((o : ℕ) → o < 192 → length_at o ≢ i) → SameSpins words (set words i x)
+  spins-stay ne ne' o lo = (other words i (spin_at o) x (ne o lo), other words i (length_at o) x (ne' o lo))
 
-    pub spin-shown : SameShown words (set words (spin_at o) x)
-    spin-shown = record { counts = λ c lo. other words (spin_at o) (count_at (cond_object c)) x (λ z. omega arith); sems = λ s lo. other words (spin_at o) (bit_at (sem_object s)) x (λ z. omega arith); alerts = λ t lo. other words (spin_at o) (alert_at t) x (λ z. omega arith) }
+  pub ready-stay : ((t : ℕ) → t < most_threads → ready_at t ≢ i) → SameReady words (set words i x)
+  ready-stay ne t lo = other words i (ready_at t) x (ne t lo)
 
-    pub spin-pen : SamePen words (set words (spin_at o) x)
-    spin-pen = (other words (spin_at o) pen_at x (λ z. omega arith), other words (spin_at o) number_at x (λ z. omega arith))
+  pub shown-stay : ((c : ℕ) → c < 64 → count_at (cond_object c) ≢ i) → ((s : ℕ) → s < 64 → bit_at (sem_object s) ≢ i) → ((t : ℕ) → t < most_threads → alert_at t ≢ i) → SameShown words (set words i x)
+  shown-stay nc ns na = record { counts = λ c lo. other words i (count_at (cond_object c)) x (nc c lo); sems = λ s lo. other words i (bit_at (sem_object s)) x (ns s lo); alerts = λ t lo. other words i (alert_at t) x (na t lo) }
 
-    pub length-bits : SameBits words (set words (length_at o) x)
-    length-bits m lo = other words (length_at o) (bit_at m) x (λ z. omega arith)
+  pub pen-stay : pen_at ≢ i → number_at ≢ i → SamePen words (set words i x)
+  pen-stay np nn = (other words i pen_at x np, other words i number_at x nn)
 
-    pub length-ready : SameReady words (set words (length_at o) x)
-    length-ready t lo = other words (length_at o) (ready_at t) x (λ z. omega arith)
+-- SEMAPHORES and ALERTS read words alone
+pub semaphores-frame : (avail : ℕ → Bool) (words words' : List ℕ) → SameSems words words' → Semaphores words avail → Semaphores words' avail
+semaphores-frame avail words words' ws h s lo = subst (λ (x : ℕ). Says x (cond (avail s) false true)) (sym (ws s lo)) (h s lo)
 
-    pub length-shown : SameShown words (set words (length_at o) x)
-    length-shown = record { counts = λ c lo. other words (length_at o) (count_at (cond_object c)) x (λ z. omega arith); sems = λ s lo. other words (length_at o) (bit_at (sem_object s)) x (λ z. omega arith); alerts = λ t lo. other words (length_at o) (alert_at t) x (λ z. omega arith) }
-
-    pub length-pen : SamePen words (set words (length_at o) x)
-    length-pen = (other words (length_at o) pen_at x (λ z. omega arith), other words (length_at o) number_at x (λ z. omega arith))
-
-    pub bit-spins : SameSpins words (set words (bit_at o) x)
-    bit-spins k lo = (other words (bit_at o) (spin_at k) x (λ z. omega arith), other words (bit_at o) (length_at k) x (λ z. omega arith))
-
-    pub bit-ready : SameReady words (set words (bit_at o) x)
-    bit-ready t lo = other words (bit_at o) (ready_at t) x (λ z. omega arith)
-
-    pub bit-pen : SamePen words (set words (bit_at o) x)
-    bit-pen = (other words (bit_at o) pen_at x (λ z. omega arith), other words (bit_at o) number_at x (λ z. omega arith))
-
-  module _ (t : ℕ) (low : t < 64) where
-    pub ready-bits : SameBits words (set words (ready_at t) x)
-    ready-bits m lo = other words (ready_at t) (bit_at m) x (λ z. omega arith)
-
-    pub ready-spins : SameSpins words (set words (ready_at t) x)
-    ready-spins k lo = (other words (ready_at t) (spin_at k) x (λ z. omega arith), other words (ready_at t) (length_at k) x (λ z. omega arith))
-
-    pub ready-shown : SameShown words (set words (ready_at t) x)
-    ready-shown = record { counts = λ c lo. other words (ready_at t) (count_at (cond_object c)) x (λ z. omega arith); sems = λ s lo. other words (ready_at t) (bit_at (sem_object s)) x (λ z. omega arith); alerts = λ k lo. other words (ready_at t) (alert_at k) x (λ z. omega arith) }
-
-    pub ready-pen : SamePen words (set words (ready_at t) x)
-    ready-pen = (other words (ready_at t) pen_at x (λ z. omega arith), other words (ready_at t) number_at x (λ z. omega arith))
-
-    pub mutex-shown : SameShown words (set words (bit_at t) x)
-    mutex-shown = record { counts = λ c lo. other words (bit_at t) (count_at (cond_object c)) x (λ z. omega arith); sems = λ s lo. other words (bit_at t) (bit_at (sem_object s)) x (λ z. omega arith); alerts = λ k lo. other words (bit_at t) (alert_at k) x (λ z. omega arith) }
-
-    pub sem-bits : SameBits words (set words (bit_at (sem_object t)) x)
-    sem-bits m lo = other words (bit_at (sem_object t)) (bit_at m) x (λ z. omega arith)
-
-  module _ (i : ℕ) (from : pen_at ≤ i) (to : i ≤ number_at) where
-    pub pen-bits : SameBits words (set words i x)
-    pen-bits m lo = other words i (bit_at m) x (λ z. omega arith)
-
-    pub pen-spins : SameSpins words (set words i x)
-    pen-spins k lo = (other words i (spin_at k) x (λ z. omega arith), other words i (length_at k) x (λ z. omega arith))
-
-    pub pen-ready : SameReady words (set words i x)
-    pen-ready t lo = other words i (ready_at t) x (λ z. omega arith)
-
-    pub pen-shown : SameShown words (set words i x)
-    pen-shown = record { counts = λ c lo. other words i (count_at (cond_object c)) x (λ z. omega arith); sems = λ s lo. other words i (bit_at (sem_object s)) x (λ z. omega arith); alerts = λ k lo. other words i (alert_at k) x (λ z. omega arith) }
+pub alerts-frame : (alerted : ℕ → Bool) (words words' : List ℕ) → SameAlerts words words' → Alerts words alerted → Alerts words' alerted
+alerts-frame alerted words words' ws h t lo = subst (λ (x : ℕ). Says x (alerted t)) (sym (ws t lo)) (h t lo)
 
 module _ {T H : Type 0} (all : List (Part T H)) (n : ℕ) (p q : Part T H) (at : get_elem? all n ≡ some p) where
   pub sizes-frame : (l : Layout) (words words' : List ℕ) (homes homes' : List (Option (Slot T))) → length words' ≡ length words → length homes' ≡ length homes → length q.held ≡ length p.held → Sizes l words homes all → Sizes l words' homes' (set all n q)
@@ -113,7 +79,7 @@ module _ {T H : Type 0} (all : List (Part T H)) (n : ℕ) (p q : Part T H) (at :
     words_wide = ew ∙ s.words_wide;
     homes_wide = eh ∙ s.homes_wide;
     lawful = s.lawful;
-    few = subst (λ (z : ℕ). z ≤ 64) (sym (length-set all n q)) s.few;
+    few = subst (λ (z : ℕ). z ≤ most_threads) (sym (length-set all n q)) s.few;
     parts_wide = each-set Wide Wide all n q (el ∙ s.parts_wide n p at) (λ k r ne at' c. c) s.parts_wide;
   }
 
@@ -184,7 +150,7 @@ module _ {T H : Type 0} (all : List (Part T H)) (n : ℕ) (p q : Part T H) (at :
   }
 
   -- LINES AND READY WORDS read the lines, the ready words and where each thread stands
-  pub lines-frame : (line : ℕ → List ℕ) (words words' : List ℕ) → length all ≤ 64 → SameReady words words' → q.stand ≡ p.stand → Lines line words all → Lines line words' (set all n q)
+  pub lines-frame : (line : ℕ → List ℕ) (words words' : List ℕ) → length all ≤ most_threads → SameReady words words' → q.stand ≡ p.stand → Lines line words all → Lines line words' (set all n q)
   lines-frame line words words' few ws est h =
       let same : (k : ℕ) (r : Part T H) → get_elem? all k ≡ some r → get_or words' (ready_at k) 0 ≡ get_or words (ready_at k) 0 = λ k r at'. ws k (let z = at_within all k r at' in omega arith) in
       let moved : (k : ℕ) (r r' : Part T H) → get_elem? all k ≡ some r → r'.stand ≡ r.stand → Stands words line k r → Stands words' line k r' = λ k r r' at' e s. let z = same k r at' in record {
@@ -199,29 +165,43 @@ module _ {T H : Type 0} (all : List (Part T H)) (n : ℕ) (p q : Part T H) (at :
         stands = each-set (Stands words line) (Stands words' line) all n q (moved n p q at est (h.stands n p at)) (λ k r ne at' s. moved k r r at' refl s) h.stands;
       }
 
-  -- MEANING OF THE WORDS reads the counts, the bits of semaphores, the alert words, and waits, queues and counts of views
-  pub shows-frame : (spinner : ℕ → Option ℕ) (queue : ℕ → List ℕ) (owner : ℕ → Option ℕ) (spec : Spec) (words words' : List ℕ) → SameShown words words' → q.wait ≡ p.wait → q.left ≡ p.left → q.queue ≡ p.queue → q.count ≡ p.count
-      → Shows words spinner queue owner spec all → Shows words' spinner queue owner spec (set all n q)
-  shows-frame spinner queue owner spec words words' ws ew el eq ec s = let t = s.tells n p at in let X = Tells spinner owner spec s.left s.count s.counting in record {
+  -- HOLDERS and PENDINGS read the waits of views
+  pub holders-frame : (owner holder : ℕ → Option ℕ) → q.wait ≡ p.wait → Holders owner holder all → Holders owner holder (set all n q)
+  holders-frame owner holder ew h = let X : ℕ → Part T H → Type 0 = λ n p. (m : ℕ) → owner m ≡ some n → holder m ≡ cond (waits_on p.wait m) none (some n) in
+      record { free = h.free; holds = each-set X X all n q (λ m is. h.holds n p at m is ∙ ap (λ w. cond (waits_on w m) none (some n)) (sym ew)) (λ j x ne at' u. u) h.holds }
+
+  pub pendings-frame : (pending : ℕ → Pending) → q.wait ≡ p.wait → Pendings pending all → Pendings pending (set all n q)
+  pendings-frame pending ew h = let X : ℕ → Part T H → Type 0 = λ n p. pending n ≡ pending_of p.wait in
+      record { strangers = λ t past. h.strangers t (subst (λ (z : ℕ). z ≤ t) (length-set all n q) past); pends = each-set X X all n q (h.pends n p at ∙ ap pending_of (sym ew)) (λ j x ne at' u. u) h.pends }
+
+  -- CONDITIONS read the counts, and waits, queues and counts of views
+  pub conditions-frame : (spinner : ℕ → Option ℕ) (queue : ℕ → List ℕ) (members : ℕ → ℕ → Bool) (words words' : List ℕ) → SameCounts words words' → q.wait ≡ p.wait → q.left ≡ p.left → q.queue ≡ p.queue → q.count ≡ p.count
+      → Conditions words spinner queue members all → Conditions words' spinner queue members (set all n q)
+  conditions-frame spinner queue members words words' ws ew el eq ec s = let t = s.knows n p at in let X = Knows spinner s.left s.count s.counting in record {
     left = s.left;
     count = s.count;
     counting = s.counting;
-    free = s.free;
-    members = s.members;
-    counted = λ c lo. ws.counts c lo ∙ s.counted c lo;
-    avails = λ i lo. subst (λ (x : ℕ). Says x (cond (spec.avail i) false true)) (sym (ws.sems i lo)) (s.avails i lo);
-    alerts = λ i lo. subst (λ (x : ℕ). Says x (spec.alerts i)) (sym (ws.alerts i lo)) (s.alerts i lo);
+    member = s.member;
+    counted = λ c lo. ws c lo ∙ s.counted c lo;
     whole = s.whole;
-    inside = s.inside;
-    strangers = λ i past. s.strangers i (subst (λ (z : ℕ). z ≤ i) (length-set all n q) past);
-    tells = each-set X X all n q record {
-      holds = λ m is. t.holds m is ∙ ap (λ w. cond (waits_on w m) none (some n)) (sym ew);
-      pends = t.pends ∙ ap pending_of (sym ew);
+    queued = s.queued;
+    knows = each-set X X all n q record {
       counts = λ c. t.counts c ∙ ap (λ w. counts_in w c (s.count c)) (sym ew);
       risen = λ c k hi. ap (λ w. counts_in w c k) ew ∙ t.risen c k hi;
-      knows = λ c own. let o = t.knows c own in (el ∙ o.0, ec ∙ o.1);
+      inside = λ c own. let o = t.inside c own in (el ∙ o.0, ec ∙ o.1);
       even = λ w is. el ∙ (t.even w (sym ew ∙ is) ∙ sym eq);
-    } (λ j x ne at' u. u) s.tells;
+    } (λ j x ne at' u. u) s.knows;
+  }
+
+  -- MEANING OF THE WORDS: all of it stays
+  pub shows-frame : (spinner : ℕ → Option ℕ) (queue : ℕ → List ℕ) (owner : ℕ → Option ℕ) (spec : Spec) (words words' : List ℕ) → SameShown words words' → q.wait ≡ p.wait → q.left ≡ p.left → q.queue ≡ p.queue → q.count ≡ p.count
+      → Shows words spinner queue owner spec all → Shows words' spinner queue owner spec (set all n q)
+  shows-frame spinner queue owner spec words words' ws ew el eq ec s = record {
+    holders = holders-frame owner spec.holder ew s.holders;
+    pendings = pendings-frame spec.pending ew s.pendings;
+    semaphores = semaphores-frame spec.avail words words' ws.sems s.semaphores;
+    alerts = alerts-frame spec.alerts words words' ws.alerts s.alerts;
+    conditions = conditions-frame spinner queue spec.members words words' ws.counts ew el eq ec s.conditions;
   }
 
   -- NUMBERING reads the pen, the number word, the number of events and who has the pen

@@ -4,6 +4,7 @@ pub mod Runs
 pub mod Frames
 pub mod Beside
 pub mod Penning
+pub mod Marking
 pub mod Standing
 pub mod Counting
 pub mod Showing

@@ -20,7 +20,7 @@ use Rattle.nub_rule.specs.Plays.{with_part, penned, numbered, wrote, unpenned}
 use Rattle.nub_rule.specs.Rule.{IsKept}
 use Rattle.nub_rule.proofs.Each.{at_within, each-set}
 use Rattle.nub_rule.proofs.Members.{member_steps}
-use Rattle.nub_rule.proofs.Frames.{other, pen-bits, pen-spins, pen-ready, pen-shown, spins-frame, lines-frame, shows-frame}
+use Rattle.nub_rule.proofs.Frames.{other, spins-frame, lines-frame, shows-frame, bits-stay, ready-stay, spins-stay, shown-stay}
 use Rattle.nub_rule.proofs.Owing.{owes-frame}
 use Rattle.nub_rule.proofs.Beside.{Alike, beside, idle}
 
@@ -152,10 +152,10 @@ module _ {T H W : Type 0} (l : Layout) (traced : Bool) (w : W) (begin : W → �
   -- a step on the pen or the number
   with_pen : (words : List ℕ) (homes : List (Option (Slot T))) (all : List (Part T H)) (n i y : ℕ) (p : Part T H) (x : Pen) (writer' : Option ℕ) → pen_at ≤ i → i ≤ number_at → get_elem? all n ≡ some p → (c : Core l traced w holds words homes all) → Pens traced (length c.log) (set words i y) writer' (set all n (record p { pen = x }))
       → Core l traced w holds (set words i y) homes (set all n (record p { pen = x }))
-  with_pen words homes all n i y p x writer' lo hi at c pens = let q : Part T H = record p { pen = x } in beside l traced w holds words (set words i y) homes homes all n p q at (length-set words i y) refl (pen-bits words y i lo hi) (λ m. refl) (alike p x) c.spinner writer' c.queue c.owed c
-      (spins-frame all n p q at c.spinner c.queue c.owed words (set words i y) homes homes (pen-spins words y i lo hi) (λ o lo. refl) refl refl refl c.spins)
-      (lines-frame all n p q at (λ o. c.owed o ++ c.queue o) words (set words i y) c.sizes.few (pen-ready words y i lo hi) refl c.lines)
-      (shows-frame all n p q at c.spinner c.queue c.owner c.spec words (set words i y) (pen-shown words y i lo hi) refl refl refl refl c.shows)
+  with_pen words homes all n i y p x writer' lo hi at c pens = let q : Part T H = record p { pen = x } in beside l traced w holds words (set words i y) homes homes all n p q at (length-set words i y) refl (bits-stay words i y (λ k up z. omega arith)) (λ m. refl) (alike p x) c.spinner writer' c.queue c.owed c
+      (spins-frame all n p q at c.spinner c.queue c.owed words (set words i y) homes homes (spins-stay words i y (λ k up z. omega arith) (λ k up z. omega arith)) (λ o lo. refl) refl refl refl c.spins)
+      (lines-frame all n p q at (λ o. c.owed o ++ c.queue o) words (set words i y) c.sizes.few (ready-stay words i y (λ k up z. omega arith)) refl c.lines)
+      (shows-frame all n p q at c.spinner c.queue c.owner c.spec words (set words i y) (shown-stay words i y (λ k up z. omega arith) (λ k up z. omega arith) (λ k up z. omega arith)) refl refl refl refl c.shows)
       pens
       (owes-frame c.queue words (set words i y) all n p q at (λ k up. other words i (bit_at k) y (λ z. omega arith)) refl refl refl c.owes)
 

@@ -23,7 +23,7 @@ use Rattle.nub_rule.proofs.Each.{put-here, put-else, at_below}
 use Rattle.nub_rule.proofs.Members.{member_steps}
 use Rattle.nub_rule.specs.Parts.{stands_at}
 use Rattle.nub_rule.specs.Owed.{WakeOwed}
-use Rattle.nub_rule.proofs.Frames.{other, length-bits, length-ready, length-shown, length-pen, pens-frame}
+use Rattle.nub_rule.proofs.Frames.{other, pens-frame, bits-stay, ready-stay, shown-stay, pen-stay}
 use Rattle.nub_rule.proofs.Standing.{both_ways, not_true, mem-behind, distinct-apart, distinct-behind, without-append, without-absent, less-without, lines-push, lines-leave, lines-same}
 use Rattle.nub_rule.proofs.Showing.{shows-gate}
 use Rattle.nub_rule.proofs.Spinning.{only_here, spins-change}
@@ -44,8 +44,8 @@ none_long [] e = refl
 none_long (x ∷ xs) e = absurd (omega arith)
 
 -- a step on a length word leaves the bits
-bits-stay : (o : ℕ) → o < 192 → (words : List ℕ) (x : ℕ) → SameGates words (set words (length_at o) x)
-bits-stay o low words x k lo = other words (length_at o) (bit_at k) x (λ z. omega arith)
+length-gates : (o : ℕ) → o < 192 → (words : List ℕ) (x : ℕ) → SameGates words (set words (length_at o) x)
+length-gates o low words x k lo = other words (length_at o) (bit_at k) x (λ z. omega arith)
 
 -- the first of the queue of o stands there, and isn't behind itself
 first_stands : {T H : Type 0} (all : List (Part T H)) (owed queue words : List ℕ) (line : ℕ → List ℕ) (queue' : List ℕ) (o : ℕ) → Lines line words all → line o ≡ owed ++ queue → queue' ≡ behind queue
@@ -64,12 +64,12 @@ module _ {T H W : Type 0} (l : Layout) (traced : Bool) (w : W) (begin : W → �
       → Core l traced w holds (set words (length_at o) (length ys)) homes (set all n q)
   requeues n o p q ys zs words homes all at low here a es eq eo el ew ep c lines owes =
       let s = c.spins in let words' : List ℕ = set words (length_at o) (length ys) in let far : o < 192 = omega arith in let wide = c.sizes.words_wide in
-      beside l traced w holds words words' homes homes all n p q at (length-set words (length_at o) (length ys)) refl (length-bits words (length ys) o far) (λ m. refl) a c.spinner c.writer (put c.queue o ys) (put c.owed o zs) c
+      beside l traced w holds words words' homes homes all n p q at (length-set words (length_at o) (length ys)) refl (bits-stay words (length_at o) (length ys) (λ k up z. omega arith)) (λ m. refl) a c.spinner c.writer (put c.queue o ys) (put c.owed o zs) c
       (spins-change c.spinner c.queue c.owed words homes all n p q at s o ys zs (put c.queue o ys) (put c.owed o zs) words' far here es eq eo (put-here c.queue o ys) (λ k ne. put-else c.queue o k ys ne) (put-here c.owed o zs) (λ k ne. put-else c.owed o k zs ne)
       (λ k lo. other words (length_at o) (spin_at k) (length ys) (λ z. omega arith)) (get_or-set_same words (length_at o) (length ys) 0 (omega arith)) (λ k lo ne. other words (length_at o) (length_at k) (length ys) (λ z. ne (omega arith))))
       lines
-      (shows-gate words words' (length-shown words (length ys) o far) c.spinner c.queue c.owner c.spec all n p q at o ys low ew el (only_here c.spinner c.queue c.owed words homes all n p q at s o here) c.shows)
-      (pens-frame all n p q at traced (length c.log) c.writer words words' (length-pen words (length ys) o far) ep c.pens)
+      (shows-gate words words' (shown-stay words (length_at o) (length ys) (λ k up z. omega arith) (λ k up z. omega arith) (λ k up z. omega arith)) c.spinner c.queue c.owner c.spec all n p q at o ys low ew el (only_here c.spinner c.queue c.owed words homes all n p q at s o here) c.shows)
+      (pens-frame all n p q at traced (length c.log) c.writer words words' (pen-stay words (length_at o) (length ys) (λ z. omega arith) (λ z. omega arith)) ep c.pens)
       owes
 
   -- a step that changes what the view remembers of gates alone
@@ -109,8 +109,8 @@ module _ {T H W : Type 0} (l : Layout) (traced : Bool) (w : W) (begin : W → �
         keeps,
         tt,
         requeues n o p q ys (c.owed o) words homes all at low here record { seen = refl; mine = refl; places = refl; held = refl; share = refl } refl refl mine.2 (λ e. ap (λ z. z ++ n ∷ []) e) refl refl c
-            (lines-push line line' words words' all n p q at c.sizes.few o st (length-ready words (length ys) o far) is (λ k ne i. put-else c.owed o k (c.owed o) ne i ++ put-else c.queue o k ys ne i) out refl refl (λ f. f) c.lines)
-            (owes-push c.queue (put c.queue o ys) words words' all n p q at o st (bits-stay o far words (length ys)) (put-here c.queue o ys ∙ ap (λ z. z ++ n ∷ []) mine.1) (λ k ne. put-else c.queue o k ys ne) out refl refl tt (λ f. f) refl refl c.owes),
+            (lines-push line line' words words' all n p q at c.sizes.few o st (ready-stay words (length_at o) (length ys) (λ k up z. omega arith)) is (λ k ne i. put-else c.owed o k (c.owed o) ne i ++ put-else c.queue o k ys ne i) out refl refl (λ f. f) c.lines)
+            (owes-push c.queue (put c.queue o ys) words words' all n p q at o st (length-gates o far words (length ys)) (put-here c.queue o ys ∙ ap (λ z. z ++ n ∷ []) mine.1) (λ k ne. put-else c.queue o k ys ne) out refl refl tt (λ f. f) refl refl c.owes),
         (refl, refl),
       )))
 
@@ -135,8 +135,8 @@ module _ {T H W : Type 0} (l : Layout) (traced : Bool) (w : W) (begin : W → �
         keeps,
         tt,
         requeues n o p q ys (c.owed o) words homes all at low here record { seen = refl; mine = refl; places = refl; held = refl; share = refl } refl refl mine.2 (λ e. ap (less n) e) refl refl c
-            (lines-leave line line' words words' all n p q at c.sizes.few o (length-ready words (length ys) o far) is (λ k ne i. put-else c.owed o k (c.owed o) ne i ++ put-else c.queue o k ys ne i) (mem-behind n (c.owed o) (c.queue o) queued) refl c.lines)
-            (owes-leave c.queue (put c.queue o ys) words words' all n p q at o (bits-stay o far words (length ys)) (λ k ne. put-else c.queue o k ys ne) ((c.lines.stands n p at).lined o (mem-behind n (c.owed o) (c.queue o) queued)).0 refl refl refl c.owes),
+            (lines-leave line line' words words' all n p q at c.sizes.few o (ready-stay words (length_at o) (length ys) (λ k up z. omega arith)) is (λ k ne i. put-else c.owed o k (c.owed o) ne i ++ put-else c.queue o k ys ne i) (mem-behind n (c.owed o) (c.queue o) queued) refl c.lines)
+            (owes-leave c.queue (put c.queue o ys) words words' all n p q at o (length-gates o far words (length ys)) (λ k ne. put-else c.queue o k ys ne) ((c.lines.stands n p at).lined o (mem-behind n (c.owed o) (c.queue o) queued)).0 refl refl refl c.owes),
         (refl, refl),
       )))
 
@@ -160,8 +160,8 @@ module _ {T H W : Type 0} (l : Layout) (traced : Bool) (w : W) (begin : W → �
         keeps,
         tt,
         requeues n o p q ys zs words homes all at low here record { seen = refl; mine = refl; places = refl; held = refl; share = refl } refl refl refl (λ e. ap behind e) refl refl c
-            (lines-same line line' words words' all n p q at c.sizes.few (length-ready words (length ys) o far) same refl c.lines)
-            (owes-pop c.queue (put c.queue o ys) words words' all n p q at o (bits-stay o far words (length ys))
+            (lines-same line line' words words' all n p q at c.sizes.few (ready-stay words (length_at o) (length ys) (λ k up z. omega arith)) same refl c.lines)
+            (owes-pop c.queue (put c.queue o ys) words words' all n p q at o (length-gates o far words (length ys))
             (first_stands all (c.owed o) (c.queue o) words line (put c.queue o ys o) o c.lines refl (put-here c.queue o ys ∙ ap behind mine.1)) (λ e. put-here c.queue o ys ∙ (ap behind mine.1 ∙ ap behind e)) (λ k ne. put-else c.queue o k ys ne) refl refl refl c.owes),
         (refl, refl),
       )))

@@ -1,5 +1,5 @@
 -- The steps on the bit of a semaphore keep the rule.
-use Rattle.std.proofs.Common.{Bool, true, false, cond, eqb, ◌≡◌, ◌≢◌, ℕ, ◌+◌, ◌<◌, ◌⊎◌, List, [], ◌∷◌, ◌++◌, length, get_or, set, refl, sym, ap, ◌∙◌, subst, inl, inr, ⊎_elim, arith, length-set, length-append, get_or-set_same, None, eq-eqb, ne_eqb}
+use Rattle.std.proofs.Common.{Bool, true, false, cond, eqb, ◌≡◌, ◌≢◌, ℕ, ◌<◌, ◌⊎◌, List, ◌∷◌, ◌++◌, get_or, set, refl, sym, ap, ◌∙◌, subst, inl, inr, ⊎_elim, arith, get_or-set_same, None, eq-eqb, ne_eqb}
 use mathlib.Core.Logic.{dite}
 use mathlib.Core.Option.{Option, some, none}
 use native.Mathlib.Decide.{ℕ_discrete}
@@ -9,29 +9,26 @@ use Rattle.larch_actions.specs.declared.event.Event.{Event}
 use Rattle.larch_actions.specs.declared.event.Action.TheVariants.{P}
 use Rattle.larch_actions.specs.declared.event.Layout.{Layout}
 use Rattle.larch_actions.specs.declared.event.Pending.TheVariants.{Nothing}
-use Rattle.larch_actions.specs.Actions.{Spec, at_first, Acts, IsRun, by_thread, put}
+use Rattle.larch_actions.specs.Actions.{Acts, put}
 use Rattle.larch_actions.specs.Sets.{without}
 use Rattle.atomic_table.specs.Table.{Me, step, Allows, keeps}
-use Rattle.atomic_table.proofs.Lists.{set_here}
 use Rattle.nub_rule.specs.declared.rule.Slot.{Slot}
 use Rattle.nub_rule.specs.declared.view.Part.{Part}
 use Rattle.nub_rule.specs.declared.view.View.{View}
 use Rattle.nub_rule.specs.declared.view.Kind.TheVariants.{Member}
-use Rattle.nub_rule.specs.Items.{Says, Pens, Core}
+use Rattle.nub_rule.specs.Items.{Says, Core}
 use Rattle.nub_rule.specs.Parts.{MayTell, pending_of}
 use Rattle.nub_rule.specs.Places.{bit_at, count_at, alert_at, sem_object, cond_object}
 use Rattle.nub_rule.specs.Plays.{with_part, told, Grows, p_event, v_event, tried_p, cleared_v, Becomes}
 use Rattle.nub_rule.specs.Rule.{IsKept}
-use Rattle.nub_rule.proofs.Each.{at_within}
 use Rattle.nub_rule.proofs.Members.{member_steps}
-use Rattle.nub_rule.proofs.Runs.{leads-snoc}
-use Rattle.nub_rule.proofs.Frames.{other, bit-spins, bit-ready, bit-pen, sem-bits, sizes-frame, told-event, owned-frame, spins-frame, lines-frame}
+use Rattle.nub_rule.proofs.Frames.{other}
 use Rattle.nub_rule.proofs.Standing.{lines-same}
-use Rattle.nub_rule.proofs.Penning.{pens-event, numbered-by}
 use Rattle.nub_rule.proofs.Beside.{still}
 use Rattle.nub_rule.specs.Owed.{WakeOwed}
 use Rattle.nub_rule.proofs.Owing.{owes-try, owes-clear}
 use Rattle.nub_rule.proofs.Showing.{shows-sem}
+use Rattle.nub_rule.proofs.Marking.{Learns, Marked, marks}
 
 available : (b : Bool) → cond b false true ≡ false → b ≡ true
 available true e = refl
@@ -42,60 +39,18 @@ zero-shows : (x : ℕ) (b : Bool) → Says x (cond b false true) → x ≡ 0 →
 zero-shows x b says z = ⊎_elim (λ (t : (x ≡ 0) × (cond b false true ≡ false)). available b t.1) (λ (t : (x ≡ 1) × (cond b false true ≡ true)). let u = t.0 in absurd (omega arith)) says
 
 module _ {T H W : Type 0} (l : Layout) (traced : Bool) (w : W) (begin : W → ℕ → H) (holds : W → List T → List H → Type 0) where
-  -- what the thread n learns by the event e
-  abbrev Learns : Event → ℕ → Part T H → (List Event → Part T H) → Part T H → Type 0
-  Learns e n p after q = (between : List Event) × Grows n p between e × (q ≡ after (p.seen ++ between))
-
   -- an event by which the bit of the semaphore s becomes x
-  marks : (e : Event) (n s x : ℕ) (b : Bool) (p : Part T H) (failed turns cleared : List ℕ) (words : List ℕ) (homes : List (Option (Slot T))) (all : List (Part T H)) (c : Core l traced w holds words homes all) → get_elem? all n ≡ some p → s < 64 → e.thread.0 ≡ n → MayTell traced p.pen
+  sem-marks : (e : Event) (n s x : ℕ) (b : Bool) (p : Part T H) (failed turns cleared : List ℕ) (words : List ℕ) (homes : List (Option (Slot T))) (all : List (Part T H)) (c : Core l traced w holds words homes all) → get_elem? all n ≡ some p → s < 64 → e.thread.0 ≡ n → MayTell traced p.pen
       → Acts c.spec e (record c.spec { avail = put c.spec.avail s b }) → Says x (cond b false true)
       → ((q : Part T H) → q.stand ≡ p.stand → q.turns ≡ turns → q.cleared ≡ cleared → WakeOwed c.queue (set words (bit_at (sem_object s)) x) (set all n q))
-      → (q : Part T H) × Core l traced w holds (set words (bit_at (sem_object s)) x) homes (set all n q) × Learns e n p (λ z. record (told p z e) { failed = failed; turns = turns; cleared = cleared }) q
-  marks e n s x b p failed turns cleared words homes all c at low by may acts says owes =
-      let o : ℕ = sem_object s in
-      let far : o < 192 = omega arith in
-      let wide = c.sizes.words_wide in
-      let seen = (c.told.each n p at).begins in
-      let q : Part T H = record (told p (p.seen ++ seen.0) e) { failed = failed; turns = turns; cleared = cleared } in
-      let longer : q.seen ≡ c.log ++ e ∷ [] = ap (λ (z : List Event). z ++ e ∷ []) (sym seen.1) in
-      let placed : q.places ≡ p.places ++ length c.log ∷ [] = ap (λ (z : List Event). p.places ++ length z ∷ []) (sym seen.1) in
-      let spec' : Spec = record c.spec { avail = put c.spec.avail s b } in
-      let run = leads-snoc at_first c.log c.spec e spec' c.run acts in
-      let told' = told-event all n p q at c.log e by longer refl placed c.told in
-      let words' : List ℕ = set words (bit_at o) x in
-      let more : length (c.log ++ e ∷ []) ≡ length c.log + 1 = length-append c.log (e ∷ []) in (
-        q,
-        record {
-          log = c.log ++ e ∷ [];
-          spec = spec';
-          owner = c.owner;
-          spinner = c.spinner;
-          writer = c.writer;
-          queue = c.queue;
-          owed = c.owed;
-          values = c.values;
-          shares = c.shares;
-          sizes = sizes-frame all n p q at l words words' homes homes (length-set words (bit_at o) x) refl refl c.sizes;
-          run = run;
-          told = told';
-          owned = owned-frame all n p q at l (holds w) c.owner c.values c.shares words words' homes homes c.sizes.lawful (sem-bits words x s low) (λ m. refl) refl refl c.owned;
-          spins = spins-frame all n p q at c.spinner c.queue c.owed words words' homes homes (bit-spins words x o far) (λ k lo. refl) refl refl refl c.spins;
-          lines = lines-frame all n p q at (λ k. c.owed k ++ c.queue k) words words' c.sizes.few (bit-ready words x o far) refl c.lines;
-          shows = shows-sem words words' c.spinner c.queue c.owner c.spec all n p q at s b low (λ k lo. other words (bit_at o) (count_at (cond_object k)) x (λ z. omega arith)) (λ k lo ne. other words (bit_at o) (bit_at (sem_object k)) x (λ z. ne (omega arith))) (λ k lo. other words (bit_at o) (alert_at k) x (λ z. omega arith))
-              (subst (λ (z : ℕ). Says z (cond b false true)) (sym (get_or-set_same words (bit_at o) x 0 (omega arith))) says) refl refl refl refl c.shows;
-          pens = subst (λ (z : ℕ). Pens traced z words' c.writer (set all n q)) (sym more) (pens-event traced (length c.log) words c.writer all n p q at words' (bit-pen words x o far).0 (bit-pen words x o far).1 may refl c.pens);
-          owes = owes q refl refl refl;
-        },
-        (
-          seen.0,
-          record {
-            legal = (spec', subst (λ (z : List Event). IsRun z spec') (sym longer) run);
-            own = ap (by_thread n) longer ∙ (told'.each n q (set_here all n q (at_within all n p at))).own;
-            number = λ k is. numbered-by traced (length c.log) words c.writer all n p q at c.pens k is ∙ ap (λ (z : List Event). length z) seen.1;
-          },
-          refl,
-        ),
-      )
+      → Marked l traced w holds e n (bit_at (sem_object s)) x p (λ z. record (told p z e) { failed = failed; turns = turns; cleared = cleared }) words homes all
+  sem-marks e n s x b p failed turns cleared words homes all c at low by may acts says owes = let o : ℕ = sem_object s in let i = bit_at o in let wide = c.sizes.words_wide in
+      marks l traced w holds e n i x p (λ z. record (told p z e) { failed = failed; turns = turns; cleared = cleared }) words homes all c (record c.spec { avail = put c.spec.avail s b }) at by may
+      record { bits = λ k up z. omega arith; spins = λ k up z. omega arith; lengths = λ k up z. omega arith; ready = λ k up z. omega arith; pen = λ z. omega arith; number = λ z. omega arith }
+      (λ z. record { seen = refl; mine = refl; places = refl; held = refl; share = refl; spin = refl; queue = refl; owed = refl; stand = refl; pen = refl }) acts
+      (λ z. shows-sem words (set words i x) c.spinner c.queue c.owner c.spec all n p (record (told p z e) { failed = failed; turns = turns; cleared = cleared }) at s b (λ k up. other words i (count_at (cond_object k)) x (λ y. omega arith)) (λ k up ne. other words i (bit_at (sem_object k)) x (λ y. ne (omega arith))) (λ k up. other words i (alert_at k) x (λ y. omega arith))
+      (subst (λ (z : ℕ). Says z (cond b false true)) (sym (get_or-set_same words i x 0 (omega arith))) says) refl refl refl refl c.shows)
+      (λ z. owes (record (told p z e) { failed = failed; turns = turns; cleared = cleared }) refl refl refl)
 
   pub tries_p : (slots id s : ℕ) (me : Me (Slot T) (View T H W)) → s < 64 → me.0.kind ≡ Member → me.0.part.wait ≡ None → MayTell traced me.0.part.pen
       → Allows (IsKept l traced w begin holds) slots id me (bit_at (sem_object s)) (λ x. either (eqb x 0) 1 x) (tried_p (λ s. P record { 0 = s }) (step slots (bit_at (sem_object s)) 0 1 none) me)
@@ -110,9 +65,9 @@ module _ {T H W : Type 0} (l : Layout) (traced : Bool) (w : W) (begin : W → �
       (λ (u : (r ≢ 0) × (q ≡ record p { failed = o ∷ p.failed; turns = without o p.turns }) × (ds ≡ me.1)). ((λ hit. absurd (u.0 hit)), λ _ i. (with_part v (u.1 i), u.2 i))) t))
       (λ words homes all c at small. let r : ℕ = get_or words (bit_at o) 0 in dite (ℕ_discrete r 0)
       (λ hit.
-      let free = zero-shows r (c.spec.avail s) (c.shows.avails s low) hit in
-      let idle : c.spec.pending n ≡ Nothing = (c.shows.tells n p at).pends ∙ ap pending_of out in
-      let m = marks e n s 1 false p (without o p.failed) (without o p.turns) p.cleared words homes all c at low refl may (record { order = idle; requires_met = tt; when_met = free; choice_met = tt }, refl) (inr (refl, refl))
+      let free = zero-shows r (c.spec.avail s) (c.shows.semaphores s low) hit in
+      let idle : c.spec.pending n ≡ Nothing = c.shows.pendings.pends n p at ∙ ap pending_of out in
+      let m = sem-marks e n s 1 false p (without o p.failed) (without o p.turns) p.cleared words homes all c at low refl may (record { order = idle; requires_met = tt; when_met = free; choice_met = tt }, refl) (inr (refl, refl))
       (λ q es et ec. owes-try c.queue words (set words (bit_at o) 1) all n p q at o (λ k lo ne. other words (bit_at o) (bit_at k) 1 (λ z. ne (omega arith))) (λ z. let y = get_or-set_same words (bit_at o) 1 0 (omega arith) in omega arith) es ec et c.owes) in
       (m.0, keeps, tt, subst (λ b. Core l traced w holds (set words (bit_at o) (either b 1 r)) homes (set all n m.0)) (sym (eq-eqb r 0 hit)) m.1, inl (hit, m.2, refl)))
       (λ miss. let q : Part T H = record p { failed = o ∷ p.failed; turns = without o p.turns } in (
@@ -134,7 +89,7 @@ module _ {T H W : Type 0} (l : Layout) (traced : Bool) (w : W) (begin : W → �
       (λ r q ds world t k is. let same : s ≡ k = omega arith in subst (λ (k : ℕ). (between : List Event) × Grows n p between (v_event n k) × Becomes me (record (told p (p.seen ++ between) (v_event n k)) { cleared = sem_object k ∷ p.cleared }) (with_part v q, ds)) same
       (t.0.0, t.0.1, λ i. (with_part v (t.0.2 i), t.1 i)))
       (λ words homes all c at small.
-      let idle : c.spec.pending n ≡ Nothing = (c.shows.tells n p at).pends ∙ ap pending_of out in
-      let m = marks e n s 0 true p p.failed p.turns (o ∷ p.cleared) words homes all c at low refl may (record { order = idle; requires_met = tt; when_met = tt; choice_met = tt }, refl) (inl (refl, refl))
+      let idle : c.spec.pending n ≡ Nothing = c.shows.pendings.pends n p at ∙ ap pending_of out in
+      let m = sem-marks e n s 0 true p p.failed p.turns (o ∷ p.cleared) words homes all c at low refl may (record { order = idle; requires_met = tt; when_met = tt; choice_met = tt }, refl) (inl (refl, refl))
       (λ q es et ec. owes-clear c.queue words (set words (bit_at o) 0) all n p q at o (λ k lo ne. other words (bit_at o) (bit_at k) 0 (λ z. ne (omega arith))) apart es ec et c.owes) in
       (m.0, keeps, tt, m.1, (m.2, refl)))

@@ -21,7 +21,7 @@ use Rattle.nub_rule.specs.Plays.{with_part, spun, unspun}
 use Rattle.nub_rule.specs.Rule.{IsKept}
 use Rattle.nub_rule.proofs.Each.{at_within}
 use Rattle.nub_rule.proofs.Members.{Steps, member_steps}
-use Rattle.nub_rule.proofs.Frames.{spin-bits, spin-ready, spin-shown, spin-pen, pens-frame, other}
+use Rattle.nub_rule.proofs.Frames.{pens-frame, other, bits-stay, ready-stay, shown-stay, pen-stay}
 use Rattle.nub_rule.proofs.Standing.{no_object, not_true, stand_none, distinct-behind, mem-behind, lines-same}
 use Rattle.nub_rule.proofs.Counting.{room_to_push, small_of}
 use Rattle.nub_rule.proofs.Showing.{shows-spin, shows-unspin}
@@ -46,7 +46,7 @@ module _ {T H W : Type 0} (l : Layout) (traced : Bool) (w : W) (begin : W → �
       (λ hit.
       let free : c.spinner o ≡ none = nobody-by r (c.spinner o) (s.spin o low) hit in
       let xs : List ℕ = c.queue o in
-      let q : Part T H = record p { spin = Some o; queue = xs; owed = []; left = xs; count = c.shows.count (o - 128); failed = without o p.failed } in
+      let q : Part T H = record p { spin = Some o; queue = xs; owed = []; left = xs; count = c.shows.conditions.count (o - 128); failed = without o p.failed } in
       let words' : List ℕ = set words (spin_at o) 1 in
       let homes' : List (Option (Slot T)) = set homes (queue_at o) none in
       let lines = c.lines in
@@ -57,18 +57,18 @@ module _ {T H W : Type 0} (l : Layout) (traced : Bool) (w : W) (begin : W → �
         takes (queue_at o) (Queue (line_of xs)),
         s.home o low free,
         subst (λ b. Core l traced w holds (set words (spin_at o) (either b 1 r)) homes' (set all n q)) (sym (eq-eqb r 0 hit))
-            (beside l traced w holds words words' homes homes' all n p q at (length-set words (spin_at o) 1) (length-set homes (queue_at o) none) (spin-bits words 1 o low) (λ m. set_else homes (queue_at o) (value_at m) none (λ z. omega arith))
+            (beside l traced w holds words words' homes homes' all n p q at (length-set words (spin_at o) 1) (length-set homes (queue_at o) none) (bits-stay words (spin_at o) 1 (λ k up z. omega arith)) (λ m. set_else homes (queue_at o) (value_at m) none (λ z. omega arith))
             record { seen = refl; mine = refl; places = refl; held = refl; share = refl } (put c.spinner o (some n)) c.writer c.queue c.owed c
             (spins-take c.spinner c.queue c.owed words homes all n p q at s o low c.sizes.words_wide free idle_there refl refl refl)
-            (lines-same (λ i. c.owed i ++ c.queue i) (λ i. c.owed i ++ c.queue i) words words' all n p q at few (spin-ready words 1 o low) (λ i. refl) refl lines)
-            (shows-spin words words' (spin-shown words 1 o low) c.spinner c.queue c.owner c.spec all n p q at o refl refl refl free (λ k is. no_object k (sym idle_there ∙ (s.spinning n p at k).1 is)) c.shows refl)
-            (pens-frame all n p q at traced (length c.log) c.writer words words' (spin-pen words 1 o low) refl c.pens)
+            (lines-same (λ i. c.owed i ++ c.queue i) (λ i. c.owed i ++ c.queue i) words words' all n p q at few (ready-stay words (spin_at o) 1 (λ k up z. omega arith)) (λ i. refl) refl lines)
+            (shows-spin words words' (shown-stay words (spin_at o) 1 (λ k up z. omega arith) (λ k up z. omega arith) (λ k up z. omega arith)) c.spinner c.queue c.owner c.spec all n p q at o refl refl refl free (λ k is. no_object k (sym idle_there ∙ (s.spinning n p at k).1 is)) c.shows refl)
+            (pens-frame all n p q at traced (length c.log) c.writer words words' (pen-stay words (spin_at o) 1 (λ z. omega arith) (λ z. omega arith)) refl c.pens)
             (owes-frame c.queue words words' all n p q at (λ k lo. other words (spin_at o) (bit_at k) 1 (λ z. omega arith)) refl refl refl c.owes)),
         inl (
           hit,
           (
             xs,
-            c.shows.count (o - 128),
+            c.shows.conditions.count (o - 128),
             (λ out. let room = room_to_push (length all) n xs (distinct-behind (c.owed o) xs (lines.distinct o)) (λ t is. lines.people o t (inside t is)) (at_within all n p at) (not_true (mem n xs) (λ is. stand_none p.stand o out (there is))) in omega arith),
             small_of 64 xs (λ t is. let a = lines.people o t (inside t is) in omega arith),
             there,
@@ -107,12 +107,12 @@ module _ {T H W : Type 0} (l : Layout) (traced : Bool) (w : W) (begin : W → �
         gives,
         tt,
         subst (λ (z : List (Option (Slot T))). Core l traced w holds words' z (set all n q)) (ap (put_back homes) (sym first))
-            (beside l traced w holds words words' homes homes' all n p q at (length-set words (spin_at o) 0) (length-set homes (queue_at o) (some line)) (spin-bits words 0 o low) (λ m. set_else homes (queue_at o) (value_at m) (some line) (λ z. omega arith))
+            (beside l traced w holds words words' homes homes' all n p q at (length-set words (spin_at o) 0) (length-set homes (queue_at o) (some line)) (bits-stay words (spin_at o) 0 (λ k up z. omega arith)) (λ m. set_else homes (queue_at o) (value_at m) (some line) (λ z. omega arith))
             record { seen = refl; mine = refl; places = refl; held = refl; share = refl } (put c.spinner o none) c.writer c.queue c.owed c
             (spins-give c.spinner c.queue c.owed words homes all n p q at s o low c.sizes.words_wide (omega arith) here none_owed refl)
-            (lines-same (λ i. c.owed i ++ c.queue i) (λ i. c.owed i ++ c.queue i) words words' all n p q at c.sizes.few (spin-ready words 0 o low) (λ i. refl) refl c.lines)
-            (shows-unspin words words' (spin-shown words 0 o low) c.spinner c.queue c.owner c.spec all n p q at o refl refl mine.0 (only_here c.spinner c.queue c.owed words homes all n p q at s o here) (even ∙ mine.1) c.shows)
-            (pens-frame all n p q at traced (length c.log) c.writer words words' (spin-pen words 0 o low) refl c.pens)
+            (lines-same (λ i. c.owed i ++ c.queue i) (λ i. c.owed i ++ c.queue i) words words' all n p q at c.sizes.few (ready-stay words (spin_at o) 0 (λ k up z. omega arith)) (λ i. refl) refl c.lines)
+            (shows-unspin words words' (shown-stay words (spin_at o) 0 (λ k up z. omega arith) (λ k up z. omega arith) (λ k up z. omega arith)) c.spinner c.queue c.owner c.spec all n p q at o refl refl mine.0 (only_here c.spinner c.queue c.owed words homes all n p q at s o here) (even ∙ mine.1) c.shows)
+            (pens-frame all n p q at traced (length c.log) c.writer words words' (pen-stay words (spin_at o) 0 (λ z. omega arith) (λ z. omega arith)) refl c.pens)
             (owes-frame c.queue words words' all n p q at (λ k lo. other words (spin_at o) (bit_at k) 0 (λ z. omega arith)) refl refl refl c.owes)),
         (one-by (get_or words (spin_at o) 0) n (c.spinner o) (s.spin o low) mine.0, refl, refl),
       ))

@@ -4,6 +4,7 @@ use mathlib.Core.Option.{Option, none, some}
 use lib.ListN.{get_elem?}
 use Rattle.larch_actions.specs.declared.event.Layout.{Layout}
 use Rattle.larch_actions.specs.declared.event.Event.{Event}
+use Rattle.larch_actions.specs.declared.event.Pending.{Pending}
 use Rattle.larch_actions.specs.declared.event.Pending.TheVariants.{Nothing}
 use Rattle.larch_actions.specs.Actions.{Spec, IsRun, StartsWith, by_thread}
 use Rattle.larch_actions.specs.Sets.{mem}
@@ -66,6 +67,14 @@ PenFits total word writer n Taken = (writer ≡ some n) × (word ≡ total)
 PenFits total word writer n (Read k) = (writer ≡ some n) × (word ≡ total) × (k ≡ word)
 PenFits total word writer n (Made k) = (writer ≡ some n) × (total ≡ k + 1) × (k ≡ word)
 PenFits total word writer n Written = (writer ≡ some n) × (word ≡ total)
+
+-- SEMAPHORES: the bit of a semaphore is 0 exactly where it is available
+abbrev pub Semaphores : List ℕ → (ℕ → Bool) → Type 0
+Semaphores words avail = (s : ℕ) → s < 64 → Says (slice_index words (bit_at (sem_object s))) (cond (avail s) false true)
+
+-- ALERTS: the alert word of a thread is 1 exactly where it is alerted
+abbrev pub Alerts : List ℕ → (ℕ → Bool) → Type 0
+Alerts words alerted = (t : ℕ) → t < most_threads → Says (slice_index words (alert_at t)) (alerted t)
 
 module _ {T H : Type 0} where
   -- what was seen begins the history, and the own events are the thread's part of it
@@ -134,31 +143,41 @@ module _ {T H : Type 0} where
     pub people : (o t : ℕ) → mem t (line o) ≡ true → t < length all
     pub stands : Each (Stands words line) all
 
-  -- what the thread n knows and tells of the state of the specification
-  pub record Tells (spinner owner : ℕ → Option ℕ) (spec : Spec) (left : ℕ → List ℕ) (count : ℕ → ℕ) (counting : ℕ → ℕ → Bool) (n : ℕ) (p : Part T H) : Type 0 where
-    pub holds : (m : ℕ) → owner m ≡ some n → spec.holder m ≡ cond (waits_on p.wait m) none (some n)
-    pub pends : spec.pending n ≡ pending_of p.wait
+  -- HOLDERS: who has the bit of a mutex holds it, unless a wait on it is begun, and nobody else does
+  pub record Holders (owner holder : ℕ → Option ℕ) (all : List (Part T H)) : Type 0 where
+    pub free : (m : ℕ) → owner m ≡ none → holder m ≡ none
+    pub holds : Each (λ n p. (m : ℕ) → owner m ≡ some n → holder m ≡ cond (waits_on p.wait m) none (some n)) all
+
+  -- PENDINGS: a thread waits exactly where its view does, and nobody past the threads waits
+  pub record Pendings (pending : ℕ → Pending) (all : List (Part T H)) : Type 0 where
+    pub strangers : (t : ℕ) → length all ≤ t → pending t ≡ Nothing
+    pub pends : Each (λ n p. pending n ≡ pending_of p.wait) all
+
+  -- what the thread n knows of the conditions
+  pub record Knows (spinner : ℕ → Option ℕ) (left : ℕ → List ℕ) (count : ℕ → ℕ) (counting : ℕ → ℕ → Bool) (n : ℕ) (p : Part T H) : Type 0 where
     pub counts : (c : ℕ) → counting c n ≡ counts_in p.wait c (count c)
     pub risen : (c k : ℕ) → count c < k → counts_in p.wait c k ≡ false
-    pub knows : (c : ℕ) → spinner (cond_object c) ≡ some n → (p.left ≡ left c) × (p.count ≡ count c)
+    pub inside : (c : ℕ) → spinner (cond_object c) ≡ some n → (p.left ≡ left c) × (p.count ≡ count c)
     pub even : (w : Wait) → p.wait ≡ Some w → p.left ≡ p.queue
 
-  -- MEANING OF THE WORDS: what words and views show of the state of the specification
-  pub record Shows (words : List ℕ) (spinner : ℕ → Option ℕ) (queue : ℕ → List ℕ) (owner : ℕ → Option ℕ) (spec : Spec) (all : List (Part T H)) : Type 0 where
-    -- the threads in the queue of a condition that no advance has taken, its count, and who is in it by its view
+  -- CONDITIONS, AND THE COUNTS READ: in a condition are those of its queue that no advance has taken, and those whose view says so where the count is still the one that they read
+  pub record Conditions (words : List ℕ) (spinner : ℕ → Option ℕ) (queue : ℕ → List ℕ) (members : ℕ → ℕ → Bool) (all : List (Part T H)) : Type 0 where
     pub left : ℕ → List ℕ
     pub count : ℕ → ℕ
     pub counting : ℕ → ℕ → Bool
-    pub free : (m : ℕ) → owner m ≡ none → spec.holder m ≡ none
-    pub members : (c t : ℕ) → spec.members c t ≡ cond (mem t (left c)) true (counting c t)
+    pub member : (c t : ℕ) → members c t ≡ cond (mem t (left c)) true (counting c t)
     pub counted : (c : ℕ) → c < 64 → slice_index words (count_at (cond_object c)) ≡ count c
-    -- the bit of a semaphore is 0 exactly where it is available
-    pub avails : (s : ℕ) → s < 64 → Says (slice_index words (bit_at (sem_object s))) (cond (spec.avail s) false true)
-    pub alerts : (t : ℕ) → t < 64 → Says (slice_index words (alert_at t)) (spec.alerts t)
     pub whole : (c : ℕ) → spinner (cond_object c) ≡ none → left c ≡ queue (cond_object c)
-    pub inside : (c t : ℕ) → mem t (queue (cond_object c)) ≡ false → mem t (left c) ≡ false
-    pub strangers : (t : ℕ) → length all ≤ t → spec.pending t ≡ Nothing
-    pub tells : Each (Tells spinner owner spec left count counting) all
+    pub queued : (c t : ℕ) → mem t (queue (cond_object c)) ≡ false → mem t (left c) ≡ false
+    pub knows : Each (Knows spinner left count counting) all
+
+  -- MEANING OF THE WORDS: what words and views show of the state of the specification
+  pub record Shows (words : List ℕ) (spinner : ℕ → Option ℕ) (queue : ℕ → List ℕ) (owner : ℕ → Option ℕ) (spec : Spec) (all : List (Part T H)) : Type 0 where
+    pub holders : Holders owner spec.holder all
+    pub pendings : Pendings spec.pending all
+    pub semaphores : Semaphores words spec.avail
+    pub alerts : Alerts words spec.alerts
+    pub conditions : Conditions words spinner queue spec.members all
 
   -- NUMBERING: one thread at most has the pen. In a traced package the number word is the number of events while the pen is free. In an untraced one nobody has it
   pub record Pens (traced : Bool) (total : ℕ) (words : List ℕ) (writer : Option ℕ) (all : List (Part T H)) : Type 0 where
