@@ -132,12 +132,12 @@ module _ {T H W : Type 0} (l : Layout) (traced : Bool) (w : W) (holds : W → Li
   owed o k n q p at' at owes = in-line o n p at (mem-append n (c.owed o) (c.queue o) (owed-line o k n q at' owes).1)
 
   holding : (m n : ℕ) (p : Part T H) → get_elem? all n ≡ some p → Has p m → c.spec.holder m ≡ cond (waits_on p.wait m) none (some n)
-  holding m n p at has = (c.shows.tells n p at).holds m ((c.owned.standing n p at m).0 has)
+  holding m n p at has = c.shows.holders.holds n p at m ((c.owned.standing n p at m).0 has)
 
   holder : (m n : ℕ) → (c.spec.holder m ≡ some n) ↔ ((p : Part T H) × (get_elem? all n ≡ some p) × SaysHolds p m)
   holder m n = (
     (λ is. whose (c.owner m)
-        (λ free. absurd (some-ne-none n (sym is ∙ c.shows.free m free)))
+        (λ free. absurd (some-ne-none n (sym is ∙ c.shows.holders.free m free)))
         (λ k own. let v = at_below all k (c.owned.within m k own).1 in let has = (c.owned.standing k v.0 v.1 m).1 own in
         let h = holder-of (waits_on v.0.wait m) k n (c.spec.holder m) (holding m k v.0 v.1 has) is in
         (v.0, ap (get_elem? all) (sym h.1) ∙ v.1, (has, h.0)))),
@@ -152,35 +152,35 @@ module _ {T H W : Type 0} (l : Layout) (traced : Bool) (w : W) (holds : W → Li
   out-of-all : (d n : ℕ) → length all ≤ n → c.spec.members d n ≡ false
   out-of-all = strangers-out (length all) at_first c.spec c.log c.run c.told.people (λ _ _ _. refl)
 
-  members : (d n : ℕ) → d < 64 → (c.spec.members d n ≡ true) ↔ ((mem n (c.shows.left d) ≡ true) ⊎ ((p : Part T H) × (get_elem? all n ≡ some p) × (counts_in p.wait d (get_or words (count_at (cond_object d)) 0) ≡ true)))
+  members : (d n : ℕ) → d < 64 → (c.spec.members d n ≡ true) ↔ ((mem n (c.shows.conditions.left d) ≡ true) ⊎ ((p : Part T H) × (get_elem? all n ≡ some p) × (counts_in p.wait d (get_or words (count_at (cond_object d)) 0) ≡ true)))
   members d n low =
-      let is = c.shows.members d n in
-      let now = c.shows.counted d low in
-      let own : (p : Part T H) → get_elem? all n ≡ some p → c.shows.counting d n ≡ counts_in p.wait d (get_or words (count_at (cond_object d)) 0) = λ p at. (c.shows.tells n p at).counts d ∙ ap (counts_in p.wait d) (sym now) in (
-        (λ e. either (mem n (c.shows.left d)) (λ there. inl there)
+      let is = c.shows.conditions.member d n in
+      let now = c.shows.conditions.counted d low in
+      let own : (p : Part T H) → get_elem? all n ≡ some p → c.shows.conditions.counting d n ≡ counts_in p.wait d (get_or words (count_at (cond_object d)) 0) = λ p at. (c.shows.conditions.knows n p at).counts d ∙ ap (counts_in p.wait d) (sym now) in (
+        (λ e. either (mem n (c.shows.conditions.left d)) (λ there. inl there)
             (λ gone. ⊎_elim
-            (λ (lo : n < length all). let v = at_below all n lo in inr (v.0, v.1, sym (own v.0 v.1) ∙ (sym (ap (λ b. cond b true (c.shows.counting d n)) gone) ∙ (sym is ∙ e))))
+            (λ (lo : n < length all). let v = at_below all n lo in inr (v.0, v.1, sym (own v.0 v.1) ∙ (sym (ap (λ b. cond b true (c.shows.conditions.counting d n)) gone) ∙ (sym is ∙ e))))
             (λ (hi : length all ≤ n). both_ways (c.spec.members d n) e (out-of-all d n hi))
             (cases_lt n (length all)))),
-        ⊎_elim (λ (there : mem n (c.shows.left d) ≡ true). is ∙ ap (λ b. cond b true (c.shows.counting d n)) there)
-            (λ (t : (p : Part T H) × (get_elem? all n ≡ some p) × (counts_in p.wait d (get_or words (count_at (cond_object d)) 0) ≡ true)). is ∙ (ap (λ b. cond (mem n (c.shows.left d)) true b) (own t.0 t.1 ∙ t.2) ∙ yes (mem n (c.shows.left d)))),
+        ⊎_elim (λ (there : mem n (c.shows.conditions.left d) ≡ true). is ∙ ap (λ b. cond b true (c.shows.conditions.counting d n)) there)
+            (λ (t : (p : Part T H) × (get_elem? all n ≡ some p) × (counts_in p.wait d (get_or words (count_at (cond_object d)) 0) ≡ true)). is ∙ (ap (λ b. cond (mem n (c.shows.conditions.left d)) true b) (own t.0 t.1 ∙ t.2) ∙ yes (mem n (c.shows.conditions.left d)))),
       )
     where
       yes : (b : Bool) → cond b true true ≡ true
       yes true = refl
       yes false = refl
 
-  meaning : Meaning words homes all c.queue c.shows.left c.spec
+  meaning : Meaning words homes all c.queue c.shows.conditions.left c.spec
   meaning = record {
     holder = holder;
-    avail = λ s low. says-not (get_or words (bit_at (sem_object s)) 0) (c.spec.avail s) (c.shows.avails s low);
+    avail = λ s low. says-not (get_or words (bit_at (sem_object s)) 0) (c.spec.avail s) (c.shows.semaphores s low);
     alerts = λ t low. says-is (get_or words (alert_at t) 0) (c.spec.alerts t) (c.shows.alerts t low);
-    pending = λ n p at. (c.shows.tells n p at).pends;
-    nobody = c.shows.strangers;
+    pending = λ n p at. c.shows.pendings.pends n p at;
+    nobody = c.shows.pendings.strangers;
     members = members;
-    left_known = λ d low. known (λ p. p.left) (cond_object d) (c.shows.left d) (omega arith) (λ n p at is. ((c.shows.tells n p at).knows d is).0) (λ free. sym (c.shows.whole d free));
-    left_in = λ d t there. either (mem t (c.queue (cond_object d))) (λ e. e) (λ out. both_ways (mem t (c.shows.left d)) there (c.shows.inside d t out));
-    none_taken = λ n p at v d waits spins. let s = (c.spins.spinning n p at (cond_object d)).0 spins in let t = c.shows.tells n p at in sym (t.knows d s.0).0 ∙ (t.even v waits ∙ s.1);
+    left_known = λ d low. known (λ p. p.left) (cond_object d) (c.shows.conditions.left d) (omega arith) (λ n p at is. ((c.shows.conditions.knows n p at).inside d is).0) (λ free. sym (c.shows.conditions.whole d free));
+    left_in = λ d t there. either (mem t (c.queue (cond_object d))) (λ e. e) (λ out. both_ways (mem t (c.shows.conditions.left d)) there (c.shows.conditions.queued d t out));
+    none_taken = λ n p at v d waits spins. let s = (c.spins.spinning n p at (cond_object d)).0 spins in let t = c.shows.conditions.knows n p at in sym (t.inside d s.0).0 ∙ (t.even v waits ∙ s.1);
   }
 
   mutex_bits : MutexBits l.mutexes words all c.spec
@@ -260,13 +260,13 @@ module _ {T H W : Type 0} (l : Layout) (traced : Bool) (w : W) (holds : W → Li
   counts_read = record {
     risen = λ n p at v k waits read low. ⊎_elim
         (λ (hi : get_or words (count_at (cond_object v.cond.0)) 0 < k).
-        let now = c.shows.counted v.cond.0 low in
-        let out = (c.shows.tells n p at).risen v.cond.0 k (omega arith) in
+        let now = c.shows.conditions.counted v.cond.0 low in
+        let out = (c.shows.conditions.knows n p at).risen v.cond.0 k (omega arith) in
         let in' : counts_in p.wait v.cond.0 k ≡ true = ap (λ z. counts_in z v.cond.0 k) waits ∙ (ap (λ b. cond b (is_at v.member k) false) (eq-eqb v.cond.0 v.cond.0 refl) ∙ (ap (λ z. is_at z k) read ∙ eq-eqb k k refl)) in
         both_ways (counts_in p.wait v.cond.0 k) in' out)
         (λ (lo : k ≤ get_or words (count_at (cond_object v.cond.0)) 0). lo)
         (cases_lt (get_or words (count_at (cond_object v.cond.0)) 0) k);
-    known = λ n p at d low spins. ((c.shows.tells n p at).knows d ((c.spins.spinning n p at (cond_object d)).0 spins).0).1 ∙ sym (c.shows.counted d low);
+    known = λ n p at d low spins. ((c.shows.conditions.knows n p at).inside d ((c.spins.spinning n p at (cond_object d)).0 spins).0).1 ∙ sym (c.shows.conditions.counted d low);
   }
 
   values_and_shares : ValuesAndShares l.mutexes (holds w) homes all c.values c.shares
@@ -295,7 +295,7 @@ module _ {T H W : Type 0} (l : Layout) (traced : Bool) (w : W) (holds : W → Li
     log = c.log;
     state = c.spec;
     queue = c.queue;
-    left = c.shows.left;
+    left = c.shows.conditions.left;
     values = c.values;
     shares = c.shares;
     history = history;
