@@ -23,4 +23,7 @@ pub mod Added
 pub mod Flowing
 pub mod Wholes
 pub mod Grammar
+pub mod HeldTexts
+pub mod Spelling
+pub mod HeldEvents
 pub mod WindowParts

@@ -5,6 +5,8 @@ pub mod Reading
 pub mod Names
 pub mod Choices
 pub mod Lines
+pub mod Held
+pub mod Spelled
 pub mod Window
 pub mod Intake
 pub mod Standing

@@ -1,13 +1,17 @@
 -- What the steps of a reader do.
-use Rattle.std.specs.Prelude.{◌≡◌, ℕ, ◌+◌, ◌≤◌, List, ◌++◌, length, IfSome}
+use Rattle.std.specs.Prelude.{◌≡◌, ℕ, ◌+◌, ◌≤◌, List, ◌++◌, length, Ok, IfSome}
 use Rattle.std.specs.Io.KnownBytes.{Consumes}
 use Rattle.std.specs.declared.option.Option.{Option}
 use Rattle.larch_actions.specs.declared.event.Layout.{Layout}
 use Rattle.larch_actions.specs.declared.event.Event.{Event}
 use Rattle.larch_actions.specs.Layout.{IsLawful, HasNames}
 use Rattle.trace_core.specs.declared.intake.TextFault.{TextFault}
+use Rattle.trace_core.specs.declared.line.Expect.TheVariants as expect
+use Rattle.trace_core.specs.declared.line.Line.TheVariants as line
+use Rattle.trace_core.specs.declared.progress.Progress.{Progress}
 use Rattle.trace_core.specs.declared.progress.Phase.TheVariants as phase
 use Rattle.trace_core.specs.Intake.{HasReason, LacksAt}
+use Rattle.trace_core.specs.Lines.{line_at}
 use Rattle.trace_core.specs.Standing.{Standing}
 use Rattle.trace_core.specs.Text.{MutexValue, AreValues, first_line, layout_line, event_line, end_line, values_text}
 
@@ -30,6 +34,16 @@ pub record TakesEvent (old new : Standing) (event : Event) : Type 0 where
   pub names : HasNames old.layout event
   pub passes : Passes old new (event_line old.place event) 1
   pub phase : new.phase ≡ phase.Events
+  pub layout : new.layout ≡ old.layout
+  pub place : new.place ≡ old.place + 1
+
+-- The line of the event in its place was read from the bytes held, and counted.
+pub record IsTaken (old new : Progress) (event : Event) : Type 0 where
+  pub line : line_at (expect.Events old.layout old.place) old.intake.window ≡ Ok (line.Event event, new.intake.window)
+  pub lines : new.intake.lines ≡ old.intake.lines + 1
+  pub given : new.intake.given ≡ old.intake.given
+  pub budget : new.intake.budget ≡ old.intake.budget
+  pub phase : new.phase ≡ old.phase
   pub layout : new.layout ≡ old.layout
   pub place : new.place ≡ old.place + 1
 

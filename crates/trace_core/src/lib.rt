@@ -6,11 +6,13 @@
 
 mod action;
 mod compose;
+mod held;
 mod intake;
 pub mod laws;
 mod line;
 mod names;
 mod parts;
+mod place;
 mod print;
 mod progress;
 mod reader;

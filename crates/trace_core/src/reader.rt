@@ -9,6 +9,7 @@ ghost use Rattle.trace_core.specs.Intake.{IsUndecided};
 ghost use Rattle.trace_core.specs.Reader.{IsFresh, standing, input_of, held_of};
 
 use crate::intake::{Intake, TextFault};
+use crate::place::Place;
 use crate::progress::{Phase, Progress};
 use crate::step::{begin, go_on};
 use firefly_outside::Source;
@@ -37,7 +38,7 @@ impl<'a, I: Source> EventReader<'a, I> {
                     conditions: 0,
                     semaphores: 0,
                 },
-                place: 0,
+                place: Place::first(),
                 phase: Phase::Head,
             },
         }

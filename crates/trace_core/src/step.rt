@@ -1,14 +1,17 @@
 // The steps of a reader.
-ghost use Rattle.std.specs.Prelude.{◌≡◌, ◌⊎◌, ◌≤◌, ◌++◌, IfOk, IfErr, IfSome, IfNone};
+ghost use Rattle.std.specs.Prelude.{◌≡◌, ◌⊎◌, ◌+◌, ◌<◌, ◌≤◌, ◌++◌, length, drop, IfOk, IfErr, IfSome, IfNone};
 ghost use Rattle.trace_core.specs.declared.progress.Phase.TheVariants as phase;
 ghost use Rattle.trace_core.specs.Text.{IsTrace, IsRest, first_line, layout_line, event_line};
 ghost use Rattle.larch_actions.specs.Layout.{IsLawful, HasNames};
+ghost use Rattle.trace_core.specs.Held.{IsEventAt};
 ghost use Rattle.trace_core.specs.Intake.{IsUndecided};
 ghost use Rattle.trace_core.specs.Standing.{standing_of};
-ghost use Rattle.trace_core.specs.Steps.{TakesHead, TakesEvent, TakesEnd, Breaks};
+ghost use Rattle.trace_core.specs.Steps.{TakesHead, TakesEvent, TakesEnd, Breaks, IsTaken};
 
-use crate::intake::TextFault;
+use crate::held::{HeldEvent, event_held};
+use crate::intake::{Intake, TextFault};
 use crate::parts::{take_event, take_head};
+use crate::place::Place;
 use crate::progress::{Phase, Progress};
 use firefly_outside::Source;
 use larch_actions::{Event, Layout};
@@ -20,7 +23,7 @@ pub fn begin<I: Source>(progress: &mut Progress, input: &mut I) -> Result<Layout
     ensures later { I.faults input.old ≤ I.faults input.new }
     ensures asks { (input.new ≡ input.old) ⊎ IsUndecided IsTrace IsLawful (λ l. first_line ++ layout_line l) progress.old.intake.window }
 {
-    progress.place = 0;
+    progress.place = Place::first();
     match take_head(&mut progress.intake, input) {
         Ok(layout) => {
             progress.layout = layout;
@@ -34,7 +37,46 @@ pub fn begin<I: Source>(progress: &mut Progress, input: &mut I) -> Result<Layout
     }
 }
 
+// Reads the event whose line the window holds whole, where it has a form that is read at once.
+#[inline(always)]
+fn event_in(intake: &Intake, layout: &Layout, place: &Place) -> Option<HeldEvent>
+    ensures { IfSome result (IsEventAt layout.now place.now intake.now.window) }
+{
+    let bytes = intake.window.bytes();
+    if bytes.len() < 64 {
+        return None;
+    }
+    event_held(bytes, layout, place)
+}
+
+// Passes over a line of this size, and counts it.
+#[inline(always)]
+fn pass_line(intake: &mut Intake, size: usize)
+    requires some { 0 < size }
+    requires held { size ≤ length intake.old.window }
+    ensures window { intake.new.window ≡ drop size intake.old.window }
+    ensures lines { intake.new.lines ≡ intake.old.lines + 1 }
+    ensures given { intake.new.given ≡ intake.old.given }
+    ensures budget { intake.new.budget ≡ intake.old.budget }
+{
+    intake.window.skip(size);
+    intake.lines += 1;
+}
+
+// Takes the event whose line the window holds whole, where it has a form that is read at once.
+#[inline(always)]
+fn take_held(progress: &mut Progress) -> Option<Event>
+    ensures taken { IfSome result (IsTaken progress.old progress.new) }
+    ensures same { IfNone result (progress.new ≡ progress.old) }
+{
+    let held = event_in(&progress.intake, &progress.layout, &progress.place)?;
+    pass_line(&mut progress.intake, held.end);
+    progress.place.step();
+    Some(held.event)
+}
+
 /// Takes an event or the end, and notes what comes next.
+#[inline(always)]
 pub fn go_on<I: Source>(progress: &mut Progress, input: &mut I) -> Result<Option<Event>, TextFault>
     requires { progress.old.phase ≡ phase.Events }
     ensures event { IfOk result (λ found. IfSome found (TakesEvent (standing_of progress.old (I.left input.old)) (standing_of progress.new (I.left input.new)))) }
@@ -43,12 +85,32 @@ pub fn go_on<I: Source>(progress: &mut Progress, input: &mut I) -> Result<Option
     ensures later { I.faults input.old ≤ I.faults input.new }
     ensures asks { (input.new ≡ input.old) ⊎ IsUndecided (IsRest progress.old.layout progress.old.place) (HasNames progress.old.layout) (event_line progress.old.place) progress.old.intake.window }
 {
+    match take_held(progress) {
+        Some(event) => Ok(Some(event)),
+        None => go_on_slowly(progress, input),
+    }
+}
+
+// The same of any event, and of the end.
+#[cold]
+#[inline(never)]
+fn go_on_slowly<I: Source>(
+    progress: &mut Progress,
+    input: &mut I,
+) -> Result<Option<Event>, TextFault>
+    requires { progress.old.phase ≡ phase.Events }
+    ensures event { IfOk result (λ found. IfSome found (TakesEvent (standing_of progress.old (I.left input.old)) (standing_of progress.new (I.left input.new)))) }
+    ensures end { IfOk result (λ found. IfNone found (TakesEnd (standing_of progress.old (I.left input.old)) (standing_of progress.new (I.left input.new)))) }
+    ensures fault { IfErr result (Breaks (IsRest progress.old.layout progress.old.place) (HasNames progress.old.layout) (event_line progress.old.place) (standing_of progress.old (I.left input.old)) (standing_of progress.new (I.left input.new)) (I.left input.new) (I.faults input.old) (I.faults input.new)) }
+    ensures later { I.faults input.old ≤ I.faults input.new }
+    ensures asks { (input.new ≡ input.old) ⊎ IsUndecided (IsRest progress.old.layout progress.old.place) (HasNames progress.old.layout) (event_line progress.old.place) progress.old.intake.window }
+{
     let layout = progress.layout;
-    let place = progress.place;
-    progress.place = 0;
+    let place = progress.place.value();
+    progress.place = Place::first();
     match take_event(&mut progress.intake, input, &layout, place) {
         Ok(Some(event)) => {
-            progress.place = place + 1;
+            progress.place = Place::at(place + 1);
             Ok(Some(event))
         }
         Ok(None) => {

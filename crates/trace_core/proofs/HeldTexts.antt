@@ -1,0 +1,115 @@
+-- Texts that stand in the bytes held.
+use Rattle.std.proofs.Common.{◌≡◌, ℕ, zero, suc, ◌+◌, ◌*◌, ◌/◌, ◌%◌, ◌<◌, ◌≤◌, false, inl, inr, List, [], ◌∷◌, ◌++◌, length, take, drop, get_or, refl, ap, sym, subst, ◌∙◌, append_assoc, append-nil, arith}
+use Rattle.std.proofs.Math.Seq.{drop-cons}
+use Rattle.std.proofs.lemmas.List.{take-append-drop, drop-drop, length-take-le, length-drop, take_all}
+use Rattle.std.proofs.lemmas.Bool.Decides.{leb_tells}
+use Rattle.std.proofs.lemmas.Fmt.{decimal_digit, decimal_step}
+use Rattle.std.specs.Prelude.{codes, decimal}
+use Rattle.larch_actions.specs.declared.thread_set.ThreadSet.{ThreadSet}
+use Rattle.larch_actions.specs.Sets.{in_set}
+use Rattle.trace_core.specs.Text.{members_from, members, names_text, newline}
+use Rattle.trace_core.specs.Held.{Stands, little, IsNameAt}
+
+pub stands_then : {bytes : List ℕ} {a m e : ℕ} {t u : List ℕ} → Stands bytes a t m → Stands bytes m u e → Stands bytes a (t ++ u) e
+stands_then {bytes} {a} {m} {e} {t} {u} p q = record { within = q.within; there = p.there ∙ ap (λ l. t ++ l) q.there ∙ sym (append_assoc t u (drop e bytes)) }
+
+pub stands_as : {bytes : List ℕ} {a e : ℕ} {t u : List ℕ} → t ≡ u → Stands bytes a t e → Stands bytes a u e
+stands_as {bytes} {a} {e} {t} {u} same p = subst (λ (x : List ℕ). Stands bytes a x e) same p
+
+pub stands_end : {bytes : List ℕ} {a e f : ℕ} {t : List ℕ} → e ≡ f → Stands bytes a t e → Stands bytes a t f
+stands_end {bytes} {a} {e} {f} {t} same p = subst (λ (x : ℕ). Stands bytes a t x) same p
+
+pub stands_byte : (bytes : List ℕ) (a c : ℕ) → a < length bytes → get_or bytes a 0 ≡ c → Stands bytes a (c ∷ []) (a + 1)
+stands_byte bytes a c lt e = record {
+  within = omega arith;
+  there = drop-cons bytes a 0 lt ∙ ap (λ n. get_or bytes a 0 ∷ drop n bytes) (let s : suc a ≡ a + 1 = omega arith in s) ∙ ap (λ x. x ∷ drop (a + 1) bytes) e;
+}
+
+-- each is below 256
+abbrev pub AreBytes : List ℕ → Type 0
+AreBytes [] = Unit {0}
+AreBytes (x ∷ xs) = (x < 256) × AreBytes xs
+
+pub bytes_from : (xs : List ℕ) → ((k : ℕ) → get_or xs k 0 < 256) → AreBytes xs
+bytes_from [] h = tt
+bytes_from (x ∷ xs) h = (h 0, bytes_from xs (λ k. h (suc k)))
+
+pub take_bytes : (n : ℕ) (xs : List ℕ) → AreBytes xs → AreBytes (take n xs)
+take_bytes zero xs h = tt
+take_bytes (suc n) [] h = tt
+take_bytes (suc n) (x ∷ xs) h = (h.0, take_bytes n xs h.1)
+
+pub drop_bytes : (n : ℕ) (xs : List ℕ) → AreBytes xs → AreBytes (drop n xs)
+drop_bytes zero xs h = h
+drop_bytes (suc n) [] h = tt
+drop_bytes (suc n) (x ∷ xs) h = drop_bytes n xs h.1
+
+pub little_injective : (xs ys : List ℕ) → length xs ≡ length ys → AreBytes xs → AreBytes ys → little xs ≡ little ys → xs ≡ ys
+little_injective [] [] l p q e = refl
+little_injective [] (y ∷ ys) l p q e = absurd (omega (arith, l))
+little_injective (x ∷ xs) [] l p q e = absurd (omega (arith, l))
+little_injective (x ∷ xs) (y ∷ ys) l p q e =
+    let same : x ≡ y = omega (arith, e, p.0, q.0) in
+    let rest : little xs ≡ little ys = omega (arith, e, p.0, q.0) in
+    let short : length xs ≡ length ys = omega (arith, l) in
+    ap (λ z. z ∷ xs) same ∙ ap (λ zs. y ∷ zs) (little_injective xs ys short p.1 q.1 rest)
+
+pub stands_word : (bytes word : List ℕ) (a n : ℕ) → a + n ≤ length bytes → length word ≡ n → AreBytes bytes → AreBytes word → little (take n (drop a bytes)) ≡ little word → Stands bytes a word (a + n)
+stands_word bytes word a n le l p q e =
+    let size : length (take n (drop a bytes)) ≡ length word = length-take-le n (drop a bytes) (omega (arith, length-drop a bytes)) ∙ sym l in
+    let same : take n (drop a bytes) ≡ word = little_injective (take n (drop a bytes)) word size (take_bytes n (drop a bytes) (drop_bytes a bytes p)) q e in record {
+      within = le;
+      there = sym (take-append-drop n (drop a bytes)) ∙ ap (λ l. l ++ drop n (drop a bytes)) same ∙ ap (λ l. word ++ l) (drop-drop n a bytes);
+    }
+
+-- a word of n bytes that is the same number as the next n bytes stands there
+pub same_word : (bytes word : List ℕ) (a n x y : ℕ) → a + n ≤ length bytes → length word ≡ n → ((k : ℕ) → get_or bytes k 0 < 256) → ((k : ℕ) → get_or word k 0 < 256) → x ≡ y → x ≡ little (take n (drop a bytes)) → y ≡ little (take n word) → Stands bytes a word (a + n)
+same_word bytes word a n x y le l p q same e f =
+    stands_word bytes word a n le l (bytes_from bytes p) (bytes_from word q) (sym e ∙ same ∙ f ∙ ap little (take_all n word (omega (arith, l))))
+
+two_digits : (a b : ℕ) → 1 ≤ a → a ≤ 9 → b ≤ 9 → decimal (10 * a + b) ≡ (48 + a) ∷ (48 + b) ∷ []
+two_digits a b low high small =
+    let n = 10 * a + b in
+    let q : n / 10 ≡ a = omega arith in
+    let r : n % 10 ≡ b = omega arith in
+    decimal_step n (omega arith) (omega arith) ∙ ap (λ m. decimal m ++ (48 + n % 10) ∷ []) q ∙ ap (λ l. l ++ (48 + n % 10) ∷ []) (decimal_digit a (omega arith)) ∙ ap (λ m. (48 + a) ∷ (48 + m) ∷ []) r
+
+long_name : (bytes : List ℕ) (at a b : ℕ) → at + 2 ≤ length bytes → get_or bytes at 0 ≡ 48 + a → get_or bytes (at + 1) 0 ≡ 48 + b → 1 ≤ a → a ≤ 9 → b ≤ 9 → Stands bytes at (decimal (10 * a + b) ++ []) (at + 2)
+long_name bytes at a b le x y low high small =
+    stands_end (let e : at + 1 + 1 ≡ at + 2 = omega arith in e)
+    (stands_as (sym (append-nil (decimal (10 * a + b)) ∙ two_digits a b low high small)) (stands_then (stands_byte bytes at (48 + a) (omega arith) x) (stands_byte bytes (at + 1) (48 + b) (omega arith) y)))
+
+short_name : (bytes : List ℕ) (at a : ℕ) → at + 2 ≤ length bytes → get_or bytes at 0 ≡ 48 + a → a ≤ 9 → Stands bytes at (decimal a ++ []) (at + 1)
+short_name bytes at a le x high = stands_as (sym (append-nil (decimal a) ∙ decimal_digit a (omega arith))) (stands_byte bytes at (48 + a) (omega arith) x)
+
+-- a name of two digits where the second byte is one, and else of one digit
+pub name_there : (bytes : List ℕ) (at bound a b value least end : ℕ) → at + 2 ≤ length bytes → get_or bytes at 0 ≡ 48 + a → (b < 10 → get_or bytes (at + 1) 0 ≡ 48 + b) → a ≤ 9
+    → (b < 10 → (value ≡ 10 * a + b) × (least ≡ 10) × (end ≡ at + 2)) → (10 ≤ b → (value ≡ a) × (least ≡ 0) × (end ≡ at + 1)) → value < bound → least ≤ value → IsNameAt bytes at bound [] (record { value = value; end = end })
+name_there bytes at bound a b value least end le x y high long short below enough = record {
+  below = below;
+  text =
+      elim (leb_tells b 9) [
+        | inl w ↦
+            let h = long (omega (arith, w.1)) in
+            stands_end (sym h.2) (stands_as (ap (λ v. decimal v ++ []) (sym h.0)) (long_name bytes at a b le x (y (omega (arith, w.1))) (omega (arith, h.0, h.1, enough, w.1)) high w.1))
+        | inr w ↦
+            let h = short (omega (arith, w.1)) in
+            stands_end (sym h.2) (stands_as (ap (λ v. decimal v ++ []) (sym h.0)) (short_name bytes at a le x high))
+      ];
+}
+
+nobody_from : (s : ThreadSet) (n t : ℕ) → ((k : ℕ) → in_set s k ≡ false) → members_from s t n ≡ []
+unfolding members_from
+nobody_from s zero t h = refl
+nobody_from s (suc n) t h = rw (h t) (nobody_from s n (t + 1) h)
+
+pub nobody : (s : ThreadSet) → ((k : ℕ) → in_set s k ≡ false) → names_text (members s) ≡ []
+unfolding members
+nobody s h = ap names_text (nobody_from s 64 0 h)
+
+no_names : (w d l e : List ℕ) → ((w ++ (d ++ 32 ∷ [])) ++ l) ++ e ≡ (((w ++ d) ++ 32 ∷ l) ++ []) ++ e
+no_names w d l e = simp (append_assoc, append-nil)
+
+pub signal_text : (c : ℕ) (s : ThreadSet) → ((k : ℕ) → in_set s k ≡ false)
+    → ((codes "signal c" ++ (decimal c ++ 32 ∷ [])) ++ codes "left") ++ 10 ∷ [] ≡ (codes "signal c" ++ decimal c ++ codes " left" ++ names_text (members s)) ++ newline
+signal_text c s h = no_names (codes "signal c") (decimal c) (codes "left") (10 ∷ []) ∙ ap (λ ns. (codes "signal c" ++ decimal c ++ codes " left" ++ ns) ++ newline) (sym (nobody s h))

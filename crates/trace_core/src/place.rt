@@ -1,0 +1,123 @@
+//! The place of the next event, kept with its text.
+ghost use Rattle.std.specs.Prelude.{◌≡◌, ◌+◌, ◌^◌, ◌<◌, ◌≤◌, length, decimal, IfSome, ℕ};
+ghost use Rattle.trace_core.specs.Held.{Stands, little};
+
+use crate::held::eight;
+use itoa::Buffer;
+use std::marker::Model;
+
+/// A place. Of at most eight digits it keeps the text as a number, which is counted up with it.
+#[derive(Drop)]
+pub struct Place {
+    value: u64,
+    text: u64,
+    mask: u64,
+    one: u64,
+    last: u64,
+    size: usize,
+}
+
+impl Model for Place {
+    ghost use Rattle.std.specs.Prelude.{ℕ};
+    ghost use Rattle.trace_core.specs.Spelled.{IsSpelled};
+
+    ghost Value = { ℕ };
+
+    ghost view = { λ p. p.value };
+
+    ghost invariant = { λ p. IsSpelled p.value p.text p.mask p.one p.last p.size };
+}
+
+impl Place {
+    /// The place of the first event.
+    pub fn first() -> Place
+        ensures { result ≡ 0 }
+    {
+        Place {
+            value: 0,
+            text: 48,
+            mask: 255,
+            one: 1,
+            last: 9,
+            size: 1,
+        }
+    }
+
+    pub fn value(&self) -> u64
+        ensures { result ≡ self.now }
+    {
+        self.value
+    }
+
+    /// Where the place's text at the front of the bytes ends, if it stands there.
+    #[inline(always)]
+    pub fn passed(&self, bytes: &[u8]) -> Option<usize>
+        requires { 8 ≤ length bytes.now }
+        ensures text { IfSome result (Stands bytes.now 0 (decimal self.now)) }
+        ensures near { IfSome result (λ end. end ≤ 8) }
+    {
+        if eight(bytes, 0) & self.mask != self.text {
+            return None;
+        }
+        Some(self.size)
+    }
+
+    /// This place with its text.
+    #[cold]
+    #[inline(never)]
+    pub fn at(value: u64) -> Place
+        ensures { result ≡ value }
+    {
+        let mut buffer = Buffer::new();
+        let digits = buffer.format(value).as_bytes();
+        let size = digits.len();
+        let last = value.saturating_add(9 - value % 10);
+        if size > 8 {
+            return Place {
+                value,
+                text: 1,
+                mask: 0,
+                one: 0,
+                last,
+                size,
+            };
+        }
+        let one = 1u64 << (8 * (size - 1));
+        Place {
+            value,
+            text: number_of(digits),
+            mask: one - 1 + 255 * one,
+            one,
+            last,
+            size,
+        }
+    }
+
+    /// Goes on to the next place.
+    #[inline(always)]
+    pub fn step(&mut self)
+        requires { self.old + 1 < 2 ^ 64 }
+        ensures { self.new ≡ self.old + 1 }
+    {
+        if self.value < self.last {
+            self.value += 1;
+            self.text += self.one;
+        } else {
+            *self = Place::at(self.value + 1);
+        }
+    }
+}
+
+// The bytes as a number, the first of them lowest.
+fn number_of(bytes: &[u8]) -> u64
+    requires { length bytes.now ≤ 8 }
+    ensures { result ≡ little bytes.now }
+{
+    let mut number = 0u64;
+    let mut at = bytes.len();
+    while at > 0 {
+        at -= 1;
+        number = 256 * number + u64::from(bytes[at]);
+    }
+    number
+}
