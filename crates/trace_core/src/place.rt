@@ -1,5 +1,5 @@
 //! The place of the next event, kept with its text.
-ghost use Rattle.std.specs.Prelude.{◌≡◌, ◌+◌, ◌^◌, ◌<◌, ◌≤◌, length, decimal, IfSome, ℕ};
+ghost use Rattle.std.specs.Prelude.{◌≡◌, ◌+◌, ◌*◌, ◌/◌, ◌^◌, ◌<◌, ◌≤◌, length, decimal, IfSome, ℕ};
 ghost use Rattle.trace_core.specs.Held.{Stands, little};
 
 use crate::held::eight;
@@ -14,6 +14,7 @@ pub struct Place {
     mask: u64,
     one: u64,
     last: u64,
+    hundred: u64,
     size: usize,
 }
 
@@ -25,7 +26,7 @@ impl Model for Place {
 
     ghost view = { λ p. p.value };
 
-    ghost invariant = { λ p. IsSpelled p.value p.text p.mask p.one p.last p.size };
+    ghost invariant = { λ p. IsSpelled p.value p.text p.mask p.one p.last p.hundred p.size };
 }
 
 impl Place {
@@ -39,6 +40,7 @@ impl Place {
             mask: 255,
             one: 1,
             last: 9,
+            hundred: 0,
             size: 1,
         }
     }
@@ -68,27 +70,28 @@ impl Place {
     pub fn at(value: u64) -> Place
         ensures { result ≡ value }
     {
-        let mut buffer = Buffer::new();
-        let digits = buffer.format(value).as_bytes();
-        let size = digits.len();
-        let last = value.saturating_add(9 - value % 10);
-        if size > 8 {
+        if value >= 100_000_000 {
             return Place {
                 value,
                 text: 1,
                 mask: 0,
                 one: 0,
-                last,
-                size,
+                last: u64::MAX,
+                hundred: 0,
+                size: 9,
             };
         }
+        let mut buffer = Buffer::new();
+        let digits = buffer.format(value).as_bytes();
+        let size = digits.len();
         let one = 1u64 << (8 * (size - 1));
         Place {
             value,
             text: number_of(digits),
             mask: one - 1 + 255 * one,
             one,
-            last,
+            last: value / 10 * 10 + 9,
+            hundred: last_of_hundred(value),
             size,
         }
     }
@@ -102,10 +105,26 @@ impl Place {
         if self.value < self.last {
             self.value += 1;
             self.text += self.one;
+        } else if self.value < self.hundred {
+            // The last digit goes from nine to zero, and the one before it goes up.
+            self.value += 1;
+            self.text = self.text - 9 * self.one + self.one / 256;
+            self.last += 10;
         } else {
             *self = Place::at(self.value + 1);
         }
     }
+}
+
+// The last number of the same hundred, where there are two digits.
+fn last_of_hundred(value: u64) -> u64
+    requires { value < 100000000 }
+    ensures { value < result → (10 ≤ value) × (result ≡ value / 100 * 100 + 99) }
+{
+    if value < 10 {
+        return 0;
+    }
+    value / 100 * 100 + 99
 }
 
 // The bytes as a number, the first of them lowest.
