@@ -2,7 +2,7 @@
 ghost use Rattle.std.specs.Prelude.{◌≡◌, ◌≢◌, ◌<◌, ℕ, [], ◌∷◌, Some, None, true, false};
 ghost use Rattle.larch_actions.specs.Sets.{mem, without};
 ghost use Rattle.gate.specs.Gates.{MayFree, IsFreed, clears};
-ghost use Rattle.nub_rule.specs.Known.{Makes};
+ghost use Rattle.nub_rule.specs.Known.{Makes, learnt, recorded};
 ghost use Rattle.nub_rule.specs.Objects.{object_of, HasObject, IsGate};
 ghost use Rattle.nub_rule.specs.Parts.{MayTell, made};
 ghost use Rattle.nub.specs.Rest.{HasStored, IsOutside};
@@ -30,7 +30,15 @@ pub fn free<U: Uses, C: Change<U>, R: Wait>(
     requires event { e ≡ Some (clears at me.old.number) }
     requires may { MayFree U.allows C.after at me.old }
     ensures event { Makes (clears at me.old.number) me.old me.new }
-    ensures rest { me.new ≡ record me.old { seen = me.new.seen; mine = me.new.mine; places = me.new.places; held = me.new.held; share = me.new.share; count = me.new.count; failed = me.new.failed; cleared = without (object_of at) me.old.cleared; looked = without (object_of at) me.old.looked; values = me.new.values; entries = me.new.entries; lost = me.new.lost; next = me.new.next } }
+    ensures rest { me.new ≡ record (recorded me.old me.new) {
+      held = me.new.held;
+      share = me.new.share;
+      count = me.new.count;
+      failed = me.new.failed;
+      cleared = without (object_of at) me.old.cleared;
+      looked = without (object_of at) me.old.looked;
+      values = me.new.values;
+    } }
     ensures freed { IsFreed C.after at me.old me.new }
     ensures stored { HasStored p.now.traced me.old → HasStored p.now.traced me.new }
 {
@@ -48,8 +56,8 @@ pub fn free<U: Uses, C: Change<U>, R: Wait>(
     }
 }
 
-/// Makes the event by clearing the bit, with the pen. The event is built here: passing 16 bytes through a cold call would make the processor
-/// wait for its own store.
+/// Makes the event by clearing the bit, with the pen. The event is built here: passing 16 bytes through a cold call would make the
+/// processor wait for its own store.
 #[cold]
 #[inline(never)]
 fn clear_traced<U: Uses, C: Change<U>, R: Wait>(
@@ -65,7 +73,12 @@ fn clear_traced<U: Uses, C: Change<U>, R: Wait>(
     requires no_wait { me.old.wait ≡ None }
     requires may { MayFree U.allows C.after at me.old }
     ensures event { Makes (clears at me.old.number) me.old me.new }
-    ensures rest { me.new ≡ record me.old { seen = me.new.seen; mine = me.new.mine; places = me.new.places; held = me.new.held; share = me.new.share; cleared = object_of at ∷ me.old.cleared; values = me.new.values; entries = me.new.entries; lost = me.new.lost; next = me.new.next } }
+    ensures rest { me.new ≡ record (recorded me.old me.new) {
+      held = me.new.held;
+      share = me.new.share;
+      cleared = object_of at ∷ me.old.cleared;
+      values = me.new.values;
+    } }
     ensures freed { IsFreed C.after at me.old me.new }
     ensures stored { HasStored p.now.traced me.old → HasStored p.now.traced me.new }
 {
@@ -102,7 +115,13 @@ fn clear_gate<U: Uses, C: Change<U>>(p: &Package<U>, me: &mut Thread<U>, at: Obj
     requires may { MayFree U.allows C.after at me.old }
     requires pen { MayTell p.now.traced me.old.pen }
     ensures event { Makes (clears at me.old.number) me.old me.new }
-    ensures rest { me.new ≡ record me.old { seen = me.new.seen; mine = me.new.mine; places = me.new.places; held = me.new.held; share = me.new.share; cleared = object_of at ∷ me.old.cleared; pen = made me.old.pen; values = me.new.values } }
+    ensures rest { me.new ≡ record (learnt me.old me.new) {
+      held = me.new.held;
+      share = me.new.share;
+      cleared = object_of at ∷ me.old.cleared;
+      pen = made me.old.pen;
+      values = me.new.values;
+    } }
     ensures freed { IsFreed C.after at me.old me.new }
 {
     match at {
@@ -124,13 +143,18 @@ fn wake_one<U: Uses, R: Wait>(rt: &R, p: &Package<U>, me: &mut Thread<U>, at: Ob
     requires named { HasObject p.now.layout at }
     requires outside { IsOutside me.old }
     requires looked { mem (object_of at) me.old.looked ≡ true }
-    ensures { me.new ≡ record me.old { count = me.new.count; failed = without (object_of at) me.old.failed; cleared = without (object_of at) me.old.cleared; looked = without (object_of at) me.old.looked } }
+    ensures { me.new ≡ record me.old {
+      count = me.new.count;
+      failed = without (object_of at) me.old.failed;
+      cleared = without (object_of at) me.old.cleared;
+      looked = without (object_of at) me.old.looked;
+    } }
 {
     enter(rt, p, me, at, Why::QueueSeen);
     match pop(p, me, at) {
         Some(t) => {
-            // Woken inside: as long as this thread owes t its ready word it keeps the spin word, so whoever is in a line or owed can be told
-            // by the spin words alone, and no thread leaves the Nub owing anybody.
+            // Woken inside: as long as this thread owes t its ready word it keeps the spin word, so whoever is in a line or owed can be
+            // told by the spin words alone, and no thread leaves the Nub owing anybody.
             wake(p, me, t);
             leave(rt, p, me, at);
         }

@@ -2,7 +2,7 @@
 ghost use Rattle.std.specs.Prelude.{◌≡◌, ◌≢◌, ◌<◌, ℕ, [], ◌∷◌, Some, None, true, false};
 ghost use Rattle.larch_actions.specs.Sets.{mem, without};
 ghost use Rattle.gate.specs.Gates.{MayMake, IsTaken};
-ghost use Rattle.nub_rule.specs.Known.{Makes, StandsAs};
+ghost use Rattle.nub_rule.specs.Known.{Makes, StandsAs, learnt, recorded};
 ghost use Rattle.nub_rule.specs.Objects.{object_of, HasObject, IsGate};
 ghost use Rattle.nub_rule.specs.Parts.{MayTell, made, HasTested};
 ghost use Rattle.nub.specs.Rest.{HasStored, IsOutside};
@@ -27,7 +27,14 @@ pub fn take<U: Uses, R: Wait>(rt: &R, p: &Package<U>, me: &mut Thread<U>, at: Ob
     requires looked { me.old.cleared ≡ [] }
     requires may { MayMake at me.old.number me.old.wait e }
     ensures event { Makes e me.old me.new }
-    ensures rest { me.new ≡ record me.old { seen = me.new.seen; mine = me.new.mine; places = me.new.places; held = me.new.held; count = me.new.count; wait = None; failed = me.new.failed; turns = me.new.turns; values = me.new.values; entries = me.new.entries; lost = me.new.lost; next = me.new.next } }
+    ensures rest { me.new ≡ record (recorded me.old me.new) {
+      held = me.new.held;
+      count = me.new.count;
+      wait = None;
+      failed = me.new.failed;
+      turns = me.new.turns;
+      values = me.new.values;
+    } }
     ensures turns { me.new.turns ≡ without (object_of at) me.old.turns }
     ensures taken { IsTaken U.fits at me.old me.new }
     ensures stored { HasStored p.now.traced me.old → HasStored p.now.traced me.new }
@@ -50,7 +57,13 @@ fn try_untraced<U: Uses>(p: &Package<U>, me: &mut Thread<U>, at: Object, e: Even
     ensures lost { result ≡ false → me.new ≡ record me.old { failed = me.new.failed; turns = me.new.turns } }
     ensures turns { result ≡ false → without (object_of at) me.new.turns ≡ without (object_of at) me.old.turns }
     ensures event { result ≡ true → Makes e me.old me.new }
-    ensures won { result ≡ true → me.new ≡ record me.old { seen = me.new.seen; mine = me.new.mine; places = me.new.places; held = me.new.held; wait = None; failed = without (object_of at) me.old.failed; turns = without (object_of at) me.old.turns; values = me.new.values } }
+    ensures won { result ≡ true → me.new ≡ record (learnt me.old me.new) {
+      held = me.new.held;
+      wait = None;
+      failed = without (object_of at) me.old.failed;
+      turns = without (object_of at) me.old.turns;
+      values = me.new.values;
+    } }
     ensures taken { result ≡ true → IsTaken U.fits at me.old me.new }
 {
     if p.traced() {
@@ -74,9 +87,19 @@ pub fn try_take<U: Uses, R: Wait>(
     requires named { HasObject p.now.layout at }
     requires outside { IsOutside me.old }
     requires may { MayMake at me.old.number me.old.wait e }
-    ensures lost { result ≡ false → me.new ≡ record me.old { failed = object_of at ∷ me.old.failed; turns = without (object_of at) me.old.turns; next = me.new.next } }
+    ensures lost { result ≡ false → me.new ≡ record me.old {
+      failed = object_of at ∷ me.old.failed;
+      turns = without (object_of at) me.old.turns;
+      next = me.new.next;
+    } }
     ensures event { result ≡ true → Makes e me.old me.new }
-    ensures won { result ≡ true → me.new ≡ record me.old { seen = me.new.seen; mine = me.new.mine; places = me.new.places; held = me.new.held; wait = None; failed = without (object_of at) me.old.failed; turns = without (object_of at) me.old.turns; values = me.new.values; entries = me.new.entries; lost = me.new.lost; next = me.new.next } }
+    ensures won { result ≡ true → me.new ≡ record (recorded me.old me.new) {
+      held = me.new.held;
+      wait = None;
+      failed = without (object_of at) me.old.failed;
+      turns = without (object_of at) me.old.turns;
+      values = me.new.values;
+    } }
     ensures taken { result ≡ true → IsTaken U.fits at me.old me.new }
     ensures stored { HasStored p.now.traced me.old → HasStored p.now.traced me.new }
 {
@@ -102,9 +125,19 @@ fn try_gate<U: Uses>(p: &Package<U>, me: &mut Thread<U>, at: Object, e: Event) -
     requires outside { (me.old.spin ≡ None) × (me.old.stand ≡ None) }
     requires may { MayMake at me.old.number me.old.wait e }
     requires pen { MayTell p.now.traced me.old.pen }
-    ensures lost { result ≢ 0 → me.new ≡ record me.old { failed = object_of at ∷ me.old.failed; turns = without (object_of at) me.old.turns } }
+    ensures lost { result ≢ 0 → me.new ≡ record me.old {
+      failed = object_of at ∷ me.old.failed;
+      turns = without (object_of at) me.old.turns;
+    } }
     ensures event { result ≡ 0 → Makes e me.old me.new }
-    ensures won { result ≡ 0 → me.new ≡ record me.old { seen = me.new.seen; mine = me.new.mine; places = me.new.places; held = me.new.held; wait = None; failed = without (object_of at) me.old.failed; turns = without (object_of at) me.old.turns; pen = made me.old.pen; values = me.new.values } }
+    ensures won { result ≡ 0 → me.new ≡ record (learnt me.old me.new) {
+      held = me.new.held;
+      wait = None;
+      failed = without (object_of at) me.old.failed;
+      turns = without (object_of at) me.old.turns;
+      pen = made me.old.pen;
+      values = me.new.values;
+    } }
     ensures taken { result ≡ 0 → IsTaken U.fits at me.old me.new }
 {
     match at {
@@ -124,7 +157,14 @@ fn take_slowly<U: Uses, R: Wait>(rt: &R, p: &Package<U>, me: &mut Thread<U>, at:
     requires looked { me.old.cleared ≡ [] }
     requires may { MayMake at me.old.number me.old.wait e }
     ensures event { Makes e me.old me.new }
-    ensures rest { me.new ≡ record me.old { seen = me.new.seen; mine = me.new.mine; places = me.new.places; held = me.new.held; count = me.new.count; wait = None; failed = me.new.failed; turns = me.new.turns; values = me.new.values; entries = me.new.entries; lost = me.new.lost; next = me.new.next } }
+    ensures rest { me.new ≡ record (recorded me.old me.new) {
+      held = me.new.held;
+      count = me.new.count;
+      wait = None;
+      failed = me.new.failed;
+      turns = me.new.turns;
+      values = me.new.values;
+    } }
     ensures turns { me.new.turns ≡ without (object_of at) me.old.turns }
     ensures taken { IsTaken U.fits at me.old me.new }
     ensures stored { HasStored p.now.traced me.old → HasStored p.now.traced me.new }
@@ -172,9 +212,9 @@ fn stand_in_line<U: Uses, R: Wait>(rt: &R, p: &Package<U>, me: &mut Thread<U>, a
 {
     enter(rt, p, me, at, Why::TryFailed);
     push(p, me, at);
-    // Whoever clears the bit reads the length of the queue after that. So the bit is tested after the push: either this test finds it clear,
-    // or the clearing comes later and its look finds this thread in the queue. Tested before the push, the bit could be cleared, and the
-    // queue found empty, in between, and this thread would sleep with nobody to wake it.
+    // Whoever clears the bit reads the length of the queue after that. So the bit is tested after the push: either this test finds it
+    // clear, or the clearing comes later and its look finds this thread in the queue. Tested before the push, the bit could be cleared,
+    // and the queue found empty, in between, and this thread would sleep with nobody to wake it.
     if test_again(p, me, at) == 0 {
         // Out of the queue again, under the same spin word: nobody can have popped this thread meanwhile.
         remove(p, me, at);

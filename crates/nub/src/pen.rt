@@ -11,8 +11,8 @@ use nub_rule::{
 };
 use std::sync::Wait;
 
-/// In a traced package takes the pen and reads the number of the next event. It spins while another thread has the pen. In an untraced one it
-/// does nothing.
+/// In a traced package takes the pen and reads the number of the next event. It spins while another thread has the pen. In an untraced
+/// one it does nothing.
 #[inline]
 pub fn begin_event<U: Uses, R: Wait>(rt: &R, p: &Package<U>, me: &mut Thread<U>)
     requires of { me.old.table_id ≡ p.now.table_id }
@@ -31,12 +31,14 @@ pub fn begin_event<U: Uses, R: Wait>(rt: &R, p: &Package<U>, me: &mut Thread<U>)
 #[inline]
 pub fn end_event<U: Uses>(p: &Package<U>, me: &mut Thread<U>, made: Option<Event>)
     requires of { me.old.table_id ≡ p.now.table_id }
-    requires pen { p.now.traced ≡ true → (me.old.next < 18446744073709551615) × (made ≡ None → me.old.pen ≡ Read me.old.next) × ((e : Event) → made ≡ Some e → me.old.pen ≡ Made me.old.next) }
+    requires pen { p.now.traced ≡ true → (me.old.next < 18446744073709551615) × (made ≡ None → me.old.pen ≡ Read me.old.next)
+        × ((e : Event) → made ≡ Some e → me.old.pen ≡ Made me.old.next) }
     requires out { p.now.traced ≡ false → me.old.pen ≡ No }
     ensures rest { me.new ≡ record me.old { pen = No; entries = me.new.entries; lost = me.new.lost } }
     ensures untraced { p.now.traced ≡ false → me.new ≡ me.old }
     ensures none { made ≡ None → (me.new.entries ≡ me.old.entries) × (me.new.lost ≡ me.old.lost) }
-    ensures stored { (e : Event) → made ≡ Some e → p.now.traced ≡ true → me.new.lost ≡ false → (me.old.lost ≡ false) × (me.new.entries ≡ me.old.entries ++ record { number = me.old.next; event = e } ∷ []) }
+    ensures stored { (e : Event) → made ≡ Some e → p.now.traced ≡ true → me.new.lost ≡ false → (me.old.lost ≡ false)
+        × (me.new.entries ≡ me.old.entries ++ record { number = me.old.next; event = e } ∷ []) }
 {
     if p.traced() {
         end_traced(p, me, made);
@@ -72,7 +74,8 @@ fn end_traced<U: Uses>(p: &Package<U>, me: &mut Thread<U>, made: Option<Event>)
     requires pen { (made ≡ None → me.old.pen ≡ Read me.old.next) × ((e : Event) → made ≡ Some e → me.old.pen ≡ Made me.old.next) }
     ensures rest { me.new ≡ record me.old { pen = No; entries = me.new.entries; lost = me.new.lost } }
     ensures none { made ≡ None → (me.new.entries ≡ me.old.entries) × (me.new.lost ≡ me.old.lost) }
-    ensures stored { (e : Event) → made ≡ Some e → me.new.lost ≡ false → (me.old.lost ≡ false) × (me.new.entries ≡ me.old.entries ++ record { number = me.old.next; event = e } ∷ []) }
+    ensures stored { (e : Event) → made ≡ Some e → me.new.lost ≡ false → (me.old.lost ≡ false)
+        × (me.new.entries ≡ me.old.entries ++ record { number = me.old.next; event = e } ∷ []) }
 {
     if let Some(event) = made {
         // Stored before the number is written: the number that was read is this event's until the pen goes back.

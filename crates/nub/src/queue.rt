@@ -18,7 +18,11 @@ pub fn push<U: Uses>(p: &Package<U>, me: &mut Thread<U>, at: Object)
     requires named { HasObject p.now.layout at }
     requires inside { me.old.spin ≡ Some (object_of at) }
     requires outside { me.old.stand ≡ None }
-    ensures gate { IsGate at → me.new ≡ record me.old { queue = me.old.queue ++ me.old.number ∷ []; left = me.old.left ++ me.old.number ∷ []; stand = Some record { at = object_of at; stage = Pushed } } }
+    ensures gate { IsGate at → me.new ≡ record me.old {
+      queue = me.old.queue ++ me.old.number ∷ [];
+      left = me.old.left ++ me.old.number ∷ [];
+      stand = Some record { at = object_of at; stage = Pushed };
+    } }
 {
     push_queue(p, me, at);
 }
@@ -30,7 +34,12 @@ pub fn remove<U: Uses>(p: &Package<U>, me: &mut Thread<U>, at: Object) -> bool
     requires inside { me.old.spin ≡ Some (object_of at) }
     requires clear { StandsAs (λ s. (s.at ≡ object_of at) × IsClear s.stage) me.old }
     ensures there { result ≡ mem me.old.number me.old.queue }
-    ensures out { result ≡ true → me.new ≡ record me.old { queue = less me.old.number me.old.queue; left = less me.old.number me.old.left; stand = None; turns = object_of at ∷ me.old.turns } }
+    ensures out { result ≡ true → me.new ≡ record me.old {
+      queue = less me.old.number me.old.queue;
+      left = less me.old.number me.old.left;
+      stand = None;
+      turns = object_of at ∷ me.old.turns;
+    } }
     ensures same { result ≡ false → me.new ≡ me.old }
 {
     take_out(p, me, at)
@@ -42,8 +51,15 @@ pub fn pop<U: Uses>(p: &Package<U>, me: &mut Thread<U>, at: Object) -> Option<Th
     requires named { HasObject p.now.layout at }
     requires inside { me.old.spin ≡ Some (object_of at) }
     ensures none { result ≡ None → me.old.queue ≡ [] }
-    ensures first { (t : ThreadId) → result ≡ Some t → (me.old.queue ≡ t.0 ∷ behind me.old.queue) × (me.new.owed ≡ me.old.owed ++ t.0 ∷ []) }
-    ensures gate { IsGate at → me.new ≡ record me.old { queue = behind me.old.queue; left = behind me.old.left; owed = me.new.owed; cleared = without (object_of at) me.old.cleared; looked = without (object_of at) me.old.looked } }
+    ensures first { (t : ThreadId) → result ≡ Some t → (me.old.queue ≡ t.0 ∷ behind me.old.queue)
+        × (me.new.owed ≡ me.old.owed ++ t.0 ∷ []) }
+    ensures gate { IsGate at → me.new ≡ record me.old {
+      queue = behind me.old.queue;
+      left = behind me.old.left;
+      owed = me.new.owed;
+      cleared = without (object_of at) me.old.cleared;
+      looked = without (object_of at) me.old.looked;
+    } }
     ensures owes { result ≡ None → me.new.owed ≡ me.old.owed }
 {
     pop_queue(p, me, at)

@@ -7,8 +7,8 @@ ghost use Rattle.nub_rule.specs.Parts.{HasTested};
 use nub_rule::{Package, Thread, Uses, clear_ready, park, read_ready};
 use std::sync::Wait;
 
-/// Sleeps until the ready word is found set, and clears it; it answers true then. It may wait for ever: only a thread that pops this one sets
-/// its ready word. `alertable` is false as long as nothing can be alerted.
+/// Sleeps until the ready word is found set, and clears it; it answers true then. It may wait for ever: only a thread that pops this one
+/// sets its ready word. `alertable` is false as long as nothing can be alerted.
 pub fn sleep<U: Uses, R: Wait>(rt: &R, p: &Package<U>, me: &mut Thread<U>, alertable: bool) -> bool
     requires of { me.old.table_id ≡ p.now.table_id }
     requires plain { alertable ≡ false }
@@ -16,13 +16,16 @@ pub fn sleep<U: Uses, R: Wait>(rt: &R, p: &Package<U>, me: &mut Thread<U>, alert
     requires tested { StandsAs (λ s. HasTested s.stage) me.old }
     requires looked { me.old.cleared ≡ [] }
     ensures ready { result ≡ true }
-    ensures at_gate { (s : Stand) → me.old.stand ≡ Some s → s.at < 128 → me.new ≡ record me.old { stand = None; turns = s.at ∷ me.old.turns } }
+    ensures at_gate { (s : Stand) → me.old.stand ≡ Some s → s.at < 128 → me.new ≡ record me.old {
+      stand = None;
+      turns = s.at ∷ me.old.turns;
+    } }
     ensures at_cond { (s : Stand) → me.old.stand ≡ Some s → 128 ≤ s.at → me.new ≡ record me.old { stand = None } }
 {
     let _ = alertable;
     for _ in rt.forever() {
-        // The ready word decides, not the parking: a thread may be unparked for nothing, or before it parks, which makes its next park return
-        // at once. So the word is read before each park, and no wake that comes between the two is lost.
+        // The ready word decides, not the parking: a thread may be unparked for nothing, or before it parks, which makes its next park
+        // return at once. So the word is read before each park, and no wake that comes between the two is lost.
         if read_ready(p, me) != 0 {
             // Cleared by its own thread alone, and only when found set: nobody sets it twice for one push.
             clear_ready(p, me);

@@ -18,7 +18,14 @@ pub fn enter<U: Uses, R: Wait>(rt: &R, p: &Package<U>, me: &mut Thread<U>, at: O
     requires named { HasObject p.now.layout at }
     requires outside { me.old.spin ≡ None }
     requires reason { HasReason (object_of at) me.old why }
-    ensures inside { me.new ≡ record me.old { spin = Some (object_of at); queue = me.new.queue; owed = []; left = me.new.queue; count = me.new.count; failed = without (object_of at) me.old.failed } }
+    ensures inside { me.new ≡ record me.old {
+      spin = Some (object_of at);
+      queue = me.new.queue;
+      owed = [];
+      left = me.new.queue;
+      count = me.new.count;
+      failed = without (object_of at) me.old.failed;
+    } }
     ensures small { Small most_threads me.new.queue }
     ensures there { mem me.old.number me.new.queue ≡ true → stands_at me.old.stand (object_of at) ≡ true }
 {

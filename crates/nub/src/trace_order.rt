@@ -50,7 +50,8 @@ fn are_whole(stored: &[Stored]) -> bool
     true
 }
 
-/// The history of which the threads have stored these lists, in linear time. Its one refusal is want of memory, here or when a list lost an entry.
+/// The history of which the threads have stored these lists, in linear time. Its one refusal is want of memory, here or when a list lost
+/// an entry.
 pub fn in_order(alloc: Global, stored: &[Stored]) -> Result<Vec<Event>, AllocError>
     requires { (h : List Event) × AreStored h stored.now }
     ensures { (h : List Event) → AreStored h stored.now → IfOk result (λ v. v.items ≡ h) }

@@ -20,6 +20,7 @@ pub mod Naming
 pub mod Owing
 pub mod Lessening
 pub mod Seen
+pub mod AtHand
 pub mod Turns
 pub mod Having
 pub mod Room

@@ -80,7 +80,7 @@ module _ {T H W : Type 0} (l : Layout) (traced : Bool) (w : W) (begin : W → �
       (lines-same (λ o. c.owed o ++ c.queue o) (λ o. c.owed o ++ c.queue o) words words all n p q at c.sizes.few (λ t lo. refl) (λ o. refl) refl c.lines)
       owes
 
-  pub lengths : (slots id o : ℕ) (me : Me (Slot T) (View T H W)) → o < 192 → me.0.kind ≡ Member → Allows (IsKept l traced w begin holds) slots id me (length_at o) (λ x. x) (measured (step slots (length_at o) 0 0 none) me)
+  lengths : (slots id o : ℕ) (me : Me (Slot T) (View T H W)) → o < 192 → me.0.kind ≡ Member → Allows (IsKept l traced w begin holds) slots id me (length_at o) (λ x. x) (measured (step slots (length_at o) 0 0 none) me)
   lengths slots id o me far kind = let v = me.0 in let n = v.number in let p = v.part in let i = length_at o in
       let Out : ℕ → Part T H → Type 0 = λ r q. (r ≡ 0 → q ≡ record p { cleared = without o p.cleared; looked = without o p.looked }) × (r ≢ 0 → mem o p.cleared ≡ true → q ≡ record p { looked = o ∷ p.looked }) × (r ≢ 0 → mem o p.cleared ≡ false → q ≡ p) in
       member_steps l traced w begin holds slots id i (λ x. x) v me.1 (λ r q ds. Out r q × (ds ≡ me.1)) (measured (step slots i 0 0 none) me) kind
@@ -91,7 +91,11 @@ module _ {T H W : Type 0} (l : Layout) (traced : Bool) (w : W) (begin : W → �
       (λ miss. elim (mem o p.cleared) as (λ b. b ≡ mem o p.cleared → (q : Part T H) × (a : Act (Slot T)) × Valid homes me.1 a × Core l traced w holds (set words i (get_or words i 0)) (homes_after homes me.1 a) (set all n q) × (Out (get_or words i 0) q × (carried_after me.1 a ≡ me.1)))
       [ true ↦ (λ is. (record p { looked = o ∷ p.looked }, keeps, tt, let q : Part T H = record p { looked = o ∷ p.looked } in notes n i p p.failed p.turns p.cleared (o ∷ p.looked) words homes all at c (owes-frame c.queue words words all n p q at (λ k lo. refl) refl refl refl c.owes), (((λ hit. absurd (miss hit)), (λ _ _. refl), (λ _ out. both_ways (mem o p.cleared) (sym is) out)), refl))) | false ↦ (λ is. (p, keeps, tt, notes n i p p.failed p.turns p.cleared p.looked words homes all at c (owes-frame c.queue words words all n p p at (λ k lo. refl) refl refl refl c.owes), (((λ hit. absurd (miss hit)), (λ _ is'. both_ways (mem o p.cleared) is' (sym is)), (λ _ _. refl)), refl))) ] refl))
 
-  pub pushes_gate : (slots id o r : ℕ) (me : Me (Slot T) (View T H W)) → o < 128 → me.0.kind ≡ Member → me.0.part.spin ≡ Some o → me.0.part.stand ≡ None → r ≡ length (me.0.part.queue ++ me.0.number ∷ [])
+  -- the same at a word that is this place
+  pub lengths_by : (slots id o : ℕ) (me : Me (Slot T) (View T H W)) (i : ℕ) → i ≡ length_at o → o < 192 → me.0.kind ≡ Member → Allows (IsKept l traced w begin holds) slots id me i (λ x. x) (measured (step slots i 0 0 none) me)
+  lengths_by slots id o me i word far kind = subst (λ (i : ℕ). Allows (IsKept l traced w begin holds) slots id me i (λ x. x) (measured (step slots i 0 0 none) me)) (sym word) (lengths slots id o me far kind)
+
+  pushes_gate : (slots id o r : ℕ) (me : Me (Slot T) (View T H W)) → o < 128 → me.0.kind ≡ Member → me.0.part.spin ≡ Some o → me.0.part.stand ≡ None → r ≡ length (me.0.part.queue ++ me.0.number ∷ [])
       → Allows (IsKept l traced w begin holds) slots id me (length_at o) (λ _. r) (λ _. pushed_gate (step slots (length_at o) r 0 none) me r)
   pushes_gate slots id o r me low kind here out long = let v = me.0 in let n = v.number in let p = v.part in let ys : List ℕ = p.queue ++ n ∷ [] in let st : Stand = record { at = o; stage = Pushed } in
       let q : Part T H = record p { queue = ys; left = p.left ++ n ∷ []; stand = Some st } in
@@ -114,7 +118,12 @@ module _ {T H W : Type 0} (l : Layout) (traced : Bool) (w : W) (begin : W → �
         (refl, refl),
       )))
 
-  pub leaves : (slots id o r : ℕ) (me : Me (Slot T) (View T H W)) (s : Stand) → o < 128 → me.0.kind ≡ Member → me.0.part.spin ≡ Some o → mem me.0.number me.0.part.queue ≡ true → r ≡ length (less me.0.number me.0.part.queue)
+  -- the same at a word that is this place
+  pub pushes_gate_by : (slots id o r : ℕ) (me : Me (Slot T) (View T H W)) (i : ℕ) → i ≡ length_at o → o < 128 → me.0.kind ≡ Member → me.0.part.spin ≡ Some o → me.0.part.stand ≡ None → r ≡ length (me.0.part.queue ++ me.0.number ∷ [])
+      → Allows (IsKept l traced w begin holds) slots id me i (λ _. r) (λ _. pushed_gate (step slots i r 0 none) me r)
+  pushes_gate_by slots id o r me i word low kind here out long = subst (λ (i : ℕ). Allows (IsKept l traced w begin holds) slots id me i (λ _. r) (λ _. pushed_gate (step slots i r 0 none) me r)) (sym word) (pushes_gate slots id o r me low kind here out long)
+
+  leaves : (slots id o r : ℕ) (me : Me (Slot T) (View T H W)) (s : Stand) → o < 128 → me.0.kind ≡ Member → me.0.part.spin ≡ Some o → mem me.0.number me.0.part.queue ≡ true → r ≡ length (less me.0.number me.0.part.queue)
       → Allows (IsKept l traced w begin holds) slots id me (length_at o) (λ _. r) (λ _. took_out (step slots (length_at o) r 0 none) me r)
   leaves slots id o r me s low kind here there long = let v = me.0 in let n = v.number in let p = v.part in let ys : List ℕ = less n p.queue in
       let q : Part T H = record p { queue = ys; left = less n p.left; stand = None; turns = o ∷ p.turns } in
@@ -140,7 +149,12 @@ module _ {T H W : Type 0} (l : Layout) (traced : Bool) (w : W) (begin : W → �
         (refl, refl),
       )))
 
-  pub pops_gate : (slots id o r : ℕ) (me : Me (Slot T) (View T H W)) → o < 128 → me.0.kind ≡ Member → me.0.part.spin ≡ Some o → r ≡ length (behind me.0.part.queue)
+  -- the same at a word that is this place
+  pub leaves_by : (slots id o r : ℕ) (me : Me (Slot T) (View T H W)) (s : Stand) (i : ℕ) → i ≡ length_at o → o < 128 → me.0.kind ≡ Member → me.0.part.spin ≡ Some o → mem me.0.number me.0.part.queue ≡ true → r ≡ length (less me.0.number me.0.part.queue)
+      → Allows (IsKept l traced w begin holds) slots id me i (λ _. r) (λ _. took_out (step slots i r 0 none) me r)
+  leaves_by slots id o r me s i word low kind here there long = subst (λ (i : ℕ). Allows (IsKept l traced w begin holds) slots id me i (λ _. r) (λ _. took_out (step slots i r 0 none) me r)) (sym word) (leaves slots id o r me s low kind here there long)
+
+  pops_gate : (slots id o r : ℕ) (me : Me (Slot T) (View T H W)) → o < 128 → me.0.kind ≡ Member → me.0.part.spin ≡ Some o → r ≡ length (behind me.0.part.queue)
       → Allows (IsKept l traced w begin holds) slots id me (length_at o) (λ _. r) (λ _. popped_gate (step slots (length_at o) r 0 none) me r)
   pops_gate slots id o r me low kind here long = let v = me.0 in let n = v.number in let p = v.part in let ys : List ℕ = behind p.queue in
       let q : Part T H = record p { queue = ys; owed = p.owed ++ front p.queue; left = behind p.left; cleared = without o p.cleared; looked = without o p.looked } in
@@ -165,3 +179,8 @@ module _ {T H W : Type 0} (l : Layout) (traced : Bool) (w : W) (begin : W → �
             (first_stands all (c.owed o) (c.queue o) words line (put c.queue o ys o) o c.lines refl (put-here c.queue o ys ∙ ap behind mine.1)) (λ e. put-here c.queue o ys ∙ (ap behind mine.1 ∙ ap behind e)) (λ k ne. put-else c.queue o k ys ne) refl refl refl c.owes),
         (refl, refl),
       )))
+
+  -- the same at a word that is this place
+  pub pops_gate_by : (slots id o r : ℕ) (me : Me (Slot T) (View T H W)) (i : ℕ) → i ≡ length_at o → o < 128 → me.0.kind ≡ Member → me.0.part.spin ≡ Some o → r ≡ length (behind me.0.part.queue)
+      → Allows (IsKept l traced w begin holds) slots id me i (λ _. r) (λ _. popped_gate (step slots i r 0 none) me r)
+  pops_gate_by slots id o r me i word low kind here long = subst (λ (i : ℕ). Allows (IsKept l traced w begin holds) slots id me i (λ _. r) (λ _. popped_gate (step slots i r 0 none) me r)) (sym word) (pops_gate slots id o r me low kind here long)

@@ -52,7 +52,7 @@ module _ {T H W : Type 0} (l : Layout) (traced : Bool) (w : W) (begin : W → �
       (subst (λ (z : ℕ). Says z (cond b false true)) (sym (get_or-set_same words i x 0 (omega arith))) says) refl refl refl refl c.shows)
       (λ z. owes (record (told p z e) { failed = failed; turns = turns; cleared = cleared }) refl refl refl)
 
-  pub tries_p : (slots id s : ℕ) (me : Me (Slot T) (View T H W)) → s < 64 → me.0.kind ≡ Member → me.0.part.wait ≡ None → MayTell traced me.0.part.pen
+  tries_p : (slots id s : ℕ) (me : Me (Slot T) (View T H W)) → s < 64 → me.0.kind ≡ Member → me.0.part.wait ≡ None → MayTell traced me.0.part.pen
       → Allows (IsKept l traced w begin holds) slots id me (bit_at (sem_object s)) (λ x. either (eqb x 0) 1 x) (tried_p (λ s. P record { 0 = s }) (step slots (bit_at (sem_object s)) 0 1 none) me)
   tries_p slots id s me low kind out may = let v = me.0 in let n = v.number in let p = v.part in let o : ℕ = sem_object s in let e = p_event n s in
       member_steps l traced w begin holds slots id (bit_at o) (λ x. either (eqb x 0) 1 x) v me.1
@@ -81,7 +81,12 @@ module _ {T H W : Type 0} (l : Layout) (traced : Bool) (w : W) (begin : W → �
         inr (miss, refl, refl),
       )))
 
-  pub clears_v : (slots id s : ℕ) (me : Me (Slot T) (View T H W)) → s < 64 → me.0.kind ≡ Member → me.0.part.wait ≡ None → me.0.part.stand ≡ None → MayTell traced me.0.part.pen
+  -- the same at a word that is this place
+  pub tries_p_by : (slots id s : ℕ) (me : Me (Slot T) (View T H W)) (i : ℕ) → i ≡ bit_at (sem_object s) → s < 64 → me.0.kind ≡ Member → me.0.part.wait ≡ None → MayTell traced me.0.part.pen
+      → Allows (IsKept l traced w begin holds) slots id me i (λ x. either (eqb x 0) 1 x) (tried_p (λ s. P record { 0 = s }) (step slots i 0 1 none) me)
+  tries_p_by slots id s me i word low kind out may = subst (λ (i : ℕ). Allows (IsKept l traced w begin holds) slots id me i (λ x. either (eqb x 0) 1 x) (tried_p (λ s. P record { 0 = s }) (step slots i 0 1 none) me)) (sym word) (tries_p slots id s me low kind out may)
+
+  clears_v : (slots id s : ℕ) (me : Me (Slot T) (View T H W)) → s < 64 → me.0.kind ≡ Member → me.0.part.wait ≡ None → me.0.part.stand ≡ None → MayTell traced me.0.part.pen
       → Allows (IsKept l traced w begin holds) slots id me (bit_at (sem_object s)) (λ _. 0) (cleared_v (step slots (bit_at (sem_object s)) 0 0 none) me)
   clears_v slots id s me low kind out apart may = let v = me.0 in let n = v.number in let p = v.part in let o : ℕ = sem_object s in let e = v_event n s in
       member_steps l traced w begin holds slots id (bit_at o) (λ _. 0) v me.1
@@ -93,3 +98,8 @@ module _ {T H W : Type 0} (l : Layout) (traced : Bool) (w : W) (begin : W → �
       let m = sem-marks e n s 0 true p p.failed p.turns (o ∷ p.cleared) words homes all c at low refl may (record { order = idle; requires_met = tt; when_met = tt; choice_met = tt }, refl) (inl (refl, refl))
       (λ q es et ec. owes-clear c.queue words (set words (bit_at o) 0) all n p q at o (λ k lo ne. other words (bit_at o) (bit_at k) 0 (λ z. ne (omega arith))) apart es ec et c.owes) in
       (m.0, keeps, tt, m.1, (m.2, refl)))
+
+  -- the same at a word that is this place
+  pub clears_v_by : (slots id s : ℕ) (me : Me (Slot T) (View T H W)) (i : ℕ) → i ≡ bit_at (sem_object s) → s < 64 → me.0.kind ≡ Member → me.0.part.wait ≡ None → me.0.part.stand ≡ None → MayTell traced me.0.part.pen
+      → Allows (IsKept l traced w begin holds) slots id me i (λ _. 0) (cleared_v (step slots i 0 0 none) me)
+  clears_v_by slots id s me i word low kind out apart may = subst (λ (i : ℕ). Allows (IsKept l traced w begin holds) slots id me i (λ _. 0) (cleared_v (step slots i 0 0 none) me)) (sym word) (clears_v slots id s me low kind out apart may)

@@ -142,6 +142,14 @@ module _ {T H W : Type 0} where
     raised = k.raised;
   }
 
+  -- the thread a with the history that b has seen, b's own events and their places
+  abbrev pub learnt : Known T H W → Known T H W → Known T H W
+  learnt a b = record a { seen = b.seen; mine = b.mine; places = b.places }
+
+  -- and with what b has stored, and the number that it read
+  abbrev pub recorded : Known T H W → Known T H W → Known T H W
+  recorded a b = record a { seen = b.seen; mine = b.mine; places = b.places; entries = b.entries; lost = b.lost; next = b.next }
+
   -- the thread has the bit of the mutex, and got x with it
   abbrev pub Holds : Known T H W → ℕ → T → Type 0
   Holds k m x = get_elem? k.held m ≡ some (Some x)

@@ -13,7 +13,8 @@ use larch_actions::ThreadId;
 /// Puts t last, and answers the length.
 pub fn push_line<T>(slot: &mut Slot<T>, t: u32) -> u64
     requires { (xs : List ℕ) × (slot.old ≡ Queue (line_of xs)) × (length xs < most_threads) }
-    ensures { (xs : List ℕ) → slot.old ≡ Queue (line_of xs) → (slot.new ≡ Queue (line_of (xs ++ t ∷ []))) × (result ≡ length (xs ++ t ∷ [])) }
+    ensures { (xs : List ℕ) → slot.old ≡ Queue (line_of xs) → (slot.new ≡ Queue (line_of (xs ++ t ∷ [])))
+        × (result ≡ length (xs ++ t ∷ [])) }
 {
     let Slot::Queue(line) = slot else {
         unreachable!()
@@ -25,7 +26,8 @@ pub fn push_line<T>(slot: &mut Slot<T>, t: u32) -> u64
 /// Takes the first out, if there is one, and answers it and the length.
 pub fn pop_line<T>(slot: &mut Slot<T>) -> (Option<ThreadId>, u64)
     requires { (xs : List ℕ) × (slot.old ≡ Queue (line_of xs)) }
-    ensures { (xs : List ℕ) → slot.old ≡ Queue (line_of xs) → (slot.new ≡ Queue (line_of (behind xs))) × (result.1 ≡ length (behind xs)) × (result.0 ≡ None → xs ≡ []) × ((t : ThreadId) → result.0 ≡ Some t → xs ≡ t.0 ∷ behind xs) }
+    ensures { (xs : List ℕ) → slot.old ≡ Queue (line_of xs) → (slot.new ≡ Queue (line_of (behind xs))) × (result.1 ≡ length (behind xs))
+        × (result.0 ≡ None → xs ≡ []) × ((t : ThreadId) → result.0 ≡ Some t → xs ≡ t.0 ∷ behind xs) }
 {
     let Slot::Queue(line) = slot else {
         unreachable!()
@@ -41,7 +43,8 @@ pub fn pop_line<T>(slot: &mut Slot<T>) -> (Option<ThreadId>, u64)
 fn place_in(line: &Line, t: u32) -> Option<usize>
     ensures none { result ≡ None → mem t line.now.items ≡ false }
     ensures fits { length line.now.items ≤ most_threads }
-    ensures first { (i : ℕ) → result ≡ Some i → (i < length line.now.items) × (get_or line.now.items i 0 ≡ t) × (mem t (take i line.now.items) ≡ false) }
+    ensures first { (i : ℕ) → result ≡ Some i → (i < length line.now.items) × (get_or line.now.items i 0 ≡ t)
+        × (mem t (take i line.now.items) ≡ false) }
 {
     for i in 0..line.len() {
         if line[i] == t {
@@ -55,7 +58,8 @@ fn place_in(line: &Line, t: u32) -> Option<usize>
 pub fn leave_line<T>(slot: &mut Slot<T>, t: u32) -> Option<u64>
     requires { (xs : List ℕ) × (slot.old ≡ Queue (line_of xs)) }
     ensures none { (xs : List ℕ) → slot.old ≡ Queue (line_of xs) → result ≡ None → (mem t xs ≡ false) × (slot.new ≡ slot.old) }
-    ensures out { (xs : List ℕ) (n : ℕ) → slot.old ≡ Queue (line_of xs) → result ≡ Some n → (mem t xs ≡ true) × (slot.new ≡ Queue (line_of (less t xs))) × (n ≡ length (less t xs)) × (n < most_threads) }
+    ensures out { (xs : List ℕ) (n : ℕ) → slot.old ≡ Queue (line_of xs) → result ≡ Some n → (mem t xs ≡ true)
+        × (slot.new ≡ Queue (line_of (less t xs))) × (n ≡ length (less t xs)) × (n < most_threads) }
 {
     let Slot::Queue(line) = slot else {
         unreachable!()

@@ -3,13 +3,14 @@ ghost use Rattle.std.specs.Prelude.{◌≡◌, ◌≢◌, ◌<◌, ◌∷◌, []
 ghost use mathlib.Core.Option.{some};
 ghost use lib.ListN.{get_elem?};
 ghost use Rattle.larch_actions.specs.Sets.{without};
-ghost use Rattle.nub_rule.specs.Known.{Holds, IsIn, IsOut, Makes, MayGive, PicksShare};
+ghost use Rattle.nub_rule.specs.Known.{Holds, IsIn, IsOut, Makes, MayGive, PicksShare, learnt};
 ghost use Rattle.nub_rule.specs.Parts.{MayTell, made};
 ghost use Rattle.nub_rule.specs.Plays.{MayTake, release_event};
 
 use crate::cell::{put_into, take_from};
 use crate::hand::bring;
 use crate::package::{Package, Thread};
+use crate::places::{VALUES, mutex_bit};
 use crate::rule::{ClearBit, TryBit};
 use crate::uses::{Change, Uses};
 use larch_actions::{Event, MutexId};
@@ -25,16 +26,24 @@ pub fn try_bit<U: Uses>(p: &Package<U>, me: &mut Thread<U>, m: MutexId, e: Event
     ensures lost { result ≢ 0 → me.new ≡ record me.old { failed = m.0 ∷ me.old.failed; turns = without m.0 me.old.turns } }
     ensures event { result ≡ 0 → Makes e me.old me.new }
     ensures lacked { result ≡ 0 → get_elem? me.old.held m.0 ≡ some None }
-    ensures won { result ≡ 0 → (x : U.Value) × Holds me.new m.0 x × IsIn me.new m.0 x × (me.new ≡ record me.old { seen = me.new.seen; mine = me.new.mine; places = me.new.places; held = slice_set me.old.held m.0 (Some x); wait = None; failed = without m.0 me.old.failed; turns = without m.0 me.old.turns; pen = made me.old.pen; values = slice_set me.old.values m.0 (Some (Some x)) })
+    ensures won { result ≡ 0 → (x : U.Value) × Holds me.new m.0 x × IsIn me.new m.0 x
+        × (me.new ≡ record (learnt me.old me.new) {
+          held = slice_set me.old.held m.0 (Some x);
+          wait = None;
+          failed = without m.0 me.old.failed;
+          turns = without m.0 me.old.turns;
+          pen = made me.old.pen;
+          values = slice_set me.old.values m.0 (Some (Some x));
+        })
         × ((w : U.World) (s : U.Share) → me.old.world ≡ Some w → me.old.share ≡ Some s → U.fits w m.0 x me.old.number s) }
 {
     let _event = e;
     let found = p
         .table
         .shared
-        .compare_exchange::<TryBit<U>>(&mut me.seat, 16 * m.0 as usize, 0, 1);
+        .compare_exchange::<TryBit<U>>(&mut me.seat, mutex_bit(m), 0, 1);
     if found == 0 {
-        me.hand.take(192 + m.0 as u16);
+        me.hand.take(VALUES + m.0 as u16);
     }
     found
 }
@@ -49,15 +58,21 @@ pub fn clear_bit<U: Uses, C: Change<U>>(p: &Package<U>, me: &mut Thread<U>, m: M
     requires pen { MayTell p.now.traced me.old.pen }
     ensures found { result ≡ 1 }
     ensures event { Makes (release_event me.old.number m.0) me.old me.new }
-    ensures gone { me.new ≡ record me.old { seen = me.new.seen; mine = me.new.mine; places = me.new.places; held = slice_set me.old.held m.0 None; share = me.new.share; cleared = m.0 ∷ me.old.cleared; pen = made me.old.pen; values = slice_set me.old.values m.0 None } }
+    ensures gone { me.new ≡ record (learnt me.old me.new) {
+      held = slice_set me.old.held m.0 None;
+      share = me.new.share;
+      cleared = m.0 ∷ me.old.cleared;
+      pen = made me.old.pen;
+      values = slice_set me.old.values m.0 None;
+    } }
     ensures share { PicksShare C.after m.0 me.old me.new }
 {
     prove!(m.0 < p.layout.mutexes);
-    bring(&mut me.hand, &mut me.seat, 192 + m.0 as u16);
+    bring(&mut me.hand, &mut me.seat, VALUES + m.0 as u16);
     me.hand.give();
     p.table
         .shared
-        .swap::<ClearBit<U, C>>(&mut me.seat, 16 * m.0 as usize, 0)
+        .swap::<ClearBit<U, C>>(&mut me.seat, mutex_bit(m), 0)
 }
 
 /// Moves the value of m out of its slot.
@@ -71,8 +86,11 @@ pub fn take_value<U: Uses>(p: &Package<U>, me: &mut Thread<U>, m: MutexId) -> U:
     ensures is_out { IsOut me.new m.0 }
 {
     prove!(m.0 < p.layout.mutexes);
-    bring(&mut me.hand, &mut me.seat, 192 + m.0 as u16);
-    take_from(me.seat.slot_mut(&p.table.shared, 192 + m.0 as usize))
+    bring(&mut me.hand, &mut me.seat, VALUES + m.0 as u16);
+    take_from(
+        me.seat
+            .slot_mut(&p.table.shared, VALUES as usize + m.0 as usize),
+    )
 }
 
 /// Moves a value into the slot of m.
@@ -85,6 +103,10 @@ pub fn put_value<U: Uses>(p: &Package<U>, me: &mut Thread<U>, m: MutexId, value:
     ensures is_in { IsIn me.new m.0 value }
 {
     prove!(m.0 < p.layout.mutexes);
-    bring(&mut me.hand, &mut me.seat, 192 + m.0 as u16);
-    put_into(me.seat.slot_mut(&p.table.shared, 192 + m.0 as usize), value);
+    bring(&mut me.hand, &mut me.seat, VALUES + m.0 as u16);
+    put_into(
+        me.seat
+            .slot_mut(&p.table.shared, VALUES as usize + m.0 as usize),
+        value,
+    );
 }

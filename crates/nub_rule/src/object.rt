@@ -1,6 +1,7 @@
 //! What has a queue, and why a thread takes its spin word.
 ghost use Rattle.std.specs.Prelude.{◌≡◌};
 
+use crate::places::SEMAPHORES;
 use larch_actions::{MutexId, SemId};
 
 /// A mutex or a semaphore.
@@ -21,6 +22,7 @@ pub enum Why {
 
 impl Object {
     ghost use Rattle.nub_rule.specs.Objects.{object_of};
+    ghost use Rattle.nub_rule.specs.Places.{bit_at, spin_at, length_at};
 
     /// The number that tells the places of its words.
     #[inline]
@@ -29,7 +31,31 @@ impl Object {
     {
         match self {
             Object::Mutex(m) => m.0 as usize,
-            Object::Sem(s) => 64 + s.0 as usize,
+            Object::Sem(s) => SEMAPHORES + s.0 as usize,
         }
+    }
+
+    /// Its bit.
+    #[inline]
+    pub(crate) fn bit_word(self) -> usize
+        ensures { result ≡ bit_at (object_of self) }
+    {
+        16 * self.number()
+    }
+
+    /// Its spin word.
+    #[inline]
+    pub(crate) fn spin_word(self) -> usize
+        ensures { result ≡ spin_at (object_of self) }
+    {
+        16 * self.number() + 1
+    }
+
+    /// The length of its queue.
+    #[inline]
+    pub(crate) fn length_word(self) -> usize
+        ensures { result ≡ length_at (object_of self) }
+    {
+        16 * self.number() + 2
     }
 }

@@ -2,6 +2,7 @@
 ghost use Rattle.std.specs.Prelude.{◌≡◌};
 
 use crate::hand::Hand;
+use crate::places::{MUTEXES, VALUES};
 use crate::rule::{About, Kept, Slot};
 use crate::uses::Uses;
 use crate::view::View;
@@ -115,6 +116,6 @@ impl<U: Uses> Thread<U> {
         ensures yes { result ≡ true → (x : U.Value) × Holds self.now m.0 x }
         ensures no { result ≡ false → (x : U.Value) → ¬ Holds self.now m.0 x }
     {
-        m.0 < 64 && self.hand.has(192 + m.0 as u16)
+        m.0 < MUTEXES && self.hand.has(VALUES + m.0 as u16)
     }
 }

@@ -65,7 +65,10 @@ pub fn next_number<U: Uses>(me: &Thread<U>) -> u64
 #[inline]
 pub fn store_event<U: Uses>(me: &mut Thread<U>, e: Event)
     ensures kept { me.new ≡ record me.old { entries = me.new.entries; lost = me.new.lost } }
-    ensures stored { me.new.lost ≡ false → (me.old.lost ≡ false) × (me.new.entries ≡ me.old.entries ++ record { number = me.old.next; event = e } ∷ []) }
+    ensures stored { me.new.lost ≡ false → (me.old.lost ≡ false) × (me.new.entries ≡ me.old.entries ++ record {
+      number = me.old.next;
+      event = e;
+    } ∷ []) }
 {
     let entry = Entry {
         number: me.next,

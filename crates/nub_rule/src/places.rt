@@ -1,12 +1,23 @@
 //! How many threads a package may have, and where its words and slots stand, under the names of specs/Places.antt.
 ghost use Rattle.std.specs.Prelude.{◌≡◌};
-ghost use Rattle.nub_rule.specs.Places.{ready_at};
+ghost use Rattle.nub_rule.specs.Places.{bit_at, sem_object, ready_at};
+
+use larch_actions::{MutexId, SemId};
 
 /// So many threads at most.
 pub const MOST_THREADS: usize = 64;
 
+/// So many mutexes at most.
+pub const MUTEXES: u32 = 64;
+
+/// The number of the first semaphore among objects.
+pub const SEMAPHORES: usize = 64;
+
 /// So many queues, which come before the values.
 pub const QUEUES: usize = 192;
+
+/// The slot of the first mutex's value.
+pub const VALUES: u16 = 192;
 
 /// The pen.
 pub const PEN: usize = 3072;
@@ -16,6 +27,22 @@ pub const NUMBER: usize = 3073;
 
 /// So many words.
 pub const WORDS: usize = 3088 + 16 * MOST_THREADS;
+
+/// The bit of a mutex.
+#[inline]
+pub fn mutex_bit(m: MutexId) -> usize
+    ensures { result ≡ bit_at m.0 }
+{
+    16 * m.0 as usize
+}
+
+/// The bit of a semaphore.
+#[inline]
+pub fn semaphore_bit(s: SemId) -> usize
+    ensures { result ≡ bit_at (sem_object s.0) }
+{
+    16 * (SEMAPHORES + s.0 as usize)
+}
 
 /// The ready word of a thread.
 #[inline]

@@ -17,17 +17,23 @@ use crate::rule::{PopGate, PushGate, ReadLength, TakeOut, TestAgain};
 use crate::uses::Uses;
 use larch_actions::ThreadId;
 
-/// Reads the length of a queue, after a clearing of the bit.
+/// Reads the length of a queue. Read after a clearing of the bit, it tells whether somebody may have to be woken: whoever pushes itself
+/// later finds the bit clear at its second test.
 #[inline]
 pub fn read_length<U: Uses>(p: &Package<U>, me: &mut Thread<U>, at: Object) -> u64
     requires of { me.old.table_id ≡ p.now.table_id }
     requires named { HasObject p.now.layout at }
-    ensures empty { result ≡ 0 → me.new ≡ record me.old { cleared = without (object_of at) me.old.cleared; looked = without (object_of at) me.old.looked } }
-    ensures seen { result ≢ 0 → mem (object_of at) me.old.cleared ≡ true → me.new ≡ record me.old { looked = object_of at ∷ me.old.looked } }
+    ensures empty { result ≡ 0 → me.new ≡ record me.old {
+      cleared = without (object_of at) me.old.cleared;
+      looked = without (object_of at) me.old.looked;
+    } }
+    ensures seen { result ≢ 0 → mem (object_of at) me.old.cleared ≡ true
+        → me.new ≡ record me.old { looked = object_of at ∷ me.old.looked } }
     ensures same { result ≢ 0 → mem (object_of at) me.old.cleared ≡ false → me.new ≡ me.old }
 {
-    let o = at.number();
-    p.table.shared.load::<ReadLength>(&mut me.seat, 16 * o + 2)
+    p.table
+        .shared
+        .load::<ReadLength>(&mut me.seat, at.length_word())
 }
 
 /// Puts the thread last into the queue.
@@ -36,7 +42,11 @@ pub fn push_queue<U: Uses>(p: &Package<U>, me: &mut Thread<U>, at: Object)
     requires named { HasObject p.now.layout at }
     requires inside { me.old.spin ≡ Some (object_of at) }
     requires outside { me.old.stand ≡ None }
-    ensures gate { IsGate at → me.new ≡ record me.old { queue = me.old.queue ++ me.old.number ∷ []; left = me.old.left ++ me.old.number ∷ []; stand = Some record { at = object_of at; stage = Pushed } } }
+    ensures gate { IsGate at → me.new ≡ record me.old {
+      queue = me.old.queue ++ me.old.number ∷ [];
+      left = me.old.left ++ me.old.number ∷ [];
+      stand = Some record { at = object_of at; stage = Pushed };
+    } }
 {
     match at {
         Object::Mutex(_) | Object::Sem(_) => push_gate(p, me, at),
@@ -49,17 +59,22 @@ fn push_gate<U: Uses>(p: &Package<U>, me: &mut Thread<U>, at: Object)
     requires gate { IsGate at }
     requires inside { me.old.spin ≡ Some (object_of at) }
     requires outside { me.old.stand ≡ None }
-    ensures { me.new ≡ record me.old { queue = me.old.queue ++ me.old.number ∷ []; left = me.old.left ++ me.old.number ∷ []; stand = Some record { at = object_of at; stage = Pushed } } }
+    ensures { me.new ≡ record me.old {
+      queue = me.old.queue ++ me.old.number ∷ [];
+      left = me.old.left ++ me.old.number ∷ [];
+      stand = Some record { at = object_of at; stage = Pushed };
+    } }
 {
     let o = at.number();
     bring(&mut me.hand, &mut me.seat, o as u16);
+    // The list is this thread's while it has the spin word. Others see the length word, so that is the step.
     let length = push_line(me.seat.slot_mut(&p.table.shared, o), me.number);
     p.table
         .shared
-        .store::<PushGate>(&mut me.seat, 16 * o + 2, length);
+        .store::<PushGate>(&mut me.seat, at.length_word(), length);
 }
 
-/// Reads the bit again, after the push.
+/// Reads the bit again, after the push: a thread that found it set before may have pushed itself after the clearing's look at the queue.
 pub fn test_again<U: Uses>(p: &Package<U>, me: &mut Thread<U>, at: Object) -> u64
     requires of { me.old.table_id ≡ p.now.table_id }
     requires named { HasObject p.now.layout at }
@@ -68,8 +83,9 @@ pub fn test_again<U: Uses>(p: &Package<U>, me: &mut Thread<U>, at: Object) -> u6
     ensures clear { result ≡ 0 → me.new ≡ record me.old { stand = staged Clear me.old.stand } }
     ensures tested { result ≢ 0 → me.new ≡ record me.old { stand = staged Tested me.old.stand } }
 {
-    let o = at.number();
-    p.table.shared.load::<TestAgain>(&mut me.seat, 16 * o)
+    p.table
+        .shared
+        .load::<TestAgain>(&mut me.seat, at.bit_word())
 }
 
 /// Takes the thread out of the queue, after it found the bit clear. It answers whether the thread was in it.
@@ -79,7 +95,12 @@ pub fn take_out<U: Uses>(p: &Package<U>, me: &mut Thread<U>, at: Object) -> bool
     requires inside { me.old.spin ≡ Some (object_of at) }
     requires clear { StandsAs (λ s. (s.at ≡ object_of at) × IsClear s.stage) me.old }
     ensures there { result ≡ mem me.old.number me.old.queue }
-    ensures out { result ≡ true → me.new ≡ record me.old { queue = less me.old.number me.old.queue; left = less me.old.number me.old.left; stand = None; turns = object_of at ∷ me.old.turns } }
+    ensures out { result ≡ true → me.new ≡ record me.old {
+      queue = less me.old.number me.old.queue;
+      left = less me.old.number me.old.left;
+      stand = None;
+      turns = object_of at ∷ me.old.turns;
+    } }
     ensures same { result ≡ false → me.new ≡ me.old }
 {
     let o = at.number();
@@ -89,7 +110,7 @@ pub fn take_out<U: Uses>(p: &Package<U>, me: &mut Thread<U>, at: Object) -> bool
     };
     p.table
         .shared
-        .store::<TakeOut>(&mut me.seat, 16 * o + 2, length);
+        .store::<TakeOut>(&mut me.seat, at.length_word(), length);
     true
 }
 
@@ -100,8 +121,15 @@ pub fn pop_queue<U: Uses>(p: &Package<U>, me: &mut Thread<U>, at: Object) -> Opt
     requires inside { me.old.spin ≡ Some (object_of at) }
     ensures none { result ≡ None → me.old.queue ≡ [] }
     ensures owes { result ≡ None → me.new.owed ≡ me.old.owed }
-    ensures first { (t : ThreadId) → result ≡ Some t → (me.old.queue ≡ t.0 ∷ behind me.old.queue) × (me.new.owed ≡ me.old.owed ++ t.0 ∷ []) }
-    ensures gate { IsGate at → me.new ≡ record me.old { queue = behind me.old.queue; left = behind me.old.left; owed = me.new.owed; cleared = without (object_of at) me.old.cleared; looked = without (object_of at) me.old.looked } }
+    ensures first { (t : ThreadId) → result ≡ Some t → (me.old.queue ≡ t.0 ∷ behind me.old.queue)
+        × (me.new.owed ≡ me.old.owed ++ t.0 ∷ []) }
+    ensures gate { IsGate at → me.new ≡ record me.old {
+      queue = behind me.old.queue;
+      left = behind me.old.left;
+      owed = me.new.owed;
+      cleared = without (object_of at) me.old.cleared;
+      looked = without (object_of at) me.old.looked;
+    } }
 {
     match at {
         Object::Mutex(_) | Object::Sem(_) => pop_gate(p, me, at),
@@ -115,22 +143,29 @@ fn pop_gate<U: Uses>(p: &Package<U>, me: &mut Thread<U>, at: Object) -> Option<T
     requires inside { me.old.spin ≡ Some (object_of at) }
     ensures none { result ≡ None → me.old.queue ≡ [] }
     ensures owes { result ≡ None → me.new.owed ≡ me.old.owed }
-    ensures first { (t : ThreadId) → result ≡ Some t → (me.old.queue ≡ t.0 ∷ behind me.old.queue) × (me.new.owed ≡ me.old.owed ++ t.0 ∷ []) }
-    ensures out { me.new ≡ record me.old { queue = behind me.old.queue; left = behind me.old.left; owed = me.new.owed; cleared = without (object_of at) me.old.cleared; looked = without (object_of at) me.old.looked } }
+    ensures first { (t : ThreadId) → result ≡ Some t → (me.old.queue ≡ t.0 ∷ behind me.old.queue)
+        × (me.new.owed ≡ me.old.owed ++ t.0 ∷ []) }
+    ensures out { me.new ≡ record me.old {
+      queue = behind me.old.queue;
+      left = behind me.old.left;
+      owed = me.new.owed;
+      cleared = without (object_of at) me.old.cleared;
+      looked = without (object_of at) me.old.looked;
+    } }
 {
     let o = at.number();
     bring(&mut me.hand, &mut me.seat, o as u16);
     let (first, length) = pop_line(me.seat.slot_mut(&p.table.shared, o));
     p.table
         .shared
-        .store::<PopGate>(&mut me.seat, 16 * o + 2, length);
+        .store::<PopGate>(&mut me.seat, at.length_word(), length);
     first
 }
 
-/// Looks at a bit. It is no step, and tells nothing.
+/// Looks at a bit. Not an atomic step of the rule: the view stays, and no clause speaks of the result.
 #[inline]
 pub fn peek_bit<U: Uses>(p: &Package<U>, at: Object) -> u64
     requires { HasObject p.now.layout at }
 {
-    p.table.shared.peek(16 * at.number())
+    p.table.shared.peek(at.bit_word())
 }

@@ -22,6 +22,7 @@ pub fn set_ready<U: Uses>(p: &Package<U>, me: &mut Thread<U>, t: ThreadId) -> u6
     ensures found { result ≡ 0 }
     ensures owes { me.new ≡ record me.old { owed = without t.0 me.old.owed } }
 {
+    // First the word, then the unparking: a thread that wakes up reads the word, and would park again if it weren't set yet.
     let found = p
         .table
         .shared
@@ -53,7 +54,10 @@ pub fn clear_ready<U: Uses>(p: &Package<U>, me: &mut Thread<U>) -> u64
     requires outside { me.old.spin ≡ None }
     requires ready { StandsAs (λ s. IsFound s.stage) me.old }
     ensures found { result ≡ 1 }
-    ensures at_gate { (s : Stand) → me.old.stand ≡ Some s → s.at < 128 → me.new ≡ record me.old { stand = None; turns = s.at ∷ me.old.turns } }
+    ensures at_gate { (s : Stand) → me.old.stand ≡ Some s → s.at < 128 → me.new ≡ record me.old {
+      stand = None;
+      turns = s.at ∷ me.old.turns;
+    } }
     ensures at_cond { (s : Stand) → me.old.stand ≡ Some s → 128 ≤ s.at → me.new ≡ record me.old { stand = None } }
 {
     p.table
@@ -61,7 +65,8 @@ pub fn clear_ready<U: Uses>(p: &Package<U>, me: &mut Thread<U>) -> u64
         .swap::<ClearReady>(&mut me.seat, ready_word(me.number), 0)
 }
 
-/// Sleeps until another thread unparks this one, or for no reason. It is no step, and tells nothing.
+/// Sleeps until another thread unparks this one, or for no reason; it returns at once where an unparking came before. Not an atomic step of
+/// the rule: the view stays, and no clause speaks of the result.
 pub fn park<U: Uses, R: Wait>(rt: &R, me: &Thread<U>) {
     me.parker.park(rt);
 }

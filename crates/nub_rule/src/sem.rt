@@ -1,12 +1,13 @@
 //! The steps on the bit of a semaphore.
 ghost use Rattle.std.specs.Prelude.{◌≡◌, ◌≢◌, ◌<◌, ◌∷◌, None};
 ghost use Rattle.larch_actions.specs.Sets.{without};
-ghost use Rattle.nub_rule.specs.Known.{Makes};
+ghost use Rattle.nub_rule.specs.Known.{Makes, learnt};
 ghost use Rattle.nub_rule.specs.Parts.{MayTell, made};
 ghost use Rattle.nub_rule.specs.Places.{sem_object};
 ghost use Rattle.nub_rule.specs.Plays.{p_event, v_event};
 
 use crate::package::{Package, Thread};
+use crate::places::semaphore_bit;
 use crate::rule::{ClearSem, TryP};
 use crate::uses::Uses;
 use larch_actions::{Event, SemId};
@@ -19,14 +20,21 @@ pub fn try_p<U: Uses>(p: &Package<U>, me: &mut Thread<U>, s: SemId, e: Event) ->
     requires outside { (me.old.spin ≡ None) × (me.old.stand ≡ None) }
     requires may { (me.old.wait ≡ None) × (e ≡ p_event me.old.number s.0) }
     requires pen { MayTell p.now.traced me.old.pen }
-    ensures lost { result ≢ 0 → me.new ≡ record me.old { failed = sem_object s.0 ∷ me.old.failed; turns = without (sem_object s.0) me.old.turns } }
+    ensures lost { result ≢ 0 → me.new ≡ record me.old {
+      failed = sem_object s.0 ∷ me.old.failed;
+      turns = without (sem_object s.0) me.old.turns;
+    } }
     ensures event { result ≡ 0 → Makes e me.old me.new }
-    ensures won { result ≡ 0 → me.new ≡ record me.old { seen = me.new.seen; mine = me.new.mine; places = me.new.places; failed = without (sem_object s.0) me.old.failed; turns = without (sem_object s.0) me.old.turns; pen = made me.old.pen } }
+    ensures won { result ≡ 0 → me.new ≡ record (learnt me.old me.new) {
+      failed = without (sem_object s.0) me.old.failed;
+      turns = without (sem_object s.0) me.old.turns;
+      pen = made me.old.pen;
+    } }
 {
     let _event = e;
     p.table
         .shared
-        .compare_exchange::<TryP>(&mut me.seat, 16 * (64 + s.0 as usize), 0, 1)
+        .compare_exchange::<TryP>(&mut me.seat, semaphore_bit(s), 0, 1)
 }
 
 /// Clears the bit of s.
@@ -37,9 +45,9 @@ pub fn clear_sem<U: Uses>(p: &Package<U>, me: &mut Thread<U>, s: SemId) -> u64
     requires outside { (me.old.wait ≡ None) × (me.old.stand ≡ None) }
     requires pen { MayTell p.now.traced me.old.pen }
     ensures event { Makes (v_event me.old.number s.0) me.old me.new }
-    ensures cleared { me.new ≡ record me.old { seen = me.new.seen; mine = me.new.mine; places = me.new.places; cleared = sem_object s.0 ∷ me.old.cleared; pen = made me.old.pen } }
+    ensures cleared { me.new ≡ record (learnt me.old me.new) { cleared = sem_object s.0 ∷ me.old.cleared; pen = made me.old.pen } }
 {
     p.table
         .shared
-        .swap::<ClearSem>(&mut me.seat, 16 * (64 + s.0 as usize), 0)
+        .swap::<ClearSem>(&mut me.seat, semaphore_bit(s), 0)
 }

@@ -20,7 +20,14 @@ pub fn take_spin<U: Uses>(p: &Package<U>, me: &mut Thread<U>, at: Object, why: W
     requires outside { me.old.spin ≡ None }
     requires reason { HasReason (object_of at) me.old why }
     ensures lost { result ≢ 0 → me.new ≡ me.old }
-    ensures won { result ≡ 0 → me.new ≡ record me.old { spin = Some (object_of at); queue = me.new.queue; owed = []; left = me.new.queue; count = me.new.count; failed = without (object_of at) me.old.failed } }
+    ensures won { result ≡ 0 → me.new ≡ record me.old {
+      spin = Some (object_of at);
+      queue = me.new.queue;
+      owed = [];
+      left = me.new.queue;
+      count = me.new.count;
+      failed = without (object_of at) me.old.failed;
+    } }
     ensures small { result ≡ 0 → Small most_threads me.new.queue }
     ensures room { result ≡ 0 → me.old.stand ≡ None → length me.new.queue < most_threads }
     ensures there { result ≡ 0 → mem me.old.number me.new.queue ≡ true → stands_at me.old.stand (object_of at) ≡ true }
@@ -29,7 +36,7 @@ pub fn take_spin<U: Uses>(p: &Package<U>, me: &mut Thread<U>, at: Object, why: W
     let found = p
         .table
         .shared
-        .compare_exchange::<TakeSpin>(&mut me.seat, 16 * o + 1, 0, 1);
+        .compare_exchange::<TakeSpin>(&mut me.seat, at.spin_word(), 0, 1);
     if found == 0 {
         me.hand.take(o as u16);
     }
@@ -49,5 +56,7 @@ pub fn give_spin<U: Uses>(p: &Package<U>, me: &mut Thread<U>, at: Object) -> u64
     let o = at.number();
     bring(&mut me.hand, &mut me.seat, o as u16);
     me.hand.give();
-    p.table.shared.swap::<GiveSpin>(&mut me.seat, 16 * o + 1, 0)
+    p.table
+        .shared
+        .swap::<GiveSpin>(&mut me.seat, at.spin_word(), 0)
 }

@@ -1,5 +1,6 @@
 //! Opening and closing a package.
-ghost use Rattle.std.specs.Prelude.{Some, None, false, slice_index, slice_index_or, ◌≡◌, ◌≢◌, ℕ, ◌+◌, ◌<◌, ◌≤◌, [], ◌∷◌, ◌++◌, map, length, replicate, IfOk, vec_len, vec_capacity};
+ghost use Rattle.std.specs.Prelude.{Some, None, false, slice_index, slice_index_or, ◌≡◌, ◌≢◌, ℕ, ◌+◌, ◌<◌, ◌≤◌, [], ◌∷◌, ◌++◌, map};
+ghost use Rattle.std.specs.Prelude.{length, replicate, IfOk, vec_len, vec_capacity};
 ghost use Rattle.std.specs.Mem.Slots.{slots_items, slots_filled, slots_len, IsFull};
 ghost use Rattle.std.specs.Mem.Slots.Ownership.{Filled};
 ghost use mathlib.Core.Option.{some};
@@ -189,7 +190,8 @@ fn gather_all<U: Uses>(
     ensures of { result.seat.table_id ≡ shared.now.table_id }
     ensures kind { result.seat.me.0.kind ≡ Collector }
     ensures back { result.seat.me.0.back ≡ map (λ t. part_of t) threads.items }
-    ensures stored { (map (λ s. s.entries.items) result.stored.items ≡ map (λ t. t.entries) threads.items) × (map (λ s. s.lost) result.stored.items ≡ map (λ t. t.lost) threads.items) }
+    ensures stored { (map (λ s. s.entries.items) result.stored.items ≡ map (λ t. t.entries) threads.items)
+        × (map (λ s. s.lost) result.stored.items ≡ map (λ t. t.lost) threads.items) }
     ensures room { (result.room.items ≡ []) × (shared.now.table_id.slots ≤ 192 + vec_capacity result.room) }
 {
     let (_, mut seat) = shared.load_new_seat::<Collect>(0);
@@ -238,7 +240,8 @@ fn drop_queues<T: Drop>(closed: &mut Closed<Slot<T>, Global>)
     requires { IsFull closed.old.slots × (192 ≤ slots_len closed.old.slots) }
     ensures len { slots_len closed.new.slots ≡ slots_len closed.old.slots }
     ensures items { slots_items closed.new.slots ≡ slots_items closed.old.slots }
-    ensures filled { Filled (slots_filled closed.new.slots) 192 (slots_len closed.new.slots) × ((k : ℕ) → k < 192 → slice_index_or (slots_filled closed.new.slots) k false ≡ false) }
+    ensures filled { Filled (slots_filled closed.new.slots) 192 (slots_len closed.new.slots) × ((k : ℕ) → k < 192
+        → slice_index_or (slots_filled closed.new.slots) k false ≡ false) }
 {
     for i in 0..QUEUES {
         drop(closed.take(i));
@@ -261,9 +264,11 @@ fn value_in<T: Drop>(slot: Slot<T>) -> T
 fn values_of<T: Drop>(mut values: Vec<T>, mut closed: Closed<Slot<T>, Global>) -> Vec<T>
     requires full { IsFull closed.slots × (192 ≤ slots_len closed.slots) }
     requires room { (values.items ≡ []) × (slots_len closed.slots ≤ 192 + vec_capacity values) }
-    requires values { (m : ℕ) → 192 + m < slots_len closed.slots → (x : T) × (get_elem? (slots_items closed.slots) (192 + m) ≡ some (Value (Some x))) }
+    requires values { (m : ℕ) → 192 + m < slots_len closed.slots → (x : T)
+        × (get_elem? (slots_items closed.slots) (192 + m) ≡ some (Value (Some x))) }
     ensures count { 192 + length result.items ≡ slots_len closed.slots }
-    ensures values { (m : ℕ) (x : T) → get_elem? (slots_items closed.slots) (192 + m) ≡ some (Value (Some x)) → get_elem? result.items m ≡ some x }
+    ensures values { (m : ℕ) (x : T) → get_elem? (slots_items closed.slots) (192 + m) ≡ some (Value (Some x))
+        → get_elem? result.items m ≡ some x }
 {
     drop_queues(&mut closed);
     for i in QUEUES..closed.slot_count() {
@@ -279,8 +284,10 @@ pub fn close_package<U: Uses>(alloc: Global, p: Package<U>, threads: Vec<Thread<
     requires count { length threads.items ≡ p.layout.threads }
     requires threads { Each (λ n t. (t.number ≡ n) × (t.table_id ≡ p.table_id) × (t.spin ≡ None) × HasNone t) threads.items }
     requires rest { Each (λ n t. t.wait ≡ None) threads.items }
-    ensures values { (length result.values.items ≡ p.layout.mutexes) × Leaves (U.holds p.world) (map (λ t. part_of t) threads.items) result.values.items }
-    ensures stored { (map (λ s. s.entries.items) result.stored.items ≡ map (λ t. t.entries) threads.items) × (map (λ s. s.lost) result.stored.items ≡ map (λ t. t.lost) threads.items) }
+    ensures values { (length result.values.items ≡ p.layout.mutexes)
+        × Leaves (U.holds p.world) (map (λ t. part_of t) threads.items) result.values.items }
+    ensures stored { (map (λ s. s.entries.items) result.stored.items ≡ map (λ t. t.entries) threads.items)
+        × (map (λ s. s.lost) result.stored.items ≡ map (λ t. t.lost) threads.items) }
 {
     let Package {
         layout: _,

@@ -1,5 +1,5 @@
 use Rattle.std.proofs.Common.{◌≡◌, ◌++◌, ◌∷◌, [], true, List, ℕ, rules, ap, sym, subst, ◌∙◌}
-use Rattle.larch_actions.specs.Sets.{mem, without}
+use Rattle.larch_actions.specs.Sets.{mem}
 use Rattle.nub_rule.specs.Places.{most_threads}
 use Rattle.nub_rule.specs.Plays.{behind}
 use Rattle.nub.proofs.Without.{mem_own, less_owed, first_small}

@@ -1,34 +1,37 @@
-use Rattle.std.proofs.Common.{rules, arith, ◌≡◌, ◌∙◌, ◌∷◌, ℕ, ap, sym, refl, Some, None, set}
-use Rattle.nub_rule.specs.declared.rule.Slot.TheVariants.{Value}
-use Rattle.nub_rule.specs.Known.{known_as}
-use Rattle.nub_rule.specs.Places.{value_at}
-use Rattle.nub_rule.proofs.Naming.{mutex_low}
-use Rattle.nub_rule.proofs.Handling.{refilled, same_slot, values-set, value-found, value-there, hands-value}
-use Rattle.nub_rule.proofs.Seen.{as_known, fit_moved}
+use Rattle.std.proofs.Common.{rules, ◌∙◌, ap, sym, Some, None}
 use mathlib.Core.Option.{some}
 use lib.ListN.{get_elem?}
-use Rattle.atomic_table.specs.Table.{rest}
-use Rattle.nub_rule.specs.Known.{value_in}
+use Rattle.nub_rule.specs.declared.rule.Slot.TheVariants.{Value}
+use Rattle.nub_rule.specs.Places.{value_at}
+use Rattle.nub_rule.proofs.Naming.{mutex_low}
+use Rattle.nub_rule.proofs.Handling.{same_slot}
 use Rattle.nub_rule.proofs.Seen.{value_of}
+use Rattle.nub_rule.proofs.AtHand.{ValueAtHand, value_at_hand, value_is, moved, set_at}
+use Rattle.nub_rule.proofs.mutex.take_value.Given.{Over}
+use Rattle.nub_rule.proofs.mutex.take_value.Goals.{After-bring}
 use Rattle.nub_rule.proofs.mutex.take_value.Goals as goal
 
 pub bring-requires-clause-there : goal.bring-requires-clause-there
-bring-requires-clause-there g c = let m : ℕ = c.args.m.0 in let isin : get_elem? (known_as c.me.inside.seat.table_id c.me.inside.number c.me.inside.seat.me c.me.inside.entries.items c.me.inside.lost c.me.inside.next).values m ≡ some (Some (Some c.requires.has.0)) = ap (λ k. get_elem? k.values m) c.me.view_is ∙ c.requires.has.1 in let there = value-found m (Some c.requires.has.0) c.me.inside.seat.me.1 isin in (Value (Some c.requires.has.0), there)
+bring-requires-clause-there g c = (Value (Some c.requires.has.0), value_is _ _ _ _ _ _ c.me.inside.seat.me _ c.me.view_is c.requires.has.1)
+
+-- the value stands first in the hand
+at_hand : (g : Over) (c : After-bring g) → ValueAtHand c.me.inside.seat.me c.bring.new.seat.me c.bring.new.hand c.args.m.0 (Some c.requires.has.0)
+at_hand g c = let b = c.bring.ensures in value_at_hand _ _ _ _ _ (value_is _ _ _ _ _ _ c.me.inside.seat.me _ c.me.view_is c.requires.has.1) b.same.2 b.keys b.distinct b.below b.hand b.first
 
 pub slot_mut-requires : goal.slot_mut-requires
-slot_mut-requires g c = let m : ℕ = c.args.m.0 in let isin : get_elem? (known_as c.me.inside.seat.table_id c.me.inside.number c.me.inside.seat.me c.me.inside.entries.items c.me.inside.lost c.me.inside.next).values m ≡ some (Some (Some c.requires.has.0)) = ap (λ k. get_elem? k.values m) c.me.view_is ∙ c.requires.has.1 in let there = value-found m (Some c.requires.has.0) c.me.inside.seat.me.1 isin in (search rules, (Value (Some c.requires.has.0), c.bring.ensures.first _ there))
+slot_mut-requires g c = (search rules, (Value (Some c.requires.has.0), (at_hand g (goal.at.slot_mut-requires g c).After-bring).first))
 
 pub take_from-requires : goal.take_from-requires
-take_from-requires g c = let m : ℕ = c.args.m.0 in let isin : get_elem? (known_as c.me.inside.seat.table_id c.me.inside.number c.me.inside.seat.me c.me.inside.entries.items c.me.inside.lost c.me.inside.next).values m ≡ some (Some (Some c.requires.has.0)) = ap (λ k. get_elem? k.values m) c.me.view_is ∙ c.requires.has.1 in let there = value-found m (Some c.requires.has.0) c.me.inside.seat.me.1 isin in let i = c.me.invariant in let h = i.hands in let b = c.bring.ensures in let same = b.same.2 in let first = b.first _ there in let content = same_slot (value_at m) _ _ _ _ c.slot_mut.ensures.value first in (c.requires.has.0, content)
+take_from-requires g c = (c.requires.has.0, same_slot (value_at c.args.m.0) _ _ _ _ c.slot_mut.ensures.value (at_hand g (goal.at.take_from-requires g c).After-bring).first)
 
 pub invariant_of-me : goal.invariant_of-me
-invariant_of-me g c = let near = mutex_low _ _ _ _ c.p.view_is c.p.invariant.laid_out c.p.invariant.lawful c.args.m.0 c.requires.named in let m : ℕ = c.args.m.0 in let isin : get_elem? (known_as c.me.inside.seat.table_id c.me.inside.number c.me.inside.seat.me c.me.inside.entries.items c.me.inside.lost c.me.inside.next).values m ≡ some (Some (Some c.requires.has.0)) = ap (λ k. get_elem? k.values m) c.me.view_is ∙ c.requires.has.1 in let there = value-found m (Some c.requires.has.0) c.me.inside.seat.me.1 isin in let i = c.me.invariant in let h = i.hands in let b = c.bring.ensures in let same = b.same.2 in let first = b.first _ there in let content = same_slot (value_at m) _ _ _ _ c.slot_mut.ensures.value first in let r = refilled (value_at m) _ (Value (None)) _ c.me.inside.seat.me.1 c.bring.new.seat.me.1 first b.hand b.keys b.distinct b.below in let ds = (value_at m, Value (None)) ∷ rest c.bring.new.seat.me.1 in let v = values-set m (Some (None)) c.me.inside.seat.me.1 ds near (ap value_in r.here) (λ k ne. r.elsewhere (value_at k) (λ z. ne (omega arith))) in fit_moved _ _ c.me.inside.number c.me.inside.hand _ c.me.inside.seat.me _ c.me.inside.seat.me.0.part ds b.same.0 (λ j. (same j, (value_at m, c.take_from.ensures.out j) ∷ rest c.bring.new.seat.me.1)) i r.keyed r.distinct r.below refl (hands-value c.me.inside.seat.me.0.part c.me.inside.seat.me.0.part c.me.inside.seat.me.1 ds m (Some c.requires.has.0) (None) there r.here r.elsewhere refl h)
+invariant_of-me g c = (moved (None) _ _ _ _ _ _ _ _ _ _ (mutex_low _ _ _ _ c.p.view_is c.p.invariant.laid_out c.p.invariant.lawful c.args.m.0 c.requires.named) c.me.invariant (at_hand g (goal.at.invariant_of-me g c).After-bring) c.bring.ensures.same.0 c.take_from.ensures.out).fits
 
 pub returns-clause-value : goal.returns-clause-value
-returns-clause-value g c = let m : ℕ = c.args.m.0 in let isin : get_elem? (known_as c.me.inside.seat.table_id c.me.inside.number c.me.inside.seat.me c.me.inside.entries.items c.me.inside.lost c.me.inside.next).values m ≡ some (Some (Some c.requires.has.0)) = ap (λ k. get_elem? k.values m) c.me.view_is ∙ c.requires.has.1 in let there = value-found m (Some c.requires.has.0) c.me.inside.seat.me.1 isin in let i = c.me.invariant in let h = i.hands in let b = c.bring.ensures in let same = b.same.2 in let first = b.first _ there in let content = same_slot (value_at m) _ _ _ _ c.slot_mut.ensures.value first in c.requires.has.1 ∙ ap (λ o. some (Some o)) (value_of _ _ (sym content ∙ c.take_from.ensures.value))
+returns-clause-value g c = c.requires.has.1 ∙ ap (λ o. some (Some o)) (value_of _ _ (sym (same_slot (value_at c.args.m.0) _ _ _ _ c.slot_mut.ensures.value (at_hand g (goal.at.returns-clause-value g c).After-bring).first) ∙ c.take_from.ensures.value))
 
 pub returns-clause-out : goal.returns-clause-out
-returns-clause-out g c = let near = mutex_low _ _ _ _ c.p.view_is c.p.invariant.laid_out c.p.invariant.lawful c.args.m.0 c.requires.named in let m : ℕ = c.args.m.0 in let isin : get_elem? (known_as c.me.inside.seat.table_id c.me.inside.number c.me.inside.seat.me c.me.inside.entries.items c.me.inside.lost c.me.inside.next).values m ≡ some (Some (Some c.requires.has.0)) = ap (λ k. get_elem? k.values m) c.me.view_is ∙ c.requires.has.1 in let there = value-found m (Some c.requires.has.0) c.me.inside.seat.me.1 isin in let i = c.me.invariant in let h = i.hands in let b = c.bring.ensures in let same = b.same.2 in let first = b.first _ there in let content = same_slot (value_at m) _ _ _ _ c.slot_mut.ensures.value first in let r = refilled (value_at m) _ (Value (None)) _ c.me.inside.seat.me.1 c.bring.new.seat.me.1 first b.hand b.keys b.distinct b.below in let ds = (value_at m, Value (None)) ∷ rest c.bring.new.seat.me.1 in let v = values-set m (Some (None)) c.me.inside.seat.me.1 ds near (ap value_in r.here) (λ k ne. r.elsewhere (value_at k) (λ z. ne (omega arith))) in as_known (λ z m' a. known_as z c.me.inside.number m' c.me.inside.entries.items c.me.inside.lost c.me.inside.next ≡ record a { values = set a.values m (Some (None)) }) _ _ _ _ _ c.me.inside.seat.me _ _ _ c.me.view_is b.same.0 (λ j. (same j, (value_at m, c.take_from.ensures.out j) ∷ rest c.bring.new.seat.me.1)) (λ j. record (known_as c.me.inside.seat.table_id c.me.inside.number c.me.inside.seat.me c.me.inside.entries.items c.me.inside.lost c.me.inside.next) { values = v j })
+returns-clause-out g c = (moved (None) _ _ _ _ _ _ _ _ _ _ (mutex_low _ _ _ _ c.p.view_is c.p.invariant.laid_out c.p.invariant.lawful c.args.m.0 c.requires.named) c.me.invariant (at_hand g (goal.at.returns-clause-out g c).After-bring) c.bring.ensures.same.0 c.take_from.ensures.out).sees _ _ _ _ c.me.view_is
 
 pub returns-clause-is_out : goal.returns-clause-is_out
-returns-clause-is_out g c = let near = mutex_low _ _ _ _ c.p.view_is c.p.invariant.laid_out c.p.invariant.lawful c.args.m.0 c.requires.named in let m : ℕ = c.args.m.0 in let isin : get_elem? (known_as c.me.inside.seat.table_id c.me.inside.number c.me.inside.seat.me c.me.inside.entries.items c.me.inside.lost c.me.inside.next).values m ≡ some (Some (Some c.requires.has.0)) = ap (λ k. get_elem? k.values m) c.me.view_is ∙ c.requires.has.1 in let there = value-found m (Some c.requires.has.0) c.me.inside.seat.me.1 isin in let i = c.me.invariant in let h = i.hands in let b = c.bring.ensures in let same = b.same.2 in let first = b.first _ there in let content = same_slot (value_at m) _ _ _ _ c.slot_mut.ensures.value first in let r = refilled (value_at m) _ (Value (None)) _ c.me.inside.seat.me.1 c.bring.new.seat.me.1 first b.hand b.keys b.distinct b.below in let ds = (value_at m, Value (None)) ∷ rest c.bring.new.seat.me.1 in let v = values-set m (Some (None)) c.me.inside.seat.me.1 ds near (ap value_in r.here) (λ k ne. r.elsewhere (value_at k) (λ z. ne (omega arith))) in as_known (λ z m' a. get_elem? (known_as z c.me.inside.number m' c.me.inside.entries.items c.me.inside.lost c.me.inside.next).values m ≡ some (Some (None))) _ _ _ _ _ c.me.inside.seat.me _ _ _ c.me.view_is b.same.0 (λ j. (same j, (value_at m, c.take_from.ensures.out j) ∷ rest c.bring.new.seat.me.1)) (value-there m (None) ds near r.here)
+returns-clause-is_out g c = ap (λ k. get_elem? k.values c.args.m.0) ((moved (None) _ _ _ _ _ _ _ _ _ _ (mutex_low _ _ _ _ c.p.view_is c.p.invariant.laid_out c.p.invariant.lawful c.args.m.0 c.requires.named) c.me.invariant (at_hand g (goal.at.returns-clause-is_out g c).After-bring) c.bring.ensures.same.0 c.take_from.ensures.out).sees _ _ _ _ c.me.view_is) ∙ set_at c.args.me.now.values c.args.m.0 (Some None) _ c.requires.has.1

@@ -1,25 +1,26 @@
-use Rattle.std.proofs.Common.{rules, arith, ◌≡◌, ◌*◌, ◌<◌, ◌∙◌, ℕ, ap, sym, refl}
+use Rattle.std.proofs.Common.{rules, arith, ◌∙◌, ap, sym, refl}
 use mathlib.Core.Logic.{dite}
 use native.Mathlib.Decide.{ℕ_discrete}
 use Rattle.nub_rule.specs.declared.view.Stage.TheVariants.{Clear, Tested}
-use Rattle.nub_rule.specs.Known.{known_as}
 use Rattle.nub_rule.specs.Parts.{staged}
+use Rattle.nub_rule.specs.Places.{bit_at}
 use Rattle.nub_rule.proofs.Naming.{object_low, staged_none}
 use Rattle.nub_rule.proofs.Handling.{hands-same}
-use Rattle.nub_rule.proofs.Seen.{as_known, fit_still}
+use Rattle.nub_rule.proofs.AtHand.{noted}
+use Rattle.nub_rule.proofs.Seen.{fit_still}
 use Rattle.nub_rule.proofs.ReadySteps.{retests}
 use Rattle.nub_rule.proofs.queue.test_again.Goals as goal
 
 pub load-requires : goal.load-requires
-load-requires g c = let low = object_low _ _ _ _ c.p.view_is c.p.invariant.laid_out c.p.invariant.lawful c.args.at c.requires.named in let is = c.number-o.ensures in let o : ℕ = c.number-o.result in let near : o < 128 = omega arith in let t = c.requires.untested in (search rules, omega arith, retests _ _ _ _ _ _ _ _ c.me.inside.seat.me t.0 Clear Tested c.me.invariant.member (ap (λ k. k.stand) c.me.view_is ∙ t.1) (ap (λ (k : ℕ). 16 * k) (is ∙ sym t.2.0)) tt (λ f. f) (λ f. f) (λ f. f) (λ f. f))
+load-requires g c = let low = object_low _ _ _ _ c.p.view_is c.p.invariant.laid_out c.p.invariant.lawful c.args.at c.requires.named in let t = c.requires.untested in let word = c.bit_word.ensures in (search rules, omega arith, retests _ _ _ _ _ _ _ _ c.me.inside.seat.me t.0 Clear Tested c.me.invariant.member (ap (λ k. k.stand) c.me.view_is ∙ t.1) (word ∙ ap bit_at (sym t.2.0)) tt (λ f. f) (λ f. f) (λ f. f) (λ f. f))
 
 pub invariant_of-me : goal.invariant_of-me
-invariant_of-me g c = let i = c.me.invariant in let h = i.hands in let t = c.requires.untested in let stood = ap (λ k. k.stand) c.me.view_is ∙ t.1 in let word : 16 * c.number-o.result ≡ 16 * t.0.at = ap (λ (k : ℕ). 16 * k) (c.number-o.ensures ∙ sym t.2.0) in let u = c.load.ensures.2 t.0 stood word in dite (ℕ_discrete c.load.result 0)
+invariant_of-me g c = let i = c.me.invariant in let h = i.hands in let t = c.requires.untested in let stood = ap (λ k. k.stand) c.me.view_is ∙ t.1 in let word = c.bit_word.ensures ∙ ap bit_at (sym t.2.0) in let u = c.load.ensures.2 t.0 stood word in dite (ℕ_discrete c.load.result 0)
     (λ hit. fit_still _ _ c.me.inside.number c.me.inside.hand c.me.inside.seat.me _ _ c.load.ensures.0 (u.0 hit) i refl (hands-same c.me.inside.seat.me.0.part _ c.me.inside.seat.me.1 _ (λ k. refl) refl refl refl (λ k there nowhere. h.room k there (staged_none Clear _ nowhere)) h.settled h))
     (λ miss. fit_still _ _ c.me.inside.number c.me.inside.hand c.me.inside.seat.me _ _ c.load.ensures.0 (u.1 miss) i refl (hands-same c.me.inside.seat.me.0.part _ c.me.inside.seat.me.1 _ (λ k. refl) refl refl refl (λ k there nowhere. h.room k there (staged_none Tested _ nowhere)) h.settled h))
 
 pub returns-clause-clear : goal.returns-clause-clear
-returns-clause-clear g c = λ hit. let t = c.requires.untested in let stood = ap (λ k. k.stand) c.me.view_is ∙ t.1 in let word : 16 * c.number-o.result ≡ 16 * t.0.at = ap (λ (k : ℕ). 16 * k) (c.number-o.ensures ∙ sym t.2.0) in let u = c.load.ensures.2 t.0 stood word in as_known (λ z m a. known_as z c.me.inside.number m c.me.inside.entries.items c.me.inside.lost c.me.inside.next ≡ record a { stand = staged Clear a.stand }) _ _ _ _ _ c.me.inside.seat.me _ _ _ c.me.view_is c.load.ensures.0 (u.0 hit) refl
+returns-clause-clear g c = λ hit. let t = c.requires.untested in let stood = ap (λ k. k.stand) c.me.view_is ∙ t.1 in let word = c.bit_word.ensures ∙ ap bit_at (sym t.2.0) in let u = c.load.ensures.2 t.0 stood word in noted (λ _ p. record p { stand = staged Clear p.stand }) _ _ _ _ _ c.me.inside.seat.me _ _ c.me.view_is c.load.ensures.0 (u.0 hit)
 
 pub returns-clause-tested : goal.returns-clause-tested
-returns-clause-tested g c = λ miss. let t = c.requires.untested in let stood = ap (λ k. k.stand) c.me.view_is ∙ t.1 in let word : 16 * c.number-o.result ≡ 16 * t.0.at = ap (λ (k : ℕ). 16 * k) (c.number-o.ensures ∙ sym t.2.0) in let u = c.load.ensures.2 t.0 stood word in as_known (λ z m a. known_as z c.me.inside.number m c.me.inside.entries.items c.me.inside.lost c.me.inside.next ≡ record a { stand = staged Tested a.stand }) _ _ _ _ _ c.me.inside.seat.me _ _ _ c.me.view_is c.load.ensures.0 (u.1 miss) refl
+returns-clause-tested g c = λ miss. let t = c.requires.untested in let stood = ap (λ k. k.stand) c.me.view_is ∙ t.1 in let word = c.bit_word.ensures ∙ ap bit_at (sym t.2.0) in let u = c.load.ensures.2 t.0 stood word in noted (λ _ p. record p { stand = staged Tested p.stand }) _ _ _ _ _ c.me.inside.seat.me _ _ c.me.view_is c.load.ensures.0 (u.1 miss)

@@ -1,10 +1,10 @@
 use Rattle.std.proofs.Common.{ℕ, ◌<◌, subst, sym, rules, arith, ◌≡◌, ◌∙◌, ap, refl, None}
-use Rattle.nub_rule.specs.Known.{known_as}
 use Rattle.nub_rule.specs.Parts.{turned}
 use Rattle.nub_rule.specs.Places.{ready_at, most_threads}
 use Rattle.nub_rule.proofs.Naming.{some_or_none}
 use Rattle.nub_rule.proofs.Handling.{hands-same}
-use Rattle.nub_rule.proofs.Seen.{as_known, fit_still}
+use Rattle.nub_rule.proofs.AtHand.{noted}
+use Rattle.nub_rule.proofs.Seen.{fit_still}
 use Rattle.nub_rule.proofs.Naming.{turned-gate, turned-cond}
 use Rattle.nub_rule.proofs.ReadySteps.{unreadies_by}
 use Rattle.nub_rule.proofs.ready.clear_ready.Goals as goal
@@ -20,7 +20,7 @@ pub returns-clause-found : goal.returns-clause-found
 returns-clause-found g c = c.swap.ensures.2.0
 
 pub returns-clause-at_gate : goal.returns-clause-at_gate
-returns-clause-at_gate g c = λ s is low. as_known (λ z m a. known_as z c.me.inside.number m c.me.inside.entries.items c.me.inside.lost c.me.inside.next ≡ record a { stand = None; turns = turned a.stand a.turns }) _ _ _ _ _ c.me.inside.seat.me _ _ _ c.me.view_is c.swap.ensures.0 (c.swap.ensures.2.1) refl ∙ (λ j. record c.args.me.now { stand = None; turns = turned-gate c.args.me.now.stand c.args.me.now.turns s is low j })
+returns-clause-at_gate g c = λ s is low. noted (λ _ p. record p { stand = None; turns = turned p.stand p.turns }) _ _ _ _ _ c.me.inside.seat.me _ _ c.me.view_is c.swap.ensures.0 (c.swap.ensures.2.1) ∙ (λ j. record c.args.me.now { stand = None; turns = turned-gate c.args.me.now.stand c.args.me.now.turns s is low j })
 
 pub returns-clause-at_cond : goal.returns-clause-at_cond
-returns-clause-at_cond g c = λ s is hi. as_known (λ z m a. known_as z c.me.inside.number m c.me.inside.entries.items c.me.inside.lost c.me.inside.next ≡ record a { stand = None; turns = turned a.stand a.turns }) _ _ _ _ _ c.me.inside.seat.me _ _ _ c.me.view_is c.swap.ensures.0 (c.swap.ensures.2.1) refl ∙ (λ j. record c.args.me.now { stand = None; turns = turned-cond c.args.me.now.stand c.args.me.now.turns s is hi j })
+returns-clause-at_cond g c = λ s is hi. noted (λ _ p. record p { stand = None; turns = turned p.stand p.turns }) _ _ _ _ _ c.me.inside.seat.me _ _ c.me.view_is c.swap.ensures.0 (c.swap.ensures.2.1) ∙ (λ j. record c.args.me.now { stand = None; turns = turned-cond c.args.me.now.stand c.args.me.now.turns s is hi j })

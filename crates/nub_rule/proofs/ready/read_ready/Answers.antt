@@ -2,12 +2,12 @@ use Rattle.std.proofs.Common.{sym, rules, arith, ◌≡◌, ◌∙◌, ap, refl,
 use mathlib.Core.Logic.{dite}
 use native.Mathlib.Decide.{ℕ_discrete}
 use Rattle.nub_rule.specs.declared.view.Stage.TheVariants.{Asleep, Found}
-use Rattle.nub_rule.specs.Known.{known_as}
 use Rattle.nub_rule.specs.Parts.{staged}
 use Rattle.nub_rule.specs.Places.{ready_at}
 use Rattle.nub_rule.proofs.Naming.{some_or_none}
 use Rattle.nub_rule.proofs.Handling.{hands-same}
-use Rattle.nub_rule.proofs.Seen.{as_known, fit_still}
+use Rattle.nub_rule.proofs.AtHand.{noted}
+use Rattle.nub_rule.proofs.Seen.{fit_still}
 use Rattle.nub_rule.proofs.ReadySteps.{looks_by}
 use Rattle.nub_rule.proofs.ready.read_ready.Goals as goal
 
@@ -20,10 +20,10 @@ invariant_of-me g c = let i = c.me.invariant in let h = i.hands in let out : c.m
     (λ miss. fit_still _ _ c.me.inside.number c.me.inside.hand c.me.inside.seat.me _ _ c.load.ensures.0 ((c.load.ensures.2.1 miss).1) i refl (hands-same c.me.inside.seat.me.0.part _ c.me.inside.seat.me.1 _ (λ k. refl) refl refl refl (λ o is. absurd (some_or_none _ o out is)) h.settled h))
 
 pub returns-clause-asleep : goal.returns-clause-asleep
-returns-clause-asleep g c = λ hit. as_known (λ z m a. known_as z c.me.inside.number m c.me.inside.entries.items c.me.inside.lost c.me.inside.next ≡ record a { stand = staged Asleep a.stand }) _ _ _ _ _ c.me.inside.seat.me _ _ _ c.me.view_is c.load.ensures.0 (c.load.ensures.2.0 hit) refl
+returns-clause-asleep g c = λ hit. noted (λ _ p. record p { stand = staged Asleep p.stand }) _ _ _ _ _ c.me.inside.seat.me _ _ c.me.view_is c.load.ensures.0 (c.load.ensures.2.0 hit)
 
 pub returns-clause-found : goal.returns-clause-found
-returns-clause-found g c = λ miss. as_known (λ z m a. known_as z c.me.inside.number m c.me.inside.entries.items c.me.inside.lost c.me.inside.next ≡ record a { stand = staged Found a.stand }) _ _ _ _ _ c.me.inside.seat.me _ _ _ c.me.view_is c.load.ensures.0 ((c.load.ensures.2.1 miss).1) refl
+returns-clause-found g c = λ miss. noted (λ _ p. record p { stand = staged Found p.stand }) _ _ _ _ _ c.me.inside.seat.me _ _ c.me.view_is c.load.ensures.0 ((c.load.ensures.2.1 miss).1)
 
 pub returns-clause-one : goal.returns-clause-one
 returns-clause-one g c = λ miss. (c.load.ensures.2.1 miss).0

@@ -1,8 +1,8 @@
-use Rattle.std.proofs.Common.{rules, arith, ◌≡◌, ◌∙◌, ap, refl}
+use Rattle.std.proofs.Common.{rules, arith, ◌∙◌, ap, refl}
 use Rattle.larch_actions.specs.Sets.{mem, without}
-use Rattle.nub_rule.specs.Known.{known_as}
 use Rattle.nub_rule.proofs.Handling.{hands-same}
-use Rattle.nub_rule.proofs.Seen.{as_known, fit_still}
+use Rattle.nub_rule.proofs.AtHand.{noted}
+use Rattle.nub_rule.proofs.Seen.{fit_still}
 use Rattle.nub_rule.proofs.ReadySteps.{readies_by}
 use Rattle.nub_rule.proofs.ready.set_ready.Goals as goal
 
@@ -16,4 +16,4 @@ pub returns-clause-found : goal.returns-clause-found
 returns-clause-found g c = (c.swap-found.ensures.2 c.args.t.0 c.ready_word.ensures).0
 
 pub returns-clause-owes : goal.returns-clause-owes
-returns-clause-owes g c = as_known (λ z m a. known_as z c.me.inside.number m c.me.inside.entries.items c.me.inside.lost c.me.inside.next ≡ record a { owed = without c.args.t.0 a.owed }) _ _ _ _ _ c.me.inside.seat.me _ _ _ c.me.view_is c.swap-found.ensures.0 ((c.swap-found.ensures.2 c.args.t.0 c.ready_word.ensures).1) refl
+returns-clause-owes g c = noted (λ _ p. record p { owed = without c.args.t.0 p.owed }) _ _ _ _ _ c.me.inside.seat.me _ _ c.me.view_is c.swap-found.ensures.0 ((c.swap-found.ensures.2 c.args.t.0 c.ready_word.ensures).1)

@@ -5,22 +5,23 @@ use Rattle.nub_rule.specs.Items.{line_of}
 use Rattle.nub_rule.specs.Known.{known_as}
 use Rattle.nub_rule.specs.Places.{value_at}
 use Rattle.nub_rule.specs.Plays.{with_part}
+use Rattle.nub_rule.specs.Places.{spin_at}
 use Rattle.nub_rule.proofs.Naming.{object_low}
 use Rattle.nub_rule.proofs.Handling.{values-same, gone, hands-same, hands-unspun}
 use Rattle.nub_rule.proofs.Seen.{as_known, fit_given}
 use Rattle.atomic_table.specs.Table.{rest}
-use Rattle.nub_rule.proofs.SpinSteps.{unspins}
+use Rattle.nub_rule.proofs.SpinSteps.{unspins_by}
 use Rattle.nub_rule.proofs.spin.give_spin.Goals as goal
 
 pub bring-requires-clause-there : goal.bring-requires-clause-there
 bring-requires-clause-there g c = let is = c.number-o.ensures in let o : ℕ = c.number-o.result in let here : c.me.inside.seat.me.0.part.spin ≡ Some o = ap (λ k. k.spin) c.me.view_is ∙ (c.requires.inside ∙ ap (λ (z : ℕ). Some z) (sym is)) in (Queue (line_of c.me.inside.seat.me.0.part.queue), c.me.invariant.hands.queue_in o here)
 
 pub swap-requires : goal.swap-requires
-swap-requires g c = let low = object_low _ _ _ _ c.p.view_is c.p.invariant.laid_out c.p.invariant.lawful c.args.at c.requires.named in let is = c.number-o.ensures in let o : ℕ = c.number-o.result in let here : c.me.inside.seat.me.0.part.spin ≡ Some o = ap (λ k. k.spin) c.me.view_is ∙ (c.requires.inside ∙ ap (λ (z : ℕ). Some z) (sym is)) in let same = c.bring.ensures.same.2 in let q = ap (λ v. v.part) same in
+swap-requires g c = let low = object_low _ _ _ _ c.p.view_is c.p.invariant.laid_out c.p.invariant.lawful c.args.at c.requires.named in let is = c.number-o.ensures in let o : ℕ = c.number-o.result in let here : c.me.inside.seat.me.0.part.spin ≡ Some o = ap (λ k. k.spin) c.me.view_is ∙ (c.requires.inside ∙ ap (λ (z : ℕ). Some z) (sym is)) in let word = c.spin_word.ensures ∙ ap spin_at (sym is) in let same = c.bring.ensures.same.2 in let q = ap (λ v. v.part) same in
     let first = c.bring.ensures.first _ (c.me.invariant.hands.queue_in o here) in (
       search rules,
       omega arith,
-      unspins _ _ _ _ _ _ _ o c.bring.new.seat.me (omega arith) (ap (λ v. v.kind) same ∙ c.me.invariant.member) (ap (λ p. p.spin) q ∙ here) (ap (λ p. p.owed) q ∙ (ap (λ k. k.owed) c.me.view_is ∙ c.requires.owes_none))
+      unspins_by _ _ _ _ _ _ _ o c.bring.new.seat.me _ word (omega arith) (ap (λ v. v.kind) same ∙ c.me.invariant.member) (ap (λ p. p.spin) q ∙ here) (ap (λ p. p.owed) q ∙ (ap (λ k. k.owed) c.me.view_is ∙ c.requires.owes_none))
           (ap (λ p. p.left) q ∙ (ap (λ k. k.left) c.me.view_is ∙ (c.requires.even ∙ (ap (λ k. k.queue) (sym c.me.view_is) ∙ ap (λ p. p.queue) (sym q)))))
           (first ∙ (λ j. (o, Queue (line_of (ap (λ p. p.queue) (sym q) j))) ∷ rest c.bring.new.seat.me.1)),
     )

@@ -5,17 +5,18 @@ use Rattle.nub_rule.specs.Items.{Small, no_line, line_of}
 use Rattle.nub_rule.specs.Known.{known_as}
 use Rattle.nub_rule.specs.Objects.{object_of}
 use Rattle.nub_rule.specs.Parts.{stands_at}
+use Rattle.nub_rule.specs.Places.{spin_at}
 use Rattle.nub_rule.proofs.Handling.{values-same, hands-spun}
 use Rattle.nub_rule.proofs.Naming.{object_low, some_or_none}
 use Rattle.nub_rule.proofs.Room.{room_for}
 use Rattle.nub_rule.proofs.Seen.{as_known, fit_moved}
-use Rattle.nub_rule.proofs.SpinSteps.{spins}
+use Rattle.nub_rule.proofs.SpinSteps.{spins_by}
 use Rattle.nub_rule.proofs.Turns.{find-else}
 use Rattle.nub_rule.proofs.spin.take_spin.Goals as goal
 
 pub compare_exchange-found-requires : goal.compare_exchange-found-requires
 compare_exchange-found-requires g c = let low = object_low _ _ _ _ c.p.view_is c.p.invariant.laid_out c.p.invariant.lawful c.args.at c.requires.named in let is = c.number-o.ensures in
-    (search rules, omega arith, spins _ _ _ _ _ _ _ _ _ (omega arith) (search rules) (search rules))
+    let word = c.spin_word.ensures in (search rules, omega arith, spins_by _ _ _ _ _ _ _ (object_of c.args.at) _ _ word (omega arith) (search rules) (search rules))
 
 pub take-requires : goal.take-requires
 take-requires g c = let low = object_low _ _ _ _ c.p.view_is c.p.invariant.laid_out c.p.invariant.lawful c.args.at c.requires.named in let is = c.number-o.ensures in
@@ -25,24 +26,24 @@ take-requires g c = let low = object_low _ _ _ _ c.p.view_is c.p.invariant.laid_
 pub invariant_of-me : goal.invariant_of-me
 invariant_of-me g c = let low = object_low _ _ _ _ c.p.view_is c.p.invariant.laid_out c.p.invariant.lawful c.args.at c.requires.named in let is = c.number-o.ensures in
     let i = c.me.invariant in let o : ℕ = c.number-o.result in let out : c.me.inside.seat.me.0.part.spin ≡ None = ap (λ k. k.spin) c.me.view_is ∙ c.requires.outside in
-    let u = c.compare_exchange-found.ensures.2.0 o refl c.if-found-eq0.true in
+    let u = c.compare_exchange-found.ensures.2.0 o (c.spin_word.ensures ∙ ap spin_at (sym c.number-o.ensures)) c.if-found-eq0.true in
     let far : o < 192 = omega arith in let near : o < 256 = omega arith in
     fit_moved _ _ c.me.inside.number c.me.inside.hand _ c.me.inside.seat.me _ _ _ c.compare_exchange-found.ensures.0 u.5 i
     ((λ j. o ∷ i.keyed j) ∙ sym c.take.ensures) (i.hands.queue_out o far (λ z. some_or_none _ _ out z), i.distinct) (near, i.below) refl
     (hands-spun c.me.inside.seat.me.0.part _ _ _ o u.0 far refl out refl refl refl refl u.2 i.hands)
 
 pub returns-then-found-eq0-clause-won : goal.returns-then-found-eq0-clause-won
-returns-then-found-eq0-clause-won g c = let o : ℕ = c.number-o.result in let u = c.compare_exchange-found.ensures.2.0 o refl c.if-found-eq0.true in
+returns-then-found-eq0-clause-won g c = let o : ℕ = c.number-o.result in let u = c.compare_exchange-found.ensures.2.0 o (c.spin_word.ensures ∙ ap spin_at (sym c.number-o.ensures)) c.if-found-eq0.true in
     let low = object_low _ _ _ _ c.p.view_is c.p.invariant.laid_out c.p.invariant.lawful c.args.at c.requires.named in let is = c.number-o.ensures in
     let v = values-same c.me.inside.seat.me.1 ((o, Queue (line_of u.0)) ∷ c.me.inside.seat.me.1) (λ m. find-else _ (o, Queue (line_of u.0)) c.me.inside.seat.me.1 (λ z. omega arith)) in
     λ _. as_known (λ z m a. let b = known_as z c.me.inside.number m c.me.inside.entries.items c.me.inside.lost c.me.inside.next in b ≡ record a { spin = Some (object_of c.args.at); queue = b.queue; owed = []; left = b.queue; count = b.count; failed = without (object_of c.args.at) a.failed }) _ _ _ _ _ c.me.inside.seat.me _ _ _ c.me.view_is c.compare_exchange-found.ensures.0 u.5 (λ j. record (known_as c.me.inside.seat.table_id c.me.inside.number c.me.inside.seat.me c.me.inside.entries.items c.me.inside.lost c.me.inside.next) { spin = Some (is j); queue = u.0; owed = []; left = u.0; count = u.1; failed = without (is j) c.me.inside.seat.me.0.part.failed; values = v j })
 
 pub returns-then-found-eq0-clause-small : goal.returns-then-found-eq0-clause-small
-returns-then-found-eq0-clause-small g c = let u = c.compare_exchange-found.ensures.2.0 c.number-o.result refl c.if-found-eq0.true in λ _. subst (λ m. Small 64 m.0.part.queue) (sym u.5) u.3
+returns-then-found-eq0-clause-small g c = let u = c.compare_exchange-found.ensures.2.0 c.number-o.result (c.spin_word.ensures ∙ ap spin_at (sym c.number-o.ensures)) c.if-found-eq0.true in λ _. subst (λ m. Small 64 m.0.part.queue) (sym u.5) u.3
 
 pub returns-then-found-eq0-clause-room : goal.returns-then-found-eq0-clause-room
-returns-then-found-eq0-clause-room g c = let u = c.compare_exchange-found.ensures.2.0 c.number-o.result refl c.if-found-eq0.true in λ _ out. subst (λ m. length m.0.part.queue < 64) (sym u.5) (u.2 (ap (λ k. k.stand) c.me.view_is ∙ out))
+returns-then-found-eq0-clause-room g c = let u = c.compare_exchange-found.ensures.2.0 c.number-o.result (c.spin_word.ensures ∙ ap spin_at (sym c.number-o.ensures)) c.if-found-eq0.true in λ _ out. subst (λ m. length m.0.part.queue < 64) (sym u.5) (u.2 (ap (λ k. k.stand) c.me.view_is ∙ out))
 
 pub returns-then-found-eq0-clause-there : goal.returns-then-found-eq0-clause-there
-returns-then-found-eq0-clause-there g c = let u = c.compare_exchange-found.ensures.2.0 c.number-o.result refl c.if-found-eq0.true in
+returns-then-found-eq0-clause-there g c = let u = c.compare_exchange-found.ensures.2.0 c.number-o.result (c.spin_word.ensures ∙ ap spin_at (sym c.number-o.ensures)) c.if-found-eq0.true in
     λ _ there. (λ j. stands_at ((ap (λ k. k.stand) (sym c.me.view_is)) j) (sym c.number-o.ensures j)) ∙ u.4 ((λ j. mem ((c.me.invariant.numbered ∙ ap (λ k. k.number) c.me.view_is) j) (ap (λ m. m.0.part.queue) (sym u.5) j)) ∙ there)

@@ -1,0 +1,137 @@
+-- What a step leaves of a thread: that it is one still, and what contracts see of it. And the slot that a step is on, at the front of the thread's hand.
+use Rattle.std.proofs.Common.{Bool, ◌≡◌, ℕ, ◌<◌, List, [], ◌∷◌, ◌++◌, length, set, refl, sym, ap, ◌∙◌, subst, arith, Some, None}
+use Rattle.std.specs.Prelude.{Option as Opt}
+use mathlib.Core.Option.{some}
+use lib.ListN.{get_elem?}
+use Rattle.atomic_table.specs.Table.{rest}
+use Rattle.atomic_table.specs.Seated.{TableId}
+use Rattle.atomic_table.proofs.Lists.{set_here}
+use Rattle.larch_actions.specs.declared.event.Event.{Event}
+use Rattle.nub_rule.specs.declared.package.Entry.{Entry}
+use Rattle.nub_rule.specs.declared.rule.Slot.{Slot}
+use Rattle.nub_rule.specs.declared.rule.Slot.TheVariants.{Value, Queue}
+use Rattle.nub_rule.specs.declared.view.Part.{Part}
+use Rattle.nub_rule.specs.Items.{line_of}
+use Rattle.nub_rule.specs.Known.{Known, known_as, part_of, values_of, value_in, IsThread, Makes}
+use Rattle.nub_rule.specs.Places.{most_threads, queue_at, value_at}
+use Rattle.nub_rule.specs.Plays.{Sat, with_part, Grows}
+use Rattle.nub_rule.specs.Slots.{find, IsDistinct, Below}
+use Rattle.nub_rule.proofs.Each.{at_within}
+use Rattle.nub_rule.proofs.Handling.{Refilled, refilled, values-same, values-set, value-found, hands-queue, hands-value}
+use Rattle.nub_rule.proofs.Seen.{fit_moved}
+use Rattle.nub_rule.proofs.Turns.{keys}
+
+module _ {T H W : Type 0} where
+  -- the thread as contracts see it, with this part and these values
+  abbrev pub changed : Known T H W → Part T H → List (Opt (Opt T)) → Known T H W
+  changed k p vs = record k {
+    seen = p.seen;
+    mine = p.mine;
+    places = p.places;
+    held = p.held;
+    share = p.share;
+    spin = p.spin;
+    queue = p.queue;
+    owed = p.owed;
+    left = p.left;
+    count = p.count;
+    wait = p.wait;
+    stand = p.stand;
+    failed = p.failed;
+    turns = p.turns;
+    cleared = p.cleared;
+    looked = p.looked;
+    pen = p.pen;
+    alerted = p.alerted;
+    calling = p.calling;
+    raised = p.raised;
+    values = vs;
+  }
+
+  -- the thread, as contracts see it, after a step that changed the part by f and the values by h
+  pub seen_as : (f : ℕ → Part T H → Part T H) (h : List (Opt (Opt T)) → List (Opt (Opt T))) (z z' : TableId) (n : ℕ) (es : List Entry) (lo : Bool) {nx : ℕ} (me me' : Sat T H W) (ds : List (ℕ × Slot T)) (a : Known T H W)
+      → known_as z n me es lo nx ≡ a → z' ≡ z → me' ≡ (with_part me.0 (f n me.0.part), ds) → values_of ds ≡ h (values_of me.1) → known_as z' n me' es lo nx ≡ changed a (f a.number (part_of a)) (h a.values)
+  seen_as f h z z' n es lo {nx} me me' ds a v ez em vs = subst (λ (t : TableId × Sat T H W × Known T H W). known_as t.0 n t.1 es lo nx ≡ changed t.2 (f t.2.number (part_of t.2)) (h t.2.values)) (λ i. (sym ez i, sym em i, v i))
+      (λ i. changed (known_as z n me es lo nx) (f n me.0.part) (vs i))
+
+  -- and after a step that changed the part alone
+  pub noted : (f : ℕ → Part T H → Part T H) (z z' : TableId) (n : ℕ) (es : List Entry) (lo : Bool) {nx : ℕ} (me me' : Sat T H W) (a : Known T H W) → known_as z n me es lo nx ≡ a → z' ≡ z → me' ≡ (with_part me.0 (f n me.0.part), me.1) → known_as z' n me' es lo nx ≡ changed a (f a.number (part_of a)) a.values
+  noted f z z' n es lo me me' a v ez em = seen_as f (λ vs. vs) z z' n es lo me me' me.1 a v ez em refl
+
+  -- the thread is one still, and contracts see it with its part changed by f and its values by h
+  pub record After (f : ℕ → Part T H → Part T H) (h : List (Opt (Opt T)) → List (Opt (Opt T))) (z z' : TableId) (n : ℕ) (hand : List ℕ) (me me' : Sat T H W) (kept : List T) (room : ℕ) : Type 0 where
+    pub fits : IsThread z' n hand me' kept room
+    pub sees : (es : List Entry) (lo : Bool) (nx : ℕ) (a : Known T H W) → known_as z n me es lo nx ≡ a → known_as z' n me' es lo nx ≡ changed a (f a.number (part_of a)) (h a.values)
+
+  -- the queue of the object whose spin word the thread has stands first in its hand
+  pub record QueueAtHand (me front : Sat T H W) (hand : List ℕ) (o : ℕ) : Type 0 where
+    pub far : o < 192
+    pub spins : me.0.part.spin ≡ Some o
+    pub same : front.0 ≡ me.0
+    pub first : front.1 ≡ (queue_at o, Queue (line_of me.0.part.queue)) ∷ rest front.1
+    pub refill : (zs : List ℕ) → Refilled (queue_at o) (Queue (line_of zs)) hand me.1 ((queue_at o, Queue (line_of zs)) ∷ rest front.1)
+
+  pub queue_at_hand : (z : TableId) (n : ℕ) (hand hand' : List ℕ) (me front : Sat T H W) (o : ℕ) {kept : List T} {room : ℕ} → IsThread z n hand me kept room → me.0.part.spin ≡ Some o
+      → front.0 ≡ me.0 → keys front.1 ≡ hand' → IsDistinct front.1 → Below 256 front.1 → ((k : ℕ) → find k front.1 ≡ find k me.1) → ((x : Slot T) → find o me.1 ≡ Some x → front.1 ≡ (o, x) ∷ rest front.1) → QueueAtHand me front hand' o
+  queue_at_hand z n hand hand' me front o i here same keyed distinct below found first = let at = first (Queue (line_of me.0.part.queue)) (i.hands.queue_in o here) in record {
+    far = i.hands.below o here;
+    spins = here;
+    same = same;
+    first = at;
+    refill = λ zs. refilled o (Queue (line_of me.0.part.queue)) (Queue (line_of zs)) hand' me.1 front.1 at found keyed distinct below;
+  }
+
+  -- after the queue became zs, by a step that changed the part by f
+  pub requeued : (f : ℕ → Part T H → Part T H) (zs : List ℕ) (s : Slot T) (z z' : TableId) (n : ℕ) (hand hand' : List ℕ) (me front me' : Sat T H W) (o : ℕ) {kept : List T} {room : ℕ} → IsThread z n hand me kept room → QueueAtHand me front hand' o → z' ≡ z → s ≡ Queue (line_of zs)
+      → me' ≡ (with_part front.0 (f front.0.number front.0.part), (queue_at o, s) ∷ rest front.1) → (f n me.0.part).held ≡ me.0.part.held → (f n me.0.part).spin ≡ me.0.part.spin → (f n me.0.part).queue ≡ zs → ((f n me.0.part).stand ≡ None → length zs < most_threads)
+      → After f (λ vs. vs) z z' n hand' me me' kept room
+  requeued f zs s z z' n hand hand' me front me' o i at ez is em eh es eq space =
+      let q = f n me.0.part in
+      let ds : List (ℕ × Slot T) = (queue_at o, Queue (line_of zs)) ∷ rest front.1 in
+      let r = at.refill zs in
+      let far = at.far in
+      let number : front.0.number ≡ n = ap (λ v. v.number) at.same ∙ i.numbered in
+      let now : me' ≡ (with_part me.0 q, ds) = em ∙ (λ j. (with_part (at.same j) (f (number j) (at.same j).part), (queue_at o, is j) ∷ rest front.1)) in record {
+        fits = fit_moved z z' n hand hand' me me' q ds ez now i r.keyed r.distinct r.below (ap length eh) (hands-queue me.0.part q me.1 ds o zs far r.here r.elsewhere at.spins es eq eh space i.hands);
+        sees = λ es lo nx a v. seen_as f (λ vs. vs) z z' n es lo me me' ds a v ez now (values-same me.1 ds (λ m. r.elsewhere (value_at m) (λ e. omega arith)));
+      }
+
+  -- the value of the mutex m, with this in its slot, stands first in the hand
+  pub record ValueAtHand (me front : Sat T H W) (hand : List ℕ) (m : ℕ) (y : Opt T) : Type 0 where
+    pub there : find (value_at m) me.1 ≡ Some (Value y)
+    pub same : front.0 ≡ me.0
+    pub first : front.1 ≡ (value_at m, Value y) ∷ rest front.1
+    pub refill : (x : Opt T) → Refilled (value_at m) (Value x) hand me.1 ((value_at m, Value x) ∷ rest front.1)
+
+  pub value_at_hand : (hand : List ℕ) (me front : Sat T H W) (m : ℕ) (y : Opt T) → find (value_at m) me.1 ≡ Some (Value y)
+      → front.0 ≡ me.0 → keys front.1 ≡ hand → IsDistinct front.1 → Below 256 front.1 → ((k : ℕ) → find k front.1 ≡ find k me.1) → ((x : Slot T) → find (value_at m) me.1 ≡ Some x → front.1 ≡ (value_at m, x) ∷ rest front.1) → ValueAtHand me front hand m y
+  value_at_hand hand me front m y there same keyed distinct below found first = let at = first (Value y) there in record {
+    there = there;
+    same = same;
+    first = at;
+    refill = λ x. refilled (value_at m) (Value y) (Value x) hand me.1 front.1 at found keyed distinct below;
+  }
+
+  -- after the value in the slot became x, without a step
+  pub moved : (x : Opt T) (s : Slot T) (z z' : TableId) (n : ℕ) (hand hand' : List ℕ) (me front : Sat T H W) (m : ℕ) (y : Opt T) {kept : List T} {room : ℕ} → m < 64 → IsThread z n hand me kept room → ValueAtHand me front hand' m y → z' ≡ z → s ≡ Value x
+      → After (λ _ p. p) (λ vs. set vs m (Some x)) z z' n hand' me (front.0, (value_at m, s) ∷ rest front.1) kept room
+  moved x s z z' n hand hand' me front m y low i at ez is =
+      let ds : List (ℕ × Slot T) = (value_at m, Value x) ∷ rest front.1 in
+      let me' : Sat T H W = (front.0, (value_at m, s) ∷ rest front.1) in
+      let r = at.refill x in
+      let now : me' ≡ (with_part me.0 me.0.part, ds) = λ j. (at.same j, (value_at m, is j) ∷ rest front.1) in record {
+        fits = fit_moved z z' n hand hand' me me' me.0.part ds ez now i r.keyed r.distinct r.below refl (hands-value me.0.part me.0.part me.1 ds m y x at.there r.here r.elsewhere refl i.hands);
+        sees = λ es lo nx a v. seen_as (λ _ p. p) (λ vs. set vs m (Some x)) z z' n es lo me me' ds a v ez now (values-set m (Some x) me.1 ds low (ap value_in r.here) (λ k ne. r.elsewhere (value_at k) (λ e. ne (omega arith))));
+      }
+
+  pub value_is : (m : ℕ) (y : Opt T) (z : TableId) (n : ℕ) (es : List Entry) (lo : Bool) {nx : ℕ} (me : Sat T H W) (a : Known T H W) → known_as z n me es lo nx ≡ a → get_elem? a.values m ≡ some (Some y) → find (value_at m) me.1 ≡ Some (Value y)
+  value_is m y z n es lo me a v e = value-found m y me.1 (ap (λ k. get_elem? k.values m) v ∙ e)
+
+  -- an event that the step made, as contracts see it
+  pub makes_as : (e : Event) (u : List Event) (z z' : TableId) (n : ℕ) (es : List Entry) (lo : Bool) {nx : ℕ} (me me' : Sat T H W) (q : Part T H) (ds : List (ℕ × Slot T)) (a : Known T H W) → known_as z n me es lo nx ≡ a → z' ≡ z → me' ≡ (with_part me.0 q, ds)
+      → Grows n me.0.part u e → q.seen ≡ (me.0.part.seen ++ u) ++ e ∷ [] → q.mine ≡ me.0.part.mine ++ e ∷ [] → q.places ≡ me.0.part.places ++ length (me.0.part.seen ++ u) ∷ [] → Makes e a (known_as z' n me' es lo nx)
+  makes_as e u z z' n es lo {nx} me me' q ds a v ez em grows seen mine places = subst (λ (t : TableId × Sat T H W × Known T H W). Makes e t.2 (known_as t.0 n t.1 es lo nx)) (λ i. (sym ez i, sym em i, v i)) (u, grows, seen, mine, places)
+
+module _ {A : Type 0} where
+  pub set_at : (xs : List A) (i : ℕ) (x y : A) → get_elem? xs i ≡ some y → get_elem? (set xs i x) i ≡ some x
+  set_at xs i x y at = set_here xs i x (at_within xs i y at)
