@@ -47,7 +47,7 @@ seen_found : (t : Told) (w : Walk) → IsWalkOf w t → (kind : Kind) (p : Path)
 seen_found t w walk File p s = (walk.files p).1 s
 seen_found t w walk Dir p s = (walk.dirs p).1 (inr s)
 
-listed_if_found : (w : Walk) → IsListedWhole w → (p : Path) → Contains (dirs_of w) p → IsListed w p
+pub listed_if_found : (w : Walk) → IsListedWhole w → (p : Path) → Contains (dirs_of w) p → IsListed w p
 listed_if_found w whole p h = from (Contains-unmap (λ (e : Path × Bool). e.0) w.dirs p h).origin.1 (Contains-unmap (λ (e : Path × Bool). e.0) w.dirs p h).origin.0 (Contains-unmap (λ (e : Path × Bool). e.0) w.dirs p h).among (Contains-unmap (λ (e : Path × Bool). e.0) w.dirs p h).is
   where
     from : (b : Bool) (q : Path) → Contains w.dirs (q, b) → q ≡ p → IsListed w p

@@ -10,7 +10,7 @@ use Rattle.firefly_outside.specs.declared.tree.TreeError.TheVariants as TreeErro
 use Rattle.word_index.specs.Index.{File, Index, IsIndexOf}
 use Rattle.walker.specs.Walk.{Walk, IsSound, IsWalkOf}
 use Rattle.walker.specs.TreeIndex.{IsTreeIndex, IsFileAt, IsPartOf}
-use Rattle.walker.specs.Closing.{failed_by}
+use Rattle.walker.specs.Closing.{IsDone, failed_by}
 use Rattle.walker.specs.Progress.{IsListedWhole}
 use Rattle.walker.specs.Pile.{IsPileOf, AreApart, HasRead, ReadsSome, StopsReading, ReadsNext, ReadsAt, ReadsRest, IsNextFile, with_read, with_reads}
 use Rattle.walker.specs.declared.answer.WalkAnswer.{WalkAnswer}
@@ -36,6 +36,10 @@ not_before xs at x apart here h =
     let s = some_at xs at x here in
     let early : h.0 < at = omega (arith, h.1, length-take at xs) in
     apart h.0 at x early s.0 (sym (get_or-take at xs h.0 x early) ∙ h.2 ∙ sym s.1)
+
+-- an element of a part is one of the whole
+Contains-take : (n : ℕ) (xs : List Path) (x : Path) → Contains (take n xs) x → Contains xs x
+Contains-take n xs x h = (h.0, omega (arith, h.1, length-take n xs), sym (get_or-take n xs h.0 x (omega (arith, h.1, length-take n xs))) ∙ h.2)
 
 take_next : (xs : List Path) (at : ℕ) (x : Path) → slice_get xs at ≡ Some x → take (at + 1) xs ≡ take at xs ++ x ∷ []
 take_next xs at x here = let s = some_at xs at x here in take_more xs at x s.0 ∙ ap (λ y. take at xs ++ y ∷ []) s.1
@@ -77,6 +81,12 @@ module _ (o : Option Told) (w : Walk) (covered : List Path) (start before : Call
     | inr same ↦ fresh (subst (λ (q : Path). Contains covered q) (sym same) is)
   ]
 
+  pub names_found : (p : Path) → Contains (paths_of h.files ++ name ∷ []) p → Contains w.files p
+  names_found p k = elim (Contains-push_cases (paths_of h.files) name p k) [
+    | inl was ↦ Contains-take at w.files p (h.early p was).0
+    | inr same ↦ (let s = some_at w.files at name here in subst (λ (q : Path). Contains w.files q) same (at, s.0, s.1))
+  ]
+
   pub HasRead-next : (now : Calls) (more : List Index) (next : Index) → (f : IsNextFile o w.root name next) → ((fs gs : List File) → IsPileOf pieces fs → IsIndexOf gs next → IsPileOf more (fs ++ gs))
       → IfSome o (λ _. now ≡ with_read before (child w.root name)) → HasRead o w covered start now (at + 1) more
   HasRead-next now more next f pile calls = record {
@@ -111,11 +121,13 @@ module _ (o : Option Told) (w : Walk) (covered : List Path) (start before : Call
       → IfSome o (λ t. IsWalkOf w t → StopsReading w weak answer t × ReadsSome w covered start now answer)
   stops_next answer weak now k = stops o answer h.told k
     where
-      some : (answer : WalkAnswer) (names : List Path) → Distinct names → ((p : Path) → Contains names p → ¬ Contains covered p) → now ≡ record (with_reads start w.root names) { failed = start.failed ++ failed_by answer } → ReadsSome w covered start now answer
-      some answer names once new is = record {
+      some : (answer : WalkAnswer) (names : List Path) → ¬ IsDone answer → Distinct names → ((p : Path) → Contains names p → ¬ Contains covered p) → ((p : Path) → Contains names p → Contains w.files p) → now ≡ record (with_reads start w.root names) { failed = start.failed ++ failed_by answer } → ReadsSome w covered start now answer
+      some answer names undone once new found is = record {
         names = names;
         once = once;
         fresh = new;
+        found = found;
+        all = λ done. absurd (undone done);
         listed = ap (λ (c : Calls). c.listed) is;
         read = ap (λ (c : Calls). c.files_read) is;
         failed = ap (λ (c : Calls). c.failed) is;
@@ -138,14 +150,14 @@ module _ (o : Option Told) (w : Walk) (covered : List Path) (start before : Call
           under = subst (IsUnder t w.root a_file) (sym k.0) (file_reached t w walk (child w.root name) (Contains-map (child w.root) w.files name among));
           may = subst (λ (p : Path). Contains weak p ⊎ ¬ IsThere t a_file p) (sym k.0) k.1.may;
         },
-        some (ReadFault path) (paths_of h.files) h.once (λ p m. (h.early p m).1)
+        some (ReadFault path) (paths_of h.files) (λ done. done) h.once (λ p m. (h.early p m).1) (λ p m. Contains-take at w.files p (h.early p m).0)
             (k.1.noted ∙ ap (λ (c : Calls). record c { failed = c.failed ++ child w.root name ∷ [] }) was.1 ∙ ap (λ (p : Path). record (with_reads start w.root (paths_of h.files)) { failed = start.failed ++ p ∷ [] }) (sym k.0)),
       )
       stops (Some t) (TooMany many) was k = absurd k
-      stops (Some t) Memory was (inl same) = λ walk. (tt, some Memory (paths_of h.files) h.once (λ p m. (h.early p m).1) (same ∙ was.1 ∙ no_more (with_reads start w.root (paths_of h.files))))
+      stops (Some t) Memory was (inl same) = λ walk. (tt, some Memory (paths_of h.files) (λ done. done) h.once (λ p m. (h.early p m).1) (λ p m. Contains-take at w.files p (h.early p m).0) (same ∙ was.1 ∙ no_more (with_reads start w.root (paths_of h.files))))
       stops (Some t) Memory was (inr more) = λ walk. (
         tt,
-        some Memory (paths_of h.files ++ name ∷ []) names_once names_fresh
+        some Memory (paths_of h.files ++ name ∷ []) (λ done. done) names_once names_fresh names_found
             (more ∙ ap (λ (c : Calls). with_read c (child w.root name)) was.1 ∙ reads_push start w.root (paths_of h.files) name ∙ no_more (with_reads start w.root (paths_of h.files ++ name ∷ []))),
       )
 
@@ -235,11 +247,13 @@ rest_stops (Some t) w covered weak before now (ReadFault path) h = h
 rest_stops (Some t) w covered weak before now (TooMany many) h = absurd h.0
 rest_stops (Some t) w covered weak before now Memory h = h.1
 
-all_reads : (t : Told) (w : Walk) (covered : List Path) (before now : Calls) (at : ℕ) (pieces : List Index) (answer : WalkAnswer) → failed_by answer ≡ [] → HasRead (Some t) w covered before now at pieces → ReadsSome w covered before now answer
-all_reads t w covered before now at pieces answer none h = record {
+all_reads : (t : Told) (w : Walk) (covered : List Path) (before now : Calls) (pieces : List Index) (answer : WalkAnswer) → failed_by answer ≡ [] → HasRead (Some t) w covered before now (length w.files) pieces → ReadsSome w covered before now answer
+all_reads t w covered before now pieces answer none h = record {
   names = paths_of h.files;
   once = h.once;
   fresh = λ p k. (h.early p k).1;
+  found = λ p k. Contains-take (length w.files) w.files p (h.early p k).0;
+  all = λ done p k. h.all p (subst (λ (ps : List Path). Contains ps p) (sym (take_all (length w.files) w.files (omega arith))) k);
   listed = ap (λ (c : Calls). c.listed) h.told.1;
   read = ap (λ (c : Calls). c.files_read) h.told.1;
   failed = ap (λ (c : Calls). c.failed) h.told.1 ∙ sym (ap (λ l. before.failed ++ l) none ∙ append-nil before.failed);
@@ -250,9 +264,9 @@ pub rest_done : (o : Option Told) (w : Walk) (first whole : Index) (weak : List 
 rest_done None w first whole weak before now pieces walk listed part h index = tt
 rest_done (Some t) w first whole weak before now pieces walk listed part h index = (
   tree_index t w first whole before now pieces walk listed part h (index part.files h.files part.index h.pile),
-  all_reads t w first.paths before now (length w.files) pieces (Done whole) refl h,
+  all_reads t w first.paths before now pieces (Done whole) refl h,
 )
 
 pub rest_lost : (o : Option Told) (w : Walk) (covered weak : List Path) (before now : Calls) (pieces : List Index) → HasRead o w covered before now (length w.files) pieces → IfSome o (ReadsRest w covered weak before now Memory)
 rest_lost None w covered weak before now pieces h = tt
-rest_lost (Some t) w covered weak before now pieces h = all_reads t w covered before now (length w.files) pieces Memory refl h
+rest_lost (Some t) w covered weak before now pieces h = all_reads t w covered before now pieces Memory refl h

@@ -7,11 +7,10 @@ use Rattle.std.proofs.lemmas.List.Quantifiers.{all_pairs_push}
 use Rattle.firefly_outside.specs.Trees.{Path, Told, Calls, child, IsFault}
 use Rattle.firefly_outside.specs.Under.{IsThere, IsUnder, AreMany}
 use Rattle.firefly_outside.specs.declared.tree.Kind.TheVariants.{File, Dir}
-use Rattle.walker.specs.Walk.{Walk, IsListed, IsUnlisted, IsSound, IsWalkOf, marked}
+use Rattle.walker.specs.Walk.{Walk, dirs_of, IsListed, IsUnlisted, IsSound, IsWalkOf, marked}
 use Rattle.walker.specs.Listings.{Notes, IsToldBy, ListsDir, with_listed}
-use Rattle.walker.specs.Pile.{IsReadEnd}
-use Rattle.walker.specs.Closing.{Answers, CallsOnce, failed_by, IsNumbered, HasRisen}
-use Rattle.walker.specs.Progress.{IsPassed, ListsMore, EndsPassed, StopsListing, ListsAt, ListsRest, IsListedBelow, IsListedWhole, Grows}
+use Rattle.walker.specs.Closing.{Answers, CallsOnce, IsDone, failed_by, IsNumbered, HasRisen}
+use Rattle.walker.specs.Progress.{IsWithinLimits, IsPassed, ListsMore, KeptLimits, StopsListing, ListsOne, ListsAt, ListsRest, IsListedBelow, IsListedWhole, Grows}
 use Rattle.firefly_outside.specs.declared.tree.TreeError.TheVariants as TreeError
 use Rattle.std.specs.Bool.{nat_eq}
 use Rattle.std.specs.Cmp.Lexicographic.{pointwise}
@@ -24,7 +23,7 @@ use Rattle.walker.specs.declared.listing.Listing.{Listing}
 use Rattle.walker.specs.declared.answer.WalkAnswer.{WalkAnswer}
 use Rattle.walker.specs.declared.answer.WalkAnswer.TheVariants.{Done, Stopped, ReadFault, TooMany, Memory}
 use Rattle.walker.proofs.ListLemmas.{HasOrigin, Contains-nil, Contains-map, Contains-unmap, AllPairs-nil}
-use Rattle.walker.proofs.WalkLemmas.{listed_stays, listed_now, listed_from, listed_once, found_unlisted}
+use Rattle.walker.proofs.WalkLemmas.{listed_stays, listed_now, listed_from, listed_once, found_listed, found_unlisted}
 use Rattle.walker.proofs.Reached.{dir_reached, many_dirs, many_files}
 
 -- nothing was called yet
@@ -49,6 +48,10 @@ noted_from old new dir l n d h = listed_from old dir l.dirs.items [] d (subst (�
 
 noted_now : (old new : Walk) (dir : Path) (l : Listing) → Notes old new dir l → IsUnlisted old dir → IsListed new dir
 noted_now old new dir l n off = subst (λ (ds : List (Path × Bool)). Contains ds (dir, true)) (sym n.dirs) (listed_now old dir l.dirs.items [] off)
+
+-- what was listed since the start is under the root
+pub listed_under : (t : Told) (first w : Walk) (start before : Calls) → IsWalkOf w t → first.root ≡ w.root → (m : ListsMore first w start before) → (p : Path) → Contains m.dirs p → IsUnder t first.root Dir p
+listed_under t first w start before walk root m p h = subst (λ (r : Path). IsUnder t r Dir p) (sym root) (dir_reached t w walk p (found_listed w p (m.marks p h)))
 
 -- one more directory among those listed since the start
 module _ (first old : Walk) (start before : Calls) (dir : Path) (sound : IsSound old) (off : IsUnlisted old dir) (m : ListsMore first old start before) where
@@ -82,31 +85,42 @@ module _ (first old : Walk) (start before : Calls) (dir : Path) (sound : IsSound
   }
 
   -- memory wants after a listing
-  pub CallsOnce-listed : (now : Calls) (covered : List Path) → now ≡ with_listed before dir → CallsOnce first covered start now Memory
-  CallsOnce-listed now covered is = record {
+  pub CallsOnce-listed : (t : Told) (now : Calls) (covered : List Path) → IsWalkOf old t → first.root ≡ old.root → now ≡ with_listed before dir → CallsOnce t first covered start now Memory
+  CallsOnce-listed t now covered walk root is = record {
     dirs = m.dirs ++ dir ∷ [];
     listed = ap (λ (c : Calls). c.listed) is ∙ ap (λ ds. ds ++ dir ∷ []) m.listed ∙ append_assoc start.listed m.dirs (dir ∷ []);
     dirs_once = more_once;
     dirs_new = more_fresh;
+    dirs_under = λ p h. elim (Contains-push_cases m.dirs dir p h) [
+      | inl was ↦ listed_under t first old start before walk root m p was
+      | inr here ↦ subst (λ (r : Path). IsUnder t r Dir p) (sym root) (dir_reached t old walk p (subst (λ (q : Path). Contains (dirs_of old) q) here (found_unlisted old dir off)))
+    ];
+    dirs_all = λ done. absurd done;
     files = [];
     read = ap (λ (c : Calls). c.files_read) is ∙ m.read ∙ sym (append-nil start.files_read);
     files_once = AllPairs-nil (λ p q. p ≢ q);
     files_new = λ p h k. Contains-nil (child first.root p) k;
+    files_under = λ p h. absurd (Contains-nil p h);
+    files_all = λ done. absurd done;
     failed = ap (λ (c : Calls). c.failed) is ∙ m.failed ∙ sym (append-nil start.failed);
   }
 
 -- the calls since the start where the answer adds these failed ones
-pub CallsOnce-listing : (first w : Walk) (start before now : Calls) (covered : List Path) (answer : WalkAnswer) → ListsMore first w start before
-    → now ≡ record before { failed = before.failed ++ failed_by answer } → CallsOnce first covered start now answer
-CallsOnce-listing first w start before now covered answer m is = record {
+pub CallsOnce-listing : (t : Told) (first w : Walk) (start before now : Calls) (covered : List Path) (answer : WalkAnswer) → IsWalkOf w t → first.root ≡ w.root → ¬ IsDone answer → ListsMore first w start before
+    → now ≡ record before { failed = before.failed ++ failed_by answer } → CallsOnce t first covered start now answer
+CallsOnce-listing t first w start before now covered answer walk root undone m is = record {
   dirs = m.dirs;
   listed = ap (λ (c : Calls). c.listed) is ∙ m.listed;
   dirs_once = m.once;
   dirs_new = m.fresh;
+  dirs_under = listed_under t first w start before walk root m;
+  dirs_all = λ done. absurd (undone done);
   files = [];
   read = ap (λ (c : Calls). c.files_read) is ∙ m.read ∙ sym (append-nil start.files_read);
   files_once = AllPairs-nil (λ p q. p ≢ q);
   files_new = λ p h k. Contains-nil (child first.root p) k;
+  files_under = λ p h. absurd (Contains-nil p h);
+  files_all = λ done. absurd (undone done);
   failed = ap (λ (c : Calls). c.failed) is ∙ ap (λ ps. ps ++ failed_by answer) m.failed;
 }
 
@@ -117,28 +131,37 @@ same_calls c = ap (λ ps. record c { failed = ps }) (sym (append-nil c.failed))
 pub Stops-fault : (old : Walk) (dir : Path) (weak : List Path) (before now : Calls) (t : Told) → IsUnlisted old dir → IsFault weak dir (IsThere t Dir dir) before now → StopsListing old weak before now (ReadFault dir) t
 Stops-fault old dir weak before now t off fault sound walk first start root m stop = (
   record { kind = Dir; under = subst (λ r. IsUnder t r Dir dir) (sym root) (dir_reached t old walk dir (found_unlisted old dir off)); may = fault.may },
-  λ covered. CallsOnce-listing first old start before now covered (ReadFault dir) m fault.noted,
+  λ covered. CallsOnce-listing t first old start before now covered (ReadFault dir) walk root (λ done. done) m fault.noted,
+  λ limits. record {
+    walk = old;
+    calls = before;
+    reached = record { sound = sound; told = walk; more = m };
+    limits = limits;
+    listed = ap (λ (c : Calls). c.listed) fault.noted;
+  },
 )
 
 -- memory wants
 pub Stops-memory : (old : Walk) (dir : Path) (weak : List Path) (before now : Calls) (t : Told) → IsUnlisted old dir → (now ≡ before) ⊎ (now ≡ with_listed before dir) → StopsListing old weak before now Memory t
-Stops-memory old dir weak before now t off (inl same) sound walk first start root m stop = (tt, λ covered. CallsOnce-listing first old start before now covered Memory m (same ∙ same_calls before))
-Stops-memory old dir weak before now t off (inr more) sound walk first start root m stop = (tt, λ covered. CallsOnce-listed first old start before dir sound off m now covered more)
+Stops-memory old dir weak before now t off (inl same) sound walk first start root m stop = (tt, λ covered. CallsOnce-listing t first old start before now covered Memory walk root (λ done. done) m (same ∙ same_calls before), λ limits. tt)
+Stops-memory old dir weak before now t off (inr more) sound walk first start root m stop = (tt, λ covered. CallsOnce-listed first old start before dir sound off m t now covered walk root more, λ limits. tt)
 
 -- a limit is passed
 pub Stops-passed : (first w : Walk) (stop : Option ℕ) (weak : List Path) (start now : Calls) (t : Told) (answer : WalkAnswer) → IsSound w → IsWalkOf w t → first.root ≡ w.root → ListsMore first w start now
-    → IsPassed w stop answer → Answers first.root stop weak answer t × ((covered : List Path) → CallsOnce first covered start now answer)
-Stops-passed first w stop weak start now t (Done piece) sound walk root m p = absurd p
-Stops-passed first w stop weak start now t (Stopped many) sound walk root m p = (
+    → (now.listed ≡ start.listed) ⊎ KeptLimits first stop start now t → IsPassed w stop answer → ListsRest {T = Unit {0}} first w stop weak start now (Err answer) t
+Stops-passed first w stop weak start now t (Done piece) sound walk root m earlier p = absurd p
+Stops-passed first w stop weak start now t (Stopped many) sound walk root m earlier p = (
   subst (λ r. AreMany t r File many) (sym root) (many_files t w many sound walk (omega (arith, p.1.2, p.1.3))),
-  λ covered. CallsOnce-listing first w start now now covered (Stopped many) m (same_calls now),
+  λ covered. CallsOnce-listing t first w start now now covered (Stopped many) walk root (λ done. done) m (same_calls now),
+  record { walk = w; reached = record { sound = sound; told = walk; more = m }; passed = p; earlier = earlier },
 )
-Stops-passed first w stop weak start now t (ReadFault path) sound walk root m p = absurd p
-Stops-passed first w stop weak start now t (TooMany many) sound walk root m p = (
+Stops-passed first w stop weak start now t (ReadFault path) sound walk root m earlier p = absurd p
+Stops-passed first w stop weak start now t (TooMany many) sound walk root m earlier p = (
   subst (λ r. AreMany t r Dir many) (sym root) (many_dirs t w many sound walk (omega (arith, p.0, p.1))),
-  λ covered. CallsOnce-listing first w start now now covered (TooMany many) m (same_calls now),
+  λ covered. CallsOnce-listing t first w start now now covered (TooMany many) walk root (λ done. done) m (same_calls now),
+  record { walk = w; reached = record { sound = sound; told = walk; more = m }; passed = p; earlier = earlier },
 )
-Stops-passed first w stop weak start now t Memory sound walk root m p = absurd p
+Stops-passed first w stop weak start now t Memory sound walk root m earlier p = absurd p
 
 -- an element at a place
 pub some_at : {X : Type 0} (xs : List X) (i : ℕ) (x : X) → slice_get xs i ≡ Some x → (i < length xs) × (get_or xs i x ≡ x)
@@ -214,6 +237,7 @@ module _ (o : Option Told) (old new : Walk) (dir path : Path) (weak : List Path)
       at (Some t) k = (
         λ walk. keeps t walk k.0,
         λ sound first start m. ListsMore-next first old start before path sound (subst (IsUnlisted old) (sym same) off) m new l now n k.1,
+        inr (path, ap (λ (c : Calls). c.listed) k.1),
       )
 
   pub told_unnoted : (l : Listing) → IfSome o (ListsDir weak path before now (Ok l)) → IfSome o (ListsAt {T = Unit {0}} old new weak before now (Err Memory))
@@ -240,7 +264,7 @@ module _ (o : Option Told) (old new : Walk) (dir path : Path) (weak : List Path)
 -- the same, where nothing is done
 pub told_same : (o : Option Told) (w : Walk) (weak : List Path) (calls : Calls) → IfSome o (ListsAt {T = Unit {0}} w w weak calls calls (Ok tt))
 told_same None w weak calls = tt
-told_same (Some t) w weak calls = (λ walk. walk, λ sound first start m. m)
+told_same (Some t) w weak calls = (λ walk. walk, λ sound first start m. m, inl (refl, refl))
 
 pub told_unread : (o : Option Told) (w : Walk) (dir : Path) (weak : List Path) (calls : Calls) → IsUnlisted w dir → IfSome o (ListsAt {T = Unit {0}} w w weak calls calls (Err Memory))
 told_unread None w dir weak calls off = tt
@@ -259,23 +283,46 @@ Grows-trans a b c f g = record { root = g.root ∙ f.root; files = λ p h. g.fil
 abbrev pub IsGoing : Walk → Walk → Calls → Calls → Told → Type 0
 IsGoing first w start now t = IsWalkOf w t × ListsMore first w start now
 
-pub going_start : (o : Option Told) (w : Walk) (calls : Calls) → IfSome o (IsWalkOf w) → IfSome o (IsGoing w w calls calls)
-going_start None w calls h = tt
-going_start (Some t) w calls h = (h, ListsMore-refl w calls)
-
 pub going_next : (o : Option Told) (first old new : Walk) (weak : List Path) (start before now : Calls) → IsSound old → IfSome o (IsGoing first old start before) → IfSome o (ListsAt {T = Unit {0}} old new weak before now (Ok tt)) → IfSome o (IsGoing first new start now)
 going_next None first old new weak start before now sound g h = tt
 going_next (Some t) first old new weak start before now sound g h = (h.0 g.0, h.1 sound first start g.1)
 
-pub rest_stopped : (o : Option Told) (first old new : Walk) (stop : Option ℕ) (weak : List Path) (start before now : Calls) (answer : WalkAnswer) → IsSound old → Grows first old → IfSome o (IsGoing first old start before)
+pub rest_stopped : (o : Option Told) (first old new : Walk) (stop : Option ℕ) (weak : List Path) (start before now : Calls) (answer : WalkAnswer) → IsSound old → IsWithinLimits old stop → Grows first old → IfSome o (IsGoing first old start before)
     → IfSome o (ListsAt {T = Unit {0}} old new weak before now (Err answer)) → IfSome o (ListsRest {T = Unit {0}} first new stop weak start now (Err answer))
-rest_stopped None first old new stop weak start before now answer sound grows g h = tt
-rest_stopped (Some t) first old new stop weak start before now answer sound grows g h = h sound g.0 first start (sym grows.root) g.1 stop
+rest_stopped None first old new stop weak start before now answer sound limits grows g h = tt
+rest_stopped (Some t) first old new stop weak start before now answer sound limits grows g h =
+    let s = h sound g.0 first start (sym grows.root) g.1 stop in
+    (s.0, s.1, s.2 limits)
 
-pub rest_passed : (o : Option Told) (first w : Walk) (stop : Option ℕ) (weak : List Path) (start now : Calls) (answer : WalkAnswer) → IsSound w → Grows first w → IfSome o (IsGoing first w start now)
+-- a walk within its limits passes none
+within_passes_none : (w : Walk) (stop : Option ℕ) (answer : WalkAnswer) → IsWithinLimits w stop → IsPassed w stop answer → ⊥
+within_passes_none w stop (Done piece) limits p = p
+within_passes_none w stop (Stopped many) limits p = absurd (omega (arith, limits.files p.1.0 p.1.1, p.1.3))
+within_passes_none w stop (ReadFault path) limits p = p
+within_passes_none w stop (TooMany many) limits p = absurd (omega (arith, limits.dirs, p.1))
+within_passes_none w stop Memory limits p = p
+
+-- what a walk has told that passed no limit before its last listing
+abbrev pub IsPassing : Walk → Walk → Option ℕ → Calls → Calls → Told → Type 0
+IsPassing first w stop start now t = IsGoing first w start now t × ((now.listed ≡ start.listed) ⊎ KeptLimits first stop start now t)
+
+pub passing_start : (o : Option Told) (w : Walk) (stop : Option ℕ) (calls : Calls) → IfSome o (IsWalkOf w) → IfSome o (IsPassing w w stop calls calls)
+passing_start None w stop calls h = tt
+passing_start (Some t) w stop calls h = ((h, ListsMore-refl w calls), inl refl)
+
+pub passing_next : (o : Option Told) (first old new : Walk) (stop : Option ℕ) (weak : List Path) (start before now : Calls) (answer : WalkAnswer) → IsSound old → IsWithinLimits old stop → IsPassed new stop answer
+    → IfSome o (IsGoing first old start before) → IfSome o (ListsAt {T = Unit {0}} old new weak before now (Ok tt)) → IfSome o (IsPassing first new stop start now)
+passing_next None first old new stop weak start before now answer sound limits p g h = tt
+passing_next (Some t) first old new stop weak start before now answer sound limits p g h = ((h.0 g.0, h.1 sound first start g.1), kept h.2)
+  where
+    kept : ListsOne old new before now → (now.listed ≡ start.listed) ⊎ KeptLimits first stop start now t
+    kept (inl same) = absurd (within_passes_none old stop answer limits (subst (λ (v : Walk). IsPassed v stop answer) same.0 p))
+    kept (inr one) = inr (record { walk = old; calls = before; reached = record { sound = sound; told = g.0; more = g.1 }; limits = limits; last = one.0; listed = one.1 })
+
+pub rest_passed : (o : Option Told) (first w : Walk) (stop : Option ℕ) (weak : List Path) (start now : Calls) (answer : WalkAnswer) → IsSound w → Grows first w → IfSome o (IsPassing first w stop start now)
     → IsPassed w stop answer → IfSome o (ListsRest {T = Unit {0}} first w stop weak start now (Err answer))
 rest_passed None first w stop weak start now answer sound grows g p = tt
-rest_passed (Some t) first w stop weak start now answer sound grows g p = Stops-passed first w stop weak start now t answer sound g.0 (sym grows.root) g.1 p
+rest_passed (Some t) first w stop weak start now answer sound grows g p = Stops-passed first w stop weak start now t answer sound g.0.0 (sym grows.root) g.0.1 g.1 p
 
 pub passed_numbers : (w : Walk) (stop : Option ℕ) (answer : WalkAnswer) → IsPassed w stop answer → IsNumbered stop answer
 passed_numbers w stop (Done piece) p = absurd p
@@ -300,21 +347,3 @@ OnOk-map (Err e) P Q f h = tt
 pub moved_step : (o q : Option Told) (old new : Walk) (weak vague : List Path) (before now : Calls) (r : Result (Unit {0}) WalkAnswer) → o ≡ q → weak ≡ vague
     → IfSome o (ListsAt {T = Unit {0}} old new weak before now r) → IfSome q (ListsAt {T = Unit {0}} old new vague before now r)
 moved_step o q old new weak vague before now r e f h = subst (λ (p : Option Told). IfSome p (ListsAt {T = Unit {0}} old new vague before now r)) e (subst (λ (w : List Path). IfSome o (ListsAt {T = Unit {0}} old new w before now r)) f h)
-
--- a limit that the walk passes now
-pub ends_passed : (o : Option Told) (first w : Walk) (stop : Option ℕ) (start now : Calls) (answer : WalkAnswer) → IfSome o (IsGoing first w start now) → IsPassed w stop answer → IfSome o (EndsPassed first stop start now answer)
-ends_passed None first w stop start now answer g p = tt
-ends_passed (Some t) first w stop start now (Done piece) g p = absurd p
-ends_passed (Some t) first w stop start now (Stopped many) g p = record { walk = w; told = g.0; more = g.1; passed = p }
-ends_passed (Some t) first w stop start now (ReadFault path) g p = absurd p
-ends_passed (Some t) first w stop start now (TooMany many) g p = record { walk = w; told = g.0; more = g.1; passed = p }
-ends_passed (Some t) first w stop start now Memory g p = absurd p
-
--- no limit is told
-pub ends_plain : (o : Option Told) (first : Walk) (stop : Option ℕ) (start now : Calls) (answer : WalkAnswer) → IsReadEnd answer → IfSome o (EndsPassed first stop start now answer)
-ends_plain None first stop start now answer h = tt
-ends_plain (Some t) first stop start now (Done piece) h = tt
-ends_plain (Some t) first stop start now (Stopped many) h = absurd h
-ends_plain (Some t) first stop start now (ReadFault path) h = tt
-ends_plain (Some t) first stop start now (TooMany many) h = absurd h
-ends_plain (Some t) first stop start now Memory h = tt

@@ -1,5 +1,5 @@
 -- What the closing walk answers.
-use Rattle.std.specs.Prelude.{◌≡◌, ◌≢◌, ℕ, ◌+◌, ◌≤◌, List, [], ◌∷◌, ◌++◌, Option, Some, Contains, AllPairs, ◌⊎◌}
+use Rattle.std.specs.Prelude.{◌≡◌, ◌≢◌, ℕ, ◌+◌, ◌≤◌, List, [], ◌∷◌, ◌++◌, map, Option, Some, Contains, AllPairs, ◌⊎◌}
 use Rattle.firefly_outside.specs.Causes.{Rose}
 use Rattle.firefly_outside.specs.Trees.{Path, Told, Calls, child}
 use Rattle.firefly_outside.specs.Under.{IsUnder, IsThere, AreMany}
@@ -59,14 +59,26 @@ failed_by (ReadFault path) = path ∷ []
 failed_by (TooMany many) = []
 failed_by Memory = []
 
--- the calls of a walk: it lists what wasn't listed and reads what isn't covered, each once
-pub record CallsOnce (w : Walk) (covered : List Path) (old new : Calls) (answer : WalkAnswer) : Type 0 where
+abbrev pub IsDone : WalkAnswer → Type 0
+IsDone (Done piece) = Unit {0}
+IsDone (Stopped many) = ⊥
+IsDone (ReadFault path) = ⊥
+IsDone (TooMany many) = ⊥
+IsDone Memory = ⊥
+
+-- the calls of a walk: it lists directories under the root that weren't listed and reads files under it that aren't covered,
+-- each once, and where it is done it has listed and read them all
+pub record CallsOnce (t : Told) (w : Walk) (covered : List Path) (old new : Calls) (answer : WalkAnswer) : Type 0 where
   pub dirs : List Path
   pub listed : new.listed ≡ old.listed ++ dirs
   pub dirs_once : AllPairs (λ p q. p ≢ q) dirs
   pub dirs_new : (p : Path) → Contains dirs p → ¬ IsListed w p
+  pub dirs_under : (p : Path) → Contains dirs p → IsUnder t w.root Dir p
+  pub dirs_all : IsDone answer → (p : Path) → IsUnder t w.root Dir p → IsListed w p ⊎ Contains dirs p
   pub files : List Path
   pub read : new.files_read ≡ old.files_read ++ files
   pub files_once : AllPairs (λ p q. p ≢ q) files
   pub files_new : (p : Path) → Contains covered p → ¬ Contains files (child w.root p)
+  pub files_under : (p : Path) → Contains files p → IsUnder t w.root File p
+  pub files_all : IsDone answer → (p : Path) → IsUnder t w.root File p → Contains (map (child w.root) covered) p ⊎ Contains files p
   pub failed : new.failed ≡ old.failed ++ failed_by answer

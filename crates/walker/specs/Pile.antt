@@ -6,7 +6,7 @@ use Rattle.firefly_outside.specs.declared.tree.Kind.TheVariants.{File as a_file}
 use Rattle.word_index.specs.Index.{File, Index, Meet, IsIndexOf}
 use Rattle.walker.specs.Walk.{Walk, IsWalkOf}
 use Rattle.walker.specs.TreeIndex.{IsTreeIndex, IsFileAt}
-use Rattle.walker.specs.Closing.{IsFaultUnder, failed_by}
+use Rattle.walker.specs.Closing.{IsFaultUnder, IsDone, failed_by}
 use Rattle.walker.specs.declared.answer.WalkAnswer.{WalkAnswer}
 use Rattle.walker.specs.declared.answer.WalkAnswer.TheVariants.{Done, Stopped, ReadFault, TooMany, Memory}
 
@@ -65,6 +65,8 @@ pub record ReadsSome (w : Walk) (covered : List Path) (before now : Calls) (answ
   pub names : List Path
   pub once : AllPairs (λ p q. p ≢ q) names
   pub fresh : (p : Path) → Contains names p → ¬ Contains covered p
+  pub found : (p : Path) → Contains names p → Contains w.files p
+  pub all : IsDone answer → (p : Path) → Contains w.files p → Contains covered p ⊎ Contains names p
   pub listed : now.listed ≡ before.listed
   pub read : now.files_read ≡ before.files_read ++ map (child w.root) names
   pub failed : now.failed ≡ before.failed ++ failed_by answer

@@ -1,5 +1,5 @@
 -- How far a closing walk has come.
-use Rattle.std.specs.Prelude.{◌≡◌, ◌≢◌, ◌⊎◌, ℕ, ◌+◌, ◌≤◌, ◌<◌, false, List, ◌++◌, length, take, Option, Some, Contains, AllPairs, Result, Ok, Err}
+use Rattle.std.specs.Prelude.{◌≡◌, ◌≢◌, ◌⊎◌, ℕ, ◌+◌, ◌≤◌, ◌<◌, false, List, ◌∷◌, [], ◌++◌, length, take, Option, Some, Contains, AllPairs, Result, Ok, Err}
 use Rattle.firefly_outside.specs.Trees.{Path, Told, Calls}
 use Rattle.walker.specs.Walk.{Walk, IsSound, IsListed, IsUnlisted, IsWalkOf}
 use Rattle.walker.specs.Closing.{most_dirs, HasRisen, Answers, CallsOnce}
@@ -36,35 +36,64 @@ pub record ListsMore (first w : Walk) (before now : Calls) : Type 0 where
   pub stays : (p : Path) → IsListed first p → IsListed w p
   pub only : (p : Path) → IsListed w p → IsListed first p ⊎ Contains dirs p
 
--- the walk as the listings made so far leave it passes a limit, which is told: of the directories first
-pub record HasPassed (first : Walk) (stop : Option ℕ) (before now : Calls) (answer : WalkAnswer) (t : Told) : Type 0 where
-  pub walk : Walk
+-- the walk as the listings made since the start leave it
+pub record IsReached (first walk : Walk) (before now : Calls) (t : Told) : Type 0 where
+  pub sound : IsSound walk
   pub told : IsWalkOf walk t
   pub more : ListsMore first walk before now
-  pub passed : IsPassed walk stop answer
 
--- a stop and too many directories are answered where the directories and files found so far pass a limit
+-- with the same listings made as now, neither limit is passed
+pub record KeepsLimits (first : Walk) (stop : Option ℕ) (before now : Calls) (t : Told) : Type 0 where
+  pub walk : Walk
+  pub calls : Calls
+  pub reached : IsReached first walk before calls t
+  pub limits : IsWithinLimits walk stop
+  pub listed : now.listed ≡ calls.listed
+
+-- with all listings made but the last, neither limit was passed
+pub record KeptLimits (first : Walk) (stop : Option ℕ) (before now : Calls) (t : Told) : Type 0 where
+  pub walk : Walk
+  pub calls : Calls
+  pub reached : IsReached first walk before calls t
+  pub limits : IsWithinLimits walk stop
+  pub last : Path
+  pub listed : now.listed ≡ calls.listed ++ last ∷ []
+
+-- the walk as the listings made so far leave it passes a limit, which is told: of the directories first. Before the last listing
+-- neither was passed
+pub record HasPassed (first : Walk) (stop : Option ℕ) (before now : Calls) (answer : WalkAnswer) (t : Told) : Type 0 where
+  pub walk : Walk
+  pub reached : IsReached first walk before now t
+  pub passed : IsPassed walk stop answer
+  pub earlier : (now.listed ≡ before.listed) ⊎ KeptLimits first stop before now t
+
+-- a stop and too many directories are answered where the directories and files found so far pass a limit, and as soon as they do;
+-- the index and a fault where they pass none
 abbrev pub EndsPassed : Walk → Option ℕ → Calls → Calls → WalkAnswer → Told → Type 0
-EndsPassed first stop before now (Done piece) t = Unit {0}
+EndsPassed first stop before now (Done piece) t = KeepsLimits first stop before now t
 EndsPassed first stop before now (Stopped many) t = HasPassed first stop before now (Stopped many) t
-EndsPassed first stop before now (ReadFault path) t = Unit {0}
+EndsPassed first stop before now (ReadFault path) t = KeepsLimits first stop before now t
 EndsPassed first stop before now (TooMany many) t = HasPassed first stop before now (TooMany many) t
 EndsPassed first stop before now Memory t = Unit {0}
 
 -- a walk that stops while it lists: what the answer says of the tree, and which calls were made since the start
 abbrev pub StopsListing : Walk → List Path → Calls → Calls → WalkAnswer → Told → Type 0
 StopsListing old weak before now answer t = IsSound old → IsWalkOf old t → (first : Walk) (start : Calls) → first.root ≡ old.root → ListsMore first old start before
-    → (stop : Option ℕ) → Answers first.root stop weak answer t × ((covered : List Path) → CallsOnce first covered start now answer)
+    → (stop : Option ℕ) → Answers first.root stop weak answer t × ((covered : List Path) → CallsOnce t first covered start now answer) × (IsWithinLimits old stop → EndsPassed first stop start now answer t)
+
+-- one listing was made, or none and nothing changed
+abbrev pub ListsOne : Walk → Walk → Calls → Calls → Type 0
+ListsOne old new before now = ((new ≡ old) × (now ≡ before)) ⊎ ((dir : Path) × (now.listed ≡ before.listed ++ dir ∷ []))
 
 -- what one step of listing tells
 abbrev pub ListsAt : {T : Type 0} → Walk → Walk → List Path → Calls → Calls → Result T WalkAnswer → Told → Type 0
-ListsAt old new weak before now (Ok v) t = (IsWalkOf old t → IsWalkOf new t) × (IsSound old → (first : Walk) (start : Calls) → ListsMore first old start before → ListsMore first new start now)
+ListsAt old new weak before now (Ok v) t = (IsWalkOf old t → IsWalkOf new t) × (IsSound old → (first : Walk) (start : Calls) → ListsMore first old start before → ListsMore first new start now) × ListsOne old new before now
 ListsAt old new weak before now (Err answer) t = StopsListing old weak before now answer t
 
 -- what listing the rest tells
 abbrev pub ListsRest : {T : Type 0} → Walk → Walk → Option ℕ → List Path → Calls → Calls → Result T WalkAnswer → Told → Type 0
 ListsRest first w stop weak before now (Ok v) t = IsWalkOf w t × ListsMore first w before now
-ListsRest first w stop weak before now (Err answer) t = Answers first.root stop weak answer t × ((covered : List Path) → CallsOnce first covered before now answer)
+ListsRest first w stop weak before now (Err answer) t = Answers first.root stop weak answer t × ((covered : List Path) → CallsOnce t first covered before now answer) × EndsPassed first stop before now answer t
 
 -- each directory found is listed
 abbrev pub IsListedWhole : Walk → Type 0

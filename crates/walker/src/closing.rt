@@ -2,7 +2,6 @@
 ghost use Rattle.std.specs.Prelude.{◌≡◌, ◌+◌, ◌≤◌, ◌<◌, ℕ, Option, Some, false, length, IfSome, OnOk, IfErr, MatchOption, slice_get};
 ghost use Rattle.walker.specs.Walk.{IsWalkOf, IsSound, IsUnlisted};
 ghost use Rattle.walker.specs.Progress.{IsWithinLimits, IsPassed, StepCounts, Grows, IsListedBelow, IsListedWhole, ListsAt, ListsRest, EndsPassed};
-ghost use Rattle.walker.specs.Pile.{IsReadEnd};
 ghost use Rattle.walker.specs.TreeIndex.{IsPartOf};
 ghost use Rattle.walker.specs.Closing.{most_dirs, HasRisen, IsNumbered, Answers, CallsOnce};
 
@@ -41,7 +40,7 @@ pub fn close_walk<S: Tree>(
 
     // Where the tree tells: what the answer says of it, and which calls were made.
     ensures answer { IfSome (S.tree tree.old) (Answers root.now stop_after (S.may_fail tree.old) result) }
-    ensures once { IfSome (S.tree tree.old) (λ _. CallsOnce walked piece.paths (S.calls tree.old) (S.calls tree.new) result) }
+    ensures once { IfSome (S.tree tree.old) (λ t. CallsOnce t walked piece.paths (S.calls tree.old) (S.calls tree.new) result) }
     ensures passed { IfSome (S.tree tree.old) (EndsPassed walked stop_after (S.calls tree.old) (S.calls tree.new) result) }
 {
     let mut walked = walked;
@@ -93,7 +92,6 @@ fn list_rest<S: Tree>(
     ensures listed { OnOk result (IsListedWhole walked.new) }
     ensures sound { OnOk result (IsSound walked.new) }
     ensures numbers { IfErr result (IsNumbered stop_after) }
-    ensures passed { IfErr result (λ a. IfSome (S.tree tree.old) (EndsPassed walked.old stop_after (S.calls tree.old) (S.calls tree.new) a)) }
     ensures told { IfSome (S.tree tree.old) (ListsRest walked.old walked.new stop_after (S.may_fail tree.old) (S.calls tree.old) (S.calls tree.new) result) }
 {
     let mut at = 0;
@@ -124,7 +122,6 @@ fn list_at<S: Tree>(
     ensures grows { Grows walked.old walked.new }
     ensures below { OnOk result (IsListedBelow walked.old at → IsListedBelow walked.new (at + 1)) }
     ensures numbers { IfErr result (λ a. (stop : Option ℕ) → IsNumbered stop a) }
-    ensures plain { IfErr result IsReadEnd }
     ensures told { IfSome (S.tree tree.old) (ListsAt walked.old walked.new (S.may_fail tree.old) (S.calls tree.old) (S.calls tree.new) result) }
 {
     let Some(dir) = walked.unlisted_at(at) else {
@@ -150,7 +147,6 @@ fn list_next<S: Tree>(
     ensures grows { Grows walked.old walked.new }
     ensures below { OnOk result ((at : ℕ) → slice_get walked.old.dirs at ≡ Some (dir, false) → IsListedBelow walked.old at → IsListedBelow walked.new (at + 1)) }
     ensures numbers { IfErr result (λ a. (stop : Option ℕ) → IsNumbered stop a) }
-    ensures plain { IfErr result IsReadEnd }
     ensures told { IfSome (S.tree tree.old) (ListsAt walked.old walked.new (S.may_fail tree.old) (S.calls tree.old) (S.calls tree.new) result) }
 {
     let path = dir.as_str();

@@ -18,3 +18,4 @@ pub mod OneFile
 pub mod WordLists
 pub mod Searches
 pub mod Rowed
+pub mod Unique

@@ -51,12 +51,12 @@ file_sound path xs rise = record {
 }
 
 -- membership through a function of the elements
-to_map : {X Y : Type 0} (g : X → Y) (ys : List X) (y : X) → Contains ys y → Contains (map g ys) (g y)
+pub to_map : {X Y : Type 0} (g : X → Y) (ys : List X) (y : X) → Contains ys y → Contains (map g ys) (g y)
 to_map g ys y h =
     let inside : h.0 < length (map g ys) = omega (arith, h.1, length-map ys g) in
     (h.0, inside, get_or-map g ys h.0 y (g y) h.1 ∙ ap g h.2)
 
-from_map : {X Y : Type 0} (g : X → Y) (ys : List X) (e : Y) → Contains (map g ys) e → (y : X) × Contains ys y × (g y ≡ e)
+pub from_map : {X Y : Type 0} (g : X → Y) (ys : List X) (e : Y) → Contains (map g ys) e → (y : X) × Contains ys y × (g y ≡ e)
 from_map g [] e h = absurd (omega (arith, h.1))
 from_map g (x ∷ rest) e h =
     let ys = x ∷ rest in

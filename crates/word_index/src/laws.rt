@@ -1,6 +1,7 @@
 // Laws over the definitions.
-ghost use Rattle.std.specs.Prelude.{◌≡◌, map, filter};
+ghost use Rattle.std.specs.Prelude.{◌≡◌, List, map, filter};
 ghost use Rattle.word_index.specs.Words.{is_short, lowered, file_words};
+ghost use Rattle.word_index.specs.Index.{File, Index, IsIndexOf};
 ghost use Rattle.word_index.specs.Places.{begins_run, run_at, places};
 
 /// The words of a file are its runs of at most 64 bytes, in lower case and in order. A run begins at each word byte that
@@ -11,3 +12,8 @@ pub fn words_are_runs(bytes: &[u8])
 {
     let _ = bytes;
 }
+
+/// Two indexes of the same files are one.
+pub fn one_index()
+    ensures { (fs : List File) (a b : Index) → IsIndexOf fs a → IsIndexOf fs b → a ≡ b }
+{}

@@ -1,7 +1,7 @@
 use Rattle.std.proofs.Common.{◌≡◌, subst, sym, false, slice_get}
 use Rattle.std.specs.Prelude.{Some}
 use Rattle.firefly_outside.specs.Trees.{Path}
-use Rattle.walker.proofs.Steps.{below_same, unlisted_from, OnOk-map}
+use Rattle.walker.proofs.Steps.{below_same, unlisted_from, told_unread, OnOk-map}
 use Rattle.walker.proofs.closing.list_at.Goals as goal
 
 pub returns-in_default-clause-below : goal.returns-in_default-clause-below
@@ -14,3 +14,6 @@ pub returns-clause-below : goal.returns-clause-below
 returns-clause-below g c = OnOk-map c.list_next.result _ _
     (λ f below. f c.args.at (subst (λ (p : Path). slice_get c.args.walked.now.dirs c.args.at ≡ Some (p, false)) (sym c.in-Ok.ensures) c.in-Some.ensures) below)
     c.list_next.ensures.below
+
+pub returns-in_default-of-clause-told : goal.returns-in_default-of-clause-told
+returns-in_default-of-clause-told g c = told_unread (g.S.Tree.tree c.args.tree.now) c.args.walked.now c.in-Some.dir.now (g.S.Tree.may_fail c.args.tree.now) (g.S.Tree.calls c.args.tree.now) (unlisted_from c.args.walked.now c.args.at c.in-Some.dir.now c.in-Some.ensures)

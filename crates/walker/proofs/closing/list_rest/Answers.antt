@@ -1,6 +1,6 @@
 use Rattle.std.proofs.Common.{◌∙◌, arith}
 use Rattle.std.specs.Prelude.{Ok, Err}
-use Rattle.walker.proofs.Steps.{Grows-trans, going_next, rest_stopped, rest_passed, ends_passed, ends_plain, moved_step, below_all}
+use Rattle.walker.proofs.Steps.{Grows-trans, going_next, passing_next, rest_stopped, rest_passed, moved_step, below_all}
 use Rattle.walker.proofs.closing.list_rest.Goals as goal
 
 pub returns-in-Err-clause-numbers : goal.returns-in-Err-clause-numbers
@@ -8,15 +8,15 @@ returns-in-Err-clause-numbers g c = c.in-Err.ensures.numbers c.args.stop_after
 
 pub returns-in-Err-clause-told : goal.returns-in-Err-clause-told
 returns-in-Err-clause-told g c = rest_stopped (g.S.Tree.tree c.args.tree.now) c.args.walked.now c.loop-at.walked c.list_at.new.walked c.args.stop_after (g.S.Tree.may_fail c.args.tree.now)
-    (g.S.Tree.calls c.args.tree.now) (g.S.Tree.calls c.loop-at.tree) (g.S.Tree.calls c.list_at.new.tree) c.in-Err.answer c.dirs_found.ensures.sound c.loop-at.invariant.grows c.loop-at.invariant.told
+    (g.S.Tree.calls c.args.tree.now) (g.S.Tree.calls c.loop-at.tree) (g.S.Tree.calls c.list_at.new.tree) c.in-Err.answer c.dirs_found.ensures.sound c.loop-at.invariant.limits c.loop-at.invariant.grows c.loop-at.invariant.told
     (moved_step (g.S.Tree.tree c.loop-at.tree) (g.S.Tree.tree c.args.tree.now) c.loop-at.walked c.list_at.new.walked (g.S.Tree.may_fail c.loop-at.tree) (g.S.Tree.may_fail c.args.tree.now)
     (g.S.Tree.calls c.loop-at.tree) (g.S.Tree.calls c.list_at.new.tree) (Err c.in-Err.answer) c.loop-at.invariant.tree c.loop-at.invariant.weak c.in-Err.ensures.told)
 
 pub returns-in-Some-clause-told : goal.returns-in-Some-clause-told
 returns-in-Some-clause-told g c = rest_passed (g.S.Tree.tree c.args.tree.now) c.args.walked.now c.list_at.new.walked c.args.stop_after (g.S.Tree.may_fail c.args.tree.now)
     (g.S.Tree.calls c.args.tree.now) (g.S.Tree.calls c.list_at.new.tree) c.in-Some.answer c.passed.ensures.sound (Grows-trans c.args.walked.now c.loop-at.walked c.list_at.new.walked c.loop-at.invariant.grows c.list_at.ensures.grows)
-    (going_next (g.S.Tree.tree c.args.tree.now) c.args.walked.now c.loop-at.walked c.list_at.new.walked (g.S.Tree.may_fail c.args.tree.now) (g.S.Tree.calls c.args.tree.now) (g.S.Tree.calls c.loop-at.tree) (g.S.Tree.calls c.list_at.new.tree)
-    c.dirs_found.ensures.sound c.loop-at.invariant.told
+    (passing_next (g.S.Tree.tree c.args.tree.now) c.args.walked.now c.loop-at.walked c.list_at.new.walked c.args.stop_after (g.S.Tree.may_fail c.args.tree.now) (g.S.Tree.calls c.args.tree.now) (g.S.Tree.calls c.loop-at.tree) (g.S.Tree.calls c.list_at.new.tree)
+    c.in-Some.answer c.dirs_found.ensures.sound c.loop-at.invariant.limits c.in-Some.ensures.limits c.loop-at.invariant.told
     (moved_step (g.S.Tree.tree c.loop-at.tree) (g.S.Tree.tree c.args.tree.now) c.loop-at.walked c.list_at.new.walked (g.S.Tree.may_fail c.loop-at.tree) (g.S.Tree.may_fail c.args.tree.now)
     (g.S.Tree.calls c.loop-at.tree) (g.S.Tree.calls c.list_at.new.tree) (Ok tt) c.loop-at.invariant.tree c.loop-at.invariant.weak c.in-Ok.ensures.told))
     c.in-Some.ensures.limits
@@ -37,14 +37,3 @@ loop-at-preserved g c = record {
 
 pub returns-clause-listed : goal.returns-clause-listed
 returns-clause-listed g c = below_all c.loop-at.walked c.loop-at.at (omega (arith, c.loop-at-test.false, c.dirs_found.ensures.many)) c.loop-at.invariant.below
-
-pub returns-in-Err-clause-passed : goal.returns-in-Err-clause-passed
-returns-in-Err-clause-passed g c = ends_plain (g.S.Tree.tree c.args.tree.now) c.args.walked.now c.args.stop_after (g.S.Tree.calls c.args.tree.now) (g.S.Tree.calls c.list_at.new.tree) c.in-Err.answer c.in-Err.ensures.plain
-
-pub returns-in-Some-clause-passed : goal.returns-in-Some-clause-passed
-returns-in-Some-clause-passed g c = ends_passed (g.S.Tree.tree c.args.tree.now) c.args.walked.now c.list_at.new.walked c.args.stop_after (g.S.Tree.calls c.args.tree.now) (g.S.Tree.calls c.list_at.new.tree) c.in-Some.answer
-    (going_next (g.S.Tree.tree c.args.tree.now) c.args.walked.now c.loop-at.walked c.list_at.new.walked (g.S.Tree.may_fail c.args.tree.now) (g.S.Tree.calls c.args.tree.now) (g.S.Tree.calls c.loop-at.tree) (g.S.Tree.calls c.list_at.new.tree)
-    c.dirs_found.ensures.sound c.loop-at.invariant.told
-    (moved_step (g.S.Tree.tree c.loop-at.tree) (g.S.Tree.tree c.args.tree.now) c.loop-at.walked c.list_at.new.walked (g.S.Tree.may_fail c.loop-at.tree) (g.S.Tree.may_fail c.args.tree.now)
-    (g.S.Tree.calls c.loop-at.tree) (g.S.Tree.calls c.list_at.new.tree) (Ok tt) c.loop-at.invariant.tree c.loop-at.invariant.weak c.in-Ok.ensures.told))
-    c.in-Some.ensures.limits
