@@ -1,7 +1,7 @@
 -- What the command `index` answers.
 use Rattle.std.specs.Prelude.{◌≡◌, ◌⊎◌, ◌≢◌, ℕ, ◌+◌, ◌≤◌, List, ◌++◌, Option, Some, None, IfSome, Contains}
 use Rattle.firefly_outside.specs.Causes.{Rose}
-use Rattle.firefly_outside.specs.Trees.{Told, Path}
+use Rattle.firefly_outside.specs.Trees.{Told, Path, Calls}
 use Rattle.firefly_outside.specs.Under.{AreMany}
 use Rattle.firefly_outside.specs.declared.tree.Kind.TheVariants.{File, Dir}
 use Rattle.word_index.specs.Index.{Index}
@@ -32,21 +32,27 @@ NoneRose old new = (a b : Look) → Among old new a b → b.faults ≡ a.faults
 abbrev pub IsTheIndex : Options → List (Option Look) → Index → Type 0
 IsTheIndex o old piece = IfSome (told_by old) (λ t. IsWhole t o.directory o.stop_after piece)
 
--- a call on one of the trees failed at this path: its count rose, and where it tells, the path is among the failed, is reached from
+-- the path is among those at which calls failed since
+pub record FailsSince (old new : Calls) (path : Path) : Type 0 where
+  pub more : List Path
+  pub failed : new.failed ≡ old.failed ++ more
+  pub among : Contains more path
+
+-- a call on one of the trees failed at this path: its count rose, and where it tells, the path failed in this call, is reached from
 -- the directory, and may fail or isn't in the tree as what its entry says
 pub record FailedAt (o : Options) (old new : List (Option Look)) (path : Path) : Type 0 where
   pub before : Look
   pub now : Look
   pub among : Among old new before now
   pub rose : Rose before.faults now.faults
-  pub told : IfSome before.told (λ t. IsFaultUnder t o.directory before.weak path × Contains now.calls.failed path)
+  pub told : IfSome before.told (λ t. IsFaultUnder t o.directory before.weak path × FailsSince before.calls now.calls path)
 
 -- each status by its cause
 abbrev pub IndexAnswers : Options → List (Option Look) → List (Option Look) → Change → Change → Status → Type 0
 IndexAnswers o old new out notes Done = (piece : Index) × IsTheIndex o old piece × NoneRose old new × Gets out (index_text piece) × IsStill notes
 IndexAnswers o old new out notes SinkFault = (piece : Index) × IsTheIndex o old piece × NoneRose old new × GetsFront out (index_text piece) × Notes notes output_fault_message
-IndexAnswers o old new out notes Stopped = (n : ℕ) × (o.stop_after ≡ Some n) × IfSome (told_by old) (λ t. AreMany t o.directory File (n + 1)) × NoneRose old new × IsStill out × Notes notes (stopped_message (n + 1) n)
-IndexAnswers o old new out notes TooMany = IfSome (told_by old) (λ t. AreMany t o.directory Dir (most_dirs + 1)) × NoneRose old new × IsStill out × Notes notes too_many_message
+IndexAnswers o old new out notes Stopped = (n : ℕ) × (o.stop_after ≡ Some n) × IfSome (told_by old) (λ t. AreMany t o.directory File (n + 1)) × IsStill out × Notes notes (stopped_message (n + 1) n)
+IndexAnswers o old new out notes TooMany = IfSome (told_by old) (λ t. AreMany t o.directory Dir (most_dirs + 1)) × IsStill out × Notes notes too_many_message
 IndexAnswers o old new out notes ReadFault = (path : Path) × FailedAt o old new path × IsStill out × Notes notes (unreadable_message path)
 IndexAnswers o old new out notes Memory = IsStill out × Notes notes memory_message
 IndexAnswers o old new out notes Usage = ⊥

@@ -1,5 +1,5 @@
 -- What is seen of the trees that were handed in, before a call and after it.
-use Rattle.std.specs.Prelude.{◌≡◌, ◌⊎◌, ℕ, List, [], ◌∷◌, Option, Some, None}
+use Rattle.std.specs.Prelude.{◌≡◌, ◌⊎◌, ℕ, ◌≤◌, List, [], ◌∷◌, Option, Some, None}
 use Rattle.firefly_outside.specs.Trees.{Told, Path, Calls}
 
 -- what is seen of one tree: what it tells, which paths may fail, the calls made on it, and its count of faults
@@ -36,11 +36,30 @@ told_by [] = None
 told_by (None ∷ ts) = None
 told_by (Some l ∷ ts) = l.told
 
--- each place holds its own tree: the trees tell what they told, and the paths that may fail are the same
+-- a tree as it may be after a call: it tells what it told, the paths that may fail are the same, and its count didn't fall
+pub record IsSameTree (a b : Look) : Type 0 where
+  pub told : b.told ≡ a.told
+  pub weak : b.weak ≡ a.weak
+  pub count : a.faults ≤ b.faults
+
+-- each place holds its own tree
 abbrev pub KeepTrees : List (Option Look) → List (Option Look) → Type 0
 KeepTrees [] [] = Unit {0}
-KeepTrees (Some a ∷ xs) (Some b ∷ ys) = (b.told ≡ a.told) × (b.weak ≡ a.weak) × KeepTrees xs ys
+KeepTrees (Some a ∷ xs) (Some b ∷ ys) = IsSameTree a b × KeepTrees xs ys
 KeepTrees _ _ = ⊥
+
+-- each place holds its own tree or none
+abbrev pub LeaveTrees : List (Option Look) → List (Option Look) → Type 0
+LeaveTrees [] [] = Unit {0}
+LeaveTrees (Some a ∷ xs) (Some b ∷ ys) = IsSameTree a b × LeaveTrees xs ys
+LeaveTrees (Some a ∷ xs) (None ∷ ys) = LeaveTrees xs ys
+LeaveTrees _ _ = ⊥
+
+-- no tree has failed yet
+abbrev pub NoneFailed : List (Option Look) → Type 0
+NoneFailed [] = Unit {0}
+NoneFailed (None ∷ ts) = NoneFailed ts
+NoneFailed (Some l ∷ ts) = (l.faults ≡ 0) × NoneFailed ts
 
 -- one of the trees, before the call and after it
 abbrev pub Among : List (Option Look) → List (Option Look) → Look → Look → Type 0

@@ -1,5 +1,5 @@
 //! The command `index`.
-ghost use Rattle.std.specs.Prelude.{◌≡◌, ◌<◌, [], ◌∷◌, length, Some, IfSome};
+ghost use Rattle.std.specs.Prelude.{◌≡◌, ◌<◌, ◌≤◌, [], ◌∷◌, length, Some, IfSome};
 ghost use Rattle.command_line.specs.Grammar.{AreInRange};
 ghost use Rattle.command_line.specs.Tasks.{options_of};
 ghost use Rattle.firefly.specs.Changes.{change_of};
@@ -60,6 +60,7 @@ fn index_tree<S: Tree, O: Sink, N: Sink>(
     ensures answers { IndexAnswers (options_of options.now) (Some (look_of S.tree S.may_fail S.calls S.faults tree.old) ∷ []) (Some (look_of S.tree S.may_fail S.calls S.faults tree.new) ∷ []) (change_of O.held O.faults out.old out.new) (change_of N.held N.faults notes.old notes.new) result }
     ensures told { S.tree tree.new ≡ S.tree tree.old }
     ensures weak { S.may_fail tree.new ≡ S.may_fail tree.old }
+    ensures count { S.faults tree.old ≤ S.faults tree.new }
 {
     match walk(alloc, options, tree) {
         WalkAnswer::Done(piece) => print(&piece, out, notes),

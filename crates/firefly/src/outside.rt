@@ -1,6 +1,6 @@
 //! The trees of the program: the system's directories and files, once for each thread that may read them.
 ghost use Rattle.std.specs.Prelude.{◌≡◌, IfOk, length};
-ghost use Rattle.firefly.specs.Looks.{look_of, looks_of, Agree};
+ghost use Rattle.firefly.specs.Looks.{look_of, looks_of, Agree, NoneFailed};
 
 use firefly_outside::{DirTree, Tree};
 use std::alloc::{AllocError, Global};
@@ -9,13 +9,14 @@ use std::rt::Files;
 /// How many trees a call needs: for 8 walkers, 8 parsers and the closing walk.
 const TREES: usize = 17;
 
-/// Trees of the system, as many as a call needs. They tell nothing of what they hold.
+/// Trees of the system, as many as a call needs. They tell nothing of what they hold, and none has failed yet.
 pub fn system_trees<R: Files + AllocGlobal + Clone + Drop + Send>(
     rt: &R,
     alloc: Global,
 ) -> Result<Vec<Option<DirTree<R>>>, AllocError>
     ensures many { IfOk result (λ v. length v.items ≡ 17) }
     ensures agree { IfOk result (λ v. Agree (looks_of (look_of ⟦<DirTree<R> as Tree>⟧.tree ⟦<DirTree<R> as Tree>⟧.may_fail ⟦<DirTree<R> as Tree>⟧.calls ⟦<DirTree<R> as Tree>⟧.faults) v.items)) }
+    ensures fresh { IfOk result (λ v. NoneFailed (looks_of (look_of ⟦<DirTree<R> as Tree>⟧.tree ⟦<DirTree<R> as Tree>⟧.may_fail ⟦<DirTree<R> as Tree>⟧.calls ⟦<DirTree<R> as Tree>⟧.faults) v.items)) }
 {
     let mut trees = Vec::new(alloc);
     for made in 0..TREES {

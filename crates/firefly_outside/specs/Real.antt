@@ -1,7 +1,8 @@
--- What sources and sinks of the system show.
+-- What sources, sinks and trees of the system show.
 use Rattle.std.specs.Prelude.{ℕ}
 use Rattle.firefly_outside.specs.declared.real.ReaderSource.{ReaderSource}
 use Rattle.firefly_outside.specs.declared.real.WriterSink.{WriterSink}
+use Rattle.firefly_outside.specs.declared.dir_tree.DirTree.{DirTree}
 
 -- the reader of a source
 abbrev pub reader_of : {R : Type 0} → ReaderSource R → R
@@ -16,3 +17,7 @@ reader_faults s = s.faults
 
 abbrev pub writer_faults : {W : Type 0} → WriterSink W → ℕ
 writer_faults s = s.faults
+
+-- how often a tree of the system has failed
+abbrev pub dir_faults : {R F A : Type 0} → DirTree R F A → ℕ
+dir_faults t = t.faults

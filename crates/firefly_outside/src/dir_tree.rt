@@ -1,5 +1,6 @@
 // The directories and files of the system as a tree. These lines are the trusted edge.
 ghost use Rattle.std.specs.Prelude.{◌≡◌, ◌≤◌, IfOk, None, length};
+ghost use Rattle.firefly_outside.specs.Real.{dir_faults};
 ghost use Rattle.firefly_outside.specs.Trees.{AreEntries, IsWithin, HasNoted};
 
 use crate::names::{Names, add_name, entries_of};
@@ -20,7 +21,9 @@ pub struct DirTree<R: Files + AllocGlobal + Clone + Drop> {
 
 impl<R: Files + AllocGlobal + Clone + Drop> DirTree<R> {
     /// The system's tree, which hasn't failed yet.
-    pub fn new(files: R) -> DirTree<R> {
+    pub fn new(files: R) -> DirTree<R>
+        ensures { dir_faults result ≡ 0 }
+    {
         DirTree { files, faults: 0 }
     }
 }

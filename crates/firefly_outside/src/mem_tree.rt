@@ -20,7 +20,7 @@ pub struct MemTree {
 }
 
 impl MemTree {
-    ghost use Rattle.std.specs.Prelude.{◌≡◌, ◌⊎◌, ◌++◌, ◌∷◌, List, [], None, OnOk, OnErr, IfOk, IsTrue};
+    ghost use Rattle.std.specs.Prelude.{◌≡◌, ◌⊎◌, ◌↔◌, ◌++◌, ◌∷◌, List, [], None, OnOk, OnErr, IfOk, IsTrue};
     ghost use Rattle.firefly_outside.specs.Trees.{HasParent, IsBare, Adds, Directory, Bytes};
     ghost use Rattle.firefly_outside.specs.Seen.{tree_of, weak_of, calls_of, faults_of, no_calls, IsEqualBut};
 
@@ -73,7 +73,7 @@ impl MemTree {
 
     /// Whether something may be added at this path: nothing is there, and its parent is a directory.
     pub fn may_add(&self, path: &str) -> Result<bool, AllocError>
-        ensures { IfOk result (λ b. IsTrue b → (tree_of self.now path.now ≡ None) × HasParent (tree_of self.now) path.now) }
+        ensures { IfOk result (λ b. IsTrue b ↔ (tree_of self.now path.now ≡ None) × HasParent (tree_of self.now) path.now) }
     {
         may_add(&self.places, self.alloc, path)
     }

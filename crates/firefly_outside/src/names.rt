@@ -1,5 +1,8 @@
 // The names of one listing.
-ghost use Rattle.std.specs.Prelude.{◌≡◌, List, map, IfOk, IsTrue};
+ghost use Rattle.std.specs.Prelude.{◌≡◌, ◌≢◌, List, map, IfOk, IfErr, OnOk, IsTrue, None, Some};
+ghost use Rattle.std.specs.Bool.{nat_eq};
+ghost use Rattle.std.specs.Cmp.Lexicographic.{pointwise};
+ghost use Rattle.std.specs.HashMap.{get, Updates};
 ghost use Rattle.firefly_outside.specs.Trees.{IsName, AreEntries};
 
 use crate::{Entry, Kind, Text, TreeError};
@@ -17,7 +20,11 @@ fn is_name(name: &str) -> bool
 }
 
 /// Adds a name. One that is there already is a fault.
-pub fn add_name(alloc: Global, names: &mut Names, name: &str, kind: Kind) -> Result<(), TreeError> {
+pub fn add_name(alloc: Global, names: &mut Names, name: &str, kind: Kind) -> Result<(), TreeError>
+    ensures new { OnOk result (get (pointwise nat_eq) names.old name.now ≡ None) }
+    ensures added { OnOk result (Updates (pointwise nat_eq) names.old names.new name.now (Some kind)) }
+    ensures twice { IfErr result (λ e. e ≡ TreeError.Failed → get (pointwise nat_eq) names.old name.now ≢ None) }
+{
     let Ok(name) = Text::of(alloc, name) else {
         return Err(TreeError::Memory);
     };

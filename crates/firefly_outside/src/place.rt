@@ -1,5 +1,5 @@
 // What a tree in memory has at a path.
-ghost use Rattle.std.specs.Prelude.{◌≡◌, List, OnOk, OnErr, IfOk, IfSome, Some, None, if◌then◌else◌, ◌⊎◌, ◌<◌, IsTrue, length};
+ghost use Rattle.std.specs.Prelude.{◌≡◌, List, OnOk, OnErr, IfOk, IfSome, Some, None, if◌then◌else◌, ◌⊎◌, ◌↔◌, ◌<◌, IsTrue, length};
 ghost use Rattle.std.specs.Option.{option_map};
 ghost use Rattle.std.specs.Cmp.Lexicographic.{pointwise};
 ghost use Rattle.std.specs.Bool.{nat_eq};
@@ -123,7 +123,7 @@ pub fn copy_of(places: &Places) -> Result<Places, AllocError>
 
 /// Whether a place may be added at this path: nothing is there, and its parent is a directory.
 pub fn may_add(places: &Places, alloc: Global, path: &str) -> Result<bool, AllocError>
-    ensures { IfOk result (λ b. IsTrue b → (told_by places.now path.now ≡ None) × HasParent (told_by places.now) path.now) }
+    ensures { IfOk result (λ b. IsTrue b ↔ (told_by places.now path.now ≡ None) × HasParent (told_by places.now) path.now) }
 {
     let key = Text::of(alloc, path)?;
     if places.contains_key(&key) {
@@ -137,7 +137,7 @@ pub fn may_add(places: &Places, alloc: Global, path: &str) -> Result<bool, Alloc
 
 // Whether the directory is there and the name is one.
 fn has_child(places: &Places, alloc: Global, dir: &str, name: &str) -> Result<bool, AllocError>
-    ensures { IfOk result (λ b. IsTrue b → (0 < length name.now) × ((es : List Entry) × (told_by places.now dir.now ≡ Some (Directory es)))) }
+    ensures { IfOk result (λ b. IsTrue b ↔ (0 < length name.now) × ((es : List Entry) × (told_by places.now dir.now ≡ Some (Directory es)))) }
 {
     if name.is_empty() {
         return Ok(false);

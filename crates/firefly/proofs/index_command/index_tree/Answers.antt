@@ -5,7 +5,7 @@ use Rattle.walker.specs.Closing.{IsFaultUnder}
 use Rattle.firefly.specs.Changes.{Notes, change_of}
 use Rattle.firefly.specs.Looks.{look_of}
 use Rattle.firefly.specs.Texts.{stopped_message}
-use Rattle.firefly.proofs.TreeLooks.{none-rose-one, among-failed}
+use Rattle.firefly.proofs.TreeLooks.{among-failed}
 use Rattle.firefly.proofs.index_command.index_tree.Goals as goal
 
 pub returns-in-Stopped-clause-answers : goal.returns-in-Stopped-clause-answers
@@ -18,7 +18,6 @@ returns-in-Stopped-clause-answers g c =
       n,
       w.numbers.1,
       subst (λ (k : ℕ). IfSome (g.S.Tree.tree c.args.tree.now) (λ t. AreMany t dir File k)) w.numbers.2 w.answers,
-      none-rose-one _ _ w.count,
       (refl, refl),
       subst (λ (k : ℕ). Notes notes (stopped_message k n)) w.numbers.2 (subst (λ (k : ℕ). Notes notes (stopped_message c.in-Stopped.found k)) allowed c.say_stopped.ensures),
     )
@@ -35,7 +34,7 @@ returns-in-ReadFault-clause-answers g c =
         now = look c.walk.new.tree;
         among = inl (refl, refl);
         rose = w.count.1;
-        told = among-failed (λ t. IsFaultUnder t dir (g.S.Tree.may_fail c.args.tree.now) path) (g.S.Tree.tree c.args.tree.now) _ _ path w.answers w.failed;
+        told = among-failed (λ t. IsFaultUnder t dir (g.S.Tree.may_fail c.args.tree.now) path) (g.S.Tree.tree c.args.tree.now) (g.S.Tree.calls c.args.tree.now) (g.S.Tree.calls c.walk.new.tree) path w.answers w.failed;
       },
       (refl, refl),
       search rules,

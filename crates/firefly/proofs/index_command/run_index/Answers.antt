@@ -8,4 +8,4 @@ returns-clause-answers g c =
 
 pub returns-clause-kept : goal.returns-clause-kept
 returns-clause-kept g c =
-    first-kept (look_of g.S.Tree.tree g.S.Tree.may_fail g.S.Tree.calls g.S.Tree.faults) c.in-Some.tree c.index_tree.new.tree c.args.trees.now _ c.requires.some c.in-Some.is c.requires.agree c.index_tree.ensures.told c.index_tree.ensures.weak
+    first-kept (look_of g.S.Tree.tree g.S.Tree.may_fail g.S.Tree.calls g.S.Tree.faults) c.in-Some.tree c.index_tree.new.tree c.args.trees.now _ c.requires.some c.in-Some.is c.requires.agree (record { told = c.index_tree.ensures.told; weak = c.index_tree.ensures.weak; count = c.index_tree.ensures.count })

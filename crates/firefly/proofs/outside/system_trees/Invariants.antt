@@ -1,5 +1,5 @@
 use Rattle.std.proofs.Common.{◌≡◌, length, None}
-use Rattle.firefly.specs.Looks.{AllTell, looks_of}
+use Rattle.firefly.specs.Looks.{AllTell, NoneFailed, looks_of}
 use Rattle.firefly.specs.Looks.{unseen}
 use Rattle.firefly.proofs.outside.system_trees.Given as goal
 
@@ -7,4 +7,5 @@ abbrev pub invariant-loop-made : goal.invariant-loop-made
 invariant-loop-made g l = record {
   many : length l.trees.items ≡ l.made;
   told : AllTell None (looks_of (λ t. unseen t.faults) l.trees.items);
+  fresh : NoneFailed (looks_of (λ t. unseen t.faults) l.trees.items);
 }
