@@ -1,5 +1,5 @@
 //! The top call.
-ghost use Rattle.std.specs.Prelude.{◌≡◌, ◌⊎◌, ◌≤◌, length, map};
+ghost use Rattle.std.specs.Prelude.{◌≡◌, ◌≢◌, ◌⊎◌, ◌≤◌, length, map};
 ghost use Rattle.std.specs.String.{string_bytes};
 ghost use Rattle.command_line.specs.Grammar.{BeginOptions, Task, Say, SayNothing, HasOptions};
 ghost use Rattle.command_line.specs.Grammar as grammar;
@@ -7,7 +7,7 @@ ghost use Rattle.firefly.specs.Changes.{change_of, Notes};
 ghost use Rattle.firefly.specs.Texts.{usage_message};
 ghost use Rattle.firefly.specs.Check.{Found};
 ghost use Rattle.firefly.specs.RunCommand.{Decides};
-ghost use Rattle.firefly.specs.Looks.{look_of, looks_of, Agree, KeepTrees};
+ghost use Rattle.firefly.specs.Looks.{look_of, looks_of, Agree, KeepTrees, LeaveTrees};
 ghost use Rattle.firefly.specs.Top.{Answers, UsageAnswers, WordsWant, effects_of};
 
 use crate::Status;
@@ -43,8 +43,9 @@ pub fn firefly<R: Threads + Wait + Sync, S: Tree, I: Source, O: Sink, N: Sink>(
     ensures exact { Say (map string_bytes words.now) grammar.check → Found (change_of I.left I.faults input.old input.new) result }
     // The bytes of a script decide whether `run` runs it.
     ensures run_exact { Say (map string_bytes words.now) grammar.run → Decides (change_of I.left I.faults input.old input.new) result }
-    // Each tree is in its place.
-    ensures kept { KeepTrees (looks_of (look_of S.tree S.may_fail S.calls S.faults) trees.old) (looks_of (look_of S.tree S.may_fail S.calls S.faults) trees.new) }
+    // Each tree is in its place. Where memory runs out, some may be gone.
+    ensures kept { result ≢ Status.Memory → KeepTrees (looks_of (look_of S.tree S.may_fail S.calls S.faults) trees.old) (looks_of (look_of S.tree S.may_fail S.calls S.faults) trees.new) }
+    ensures left { LeaveTrees (looks_of (look_of S.tree S.may_fail S.calls S.faults) trees.old) (looks_of (look_of S.tree S.may_fail S.calls S.faults) trees.new) }
 {
     match read_words(alloc, words) {
         Ok(Command::Check) => run_check(input, out, notes),
