@@ -25,7 +25,7 @@ use Rattle.nub_rule.specs.declared.view.Kind.TheVariants.{Member}
 use Rattle.nub_rule.specs.Items.{Pens, Core}
 use Rattle.nub_rule.specs.Parts.{is_at, Got, Lacks, MayTell, waits_on, counts_in, pending_of}
 use Rattle.nub_rule.specs.Places.{bit_at, value_at, queue_at, cond_object}
-use Rattle.nub_rule.specs.Plays.{with_part, told, Grows, event, acquire_event, release_event, taken_action, MayTake, tried, freed, Won, Freed, Becomes, MayFree}
+use Rattle.nub_rule.specs.Plays.{with_part, told, Grows, event, acquire_event, release_event, taken_action, MayTake, try_bit_tells, clear_bit_tells, Won, Freed, Becomes, MayFree}
 use Rattle.nub_rule.specs.Rule.{FitsAs, IsKept}
 use Rattle.nub_rule.proofs.Each.{at_within, at_below, put-here, put-else}
 use Rattle.nub_rule.proofs.Members.{Steps, member_steps}
@@ -184,10 +184,10 @@ module _ {T H W : Type 0} (l : Layout) (traced : Bool) (w : W) (begin : W → �
           inr (miss, refl, refl),
         ))
 
-    tries : (slots id m : ℕ) (e : Event) (me : Me (Slot T) (View T H W)) → m < l.mutexes → me.0.kind ≡ Member → me.0.part.stand ≡ None → MayTake me.0.number m me.0.part.wait e → MayTell traced me.0.part.pen
-        → Allows (IsKept l traced w begin holds) slots id me (bit_at m) (λ x. either (eqb x 0) 1 x) (tried fits (step slots (bit_at m) 0 1 none) me)
-    tries slots id m e me inside kind apart may pen = let v = me.0 in let n = v.number in let p = v.part in let ev = event n (taken_action m p.wait) in member_steps l traced w begin holds slots id (bit_at m) (λ x. either (eqb x 0) 1 x) v me.1
-        (λ r q ds. ((r ≡ 0) × Wins fits ev m n p me.1 q ds) ⊎ ((r ≢ 0) × (q ≡ record p { failed = m ∷ p.failed; turns = without m p.turns }) × (ds ≡ me.1))) (tried fits (step slots (bit_at m) 0 1 none) me) kind
+    try_bit_at : (slots id m : ℕ) (e : Event) (me : Me (Slot T) (View T H W)) → m < l.mutexes → me.0.kind ≡ Member → me.0.part.stand ≡ None → MayTake me.0.number m me.0.part.wait e → MayTell traced me.0.part.pen
+        → Allows (IsKept l traced w begin holds) slots id me (bit_at m) (λ x. either (eqb x 0) 1 x) (try_bit_tells fits (step slots (bit_at m) 0 1 none) me)
+    try_bit_at slots id m e me inside kind apart may pen = let v = me.0 in let n = v.number in let p = v.part in let ev = event n (taken_action m p.wait) in member_steps l traced w begin holds slots id (bit_at m) (λ x. either (eqb x 0) 1 x) v me.1
+        (λ r q ds. ((r ≡ 0) × Wins fits ev m n p me.1 q ds) ⊎ ((r ≢ 0) × (q ≡ record p { failed = m ∷ p.failed; turns = without m p.turns }) × (ds ≡ me.1))) (try_bit_tells fits (step slots (bit_at m) 0 1 none) me) kind
         (λ r q ds world t k is. let same : m ≡ k = omega arith in subst (λ (k : ℕ). (r ≡ 0 → Won fits k me (with_part v q, ds)) × (r ≢ 0 → Becomes me (record p { failed = k ∷ p.failed; turns = without k p.turns }) (with_part v q, ds))) same (⊎_elim
         (λ (u : (r ≡ 0) × Wins fits ev m n p me.1 q ds). (
           (λ _. let x = u.1 in (x.0, x.1, (λ w' s is has. let e : Some w ≡ Some w' = sym world ∙ is in let f : w ≡ w' = cc in subst (λ (z : W). fits z m x.0 n s) f (x.2 s has)), x.3, x.4, x.5, λ i. (with_part v (x.6 i), x.7 i))),
@@ -197,9 +197,9 @@ module _ {T H W : Type 0} (l : Layout) (traced : Bool) (w : W) (begin : W → �
         (tries_at ev n m p me.1 inside refl pen (taking m n p e apart may))
 
     -- the same at a word that is this place
-    pub tries_by : (slots id m : ℕ) (e : Event) (me : Me (Slot T) (View T H W)) (i : ℕ) → i ≡ bit_at m → m < l.mutexes → me.0.kind ≡ Member → me.0.part.stand ≡ None → MayTake me.0.number m me.0.part.wait e → MayTell traced me.0.part.pen
-        → Allows (IsKept l traced w begin holds) slots id me i (λ x. either (eqb x 0) 1 x) (tried fits (step slots i 0 1 none) me)
-    tries_by slots id m e me i word inside kind apart may pen = subst (λ (i : ℕ). Allows (IsKept l traced w begin holds) slots id me i (λ x. either (eqb x 0) 1 x) (tried fits (step slots i 0 1 none) me)) (sym word) (tries slots id m e me inside kind apart may pen)
+    pub try_bit_keeps : (slots id m : ℕ) (e : Event) (me : Me (Slot T) (View T H W)) (i : ℕ) → i ≡ bit_at m → m < l.mutexes → me.0.kind ≡ Member → me.0.part.stand ≡ None → MayTake me.0.number m me.0.part.wait e → MayTell traced me.0.part.pen
+        → Allows (IsKept l traced w begin holds) slots id me i (λ x. either (eqb x 0) 1 x) (try_bit_tells fits (step slots i 0 1 none) me)
+    try_bit_keeps slots id m e me i word inside kind apart may pen = subst (λ (i : ℕ). Allows (IsKept l traced w begin holds) slots id me i (λ x. either (eqb x 0) 1 x) (try_bit_tells fits (step slots i 0 1 none) me)) (sym word) (try_bit_at slots id m e me inside kind apart may pen)
 
   -- what the thread n learns that frees the mutex m
   abbrev Frees : (H → H) → ℕ → ℕ → Part T H → List (ℕ × Slot T) → Part T H → List (ℕ × Slot T) → Type 0
@@ -275,12 +275,12 @@ module _ {T H W : Type 0} (l : Layout) (traced : Bool) (w : W) (begin : W → �
           ),
         )
 
-    frees : (after : W → ℕ → ℕ → T → T → H → H) (slots id m : ℕ) (me : Me (Slot T) (View T H W)) → m < l.mutexes → me.0.kind ≡ Member → me.0.part.wait ≡ None → me.0.part.stand ≡ None → MayTell traced me.0.part.pen → MayFree allows after m me
-        → Allows (IsKept l traced w begin holds) slots id me (bit_at m) (λ _. 0) (freed after (step slots (bit_at m) 0 0 none) me)
-    frees after slots id m me inside kind out apart pen may st r wide at small = let v = me.0 in let n = v.number in let p = v.part in let x : T = may.0 in let y : T = may.1 in
+    clear_bit_at : (after : W → ℕ → ℕ → T → T → H → H) (slots id m : ℕ) (me : Me (Slot T) (View T H W)) → m < l.mutexes → me.0.kind ≡ Member → me.0.part.wait ≡ None → me.0.part.stand ≡ None → MayTell traced me.0.part.pen → MayFree allows after m me
+        → Allows (IsKept l traced w begin holds) slots id me (bit_at m) (λ _. 0) (clear_bit_tells after (step slots (bit_at m) 0 0 none) me)
+    clear_bit_at after slots id m me inside kind out apart pen may st r wide at small = let v = me.0 in let n = v.number in let p = v.part in let x : T = may.0 in let y : T = may.1 in
         let world : v.world ≡ Some w = (subst (FitsAs l.threads r.given w begin r.all r.seat_of id v) kind (r.fits id v at)).world in
         let next = λ (s : H). after w m n x y s in
-        member_steps l traced w begin holds slots id (bit_at m) (λ _. 0) v me.1 (λ r q ds. (r ≡ 1) × Frees next m n p me.1 q ds) (freed after (step slots (bit_at m) 0 0 none) me) kind
+        member_steps l traced w begin holds slots id (bit_at m) (λ _. 0) v me.1 (λ r q ds. (r ≡ 1) × Frees next m n p me.1 q ds) (clear_bit_tells after (step slots (bit_at m) 0 0 none) me) kind
         (λ r q ds world' t' k is. let t = t'.1 in let same : m ≡ k = omega arith in subst (λ (k : ℕ). Freed after k me r (with_part v q, ds)) same (
           t'.0,
           t.2,
@@ -300,6 +300,6 @@ module _ {T H W : Type 0} (l : Layout) (traced : Bool) (w : W) (begin : W → �
         (frees_at n m p me.1 x y next inside out apart may.2 may.3 pen (λ s is. may.4 w s world is)) st r wide at small
 
     -- the same at a word that is this place
-    pub frees_by : (after : W → ℕ → ℕ → T → T → H → H) (slots id m : ℕ) (me : Me (Slot T) (View T H W)) (i : ℕ) → i ≡ bit_at m → m < l.mutexes → me.0.kind ≡ Member → me.0.part.wait ≡ None → me.0.part.stand ≡ None → MayTell traced me.0.part.pen → MayFree allows after m me
-        → Allows (IsKept l traced w begin holds) slots id me i (λ _. 0) (freed after (step slots i 0 0 none) me)
-    frees_by after slots id m me i word inside kind out apart pen may = subst (λ (i : ℕ). Allows (IsKept l traced w begin holds) slots id me i (λ _. 0) (freed after (step slots i 0 0 none) me)) (sym word) (frees after slots id m me inside kind out apart pen may)
+    pub clear_bit_keeps : (after : W → ℕ → ℕ → T → T → H → H) (slots id m : ℕ) (me : Me (Slot T) (View T H W)) (i : ℕ) → i ≡ bit_at m → m < l.mutexes → me.0.kind ≡ Member → me.0.part.wait ≡ None → me.0.part.stand ≡ None → MayTell traced me.0.part.pen → MayFree allows after m me
+        → Allows (IsKept l traced w begin holds) slots id me i (λ _. 0) (clear_bit_tells after (step slots i 0 0 none) me)
+    clear_bit_keeps after slots id m me i word inside kind out apart pen may = subst (λ (i : ℕ). Allows (IsKept l traced w begin holds) slots id me i (λ _. 0) (clear_bit_tells after (step slots i 0 0 none) me)) (sym word) (clear_bit_at after slots id m me inside kind out apart pen may)

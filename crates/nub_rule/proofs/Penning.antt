@@ -16,7 +16,7 @@ use Rattle.nub_rule.specs.declared.view.Kind.TheVariants.{Member}
 use Rattle.nub_rule.specs.Items.{Marks, PenFits, Pens, Core}
 use Rattle.nub_rule.specs.Parts.{made, MayTell, MayGivePen}
 use Rattle.nub_rule.specs.Places.{bit_at, pen_at, number_at}
-use Rattle.nub_rule.specs.Plays.{with_part, penned, numbered, wrote, unpenned}
+use Rattle.nub_rule.specs.Plays.{with_part, take_pen_tells, read_number_tells, write_number_tells, give_pen_tells}
 use Rattle.nub_rule.specs.Rule.{IsKept}
 use Rattle.nub_rule.proofs.Each.{at_within, each-set}
 use Rattle.nub_rule.proofs.Members.{member_steps}
@@ -159,9 +159,9 @@ module _ {T H W : Type 0} (l : Layout) (traced : Bool) (w : W) (begin : W → �
       pens
       (owes-frame c.queue words (set words i y) all n p q at (λ k up. other words i (bit_at k) y (λ z. omega arith)) refl refl refl c.owes)
 
-  pub takes_pen : (slots id : ℕ) (me : Me (Slot T) (View T H W)) → traced ≡ true → me.0.kind ≡ Member → me.0.part.pen ≡ No → Allows (IsKept l traced w begin holds) slots id me pen_at (λ x. either (eqb x 0) 1 x) (penned (step slots pen_at 0 1 none) me)
-  takes_pen slots id me traces kind out = let v = me.0 in let n = v.number in let p = v.part in let q : Part T H = record p { pen = Taken } in member_steps l traced w begin holds slots id pen_at (λ x. either (eqb x 0) 1 x) v me.1
-      (λ r s ds. ((r ≡ 0) × (s ≡ q) × (ds ≡ me.1)) ⊎ ((r ≢ 0) × (s ≡ p) × (ds ≡ me.1))) (penned (step slots pen_at 0 1 none) me) kind
+  pub take_pen_keeps : (slots id : ℕ) (me : Me (Slot T) (View T H W)) → traced ≡ true → me.0.kind ≡ Member → me.0.part.pen ≡ No → Allows (IsKept l traced w begin holds) slots id me pen_at (λ x. either (eqb x 0) 1 x) (take_pen_tells (step slots pen_at 0 1 none) me)
+  take_pen_keeps slots id me traces kind out = let v = me.0 in let n = v.number in let p = v.part in let q : Part T H = record p { pen = Taken } in member_steps l traced w begin holds slots id pen_at (λ x. either (eqb x 0) 1 x) v me.1
+      (λ r s ds. ((r ≡ 0) × (s ≡ q) × (ds ≡ me.1)) ⊎ ((r ≢ 0) × (s ≡ p) × (ds ≡ me.1))) (take_pen_tells (step slots pen_at 0 1 none) me) kind
       (λ r s ds world t. ⊎_elim
       (λ (u : (r ≡ 0) × (s ≡ q) × (ds ≡ me.1)). ((λ _. λ i. (with_part v (u.1 i), u.2 i)), λ lacks. absurd (lacks u.0)))
       (λ (u : (r ≢ 0) × (s ≡ p) × (ds ≡ me.1)). ((λ hit. absurd (u.0 hit)), λ _. λ i. (with_part v (u.1 i), u.2 i))) t)
@@ -177,9 +177,9 @@ module _ {T H W : Type 0} (l : Layout) (traced : Bool) (w : W) (begin : W → �
       ))
       (λ miss. (p, keeps, tt, subst (λ b. Core l traced w holds (set words pen_at (either b 1 r)) homes (set all n p)) (sym (ne_eqb r 0 miss)) (idle l traced w holds words homes all pen_at n p at c), inr (miss, refl, refl))))
 
-  pub reads_number : (slots id : ℕ) (me : Me (Slot T) (View T H W)) → me.0.kind ≡ Member → me.0.part.pen ≡ Taken → Allows (IsKept l traced w begin holds) slots id me number_at (λ x. x) (numbered (step slots number_at 0 0 none) me)
-  reads_number slots id me kind has = let v = me.0 in let n = v.number in let p = v.part in member_steps l traced w begin holds slots id number_at (λ x. x) v me.1
-      (λ r s ds. (s ≡ record p { pen = Read r }) × (ds ≡ me.1)) (numbered (step slots number_at 0 0 none) me) kind
+  pub read_number_keeps : (slots id : ℕ) (me : Me (Slot T) (View T H W)) → me.0.kind ≡ Member → me.0.part.pen ≡ Taken → Allows (IsKept l traced w begin holds) slots id me number_at (λ x. x) (read_number_tells (step slots number_at 0 0 none) me)
+  read_number_keeps slots id me kind has = let v = me.0 in let n = v.number in let p = v.part in member_steps l traced w begin holds slots id number_at (λ x. x) v me.1
+      (λ r s ds. (s ≡ record p { pen = Read r }) × (ds ≡ me.1)) (read_number_tells (step slots number_at 0 0 none) me) kind
       (λ r s ds world t. λ i. (with_part v (t.0 i), t.1 i))
       (λ words homes all c at small. let r : ℕ = get_or words number_at 0 in let len = c.sizes.words_wide in let q : Part T H = record p { pen = Read r } in let words' = set words number_at r in
       let old : PenFits (length c.log) r c.writer n Taken = subst (PenFits (length c.log) r c.writer n) has (c.pens.pens n p at) in let same : get_or words' number_at 0 ≡ r = get_or-set_same words number_at r 0 (omega arith) in (
@@ -191,9 +191,9 @@ module _ {T H W : Type 0} (l : Layout) (traced : Bool) (w : W) (begin : W → �
         (refl, refl),
       ))
 
-  pub writes_number : (slots id k x : ℕ) (me : Me (Slot T) (View T H W)) → me.0.kind ≡ Member → me.0.part.pen ≡ Made k → x ≡ k + 1 → Allows (IsKept l traced w begin holds) slots id me number_at (λ _. x) (λ _. wrote (step slots number_at x 0 none) me x)
-  writes_number slots id k x me kind has next = let v = me.0 in let n = v.number in let p = v.part in let q : Part T H = record p { pen = Written } in member_steps l traced w begin holds slots id number_at (λ _. x) v me.1
-      (λ r s ds. (s ≡ q) × (ds ≡ me.1)) (λ _. wrote (step slots number_at x 0 none) me x) kind
+  pub write_number_keeps : (slots id k x : ℕ) (me : Me (Slot T) (View T H W)) → me.0.kind ≡ Member → me.0.part.pen ≡ Made k → x ≡ k + 1 → Allows (IsKept l traced w begin holds) slots id me number_at (λ _. x) (λ _. write_number_tells (step slots number_at x 0 none) me x)
+  write_number_keeps slots id k x me kind has next = let v = me.0 in let n = v.number in let p = v.part in let q : Part T H = record p { pen = Written } in member_steps l traced w begin holds slots id number_at (λ _. x) v me.1
+      (λ r s ds. (s ≡ q) × (ds ≡ me.1)) (λ _. write_number_tells (step slots number_at x 0 none) me x) kind
       (λ r s ds world t. λ i. (with_part v (t.0 i), t.1 i))
       (λ words homes all c at small. let len = c.sizes.words_wide in let words' = set words number_at x in
       let old : PenFits (length c.log) (get_or words number_at 0) c.writer n (Made k) = subst (PenFits (length c.log) (get_or words number_at 0) c.writer n) has (c.pens.pens n p at) in let same : get_or words' number_at 0 ≡ x = get_or-set_same words number_at x 0 (omega arith) in (
@@ -205,9 +205,9 @@ module _ {T H W : Type 0} (l : Layout) (traced : Bool) (w : W) (begin : W → �
         (refl, refl),
       ))
 
-  pub gives_pen : (slots id : ℕ) (me : Me (Slot T) (View T H W)) → me.0.kind ≡ Member → MayGivePen me.0.part.pen → Allows (IsKept l traced w begin holds) slots id me pen_at (λ _. 0) (unpenned (step slots pen_at 0 0 none) me)
-  gives_pen slots id me kind may = let v = me.0 in let n = v.number in let p = v.part in let q : Part T H = record p { pen = No } in member_steps l traced w begin holds slots id pen_at (λ _. 0) v me.1
-      (λ r s ds. (r ≡ 1) × (s ≡ q) × (ds ≡ me.1)) (unpenned (step slots pen_at 0 0 none) me) kind
+  pub give_pen_keeps : (slots id : ℕ) (me : Me (Slot T) (View T H W)) → me.0.kind ≡ Member → MayGivePen me.0.part.pen → Allows (IsKept l traced w begin holds) slots id me pen_at (λ _. 0) (give_pen_tells (step slots pen_at 0 0 none) me)
+  give_pen_keeps slots id me kind may = let v = me.0 in let n = v.number in let p = v.part in let q : Part T H = record p { pen = No } in member_steps l traced w begin holds slots id pen_at (λ _. 0) v me.1
+      (λ r s ds. (r ≡ 1) × (s ≡ q) × (ds ≡ me.1)) (give_pen_tells (step slots pen_at 0 0 none) me) kind
       (λ r s ds world t. (t.0, λ i. (with_part v (t.1 i), t.2 i)))
       (λ words homes all c at small. let r : ℕ = get_or words pen_at 0 in let len = c.sizes.words_wide in let words' = set words pen_at 0 in
       let old = may-give (length c.log) (get_or words number_at 0) n c.writer p.pen may (c.pens.pens n p at) in

@@ -19,7 +19,7 @@ use Rattle.nub_rule.specs.declared.view.Kind.TheVariants.{Member}
 use Rattle.nub_rule.specs.Items.{Says, Core}
 use Rattle.nub_rule.specs.Parts.{MayTell, pending_of}
 use Rattle.nub_rule.specs.Places.{bit_at, count_at, alert_at, sem_object, cond_object}
-use Rattle.nub_rule.specs.Plays.{with_part, told, Grows, p_event, v_event, tried_p, cleared_v, Becomes}
+use Rattle.nub_rule.specs.Plays.{with_part, told, Grows, p_event, v_event, try_p_tells, clear_sem_tells, Becomes}
 use Rattle.nub_rule.specs.Rule.{IsKept}
 use Rattle.nub_rule.proofs.Members.{member_steps}
 use Rattle.nub_rule.proofs.Frames.{other}
@@ -52,12 +52,12 @@ module _ {T H W : Type 0} (l : Layout) (traced : Bool) (w : W) (begin : W → �
       (subst (λ (z : ℕ). Says z (cond b false true)) (sym (get_or-set_same words i x 0 (omega arith))) says) refl refl refl refl c.shows)
       (λ z. owes (record (told p z e) { failed = failed; turns = turns; cleared = cleared }) refl refl refl)
 
-  tries_p : (slots id s : ℕ) (me : Me (Slot T) (View T H W)) → s < 64 → me.0.kind ≡ Member → me.0.part.wait ≡ None → MayTell traced me.0.part.pen
-      → Allows (IsKept l traced w begin holds) slots id me (bit_at (sem_object s)) (λ x. either (eqb x 0) 1 x) (tried_p (λ s. P record { 0 = s }) (step slots (bit_at (sem_object s)) 0 1 none) me)
-  tries_p slots id s me low kind out may = let v = me.0 in let n = v.number in let p = v.part in let o : ℕ = sem_object s in let e = p_event n s in
+  try_p_at : (slots id s : ℕ) (me : Me (Slot T) (View T H W)) → s < 64 → me.0.kind ≡ Member → me.0.part.wait ≡ None → MayTell traced me.0.part.pen
+      → Allows (IsKept l traced w begin holds) slots id me (bit_at (sem_object s)) (λ x. either (eqb x 0) 1 x) (try_p_tells (λ s. P record { 0 = s }) (step slots (bit_at (sem_object s)) 0 1 none) me)
+  try_p_at slots id s me low kind out may = let v = me.0 in let n = v.number in let p = v.part in let o : ℕ = sem_object s in let e = p_event n s in
       member_steps l traced w begin holds slots id (bit_at o) (λ x. either (eqb x 0) 1 x) v me.1
       (λ r q ds. ((r ≡ 0) × Learns e n p (λ z. record (told p z e) { failed = without o p.failed; turns = without o p.turns; cleared = p.cleared }) q × (ds ≡ me.1)) ⊎ ((r ≢ 0) × (q ≡ record p { failed = o ∷ p.failed; turns = without o p.turns }) × (ds ≡ me.1)))
-      (tried_p (λ s. P record { 0 = s }) (step slots (bit_at o) 0 1 none) me) kind
+      (try_p_tells (λ s. P record { 0 = s }) (step slots (bit_at o) 0 1 none) me) kind
       (λ r q ds world t k is. let same : s ≡ k = omega arith in subst (λ (k : ℕ).
       (r ≡ 0 → (between : List Event) × Grows n p between (p_event n k) × Becomes me (record (told p (p.seen ++ between) (p_event n k)) { failed = without (sem_object k) p.failed; turns = without (sem_object k) p.turns }) (with_part v q, ds))
       × (r ≢ 0 → Becomes me (record p { failed = sem_object k ∷ p.failed; turns = without (sem_object k) p.turns }) (with_part v q, ds))) same (⊎_elim
@@ -82,15 +82,15 @@ module _ {T H W : Type 0} (l : Layout) (traced : Bool) (w : W) (begin : W → �
       )))
 
   -- the same at a word that is this place
-  pub tries_p_by : (slots id s : ℕ) (me : Me (Slot T) (View T H W)) (i : ℕ) → i ≡ bit_at (sem_object s) → s < 64 → me.0.kind ≡ Member → me.0.part.wait ≡ None → MayTell traced me.0.part.pen
-      → Allows (IsKept l traced w begin holds) slots id me i (λ x. either (eqb x 0) 1 x) (tried_p (λ s. P record { 0 = s }) (step slots i 0 1 none) me)
-  tries_p_by slots id s me i word low kind out may = subst (λ (i : ℕ). Allows (IsKept l traced w begin holds) slots id me i (λ x. either (eqb x 0) 1 x) (tried_p (λ s. P record { 0 = s }) (step slots i 0 1 none) me)) (sym word) (tries_p slots id s me low kind out may)
+  pub try_p_keeps : (slots id s : ℕ) (me : Me (Slot T) (View T H W)) (i : ℕ) → i ≡ bit_at (sem_object s) → s < 64 → me.0.kind ≡ Member → me.0.part.wait ≡ None → MayTell traced me.0.part.pen
+      → Allows (IsKept l traced w begin holds) slots id me i (λ x. either (eqb x 0) 1 x) (try_p_tells (λ s. P record { 0 = s }) (step slots i 0 1 none) me)
+  try_p_keeps slots id s me i word low kind out may = subst (λ (i : ℕ). Allows (IsKept l traced w begin holds) slots id me i (λ x. either (eqb x 0) 1 x) (try_p_tells (λ s. P record { 0 = s }) (step slots i 0 1 none) me)) (sym word) (try_p_at slots id s me low kind out may)
 
-  clears_v : (slots id s : ℕ) (me : Me (Slot T) (View T H W)) → s < 64 → me.0.kind ≡ Member → me.0.part.wait ≡ None → me.0.part.stand ≡ None → MayTell traced me.0.part.pen
-      → Allows (IsKept l traced w begin holds) slots id me (bit_at (sem_object s)) (λ _. 0) (cleared_v (step slots (bit_at (sem_object s)) 0 0 none) me)
-  clears_v slots id s me low kind out apart may = let v = me.0 in let n = v.number in let p = v.part in let o : ℕ = sem_object s in let e = v_event n s in
+  clear_sem_at : (slots id s : ℕ) (me : Me (Slot T) (View T H W)) → s < 64 → me.0.kind ≡ Member → me.0.part.wait ≡ None → me.0.part.stand ≡ None → MayTell traced me.0.part.pen
+      → Allows (IsKept l traced w begin holds) slots id me (bit_at (sem_object s)) (λ _. 0) (clear_sem_tells (step slots (bit_at (sem_object s)) 0 0 none) me)
+  clear_sem_at slots id s me low kind out apart may = let v = me.0 in let n = v.number in let p = v.part in let o : ℕ = sem_object s in let e = v_event n s in
       member_steps l traced w begin holds slots id (bit_at o) (λ _. 0) v me.1
-      (λ r q ds. Learns e n p (λ z. record (told p z e) { failed = p.failed; turns = p.turns; cleared = o ∷ p.cleared }) q × (ds ≡ me.1)) (cleared_v (step slots (bit_at o) 0 0 none) me) kind
+      (λ r q ds. Learns e n p (λ z. record (told p z e) { failed = p.failed; turns = p.turns; cleared = o ∷ p.cleared }) q × (ds ≡ me.1)) (clear_sem_tells (step slots (bit_at o) 0 0 none) me) kind
       (λ r q ds world t k is. let same : s ≡ k = omega arith in subst (λ (k : ℕ). (between : List Event) × Grows n p between (v_event n k) × Becomes me (record (told p (p.seen ++ between) (v_event n k)) { cleared = sem_object k ∷ p.cleared }) (with_part v q, ds)) same
       (t.0.0, t.0.1, λ i. (with_part v (t.0.2 i), t.1 i)))
       (λ words homes all c at small.
@@ -100,6 +100,6 @@ module _ {T H W : Type 0} (l : Layout) (traced : Bool) (w : W) (begin : W → �
       (m.0, keeps, tt, m.1, (m.2, refl)))
 
   -- the same at a word that is this place
-  pub clears_v_by : (slots id s : ℕ) (me : Me (Slot T) (View T H W)) (i : ℕ) → i ≡ bit_at (sem_object s) → s < 64 → me.0.kind ≡ Member → me.0.part.wait ≡ None → me.0.part.stand ≡ None → MayTell traced me.0.part.pen
-      → Allows (IsKept l traced w begin holds) slots id me i (λ _. 0) (cleared_v (step slots i 0 0 none) me)
-  clears_v_by slots id s me i word low kind out apart may = subst (λ (i : ℕ). Allows (IsKept l traced w begin holds) slots id me i (λ _. 0) (cleared_v (step slots i 0 0 none) me)) (sym word) (clears_v slots id s me low kind out apart may)
+  pub clear_sem_keeps : (slots id s : ℕ) (me : Me (Slot T) (View T H W)) (i : ℕ) → i ≡ bit_at (sem_object s) → s < 64 → me.0.kind ≡ Member → me.0.part.wait ≡ None → me.0.part.stand ≡ None → MayTell traced me.0.part.pen
+      → Allows (IsKept l traced w begin holds) slots id me i (λ _. 0) (clear_sem_tells (step slots i 0 0 none) me)
+  clear_sem_keeps slots id s me i word low kind out apart may = subst (λ (i : ℕ). Allows (IsKept l traced w begin holds) slots id me i (λ _. 0) (clear_sem_tells (step slots i 0 0 none) me)) (sym word) (clear_sem_at slots id s me low kind out apart may)

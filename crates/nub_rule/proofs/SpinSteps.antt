@@ -17,7 +17,7 @@ use Rattle.nub_rule.specs.declared.view.Kind.TheVariants.{Member}
 use Rattle.nub_rule.specs.Items.{Small, line_of, Marks, Core}
 use Rattle.nub_rule.specs.Parts.{stands_at}
 use Rattle.nub_rule.specs.Places.{bit_at, spin_at, queue_at, value_at}
-use Rattle.nub_rule.specs.Plays.{with_part, spun, unspun}
+use Rattle.nub_rule.specs.Plays.{with_part, take_spin_tells, give_spin_tells}
 use Rattle.nub_rule.specs.Rule.{IsKept}
 use Rattle.nub_rule.proofs.Each.{at_within}
 use Rattle.nub_rule.proofs.Members.{Steps, member_steps}
@@ -79,9 +79,9 @@ module _ {T H W : Type 0} (l : Layout) (traced : Bool) (w : W) (begin : W → �
       ))
       (λ miss. (p, keeps, tt, subst (λ b. Core l traced w holds (set words (spin_at o) (either b 1 r)) homes (set all n p)) (sym (ne_eqb r 0 miss)) (idle l traced w holds words homes all (spin_at o) n p at c), inr (miss, refl, refl)))
 
-  spins : (slots id o : ℕ) (me : Me (Slot T) (View T H W)) → o < 192 → me.0.kind ≡ Member → me.0.part.spin ≡ None → Allows (IsKept l traced w begin holds) slots id me (spin_at o) (λ x. either (eqb x 0) 1 x) (spun (step slots (spin_at o) 0 1 none) me)
-  spins slots id o me low kind idle_there = let v = me.0 in let n = v.number in let p = v.part in member_steps l traced w begin holds slots id (spin_at o) (λ x. either (eqb x 0) 1 x) v me.1
-      (λ r q ds. ((r ≡ 0) × Spun n o p me.1 q ds) ⊎ ((r ≢ 0) × (q ≡ p) × (ds ≡ me.1))) (spun (step slots (spin_at o) 0 1 none) me) kind
+  take_spin_at : (slots id o : ℕ) (me : Me (Slot T) (View T H W)) → o < 192 → me.0.kind ≡ Member → me.0.part.spin ≡ None → Allows (IsKept l traced w begin holds) slots id me (spin_at o) (λ x. either (eqb x 0) 1 x) (take_spin_tells (step slots (spin_at o) 0 1 none) me)
+  take_spin_at slots id o me low kind idle_there = let v = me.0 in let n = v.number in let p = v.part in member_steps l traced w begin holds slots id (spin_at o) (λ x. either (eqb x 0) 1 x) v me.1
+      (λ r q ds. ((r ≡ 0) × Spun n o p me.1 q ds) ⊎ ((r ≢ 0) × (q ≡ p) × (ds ≡ me.1))) (take_spin_tells (step slots (spin_at o) 0 1 none) me) kind
       (λ r q ds world t. ⊎_elim
       (λ (u : (r ≡ 0) × Spun n o p me.1 q ds). (
         (λ k is hit. let e : o ≡ k = omega arith in
@@ -92,13 +92,13 @@ module _ {T H W : Type 0} (l : Layout) (traced : Bool) (w : W) (begin : W → �
       (spins_at n o p me.1 low idle_there)
 
   -- the same at a word that is this place
-  pub spins_by : (slots id o : ℕ) (me : Me (Slot T) (View T H W)) (i : ℕ) → i ≡ spin_at o → o < 192 → me.0.kind ≡ Member → me.0.part.spin ≡ None → Allows (IsKept l traced w begin holds) slots id me i (λ x. either (eqb x 0) 1 x) (spun (step slots i 0 1 none) me)
-  spins_by slots id o me i word low kind idle_there = subst (λ (i : ℕ). Allows (IsKept l traced w begin holds) slots id me i (λ x. either (eqb x 0) 1 x) (spun (step slots i 0 1 none) me)) (sym word) (spins slots id o me low kind idle_there)
+  pub take_spin_keeps : (slots id o : ℕ) (me : Me (Slot T) (View T H W)) (i : ℕ) → i ≡ spin_at o → o < 192 → me.0.kind ≡ Member → me.0.part.spin ≡ None → Allows (IsKept l traced w begin holds) slots id me i (λ x. either (eqb x 0) 1 x) (take_spin_tells (step slots i 0 1 none) me)
+  take_spin_keeps slots id o me i word low kind idle_there = subst (λ (i : ℕ). Allows (IsKept l traced w begin holds) slots id me i (λ x. either (eqb x 0) 1 x) (take_spin_tells (step slots i 0 1 none) me)) (sym word) (take_spin_at slots id o me low kind idle_there)
 
-  unspins : (slots id o : ℕ) (me : Me (Slot T) (View T H W)) → o < 192 → me.0.kind ≡ Member → me.0.part.spin ≡ Some o → me.0.part.owed ≡ [] → me.0.part.left ≡ me.0.part.queue → me.1 ≡ (queue_at o, Queue (line_of me.0.part.queue)) ∷ rest me.1
-      → Allows (IsKept l traced w begin holds) slots id me (spin_at o) (λ _. 0) (unspun (step slots (spin_at o) 0 0 none) me)
-  unspins slots id o me low kind here none_owed even first = let v = me.0 in let n = v.number in let p = v.part in let q : Part T H = record p { spin = None; queue = []; left = [] } in
-      member_steps l traced w begin holds slots id (spin_at o) (λ _. 0) v me.1 (λ r s ds. (r ≡ 1) × (s ≡ q) × (ds ≡ rest me.1)) (unspun (step slots (spin_at o) 0 0 none) me) kind
+  give_spin_at : (slots id o : ℕ) (me : Me (Slot T) (View T H W)) → o < 192 → me.0.kind ≡ Member → me.0.part.spin ≡ Some o → me.0.part.owed ≡ [] → me.0.part.left ≡ me.0.part.queue → me.1 ≡ (queue_at o, Queue (line_of me.0.part.queue)) ∷ rest me.1
+      → Allows (IsKept l traced w begin holds) slots id me (spin_at o) (λ _. 0) (give_spin_tells (step slots (spin_at o) 0 0 none) me)
+  give_spin_at slots id o me low kind here none_owed even first = let v = me.0 in let n = v.number in let p = v.part in let q : Part T H = record p { spin = None; queue = []; left = [] } in
+      member_steps l traced w begin holds slots id (spin_at o) (λ _. 0) v me.1 (λ r s ds. (r ≡ 1) × (s ≡ q) × (ds ≡ rest me.1)) (give_spin_tells (step slots (spin_at o) 0 0 none) me) kind
       (λ r s ds world t. (t.0, λ i. (with_part v (t.1 i), t.2 i)))
       (λ words homes all c at small.
       let s = c.spins in
@@ -122,6 +122,6 @@ module _ {T H W : Type 0} (l : Layout) (traced : Bool) (w : W) (begin : W → �
       ))
 
   -- the same at a word that is this place
-  pub unspins_by : (slots id o : ℕ) (me : Me (Slot T) (View T H W)) (i : ℕ) → i ≡ spin_at o → o < 192 → me.0.kind ≡ Member → me.0.part.spin ≡ Some o → me.0.part.owed ≡ [] → me.0.part.left ≡ me.0.part.queue → me.1 ≡ (queue_at o, Queue (line_of me.0.part.queue)) ∷ rest me.1
-      → Allows (IsKept l traced w begin holds) slots id me i (λ _. 0) (unspun (step slots i 0 0 none) me)
-  unspins_by slots id o me i word low kind here none_owed even first = subst (λ (i : ℕ). Allows (IsKept l traced w begin holds) slots id me i (λ _. 0) (unspun (step slots i 0 0 none) me)) (sym word) (unspins slots id o me low kind here none_owed even first)
+  pub give_spin_keeps : (slots id o : ℕ) (me : Me (Slot T) (View T H W)) (i : ℕ) → i ≡ spin_at o → o < 192 → me.0.kind ≡ Member → me.0.part.spin ≡ Some o → me.0.part.owed ≡ [] → me.0.part.left ≡ me.0.part.queue → me.1 ≡ (queue_at o, Queue (line_of me.0.part.queue)) ∷ rest me.1
+      → Allows (IsKept l traced w begin holds) slots id me i (λ _. 0) (give_spin_tells (step slots i 0 0 none) me)
+  give_spin_keeps slots id o me i word low kind here none_owed even first = subst (λ (i : ℕ). Allows (IsKept l traced w begin holds) slots id me i (λ _. 0) (give_spin_tells (step slots i 0 0 none) me)) (sym word) (give_spin_at slots id o me low kind here none_owed even first)

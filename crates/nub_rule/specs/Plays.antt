@@ -81,25 +81,25 @@ module _ {T H W : Type 0} where
   Becomes me q me' = me' ≡ (with_part me.0 q, me.1)
 
   -- the spin word of an object was tried: who wins gets the queue, and is in it only if it stands there
-  abbrev pub spun : Step (Slot T) → Sat T H W → ℕ → Sat T H W → Type 0
-  spun st me r me' = let p = me.0.part in ((o : ℕ) → st.word ≡ spin_at o → r ≡ 0 → (xs : List ℕ) × (k : ℕ) × (p.stand ≡ None → length xs < most_threads) × Small most_threads xs × (mem me.0.number xs ≡ true → stands_at p.stand o ≡ true)
+  abbrev pub take_spin_tells : Step (Slot T) → Sat T H W → ℕ → Sat T H W → Type 0
+  take_spin_tells st me r me' = let p = me.0.part in ((o : ℕ) → st.word ≡ spin_at o → r ≡ 0 → (xs : List ℕ) × (k : ℕ) × (p.stand ≡ None → length xs < most_threads) × Small most_threads xs × (mem me.0.number xs ≡ true → stands_at p.stand o ≡ true)
       × (me' ≡ (with_part me.0 (record p { spin = Some o; queue = xs; owed = []; left = xs; count = k; failed = without o p.failed }), (queue_at o, Queue (line_of xs)) ∷ me.1))) × (r ≢ 0 → me' ≡ me)
 
   -- the spin word was given back
-  abbrev pub unspun : Step (Slot T) → Sat T H W → ℕ → Sat T H W → Type 0
-  unspun st me r me' = (r ≡ 1) × (me' ≡ (with_part me.0 (record me.0.part { spin = None; queue = []; left = [] }), rest me.1))
+  abbrev pub give_spin_tells : Step (Slot T) → Sat T H W → ℕ → Sat T H W → Type 0
+  give_spin_tells st me r me' = (r ≡ 1) × (me' ≡ (with_part me.0 (record me.0.part { spin = None; queue = []; left = [] }), rest me.1))
 
   -- a thread that is owed was made ready
-  abbrev pub readied : Step (Slot T) → Sat T H W → ℕ → Sat T H W → Type 0
-  readied st me r me' = let p = me.0.part in (t : ℕ) → st.word ≡ ready_at t → (r ≡ 0) × Becomes me (record p { owed = without t p.owed }) me'
+  abbrev pub set_ready_tells : Step (Slot T) → Sat T H W → ℕ → Sat T H W → Type 0
+  set_ready_tells st me r me' = let p = me.0.part in (t : ℕ) → st.word ≡ ready_at t → (r ≡ 0) × Becomes me (record p { owed = without t p.owed }) me'
 
   -- the own ready word was read
-  abbrev pub looked_ready : Step (Slot T) → Sat T H W → ℕ → Sat T H W → Type 0
-  looked_ready st me r me' = let p = me.0.part in (r ≡ 0 → Becomes me (record p { stand = staged Asleep p.stand }) me') × (r ≢ 0 → (r ≡ 1) × Becomes me (record p { stand = staged Found p.stand }) me')
+  abbrev pub read_ready_tells : Step (Slot T) → Sat T H W → ℕ → Sat T H W → Type 0
+  read_ready_tells st me r me' = let p = me.0.part in (r ≡ 0 → Becomes me (record p { stand = staged Asleep p.stand }) me') × (r ≢ 0 → (r ≡ 1) × Becomes me (record p { stand = staged Found p.stand }) me')
 
   -- the own ready word was cleared
-  abbrev pub unreadied : Step (Slot T) → Sat T H W → ℕ → Sat T H W → Type 0
-  unreadied st me r me' = let p = me.0.part in (r ≡ 1) × Becomes me (record p { stand = None; turns = turned p.stand p.turns }) me'
+  abbrev pub clear_ready_tells : Step (Slot T) → Sat T H W → ℕ → Sat T H W → Type 0
+  clear_ready_tells st me r me' = let p = me.0.part in (r ≡ 1) × Becomes me (record p { stand = None; turns = turned p.stand p.turns }) me'
 
   -- the mutex m was taken, with its value
   abbrev pub Won : (W → ℕ → T → ℕ → H → Type 0) → ℕ → Sat T H W → Sat T H W → Type 0
@@ -108,8 +108,8 @@ module _ {T H W : Type 0} where
       × (me' ≡ (with_part v (record (told p (p.seen ++ between) e) { held = slice_set p.held m (Some x); wait = None; failed = without m p.failed; turns = without m p.turns }), (value_at m, Value (Some x)) ∷ me.1))
 
   -- the bit of a mutex was tried
-  abbrev pub tried : (W → ℕ → T → ℕ → H → Type 0) → Step (Slot T) → Sat T H W → ℕ → Sat T H W → Type 0
-  tried fits st me r me' = let p = me.0.part in (m : ℕ) → st.word ≡ bit_at m → (r ≡ 0 → Won fits m me me') × (r ≢ 0 → Becomes me (record p { failed = m ∷ p.failed; turns = without m p.turns }) me')
+  abbrev pub try_bit_tells : (W → ℕ → T → ℕ → H → Type 0) → Step (Slot T) → Sat T H W → ℕ → Sat T H W → Type 0
+  try_bit_tells fits st me r me' = let p = me.0.part in (m : ℕ) → st.word ≡ bit_at m → (r ≡ 0 → Won fits m me me') × (r ≢ 0 → Becomes me (record p { failed = m ∷ p.failed; turns = without m p.turns }) me')
 
   -- the mutex m was given back, with its value
   abbrev pub Freed : (W → ℕ → ℕ → T → T → H → H) → ℕ → Sat T H W → ℕ → Sat T H W → Type 0
@@ -118,8 +118,8 @@ module _ {T H W : Type 0} where
       × (me' ≡ (with_part v (record (told p (p.seen ++ between) e) { held = slice_set p.held m None; share = u; cleared = m ∷ p.cleared }), rest me.1))
       × ((w : W) (s : H) (x y : T) → v.world ≡ Some w → p.share ≡ Some s → Got p m x → me.1 ≡ (value_at m, Value (Some y)) ∷ rest me.1 → u ≡ Some (after w m v.number x y s))
 
-  abbrev pub freed : (W → ℕ → ℕ → T → T → H → H) → Step (Slot T) → Sat T H W → ℕ → Sat T H W → Type 0
-  freed after st me r me' = (m : ℕ) → st.word ≡ bit_at m → Freed after m me r me'
+  abbrev pub clear_bit_tells : (W → ℕ → ℕ → T → T → H → H) → Step (Slot T) → Sat T H W → ℕ → Sat T H W → Type 0
+  clear_bit_tells after st me r me' = (m : ℕ) → st.word ≡ bit_at m → Freed after m me r me'
 
   -- the thread has the mutex and its slot first, with a value that the new share allows
   abbrev pub MayFree : (W → ℕ → ℕ → T → T → H → H → Type 0) → (W → ℕ → ℕ → T → T → H → H) → ℕ → Sat T H W → Type 0
@@ -127,47 +127,47 @@ module _ {T H W : Type 0} where
       (x : T) × (y : T) × Got p m x × (me.1 ≡ (value_at m, Value (Some y)) ∷ rest me.1) × ((w : W) (s : H) → v.world ≡ Some w → p.share ≡ Some s → allows w m v.number x y s (after w m v.number x y s))
 
   -- the length of a queue was read
-  abbrev pub measured : Step (Slot T) → Sat T H W → ℕ → Sat T H W → Type 0
-  measured st me r me' = let p = me.0.part in (o : ℕ) → st.word ≡ length_at o → (r ≡ 0 → Becomes me (record p { cleared = without o p.cleared; looked = without o p.looked }) me')
+  abbrev pub read_length_tells : Step (Slot T) → Sat T H W → ℕ → Sat T H W → Type 0
+  read_length_tells st me r me' = let p = me.0.part in (o : ℕ) → st.word ≡ length_at o → (r ≡ 0 → Becomes me (record p { cleared = without o p.cleared; looked = without o p.looked }) me')
       × (r ≢ 0 → mem o p.cleared ≡ true → Becomes me (record p { looked = o ∷ p.looked }) me') × (r ≢ 0 → mem o p.cleared ≡ false → me' ≡ me)
 
   -- the thread was put last into the queue of a gate
-  abbrev pub pushed_gate : Step (Slot T) → Sat T H W → ℕ → Sat T H W → Type 0
-  pushed_gate st me r me' = let p = me.0.part in let n = me.0.number in (o : ℕ) → st.word ≡ length_at o → Becomes me (record p { queue = p.queue ++ n ∷ []; left = p.left ++ n ∷ []; stand = Some record { at = o; stage = Pushed } }) me'
+  abbrev pub push_gate_tells : Step (Slot T) → Sat T H W → ℕ → Sat T H W → Type 0
+  push_gate_tells st me r me' = let p = me.0.part in let n = me.0.number in (o : ℕ) → st.word ≡ length_at o → Becomes me (record p { queue = p.queue ++ n ∷ []; left = p.left ++ n ∷ []; stand = Some record { at = o; stage = Pushed } }) me'
 
   -- the bit of the object at which the thread stands was read after the push
-  abbrev pub retested : Step (Slot T) → Sat T H W → ℕ → Sat T H W → Type 0
-  retested st me r me' = let p = me.0.part in (s : Stand) → p.stand ≡ Some s → st.word ≡ bit_at s.at → (r ≡ 0 → Becomes me (record p { stand = staged Clear p.stand }) me') × (r ≢ 0 → Becomes me (record p { stand = staged Tested p.stand }) me')
+  abbrev pub test_again_tells : Step (Slot T) → Sat T H W → ℕ → Sat T H W → Type 0
+  test_again_tells st me r me' = let p = me.0.part in (s : Stand) → p.stand ≡ Some s → st.word ≡ bit_at s.at → (r ≡ 0 → Becomes me (record p { stand = staged Clear p.stand }) me') × (r ≢ 0 → Becomes me (record p { stand = staged Tested p.stand }) me')
 
   -- the thread left the queue of a gate, in which it was
-  abbrev pub took_out : Step (Slot T) → Sat T H W → ℕ → Sat T H W → Type 0
-  took_out st me r me' = let p = me.0.part in let n = me.0.number in (o : ℕ) → st.word ≡ length_at o → Becomes me (record p { queue = less n p.queue; left = less n p.left; stand = None; turns = o ∷ p.turns }) me'
+  abbrev pub take_out_tells : Step (Slot T) → Sat T H W → ℕ → Sat T H W → Type 0
+  take_out_tells st me r me' = let p = me.0.part in let n = me.0.number in (o : ℕ) → st.word ≡ length_at o → Becomes me (record p { queue = less n p.queue; left = less n p.left; stand = None; turns = o ∷ p.turns }) me'
 
   -- the first, if there is one, left the queue of a gate, and is owed its ready word
-  abbrev pub popped_gate : Step (Slot T) → Sat T H W → ℕ → Sat T H W → Type 0
-  popped_gate st me r me' = let p = me.0.part in (o : ℕ) → st.word ≡ length_at o
+  abbrev pub pop_gate_tells : Step (Slot T) → Sat T H W → ℕ → Sat T H W → Type 0
+  pop_gate_tells st me r me' = let p = me.0.part in (o : ℕ) → st.word ≡ length_at o
       → Becomes me (record p { queue = behind p.queue; owed = p.owed ++ front p.queue; left = behind p.left; cleared = without o p.cleared; looked = without o p.looked }) me'
 
   -- the bit of a semaphore was tried, by an event with this action
-  abbrev pub tried_p : (ℕ → Action) → Step (Slot T) → Sat T H W → ℕ → Sat T H W → Type 0
-  tried_p action st me r me' = let v = me.0 in let p = v.part in (s : ℕ) → st.word ≡ bit_at (sem_object s) → let o = sem_object s in let e = event v.number (action s) in
+  abbrev pub try_p_tells : (ℕ → Action) → Step (Slot T) → Sat T H W → ℕ → Sat T H W → Type 0
+  try_p_tells action st me r me' = let v = me.0 in let p = v.part in (s : ℕ) → st.word ≡ bit_at (sem_object s) → let o = sem_object s in let e = event v.number (action s) in
       (r ≡ 0 → (between : List Event) × Grows v.number p between e × Becomes me (record (told p (p.seen ++ between) e) { failed = without o p.failed; turns = without o p.turns }) me')
       × (r ≢ 0 → Becomes me (record p { failed = o ∷ p.failed; turns = without o p.turns }) me')
 
   -- the bit of a semaphore was cleared
-  abbrev pub cleared_v : Step (Slot T) → Sat T H W → ℕ → Sat T H W → Type 0
-  cleared_v st me r me' = let v = me.0 in let p = v.part in (s : ℕ) → st.word ≡ bit_at (sem_object s) → let e = v_event v.number s in
+  abbrev pub clear_sem_tells : Step (Slot T) → Sat T H W → ℕ → Sat T H W → Type 0
+  clear_sem_tells st me r me' = let v = me.0 in let p = v.part in (s : ℕ) → st.word ≡ bit_at (sem_object s) → let e = v_event v.number s in
       (between : List Event) × Grows v.number p between e × Becomes me (record (told p (p.seen ++ between) e) { cleared = sem_object s ∷ p.cleared }) me'
 
   -- the pen was tried, the number read and written, and the pen given back
-  abbrev pub penned : Step (Slot T) → Sat T H W → ℕ → Sat T H W → Type 0
-  penned st me r me' = (r ≡ 0 → Becomes me (record me.0.part { pen = Taken }) me') × (r ≢ 0 → me' ≡ me)
+  abbrev pub take_pen_tells : Step (Slot T) → Sat T H W → ℕ → Sat T H W → Type 0
+  take_pen_tells st me r me' = (r ≡ 0 → Becomes me (record me.0.part { pen = Taken }) me') × (r ≢ 0 → me' ≡ me)
 
-  abbrev pub numbered : Step (Slot T) → Sat T H W → ℕ → Sat T H W → Type 0
-  numbered st me r me' = Becomes me (record me.0.part { pen = Read r }) me'
+  abbrev pub read_number_tells : Step (Slot T) → Sat T H W → ℕ → Sat T H W → Type 0
+  read_number_tells st me r me' = Becomes me (record me.0.part { pen = Read r }) me'
 
-  abbrev pub wrote : Step (Slot T) → Sat T H W → ℕ → Sat T H W → Type 0
-  wrote st me r me' = Becomes me (record me.0.part { pen = Written }) me'
+  abbrev pub write_number_tells : Step (Slot T) → Sat T H W → ℕ → Sat T H W → Type 0
+  write_number_tells st me r me' = Becomes me (record me.0.part { pen = Written }) me'
 
-  abbrev pub unpenned : Step (Slot T) → Sat T H W → ℕ → Sat T H W → Type 0
-  unpenned st me r me' = (r ≡ 1) × Becomes me (record me.0.part { pen = No }) me'
+  abbrev pub give_pen_tells : Step (Slot T) → Sat T H W → ℕ → Sat T H W → Type 0
+  give_pen_tells st me r me' = (r ≡ 1) × Becomes me (record me.0.part { pen = No }) me'

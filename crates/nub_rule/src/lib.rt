@@ -15,6 +15,7 @@ mod object;
 mod package;
 mod pen;
 mod places;
+mod plays;
 mod queue;
 mod ready;
 mod rule;

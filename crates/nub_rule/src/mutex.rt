@@ -11,7 +11,7 @@ use crate::cell::{put_into, take_from};
 use crate::hand::bring;
 use crate::package::{Package, Thread};
 use crate::places::{VALUES, mutex_bit};
-use crate::rule::{ClearBit, TryBit};
+use crate::plays::{ClearBit, TryBit};
 use crate::uses::{Change, Uses};
 use larch_actions::{Event, MutexId};
 

@@ -5,7 +5,7 @@ ghost use Rattle.nub_rule.specs.Parts.{MayGivePen};
 
 use crate::package::{Entry, Package, Thread};
 use crate::places::{NUMBER, PEN};
-use crate::rule::{GivePen, ReadNumber, TakePen, WriteNumber};
+use crate::plays::{GivePen, ReadNumber, TakePen, WriteNumber};
 use crate::uses::Uses;
 use larch_actions::Event;
 

@@ -13,7 +13,7 @@ use crate::hand::bring;
 use crate::line::{leave_line, pop_line, push_line};
 use crate::object::Object;
 use crate::package::{Package, Thread};
-use crate::rule::{PopGate, PushGate, ReadLength, TakeOut, TestAgain};
+use crate::plays::{PopGate, PushGate, ReadLength, TakeOut, TestAgain};
 use crate::uses::Uses;
 use larch_actions::ThreadId;
 

@@ -9,7 +9,7 @@ ghost use Rattle.nub_rule.specs.Parts.{staged, HasTested, IsFound};
 
 use crate::package::{Package, Thread};
 use crate::places::ready_word;
-use crate::rule::{ClearReady, ReadReady, SetReady};
+use crate::plays::{ClearReady, ReadReady, SetReady};
 use crate::uses::Uses;
 use larch_actions::ThreadId;
 use std::sync::Wait;

@@ -8,7 +8,7 @@ ghost use Rattle.nub_rule.specs.Plays.{p_event, v_event};
 
 use crate::package::{Package, Thread};
 use crate::places::semaphore_bit;
-use crate::rule::{ClearSem, TryP};
+use crate::plays::{ClearSem, TryP};
 use crate::uses::Uses;
 use larch_actions::{Event, SemId};
 

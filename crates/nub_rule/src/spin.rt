@@ -10,7 +10,7 @@ ghost use Rattle.nub_rule.specs.Known.{HasReason};
 use crate::hand::bring;
 use crate::object::{Object, Why};
 use crate::package::{Package, Thread};
-use crate::rule::{GiveSpin, TakeSpin};
+use crate::plays::{GiveSpin, TakeSpin};
 use crate::uses::Uses;
 
 /// Tries the spin word of an object once, for a reason in the view. It wins where it answers 0, and then knows the queue.

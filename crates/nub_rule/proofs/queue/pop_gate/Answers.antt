@@ -8,7 +8,7 @@ use Rattle.nub_rule.proofs.AtHand.{QueueAtHand, queue_at_hand, After, requeued}
 use Rattle.larch_actions.specs.Sets.{without}
 use Rattle.nub_rule.specs.Plays.{behind, front}
 use Rattle.nub_rule.proofs.Lessening.{length-behind, front-of, front-none}
-use Rattle.nub_rule.proofs.QueueSteps.{pops_gate_by}
+use Rattle.nub_rule.proofs.QueueSteps.{pop_gate_keeps}
 use Rattle.nub_rule.proofs.queue.pop_gate.Given.{Over}
 use Rattle.nub_rule.proofs.queue.pop_gate.Goals.{After-bring, After-store}
 use Rattle.nub_rule.proofs.queue.pop_gate.Goals as goal
@@ -31,7 +31,7 @@ pub store-requires : goal.store-requires
 store-requires g c = let a = at_hand g (goal.at.store-requires g c).After-bring in let line = c.pop_line-first.ensures c.me.inside.seat.me.0.part.queue (same_slot c.number-o.result _ _ _ _ c.slot_mut.ensures.value a.first) in let low = object_low _ _ _ _ c.p.view_is c.p.invariant.laid_out c.p.invariant.lawful c.args.at c.requires.named in let is = c.number-o.ensures in let word = c.length_word.ensures in (
   search rules,
   omega arith,
-  pops_gate_by _ _ _ _ _ _ _ (object_of c.args.at) _ (c.bring.new.seat.me.0, _) _ c.length_word.ensures low (ap (λ v. v.kind) a.same ∙ c.me.invariant.member) (ap (λ v. v.part.spin) a.same ∙ (a.spins ∙ ap (λ (z : ℕ). Some z) is)) (line.1 ∙ (λ j. length (behind (sym a.same j).part.queue))),
+  pop_gate_keeps _ _ _ _ _ _ _ (object_of c.args.at) _ (c.bring.new.seat.me.0, _) _ c.length_word.ensures low (ap (λ v. v.kind) a.same ∙ c.me.invariant.member) (ap (λ v. v.part.spin) a.same ∙ (a.spins ∙ ap (λ (z : ℕ). Some z) is)) (line.1 ∙ (λ j. length (behind (sym a.same j).part.queue))),
 )
 
 popped : (g : Over) (c : After-store g) → QueueAtHand c.me.inside.seat.me c.bring.new.seat.me c.bring.new.hand c.number-o.result

@@ -7,7 +7,7 @@ use Rattle.nub_rule.proofs.Handling.{same_slot}
 use Rattle.nub_rule.proofs.AtHand.{QueueAtHand, queue_at_hand, After, requeued}
 use Rattle.larch_actions.specs.Sets.{mem}
 use Rattle.nub_rule.specs.Plays.{less}
-use Rattle.nub_rule.proofs.QueueSteps.{leaves_by}
+use Rattle.nub_rule.proofs.QueueSteps.{take_out_keeps}
 use Rattle.nub_rule.proofs.queue.take_out.Given.{Over}
 use Rattle.nub_rule.proofs.queue.take_out.Goals.{After-bring, After-store}
 use Rattle.nub_rule.proofs.queue.take_out.Goals as goal
@@ -30,7 +30,7 @@ pub store-requires : goal.store-requires
 store-requires g c = let a = at_hand g (goal.at.store-requires g c).After-bring in let line = c.leave_line.ensures.out c.me.inside.seat.me.0.part.queue c.in-Some.length (same_slot c.number-o.result _ _ _ _ c.slot_mut.ensures.value a.first) c.in-Some.is in let num = ap (λ v. v.number) a.same ∙ c.me.invariant.numbered in let low = object_low _ _ _ _ c.p.view_is c.p.invariant.laid_out c.p.invariant.lawful c.args.at c.requires.named in let is = c.number-o.ensures in let word = c.length_word.ensures in (
   search rules,
   omega arith,
-  leaves_by _ _ _ _ _ _ _ (object_of c.args.at) _ (c.bring.new.seat.me.0, _) c.requires.clear.0 _ c.length_word.ensures low (ap (λ v. v.kind) a.same ∙ c.me.invariant.member) (ap (λ v. v.part.spin) a.same ∙ (a.spins ∙ ap (λ (z : ℕ). Some z) is))
+  take_out_keeps _ _ _ _ _ _ _ (object_of c.args.at) _ (c.bring.new.seat.me.0, _) c.requires.clear.0 _ c.length_word.ensures low (ap (λ v. v.kind) a.same ∙ c.me.invariant.member) (ap (λ v. v.part.spin) a.same ∙ (a.spins ∙ ap (λ (z : ℕ). Some z) is))
       ((λ j. mem (num j) (a.same j).part.queue) ∙ line.0) (line.2 ∙ (λ j. length (less (sym num j) (sym a.same j).part.queue))),
 )
 

@@ -10,7 +10,7 @@ use Rattle.nub_rule.proofs.Naming.{object_low}
 use Rattle.nub_rule.proofs.Handling.{values-same, gone, hands-same, hands-unspun}
 use Rattle.nub_rule.proofs.Seen.{as_known, fit_given}
 use Rattle.atomic_table.specs.Table.{rest}
-use Rattle.nub_rule.proofs.SpinSteps.{unspins_by}
+use Rattle.nub_rule.proofs.SpinSteps.{give_spin_keeps}
 use Rattle.nub_rule.proofs.spin.give_spin.Goals as goal
 
 pub bring-requires-clause-there : goal.bring-requires-clause-there
@@ -21,7 +21,7 @@ swap-requires g c = let low = object_low _ _ _ _ c.p.view_is c.p.invariant.laid_
     let first = c.bring.ensures.first _ (c.me.invariant.hands.queue_in o here) in (
       search rules,
       omega arith,
-      unspins_by _ _ _ _ _ _ _ o c.bring.new.seat.me _ word (omega arith) (ap (λ v. v.kind) same ∙ c.me.invariant.member) (ap (λ p. p.spin) q ∙ here) (ap (λ p. p.owed) q ∙ (ap (λ k. k.owed) c.me.view_is ∙ c.requires.owes_none))
+      give_spin_keeps _ _ _ _ _ _ _ o c.bring.new.seat.me _ word (omega arith) (ap (λ v. v.kind) same ∙ c.me.invariant.member) (ap (λ p. p.spin) q ∙ here) (ap (λ p. p.owed) q ∙ (ap (λ k. k.owed) c.me.view_is ∙ c.requires.owes_none))
           (ap (λ p. p.left) q ∙ (ap (λ k. k.left) c.me.view_is ∙ (c.requires.even ∙ (ap (λ k. k.queue) (sym c.me.view_is) ∙ ap (λ p. p.queue) (sym q)))))
           (first ∙ (λ j. (o, Queue (line_of (ap (λ p. p.queue) (sym q) j))) ∷ rest c.bring.new.seat.me.1)),
     )

@@ -1,0 +1,174 @@
+//! What each kind of step tells of the seat before and after: one type a kind, with the name of its function. No value of these types is made.
+use crate::rule::Slot;
+use crate::uses::{Change, Uses};
+use crate::view::View;
+use atomic_table::Play;
+use std::marker::PhantomData;
+
+/// Takes a spin word.
+pub struct TakeSpin;
+
+impl<T, H, W> Play<Slot<T>, View<T, H, W>> for TakeSpin {
+    ghost use Rattle.nub_rule.specs.Plays.{take_spin_tells};
+
+    ghost then = { take_spin_tells };
+}
+
+/// Gives a spin word back.
+pub struct GiveSpin;
+
+impl<T, H, W> Play<Slot<T>, View<T, H, W>> for GiveSpin {
+    ghost use Rattle.nub_rule.specs.Plays.{give_spin_tells};
+
+    ghost then = { give_spin_tells };
+}
+
+/// Makes a thread ready.
+pub struct SetReady;
+
+impl<T, H, W> Play<Slot<T>, View<T, H, W>> for SetReady {
+    ghost use Rattle.nub_rule.specs.Plays.{set_ready_tells};
+
+    ghost then = { set_ready_tells };
+}
+
+/// Reads the own ready word.
+pub struct ReadReady;
+
+impl<T, H, W> Play<Slot<T>, View<T, H, W>> for ReadReady {
+    ghost use Rattle.nub_rule.specs.Plays.{read_ready_tells};
+
+    ghost then = { read_ready_tells };
+}
+
+/// Clears the own ready word.
+pub struct ClearReady;
+
+impl<T, H, W> Play<Slot<T>, View<T, H, W>> for ClearReady {
+    ghost use Rattle.nub_rule.specs.Plays.{clear_ready_tells};
+
+    ghost then = { clear_ready_tells };
+}
+
+/// Reads the length of a queue.
+pub struct ReadLength;
+
+impl<T, H, W> Play<Slot<T>, View<T, H, W>> for ReadLength {
+    ghost use Rattle.nub_rule.specs.Plays.{read_length_tells};
+
+    ghost then = { read_length_tells };
+}
+
+/// Writes the length of a gate's queue after a push.
+pub struct PushGate;
+
+impl<T, H, W> Play<Slot<T>, View<T, H, W>> for PushGate {
+    ghost use Rattle.nub_rule.specs.Plays.{push_gate_tells};
+
+    ghost then = { push_gate_tells };
+}
+
+/// Reads the bit after a push.
+pub struct TestAgain;
+
+impl<T, H, W> Play<Slot<T>, View<T, H, W>> for TestAgain {
+    ghost use Rattle.nub_rule.specs.Plays.{test_again_tells};
+
+    ghost then = { test_again_tells };
+}
+
+/// Writes the length of a queue after its thread has left it.
+pub struct TakeOut;
+
+impl<T, H, W> Play<Slot<T>, View<T, H, W>> for TakeOut {
+    ghost use Rattle.nub_rule.specs.Plays.{take_out_tells};
+
+    ghost then = { take_out_tells };
+}
+
+/// Writes the length of a gate's queue after its first has left it.
+pub struct PopGate;
+
+impl<T, H, W> Play<Slot<T>, View<T, H, W>> for PopGate {
+    ghost use Rattle.nub_rule.specs.Plays.{pop_gate_tells};
+
+    ghost then = { pop_gate_tells };
+}
+
+/// Tries the bit of a semaphore by a P.
+pub struct TryP;
+
+impl<T, H, W> Play<Slot<T>, View<T, H, W>> for TryP {
+    ghost use Rattle.nub_rule.specs.Plays.{try_p_tells};
+    ghost use Rattle.larch_actions.specs.declared.event.Action.TheVariants.{P};
+
+    ghost then = { try_p_tells (λ s. P record { 0 = s }) };
+}
+
+/// Clears the bit of a semaphore.
+pub struct ClearSem;
+
+impl<T, H, W> Play<Slot<T>, View<T, H, W>> for ClearSem {
+    ghost use Rattle.nub_rule.specs.Plays.{clear_sem_tells};
+
+    ghost then = { clear_sem_tells };
+}
+
+/// Tries the pen.
+pub struct TakePen;
+
+impl<T, H, W> Play<Slot<T>, View<T, H, W>> for TakePen {
+    ghost use Rattle.nub_rule.specs.Plays.{take_pen_tells};
+
+    ghost then = { take_pen_tells };
+}
+
+/// Reads the number of the next event.
+pub struct ReadNumber;
+
+impl<T, H, W> Play<Slot<T>, View<T, H, W>> for ReadNumber {
+    ghost use Rattle.nub_rule.specs.Plays.{read_number_tells};
+
+    ghost then = { read_number_tells };
+}
+
+/// Writes the number of the next event.
+pub struct WriteNumber;
+
+impl<T, H, W> Play<Slot<T>, View<T, H, W>> for WriteNumber {
+    ghost use Rattle.nub_rule.specs.Plays.{write_number_tells};
+
+    ghost then = { write_number_tells };
+}
+
+/// Gives the pen back.
+pub struct GivePen;
+
+impl<T, H, W> Play<Slot<T>, View<T, H, W>> for GivePen {
+    ghost use Rattle.nub_rule.specs.Plays.{give_pen_tells};
+
+    ghost then = { give_pen_tells };
+}
+
+/// Tries the bit of a mutex.
+pub struct TryBit<U> {
+    marker: PhantomData<U>,
+}
+
+impl<U: Uses> Play<Slot<U::Value>, View<U::Value, U::Share, U::World>> for TryBit<U> {
+    ghost use Rattle.nub_rule.specs.Plays.{try_bit_tells};
+
+    ghost then = { try_bit_tells U.fits };
+}
+
+/// Clears the bit of a mutex.
+pub struct ClearBit<U, C> {
+    marker: PhantomData<(U, C)>,
+}
+
+impl<U: Uses, C: Change<U>> Play<Slot<U::Value>, View<U::Value, U::Share, U::World>>
+    for ClearBit<U, C> {
+    ghost use Rattle.nub_rule.specs.Plays.{clear_bit_tells};
+
+    ghost then = { clear_bit_tells C.after };
+}
