@@ -13,6 +13,7 @@ mod sink;
 mod source;
 mod text;
 mod tree;
+mod window;
 
 pub use dir_tree::DirTree;
 pub use mem_tree::MemTree;
@@ -21,6 +22,7 @@ pub use sink::{MemSink, Sink, SinkFault, put_all};
 pub use source::{Failed, MemSource, Source};
 pub use text::Text;
 pub use tree::{Entry, FileBytes, Kind, Tree, TreeError};
+pub use window::{WINDOW_ROOM, Window};
 
 #[cfg(test)]
 mod tests;

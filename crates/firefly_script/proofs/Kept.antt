@@ -1,7 +1,7 @@
 -- The bytes that a window and a source have left.
 use Rattle.std.proofs.Common.{◌≡◌, ℕ, List, [], ◌∷◌, ◌++◌, length, refl, ap, sym, ◌∙◌, append_assoc, append-nil, Option, None, Some, arith}
 use Rattle.std.specs.Io.KnownBytes.{Keeps, prepend_known}
-use Rattle.firefly_script.specs.Window.{Takes}
+use Rattle.firefly_outside.specs.Window.{Takes}
 use Rattle.firefly_script.specs.declared.next.Found.{Found}
 use Rattle.firefly_script.specs.declared.next.Found.TheVariants.{Whole, Long, Open, End}
 use Rattle.firefly_script.specs.Founds.{IsNext, IsSeen}

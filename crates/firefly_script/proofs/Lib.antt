@@ -13,4 +13,3 @@ pub mod Releases
 pub mod Rows
 pub mod Tables
 pub mod Verdicts
-pub mod WindowParts

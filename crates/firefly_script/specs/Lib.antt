@@ -4,7 +4,6 @@ pub mod Text
 pub mod Faults
 pub mod Seen
 pub mod Parsing
-pub mod Window
 pub mod Held
 pub mod Drafts
 pub mod Founds

@@ -14,7 +14,6 @@ mod parse;
 mod read;
 mod script;
 mod table;
-mod window;
 
 pub use laws::one_answer;
 pub use line::{Line, Operation};

@@ -4,8 +4,7 @@ ghost use Rattle.std.specs.Io.KnownBytes.{Keeps, prepend_known};
 ghost use Rattle.firefly_outside.specs.Causes.{Rose};
 ghost use Rattle.firefly_script.specs.Founds.{IsNext, IsSeen, IsOpen};
 
-use crate::window::{ROOM, Window};
-use firefly_outside::{Failed, Source};
+use firefly_outside::{Failed, Source, WINDOW_ROOM, Window};
 use memchr::memchr;
 
 /// How many bytes a line has at most, without its newline.
@@ -48,7 +47,7 @@ pub fn next<I: Source>(window: &mut Window, input: &mut I) -> Result<Found, Fail
         if let Some(found) = look(window.bytes()) {
             return Ok(found);
         }
-        match window.refill(input, ROOM) {
+        match window.refill(input, WINDOW_ROOM) {
             Ok(0) => {
                 return Ok(if window.len() == 0 {
                     Found::End

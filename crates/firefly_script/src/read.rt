@@ -12,8 +12,7 @@ use crate::draft::Draft;
 use crate::next::{Found, next};
 use crate::parse;
 use crate::script::{Script, ScriptFault};
-use crate::window::Window;
-use firefly_outside::Source;
+use firefly_outside::{Source, Window};
 use larch_actions::Layout;
 use std::alloc::Global;
 

@@ -26,4 +26,3 @@ pub mod Grammar
 pub mod HeldTexts
 pub mod Spelling
 pub mod HeldEvents
-pub mod WindowParts

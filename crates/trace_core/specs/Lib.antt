@@ -7,7 +7,6 @@ pub mod Choices
 pub mod Lines
 pub mod Held
 pub mod Spelled
-pub mod Window
 pub mod Intake
 pub mod Standing
 pub mod Steps

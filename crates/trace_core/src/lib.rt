@@ -20,7 +20,6 @@ mod step;
 mod take;
 mod token;
 mod whole;
-mod window;
 
 pub use compose::{add, add_event, add_number};
 pub use intake::TextFault;

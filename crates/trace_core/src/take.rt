@@ -6,8 +6,7 @@ ghost use Rattle.trace_core.specs.Intake.{rest_of, room_of, HasReason, LacksAt};
 
 use crate::intake::{Intake, TextFault};
 use crate::line::{Expect, Line, Stop, line_of};
-use crate::window::Window;
-use firefly_outside::Source;
+use firefly_outside::{Source, Window};
 
 // Reads the line that comes next from the window.
 fn try_line(window: &mut Window, expect: &Expect) -> Result<Line, Stop>

@@ -1,6 +1,6 @@
 use Rattle.std.proofs.Common.{arith, ap, ◌∙◌, ◌-◌, length}
-use Rattle.firefly_script.proofs.WindowParts.{part-grow, length-part}
-use Rattle.firefly_script.proofs.window.Window.refill.Goals as goal
+use Rattle.firefly_outside.proofs.WindowParts.{part-grow, length-part}
+use Rattle.firefly_outside.proofs.window.Window.refill.Goals as goal
 
 pub returns-clause-bytes : goal.returns-clause-bytes
 returns-clause-bytes g c =

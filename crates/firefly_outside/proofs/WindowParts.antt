@@ -4,7 +4,7 @@ use Rattle.std.proofs.lemmas.List.{drop-take, drop-drop, length-take-le, length-
 use Rattle.std.proofs.Math.Seq.{take-add}
 use Rattle.std.specs.Io.KnownBytes.{Consumes, IsAtEnd}
 use Rattle.std.specs.declared.option.Option.{Option}
-use Rattle.firefly_script.specs.Window.{Takes}
+use Rattle.firefly_outside.specs.Window.{Takes}
 
 pub part-skip : (buf : List ℕ) (start end n : ℕ) → start + n ≤ end → take (end - (start + n)) (drop (start + n) buf) ≡ drop n (take (end - start) (drop start buf))
 part-skip buf start end n le =

@@ -2,14 +2,15 @@
 ghost use Rattle.std.specs.Prelude.{◌≡◌, ℕ, ◌-◌, ◌+◌, ◌<◌, ◌≤◌, [], List, length, take, drop, IfOk, OnErr, MatchResult};
 ghost use Rattle.std.specs.Io.KnownBytes.{ReadConsumes, Keeps};
 ghost use Rattle.firefly_outside.specs.Causes.{HasCause};
-ghost use Rattle.firefly_script.specs.Window.{Grows};
+ghost use Rattle.firefly_outside.specs.Window.{Grows};
 
-use firefly_outside::{Failed, Source};
+use crate::{Failed, Source};
 use std::marker::Model;
 
 /// How many bytes a window holds.
-pub const ROOM: usize = 65536;
+pub const WINDOW_ROOM: usize = 65536;
 
+/// The bytes that were taken from a source and aren't read yet.
 #[derive(Drop)]
 pub struct Window {
     buf: [u8; 65536],
@@ -26,6 +27,7 @@ impl Model for Window {
 }
 
 impl Window {
+    /// A window that holds nothing.
     pub fn new() -> Window
         ensures { result ≡ [] }
     {
@@ -36,12 +38,14 @@ impl Window {
         }
     }
 
+    /// The bytes that it holds.
     pub fn bytes(&self) -> &[u8]
         ensures { result.now ≡ self.now }
     {
         &self.buf[self.start..self.end]
     }
 
+    /// How many they are.
     pub fn len(&self) -> usize
         ensures { result ≡ length self.now }
     {

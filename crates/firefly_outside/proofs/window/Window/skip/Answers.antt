@@ -1,6 +1,6 @@
 use Rattle.std.proofs.Common.{arith, ap, ◌∙◌, drop, length}
-use Rattle.firefly_script.proofs.WindowParts.{part-skip, length-part}
-use Rattle.firefly_script.proofs.window.Window.skip.Goals as goal
+use Rattle.firefly_outside.proofs.WindowParts.{part-skip, length-part}
+use Rattle.firefly_outside.proofs.window.Window.skip.Goals as goal
 
 pub returns : goal.returns
 returns c =
