@@ -7,15 +7,17 @@ use Rattle.firefly_outside.specs.Trees.{Path, Told, Calls, Reads, IsFault, child
 use Rattle.firefly_outside.specs.Under.{IsUnder, IsThere}
 use Rattle.firefly_outside.specs.declared.tree.Kind.TheVariants.{File as a_file}
 use Rattle.firefly_outside.specs.declared.tree.TreeError.TheVariants as TreeError
+use Rattle.firefly_outside.specs.declared.tree.FileBytes.{FileBytes}
 use Rattle.word_index.specs.Index.{File, Index, IsIndexOf}
+use Rattle.word_index.specs.Batch.{Held, HoldsFiles}
 use Rattle.walker.specs.Walk.{Walk, IsSound, IsWalkOf}
 use Rattle.walker.specs.TreeIndex.{IsTreeIndex, IsFileAt, IsPartOf}
 use Rattle.walker.specs.Closing.{IsDone, failed_by}
 use Rattle.walker.specs.Progress.{IsListedWhole}
-use Rattle.walker.specs.Pile.{IsPileOf, AreApart, HasRead, ReadsSome, StopsReading, ReadsNext, ReadsAt, ReadsRest, IsNextFile, with_read, with_reads}
+use Rattle.walker.specs.Pile.{IsPileOf, AreApart, AreKept, AreDistinct, HasRead, ReadsSome, StopsReading, ReadsNext, ReadsAt, ReadsRest, with_read, with_reads}
 use Rattle.walker.specs.declared.answer.WalkAnswer.{WalkAnswer}
 use Rattle.walker.specs.declared.answer.WalkAnswer.TheVariants.{Done, Stopped, ReadFault, TooMany, Memory}
-use Rattle.walker.proofs.ListLemmas.{Distinct, HasOrigin, Contains-nil, Contains-cons_cases, Contains-map, Contains-unmap, AllPairs-nil, AllPairs-append, All-from}
+use Rattle.walker.proofs.ListLemmas.{Distinct, Distinct-across, HasOrigin, Contains-nil, Contains-cons_cases, Contains-map, Contains-unmap, AllPairs-nil, AllPairs-append, All-from}
 use Rattle.walker.proofs.PileLemmas.{AllPairs-one, AreApart-push, NoMeet, pile_paths}
 use Rattle.walker.proofs.Steps.{some_at}
 use Rattle.walker.proofs.Reached.{file_reached, found_if_reached}
@@ -26,7 +28,7 @@ paths_of files = map (λ f. f.path) files
 
 -- what tells of a file that could not be read
 pub told_read_fault : (o : Option Told) (weak : List Path) (root name path at : Path) (before now : Calls) → at ≡ child root name → path ≡ child root name
-    → IfSome o (Reads weak at before now (Err TreeError.Failed)) → IfSome o (ReadsNext {T = Index} root name weak before now (Err (ReadFault path)))
+    → IfSome o (Reads weak at before now (Err TreeError.Failed)) → IfSome o (ReadsNext {T = FileBytes} root name weak before now (Err (ReadFault path)))
 told_read_fault None weak root name path at before now e f h = tt
 told_read_fault (Some t) weak root name path at before now e f h = (f, subst (λ (p : Path). IsFault weak p (IsThere t a_file p) before now) e h)
 
@@ -48,11 +50,11 @@ paths_push : (files : List File) (f : File) (name : Path) → f.path ≡ name �
 paths_push files f name called = map-append (λ (g : File). g.path) files (f ∷ []) ∙ ap (λ q. paths_of files ++ q ∷ []) called
 
 -- a file that is covered
-pub HasRead-covered : (o : Option Told) (w : Walk) (covered : List Path) (start before : Calls) (at : ℕ) (pieces : List Index) (name : Path) → slice_get w.files at ≡ Some name → Contains covered name
-    → HasRead o w covered start before at pieces → HasRead o w covered start before (at + 1) pieces
-HasRead-covered o w covered start before at pieces name here is h = record {
+pub HasRead-covered : (o : Option Told) (w : Walk) (covered : List Path) (start before : Calls) (at : ℕ) (Kept : List File → Type 0) (name : Path) → slice_get w.files at ≡ Some name → Contains covered name
+    → HasRead o w covered start before at Kept → HasRead o w covered start before (at + 1) Kept
+HasRead-covered o w covered start before at Kept name here is h = record {
   files = h.files;
-  pile = h.pile;
+  kept = h.kept;
   once = h.once;
   early = λ p k. (subst (λ (ps : List Path). Contains ps p) (sym (take_next w.files at name here)) (Contains-append_left (take at w.files) (name ∷ []) p (h.early p k).0), (h.early p k).1);
   all = λ p k. elim (Contains-push_cases (take at w.files) name p (subst (λ (ps : List Path). Contains ps p) (take_next w.files at name here) k)) [
@@ -66,8 +68,8 @@ reads_push : (start : Calls) (root : Path) (names : List Path) (name : Path) →
 reads_push start root names name = ap (λ l. record start { files_read = l }) (append_assoc start.files_read (map (child root) names) (child root name ∷ []) ∙ ap (λ l. start.files_read ++ l) (sym (map-append (child root) names (name ∷ []))))
 
 -- one more file among those read
-module _ (o : Option Told) (w : Walk) (covered : List Path) (start before : Calls) (at : ℕ) (pieces : List Index) (name : Path)
-    (sound : IsSound w) (here : slice_get w.files at ≡ Some name) (fresh : ¬ Contains covered name) (h : HasRead o w covered start before at pieces) where
+module _ (o : Option Told) (w : Walk) (covered : List Path) (start before : Calls) (at : ℕ) (Kept : List File → Type 0) (name : Path)
+    (sound : IsSound w) (here : slice_get w.files at ≡ Some name) (fresh : ¬ Contains covered name) (h : HasRead o w covered start before at Kept) where
   pub names_once : Distinct (paths_of h.files ++ name ∷ [])
   names_once = AllPairs-append (λ p q. p ≢ q) (paths_of h.files) (name ∷ []) h.once (AllPairs-one (λ p q. p ≢ q) name)
       (λ p q k m same. elim (Contains-cons_cases name [] q m) [
@@ -87,11 +89,11 @@ module _ (o : Option Told) (w : Walk) (covered : List Path) (start before : Call
     | inr same ↦ (let s = some_at w.files at name here in subst (λ (q : Path). Contains w.files q) same (at, s.0, s.1))
   ]
 
-  pub HasRead-next : (now : Calls) (more : List Index) (next : Index) → (f : IsNextFile o w.root name next) → ((fs gs : List File) → IsPileOf pieces fs → IsIndexOf gs next → IsPileOf more (fs ++ gs))
-      → IfSome o (λ _. now ≡ with_read before (child w.root name)) → HasRead o w covered start now (at + 1) more
-  HasRead-next now more next f pile calls = record {
-    files = h.files ++ f.file ∷ [];
-    pile = pile h.files (f.file ∷ []) h.pile f.index;
+  pub HasRead-next : (now : Calls) (More : List File → Type 0) (f : File) → f.path ≡ name → IfSome o (λ t. IsFileAt t w.root f) → ((fs : List File) → Kept fs → More (fs ++ f ∷ []))
+      → IfSome o (λ _. now ≡ with_read before (child w.root name)) → HasRead o w covered start now (at + 1) More
+  HasRead-next now More f called here_told keeps calls = record {
+    files = h.files ++ f ∷ [];
+    kept = keeps h.files h.kept;
     once = subst Distinct (sym are) names_once;
     early = λ p k. elim (Contains-push_cases (paths_of h.files) name p (subst (λ (ps : List Path). Contains ps p) are k)) [
       | inl was ↦ (subst (λ (ps : List Path). Contains ps p) (sym (take_next w.files at name here)) (Contains-append_left (take at w.files) (name ∷ []) p (h.early p was).0), (h.early p was).1)
@@ -101,23 +103,23 @@ module _ (o : Option Told) (w : Walk) (covered : List Path) (start before : Call
       | inl was ↦ elim (h.all p was) [ inl c ↦ inl c | inr r ↦ inr (subst (λ (ps : List Path). Contains ps p) (sym are) (Contains-append_left (paths_of h.files) (name ∷ []) p r)) ]
       | inr same ↦ inr (subst (λ (ps : List Path). Contains ps p) (sym are) (subst (λ (q : Path). Contains (paths_of h.files ++ name ∷ []) q) same (Contains-push (paths_of h.files) name)))
     ];
-    told = tells o h.told f.told calls;
+    told = tells o h.told here_told calls;
   }
     where
-      are : paths_of (h.files ++ f.file ∷ []) ≡ paths_of h.files ++ name ∷ []
-      are = paths_push h.files f.file name f.called
+      are : paths_of (h.files ++ f ∷ []) ≡ paths_of h.files ++ name ∷ []
+      are = paths_push h.files f name called
 
       tells : (q : Option Told) → IfSome q (λ t. ((g : File) → Contains h.files g → IsFileAt t w.root g) × (before ≡ with_reads start w.root (paths_of h.files)))
-          → IfSome q (λ t. IsFileAt t w.root f.file) → IfSome q (λ _. now ≡ with_read before (child w.root name))
-          → IfSome q (λ t. ((g : File) → Contains (h.files ++ f.file ∷ []) g → IsFileAt t w.root g) × (now ≡ with_reads start w.root (paths_of (h.files ++ f.file ∷ []))))
+          → IfSome q (λ t. IsFileAt t w.root f) → IfSome q (λ _. now ≡ with_read before (child w.root name))
+          → IfSome q (λ t. ((g : File) → Contains (h.files ++ f ∷ []) g → IsFileAt t w.root g) × (now ≡ with_reads start w.root (paths_of (h.files ++ f ∷ []))))
       tells None was new k = tt
       tells (Some t) was new k = (
-        λ g m. elim (Contains-push_cases h.files f.file g m) [ inl old ↦ was.0 g old | inr same ↦ subst (IsFileAt t w.root) same new ],
+        λ g m. elim (Contains-push_cases h.files f g m) [ inl old ↦ was.0 g old | inr same ↦ subst (IsFileAt t w.root) same new ],
         k ∙ ap (λ (c : Calls). with_read c (child w.root name)) was.1 ∙ reads_push start w.root (paths_of h.files) name ∙ ap (with_reads start w.root) (sym are),
       )
 
   -- memory wants or the file can't be read
-  pub stops_next : (answer : WalkAnswer) (weak : List Path) (now : Calls) → IfSome o (ReadsNext {T = Index} w.root name weak before now (Err answer))
+  pub stops_next : (answer : WalkAnswer) (weak : List Path) (now : Calls) → IfSome o (ReadsNext {T = FileBytes} w.root name weak before now (Err answer))
       → IfSome o (λ t. IsWalkOf w t → StopsReading w weak answer t × ReadsSome w covered start now answer)
   stops_next answer weak now k = stops o answer h.told k
     where
@@ -140,7 +142,7 @@ module _ (o : Option Told) (w : Walk) (covered : List Path) (start before : Call
       no_more c = ap (λ l. record c { failed = l }) (sym (append-nil c.failed))
 
       stops : (q : Option Told) (answer : WalkAnswer) → IfSome q (λ t. ((g : File) → Contains h.files g → IsFileAt t w.root g) × (before ≡ with_reads start w.root (paths_of h.files)))
-          → IfSome q (ReadsNext {T = Index} w.root name weak before now (Err answer)) → IfSome q (λ t. IsWalkOf w t → StopsReading w weak answer t × ReadsSome w covered start now answer)
+          → IfSome q (ReadsNext {T = FileBytes} w.root name weak before now (Err answer)) → IfSome q (λ t. IsWalkOf w t → StopsReading w weak answer t × ReadsSome w covered start now answer)
       stops None answer was k = tt
       stops (Some t) (Done piece) was k = absurd k
       stops (Some t) (Stopped many) was k = absurd k
@@ -162,10 +164,10 @@ module _ (o : Option Told) (w : Walk) (covered : List Path) (start before : Call
       )
 
 -- nothing is read yet
-pub HasRead-none : (o : Option Told) (w : Walk) (covered : List Path) (c : Calls) (pieces : List Index) → pieces ≡ [] → HasRead o w covered c c 0 pieces
-HasRead-none o w covered c pieces none = record {
+pub HasRead-none : (o : Option Told) (w : Walk) (covered : List Path) (c : Calls) (Kept : List File → Type 0) → Kept [] → HasRead o w covered c c 0 Kept
+HasRead-none o w covered c Kept none = record {
   files = [];
-  pile = subst (λ (l : List Index). IsPileOf l []) (sym none) refl;
+  kept = none;
   once = AllPairs-nil (λ p q. p ≢ q);
   early = λ p k. absurd (Contains-nil p k);
   all = λ p k. absurd (omega (arith, k.1, length-take 0 w.files));
@@ -177,22 +179,12 @@ HasRead-none o w covered c pieces none = record {
     tells (Some t) = (λ f k. absurd (Contains-nil f k), ap (λ l. record c { files_read = l }) (sym (append-nil c.files_read)))
 
 -- the piece of the start meets none of the pile
-pub apart_first : (o : Option Told) (w : Walk) (first : Index) (start now : Calls) (at : ℕ) (pieces : List Index) → HasRead o w first.paths start now at pieces → AreApart pieces → AreApart (first ∷ pieces)
+pub apart_first : (o : Option Told) (w : Walk) (first : Index) (start now : Calls) (at : ℕ) (pieces : List Index) → HasRead o w first.paths start now at (IsPileOf pieces) → AreApart pieces → AreApart (first ∷ pieces)
 apart_first o w first start now at pieces h apart =
-    AllPairs-cons NoMeet first pieces (All-from (NoMeet first) pieces (λ a k meet. (h.early meet.0 (pile_paths pieces h.files a meet.0 h.pile k meet.2)).1 meet.1)) apart
-
--- the next piece meets none of the pile
-pub apart_next : (o : Option Told) (w : Walk) (covered : List Path) (start before : Calls) (at : ℕ) (pieces : List Index) (name : Path) (next : Index) → IsSound w → slice_get w.files at ≡ Some name
-    → HasRead o w covered start before at pieces → IsNextFile o w.root name next → AreApart pieces → AreApart (pieces ++ next ∷ [])
-apart_next o w covered start before at pieces name next sound here h f apart = AreApart-push pieces next apart (λ a k meet.
-    let read = pile_paths pieces h.files a meet.0 h.pile k meet.1 in
-    elim (Contains-cons_cases f.file.path [] meet.0 ((f.index.paths meet.0).0 meet.2)) [
-      | inl is ↦ not_before w.files at name sound.files here (subst (λ (p : Path). Contains (take at w.files) p) (sym is ∙ f.called) (h.early meet.0 read).0)
-      | inr none ↦ Contains-nil meet.0 none
-    ])
+    AllPairs-cons NoMeet first pieces (All-from (NoMeet first) pieces (λ a k meet. (h.early meet.0 (pile_paths pieces h.files a meet.0 h.kept k meet.2)).1 meet.1)) apart
 
 -- all is read and covered: the index of the tree
-pub tree_index : (t : Told) (w : Walk) (first whole : Index) (start now : Calls) (pieces : List Index) → IsWalkOf w t → IsListedWhole w → (part : IsPartOf (Some t) w first) → (h : HasRead (Some t) w first.paths start now (length w.files) pieces)
+pub tree_index : (t : Told) (w : Walk) (first whole : Index) (start now : Calls) (pieces : List Index) → IsWalkOf w t → IsListedWhole w → (part : IsPartOf (Some t) w first) → (h : HasRead (Some t) w first.paths start now (length w.files) (IsPileOf pieces))
     → IsIndexOf (part.files ++ h.files) whole → IsTreeIndex t w.root whole
 tree_index t w first whole start now pieces walk listed part h index = record {
   files = part.files ++ h.files;
@@ -220,18 +212,18 @@ tree_index t w first whole start now pieces walk listed part h index = record {
     ]
 
 -- memory wants behind a read
-pub read_lost : (o : Option Told) (root name : Path) (weak : List Path) (before now : Calls) (p : Index) → IfSome o (ReadsNext {T = Index} root name weak before now (Ok p)) → IfSome o (ReadsNext {T = Index} root name weak before now (Err Memory))
+pub read_lost : (o : Option Told) (root name : Path) (weak : List Path) (before now : Calls) (p : FileBytes) → IfSome o (ReadsNext {T = FileBytes} root name weak before now (Ok p)) → IfSome o (ReadsNext {T = FileBytes} root name weak before now (Err Memory))
 read_lost None root name weak before now p h = tt
 read_lost (Some t) root name weak before now p h = inr h
 
 -- over a tree that tells the same
-pub moved_read : {T : Type 0} (o q : Option Told) (w : Walk) (covered : List Path) (at : ℕ) (weak vague : List Path) (before now : Calls) (old new : List Index) (r : Result T WalkAnswer) → o ≡ q → weak ≡ vague
+pub moved_read : (o q : Option Told) (w : Walk) (covered : List Path) (at : ℕ) (weak vague : List Path) (before now : Calls) (old : List File → Type 0) (new : Held → List File → Type 0) (r : Result Held WalkAnswer) → o ≡ q → weak ≡ vague
     → ReadsAt o w covered at weak before now old new r → ReadsAt q w covered at vague before now old new r
 moved_read o q w covered at weak vague before now old new r e f h = subst (λ (p : Option Told). ReadsAt p w covered at vague before now old new r) e (subst (λ (v : List Path). ReadsAt o w covered at v before now old new r) f h)
 
 -- a walk that stops while it reads
-pub read_stopped : (o : Option Told) (w : Walk) (covered : List Path) (at : ℕ) (weak : List Path) (start before now : Calls) (old new : List Index) (answer : WalkAnswer) → IfSome o (IsWalkOf w) → HasRead o w covered start before at old
-    → ReadsAt {T = Unit {0}} o w covered at weak before now old new (Err answer) → IfSome o (λ t. StopsReading w weak answer t × ReadsSome w covered start now answer)
+pub read_stopped : (o : Option Told) (w : Walk) (covered : List Path) (at : ℕ) (weak : List Path) (start before now : Calls) (old : List File → Type 0) (new : Held → List File → Type 0) (answer : WalkAnswer) → IfSome o (IsWalkOf w) → HasRead o w covered start before at old
+    → ReadsAt o w covered at weak before now old new (Err answer) → IfSome o (λ t. StopsReading w weak answer t × ReadsSome w covered start now answer)
 read_stopped o w covered at weak start before now old new answer walk h k = both o walk (k start h)
   where
     both : (q : Option Told) → IfSome q (IsWalkOf w) → IfSome q (λ t. IsWalkOf w t → StopsReading w weak answer t × ReadsSome w covered start now answer) → IfSome q (λ t. StopsReading w weak answer t × ReadsSome w covered start now answer)
@@ -247,8 +239,8 @@ rest_stops (Some t) w covered weak before now (ReadFault path) h = h
 rest_stops (Some t) w covered weak before now (TooMany many) h = absurd h.0
 rest_stops (Some t) w covered weak before now Memory h = h.1
 
-all_reads : (t : Told) (w : Walk) (covered : List Path) (before now : Calls) (pieces : List Index) (answer : WalkAnswer) → failed_by answer ≡ [] → HasRead (Some t) w covered before now (length w.files) pieces → ReadsSome w covered before now answer
-all_reads t w covered before now pieces answer none h = record {
+all_reads : (t : Told) (w : Walk) (covered : List Path) (before now : Calls) (Kept : List File → Type 0) (answer : WalkAnswer) → failed_by answer ≡ [] → HasRead (Some t) w covered before now (length w.files) Kept → ReadsSome w covered before now answer
+all_reads t w covered before now Kept answer none h = record {
   names = paths_of h.files;
   once = h.once;
   fresh = λ p k. (h.early p k).1;
@@ -259,14 +251,49 @@ all_reads t w covered before now pieces answer none h = record {
   failed = ap (λ (c : Calls). c.failed) h.told.1 ∙ sym (ap (λ l. before.failed ++ l) none ∙ append-nil before.failed);
 }
 
-pub rest_done : (o : Option Told) (w : Walk) (first whole : Index) (weak : List Path) (before now : Calls) (pieces : List Index) → IfSome o (IsWalkOf w) → IsListedWhole w → IsPartOf o w first → HasRead o w first.paths before now (length w.files) pieces
+pub rest_done : (o : Option Told) (w : Walk) (first whole : Index) (weak : List Path) (before now : Calls) (pieces : List Index) → IfSome o (IsWalkOf w) → IsListedWhole w → IsPartOf o w first → HasRead o w first.paths before now (length w.files) (IsPileOf pieces)
     → ((fs gs : List File) → IsIndexOf fs first → IsPileOf pieces gs → IsIndexOf (fs ++ gs) whole) → IfSome o (ReadsRest w first.paths weak before now (Done whole))
 rest_done None w first whole weak before now pieces walk listed part h index = tt
 rest_done (Some t) w first whole weak before now pieces walk listed part h index = (
-  tree_index t w first whole before now pieces walk listed part h (index part.files h.files part.index h.pile),
-  all_reads t w first.paths before now pieces (Done whole) refl h,
+  tree_index t w first whole before now pieces walk listed part h (index part.files h.files part.index h.kept),
+  all_reads t w first.paths before now (IsPileOf pieces) (Done whole) refl h,
 )
 
-pub rest_lost : (o : Option Told) (w : Walk) (covered weak : List Path) (before now : Calls) (pieces : List Index) → HasRead o w covered before now (length w.files) pieces → IfSome o (ReadsRest w covered weak before now Memory)
+pub rest_lost : (o : Option Told) (w : Walk) (covered weak : List Path) (before now : Calls) (pieces : List Index) → HasRead o w covered before now (length w.files) (IsPileOf pieces) → IfSome o (ReadsRest w covered weak before now Memory)
 rest_lost None w covered weak before now pieces h = tt
-rest_lost (Some t) w covered weak before now pieces h = all_reads t w covered before now pieces Memory refl h
+rest_lost (Some t) w covered weak before now pieces h = all_reads t w covered before now (IsPileOf pieces) Memory refl h
+
+-- the files of the pile and of the batch
+
+-- nothing is kept yet
+pub kept_none : (pieces : List Index) (held : Held) → pieces ≡ [] → HoldsFiles [] held → AreKept pieces held []
+kept_none pieces held none empty = record { done = []; waiting = []; is = refl; pile = subst (λ (l : List Index). IsPileOf l []) (sym none) refl; batch = empty }
+
+-- one more file in the batch
+pub kept_more : (pieces : List Index) (held more : Held) (f : File) → ((ws : List File) → HoldsFiles ws held → HoldsFiles (ws ++ f ∷ []) more) → (files : List File) → AreKept pieces held files → AreKept pieces more (files ++ f ∷ [])
+kept_more pieces held more f adds files k = record {
+  done = k.done;
+  waiting = k.waiting ++ f ∷ [];
+  is = ap (λ l. l ++ f ∷ []) k.is ∙ append_assoc k.done k.waiting (f ∷ []);
+  pile = k.pile;
+  batch = adds k.waiting k.batch;
+}
+
+-- the batch lies on the pile, and one more file is in a new one
+pub kept_fresh : (pieces : List Index) (more : Held) (f : File) (files : List File) → IsPileOf pieces files → HoldsFiles (f ∷ []) more → AreKept pieces more (files ++ f ∷ [])
+kept_fresh pieces more f files pile holds = record { done = files; waiting = f ∷ []; is = refl; pile = pile; batch = holds }
+
+-- the piece of the batch meets none of the pile
+pub apart_batch : (pieces : List Index) (held : Held) (next : Index) (files : List File) → (k : AreKept pieces held files) → AreDistinct files → ((ws : List File) → HoldsFiles ws held → IsIndexOf ws next) → AreApart pieces → AreApart (pieces ++ next ∷ [])
+apart_batch pieces held next files k once index apart = AreApart-push pieces next apart (λ a m meet.
+    let split : paths_of files ≡ paths_of k.done ++ paths_of k.waiting = ap paths_of k.is ∙ map-append (λ (f : File). f.path) k.done k.waiting in
+    Distinct-across (paths_of k.done) (paths_of k.waiting) meet.0 (subst Distinct split once) (pile_paths pieces k.done a meet.0 k.pile m meet.1) (((index k.waiting k.batch).paths meet.0).0 meet.2))
+
+-- the files read are kept in another way
+pub HasRead-kept : (o : Option Told) (w : Walk) (covered : List Path) (before now : Calls) (at : ℕ) (Kept More : List File → Type 0) → ((fs : List File) → Kept fs → More fs) → HasRead o w covered before now at Kept → HasRead o w covered before now at More
+HasRead-kept o w covered before now at Kept More keeps h = record { files = h.files; kept = keeps h.files h.kept; once = h.once; early = h.early; all = h.all; told = h.told }
+
+-- all is read, and memory wants
+pub reads_lost : (o : Option Told) (w : Walk) (covered weak : List Path) (before now : Calls) (at : ℕ) (Kept : List File → Type 0) → at ≡ length w.files → HasRead o w covered before now at Kept → IfSome o (λ t. StopsReading w weak Memory t × ReadsSome w covered before now Memory)
+reads_lost None w covered weak before now at Kept end h = tt
+reads_lost (Some t) w covered weak before now at Kept end h = (tt, all_reads t w covered before now Kept Memory refl (subst (λ (k : ℕ). HasRead (Some t) w covered before now k Kept) end h))

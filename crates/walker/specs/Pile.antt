@@ -4,6 +4,7 @@ use Rattle.firefly_outside.specs.Trees.{Path, Told, Calls, child, IsFault}
 use Rattle.firefly_outside.specs.Under.{IsThere}
 use Rattle.firefly_outside.specs.declared.tree.Kind.TheVariants.{File as a_file}
 use Rattle.word_index.specs.Index.{File, Index, Meet, IsIndexOf}
+use Rattle.word_index.specs.Batch.{Held, HoldsFiles}
 use Rattle.walker.specs.Walk.{Walk, IsWalkOf}
 use Rattle.walker.specs.TreeIndex.{IsTreeIndex, IsFileAt}
 use Rattle.walker.specs.Closing.{IsFaultUnder, IsDone, failed_by}
@@ -31,12 +32,16 @@ IsReadEnd Memory = Unit {0}
 abbrev pub with_read : Calls → Path → Calls
 with_read c path = record c { files_read = c.files_read ++ path ∷ [] }
 
--- the piece is the index of the file of this name, as the tree has it
-pub record IsNextFile (tree : Option Told) (root name : Path) (piece : Index) : Type 0 where
-  pub file : File
-  pub called : file.path ≡ name
-  pub index : IsIndexOf (file ∷ []) piece
-  pub told : IfSome tree (λ t. IsFileAt t root file)
+-- the files lie on the pile, and the last of them in a batch
+pub record AreKept (pieces : List Index) (held : Held) (files : List File) : Type 0 where
+  pub done : List File
+  pub waiting : List File
+  pub is : files ≡ done ++ waiting
+  pub pile : IsPileOf pieces done
+  pub batch : HoldsFiles waiting held
+
+abbrev pub AreDistinct : List File → Type 0
+AreDistinct files = AllPairs (λ p q. p ≢ q) (map (λ f. f.path) files)
 
 -- what reading one more file tells
 abbrev pub ReadsNext : {T : Type 0} → Path → Path → List Path → Calls → Calls → Result T WalkAnswer → Told → Type 0
@@ -51,11 +56,11 @@ ReadsNext root name weak before now (Err Memory) t = (now ≡ before) ⊎ (now �
 abbrev pub with_reads : Calls → Path → List Path → Calls
 with_reads c root names = record c { files_read = c.files_read ++ map (child root) names }
 
--- the files found before this place that aren't covered were read, each once, and the pieces are their indexes
-pub record HasRead (tree : Option Told) (w : Walk) (covered : List Path) (before now : Calls) (at : ℕ) (pieces : List Index) : Type 0 where
+-- the files found before this place that aren't covered were read, each once, and are kept so
+pub record HasRead (tree : Option Told) (w : Walk) (covered : List Path) (before now : Calls) (at : ℕ) (Kept : List File → Type 0) : Type 0 where
   pub files : List File
-  pub pile : IsPileOf pieces files
-  pub once : AllPairs (λ p q. p ≢ q) (map (λ f. f.path) files)
+  pub kept : Kept files
+  pub once : AreDistinct files
   pub early : (p : Path) → Contains (map (λ f. f.path) files) p → Contains (take at w.files) p × (¬ Contains covered p)
   pub all : (p : Path) → Contains (take at w.files) p → Contains covered p ⊎ Contains (map (λ f. f.path) files) p
   pub told : IfSome tree (λ t. ((f : File) → Contains files f → IsFileAt t w.root f) × (now ≡ with_reads before w.root (map (λ f. f.path) files)))
@@ -81,7 +86,7 @@ StopsReading w weak Memory t = Unit {0}
 
 -- what reading the files answers
 abbrev pub IsRead : {T : Type 0} → Option Told → Walk → List Path → List Path → Calls → Calls → List Index → Result T WalkAnswer → Type 0
-IsRead tree w covered weak before now pieces (Ok v) = HasRead tree w covered before now (length w.files) pieces
+IsRead tree w covered weak before now pieces (Ok v) = HasRead tree w covered before now (length w.files) (IsPileOf pieces)
 IsRead tree w covered weak before now pieces (Err answer) = IfSome tree (λ t. StopsReading w weak answer t × ReadsSome w covered before now answer)
 
 -- what reading the rest tells
@@ -93,6 +98,6 @@ ReadsRest w covered weak before now (TooMany many) t = ⊥
 ReadsRest w covered weak before now Memory t = ReadsSome w covered before now Memory
 
 -- what the step at one place answers
-abbrev pub ReadsAt : {T : Type 0} → Option Told → Walk → List Path → ℕ → List Path → Calls → Calls → List Index → List Index → Result T WalkAnswer → Type 0
-ReadsAt tree w covered at weak before now old new (Ok v) = (start : Calls) → HasRead tree w covered start before at old → HasRead tree w covered start now (at + 1) new
+abbrev pub ReadsAt : Option Told → Walk → List Path → ℕ → List Path → Calls → Calls → (List File → Type 0) → (Held → List File → Type 0) → Result Held WalkAnswer → Type 0
+ReadsAt tree w covered at weak before now old new (Ok held) = (start : Calls) → HasRead tree w covered start before at old → HasRead tree w covered start now (at + 1) (new held)
 ReadsAt tree w covered at weak before now old new (Err answer) = (start : Calls) → HasRead tree w covered start before at old → IfSome tree (λ t. IsWalkOf w t → StopsReading w weak answer t × ReadsSome w covered start now answer)

@@ -6,13 +6,14 @@ ghost use Rattle.walker.specs.Walk.{IsWalkOf, IsSound};
 ghost use Rattle.walker.specs.TreeIndex.{IsPartOf, IsFileAt};
 ghost use Rattle.walker.specs.Closing.{HasRisen};
 ghost use Rattle.walker.specs.Progress.{StepCounts, IsListedWhole};
-ghost use Rattle.walker.specs.Pile.{IsPileOf, AreApart, ReadsNext, ReadsRest, IsReadEnd, IsRead, ReadsAt, HasRead, IsNextFile};
+ghost use Rattle.walker.specs.Pile.{IsPileOf, AreApart, AreKept, AreDistinct, ReadsNext, ReadsRest, IsReadEnd, IsRead, ReadsAt, HasRead};
+ghost use Rattle.word_index.specs.Read.{read_file};
 
 use crate::listing::child_path;
 use crate::{WalkAnswer, Walked};
-use firefly_outside::{Tree, TreeError};
+use firefly_outside::{FileBytes, Tree, TreeError};
 use std::alloc::{AllocError, Global};
-use word_index::{Piece, merge, piece_of};
+use word_index::{Batch, Piece, merge};
 
 /// Reads what the piece doesn't cover, and gives the index of it all.
 pub fn read_rest<S: Tree>(alloc: Global, tree: &mut S, walked: &Walked, piece: Piece) -> WalkAnswer
@@ -54,13 +55,17 @@ fn read_files<S: Tree>(
     ensures end { IfErr result IsReadEnd }
     ensures read { IsRead (S.tree tree.old) walked.now piece.now.paths (S.may_fail tree.old) (S.calls tree.old) (S.calls tree.new) pile.new.items result }
 {
+    let mut batch = Batch::new(alloc);
     for at in 0..walked.files_found() as usize {
-        match read_at(alloc, tree, walked, piece, pile, at) {
-            Ok(()) => {}
+        match read_at(alloc, tree, walked, piece, pile, batch, at) {
+            Ok(next) => batch = next,
             Err(answer) => return Err(answer),
         }
     }
-    Ok(())
+    match put_batch(pile, batch) {
+        Ok(()) => Ok(()),
+        Err(_) => Err(WalkAnswer::Memory),
+    }
 }
 
 // Reads the file found at this place, if the piece doesn't cover it.
@@ -70,29 +75,30 @@ fn read_at<S: Tree>(
     walked: &Walked,
     piece: &Piece,
     pile: &mut Vec<Piece>,
+    batch: Batch,
     at: usize,
-) -> Result<(), WalkAnswer>
+) -> Result<Batch, WalkAnswer>
     requires within { at < length walked.now.files }
     requires sound { IsSound walked.now }
     requires apart { AreApart pile.old.items }
-    requires read { (start : Calls) × HasRead (S.tree tree.old) walked.now piece.now.paths start (S.calls tree.old) at pile.old.items }
+    requires read { (start : Calls) × HasRead (S.tree tree.old) walked.now piece.now.paths start (S.calls tree.old) at (AreKept pile.old.items batch) }
     ensures tree_stays { S.tree tree.new ≡ S.tree tree.old }
     ensures weak_stays { S.may_fail tree.new ≡ S.may_fail tree.old }
     ensures count { StepCounts (S.faults tree.old) (S.faults tree.new) result }
     ensures apart { OnOk result (AreApart pile.new.items) }
     ensures end { IfErr result IsReadEnd }
-    ensures step { ReadsAt (S.tree tree.old) walked.now piece.now.paths at (S.may_fail tree.old) (S.calls tree.old) (S.calls tree.new) pile.old.items pile.new.items result }
+    ensures step { ReadsAt (S.tree tree.old) walked.now piece.now.paths at (S.may_fail tree.old) (S.calls tree.old) (S.calls tree.new) (AreKept pile.old.items batch) (AreKept pile.new.items) result }
 {
     let name = walked.file_at(at);
     if piece.covers(name) {
-        return Ok(());
+        return Ok(batch);
     }
-    let next = match read_next(alloc, tree, walked, name) {
-        Ok(next) => next,
+    let file = match read_next(alloc, tree, walked, name) {
+        Ok(file) => file,
         Err(answer) => return Err(answer),
     };
-    match add_piece(pile, next) {
-        Ok(()) => Ok(()),
+    match keep_file(alloc, pile, batch, name, &file) {
+        Ok(batch) => Ok(batch),
         Err(_) => Err(WalkAnswer::Memory),
     }
 }
@@ -103,11 +109,11 @@ fn read_next<S: Tree>(
     tree: &mut S,
     walked: &Walked,
     name: &str,
-) -> Result<Piece, WalkAnswer>
+) -> Result<FileBytes, WalkAnswer>
     ensures tree_stays { S.tree tree.new ≡ S.tree tree.old }
     ensures weak_stays { S.may_fail tree.new ≡ S.may_fail tree.old }
     ensures count { StepCounts (S.faults tree.old) (S.faults tree.new) result }
-    ensures file { IfOk result (IsNextFile (S.tree tree.old) walked.now.root name.now) }
+    ensures file { IfOk result (λ file. IfSome (S.tree tree.old) (λ t. IsFileAt t walked.now.root (read_file name.now file))) }
     ensures end { IfErr result IsReadEnd }
     ensures told { IfSome (S.tree tree.old) (ReadsNext walked.now.root name.now (S.may_fail tree.old) (S.calls tree.old) (S.calls tree.new) result) }
 {
@@ -115,13 +121,42 @@ fn read_next<S: Tree>(
         return Err(WalkAnswer::Memory);
     };
     match tree.read(alloc, path.as_str()) {
-        Ok(file) => match piece_of(alloc, name, &file) {
-            Ok(piece) => Ok(piece),
-            Err(_) => Err(WalkAnswer::Memory),
-        },
+        Ok(file) => Ok(file),
         Err(TreeError::Memory) => Err(WalkAnswer::Memory),
         Err(TreeError::Failed) => Err(WalkAnswer::ReadFault(path)),
     }
+}
+
+// Puts a file into the batch, or where that takes no more, the batch on the pile and the file into a new one.
+fn keep_file(
+    alloc: Global,
+    pile: &mut Vec<Piece>,
+    batch: Batch,
+    name: &str,
+    file: &FileBytes,
+) -> Result<Batch, AllocError>
+    requires apart { AreApart pile.old.items }
+    requires kept { (files : List File) × AreKept pile.old.items batch files × AreDistinct files }
+    ensures apart { OnOk result (AreApart pile.new.items) }
+    ensures kept { IfOk result (λ b. (files : List File) → AreKept pile.old.items batch files → AreKept pile.new.items b (files ++ read_file name.now file.now ∷ [])) }
+{
+    if batch.takes(name, file.bytes.len()) {
+        return batch.add(name, file);
+    }
+    put_batch(pile, batch)?;
+    Batch::new(alloc).add(name, file)
+}
+
+// Puts the piece of a batch on the pile.
+fn put_batch(pile: &mut Vec<Piece>, batch: Batch) -> Result<(), AllocError>
+    requires apart { AreApart pile.old.items }
+    requires kept { (files : List File) × AreKept pile.old.items batch files × AreDistinct files }
+    ensures apart { OnOk result (AreApart pile.new.items) }
+    ensures index { OnOk result ((files : List File) → AreKept pile.old.items batch files → IsPileOf pile.new.items files) }
+{
+    let piece = batch.into_piece()?;
+    add_piece(pile, piece)?;
+    Ok(())
 }
 
 // Puts a piece on the pile, and merges those on top that are of like size.

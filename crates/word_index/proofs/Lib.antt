@@ -1,5 +1,5 @@
 pub mod Runs
-pub mod Tally
+pub mod Counting
 pub mod Lower
 pub mod Begins
 pub mod Parts
@@ -14,8 +14,10 @@ pub mod Sides
 pub mod Tables
 pub mod Views
 pub mod Indexes
-pub mod OneFile
+pub mod Images
 pub mod WordLists
+pub mod Chains
+pub mod Batches
 pub mod Searches
 pub mod Rowed
 pub mod Unique

@@ -18,11 +18,11 @@ not_below x y same less =
     cc
 
 -- the element where it is found, at the default that the lists here use
-found : (xs : List (List ℕ)) (p : List ℕ) → (h : Contains xs p) → get_or xs h.0 [] ≡ p
+pub found : (xs : List (List ℕ)) (p : List ℕ) → (h : Contains xs p) → get_or xs h.0 [] ≡ p
 found xs p h = get_or_default xs h.0 [] p h.1 ∙ h.2
 
 -- elements of a rising list before and behind a place
-before_place : (xs : List (List ℕ)) → IsRising xs → (k m : ℕ) (p : List ℕ) → k < m + 1 → m < length xs → IsBelow (get_or xs m []) p → IsBelow (get_or xs k []) p
+pub before_place : (xs : List (List ℕ)) → IsRising xs → (k m : ℕ) (p : List ℕ) → k < m + 1 → m < length xs → IsBelow (get_or xs m []) p → IsBelow (get_or xs k []) p
 before_place xs rise k m p near within less = ⊎_elim
     (λ (lt : k < m). below_trans (get_or xs k []) (get_or xs m []) p (rise k m [] lt within) less)
     (λ (ge : m ≤ k). let same : m ≡ k = omega arith in subst (λ n. IsBelow (get_or xs n []) p) same less)

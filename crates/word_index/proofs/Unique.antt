@@ -6,7 +6,7 @@ use Rattle.std.proofs.lemmas.List.{length-map, get_or-map, get_or_default}
 use Rattle.std.proofs.lemmas.List.Elements.{Contains-append_cases, Contains-append_left, Contains-append_right}
 use Rattle.word_index.specs.Index.{File, Hit, Row, Index, Entry, IsBelow, IsRising, IsOrdered, IsIndexOf, entry_of, row_entries, entries}
 use Rattle.word_index.proofs.Below.{below_trans}
-use Rattle.word_index.proofs.OneFile.{to_map, from_map}
+use Rattle.word_index.proofs.Images.{to_map, from_map}
 use Rattle.word_index.proofs.Searches.{not_below}
 
 -- a list in a strict order
@@ -76,21 +76,21 @@ abbrev IsRowBelow : Row → Row → Type 0
 IsRowBelow r s = IsBelow r.word s.word
 
 -- an entry stands in a row
-record IsIn (rows : List Row) (e : Entry) : Type 0 where
-  row : Row
-  hit : Hit
-  among : Contains rows row
-  has : Contains row.hits hit
-  is : entry_of row.word hit ≡ e
+pub record IsIn (rows : List Row) (e : Entry) : Type 0 where
+  pub row : Row
+  pub hit : Hit
+  pub among : Contains rows row
+  pub has : Contains row.hits hit
+  pub is : entry_of row.word hit ≡ e
 
-in_rows : (rows : List Row) (e : Entry) → Contains (flat_map row_entries rows) e → IsIn rows e
+pub in_rows : (rows : List Row) (e : Entry) → Contains (flat_map row_entries rows) e → IsIn rows e
 in_rows [] e h = absurd (omega (arith, h.1))
 in_rows (r ∷ rows) e h = ⊎_elim
     (λ k. let o = from_map (entry_of r.word) r.hits e k in record { row = r; hit = o.0; among = (0, omega arith, refl); has = o.1; is = o.2 })
     (λ k. let o = in_rows rows e k in record { row = o.row; hit = o.hit; among = (suc o.among.0, omega (arith, o.among.1), o.among.2); has = o.has; is = o.is })
     (Contains-append_cases (row_entries r) (flat_map row_entries rows) e h)
 
-from_rows : (rows : List Row) (r : Row) (h : Hit) → Contains rows r → Contains r.hits h → Contains (flat_map row_entries rows) (entry_of r.word h)
+pub from_rows : (rows : List Row) (r : Row) (h : Hit) → Contains rows r → Contains r.hits h → Contains (flat_map row_entries rows) (entry_of r.word h)
 from_rows [] r h k has = absurd (omega (arith, k.1))
 from_rows (q ∷ rows) r h k has = ⊎_elim
     (λ (e : q ≡ r). Contains-append_left (row_entries q) (flat_map row_entries rows) (entry_of r.word h) (subst (λ (s : Row). Contains (row_entries s) (entry_of r.word h)) (sym e) (to_map (entry_of r.word) r.hits h has)))

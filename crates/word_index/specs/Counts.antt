@@ -1,10 +1,11 @@
 -- How often a word is among pairs of a word and a line, and its least line.
 use Rattle.std.specs.Prelude.{◌≡◌, ℕ, ◌+◌, ◌≤◌, List, [], ◌∷◌, length, map, filter, min, fold, Option, Some, None}
 use Rattle.std.specs.Str.{bytes_eq}
-use Rattle.std.specs.Borrow.{Bor}
-use Rattle.std.specs.Map.{update}
-use Rattle.indexmap.specs.IndexMap.{IndexMap, get_by}
-use Rattle.word_index.specs.declared.count.Seen.{Seen}
+
+-- how often a word was seen, and the least line on which it was
+pub record Seen : Type 0 where
+  pub count : ℕ
+  pub line : ℕ
 
 -- the lines on which the word stands
 abbrev pub lines_of : List ℕ → List (List ℕ × ℕ) → List ℕ
@@ -23,12 +24,3 @@ seen_in w pairs = seen_of (lines_of w pairs)
 abbrev pub one_more : Option Seen → ℕ → Seen
 one_more None line = record { count = 1; line = line }
 one_more (Some s) line = record { count = s.count + 1; line = min s.line line }
-
-module _ {S : Type 0} where
-  -- what the map has at the word
-  abbrev pub seen_at : IndexMap (Bor (List ℕ)) Seen S → List ℕ → Option Seen
-  seen_at m w = get_by (λ k. bytes_eq w k.now) m
-
-  -- new counts the word once more than old, and each other as often
-  abbrev pub AddsOne : IndexMap (Bor (List ℕ)) Seen S → IndexMap (Bor (List ℕ)) Seen S → List ℕ → ℕ → Type 0
-  AddsOne old new w line = (v : List ℕ) → seen_at new v ≡ update bytes_eq (seen_at old) w (Some (one_more (seen_at old w) line)) v

@@ -7,5 +7,6 @@ pub mod Read
 pub mod Numbered
 pub mod Merged
 pub mod Table
-pub mod Counted
+pub mod Links
+pub mod Batch
 pub mod Places

@@ -1,6 +1,8 @@
 // Lists that lie one behind the other in one block.
-ghost use Rattle.std.specs.Prelude.{◌≡◌, ◌<◌, ◌≤◌, ℕ, [], ◌∷◌, length, slice_index, slice_index_or};
+ghost use Rattle.std.specs.Prelude.{◌≡◌, ◌<◌, ◌≤◌, ◌++◌, ℕ, [], ◌∷◌, length, take, OnOk, OnErr, slice_index, slice_index_or};
 ghost use Rattle.word_index.specs.Blocks.{parts, AreEnds};
+
+use std::alloc::AllocError;
 
 // Where the part begins that has this number.
 #[inline(always)]
@@ -23,4 +25,25 @@ pub fn part_of<'a, T>(block: &'a [T], ends: &[usize], at: usize) -> &'a [T]
     let inside = start <= end && end <= block.len();
     prove!(inside);
     &block[start..end]
+}
+
+/// Ends a part that was filled from start on, or takes it back.
+pub fn end_part<T: Drop>(
+    block: &mut Vec<T>,
+    ends: &mut Vec<usize>,
+    start: usize,
+) -> Result<(), AllocError>
+    ensures same { OnOk result (block.new.items ≡ block.old.items) }
+    ensures ended { OnOk result (ends.new.items ≡ ends.old.items ++ length block.old.items ∷ []) }
+    ensures back { OnErr result (block.new.items ≡ take start block.old.items) }
+    ensures none { OnErr result (ends.new.items ≡ ends.old.items) }
+{
+    let end = block.len();
+    match ends.push(end) {
+        Ok(()) => Ok(()),
+        Err(_) => {
+            block.truncate(start);
+            Err(AllocError)
+        }
+    }
 }

@@ -1,75 +1,96 @@
-// How often a file has each word, and where first.
-ghost use Rattle.std.specs.Prelude.{◌≡◌, ℕ, ◌+◌, ◌<◌, ◌≤◌, ◌^◌, List, length, take, map, Some, None, IfOk, OnOk, IfSome};
+// How often files have each word, and where first.
+ghost use Rattle.std.specs.Prelude.{◌≡◌, ℕ, ◌+◌, ◌<◌, ◌≤◌, ◌^◌, ◌++◌, List, [], length, take, map, drop, if◌then◌else◌, Some, None, IfOk, OnOk, IfSome};
+ghost use Rattle.std.specs.List.{All};
 ghost use Rattle.std.specs.Str.{bytes_eq};
 ghost use Rattle.word_index.specs.Words.{lower, short_runs};
-ghost use Rattle.word_index.specs.Counts.{seen_at, seen_in, one_more, AddsOne};
+ghost use Rattle.word_index.specs.Counts.{seen_in};
+ghost use Rattle.word_index.specs.Links.{link_at, HoldPlaces, AreAbove, bumped, seen_place, places_from};
+ghost use Rattle.word_index.specs.Batch.{IsShort};
+ghost use Rattle.word_index.specs.declared.rows.Place.{Place};
 
+use crate::joining::number_of;
+use crate::links::{Link, next_link};
+use crate::rows::Place;
+use crate::strings::Strings;
 use crate::words::next_run;
 use indexmap::IndexMap;
-use std::alloc::{AllocError, Global};
+use std::alloc::AllocError;
 
 // A longer run is no word.
 const LONGEST_WORD: usize = 64;
 
-/// How often a word was seen, and the least line on which it was.
-#[derive(Clone, Copy)]
-pub struct Seen {
-    pub count: u32,
-    pub line: u32,
-}
+/// The words of files, each with the link of its place in the file that was counted last.
+pub type Words<'a> = IndexMap<&'a [u8], Link>;
 
-pub type Counts<'a> = IndexMap<&'a [u8], Seen>;
-
-fn lower_byte(b: u8) -> u8
-    ensures { result ≡ lower b }
+// Counts one occurrence in the file of this number. Where memory fails, nothing is said of the counts.
+fn add<'a>(
+    words: &mut Words<'a>,
+    links: &mut Vec<Link>,
+    word: &'a [u8],
+    path: u32,
+    line: u32,
+) -> Result<(), AllocError>
+    requires { IfSome (link_at words.old word.now) (λ l. l.place.path ≡ path → l.place.count + 1 < 2 ^ 32) }
+    ensures { OnOk result ((f : List ℕ → List Place) → HoldPlaces words.old links.old.items f
+        → HoldPlaces words.new links.new.items (λ w. if bytes_eq word.now w then bumped path line (f word.now) else f w)) }
 {
-    if b >= 65 && b <= 90 { b + 32 } else { b }
-}
-
-/// The bytes with their letters in lower case.
-pub fn lower_copy(alloc: Global, bytes: &[u8]) -> Result<Vec<u8>, AllocError>
-    ensures { IfOk result (λ low. low.items ≡ map lower bytes.now) }
-{
-    bytes.iter().map(|b| lower_byte(*b)).collect(alloc)
-}
-
-// Counts one occurrence. Where memory fails, nothing is said of the counts.
-fn add<'a>(counts: &mut Counts<'a>, word: &'a [u8], line: u32) -> Result<(), AllocError>
-    requires { IfSome (seen_at counts.old word.now) (λ s. s.count + 1 < 2 ^ 32) }
-    ensures { OnOk result (AddsOne counts.old counts.new word.now line) }
-{
-    match counts.get_mut(&word) {
-        Some(seen) => {
-            seen.count += 1;
-            seen.line = seen.line.min(line);
+    match words.get_mut(&word) {
+        Some(last) => {
+            let next = next_link(*last, links, path, line)?;
+            *last = next;
         }
         None => {
-            counts.insert(word, Seen { count: 1, line })?;
+            let place = Place {
+                path,
+                count: 1,
+                line,
+            };
+            words.insert(word, Link { place, earlier: 0 })?;
         }
     }
     Ok(())
 }
 
-// Room for the words of a file of so many bytes, to begin with. A map that grows puts all its words to new places.
-fn first_room(bytes: usize) -> usize {
-    (bytes / 8).min(256)
-}
-
-/// Counts the words of a file in lower case.
-pub fn count_words<'a>(alloc: Global, low: &'a [u8]) -> Result<Counts<'a>, AllocError>
-    requires { length low.now + 1 < 2 ^ 32 }
-    ensures { IfOk result (λ counts. (w : List ℕ) → seen_at counts w ≡ seen_in w (short_runs low.now)) }
+// Counts the words of a file in lower case, which has this number. The files counted before have higher ones.
+fn count_file<'a>(
+    words: &mut Words<'a>,
+    links: &mut Vec<Link>,
+    low: &'a [u8],
+    path: u32,
+) -> Result<(), AllocError>
+    requires short { IsShort low.now }
+    requires held { (f : List ℕ → List Place) × HoldPlaces words.old links.old.items f × AreAbove path f }
+    ensures { OnOk result ((f : List ℕ → List Place) → HoldPlaces words.old links.old.items f → AreAbove path f
+        → HoldPlaces words.new links.new.items (λ w. seen_place path (seen_in w (short_runs low.now)) ++ f w)) }
 {
-    let mut counts = IndexMap::with_capacity(alloc, first_room(low.len()))?;
     let mut at = 0;
     let mut line = 1;
     while let Some(run) = next_run(low, at, line) {
         let word = &low[run.start..run.end];
         if word.len() <= LONGEST_WORD {
-            add(&mut counts, word, run.line)?;
+            add(words, links, word, path, run.line)?;
         }
         at = run.end;
         line = run.line;
     }
-    Ok(counts)
+    Ok(())
+}
+
+/// Counts the words of files in lower case, which are numbered in their order.
+pub fn count_files<'a>(
+    words: &mut Words<'a>,
+    links: &mut Vec<Link>,
+    lows: &'a Strings,
+) -> Result<(), AllocError>
+    requires empty { HoldPlaces words.old links.old.items (λ _. []) }
+    requires short { All IsShort lows.now }
+    ensures { OnOk result (HoldPlaces words.new links.new.items (λ w. places_from w 0 lows.now)) }
+{
+    let mut at = lows.len();
+    while at > 0 {
+        at -= 1;
+        let path = number_of(at)?;
+        count_file(words, links, lows.get(at), path)?;
+    }
+    Ok(())
 }

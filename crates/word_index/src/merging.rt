@@ -9,15 +9,9 @@ use crate::Piece;
 use crate::joining::{Union, join_texts, order_at};
 use crate::rows::Rows;
 use crate::strings::Strings;
+use crate::table::Table;
 use std::alloc::AllocError;
 use std::cmp::Ordering;
-
-// Words with their places.
-#[derive(Drop)]
-struct Table {
-    words: Strings,
-    places: Rows,
-}
 
 // The words of both, each with its places in both, under the numbers of the union of the paths.
 fn join_tables(a: &Piece, b: &Piece, paths: &Union) -> Result<Table, AllocError>

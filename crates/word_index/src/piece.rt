@@ -21,11 +21,11 @@ pub struct Found<'a> {
 /// The index of some files.
 #[derive(Drop)]
 pub struct Piece {
-    pub alloc: Global,
-    pub paths: Strings,
-    pub skipped: Strings,
-    pub words: Strings,
-    pub places: Rows,
+    pub(crate) alloc: Global,
+    pub(crate) paths: Strings,
+    pub(crate) skipped: Strings,
+    pub(crate) words: Strings,
+    pub(crate) places: Rows,
 }
 
 impl Model for Piece {

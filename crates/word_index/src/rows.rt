@@ -4,8 +4,10 @@ ghost use Rattle.std.specs.Bool.{OnTrue, OnFalse};
 ghost use Rattle.std.specs.List.{All, AllPairs, flat_map};
 ghost use Rattle.word_index.specs.Numbered.{moved, AreApart};
 ghost use Rattle.word_index.specs.Merged.{IsPathBelow, AddsMerged, PushesMerged, nowhere};
+ghost use Rattle.word_index.specs.Links.{IsLinked, PushesLinked};
 
-use crate::blocks::part_of;
+use crate::blocks::{end_part, part_of};
+use crate::links::{Link, add_linked};
 use std::alloc::{AllocError, Global};
 use std::marker::Model;
 
@@ -87,23 +89,6 @@ fn add_merged(
     Ok(())
 }
 
-// Ends a row that was filled from start on, or takes it back.
-fn end_row(places: &mut Vec<Place>, ends: &mut Vec<usize>, start: usize) -> Result<(), AllocError>
-    ensures same { OnOk result (places.new.items ≡ places.old.items) }
-    ensures ended { OnOk result (ends.new.items ≡ ends.old.items ++ length places.old.items ∷ []) }
-    ensures back { OnErr result (places.new.items ≡ take start places.old.items) }
-    ensures none { OnErr result (ends.new.items ≡ ends.old.items) }
-{
-    let end = places.len();
-    match ends.push(end) {
-        Ok(()) => Ok(()),
-        Err(_) => {
-            places.truncate(start);
-            Err(AllocError)
-        }
-    }
-}
-
 /// The places of one word behind those of the other.
 #[derive(Drop)]
 pub struct Rows {
@@ -158,15 +143,6 @@ impl Rows {
         part_of(&self.places, &self.ends, at)
     }
 
-    /// Adds a row of one place.
-    pub fn push_one(&mut self, place: Place) -> Result<(), AllocError>
-        ensures { OnOk result (self.new ≡ self.old ++ (place ∷ []) ∷ []) }
-    {
-        let start = self.places.len();
-        self.places.push(place)?;
-        end_row(&mut self.places, &mut self.ends, start)
-    }
-
     /// Adds a row under new numbers.
     pub fn push_moved(&mut self, row: &[Place], numbers: &[u32]) -> Result<(), AllocError>
         requires { All (λ p. p.path < length numbers.now) row.now }
@@ -180,7 +156,7 @@ impl Rows {
                 return Err(fault);
             }
         }
-        end_row(&mut self.places, &mut self.ends, start)
+        end_part(&mut self.places, &mut self.ends, start)
     }
 
     /// Adds the row of the places of two rows under new numbers.
@@ -206,7 +182,23 @@ impl Rows {
                 return Err(fault);
             }
         }
-        end_row(&mut self.places, &mut self.ends, start)
+        end_part(&mut self.places, &mut self.ends, start)
+    }
+
+    /// Adds a row of the place of a link and those before it.
+    pub fn push_linked(&mut self, last: Link, links: &[Link]) -> Result<(), AllocError>
+        requires { (ps : List Place) × IsLinked links.now last ps }
+        ensures { OnOk result (PushesLinked links.now last self.old self.new) }
+    {
+        let start = self.places.len();
+        match add_linked(&mut self.places, last, links) {
+            Ok(()) => {}
+            Err(fault) => {
+                self.places.truncate(start);
+                return Err(fault);
+            }
+        }
+        end_part(&mut self.places, &mut self.ends, start)
     }
 
     /// The number of places of all words.

@@ -1,9 +1,27 @@
 // Byte strings in one block of memory.
-ghost use Rattle.std.specs.Prelude.{◌≡◌, ◌+◌, ◌<◌, ◌≤◌, ℕ, List, [], ◌∷◌, ◌++◌, length, IfOk, OnOk, slice_index, slice_index_or};
+ghost use Rattle.std.specs.Prelude.{◌≡◌, ◌+◌, ◌<◌, ◌≤◌, ℕ, List, [], ◌∷◌, ◌++◌, length, map, take, IfOk, OnOk, slice_index, slice_index_or};
+ghost use Rattle.word_index.specs.Words.{lower};
 
-use crate::blocks::part_of;
+use crate::blocks::{end_part, part_of};
 use std::alloc::{AllocError, Global};
 use std::marker::Model;
+
+fn lower_byte(b: u8) -> u8
+    ensures { result ≡ lower b }
+{
+    if b >= 65 && b <= 90 { b + 32 } else { b }
+}
+
+// Adds the bytes with their letters in lower case.
+fn add_lower(text: &mut Vec<u8>, s: &[u8]) -> Result<(), AllocError>
+    ensures ok { OnOk result (text.new.items ≡ text.old.items ++ map lower s.now) }
+    ensures kept { take (length text.old.items) text.new.items ≡ text.old.items }
+{
+    for b in s {
+        text.push(lower_byte(*b))?;
+    }
+    Ok(())
+}
 
 /// Byte strings one behind the other.
 #[derive(Drop)]
@@ -77,5 +95,20 @@ impl Strings {
                 Err(AllocError)
             }
         }
+    }
+
+    /// Adds the string with its letters in lower case.
+    pub fn push_lower(&mut self, s: &[u8]) -> Result<(), AllocError>
+        ensures { OnOk result (self.new ≡ self.old ++ map lower s.now ∷ []) }
+    {
+        let start = self.text.len();
+        match add_lower(&mut self.text, s) {
+            Ok(()) => {}
+            Err(fault) => {
+                self.text.truncate(start);
+                return Err(fault);
+            }
+        }
+        end_part(&mut self.text, &mut self.ends, start)
     }
 }

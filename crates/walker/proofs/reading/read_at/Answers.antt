@@ -1,28 +1,29 @@
-use Rattle.std.proofs.Common.{◌≡◌, ◌∙◌, sym, true, false}
+use Rattle.std.proofs.Common.{◌≡◌, ◌∙◌, sym, refl, true, false}
 use Rattle.walker.specs.declared.answer.WalkAnswer.TheVariants.{Memory}
-use Rattle.walker.proofs.ReadLemmas.{HasRead-covered, HasRead-next, stops_next, apart_next, read_lost}
+use Rattle.word_index.specs.Read.{read_file}
+use Rattle.walker.specs.Pile.{AreKept}
+use Rattle.walker.proofs.ReadLemmas.{HasRead-covered, HasRead-next, stops_next, read_lost}
 use Rattle.walker.proofs.reading.read_at.Goals as goal
 
 pub returns-then-covers-clause-step : goal.returns-then-covers-clause-step
-returns-then-covers-clause-step g c = λ start h. HasRead-covered (g.S.Tree.tree c.args.tree.now) c.args.walked.now c.args.piece.now.paths start (g.S.Tree.calls c.args.tree.now) c.args.at c.args.pile.now.items
+returns-then-covers-clause-step g c = λ start h. HasRead-covered (g.S.Tree.tree c.args.tree.now) c.args.walked.now c.args.piece.now.paths start (g.S.Tree.calls c.args.tree.now) c.args.at (AreKept c.args.pile.now.items c.args.batch)
     c.file_at-name.result.now c.file_at-name.ensures (c.covers.ensures.0 c.if-covers.true) h
 
 pub returns-in-Err-clause-step : goal.returns-in-Err-clause-step
-returns-in-Err-clause-step g c = λ start h. stops_next (g.S.Tree.tree c.args.tree.now) c.args.walked.now c.args.piece.now.paths start (g.S.Tree.calls c.args.tree.now) c.args.at c.args.pile.now.items
+returns-in-Err-clause-step g c = λ start h. stops_next (g.S.Tree.tree c.args.tree.now) c.args.walked.now c.args.piece.now.paths start (g.S.Tree.calls c.args.tree.now) c.args.at (AreKept c.args.pile.now.items c.args.batch)
     c.file_at-name.result.now c.requires.sound c.file_at-name.ensures (λ k. let bad : true ≡ false = sym (c.covers.ensures.1 k) ∙ c.if-covers.false in cc) h
     c.in-Err.answer (g.S.Tree.may_fail c.args.tree.now) (g.S.Tree.calls c.read_next.new.tree) c.in-Err.ensures.told
 
-pub add_piece-requires : goal.add_piece-requires
-add_piece-requires g c = apart_next (g.S.Tree.tree c.args.tree.now) c.args.walked.now c.args.piece.now.paths c.requires.read.0 (g.S.Tree.calls c.args.tree.now) c.args.at c.args.pile.now.items
-    c.file_at-name.result.now c.in-Ok.next c.requires.sound c.file_at-name.ensures c.requires.read.1 c.in-Ok.ensures.file c.requires.apart
+pub keep_file-requires-clause-kept : goal.keep_file-requires-clause-kept
+keep_file-requires-clause-kept g c = let h = c.requires.read.1 in (h.files, h.kept, h.once)
 
-pub returns-in-Ok-add_piece-clause-step : goal.returns-in-Ok-add_piece-clause-step
-returns-in-Ok-add_piece-clause-step g c = λ start h. HasRead-next (g.S.Tree.tree c.args.tree.now) c.args.walked.now c.args.piece.now.paths start (g.S.Tree.calls c.args.tree.now) c.args.at c.args.pile.now.items
+pub returns-in-Ok-keep_file-clause-step : goal.returns-in-Ok-keep_file-clause-step
+returns-in-Ok-keep_file-clause-step g c = λ start h. HasRead-next (g.S.Tree.tree c.args.tree.now) c.args.walked.now c.args.piece.now.paths start (g.S.Tree.calls c.args.tree.now) c.args.at (AreKept c.args.pile.now.items c.args.batch)
     c.file_at-name.result.now c.requires.sound c.file_at-name.ensures (λ k. let bad : true ≡ false = sym (c.covers.ensures.1 k) ∙ c.if-covers.false in cc) h
-    (g.S.Tree.calls c.read_next.new.tree) c.add_piece.new.pile.items c.in-Ok.next c.in-Ok.ensures.file c.in-Ok-add_piece.ensures.index c.in-Ok.ensures.told
+    (g.S.Tree.calls c.read_next.new.tree) (AreKept c.keep_file.new.pile.items c.in-Ok-keep_file.batch) (read_file c.file_at-name.result.now c.in-Ok.file) refl c.in-Ok.ensures.file c.in-Ok-keep_file.ensures.kept c.in-Ok.ensures.told
 
-pub returns-in-Err-add_piece-clause-step : goal.returns-in-Err-add_piece-clause-step
-returns-in-Err-add_piece-clause-step g c = λ start h. stops_next (g.S.Tree.tree c.args.tree.now) c.args.walked.now c.args.piece.now.paths start (g.S.Tree.calls c.args.tree.now) c.args.at c.args.pile.now.items
+pub returns-clause-step : goal.returns-clause-step
+returns-clause-step g c = λ start h. stops_next (g.S.Tree.tree c.args.tree.now) c.args.walked.now c.args.piece.now.paths start (g.S.Tree.calls c.args.tree.now) c.args.at (AreKept c.args.pile.now.items c.args.batch)
     c.file_at-name.result.now c.requires.sound c.file_at-name.ensures (λ k. let bad : true ≡ false = sym (c.covers.ensures.1 k) ∙ c.if-covers.false in cc) h
     Memory (g.S.Tree.may_fail c.args.tree.now) (g.S.Tree.calls c.read_next.new.tree)
-    (read_lost (g.S.Tree.tree c.args.tree.now) c.args.walked.now.root c.file_at-name.result.now (g.S.Tree.may_fail c.args.tree.now) (g.S.Tree.calls c.args.tree.now) (g.S.Tree.calls c.read_next.new.tree) c.in-Ok.next c.in-Ok.ensures.told)
+    (read_lost (g.S.Tree.tree c.args.tree.now) c.args.walked.now.root c.file_at-name.result.now (g.S.Tree.may_fail c.args.tree.now) (g.S.Tree.calls c.args.tree.now) (g.S.Tree.calls c.read_next.new.tree) c.in-Ok.file c.in-Ok.ensures.told)

@@ -1,9 +1,9 @@
-use Rattle.std.proofs.Common.{refl, sym, subst}
+use Rattle.std.proofs.Common.{◌≡◌, ℕ, length, refl, sym, subst, arith}
 use Rattle.std.specs.Prelude.{Err}
-use Rattle.walker.specs.Pile.{AreApart}
+use Rattle.walker.specs.Pile.{IsPileOf, AreApart, AreKept, HasRead}
 use Rattle.walker.proofs.ListLemmas.{AllPairs-nil}
 use Rattle.walker.proofs.PileLemmas.{NoMeet}
-use Rattle.walker.proofs.ReadLemmas.{HasRead-none, read_stopped, moved_read}
+use Rattle.walker.proofs.ReadLemmas.{HasRead-none, HasRead-kept, reads_lost, kept_none, read_stopped, moved_read}
 use Rattle.walker.proofs.reading.read_files.Goals as goal
 
 pub loop-at-init : goal.loop-at-init
@@ -12,11 +12,26 @@ loop-at-init g c = record {
   weak = refl;
   count = refl;
   apart = subst AreApart (sym c.requires.empty) (AllPairs-nil NoMeet);
-  read = HasRead-none (g.S.Tree.tree c.args.tree.now) c.args.walked.now c.args.piece.now.paths (g.S.Tree.calls c.args.tree.now) c.args.pile.now.items c.requires.empty;
+  read = HasRead-none (g.S.Tree.tree c.args.tree.now) c.args.walked.now c.args.piece.now.paths (g.S.Tree.calls c.args.tree.now) (AreKept c.args.pile.now.items c.new-batch.result) (kept_none c.args.pile.now.items c.new-batch.result c.requires.empty c.new-batch.ensures.none);
 }
 
 pub returns-in-Err-clause-read : goal.returns-in-Err-clause-read
 returns-in-Err-clause-read g c = read_stopped (g.S.Tree.tree c.args.tree.now) c.args.walked.now c.args.piece.now.paths c.loop-at.at (g.S.Tree.may_fail c.args.tree.now) (g.S.Tree.calls c.args.tree.now) (g.S.Tree.calls c.loop-at.tree) (g.S.Tree.calls c.read_at.new.tree)
-    c.loop-at.pile.items c.read_at.new.pile.items c.in-Err.answer c.requires.told c.loop-at.invariant.read
-    (moved_read {T = Unit {0}} (g.S.Tree.tree c.loop-at.tree) (g.S.Tree.tree c.args.tree.now) c.args.walked.now c.args.piece.now.paths c.loop-at.at (g.S.Tree.may_fail c.loop-at.tree) (g.S.Tree.may_fail c.args.tree.now) (g.S.Tree.calls c.loop-at.tree) (g.S.Tree.calls c.read_at.new.tree)
-    c.loop-at.pile.items c.read_at.new.pile.items (Err c.in-Err.answer) c.loop-at.invariant.tree c.loop-at.invariant.weak c.in-Err.ensures.step)
+    (AreKept c.loop-at.pile.items c.loop-at.batch) (AreKept c.read_at.new.pile.items) c.in-Err.answer c.requires.told c.loop-at.invariant.read
+    (moved_read (g.S.Tree.tree c.loop-at.tree) (g.S.Tree.tree c.args.tree.now) c.args.walked.now c.args.piece.now.paths c.loop-at.at (g.S.Tree.may_fail c.loop-at.tree) (g.S.Tree.may_fail c.args.tree.now) (g.S.Tree.calls c.loop-at.tree) (g.S.Tree.calls c.read_at.new.tree)
+    (AreKept c.loop-at.pile.items c.loop-at.batch) (AreKept c.read_at.new.pile.items) (Err c.in-Err.answer) c.loop-at.invariant.tree c.loop-at.invariant.weak c.in-Err.ensures.step)
+
+pub put_batch-requires-clause-kept : goal.put_batch-requires-clause-kept
+put_batch-requires-clause-kept g c = let h = c.loop-at.invariant.read in (h.files, h.kept, h.once)
+
+pub returns-in-Ok-put_batch-clause-read : goal.returns-in-Ok-put_batch-clause-read
+returns-in-Ok-put_batch-clause-read g c =
+    let end : c.loop-at.at ≡ length c.args.walked.now.files = omega (arith, c.loop-at.auto.at-end, c.loop-at-test.false, c.files_found-at-end.ensures.many) in
+    subst (λ (k : ℕ). HasRead (g.S.Tree.tree c.args.tree.now) c.args.walked.now c.args.piece.now.paths (g.S.Tree.calls c.args.tree.now) (g.S.Tree.calls c.loop-at.tree) k (IsPileOf c.put_batch.new.pile.items)) end
+    (HasRead-kept (g.S.Tree.tree c.args.tree.now) c.args.walked.now c.args.piece.now.paths (g.S.Tree.calls c.args.tree.now) (g.S.Tree.calls c.loop-at.tree) c.loop-at.at (AreKept c.loop-at.pile.items c.loop-at.batch) (IsPileOf c.put_batch.new.pile.items)
+    c.in-Ok-put_batch.ensures.index c.loop-at.invariant.read)
+
+pub returns-in-Err-put_batch-clause-read : goal.returns-in-Err-put_batch-clause-read
+returns-in-Err-put_batch-clause-read g c =
+    let end : c.loop-at.at ≡ length c.args.walked.now.files = omega (arith, c.loop-at.auto.at-end, c.loop-at-test.false, c.files_found-at-end.ensures.many) in
+    reads_lost (g.S.Tree.tree c.args.tree.now) c.args.walked.now c.args.piece.now.paths (g.S.Tree.may_fail c.args.tree.now) (g.S.Tree.calls c.args.tree.now) (g.S.Tree.calls c.loop-at.tree) c.loop-at.at (AreKept c.loop-at.pile.items c.loop-at.batch) end c.loop-at.invariant.read

@@ -1,5 +1,5 @@
 use Rattle.std.proofs.Common.{◌≡◌}
-use Rattle.walker.specs.Pile.{AreApart, HasRead}
+use Rattle.walker.specs.Pile.{AreApart, AreKept, HasRead}
 use Rattle.walker.proofs.reading.read_files.Given as goal
 
 abbrev pub invariant-loop-at : goal.invariant-loop-at
@@ -8,5 +8,5 @@ invariant-loop-at g l = record {
   weak : g.S.Tree.may_fail l.tree ≡ g.S.Tree.may_fail l.initial.tree;
   count : g.S.Tree.faults l.tree ≡ g.S.Tree.faults l.initial.tree;
   apart : AreApart l.pile.items;
-  read : HasRead (g.S.Tree.tree l.initial.tree) l.walked l.piece.paths (g.S.Tree.calls l.initial.tree) (g.S.Tree.calls l.tree) l.at l.pile.items;
+  read : HasRead (g.S.Tree.tree l.initial.tree) l.walked l.piece.paths (g.S.Tree.calls l.initial.tree) (g.S.Tree.calls l.tree) l.at (AreKept l.pile.items l.batch);
 }

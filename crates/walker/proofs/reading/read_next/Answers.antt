@@ -3,8 +3,8 @@ use Rattle.firefly_outside.specs.Trees.{child}
 use Rattle.walker.proofs.ReadLemmas.{told_read_fault}
 use Rattle.walker.proofs.reading.read_next.Goals as goal
 
-pub returns-clause-told : goal.returns-clause-told
-returns-clause-told g c =
+pub returns-in-Err-Failed-clause-told : goal.returns-in-Err-Failed-clause-told
+returns-in-Err-Failed-clause-told g c =
     let path : c.in-Ok.path ≡ child c.args.walked.now.root c.args.name.now = c.in-Ok.ensures ∙ ap (λ r. child r c.args.name.now) c.root.ensures in
     told_read_fault (g.S.Tree.tree c.args.tree.now) (g.S.Tree.may_fail c.args.tree.now) c.args.walked.now.root c.args.name.now c.in-Ok.path c.as_str.result.now (g.S.Tree.calls c.args.tree.now) (g.S.Tree.calls c.read.new.self)
     (c.as_str.ensures ∙ path) path (rw c.in-Err-Failed.field-0-is at c.in-Err-Failed.ensures.told)

@@ -1,0 +1,73 @@
+// Words with their places.
+ghost use Rattle.std.specs.Prelude.{◌≡◌, ◌<◌, ℕ, List, map, length, IfOk};
+ghost use Rattle.std.specs.List.{All};
+ghost use Rattle.std.specs.Str.{bytes_eq};
+ghost use Rattle.indexmap.specs.IndexMap.{keys};
+ghost use Rattle.word_index.specs.Links.{HoldPlaces};
+ghost use Rattle.word_index.specs.Batch.{IsShort, IsTableOf};
+ghost use Rattle.word_index.specs.declared.rows.Place.{Place};
+
+use crate::count::{Words, count_files};
+use crate::links::Link;
+use crate::rows::Rows;
+use crate::strings::Strings;
+use std::alloc::{AllocError, Global};
+
+/// Words with their places.
+#[derive(Drop)]
+pub struct Table {
+    pub words: Strings,
+    pub places: Rows,
+}
+
+// Room for the words of files of so many bytes, to begin with. A map that grows puts all its words to new places.
+fn first_room(bytes: usize) -> usize {
+    (bytes / 16).min(4096)
+}
+
+// The bytes of all words.
+fn word_bytes(words: &Words<'_>) -> usize {
+    let mut bytes = 0usize;
+    for at in 0..words.len() {
+        if let Some((word, _)) = words.get_index(at) {
+            bytes = bytes.saturating_add(word.len());
+        }
+    }
+    bytes
+}
+
+// The words in their order in the map, each with its places.
+fn listed(alloc: Global, words: &Words<'_>, links: &[Link]) -> Result<Table, AllocError>
+    requires { (f : List ℕ → List Place) × HoldPlaces words.now links.now f }
+    ensures words { IfOk result (λ t. t.words ≡ map (λ k. k.now) (keys words.now)) }
+    ensures places { IfOk result (λ t. (f : List ℕ → List Place) → HoldPlaces words.now links.now f → t.places ≡ map f t.words) }
+{
+    let many = words.len();
+    let mut texts = Strings::with_room(alloc, word_bytes(words), many)?;
+    let mut places = Rows::with_room(alloc, links.len().saturating_add(many), many)?;
+    for at in 0..many {
+        match words.get_index(at) {
+            Some((word, last)) => {
+                texts.push(word)?;
+                places.push_linked(*last, links)?;
+            }
+            None => unreachable!(),
+        }
+    }
+    Ok(Table {
+        words: texts,
+        places,
+    })
+}
+
+/// The words of files in lower case, each with its places, under the numbers of the files.
+pub fn table_of(alloc: Global, lows: &Strings) -> Result<Table, AllocError>
+    requires { All IsShort lows.now }
+    ensures { IfOk result (λ t. IsTableOf lows.now t.words t.places) }
+{
+    let mut words = Words::with_capacity(alloc, first_room(lows.bytes()))?;
+    let mut links = Vec::new(alloc);
+    count_files(&mut words, &mut links, lows)?;
+    words.sort_unstable_keys()?;
+    listed(alloc, &words, &links)
+}
