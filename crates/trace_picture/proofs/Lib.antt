@@ -1,0 +1,4 @@
+pub mod Added
+pub mod Bars
+pub mod Drawing
+pub mod Exact

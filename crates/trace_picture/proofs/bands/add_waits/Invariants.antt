@@ -1,0 +1,11 @@
+use Rattle.std.proofs.Common.{◌≡◌, ◌+◌, ◌*◌, ◌≤◌, ◌++◌, take, false}
+use Rattle.trace_picture.specs.History.{entry_of}
+use Rattle.trace_picture.specs.Shapes.{each_below, row_text}
+use Rattle.trace_picture.specs.Bands.{bar_if, wait_if}
+use Rattle.trace_picture.proofs.bands.add_waits.Given as goal
+
+abbrev pub invariant-loop-t : goal.invariant-loop-t
+invariant-loop-t l = record {
+  text : take l.last l.buf ≡ take l.at l.initial.buf ++ each_below (λ t. wait_if l.start false l.to (entry_of l.waits t)) l.t;
+  near : l.last ≤ l.at + 350 * l.t;
+}

@@ -1,0 +1,49 @@
+-- Where things stand in the picture: a hundred events a band, a row a thread, in points from the upper left.
+use Rattle.std.specs.Prelude.{ℕ, ◌+◌, ◌-◌, ◌*◌, ◌/◌, ◌%◌, ◌==◌, ◌&&◌, not, nat_lt, nat_le, Bool, min, max}
+use Rattle.larch_actions.specs.declared.event.Layout.{Layout}
+use Rattle.trace_picture.specs.declared.history.Origin.{Origin}
+use Rattle.trace_picture.specs.declared.view.View.{View}
+
+-- the event at place n is drawn
+abbrev pub in_view : View → ℕ → Bool
+in_view v n = nat_le v.first n && nat_lt n v.end
+
+-- how many of the first n events are drawn
+abbrev pub shown : View → ℕ → ℕ
+shown v n = min n v.end - v.first
+
+-- the column of the event in its band
+abbrev pub column : View → ℕ → ℕ
+column v n = (n - v.first) % 100
+
+-- after n events the last band has room for more
+abbrev pub is_open : View → ℕ → Bool
+is_open v n = nat_lt n v.end && not ((n - v.first) % 100 == 0)
+
+-- how many bands the first n events take
+abbrev pub bands : View → ℕ → ℕ
+bands v n = (shown v n + 99) / 100
+
+-- how high a band is
+abbrev pub band_height : Layout → ℕ
+band_height l = 24 * l.threads + 30
+
+-- the upper edge of the band at this number
+abbrev pub band_top : Layout → ℕ → ℕ
+band_top l k = 100 + k * band_height l
+
+-- how high the picture of n events is, but for its last line
+abbrev pub height_of : Layout → View → ℕ → ℕ
+height_of l v n = band_top l (bands v n)
+
+-- the left edge of a column
+abbrev pub column_x : ℕ → ℕ
+column_x c = 44 + 12 * c
+
+-- the upper edge of the row of a thread, in its band
+abbrev pub row_y : ℕ → ℕ
+row_y t = 18 + 24 * t
+
+-- the first column of a bar in the band that begins at the event `start`, where the bar ends before the event `to`
+abbrev pub bar_from : ℕ → Origin → ℕ → ℕ
+bar_from start o to = min (max o.place start) to

@@ -1,0 +1,101 @@
+-- The texts of marks, bars, rows and legends.
+use Rattle.std.specs.Prelude.{ℕ, zero, suc, ◌+◌, ◌-◌, ◌*◌, ◌/◌, ◌%◌, ◌==◌, Bool, true, false, if◌then◌else◌, List, [], ◌++◌, codes, decimal}
+use Rattle.larch_actions.specs.declared.event.Layout.{Layout}
+use Rattle.larch_actions.specs.declared.event.Event.{Event}
+use Rattle.larch_actions.specs.declared.event.Action.{Action}
+use Rattle.larch_actions.specs.declared.event.Action.TheVariants.{Acquire, Release, Enqueue, Resume, AlertEnqueue, AlertReturn, AlertRaise, Signal, Broadcast, P, V, Alert, TestAlert, AlertPReturn, AlertPRaise}
+use Rattle.larch_actions.specs.declared.event.Broken.{Broken}
+use Rattle.larch_actions.specs.declared.event.Broken.TheVariants as broken
+use Rattle.trace_core.specs.Text.{action_text}
+use Rattle.trace_picture.specs.declared.history.Origin.{Origin}
+use Rattle.trace_picture.specs.declared.view.View.{View}
+use Rattle.trace_picture.specs.Places.{column, column_x, row_y, bar_from}
+
+-- words and a number
+abbrev pub with_number : List ℕ → ℕ → List ℕ
+with_number word n = word ++ decimal n
+
+-- the texts of the numbers below n, one after another
+unfoldable pub each_below : (ℕ → List ℕ) → ℕ → List ℕ
+each_below f zero = []
+each_below f (suc n) = each_below f n ++ f n
+
+-- the line of the event in a trace text, without its newline
+unfoldable pub line_of : ℕ → Event → List ℕ
+line_of n e = decimal n ++ codes " t" ++ decimal e.thread.0 ++ codes " " ++ action_text e.action
+
+-- which mark an action has
+abbrev pub letter_of : Action → List ℕ
+letter_of (Acquire m) = codes "A"
+letter_of (Release m) = codes "R"
+letter_of (Enqueue m c) = codes "W"
+letter_of (Resume m c) = codes "C"
+letter_of (AlertEnqueue m c) = codes "w"
+letter_of (AlertReturn m c) = codes "c"
+letter_of (AlertRaise m c) = codes "x"
+letter_of (Signal c left) = codes "S"
+letter_of (Broadcast c) = codes "B"
+letter_of (P s) = codes "P"
+letter_of (V s) = codes "V"
+letter_of (Alert t) = codes "L"
+letter_of (TestAlert answer) = codes "T"
+letter_of (AlertPReturn s) = codes "p"
+letter_of (AlertPRaise s) = codes "y"
+
+abbrev pub clause_word : Broken → List ℕ
+clause_word broken.Order = codes "order"
+clause_word broken.Requires = codes "requires"
+clause_word broken.When = codes "when"
+clause_word broken.Ensures = codes "ensures"
+
+-- a place, within a tag
+unfoldable pub place_text : ℕ → ℕ → List ℕ
+place_text x y = with_number (codes "' x='") x ++ with_number (codes "' y='") y
+
+-- a place and a width, within a tag
+unfoldable pub box_text : ℕ → ℕ → ℕ → List ℕ
+box_text x y width = place_text x y ++ with_number (codes "' width='") width
+
+-- the mark of an event: its letter, and its line as the title
+unfoldable pub mark_text : View → ℕ → Event → List ℕ
+mark_text v n e =
+    (codes "<use href='#" ++ letter_of e.action) ++ place_text (column_x (column v n)) (row_y e.thread.0) ++ (codes "'><title>" ++ line_of n e) ++ codes "</title></use>\n"
+
+-- the mark of an event that fails, with its line and what it fails
+unfoldable pub failed_text : View → ℕ → Event → Broken → List ℕ
+failed_text v n e why =
+    codes "<use href='#F" ++ place_text (column_x (column v n)) (row_y e.thread.0) ++ (codes "'><title>" ++ line_of n e) ++ (codes " fails " ++ clause_word why) ++ codes "</title></use>\n"
+
+-- where a bar ends
+unfoldable pub end_words : Bool → ℕ → List ℕ
+end_words ended to = if ended then with_number (codes " to event ") (to - 1) else codes " on"
+
+-- from which event to which a bar goes, as the end of its title
+unfoldable pub span_text : Origin → Bool → ℕ → List ℕ
+span_text o ended to = with_number (codes " t") o.thread.0 ++ with_number (codes " from event ") o.place ++ end_words ended to ++ codes "</title></rect>\n"
+
+-- a mutex that is held up to the event before `to`, as far as the band that begins at `start` shows it
+unfoldable pub bar_text : ℕ → ℕ → Origin → Bool → ℕ → List ℕ
+bar_text start m o ended to =
+    let from = bar_from start o to in
+    with_number (codes "<rect class='m") (m % 7) ++ box_text (column_x (from - start)) (13 + row_y o.thread.0 + 3 * (m % 3)) (12 * (to - from)) ++ with_number (codes "' height='3'><title>m") m ++ codes " held by" ++ span_text o ended to
+
+-- a wait, likewise
+unfoldable pub wait_text : ℕ → Origin → Bool → ℕ → List ℕ
+wait_text start o ended to =
+    let from = bar_from start o to in
+    codes "<rect class='h" ++ box_text (column_x (from - start)) (13 + row_y o.thread.0) (12 * (to - from)) ++ codes "' height='9'><title>wait of" ++ span_text o ended to
+
+-- the row of a thread, with its name
+unfoldable pub row_text : ℕ → List ℕ
+row_text t = with_number (codes "<rect class='r' x='40' width='1208' height='22' y='") (row_y t) ++ with_number (codes "'/><text x='6' y='") (15 + row_y t) ++ with_number (codes "'>t") t ++ codes "</text>\n"
+
+-- the number of each tenth event above its column
+unfoldable pub number_text : View → ℕ → List ℕ
+number_text v n =
+    if column v n % 10 == 0 then with_number (codes "<text class='n' y='12' x='") (column_x (column v n)) ++ with_number (codes "'>") n ++ codes "</text>\n" else []
+
+-- the colour of a mutex, in the legend
+unfoldable pub swatch_text : ℕ → List ℕ
+swatch_text m =
+    with_number (codes "<rect width='11' height='11' class='m") (m % 7) ++ place_text (44 + 43 * (m % 28)) (56 + 14 * (m / 28)) ++ (with_number (codes "'/><text x='") (58 + 43 * (m % 28)) ++ with_number (codes "' y='") (65 + 14 * (m / 28))) ++ with_number (codes "'>m") m ++ codes "</text>\n"

@@ -1,0 +1,393 @@
+//! What each event adds to the picture.
+ghost use Rattle.std.specs.Prelude.{◌≡◌, ◌+◌, ◌-◌, ◌*◌, ◌<◌, ◌≤◌, ◌^◌, ◌++◌, length, take, codes, false, ℕ, None};
+ghost use Rattle.larch_actions.specs.Layout.{IsLawful, HasNames};
+ghost use Rattle.trace_picture.specs.History.{mutex_turn, wait_turn, changed, origin_of, entry_of, IsWithin};
+ghost use Rattle.trace_picture.specs.Places.{in_view, column, is_open, band_top};
+ghost use Rattle.trace_picture.specs.Shapes.{with_number, each_below, row_text, number_text, failed_text};
+ghost use Rattle.trace_picture.specs.Bands.{band_start, opening, bar_if, wait_if, closing, bar_ended, wait_ended, closing_after, event_shapes, step_text, failing_text};
+
+use crate::history::{Origin, Table, Turn, turn_of_mutex, turn_of_wait};
+use crate::shapes::{add_bar, add_failed, add_label, add_mark, add_row, add_wait_bar};
+use crate::tags::add_with_number;
+use crate::view::{View, column_of, is_band_open, is_in_view};
+use larch_actions::{Broken, Event, Layout};
+use trace_core::add;
+
+/// The upper edge of a band.
+pub fn top_of(layout: &Layout, band: u64) -> u64
+    requires lawful { IsLawful layout.now }
+    requires few { band < 2 ^ 42 }
+    ensures top { result ≡ band_top layout.now band }
+    ensures small { result < 2 ^ 60 }
+{
+    let height = 24 * u64::from(layout.threads) + 30;
+    100 + band * height
+}
+
+// Adds the rows of all threads.
+fn add_rows(buf: &mut [u8], at: usize, threads: u32) -> usize
+    requires room { at + 200 * threads ≤ length buf.old }
+    ensures text { take result buf.new ≡ take at buf.old ++ each_below row_text threads }
+    ensures near { result ≤ at + 200 * threads }
+{
+    let mut last = at;
+    for t in 0..threads {
+        last = add_row(buf, last, t);
+    }
+    last
+}
+
+// Adds the first tag of a band.
+fn add_band(buf: &mut [u8], at: usize, layout: &Layout, band: u64) -> usize
+    requires lawful { IsLawful layout.now }
+    requires few { band < 2 ^ 42 }
+    requires room { at + 100 ≤ length buf.old }
+    ensures text { take result buf.new ≡ take at buf.old ++ (with_number (codes "<g transform='translate(0 ") (band_top layout.now band) ++ codes ")'>\n") }
+    ensures near { result ≤ at + 100 }
+{
+    let at = add_with_number(buf, at, b"<g transform='translate(0 ", top_of(layout, band));
+    add(buf, at, b")'>\n")
+}
+
+// Adds a new band where the event begins one.
+#[tactic(auto, unfolding(crate::specs::Bands::opening))]
+fn add_opening(buf: &mut [u8], at: usize, layout: &Layout, view: &View, place: u64) -> usize
+    requires lawful { IsLawful layout.now }
+    requires few { place < 2 ^ 41 }
+    requires room { at + 13000 ≤ length buf.old }
+    ensures text { take result buf.new ≡ take at buf.old ++ opening layout.now view.now place }
+    ensures near { result ≤ at + 12900 }
+{
+    if column_of(view, place) == 0 {
+        let at = add_band(buf, at, layout, place.saturating_sub(view.first) / 100);
+        add_rows(buf, at, layout.threads)
+    } else {
+        at
+    }
+}
+
+// Adds the bar of a mutex where it is held.
+fn add_bar_if(
+    buf: &mut [u8],
+    at: usize,
+    start: u64,
+    ended: bool,
+    to: u64,
+    mutex: u32,
+    o: Option<Origin>,
+) -> usize
+    requires room { at + 350 ≤ length buf.old }
+    requires place { to < 2 ^ 42 }
+    ensures text { take result buf.new ≡ take at buf.old ++ bar_if start ended to mutex o }
+    ensures near { result ≤ at + 350 }
+{
+    match o {
+        Some(o) => add_bar(buf, at, start, mutex, &o, ended, to),
+        None => at,
+    }
+}
+
+// Adds the bar of a wait where a thread waits.
+fn add_wait_if(
+    buf: &mut [u8],
+    at: usize,
+    start: u64,
+    ended: bool,
+    to: u64,
+    o: Option<Origin>,
+) -> usize
+    requires room { at + 350 ≤ length buf.old }
+    requires place { to < 2 ^ 42 }
+    ensures text { take result buf.new ≡ take at buf.old ++ wait_if start ended to o }
+    ensures near { result ≤ at + 350 }
+{
+    match o {
+        Some(o) => add_wait_bar(buf, at, start, &o, ended, to),
+        None => at,
+    }
+}
+
+// Adds the bars of the mutexes that are held.
+fn add_bars(buf: &mut [u8], at: usize, mutexes: u32, held: &Table, start: u64, to: u64) -> usize
+    requires few { mutexes ≤ 64 }
+    requires place { to < 2 ^ 42 }
+    requires room { at + 350 * mutexes ≤ length buf.old }
+    ensures text { take result buf.new ≡ take at buf.old ++ each_below (λ m. bar_if start false to m (entry_of held.now m)) mutexes }
+    ensures near { result ≤ at + 350 * mutexes }
+{
+    let mut last = at;
+    for m in 0..mutexes {
+        last = add_bar_if(buf, last, start, false, to, m, held.at(m));
+    }
+    last
+}
+
+// Adds the bars of the threads that wait.
+fn add_waits(buf: &mut [u8], at: usize, threads: u32, waits: &Table, start: u64, to: u64) -> usize
+    requires few { threads ≤ 64 }
+    requires place { to < 2 ^ 42 }
+    requires room { at + 350 * threads ≤ length buf.old }
+    ensures text { take result buf.new ≡ take at buf.old ++ each_below (λ t. wait_if start false to (entry_of waits.now t)) threads }
+    ensures near { result ≤ at + 350 * threads }
+{
+    let mut last = at;
+    for t in 0..threads {
+        last = add_wait_if(buf, last, start, false, to, waits.at(t));
+    }
+    last
+}
+
+/// Since which event each mutex is held and each thread waits.
+#[derive(Drop)]
+pub struct Board {
+    pub held: Table,
+    pub waits: Table,
+}
+
+/// Adds the end of a band.
+#[tactic(auto, unfolding(crate::specs::Bands::closing))]
+pub fn add_closing(
+    buf: &mut [u8],
+    at: usize,
+    layout: &Layout,
+    board: &Board,
+    start: u64,
+    to: u64,
+) -> usize
+    requires lawful { IsLawful layout.now }
+    requires place { to < 2 ^ 42 }
+    requires room { at + 45000 ≤ length buf.old }
+    ensures text { take result buf.new ≡ take at buf.old ++ closing layout.now (entry_of board.now.held) (entry_of board.now.waits) start to }
+    ensures near { result ≤ at + 44900 }
+{
+    let at = add_bars(buf, at, layout.mutexes, &board.held, start, to);
+    let at = add_waits(buf, at, layout.threads, &board.waits, start, to);
+    add(buf, at, b"</g>\n")
+}
+
+// Adds the end of a band after the event, where it is full or the part that is drawn ends.
+#[tactic(auto, unfolding(crate::specs::Bands::closing_after))]
+fn add_closing_after(
+    buf: &mut [u8],
+    at: usize,
+    layout: &Layout,
+    view: &View,
+    board: &Board,
+    place: u64,
+) -> usize
+    requires lawful { IsLawful layout.now }
+    requires few { place < 2 ^ 41 }
+    requires room { at + 45000 ≤ length buf.old }
+    ensures text { take result buf.new ≡ take at buf.old ++ closing_after layout.now view.now (entry_of board.now.held) (entry_of board.now.waits) place }
+    ensures near { result ≤ at + 44900 }
+{
+    if is_band_open(view, place + 1) {
+        at
+    } else {
+        let start = place - column_of(view, place);
+        add_closing(buf, at, layout, board, start, place + 1)
+    }
+}
+
+// Adds the bar that ends with the event.
+fn add_bar_ended(
+    buf: &mut [u8],
+    at: usize,
+    start: u64,
+    place: u64,
+    held: &Table,
+    turn: Turn,
+) -> usize
+    requires within { IsWithin turn }
+    requires few { place < 2 ^ 41 }
+    requires room { at + 350 ≤ length buf.old }
+    ensures text { take result buf.new ≡ take at buf.old ++ bar_ended start place (entry_of held.now) turn }
+    ensures near { result ≤ at + 350 }
+{
+    match turn {
+        Turn::Ends(k) => add_bar_if(buf, at, start, true, place + 1, k, held.at(k)),
+        Turn::Begins(_) => at,
+        Turn::Stays => at,
+    }
+}
+
+// Adds the wait that ends with the event.
+fn add_wait_ended(
+    buf: &mut [u8],
+    at: usize,
+    start: u64,
+    place: u64,
+    waits: &Table,
+    turn: Turn,
+) -> usize
+    requires within { IsWithin turn }
+    requires few { place < 2 ^ 41 }
+    requires room { at + 350 ≤ length buf.old }
+    ensures text { take result buf.new ≡ take at buf.old ++ wait_ended start place (entry_of waits.now) turn }
+    ensures near { result ≤ at + 350 }
+{
+    match turn {
+        Turn::Ends(k) => add_wait_if(buf, at, start, true, place + 1, waits.at(k)),
+        Turn::Begins(_) => at,
+        Turn::Stays => at,
+    }
+}
+
+// Adds the number and the mark of an event, and the bars that it ends.
+#[tactic(auto, unfolding(crate::specs::Bands::event_shapes))]
+fn add_event_shapes(
+    buf: &mut [u8],
+    at: usize,
+    view: &View,
+    board: &Board,
+    place: u64,
+    e: &Event,
+) -> usize
+    requires mutex { IsWithin (mutex_turn e.now.action) }
+    requires wait { IsWithin (wait_turn e.now.thread.0 e.now.action) }
+    requires few { place < 2 ^ 41 }
+    requires room { at + 1500 ≤ length buf.old }
+    ensures text { take result buf.new ≡ take at buf.old ++ event_shapes view.now (entry_of board.now.held) (entry_of board.now.waits) place e.now }
+    ensures near { result ≤ at + 1500 }
+{
+    let start = place - column_of(view, place);
+    let at = add_label(buf, at, view, place);
+    let at = add_mark(buf, at, view, place, e);
+    let at = add_bar_ended(buf, at, start, place, &board.held, turn_of_mutex(&e.action));
+    add_wait_ended(
+        buf,
+        at,
+        start,
+        place,
+        &board.waits,
+        turn_of_wait(e.thread, &e.action),
+    )
+}
+
+impl Board {
+    /// Nothing is held, and nobody waits.
+    pub fn new() -> Board
+        ensures held { entry_of result.held ≡ (λ (k : ℕ). None) }
+        ensures waits { entry_of result.waits ≡ (λ (k : ℕ). None) }
+    {
+        Board {
+            held: Table::new(),
+            waits: Table::new(),
+        }
+    }
+
+    /// Notes what the event takes and gives back.
+    pub fn note(&mut self, place: u64, e: &Event)
+        requires mutex { IsWithin (mutex_turn e.now.action) }
+        requires wait { IsWithin (wait_turn e.now.thread.0 e.now.action) }
+        ensures held { entry_of self.new.held ≡ changed (mutex_turn e.now.action) (origin_of place e.now) (entry_of self.old.held) }
+        ensures waits { entry_of self.new.waits ≡ changed (wait_turn e.now.thread.0 e.now.action) (origin_of place e.now) (entry_of self.old.waits) }
+    {
+        let by = Origin {
+            thread: e.thread,
+            place,
+        };
+        self.held.note(turn_of_mutex(&e.action), by);
+        self.waits.note(turn_of_wait(e.thread, &e.action), by);
+    }
+}
+
+// Adds what the event shows, and the end of its band, where it is drawn.
+fn add_drawn(
+    buf: &mut [u8],
+    at: usize,
+    layout: &Layout,
+    view: &View,
+    board: &mut Board,
+    place: u64,
+    e: &Event,
+) -> usize
+    requires lawful { IsLawful layout.now }
+    requires mutex { IsWithin (mutex_turn e.now.action) }
+    requires wait { IsWithin (wait_turn e.now.thread.0 e.now.action) }
+    requires few { place < 2 ^ 41 }
+    requires room { at + 60000 ≤ length buf.old }
+    ensures text { take result buf.new ≡ take at buf.old ++
+        (opening layout.now view.now place ++ event_shapes view.now (entry_of board.old.held) (entry_of board.old.waits) place e.now
+        ++ closing_after layout.now view.now (entry_of board.new.held) (entry_of board.new.waits) place) }
+    ensures held { entry_of board.new.held ≡ changed (mutex_turn e.now.action) (origin_of place e.now) (entry_of board.old.held) }
+    ensures waits { entry_of board.new.waits ≡ changed (wait_turn e.now.thread.0 e.now.action) (origin_of place e.now) (entry_of board.old.waits) }
+    ensures near { result ≤ at + 60000 }
+{
+    let at = add_opening(buf, at, layout, view, place);
+    let at = add_event_shapes(buf, at, view, board, place, e);
+    board.note(place, e);
+    add_closing_after(buf, at, layout, view, board, place)
+}
+
+/// Adds all that an event adds, and notes what it takes and gives back.
+#[tactic(auto, unfolding(crate::specs::Bands::step_text))]
+pub fn add_step(
+    buf: &mut [u8],
+    at: usize,
+    layout: &Layout,
+    view: &View,
+    board: &mut Board,
+    place: u64,
+    e: &Event,
+) -> usize
+    requires lawful { IsLawful layout.now }
+    requires named { HasNames layout.now e.now }
+    requires few { place < 2 ^ 41 }
+    requires room { at + 60000 ≤ length buf.old }
+    ensures text { take result buf.new ≡ take at buf.old ++ step_text layout.now view.now (entry_of board.old.held) (entry_of board.old.waits) place e.now }
+    ensures held { entry_of board.new.held ≡ changed (mutex_turn e.now.action) (origin_of place e.now) (entry_of board.old.held) }
+    ensures waits { entry_of board.new.waits ≡ changed (wait_turn e.now.thread.0 e.now.action) (origin_of place e.now) (entry_of board.old.waits) }
+    ensures near { result ≤ at + 60000 }
+{
+    if is_in_view(view, place) {
+        add_drawn(buf, at, layout, view, board, place, e)
+    } else {
+        board.note(place, e);
+        at
+    }
+}
+
+// Adds the number of an event and the mark of its failure.
+fn add_failed_shapes(
+    buf: &mut [u8],
+    at: usize,
+    view: &View,
+    place: u64,
+    e: &Event,
+    why: Broken,
+) -> usize
+    requires room { at + 1500 ≤ length buf.old }
+    ensures text { take result buf.new ≡ take at buf.old ++ (number_text view.now place ++ failed_text view.now place e.now why) }
+    ensures near { result ≤ at + 1500 }
+{
+    let at = add_label(buf, at, view, place);
+    add_failed(buf, at, view, place, e, why)
+}
+
+/// Adds all that an event that fails adds.
+#[tactic(auto, unfolding(crate::specs::Bands::failing_text))]
+pub fn add_failing(
+    buf: &mut [u8],
+    at: usize,
+    layout: &Layout,
+    view: &View,
+    board: &Board,
+    place: u64,
+    e: &Event,
+    why: Broken,
+) -> usize
+    requires lawful { IsLawful layout.now }
+    requires few { place < 2 ^ 41 }
+    requires room { at + 60000 ≤ length buf.old }
+    ensures text { take result buf.new ≡ take at buf.old ++ failing_text layout.now view.now (entry_of board.now.held) (entry_of board.now.waits) place e.now why }
+    ensures near { result ≤ at + 60000 }
+{
+    if is_in_view(view, place) {
+        let at = add_opening(buf, at, layout, view, place);
+        let at = add_failed_shapes(buf, at, view, place, e, why);
+        add_closing_after(buf, at, layout, view, board, place)
+    } else {
+        at
+    }
+}

@@ -1,0 +1,200 @@
+//! The picture of a trace text.
+ghost use Rattle.std.specs.Prelude.{◌≡◌, ◌≢◌, ◌+◌, ◌-◌, ◌<◌, ◌≤◌, ◌^◌, ◌++◌, List, ℕ, [], length, take, Some, IfOk, OnOk, OnErr};
+ghost use Rattle.std.specs.Io.KnownBytes.{Appends};
+ghost use Rattle.firefly_outside.specs.Causes.{HasCause, AppendsFront};
+ghost use Rattle.trace_core.specs.declared.progress.Phase.TheVariants as phase;
+ghost use Rattle.trace_core.specs.Reader.{standing, input_of};
+ghost use Rattle.trace_core.specs.Whole.{Flows};
+ghost use Rattle.trace_check.specs.declared.checker.Verdict.{Verdict};
+ghost use Rattle.trace_check.specs.declared.checker.Verdict.TheVariants as verdict;
+ghost use Rattle.trace_check.specs.Verdicts.{IsJust, refusal};
+ghost use Rattle.larch_actions.specs.Layout.{IsLawful};
+ghost use Rattle.trace_picture.specs.History.{entry_of};
+ghost use Rattle.trace_picture.specs.Picture.{legal_ending, cut_ending};
+ghost use Rattle.trace_picture.specs.Drawn.{IsDrawn, IsCutOff};
+
+use crate::bands::{Board, add_step};
+use crate::endings::{end_failed, end_with};
+use crate::head::add_head;
+use crate::view::View;
+use firefly_outside::{Sink, SinkFault, Source, put_all};
+use larch_actions::{Layout, State, Totals};
+use trace_check::{Summary, Verdict};
+use trace_core::{EventReader, TextFault};
+
+// The verdict on a text that can't be read.
+fn refused(fault: TextFault) -> Verdict
+    ensures { result ≡ refusal fault }
+{
+    match fault {
+        TextFault::BadLine(line) => Verdict::BadLine(line),
+        TextFault::TooLong => Verdict::TooLong,
+        TextFault::Read => Verdict::ReadFault,
+    }
+}
+
+// The verdict on a legal trace of so many events.
+fn legal(events: u64, totals: &Totals) -> Verdict
+    ensures { result ≡ verdict.Legal (record { events = events; held = totals.now.held; waiting = totals.now.waiting; alerted = totals.now.alerted }) }
+{
+    Verdict::Legal(Summary {
+        events,
+        held: totals.held,
+        waiting: totals.waiting,
+        alerted: totals.alerted,
+    })
+}
+
+// Sends what the buffer holds where it lacks room for another event, and says how much it holds then.
+fn make_room<O: Sink>(buf: &[u8], at: usize, out: &mut O) -> Result<usize, SinkFault>
+    requires within { at ≤ length buf.now }
+    requires large { 70000 ≤ length buf.now }
+    ensures ok { IfOk result (λ end. Flows (O.held out.old) (O.held out.new) (take at buf.now) (take end buf.now) []) }
+    ensures room { IfOk result (λ end. end + 62000 ≤ length buf.now) }
+    ensures err { OnErr result (AppendsFront (O.held out.old) (O.held out.new) (take at buf.now)) }
+    ensures cause { HasCause (O.faults out.old) (O.faults out.new) result }
+{
+    if buf.len() - at >= 62000 {
+        return Ok(at);
+    }
+    match put_all(out, &buf[..at]) {
+        Ok(()) => Ok(0),
+        Err(fault) => Err(fault),
+    }
+}
+
+// Ends the picture of a legal trace.
+fn end_legal<O: Sink>(
+    buf: &mut [u8],
+    at: usize,
+    layout: &Layout,
+    view: &View,
+    board: &Board,
+    count: u64,
+    out: &mut O,
+) -> Result<(), SinkFault>
+    requires lawful { IsLawful layout.now }
+    requires few { count < 2 ^ 42 }
+    requires room { at + 60000 ≤ length buf.old }
+    ensures ok { OnOk result (Appends (O.held out.old) (O.held out.new) (take at buf.old ++ legal_ending layout.now view.now (entry_of board.now.held) (entry_of board.now.waits) count)) }
+    ensures err { OnErr result (AppendsFront (O.held out.old) (O.held out.new) (take at buf.old ++ legal_ending layout.now view.now (entry_of board.now.held) (entry_of board.now.waits) count)) }
+    ensures cause { HasCause (O.faults out.old) (O.faults out.new) result }
+{
+    end_with(buf, at, layout, view, board, count, b"legal, events: ", out)
+}
+
+// Ends the picture of an input that can't be read further.
+fn end_cut<O: Sink>(
+    buf: &mut [u8],
+    at: usize,
+    layout: &Layout,
+    view: &View,
+    board: &Board,
+    count: u64,
+    out: &mut O,
+) -> Result<(), SinkFault>
+    requires lawful { IsLawful layout.now }
+    requires few { count < 2 ^ 42 }
+    requires room { at + 60000 ≤ length buf.old }
+    ensures ok { OnOk result (Appends (O.held out.old) (O.held out.new) (take at buf.old ++ cut_ending layout.now view.now (entry_of board.now.held) (entry_of board.now.waits) count)) }
+    ensures err { OnErr result (AppendsFront (O.held out.old) (O.held out.new) (take at buf.old ++ cut_ending layout.now view.now (entry_of board.now.held) (entry_of board.now.waits) count)) }
+    ensures cause { HasCause (O.faults out.old) (O.faults out.new) result }
+{
+    end_with(
+        buf,
+        at,
+        layout,
+        view,
+        board,
+        count,
+        b"the input can't be read further, events: ",
+        out,
+    )
+}
+
+/// Checks at most `budget` bytes of the input, and draws the events on the way. The picture ends with the trace, at the first event
+/// that fails, or where the input can't be read further; nothing is drawn where its head can't be read.
+pub fn draw_trace<I: Source, O: Sink>(
+    input: &mut I,
+    budget: u64,
+    view: &View,
+    out: &mut O,
+) -> Result<Verdict, SinkFault>
+    requires { budget ≤ 2 ^ 40 }
+    // The verdict is just, and where no read failed no other is.
+    ensures just { IfOk result (λ v. IsJust budget (I.left input.old) (I.left input.new) (I.faults input.old) (I.faults input.new) v) }
+    ensures exact { IfOk result (λ v. (bytes : List ℕ) (other : Verdict) → I.left input.old ≡ Some bytes → v ≢ verdict.ReadFault → other ≢ verdict.ReadFault
+        → IsJust budget (I.left input.old) (I.left input.new) (I.faults input.old) (I.faults input.new) other → v ≡ other) }
+    // The sink got the picture, or a front of one where it failed.
+    ensures drawn { IfOk result (λ v. IsDrawn budget view.now (I.left input.old) (O.held out.old) (O.held out.new) v) }
+    ensures cut_off { OnErr result (IsCutOff budget view.now (I.left input.old) (O.held out.old) (O.held out.new)) }
+    ensures cause { HasCause (O.faults out.old) (O.faults out.new) result }
+    ensures later { I.faults input.old ≤ I.faults input.new }
+{
+    let mut buf = [0; 131072];
+    let mut reader = EventReader::new(input, budget);
+    draw_all(&mut reader, view, &mut buf, out)
+}
+
+// Draws what a new reader gives.
+fn draw_all<I: Source, O: Sink>(
+    reader: &mut EventReader<I>,
+    view: &View,
+    buf: &mut [u8],
+    out: &mut O,
+) -> Result<Verdict, SinkFault>
+    requires phase { (standing I.left reader.old).phase ≡ phase.Head }
+    requires lines { (standing I.left reader.old).lines ≡ 0 }
+    requires large { 100000 ≤ length buf.old }
+    requires fits { (standing I.left reader.old).room ≤ 2 ^ 40 }
+    ensures just { IfOk result (λ v. IsJust (standing I.left reader.old).room (standing I.left reader.old).rest (I.left (input_of reader.new).now) (I.faults (input_of reader.old).now) (I.faults (input_of reader.new).now) v) }
+    ensures drawn { IfOk result (λ v. IsDrawn (standing I.left reader.old).room view.now (standing I.left reader.old).rest (O.held out.old) (O.held out.new) v) }
+    ensures cut_off { OnErr result (IsCutOff (standing I.left reader.old).room view.now (standing I.left reader.old).rest (O.held out.old) (O.held out.new)) }
+    ensures cause { HasCause (O.faults out.old) (O.faults out.new) result }
+    ensures same_input { (input_of reader.new).ghost_name ≡ (input_of reader.old).ghost_name }
+    ensures later { I.faults (input_of reader.old).now ≤ I.faults (input_of reader.new).now }
+{
+    let layout = match reader.head() {
+        Ok(layout) => layout,
+        Err(fault) => return Ok(refused(fault)),
+    };
+    let mut at = add_head(buf, 0, &layout);
+    let mut state = State::new(layout);
+    let mut board = Board::new();
+    let mut place = 0;
+    loop {
+        let free = match make_room(buf, at, out) {
+            Ok(free) => free,
+            Err(fault) => return Err(fault),
+        };
+        match reader.next_event() {
+            Ok(Some(event)) => match state.apply(&event) {
+                Ok(()) => {
+                    at = add_step(buf, free, &layout, view, &mut board, place, &event);
+                    place += 1;
+                }
+                Err(why) => {
+                    return match end_failed(
+                        buf, free, &layout, view, &board, place, &event, why, out,
+                    ) {
+                        Ok(()) => Ok(Verdict::Illegal { place, why }),
+                        Err(fault) => Err(fault),
+                    };
+                }
+            },
+            Ok(None) => {
+                let totals = state.summary();
+                return match end_legal(buf, free, &layout, view, &board, place, out) {
+                    Ok(()) => Ok(legal(place, &totals)),
+                    Err(fault) => Err(fault),
+                };
+            }
+            Err(broken) => {
+                return match end_cut(buf, free, &layout, view, &board, place, out) {
+                    Ok(()) => Ok(refused(broken)),
+                    Err(fault) => Err(fault),
+                };
+            }
+        }
+    }
+}

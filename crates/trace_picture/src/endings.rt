@@ -1,0 +1,232 @@
+//! How a picture ends.
+ghost use Rattle.std.specs.Prelude.{◌≡◌, ◌+◌, ◌<◌, ◌≤◌, ◌^◌, ◌++◌, length, take, codes, if◌then◌else◌, [], ℕ, List, OnOk, OnErr};
+ghost use Rattle.std.specs.Io.KnownBytes.{Appends};
+ghost use Rattle.firefly_outside.specs.Causes.{HasCause, AppendsFront};
+ghost use Rattle.larch_actions.specs.Layout.{IsLawful};
+ghost use Rattle.trace_picture.specs.History.{entry_of};
+ghost use Rattle.trace_picture.specs.Places.{is_open, height_of};
+ghost use Rattle.trace_picture.specs.Shapes.{with_number, line_of, clause_word};
+ghost use Rattle.trace_picture.specs.Bands.{closing, band_start, failing_text};
+ghost use Rattle.trace_picture.specs.Picture.{end_text, closing_if, failed_note};
+
+use crate::bands::{Board, add_closing, add_failing, top_of};
+use crate::shapes::word_of;
+use crate::tags::{add_line, add_with_number};
+use crate::view::{View, column_of, count_bands, is_band_open};
+use firefly_outside::{Sink, SinkFault, put_all};
+use larch_actions::{Broken, Event, Layout};
+use trace_core::add;
+
+// How high the picture is, but for its last line.
+fn height(layout: &Layout, view: &View, count: u64) -> u64
+    requires lawful { IsLawful layout.now }
+    requires few { count < 2 ^ 42 }
+    ensures height { result ≡ height_of layout.now view.now count }
+    ensures small { result < 2 ^ 60 }
+{
+    top_of(layout, count_bands(view, count))
+}
+
+/// Adds the end of the last band, where it is not full.
+#[tactic(auto, unfolding(crate::specs::Picture::closing_if))]
+pub fn add_last_closing(
+    buf: &mut [u8],
+    at: usize,
+    layout: &Layout,
+    view: &View,
+    board: &Board,
+    count: u64,
+) -> usize
+    requires lawful { IsLawful layout.now }
+    requires few { count < 2 ^ 42 }
+    requires room { at + 45000 ≤ length buf.old }
+    ensures text { take result buf.new ≡ take at buf.old ++ closing_if layout.now view.now (entry_of board.now.held) (entry_of board.now.waits) count }
+    ensures near { result ≤ at + 45000 }
+{
+    if is_band_open(view, count) {
+        let start = count - column_of(view, count);
+        add_closing(buf, at, layout, board, start, count)
+    } else {
+        at
+    }
+}
+
+/// Adds the start of the last line.
+pub fn add_note_place(buf: &mut [u8], at: usize, layout: &Layout, view: &View, count: u64) -> usize
+    requires lawful { IsLawful layout.now }
+    requires few { count < 2 ^ 42 }
+    requires room { at + 60 ≤ length buf.old }
+    ensures text { take result buf.new ≡ take at buf.old ++ with_number (codes "<text x='44' y='") (height_of layout.now view.now count + 14) }
+    ensures near { result ≤ at + 60 }
+{
+    add_with_number(
+        buf,
+        at,
+        b"<text x='44' y='",
+        height(layout, view, count) + 14,
+    )
+}
+
+/// Adds the end of the last line, and what follows it.
+pub fn add_last_tags(buf: &mut [u8], at: usize, layout: &Layout, view: &View, count: u64) -> usize
+    requires lawful { IsLawful layout.now }
+    requires few { count < 2 ^ 42 }
+    requires room { at + 120 ≤ length buf.old }
+    ensures text { take result buf.new ≡ take at buf.old ++ (with_number (codes "</text>\n<style>:root{height:") (height_of layout.now view.now count + 24) ++ codes "px}</style>\n</svg>\n") }
+    ensures near { result ≤ at + 120 }
+{
+    let at = add_with_number(
+        buf,
+        at,
+        b"</text>\n<style>:root{height:",
+        height(layout, view, count) + 24,
+    );
+    add(buf, at, b"px}</style>\n</svg>\n")
+}
+
+// Adds words and a count as the last line, and what follows it.
+#[tactic(auto, unfolding(crate::specs::Picture::end_text))]
+fn add_end(
+    buf: &mut [u8],
+    at: usize,
+    layout: &Layout,
+    view: &View,
+    count: u64,
+    words: &[u8],
+) -> usize
+    requires lawful { IsLawful layout.now }
+    requires few { count < 2 ^ 42 }
+    requires short { length words.now ≤ 60 }
+    requires room { at + 400 ≤ length buf.old }
+    ensures text { take result buf.new ≡ take at buf.old ++ end_text layout.now view.now count (with_number words.now count) }
+    ensures near { result ≤ at + 400 }
+{
+    let at = add_note_place(buf, at, layout, view, count);
+    let at = add(buf, at, b"'>");
+    let at = add_with_number(buf, at, words, count);
+    add_last_tags(buf, at, layout, view, count)
+}
+
+/// Adds the end of a picture of so many events, with these words on its last line.
+pub fn add_ending(
+    buf: &mut [u8],
+    at: usize,
+    layout: &Layout,
+    view: &View,
+    board: &Board,
+    count: u64,
+    words: &[u8],
+) -> usize
+    requires lawful { IsLawful layout.now }
+    requires few { count < 2 ^ 42 }
+    requires short { length words.now ≤ 60 }
+    requires room { at + 60000 ≤ length buf.old }
+    ensures text { take result buf.new ≡ take at buf.old ++ (closing_if layout.now view.now (entry_of board.now.held) (entry_of board.now.waits) count ++ end_text layout.now view.now count (with_number words.now count)) }
+    ensures near { result ≤ at + 60000 }
+{
+    let at = add_last_closing(buf, at, layout, view, board, count);
+    add_end(buf, at, layout, view, count, words)
+}
+
+// Adds what the failing event fails, and its line.
+#[tactic(auto, unfolding(crate::specs::Picture::failed_note))]
+fn add_failed_note(buf: &mut [u8], at: usize, place: u64, e: &Event, why: Broken) -> usize
+    requires room { at + 500 ≤ length buf.old }
+    ensures text { take result buf.new ≡ take at buf.old ++ failed_note place e.now why }
+    ensures near { result ≤ at + 500 }
+{
+    let at = add(buf, at, b"illegal, fails ");
+    let at = add(buf, at, word_of(why));
+    let at = add(buf, at, b": ");
+    add_line(buf, at, place, e)
+}
+
+// Adds the last line of a trace with an event that fails, and what follows it.
+#[tactic(auto, unfolding(crate::specs::Picture::end_text))]
+fn add_failed_end(
+    buf: &mut [u8],
+    at: usize,
+    layout: &Layout,
+    view: &View,
+    place: u64,
+    e: &Event,
+    why: Broken,
+) -> usize
+    requires lawful { IsLawful layout.now }
+    requires few { place < 2 ^ 41 }
+    requires room { at + 1000 ≤ length buf.old }
+    ensures text { take result buf.new ≡ take at buf.old ++ end_text layout.now view.now (place + 1) (failed_note place e.now why) }
+    ensures near { result ≤ at + 1000 }
+{
+    let at = add_note_place(buf, at, layout, view, place + 1);
+    let at = add(buf, at, b"'>");
+    let at = add_failed_note(buf, at, place, e, why);
+    add_last_tags(buf, at, layout, view, place + 1)
+}
+
+/// Adds the event that fails, and the end of the picture.
+pub fn add_failed_ending(
+    buf: &mut [u8],
+    at: usize,
+    layout: &Layout,
+    view: &View,
+    board: &Board,
+    place: u64,
+    e: &Event,
+    why: Broken,
+) -> usize
+    requires lawful { IsLawful layout.now }
+    requires few { place < 2 ^ 41 }
+    requires room { at + 62000 ≤ length buf.old }
+    ensures text { take result buf.new ≡ take at buf.old ++ (failing_text layout.now view.now (entry_of board.now.held) (entry_of board.now.waits) place e.now why ++ end_text layout.now view.now (place + 1) (failed_note place e.now why)) }
+    ensures near { result ≤ at + 62000 }
+{
+    let at = add_failing(buf, at, layout, view, board, place, e, why);
+    add_failed_end(buf, at, layout, view, place, e, why)
+}
+
+/// Sends what the buffer holds and the end of a picture of so many events, with these words on its last line.
+pub fn end_with<O: Sink>(
+    buf: &mut [u8],
+    at: usize,
+    layout: &Layout,
+    view: &View,
+    board: &Board,
+    count: u64,
+    words: &[u8],
+    out: &mut O,
+) -> Result<(), SinkFault>
+    requires lawful { IsLawful layout.now }
+    requires few { count < 2 ^ 42 }
+    requires short { length words.now ≤ 60 }
+    requires room { at + 60000 ≤ length buf.old }
+    ensures ok { OnOk result (Appends (O.held out.old) (O.held out.new) (take at buf.old ++ (closing_if layout.now view.now (entry_of board.now.held) (entry_of board.now.waits) count ++ end_text layout.now view.now count (with_number words.now count)))) }
+    ensures err { OnErr result (AppendsFront (O.held out.old) (O.held out.new) (take at buf.old ++ (closing_if layout.now view.now (entry_of board.now.held) (entry_of board.now.waits) count ++ end_text layout.now view.now count (with_number words.now count)))) }
+    ensures cause { HasCause (O.faults out.old) (O.faults out.new) result }
+{
+    let end = add_ending(buf, at, layout, view, board, count, words);
+    put_all(out, &buf[..end])
+}
+
+/// Sends what the buffer holds, the event that fails, and the end of the picture.
+pub fn end_failed<O: Sink>(
+    buf: &mut [u8],
+    at: usize,
+    layout: &Layout,
+    view: &View,
+    board: &Board,
+    place: u64,
+    e: &Event,
+    why: Broken,
+    out: &mut O,
+) -> Result<(), SinkFault>
+    requires lawful { IsLawful layout.now }
+    requires few { place < 2 ^ 41 }
+    requires room { at + 62000 ≤ length buf.old }
+    ensures ok { OnOk result (Appends (O.held out.old) (O.held out.new) (take at buf.old ++ (failing_text layout.now view.now (entry_of board.now.held) (entry_of board.now.waits) place e.now why ++ end_text layout.now view.now (place + 1) (failed_note place e.now why)))) }
+    ensures err { OnErr result (AppendsFront (O.held out.old) (O.held out.new) (take at buf.old ++ (failing_text layout.now view.now (entry_of board.now.held) (entry_of board.now.waits) place e.now why ++ end_text layout.now view.now (place + 1) (failed_note place e.now why)))) }
+    ensures cause { HasCause (O.faults out.old) (O.faults out.new) result }
+{
+    let end = add_failed_ending(buf, at, layout, view, board, place, e, why);
+    put_all(out, &buf[..end])
+}

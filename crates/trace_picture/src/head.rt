@@ -1,0 +1,213 @@
+//! The head of a picture: the first tag, the colours, and what each mark and colour means.
+ghost use Rattle.std.specs.Prelude.{◌≡◌, ◌+◌, ◌*◌, ◌≤◌, ◌++◌, length, take, codes};
+ghost use Rattle.larch_actions.specs.Layout.{IsLawful};
+ghost use Rattle.trace_picture.specs.Shapes.{each_below, swatch_text};
+ghost use Rattle.trace_picture.specs.Picture.{style_text, pattern_text, marks_text, more_marks_text, last_marks_text, head_text};
+
+use crate::shapes::add_swatch;
+use larch_actions::Layout;
+use trace_core::add;
+
+// Adds the first tag and the colours.
+#[tactic(auto, unfolding(crate::specs::Picture::style_text))]
+fn add_style(buf: &mut [u8], at: usize) -> usize
+    requires { at + 2000 ≤ length buf.old }
+    ensures text { take result buf.new ≡ take at buf.old ++ style_text }
+    ensures near { result ≤ at + 2000 }
+{
+    let at = add(
+        buf,
+        at,
+        b"<svg xmlns='http://www.w3.org/2000/svg' width='1252' font-family='sans-serif' font-size='11'>\n<title>Firefly Threads timeline</title>\n<style>\n",
+    );
+    let at = add(
+        buf,
+        at,
+        b"text{fill:#222}.n{fill:#555;font-size:10px;text-anchor:middle}.r{fill:#f4f4f4}.i{text-anchor:middle;font-weight:bold;font-size:10px}\n",
+    );
+    let at = add(
+        buf,
+        at,
+        b".m0{fill:#e69f00}.m1{fill:#0072b2}.m2{fill:#f0e442}.m3{fill:#009e73}.m4{fill:#cc79a7}.m5{fill:#56b4e9}.m6{fill:#d55e00}\n",
+    );
+    add(
+        buf,
+        at,
+        b".h{fill:url(#h);stroke:#444;stroke-width:.5}.o{fill:#fff;stroke:#222}.k{fill:#ddd;stroke:#222}.g{fill:#ffe08a;stroke:#222}\n",
+    )
+}
+
+// Adds the rest of the colours and the hatch.
+#[tactic(auto, unfolding(crate::specs::Picture::pattern_text))]
+fn add_pattern(buf: &mut [u8], at: usize) -> usize
+    requires { at + 2000 ≤ length buf.old }
+    ensures text { take result buf.new ≡ take at buf.old ++ pattern_text }
+    ensures near { result ≤ at + 2000 }
+{
+    let at = add(
+        buf,
+        at,
+        b".b{fill:#bfe0f5;stroke:#222}.v{fill:#f5b8a0;stroke:#222}.f{fill:#222}.f+.i{fill:#fff}.o,.k,.g,.b,.v{stroke-width:.7}\n</style>\n",
+    );
+    let at = add(
+        buf,
+        at,
+        b"<defs><pattern id='h' width='5' height='5' patternUnits='userSpaceOnUse' patternTransform='rotate(45)'><rect width='5' height='5' fill='#fff'/><rect width='2' height='5' fill='#777'/></pattern></defs>\n",
+    );
+    add(buf, at, b"<rect width='100%' height='100%' fill='#fff'/>\n")
+}
+
+// Adds the first marks of the legend.
+#[tactic(auto, unfolding(crate::specs::Picture::marks_text))]
+fn add_marks(buf: &mut [u8], at: usize) -> usize
+    requires { at + 2000 ≤ length buf.old }
+    ensures text { take result buf.new ≡ take at buf.old ++ marks_text }
+    ensures near { result ≤ at + 2000 }
+{
+    let at = add(
+        buf,
+        at,
+        b"<g transform='translate(44 6)'><g id='A'><rect class='o' width='11' height='11' rx='2'/><text class='i' x='5.5' y='9'>A</text></g><text x='16' y='9'>acquire</text></g>\n",
+    );
+    let at = add(
+        buf,
+        at,
+        b"<g transform='translate(244 6)'><g id='R'><rect class='o' width='11' height='11' rx='2'/><text class='i' x='5.5' y='9'>R</text></g><text x='16' y='9'>release</text></g>\n",
+    );
+    let at = add(
+        buf,
+        at,
+        b"<g transform='translate(444 6)'><g id='W'><rect class='k' width='11' height='11' rx='2'/><text class='i' x='5.5' y='9'>W</text></g><text x='16' y='9'>enqueue</text></g>\n",
+    );
+    let at = add(
+        buf,
+        at,
+        b"<g transform='translate(644 6)'><g id='C'><rect class='k' width='11' height='11' rx='2'/><text class='i' x='5.5' y='9'>C</text></g><text x='16' y='9'>resume</text></g>\n",
+    );
+    let at = add(
+        buf,
+        at,
+        b"<g transform='translate(844 6)'><g id='S'><rect class='g' width='11' height='11' rx='2'/><text class='i' x='5.5' y='9'>S</text></g><text x='16' y='9'>signal</text></g>\n",
+    );
+    add(
+        buf,
+        at,
+        b"<g transform='translate(1044 6)'><g id='B'><rect class='g' width='11' height='11' rx='2'/><text class='i' x='5.5' y='9'>B</text></g><text x='16' y='9'>broadcast</text></g>\n",
+    )
+}
+
+// Adds more marks of the legend.
+#[tactic(auto, unfolding(crate::specs::Picture::more_marks_text))]
+fn add_more_marks(buf: &mut [u8], at: usize) -> usize
+    requires { at + 2000 ≤ length buf.old }
+    ensures text { take result buf.new ≡ take at buf.old ++ more_marks_text }
+    ensures near { result ≤ at + 2000 }
+{
+    let at = add(
+        buf,
+        at,
+        b"<g transform='translate(44 22)'><g id='P'><rect class='b' width='11' height='11' rx='2'/><text class='i' x='5.5' y='9'>P</text></g><text x='16' y='9'>p</text></g>\n",
+    );
+    let at = add(
+        buf,
+        at,
+        b"<g transform='translate(244 22)'><g id='V'><rect class='b' width='11' height='11' rx='2'/><text class='i' x='5.5' y='9'>V</text></g><text x='16' y='9'>v</text></g>\n",
+    );
+    let at = add(
+        buf,
+        at,
+        b"<g transform='translate(444 22)'><g id='L'><rect class='v' width='11' height='11' rx='2'/><text class='i' x='5.5' y='9'>!</text></g><text x='16' y='9'>alert</text></g>\n",
+    );
+    let at = add(
+        buf,
+        at,
+        b"<g transform='translate(644 22)'><g id='T'><rect class='v' width='11' height='11' rx='2'/><text class='i' x='5.5' y='9'>?</text></g><text x='16' y='9'>test-alert</text></g>\n",
+    );
+    let at = add(
+        buf,
+        at,
+        b"<g transform='translate(844 22)'><g id='w'><rect class='k' width='11' height='11' rx='2'/><text class='i' x='5.5' y='9'>w</text></g><text x='16' y='9'>alert-enqueue</text></g>\n",
+    );
+    add(
+        buf,
+        at,
+        b"<g transform='translate(1044 22)'><g id='c'><rect class='k' width='11' height='11' rx='2'/><text class='i' x='5.5' y='9'>c</text></g><text x='16' y='9'>alert-resume returns</text></g>\n",
+    )
+}
+
+// Adds the last marks of the legend.
+#[tactic(auto, unfolding(crate::specs::Picture::last_marks_text))]
+fn add_last_marks(buf: &mut [u8], at: usize) -> usize
+    requires { at + 2000 ≤ length buf.old }
+    ensures text { take result buf.new ≡ take at buf.old ++ last_marks_text }
+    ensures near { result ≤ at + 2000 }
+{
+    let at = add(
+        buf,
+        at,
+        b"<g transform='translate(44 38)'><g id='x'><rect class='v' width='11' height='11' rx='2'/><text class='i' x='5.5' y='9'>x</text></g><text x='16' y='9'>alert-resume raises</text></g>\n",
+    );
+    let at = add(
+        buf,
+        at,
+        b"<g transform='translate(244 38)'><g id='p'><rect class='b' width='11' height='11' rx='2'/><text class='i' x='5.5' y='9'>p</text></g><text x='16' y='9'>alert-p returns</text></g>\n",
+    );
+    let at = add(
+        buf,
+        at,
+        b"<g transform='translate(444 38)'><g id='y'><rect class='v' width='11' height='11' rx='2'/><text class='i' x='5.5' y='9'>y</text></g><text x='16' y='9'>alert-p raises</text></g>\n",
+    );
+    let at = add(
+        buf,
+        at,
+        b"<g transform='translate(644 38)'><g id='F'><rect class='f' width='11' height='11' rx='2'/><text class='i' x='5.5' y='9'>#</text></g><text x='16' y='9'>event that fails</text></g>\n",
+    );
+    let at = add(
+        buf,
+        at,
+        b"<rect class='h' x='844' y='39' width='22' height='9'/><text x='871' y='47'>a thread waits</text>\n",
+    );
+    add(
+        buf,
+        at,
+        b"<text x='1044' y='47'>coloured: a mutex held, as below</text>\n",
+    )
+}
+
+// Adds the colours of the mutexes.
+fn add_swatches(buf: &mut [u8], at: usize, mutexes: u32) -> usize
+    requires room { at + 250 * mutexes ≤ length buf.old }
+    ensures text { take result buf.new ≡ take at buf.old ++ each_below swatch_text mutexes }
+    ensures near { result ≤ at + 250 * mutexes }
+{
+    let mut last = at;
+    for m in 0..mutexes {
+        last = add_swatch(buf, last, m);
+    }
+    last
+}
+
+// Adds the marks of the legend.
+fn add_all_marks(buf: &mut [u8], at: usize) -> usize
+    requires { at + 6000 ≤ length buf.old }
+    ensures text { take result buf.new ≡ take at buf.old ++ (marks_text ++ more_marks_text ++ last_marks_text) }
+    ensures near { result ≤ at + 6000 }
+{
+    let at = add_marks(buf, at);
+    let at = add_more_marks(buf, at);
+    add_last_marks(buf, at)
+}
+
+/// Adds the head.
+#[tactic(auto, unfolding(crate::specs::Picture::head_text))]
+pub fn add_head(buf: &mut [u8], at: usize, layout: &Layout) -> usize
+    requires lawful { IsLawful layout.now }
+    requires room { at + 26000 ≤ length buf.old }
+    ensures text { take result buf.new ≡ take at buf.old ++ head_text layout.now }
+    ensures near { result ≤ at + 26000 }
+{
+    let at = add_style(buf, at);
+    let at = add_pattern(buf, at);
+    let at = add_all_marks(buf, at);
+    add_swatches(buf, at, layout.mutexes)
+}

@@ -1,0 +1,18 @@
+//! The picture of a trace: a row a thread, a mark an event, bars where a mutex is held and where a thread waits.
+//!
+//! Promises: `draw_trace` checks the trace as `trace_check` does, and the sink gets exactly the picture that specs/Picture.antt defines.
+//! Stands on the reader and the printer of trace_core and the state of larch_actions. It takes no memory, and keeps of the events
+//! only since when each mutex is held and each thread waits. How the picture looks is no promise.
+#![tactic(auto)]
+
+mod bands;
+mod draw;
+mod endings;
+mod head;
+mod history;
+mod shapes;
+mod tags;
+mod view;
+
+pub use draw::draw_trace;
+pub use view::View;

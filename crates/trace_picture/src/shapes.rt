@@ -1,0 +1,291 @@
+//! Marks, bars, rows and the legend, written into a buffer behind its first `at` bytes. Each call says where it ended.
+ghost use Rattle.std.specs.Prelude.{◌≡◌, ◌+◌, ◌<◌, ◌≤◌, ◌^◌, ◌++◌, length, take, codes};
+ghost use Rattle.trace_picture.specs.Places.{bar_from, column, column_x, row_y};
+ghost use Rattle.trace_picture.specs.Shapes.{with_number, line_of, place_text, letter_of, clause_word, mark_text, failed_text, end_words, span_text, bar_text, wait_text, row_text, number_text, swatch_text};
+
+use crate::history::Origin;
+use crate::tags::{add_box, add_line, add_place, add_with_number};
+use crate::view::{View, column_of};
+use larch_actions::{Action, Broken, Event};
+use trace_core::add;
+
+// The left edge of a column.
+fn x_of(column: u64) -> u64
+    requires { column < 2 ^ 42 }
+    ensures { result ≡ column_x column }
+{
+    44 + 12 * column
+}
+
+// The upper edge of the row of a thread.
+fn y_of(thread: u32) -> u64
+    ensures y { result ≡ row_y thread }
+    ensures small { result < 2 ^ 40 }
+{
+    18 + 24 * u64::from(thread)
+}
+
+// Which mark the action has.
+fn letter(action: &Action) -> &'static [u8]
+    ensures letter { result.now ≡ letter_of action.now }
+    ensures one { length result.now ≡ 1 }
+{
+    match action {
+        Action::Acquire { .. } => b"A",
+        Action::Release { .. } => b"R",
+        Action::Enqueue { .. } => b"W",
+        Action::Resume { .. } => b"C",
+        Action::AlertEnqueue { .. } => b"w",
+        Action::AlertReturn { .. } => b"c",
+        Action::AlertRaise { .. } => b"x",
+        Action::Signal { .. } => b"S",
+        Action::Broadcast { .. } => b"B",
+        Action::P { .. } => b"P",
+        Action::V { .. } => b"V",
+        Action::Alert { .. } => b"L",
+        Action::TestAlert { .. } => b"T",
+        Action::AlertPReturn { .. } => b"p",
+        Action::AlertPRaise { .. } => b"y",
+    }
+}
+
+/// The word of a clause.
+pub fn word_of(why: Broken) -> &'static [u8]
+    ensures word { result.now ≡ clause_word why }
+    ensures short { length result.now ≤ 8 }
+{
+    match why {
+        Broken::Order => b"order",
+        Broken::Requires => b"requires",
+        Broken::When => b"when",
+        Broken::Ensures => b"ensures",
+    }
+}
+
+// Adds the start of a mark.
+fn add_use(buf: &mut [u8], at: usize, action: &Action) -> usize
+    requires { at + 20 ≤ length buf.old }
+    ensures text { take result buf.new ≡ take at buf.old ++ (codes "<use href='#" ++ letter_of action.now) }
+    ensures near { result ≤ at + 20 }
+{
+    let at = add(buf, at, b"<use href='#");
+    add(buf, at, letter(action))
+}
+
+// Adds the line of an event as a title.
+fn add_title(buf: &mut [u8], at: usize, place: u64, e: &Event) -> usize
+    requires { at + 430 ≤ length buf.old }
+    ensures text { take result buf.new ≡ take at buf.old ++ (codes "'><title>" ++ line_of place e.now) }
+    ensures near { result ≤ at + 420 }
+{
+    let at = add(buf, at, b"'><title>");
+    add_line(buf, at, place, e)
+}
+
+// Adds the place of an event's mark.
+fn add_mark_place(buf: &mut [u8], at: usize, view: &View, place: u64, e: &Event) -> usize
+    requires { at + 60 ≤ length buf.old }
+    ensures text { take result buf.new ≡ take at buf.old ++ place_text (column_x (column view.now place)) (row_y e.now.thread.0) }
+    ensures near { result ≤ at + 60 }
+{
+    add_place(buf, at, x_of(column_of(view, place)), y_of(e.thread.0))
+}
+
+/// Adds the mark of an event.
+#[tactic(auto, unfolding(crate::specs::Shapes::mark_text))]
+pub fn add_mark(buf: &mut [u8], at: usize, view: &View, place: u64, e: &Event) -> usize
+    requires { at + 600 ≤ length buf.old }
+    ensures text { take result buf.new ≡ take at buf.old ++ mark_text view.now place e.now }
+    ensures near { result ≤ at + 600 }
+{
+    let at = add_use(buf, at, &e.action);
+    let at = add_mark_place(buf, at, view, place, e);
+    let at = add_title(buf, at, place, e);
+    add(buf, at, b"</title></use>\n")
+}
+
+// Adds what an event fails.
+fn add_why(buf: &mut [u8], at: usize, why: Broken) -> usize
+    requires { at + 20 ≤ length buf.old }
+    ensures text { take result buf.new ≡ take at buf.old ++ (codes " fails " ++ clause_word why) }
+    ensures near { result ≤ at + 20 }
+{
+    let at = add(buf, at, b" fails ");
+    add(buf, at, word_of(why))
+}
+
+/// Adds the mark of an event that fails.
+#[tactic(auto, unfolding(crate::specs::Shapes::failed_text))]
+pub fn add_failed(
+    buf: &mut [u8],
+    at: usize,
+    view: &View,
+    place: u64,
+    e: &Event,
+    why: Broken,
+) -> usize
+    requires { at + 600 ≤ length buf.old }
+    ensures text { take result buf.new ≡ take at buf.old ++ failed_text view.now place e.now why }
+    ensures near { result ≤ at + 600 }
+{
+    let at = add(buf, at, b"<use href='#F");
+    let at = add_mark_place(buf, at, view, place, e);
+    let at = add_title(buf, at, place, e);
+    let at = add_why(buf, at, why);
+    add(buf, at, b"</title></use>\n")
+}
+
+// Adds where a bar ends.
+#[tactic(auto, unfolding(crate::specs::Shapes::end_words))]
+fn add_end_words(buf: &mut [u8], at: usize, ended: bool, to: u64) -> usize
+    requires { at + 40 ≤ length buf.old }
+    ensures text { take result buf.new ≡ take at buf.old ++ end_words ended to }
+    ensures near { result ≤ at + 40 }
+{
+    if ended {
+        add_with_number(buf, at, b" to event ", to.saturating_sub(1))
+    } else {
+        add(buf, at, b" on")
+    }
+}
+
+// Adds the end of a bar's title.
+#[tactic(auto, unfolding(crate::specs::Shapes::span_text))]
+fn add_span(buf: &mut [u8], at: usize, o: &Origin, ended: bool, to: u64) -> usize
+    requires { at + 150 ≤ length buf.old }
+    ensures text { take result buf.new ≡ take at buf.old ++ span_text o.now ended to }
+    ensures near { result ≤ at + 150 }
+{
+    let at = add_with_number(buf, at, b" t", u64::from(o.thread.0));
+    let at = add_with_number(buf, at, b" from event ", o.place);
+    let at = add_end_words(buf, at, ended, to);
+    add(buf, at, b"</title></rect>\n")
+}
+
+// The first column of a bar in a band.
+fn from_of(start: u64, o: &Origin, to: u64) -> u64
+    ensures from { result ≡ bar_from start o.now to }
+    ensures before { result ≤ to }
+{
+    o.place.max(start).min(to)
+}
+
+/// Adds the bar of a mutex in the band that begins at the event `start`, up to the event before `to`.
+#[tactic(auto, unfolding(crate::specs::Shapes::bar_text))]
+pub fn add_bar(
+    buf: &mut [u8],
+    at: usize,
+    start: u64,
+    mutex: u32,
+    o: &Origin,
+    ended: bool,
+    to: u64,
+) -> usize
+    requires room { at + 350 ≤ length buf.old }
+    requires place { to < 2 ^ 42 }
+    ensures text { take result buf.new ≡ take at buf.old ++ bar_text start mutex o.now ended to }
+    ensures near { result ≤ at + 350 }
+{
+    let m = u64::from(mutex);
+    let from = from_of(start, o, to);
+    let y = 13 + y_of(o.thread.0) + 3 * (m % 3);
+    let at = add_with_number(buf, at, b"<rect class='m", m % 7);
+    let at = add_box(
+        buf,
+        at,
+        x_of(from.saturating_sub(start)),
+        y,
+        12 * (to - from),
+    );
+    let at = add_with_number(buf, at, b"' height='3'><title>m", m);
+    let at = add(buf, at, b" held by");
+    add_span(buf, at, o, ended, to)
+}
+
+/// Adds the bar of a wait, likewise.
+#[tactic(auto, unfolding(crate::specs::Shapes::wait_text))]
+pub fn add_wait_bar(
+    buf: &mut [u8],
+    at: usize,
+    start: u64,
+    o: &Origin,
+    ended: bool,
+    to: u64,
+) -> usize
+    requires room { at + 350 ≤ length buf.old }
+    requires place { to < 2 ^ 42 }
+    ensures text { take result buf.new ≡ take at buf.old ++ wait_text start o.now ended to }
+    ensures near { result ≤ at + 350 }
+{
+    let from = from_of(start, o, to);
+    let at = add(buf, at, b"<rect class='h");
+    let at = add_box(
+        buf,
+        at,
+        x_of(from.saturating_sub(start)),
+        13 + y_of(o.thread.0),
+        12 * (to - from),
+    );
+    let at = add(buf, at, b"' height='9'><title>wait of");
+    add_span(buf, at, o, ended, to)
+}
+
+/// Adds the row of a thread.
+#[tactic(auto, unfolding(crate::specs::Shapes::row_text))]
+pub fn add_row(buf: &mut [u8], at: usize, thread: u32) -> usize
+    requires { at + 200 ≤ length buf.old }
+    ensures text { take result buf.new ≡ take at buf.old ++ row_text thread }
+    ensures near { result ≤ at + 200 }
+{
+    let at = add_with_number(
+        buf,
+        at,
+        b"<rect class='r' x='40' width='1208' height='22' y='",
+        y_of(thread),
+    );
+    let at = add_with_number(buf, at, b"'/><text x='6' y='", 15 + y_of(thread));
+    let at = add_with_number(buf, at, b"'>t", u64::from(thread));
+    add(buf, at, b"</text>\n")
+}
+
+/// Adds the number of each tenth event.
+#[tactic(auto, unfolding(crate::specs::Shapes::number_text))]
+pub fn add_label(buf: &mut [u8], at: usize, view: &View, place: u64) -> usize
+    requires { at + 100 ≤ length buf.old }
+    ensures text { take result buf.new ≡ take at buf.old ++ number_text view.now place }
+    ensures near { result ≤ at + 100 }
+{
+    let column = column_of(view, place);
+    if column % 10 == 0 {
+        let at = add_with_number(buf, at, b"<text class='n' y='12' x='", x_of(column));
+        let at = add_with_number(buf, at, b"'>", place);
+        add(buf, at, b"</text>\n")
+    } else {
+        at
+    }
+}
+
+/// Adds the colour of a mutex to the legend.
+#[tactic(auto, unfolding(crate::specs::Shapes::swatch_text))]
+pub fn add_swatch(buf: &mut [u8], at: usize, mutex: u32) -> usize
+    requires { at + 250 ≤ length buf.old }
+    ensures text { take result buf.new ≡ take at buf.old ++ swatch_text mutex }
+    ensures near { result ≤ at + 250 }
+{
+    let m = u64::from(mutex);
+    let at = add_with_number(buf, at, b"<rect width='11' height='11' class='m", m % 7);
+    let at = add_place(buf, at, 44 + 43 * (m % 28), 56 + 14 * (m / 28));
+    let at = add_swatch_place(buf, at, 58 + 43 * (m % 28), 65 + 14 * (m / 28));
+    let at = add_with_number(buf, at, b"'>m", m);
+    add(buf, at, b"</text>\n")
+}
+
+// Adds the place of a name in the legend.
+fn add_swatch_place(buf: &mut [u8], at: usize, x: u64, y: u64) -> usize
+    requires { at + 80 ≤ length buf.old }
+    ensures text { take result buf.new ≡ take at buf.old ++ (with_number (codes "'/><text x='") x ++ with_number (codes "' y='") y) }
+    ensures near { result ≤ at + 60 }
+{
+    let at = add_with_number(buf, at, b"'/><text x='", x);
+    add_with_number(buf, at, b"' y='", y)
+}
