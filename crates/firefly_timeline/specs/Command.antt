@@ -52,6 +52,9 @@ pub record Change : Type 0 where
   pub before : ℕ
   pub now : ℕ
 
+abbrev pub change_of : {X : Type 0} → (X → Option (List ℕ)) → (X → ℕ) → X → X → Change
+change_of told faults old new = record { old = told old; new = told new; before = faults old; now = faults new }
+
 -- the verdict is just, the picture is drawn, and the status and the notes are the verdict's
 abbrev pub Shows : View → Change → Change → Change → Status → Type 0
 Shows v input out notes status =

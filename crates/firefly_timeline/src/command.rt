@@ -1,6 +1,6 @@
 //! The picture of a trace, with its statuses and messages.
-ghost use Rattle.std.specs.Prelude.{◌≡◌, ◌⊎◌, ◌++◌, codes, decimal};
-ghost use Rattle.firefly_timeline.specs.Command.{Fails, NotesFor, Notes, Shows, number_of, status_of};
+ghost use Rattle.std.specs.Prelude.{◌≡◌, ◌⊎◌, ◌++◌, ◌≤◌, codes, decimal, length, take};
+ghost use Rattle.firefly_timeline.specs.Command.{Fails, NotesFor, Notes, Shows, change_of, number_of, status_of};
 
 use firefly_outside::{Sink, Source, put_all};
 use trace_check::Verdict;
@@ -67,14 +67,23 @@ pub fn say<N: Sink>(notes: &mut N, message: &[u8])
     let _ = put_all(notes, message);
 }
 
+// Adds the message on a bad line to an empty buffer.
+fn add_bad_line(buf: &mut [u8], line: u64) -> usize
+    requires { 64 ≤ length buf.old }
+    ensures text { take result buf.new ≡ take 0 buf.old ++ (codes "firefly: bad line " ++ decimal line ++ codes "\n") }
+    ensures near { result ≤ 60 }
+{
+    let at = add(buf, 0, b"firefly: bad line ");
+    let at = add_number(buf, at, line);
+    add(buf, at, b"\n")
+}
+
 // Says which line is bad.
 fn say_bad_line<N: Sink>(notes: &mut N, line: u64)
     ensures { Notes (N.held notes.old) (N.held notes.new) (N.faults notes.old) (N.faults notes.new) (codes "firefly: bad line " ++ decimal line ++ codes "\n") }
 {
     let mut buf = [0; 64];
-    let at = add(&mut buf, 0, b"firefly: bad line ");
-    let at = add_number(&mut buf, at, line);
-    let at = add(&mut buf, at, b"\n");
+    let at = add_bad_line(&mut buf, line);
     say(notes, &buf[..at]);
 }
 
@@ -98,10 +107,8 @@ pub fn timeline<I: Source, O: Sink, N: Sink>(
     out: &mut O,
     notes: &mut N,
 ) -> Status
-    ensures { let i = record { old = I.left input.old; new = I.left input.new; before = I.faults input.old; now = I.faults input.new } in
-        let o = record { old = O.held out.old; new = O.held out.new; before = O.faults out.old; now = O.faults out.new } in
-        let n = record { old = N.held notes.old; new = N.held notes.new; before = N.faults notes.old; now = N.faults notes.new } in
-        Shows view.now i o n result ⊎ Fails view.now i o n result }
+    ensures { Shows view.now (change_of I.left I.faults input.old input.new) (change_of O.held O.faults out.old out.new) (change_of N.held N.faults notes.old notes.new) result
+        ⊎ Fails view.now (change_of I.left I.faults input.old input.new) (change_of O.held O.faults out.old out.new) (change_of N.held N.faults notes.old notes.new) result }
 {
     match draw_trace(input, BUDGET, view, out) {
         Ok(found) => {

@@ -1,5 +1,5 @@
 -- The pieces of bars, failing marks and swatches, as they are put.
-use Rattle.std.proofs.Common.{◌≡◌, ℕ, ◌+◌, ◌-◌, ◌*◌, ◌/◌, ◌%◌, Bool, List, ◌++◌, refl, ap, ◌∙◌}
+use Rattle.std.proofs.Common.{◌≡◌, ℕ, ◌+◌, ◌-◌, ◌*◌, ◌/◌, ◌%◌, Bool, List, ◌++◌, ap, ◌∙◌}
 use Rattle.std.specs.Prelude.{codes}
 use Rattle.larch_actions.specs.declared.event.Event.{Event}
 use Rattle.larch_actions.specs.declared.event.Broken.{Broken}
@@ -7,7 +7,7 @@ use Rattle.trace_picture.specs.declared.history.Origin.{Origin}
 use Rattle.trace_picture.specs.declared.view.View.{View}
 use Rattle.trace_picture.specs.Places.{column, column_x, row_y, bar_from}
 use Rattle.trace_picture.specs.Shapes.{with_number, box_text, place_text, span_text, bar_text, wait_text, swatch_text, failed_text, line_of, clause_word}
-use Rattle.trace_picture.proofs.Added.{added_two, added_four, added_five}
+use Rattle.trace_picture.proofs.Added.{added_four, added_five}
 
 pub added_bar : (start mutex : ℕ) (o : Origin) (ended : Bool) (to from x y m : ℕ) (old a b c d e : List ℕ) → m ≡ mutex → from ≡ bar_from start o to → x ≡ column_x (from - start) → y ≡ row_y o.thread.0
     → a ≡ old ++ with_number (codes "<rect class='m") (m % 7) → b ≡ a ++ box_text x (13 + y + 3 * (m % 3)) (12 * (to - from)) → c ≡ b ++ with_number (codes "' height='3'><title>m") m → d ≡ c ++ codes " held by" → e ≡ d ++ span_text o ended to

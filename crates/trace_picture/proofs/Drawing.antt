@@ -1,5 +1,5 @@
 -- What holds between two events of a drawing.
-use Rattle.std.proofs.Common.{◌≡◌, ◌≢◌, ℕ, ◌+◌, ◌-◌, ◌^◌, ◌<◌, ◌≤◌, ◌⊎◌, inl, inr, List, [], ◌∷◌, ◌++◌, length, length-append, take, refl, ap, sym, subst, ◌∙◌, append_assoc, append-nil, Some, None, IfSome, arith}
+use Rattle.std.proofs.Common.{◌≡◌, ℕ, ◌+◌, ◌-◌, ◌^◌, ◌<◌, ◌≤◌, inl, inr, List, [], ◌∷◌, ◌++◌, length, take, refl, ap, sym, subst, ◌∙◌, append_assoc, append-nil, Some, None, IfSome, arith}
 use Rattle.std.specs.Prelude.{codes}
 use Rattle.std.specs.Io.KnownBytes.{Appends, Consumes}
 use Rattle.std.specs.declared.option.Option.{Option}
@@ -8,7 +8,6 @@ use Rattle.firefly_outside.specs.Causes.{AppendsFront}
 use Rattle.larch_actions.specs.declared.event.Layout.{Layout}
 use Rattle.larch_actions.specs.declared.event.Event.{Event}
 use Rattle.larch_actions.specs.declared.event.Broken.{Broken}
-use Rattle.larch_actions.specs.Layout.{IsLawful, HasNames}
 use Rattle.larch_actions.specs.Actions.{Acts, Fails, at_first}
 use Rattle.larch_actions.specs.State.{Moment, spec_of, held, waiting, alerted}
 use Rattle.trace_core.specs.declared.intake.TextFault.{TextFault}

@@ -4,3 +4,4 @@ pub mod Shapes
 pub mod Bands
 pub mod Picture
 pub mod Drawn
+pub mod Laws

@@ -10,6 +10,7 @@ mod draw;
 mod endings;
 mod head;
 mod history;
+pub mod laws;
 mod shapes;
 mod tags;
 mod view;

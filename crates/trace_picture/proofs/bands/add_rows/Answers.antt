@@ -1,7 +1,5 @@
-use Rattle.std.proofs.Common.{◌≡◌, ℕ, List, ◌+◌, ◌*◌, ◌++◌, take, false, ap, sym, ◌∙◌, append-nil, arith}
-use Rattle.trace_picture.specs.History.{entry_of}
+use Rattle.std.proofs.Common.{ℕ, List, ◌+◌, ◌++◌, take, ap, sym, ◌∙◌, append-nil, arith}
 use Rattle.trace_picture.specs.Shapes.{each_below, row_text}
-use Rattle.trace_picture.specs.Bands.{bar_if, wait_if}
 use Rattle.trace_picture.proofs.Added.{each_more, each_none, added_more}
 use Rattle.trace_picture.proofs.bands.add_rows.Goals as goal
 

@@ -1,7 +1,5 @@
-use Rattle.std.proofs.Common.{◌≡◌, ◌+◌, ◌*◌, ◌≤◌, ◌++◌, take, false}
-use Rattle.trace_picture.specs.History.{entry_of}
+use Rattle.std.proofs.Common.{◌≡◌, ◌+◌, ◌*◌, ◌≤◌, ◌++◌, take}
 use Rattle.trace_picture.specs.Shapes.{each_below, row_text}
-use Rattle.trace_picture.specs.Bands.{bar_if, wait_if}
 use Rattle.trace_picture.proofs.bands.add_rows.Given as goal
 
 abbrev pub invariant-loop-t : goal.invariant-loop-t

@@ -1,4 +1,4 @@
-use Rattle.std.proofs.Common.{◌≡◌, ℕ, List, ◌+◌, ◌++◌, take, ap, ◌∙◌}
+use Rattle.std.proofs.Common.{ℕ, List, ◌+◌, ◌++◌, take, ap, ◌∙◌}
 use Rattle.std.specs.Prelude.{codes}
 use Rattle.trace_picture.specs.Shapes.{with_number}
 use Rattle.trace_picture.proofs.Added.{added_two}

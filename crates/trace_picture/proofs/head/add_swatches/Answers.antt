@@ -1,4 +1,4 @@
-use Rattle.std.proofs.Common.{◌≡◌, ℕ, List, ◌+◌, ◌*◌, ◌++◌, take, false, ap, sym, ◌∙◌, append-nil, arith}
+use Rattle.std.proofs.Common.{ℕ, List, ◌+◌, ◌++◌, take, ap, sym, ◌∙◌, append-nil, arith}
 use Rattle.trace_picture.specs.Shapes.{each_below, swatch_text}
 use Rattle.trace_picture.proofs.Added.{each_more, each_none, added_more}
 use Rattle.trace_picture.proofs.head.add_swatches.Goals as goal

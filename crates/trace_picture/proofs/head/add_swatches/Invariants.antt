@@ -1,4 +1,4 @@
-use Rattle.std.proofs.Common.{◌≡◌, ◌+◌, ◌*◌, ◌≤◌, ◌++◌, take, false}
+use Rattle.std.proofs.Common.{◌≡◌, ◌+◌, ◌*◌, ◌≤◌, ◌++◌, take}
 use Rattle.trace_picture.specs.Shapes.{each_below, swatch_text}
 use Rattle.trace_picture.proofs.head.add_swatches.Given as goal
 

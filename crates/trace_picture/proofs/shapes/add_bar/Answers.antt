@@ -1,4 +1,4 @@
-use Rattle.std.proofs.Common.{◌-◌, ap, ◌∙◌}
+use Rattle.std.proofs.Common.{ap, ◌∙◌}
 use Rattle.trace_picture.specs.Places.{column_x}
 use Rattle.trace_picture.proofs.Bars.{added_bar}
 use Rattle.trace_picture.proofs.shapes.add_bar.Goals as goal

@@ -1,6 +1,5 @@
-use Rattle.std.proofs.Common.{◌≡◌, ◌++◌, take, arith, append_assoc, rules, ap, ◌∙◌, sym}
-use Rattle.std.specs.Prelude.{codes, decimal}
-use Rattle.trace_core.specs.Text.{action_text, newline, event_line}
+use Rattle.std.proofs.Common.{◌≡◌, ◌++◌, take, arith, append_assoc, ap, ◌∙◌}
+use Rattle.trace_core.specs.Text.{newline, event_line}
 use Rattle.trace_picture.specs.Shapes.{line_of}
 use Rattle.trace_picture.proofs.Added.{cut_last}
 use Rattle.trace_picture.proofs.tags.add_line.Goals as goal

@@ -1,4 +1,4 @@
-use Rattle.std.proofs.Common.{◌≡◌, ◌<◌, length, None, Some, ap, sym, ◌∙◌, subst, rules}
+use Rattle.std.proofs.Common.{◌<◌, None, Some, ap, sym, ◌∙◌, subst, rules}
 use Rattle.larch_actions.proofs.Shown.{shown_at-set}
 use Rattle.trace_picture.specs.History.{changed, entry_of, IsWithin}
 use Rattle.trace_picture.proofs.history.Table.note.Goals as goal
