@@ -1,45 +1,29 @@
--- What holds of each thread, as it goes into a crew and as it comes back.
-use Rattle.std.proofs.Common.{◌≡◌, ◌<◌, slice_index_or, ℕ, ◌+◌, ◌*◌, List, [], ◌∷◌, length, map, Option, zero, suc, Some, arith, ap, sym, subst, ◌∙◌, refl}
-use mathlib.Core.Option.{some, some-injective, some-ne-none}
+-- What the threads of a workload leave together.
+use Rattle.std.proofs.Common.{◌≡◌, ◌≢◌, ◌<◌, ◌≤◌, ℕ, ◌+◌, ◌*◌, List, [], ◌∷◌, ◌++◌, length, length-append, map, Option, suc, Some, arith, ap, sym, subst, ◌∙◌, refl}
+use mathlib.Core.Option.{some, some-injective}
 use lib.ListN.{get_elem?}
-use Rattle.std.specs.List.{AllZip, AllByRecursion}
 use Rattle.std.proofs.lemmas.Option.{same_Some}
-use Rattle.nub_rule.specs.Items.{Each}
+use Rattle.larch_actions.specs.declared.event.Event.{Event}
+use Rattle.nub_rule.specs.Known.{Shape}
+use Rattle.nub.specs.Ended.{IsFirst}
+use Rattle.nub.proofs.Users.{idle_first, from_at}
 use Rattle.sum_uses.specs.declared.added.Added.{Added}
 use Rattle.sum_uses.specs.Sums.{added, total}
+use Rattle.firefly_bench.specs.Workloads.{HasCalled, Worker}
 
-pub across : {A B : Type 0} (R : A → B → Type 0) (P : A → Type 0) (Q : B → Type 0) → ((a : A) (b : B) → R a b → P a → Q b) → (xs : List A) (ys : List B) → AllZip R xs ys → AllByRecursion P xs → AllByRecursion Q ys
-across R P Q f [] [] h k = tt
-across R P Q f [] (y ∷ ys) h k = absurd h
-across R P Q f (x ∷ xs) [] h k = absurd h
-across R P Q f (x ∷ xs) (y ∷ ys) h k = (f x y h.0 k.0, across R P Q f xs ys h.1 k.1)
+pub one_more : (xs : List Event) (e : Event) → length ((xs ++ []) ++ e ∷ []) ≡ length xs + 1
+one_more xs e = omega (arith, length-append (xs ++ []) (e ∷ []), length-append {A = Event} xs [])
 
-pub through : {A B C : Type 0} (R : A → B → Type 0) (S : B → C → Type 0) (T : A → C → Type 0) → ((a : A) (b : B) (c : C) → R a b → S b c → T a c) → (xs : List A) (ys : List B) (zs : List C) → AllZip R xs ys → AllZip S ys zs → AllZip T xs zs
-through R S T f [] [] [] h k = tt
-through R S T f [] [] (z ∷ zs) h k = absurd k
-through R S T f [] (y ∷ ys) zs h k = absurd h
-through R S T f (x ∷ xs) [] zs h k = absurd h
-through R S T f (x ∷ xs) (y ∷ ys) [] h k = absurd k
-through R S T f (x ∷ xs) (y ∷ ys) (z ∷ zs) h k = (f x y z h.0 k.0, through R S T f xs ys zs h.1 k.1)
+pub two_more : (xs : List Event) (a b : Event) → length ((xs ++ a ∷ []) ++ b ∷ []) ≡ length xs + 2
+two_more xs a b = omega (arith, length-append (xs ++ a ∷ []) (b ∷ []), length-append xs (a ∷ []))
 
--- what is true of each element and its place, without the place
-pub each_one : {A : Type 0} (P : ℕ → A → Type 0) (Q : A → Type 0) → ((n : ℕ) (x : A) → P n x → Q x) → (xs : List A) → Each P xs → AllByRecursion Q xs
-each_one P Q f [] h = tt
-each_one P Q f (x ∷ xs) h = (f 0 x (h 0 x refl), each_one (λ n. P (suc n)) Q (λ n. f (suc n)) xs (λ n. h (suc n)))
-
--- what each of the threads left is true of it and its place
-pub each_left : {A B C : Type 0} (P : ℕ → A → Type 0) (Q : ℕ → B → Type 0) (R : A → C → Type 0) (g : C → B) → ((x : A) (c : C) → R x c → (n : ℕ) → P n x → Q n (g c)) → (xs : List A) (cs : List C) → Each P xs → AllZip R xs cs → Each Q (map g cs)
-each_left P Q R g f [] [] h k n y e = absurd (some-ne-none y (sym e))
-each_left P Q R g f [] (c ∷ cs) h k n y e = absurd k
-each_left P Q R g f (x ∷ xs) [] h k n y e = absurd k
-each_left P Q R g f (x ∷ xs) (c ∷ cs) h k zero y e = subst (Q 0) (some-injective (g c) y e) (f x c k.0 0 (h 0 x refl))
-each_left P Q R g f (x ∷ xs) (c ∷ cs) h k (suc n) y e = each_left (λ n. P (suc n)) (λ n. Q (suc n)) R g (λ x c r n. f x c r (suc n)) xs cs (λ n. h (suc n)) k.1 n y e
-
-pub left_length : {A B C : Type 0} (R : A → C → Type 0) (g : C → B) (xs : List A) (cs : List C) → AllZip R xs cs → length (map g cs) ≡ length xs
-left_length R g [] [] h = refl
-left_length R g [] (c ∷ cs) h = absurd h
-left_length R g (x ∷ xs) [] h = absurd h
-left_length R g (x ∷ xs) (c ∷ cs) h = let e = left_length R g xs cs h.1 in omega arith
+-- of at most two first threads, one that isn't the second has made no call, and is number 0
+pub first_called : (p : Shape (Unit {0})) (xs : List Worker) (n : ℕ) (x : Worker) → length xs ≤ 2 → n ≢ 1 → get_elem? xs n ≡ some x → IsFirst p (λ w t. let s : List Added = [] in s) n x → HasCalled p [] n n x
+first_called p xs n x few other at f =
+    let low = (from_at xs n x at).0 in
+    let none = ap length f.mine in
+    let zeroth : n ≡ 0 = omega arith in
+    record { idle = idle_first p (λ w t. []) n x f; made = omega arith }
 
 abbrev rest_of : {A : Type 0} → List A → List A
 rest_of [] = []
@@ -58,6 +42,7 @@ same_total share amount (x ∷ xs) (s ∷ ss) h e =
     let rest : total 0 ss ≡ length xs * amount = same_total share amount xs ss (λ n. h (suc n)) (ap rest_of e) in
     omega arith
 
-pub first_at : (xs : List ℕ) → 0 < length xs → get_elem? xs 0 ≡ some (slice_index_or xs 0 0)
-first_at [] h = absurd (omega arith)
-first_at (x ∷ xs) h = refl
+pub only_one : (xs : List ℕ) → length xs ≡ 1 → (x : ℕ) × (xs ≡ x ∷ [])
+only_one [] e = absurd (omega arith)
+only_one (x ∷ []) e = (x, refl)
+only_one (x ∷ y ∷ xs) e = absurd (omega arith)

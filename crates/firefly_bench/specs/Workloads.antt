@@ -1,11 +1,25 @@
 -- What a thread has done in a workload.
-use Rattle.std.specs.Prelude.{◌≡◌, ℕ, List, Some}
+use Rattle.std.specs.Prelude.{◌≡◌, ℕ, ◌+◌, ◌*◌, List, length}
 use Rattle.sum_uses.specs.declared.added.Added.{Added}
 use Rattle.sum_uses.specs.Sums.{added}
 use Rattle.nub_rule.specs.Known.{Known, Shape}
-use Rattle.nub.specs.Ended.{IsDone}
+use Rattle.nub.specs.Idle.{IsIdle}
 
--- the thread n of the package, which has added this much under mutex 0
-pub record HasAdded (p : Shape (Unit {0})) (amount n : ℕ) (t : Known ℕ (List Added) (Unit {0})) : Type 0 where
-  pub done : IsDone p n t
-  pub share : (s : List Added) × (t.share ≡ Some s) × (added 0 s ≡ amount)
+abbrev pub Worker : Type 0
+Worker = Known ℕ (List Added) (Unit {0})
+
+-- the thread has made this many calls, each with one event of its own
+abbrev pub HasMade : ℕ → Worker → Type 0
+HasMade count t = length t.mine ≡ count
+
+-- the thread n of the package has added 1 under mutex 0 so often, by an acquire and a release each
+pub record HasAdded (p : Shape (Unit {0})) (times n : ℕ) (t : Worker) : Type 0 where
+  pub share : List Added
+  pub idle : IsIdle p n share t
+  pub sum : added 0 share ≡ times
+  pub made : HasMade (2 * times) t
+
+-- the thread n of the package has added nothing, and made this many calls
+pub record HasCalled (p : Shape (Unit {0})) (share : List Added) (count n : ℕ) (t : Worker) : Type 0 where
+  pub idle : IsIdle p n share t
+  pub made : HasMade count t

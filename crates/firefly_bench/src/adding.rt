@@ -1,26 +1,23 @@
 //! Threads that add under one mutex.
-ghost use Rattle.std.specs.Prelude.{[], length, IfOk, ◌≡◌, ◌<◌, ◌*◌, ℕ, List, Some};
-ghost use Rattle.sum_uses.specs.declared.added.Added.{Added};
-ghost use Rattle.sum_uses.specs.Sums.{added};
+ghost use Rattle.std.specs.Prelude.{[], ◌∷◌, length, IfOk, ◌≡◌, ◌<◌, ◌*◌};
+ghost use Rattle.nub_rule.specs.Items.{Each};
 ghost use Rattle.nub.specs.Ended.{IsFirst};
-ghost use Rattle.firefly_bench.specs.Workloads.{HasAdded};
+ghost use Rattle.firefly_bench.specs.Workloads.{HasAdded, HasMade};
 
-use crate::crew::{Left, at_once};
 use crate::words::Count;
-use larch_actions::{Layout, MutexId};
-use nub::{close_package, open_package};
-use nub_rule::{Package, Thread};
+use nub::{Closed, Layout, MutexId, Package, Thread, close_package, open_package};
+use package_crew::at_once;
 use std::alloc::{AllocError, Global};
 use std::sync::Wait;
 use std::thread::Threads;
 use sum_uses::{AddChange, SumUses};
 use user_mutex::locked;
 
-/// The value under the mutex, and the wrapping sum of the threads' own numbers.
-#[derive(Clone, Copy)]
-pub struct Sums {
-    pub value: u64,
-    pub own: u64,
+/// The package that threads have added in, and the number that each has turned beside that.
+#[derive(Drop)]
+pub struct Added {
+    pub closed: Closed<SumUses>,
+    pub own: Vec<u64>,
 }
 
 /// The number after so many turns.
@@ -42,17 +39,17 @@ fn add_many<R: Wait>(
     mut me: Thread<SumUses>,
     times: u32,
     outside: u32,
-) -> Left
+) -> (Thread<SumUses>, u64)
     requires named { 0 < shared.now.layout.mutexes }
-    requires first { (n : ℕ) × IsFirst shared.now (λ w t. []) n me }
-    ensures { (n : ℕ) → IsFirst shared.now (λ w t. []) n me → HasAdded shared.now times n result.me }
+    requires first { IsFirst shared.now (λ w t. []) me.number me }
+    ensures { HasAdded shared.now times me.number result.0 }
 {
     let mut number = me.number() as u64 + 1;
     for _i in 0..times {
         locked::<SumUses, AddChange, (), _, R>(rt, shared, &mut me, MutexId(0), |x| *x += 1);
         number = turned(number, outside);
     }
-    Left { me, number }
+    (me, number)
 }
 
 /// So many threads add 1 this many times, all at once.
@@ -62,8 +59,10 @@ pub fn add_at_once<R: Threads + Wait + Sync>(
     threads: Count,
     times: u32,
     outside: u32,
-) -> Result<Sums, AllocError>
-    ensures { IfOk result (λ sums. sums.value ≡ threads.number * times) }
+) -> Result<Added, AllocError>
+    ensures value { IfOk result (λ r. r.closed.values ≡ (threads.number * times) ∷ []) }
+    ensures count { IfOk result (λ r. length r.closed.threads ≡ threads.number) }
+    ensures each { IfOk result (λ r. Each (λ n t. HasMade (2 * times) t) r.closed.threads) }
 {
     let layout = Layout {
         threads: threads.number,
@@ -77,12 +76,11 @@ pub fn add_at_once<R: Threads + Wait + Sync>(
         rt,
         alloc,
         threads,
-        &|me: Thread<SumUses>| -> Left
-            requires { (0 < shared.layout.mutexes) × ((n : ℕ) × IsFirst shared (λ w t. []) n me) }
-            ensures { (n : ℕ) → IsFirst shared (λ w t. []) n me → HasAdded shared times n result.me }
+        &|me: Thread<SumUses>| -> (Thread<SumUses>, u64)
+            requires { (0 < shared.layout.mutexes) × IsFirst shared (λ w t. []) me.number me }
+            ensures { HasAdded shared times me.number result.0 }
         { add_many(rt, &shared, me, times, outside) },
     )?;
     let closed = close_package(shared, threads)?;
-    let value = closed.values()[0];
-    Ok(Sums { value, own })
+    Ok(Added { closed, own })
 }

@@ -3,11 +3,10 @@
 #![tactic(auto)]
 
 mod adding;
-mod crew;
 mod turning;
 mod words;
 
-use adding::add_at_once;
+use adding::{Added, add_at_once};
 use anyhow::{Context, Result};
 use std::alloc::Global;
 use std::env;
@@ -25,32 +24,43 @@ const SMALL: [&str; 5] = [
     "sem_pingpong 1000",
 ];
 
+/// The wrapping sum of the numbers.
+fn sum_of(numbers: &[u64]) -> u64 {
+    let mut sum = 0u64;
+    for number in numbers {
+        sum = sum.wrapping_add(*number);
+    }
+    sum
+}
+
 /// Runs the workload that the words say, and prints its line.
 fn run<R: Threads + Wait + Sync + Print>(rt: &R, alloc: Global, words: &[&str]) -> Result<()> {
     let workload = words::read(words).context(format_args!("no such workload"))?;
     match workload {
         Workload::Uncontended { times } => {
-            let sums = add_at_once(rt, alloc, Count::ONE, times, 0)?;
-            println!(rt; "uncontended {times} sum {}", sums.value)?;
+            let added = add_at_once(rt, alloc, Count::ONE, times, 0)?;
+            println!(rt; "uncontended {times} sum {}", added.closed.values()[0])?;
         }
         Workload::Contended {
             threads,
             times,
             outside,
         } => {
-            let sums = add_at_once(rt, alloc, threads, times, outside)?;
+            let Added { closed, own } = add_at_once(rt, alloc, threads, times, outside)?;
             println!(rt;
                 "contended {} {times} sum {} own {}",
-                threads.number, sums.value, sums.own
+                threads.number,
+                closed.values()[0],
+                sum_of(&own)
             )?;
         }
         Workload::Semaphore { times } => {
-            let sum = turn_at_once(rt, alloc, 1, times)?;
-            println!(rt; "semaphore {times} sum {sum}")?;
+            let turned = turn_at_once(rt, alloc, 1, times)?;
+            println!(rt; "semaphore {times} sum {}", sum_of(&turned.turns))?;
         }
         Workload::SemPingpong { times } => {
-            let sum = turn_at_once(rt, alloc, 2, times)?;
-            println!(rt; "sem_pingpong {times} sum {sum}")?;
+            let turned = turn_at_once(rt, alloc, 2, times)?;
+            println!(rt; "sem_pingpong {times} sum {}", sum_of(&turned.turns))?;
         }
     }
     Ok(())

@@ -1,3 +1,4 @@
 pub mod Closing
 pub mod Places
+pub mod Users
 pub mod Without

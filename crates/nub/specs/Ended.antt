@@ -11,18 +11,19 @@ use Rattle.nub_rule.specs.Known.{Known, Shape}
 use Rattle.nub_rule.specs.Items.{Each}
 use Rattle.nub.specs.Rest.{AtRest}
 
--- the layout, the last released value of each mutex, and the whole history of a traced run
-pub record Ended (T : Type 0) : Type 0 where
+-- the layout, the last released value of each mutex, the whole history of a traced run, and each thread as it came back
+pub record Ended (T H W : Type 0) : Type 0 where
   pub layout : Layout
   pub values : List T
   pub trace : Opt (List Event)
+  pub threads : List (Known T H W)
 
 abbrev pub trace_of : Opt (Vec Event Global) → Opt (List Event)
 trace_of None = None
 trace_of (Some v) = Some v.items
 
-abbrev pub ended : {T : Type 0} → Layout → Vec T Global → Opt (Vec Event Global) → Ended T
-ended l values trace = record { layout = l; values = values.items; trace = trace_of trace }
+abbrev pub ended : {T H W : Type 0} → Layout → Vec T Global → Opt (Vec Event Global) → List (Known T H W) → Ended T H W
+ended l values trace threads = record { layout = l; values = values.items; trace = trace_of trace; threads = threads }
 
 module _ {T H W : Type 0} where
   -- the thread n of the package, which has done nothing and has its first share

@@ -1,3 +1,4 @@
 pub mod Ended
 pub mod History
+pub mod Idle
 pub mod Rest

@@ -2,23 +2,25 @@
 ghost use Rattle.std.specs.Prelude.{◌≡◌, MatchOption};
 
 use larch_actions::{Event, Layout};
-use nub_rule::Uses;
+use nub_rule::{Thread, Uses};
 use std::marker::Model;
+use std::snapshot::Snapshot;
 
-/// What is left of a package that was closed. Only closing makes one.
+/// What is left of a package that was closed. Only closing makes one. Contracts see each of its threads too, as it came back.
 #[derive(Drop)]
 pub struct Closed<U: Uses> {
     pub(crate) layout: Layout,
     pub(crate) values: Vec<U::Value>,
     pub(crate) trace: Option<Vec<Event>>,
+    pub(crate) threads: Snapshot<Vec<Thread<U>>>,
 }
 
 impl<U: Uses> Model for Closed<U> {
     ghost use Rattle.nub.specs.Ended.{Ended, ended};
 
-    ghost Value = { Ended U.Value };
+    ghost Value = { Ended U.Value U.Share U.World };
 
-    ghost view = { λ c. ended c.layout c.values c.trace };
+    ghost view = { λ c. ended c.layout c.values c.trace c.threads.value.items };
 }
 
 impl<U: Uses> Closed<U> {

@@ -15,6 +15,8 @@ mod trace_order;
 mod whole;
 
 pub use closed::Closed;
+pub use larch_actions::{Action, CondId, Event, Layout, MutexId, SemId, ThreadId};
+pub use nub_rule::{Change, NoChange, Package, Thread, Uses};
 pub use pen::{begin_event, end_event};
 pub use queue::{pop, push, remove, wake};
 pub use sleeping::sleep;

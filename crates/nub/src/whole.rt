@@ -11,6 +11,7 @@ use super::trace_order::in_order;
 use larch_actions::Layout;
 use nub_rule::{Package, Remains, Thread, Uses};
 use std::alloc::{AllocError, Global};
+use std::snapshot::Snapshot;
 
 /// A package and its threads, in order of their numbers. Its one refusal is want of memory, and then the values are dropped.
 pub fn open_package<U: Uses>(
@@ -41,6 +42,7 @@ pub fn close_package<U: Uses>(
     requires count { length threads.items ≡ p.layout.threads }
     requires threads { Each (IsDone p) threads.items }
     ensures layout { IfOk result (λ c. c.layout ≡ p.layout) }
+    ensures threads { IfOk result (λ c. c.threads ≡ threads.items) }
     ensures values { IfOk result (λ c. (length c.values ≡ p.layout.mutexes) × KeepsLocks (U.holds p.world) threads.items c.values) }
     ensures untraced { p.traced ≡ false → (is_ok result ≡ true) × IfOk result (λ c. c.trace ≡ None) }
     ensures traced { p.traced ≡ true → IfOk result (λ c. (h : List Event) × (c.trace ≡ Some h) × IsWhole threads.items h) }
@@ -48,12 +50,14 @@ pub fn close_package<U: Uses>(
     let alloc = *threads.allocator();
     let layout = p.layout();
     let traced = p.traced();
+    let last = Snapshot::of(&threads);
     let Remains { values, stored } = nub_rule::close_package(alloc, p, threads);
     if !traced {
         return Ok(Closed {
             layout,
             values,
             trace: None,
+            threads: last,
         });
     }
     let events = in_order(alloc, stored.as_slice())?;
@@ -61,5 +65,6 @@ pub fn close_package<U: Uses>(
         layout,
         values,
         trace: Some(events),
+        threads: last,
     })
 }

@@ -1,5 +1,5 @@
--- What adding does to the sums, and lists read in two ways.
-use Rattle.std.proofs.Common.{◌≡◌, ◌≢◌, ℕ, ◌+◌, ◌-◌, ◌<◌, ◌≤◌, List, [], ◌∷◌, length, map, get_or, zero, suc, arith, sym, ap, subst, ◌∙◌, refl}
+-- What adding does to the sums.
+use Rattle.std.proofs.Common.{◌≡◌, ◌≢◌, ℕ, ◌+◌, ◌-◌, ◌≤◌, List, [], ◌∷◌, length, map, replicate, zero, suc, arith, sym, ap, subst, ◌∙◌, refl}
 use mathlib.Core.Option.{some, some-injective, some-ne-none}
 use lib.ListN.{get_elem?}
 use Rattle.std.specs.List.{range_with_len}
@@ -49,11 +49,7 @@ pub one_zero : (m x : ℕ) → get_elem? (0 ∷ []) m ≡ some x → x ≡ 0
 one_zero zero x e = sym (some-injective 0 x e)
 one_zero (suc m) x e = absurd (some-ne-none x (sym e))
 
-pub two_zeros : (m x : ℕ) → get_elem? (0 ∷ 0 ∷ []) m ≡ some x → x ≡ 0
-two_zeros zero x e = sym (some-injective 0 x e)
-two_zeros (suc m) x e = one_zero m x e
-
-pub from_at : {A : Type 0} (xs : List A) (n : ℕ) (t : A) → get_elem? xs n ≡ some t → (n < length xs) × (t ≡ get_or xs n t)
-from_at [] n t e = absurd (some-ne-none t (sym e))
-from_at (x ∷ xs) zero t e = (omega arith, sym (some-injective x t e))
-from_at (x ∷ xs) (suc n) t e = let r = from_at xs n t e in let low = r.0 in (omega arith, r.1)
+pub all_zero : (n m x : ℕ) → get_elem? (replicate n 0) m ≡ some x → x ≡ 0
+all_zero zero m x e = absurd (some-ne-none x (sym e))
+all_zero (suc n) zero x e = sym (some-injective 0 x e)
+all_zero (suc n) (suc m) x e = all_zero n m x e

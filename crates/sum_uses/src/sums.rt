@@ -38,14 +38,14 @@ impl Change<SumUses> for AddChange {
 }
 
 /// The value that the holder of a mutex gives back after an addition to the one that it got. It may be given back with `AddChange`,
-/// while its thread has added little.
+/// while its thread has added little, and then the thread's share has this much more under the mutex.
 #[inline]
 pub fn add_to(got: u64, amount: u64) -> u64
     requires got { got ≤ 25600000000000 }
     requires amount { amount ≤ 100000000000 }
     ensures sum { result ≡ got + amount }
-    ensures allowed { (m : ℕ) (s : List Added) → added m s + amount ≤ 100000000000 → GrowsAlike m got result s (grown m got result s) }
-    ensures share { (m : ℕ) (s : List Added) → added m (grown m got result s) ≡ added m s + amount }
+    ensures allowed { (m t : ℕ) (s : List Added) → added m s + amount ≤ 100000000000 → ⟦<SumUses as Uses>⟧.allows tt m t got result s (⟦<AddChange as Change<SumUses>>⟧.after tt m t got result s) }
+    ensures share { (m t : ℕ) (s : List Added) → added m (⟦<AddChange as Change<SumUses>>⟧.after tt m t got result s) ≡ added m s + amount }
 {
     got + amount
 }

@@ -1,6 +1,7 @@
+//! Starting the jobs of a crew, and joining them.
 ghost use Rattle.std.specs.Prelude.{◌≡◌, ◌≤◌, ◌+◌, [], List, vec_len, vec_capacity, IfOk, IfErr, length, Bool};
 ghost use Rattle.std.specs.List.{AllZip, AllByRecursion};
-ghost use Rattle.thread_crew.specs.Crews.{IsChildOf, IsRunning, Turns};
+ghost use Rattle.thread_crew.specs.Crews.{IsChildOf, IsRunning, Told, Turns};
 
 use crate::child::{Child, Running};
 use crate::outcome::{Finished, NotRun};
@@ -69,16 +70,6 @@ fn join_all<R: Threads, T: Task<Output = X>, X: Drop>(
     results
 }
 
-/// Whether some job was not started.
-fn some_held<T: Task<Output = X>, X, F>(children: &Vec<Child<X, Gives<T>, F>>) -> bool {
-    for child in children {
-        if let Child::Held(_) = child {
-            return true;
-        }
-    }
-    false
-}
-
 /// Starts the jobs, calls `between`, runs here what could not be started, and joins all.
 fn in_scope<
     's,
@@ -103,13 +94,14 @@ fn in_scope<
     requires results { (results.items ≡ []) × (vec_len jobs ≤ vec_capacity results) }
     requires between { (refused : Bool) → M.pre between refused }
     ensures done { IfOk result (λ r. AllZip T.run_gives jobs.items r.results.items) }
-    ensures between { IfOk result (λ r. (refused : Bool) × M.post between refused r.between) }
+    ensures between { IfOk result (λ r. (refused : Bool) × Told starts jobs.items refused × M.post between refused r.between) }
     ensures jobs_back { IfErr result (λ back. back.jobs ≡ jobs) }
     ensures between_back { IfErr result (λ back. back.between ≡ between) }
 {
     let Ok(mut children) = Vec::with_capacity(alloc, jobs.len()) else {
         return Err(NotRun { jobs, between });
     };
+    let mut some_held = false;
     for job in jobs {
         let promise = Gives {
             task: Snapshot::of(&job),
@@ -121,24 +113,30 @@ fn in_scope<
         let child = if children.len() < starts {
             match scope.spawn_with(promise, work) {
                 Ok(handle) => Child::Started(handle),
-                Err(refused) => Child::Held(refused.value),
+                Err(refused) => {
+                    some_held = true;
+                    Child::Held(refused.value)
+                }
             }
         } else {
             drop(promise);
+            some_held = true;
             Child::Held(work)
         };
         let Ok(()) = children.push(child) else {
             unreachable!()
         };
     }
-    let between = between(some_held(&children));
+    let between = between(some_held);
     let results = join_all(rt, run_held(children, running), results);
     Ok(Finished { results, between })
 }
 
 /// Runs each job in a thread of its own, where it is below `starts` and a thread can be made, and else here once the others were started.
-/// Before that `between` is called here, and told whether some job was not started.
-/// On `Err` there was no memory, and nothing has run.
+/// Before that `between` is called here, and told whether some job was not started: true where there are more jobs than `starts`, and
+/// false where there is none.
+///
+/// It blocks until each job has ended, for ever where one never does. On `Err` there was no memory, and nothing has run.
 pub fn run_crew<
     R: Threads + Wait,
     T: Task<Output = X> + Send + Drop,
@@ -155,7 +153,7 @@ pub fn run_crew<
     requires jobs { AllByRecursion T.can_run jobs.items }
     requires between { (refused : Bool) → M.pre between refused }
     ensures done { IfOk result (λ r. AllZip T.run_gives jobs.items r.results.items) }
-    ensures between { IfOk result (λ r. (refused : Bool) × M.post between refused r.between) }
+    ensures between { IfOk result (λ r. (refused : Bool) × Told starts jobs.items refused × M.post between refused r.between) }
     ensures jobs_back { IfErr result (λ back. back.jobs ≡ jobs) }
     ensures between_back { IfErr result (λ back. back.between ≡ between) }
 {
@@ -170,7 +168,7 @@ pub fn run_crew<
         rt,
         |scope| -> Result<Finished<X, Y>, NotRun<T, M>>
             requires { AllByRecursion T.can_run jobs.items × ((running.items ≡ []) × (vec_len jobs ≤ vec_capacity running)) × ((results.items ≡ []) × (vec_len jobs ≤ vec_capacity results)) × ((refused : Bool) → M.pre between refused) }
-            ensures { IfOk result (λ r. AllZip T.run_gives jobs.items r.results.items × ((refused : Bool) × M.post between refused r.between)) × IfErr result (λ back. (back.jobs ≡ jobs) × (back.between ≡ between)) }
+            ensures { IfOk result (λ r. AllZip T.run_gives jobs.items r.results.items × ((refused : Bool) × Told starts jobs.items refused × M.post between refused r.between)) × IfErr result (λ back. (back.jobs ≡ jobs) × (back.between ≡ between)) }
         { in_scope(scope, rt, alloc, jobs, starts, running, results, between) },
     )
 }

@@ -1,3 +1,4 @@
+//! What running a crew answers.
 /// What a crew gave.
 #[derive(Drop)]
 pub struct Finished<X, Y> {

@@ -1,3 +1,4 @@
+//! Crews whose jobs wait for one another.
 ghost use Rattle.std.specs.Prelude.{◌<◌};
 
 use crate::{Call, Finished, NotRun, run_crew};

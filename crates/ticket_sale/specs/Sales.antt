@@ -1,13 +1,16 @@
 -- The tickets that are left, and what each thread has sold.
-use Rattle.std.specs.Prelude.{◌≡◌, ◌≢◌, ℕ, ◌+◌, ◌≤◌, true, List, [], ◌∷◌, length, slice_set, Some}
+use Rattle.std.specs.Prelude.{◌≡◌, ◌≢◌, ℕ, ◌+◌, ◌≤◌, true, false, List, [], ◌∷◌, length, slice_set, Some}
 use Rattle.std.proofs.Common.{zero, suc, arith, sym, ap, ◌∙◌, ⊎_elim, refl}
 use mathlib.Core.Option.{some, some-injective, some-ne-none}
 use lib.ListN.{get_elem?}
 use Rattle.std.proofs.lemmas.List.{length-set}
 use Rattle.atomic_table.proofs.Lists.{at_set}
-use Rattle.nub_rule.specs.Known.{Known, Shape}
-use Rattle.nub.specs.Ended.{IsDone}
+use Rattle.nub_rule.specs.Known.{Known}
 use Rattle.ticket_sale.specs.declared.uses.Sold.{Sold}
+
+-- of who has sold nothing yet
+abbrev pub none_sold : Sold
+none_sold = record { count = 0; none_left = false }
 
 -- how many tickets the shares have sold
 abbrev pub sold_by : List Sold → ℕ
@@ -30,13 +33,19 @@ pub record IsSale (left now : ℕ) (s r : Sold) : Type 0 where
   pub alike : left + s.count ≡ now + r.count
   pub told : r.none_left ≡ true → now ≡ 0
 
--- the thread n is done, has sold this many tickets, and has seen none left
-pub record HasSold (p : Shape ℕ) (n : ℕ) (t : Known ℕ Sold ℕ) (sold : ℕ) : Type 0 where
-  pub done : IsDone p n t
+-- the thread has sold this many of the tickets, and has seen none left
+pub record HasSold (tickets : ℕ) (t : Known ℕ Sold ℕ) (sold : ℕ) : Type 0 where
+  pub world : t.world ≡ Some tickets
   pub share : Sold
   pub is_share : t.share ≡ Some share
   pub count : share.count ≡ sold
   pub seen : share.none_left ≡ true
+
+-- the thread n has sold as many of the tickets as stands at n
+pub record IsSaid (tickets : ℕ) (said : List ℕ) (n : ℕ) (t : Known ℕ Sold ℕ) : Type 0 where
+  pub sold : ℕ
+  pub is_said : get_elem? said n ≡ some sold
+  pub has : HasSold tickets t sold
 
 own_sold : (shares : List Sold) (t : ℕ) (s : Sold) → get_elem? shares t ≡ some s → s.count ≤ sold_by shares
 own_sold [] t s e = absurd (some-ne-none s (sym e))

@@ -1,8 +1,8 @@
 //! What stands behind the mutex: how many tickets are left.
-ghost use Rattle.std.specs.Prelude.{◌+◌, ◌-◌, false, eqb};
-ghost use Rattle.ticket_sale.specs.Sales.{AreSold, IsPart, IsSale, fits_part, after_sale};
+ghost use Rattle.std.specs.Prelude.{◌+◌, ◌-◌, eqb};
+ghost use Rattle.ticket_sale.specs.Sales.{AreSold, IsPart, IsSale, none_sold, fits_part, after_sale};
 
-use nub_rule::{Change, Uses};
+use nub::{Change, Uses};
 
 /// What a thread has sold, and whether it has seen none left.
 pub struct Sold {
@@ -20,7 +20,7 @@ impl Uses for Tickets {
 
     type Share = Sold;
 
-    ghost begin = { λ w t. record { count = 0; none_left = false } };
+    ghost begin = { λ w t. none_sold };
 
     ghost holds = { λ w values shares. AreSold w values shares };
 

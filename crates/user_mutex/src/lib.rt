@@ -4,16 +4,14 @@
 //! Nothing is said of waiting: not that a thread ever gets the mutex, nor that anyone is served before another.
 #![tactic(auto)]
 
-#[cfg(test)]
-mod tests;
-
-ghost use Rattle.std.specs.Prelude.{◌≡◌, ◌<◌, ◌∷◌, [], slice_set, Some, None};
+ghost use Rattle.std.specs.Prelude.{◌≡◌, ℕ, ◌<◌, ◌∷◌, [], slice_set, Some, None};
 ghost use mathlib.Core.Option.{some};
 ghost use lib.ListN.{get_elem?};
 ghost use Rattle.std.specs.Fn.{FnOnceReturnsAtMut};
 ghost use Rattle.nub_rule.specs.Known.{Holds};
 ghost use Rattle.nub_rule.specs.Plays.{acquire_event, release_event};
 ghost use Rattle.nub.specs.Rest.{AtRest, Adds, IsSame};
+ghost use Rattle.nub.specs.Idle.{IsIdle};
 
 use gate::{free, take};
 use larch_actions::{Action, Event, MutexId, ThreadId};
@@ -21,6 +19,9 @@ use nub_rule::{Change, Object, Package, Thread, Uses, put_value, take_value};
 use std::sync::Wait;
 
 /// Takes the mutex, and its value.
+///
+/// It blocks while another thread has the mutex, for ever if that one never gives it back: only a `release` of the mutex ends the wait,
+/// and then any of those who wait may get it, or a thread that came later. Nobody may call it for a mutex that it has itself.
 #[inline]
 pub fn acquire<U: Uses, R: Wait>(rt: &R, p: &Package<U>, me: &mut Thread<U>, m: MutexId) -> U::Value
     requires rest { AtRest p.now me.old }
@@ -42,7 +43,10 @@ pub fn acquire<U: Uses, R: Wait>(rt: &R, p: &Package<U>, me: &mut Thread<U>, m: 
     take_value(p, me, m)
 }
 
-/// Gives the mutex back, with this value.
+/// Gives the mutex back, with this value, and makes a thread that waits for it try again. Only the thread that has the mutex may call it.
+///
+/// It doesn't wait for another thread to give anything back. In the package itself it may wait for a moment, as each call may: for the
+/// spin word of the mutex, where a thread stands in the queue, and in a traced package for its turn to number the event.
 #[inline]
 pub fn release<U: Uses, C: Change<U>, R: Wait>(
     rt: &R,
@@ -69,6 +73,9 @@ pub fn release<U: Uses, C: Change<U>, R: Wait>(
 }
 
 /// Takes the mutex, lets f work on its value, and gives it back.
+///
+/// It blocks as `acquire` does, and for as long as f runs all others wait for the mutex. Nobody may call it for a mutex that it has
+/// itself, so f can't either: it doesn't get the thread.
 #[inline]
 pub fn locked<U: Uses, C: Change<U>, X, F: FnOnce(&mut U::Value) -> X, R: Wait>(
     rt: &R,
@@ -85,9 +92,11 @@ pub fn locked<U: Uses, C: Change<U>, X, F: FnOnce(&mut U::Value) -> X, R: Wait>(
     ensures rest { AtRest p.now me.new }
     ensures same { IsSame me.old me.new }
     ensures event { Adds (acquire_event me.old.number m.0 ∷ []) (release_event me.old.number m.0) me.old me.new }
-    ensures held { me.new.held ≡ slice_set me.old.held m.0 None }
+    ensures held { me.new.held ≡ me.old.held }
     ensures answer { (x : U.Value) × (y : U.Value) × FnOnceReturnsAtMut F.FnOnce f x result y
         × ((w : U.World) (s : U.Share) → me.old.world ≡ Some w → me.old.share ≡ Some s → U.fits w m.0 x me.old.number s × (me.new.share ≡ Some (C.after w m.0 me.old.number x y s))) }
+    ensures idle { (n : ℕ) (s : U.Share) → IsIdle p.now n s me.old → (x : U.Value) × (y : U.Value) × FnOnceReturnsAtMut F.FnOnce f x result y
+        × U.fits p.now.world m.0 x n s × IsIdle p.now n (C.after p.now.world m.0 n x y s) me.new }
 {
     let mut value = acquire(rt, p, me, m);
     let answer = f(&mut value);

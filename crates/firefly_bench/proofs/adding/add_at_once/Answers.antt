@@ -1,44 +1,50 @@
-use Rattle.std.proofs.Common.{◌≡◌, ◌*◌, ◌<◌, [], length, ap, sym, ◌∙◌, arith, rules, slice_index_or}
+use Rattle.std.proofs.Common.{◌≡◌, ◌*◌, ◌<◌, ℕ, [], ◌∷◌, length, ap, sym, subst, ◌∙◌, arith, rules}
+use mathlib.Core.Option.{some}
 use lib.ListN.{get_elem?}
-use Rattle.nub.specs.Ended.{IsFirst}
+use Rattle.nub.proofs.Users.{first_own, idle_done}
 use Rattle.sum_uses.proofs.Adding.{sums_begin, one_zero}
-use Rattle.firefly_bench.specs.Workloads.{HasAdded}
-use Rattle.firefly_bench.proofs.Crewing.{each_one, each_left, left_length, same_total, first_at}
+use Rattle.firefly_bench.specs.Workloads.{HasAdded, Worker}
+use Rattle.firefly_bench.proofs.Crewing.{same_total, only_one}
 use Rattle.firefly_bench.proofs.adding.add_at_once.Goals as goal
 
 pub open_package-requires-clause-holds : goal.open_package-requires-clause-holds
 open_package-requires-clause-holds g c κs = let few = c.args.threads.in_package.1 in sums_begin c.in_ok-values.values.items c.args.threads.number (λ m x e. one_zero m x (ap (λ l. get_elem? l m) (sym c.in_ok-values.ensures.items) ∙ e)) (omega arith)
 
 pub at_once-requires-after_bounds : goal.at_once-requires-after_bounds
-at_once-requires-after_bounds g c κs within =
+at_once-requires-after_bounds g c κs within = λ n t at.
     let mutexes = ap (λ l. l.mutexes) c.in_ok-shared.ensures.package.0 in
-    each_one (λ n t. IsFirst c.in_ok-shared.shared (λ w t. []) n t) _ (λ n x h. ((omega arith), (n, h))) c.in_ok-shared.threads.items c.in_ok-shared.ensures.threads
-
-pub close_package-requires-clause-count : goal.close_package-requires-clause-count
-close_package-requires-clause-count g c κs =
-    let left = c.in_ok-threads.ensures in
-    let same = left_length _ (λ l. l.me) c.in_ok-shared.threads.items left.0 left.1 in
-    let here = ap length left.2 in
-    let all = c.in_ok-shared.ensures.count in
-    let layout = ap (λ l. l.threads) c.in_ok-shared.ensures.package.0 in
-    omega arith
+    (omega arith, first_own c.in_ok-shared.shared (λ w t. []) n t (c.in_ok-shared.ensures.threads n t at))
 
 pub close_package-requires-clause-threads : goal.close_package-requires-clause-threads
-close_package-requires-clause-threads g c κs = λ n x at.
-    let left = c.in_ok-threads.ensures in
-    (each_left (λ n t. IsFirst c.in_ok-shared.shared (λ w t. []) n t) (λ n t. HasAdded c.in_ok-shared.shared c.args.times n t) _ (λ l. l.me) (λ x l r. r.1) c.in_ok-shared.threads.items left.0 c.in_ok-shared.ensures.threads left.1 n x (ap (λ l. get_elem? l n) (sym left.2) ∙ at)).done
+close_package-requires-clause-threads g c κs = λ n t at.
+    let back = c.in_ok-threads.ensures.each n t at in
+    let own : HasAdded c.in_ok-shared.shared c.args.times back.was.number t = (let goes = back.goes in search rules) in
+    let added = subst (λ k. HasAdded c.in_ok-shared.shared c.args.times k t) (c.in_ok-shared.ensures.threads n back.was back.is_was).number own in
+    idle_done c.in_ok-shared.shared n added.share t added.idle
 
-pub returns : goal.returns
-returns g c =
-    let left = c.in_ok-threads.ensures in
-    let own = each_left (λ n t. IsFirst c.in_ok-shared.shared (λ w t. []) n t) (λ n t. HasAdded c.in_ok-shared.shared c.args.times n t) _ (λ l. l.me) (λ x l r. r.1) c.in_ok-shared.threads.items left.0 c.in_ok-shared.ensures.threads left.1 in
-    let kept = c.in_ok-closed.ensures.values.1 in
-    let sum = same_total (λ t. t.share) c.args.times c.in_ok-threads.threads.items kept.shares (λ n x at. (own n x (ap (λ l. get_elem? l n) (sym left.2) ∙ at)).share) kept.each_share in
-    let same = left_length _ (λ l. l.me) c.in_ok-shared.threads.items left.0 left.1 in
-    let here = ap length left.2 in
-    let all = c.in_ok-shared.ensures.count in
-    let count : length c.in_ok-threads.threads.items ≡ c.args.threads.number = omega arith in
+pub returns-clause-value : goal.returns-clause-value
+returns-clause-value g c =
+    let threads = c.in_ok-threads.threads.items in
+    let values = c.in_ok-closed.closed.values in
+    let each : (n : ℕ) (t : Worker) → get_elem? threads n ≡ some t → HasAdded c.in_ok-shared.shared c.args.times n t = λ n t at.
+    let back = c.in_ok-threads.ensures.each n t at in
+    let own : HasAdded c.in_ok-shared.shared c.args.times back.was.number t = (let goes = back.goes in search rules) in
+    let added = subst (λ k. HasAdded c.in_ok-shared.shared c.args.times k t) (c.in_ok-shared.ensures.threads n back.was back.is_was).number own in
+    added in
     let mutexes = ap (λ l. l.mutexes) c.in_ok-shared.ensures.package.0 in
     let long = c.in_ok-closed.ensures.values.0 in
-    let x = slice_index_or c.in_ok-closed.closed.values 0 0 in
-    ap (λ l. slice_index_or l 0 0) c.values.ensures ∙ kept.kept.sums 0 x (first_at c.in_ok-closed.closed.values (omega arith)) ∙ sum ∙ ap (λ k. k * c.args.times) count
+    let one = only_one values (omega arith) in
+    let kept = c.in_ok-closed.ensures.values.1 in
+    let sum = same_total (λ t. t.share) c.args.times threads kept.shares (λ n t at. let a = each n t at in (a.share, a.idle.share, a.sum)) kept.each_share in
+    let back = c.in_ok-threads.ensures.threads in
+    let all = c.in_ok-shared.ensures.count in
+    let count : length threads ≡ c.args.threads.number = omega arith in
+    one.1 ∙ ap (λ k. k ∷ []) (kept.kept.sums 0 one.0 (ap (λ l. get_elem? l 0) one.1) ∙ sum ∙ ap (λ k. k * c.args.times) count)
+
+pub returns-clause-each : goal.returns-clause-each
+returns-clause-each g c = λ n t there.
+    let at = ap (λ l. get_elem? l n) (sym c.in_ok-closed.ensures.threads) ∙ there in
+    let back = c.in_ok-threads.ensures.each n t at in
+    let own : HasAdded c.in_ok-shared.shared c.args.times back.was.number t = (let goes = back.goes in search rules) in
+    let added = subst (λ k. HasAdded c.in_ok-shared.shared c.args.times k t) (c.in_ok-shared.ensures.threads n back.was back.is_was).number own in
+    added.made

@@ -1,13 +1,27 @@
-use Rattle.std.proofs.Common.{refl, ap, sym, ◌∙◌}
-use lib.ListN.{get_elem?}
+use Rattle.std.proofs.Common.{◌≡◌, ◌+◌, ◌*◌, [], length, refl, arith, ap, subst, ◌∙◌, ℕ}
+use Rattle.firefly_bench.specs.Workloads.{HasCalled}
+use Rattle.firefly_bench.proofs.Crewing.{one_more}
 use Rattle.firefly_bench.proofs.turning.turn.Goals as goal
 
 pub loop-i-init : goal.loop-i-init
-loop-i-init g c = let d = c.requires.done.1 in record { rest = d.rest; number = refl; held = refl }
+loop-i-init g c = let d = c.requires.called in let made = d.made in record { called = record { idle = d.idle; made = omega arith }; number = refl }
 
-pub returns : goal.returns
-returns g c = λ n d. record {
-  number = c.loop-i.invariant.number ∙ d.number;
-  rest = c.loop-i.invariant.rest;
-  lacks = λ m x h. d.lacks m x (ap (λ hs. get_elem? hs m) (sym c.loop-i.invariant.held) ∙ h);
-}
+pub loop-i-preserved : goal.loop-i-preserved
+loop-i-preserved g c =
+    let was = c.loop-i.invariant.called in
+    let n = c.args.me.number in
+    let made = was.made in
+    let one = ap length c.p.ensures.event.mine ∙ one_more c.loop-i.me.mine _ in
+    let two = ap length c.v.ensures.event.mine ∙ one_more c.p.new.me.mine _ in
+    let number = c.loop-i.invariant.number in
+    record {
+      called = record { idle = c.v.ensures.idle n [] (c.p.ensures.idle n [] was.idle); made = omega arith };
+      number = omega arith;
+    }
+
+pub returns-clause-called : goal.returns-clause-called
+returns-clause-called g c =
+    let was = c.loop-i.invariant.called in
+    let made = was.made in
+    let over = c.loop-i-test.false in
+    record { idle = was.idle; made = omega arith }

@@ -1,10 +1,9 @@
-use Rattle.std.proofs.Common.{◌≡◌}
-use Rattle.nub.specs.Rest.{AtRest}
+use Rattle.std.proofs.Common.{◌≡◌, ◌+◌, ◌*◌, []}
+use Rattle.firefly_bench.specs.Workloads.{HasCalled}
 use Rattle.firefly_bench.proofs.turning.turn.Given as goal
 
 abbrev pub invariant-loop-i : goal.invariant-loop-i
 invariant-loop-i g l = record {
-  rest : AtRest l.shared l.me;
-  number : l.me.number ≡ l.initial.me.number;
-  held : l.me.held ≡ l.initial.me.held;
+  called : HasCalled l.shared [] (l.initial.me.number + 2 * l._i) l.initial.me.number l.me;
+  number : l.number ≡ l._i;
 }

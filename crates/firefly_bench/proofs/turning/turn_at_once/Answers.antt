@@ -1,38 +1,42 @@
-use Rattle.std.proofs.Common.{◌≡◌, ◌<◌, length, ap, sym, ◌∙◌, arith, rules}
-use mathlib.Core.Option.{some-ne-none}
+use Rattle.std.proofs.Common.{◌≡◌, ◌<◌, ◌+◌, ◌*◌, ℕ, [], length, ap, sym, subst, ◌∙◌, arith, rules}
+use mathlib.Core.Option.{some-injective, some-ne-none}
 use lib.ListN.{get_elem?}
-use Rattle.nub.specs.Ended.{IsDone}
-use Rattle.sum_uses.proofs.Adding.{sums_begin, from_at}
-use Rattle.firefly_bench.proofs.Crewing.{each_one, each_left, left_length}
+use Rattle.nub_rule.proofs.Each.{at_below}
+use Rattle.nub.proofs.Users.{idle_done, from_at}
+use Rattle.sum_uses.proofs.Adding.{sums_begin}
+use Rattle.firefly_bench.specs.Workloads.{HasCalled}
 use Rattle.firefly_bench.proofs.turning.turn_at_once.Goals as goal
 
 pub open_package-requires-clause-holds : goal.open_package-requires-clause-holds
 open_package-requires-clause-holds g c κs = let few = c.requires.1 in sums_begin c.new.result.items c.args.count (λ m x e. absurd (some-ne-none x (sym (ap (λ l. get_elem? l m) (sym c.new.ensures.items) ∙ e)))) (omega arith)
 
-pub first_to_begin-requires-clause-done : goal.first_to_begin-requires-clause-done
-first_to_begin-requires-clause-done g c = λ n x at. let f = c.in_ok-shared.ensures.threads n x at in record { number = f.number; rest = f.rest; lacks = f.none }
-
 pub at_once-requires-after_bounds : goal.at_once-requires-after_bounds
-at_once-requires-after_bounds g c κs within =
-    let xs = c.first_to_begin.new.threads.items in
+at_once-requires-after_bounds g c κs within = λ n t at.
+    let d = c.first_to_begin.ensures.called n t at in
+    let number = d.idle.number in
+    let low = (from_at c.first_to_begin.new.threads.items n t at).0 in
     let count = c.first_to_begin.ensures.count in
     let all = c.in_ok-shared.ensures.count in
-    let one = c.requires.0 in
-    each_one (λ n t. IsDone c.in_ok-shared.shared n t × (n < length xs)) _
-    (λ n x h. ((one, ap (λ l. l.semaphores) c.in_ok-shared.ensures.package.0, (let number = h.0.number in let low = h.1 in omega arith), (n, h.0)), search rules))
-    xs (λ n x at. (c.first_to_begin.ensures.done n x at, (from_at xs n x at).0))
-
-pub close_package-requires-clause-count : goal.close_package-requires-clause-count
-close_package-requires-clause-count g c κs =
-    let left = c.in_ok-threads.ensures in
-    let same = left_length _ (λ l. l.me) c.first_to_begin.new.threads.items left.0 left.1 in
-    let here = ap length left.2 in
-    let count = c.first_to_begin.ensures.count in
-    let all = c.in_ok-shared.ensures.count in
-    let layout = ap (λ l. l.threads) c.in_ok-shared.ensures.package.0 in
-    omega arith
+    ((c.requires.0, ap (λ l. l.semaphores) c.in_ok-shared.ensures.package.0, omega arith, subst (λ k. HasCalled c.in_ok-shared.shared [] k k t) (sym number) d), search rules)
 
 pub close_package-requires-clause-threads : goal.close_package-requires-clause-threads
-close_package-requires-clause-threads g c κs = λ n x at.
-    let left = c.in_ok-threads.ensures in
-    each_left (λ n t. IsDone c.in_ok-shared.shared n t) (λ n t. IsDone c.in_ok-shared.shared n t) _ (λ l. l.me) (λ x l r. r.1) c.first_to_begin.new.threads.items left.0 c.first_to_begin.ensures.done left.1 n x (ap (λ l. get_elem? l n) (sym left.2) ∙ at)
+close_package-requires-clause-threads g c κs = λ n t at.
+    let back = c.in_ok-threads.ensures.each n t at in
+    let number = (c.first_to_begin.ensures.called n back.was back.is_was).idle.number in
+    let called = subst (λ k. HasCalled c.in_ok-shared.shared [] (k + 2 * c.args.times) k t) number back.goes.0 in
+    idle_done c.in_ok-shared.shared n [] t called.idle
+
+pub returns-clause-turns : goal.returns-clause-turns
+returns-clause-turns g c = λ n k at.
+    let low = (from_at c.in_ok-threads.turns.items n k at).0 in
+    let results = c.in_ok-threads.ensures.results in
+    let threads = c.in_ok-threads.ensures.threads in
+    let t = at_below c.in_ok-threads.threads.items n (omega arith) in
+    let back = c.in_ok-threads.ensures.each n t.0 t.1 in
+    some-injective k back.left (sym at ∙ back.is_left) ∙ back.goes.1
+
+pub returns-clause-each : goal.returns-clause-each
+returns-clause-each g c = λ n t at.
+    let back = c.in_ok-threads.ensures.each n t (ap (λ l. get_elem? l n) (sym c.in_ok-closed.ensures.threads) ∙ at) in
+    let number = (c.first_to_begin.ensures.called n back.was back.is_was).idle.number in
+    (subst (λ k. HasCalled c.in_ok-shared.shared [] (k + 2 * c.args.times) k t) number back.goes.0).made

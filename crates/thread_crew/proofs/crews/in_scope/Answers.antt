@@ -24,6 +24,12 @@ loop-job-preserved g c =
       left = (let left = was.left in omega arith);
       room = (let room = was.room in let cap = c.in-Ok-push.ensures.capacity in let len = c.in-Ok-push.ensures.len in omega arith);
       count = (let count = was.count in let len = c.in-Ok-push.ensures.len in omega arith);
+      told = elim c.if-len-starts.branch [
+        | then-len-starts+in-Ok-spawn_with w ↦ λ h. let len = c.in-Ok-push.ensures.len in let low = w.if-len-starts.true in absurd (omega arith)
+        | then-len-starts+in-Err w ↦ λ h. w.some_held-is
+        | else-len-starts w ↦ λ h. w.some_held-is
+      ];
+      none = λ h. let len = c.in-Ok-push.ensures.len in omega arith;
       runs = runs.1;
       given = rw c.in-Ok-push.ensures.items (zip_push (IsChildOf g.T.Task.run_gives (λ f. g.T.Task.can_run f.0) (λ f r. g.T.Task.run_gives f.0 r)) at.yielded _ x _ was.given
           (elim c.if-len-starts.branch [

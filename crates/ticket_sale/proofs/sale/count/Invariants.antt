@@ -1,8 +1,8 @@
-use Rattle.std.proofs.Common.{◌≡◌, ◌≤◌, ◌*◌, sum_by, take}
+use Rattle.std.proofs.Common.{◌≡◌, ◌≤◌, ◌*◌, sum, take}
 use Rattle.ticket_sale.proofs.sale.count.Given as goal
 
-abbrev pub invariant-loop-seller : goal.invariant-loop-seller
-invariant-loop-seller l = record {
-  sum : l.all ≡ sum_by (λ s. s.sold) (take l.seller-index l.sellers);
-  small : l.all ≤ l.seller-index * 4294967295;
+abbrev pub invariant-loop-one : goal.invariant-loop-one
+invariant-loop-one l = record {
+  sum : l.all ≡ sum (take l.one-index l.sold);
+  small : l.all ≤ l.one-index * 4294967295;
 }
