@@ -61,7 +61,7 @@ unfoldable pub step_text : Layout → View → (ℕ → Option Origin) → (ℕ 
 step_text l v held waits n e =
     if in_view v n then opening l v n ++ event_shapes v held waits n e ++ closing_after l v (changed (mutex_turn e.action) (origin_of n e) held) (changed (wait_turn e.thread.0 e.action) (origin_of n e) waits) n else []
 
--- all that an event that fails adds, where it is drawn
+-- all that an event that fails adds, where it is drawn: it ends its band
 unfoldable pub failing_text : Layout → View → (ℕ → Option Origin) → (ℕ → Option Origin) → ℕ → Event → Broken → List ℕ
 failing_text l v held waits n e why =
-    if in_view v n then opening l v n ++ (number_text v n ++ failed_text v n e why) ++ closing_after l v held waits n else []
+    if in_view v n then opening l v n ++ (number_text v n ++ failed_text v n e why) ++ closing l held waits (band_start v n) (n + 1) else []

@@ -386,7 +386,8 @@ pub fn add_failing(
     if is_in_view(view, place) {
         let at = add_opening(buf, at, layout, view, place);
         let at = add_failed_shapes(buf, at, view, place, e, why);
-        add_closing_after(buf, at, layout, view, board, place)
+        let start = place - column_of(view, place);
+        add_closing(buf, at, layout, board, start, place + 1)
     } else {
         at
     }
