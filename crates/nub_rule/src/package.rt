@@ -9,7 +9,7 @@ use crate::view::View;
 use atomic_table::{Seat, Table};
 use crossbeam_utils::sync::{Parker, Unparker};
 use larch_actions::{Event, Layout, MutexId};
-use std::alloc::Global;
+use std::alloc::{AllocError, Global};
 use std::marker::Model;
 
 /// A stored event, with its number.
@@ -109,6 +109,13 @@ impl<U: Uses> Thread<U> {
         ensures { result ≡ self.now.number }
     {
         self.number
+    }
+
+    /// Takes room for so many further events, so that storing these wants no memory.
+    pub fn reserve(&mut self, further: usize) -> Result<(), AllocError>
+        ensures { self.new ≡ self.old }
+    {
+        self.entries.reserve(further)
     }
 
     /// Whether it has the mutex.
