@@ -40,7 +40,8 @@ fn look(bytes: &[u8]) -> Option<Found>
 /// Finds what stands next, and takes more from the source where the bytes don't show it.
 pub fn next<I: Source>(window: &mut Window, input: &mut I) -> Result<Found, Failed>
     ensures kept { Keeps (prepend_known window.old (I.left input.old)) (prepend_known window.new (I.left input.new)) }
-    ensures found { MatchResult result (IsNext window.new (I.left input.new)) (λ _. IsOpen window.new × Rose (I.faults input.old) (I.faults input.new)) }
+    ensures found { MatchResult result (IsNext window.new (I.left input.new)) (λ _. IsOpen window.new
+        × Rose (I.faults input.old) (I.faults input.new)) }
     ensures later { I.faults input.old ≤ I.faults input.new }
 {
     loop {

@@ -147,7 +147,8 @@ pub fn line(bytes: &[u8], layout: &Layout) -> Option<Line>
 
 // A number of at most 64 between the word and a space, and the bytes behind the space.
 fn field<'b>(bytes: &'b [u8], word: &[u8]) -> Option<(u32, &'b [u8])>
-    ensures { MatchOption result ((n : ℕ) (y : List ℕ) → n ≤ 64 → bytes.now ≡ word.now ++ (decimal n ++ 32 ∷ y) → ⊥) (λ x. IsField bytes.now word.now x.0 x.1.now) }
+    ensures { MatchOption result ((n : ℕ) (y : List ℕ) → n ≤ 64 → bytes.now ≡ word.now ++ (decimal n ++ 32 ∷ y)
+        → ⊥) (λ x. IsField bytes.now word.now x.0 x.1.now) }
 {
     let Some(behind) = bytes.strip_prefix(word) else {
         return None;

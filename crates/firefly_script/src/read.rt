@@ -21,8 +21,10 @@ pub const MOST_LINES: usize = 100_000;
 
 // Takes the layout line.
 fn head<I: Source>(window: &mut Window, input: &mut I) -> Result<Layout, ScriptFault>
-    ensures layout { IfOk result (λ l. IsLawful l × Consumes (prepend_known window.old (I.left input.old)) (prepend_known window.new (I.left input.new)) (layout_text l ++ 10 ∷ [])) }
-    ensures fault { IfErr result (HeadFault (prepend_known window.old (I.left input.old)) (I.left input.new) (I.faults input.old) (I.faults input.new)) }
+    ensures layout { IfOk result (λ l. IsLawful l × Consumes (prepend_known window.old (I.left input.old))
+        (prepend_known window.new (I.left input.new)) (layout_text l ++ 10 ∷ [])) }
+    ensures fault { IfErr result (HeadFault (prepend_known window.old (I.left input.old)) (I.left input.new)
+        (I.faults input.old) (I.faults input.new)) }
     ensures later { I.faults input.old ≤ I.faults input.new }
 {
     match next(window, input) {
@@ -58,7 +60,8 @@ fn take(window: &mut Window, size: usize, draft: &mut Draft) -> Result<(), Scrip
     requires draft { IsDraft draft.old }
     requires few { length draft.old.lines.items < 99999 }
     requires whole { size < length window.old }
-    ensures line { OnOk result ((x : Line) × (take size window.old ≡ line_text x) × Takes draft.old draft.new x × (window.new ≡ drop (size + 1) window.old)) }
+    ensures line { OnOk result ((x : Line) × (take size window.old ≡ line_text x) × Takes draft.old draft.new x
+        × (window.new ≡ drop (size + 1) window.old)) }
     ensures fault { IfErr result (TakeFault draft.old.layout draft.old.lines.items (take size window.old)) }
     ensures same { OnErr result (window.new ≡ window.old) }
     ensures layout { draft.new.layout ≡ draft.old.layout }
@@ -82,10 +85,14 @@ fn one<I: Source>(
 ) -> Result<bool, ScriptFault>
     requires draft { IsDraft draft.old }
     requires few { length draft.old.lines.items < 99999 }
-    ensures line { result ≡ Ok true → (x : Line) × Takes draft.old draft.new x × Consumes (prepend_known window.old (I.left input.old)) (prepend_known window.new (I.left input.new)) (line_text x ++ 10 ∷ []) }
-    ensures end { result ≡ Ok false → (draft.new ≡ draft.old) × IsDone draft.old.lines.items (prepend_known window.old (I.left input.old)) (I.left input.new) }
+    ensures line { result ≡ Ok true → (x : Line) × Takes draft.old draft.new x
+        × Consumes (prepend_known window.old (I.left input.old)) (prepend_known window.new (I.left input.new))
+        (line_text x ++ 10 ∷ []) }
+    ensures end { result ≡ Ok false → (draft.new ≡ draft.old) × IsDone draft.old.lines.items (prepend_known window.old
+        (I.left input.old)) (I.left input.new) }
     ensures layout { draft.new.layout ≡ draft.old.layout }
-    ensures fault { IfErr result (LineFault draft.old.layout draft.old.lines.items (prepend_known window.old (I.left input.old)) (I.left input.new) (I.faults input.old) (I.faults input.new)) }
+    ensures fault { IfErr result (LineFault draft.old.layout draft.old.lines.items (prepend_known window.old (I.left input.old))
+        (I.left input.new) (I.faults input.old) (I.faults input.new)) }
     ensures later { I.faults input.old ≤ I.faults input.new }
 {
     let line = draft.lines.len() as u64 + 2;
@@ -109,7 +116,8 @@ fn full<I: Source>(window: &mut Window, input: &mut I, draft: &Draft) -> Result<
     requires draft { IsDraft draft.now }
     requires full { length draft.now.lines.items ≡ 99999 }
     ensures end { OnOk result (IsDone draft.now.lines.items (prepend_known window.old (I.left input.old)) (I.left input.new)) }
-    ensures fault { IfErr result (LineFault draft.now.layout draft.now.lines.items (prepend_known window.old (I.left input.old)) (I.left input.new) (I.faults input.old) (I.faults input.new)) }
+    ensures fault { IfErr result (LineFault draft.now.layout draft.now.lines.items (prepend_known window.old (I.left input.old))
+        (I.left input.new) (I.faults input.old) (I.faults input.new)) }
     ensures later { I.faults input.old ≤ I.faults input.new }
 {
     if window.len() > 0 {
@@ -132,7 +140,8 @@ fn lines<I: Source>(
     requires none { draft.old.lines.items ≡ [] }
     ensures layout { draft.new.layout ≡ draft.old.layout }
     ensures done { OnOk result (IsFinished draft.new (prepend_known window.old (I.left input.old)) (I.left input.new)) }
-    ensures fault { IfErr result (LaterFault draft.old.layout (prepend_known window.old (I.left input.old)) (I.left input.new) (I.faults input.old) (I.faults input.new)) }
+    ensures fault { IfErr result (LaterFault draft.old.layout (prepend_known window.old (I.left input.old)) (I.left input.new)
+        (I.faults input.old) (I.faults input.new)) }
     ensures later { I.faults input.old ≤ I.faults input.new }
 {
     loop {

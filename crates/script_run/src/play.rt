@@ -24,8 +24,12 @@ fn play_line<R: Wait>(
 )
     requires lawful { IsLawful pkg.now.layout }
     requires own { line.now.thread.0 ≡ me.old.number }
-    requires playing { (xs : List Line) × IsPlaying pkg.now me.old.number xs numbers.old me.old × MayCome pkg.now.layout (held_after none_held xs) line.now × MayFollow pkg.now.layout none_held xs × (length xs < 99999) }
-    ensures { (xs : List Line) → IsPlaying pkg.now me.old.number xs numbers.old me.old → MayCome pkg.now.layout (held_after none_held xs) line.now → MayFollow pkg.now.layout none_held xs → length xs < 99999 → IsPlaying pkg.now me.old.number (xs ++ line.now ∷ []) numbers.new me.new }
+    requires playing { (xs : List Line) × IsPlaying pkg.now me.old.number xs numbers.old me.old
+        × MayCome pkg.now.layout (held_after none_held xs) line.now × MayFollow pkg.now.layout none_held xs
+        × (length xs < 99999) }
+    ensures { (xs : List Line) → IsPlaying pkg.now me.old.number xs numbers.old me.old
+        → MayCome pkg.now.layout (held_after none_held xs) line.now → MayFollow pkg.now.layout none_held xs → length xs < 99999
+        → IsPlaying pkg.now me.old.number (xs ++ line.now ∷ []) numbers.new me.new }
 {
     match &line.operation {
         Operation::Acquire { mutex } => {

@@ -27,6 +27,25 @@ fn zeros(alloc: Global, count: u32) -> Result<Vec<u64>, AllocError>
     vec![in alloc; 0; count as usize]
 }
 
+// How many of the lines are the thread's own.
+fn own_lines(lines: &[Line], number: u32) -> usize {
+    lines.iter().filter(|line| line.thread.0 == number).count()
+}
+
+// The threads, with room for all their events, of which a line makes at most one.
+fn with_room(
+    mut threads: Vec<Thread<SumUses>>,
+    lines: &[Line],
+) -> Result<Vec<Thread<SumUses>>, AllocError>
+    ensures { IfOk result (λ ts. ts.items ≡ threads.items) }
+{
+    for at in 0..threads.len() {
+        let further = own_lines(lines, threads[at].number());
+        threads[at].reserve(further)?;
+    }
+    Ok(threads)
+}
+
 // Each job with the closure that does it.
 fn calls<'a, F, T: Drop>(
     alloc: Global,
@@ -66,20 +85,24 @@ fn play_all<R: Threads + Wait + Sync>(
 
 /// Runs a script: a thread for each number in a traced package of its own, which is closed when all have ended.
 ///
-/// Where a thread can't be started, its lines are played here once all others were started. A run may wait for ever.
+/// Room for all events is taken before the first thread starts: for these a run is refused at once or not at all. Where a thread can't be
+/// started, its lines are played here once all others were started. A run may wait for ever.
 pub fn run_script<R: Threads + Wait + Sync>(
     rt: &R,
     alloc: Global,
     script: &Script,
 ) -> Result<Closed<SumUses>, AllocError>
     ensures layout { IfOk result (λ c. c.layout ≡ script.now.layout) }
-    ensures trace { IfOk result (λ c. (h : List Event) × (c.trace ≡ Some h) × IsClosed h × AllByRecursion (HasNames script.now.layout) h × ((t : ℕ) → t < script.now.layout.threads → AreEventsOf script.now.lines t (by_thread t h))) }
+    ensures trace { IfOk result (λ c. (h : List Event) × (c.trace ≡ Some h) × IsClosed h
+        × AllByRecursion (HasNames script.now.layout) h × ((t : ℕ) → t < script.now.layout.threads
+        → AreEventsOf script.now.lines t (by_thread t h))) }
     ensures count { IfOk result (λ c. length c.values ≡ script.now.layout.mutexes) }
     ensures values { IfOk result (λ c. (m : ℕ) → m < script.now.layout.mutexes → slice_index c.values m ≡ total script.now.lines m) }
 {
     let layout = script.layout();
     let values = zeros(alloc, layout.mutexes)?;
     let (pkg, threads) = open_package::<SumUses>(alloc, layout, &(), values, true)?;
-    let threads = play_all(rt, alloc, &pkg, threads, script.lines())?;
+    let roomy = with_room(threads, script.lines())?;
+    let threads = play_all(rt, alloc, &pkg, roomy, script.lines())?;
     close_package(pkg, threads)
 }

@@ -1,4 +1,5 @@
 use Rattle.std.proofs.Common.{◌≡◌, ◌<◌, ℕ, List, length, get_or, ap, sym, subst, ◌∙◌, arith}
+use lib.ListN.{get_elem?}
 use Rattle.larch_actions.specs.Actions.{by_thread}
 use Rattle.firefly_script.specs.declared.line.Line.{Line}
 use Rattle.firefly_script.specs.Operations.{none_held, MayFollow}
@@ -12,39 +13,43 @@ pub open_package-requires-clause-holds : goal.open_package-requires-clause-holds
 open_package-requires-clause-holds g c κs =
     first_sums c.layout-layout.result.mutexes c.layout-layout.result.threads c.in_ok-values.values.items (omega (arith, c.layout-layout.ensures.lawful.threads)) c.in_ok-values.ensures
 
+pub play_all-requires-clause-threads : goal.play_all-requires-clause-threads
+play_all-requires-clause-threads g c κs within n x got =
+    c.in_ok-pkg.ensures.threads n x (ap (λ l. get_elem? l n) (sym c.in_ok-roomy.ensures) ∙ got)
+
 pub close_package-requires-clause-threads : goal.close_package-requires-clause-threads
 close_package-requires-clause-threads g c κs n x got = (c.in_ok-threads.ensures.played n x got).done
 
 pub returns-clause-trace : goal.returns-clause-trace
 returns-clause-trace g c =
-    let lines = c.lines.ensures.lines in
+    let lines = c.lines-2.ensures.lines in
     let layout = c.layout-layout.ensures.layout in
     let played = c.in_ok-threads.ensures.played in
-    let count = c.in_ok-threads.ensures.count ∙ c.in_ok-pkg.ensures.count ∙ ap (λ l. l.threads) layout in
+    let count = c.in_ok-threads.ensures.count ∙ ap length c.in_ok-roomy.ensures ∙ c.in_ok-pkg.ensures.count ∙ ap (λ l. l.threads) layout in
     if_ok c.close_package.result _ _
     (λ r w.
     let own : (t : ℕ) → t < c.args.script.now.layout.threads → AreEventsOf c.args.script.now.lines t (by_thread t w.0) = λ t low.
     let Q : List Line → Type 0 = λ xs. AreEventsOf xs t (by_thread t w.0) in
-    subst Q lines (rows_of c.in_ok-pkg.pkg c.lines.result.now c.in_ok-threads.threads.items c.args.script.now.layout.threads w.0 count played w.2 t low) in (
+    subst Q lines (rows_of c.in_ok-pkg.pkg c.lines-2.result.now c.in_ok-threads.threads.items c.args.script.now.layout.threads w.0 count played w.2 t low) in (
       w.0,
       w.1,
       w.2.closed,
-      names_of c.args.script.now.layout c.args.script.now.lines (length c.in_ok-threads.threads.items) w.0 count c.lines.ensures.script.follow own w.2.people,
+      names_of c.args.script.now.layout c.args.script.now.lines (length c.in_ok-threads.threads.items) w.0 count c.lines-2.ensures.script.follow own w.2.people,
       own,
     ))
     (c.close_package.ensures.traced c.in_ok-pkg.ensures.package.1)
 
 pub returns-clause-values : goal.returns-clause-values
 returns-clause-values g c =
-    let lines = c.lines.ensures.lines in
+    let lines = c.lines-2.ensures.lines in
     let layout = c.layout-layout.ensures.layout in
     let same = c.in_ok-pkg.ensures.package.0 ∙ layout in
     let played = c.in_ok-threads.ensures.played in
-    let count = c.in_ok-threads.ensures.count ∙ c.in_ok-pkg.ensures.count ∙ ap (λ l. l.threads) layout in
-    let script = c.lines.ensures.script in
+    let count = c.in_ok-threads.ensures.count ∙ ap length c.in_ok-roomy.ensures ∙ c.in_ok-pkg.ensures.count ∙ ap (λ l. l.threads) layout in
+    let script = c.lines-2.ensures.script in
     let F : List Line → Type 0 = λ xs. MayFollow c.args.script.now.layout none_held xs in
     if_ok c.close_package.result _ _
     (λ r w m low.
     let Q : List Line → Type 0 = λ xs. get_or r.values m 0 ≡ total xs m in
-    subst Q lines (values_of c.in_ok-pkg.pkg c.args.script.now.layout c.lines.result.now c.in_ok-threads.threads.items r.values script.lawful (subst F (sym lines) script.follow) count played w.1 (w.0 ∙ ap (λ l. l.mutexes) same) m low))
+    subst Q lines (values_of c.in_ok-pkg.pkg c.args.script.now.layout c.lines-2.result.now c.in_ok-threads.threads.items r.values script.lawful (subst F (sym lines) script.follow) count played w.1 (w.0 ∙ ap (λ l. l.mutexes) same) m low))
     c.close_package.ensures.values
