@@ -29,6 +29,7 @@ pub fn free<U: Uses, C: Change<U>, R: Wait>(
     requires no_wait { me.old.wait ≡ None }
     requires event { e ≡ Some (clears at me.old.number) }
     requires may { MayFree U.allows C.after at me.old }
+    requires stored { HasStored p.now.traced me.old }
     ensures event { Makes (clears at me.old.number) me.old me.new }
     ensures rest { me.new ≡ record (recorded me.old me.new) {
       held = me.new.held;
@@ -40,7 +41,7 @@ pub fn free<U: Uses, C: Change<U>, R: Wait>(
       values = me.new.values;
     } }
     ensures freed { IsFreed C.after at me.old me.new }
-    ensures stored { HasStored p.now.traced me.old → HasStored p.now.traced me.new }
+    ensures stored { HasStored p.now.traced me.new }
 {
     // The event follows from the object and the thread, so the argument is only what the caller says it is.
     let _event = e;
@@ -72,6 +73,7 @@ fn clear_traced<U: Uses, C: Change<U>, R: Wait>(
     requires outside { IsOutside me.old }
     requires no_wait { me.old.wait ≡ None }
     requires may { MayFree U.allows C.after at me.old }
+    requires stored { HasStored p.now.traced me.old }
     ensures event { Makes (clears at me.old.number) me.old me.new }
     ensures rest { me.new ≡ record (recorded me.old me.new) {
       held = me.new.held;
@@ -80,7 +82,7 @@ fn clear_traced<U: Uses, C: Change<U>, R: Wait>(
       values = me.new.values;
     } }
     ensures freed { IsFreed C.after at me.old me.new }
-    ensures stored { HasStored p.now.traced me.old → HasStored p.now.traced me.new }
+    ensures stored { HasStored p.now.traced me.new }
 {
     let e = clearing(at, me.number());
     begin_event(rt, p, me);

@@ -26,6 +26,7 @@ pub fn take<U: Uses, R: Wait>(rt: &R, p: &Package<U>, me: &mut Thread<U>, at: Ob
     requires outside { IsOutside me.old }
     requires looked { me.old.cleared ≡ [] }
     requires may { MayMake at me.old.number me.old.wait e }
+    requires stored { HasStored p.now.traced me.old }
     ensures event { Makes e me.old me.new }
     ensures rest { me.new ≡ record (recorded me.old me.new) {
       held = me.new.held;
@@ -37,7 +38,7 @@ pub fn take<U: Uses, R: Wait>(rt: &R, p: &Package<U>, me: &mut Thread<U>, at: Ob
     } }
     ensures turns { me.new.turns ≡ without (object_of at) me.old.turns }
     ensures taken { IsTaken U.fits at me.old me.new }
-    ensures stored { HasStored p.now.traced me.old → HasStored p.now.traced me.new }
+    ensures stored { HasStored p.now.traced me.new }
 {
     if !try_untraced(p, me, at, e) {
         take_slowly(rt, p, me, at, e);
@@ -87,6 +88,7 @@ pub fn try_take<U: Uses, R: Wait>(
     requires named { HasObject p.now.layout at }
     requires outside { IsOutside me.old }
     requires may { MayMake at me.old.number me.old.wait e }
+    requires stored { HasStored p.now.traced me.old }
     ensures lost { result ≡ false → me.new ≡ record me.old {
       failed = object_of at ∷ me.old.failed;
       turns = without (object_of at) me.old.turns;
@@ -101,7 +103,7 @@ pub fn try_take<U: Uses, R: Wait>(
       values = me.new.values;
     } }
     ensures taken { result ≡ true → IsTaken U.fits at me.old me.new }
-    ensures stored { HasStored p.now.traced me.old → HasStored p.now.traced me.new }
+    ensures stored { HasStored p.now.traced me.new }
 {
     if !p.traced() {
         return try_gate(p, me, at, e) == 0;
@@ -156,6 +158,7 @@ fn take_slowly<U: Uses, R: Wait>(rt: &R, p: &Package<U>, me: &mut Thread<U>, at:
     requires outside { IsOutside me.old }
     requires looked { me.old.cleared ≡ [] }
     requires may { MayMake at me.old.number me.old.wait e }
+    requires stored { HasStored p.now.traced me.old }
     ensures event { Makes e me.old me.new }
     ensures rest { me.new ≡ record (recorded me.old me.new) {
       held = me.new.held;
@@ -167,7 +170,7 @@ fn take_slowly<U: Uses, R: Wait>(rt: &R, p: &Package<U>, me: &mut Thread<U>, at:
     } }
     ensures turns { me.new.turns ≡ without (object_of at) me.old.turns }
     ensures taken { IsTaken U.fits at me.old me.new }
-    ensures stored { HasStored p.now.traced me.old → HasStored p.now.traced me.new }
+    ensures stored { HasStored p.now.traced me.new }
 {
     for _ in rt.forever() {
         // Most bits are clear again within a few looks, and a look writes nothing: so the holder's cache line is not taken from it.

@@ -6,6 +6,7 @@ use Rattle.std.specs.List.{All}
 use Rattle.std.proofs.lemmas.List.{length-map, length-replicate}
 use Rattle.atomic_table.proofs.Lists.{at_map}
 use Rattle.larch_actions.specs.declared.event.Event.{Event}
+use Rattle.larch_actions.specs.declared.event.Layout.{Layout}
 use Rattle.larch_actions.specs.Actions.{by_thread}
 use Rattle.nub_rule.specs.declared.package.Entry.{Entry}
 use Rattle.nub_rule.specs.declared.package.Stored.{Stored}
@@ -108,12 +109,12 @@ module _ {T H W : Type 0} where
       let head : t.share ≡ Some s = own.1 ∙ ap (λ (z : H). Some z) same in
       cc
 
-  pub keeps_locks : (holds : List T → List H → Type 0) (threads : List (Known T H W)) (values : List T) → Leaves holds (map (λ t. part_of t) threads) values → KeepsLocks holds threads values
-  keeps_locks holds threads values l = record { shares = l.shares; each_share = shares-are threads l.shares l.each_share l.shared; kept = l.kept }
+  pub keeps_locks : (layout : Layout) (holds : List T → List H → Type 0) (threads : List (Known T H W)) (values : List T) → Leaves layout holds (map (λ t. part_of t) threads) values → KeepsLocks holds threads values
+  keeps_locks layout holds threads values l = record { shares = l.shares; each_share = shares-are threads l.shares l.each_share l.shared; kept = l.kept }
 
   -- each event of the history is by one of the threads
-  by-threads : (threads : List (Known T H W)) (log : List Event) → Told log (map (λ t. part_of t) threads) → All (λ e. e.thread.0 < length threads) log
-  by-threads threads log told k e m =
+  by-threads : (layout : Layout) (threads : List (Known T H W)) (log : List Event) → Told layout log (map (λ t. part_of t) threads) → All (λ e. e.thread.0 < length threads) log
+  by-threads layout threads log told k e m =
       let a = told.people k (get_or log k e) (at_get_or log k e m) in
       let n : length (map (λ t. part_of t) threads) ≡ length threads = length-map threads (λ t. part_of t) in
       omega arith
@@ -123,10 +124,11 @@ module _ {T H W : Type 0} where
   part_at (t ∷ threads) zero p e = (t, refl, ap (λ q. q.seen) (some-injective (part_of t) p e))
   part_at (t ∷ threads) (suc n) p e = part_at threads n p e
 
-  pub whole : (holds : List T → List H → Type 0) (threads : List (Known T H W)) (values : List T) (l : Leaves holds (map (λ t. part_of t) threads) values) → IsWhole threads l.log
-  whole holds threads values l = record {
+  pub whole : (layout : Layout) (holds : List T → List H → Type 0) (threads : List (Known T H W)) (values : List T) (l : Leaves layout holds (map (λ t. part_of t) threads) values) → length threads ≡ layout.threads → IsWhole layout threads l.log
+  whole layout holds threads values l count = record {
     closed = (l.spec, l.run, l.nothing_held, l.nothing_begun);
-    people = by-threads threads l.log l.history;
+    people = by-threads layout threads l.log l.history;
+    names = λ k e m. let a = by-threads layout threads l.log l.history k e m in (omega arith, l.history.names k (get_or l.log k e) (at_get_or l.log k e m));
     longest = ⊎_elim
         (λ (none : l.log ≡ []). inl none)
         (λ (t : (n : ℕ) × (p : Part T H) × (get_elem? (map (λ t. part_of t) threads) n ≡ some p) × (p.seen ≡ l.log)). let k = part_at threads t.0 t.1 t.2 in inr (t.0, k.0, k.1, k.2 ∙ t.3))
@@ -136,14 +138,14 @@ module _ {T H W : Type 0} where
   }
 
   -- what the closed threads have stored, where none of it is lost, is the history
-  pub are_stored : (holds : List T → List H → Type 0) (p : Shape W) (threads : List (Known T H W)) (values : List T) (stored : List Stored) (l : Leaves holds (map (λ t. part_of t) threads) values) → Each (IsDone p) threads → p.traced ≡ true
+  pub are_stored : (layout : Layout) (holds : List T → List H → Type 0) (p : Shape W) (threads : List (Known T H W)) (values : List T) (stored : List Stored) (l : Leaves layout holds (map (λ t. part_of t) threads) values) → Each (IsDone p) threads → p.traced ≡ true
       → map (λ s. s.entries.items) stored ≡ map (λ t. t.entries) threads → map (λ s. s.lost) stored ≡ map (λ t. t.lost) threads → AreStored l.log stored
-  are_stored holds p threads values stored l done traced entries losses =
+  are_stored layout holds p threads values stored l done traced entries losses =
       let n0 : length (map (λ s. s.entries.items) stored) ≡ length stored = length-map stored (λ s. s.entries.items) in
       let n1 : length (map (λ t. t.entries) threads) ≡ length threads = length-map threads (λ t. t.entries) in
       let n3 : length (map (λ s. s.entries.items) stored) ≡ length (map (λ t. t.entries) threads) = ap length entries in
       record {
-        threads = λ k e m. let a = by-threads threads l.log l.history k e m in omega arith;
+        threads = λ k e m. let a = by-threads layout threads l.log l.history k e m in omega arith;
         each = λ t d m whole.
             let there = some_at threads t (omega arith) in
             let k = there.0 in

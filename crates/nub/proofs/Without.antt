@@ -11,6 +11,7 @@ use Rattle.std.proofs.lemmas.Bool.{cases_lt}
 use Rattle.nub_rule.specs.declared.view.Pen.TheVariants.{No, Read}
 use Rattle.nub_rule.specs.Parts.{MayTell}
 use Rattle.nub_rule.specs.Known.{Known, Makes}
+use Rattle.nub_rule.specs.Stored.{ComesNext}
 use Rattle.nub.specs.Rest.{HasStored}
 use mathlib.Core.Option.{some}
 use lib.ListN.{get_elem?}
@@ -57,6 +58,20 @@ pub less_owed : (t : ℕ) (xs : List ℕ) → xs ≡ t ∷ [] → without t xs �
 less_owed t xs e = ap (without t) e ∙ without_own t []
 
 module _ {T H W : Type 0} where
+  -- an event that was made with the pen comes next in the list
+  pub comes_next : (traced : Bool) (a b c : Known T H W) (e : Event) → b ≡ record a { pen = b.pen; next = b.next } → (traced ≡ true → b.pen ≡ Read b.next) → Makes e b c → c.next ≡ b.next → c.entries ≡ b.entries → c.lost ≡ b.lost
+      → HasStored traced a → traced ≡ true → ComesNext e c
+  comes_next traced a b c e begin next makes same entries lost has t l =
+      let k = b.next in
+      let number = makes.1.number k (next t) in
+      let old = has t (sym (ap (λ (z : Known T H W). z.lost) begin) ∙ (sym lost ∙ l)) in
+      let stored : c.entries ≡ a.entries = entries ∙ ap (λ (z : Known T H W). z.entries) begin in (
+        ap (λ (es : List Entry). map (λ x. x.number) es ++ c.next ∷ []) stored
+            ∙ (ap (λ (ns : List ℕ). ns ++ c.next ∷ []) (old.0 ∙ sym (ap (λ (z : Known T H W). z.places) begin)) ∙ (ap (λ (n : ℕ). b.places ++ n ∷ []) (same ∙ number) ∙ sym makes.4)),
+        ap (λ (es : List Entry). map (λ x. x.event) es ++ e ∷ []) stored
+            ∙ (ap (λ (ms : List Event). ms ++ e ∷ []) (old.1 ∙ sym (ap (λ (z : Known T H W). z.mine) begin)) ∙ sym makes.3),
+      )
+
   -- an event was made with the pen between a and d, and stored
   pub stored_by : (traced : Bool) (a b c d : Known T H W) (e : Event) → b ≡ record a { pen = b.pen; next = b.next } → MayTell traced b.pen → (traced ≡ true → b.pen ≡ Read b.next) → Makes e b c → c.next ≡ b.next → c.entries ≡ b.entries → c.lost ≡ b.lost
       → d ≡ record c { pen = No; entries = d.entries; lost = d.lost }

@@ -6,6 +6,7 @@ use mathlib.Core.Option.{some}
 use lib.ListN.{get_elem?}
 use Rattle.larch_actions.specs.declared.event.Layout.{Layout}
 use Rattle.larch_actions.specs.declared.event.Event.{Event}
+use Rattle.larch_actions.specs.Layout.{HasNames}
 use Rattle.larch_actions.specs.Actions.{IsClosed, StartsWith, by_thread}
 use Rattle.nub_rule.specs.Known.{Known, Shape}
 use Rattle.nub_rule.specs.Items.{Each}
@@ -50,11 +51,12 @@ module _ {T H W : Type 0} where
     pub each_share : map (λ t. t.share) threads ≡ map (λ s. Some s) shares
     pub kept : holds values shares
 
-  -- the list is the whole history of the threads: it is legal and closed, each event is by one of them, each has seen a beginning of it, one has seen all of
+  -- the list is the whole history of the threads: it is legal and closed, each event is by one of them and has names of the layout, each has seen a beginning of it, one has seen all of
   -- it unless it is empty, and its part by each is that thread's own events
-  pub record IsWhole (threads : List (Known T H W)) (h : List Event) : Type 0 where
+  pub record IsWhole (l : Layout) (threads : List (Known T H W)) (h : List Event) : Type 0 where
     pub closed : IsClosed h
     pub people : All (λ e. e.thread.0 < length threads) h
+    pub names : All (HasNames l) h
     pub longest : (h ≡ []) ⊎ ((n : ℕ) × (t : Known T H W) × (get_elem? threads n ≡ some t) × (t.seen ≡ h))
     pub seen : Each (λ n t. StartsWith h t.seen) threads
     pub own : Each (λ n t. by_thread n h ≡ t.mine) threads

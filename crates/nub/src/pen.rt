@@ -2,6 +2,7 @@
 ghost use Rattle.std.specs.Prelude.{◌≡◌, ◌≢◌, ◌<◌, ℕ, ◌++◌, ◌∷◌, [], Some, None, true, false};
 ghost use Rattle.larch_actions.specs.declared.event.Event.{Event};
 ghost use Rattle.nub_rule.specs.declared.view.Pen.TheVariants.{No, Taken, Read, Made};
+ghost use Rattle.nub_rule.specs.Stored.{ComesNext};
 ghost use Rattle.nub_rule.specs.Parts.{MayTell};
 
 use crossbeam_utils::Backoff;
@@ -27,13 +28,15 @@ pub fn begin_event<U: Uses, R: Wait>(rt: &R, p: &Package<U>, me: &mut Thread<U>)
     }
 }
 
-/// In a traced package stores the event that was made, under its number, and gives the pen back. In an untraced one it does nothing.
+/// In a traced package stores the event that was made, the thread's last, under its number, and gives the pen back. In an untraced one it
+/// does nothing.
 #[inline]
 pub fn end_event<U: Uses>(p: &Package<U>, me: &mut Thread<U>, made: Option<Event>)
     requires of { me.old.table_id ≡ p.now.table_id }
     requires pen { p.now.traced ≡ true → (me.old.next < 18446744073709551615) × (made ≡ None → me.old.pen ≡ Read me.old.next)
         × ((e : Event) → made ≡ Some e → me.old.pen ≡ Made me.old.next) }
     requires out { p.now.traced ≡ false → me.old.pen ≡ No }
+    requires last { p.now.traced ≡ true → (e : Event) → made ≡ Some e → ComesNext e me.old }
     ensures rest { me.new ≡ record me.old { pen = No; entries = me.new.entries; lost = me.new.lost } }
     ensures untraced { p.now.traced ≡ false → me.new ≡ me.old }
     ensures none { made ≡ None → (me.new.entries ≡ me.old.entries) × (me.new.lost ≡ me.old.lost) }
@@ -72,6 +75,7 @@ fn end_traced<U: Uses>(p: &Package<U>, me: &mut Thread<U>, made: Option<Event>)
     requires of { me.old.table_id ≡ p.now.table_id }
     requires below { me.old.next < 18446744073709551615 }
     requires pen { (made ≡ None → me.old.pen ≡ Read me.old.next) × ((e : Event) → made ≡ Some e → me.old.pen ≡ Made me.old.next) }
+    requires last { (e : Event) → made ≡ Some e → ComesNext e me.old }
     ensures rest { me.new ≡ record me.old { pen = No; entries = me.new.entries; lost = me.new.lost } }
     ensures none { made ≡ None → (me.new.entries ≡ me.old.entries) × (me.new.lost ≡ me.old.lost) }
     ensures stored { (e : Event) → made ≡ Some e → me.new.lost ≡ false → (me.old.lost ≡ false)

@@ -45,7 +45,7 @@ pub fn close_package<U: Uses>(
     ensures threads { IfOk result (λ c. c.threads ≡ threads.items) }
     ensures values { IfOk result (λ c. (length c.values ≡ p.layout.mutexes) × KeepsLocks (U.holds p.world) threads.items c.values) }
     ensures untraced { p.traced ≡ false → (is_ok result ≡ true) × IfOk result (λ c. c.trace ≡ None) }
-    ensures traced { p.traced ≡ true → IfOk result (λ c. (h : List Event) × (c.trace ≡ Some h) × IsWhole threads.items h) }
+    ensures traced { p.traced ≡ true → IfOk result (λ c. (h : List Event) × (c.trace ≡ Some h) × IsWhole p.layout threads.items h) }
 {
     let alloc = *threads.allocator();
     let layout = p.layout();

@@ -37,7 +37,7 @@ module _ {T H W : Type 0} (l : Layout) (traced : Bool) (w : W) (holds : W → Li
       shares = c.shares;
       sizes = sizes-frame all n p q at l words words' homes homes' ew eh (ap length a.held) c.sizes;
       run = c.run;
-      told = told-frame all n p q at c.log a.seen a.mine a.places c.told;
+      told = told-frame all n p q at l c.log a.seen a.mine a.places c.told;
       owned = owned-frame all n p q at l (holds w) c.owner c.values c.shares words words' homes homes' c.sizes.lawful ws hs a.held a.share c.owned;
       spins = spins;
       lines = lines;

@@ -13,6 +13,8 @@ use Rattle.larch_actions.specs.declared.event.Layout.{Layout}
 use Rattle.larch_actions.specs.declared.event.Pending.{Pending}
 use Rattle.larch_actions.specs.declared.event.Pending.TheVariants.{Nothing, Waiting, AlertWaiting}
 use Rattle.larch_actions.specs.Actions.{Spec, at_first, Acts, IsRun, by_thread, put}
+use Rattle.larch_actions.specs.Layout.{IsNamed}
+use Rattle.nub_rule.proofs.Names.{taken-named}
 use Rattle.larch_actions.specs.Sets.{mem, without}
 use Rattle.atomic_table.specs.Table.{Me, step, Allows, keeps, takes, gives, put_back, rest}
 use Rattle.atomic_table.proofs.Lists.{set_else, set_here}
@@ -66,6 +68,10 @@ module _ {T H W : Type 0} (l : Layout) (traced : Bool) (w : W) (begin : W → �
   Taking e m n p = (words : List ℕ) (homes : List (Option (Slot T))) (all : List (Part T H)) (c : Core l traced w holds words homes all) → get_elem? all n ≡ some p → c.owner m ≡ none
       → (f : ℕ → Pending) × Acts c.spec e (took c.spec m n f) × (f n ≡ Nothing) × ((j : ℕ) → j ≢ n → f j ≡ c.spec.pending j) × ((k : ℕ) → k ≢ m → waits_on p.wait k ≡ false) × ((c k : ℕ) → counts_in p.wait c k ≡ false)
 
+  -- the event has names of the layout
+  abbrev Naming : Event → ℕ → Part T H → Type 0
+  Naming e n p = (words : List ℕ) (homes : List (Option (Slot T))) (all : List (Part T H)) (c : Core l traced w holds words homes all) → get_elem? all n ≡ some p → IsNamed l e.action
+
   taking-acquire : (m n : ℕ) (p : Part T H) → p.wait ≡ None → Taking (acquire_event n m) m n p
   taking-acquire m n p out words homes all c at free = let idle : c.spec.pending n ≡ Nothing = c.shows.pendings.pends n p at ∙ ap pending_of out in
       (c.spec.pending, (record { order = idle; requires_met = tt; when_met = c.shows.holders.free m free; choice_met = tt }, refl), idle, (λ j ne. refl), (λ k ne. ap (λ w. waits_on w k) out), λ c k. ap (λ w. counts_in w c k) out)
@@ -110,9 +116,9 @@ module _ {T H W : Type 0} (l : Layout) (traced : Bool) (w : W) (begin : W → �
 
   module _ (fits : W → ℕ → T → ℕ → H → Type 0)
       (law : (values : List T) (shares : List H) → holds w values shares → (m : ℕ) (x : T) → get_elem? values m ≡ some x → (t : ℕ) (s : H) → get_elem? shares t ≡ some s → fits w m x t s) where
-    tries_at : (e : Event) (n m : ℕ) (p : Part T H) (cs : List (ℕ × Slot T)) → m < l.mutexes → e.thread.0 ≡ n → MayTell traced p.pen → Taking e m n p
+    tries_at : (e : Event) (n m : ℕ) (p : Part T H) (cs : List (ℕ × Slot T)) → m < l.mutexes → e.thread.0 ≡ n → MayTell traced p.pen → Taking e m n p → Naming e n p
         → Steps l traced w begin holds n (bit_at m) (λ x. either (eqb x 0) 1 x) p cs (λ r q ds. ((r ≡ 0) × Wins fits e m n p cs q ds) ⊎ ((r ≢ 0) × (q ≡ record p { failed = m ∷ p.failed; turns = without m p.turns }) × (ds ≡ cs)))
-    tries_at e n m p cs inside by may taking words homes all c at small = let r : ℕ = get_or words (bit_at m) 0 in let lawful = c.sizes.lawful in let ws = c.sizes.words_wide in let hs = c.sizes.homes_wide in
+    tries_at e n m p cs inside by may taking naming words homes all c at small = let r : ℕ = get_or words (bit_at m) 0 in let lawful = c.sizes.lawful in let ws = c.sizes.words_wide in let hs = c.sizes.homes_wide in
         let far : m < 192 = omega arith in let near : m < 64 = omega arith in dite (ℕ_discrete r 0)
         (λ hit.
         let o = c.owned in
@@ -128,7 +134,7 @@ module _ {T H W : Type 0} (l : Layout) (traced : Bool) (w : W) (begin : W → �
         let take = taking words homes all c at free in
         let spec' = took c.spec m n take.0 in
         let run = leads-snoc at_first c.log c.spec e spec' c.run take.1 in
-        let told' = told-event all n p q at c.log e by longer refl placed c.told in
+        let told' = told-event all n p q at l c.log e by (naming words homes all c at) longer refl placed c.told in
         let words' : List ℕ = set words (bit_at m) 1 in
         let homes' : List (Option (Slot T)) = set homes (value_at m) none in
         let more : length (c.log ++ e ∷ []) ≡ length c.log + 1 = length-append c.log (e ∷ []) in (
@@ -194,7 +200,7 @@ module _ {T H W : Type 0} (l : Layout) (traced : Bool) (w : W) (begin : W → �
           λ miss. absurd (miss u.0),
         ))
         (λ (u : (r ≢ 0) × (q ≡ record p { failed = m ∷ p.failed; turns = without m p.turns }) × (ds ≡ me.1)). ((λ hit. absurd (u.0 hit)), λ _ i. (with_part v (u.1 i), u.2 i))) t))
-        (tries_at ev n m p me.1 inside refl pen (taking m n p e apart may))
+        (tries_at ev n m p me.1 inside refl pen (taking m n p e apart may) (λ words homes all c at. taken-named l traced w holds words homes all c n p at m inside p.wait refl))
 
     -- the same at a word that is this place
     pub try_bit_keeps : (slots id m : ℕ) (e : Event) (me : Me (Slot T) (View T H W)) (i : ℕ) → i ≡ bit_at m → m < l.mutexes → me.0.kind ≡ Member → me.0.part.stand ≡ None → MayTake me.0.number m me.0.part.wait e → MayTell traced me.0.part.pen
@@ -230,7 +236,7 @@ module _ {T H W : Type 0} (l : Layout) (traced : Bool) (w : W) (begin : W → �
         let spec' : Spec = record c.spec { holder = put c.spec.holder m none } in
         let acts : Acts c.spec e spec' = (record { order = idle; requires_met = held; when_met = tt; choice_met = tt }, refl) in
         let run = leads-snoc at_first c.log c.spec e spec' c.run acts in
-        let told' = told-event all n p q at c.log e refl longer refl placed c.told in
+        let told' = told-event all n p q at l c.log e refl inside longer refl placed c.told in
         let words' : List ℕ = set words (bit_at m) 0 in
         let line : Slot T = Value (Some y) in
         let homes' : List (Option (Slot T)) = set homes (value_at m) (some line) in

@@ -115,6 +115,7 @@ module _ {T H W : Type 0} (l : Layout) (traced : Bool) (w : W) (begin : W → �
           run = refl;
           told = record {
             people = λ i e at. absurd (some-ne-none e (sym at));
+            names = λ i e at. absurd (some-ne-none e (sym at));
             each = each-firsts (Chronicle []) (λ n. fresh (Some (begin w n))) l.threads (λ i low. record { begins = ([], refl); own = refl; placed = refl });
             longest = inl refl;
           };
@@ -181,7 +182,7 @@ module _ {T H W : Type 0} (l : Layout) (traced : Bool) (w : W) (begin : W → �
 
   -- what a collector leaves that has taken every thread back, none of which has a mutex or is in a wait
   pub closes : (id : ℕ) (v : View T H W) (ws : List ℕ) (xs : List (Slot T)) → v.kind ≡ Collector → length v.back ≡ l.threads → ((n : ℕ) (p : Part T H) → get_elem? v.back n ≡ some p → ((m : ℕ) (x : T) → Got p m x → ⊥) × (p.wait ≡ None))
-      → Final (Seen (IsKept l traced w begin holds) id v) ws xs → Settles l.mutexes (holds w) v.back xs
+      → Final (Seen (IsKept l traced w begin holds) id v) ws xs → Settles l (holds w) v.back xs
   closes id v ws xs kind whole idle f =
       let s = f.0 in
       let r = f.1.0 in
@@ -192,7 +193,7 @@ module _ {T H W : Type 0} (l : Layout) (traced : Bool) (w : W) (begin : W → �
       let free : (m : ℕ) → c.owner m ≡ none = λ m. nobody (c.owner m) (λ n is. let low = (c.owned.within m n is).1 in let p = at_below r.all n low in let has = (c.owned.standing n p.0 p.1 m).1 is in (rest n p.0 p.1).0 m has.0 has.1) in
       record {
         values = c.values;
-        leaves = subst (λ (ps : List (Part T H)). Leaves (holds w) ps c.values) (sym back) (record {
+        leaves = subst (λ (ps : List (Part T H)). Leaves l (holds w) ps c.values) (sym back) (record {
           log = c.log;
           spec = c.spec;
           shares = c.shares;
@@ -225,13 +226,13 @@ module _ {T : Type 0} where
       (λ ne. ap (λ l. get_elem? l m) is ∙ at_longer xs (y ∷ []) m x (so_far m x (omega arith) at))
 
 module _ {T H : Type 0} where
-  pub slot_values : (n : ℕ) (holds : List T → List H → Type 0) (parts : List (Part T H)) (xs : List (Slot T)) → length xs ≡ 192 + n → Settles n holds parts xs → (m : ℕ) → 192 + m < length xs → (x : T) × (get_elem? xs (192 + m) ≡ some (Value (Some x)))
-  slot_values n holds parts xs wide s m low = let many = s.many in let v = at_below s.values m (omega arith) in (v.0, s.values_there m v.0 v.1)
+  pub slot_values : (l : Layout) (holds : List T → List H → Type 0) (parts : List (Part T H)) (xs : List (Slot T)) → length xs ≡ 192 + l.mutexes → Settles l holds parts xs → (m : ℕ) → 192 + m < length xs → (x : T) × (get_elem? xs (192 + m) ≡ some (Value (Some x)))
+  slot_values l holds parts xs wide s m low = let many = s.many in let v = at_below s.values m (omega arith) in (v.0, s.values_there m v.0 v.1)
 
-  pub leaves : (n : ℕ) (holds : List T → List H → Type 0) (parts : List (Part T H)) (xs : List (Slot T)) (values : List T) → Settles n holds parts xs → length values ≡ n → ((m : ℕ) (x : T) → get_elem? xs (192 + m) ≡ some (Value (Some x)) → get_elem? values m ≡ some x)
-      → Leaves holds parts values
-  leaves n holds parts xs values s many found = let same : s.values ≡ values = same_elements s.values values (s.many ∙ sym many) (λ m x at. found m x (s.values_there m x at)) in
-      subst (λ (vs : List T). Leaves holds parts vs) same s.leaves
+  pub leaves : (l : Layout) (holds : List T → List H → Type 0) (parts : List (Part T H)) (xs : List (Slot T)) (values : List T) → Settles l holds parts xs → length values ≡ l.mutexes → ((m : ℕ) (x : T) → get_elem? xs (192 + m) ≡ some (Value (Some x)) → get_elem? values m ≡ some x)
+      → Leaves l holds parts values
+  leaves l holds parts xs values s many found = let same : s.values ≡ values = same_elements s.values values (s.many ∙ sym many) (λ m x at. found m x (s.values_there m x at)) in
+      subst (λ (vs : List T). Leaves l holds parts vs) same s.leaves
 
 module _ {T H W : Type 0} where
   -- a thread that was given out fits

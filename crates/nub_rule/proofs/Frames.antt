@@ -8,6 +8,7 @@ use Rattle.larch_actions.specs.declared.event.Event.{Event}
 use Rattle.larch_actions.specs.declared.event.Layout.{Layout}
 use Rattle.larch_actions.specs.declared.event.Pending.{Pending}
 use Rattle.larch_actions.specs.Actions.{Spec, StartsWith}
+use Rattle.larch_actions.specs.Layout.{IsNamed}
 use Rattle.larch_actions.specs.Sets.{mem}
 use Rattle.atomic_table.proofs.Lists.{set_else, set_here}
 use Rattle.nub_rule.specs.declared.rule.Slot.{Slot}
@@ -84,9 +85,10 @@ module _ {T H : Type 0} (all : List (Part T H)) (n : ℕ) (p q : Part T H) (at :
   }
 
   -- HISTORY reads what was seen, the own events and their places
-  pub told-frame : (log : List Event) → q.seen ≡ p.seen → q.mine ≡ p.mine → q.places ≡ p.places → Told log all → Told log (set all n q)
-  told-frame log seen mine places h = let c = h.each n p at in record {
+  pub told-frame : (l : Layout) (log : List Event) → q.seen ≡ p.seen → q.mine ≡ p.mine → q.places ≡ p.places → Told l log all → Told l log (set all n q)
+  told-frame l log seen mine places h = let c = h.each n p at in record {
     people = λ i e there. subst (λ (z : ℕ). e.thread.0 < z) (sym (length-set all n q)) (h.people i e there);
+    names = h.names;
     each = each-set (Chronicle log) (Chronicle log) all n q record { begins = subst (StartsWith log) (sym seen) c.begins; own = c.own ∙ sym mine; placed = c.placed ∙ sym places } (λ k r ne at' d. d) h.each;
     longest = ⊎_elim (λ (e : log ≡ []). inl e)
         (λ (t : (k : ℕ) × (r : Part T H) × (get_elem? all k ≡ some r) × (r.seen ≡ log)). inr (dite (ℕ_discrete t.0 n)
@@ -95,10 +97,11 @@ module _ {T H : Type 0} (all : List (Part T H)) (n : ℕ) (p q : Part T H) (at :
   }
 
   -- an event of the thread n
-  pub told-event : (log : List Event) (e : Event) → e.thread.0 ≡ n → q.seen ≡ log ++ e ∷ [] → q.mine ≡ p.mine ++ e ∷ [] → q.places ≡ p.places ++ length log ∷ [] → Told log all → Told (log ++ e ∷ []) (set all n q)
-  told-event log e by seen mine places h = let c = h.each n p at in record {
+  pub told-event : (l : Layout) (log : List Event) (e : Event) → e.thread.0 ≡ n → IsNamed l e.action → q.seen ≡ log ++ e ∷ [] → q.mine ≡ p.mine ++ e ∷ [] → q.places ≡ p.places ++ length log ∷ [] → Told l log all → Told l (log ++ e ∷ []) (set all n q)
+  told-event l log e by named seen mine places h = let c = h.each n p at in record {
     people = each-snoc (λ i f. f.thread.0 < length (set all n q)) log (log ++ e ∷ []) (length log) e refl refl (let a = at_within all n p at in let b = length-set all n q in omega (arith, by))
         (λ i f there. subst (λ (z : ℕ). f.thread.0 < z) (sym (length-set all n q)) (h.people i f there));
+    names = each-snoc (λ i f. IsNamed l f.action) log (log ++ e ∷ []) (length log) e refl refl named h.names;
     each = each-set (Chronicle log) (Chronicle (log ++ e ∷ [])) all n q
         record {
           begins = ([], sym (ap (λ l. l ++ []) seen ∙ append-nil (log ++ e ∷ [])));

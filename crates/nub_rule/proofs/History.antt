@@ -6,6 +6,7 @@ use native.Mathlib.Decide.{ℕ_discrete}
 use lib.ListN.{get_elem?}
 use Rattle.atomic_table.proofs.Lists.{set_else, set_here}
 use Rattle.larch_actions.specs.declared.event.Event.{Event}
+use Rattle.larch_actions.specs.declared.event.Layout.{Layout}
 use Rattle.larch_actions.specs.Actions.{Spec, Leads, IsRun, StartsWith, at_first, by_thread}
 use Rattle.nub_rule.specs.declared.view.Part.{Part}
 use Rattle.nub_rule.specs.Items.{Each}
@@ -59,19 +60,19 @@ at-behind (x ∷ xs) ys i = ap (get_elem? (x ∷ xs ++ ys)) (let z : suc (length
 
 module _ {T H : Type 0} where
   -- whoever has seen what some thread has, has the whole of a history that is the longest
-  begun-by : (log log' : List Event) (views views' : List (Part T H)) → ((k : ℕ) (r : Part T H) → get_elem? views k ≡ some r → StartsWith log' r.seen) → History log views → StartsWith log' log
-  begun-by log log' views views' begins h = ⊎_elim
+  begun-by : (l : Layout) (log log' : List Event) (views views' : List (Part T H)) → ((k : ℕ) (r : Part T H) → get_elem? views k ≡ some r → StartsWith log' r.seen) → History l log views → StartsWith log' log
+  begun-by l log log' views views' begins h = ⊎_elim
       (λ (e : log ≡ []). (log', ap (λ (l : List Event). l ++ log') (sym e)))
       (λ (t : (k : ℕ) × (r : Part T H) × (get_elem? views k ≡ some r) × (r.seen ≡ log)). subst (StartsWith log') t.3 (begins t.0 t.1 t.2)) h.longest
 
-  pub one-log : (log log' : List Event) (views : List (Part T H)) → History log views → History log' views → log' ≡ log
-  one-log log log' views h h' = same-lists log log' (begun-by log' log views views h.begins h') (begun-by log log' views views h'.begins h)
+  pub one-log : (l : Layout) (log log' : List Event) (views : List (Part T H)) → History l log views → History l log' views → log' ≡ log
+  one-log l log log' views h h' = same-lists log log' (begun-by l log' log views views h.begins h') (begun-by l log log' views views h'.begins h)
 
-  pub step-log : (log log' : List Event) (views : List (Part T H)) (n : ℕ) (p q : Part T H) (es : List Event) → get_elem? views n ≡ some p → StartsWith q.seen p.seen → q.mine ≡ p.mine ++ es
-      → History log views → History log' (set views n q) → log' ≡ log ++ es
-  step-log log log' views n p q es at more adds h h' =
+  pub step-log : (l : Layout) (log log' : List Event) (views : List (Part T H)) (n : ℕ) (p q : Part T H) (es : List Event) → get_elem? views n ≡ some p → StartsWith q.seen p.seen → q.mine ≡ p.mine ++ es
+      → History l log views → History l log' (set views n q) → log' ≡ log ++ es
+  step-log l log log' views n p q es at more adds h h' =
       let here = set_here views n q (at_within views n p at) in
-      let grown : StartsWith log' log = begun-by log log' views (set views n q) (λ k r at'. dite (ℕ_discrete k n)
+      let grown : StartsWith log' log = begun-by l log log' views (set views n q) (λ k r at'. dite (ℕ_discrete k n)
       (λ e. let same : p ≡ r = same_at views n p r at (ap (get_elem? views) (sym e) ∙ at') in let own = h'.begins n q here in
       (more.0 ++ own.0, own.1 ∙ (ap (λ (l : List Event). l ++ own.0) (more.1 ∙ ap (λ (z : Part T H). z.seen ++ more.0) same) ∙ append_assoc r.seen more.0 own.0)))
       (λ ne. h'.begins k r (set_else views n k q ne ∙ at'))) h in
@@ -93,5 +94,5 @@ step-state log log' state state' es run run' is =
     subst (λ (z : Spec). Leads z es state') (leads-one at_first t.0 state log t.1 run) t.2
 
 module _ {T H : Type 0} where
-  pub same-history : (log log' : List Event) (state state' : Spec) (views : List (Part T H)) → History log views → History log' views → IsRun log state → IsRun log' state' → (log' ≡ log) × (state' ≡ state)
-  same-history log log' state state' views h h' run run' = let e = one-log log log' views h h' in (e, leads-one at_first state' state log (subst (λ (l : List Event). Leads at_first l state') e run') run)
+  pub same-history : (l : Layout) (log log' : List Event) (state state' : Spec) (views : List (Part T H)) → History l log views → History l log' views → IsRun log state → IsRun log' state' → (log' ≡ log) × (state' ≡ state)
+  same-history l log log' state state' views h h' run run' = let e = one-log l log log' views h h' in (e, leads-one at_first state' state log (subst (λ (l : List Event). Leads at_first l state') e run') run)

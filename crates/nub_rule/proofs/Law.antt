@@ -105,12 +105,13 @@ module _ {T H : Type 0} where
       marks
 
 module _ {T H W : Type 0} (l : Layout) (traced : Bool) (w : W) (holds : W → List T → List H → Type 0) (words : List ℕ) (homes : List (Option (Slot T))) (all : List (Part T H)) (c : Core l traced w holds words homes all) where
-  history : History c.log all
+  history : History l c.log all
   history = record {
     begins = λ n p at. (c.told.each n p at).begins;
     longest = c.told.longest;
     own = λ n p at. (c.told.each n p at).own;
     people = c.told.people;
+    names = c.told.names;
   }
 
   -- who has the spin word of an object has its queue in its view, and those whom it owes

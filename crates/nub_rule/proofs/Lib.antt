@@ -13,6 +13,7 @@ pub mod SpinSteps
 pub mod ReadySteps
 pub mod QueueSteps
 pub mod Owning
+pub mod Names
 pub mod BitSteps
 pub mod SemSteps
 pub mod Handling

@@ -5,6 +5,7 @@ use lib.ListN.{get_elem?}
 use Rattle.larch_actions.specs.declared.event.Event.{Event}
 use Rattle.larch_actions.specs.declared.event.Layout.{Layout}
 use Rattle.larch_actions.specs.Actions.{Spec, at_first, Acts, IsRun, by_thread}
+use Rattle.larch_actions.specs.Layout.{IsNamed}
 use Rattle.atomic_table.proofs.Lists.{set_here}
 use Rattle.nub_rule.specs.declared.rule.Slot.{Slot}
 use Rattle.nub_rule.specs.declared.view.Part.{Part}
@@ -50,10 +51,10 @@ module _ {T H W : Type 0} (l : Layout) (traced : Bool) (w : W) (holds : W → Li
   abbrev pub Marked : Event → ℕ → ℕ → ℕ → Part T H → (List Event → Part T H) → List ℕ → List (Option (Slot T)) → List (Part T H) → Type 0
   Marked e n i x p after words homes all = (q : Part T H) × Core l traced w holds (set words i x) homes (set all n q) × Learns e n p after q
 
-  pub marks : (e : Event) (n i x : ℕ) (p : Part T H) (after : List Event → Part T H) (words : List ℕ) (homes : List (Option (Slot T))) (all : List (Part T H)) (c : Core l traced w holds words homes all) (spec' : Spec) → get_elem? all n ≡ some p → e.thread.0 ≡ n → MayTell traced p.pen → Aside i
+  pub marks : (e : Event) (n i x : ℕ) (p : Part T H) (after : List Event → Part T H) (words : List ℕ) (homes : List (Option (Slot T))) (all : List (Part T H)) (c : Core l traced w holds words homes all) (spec' : Spec) → get_elem? all n ≡ some p → e.thread.0 ≡ n → IsNamed l e.action → MayTell traced p.pen → Aside i
       → ((z : List Event) → IsTold p (after z) z e) → Acts c.spec e spec' → ((z : List Event) → Shows (set words i x) c.spinner c.queue c.owner spec' (set all n (after z)))
       → ((z : List Event) → WakeOwed c.queue (set words i x) (set all n (after z))) → Marked e n i x p after words homes all
-  marks e n i x p after words homes all c spec' at by may aside tells acts shows owes =
+  marks e n i x p after words homes all c spec' at by named may aside tells acts shows owes =
       let seen = (c.told.each n p at).begins in
       let z : List Event = p.seen ++ seen.0 in
       let q : Part T H = after z in
@@ -61,7 +62,7 @@ module _ {T H W : Type 0} (l : Layout) (traced : Bool) (w : W) (holds : W → Li
       let longer : q.seen ≡ c.log ++ e ∷ [] = t.seen ∙ ap (λ (y : List Event). y ++ e ∷ []) (sym seen.1) in
       let placed : q.places ≡ p.places ++ length c.log ∷ [] = t.places ∙ ap (λ (y : List Event). p.places ++ length y ∷ []) (sym seen.1) in
       let run = leads-snoc at_first c.log c.spec e spec' c.run acts in
-      let told' = told-event all n p q at c.log e by longer t.mine placed c.told in
+      let told' = told-event all n p q at l c.log e by named longer t.mine placed c.told in
       let words' : List ℕ = set words i x in
       let more : length (c.log ++ e ∷ []) ≡ length c.log + 1 = length-append c.log (e ∷ []) in
       let pen = pen-stay words i x aside.pen aside.number in (

@@ -10,6 +10,7 @@ use Rattle.larch_actions.specs.declared.event.Action.TheVariants.{P}
 use Rattle.larch_actions.specs.declared.event.Layout.{Layout}
 use Rattle.larch_actions.specs.declared.event.Pending.TheVariants.{Nothing}
 use Rattle.larch_actions.specs.Actions.{Acts, put}
+use Rattle.larch_actions.specs.Layout.{IsNamed}
 use Rattle.larch_actions.specs.Sets.{without}
 use Rattle.atomic_table.specs.Table.{Me, step, Allows, keeps}
 use Rattle.nub_rule.specs.declared.rule.Slot.{Slot}
@@ -40,21 +41,21 @@ zero-shows x b says z = ⊎_elim (λ (t : (x ≡ 0) × (cond b false true ≡ fa
 
 module _ {T H W : Type 0} (l : Layout) (traced : Bool) (w : W) (begin : W → ℕ → H) (holds : W → List T → List H → Type 0) where
   -- an event by which the bit of the semaphore s becomes x
-  sem-marks : (e : Event) (n s x : ℕ) (b : Bool) (p : Part T H) (failed turns cleared : List ℕ) (words : List ℕ) (homes : List (Option (Slot T))) (all : List (Part T H)) (c : Core l traced w holds words homes all) → get_elem? all n ≡ some p → s < 64 → e.thread.0 ≡ n → MayTell traced p.pen
+  sem-marks : (e : Event) (n s x : ℕ) (b : Bool) (p : Part T H) (failed turns cleared : List ℕ) (words : List ℕ) (homes : List (Option (Slot T))) (all : List (Part T H)) (c : Core l traced w holds words homes all) → get_elem? all n ≡ some p → s < 64 → e.thread.0 ≡ n → IsNamed l e.action → MayTell traced p.pen
       → Acts c.spec e (record c.spec { avail = put c.spec.avail s b }) → Says x (cond b false true)
       → ((q : Part T H) → q.stand ≡ p.stand → q.turns ≡ turns → q.cleared ≡ cleared → WakeOwed c.queue (set words (bit_at (sem_object s)) x) (set all n q))
       → Marked l traced w holds e n (bit_at (sem_object s)) x p (λ z. record (told p z e) { failed = failed; turns = turns; cleared = cleared }) words homes all
-  sem-marks e n s x b p failed turns cleared words homes all c at low by may acts says owes = let o : ℕ = sem_object s in let i = bit_at o in let wide = c.sizes.words_wide in
-      marks l traced w holds e n i x p (λ z. record (told p z e) { failed = failed; turns = turns; cleared = cleared }) words homes all c (record c.spec { avail = put c.spec.avail s b }) at by may
+  sem-marks e n s x b p failed turns cleared words homes all c at low by named may acts says owes = let o : ℕ = sem_object s in let i = bit_at o in let wide = c.sizes.words_wide in
+      marks l traced w holds e n i x p (λ z. record (told p z e) { failed = failed; turns = turns; cleared = cleared }) words homes all c (record c.spec { avail = put c.spec.avail s b }) at by named may
       record { bits = λ k up z. omega arith; spins = λ k up z. omega arith; lengths = λ k up z. omega arith; ready = λ k up z. omega arith; pen = λ z. omega arith; number = λ z. omega arith }
       (λ z. record { seen = refl; mine = refl; places = refl; held = refl; share = refl; spin = refl; queue = refl; owed = refl; stand = refl; pen = refl }) acts
       (λ z. shows-sem words (set words i x) c.spinner c.queue c.owner c.spec all n p (record (told p z e) { failed = failed; turns = turns; cleared = cleared }) at s b (λ k up. other words i (count_at (cond_object k)) x (λ y. omega arith)) (λ k up ne. other words i (bit_at (sem_object k)) x (λ y. ne (omega arith))) (λ k up. other words i (alert_at k) x (λ y. omega arith))
       (subst (λ (z : ℕ). Says z (cond b false true)) (sym (get_or-set_same words i x 0 (omega arith))) says) refl refl refl refl c.shows)
       (λ z. owes (record (told p z e) { failed = failed; turns = turns; cleared = cleared }) refl refl refl)
 
-  try_p_at : (slots id s : ℕ) (me : Me (Slot T) (View T H W)) → s < 64 → me.0.kind ≡ Member → me.0.part.wait ≡ None → MayTell traced me.0.part.pen
+  try_p_at : (slots id s : ℕ) (me : Me (Slot T) (View T H W)) → s < 64 → s < l.semaphores → me.0.kind ≡ Member → me.0.part.wait ≡ None → MayTell traced me.0.part.pen
       → Allows (IsKept l traced w begin holds) slots id me (bit_at (sem_object s)) (λ x. either (eqb x 0) 1 x) (try_p_tells (λ s. P record { 0 = s }) (step slots (bit_at (sem_object s)) 0 1 none) me)
-  try_p_at slots id s me low kind out may = let v = me.0 in let n = v.number in let p = v.part in let o : ℕ = sem_object s in let e = p_event n s in
+  try_p_at slots id s me low named kind out may = let v = me.0 in let n = v.number in let p = v.part in let o : ℕ = sem_object s in let e = p_event n s in
       member_steps l traced w begin holds slots id (bit_at o) (λ x. either (eqb x 0) 1 x) v me.1
       (λ r q ds. ((r ≡ 0) × Learns e n p (λ z. record (told p z e) { failed = without o p.failed; turns = without o p.turns; cleared = p.cleared }) q × (ds ≡ me.1)) ⊎ ((r ≢ 0) × (q ≡ record p { failed = o ∷ p.failed; turns = without o p.turns }) × (ds ≡ me.1)))
       (try_p_tells (λ s. P record { 0 = s }) (step slots (bit_at o) 0 1 none) me) kind
@@ -67,7 +68,7 @@ module _ {T H W : Type 0} (l : Layout) (traced : Bool) (w : W) (begin : W → �
       (λ hit.
       let free = zero-shows r (c.spec.avail s) (c.shows.semaphores s low) hit in
       let idle : c.spec.pending n ≡ Nothing = c.shows.pendings.pends n p at ∙ ap pending_of out in
-      let m = sem-marks e n s 1 false p (without o p.failed) (without o p.turns) p.cleared words homes all c at low refl may (record { order = idle; requires_met = tt; when_met = free; choice_met = tt }, refl) (inr (refl, refl))
+      let m = sem-marks e n s 1 false p (without o p.failed) (without o p.turns) p.cleared words homes all c at low refl named may (record { order = idle; requires_met = tt; when_met = free; choice_met = tt }, refl) (inr (refl, refl))
       (λ q es et ec. owes-try c.queue words (set words (bit_at o) 1) all n p q at o (λ k lo ne. other words (bit_at o) (bit_at k) 1 (λ z. ne (omega arith))) (λ z. let y = get_or-set_same words (bit_at o) 1 0 (omega arith) in omega arith) es ec et c.owes) in
       (m.0, keeps, tt, subst (λ b. Core l traced w holds (set words (bit_at o) (either b 1 r)) homes (set all n m.0)) (sym (eq-eqb r 0 hit)) m.1, inl (hit, m.2, refl)))
       (λ miss. let q : Part T H = record p { failed = o ∷ p.failed; turns = without o p.turns } in (
@@ -82,24 +83,24 @@ module _ {T H W : Type 0} (l : Layout) (traced : Bool) (w : W) (begin : W → �
       )))
 
   -- the same at a word that is this place
-  pub try_p_keeps : (slots id s : ℕ) (me : Me (Slot T) (View T H W)) (i : ℕ) → i ≡ bit_at (sem_object s) → s < 64 → me.0.kind ≡ Member → me.0.part.wait ≡ None → MayTell traced me.0.part.pen
+  pub try_p_keeps : (slots id s : ℕ) (me : Me (Slot T) (View T H W)) (i : ℕ) → i ≡ bit_at (sem_object s) → s < 64 → s < l.semaphores → me.0.kind ≡ Member → me.0.part.wait ≡ None → MayTell traced me.0.part.pen
       → Allows (IsKept l traced w begin holds) slots id me i (λ x. either (eqb x 0) 1 x) (try_p_tells (λ s. P record { 0 = s }) (step slots i 0 1 none) me)
-  try_p_keeps slots id s me i word low kind out may = subst (λ (i : ℕ). Allows (IsKept l traced w begin holds) slots id me i (λ x. either (eqb x 0) 1 x) (try_p_tells (λ s. P record { 0 = s }) (step slots i 0 1 none) me)) (sym word) (try_p_at slots id s me low kind out may)
+  try_p_keeps slots id s me i word low named kind out may = subst (λ (i : ℕ). Allows (IsKept l traced w begin holds) slots id me i (λ x. either (eqb x 0) 1 x) (try_p_tells (λ s. P record { 0 = s }) (step slots i 0 1 none) me)) (sym word) (try_p_at slots id s me low named kind out may)
 
-  clear_sem_at : (slots id s : ℕ) (me : Me (Slot T) (View T H W)) → s < 64 → me.0.kind ≡ Member → me.0.part.wait ≡ None → me.0.part.stand ≡ None → MayTell traced me.0.part.pen
+  clear_sem_at : (slots id s : ℕ) (me : Me (Slot T) (View T H W)) → s < 64 → s < l.semaphores → me.0.kind ≡ Member → me.0.part.wait ≡ None → me.0.part.stand ≡ None → MayTell traced me.0.part.pen
       → Allows (IsKept l traced w begin holds) slots id me (bit_at (sem_object s)) (λ _. 0) (clear_sem_tells (step slots (bit_at (sem_object s)) 0 0 none) me)
-  clear_sem_at slots id s me low kind out apart may = let v = me.0 in let n = v.number in let p = v.part in let o : ℕ = sem_object s in let e = v_event n s in
+  clear_sem_at slots id s me low named kind out apart may = let v = me.0 in let n = v.number in let p = v.part in let o : ℕ = sem_object s in let e = v_event n s in
       member_steps l traced w begin holds slots id (bit_at o) (λ _. 0) v me.1
       (λ r q ds. Learns e n p (λ z. record (told p z e) { failed = p.failed; turns = p.turns; cleared = o ∷ p.cleared }) q × (ds ≡ me.1)) (clear_sem_tells (step slots (bit_at o) 0 0 none) me) kind
       (λ r q ds world t k is. let same : s ≡ k = omega arith in subst (λ (k : ℕ). (between : List Event) × Grows n p between (v_event n k) × Becomes me (record (told p (p.seen ++ between) (v_event n k)) { cleared = sem_object k ∷ p.cleared }) (with_part v q, ds)) same
       (t.0.0, t.0.1, λ i. (with_part v (t.0.2 i), t.1 i)))
       (λ words homes all c at small.
       let idle : c.spec.pending n ≡ Nothing = c.shows.pendings.pends n p at ∙ ap pending_of out in
-      let m = sem-marks e n s 0 true p p.failed p.turns (o ∷ p.cleared) words homes all c at low refl may (record { order = idle; requires_met = tt; when_met = tt; choice_met = tt }, refl) (inl (refl, refl))
+      let m = sem-marks e n s 0 true p p.failed p.turns (o ∷ p.cleared) words homes all c at low refl named may (record { order = idle; requires_met = tt; when_met = tt; choice_met = tt }, refl) (inl (refl, refl))
       (λ q es et ec. owes-clear c.queue words (set words (bit_at o) 0) all n p q at o (λ k lo ne. other words (bit_at o) (bit_at k) 0 (λ z. ne (omega arith))) apart es ec et c.owes) in
       (m.0, keeps, tt, m.1, (m.2, refl)))
 
   -- the same at a word that is this place
-  pub clear_sem_keeps : (slots id s : ℕ) (me : Me (Slot T) (View T H W)) (i : ℕ) → i ≡ bit_at (sem_object s) → s < 64 → me.0.kind ≡ Member → me.0.part.wait ≡ None → me.0.part.stand ≡ None → MayTell traced me.0.part.pen
+  pub clear_sem_keeps : (slots id s : ℕ) (me : Me (Slot T) (View T H W)) (i : ℕ) → i ≡ bit_at (sem_object s) → s < 64 → s < l.semaphores → me.0.kind ≡ Member → me.0.part.wait ≡ None → me.0.part.stand ≡ None → MayTell traced me.0.part.pen
       → Allows (IsKept l traced w begin holds) slots id me i (λ _. 0) (clear_sem_tells (step slots i 0 0 none) me)
-  clear_sem_keeps slots id s me i word low kind out apart may = subst (λ (i : ℕ). Allows (IsKept l traced w begin holds) slots id me i (λ _. 0) (clear_sem_tells (step slots i 0 0 none) me)) (sym word) (clear_sem_at slots id s me low kind out apart may)
+  clear_sem_keeps slots id s me i word low named kind out apart may = subst (λ (i : ℕ). Allows (IsKept l traced w begin holds) slots id me i (λ _. 0) (clear_sem_tells (step slots i 0 0 none) me)) (sym word) (clear_sem_at slots id s me low named kind out apart may)

@@ -4,6 +4,7 @@ use Rattle.std.specs.List.{range_with_len}
 use mathlib.Core.Option.{none, some}
 use lib.ListN.{get_elem?}
 use Rattle.larch_actions.specs.declared.event.Event.{Event}
+use Rattle.larch_actions.specs.declared.event.Layout.{Layout}
 use Rattle.larch_actions.specs.declared.event.Pending.TheVariants.{Nothing}
 use Rattle.larch_actions.specs.Actions.{Spec, IsRun}
 use Rattle.atomic_table.specs.Seated.{TableId}
@@ -26,23 +27,23 @@ opening_slots {T} values = replicate 192 (Queue no_line) ++ map (λ x. Value (So
 
 module _ {T H : Type 0} where
   -- with the shares of these threads the values keep the lock invariant, and one list of events is legal and closed and has the parts of all of them
-  pub record Leaves (holds : List T → List H → Type 0) (parts : List (Part T H)) (values : List T) : Type 0 where
+  pub record Leaves (l : Layout) (holds : List T → List H → Type 0) (parts : List (Part T H)) (values : List T) : Type 0 where
     pub log : List Event
     pub spec : Spec
     pub shares : List H
     pub run : IsRun log spec
     pub nothing_held : (m : ℕ) → spec.holder m ≡ none
     pub nothing_begun : (t : ℕ) → spec.pending t ≡ Nothing
-    pub history : Told log parts
+    pub history : Told l log parts
     pub kept : holds values shares
     pub each_share : length shares ≡ length parts
     pub shared : Each (Shared shares) parts
 
   -- the same of the values in the slots
-  pub record Settles (mutexes : ℕ) (holds : List T → List H → Type 0) (parts : List (Part T H)) (xs : List (Slot T)) : Type 0 where
+  pub record Settles (l : Layout) (holds : List T → List H → Type 0) (parts : List (Part T H)) (xs : List (Slot T)) : Type 0 where
     pub values : List T
-    pub leaves : Leaves holds parts values
-    pub many : length values ≡ mutexes
+    pub leaves : Leaves l holds parts values
+    pub many : length values ≡ l.mutexes
     pub values_there : Each (λ m x. get_elem? xs (value_at m) ≡ some (Value (Some x))) values
 
 module _ {T H W : Type 0} where

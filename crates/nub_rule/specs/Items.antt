@@ -7,6 +7,7 @@ use Rattle.larch_actions.specs.declared.event.Event.{Event}
 use Rattle.larch_actions.specs.declared.event.Pending.{Pending}
 use Rattle.larch_actions.specs.declared.event.Pending.TheVariants.{Nothing}
 use Rattle.larch_actions.specs.Actions.{Spec, IsRun, StartsWith, by_thread}
+use Rattle.larch_actions.specs.Layout.{IsNamed}
 use Rattle.larch_actions.specs.Sets.{mem}
 use Rattle.nub_rule.specs.declared.rule.Slot.{Slot}
 use Rattle.nub_rule.specs.declared.rule.Slot.TheVariants.{Value, Queue}
@@ -83,9 +84,10 @@ module _ {T H : Type 0} where
     pub own : by_thread n log ≡ p.mine
     pub placed : places_from 0 n log ≡ p.places
 
-  -- HISTORY: the list of all events. Each is by a thread, each thread has seen a beginning of the list, and some thread the whole, unless it is empty
-  pub record Told (log : List Event) (all : List (Part T H)) : Type 0 where
+  -- HISTORY: the list of all events. Each is by a thread and has names of the layout, each thread has seen a beginning of the list, and some thread the whole, unless it is empty
+  pub record Told (l : Layout) (log : List Event) (all : List (Part T H)) : Type 0 where
     pub people : Each (λ i e. e.thread.0 < length all) log
+    pub names : Each (λ i e. IsNamed l e.action) log
     pub each : Each (Chronicle log) all
     pub longest : (log ≡ []) ⊎ ((n : ℕ) × (p : Part T H) × (get_elem? all n ≡ some p) × (p.seen ≡ log))
 
@@ -209,7 +211,7 @@ module _ {T H : Type 0} where
     pub shares : List H
     pub sizes : Sizes l words homes all
     pub run : IsRun log spec
-    pub told : Told log all
+    pub told : Told l log all
     pub owned : Owned l (holds w) owner values shares words homes all
     pub spins : Spins spinner queue owed words homes all
     pub lines : Lines (λ o. owed o ++ queue o) words all

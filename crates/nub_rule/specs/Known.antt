@@ -200,12 +200,13 @@ module _ {T H : Type 0} where
     pub room : (o : ℕ) → p.spin ≡ Some o → p.stand ≡ None → length p.queue < most_threads
 
 -- what is true of each package: the table has the words and slots of its layout, its key tells the layout and whether it is traced, and the shelf has room for what each thread has stored
-pub record IsPackage {W : Type 0} (z : TableId) (key : About W) (layout : Layout) (traced : Bool) (shelf : List Stored) (room : ℕ) : Type 0 where
+pub record IsPackage {W : Type 0} (z : TableId) (key : About W) (layout : Layout) (traced : Bool) (shelf : List Stored) (room unparkers : ℕ) : Type 0 where
   pub words : z.words ≡ word_count
   pub slots : z.slots ≡ value_at layout.mutexes
   pub lawful : IsLawful layout
   pub bare : shelf ≡ []
   pub roomy : layout.threads ≤ room
+  pub woken : unparkers ≡ layout.threads
   pub laid_out : key.layout ≡ layout
   pub traced_so : key.traced ≡ traced
 

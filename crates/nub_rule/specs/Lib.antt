@@ -9,3 +9,4 @@ pub mod Plays
 pub mod Known
 pub mod Ends
 pub mod PackageRule
+pub mod Stored

@@ -7,6 +7,7 @@ use Rattle.larch_actions.specs.declared.event.Layout.{Layout}
 use Rattle.larch_actions.specs.declared.event.Event.{Event}
 use Rattle.larch_actions.specs.declared.event.Pending.TheVariants.{Nothing}
 use Rattle.larch_actions.specs.Actions.{Spec, IsRun, Leads, StartsWith, by_thread}
+use Rattle.larch_actions.specs.Layout.{IsNamed}
 use Rattle.larch_actions.specs.Sets.{mem}
 use Rattle.atomic_table.specs.Table.{State}
 use Rattle.nub_rule.specs.declared.rule.Slot.{Slot}
@@ -72,11 +73,12 @@ module _ {T H : Type 0} where
       ⊎ (NoView (λ p. p.spin ≡ Some o) views × (get_elem? homes (queue_at o) ≡ some (some (Queue (line_of xs)))))
 
   -- HISTORY: one list, the longest that any thread has seen; each has seen a beginning of it, and its part by each thread is that thread's own events
-  pub record History (log : List Event) (views : List (Part T H)) : Type 0 where
+  pub record History (l : Layout) (log : List Event) (views : List (Part T H)) : Type 0 where
     pub begins : Each (λ n p. StartsWith log p.seen) views
     pub longest : (log ≡ []) ⊎ AnyView (λ p. p.seen ≡ log) views
     pub own : Each (λ n p. by_thread n log ≡ p.mine) views
     pub people : Each (λ i e. e.thread.0 < length views) log
+    pub names : Each (λ i e. IsNamed l e.action) log
 
   -- MEANING OF THE WORDS: the state of the specification for which words, slots and views stand
   pub record Meaning (words : List ℕ) (homes : List (Option (Slot T))) (views : List (Part T H)) (queue left : ℕ → List ℕ) (state : Spec) : Type 0 where
@@ -180,7 +182,7 @@ module _ {T H : Type 0} where
     -- the value last released of each mutex, and the share of each thread
     pub values : List T
     pub shares : List H
-    pub history : History log views
+    pub history : History l log views
     pub run : IsRun log state
     pub meaning : Meaning words homes views queue left state
     pub mutex_bits : MutexBits l.mutexes words views state

@@ -45,14 +45,14 @@ pub struct Package<U: Uses> {
 }
 
 impl<U: Uses> Model for Package<U> {
-    ghost use Rattle.std.specs.Prelude.{vec_capacity};
+    ghost use Rattle.std.specs.Prelude.{vec_capacity, vec_len};
     ghost use Rattle.nub_rule.specs.Known.{Shape, shape_of, IsPackage};
 
     ghost Value = { Shape U.World };
 
     ghost view = { λ p. shape_of p.table.shared.table_id p.table.shared.key };
 
-    ghost invariant = { λ p. IsPackage p.table.shared.table_id p.table.shared.key p.layout p.traced p.shelf.items (vec_capacity p.shelf) };
+    ghost invariant = { λ p. IsPackage p.table.shared.table_id p.table.shared.key p.layout p.traced p.shelf.items (vec_capacity p.shelf) (vec_len p.unparkers) };
 }
 
 /// The right of one thread to step with a package.
@@ -72,7 +72,7 @@ pub struct Thread<U: Uses> {
 }
 
 impl<U: Uses> Model for Thread<U> {
-    ghost use Rattle.std.specs.Prelude.{vec_capacity};
+    ghost use Rattle.std.specs.Prelude.{vec_capacity, vec_len};
     ghost use Rattle.nub_rule.specs.Known.{Known, known_as, IsThread};
 
     ghost Value = { Known U.Value U.Share U.World };

@@ -2,6 +2,7 @@
 ghost use Rattle.std.specs.Prelude.{◌≡◌, ◌≢◌, ◌+◌, ◌++◌, ◌∷◌, [], ℕ, true, false};
 ghost use Rattle.nub_rule.specs.declared.view.Pen.TheVariants.{No, Taken, Read, Made, Written};
 ghost use Rattle.nub_rule.specs.Parts.{MayGivePen};
+ghost use Rattle.nub_rule.specs.Stored.{ComesNext};
 
 use crate::package::{Entry, Package, Thread};
 use crate::places::{NUMBER, PEN};
@@ -61,9 +62,11 @@ pub fn next_number<U: Uses>(me: &Thread<U>) -> u64
     me.next
 }
 
-/// Stores an event under the number that was read last, or marks the list lost where there is no memory for it. It is no step.
+/// Stores the own event that comes next in the list, under the number that was read last, or marks the list lost where there is no memory
+/// for it. It is no step.
 #[inline]
 pub fn store_event<U: Uses>(me: &mut Thread<U>, e: Event)
+    requires { ComesNext e me.old }
     ensures kept { me.new ≡ record me.old { entries = me.new.entries; lost = me.new.lost } }
     ensures stored { me.new.lost ≡ false → (me.old.lost ≡ false) × (me.new.entries ≡ me.old.entries ++ record {
       number = me.old.next;

@@ -118,7 +118,7 @@ fn cut_all<U: Uses>(
 
 /// So many parkers, and the other end of each.
 fn parkers_of(alloc: Global, count: u32) -> Result<(Vec<Parker>, Vec<Unparker>), AllocError>
-    ensures { IfOk result (λ o. length o.0.items ≡ count) }
+    ensures { IfOk result (λ o. (length o.0.items ≡ count) × (vec_len o.1 ≡ count)) }
 {
     let mut parkers = Vec::new(alloc);
     let mut unparkers = Vec::new(alloc);
@@ -285,7 +285,7 @@ pub fn close_package<U: Uses>(alloc: Global, p: Package<U>, threads: Vec<Thread<
     requires threads { Each (λ n t. (t.number ≡ n) × (t.table_id ≡ p.table_id) × (t.spin ≡ None) × HasNone t) threads.items }
     requires rest { Each (λ n t. t.wait ≡ None) threads.items }
     ensures values { (length result.values.items ≡ p.layout.mutexes)
-        × Leaves (U.holds p.world) (map (λ t. part_of t) threads.items) result.values.items }
+        × Leaves p.layout (U.holds p.world) (map (λ t. part_of t) threads.items) result.values.items }
     ensures stored { (map (λ s. s.entries.items) result.stored.items ≡ map (λ t. t.entries) threads.items)
         × (map (λ s. s.lost) result.stored.items ≡ map (λ t. t.lost) threads.items) }
 {

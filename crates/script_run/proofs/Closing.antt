@@ -21,9 +21,9 @@ if_ok (Ok x) P Q f h = f x h
 if_ok (Err e) P Q f h = tt
 
 -- the part of each thread in the history is its own events, and these are its rows
-pub rows_of : (p : Shape (Prim.Unit {0})) (xs : List Line) (threads : List Player) (count : ℕ) (h : List Event) → length threads ≡ count → ((n : ℕ) (t : Player) → get_elem? threads n ≡ some t → IsPlayed p xs n t) → IsWhole threads h
+pub rows_of : (l : Layout) (p : Shape (Prim.Unit {0})) (xs : List Line) (threads : List Player) (count : ℕ) (h : List Event) → length threads ≡ count → ((n : ℕ) (t : Player) → get_elem? threads n ≡ some t → IsPlayed p xs n t) → IsWhole l threads h
     → (t : ℕ) → t < count → AreEventsOf xs t (by_thread t h)
-rows_of p xs threads count h size played whole t low =
+rows_of l p xs threads count h size played whole t low =
     let at = elem_at threads t (omega arith) in
     let P : List Event → Type 0 = λ es. AreEventsOf xs t es in
     subst P (sym (whole.own t at.0 at.1)) (played t at.0 at.1).events

@@ -5,4 +5,3 @@ pub mod Plays
 pub mod Rows
 pub mod Sums
 pub mod Whole
-pub mod Named

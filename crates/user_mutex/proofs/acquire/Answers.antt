@@ -19,5 +19,5 @@ returns-clause-rest g c =
       cleared = search rules;
       looked = search rules;
       taken = still_out old.held new.held old.values new.values m (Some x) (Some (Some x)) (Some None) c.requires.rest.taken (ap (λ k. k.held) c.take_value.ensures.out ∙ taken.1) (ap (λ k. k.values) c.take_value.ensures.out ∙ ap (λ vs. slice_set vs m (Some None)) taken.2) (λ y e. c.take_value.ensures.is_out);
-      stored = let stored = c.take.ensures.stored c.requires.rest.stored in search rules;
+      stored = let stored = c.take.ensures.stored in search rules;
     }

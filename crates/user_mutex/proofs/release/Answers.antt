@@ -18,5 +18,5 @@ returns-clause-rest g c =
       cleared = search rules;
       looked = search rules;
       taken = still_out old.held new.held old.values new.values m None (Some (Some c.args.value)) None c.requires.rest.taken (freed.0 ∙ ap (λ k. slice_set k.held m None) c.put_value.ensures.value) (freed.1 ∙ ap (λ k. slice_set k.values m None) c.put_value.ensures.value) (λ y e. absurd cc);
-      stored = let stored = c.free.ensures.stored (search rules) in search rules;
+      stored = let stored = c.free.ensures.stored in search rules;
     }

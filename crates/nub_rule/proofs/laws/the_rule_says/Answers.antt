@@ -6,9 +6,9 @@ pub returns-clause-items : goal.returns-clause-items
 returns-clause-items g c = λ l traced w s k. (k.all, are-views l traced w g.U.Uses.begin g.U.Uses.holds s k, rule-of l traced w g.U.Uses.holds s.words s.homes k.all k.core)
 
 pub returns-clause-one_history : goal.returns-clause-one_history
-returns-clause-one_history g c = λ l traced w words words' homes homes' views r r'. same-history r.log r'.log r.state r'.state views r.history r'.history r.run r'.run
+returns-clause-one_history g c = λ l traced w words words' homes homes' views r r'. same-history l r.log r'.log r.state r'.state views r.history r'.history r.run r'.run
 
 pub returns-clause-each_step : goal.returns-clause-each_step
 returns-clause-each_step g c = λ l traced w words words' homes homes' views n p q es at more adds r r'.
-    let e = step-log r.log r'.log views n p q es at more adds r.history r'.history in
+    let e = step-log l r.log r'.log views n p q es at more adds r.history r'.history in
     (e, step-state r.log r'.log r.state r'.state es r.run r'.run e)

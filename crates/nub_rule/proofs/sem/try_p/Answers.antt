@@ -19,7 +19,7 @@ use Rattle.nub_rule.proofs.sem.try_p.Goals as goal
 
 pub compare_exchange-requires : goal.compare_exchange-requires
 compare_exchange-requires g c = let near = sem_low _ _ _ _ c.p.view_is c.p.invariant.laid_out c.p.invariant.lawful c.args.s.0 c.requires.named in let s : ℕ = c.args.s.0 in let traces : c.p.inside.table.shared.key.traced ≡ c.args.p.now.traced = ap (λ s. s.traced) c.p.view_is in
-    let word = c.semaphore_bit.ensures in (search rules, omega arith, try_p_keeps _ _ _ _ _ _ _ s c.me.inside.seat.me _ word near c.me.invariant.member (ap (λ k. k.wait) c.me.view_is ∙ c.requires.may.0) (subst (λ (z : Bool × Pen). MayTell z.0 z.1) (λ j. (sym traces j, ap (λ k. k.pen) (sym c.me.view_is) j)) c.requires.pen))
+    let word = c.semaphore_bit.ensures in (search rules, omega arith, try_p_keeps _ _ _ _ _ _ _ s c.me.inside.seat.me _ word near (search rules) c.me.invariant.member (ap (λ k. k.wait) c.me.view_is ∙ c.requires.may.0) (subst (λ (z : Bool × Pen). MayTell z.0 z.1) (λ j. (sym traces j, ap (λ k. k.pen) (sym c.me.view_is) j)) c.requires.pen))
 
 pub invariant_of-me : goal.invariant_of-me
 invariant_of-me g c = let s : ℕ = c.args.s.0 in let i = c.me.invariant in let h = i.hands in let u = (c.compare_exchange.ensures.2 s c.semaphore_bit.ensures) in dite (ℕ_discrete c.compare_exchange.result 0)

@@ -1,11 +1,14 @@
 use Rattle.std.proofs.Common.{◌≡◌, ◌<◌, ℕ, List, length, get_or, ap, sym, subst, ◌∙◌, arith}
 use lib.ListN.{get_elem?}
+use Rattle.std.proofs.lemmas.List.Elements.{recursion_from_All}
+use Rattle.std.specs.List.{All}
+use Rattle.larch_actions.specs.declared.event.Layout.{Layout}
 use Rattle.larch_actions.specs.Actions.{by_thread}
+use Rattle.larch_actions.specs.Layout.{HasNames}
 use Rattle.firefly_script.specs.declared.line.Line.{Line}
 use Rattle.firefly_script.specs.Operations.{none_held, MayFollow}
 use Rattle.firefly_script.specs.Runs.{AreEventsOf, total}
 use Rattle.script_run.proofs.Closing.{if_ok, rows_of, values_of}
-use Rattle.script_run.proofs.Named.{names_of}
 use Rattle.script_run.proofs.Sums.{first_sums}
 use Rattle.script_run.proofs.run.run_script.Goals as goal
 
@@ -30,11 +33,11 @@ returns-clause-trace g c =
     (λ r w.
     let own : (t : ℕ) → t < c.args.script.now.layout.threads → AreEventsOf c.args.script.now.lines t (by_thread t w.0) = λ t low.
     let Q : List Line → Type 0 = λ xs. AreEventsOf xs t (by_thread t w.0) in
-    subst Q lines (rows_of c.in_ok-pkg.pkg c.lines-2.result.now c.in_ok-threads.threads.items c.args.script.now.layout.threads w.0 count played w.2 t low) in (
+    subst Q lines (rows_of c.in_ok-pkg.pkg.layout c.in_ok-pkg.pkg c.lines-2.result.now c.in_ok-threads.threads.items c.args.script.now.layout.threads w.0 count played w.2 t low) in (
       w.0,
       w.1,
       w.2.closed,
-      names_of c.args.script.now.layout c.args.script.now.lines (length c.in_ok-threads.threads.items) w.0 count c.lines-2.ensures.script.follow own w.2.people,
+      recursion_from_All (HasNames c.args.script.now.layout) w.0 (subst (λ (l : Layout). All (HasNames l) w.0) (c.in_ok-pkg.ensures.package.0 ∙ layout) w.2.names),
       own,
     ))
     (c.close_package.ensures.traced c.in_ok-pkg.ensures.package.1)
