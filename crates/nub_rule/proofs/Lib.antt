@@ -8,6 +8,7 @@ pub mod Marking
 pub mod Standing
 pub mod Counting
 pub mod Showing
+pub mod Conditioning
 pub mod Spinning
 pub mod SpinSteps
 pub mod ReadySteps
@@ -15,6 +16,7 @@ pub mod QueueSteps
 pub mod Owning
 pub mod BitSteps
 pub mod SemSteps
+pub mod CondSteps
 pub mod Handling
 pub mod Naming
 pub mod Owing
