@@ -17,6 +17,7 @@ pub mod Owning
 pub mod BitSteps
 pub mod SemSteps
 pub mod CondSteps
+pub mod CondQueue
 pub mod Handling
 pub mod Naming
 pub mod Owing
