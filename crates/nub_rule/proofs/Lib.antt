@@ -8,6 +8,7 @@ pub mod Marking
 pub mod Standing
 pub mod Counting
 pub mod Showing
+pub mod Conditioning
 pub mod Spinning
 pub mod SpinSteps
 pub mod ReadySteps
@@ -16,6 +17,7 @@ pub mod Owning
 pub mod Names
 pub mod BitSteps
 pub mod SemSteps
+pub mod CondSteps
 pub mod Handling
 pub mod Naming
 pub mod Owing

@@ -140,7 +140,7 @@ module _ {T H : Type 0} (words words' : List ℕ) (spinner : ℕ → Option ℕ)
   }
 
   -- what the thread n has begun becomes another
-  pendings-put : (pending pending' : ℕ → Pending) → pending' n ≡ pending_of q.wait → ((j : ℕ) → j ≢ n → pending' j ≡ pending j) → Pendings pending all → Pendings pending' (set all n q)
+  pub pendings-put : (pending pending' : ℕ → Pending) → pending' n ≡ pending_of q.wait → ((j : ℕ) → j ≢ n → pending' j ≡ pending j) → Pendings pending all → Pendings pending' (set all n q)
   pendings-put pending pending' mine others h = record {
     strangers = λ i past. let few = subst (λ (z : ℕ). z ≤ i) (length-set all n q) past in others i (λ e. let low = at_within all n p at in omega arith) ∙ h.strangers i few;
     pends = each-set (λ j r. pending j ≡ pending_of r.wait) (λ j r. pending' j ≡ pending_of r.wait) all n q mine (λ j x ne at' u. others j ne ∙ u) h.pends;

@@ -1,12 +1,12 @@
 -- What each kind of step tells of the seat before and after.
-use Rattle.std.specs.Prelude.{cond, eqb, true, false, ◌≡◌, ◌≢◌, ◌⊎◌, ℕ, ◌<◌, List, [], ◌∷◌, ◌++◌, length, slice_set, Some, None, Option as Opt}
+use Rattle.std.specs.Prelude.{Bool, cond, eqb, true, false, ◌≡◌, ◌≢◌, ◌⊎◌, ℕ, ◌+◌, ◌<◌, List, [], ◌∷◌, ◌++◌, length, slice_set, Some, None, Option as Opt}
 use mathlib.Core.Option.{some}
 use lib.ListN.{get_elem?}
 use Rattle.larch_actions.specs.declared.event.Event.{Event}
 use Rattle.larch_actions.specs.declared.event.Action.{Action}
-use Rattle.larch_actions.specs.declared.event.Action.TheVariants.{Acquire, Release, Resume, AlertReturn, P, V}
+use Rattle.larch_actions.specs.declared.event.Action.TheVariants.{Acquire, Release, Enqueue, AlertEnqueue, Resume, AlertReturn, Signal, Broadcast, P, V}
 use Rattle.larch_actions.specs.Actions.{IsLegal, by_thread}
-use Rattle.larch_actions.specs.Sets.{mem, without}
+use Rattle.larch_actions.specs.Sets.{mem, set_of, without}
 use Rattle.atomic_table.specs.Table.{Me, Step, rest}
 use Rattle.nub_rule.specs.declared.rule.Slot.{Slot}
 use Rattle.nub_rule.specs.declared.rule.Slot.TheVariants.{Value, Queue}
@@ -16,9 +16,10 @@ use Rattle.nub_rule.specs.declared.view.Stage.TheVariants.{Pushed, Clear, Tested
 use Rattle.nub_rule.specs.declared.view.Stand.{Stand}
 use Rattle.nub_rule.specs.declared.view.View.{View}
 use Rattle.nub_rule.specs.declared.view.Wait.{Wait}
-use Rattle.nub_rule.specs.Items.{Small, line_of}
+use Rattle.nub_rule.specs.declared.view.WaitBit.TheVariants.{Closing, Open}
+use Rattle.nub_rule.specs.Items.{Distinct, Small, line_of}
 use Rattle.nub_rule.specs.Parts.{Got, Lacks, made, stands_at, staged, turned}
-use Rattle.nub_rule.specs.Places.{most_threads, value_at, spin_at, length_at, queue_at, bit_at, ready_at, sem_object}
+use Rattle.nub_rule.specs.Places.{most_threads, value_at, spin_at, length_at, queue_at, bit_at, count_at, ready_at, sem_object, cond_object}
 
 abbrev pub Sat : Type 0 → Type 0 → Type 0 → Type 0
 Sat T H W = Me (Slot T) (View T H W)
@@ -37,6 +38,25 @@ p_event t s = event t (P record { 0 = s })
 
 abbrev pub v_event : ℕ → ℕ → Event
 v_event t s = event t (V record { 0 = s })
+
+-- the first part of a wait on the mutex m in the condition c
+abbrev pub enqueue_event : Bool → ℕ → ℕ → ℕ → Event
+enqueue_event alertable t m c = event t (cond alertable (AlertEnqueue record { 0 = m } record { 0 = c }) (Enqueue record { 0 = m } record { 0 = c }))
+
+abbrev pub signal_action : ℕ → List ℕ → Action
+signal_action c left = Signal record { 0 = c } (set_of left)
+
+abbrev pub broadcast_action : ℕ → List ℕ → Action
+broadcast_action c left = Broadcast record { 0 = c }
+
+-- the wait that was begun with the count k
+abbrev pub begun_wait : Bool → ℕ → ℕ → ℕ → Wait
+begun_wait alertable m c k = record { mutex = record { 0 = m }; cond = record { 0 = c }; alertable = alertable; bit = Closing; member = Some k }
+
+-- the wait of a thread that is in the condition by no count
+abbrev pub unread : Opt Wait → Opt Wait
+unread None = None
+unread (Some w) = Some (record w { member = None })
 
 -- the action by which a thread takes the bit of the mutex m, by what it has begun
 abbrev pub taken_action : ℕ → Opt Wait → Action
@@ -158,6 +178,20 @@ module _ {T H W : Type 0} where
   abbrev pub clear_sem_tells : Step (Slot T) → Sat T H W → ℕ → Sat T H W → Type 0
   clear_sem_tells st me r me' = let v = me.0 in let p = v.part in (s : ℕ) → st.word ≡ bit_at (sem_object s) → let e = v_event v.number s in
       (between : List Event) × Grows v.number p between e × Becomes me (record (told p (p.seen ++ between) e) { cleared = sem_object s ∷ p.cleared }) me'
+
+  -- the count of the condition c was read to begin a wait, by a thread whose slot of the mutex m stands first
+  abbrev pub load_count_tells : Bool → Step (Slot T) → Sat T H W → ℕ → Sat T H W → Type 0
+  load_count_tells alertable st me r me' = let v = me.0 in let p = v.part in (m c : ℕ) (s : Slot T) → st.word ≡ count_at (cond_object c) → me.1 ≡ (value_at m, s) ∷ rest me.1 → let e = enqueue_event alertable v.number m c in
+      (between : List Event) × Grows v.number p between e × Becomes me (record (told p (p.seen ++ between) e) { wait = Some (begun_wait alertable m c r) }) me'
+
+  -- the count was read under the spin word
+  abbrev pub know_count_tells : Step (Slot T) → Sat T H W → ℕ → Sat T H W → Type 0
+  know_count_tells st me r me' = (r ≡ me.0.part.count) × (me' ≡ me)
+
+  -- the count was advanced under the spin word, by an event with this action, and of the queue these were left in the condition
+  abbrev pub advance_tells : (List ℕ → List ℕ) → (ℕ → List ℕ → Action) → Step (Slot T) → Sat T H W → ℕ → Sat T H W → Type 0
+  advance_tells leave action st me r me' = let v = me.0 in let p = v.part in (c : ℕ) → st.word ≡ count_at (cond_object c) → let ys = leave p.queue in let e = event v.number (action c ys) in
+      (r ≡ p.count) × Distinct p.queue × (between : List Event) × Grows v.number p between e × Becomes me (record (told p (p.seen ++ between) e) { left = ys; count = p.count + 1 }) me'
 
   -- the pen was tried, the number read and written, and the pen given back
   abbrev pub take_pen_tells : Step (Slot T) → Sat T H W → ℕ → Sat T H W → Type 0

@@ -7,6 +7,7 @@
 #![tactic(auto)]
 
 mod cell;
+mod cond;
 mod hand;
 pub mod laws;
 mod line;
@@ -25,6 +26,7 @@ mod uses;
 mod view;
 mod whole;
 
+pub use cond::{advance_broadcast, advance_signal, know_count, load_count};
 pub use mutex::{clear_bit, put_value, take_value, try_bit};
 pub use object::{Object, Why};
 pub use package::{Entry, Package, Stored, Thread};

@@ -1,14 +1,14 @@
 //! A queue in its slot.
 ghost use Rattle.std.specs.Prelude.{◌≡◌, ◌≢◌, ◌+◌, ◌<◌, ◌≤◌, ℕ, List, [], ◌∷◌, ◌++◌, length, get_or, take, Some, None, true, false};
 ghost use Rattle.larch_actions.specs.declared.event.ThreadId.{ThreadId};
-ghost use Rattle.larch_actions.specs.Sets.{mem};
+ghost use Rattle.larch_actions.specs.Sets.{mem, set_of};
 ghost use Rattle.nub_rule.specs.declared.rule.Slot.TheVariants.{Queue};
-ghost use Rattle.nub_rule.specs.Items.{line_of};
+ghost use Rattle.nub_rule.specs.Items.{line_of, Small};
 ghost use Rattle.nub_rule.specs.Places.{most_threads};
 ghost use Rattle.nub_rule.specs.Plays.{behind, less};
 
 use crate::rule::{Line, Slot};
-use larch_actions::ThreadId;
+use larch_actions::{ThreadId, ThreadSet};
 
 /// Puts t last, and answers the length.
 pub fn push_line<T>(slot: &mut Slot<T>, t: u32) -> u64
@@ -67,4 +67,21 @@ pub fn leave_line<T>(slot: &mut Slot<T>, t: u32) -> Option<u64>
     let i = place_in(line, t)?;
     line.remove(i);
     Some(line.len() as u64)
+}
+
+/// The set of the threads behind the first.
+pub fn set_behind<T>(slot: &Slot<T>) -> ThreadSet
+    requires { (xs : List ℕ) × (slot.now ≡ Queue (line_of xs)) × Small most_threads xs }
+    ensures { (xs : List ℕ) → slot.now ≡ Queue (line_of xs) → result ≡ set_of (behind xs) }
+{
+    let Slot::Queue(line) = slot else {
+        unreachable!()
+    };
+    let mut set = ThreadSet::empty();
+    let mut i = line.len();
+    while i > 1 {
+        i -= 1;
+        set.insert(ThreadId(line[i]));
+    }
+    set
 }

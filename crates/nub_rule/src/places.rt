@@ -1,8 +1,8 @@
 //! How many threads a package may have, and where its words and slots stand, under the names of specs/Places.antt.
 ghost use Rattle.std.specs.Prelude.{◌≡◌};
-ghost use Rattle.nub_rule.specs.Places.{bit_at, sem_object, ready_at};
+ghost use Rattle.nub_rule.specs.Places.{bit_at, count_at, sem_object, cond_object, ready_at};
 
-use larch_actions::{MutexId, SemId};
+use larch_actions::{CondId, MutexId, SemId};
 
 /// So many threads at most.
 pub const MOST_THREADS: usize = 64;
@@ -12,6 +12,9 @@ pub const MUTEXES: u32 = 64;
 
 /// The number of the first semaphore among objects.
 pub const SEMAPHORES: usize = 64;
+
+/// The number of the first condition among objects.
+pub const CONDITIONS: usize = 128;
 
 /// So many queues, which come before the values.
 pub const QUEUES: usize = 192;
@@ -42,6 +45,14 @@ pub fn semaphore_bit(s: SemId) -> usize
     ensures { result ≡ bit_at (sem_object s.0) }
 {
     16 * (SEMAPHORES + s.0 as usize)
+}
+
+/// The count of a condition.
+#[inline]
+pub fn count_word(c: CondId) -> usize
+    ensures { result ≡ count_at (cond_object c.0) }
+{
+    16 * (CONDITIONS + c.0 as usize) + 3
 }
 
 /// The ready word of a thread.

@@ -114,6 +114,44 @@ impl<T, H, W> Play<Slot<T>, View<T, H, W>> for ClearSem {
     ghost then = { clear_sem_tells };
 }
 
+/// Reads a count to begin a wait.
+pub struct LoadCount;
+
+impl<T, H, W> Play<Slot<T>, View<T, H, W>> for LoadCount {
+    ghost use Rattle.std.specs.Prelude.{false};
+    ghost use Rattle.nub_rule.specs.Plays.{load_count_tells};
+
+    ghost then = { load_count_tells false };
+}
+
+/// Reads a count under the spin word.
+pub struct KnowCount;
+
+impl<T, H, W> Play<Slot<T>, View<T, H, W>> for KnowCount {
+    ghost use Rattle.nub_rule.specs.Plays.{know_count_tells};
+
+    ghost then = { know_count_tells };
+}
+
+/// Advances a count by a Signal.
+pub struct AdvanceSignal;
+
+impl<T, H, W> Play<Slot<T>, View<T, H, W>> for AdvanceSignal {
+    ghost use Rattle.nub_rule.specs.Plays.{advance_tells, behind, signal_action};
+
+    ghost then = { advance_tells behind signal_action };
+}
+
+/// Advances a count by a Broadcast.
+pub struct AdvanceBroadcast;
+
+impl<T, H, W> Play<Slot<T>, View<T, H, W>> for AdvanceBroadcast {
+    ghost use Rattle.std.specs.Prelude.{[]};
+    ghost use Rattle.nub_rule.specs.Plays.{advance_tells, broadcast_action};
+
+    ghost then = { advance_tells (λ _. []) broadcast_action };
+}
+
 /// Tries the pen.
 pub struct TakePen;
 

@@ -1,0 +1,94 @@
+//! The steps on the count of a condition.
+ghost use Rattle.std.specs.Prelude.{◌≡◌, ◌+◌, ◌<◌, [], length, None, Some, false};
+ghost use Rattle.larch_actions.specs.Sets.{set_of};
+ghost use Rattle.nub_rule.specs.Items.{Distinct, Small};
+ghost use Rattle.nub_rule.specs.Known.{Holds, Makes, learnt};
+ghost use Rattle.nub_rule.specs.Parts.{MayTell, made};
+ghost use Rattle.nub_rule.specs.Places.{cond_object, most_threads};
+ghost use Rattle.nub_rule.specs.Plays.{begun_wait, behind, broadcast_action, enqueue_event, event, signal_action};
+
+use crate::hand::bring;
+use crate::line::set_behind;
+use crate::package::{Package, Thread};
+use crate::places::{CONDITIONS, VALUES, count_word};
+use crate::plays::{AdvanceBroadcast, AdvanceSignal, KnowCount, LoadCount};
+use crate::uses::Uses;
+use larch_actions::{CondId, MutexId, ThreadSet};
+
+/// Reads the count of c, and with that enters the condition: the first part of a wait on m. The mutex is held by nobody from here on, though
+/// its bit is set still.
+#[inline]
+pub fn load_count<U: Uses>(p: &Package<U>, me: &mut Thread<U>, m: MutexId, c: CondId) -> u64
+    requires of { me.old.table_id ≡ p.now.table_id }
+    requires named { (m.0 < p.now.layout.mutexes) × (c.0 < p.now.layout.conditions) }
+    requires has { (x : U.Value) × Holds me.old m.0 x }
+    requires outside { me.old.wait ≡ None }
+    requires even { me.old.left ≡ me.old.queue }
+    requires pen { MayTell p.now.traced me.old.pen }
+    ensures event { Makes (enqueue_event false me.old.number m.0 c.0) me.old me.new }
+    ensures begun { me.new ≡ record (learnt me.old me.new) { wait = Some (begun_wait false m.0 c.0 result); pen = made me.old.pen } }
+{
+    prove!(m.0 < p.layout.mutexes);
+    bring(&mut me.hand, &mut me.seat, VALUES + m.0 as u16);
+    p.table
+        .shared
+        .load::<LoadCount>(&mut me.seat, count_word(c))
+}
+
+/// The count of c, which the holder of its spin word knows.
+#[inline]
+pub fn know_count<U: Uses>(p: &Package<U>, me: &mut Thread<U>, c: CondId) -> u64
+    requires of { me.old.table_id ≡ p.now.table_id }
+    requires named { c.0 < p.now.layout.conditions }
+    requires inside { me.old.spin ≡ Some (cond_object c.0) }
+    ensures count { result ≡ me.old.count }
+    ensures same { me.new ≡ me.old }
+{
+    p.table
+        .shared
+        .load::<KnowCount>(&mut me.seat, count_word(c))
+}
+
+/// Advances the count of c by a Signal: the first in its queue, if there is one, leaves the condition, and so does whoever has read the count
+/// and isn't queued yet. It answers the count before, and the threads that are left in the condition.
+pub fn advance_signal<U: Uses>(p: &Package<U>, me: &mut Thread<U>, c: CondId) -> (u64, ThreadSet)
+    requires of { me.old.table_id ≡ p.now.table_id }
+    requires named { c.0 < p.now.layout.conditions }
+    requires inside { me.old.spin ≡ Some (cond_object c.0) }
+    requires outside { me.old.wait ≡ None }
+    requires even { me.old.left ≡ me.old.queue }
+    requires small { Small most_threads me.old.queue }
+    requires room { me.old.count < 18446744073709551615 }
+    requires pen { MayTell p.now.traced me.old.pen }
+    ensures count { result.0 ≡ me.old.count }
+    ensures left { result.1 ≡ set_of (behind me.old.queue) }
+    ensures distinct { Distinct me.old.queue }
+    ensures event { Makes (event me.old.number (signal_action c.0 (behind me.old.queue))) me.old me.new }
+    ensures advanced { me.new ≡ record (learnt me.old me.new) { left = behind me.old.queue; count = me.old.count + 1; pen = made me.old.pen } }
+{
+    let o = CONDITIONS + c.0 as usize;
+    bring(&mut me.hand, &mut me.seat, o as u16);
+    let left = set_behind(me.seat.slot_mut(&p.table.shared, o));
+    let count = p
+        .table
+        .shared
+        .fetch_add::<AdvanceSignal>(&mut me.seat, count_word(c), 1);
+    (count, left)
+}
+
+/// Advances the count of c by a Broadcast: all leave the condition. It answers the count before.
+pub fn advance_broadcast<U: Uses>(p: &Package<U>, me: &mut Thread<U>, c: CondId) -> u64
+    requires of { me.old.table_id ≡ p.now.table_id }
+    requires named { c.0 < p.now.layout.conditions }
+    requires inside { me.old.spin ≡ Some (cond_object c.0) }
+    requires outside { me.old.wait ≡ None }
+    requires room { me.old.count < 18446744073709551615 }
+    requires pen { MayTell p.now.traced me.old.pen }
+    ensures count { result ≡ me.old.count }
+    ensures event { Makes (event me.old.number (broadcast_action c.0 [])) me.old me.new }
+    ensures advanced { me.new ≡ record (learnt me.old me.new) { left = []; count = me.old.count + 1; pen = made me.old.pen } }
+{
+    p.table
+        .shared
+        .fetch_add::<AdvanceBroadcast>(&mut me.seat, count_word(c), 1)
+}
