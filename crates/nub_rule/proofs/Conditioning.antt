@@ -218,8 +218,8 @@ module _ {T H : Type 0} (words words' : List ℕ) (spinner : ℕ → Option ℕ)
   pub conditions-pop : (c : ℕ) (ys : List ℕ) → SameCounts words words' → spinner (cond_object c) ≡ some n → p.wait ≡ None → q.wait ≡ p.wait → q.left ≡ p.left → q.count ≡ p.count
       → ((t : ℕ) → mem t ys ≡ false → mem t p.left ≡ false) → Conditions words' spinner (put queue (cond_object c) ys) members (set all n q)
   conditions-pop c ys ws own out ew el ec taken =
-      let t = s.knows n p at in let mine = t.inside c own in let X = Knows spinner s.left s.count s.counting in
-      let other_place : (i : ℕ) → i ≢ c → cond_object i ≢ cond_object c = λ i ne z. ne (omega arith) in record {
+      let other_place : (i : ℕ) → i ≢ c → cond_object i ≢ cond_object c = λ i ne z. ne (omega arith) in
+      let t = s.knows n p at in let mine = t.inside c own in let X = Knows spinner s.left s.count s.counting in record {
         left = s.left;
         count = s.count;
         counting = s.counting;

@@ -22,6 +22,7 @@ pub mod Handling
 pub mod Naming
 pub mod Owing
 pub mod Lessening
+pub mod Leaving
 pub mod Seen
 pub mod AtHand
 pub mod Turns

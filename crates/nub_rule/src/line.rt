@@ -69,6 +69,20 @@ pub fn leave_line<T>(slot: &mut Slot<T>, t: u32) -> Option<u64>
     Some(line.len() as u64)
 }
 
+// The set of the threads behind the first.
+fn behind_set(line: &Line) -> ThreadSet
+    requires { Small most_threads line.now.items }
+    ensures { result ≡ set_of (behind line.now.items) }
+{
+    let mut set = ThreadSet::empty();
+    let mut i = line.len();
+    while i > 1 {
+        i -= 1;
+        set.insert(ThreadId(line[i]));
+    }
+    set
+}
+
 /// The set of the threads behind the first.
 pub fn set_behind<T>(slot: &Slot<T>) -> ThreadSet
     requires { (xs : List ℕ) × (slot.now ≡ Queue (line_of xs)) × Small most_threads xs }
@@ -77,11 +91,5 @@ pub fn set_behind<T>(slot: &Slot<T>) -> ThreadSet
     let Slot::Queue(line) = slot else {
         unreachable!()
     };
-    let mut set = ThreadSet::empty();
-    let mut i = line.len();
-    while i > 1 {
-        i -= 1;
-        set.insert(ThreadId(line[i]));
-    }
-    set
+    behind_set(line)
 }
