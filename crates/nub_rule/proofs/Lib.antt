@@ -18,6 +18,7 @@ pub mod Names
 pub mod BitSteps
 pub mod SemSteps
 pub mod CondSteps
+pub mod CondQueue
 pub mod Handling
 pub mod Naming
 pub mod Owing

@@ -180,6 +180,20 @@ module _ {T H : Type 0} (queue queue' : ℕ → List ℕ) (words words' : List �
           by-own o (by-leaving o (queue' o) n q (ap (λ s. stands_at s o) es ∙ ((λ i. stands_at (sym own i).stand o) ∙ t.2)) ((λ i. mem (sym same i) (queue' o)) ∙ gone)))
           (λ ne. (x, t.0, set_else all n x q ne ∙ t.1, by-leaving o (queue' o) x t.0 t.2 gone))
 
+  -- the thread n is put into a queue that is no gate's
+  pub owes-queued : (o : ℕ) → SameGates words words' → 128 ≤ o → ((k : ℕ) → k ≢ o → queue' k ≡ queue k) → p.stand ≡ None → (s : Stand) → q.stand ≡ Some s → (IsAsleep s.stage → ⊥) → q.cleared ≡ p.cleared → q.turns ≡ p.turns
+      → WakeOwed queue words all → WakeOwed queue' words' (set all n q)
+  owes-queued o ws hi elsewhere out s now awake ec et = owes-step
+      (λ k low free queued. let ne : k ≢ o = λ z. omega arith in
+      inr (kept-by k (elsewhere k ne) queued (ws k low) free (own-elsewhere k (λ here. stand_none p.stand k out here) (λ c. ap (mem k) ec ∙ c) (λ t. ap (mem k) et ∙ t))))
+      (λ r e asleep. absurd (awake (subst (λ (z : Stand). IsAsleep z.stage) (same_stand q.stand r s e now) asleep)))
+
+  -- the queues of gates stay, and of the thread n where it stands and what it remembers of them
+  pub owes-beside : SameGates words words' → ((k : ℕ) → k < 128 → queue' k ≡ queue k) → q.stand ≡ p.stand → q.cleared ≡ p.cleared → q.turns ≡ p.turns → WakeOwed queue words all → WakeOwed queue' words' (set all n q)
+  owes-beside ws same es ec et h = owes-step
+      (λ k low free queued. inr (kept-by k (same k low) queued (ws k low) free (own-notes k (same k low) es (λ c. ap (mem k) ec ∙ c) (λ t. ap (mem k) et ∙ t))))
+      (λ r e asleep. ec ∙ h.sound n p at r (sym es ∙ e) asleep) h
+
 module _ {T H : Type 0} (queue : ℕ → List ℕ) (words words' : List ℕ) (all : List (Part T H)) (n : ℕ) (p q : Part T H) (at : get_elem? all n ≡ some p) where
   -- the same where the queues stay
   step : ((k : ℕ) → k < 128 → get_or words' (bit_at k) 0 ≡ 0 → queue k ≢ [] → SomebodyMustLook k (queue k) (set all n q) ⊎ Kept queue queue words words' all n p q at k)

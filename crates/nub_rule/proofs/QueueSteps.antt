@@ -15,7 +15,7 @@ use Rattle.nub_rule.specs.declared.view.Stand.{Stand}
 use Rattle.nub_rule.specs.declared.view.Stage.TheVariants.{Pushed}
 use Rattle.nub_rule.specs.declared.view.View.{View}
 use Rattle.nub_rule.specs.declared.view.Kind.TheVariants.{Member}
-use Rattle.nub_rule.specs.Items.{Core, Lines, Distinct}
+use Rattle.nub_rule.specs.Items.{Core, Lines, Shows, Distinct}
 use Rattle.nub_rule.specs.Places.{length_at, spin_at, bit_at}
 use Rattle.nub_rule.specs.Plays.{Becomes, with_part, read_length_tells, push_gate_tells, take_out_tells, pop_gate_tells, behind, front, less}
 use Rattle.nub_rule.specs.Rule.{IsKept}
@@ -23,7 +23,7 @@ use Rattle.nub_rule.proofs.Each.{put-here, put-else, at_below}
 use Rattle.nub_rule.proofs.Members.{member_steps}
 use Rattle.nub_rule.specs.Parts.{stands_at}
 use Rattle.nub_rule.specs.Owed.{WakeOwed}
-use Rattle.nub_rule.proofs.Frames.{other, pens-frame, bits-stay, ready-stay, shown-stay, pen-stay}
+use Rattle.nub_rule.proofs.Frames.{SameShown, other, pens-frame, bits-stay, ready-stay, shown-stay, pen-stay}
 use Rattle.nub_rule.proofs.Standing.{both_ways, not_true, mem-behind, distinct-apart, distinct-behind, without-append, without-absent, less-without, lines-push, lines-leave, lines-same}
 use Rattle.nub_rule.proofs.Showing.{shows-gate}
 use Rattle.nub_rule.proofs.Spinning.{only_here, spins-change}
@@ -35,7 +35,7 @@ absent-before : (t : ℕ) (xs ys : List ℕ) → Distinct (xs ++ ys) → mem t y
 absent-before t xs ys d there = not_true (mem t xs) (λ here. both_ways (mem t ys) there (distinct-apart t xs ys d here))
 
 -- the first moves from the queue to those that are owed, and the line stays
-popped-line : (xs ys : List ℕ) → (xs ++ front ys) ++ behind ys ≡ xs ++ ys
+pub popped-line : (xs ys : List ℕ) → (xs ++ front ys) ++ behind ys ≡ xs ++ ys
 popped-line xs [] = append_assoc xs [] []
 popped-line xs (y ∷ ys) = append_assoc xs (y ∷ []) ys
 
@@ -44,7 +44,7 @@ none_long [] e = refl
 none_long (x ∷ xs) e = absurd (omega arith)
 
 -- a step on a length word leaves the bits
-length-gates : (o : ℕ) → o < 192 → (words : List ℕ) (x : ℕ) → SameGates words (set words (length_at o) x)
+pub length-gates : (o : ℕ) → o < 192 → (words : List ℕ) (x : ℕ) → SameGates words (set words (length_at o) x)
 length-gates o low words x k lo = other words (length_at o) (bit_at k) x (λ z. omega arith)
 
 -- the first of the queue of o stands there, and isn't behind itself
@@ -58,18 +58,31 @@ first_stands all owed queue words line queue' o lines is after x xs e =
     (t.0, t.1, ((lines.stands x t.0 t.1).lined o there).0, after ∙ ap behind e, d.0)
 
 module _ {T H W : Type 0} (l : Layout) (traced : Bool) (w : W) (begin : W → ℕ → H) (holds : W → List T → List H → Type 0) where
-  -- the thread n, which has the spin word of the gate o, changes the queue to ys and those that it owes to zs
-  requeues : (n o : ℕ) (p q : Part T H) (ys zs : List ℕ) (words : List ℕ) (homes : List (Option (Slot T))) (all : List (Part T H)) → get_elem? all n ≡ some p → o < 128 → p.spin ≡ Some o → Alike l traced w holds p q → q.spin ≡ p.spin → q.queue ≡ ys → q.owed ≡ zs → (p.left ≡ p.queue → q.left ≡ q.queue)
-      → q.wait ≡ p.wait → q.pen ≡ p.pen → (c : Core l traced w holds words homes all) → Lines (λ i. put c.owed o zs i ++ put c.queue o ys i) (set words (length_at o) (length ys)) (set all n q) → WakeOwed (put c.queue o ys) (set words (length_at o) (length ys)) (set all n q)
-      → Core l traced w holds (set words (length_at o) (length ys)) homes (set all n q)
-  requeues n o p q ys zs words homes all at low here a es eq eo el ew ep c lines owes =
-      let s = c.spins in let words' : List ℕ = set words (length_at o) (length ys) in let far : o < 192 = omega arith in let wide = c.sizes.words_wide in
+  -- the thread n, which has the spin word of o, changes the queue to ys and those that it owes to zs
+  pub requeues_by : (n o : ℕ) (p q : Part T H) (ys zs : List ℕ) (words : List ℕ) (homes : List (Option (Slot T))) (all : List (Part T H)) → get_elem? all n ≡ some p → o < 192 → p.spin ≡ Some o → Alike l traced w holds p q → q.spin ≡ p.spin → q.queue ≡ ys → q.owed ≡ zs
+      → q.pen ≡ p.pen → (c : Core l traced w holds words homes all) → Lines (λ i. put c.owed o zs i ++ put c.queue o ys i) (set words (length_at o) (length ys)) (set all n q)
+      → Shows (set words (length_at o) (length ys)) c.spinner (put c.queue o ys) c.owner c.spec (set all n q) → WakeOwed (put c.queue o ys) (set words (length_at o) (length ys)) (set all n q) → Core l traced w holds (set words (length_at o) (length ys)) homes (set all n q)
+  requeues_by n o p q ys zs words homes all at far here a es eq eo ep c lines shows owes =
+      let s = c.spins in let words' : List ℕ = set words (length_at o) (length ys) in let wide = c.sizes.words_wide in
       beside l traced w holds words words' homes homes all n p q at (length-set words (length_at o) (length ys)) refl (bits-stay words (length_at o) (length ys) (λ k up z. omega arith)) (λ m. refl) a c.spinner c.writer (put c.queue o ys) (put c.owed o zs) c
       (spins-change c.spinner c.queue c.owed words homes all n p q at s o ys zs (put c.queue o ys) (put c.owed o zs) words' far here es eq eo (put-here c.queue o ys) (λ k ne. put-else c.queue o k ys ne) (put-here c.owed o zs) (λ k ne. put-else c.owed o k zs ne)
       (λ k lo. other words (length_at o) (spin_at k) (length ys) (λ z. omega arith)) (get_or-set_same words (length_at o) (length ys) 0 (omega arith)) (λ k lo ne. other words (length_at o) (length_at k) (length ys) (λ z. ne (omega arith))))
       lines
-      (shows-gate words words' (shown-stay words (length_at o) (length ys) (λ k up z. omega arith) (λ k up z. omega arith) (λ k up z. omega arith)) c.spinner c.queue c.owner c.spec all n p q at o ys low ew el (only_here c.spinner c.queue c.owed words homes all n p q at s o here) c.shows)
+      shows
       (pens-frame all n p q at traced (length c.log) c.writer words words' (pen-stay words (length_at o) (length ys) (λ z. omega arith) (λ z. omega arith)) ep c.pens)
+      owes
+
+  -- the words that the meaning reads stay
+  pub length-shown : (o : ℕ) → o < 192 → (words : List ℕ) (x : ℕ) → SameShown words (set words (length_at o) x)
+  length-shown o far words x = shown-stay words (length_at o) x (λ k up z. omega arith) (λ k up z. omega arith) (λ k up z. omega arith)
+
+  -- the same at a gate
+  requeues : (n o : ℕ) (p q : Part T H) (ys zs : List ℕ) (words : List ℕ) (homes : List (Option (Slot T))) (all : List (Part T H)) → get_elem? all n ≡ some p → o < 128 → p.spin ≡ Some o → Alike l traced w holds p q → q.spin ≡ p.spin → q.queue ≡ ys → q.owed ≡ zs → (p.left ≡ p.queue → q.left ≡ q.queue)
+      → q.wait ≡ p.wait → q.pen ≡ p.pen → (c : Core l traced w holds words homes all) → Lines (λ i. put c.owed o zs i ++ put c.queue o ys i) (set words (length_at o) (length ys)) (set all n q) → WakeOwed (put c.queue o ys) (set words (length_at o) (length ys)) (set all n q)
+      → Core l traced w holds (set words (length_at o) (length ys)) homes (set all n q)
+  requeues n o p q ys zs words homes all at low here a es eq eo el ew ep c lines owes = let far : o < 192 = omega arith in
+      requeues_by n o p q ys zs words homes all at far here a es eq eo ep c lines
+      (shows-gate words (set words (length_at o) (length ys)) (length-shown o far words (length ys)) c.spinner c.queue c.owner c.spec all n p q at o ys low ew el (only_here c.spinner c.queue c.owed words homes all n p q at c.spins o here) c.shows)
       owes
 
   -- a step that changes what the view remembers of gates alone

@@ -188,6 +188,19 @@ module _ {T H W : Type 0} where
   abbrev pub know_count_tells : Step (Slot T) → Sat T H W → ℕ → Sat T H W → Type 0
   know_count_tells st me r me' = (r ≡ me.0.part.count) × (me' ≡ me)
 
+  -- the count was read under the spin word in a wait, to compare it with the one that the wait began with
+  abbrev pub compare_count_tells : Step (Slot T) → Sat T H W → ℕ → Sat T H W → Type 0
+  compare_count_tells st me r me' = let p = me.0.part in (r ≡ p.count) × ((x : Wait) (k : ℕ) → p.wait ≡ Some x → x.member ≡ Some k → (r ≡ k → me' ≡ me) × (r ≢ k → Becomes me (record p { wait = unread p.wait }) me'))
+
+  -- the thread, whose count still stands, was put last into the queue of a condition, where there is no bit to test
+  abbrev pub push_cond_tells : Step (Slot T) → Sat T H W → ℕ → Sat T H W → Type 0
+  push_cond_tells st me r me' = let p = me.0.part in let n = me.0.number in (o : ℕ) → st.word ≡ length_at o
+      → Becomes me (record p { queue = p.queue ++ n ∷ []; left = p.left ++ n ∷ []; stand = Some record { at = o; stage = Tested }; wait = unread p.wait }) me'
+
+  -- the first, if there is one, left the queue of a condition, and is owed its ready word: an advance had taken it out of the condition
+  abbrev pub pop_cond_tells : Step (Slot T) → Sat T H W → ℕ → Sat T H W → Type 0
+  pop_cond_tells st me r me' = let p = me.0.part in Becomes me (record p { queue = behind p.queue; owed = p.owed ++ front p.queue }) me'
+
   -- the count was advanced under the spin word, by an event with this action, and of the queue these were left in the condition
   abbrev pub advance_tells : (List ℕ → List ℕ) → (ℕ → List ℕ → Action) → Step (Slot T) → Sat T H W → ℕ → Sat T H W → Type 0
   advance_tells leave action st me r me' = let v = me.0 in let p = v.part in (c : ℕ) → st.word ≡ count_at (cond_object c) → let ys = leave p.queue in let e = event v.number (action c ys) in

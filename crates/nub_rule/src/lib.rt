@@ -26,7 +26,9 @@ mod uses;
 mod view;
 mod whole;
 
-pub use cond::{advance_broadcast, advance_signal, know_count, load_count};
+pub use cond::{
+    advance_broadcast, advance_signal, compare_count, know_count, load_count, pop_cond, push_cond,
+};
 pub use mutex::{clear_bit, put_value, take_value, try_bit};
 pub use object::{Object, Why};
 pub use package::{Entry, Package, Stored, Thread};

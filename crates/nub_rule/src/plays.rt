@@ -152,6 +152,33 @@ impl<T, H, W> Play<Slot<T>, View<T, H, W>> for AdvanceBroadcast {
     ghost then = { advance_tells (λ _. []) broadcast_action };
 }
 
+/// Reads a count under the spin word, in a wait.
+pub struct CompareCount;
+
+impl<T, H, W> Play<Slot<T>, View<T, H, W>> for CompareCount {
+    ghost use Rattle.nub_rule.specs.Plays.{compare_count_tells};
+
+    ghost then = { compare_count_tells };
+}
+
+/// Writes the length of a condition's queue after a push.
+pub struct PushCond;
+
+impl<T, H, W> Play<Slot<T>, View<T, H, W>> for PushCond {
+    ghost use Rattle.nub_rule.specs.Plays.{push_cond_tells};
+
+    ghost then = { push_cond_tells };
+}
+
+/// Writes the length of a condition's queue after its first has left it.
+pub struct PopCond;
+
+impl<T, H, W> Play<Slot<T>, View<T, H, W>> for PopCond {
+    ghost use Rattle.nub_rule.specs.Plays.{pop_cond_tells};
+
+    ghost then = { pop_cond_tells };
+}
+
 /// Tries the pen.
 pub struct TakePen;
 
