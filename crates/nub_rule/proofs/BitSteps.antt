@@ -49,7 +49,7 @@ both_false false = refl
 counts-none : (w : Wait) (c k : ℕ) → w.member ≡ None → counts_in (Some w) c k ≡ false
 counts-none w c k e = ap (λ m. cond (eqb w.cond.0 c) (is_at m k) false) e ∙ both_false (eqb w.cond.0 c)
 
-value_same : {T : Type 0} (k : ℕ) (x y : T) (xs : List (ℕ × Slot T)) → (k, Value (Some x)) ∷ xs ≡ (k, Value (Some y)) ∷ xs → x ≡ y
+pub value_same : {T : Type 0} (k : ℕ) (x y : T) (xs : List (ℕ × Slot T)) → (k, Value (Some x)) ∷ xs ≡ (k, Value (Some y)) ∷ xs → x ≡ y
 value_same {T} k x y xs e = let a : Value (Some x) ≡ Value (Some y) = same_slot k (Value (Some x)) (Value (Some y)) ((k, Value (Some x)) ∷ xs) xs refl e in let b : Some x ≡ Some y = cc in cc
 
 pub by_taking : (n m : ℕ) (o : Opt Wait) (e : Event) → MayTake n m o e → e ≡ event n (taken_action m o)

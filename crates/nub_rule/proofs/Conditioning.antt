@@ -238,3 +238,23 @@ module _ {T H : Type 0} (words words' : List ℕ) (spinner : ℕ → Option ℕ)
           even = λ w in_wait. absurd (some_none q.wait w (ew ∙ out) in_wait);
         } (λ j x ne at' u. u) s.knows;
       }
+
+  -- the wait of the thread n changes in nothing that the conditions read
+  pub conditions-wait : (w w' : Wait) → SameCounts words words' → p.wait ≡ Some w → q.wait ≡ Some w' → w'.cond ≡ w.cond → w'.member ≡ w.member → q.left ≡ p.left → q.queue ≡ p.queue → q.count ≡ p.count → Conditions words' spinner queue members (set all n q)
+  conditions-wait w w' ws before after ec em el eq ek =
+      let t = s.knows n p at in let X = Knows spinner s.left s.count s.counting in
+      let same : (i k : ℕ) → counts_in q.wait i k ≡ counts_in p.wait i k = λ i k. ap (λ z. counts_in z i k) after ∙ ((λ j. cond (eqb (ec j).0 i) (is_at (em j) k) false) ∙ sym (ap (λ z. counts_in z i k) before)) in record {
+        left = s.left;
+        count = s.count;
+        counting = s.counting;
+        member = s.member;
+        counted = λ i lo. ws i lo ∙ s.counted i lo;
+        whole = s.whole;
+        queued = s.queued;
+        knows = each-set X X all n q record {
+          counts = λ i. t.counts i ∙ sym (same i (s.count i));
+          risen = λ i k hi. same i k ∙ t.risen i k hi;
+          inside = λ i has. let o = t.inside i has in (el ∙ o.0, ek ∙ o.1);
+          even = λ x is. el ∙ (t.even w before ∙ sym eq);
+        } (λ j x ne at' u. u) s.knows;
+      }

@@ -19,6 +19,7 @@ pub mod BitSteps
 pub mod SemSteps
 pub mod CondSteps
 pub mod CondQueue
+pub mod WaitSteps
 pub mod Handling
 pub mod Naming
 pub mod Owing

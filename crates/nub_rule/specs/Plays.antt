@@ -58,6 +58,11 @@ abbrev pub unread : Opt Wait → Opt Wait
 unread None = None
 unread (Some w) = Some (record w { member = None })
 
+-- the wait after the bit of its mutex was cleared
+abbrev pub opened : Opt Wait → Opt Wait
+opened None = None
+opened (Some w) = Some (record w { bit = Open })
+
 -- the action by which a thread takes the bit of the mutex m, by what it has begun
 abbrev pub taken_action : ℕ → Opt Wait → Action
 taken_action m None = Acquire record { 0 = m }
@@ -178,6 +183,12 @@ module _ {T H W : Type 0} where
   abbrev pub clear_sem_tells : Step (Slot T) → Sat T H W → ℕ → Sat T H W → Type 0
   clear_sem_tells st me r me' = let v = me.0 in let p = v.part in (s : ℕ) → st.word ≡ bit_at (sem_object s) → let e = v_event v.number s in
       (between : List Event) × Grows v.number p between e × Becomes me (record (told p (p.seen ++ between) e) { cleared = sem_object s ∷ p.cleared }) me'
+
+  -- the bit of the mutex m was cleared in a wait, and the value given back: nobody holds m since the wait began
+  abbrev pub clear_bit_in_wait_tells : (W → ℕ → ℕ → T → T → H → H) → Step (Slot T) → Sat T H W → ℕ → Sat T H W → Type 0
+  clear_bit_in_wait_tells after st me r me' = let v = me.0 in let p = v.part in (m : ℕ) → st.word ≡ bit_at m
+      → (r ≡ 1) × (u : Opt H) × (me' ≡ (with_part v (record p { held = slice_set p.held m None; share = u; wait = opened p.wait; cleared = m ∷ p.cleared }), rest me.1))
+      × ((w : W) (s : H) (x y : T) → v.world ≡ Some w → p.share ≡ Some s → Got p m x → me.1 ≡ (value_at m, Value (Some y)) ∷ rest me.1 → u ≡ Some (after w m v.number x y s))
 
   -- the count of the condition c was read to begin a wait, by a thread whose slot of the mutex m stands first
   abbrev pub load_count_tells : Bool → Step (Slot T) → Sat T H W → ℕ → Sat T H W → Type 0

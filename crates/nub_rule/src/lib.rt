@@ -29,7 +29,7 @@ mod whole;
 pub use cond::{
     advance_broadcast, advance_signal, compare_count, know_count, load_count, pop_cond, push_cond,
 };
-pub use mutex::{clear_bit, put_value, take_value, try_bit};
+pub use mutex::{clear_bit, clear_bit_in_wait, put_value, take_value, try_bit};
 pub use object::{Object, Why};
 pub use package::{Entry, Package, Stored, Thread};
 pub use pen::{give_pen, next_number, read_number, store_event, take_pen, write_number};

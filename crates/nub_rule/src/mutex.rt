@@ -3,15 +3,17 @@ ghost use Rattle.std.specs.Prelude.{◌≡◌, ◌≢◌, ◌<◌, ◌∷◌, []
 ghost use mathlib.Core.Option.{some};
 ghost use lib.ListN.{get_elem?};
 ghost use Rattle.larch_actions.specs.Sets.{without};
+ghost use Rattle.nub_rule.specs.declared.view.Wait.{Wait};
+ghost use Rattle.nub_rule.specs.declared.view.WaitBit.TheVariants.{Closing};
 ghost use Rattle.nub_rule.specs.Known.{Holds, IsIn, IsOut, Makes, MayGive, PicksShare, learnt};
 ghost use Rattle.nub_rule.specs.Parts.{MayTell, made};
-ghost use Rattle.nub_rule.specs.Plays.{MayTake, release_event};
+ghost use Rattle.nub_rule.specs.Plays.{MayTake, opened, release_event};
 
 use crate::cell::{put_into, take_from};
 use crate::hand::bring;
 use crate::package::{Package, Thread};
 use crate::places::{VALUES, mutex_bit};
-use crate::plays::{ClearBit, TryBit};
+use crate::plays::{ClearBit, ClearBitInWait, TryBit};
 use crate::uses::{Change, Uses};
 use larch_actions::{Event, MutexId};
 
@@ -73,6 +75,32 @@ pub fn clear_bit<U: Uses, C: Change<U>>(p: &Package<U>, me: &mut Thread<U>, m: M
     p.table
         .shared
         .swap::<ClearBit<U, C>>(&mut me.seat, mutex_bit(m), 0)
+}
+
+/// Clears the bit of m, and gives the value back, in a wait on m that has yet to do so. It is no event: nobody holds m since the wait began.
+#[inline]
+pub fn clear_bit_in_wait<U: Uses, C: Change<U>>(p: &Package<U>, me: &mut Thread<U>, m: MutexId) -> u64
+    requires of { me.old.table_id ≡ p.now.table_id }
+    requires named { m.0 < p.now.layout.mutexes }
+    requires waits { (x : Wait) × (me.old.wait ≡ Some x) × (x.mutex.0 ≡ m.0) × (x.bit ≡ Closing) }
+    requires outside { me.old.stand ≡ None }
+    requires may { MayGive U.allows C.after m.0 me.old }
+    ensures found { result ≡ 1 }
+    ensures gone { me.new ≡ record me.old {
+      held = slice_set me.old.held m.0 None;
+      share = me.new.share;
+      wait = opened me.old.wait;
+      cleared = m.0 ∷ me.old.cleared;
+      values = slice_set me.old.values m.0 None;
+    } }
+    ensures share { PicksShare C.after m.0 me.old me.new }
+{
+    prove!(m.0 < p.layout.mutexes);
+    bring(&mut me.hand, &mut me.seat, VALUES + m.0 as u16);
+    me.hand.give();
+    p.table
+        .shared
+        .swap::<ClearBitInWait<U, C>>(&mut me.seat, mutex_bit(m), 0)
 }
 
 /// Moves the value of m out of its slot.

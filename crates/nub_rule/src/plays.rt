@@ -237,3 +237,15 @@ impl<U: Uses, C: Change<U>> Play<Slot<U::Value>, View<U::Value, U::Share, U::Wor
 
     ghost then = { clear_bit_tells C.after };
 }
+
+/// Clears the bit of a mutex in a wait.
+pub struct ClearBitInWait<U, C> {
+    marker: PhantomData<(U, C)>,
+}
+
+impl<U: Uses, C: Change<U>> Play<Slot<U::Value>, View<U::Value, U::Share, U::World>>
+    for ClearBitInWait<U, C> {
+    ghost use Rattle.nub_rule.specs.Plays.{clear_bit_in_wait_tells};
+
+    ghost then = { clear_bit_in_wait_tells C.after };
+}
