@@ -5,24 +5,33 @@ use Rattle.atomic_table.specs.Seated.{TableId}
 use Rattle.larch_actions.specs.declared.event.Layout.{Layout}
 use Rattle.larch_actions.specs.Layout.{IsLawful}
 use Rattle.nub_rule.specs.declared.object.Object.{Object}
-use Rattle.nub_rule.specs.declared.object.Object.TheVariants.{Mutex, Sem}
+use Rattle.nub_rule.specs.declared.object.Object.TheVariants.{Mutex, Sem, Cond}
 use Rattle.nub_rule.specs.declared.rule.About.{About}
 use Rattle.nub_rule.specs.declared.view.Stage.{Stage}
 use Rattle.nub_rule.specs.declared.view.Stand.{Stand}
 use Rattle.nub_rule.specs.Parts.{staged, turned}
 use Rattle.nub_rule.specs.Known.{Shape, shape_of}
-use Rattle.nub_rule.specs.Objects.{object_of, HasObject}
+use Rattle.nub_rule.specs.Objects.{object_of, HasObject, IsGate}
 
-gate_low : (l : Layout) (at : Object) → IsLawful l → HasObject l at → object_of at < 128
-gate_low l (Mutex m) law has = let z = law.mutexes in omega arith
-gate_low l (Sem s) law has = let z = law.semaphores in omega arith
+gate_below : (l : Layout) (at : Object) → IsLawful l → IsGate at → HasObject l at → object_of at < 128
+gate_below l (Mutex m) law gate has = let z = law.mutexes in omega arith
+gate_below l (Sem s) law gate has = let z = law.semaphores in omega arith
+gate_below l (Cond c) law gate has = absurd gate
+
+object_below : (l : Layout) (at : Object) → IsLawful l → HasObject l at → object_of at < 192
+object_below l (Mutex m) law has = let z = law.mutexes in omega arith
+object_below l (Sem s) law has = let z = law.semaphores in omega arith
+object_below l (Cond c) law has = let z = law.conditions in omega arith
 
 module _ {W : Type 0} (z : TableId) (a : About W) (s : Shape W) (l : Layout) (v : shape_of z a ≡ s) (e : a.layout ≡ l) (law : IsLawful l) where
   pub lawful_now : IsLawful s.layout
   lawful_now = subst IsLawful (sym e ∙ ap (λ x. x.layout) v) law
 
-  pub object_low : (at : Object) → HasObject s.layout at → object_of at < 128
-  object_low at has = gate_low s.layout at lawful_now has
+  pub gate_low : (at : Object) → IsGate at → HasObject s.layout at → object_of at < 128
+  gate_low at gate has = gate_below s.layout at lawful_now gate has
+
+  pub object_low : (at : Object) → HasObject s.layout at → object_of at < 192
+  object_low at has = object_below s.layout at lawful_now has
 
   pub mutex_low : (m : ℕ) → m < s.layout.mutexes → m < 64
   mutex_low m has = let x = lawful_now in let y = x.mutexes in omega arith

@@ -1,5 +1,5 @@
 -- What contracts see of a package and of a thread.
-use Rattle.std.specs.Prelude.{Bool, true, ◌≡◌, ℕ, ◌<◌, ◌≤◌, List, [], ◌∷◌, ◌++◌, length, map, Option as Opt, Some, None}
+use Rattle.std.specs.Prelude.{Bool, true, false, ◌≡◌, ◌⊎◌, ℕ, ◌<◌, ◌≤◌, List, [], ◌∷◌, ◌++◌, length, map, Option as Opt, Some, None}
 use Rattle.std.specs.List.{range_with_len}
 use mathlib.Core.Option.{some}
 use lib.ListN.{get_elem?}
@@ -9,8 +9,10 @@ use Rattle.larch_actions.specs.Layout.{IsLawful}
 use Rattle.atomic_table.specs.Table.{Me}
 use Rattle.atomic_table.specs.Seated.{TableId}
 use Rattle.larch_actions.specs.Sets.{mem}
+use Rattle.nub_rule.specs.declared.object.Object.{Object}
+use Rattle.nub_rule.specs.declared.object.Object.TheVariants.{Cond}
 use Rattle.nub_rule.specs.declared.object.Why.{Why}
-use Rattle.nub_rule.specs.declared.object.Why.TheVariants.{TryFailed, QueueSeen}
+use Rattle.nub_rule.specs.declared.object.Why.TheVariants.{TryFailed, QueueSeen, Block}
 use Rattle.nub_rule.specs.declared.package.Entry.{Entry}
 use Rattle.nub_rule.specs.declared.package.Stored.{Stored}
 use Rattle.nub_rule.specs.declared.rule.About.{About}
@@ -23,9 +25,10 @@ use Rattle.nub_rule.specs.declared.view.Pen.{Pen}
 use Rattle.nub_rule.specs.declared.view.View.{View}
 use Rattle.nub_rule.specs.declared.view.Kind.TheVariants.{Member}
 use Rattle.nub_rule.specs.Items.{line_of}
+use Rattle.nub_rule.specs.Objects.{object_of, IsGate, IsCond}
 use Rattle.nub_rule.specs.Parts.{Got, Lacks}
 use Rattle.nub_rule.specs.Places.{most_threads, value_at, queue_at, word_count}
-use Rattle.nub_rule.specs.Plays.{Sat, Grows}
+use Rattle.nub_rule.specs.Plays.{Sat, Grows, behind}
 use Rattle.nub_rule.specs.Slots.{find, IsDistinct, Below}
 
 -- what contracts see of a package
@@ -174,10 +177,26 @@ module _ {T H W : Type 0} where
   abbrev pub PicksShare : (W → ℕ → ℕ → T → T → H → H) → ℕ → Known T H W → Known T H W → Type 0
   PicksShare after m a b = (w : W) (s : H) (x y : T) → a.world ≡ Some w → a.share ≡ Some s → Holds a m x → IsIn a m y → b.share ≡ Some (after w m a.number x y s)
 
+  -- the thread is in a wait at the condition, and has read its count and not blocked yet
+  abbrev pub HasCounted : Object → Known T H W → Type 0
+  HasCounted (Cond c) k = (x : Wait) × (j : ℕ) × (k.wait ≡ Some x) × (x.cond.0 ≡ c.0) × (x.member ≡ Some j)
+  HasCounted _ k = ⊥
+
   -- the reason in the view for which a thread takes the spin word of the object
-  abbrev pub HasReason : ℕ → Known T H W → Why → Type 0
-  HasReason o k TryFailed = mem o k.failed ≡ true
-  HasReason o k QueueSeen = mem o k.looked ≡ true
+  abbrev pub HasReason : Object → Known T H W → Why → Type 0
+  HasReason at k TryFailed = mem (object_of at) k.failed ≡ true
+  HasReason at k QueueSeen = (IsGate at × (mem (object_of at) k.looked ≡ true)) ⊎ (IsCond at × (k.wait ≡ None))
+  HasReason at k Block = HasCounted at k
+
+  -- the thread may put itself into the queue: into a condition's in a wait there whose count stands
+  abbrev pub MayPush : Object → Known T H W → Type 0
+  MayPush (Cond c) k = (x : Wait) × (k.wait ≡ Some x) × (x.cond.0 ≡ c.0) × (x.member ≡ Some k.count)
+  MayPush _ k = Unit {0}
+
+  -- the thread may pop: from a condition's queue one whom an advance has taken out of the condition
+  abbrev pub MayPop : Object → Known T H W → Type 0
+  MayPop (Cond c) k = (k.wait ≡ None) × ((t : ℕ) → mem t (behind k.queue) ≡ false → mem t k.left ≡ false)
+  MayPop _ k = Unit {0}
 
   -- the thread has no mutex's bit
   abbrev pub HasNone : Known T H W → Type 0

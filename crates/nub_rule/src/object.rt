@@ -1,14 +1,15 @@
 //! What has a queue, and why a thread takes its spin word.
 ghost use Rattle.std.specs.Prelude.{◌≡◌};
 
-use crate::places::SEMAPHORES;
-use larch_actions::{MutexId, SemId};
+use crate::places::{CONDITIONS, SEMAPHORES};
+use larch_actions::{CondId, MutexId, SemId};
 
-/// A mutex or a semaphore.
+/// What has a queue: a mutex, a semaphore or a condition.
 #[derive(Clone, Copy, Debug, PartialEq, Eq)]
 pub enum Object {
     Mutex(MutexId),
     Sem(SemId),
+    Cond(CondId),
 }
 
 /// Why a thread takes a spin word.
@@ -16,8 +17,10 @@ pub enum Object {
 pub enum Why {
     /// Its try of the bit failed.
     TryFailed,
-    /// It cleared the bit and found the queue not empty.
+    /// It cleared the bit and found the queue not empty, or at a condition makes a Signal or Broadcast.
     QueueSeen,
+    /// It has read the count of the condition, and is to block.
+    Block,
 }
 
 impl Object {
@@ -32,10 +35,11 @@ impl Object {
         match self {
             Object::Mutex(m) => m.0 as usize,
             Object::Sem(s) => SEMAPHORES + s.0 as usize,
+            Object::Cond(c) => CONDITIONS + c.0 as usize,
         }
     }
 
-    /// Its bit.
+    /// Its bit. A condition's is never set.
     #[inline]
     pub(crate) fn bit_word(self) -> usize
         ensures { result ≡ bit_at (object_of self) }

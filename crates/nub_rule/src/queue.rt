@@ -1,14 +1,15 @@
-//! The steps on the queue of a mutex or semaphore, under its spin word, and the look at its length.
+//! The steps on the queue of an object, under its spin word, and the look at its length.
 ghost use Rattle.std.specs.Prelude.{◌≡◌, ◌≢◌, ◌+◌, ◌<◌, ℕ, List, [], ◌∷◌, ◌++◌, length, Some, None, true, false};
 ghost use Rattle.larch_actions.specs.Sets.{mem, without};
 ghost use Rattle.nub_rule.specs.declared.rule.Slot.TheVariants.{Queue};
 ghost use Rattle.nub_rule.specs.declared.view.Stage.TheVariants.{Pushed, Clear, Tested};
 ghost use Rattle.nub_rule.specs.Items.{line_of};
-ghost use Rattle.nub_rule.specs.Known.{StandsAs};
-ghost use Rattle.nub_rule.specs.Objects.{object_of, HasObject, IsGate};
+ghost use Rattle.nub_rule.specs.Known.{StandsAs, MayPush, MayPop};
+ghost use Rattle.nub_rule.specs.Objects.{object_of, HasObject, IsGate, IsCond};
 ghost use Rattle.nub_rule.specs.Parts.{staged, IsUntested, IsClear};
-ghost use Rattle.nub_rule.specs.Plays.{behind, less};
+ghost use Rattle.nub_rule.specs.Plays.{behind, less, unread};
 
+use crate::cond::{pop_cond, push_cond};
 use crate::hand::bring;
 use crate::line::{leave_line, pop_line, push_line};
 use crate::object::Object;
@@ -42,14 +43,22 @@ pub fn push_queue<U: Uses>(p: &Package<U>, me: &mut Thread<U>, at: Object)
     requires named { HasObject p.now.layout at }
     requires inside { me.old.spin ≡ Some (object_of at) }
     requires outside { me.old.stand ≡ None }
+    requires may { MayPush at me.old }
     ensures gate { IsGate at → me.new ≡ record me.old {
       queue = me.old.queue ++ me.old.number ∷ [];
       left = me.old.left ++ me.old.number ∷ [];
       stand = Some record { at = object_of at; stage = Pushed };
     } }
+    ensures cond { IsCond at → me.new ≡ record me.old {
+      queue = me.old.queue ++ me.old.number ∷ [];
+      left = me.old.left ++ me.old.number ∷ [];
+      stand = Some record { at = object_of at; stage = Tested };
+      wait = unread me.old.wait;
+    } }
 {
     match at {
         Object::Mutex(_) | Object::Sem(_) => push_gate(p, me, at),
+        Object::Cond(c) => push_cond(p, me, c),
     }
 }
 
@@ -91,6 +100,7 @@ pub fn test_again<U: Uses>(p: &Package<U>, me: &mut Thread<U>, at: Object) -> u6
 /// Takes the thread out of the queue, after it found the bit clear. It answers whether the thread was in it.
 pub fn take_out<U: Uses>(p: &Package<U>, me: &mut Thread<U>, at: Object) -> bool
     requires of { me.old.table_id ≡ p.now.table_id }
+    requires gate { IsGate at }
     requires named { HasObject p.now.layout at }
     requires inside { me.old.spin ≡ Some (object_of at) }
     requires clear { StandsAs (λ s. (s.at ≡ object_of at) × IsClear s.stage) me.old }
@@ -119,6 +129,7 @@ pub fn pop_queue<U: Uses>(p: &Package<U>, me: &mut Thread<U>, at: Object) -> Opt
     requires of { me.old.table_id ≡ p.now.table_id }
     requires named { HasObject p.now.layout at }
     requires inside { me.old.spin ≡ Some (object_of at) }
+    requires may { MayPop at me.old }
     ensures none { result ≡ None → me.old.queue ≡ [] }
     ensures owes { result ≡ None → me.new.owed ≡ me.old.owed }
     ensures first { (t : ThreadId) → result ≡ Some t → (me.old.queue ≡ t.0 ∷ behind me.old.queue)
@@ -130,9 +141,11 @@ pub fn pop_queue<U: Uses>(p: &Package<U>, me: &mut Thread<U>, at: Object) -> Opt
       cleared = without (object_of at) me.old.cleared;
       looked = without (object_of at) me.old.looked;
     } }
+    ensures cond { IsCond at → me.new ≡ record me.old { queue = behind me.old.queue; owed = me.new.owed } }
 {
     match at {
         Object::Mutex(_) | Object::Sem(_) => pop_gate(p, me, at),
+        Object::Cond(c) => pop_cond(p, me, c),
     }
 }
 

@@ -2,7 +2,7 @@ use Rattle.std.proofs.Common.{rules, arith, ◌≡◌, ◌∙◌, ◌∷◌, ◌
 use Rattle.nub_rule.specs.declared.rule.Slot.TheVariants.{Queue}
 use Rattle.nub_rule.specs.Items.{line_of}
 use Rattle.nub_rule.specs.Objects.{object_of}
-use Rattle.nub_rule.proofs.Naming.{object_low}
+use Rattle.nub_rule.proofs.Naming.{gate_low}
 use Rattle.nub_rule.proofs.Handling.{same_slot}
 use Rattle.nub_rule.proofs.AtHand.{QueueAtHand, queue_at_hand, After, requeued}
 use Rattle.larch_actions.specs.Sets.{without}
@@ -28,7 +28,7 @@ pub pop_line-first-requires : goal.pop_line-first-requires
 pop_line-first-requires g c = let a = at_hand g (goal.at.pop_line-first-requires g c).After-bring in (c.me.inside.seat.me.0.part.queue, same_slot c.number-o.result _ _ _ _ c.slot_mut.ensures.value a.first)
 
 pub store-requires : goal.store-requires
-store-requires g c = let a = at_hand g (goal.at.store-requires g c).After-bring in let line = c.pop_line-first.ensures c.me.inside.seat.me.0.part.queue (same_slot c.number-o.result _ _ _ _ c.slot_mut.ensures.value a.first) in let low = object_low _ _ _ _ c.p.view_is c.p.invariant.laid_out c.p.invariant.lawful c.args.at c.requires.named in let is = c.number-o.ensures in let word = c.length_word.ensures in (
+store-requires g c = let a = at_hand g (goal.at.store-requires g c).After-bring in let line = c.pop_line-first.ensures c.me.inside.seat.me.0.part.queue (same_slot c.number-o.result _ _ _ _ c.slot_mut.ensures.value a.first) in let low = gate_low _ _ _ _ c.p.view_is c.p.invariant.laid_out c.p.invariant.lawful c.args.at c.requires.gate c.requires.named in let is = c.number-o.ensures in let word = c.length_word.ensures in (
   search rules,
   omega arith,
   pop_gate_keeps _ _ _ _ _ _ _ (object_of c.args.at) _ (c.bring.new.seat.me.0, _) _ c.length_word.ensures low (ap (λ v. v.kind) a.same ∙ c.me.invariant.member) (ap (λ v. v.part.spin) a.same ∙ (a.spins ∙ ap (λ (z : ℕ). Some z) is)) (line.1 ∙ (λ j. length (behind (sym a.same j).part.queue))),
