@@ -2,7 +2,7 @@
 use Rattle.std.specs.Prelude.{◌≡◌, ℕ, Option as Opt, Some, None, slice_set}
 use Rattle.larch_actions.specs.declared.event.Event.{Event}
 use Rattle.nub_rule.specs.declared.object.Object.{Object}
-use Rattle.nub_rule.specs.declared.object.Object.TheVariants.{Mutex, Sem}
+use Rattle.nub_rule.specs.declared.object.Object.TheVariants.{Mutex, Sem, Cond}
 use Rattle.nub_rule.specs.declared.view.Wait.{Wait}
 use Rattle.nub_rule.specs.Known.{Known, Holds, IsIn, MayGive, PicksShare}
 use Rattle.nub_rule.specs.Plays.{MayTake, release_event, p_event, v_event}
@@ -11,11 +11,13 @@ use Rattle.nub_rule.specs.Plays.{MayTake, release_event, p_event, v_event}
 abbrev pub MayMake : Object → ℕ → Opt Wait → Event → Type 0
 MayMake (Mutex m) t wait e = MayTake t m.0 wait e
 MayMake (Sem s) t wait e = (wait ≡ None) × (e ≡ p_event t s.0)
+MayMake (Cond c) t wait e = ⊥
 
--- the event by which the thread clears the bit
+-- the event by which the thread clears the bit, where the object has one
 abbrev pub clears : Object → ℕ → Event
 clears (Mutex m) t = release_event t m.0
 clears (Sem s) t = v_event t s.0
+clears (Cond c) t = v_event t c.0
 
 module _ {T H W : Type 0} where
   -- who takes a mutex has its value, which fits
@@ -23,13 +25,16 @@ module _ {T H W : Type 0} where
   IsTaken fits (Mutex m) a b = (x : T) × (b.held ≡ slice_set a.held m.0 (Some x)) × (b.values ≡ slice_set a.values m.0 (Some (Some x))) × Holds b m.0 x × IsIn b m.0 x
       × ((w : W) (s : H) → a.world ≡ Some w → a.share ≡ Some s → fits w m.0 x a.number s)
   IsTaken fits (Sem s) a b = (b.held ≡ a.held) × (b.values ≡ a.values)
+  IsTaken fits (Cond c) a b = ⊥
 
   -- who clears the bit of a mutex has it, with a value that the picked share allows
   abbrev pub MayFree : (W → ℕ → ℕ → T → T → H → H → Type 0) → (W → ℕ → ℕ → T → T → H → H) → Object → Known T H W → Type 0
   MayFree allows after (Mutex m) k = MayGive allows after m.0 k
   MayFree allows after (Sem s) k = Unit {0}
+  MayFree allows after (Cond c) k = ⊥
 
   -- who clears the bit of a mutex gives its value back, and has the picked share
   abbrev pub IsFreed : (W → ℕ → ℕ → T → T → H → H) → Object → Known T H W → Known T H W → Type 0
   IsFreed after (Mutex m) a b = (b.held ≡ slice_set a.held m.0 None) × (b.values ≡ slice_set a.values m.0 None) × PicksShare after m.0 a b
   IsFreed after (Sem s) a b = (b.held ≡ a.held) × (b.values ≡ a.values) × (b.share ≡ a.share)
+  IsFreed after (Cond c) a b = ⊥

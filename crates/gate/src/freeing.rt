@@ -105,6 +105,7 @@ fn clearing(at: Object, number: u32) -> Event
             thread,
             action: Action::V { sem },
         },
+        Object::Cond(_) => unreachable!(),
     }
 }
 
@@ -133,6 +134,7 @@ fn clear_gate<U: Uses, C: Change<U>>(p: &Package<U>, me: &mut Thread<U>, at: Obj
         Object::Sem(s) => {
             clear_sem(p, me, s);
         }
+        Object::Cond(_) => unreachable!(),
     }
 }
 

@@ -145,6 +145,7 @@ fn try_gate<U: Uses>(p: &Package<U>, me: &mut Thread<U>, at: Object, e: Event) -
     match at {
         Object::Mutex(m) => try_bit(p, me, m, e),
         Object::Sem(s) => try_p(p, me, s, e),
+        Object::Cond(_) => unreachable!(),
     }
 }
 

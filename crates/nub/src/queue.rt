@@ -1,13 +1,13 @@
 //! The queue of an object, under its spin word.
-ghost use Rattle.std.specs.Prelude.{◌≡◌, ◌<◌, ◌∷◌, ◌++◌, [], Some, None, true, false};
+ghost use Rattle.std.specs.Prelude.{◌≡◌, ◌<◌, ◌∷◌, ◌++◌, ℕ, [], Some, None, true, false};
 ghost use Rattle.larch_actions.specs.Sets.{mem, without};
-ghost use Rattle.nub_rule.specs.declared.view.Stage.TheVariants.{Pushed};
-ghost use Rattle.nub_rule.specs.Known.{StandsAs};
+ghost use Rattle.nub_rule.specs.declared.view.Stage.TheVariants.{Pushed, Tested};
+ghost use Rattle.nub_rule.specs.Known.{StandsAs, MayPush, MayPop};
 ghost use Rattle.larch_actions.specs.declared.event.ThreadId.{ThreadId};
-ghost use Rattle.nub_rule.specs.Objects.{object_of, HasObject, IsGate};
+ghost use Rattle.nub_rule.specs.Objects.{object_of, HasObject, IsGate, IsCond};
 ghost use Rattle.nub_rule.specs.Parts.{IsClear};
 ghost use Rattle.nub_rule.specs.Places.{most_threads};
-ghost use Rattle.nub_rule.specs.Plays.{behind, less};
+ghost use Rattle.nub_rule.specs.Plays.{behind, less, unread};
 
 use larch_actions::ThreadId;
 use nub_rule::{Object, Package, Thread, Uses, pop_queue, push_queue, set_ready, take_out};
@@ -18,10 +18,17 @@ pub fn push<U: Uses>(p: &Package<U>, me: &mut Thread<U>, at: Object)
     requires named { HasObject p.now.layout at }
     requires inside { me.old.spin ≡ Some (object_of at) }
     requires outside { me.old.stand ≡ None }
+    requires may { MayPush at me.old }
     ensures gate { IsGate at → me.new ≡ record me.old {
       queue = me.old.queue ++ me.old.number ∷ [];
       left = me.old.left ++ me.old.number ∷ [];
       stand = Some record { at = object_of at; stage = Pushed };
+    } }
+    ensures cond { IsCond at → me.new ≡ record me.old {
+      queue = me.old.queue ++ me.old.number ∷ [];
+      left = me.old.left ++ me.old.number ∷ [];
+      stand = Some record { at = object_of at; stage = Tested };
+      wait = unread me.old.wait;
     } }
 {
     push_queue(p, me, at);
@@ -30,6 +37,7 @@ pub fn push<U: Uses>(p: &Package<U>, me: &mut Thread<U>, at: Object)
 /// Takes the thread out of the queue, after it found the bit clear. It answers whether the thread was in it.
 pub fn remove<U: Uses>(p: &Package<U>, me: &mut Thread<U>, at: Object) -> bool
     requires of { me.old.table_id ≡ p.now.table_id }
+    requires gate { IsGate at }
     requires named { HasObject p.now.layout at }
     requires inside { me.old.spin ≡ Some (object_of at) }
     requires clear { StandsAs (λ s. (s.at ≡ object_of at) × IsClear s.stage) me.old }
@@ -50,6 +58,7 @@ pub fn pop<U: Uses>(p: &Package<U>, me: &mut Thread<U>, at: Object) -> Option<Th
     requires of { me.old.table_id ≡ p.now.table_id }
     requires named { HasObject p.now.layout at }
     requires inside { me.old.spin ≡ Some (object_of at) }
+    requires may { MayPop at me.old }
     ensures none { result ≡ None → me.old.queue ≡ [] }
     ensures first { (t : ThreadId) → result ≡ Some t → (me.old.queue ≡ t.0 ∷ behind me.old.queue)
         × (me.new.owed ≡ me.old.owed ++ t.0 ∷ []) }
@@ -60,6 +69,7 @@ pub fn pop<U: Uses>(p: &Package<U>, me: &mut Thread<U>, at: Object) -> Option<Th
       cleared = without (object_of at) me.old.cleared;
       looked = without (object_of at) me.old.looked;
     } }
+    ensures cond { IsCond at → me.new ≡ record me.old { queue = behind me.old.queue; owed = me.new.owed } }
     ensures owes { result ≡ None → me.new.owed ≡ me.old.owed }
 {
     pop_queue(p, me, at)

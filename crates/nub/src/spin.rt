@@ -17,7 +17,7 @@ pub fn enter<U: Uses, R: Wait>(rt: &R, p: &Package<U>, me: &mut Thread<U>, at: O
     requires of { me.old.table_id ≡ p.now.table_id }
     requires named { HasObject p.now.layout at }
     requires outside { me.old.spin ≡ None }
-    requires reason { HasReason (object_of at) me.old why }
+    requires reason { HasReason at me.old why }
     ensures inside { me.new ≡ record me.old {
       spin = Some (object_of at);
       queue = me.new.queue;

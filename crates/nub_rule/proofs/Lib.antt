@@ -22,6 +22,7 @@ pub mod CondQueue
 pub mod WaitSteps
 pub mod Handling
 pub mod Naming
+pub mod Gating
 pub mod Owing
 pub mod Lessening
 pub mod Leaving

@@ -1,9 +1,16 @@
-use Rattle.std.proofs.Common.{◌≡◌, ◌++◌, ◌∷◌, [], true, List, ℕ, rules, ap, sym, subst, ◌∙◌}
+use Rattle.std.proofs.Common.{◌≡◌, ◌++◌, ◌∷◌, [], true, List, ℕ, rules, ap, sym, subst, inl, ◌∙◌}
 use Rattle.larch_actions.specs.Sets.{mem}
 use Rattle.nub_rule.specs.Places.{most_threads}
 use Rattle.nub_rule.specs.Plays.{behind}
 use Rattle.nub.proofs.Without.{mem_own, less_owed, first_small}
+use Rattle.nub_rule.proofs.Gating.{pop-gate}
 use Rattle.gate.proofs.freeing.wake_one.Goals as goal
+
+pub enter-requires-clause-reason : goal.enter-requires-clause-reason
+enter-requires-clause-reason g c κs within = inl (c.requires.gate, c.requires.looked)
+
+pub pop-requires-clause-may : goal.pop-requires-clause-may
+pop-requires-clause-may g c κs within = pop-gate c.args.at c.enter.new.me c.requires.gate
 
 pub wake-requires-clause-owed : goal.wake-requires-clause-owed
 wake-requires-clause-owed g c κs within =

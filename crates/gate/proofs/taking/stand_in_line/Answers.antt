@@ -4,7 +4,11 @@ use Rattle.nub_rule.specs.Objects.{object_of}
 use Rattle.nub_rule.specs.declared.view.Stand.{Stand}
 use Rattle.nub_rule.specs.declared.view.Stage.TheVariants.{Pushed, Tested}
 use Rattle.nub.proofs.Without.{mem_last, without_own, after_sleep}
+use Rattle.nub_rule.proofs.Gating.{push-gate}
 use Rattle.gate.proofs.taking.stand_in_line.Goals as goal
+
+pub push-requires-clause-may : goal.push-requires-clause-may
+push-requires-clause-may g c κs within = push-gate c.args.at c.enter.new.me c.requires.gate
 
 pub test_again-requires-clause-untested : goal.test_again-requires-clause-untested
 test_again-requires-clause-untested g c κs within = (record { at = object_of c.args.at; stage = Pushed }, ap (λ k. k.stand) (c.push.ensures.gate c.requires.gate), (search rules, tt))
