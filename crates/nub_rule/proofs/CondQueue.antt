@@ -1,5 +1,5 @@
 -- The steps on the queue of a condition keep the rule.
-use Rattle.std.proofs.Common.{Bool, true, false, cond, ◌≡◌, ◌≢◌, ℕ, ◌<◌, List, [], ◌∷◌, ◌++◌, length, get_or, set, refl, sym, ap, ◌∙◌, subst, arith, append_assoc, Some, None}
+use Rattle.std.proofs.Common.{Bool, false, cond, ◌≡◌, ◌≢◌, ℕ, ◌<◌, List, [], ◌∷◌, ◌++◌, length, get_or, set, refl, sym, ap, ◌∙◌, subst, arith, append_assoc, Some, None}
 use mathlib.Core.Logic.{dite}
 use mathlib.Core.Option.{Option, some, none}
 use native.Mathlib.Decide.{ℕ_discrete}
@@ -17,10 +17,9 @@ use Rattle.nub_rule.specs.declared.view.View.{View}
 use Rattle.nub_rule.specs.declared.view.Wait.{Wait}
 use Rattle.nub_rule.specs.declared.view.Kind.TheVariants.{Member}
 use Rattle.nub_rule.specs.Items.{Core, Conditions, Holders, Shows}
-use Rattle.nub_rule.specs.Owed.{WakeOwed, HasTurn}
-use Rattle.nub_rule.specs.Parts.{pending_of, waits_on, stands_at}
+use Rattle.nub_rule.specs.Parts.{pending_of, waits_on}
 use Rattle.nub_rule.specs.Places.{count_at, length_at, cond_object}
-use Rattle.nub_rule.specs.Plays.{Becomes, with_part, behind, front, unread, compare_count_tells, push_cond_tells, pop_cond_tells}
+use Rattle.nub_rule.specs.Plays.{with_part, behind, front, unread, compare_count_tells, push_cond_tells, pop_cond_tells}
 use Rattle.nub_rule.specs.Rule.{IsKept}
 use Rattle.nub_rule.proofs.Each.{each-set, put-here, put-else}
 use Rattle.nub_rule.proofs.Members.{member_steps}

@@ -1,5 +1,5 @@
 -- The steps on the count of a condition keep the rule.
-use Rattle.std.proofs.Common.{Bool, true, false, cond, eqb, ◌≡◌, ◌≢◌, ◌^◌, ◌%◌, ℕ, ◌+◌, ◌<◌, ◌⊎◌, List, [], ◌∷◌, ◌++◌, get_or, set, refl, sym, ap, ◌∙◌, subst, inl, inr, ⊎_elim, arith, get_or-set_same, Some, None, eq-eqb, ne_eqb}
+use Rattle.std.proofs.Common.{Bool, true, false, cond, ◌≡◌, ◌^◌, ◌%◌, ℕ, ◌+◌, ◌<◌, List, [], ◌∷◌, ◌++◌, get_or, set, refl, sym, ap, ◌∙◌, subst, inl, inr, arith, get_or-set_same, Some, None, eq-eqb, ne_eqb}
 use mathlib.Core.Logic.{dite}
 use mathlib.Core.Option.{Option, some, none, some-injective}
 use native.Mathlib.Decide.{ℕ_discrete}
@@ -9,7 +9,7 @@ use Rattle.larch_actions.specs.declared.event.Event.{Event}
 use Rattle.larch_actions.specs.declared.event.Action.{Action}
 use Rattle.larch_actions.specs.declared.event.Layout.{Layout}
 use Rattle.larch_actions.specs.declared.event.Pending.TheVariants.{Nothing}
-use Rattle.larch_actions.specs.Actions.{Spec, Acts, MayAct, MayLeave, put}
+use Rattle.larch_actions.specs.Actions.{Spec, Acts, MayLeave, put}
 use Rattle.larch_actions.specs.Sets.{mem, in_set, set_of}
 use Rattle.larch_actions.proofs.Sets.{in_set-of, mem-here, mem-else}
 use Rattle.atomic_table.specs.Table.{Me, step, Allows, keeps, rest}
@@ -21,18 +21,18 @@ use Rattle.nub_rule.specs.declared.view.Kind.TheVariants.{Member}
 use Rattle.nub_rule.specs.Items.{Core, Holders, Shows, Distinct}
 use Rattle.nub_rule.specs.Parts.{Got, MayTell, pending_of, waits_on}
 use Rattle.nub_rule.specs.Places.{bit_at, count_at, alert_at, value_at, sem_object, cond_object}
-use Rattle.nub_rule.specs.Plays.{Becomes, Grows, Sat, told, with_part, behind, event, begun_wait, enqueue_event, signal_action, broadcast_action, load_count_tells, know_count_tells, advance_tells}
+use Rattle.nub_rule.specs.Plays.{Becomes, Grows, told, with_part, behind, event, begun_wait, enqueue_event, signal_action, broadcast_action, load_count_tells, know_count_tells, advance_tells}
 use Rattle.nub_rule.specs.Rule.{IsKept}
 use Rattle.nub_rule.proofs.Each.{each-set, put-here, put-else}
 use Rattle.nub_rule.proofs.Members.{Steps, member_steps}
-use Rattle.nub_rule.proofs.Frames.{SameShown, other, shown-stay, pendings-frame, holders-frame, semaphores-frame, alerts-frame}
+use Rattle.nub_rule.proofs.Frames.{SameShown, other, pendings-frame, holders-frame, semaphores-frame, alerts-frame}
 use Rattle.nub_rule.proofs.Standing.{distinct-behind}
 use Rattle.nub_rule.proofs.Beside.{idle}
 use Rattle.nub_rule.proofs.Owing.{owes-frame}
 use Rattle.nub_rule.proofs.Spinning.{only_here}
 use Rattle.nub_rule.proofs.Showing.{pendings-put}
 use Rattle.nub_rule.proofs.Conditioning.{conditions-enter, conditions-advance}
-use Rattle.nub_rule.proofs.Marking.{Aside, Learns, Marked, marks}
+use Rattle.nub_rule.proofs.Marking.{Aside, Learns, marks}
 
 -- a step on the count of a condition is aside of bits, queues, ready words and the pen
 count-aside : (c : ℕ) → c < 64 → Aside (count_at (cond_object c))

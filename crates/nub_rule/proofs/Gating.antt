@@ -1,5 +1,4 @@
 -- What is asked of a gate's queue alone.
-use Rattle.std.proofs.Common.{◌≡◌}
 use Rattle.nub_rule.specs.declared.object.Object.{Object}
 use Rattle.nub_rule.specs.declared.object.Object.TheVariants.{Mutex, Sem, Cond}
 use Rattle.nub_rule.specs.Known.{Known, MayPush, MayPop}

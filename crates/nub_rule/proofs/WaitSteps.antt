@@ -1,5 +1,5 @@
 -- The clearing of a mutex's bit in a wait keeps the rule. It is no event: nobody holds the mutex since the wait began.
-use Rattle.std.proofs.Common.{Bool, true, false, cond, eqb, ◌≡◌, ◌≢◌, ℕ, ◌+◌, ◌<◌, List, [], ◌∷◌, ◌++◌, length, get_or, set, refl, sym, ap, ◌∙◌, subst, arith, length-set, Some, None, eq-eqb}
+use Rattle.std.proofs.Common.{Bool, true, cond, ◌≡◌, ℕ, ◌<◌, List, ◌∷◌, ◌++◌, length, get_or, set, refl, sym, ap, ◌∙◌, subst, arith, length-set, Some, None, eq-eqb}
 use Rattle.std.specs.Prelude.{Option as Opt}
 use mathlib.Core.Logic.{dite}
 use mathlib.Core.Option.{Option, some, none, some-injective, some-ne-none}
@@ -18,7 +18,7 @@ use Rattle.nub_rule.specs.declared.view.View.{View}
 use Rattle.nub_rule.specs.declared.view.Kind.TheVariants.{Member}
 use Rattle.nub_rule.specs.Items.{Core, Holders, Shows}
 use Rattle.nub_rule.specs.Parts.{Got, waits_on, pending_of}
-use Rattle.nub_rule.specs.Places.{bit_at, value_at, queue_at, cond_object}
+use Rattle.nub_rule.specs.Places.{bit_at, value_at, queue_at}
 use Rattle.nub_rule.specs.Plays.{MayFree, with_part, opened, clear_bit_in_wait_tells}
 use Rattle.nub_rule.specs.Rule.{FitsAs, IsKept}
 use Rattle.nub_rule.proofs.Each.{at_within, each-set, put-here, put-else}

@@ -13,8 +13,10 @@ ghost use Rattle.nub_rule.specs.Plays.{begun_wait, behind, broadcast_action, enq
 use crate::hand::bring;
 use crate::line::{pop_line, push_line, set_behind};
 use crate::package::{Package, Thread};
-use crate::places::{CONDITIONS, VALUES, count_word, cond_length_word};
-use crate::plays::{AdvanceBroadcast, AdvanceSignal, CompareCount, KnowCount, LoadCount, PopCond, PushCond};
+use crate::places::{CONDITIONS, VALUES, cond_length_word, count_word};
+use crate::plays::{
+    AdvanceBroadcast, AdvanceSignal, CompareCount, KnowCount, LoadCount, PopCond, PushCond,
+};
 use crate::uses::Uses;
 use larch_actions::{CondId, MutexId, ThreadId, ThreadSet};
 

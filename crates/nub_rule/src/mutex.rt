@@ -79,7 +79,11 @@ pub fn clear_bit<U: Uses, C: Change<U>>(p: &Package<U>, me: &mut Thread<U>, m: M
 
 /// Clears the bit of m, and gives the value back, in a wait on m that has yet to do so. It is no event: nobody holds m since the wait began.
 #[inline]
-pub fn clear_bit_in_wait<U: Uses, C: Change<U>>(p: &Package<U>, me: &mut Thread<U>, m: MutexId) -> u64
+pub fn clear_bit_in_wait<U: Uses, C: Change<U>>(
+    p: &Package<U>,
+    me: &mut Thread<U>,
+    m: MutexId,
+) -> u64
     requires of { me.old.table_id ≡ p.now.table_id }
     requires named { m.0 < p.now.layout.mutexes }
     requires waits { (x : Wait) × (me.old.wait ≡ Some x) × (x.mutex.0 ≡ m.0) × (x.bit ≡ Closing) }

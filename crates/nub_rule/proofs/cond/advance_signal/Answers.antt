@@ -1,16 +1,13 @@
-use Rattle.std.proofs.Common.{Bool, rules, arith, ◌≡◌, ◌<◌, ◌+◌, ◌∙◌, ◌∷◌, ◌++◌, [], ℕ, List, length, ap, sym, subst, refl, Some, vec_capacity}
-use Rattle.atomic_table.specs.Table.{rest}
-use Rattle.larch_actions.specs.Sets.{set_of}
+use Rattle.std.proofs.Common.{Bool, rules, arith, ◌≡◌, ◌<◌, ◌+◌, ◌∙◌, ◌++◌, ℕ, ap, sym, subst, refl, vec_capacity}
 use Rattle.nub_rule.specs.declared.rule.Slot.TheVariants.{Queue}
 use Rattle.nub_rule.specs.declared.view.Pen.{Pen}
 use Rattle.nub_rule.specs.Items.{Distinct, Small, line_of}
-use Rattle.nub_rule.specs.Known.{known_as, part_of, Makes}
+use Rattle.nub_rule.specs.Known.{part_of, Makes}
 use Rattle.nub_rule.specs.Parts.{made, MayTell}
-use Rattle.nub_rule.specs.Places.{most_threads, value_at, queue_at, cond_object}
-use Rattle.nub_rule.specs.Plays.{Grows, told, with_part, behind, event, signal_action}
+use Rattle.nub_rule.specs.Places.{most_threads, cond_object}
+use Rattle.nub_rule.specs.Plays.{Grows, told, behind, event, signal_action}
 use Rattle.nub_rule.proofs.Naming.{cond_low}
-use Rattle.nub_rule.proofs.Handling.{hands-same, values-same, same_slot}
-use Rattle.nub_rule.proofs.Seen.{as_known, fit_moved}
+use Rattle.nub_rule.proofs.Handling.{same_slot}
 use Rattle.nub_rule.proofs.AtHand.{QueueAtHand, queue_at_hand, After, requeued}
 use Rattle.nub_rule.proofs.CondSteps.{advance_signal_keeps}
 use Rattle.nub_rule.proofs.cond.advance_signal.Given.{Over}
@@ -33,12 +30,14 @@ set_behind-left-requires g c = let a = at_hand g (goal.at.set_behind-left-requir
 
 pub fetch_add-count-requires : goal.fetch_add-count-requires
 fetch_add-count-requires g c = let near = cond_low _ _ _ _ c.p.view_is c.p.invariant.laid_out c.p.invariant.lawful c.args.c.0 c.requires.named in let word = c.count_word.ensures in let traces : c.p.inside.table.shared.key.traced ≡ c.args.p.now.traced = ap (λ s. s.traced) c.p.view_is in
-    let same = c.bring.ensures.same.2 in let e = ap (λ v. v.part) same in
-    (search rules, omega arith, advance_signal_keeps _ _ _ _ _ _ _ c.args.c.0 (c.bring.new.seat.me.0, _) _ word near (ap (λ v. v.kind) same ∙ c.me.invariant.member) (ap (λ p. p.spin) e ∙ (ap (λ k. k.spin) c.me.view_is ∙ c.requires.inside)) (ap (λ p. p.wait) e ∙ (ap (λ k. k.wait) c.me.view_is ∙ c.requires.outside))
-        (ap (λ p. p.left) e ∙ (ap (λ k. k.left) c.me.view_is ∙ (c.requires.even ∙ (ap (λ k. k.queue) (sym c.me.view_is) ∙ ap (λ p. p.queue) (sym e)))))
-        (subst (λ (z : ℕ). z < 18446744073709551615) (ap (λ k. k.count) (sym c.me.view_is) ∙ ap (λ p. p.count) (sym e)) c.requires.room)
-        (subst (λ (z : Bool × Pen). MayTell z.0 z.1) (λ j. (sym traces j, (ap (λ k. k.pen) (sym c.me.view_is) ∙ ap (λ p. p.pen) (sym e)) j)) c.requires.pen))
-
+    let same = c.bring.ensures.same.2 in let e = ap (λ v. v.part) same in (
+      search rules,
+      omega arith,
+      advance_signal_keeps _ _ _ _ _ _ _ c.args.c.0 (c.bring.new.seat.me.0, _) _ word near (ap (λ v. v.kind) same ∙ c.me.invariant.member) (ap (λ p. p.spin) e ∙ (ap (λ k. k.spin) c.me.view_is ∙ c.requires.inside)) (ap (λ p. p.wait) e ∙ (ap (λ k. k.wait) c.me.view_is ∙ c.requires.outside))
+          (ap (λ p. p.left) e ∙ (ap (λ k. k.left) c.me.view_is ∙ (c.requires.even ∙ (ap (λ k. k.queue) (sym c.me.view_is) ∙ ap (λ p. p.queue) (sym e)))))
+          (subst (λ (z : ℕ). z < 18446744073709551615) (ap (λ k. k.count) (sym c.me.view_is) ∙ ap (λ p. p.count) (sym e)) c.requires.room)
+          (subst (λ (z : Bool × Pen). MayTell z.0 z.1) (λ j. (sym traces j, (ap (λ k. k.pen) (sym c.me.view_is) ∙ ap (λ p. p.pen) (sym e)) j)) c.requires.pen),
+    )
 
 signalled : (g : Over) (c : After-fetch_add-count g) → QueueAtHand c.me.inside.seat.me c.bring.new.seat.me c.bring.new.hand (cond_object c.args.c.0)
     → After (λ n p. record (told p (p.seen ++ (c.fetch_add-count.ensures.2 c.args.c.0 c.count_word.ensures).2) (event n (signal_action c.args.c.0 (behind p.queue)))) { left = behind p.queue; count = p.count + 1 }) (λ vs. vs) c.me.inside.seat.table_id c.fetch_add-count.new.seat.table_id c.me.inside.number c.bring.new.hand c.me.inside.seat.me c.fetch_add-count.new.seat.me c.me.inside.room.items (vec_capacity c.me.inside.room)

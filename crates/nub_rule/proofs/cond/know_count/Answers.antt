@@ -1,4 +1,4 @@
-use Rattle.std.proofs.Common.{rules, arith, ◌≡◌, ◌∙◌, ℕ, ap, sym, refl}
+use Rattle.std.proofs.Common.{rules, arith, ◌∙◌, ap, refl}
 use Rattle.nub_rule.proofs.Naming.{cond_low}
 use Rattle.nub_rule.proofs.Handling.{hands-same}
 use Rattle.nub_rule.proofs.Seen.{fit_still}

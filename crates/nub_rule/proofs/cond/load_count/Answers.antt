@@ -1,13 +1,12 @@
-use Rattle.std.proofs.Common.{Bool, rules, arith, ◌≡◌, ◌<◌, ◌+◌, ◌∙◌, ◌∷◌, ◌++◌, [], ℕ, List, length, ap, sym, subst, refl, false, Some}
+use Rattle.std.proofs.Common.{Bool, rules, arith, ◌≡◌, ◌∙◌, ◌∷◌, ◌++◌, [], ℕ, length, ap, sym, subst, refl, false, Some}
 use lib.ListN.{get_elem?}
-use mathlib.Core.Option.{some}
 use Rattle.nub_rule.specs.declared.rule.Slot.TheVariants.{Value}
 use Rattle.nub_rule.specs.declared.view.Pen.{Pen}
 use Rattle.nub_rule.specs.Known.{known_as, Makes}
 use Rattle.nub_rule.specs.Parts.{made, MayTell}
 use Rattle.nub_rule.specs.Places.{value_at}
 use Rattle.nub_rule.specs.Plays.{Grows, told, with_part, begun_wait, enqueue_event}
-use Rattle.nub_rule.proofs.Naming.{cond_low, mutex_low}
+use Rattle.nub_rule.proofs.Naming.{cond_low}
 use Rattle.nub_rule.proofs.Handling.{hands-same, values-same}
 use Rattle.nub_rule.proofs.Seen.{as_known, fit_moved}
 use Rattle.nub_rule.proofs.CondSteps.{load_count_keeps}
@@ -20,10 +19,13 @@ pub load-requires : goal.load-requires
 load-requires g c = let near = cond_low _ _ _ _ c.p.view_is c.p.invariant.laid_out c.p.invariant.lawful c.args.c.0 c.requires.named.1 in let m : ℕ = c.args.m.0 in let b = c.bring.ensures in let same = b.same.2 in let e = ap (λ v. v.part) same in
     let traces : c.p.inside.table.shared.key.traced ≡ c.args.p.now.traced = ap (λ s. s.traced) c.p.view_is in
     let t = c.me.invariant.hands.value_got m c.requires.has.0 (ap (λ k. get_elem? k.held m) c.me.view_is ∙ c.requires.has.1) in
-    let word = c.count_word.ensures in
-    (search rules, omega arith, load_count_keeps _ _ _ _ _ false _ _ m c.args.c.0 (Value t.0) c.bring.new.seat.me c.requires.has.0 _ word near (ap (λ v. v.kind) same ∙ c.me.invariant.member) (b.first (Value t.0) t.1) (ap (λ p. get_elem? p.held m) e ∙ (ap (λ k. get_elem? k.held m) c.me.view_is ∙ c.requires.has.1))
-        (ap (λ p. p.wait) e ∙ (ap (λ k. k.wait) c.me.view_is ∙ c.requires.outside)) (ap (λ p. p.left) e ∙ (ap (λ k. k.left) c.me.view_is ∙ (c.requires.even ∙ (ap (λ k. k.queue) (sym c.me.view_is) ∙ ap (λ p. p.queue) (sym e)))))
-        (subst (λ (z : Bool × Pen). MayTell z.0 z.1) (λ j. (sym traces j, (ap (λ k. k.pen) (sym c.me.view_is) ∙ ap (λ p. p.pen) (sym e)) j)) c.requires.pen))
+    let word = c.count_word.ensures in (
+      search rules,
+      omega arith,
+      load_count_keeps _ _ _ _ _ false _ _ m c.args.c.0 (Value t.0) c.bring.new.seat.me c.requires.has.0 _ word near (ap (λ v. v.kind) same ∙ c.me.invariant.member) (b.first (Value t.0) t.1) (ap (λ p. get_elem? p.held m) e ∙ (ap (λ k. get_elem? k.held m) c.me.view_is ∙ c.requires.has.1))
+          (ap (λ p. p.wait) e ∙ (ap (λ k. k.wait) c.me.view_is ∙ c.requires.outside)) (ap (λ p. p.left) e ∙ (ap (λ k. k.left) c.me.view_is ∙ (c.requires.even ∙ (ap (λ k. k.queue) (sym c.me.view_is) ∙ ap (λ p. p.queue) (sym e)))))
+          (subst (λ (z : Bool × Pen). MayTell z.0 z.1) (λ j. (sym traces j, (ap (λ k. k.pen) (sym c.me.view_is) ∙ ap (λ p. p.pen) (sym e)) j)) c.requires.pen),
+    )
 
 pub invariant_of-me : goal.invariant_of-me
 invariant_of-me g c = let m : ℕ = c.args.m.0 in let o : ℕ = c.args.c.0 in let i = c.me.invariant in let h = i.hands in let b = c.bring.ensures in let same = b.same.2 in

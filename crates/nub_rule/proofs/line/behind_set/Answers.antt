@@ -1,4 +1,4 @@
-use Rattle.std.proofs.Common.{rules, arith, ◌≡◌, ◌+◌, ◌-◌, ◌<◌, ◌∙◌, ap, sym, get_or, length, ◌∷◌}
+use Rattle.std.proofs.Common.{rules, ◌≡◌, ◌+◌, ◌-◌, ◌∙◌, ap, sym, get_or, length, ◌∷◌}
 use Rattle.larch_actions.specs.Sets.{set_of}
 use Rattle.nub_rule.proofs.Leaving.{dropped, dropped-step, dropped-all, small-at, behind-dropped, nil-of}
 use Rattle.nub_rule.proofs.line.behind_set.Goals as goal

@@ -1,4 +1,4 @@
-use Rattle.std.proofs.Common.{rules, arith, ◌≡◌, ◌≤◌, ◌<◌, ◌∙◌, ◌∷◌, ◌++◌, [], ℕ, List, ap, sym, subst, length, refl, Some, None, vec_capacity, set}
+use Rattle.std.proofs.Common.{rules, arith, ◌≡◌, ◌≤◌, ◌<◌, ◌∙◌, ◌∷◌, ℕ, List, ap, sym, subst, length, refl, Some, None, vec_capacity, set}
 use Rattle.atomic_table.specs.Seated.{TableId}
 use Rattle.nub_rule.specs.declared.rule.Slot.TheVariants.{Value}
 use Rattle.nub_rule.specs.Known.{known_as}
@@ -7,7 +7,6 @@ use Rattle.nub_rule.specs.Plays.{with_part}
 use Rattle.nub_rule.proofs.Naming.{mutex_low}
 use Rattle.nub_rule.proofs.Handling.{values-set, value-found, gone, hands-same, hands-freed}
 use Rattle.nub_rule.proofs.Seen.{as_known, fit_given}
-use Rattle.std.proofs.Common.{Bool}
 use lib.ListN.{get_elem?}
 use Rattle.std.proofs.Common.{length-set}
 use Rattle.atomic_table.specs.Table.{rest}
