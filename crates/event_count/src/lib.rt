@@ -1,0 +1,11 @@
+//! The count of a condition, and blocking until it is advanced.
+//!
+//! Promises: reading the count is the first part of a wait, and advancing it is a Signal or a Broadcast; blocking ends only outside the
+//! condition and its queue. Stands on the Nub. Nothing is said of how long a thread blocks, nor of whom a Signal takes.
+#![tactic(auto)]
+
+mod advancing;
+mod blocking;
+
+pub use advancing::advance_one;
+pub use blocking::{block, read_count};
