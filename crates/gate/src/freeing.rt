@@ -1,15 +1,20 @@
 //! Clearing the bit.
-ghost use Rattle.std.specs.Prelude.{◌≡◌, ◌≢◌, ◌<◌, ℕ, [], ◌∷◌, Some, None, true, false};
+ghost use Rattle.std.specs.Prelude.{◌≡◌, ◌≢◌, ◌<◌, ℕ, [], ◌∷◌, slice_set, Some, None, true, false};
 ghost use Rattle.larch_actions.specs.Sets.{mem, without};
 ghost use Rattle.gate.specs.Gates.{MayFree, IsFreed, clears};
-ghost use Rattle.nub_rule.specs.Known.{Makes, learnt, recorded};
+ghost use Rattle.nub_rule.specs.declared.view.Wait.{Wait as Waiting};
+ghost use Rattle.nub_rule.specs.declared.view.WaitBit.TheVariants.{Closing};
+ghost use Rattle.nub_rule.specs.Known.{Makes, MayGive, PicksShare, learnt, recorded};
 ghost use Rattle.nub_rule.specs.Objects.{object_of, HasObject, IsGate};
 ghost use Rattle.nub_rule.specs.Parts.{MayTell, made};
+ghost use Rattle.nub_rule.specs.Plays.{opened};
 ghost use Rattle.nub.specs.Rest.{HasStored, IsOutside};
 
-use larch_actions::{Action, Event, ThreadId};
+use larch_actions::{Action, Event, MutexId, ThreadId};
 use nub::{begin_event, end_event, enter, leave, pop, wake};
-use nub_rule::{Change, Object, Package, Thread, Uses, Why, clear_bit, clear_sem, read_length};
+use nub_rule::{
+    Change, Object, Package, Thread, Uses, Why, clear_bit, clear_bit_in_wait, clear_sem, read_length,
+};
 use std::sync::Wait;
 
 /// Makes the event by clearing the bit, and makes one queued thread ready if the queue isn't empty. It may wait for the pen, or for the
@@ -54,6 +59,38 @@ pub fn free<U: Uses, C: Change<U>, R: Wait>(
     // bit clear at its second test. Read before, a push between the two would be seen by neither.
     if read_length(p, me, at) != 0 {
         wake_one(rt, p, me, at);
+    }
+}
+
+/// Clears the bit of m in a wait on m, after its first part, and makes one queued thread ready if the queue isn't empty. It is no event:
+/// nobody holds m since the wait began. It may wait for the spin word of the queue, which its holder gives back after a few steps.
+#[inline]
+pub fn free_in_wait<U: Uses, C: Change<U>, R: Wait>(
+    rt: &R,
+    p: &Package<U>,
+    me: &mut Thread<U>,
+    m: MutexId,
+)
+    requires of { me.old.table_id ≡ p.now.table_id }
+    requires named { m.0 < p.now.layout.mutexes }
+    requires outside { IsOutside me.old }
+    requires waits { (x : Waiting) × (me.old.wait ≡ Some x) × (x.mutex.0 ≡ m.0) × (x.bit ≡ Closing) }
+    requires may { MayGive U.allows C.after m.0 me.old }
+    ensures rest { me.new ≡ record me.old {
+      held = slice_set me.old.held m.0 None;
+      share = me.new.share;
+      count = me.new.count;
+      wait = opened me.old.wait;
+      failed = me.new.failed;
+      cleared = without m.0 me.old.cleared;
+      looked = without m.0 me.old.looked;
+      values = slice_set me.old.values m.0 None;
+    } }
+    ensures share { PicksShare C.after m.0 me.old me.new }
+{
+    clear_bit_in_wait::<U, C>(p, me, m);
+    if read_length(p, me, Object::Mutex(m)) != 0 {
+        wake_one(rt, p, me, Object::Mutex(m));
     }
 }
 

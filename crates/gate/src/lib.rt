@@ -7,5 +7,5 @@
 mod freeing;
 mod taking;
 
-pub use freeing::free;
+pub use freeing::{free, free_in_wait};
 pub use taking::{take, try_take};

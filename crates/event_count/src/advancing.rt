@@ -1,0 +1,66 @@
+//! Signal and Broadcast: the count is advanced, and who was taken out of the condition is woken.
+ghost use Rattle.std.specs.Prelude.{◌≡◌, ◌<◌, List, ℕ, [], Some, None, true, false};
+ghost use Rattle.larch_actions.specs.Sets.{without};
+ghost use Rattle.nub_rule.specs.Items.{Small};
+ghost use Rattle.nub_rule.specs.Known.{Makes, recorded};
+ghost use Rattle.nub_rule.specs.Places.{cond_object, most_threads};
+ghost use Rattle.nub_rule.specs.Plays.{behind, broadcast_action, event, signal_action};
+ghost use Rattle.nub.specs.Rest.{HasStored, IsOutside};
+
+use larch_actions::{Action, CondId, Event, ThreadId};
+use nub::{begin_event, end_event, enter, leave, pop, wake};
+use nub_rule::{Object, Package, Thread, Uses, Why, advance_broadcast, advance_signal, know_count};
+use std::sync::Wait;
+
+/// Takes the spin word of c, where the count can be advanced. Should it ever have come to its last number, then this waits for ever.
+fn enter_below<U: Uses, R: Wait>(rt: &R, p: &Package<U>, me: &mut Thread<U>, c: CondId)
+    requires of { me.old.table_id ≡ p.now.table_id }
+    requires named { c.0 < p.now.layout.conditions }
+    requires outside { IsOutside me.old }
+    requires no_wait { me.old.wait ≡ None }
+    ensures inside { me.new ≡ record me.old {
+      spin = Some (cond_object c.0);
+      queue = me.new.queue;
+      left = me.new.queue;
+      count = me.new.count;
+      failed = without (cond_object c.0) me.old.failed;
+    } }
+    ensures below { me.new.count < 18446744073709551615 }
+    ensures small { Small most_threads me.new.queue }
+{
+    enter(rt, p, me, Object::Cond(c), Why::QueueSeen);
+    if know_count(p, me, c) < u64::MAX {
+        return;
+    }
+    for _ in rt.forever() {}
+    unreachable!()
+}
+
+/// Makes a Signal: of the condition it takes the first that is queued, if there is one, and wakes it. Who has read the count and isn't
+/// queued yet finds it advanced. It may wait for the pen, or for the spin word of the queue.
+pub fn advance_one<U: Uses, R: Wait>(rt: &R, p: &Package<U>, me: &mut Thread<U>, c: CondId)
+    requires of { me.old.table_id ≡ p.now.table_id }
+    requires named { c.0 < p.now.layout.conditions }
+    requires outside { IsOutside me.old }
+    requires no_wait { me.old.wait ≡ None }
+    ensures event { (left : List ℕ) × Makes (event me.old.number (signal_action c.0 left)) me.old me.new }
+    ensures rest { me.new ≡ record (recorded me.old me.new) { count = me.new.count; failed = without (cond_object c.0) me.old.failed } }
+    ensures stored { HasStored p.now.traced me.old → HasStored p.now.traced me.new }
+{
+    let at = Object::Cond(c);
+    enter_below(rt, p, me, c);
+    begin_event(rt, p, me);
+    let (_count, left) = advance_signal(p, me, c);
+    let e = Event {
+        thread: ThreadId(me.number()),
+        action: Action::Signal { cond: c, left },
+    };
+    end_event(p, me, Some(e));
+    match pop(p, me, at) {
+        Some(t) => {
+            wake(p, me, t);
+            leave(rt, p, me, at);
+        }
+        None => leave(rt, p, me, at),
+    }
+}
