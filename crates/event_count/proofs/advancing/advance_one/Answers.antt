@@ -1,0 +1,65 @@
+use Rattle.std.proofs.Common.{◌≡◌, ◌++◌, ◌∷◌, [], true, List, ℕ, map, rules, ap, sym, subst, ◌∙◌}
+use Rattle.larch_actions.specs.declared.event.Event.{Event}
+use Rattle.larch_actions.specs.declared.event.Action.TheVariants.{Signal}
+use Rattle.larch_actions.specs.Sets.{mem}
+use Rattle.nub_rule.specs.Known.{Makes}
+use Rattle.nub_rule.specs.Places.{most_threads}
+use Rattle.nub_rule.specs.Plays.{behind}
+use Rattle.nub.specs.Rest.{HasStored}
+use Rattle.nub.proofs.Without.{mem_own, less_owed, first_small, stored_by}
+use Rattle.event_count.proofs.advancing.advance_one.Given.{Over}
+use Rattle.event_count.proofs.advancing.advance_one.Goals.{After-end_event}
+use Rattle.event_count.proofs.advancing.advance_one.Goals as goal
+
+-- the event was stored, where the thread has stored its events before
+stored : (g : Over) (c : After-end_event g) → HasStored c.args.p.now.traced c.args.me.now → HasStored c.args.p.now.traced c.end_event.new.me
+stored g c has =
+    let b = c.begin_event.new.me in
+    let a = c.advance_signal-count.new.me in
+    let left = c.advance_signal-count.result.1 in
+    let e : Event = record { thread = record { 0 = c.number.result }; action = Signal record { 0 = c.args.c.0 } left } in
+    let advanced = c.advance_signal-count.ensures.advanced in
+    let number : b.number ≡ c.number.result = sym (ap (λ k. k.number) advanced) ∙ sym c.number.ensures in
+    let makes = subst (λ (x : Event). Makes x b a) (λ j. record { thread = record { 0 = number j }; action = Signal record { 0 = c.args.c.0 } (sym c.advance_signal-count.ensures.left j) }) c.advance_signal-count.ensures.event in
+    stored_by c.args.p.now.traced c.enter_below.new.me b a c.end_event.new.me e c.begin_event.ensures.pen c.begin_event.ensures.traced c.begin_event.ensures.number makes (ap (λ k. k.next) advanced) (ap (λ k. k.entries) advanced) (ap (λ k. k.lost) advanced) c.end_event.ensures.rest c.end_event.ensures.stored
+    (subst (λ k. HasStored c.args.p.now.traced k) (sym c.enter_below.ensures.inside) has)
+
+pub wake-requires-clause-owed : goal.wake-requires-clause-owed
+wake-requires-clause-owed g c κs within =
+    let t = c.in-Some.t.0 in
+    let first = c.pop.ensures.first c.in-Some.t c.in-Some.is in
+    let none : c.end_event.new.me.owed ≡ [] = search rules in
+    let owed : c.pop.new.me.owed ≡ t ∷ [] = first.1 ∙ ap (λ (l : List ℕ). l ++ t ∷ []) none in
+    subst (λ (l : List ℕ). mem t l ≡ true) (sym owed) (mem_own t [])
+
+pub wake-requires-clause-named : goal.wake-requires-clause-named
+wake-requires-clause-named g c κs within =
+    let first = c.pop.ensures.first c.in-Some.t c.in-Some.is in
+    let same : c.enter_below.new.me.queue ≡ c.end_event.new.me.queue = search rules in
+    first_small most_threads c.in-Some.t.0 (behind c.end_event.new.me.queue) c.enter_below.new.me.queue (same ∙ first.0) c.enter_below.ensures.small
+
+pub leave-requires-clause-owes_none : goal.leave-requires-clause-owes_none
+leave-requires-clause-owes_none g c κs within =
+    let t = c.in-Some.t.0 in
+    let first = c.pop.ensures.first c.in-Some.t c.in-Some.is in
+    let none : c.end_event.new.me.owed ≡ [] = search rules in
+    let owed : c.pop.new.me.owed ≡ t ∷ [] = first.1 ∙ ap (λ (l : List ℕ). l ++ t ∷ []) none in
+    ap (λ k. k.owed) c.wake.ensures ∙ less_owed t c.pop.new.me.owed owed
+
+pub returns-in-Some-clause-rest : goal.returns-in-Some-clause-rest
+returns-in-Some-clause-rest g c =
+    let t = c.in-Some.t.0 in
+    let first = c.pop.ensures.first c.in-Some.t c.in-Some.is in
+    let none : c.end_event.new.me.owed ≡ [] = search rules in
+    let owed : c.pop.new.me.owed ≡ t ∷ [] = first.1 ∙ ap (λ (l : List ℕ). l ++ t ∷ []) none in
+    let gone : c.wake.new.me.owed ≡ [] = ap (λ k. k.owed) c.wake.ensures ∙ less_owed t c.pop.new.me.owed owed in
+    let was : c.args.me.now.owed ≡ [] = c.requires.outside.owed in
+    search rules
+
+pub returns-in-Some-clause-stored : goal.returns-in-Some-clause-stored
+returns-in-Some-clause-stored g c = let s = stored g (goal.at.returns-in-Some-clause-stored g c).After-end_event in
+    λ has. subst (λ k. HasStored c.args.p.now.traced k) (sym c.leave.ensures) (subst (λ k. HasStored c.args.p.now.traced k) (sym c.wake.ensures) (subst (λ k. HasStored c.args.p.now.traced k) (sym (c.pop.ensures.cond tt)) (s has)))
+
+pub returns-in-None-clause-stored : goal.returns-in-None-clause-stored
+returns-in-None-clause-stored g c = let s = stored g (goal.at.returns-in-None-clause-stored g c).After-end_event in
+    λ has. subst (λ k. HasStored c.args.p.now.traced k) (sym c.leave-in-None.ensures) (subst (λ k. HasStored c.args.p.now.traced k) (sym (c.pop.ensures.cond tt)) (s has))
