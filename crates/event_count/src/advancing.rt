@@ -64,3 +64,42 @@ pub fn advance_one<U: Uses, R: Wait>(rt: &R, p: &Package<U>, me: &mut Thread<U>,
         None => leave(rt, p, me, at),
     }
 }
+
+/// Makes a Broadcast: it takes all out of the condition, and wakes those that are queued. It may wait for the pen, or for the spin word of
+/// the queue.
+pub fn advance_all<U: Uses, R: Wait>(rt: &R, p: &Package<U>, me: &mut Thread<U>, c: CondId)
+    requires of { me.old.table_id ≡ p.now.table_id }
+    requires named { c.0 < p.now.layout.conditions }
+    requires outside { IsOutside me.old }
+    requires no_wait { me.old.wait ≡ None }
+    ensures event { Makes (event me.old.number (broadcast_action c.0 [])) me.old me.new }
+    ensures rest { me.new ≡ record (recorded me.old me.new) { count = me.new.count; failed = without (cond_object c.0) me.old.failed } }
+    ensures stored { HasStored p.now.traced me.old → HasStored p.now.traced me.new }
+{
+    enter_below(rt, p, me, c);
+    begin_event(rt, p, me);
+    advance_broadcast(p, me, c);
+    let e = Event {
+        thread: ThreadId(me.number()),
+        action: Action::Broadcast { cond: c },
+    };
+    end_event(p, me, Some(e));
+    wake_all(p, me, c);
+    leave(rt, p, me, Object::Cond(c));
+}
+
+/// Pops each that is queued, after a Broadcast has taken them all, and makes it ready.
+fn wake_all<U: Uses>(p: &Package<U>, me: &mut Thread<U>, c: CondId)
+    requires of { me.old.table_id ≡ p.now.table_id }
+    requires named { c.0 < p.now.layout.conditions }
+    requires inside { me.old.spin ≡ Some (cond_object c.0) }
+    requires no_wait { me.old.wait ≡ None }
+    requires taken { me.old.left ≡ [] }
+    requires owes_none { me.old.owed ≡ [] }
+    requires small { Small most_threads me.old.queue }
+    ensures { me.new ≡ record me.old { queue = [] } }
+{
+    while let Some(t) = pop(p, me, Object::Cond(c)) {
+        wake(p, me, t);
+    }
+}
