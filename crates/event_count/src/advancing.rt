@@ -38,7 +38,7 @@ fn enter_below<U: Uses, R: Wait>(rt: &R, p: &Package<U>, me: &mut Thread<U>, c: 
 
 /// Makes a Signal: of the condition it takes the first that is queued, if there is one, and wakes it. Who has read the count and isn't
 /// queued yet finds it advanced. It may wait for the pen, or for the spin word of the queue.
-pub fn advance_one<U: Uses, R: Wait>(rt: &R, p: &Package<U>, me: &mut Thread<U>, c: CondId)
+fn advance_one<U: Uses, R: Wait>(rt: &R, p: &Package<U>, me: &mut Thread<U>, c: CondId)
     requires of { me.old.table_id ≡ p.now.table_id }
     requires named { c.0 < p.now.layout.conditions }
     requires outside { IsOutside me.old }
@@ -67,7 +67,7 @@ pub fn advance_one<U: Uses, R: Wait>(rt: &R, p: &Package<U>, me: &mut Thread<U>,
 
 /// Makes a Broadcast: it takes all out of the condition, and wakes those that are queued. It may wait for the pen, or for the spin word of
 /// the queue.
-pub fn advance_all<U: Uses, R: Wait>(rt: &R, p: &Package<U>, me: &mut Thread<U>, c: CondId)
+fn advance_all<U: Uses, R: Wait>(rt: &R, p: &Package<U>, me: &mut Thread<U>, c: CondId)
     requires of { me.old.table_id ≡ p.now.table_id }
     requires named { c.0 < p.now.layout.conditions }
     requires outside { IsOutside me.old }
@@ -101,5 +101,23 @@ fn wake_all<U: Uses>(p: &Package<U>, me: &mut Thread<U>, c: CondId)
 {
     while let Some(t) = pop(p, me, Object::Cond(c)) {
         wake(p, me, t);
+    }
+}
+
+/// Makes a Broadcast where `all` is true, and else a Signal, which leaves some of the condition.
+pub fn advance<U: Uses, R: Wait>(rt: &R, p: &Package<U>, me: &mut Thread<U>, c: CondId, all: bool)
+    requires of { me.old.table_id ≡ p.now.table_id }
+    requires named { c.0 < p.now.layout.conditions }
+    requires outside { IsOutside me.old }
+    requires no_wait { me.old.wait ≡ None }
+    ensures all { all ≡ true → Makes (event me.old.number (broadcast_action c.0 [])) me.old me.new }
+    ensures one { all ≡ false → (left : List ℕ) × Makes (event me.old.number (signal_action c.0 left)) me.old me.new }
+    ensures rest { me.new ≡ record (recorded me.old me.new) { count = me.new.count; failed = without (cond_object c.0) me.old.failed } }
+    ensures stored { HasStored p.now.traced me.old → HasStored p.now.traced me.new }
+{
+    if all {
+        advance_all(rt, p, me, c);
+    } else {
+        advance_one(rt, p, me, c);
     }
 }

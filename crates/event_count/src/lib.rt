@@ -7,5 +7,5 @@
 mod advancing;
 mod blocking;
 
-pub use advancing::{advance_all, advance_one};
+pub use advancing::advance;
 pub use blocking::{block, read_count};
