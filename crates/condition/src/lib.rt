@@ -1,0 +1,78 @@
+//! Wait, Signal and Broadcast of a condition.
+//!
+//! Promises: each call adds exactly its events to those of its thread; a wait gives the value of its mutex back and gets it anew. Stands on
+//! the count of the condition and on the lock bit. Nothing is said of waiting: not that a wait ever returns, nor whom a Signal takes.
+#![tactic(auto)]
+
+ghost use Rattle.std.specs.Prelude.{◌≡◌, ◌<◌, ◌∷◌, List, ℕ, [], slice_set, Some, None, false};
+ghost use Rattle.nub_rule.specs.Known.{Holds};
+ghost use Rattle.nub_rule.specs.Plays.{broadcast_action, enqueue_event, event, signal_action};
+ghost use Rattle.nub.specs.Rest.{AtRest, Adds, IsSame};
+ghost use Rattle.condition.specs.Waits.{resume_event};
+
+use event_count::{advance, block, read_count};
+use gate::{free_in_wait, take};
+use larch_actions::{Action, CondId, Event, MutexId, ThreadId};
+use nub_rule::{Change, Object, Package, Thread, Uses, put_value, take_value};
+use std::sync::Wait;
+
+/// Takes some thread out of the condition, if there is one, and wakes it.
+#[inline]
+pub fn signal<U: Uses, R: Wait>(rt: &R, p: &Package<U>, me: &mut Thread<U>, c: CondId)
+    requires rest { AtRest p.now me.old }
+    requires named { c.0 < p.now.layout.conditions }
+    ensures rest { AtRest p.now me.new }
+    ensures same { IsSame me.old me.new }
+    ensures event { (left : List ℕ) × Adds [] (event me.old.number (signal_action c.0 left)) me.old me.new }
+    ensures held { me.new.held ≡ me.old.held }
+    ensures share { me.new.share ≡ me.old.share }
+{
+    advance(rt, p, me, c, false);
+}
+
+/// Takes all threads out of the condition, and wakes them.
+#[inline]
+pub fn broadcast<U: Uses, R: Wait>(rt: &R, p: &Package<U>, me: &mut Thread<U>, c: CondId)
+    requires rest { AtRest p.now me.old }
+    requires named { c.0 < p.now.layout.conditions }
+    ensures rest { AtRest p.now me.new }
+    ensures same { IsSame me.old me.new }
+    ensures event { Adds [] (event me.old.number (broadcast_action c.0 [])) me.old me.new }
+    ensures held { me.new.held ≡ me.old.held }
+    ensures share { me.new.share ≡ me.old.share }
+{
+    advance(rt, p, me, c, true);
+}
+
+/// Gives the mutex back with this value and waits in the condition, in one step for all others, until a Signal or Broadcast takes the thread
+/// out of it; then takes the mutex again, and its value.
+pub fn wait<U: Uses, C: Change<U>, R: Wait>(
+    rt: &R,
+    p: &Package<U>,
+    me: &mut Thread<U>,
+    m: MutexId,
+    c: CondId,
+    value: U::Value,
+) -> U::Value
+    requires rest { AtRest p.now me.old }
+    requires named { (m.0 < p.now.layout.mutexes) × (c.0 < p.now.layout.conditions) }
+    requires may { (x : U.Value) × Holds me.old m.0 x × ((w : U.World) (s : U.Share) → me.old.world ≡ Some w → me.old.share ≡ Some s → U.allows w m.0 me.old.number x value s (C.after w m.0 me.old.number x value s)) }
+    ensures rest { AtRest p.now me.new }
+    ensures same { IsSame me.old me.new }
+    ensures event { Adds (enqueue_event false me.old.number m.0 c.0 ∷ []) (resume_event me.old.number m.0 c.0) me.old me.new }
+    ensures holds { Holds me.new m.0 result }
+    ensures share { (w : U.World) (s : U.Share) (x : U.Value) → me.old.world ≡ Some w → me.old.share ≡ Some s → Holds me.old m.0 x → me.new.share ≡ Some (C.after w m.0 me.old.number x value s) }
+    ensures fits { (w : U.World) (s : U.Share) → me.new.world ≡ Some w → me.new.share ≡ Some s → U.fits w m.0 result me.new.number s }
+{
+    put_value(p, me, m, value);
+    // The count is read before the bit is cleared: a Signal between the two, under the mutex or not, takes this thread out.
+    let count = read_count(rt, p, me, m, c, false);
+    free_in_wait::<U, C, R>(rt, p, me, m);
+    block(rt, p, me, c, count, false);
+    let e = Event {
+        thread: ThreadId(me.number()),
+        action: Action::Resume { mutex: m, cond: c },
+    };
+    take(rt, p, me, Object::Mutex(m), e);
+    take_value(p, me, m)
+}
