@@ -13,7 +13,8 @@ ghost use Rattle.nub.specs.Rest.{HasStored, IsOutside};
 use larch_actions::{Action, Event, MutexId, ThreadId};
 use nub::{begin_event, end_event, enter, leave, pop, wake};
 use nub_rule::{
-    Change, Object, Package, Thread, Uses, Why, clear_bit, clear_bit_in_wait, clear_sem, read_length,
+    Change, Object, Package, Thread, Uses, Why, clear_bit, clear_bit_in_wait, clear_sem,
+    read_length,
 };
 use std::sync::Wait;
 

@@ -1,4 +1,4 @@
-use Rattle.std.proofs.Common.{◌≡◌, ℕ, Some, None, false, rules, refl, ap, sym, subst, ◌∙◌, slice_set}
+use Rattle.std.proofs.Common.{ℕ, Some, None, false, rules, refl, ap, sym, subst, ◌∙◌, slice_set}
 use Rattle.std.proofs.lemmas.List.{set-set}
 use lib.ListN.{get_elem?}
 use Rattle.nub_rule.specs.declared.view.WaitBit.TheVariants.{Open}

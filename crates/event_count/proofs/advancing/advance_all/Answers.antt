@@ -1,6 +1,5 @@
-use Rattle.std.proofs.Common.{◌≡◌, ◌∷◌, [], List, ℕ, rules, ap, sym, subst, ◌∙◌}
+use Rattle.std.proofs.Common.{◌≡◌, [], List, ℕ, rules, ap, sym, subst, ◌∙◌}
 use Rattle.larch_actions.specs.declared.event.Event.{Event}
-use Rattle.larch_actions.specs.declared.event.Action.TheVariants.{Broadcast}
 use Rattle.nub_rule.specs.Items.{Small}
 use Rattle.nub_rule.specs.Known.{Makes}
 use Rattle.nub_rule.specs.Places.{most_threads}

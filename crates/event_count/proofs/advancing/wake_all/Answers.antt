@@ -1,4 +1,4 @@
-use Rattle.std.proofs.Common.{◌≡◌, ◌<◌, ◌++◌, ◌∷◌, [], true, List, ℕ, length, rules, arith, refl, ap, sym, subst, ◌∙◌}
+use Rattle.std.proofs.Common.{◌≡◌, ◌++◌, ◌∷◌, [], true, List, ℕ, length, rules, arith, ap, sym, subst, ◌∙◌}
 use Rattle.larch_actions.specs.Sets.{mem}
 use Rattle.nub_rule.specs.Items.{Small}
 use Rattle.nub_rule.specs.Places.{most_threads}
