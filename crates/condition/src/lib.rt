@@ -61,6 +61,7 @@ pub fn wait<U: Uses, C: Change<U>, R: Wait>(
     ensures same { IsSame me.old me.new }
     ensures event { Adds (enqueue_event false me.old.number m.0 c.0 ∷ []) (resume_event me.old.number m.0 c.0) me.old me.new }
     ensures holds { Holds me.new m.0 result }
+    ensures held { me.new.held ≡ slice_set me.old.held m.0 (Some result) }
     ensures share { (w : U.World) (s : U.Share) (x : U.Value) → me.old.world ≡ Some w → me.old.share ≡ Some s → Holds me.old m.0 x → me.new.share ≡ Some (C.after w m.0 me.old.number x value s) }
     ensures fits { (w : U.World) (s : U.Share) → me.new.world ≡ Some w → me.new.share ≡ Some s → U.fits w m.0 result me.new.number s }
 {

@@ -1,11 +1,16 @@
-use Rattle.std.proofs.Common.{ℕ, Some, None, false, rules, refl, ap, sym, subst, ◌∙◌, slice_set}
+use Rattle.std.proofs.Common.{◌≡◌, ℕ, Some, None, false, rules, refl, ap, sym, subst, ◌∙◌, slice_set}
 use Rattle.std.proofs.lemmas.List.{set-set}
+use mathlib.Core.Option.{some}
 use lib.ListN.{get_elem?}
 use Rattle.nub_rule.specs.declared.view.WaitBit.TheVariants.{Open}
 use Rattle.nub_rule.specs.Plays.{begun_wait, opened}
 use Rattle.nub.specs.Rest.{HasStored}
 use Rattle.nub.proofs.Without.{still_out}
+use Rattle.std.specs.Prelude.{Option as Opt}
 use Rattle.condition.proofs.wait.Goals as goal
+
+same_value : {T : Type 0} (x y : T) → (let a : Opt (Opt T) = Some (Some x) in some a) ≡ some (Some (Some y)) → x ≡ y
+same_value x y e = cc
 
 pub free_in_wait-requires-clause-waits : goal.free_in_wait-requires-clause-waits
 free_in_wait-requires-clause-waits g c κs within = (begun_wait false c.args.m.0 c.args.c.0 c.read_count-count.result, ap (λ k. k.wait) c.read_count-count.ensures.begun, refl, refl)
@@ -58,3 +63,12 @@ returns-clause-rest g c =
           (λ z e. c.take_value.ensures.is_out);
       stored = subst (λ k. HasStored c.args.p.now.traced k) (sym out) (c.take.ensures.stored (subst (λ k. HasStored c.args.p.now.traced k) (sym blocked) (subst (λ k. HasStored c.args.p.now.traced k) (sym freed) (c.read_count-count.ensures.stored (subst (λ k. HasStored c.args.p.now.traced k) (sym put) c.requires.rest.stored)))));
     }
+
+pub returns-clause-held : goal.returns-clause-held
+returns-clause-held g c =
+    let old = c.args.me.now in
+    let m = c.args.m.0 in
+    let taken = c.take.ensures.taken in
+    let x = taken.0 in
+    let held = ap (λ k. k.held) c.block.ensures.rest ∙ (ap (λ k. k.held) c.free_in_wait.ensures.rest ∙ ap (λ k. slice_set k.held m None) c.read_count-count.ensures.begun ∙ ap (λ k. slice_set k.held m None) c.put_value.ensures.value) in
+    ap (λ k. k.held) c.take_value.ensures.out ∙ (taken.1 ∙ (ap (λ h. slice_set h m (Some x)) held ∙ (set-set old.held m None (Some x) ∙ ap (λ z. slice_set old.held m (Some z)) (same_value x c.take_value.result (sym taken.4 ∙ c.take_value.ensures.value)))))
