@@ -10,6 +10,7 @@ use Rattle.larch_actions.specs.declared.event.Action.{Action}
 use Rattle.larch_actions.specs.declared.event.Layout.{Layout}
 use Rattle.larch_actions.specs.declared.event.Pending.TheVariants.{Nothing}
 use Rattle.larch_actions.specs.Actions.{Spec, Acts, MayLeave, put}
+use Rattle.larch_actions.specs.Layout.{IsNamed}
 use Rattle.larch_actions.specs.Sets.{mem, in_set, set_of}
 use Rattle.larch_actions.proofs.Sets.{in_set-of, mem-here, mem-else}
 use Rattle.atomic_table.specs.Table.{Me, step, Allows, keeps, rest}
@@ -26,7 +27,7 @@ use Rattle.nub_rule.specs.Rule.{IsKept}
 use Rattle.nub_rule.proofs.Each.{each-set, put-here, put-else}
 use Rattle.nub_rule.proofs.Members.{Steps, member_steps}
 use Rattle.nub_rule.proofs.Frames.{SameShown, other, pendings-frame, holders-frame, semaphores-frame, alerts-frame}
-use Rattle.nub_rule.proofs.Standing.{distinct-behind}
+use Rattle.nub_rule.proofs.Standing.{distinct-behind, mem-behind}
 use Rattle.nub_rule.proofs.Beside.{idle}
 use Rattle.nub_rule.proofs.Owing.{owes-frame}
 use Rattle.nub_rule.proofs.Spinning.{only_here}
@@ -46,16 +47,18 @@ enters : (alertable : Bool) (n m c k : ℕ) (old : Spec) → old.pending n ≡ N
 enters true n m c k old free held = (record { order = free; requires_met = held; when_met = tt; choice_met = tt }, refl)
 enters false n m c k old free held = (record { order = free; requires_met = held; when_met = tt; choice_met = tt }, refl)
 
+-- who is behind the first is in the list
+more-behind : (t : ℕ) (xs : List ℕ) → mem t (behind xs) ≡ true → mem t xs ≡ true
+more-behind t [] there = there
+more-behind t (x ∷ xs) there = dite (ℕ_discrete x t) (λ e. mem-here t x xs e) (λ ne. mem-else t x xs ne ∙ there)
+
 -- the threads behind the first may be left
 may-leave : (members : ℕ → Bool) (xs : List ℕ) → Distinct xs → ((t : ℕ) → mem t xs ≡ true → members t ≡ true) → MayLeave members (in_set (set_of (behind xs)))
 may-leave members [] d h = inl (λ t. in_set-of t [])
 may-leave members (x ∷ xs) d h = inr (
-  (λ t is. h t (more t x xs (sym (in_set-of t xs) ∙ is))),
+  (λ t is. h t (more-behind t (x ∷ xs) (sym (in_set-of t xs) ∙ is))),
   (x, h x (mem-here x x xs refl), in_set-of x xs ∙ d.0),
 )
-  where
-    more : (t x : ℕ) (xs : List ℕ) → mem t xs ≡ true → mem t (x ∷ xs) ≡ true
-    more t x xs there = dite (ℕ_discrete x t) (λ e. mem-here t x xs e) (λ ne. mem-else t x xs ne ∙ there)
 
 less-behind : (t : ℕ) (xs : List ℕ) → mem t xs ≡ false → mem t (behind xs) ≡ false
 less-behind t [] out = refl
@@ -98,9 +101,9 @@ module _ {T H W : Type 0} (l : Layout) (traced : Bool) (w : W) (begin : W → �
   abbrev after_load : Bool → ℕ → ℕ → ℕ → ℕ → Part T H → List Event → Part T H
   after_load alertable n m c r p z = record (told p z (enqueue_event alertable n m c)) { wait = Some (begun_wait alertable m c r) }
 
-  loads_at : (alertable : Bool) (n m c : ℕ) (p : Part T H) (cs : List (ℕ × Slot T)) (x : T) → c < 64 → Got p m x → p.wait ≡ None → p.left ≡ p.queue → MayTell traced p.pen
+  loads_at : (alertable : Bool) (n m c : ℕ) (p : Part T H) (cs : List (ℕ × Slot T)) (x : T) → c < 64 → (m < l.mutexes) × (c < l.conditions) → Got p m x → p.wait ≡ None → p.left ≡ p.queue → MayTell traced p.pen
       → Steps l traced w begin holds n (count_at (cond_object c)) (λ x. x) p cs (λ r q ds. Learns (enqueue_event alertable n m c) n p (after_load alertable n m c r p) q × (ds ≡ cs))
-  loads_at alertable n m c p cs x low got out even may words homes all k at small =
+  loads_at alertable n m c p cs x low named got out even may words homes all k at small =
       let i : ℕ = count_at (cond_object c) in
       let r : ℕ = get_or words i 0 in
       let words' : List ℕ = set words i r in
@@ -111,7 +114,7 @@ module _ {T H W : Type 0} (l : Layout) (traced : Bool) (w : W) (begin : W → �
       let held : k.spec.holder m ≡ some n = k.shows.holders.holds n p at m own ∙ ap (λ w. cond (waits_on w m) none (some n)) out in
       let free : k.spec.pending n ≡ Nothing = k.shows.pendings.pends n p at ∙ ap pending_of out in
       let b = begun_wait alertable m c r in
-      let done = marks l traced w holds e n i r p (after_load alertable n m c r p) words homes all k (entered k.spec n m c b) at (by_whom alertable n m c) may (count-aside c low)
+      let done = marks l traced w holds e n i r p (after_load alertable n m c r p) words homes all k (entered k.spec n m c b) at (by_whom alertable n m c) (named_so alertable n m c named) may (count-aside c low)
       (λ z. record { seen = refl; mine = refl; places = refl; held = refl; share = refl; spin = refl; queue = refl; owed = refl; stand = refl; pen = refl })
       (enters alertable n m c r k.spec free held)
       (λ z. shows-enter words words' k.spinner k.queue k.owner k.spec all n p (after_load alertable n m c r p z) at m c r b low (record { counts = λ j lo. stay (count_at (cond_object j)); sems = λ j lo. stay (bit_at (sem_object j)); alerts = λ j lo. stay (alert_at j) }) refl own refl refl refl out refl refl refl refl even k.shows)
@@ -121,21 +124,25 @@ module _ {T H W : Type 0} (l : Layout) (traced : Bool) (w : W) (begin : W → �
       by_whom : (alertable : Bool) (n m c : ℕ) → (enqueue_event alertable n m c).thread.0 ≡ n
       by_whom alertable n m c = refl
 
-  load_count_at : (alertable : Bool) (slots id m c : ℕ) (s : Slot T) (me : Me (Slot T) (View T H W)) (x : T) → c < 64 → me.0.kind ≡ Member → me.1 ≡ (value_at m, s) ∷ rest me.1 → Got me.0.part m x → me.0.part.wait ≡ None → me.0.part.left ≡ me.0.part.queue → MayTell traced me.0.part.pen
+      named_so : (alertable : Bool) (n m c : ℕ) → (m < l.mutexes) × (c < l.conditions) → IsNamed l (enqueue_event alertable n m c).action
+      named_so true n m c h = h
+      named_so false n m c h = h
+
+  load_count_at : (alertable : Bool) (slots id m c : ℕ) (s : Slot T) (me : Me (Slot T) (View T H W)) (x : T) → c < 64 → (m < l.mutexes) × (c < l.conditions) → me.0.kind ≡ Member → me.1 ≡ (value_at m, s) ∷ rest me.1 → Got me.0.part m x → me.0.part.wait ≡ None → me.0.part.left ≡ me.0.part.queue → MayTell traced me.0.part.pen
       → Allows (IsKept l traced w begin holds) slots id me (count_at (cond_object c)) (λ x. x) (load_count_tells alertable (step slots (count_at (cond_object c)) 0 0 none) me)
-  load_count_at alertable slots id m c s me x low kind first got out even may = let v = me.0 in let n = v.number in let p = v.part in let i : ℕ = count_at (cond_object c) in
+  load_count_at alertable slots id m c s me x low named kind first got out even may = let v = me.0 in let n = v.number in let p = v.part in let i : ℕ = count_at (cond_object c) in
       member_steps l traced w begin holds slots id i (λ x. x) v me.1 (λ r q ds. Learns (enqueue_event alertable n m c) n p (after_load alertable n m c r p) q × (ds ≡ me.1)) (load_count_tells alertable (step slots i 0 0 none) me) kind
       (λ r q ds world t m' c' s' is first'.
       let em : m ≡ m' = let z = key_of me.1 (value_at m) (value_at m') s s' first first' in omega arith in
       let ec : c ≡ c' = omega arith in
       subst (λ (z : ℕ × ℕ). (between : List Event) × Grows n p between (enqueue_event alertable n z.0 z.1) × Becomes me (after_load alertable n z.0 z.1 r p (p.seen ++ between)) (with_part v q, ds)) (λ j. (em j, ec j))
       (t.0.0, t.0.1, λ j. (with_part v (t.0.2 j), t.1 j)))
-      (loads_at alertable n m c p me.1 x low got out even may)
+      (loads_at alertable n m c p me.1 x low named got out even may)
 
   -- the same at a word that is this place
-  pub load_count_keeps : (alertable : Bool) (slots id m c : ℕ) (s : Slot T) (me : Me (Slot T) (View T H W)) (x : T) (i : ℕ) → i ≡ count_at (cond_object c) → c < 64 → me.0.kind ≡ Member → me.1 ≡ (value_at m, s) ∷ rest me.1 → Got me.0.part m x → me.0.part.wait ≡ None → me.0.part.left ≡ me.0.part.queue → MayTell traced me.0.part.pen
+  pub load_count_keeps : (alertable : Bool) (slots id m c : ℕ) (s : Slot T) (me : Me (Slot T) (View T H W)) (x : T) (i : ℕ) → i ≡ count_at (cond_object c) → c < 64 → (m < l.mutexes) × (c < l.conditions) → me.0.kind ≡ Member → me.1 ≡ (value_at m, s) ∷ rest me.1 → Got me.0.part m x → me.0.part.wait ≡ None → me.0.part.left ≡ me.0.part.queue → MayTell traced me.0.part.pen
       → Allows (IsKept l traced w begin holds) slots id me i (λ x. x) (load_count_tells alertable (step slots i 0 0 none) me)
-  load_count_keeps alertable slots id m c s me x i word low kind first got out even may = subst (λ (i : ℕ). Allows (IsKept l traced w begin holds) slots id me i (λ x. x) (load_count_tells alertable (step slots i 0 0 none) me)) (sym word) (load_count_at alertable slots id m c s me x low kind first got out even may)
+  load_count_keeps alertable slots id m c s me x i word low named kind first got out even may = subst (λ (i : ℕ). Allows (IsKept l traced w begin holds) slots id me i (λ x. x) (load_count_tells alertable (step slots i 0 0 none) me)) (sym word) (load_count_at alertable slots id m c s me x low named kind first got out even may)
 
   know_count_at : (slots id c : ℕ) (me : Me (Slot T) (View T H W)) → c < 64 → me.0.kind ≡ Member → me.0.part.spin ≡ Some (cond_object c) → Allows (IsKept l traced w begin holds) slots id me (count_at (cond_object c)) (λ x. x) (know_count_tells (step slots (count_at (cond_object c)) 0 0 none) me)
   know_count_at slots id c me low kind here = let v = me.0 in let n = v.number in let p = v.part in let i : ℕ = count_at (cond_object c) in
@@ -151,7 +158,7 @@ module _ {T H W : Type 0} (l : Layout) (traced : Bool) (w : W) (begin : W → �
   -- an event by which the count of c is advanced, and ys are left
   advances_at : (n c : ℕ) (e : Event) (ys : List ℕ) (f : ℕ → Bool) (p : Part T H) (cs : List (ℕ × Slot T)) → c < 64 → p.spin ≡ Some (cond_object c) → p.wait ≡ None → p.count < 18446744073709551615 → MayTell traced p.pen → e.thread.0 ≡ n
       → ((t : ℕ) → f t ≡ mem t ys) → ((t : ℕ) → mem t p.left ≡ false → mem t ys ≡ false)
-      → ((words : List ℕ) (homes : List (Option (Slot T))) (all : List (Part T H)) (k : Core l traced w holds words homes all) → get_elem? all n ≡ some p → Acts k.spec e (record k.spec { members = put k.spec.members c f }))
+      → ((words : List ℕ) (homes : List (Option (Slot T))) (all : List (Part T H)) (k : Core l traced w holds words homes all) → get_elem? all n ≡ some p → IsNamed l e.action × Acts k.spec e (record k.spec { members = put k.spec.members c f }))
       → Steps l traced w begin holds n (count_at (cond_object c)) (λ x. (x + 1) % 2 ^ 64) p cs (λ r q ds. (r ≡ p.count) × Distinct p.queue × Learns e n p (λ z. record (told p z e) { left = ys; count = p.count + 1 }) q × (ds ≡ cs))
   advances_at n c e ys f p cs low here out more may by is less acts words homes all k at small =
       let i : ℕ = count_at (cond_object c) in
@@ -164,9 +171,9 @@ module _ {T H W : Type 0} (l : Layout) (traced : Bool) (w : W) (begin : W → �
       let up : v ≡ r + 1 = omega arith in
       let wide = k.sizes.words_wide in
       let after : List Event → Part T H = λ z. record (told p z e) { left = ys; count = p.count + 1 } in
-      let done = marks l traced w holds e n i v p after words homes all k (record k.spec { members = put k.spec.members c f }) at by may (count-aside c low)
+      let done = marks l traced w holds e n i v p after words homes all k (record k.spec { members = put k.spec.members c f }) at by (acts words homes all k at).0 may (count-aside c low)
       (λ z. record { seen = refl; mine = refl; places = refl; held = refl; share = refl; spin = refl; queue = refl; owed = refl; stand = refl; pen = refl })
-      (acts words homes all k at)
+      (acts words homes all k at).1
       (λ z. record {
         holders = holders-frame all n p (after z) at k.owner k.spec.holder refl k.shows.holders;
         pendings = pendings-frame all n p (after z) at k.spec.pending refl k.shows.pendings;
@@ -180,7 +187,7 @@ module _ {T H W : Type 0} (l : Layout) (traced : Bool) (w : W) (begin : W → �
 
   advance_at : (leave : List ℕ → List ℕ) (action : ℕ → List ℕ → Action) (f : ℕ → Bool) (slots id c : ℕ) (me : Me (Slot T) (View T H W)) → c < 64 → me.0.kind ≡ Member → me.0.part.spin ≡ Some (cond_object c) → me.0.part.wait ≡ None → me.0.part.count < 18446744073709551615 → MayTell traced me.0.part.pen
       → ((t : ℕ) → f t ≡ mem t (leave me.0.part.queue)) → ((t : ℕ) → mem t me.0.part.left ≡ false → mem t (leave me.0.part.queue) ≡ false)
-      → ((words : List ℕ) (homes : List (Option (Slot T))) (all : List (Part T H)) (k : Core l traced w holds words homes all) → get_elem? all me.0.number ≡ some me.0.part → Acts k.spec (event me.0.number (action c (leave me.0.part.queue))) (record k.spec { members = put k.spec.members c f }))
+      → ((words : List ℕ) (homes : List (Option (Slot T))) (all : List (Part T H)) (k : Core l traced w holds words homes all) → get_elem? all me.0.number ≡ some me.0.part → IsNamed l (action c (leave me.0.part.queue)) × Acts k.spec (event me.0.number (action c (leave me.0.part.queue))) (record k.spec { members = put k.spec.members c f }))
       → (i : ℕ) → i ≡ count_at (cond_object c) → Allows (IsKept l traced w begin holds) slots id me i (λ x. (x + 1) % 2 ^ 64) (advance_tells leave action (step slots i 1 0 none) me)
   advance_at leave action f slots id c me low kind here out more may is less acts i word = let v = me.0 in let n = v.number in let p = v.part in let o : ℕ = count_at (cond_object c) in let ys : List ℕ = leave p.queue in
       let At : ℕ → Part T H → List (ℕ × Slot T) → Type 0 = λ r q ds. (r ≡ p.count) × Distinct p.queue × Learns (event n (action c ys)) n p (λ z. record (told p z (event n (action c ys))) { left = ys; count = p.count + 1 }) q × (ds ≡ me.1) in
@@ -191,25 +198,31 @@ module _ {T H W : Type 0} (l : Layout) (traced : Bool) (w : W) (begin : W → �
       (t.0, t.1, t.2.0, t.2.1, λ j. (with_part v (t.2.2 j), t.3 j)))
       (advances_at n c (event n (action c ys)) ys f p me.1 low here out more may refl is less acts))
 
-  pub advance_broadcast_keeps : (slots id c : ℕ) (me : Me (Slot T) (View T H W)) (i : ℕ) → i ≡ count_at (cond_object c) → c < 64 → me.0.kind ≡ Member → me.0.part.spin ≡ Some (cond_object c) → me.0.part.wait ≡ None → me.0.part.count < 18446744073709551615 → MayTell traced me.0.part.pen
+  pub advance_broadcast_keeps : (slots id c : ℕ) (me : Me (Slot T) (View T H W)) (i : ℕ) → i ≡ count_at (cond_object c) → c < 64 → c < l.conditions → me.0.kind ≡ Member → me.0.part.spin ≡ Some (cond_object c) → me.0.part.wait ≡ None → me.0.part.count < 18446744073709551615 → MayTell traced me.0.part.pen
       → Allows (IsKept l traced w begin holds) slots id me i (λ x. (x + 1) % 2 ^ 64) (advance_tells (λ _. []) broadcast_action (step slots i 1 0 none) me)
-  advance_broadcast_keeps slots id c me i word low kind here out more may = advance_at (λ _. []) broadcast_action (λ _. false) slots id c me low kind here out more may (λ t. refl) (λ t is. refl)
-      (λ words homes all k at. (record { order = k.shows.pendings.pends me.0.number me.0.part at ∙ ap pending_of out; requires_met = tt; when_met = tt; choice_met = tt }, refl)) i word
+  advance_broadcast_keeps slots id c me i word low named kind here out more may = advance_at (λ _. []) broadcast_action (λ _. false) slots id c me low kind here out more may (λ t. refl) (λ t is. refl)
+      (λ words homes all k at. (named, (record { order = k.shows.pendings.pends me.0.number me.0.part at ∙ ap pending_of out; requires_met = tt; when_met = tt; choice_met = tt }, refl))) i word
 
-  pub advance_signal_keeps : (slots id c : ℕ) (me : Me (Slot T) (View T H W)) (i : ℕ) → i ≡ count_at (cond_object c) → c < 64 → me.0.kind ≡ Member → me.0.part.spin ≡ Some (cond_object c) → me.0.part.wait ≡ None → me.0.part.left ≡ me.0.part.queue → me.0.part.count < 18446744073709551615 → MayTell traced me.0.part.pen
+  pub advance_signal_keeps : (slots id c : ℕ) (me : Me (Slot T) (View T H W)) (i : ℕ) → i ≡ count_at (cond_object c) → c < 64 → c < l.conditions → me.0.kind ≡ Member → me.0.part.spin ≡ Some (cond_object c) → me.0.part.wait ≡ None → me.0.part.left ≡ me.0.part.queue → me.0.part.count < 18446744073709551615 → MayTell traced me.0.part.pen
       → Allows (IsKept l traced w begin holds) slots id me i (λ x. (x + 1) % 2 ^ 64) (advance_tells behind signal_action (step slots i 1 0 none) me)
-  advance_signal_keeps slots id c me i word low kind here out even more may = let n = me.0.number in let p = me.0.part in let ys : List ℕ = behind p.queue in
+  advance_signal_keeps slots id c me i word low named kind here out even more may = let n = me.0.number in let p = me.0.part in let ys : List ℕ = behind p.queue in
       advance_at behind signal_action (in_set (set_of ys)) slots id c me low kind here out more may (λ t. in_set-of t ys) (λ t off. less-behind t p.queue (ap (mem t) (sym even) ∙ off))
       (λ words homes all k at.
       let o : ℕ = cond_object c in
       let mine = (k.spins.spinning n p at o).0 here in
-      let s = k.shows.conditions in (
-        record {
-          order = k.shows.pendings.pends n p at ∙ ap pending_of out;
-          requires_met = tt;
-          when_met = tt;
-          choice_met = may-leave (k.spec.members c) p.queue (subst Distinct (sym mine.1) (distinct-behind (k.owed o) (k.queue o) (k.lines.distinct o)))
-              (λ t there. s.member c t ∙ ap (λ b. cond b true (s.counting c t)) (ap (mem t) (sym ((s.knows n p at).inside c mine.0).0 ∙ even) ∙ there));
-        },
-        refl,
+      let s = k.shows.conditions in
+      let people : (t : ℕ) → in_set (set_of ys) t ≡ true → t < l.threads = λ t is.
+      let there : mem t (k.queue o) ≡ true = subst (λ (q : List ℕ). mem t q ≡ true) mine.1 (more-behind t p.queue (sym (in_set-of t ys) ∙ is)) in
+      subst (λ (z : ℕ). t < z) k.sizes.count (k.lines.people o t (mem-behind t (k.owed o) (k.queue o) there)) in (
+        (named, people),
+        (
+          record {
+            order = k.shows.pendings.pends n p at ∙ ap pending_of out;
+            requires_met = tt;
+            when_met = tt;
+            choice_met = may-leave (k.spec.members c) p.queue (subst Distinct (sym mine.1) (distinct-behind (k.owed o) (k.queue o) (k.lines.distinct o)))
+                (λ t there. s.member c t ∙ ap (λ b. cond b true (s.counting c t)) (ap (mem t) (sym ((s.knows n p at).inside c mine.0).0 ∙ even) ∙ there));
+          },
+          refl,
+        ),
       )) i word

@@ -91,7 +91,6 @@ module _ {T H W : Type 0} (l : Layout) (traced : Bool) (w : W) (begin : W → �
         all = all;
         seat_of = λ _. 0;
         given = 0;
-        count = wide;
         seated = omega arith;
         fits = λ id v at. let o = only_first (opening_view {T = T} w begin) v id at in subst₂ (λ (a : ℕ) (b : View T H W). FitsAs l.threads 0 w begin all (λ _. 0) a b b.kind) (sym o.0) o.1
             record { world = refl; first = refl; next = refl; unborn = λ n lo hi. (refl, at_firsts (λ n. fresh {T = T} (Some (begin w n))) 0 l.threads n hi ∙ ap (λ (z : ℕ). some (fresh {T = T} (Some (begin w z)))) (zero-add n)) };
@@ -110,6 +109,7 @@ module _ {T H W : Type 0} (l : Layout) (traced : Bool) (w : W) (begin : W → �
             homes_wide = slots_wide 192 values ∙ ap (λ (z : ℕ). 192 + z) many;
             lawful = lawful.mutexes;
             few = subst (λ (z : ℕ). z ≤ most_threads) (sym wide) lawful.threads;
+            count = wide;
             parts_wide = each-firsts Wide (λ n. fresh (Some (begin w n))) l.threads (λ i low. length-replicate {A = Opt T} 64 None);
           };
           run = refl;
@@ -188,7 +188,7 @@ module _ {T H W : Type 0} (l : Layout) (traced : Bool) (w : W) (begin : W → �
       let r = f.1.0 in
       let c = r.core in
       let k : FitsAs l.threads r.given w begin r.all r.seat_of id v Collector = subst (FitsAs l.threads r.given w begin r.all r.seat_of id v) kind (r.fits id v f.1.1) in
-      let back : v.back ≡ r.all = same_elements v.back r.all (whole ∙ sym r.count) (λ n p at. (k.came_back n p at).1) in
+      let back : v.back ≡ r.all = same_elements v.back r.all (whole ∙ sym c.sizes.count) (λ n p at. (k.came_back n p at).1) in
       let rest : (n : ℕ) (p : Part T H) → get_elem? r.all n ≡ some p → ((m : ℕ) (x : T) → Got p m x → ⊥) × (p.wait ≡ None) = λ n p at. idle n p (ap (λ ps. get_elem? ps n) back ∙ at) in
       let free : (m : ℕ) → c.owner m ≡ none = λ m. nobody (c.owner m) (λ n is. let low = (c.owned.within m n is).1 in let p = at_below r.all n low in let has = (c.owned.standing n p.0 p.1 m).1 is in (rest n p.0 p.1).0 m has.0 has.1) in
       record {

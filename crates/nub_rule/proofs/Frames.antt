@@ -81,6 +81,7 @@ module _ {T H : Type 0} (all : List (Part T H)) (n : ℕ) (p q : Part T H) (at :
     homes_wide = eh ∙ s.homes_wide;
     lawful = s.lawful;
     few = subst (λ (z : ℕ). z ≤ most_threads) (sym (length-set all n q)) s.few;
+    count = length-set all n q ∙ s.count;
     parts_wide = each-set Wide Wide all n q (el ∙ s.parts_wide n p at) (λ k r ne at' c. c) s.parts_wide;
   }
 

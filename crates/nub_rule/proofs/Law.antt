@@ -318,7 +318,7 @@ module _ {T H W : Type 0} (l : Layout) (traced : Bool) (w : W) (begin : W → �
 
   pub are-views : AreViews l.threads w begin s.views k.all
   are-views = record {
-    count = k.count;
+    count = k.core.sizes.count;
     seated = λ id v at is. (fits-as id v Member at is).own;
     back = λ id v at is n p there. ((fits-as id v Collector at is).came_back n p there).1;
     to_come = λ id v at is n lo hi. let r = fits-as id v Root at is in (r.unborn n (subst (λ (z : ℕ). z ≤ n) r.next lo) hi).1;

@@ -49,7 +49,6 @@ module _ {T H W : Type 0} (l : Layout) (traced : Bool) (w : W) (begin : W → �
           all = set r.all v.number q;
           seat_of = r.seat_of;
           given = r.given;
-          count = length-set r.all v.number q ∙ r.count;
           seated = subst (λ (z : ℕ). 0 < z) (sym (length-set s.views id (with_part v q))) r.seated;
           fits = λ j u e. ⊎_elim
               (λ (h : (j ≡ id) × (with_part v q ≡ u)). subst (λ (z : ℕ × View T H W). SeatFits l.threads r.given w begin (set r.all v.number q) r.seat_of z.0 z.1) (λ k. (sym h.0 k, h.1 k))

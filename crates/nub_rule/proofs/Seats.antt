@@ -54,7 +54,6 @@ module _ {T H W : Type 0} (l : Layout) (traced : Bool) (w : W) (begin : W → �
         all = r.all;
         seat_of = seats;
         given = r.given + 1;
-        count = r.count;
         seated = omega (arith, length-append (set s.views id (left_view v)) (member_view begin v ∷ []), there);
         fits = λ j u e. ⊎_elim
             (λ (h : get_elem? (set s.views id (left_view v)) j ≡ some u). ⊎_elim
@@ -93,7 +92,6 @@ module _ {T H W : Type 0} (l : Layout) (traced : Bool) (w : W) (begin : W → �
         all = r.all;
         seat_of = seats;
         given = r.given;
-        count = r.count;
         seated = subst (λ (z : ℕ). 0 < z) (sym (length-set views other (spent_view {T = T}) ∙ length-set s.views id (both_views v u))) r.seated;
         fits = λ j x e. ⊎_elim
             (λ (h : (j ≡ other) × (spent_view ≡ x)). subst (λ (b : View T H W). fits j b b.kind) h.1 tt)
@@ -120,7 +118,6 @@ module _ {T H W : Type 0} (l : Layout) (traced : Bool) (w : W) (begin : W → �
       all = r.all;
       seat_of = r.seat_of;
       given = r.given;
-      count = r.count;
       seated = let up = r.seated in omega (arith, length-append s.views (collector_view {T = T} {H = H} w ∷ []));
       fits = λ j u e. ⊎_elim (λ (h : get_elem? s.views j ≡ some u). r.fits j u h)
           (λ (h : (j ≡ length s.views) × (collector_view w ≡ u)). subst (λ (b : View T H W). FitsAs l.threads r.given w begin r.all r.seat_of j b b.kind) h.1 record { world = refl; few = omega arith; came_back = λ n p f. absurd (some-ne-none p (sym f)) })

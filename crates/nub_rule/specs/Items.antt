@@ -195,6 +195,7 @@ module _ {T H : Type 0} where
     pub homes_wide : length homes ≡ 192 + l.mutexes
     pub lawful : l.mutexes ≤ 64
     pub few : length all ≤ most_threads
+    pub count : length all ≡ l.threads
     pub parts_wide : Each Wide all
 
   -- all items, over the words, the slots at home and the part of each thread

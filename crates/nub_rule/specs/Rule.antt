@@ -79,7 +79,6 @@ module _ {T H W : Type 0} where
     pub all : List (Part T H)
     pub seat_of : ℕ → ℕ
     pub given : ℕ
-    pub count : length all ≡ l.threads
     pub seated : 0 < length s.views
     pub fits : (id : ℕ) (v : View T H W) → get_elem? s.views id ≡ some v → SeatFits l.threads given w begin all seat_of id v
     pub core : Core l traced w holds s.words s.homes all

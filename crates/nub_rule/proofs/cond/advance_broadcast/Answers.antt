@@ -13,7 +13,7 @@ pub fetch_add-requires : goal.fetch_add-requires
 fetch_add-requires g c = let near = cond_low _ _ _ _ c.p.view_is c.p.invariant.laid_out c.p.invariant.lawful c.args.c.0 c.requires.named in let word = c.count_word.ensures in let traces : c.p.inside.table.shared.key.traced ≡ c.args.p.now.traced = ap (λ s. s.traced) c.p.view_is in (
   search rules,
   omega arith,
-  advance_broadcast_keeps _ _ _ _ _ _ _ c.args.c.0 c.me.inside.seat.me _ word near c.me.invariant.member (ap (λ k. k.spin) c.me.view_is ∙ c.requires.inside) (ap (λ k. k.wait) c.me.view_is ∙ c.requires.outside)
+  advance_broadcast_keeps _ _ _ _ _ _ _ c.args.c.0 c.me.inside.seat.me _ word near (search rules) c.me.invariant.member (ap (λ k. k.spin) c.me.view_is ∙ c.requires.inside) (ap (λ k. k.wait) c.me.view_is ∙ c.requires.outside)
       (subst (λ (z : ℕ). z < 18446744073709551615) (ap (λ k. k.count) (sym c.me.view_is)) c.requires.room) (subst (λ (z : Bool × Pen). MayTell z.0 z.1) (λ j. (sym traces j, ap (λ k. k.pen) (sym c.me.view_is) j)) c.requires.pen),
 )
 

@@ -33,7 +33,7 @@ fetch_add-count-requires g c = let near = cond_low _ _ _ _ c.p.view_is c.p.invar
     let same = c.bring.ensures.same.2 in let e = ap (λ v. v.part) same in (
       search rules,
       omega arith,
-      advance_signal_keeps _ _ _ _ _ _ _ c.args.c.0 (c.bring.new.seat.me.0, _) _ word near (ap (λ v. v.kind) same ∙ c.me.invariant.member) (ap (λ p. p.spin) e ∙ (ap (λ k. k.spin) c.me.view_is ∙ c.requires.inside)) (ap (λ p. p.wait) e ∙ (ap (λ k. k.wait) c.me.view_is ∙ c.requires.outside))
+      advance_signal_keeps _ _ _ _ _ _ _ c.args.c.0 (c.bring.new.seat.me.0, _) _ word near (search rules) (ap (λ v. v.kind) same ∙ c.me.invariant.member) (ap (λ p. p.spin) e ∙ (ap (λ k. k.spin) c.me.view_is ∙ c.requires.inside)) (ap (λ p. p.wait) e ∙ (ap (λ k. k.wait) c.me.view_is ∙ c.requires.outside))
           (ap (λ p. p.left) e ∙ (ap (λ k. k.left) c.me.view_is ∙ (c.requires.even ∙ (ap (λ k. k.queue) (sym c.me.view_is) ∙ ap (λ p. p.queue) (sym e)))))
           (subst (λ (z : ℕ). z < 18446744073709551615) (ap (λ k. k.count) (sym c.me.view_is) ∙ ap (λ p. p.count) (sym e)) c.requires.room)
           (subst (λ (z : Bool × Pen). MayTell z.0 z.1) (λ j. (sym traces j, (ap (λ k. k.pen) (sym c.me.view_is) ∙ ap (λ p. p.pen) (sym e)) j)) c.requires.pen),

@@ -22,7 +22,7 @@ load-requires g c = let near = cond_low _ _ _ _ c.p.view_is c.p.invariant.laid_o
     let word = c.count_word.ensures in (
       search rules,
       omega arith,
-      load_count_keeps _ _ _ _ _ false _ _ m c.args.c.0 (Value t.0) c.bring.new.seat.me c.requires.has.0 _ word near (ap (λ v. v.kind) same ∙ c.me.invariant.member) (b.first (Value t.0) t.1) (ap (λ p. get_elem? p.held m) e ∙ (ap (λ k. get_elem? k.held m) c.me.view_is ∙ c.requires.has.1))
+      load_count_keeps _ _ _ _ _ false _ _ m c.args.c.0 (Value t.0) c.bring.new.seat.me c.requires.has.0 _ word near (search rules) (ap (λ v. v.kind) same ∙ c.me.invariant.member) (b.first (Value t.0) t.1) (ap (λ p. get_elem? p.held m) e ∙ (ap (λ k. get_elem? k.held m) c.me.view_is ∙ c.requires.has.1))
           (ap (λ p. p.wait) e ∙ (ap (λ k. k.wait) c.me.view_is ∙ c.requires.outside)) (ap (λ p. p.left) e ∙ (ap (λ k. k.left) c.me.view_is ∙ (c.requires.even ∙ (ap (λ k. k.queue) (sym c.me.view_is) ∙ ap (λ p. p.queue) (sym e)))))
           (subst (λ (z : Bool × Pen). MayTell z.0 z.1) (λ j. (sym traces j, (ap (λ k. k.pen) (sym c.me.view_is) ∙ ap (λ p. p.pen) (sym e)) j)) c.requires.pen),
     )
