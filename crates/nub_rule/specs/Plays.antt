@@ -4,7 +4,7 @@ use mathlib.Core.Option.{some}
 use lib.ListN.{get_elem?}
 use Rattle.larch_actions.specs.declared.event.Event.{Event}
 use Rattle.larch_actions.specs.declared.event.Action.{Action}
-use Rattle.larch_actions.specs.declared.event.Action.TheVariants.{Acquire, Release, Enqueue, AlertEnqueue, Resume, AlertReturn, Signal, Broadcast, P, V}
+use Rattle.larch_actions.specs.declared.event.Action.TheVariants.{Acquire, Release, Enqueue, AlertEnqueue, Resume, AlertReturn, Signal, Broadcast, P, V, Alert, TestAlert}
 use Rattle.larch_actions.specs.Actions.{IsLegal, by_thread}
 use Rattle.larch_actions.specs.Sets.{mem, set_of, without}
 use Rattle.atomic_table.specs.Table.{Me, Step, rest}
@@ -48,6 +48,12 @@ signal_action c left = Signal record { 0 = c } (set_of left)
 
 abbrev pub broadcast_action : ℕ → List ℕ → Action
 broadcast_action c left = Broadcast record { 0 = c }
+
+abbrev pub alert_event : ℕ → ℕ → Event
+alert_event t who = event t (Alert record { 0 = who })
+
+abbrev pub test_alert_event : ℕ → Bool → Event
+test_alert_event t answer = event t (TestAlert answer)
 
 -- the wait that was begun with the count k
 abbrev pub begun_wait : Bool → ℕ → ℕ → ℕ → Wait
