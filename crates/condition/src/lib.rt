@@ -7,6 +7,7 @@
 ghost use Rattle.std.specs.Prelude.{◌≡◌, ◌<◌, ◌∷◌, List, ℕ, [], slice_set, Some, None, false};
 ghost use Rattle.nub_rule.specs.Known.{Holds};
 ghost use Rattle.nub_rule.specs.Plays.{broadcast_action, enqueue_event, event, signal_action};
+ghost use Rattle.nub.specs.Idle.{IsIdle};
 ghost use Rattle.nub.specs.Rest.{AtRest, Adds, IsSame};
 ghost use Rattle.condition.specs.Waits.{resume_event};
 
@@ -26,6 +27,7 @@ pub fn signal<U: Uses, R: Wait>(rt: &R, p: &Package<U>, me: &mut Thread<U>, c: C
     ensures event { (left : List ℕ) × Adds [] (event me.old.number (signal_action c.0 left)) me.old me.new }
     ensures held { me.new.held ≡ me.old.held }
     ensures share { me.new.share ≡ me.old.share }
+    ensures idle { (n : ℕ) (s : U.Share) → IsIdle p.now n s me.old → IsIdle p.now n s me.new }
 {
     advance(rt, p, me, c, false);
 }
@@ -40,6 +42,7 @@ pub fn broadcast<U: Uses, R: Wait>(rt: &R, p: &Package<U>, me: &mut Thread<U>, c
     ensures event { Adds [] (event me.old.number (broadcast_action c.0 [])) me.old me.new }
     ensures held { me.new.held ≡ me.old.held }
     ensures share { me.new.share ≡ me.old.share }
+    ensures idle { (n : ℕ) (s : U.Share) → IsIdle p.now n s me.old → IsIdle p.now n s me.new }
 {
     advance(rt, p, me, c, true);
 }

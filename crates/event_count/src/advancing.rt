@@ -43,9 +43,10 @@ fn advance_one<U: Uses, R: Wait>(rt: &R, p: &Package<U>, me: &mut Thread<U>, c: 
     requires named { c.0 < p.now.layout.conditions }
     requires outside { IsOutside me.old }
     requires no_wait { me.old.wait ≡ None }
+    requires stored { HasStored p.now.traced me.old }
     ensures event { (left : List ℕ) × Makes (event me.old.number (signal_action c.0 left)) me.old me.new }
     ensures rest { me.new ≡ record (recorded me.old me.new) { count = me.new.count; failed = without (cond_object c.0) me.old.failed } }
-    ensures stored { HasStored p.now.traced me.old → HasStored p.now.traced me.new }
+    ensures stored { HasStored p.now.traced me.new }
 {
     let at = Object::Cond(c);
     enter_below(rt, p, me, c);
@@ -72,9 +73,10 @@ fn advance_all<U: Uses, R: Wait>(rt: &R, p: &Package<U>, me: &mut Thread<U>, c: 
     requires named { c.0 < p.now.layout.conditions }
     requires outside { IsOutside me.old }
     requires no_wait { me.old.wait ≡ None }
+    requires stored { HasStored p.now.traced me.old }
     ensures event { Makes (event me.old.number (broadcast_action c.0 [])) me.old me.new }
     ensures rest { me.new ≡ record (recorded me.old me.new) { count = me.new.count; failed = without (cond_object c.0) me.old.failed } }
-    ensures stored { HasStored p.now.traced me.old → HasStored p.now.traced me.new }
+    ensures stored { HasStored p.now.traced me.new }
 {
     enter_below(rt, p, me, c);
     begin_event(rt, p, me);
@@ -110,10 +112,11 @@ pub fn advance<U: Uses, R: Wait>(rt: &R, p: &Package<U>, me: &mut Thread<U>, c: 
     requires named { c.0 < p.now.layout.conditions }
     requires outside { IsOutside me.old }
     requires no_wait { me.old.wait ≡ None }
+    requires stored { HasStored p.now.traced me.old }
     ensures all { all ≡ true → Makes (event me.old.number (broadcast_action c.0 [])) me.old me.new }
     ensures one { all ≡ false → (left : List ℕ) × Makes (event me.old.number (signal_action c.0 left)) me.old me.new }
     ensures rest { me.new ≡ record (recorded me.old me.new) { count = me.new.count; failed = without (cond_object c.0) me.old.failed } }
-    ensures stored { HasStored p.now.traced me.old → HasStored p.now.traced me.new }
+    ensures stored { HasStored p.now.traced me.new }
 {
     if all {
         advance_all(rt, p, me, c);

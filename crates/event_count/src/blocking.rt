@@ -28,9 +28,10 @@ pub fn read_count<U: Uses, R: Wait>(
     requires has { (x : U.Value) × Holds me.old m.0 x }
     requires outside { IsOutside me.old }
     requires no_wait { me.old.wait ≡ None }
+    requires stored { HasStored p.now.traced me.old }
     ensures event { Makes (enqueue_event false me.old.number m.0 c.0) me.old me.new }
     ensures begun { me.new ≡ record (recorded me.old me.new) { wait = Some (begun_wait false m.0 c.0 result) } }
-    ensures stored { HasStored p.now.traced me.old → HasStored p.now.traced me.new }
+    ensures stored { HasStored p.now.traced me.new }
 {
     let _ = alertable;
     let e = Event {

@@ -61,7 +61,7 @@ returns-clause-rest g c =
           (ap (λ k. k.held) out ∙ (taken.1 ∙ (ap (λ h. slice_set h m (Some x)) held ∙ set-set old.held m None (Some x))))
           (ap (λ k. k.values) out ∙ ap (λ v. slice_set v m (Some None)) (taken.2 ∙ (ap (λ v. slice_set v m (Some (Some x))) values ∙ (ap (λ v. slice_set v m (Some (Some x))) (set-set old.values m (Some (Some y)) None) ∙ set-set old.values m None (Some (Some x))))))
           (λ z e. c.take_value.ensures.is_out);
-      stored = subst (λ k. HasStored c.args.p.now.traced k) (sym out) (c.take.ensures.stored (subst (λ k. HasStored c.args.p.now.traced k) (sym blocked) (subst (λ k. HasStored c.args.p.now.traced k) (sym freed) (c.read_count-count.ensures.stored (subst (λ k. HasStored c.args.p.now.traced k) (sym put) c.requires.rest.stored)))));
+      stored = subst (λ k. HasStored c.args.p.now.traced k) (sym out) c.take.ensures.stored;
     }
 
 pub returns-clause-held : goal.returns-clause-held

@@ -1,4 +1,4 @@
-use Rattle.std.proofs.Common.{◌≡◌, ◌++◌, ◌∷◌, [], true, List, ℕ, rules, ap, sym, subst, ◌∙◌}
+use Rattle.std.proofs.Common.{◌≡◌, ◌++◌, ◌∷◌, [], Some, true, List, ℕ, rules, ap, sym, subst, ◌∙◌}
 use Rattle.larch_actions.specs.declared.event.Event.{Event}
 use Rattle.larch_actions.specs.declared.event.Action.TheVariants.{Signal}
 use Rattle.larch_actions.specs.Sets.{mem}
@@ -6,14 +6,15 @@ use Rattle.nub_rule.specs.Known.{Makes}
 use Rattle.nub_rule.specs.Places.{most_threads}
 use Rattle.nub_rule.specs.Plays.{behind}
 use Rattle.nub.specs.Rest.{HasStored}
-use Rattle.nub.proofs.Without.{mem_own, less_owed, first_small, stored_by}
+use Rattle.nub_rule.specs.Stored.{ComesNext}
+use Rattle.nub.proofs.Without.{comes_next, mem_own, less_owed, first_small, stored_by}
 use Rattle.event_count.proofs.advancing.advance_one.Given.{Over}
 use Rattle.event_count.proofs.advancing.advance_one.Goals.{After-end_event}
 use Rattle.event_count.proofs.advancing.advance_one.Goals as goal
 
 -- the event was stored, where the thread has stored its events before
-stored : (g : Over) (c : After-end_event g) → HasStored c.args.p.now.traced c.args.me.now → HasStored c.args.p.now.traced c.end_event.new.me
-stored g c has =
+stored : (g : Over) (c : After-end_event g) → HasStored c.args.p.now.traced c.end_event.new.me
+stored g c =
     let b = c.begin_event.new.me in
     let a = c.advance_signal-count.new.me in
     let left = c.advance_signal-count.result.1 in
@@ -22,7 +23,23 @@ stored g c has =
     let number : b.number ≡ c.number.result = sym (ap (λ k. k.number) advanced) ∙ sym c.number.ensures in
     let makes = subst (λ (x : Event). Makes x b a) (λ j. record { thread = record { 0 = number j }; action = Signal record { 0 = c.args.c.0 } (sym c.advance_signal-count.ensures.left j) }) c.advance_signal-count.ensures.event in
     stored_by c.args.p.now.traced c.enter_below.new.me b a c.end_event.new.me e c.begin_event.ensures.pen c.begin_event.ensures.traced c.begin_event.ensures.number makes (ap (λ k. k.next) advanced) (ap (λ k. k.entries) advanced) (ap (λ k. k.lost) advanced) c.end_event.ensures.rest c.end_event.ensures.stored
-    (subst (λ k. HasStored c.args.p.now.traced k) (sym c.enter_below.ensures.inside) has)
+    (subst (λ k. HasStored c.args.p.now.traced k) (sym c.enter_below.ensures.inside) c.requires.stored)
+
+some_event : (e d : Event) → Some e ≡ Some d → e ≡ d
+some_event e d is = cc
+
+pub end_event-requires-clause-last : goal.end_event-requires-clause-last
+end_event-requires-clause-last g c κs within = λ traced d made.
+    let b = c.begin_event.new.me in
+    let a = c.advance_signal-count.new.me in
+    let left = c.advance_signal-count.result.1 in
+    let e : Event = record { thread = record { 0 = c.number.result }; action = Signal record { 0 = c.args.c.0 } left } in
+    let advanced = c.advance_signal-count.ensures.advanced in
+    let number : b.number ≡ c.number.result = sym (ap (λ k. k.number) advanced) ∙ sym c.number.ensures in
+    let makes = subst (λ (x : Event). Makes x b a) (λ j. record { thread = record { 0 = number j }; action = Signal record { 0 = c.args.c.0 } (sym c.advance_signal-count.ensures.left j) }) c.advance_signal-count.ensures.event in
+    subst (λ (x : Event). ComesNext x a) (some_event e d made)
+    (comes_next c.args.p.now.traced c.enter_below.new.me b a e c.begin_event.ensures.pen c.begin_event.ensures.number makes (ap (λ k. k.next) advanced) (ap (λ k. k.entries) advanced) (ap (λ k. k.lost) advanced)
+    (subst (λ k. HasStored c.args.p.now.traced k) (sym c.enter_below.ensures.inside) c.requires.stored) traced)
 
 pub wake-requires-clause-owed : goal.wake-requires-clause-owed
 wake-requires-clause-owed g c κs within =
@@ -58,8 +75,8 @@ returns-in-Some-clause-rest g c =
 
 pub returns-in-Some-clause-stored : goal.returns-in-Some-clause-stored
 returns-in-Some-clause-stored g c = let s = stored g (goal.at.returns-in-Some-clause-stored g c).After-end_event in
-    λ has. subst (λ k. HasStored c.args.p.now.traced k) (sym c.leave.ensures) (subst (λ k. HasStored c.args.p.now.traced k) (sym c.wake.ensures) (subst (λ k. HasStored c.args.p.now.traced k) (sym (c.pop.ensures.cond tt)) (s has)))
+    subst (λ k. HasStored c.args.p.now.traced k) (sym c.leave.ensures) (subst (λ k. HasStored c.args.p.now.traced k) (sym c.wake.ensures) (subst (λ k. HasStored c.args.p.now.traced k) (sym (c.pop.ensures.cond tt)) s))
 
 pub returns-in-None-clause-stored : goal.returns-in-None-clause-stored
 returns-in-None-clause-stored g c = let s = stored g (goal.at.returns-in-None-clause-stored g c).After-end_event in
-    λ has. subst (λ k. HasStored c.args.p.now.traced k) (sym c.leave-in-None.ensures) (subst (λ k. HasStored c.args.p.now.traced k) (sym (c.pop.ensures.cond tt)) (s has))
+    subst (λ k. HasStored c.args.p.now.traced k) (sym c.leave-in-None.ensures) (subst (λ k. HasStored c.args.p.now.traced k) (sym (c.pop.ensures.cond tt)) s)
