@@ -21,5 +21,4 @@ pub use pen::{begin_event, end_event};
 pub use queue::{pop, push, remove, wake};
 pub use sleeping::sleep;
 pub use spin::{enter, leave};
-pub use trace_order::in_order;
 pub use whole::{close_package, open_package};

@@ -22,6 +22,7 @@ use Rattle.nub_rule.proofs.Each.{at_within, each-set}
 use Rattle.nub_rule.proofs.Members.{member_steps}
 use Rattle.nub_rule.proofs.Frames.{other, spins-frame, lines-frame, shows-frame, bits-stay, ready-stay, spins-stay, shown-stay}
 use Rattle.nub_rule.proofs.Owing.{owes-frame}
+use Rattle.nub_rule.proofs.Spinning.{taken-by}
 use Rattle.nub_rule.proofs.Beside.{Alike, beside, idle}
 
 same_pen : {A : Type 0} (a b c : A) → a ≡ b → a ≡ c → b ≡ c
@@ -161,10 +162,10 @@ module _ {T H W : Type 0} (l : Layout) (traced : Bool) (w : W) (begin : W → �
 
   pub take_pen_keeps : (slots id : ℕ) (me : Me (Slot T) (View T H W)) → traced ≡ true → me.0.kind ≡ Member → me.0.part.pen ≡ No → Allows (IsKept l traced w begin holds) slots id me pen_at (λ x. either (eqb x 0) 1 x) (take_pen_tells (step slots pen_at 0 1 none) me)
   take_pen_keeps slots id me traces kind out = let v = me.0 in let n = v.number in let p = v.part in let q : Part T H = record p { pen = Taken } in member_steps l traced w begin holds slots id pen_at (λ x. either (eqb x 0) 1 x) v me.1
-      (λ r s ds. ((r ≡ 0) × (s ≡ q) × (ds ≡ me.1)) ⊎ ((r ≢ 0) × (s ≡ p) × (ds ≡ me.1))) (take_pen_tells (step slots pen_at 0 1 none) me) kind
+      (λ r s ds. ((r ≡ 0) × (s ≡ q) × (ds ≡ me.1)) ⊎ ((r ≡ 1) × (s ≡ p) × (ds ≡ me.1))) (take_pen_tells (step slots pen_at 0 1 none) me) kind
       (λ r s ds world t. ⊎_elim
       (λ (u : (r ≡ 0) × (s ≡ q) × (ds ≡ me.1)). ((λ _. λ i. (with_part v (u.1 i), u.2 i)), λ lacks. absurd (lacks u.0)))
-      (λ (u : (r ≢ 0) × (s ≡ p) × (ds ≡ me.1)). ((λ hit. absurd (u.0 hit)), λ _. λ i. (with_part v (u.1 i), u.2 i))) t)
+      (λ (u : (r ≡ 1) × (s ≡ p) × (ds ≡ me.1)). ((λ hit. let one = u.0 in absurd (omega arith)), λ _. (u.0, λ i. (with_part v (u.1 i), u.2 i)))) t)
       (λ words homes all c at small. let r : ℕ = get_or words pen_at 0 in let len = c.sizes.words_wide in dite (ℕ_discrete r 0)
       (λ hit. let free : c.writer ≡ none = ⊎_elim (λ (t : (r ≡ 0) × (c.writer ≡ none)). t.1) (λ (t : (r ≡ 1) × ((k : ℕ) × (c.writer ≡ some k))). let u = t.0 in absurd (omega arith)) c.pens.flag in (
         q,
@@ -175,7 +176,7 @@ module _ {T H W : Type 0} (l : Layout) (traced : Bool) (w : W) (begin : W → �
             (pens-take traced (length c.log) words c.writer all n p q at (set words pen_at 1) traces (get_or-set_same words pen_at 1 0 (omega arith)) (other words pen_at number_at 1 (λ z. omega arith)) free refl c.pens)),
         inl (hit, refl, refl),
       ))
-      (λ miss. (p, keeps, tt, subst (λ b. Core l traced w holds (set words pen_at (either b 1 r)) homes (set all n p)) (sym (ne_eqb r 0 miss)) (idle l traced w holds words homes all pen_at n p at c), inr (miss, refl, refl))))
+      (λ miss. (p, keeps, tt, subst (λ b. Core l traced w holds (set words pen_at (either b 1 r)) homes (set all n p)) (sym (ne_eqb r 0 miss)) (idle l traced w holds words homes all pen_at n p at c), inr (taken-by r c.writer c.pens.flag miss, refl, refl))))
 
   pub read_number_keeps : (slots id : ℕ) (me : Me (Slot T) (View T H W)) → me.0.kind ≡ Member → me.0.part.pen ≡ Taken → Allows (IsKept l traced w begin holds) slots id me number_at (λ x. x) (read_number_tells (step slots number_at 0 0 none) me)
   read_number_keeps slots id me kind has = let v = me.0 in let n = v.number in let p = v.part in member_steps l traced w begin holds slots id number_at (λ x. x) v me.1

@@ -39,6 +39,9 @@ available false e = absurd (let z : true ≡ false = e in cc)
 zero-shows : (x : ℕ) (b : Bool) → Says x (cond b false true) → x ≡ 0 → b ≡ true
 zero-shows x b says z = ⊎_elim (λ (t : (x ≡ 0) × (cond b false true ≡ false)). available b t.1) (λ (t : (x ≡ 1) × (cond b false true ≡ true)). let u = t.0 in absurd (omega arith)) says
 
+says-flag : (x : ℕ) (b : Bool) → Says x b → (x ≡ 0) ⊎ (x ≡ 1)
+says-flag x b h = ⊎_elim (λ (t : (x ≡ 0) × (b ≡ false)). inl t.0) (λ (t : (x ≡ 1) × (b ≡ true)). inr t.0) h
+
 module _ {T H W : Type 0} (l : Layout) (traced : Bool) (w : W) (begin : W → ℕ → H) (holds : W → List T → List H → Type 0) where
   -- an event by which the bit of the semaphore s becomes x
   sem-marks : (e : Event) (n s x : ℕ) (b : Bool) (p : Part T H) (failed turns cleared : List ℕ) (words : List ℕ) (homes : List (Option (Slot T))) (all : List (Part T H)) (c : Core l traced w holds words homes all) → get_elem? all n ≡ some p → s < 64 → e.thread.0 ≡ n → IsNamed l e.action → MayTell traced p.pen
@@ -91,14 +94,14 @@ module _ {T H W : Type 0} (l : Layout) (traced : Bool) (w : W) (begin : W → �
       → Allows (IsKept l traced w begin holds) slots id me (bit_at (sem_object s)) (λ _. 0) (clear_sem_tells (step slots (bit_at (sem_object s)) 0 0 none) me)
   clear_sem_at slots id s me low named kind out apart may = let v = me.0 in let n = v.number in let p = v.part in let o : ℕ = sem_object s in let e = v_event n s in
       member_steps l traced w begin holds slots id (bit_at o) (λ _. 0) v me.1
-      (λ r q ds. Learns e n p (λ z. record (told p z e) { failed = p.failed; turns = p.turns; cleared = o ∷ p.cleared }) q × (ds ≡ me.1)) (clear_sem_tells (step slots (bit_at o) 0 0 none) me) kind
-      (λ r q ds world t k is. let same : s ≡ k = omega arith in subst (λ (k : ℕ). (between : List Event) × Grows n p between (v_event n k) × Becomes me (record (told p (p.seen ++ between) (v_event n k)) { cleared = sem_object k ∷ p.cleared }) (with_part v q, ds)) same
-      (t.0.0, t.0.1, λ i. (with_part v (t.0.2 i), t.1 i)))
+      (λ r q ds. ((r ≡ 0) ⊎ (r ≡ 1)) × Learns e n p (λ z. record (told p z e) { failed = p.failed; turns = p.turns; cleared = o ∷ p.cleared }) q × (ds ≡ me.1)) (clear_sem_tells (step slots (bit_at o) 0 0 none) me) kind
+      (λ r q ds world t k is. let same : s ≡ k = omega arith in subst (λ (k : ℕ). ((r ≡ 0) ⊎ (r ≡ 1)) × (between : List Event) × Grows n p between (v_event n k) × Becomes me (record (told p (p.seen ++ between) (v_event n k)) { cleared = sem_object k ∷ p.cleared }) (with_part v q, ds)) same
+      (t.0, t.1.0, t.1.1, λ i. (with_part v (t.1.2 i), t.2 i)))
       (λ words homes all c at small.
       let idle : c.spec.pending n ≡ Nothing = c.shows.pendings.pends n p at ∙ ap pending_of out in
       let m = sem-marks e n s 0 true p p.failed p.turns (o ∷ p.cleared) words homes all c at low refl named may (record { order = idle; requires_met = tt; when_met = tt; choice_met = tt }, refl) (inl (refl, refl))
       (λ q es et ec. owes-clear c.queue words (set words (bit_at o) 0) all n p q at o (λ k lo ne. other words (bit_at o) (bit_at k) 0 (λ z. ne (omega arith))) apart es ec et c.owes) in
-      (m.0, keeps, tt, m.1, (m.2, refl)))
+      (m.0, keeps, tt, m.1, (says-flag (get_or words (bit_at o) 0) (cond (c.spec.avail s) false true) (c.shows.semaphores s low), m.2, refl)))
 
   -- the same at a word that is this place
   pub clear_sem_keeps : (slots id s : ℕ) (me : Me (Slot T) (View T H W)) (i : ℕ) → i ≡ bit_at (sem_object s) → s < 64 → s < l.semaphores → me.0.kind ≡ Member → me.0.part.wait ≡ None → me.0.part.stand ≡ None → MayTell traced me.0.part.pen

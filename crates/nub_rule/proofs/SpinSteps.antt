@@ -25,7 +25,7 @@ use Rattle.nub_rule.proofs.Frames.{pens-frame, other, bits-stay, ready-stay, sho
 use Rattle.nub_rule.proofs.Standing.{no_object, not_true, stand_none, distinct-behind, mem-behind, lines-same}
 use Rattle.nub_rule.proofs.Counting.{room_to_push, small_of}
 use Rattle.nub_rule.proofs.Showing.{shows-spin, shows-unspin}
-use Rattle.nub_rule.proofs.Spinning.{only_here, spins-take, spins-give}
+use Rattle.nub_rule.proofs.Spinning.{only_here, taken-by, spins-take, spins-give}
 use Rattle.nub_rule.proofs.Beside.{beside, idle}
 use Rattle.nub_rule.proofs.Owing.{owes-frame}
 
@@ -41,7 +41,7 @@ module _ {T H W : Type 0} (l : Layout) (traced : Bool) (w : W) (begin : W → �
   Spun n o p cs q ds = (xs : List ℕ) × (k : ℕ) × (p.stand ≡ None → length xs < 64) × Small 64 xs × (mem n xs ≡ true → stands_at p.stand o ≡ true) × (q ≡ record p { spin = Some o; queue = xs; owed = []; left = xs; count = k; failed = without o p.failed }) × (ds ≡ (queue_at o, Queue (line_of xs)) ∷ cs)
 
   spins_at : (n o : ℕ) (p : Part T H) (cs : List (ℕ × Slot T)) → o < 192 → p.spin ≡ None
-      → Steps l traced w begin holds n (spin_at o) (λ x. either (eqb x 0) 1 x) p cs (λ r q ds. ((r ≡ 0) × Spun n o p cs q ds) ⊎ ((r ≢ 0) × (q ≡ p) × (ds ≡ cs)))
+      → Steps l traced w begin holds n (spin_at o) (λ x. either (eqb x 0) 1 x) p cs (λ r q ds. ((r ≡ 0) × Spun n o p cs q ds) ⊎ ((r ≡ 1) × (q ≡ p) × (ds ≡ cs)))
   spins_at n o p cs low idle_there words homes all c at small = let r : ℕ = get_or words (spin_at o) 0 in let s = c.spins in dite (ℕ_discrete r 0)
       (λ hit.
       let free : c.spinner o ≡ none = nobody-by r (c.spinner o) (s.spin o low) hit in
@@ -77,18 +77,18 @@ module _ {T H W : Type 0} (l : Layout) (traced : Bool) (w : W) (begin : W → �
           ),
         ),
       ))
-      (λ miss. (p, keeps, tt, subst (λ b. Core l traced w holds (set words (spin_at o) (either b 1 r)) homes (set all n p)) (sym (ne_eqb r 0 miss)) (idle l traced w holds words homes all (spin_at o) n p at c), inr (miss, refl, refl)))
+      (λ miss. (p, keeps, tt, subst (λ b. Core l traced w holds (set words (spin_at o) (either b 1 r)) homes (set all n p)) (sym (ne_eqb r 0 miss)) (idle l traced w holds words homes all (spin_at o) n p at c), inr (taken-by r (c.spinner o) (s.spin o low) miss, refl, refl)))
 
   take_spin_at : (slots id o : ℕ) (me : Me (Slot T) (View T H W)) → o < 192 → me.0.kind ≡ Member → me.0.part.spin ≡ None → Allows (IsKept l traced w begin holds) slots id me (spin_at o) (λ x. either (eqb x 0) 1 x) (take_spin_tells (step slots (spin_at o) 0 1 none) me)
   take_spin_at slots id o me low kind idle_there = let v = me.0 in let n = v.number in let p = v.part in member_steps l traced w begin holds slots id (spin_at o) (λ x. either (eqb x 0) 1 x) v me.1
-      (λ r q ds. ((r ≡ 0) × Spun n o p me.1 q ds) ⊎ ((r ≢ 0) × (q ≡ p) × (ds ≡ me.1))) (take_spin_tells (step slots (spin_at o) 0 1 none) me) kind
+      (λ r q ds. ((r ≡ 0) × Spun n o p me.1 q ds) ⊎ ((r ≡ 1) × (q ≡ p) × (ds ≡ me.1))) (take_spin_tells (step slots (spin_at o) 0 1 none) me) kind
       (λ r q ds world t. ⊎_elim
       (λ (u : (r ≡ 0) × Spun n o p me.1 q ds). (
         (λ k is hit. let e : o ≡ k = omega arith in
             let x = u.1 in (x.0, x.1, x.2, x.3, (λ there. (λ i. stands_at p.stand (sym e i)) ∙ x.4 there), (λ i. (with_part v (x.5 i), x.6 i)) ∙ (λ i. (with_part v (record p { spin = Some (e i); queue = x.0; owed = []; left = x.0; count = x.1; failed = without (e i) p.failed }), (queue_at (e i), Queue (line_of x.0)) ∷ me.1)))),
         λ miss. absurd (miss u.0),
       ))
-      (λ (u : (r ≢ 0) × (q ≡ p) × (ds ≡ me.1)). ((λ k is hit. absurd (u.0 hit)), λ _. λ i. (with_part v (u.1 i), u.2 i))) t)
+      (λ (u : (r ≡ 1) × (q ≡ p) × (ds ≡ me.1)). ((λ k is hit. let one = u.0 in absurd (omega arith)), λ _. (u.0, λ i. (with_part v (u.1 i), u.2 i)))) t)
       (spins_at n o p me.1 low idle_there)
 
   -- the same at a word that is this place

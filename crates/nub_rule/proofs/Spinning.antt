@@ -1,5 +1,5 @@
 -- Spin words and queues: how steps change them.
-use Rattle.std.proofs.Common.{◌≡◌, ◌≢◌, ℕ, ◌<◌, List, [], length, get_or, set, length-set, sym, ap, ◌∙◌, subst, inl, inr, arith, get_or-set_same, Some, None}
+use Rattle.std.proofs.Common.{◌≡◌, ◌≢◌, ℕ, ◌<◌, List, [], length, get_or, set, length-set, sym, ap, ◌∙◌, subst, inl, inr, ⊎_elim, ◌⊎◌, arith, get_or-set_same, Some, None}
 use mathlib.Core.Logic.{dite}
 use mathlib.Core.Option.{Option, some, none, some-injective, some-ne-none}
 use native.Mathlib.Decide.{ℕ_discrete}
@@ -17,6 +17,10 @@ use Rattle.nub_rule.proofs.Standing.{same_object, no_object}
 
 other_object : (o k : ℕ) → o ≢ k → Some o ≡ Some k → ⊥
 other_object o k ne e = ne (same_object o k e)
+
+-- a word that has an owner or is 0, and isn't 0, is 1
+pub taken-by : (x : ℕ) (owner : Option ℕ) → Marks x owner → x ≢ 0 → x ≡ 1
+taken-by x owner m up = ⊎_elim (λ (t : (x ≡ 0) × (owner ≡ none)). absurd (up t.0)) (λ (t : (x ≡ 1) × ((k : ℕ) × (owner ≡ some k))). t.0) m
 
 module _ {T H : Type 0} (spinner : ℕ → Option ℕ) (queue owed : ℕ → List ℕ) (words : List ℕ) (homes : List (Option (Slot T))) (all : List (Part T H)) (n : ℕ) (p q : Part T H) (at : get_elem? all n ≡ some p) (s : Spins spinner queue owed words homes all) where
   pub only_here : (o : ℕ) → p.spin ≡ Some o → (k : ℕ) → spinner k ≡ some n → k ≡ o

@@ -114,7 +114,7 @@ module _ {T H W : Type 0} where
   -- the spin word of an object was tried: who wins gets the queue, and is in it only if it stands there
   abbrev pub take_spin_tells : Step (Slot T) → Sat T H W → ℕ → Sat T H W → Type 0
   take_spin_tells st me r me' = let p = me.0.part in ((o : ℕ) → st.word ≡ spin_at o → r ≡ 0 → (xs : List ℕ) × (k : ℕ) × (p.stand ≡ None → length xs < most_threads) × Small most_threads xs × (mem me.0.number xs ≡ true → stands_at p.stand o ≡ true)
-      × (me' ≡ (with_part me.0 (record p { spin = Some o; queue = xs; owed = []; left = xs; count = k; failed = without o p.failed }), (queue_at o, Queue (line_of xs)) ∷ me.1))) × (r ≢ 0 → me' ≡ me)
+      × (me' ≡ (with_part me.0 (record p { spin = Some o; queue = xs; owed = []; left = xs; count = k; failed = without o p.failed }), (queue_at o, Queue (line_of xs)) ∷ me.1))) × (r ≢ 0 → (r ≡ 1) × (me' ≡ me))
 
   -- the spin word was given back
   abbrev pub give_spin_tells : Step (Slot T) → Sat T H W → ℕ → Sat T H W → Type 0
@@ -188,7 +188,7 @@ module _ {T H W : Type 0} where
   -- the bit of a semaphore was cleared
   abbrev pub clear_sem_tells : Step (Slot T) → Sat T H W → ℕ → Sat T H W → Type 0
   clear_sem_tells st me r me' = let v = me.0 in let p = v.part in (s : ℕ) → st.word ≡ bit_at (sem_object s) → let e = v_event v.number s in
-      (between : List Event) × Grows v.number p between e × Becomes me (record (told p (p.seen ++ between) e) { cleared = sem_object s ∷ p.cleared }) me'
+      ((r ≡ 0) ⊎ (r ≡ 1)) × (between : List Event) × Grows v.number p between e × Becomes me (record (told p (p.seen ++ between) e) { cleared = sem_object s ∷ p.cleared }) me'
 
   -- the bit of the mutex m was cleared in a wait, and the value given back: nobody holds m since the wait began
   abbrev pub clear_bit_in_wait_tells : (W → ℕ → ℕ → T → T → H → H) → Step (Slot T) → Sat T H W → ℕ → Sat T H W → Type 0
@@ -225,7 +225,7 @@ module _ {T H W : Type 0} where
 
   -- the pen was tried, the number read and written, and the pen given back
   abbrev pub take_pen_tells : Step (Slot T) → Sat T H W → ℕ → Sat T H W → Type 0
-  take_pen_tells st me r me' = (r ≡ 0 → Becomes me (record me.0.part { pen = Taken }) me') × (r ≢ 0 → me' ≡ me)
+  take_pen_tells st me r me' = (r ≡ 0 → Becomes me (record me.0.part { pen = Taken }) me') × (r ≢ 0 → (r ≡ 1) × (me' ≡ me))
 
   abbrev pub read_number_tells : Step (Slot T) → Sat T H W → ℕ → Sat T H W → Type 0
   read_number_tells st me r me' = Becomes me (record me.0.part { pen = Read r }) me'

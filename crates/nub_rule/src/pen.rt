@@ -15,7 +15,7 @@ pub fn take_pen<U: Uses>(p: &Package<U>, me: &mut Thread<U>) -> u64
     requires of { me.old.table_id ≡ p.now.table_id }
     requires traced { p.now.traced ≡ true }
     requires out { me.old.pen ≡ No }
-    ensures lost { result ≢ 0 → me.new ≡ me.old }
+    ensures lost { result ≢ 0 → (result ≡ 1) × (me.new ≡ me.old) }
     ensures won { result ≡ 0 → me.new ≡ record me.old { pen = Taken } }
 {
     p.table

@@ -1,5 +1,5 @@
 //! The steps on the bit of a semaphore.
-ghost use Rattle.std.specs.Prelude.{◌≡◌, ◌≢◌, ◌<◌, ◌∷◌, None};
+ghost use Rattle.std.specs.Prelude.{◌≡◌, ◌≢◌, ◌⊎◌, ◌<◌, ◌∷◌, None};
 ghost use Rattle.larch_actions.specs.Sets.{without};
 ghost use Rattle.nub_rule.specs.Known.{Makes, learnt};
 ghost use Rattle.nub_rule.specs.Parts.{MayTell, made};
@@ -44,6 +44,7 @@ pub fn clear_sem<U: Uses>(p: &Package<U>, me: &mut Thread<U>, s: SemId) -> u64
     requires named { s.0 < p.now.layout.semaphores }
     requires outside { (me.old.wait ≡ None) × (me.old.stand ≡ None) }
     requires pen { MayTell p.now.traced me.old.pen }
+    ensures found { (result ≡ 0) ⊎ (result ≡ 1) }
     ensures event { Makes (v_event me.old.number s.0) me.old me.new }
     ensures cleared { me.new ≡ record (learnt me.old me.new) { cleared = sem_object s.0 ∷ me.old.cleared; pen = made me.old.pen } }
 {

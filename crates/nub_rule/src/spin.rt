@@ -19,7 +19,7 @@ pub fn take_spin<U: Uses>(p: &Package<U>, me: &mut Thread<U>, at: Object, why: W
     requires named { HasObject p.now.layout at }
     requires outside { me.old.spin ≡ None }
     requires reason { HasReason at me.old why }
-    ensures lost { result ≢ 0 → me.new ≡ me.old }
+    ensures lost { result ≢ 0 → (result ≡ 1) × (me.new ≡ me.old) }
     ensures won { result ≡ 0 → me.new ≡ record me.old {
       spin = Some (object_of at);
       queue = me.new.queue;

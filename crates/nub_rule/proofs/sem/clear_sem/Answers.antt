@@ -17,12 +17,15 @@ swap-requires g c = let near = sem_low _ _ _ _ c.p.view_is c.p.invariant.laid_ou
     let word = c.semaphore_bit.ensures in (search rules, omega arith, clear_sem_keeps _ _ _ _ _ _ _ s c.me.inside.seat.me _ word near (search rules) c.me.invariant.member (ap (λ k. k.wait) c.me.view_is ∙ c.requires.outside.0) (ap (λ k. k.stand) c.me.view_is ∙ c.requires.outside.1) (subst (λ (z : Bool × Pen). MayTell z.0 z.1) (λ j. (sym traces j, ap (λ k. k.pen) (sym c.me.view_is) j)) c.requires.pen))
 
 pub invariant_of-me : goal.invariant_of-me
-invariant_of-me g c = let s : ℕ = c.args.s.0 in let i = c.me.invariant in let h = i.hands in fit_still _ _ c.me.inside.number c.me.inside.hand c.me.inside.seat.me _ _ c.swap.ensures.0 ((c.swap.ensures.2 s c.semaphore_bit.ensures).2) i refl (hands-same c.me.inside.seat.me.0.part _ c.me.inside.seat.me.1 _ (λ k. refl) refl refl refl h.room h.settled h)
+invariant_of-me g c = let s : ℕ = c.args.s.0 in let i = c.me.invariant in let h = i.hands in fit_still _ _ c.me.inside.number c.me.inside.hand c.me.inside.seat.me _ _ c.swap.ensures.0 ((c.swap.ensures.2 s c.semaphore_bit.ensures).3) i refl (hands-same c.me.inside.seat.me.0.part _ c.me.inside.seat.me.1 _ (λ k. refl) refl refl refl h.room h.settled h)
 
 pub returns-clause-event : goal.returns-clause-event
 returns-clause-event g c = let s : ℕ = c.args.s.0 in let i = c.me.invariant in let u = (c.swap.ensures.2 s c.semaphore_bit.ensures) in
-    as_known (λ z m a. Makes (v_event a.number s) a (known_as z c.me.inside.number m c.me.inside.entries.items c.me.inside.lost c.me.inside.next)) _ _ _ _ _ c.me.inside.seat.me _ _ _ c.me.view_is c.swap.ensures.0 u.2
-    (u.0, subst (λ (n : ℕ). Grows n c.me.inside.seat.me.0.part u.0 (v_event n s)) i.numbered u.1, (λ j. (c.me.inside.seat.me.0.part.seen ++ u.0) ++ v_event (i.numbered j) s ∷ []), (λ j. c.me.inside.seat.me.0.part.mine ++ v_event (i.numbered j) s ∷ []), refl)
+    as_known (λ z m a. Makes (v_event a.number s) a (known_as z c.me.inside.number m c.me.inside.entries.items c.me.inside.lost c.me.inside.next)) _ _ _ _ _ c.me.inside.seat.me _ _ _ c.me.view_is c.swap.ensures.0 u.3
+    (u.1, subst (λ (n : ℕ). Grows n c.me.inside.seat.me.0.part u.1 (v_event n s)) i.numbered u.2, (λ j. (c.me.inside.seat.me.0.part.seen ++ u.1) ++ v_event (i.numbered j) s ∷ []), (λ j. c.me.inside.seat.me.0.part.mine ++ v_event (i.numbered j) s ∷ []), refl)
 
 pub returns-clause-cleared : goal.returns-clause-cleared
-returns-clause-cleared g c = let s : ℕ = c.args.s.0 in as_known (λ z m a. let k = known_as z c.me.inside.number m c.me.inside.entries.items c.me.inside.lost c.me.inside.next in k ≡ record a { seen = k.seen; mine = k.mine; places = k.places; cleared = sem_object s ∷ a.cleared; pen = made a.pen }) _ _ _ _ _ c.me.inside.seat.me _ _ _ c.me.view_is c.swap.ensures.0 (c.swap.ensures.2 s c.semaphore_bit.ensures).2 refl
+returns-clause-cleared g c = let s : ℕ = c.args.s.0 in as_known (λ z m a. let k = known_as z c.me.inside.number m c.me.inside.entries.items c.me.inside.lost c.me.inside.next in k ≡ record a { seen = k.seen; mine = k.mine; places = k.places; cleared = sem_object s ∷ a.cleared; pen = made a.pen }) _ _ _ _ _ c.me.inside.seat.me _ _ _ c.me.view_is c.swap.ensures.0 (c.swap.ensures.2 s c.semaphore_bit.ensures).3 refl
+
+pub returns-clause-found : goal.returns-clause-found
+returns-clause-found g c = (c.swap.ensures.2 c.args.s.0 c.semaphore_bit.ensures).0
