@@ -23,7 +23,7 @@ use Rattle.nub_rule.specs.Plays.{with_part, behind, front, unread, compare_count
 use Rattle.nub_rule.specs.Rule.{IsKept}
 use Rattle.nub_rule.proofs.Each.{each-set, put-here, put-else}
 use Rattle.nub_rule.proofs.Members.{member_steps}
-use Rattle.nub_rule.proofs.Frames.{SameShown, ready-stay, spins-frame, lines-frame, semaphores-frame, alerts-frame, pens-frame}
+use Rattle.nub_rule.proofs.Frames.{SameShown, ready-stay, spins-frame, lines-frame, semaphores-frame, alerts-frame, pens-frame, alert-seen-frame}
 use Rattle.nub_rule.proofs.Standing.{lines-push, lines-same}
 use Rattle.nub_rule.proofs.Spinning.{only_here}
 use Rattle.nub_rule.proofs.Showing.{pendings-put}
@@ -82,6 +82,7 @@ module _ {T H W : Type 0} (l : Layout) (traced : Bool) (w : W) (begin : W → �
             (shows-wait words words k.spinner k.queue k.owner k.spec all n p q at record { counts = λ m lo. refl; sems = λ m lo. refl; alerts = λ m lo. refl } k.queue (λ m. ap (λ z. waits_on (unread z) m) before ∙ sym (ap (λ z. waits_on z m) before)) (ap (λ z. pending_of (unread z)) before ∙ sym (ap pending_of before)) k.shows
             (conditions-compare words words k.spinner k.queue k.spec.members all n p q at s c j x (record x { member = None }) (λ m lo. refl) low before on stood (λ e. miss (read ∙ sym e)) (ap unread before) refl refl refl refl))
             (pens-frame all n p q at traced (length k.log) k.writer words words (refl, refl) refl k.pens)
+            (alert-seen-frame all n p q at words words k.sizes.few (λ m lo. refl) refl k.alert_seen)
             (owes-frame k.queue words words all n p q at (λ m lo. refl) refl refl refl k.owes)),
         (known, (λ hit. absurd (miss hit)), (λ _. refl), refl),
       )))
@@ -110,7 +111,7 @@ module _ {T H W : Type 0} (l : Layout) (traced : Bool) (w : W) (begin : W → �
         q,
         keeps,
         tt,
-        requeues_by l traced w begin holds n o p q ys (k.owed o) words homes all at far here record { seen = refl; mine = refl; places = refl; held = refl; share = refl } refl refl mine.2 refl k
+        requeues_by l traced w begin holds n o p q ys (k.owed o) words homes all at far here record { seen = refl; mine = refl; places = refl; held = refl; share = refl } refl refl mine.2 refl refl k
             (lines-push line line' words words' all n p q at k.sizes.few o st (ready-stay words (length_at o) (length ys) (λ j up z. omega arith)) is (λ j ne i. put-else k.owed o j (k.owed o) ne i ++ put-else k.queue o j ys ne i) out refl refl (λ f. f) k.lines)
             (shows-wait words words' k.spinner k.queue k.owner k.spec all n p q at ws (put k.queue o ys) (λ m. ap (λ z. waits_on (unread z) m) before ∙ sym (ap (λ z. waits_on z m) before)) (ap (λ z. pending_of (unread z)) before ∙ sym (ap pending_of before)) k.shows
             (conditions-push words words' k.spinner k.queue k.spec.members all n p q at k.shows.conditions c me_wait x' ys ws.counts mine.0 (only_here k.spinner k.queue k.owed words homes all n p q at k.spins o here) before on stood (ap unread before) refl refl refl refl now))
@@ -143,7 +144,7 @@ module _ {T H W : Type 0} (l : Layout) (traced : Bool) (w : W) (begin : W → �
         q,
         keeps,
         tt,
-        requeues_by l traced w begin holds n o p q ys zs words homes all at far here record { seen = refl; mine = refl; places = refl; held = refl; share = refl } refl refl refl refl k
+        requeues_by l traced w begin holds n o p q ys zs words homes all at far here record { seen = refl; mine = refl; places = refl; held = refl; share = refl } refl refl refl refl refl k
             (lines-same line line' words words' all n p q at k.sizes.few (ready-stay words (length_at o) (length ys) (λ j up z. omega arith)) same refl k.lines)
             (shows-wait words words' k.spinner k.queue k.owner k.spec all n p q at ws (put k.queue o ys) (λ m. refl) refl k.shows (conditions-pop words words' k.spinner k.queue k.spec.members all n p q at k.shows.conditions c ys ws.counts mine.0 out refl refl refl taken))
             (owes-beside k.queue (put k.queue o ys) words words' all n p q at (length-gates o far words (length ys)) (λ j lo. put-else k.queue o j ys (λ z. omega arith)) refl refl refl k.owes),

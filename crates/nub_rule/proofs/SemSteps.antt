@@ -23,7 +23,7 @@ use Rattle.nub_rule.specs.Places.{bit_at, count_at, alert_at, sem_object, cond_o
 use Rattle.nub_rule.specs.Plays.{with_part, told, Grows, p_event, v_event, try_p_tells, clear_sem_tells, Becomes}
 use Rattle.nub_rule.specs.Rule.{IsKept}
 use Rattle.nub_rule.proofs.Members.{member_steps}
-use Rattle.nub_rule.proofs.Frames.{other}
+use Rattle.nub_rule.proofs.Frames.{other, alert-seen-stays, alert-seen-frame}
 use Rattle.nub_rule.proofs.Standing.{lines-same}
 use Rattle.nub_rule.proofs.Beside.{still}
 use Rattle.nub_rule.specs.Owed.{WakeOwed}
@@ -51,6 +51,7 @@ module _ {T H W : Type 0} (l : Layout) (traced : Bool) (w : W) (begin : W → �
       (λ z. record { seen = refl; mine = refl; places = refl; held = refl; share = refl; spin = refl; queue = refl; owed = refl; stand = refl; pen = refl }) acts
       (λ z. shows-sem words (set words i x) c.spinner c.queue c.owner c.spec all n p (record (told p z e) { failed = failed; turns = turns; cleared = cleared }) at s b (λ k up. other words i (count_at (cond_object k)) x (λ y. omega arith)) (λ k up ne. other words i (bit_at (sem_object k)) x (λ y. ne (omega arith))) (λ k up. other words i (alert_at k) x (λ y. omega arith))
       (subst (λ (z : ℕ). Says z (cond b false true)) (sym (get_or-set_same words i x 0 (omega arith))) says) refl refl refl refl c.shows)
+      (λ z. alert-seen-stays all n p (record (told p z e) { failed = failed; turns = turns; cleared = cleared }) at words i x c.sizes.few (λ k up y. omega arith) refl c.alert_seen)
       (λ z. owes (record (told p z e) { failed = failed; turns = turns; cleared = cleared }) refl refl refl)
 
   try_p_at : (slots id s : ℕ) (me : Me (Slot T) (View T H W)) → s < 64 → s < l.semaphores → me.0.kind ≡ Member → me.0.part.wait ≡ None → MayTell traced me.0.part.pen
@@ -78,6 +79,7 @@ module _ {T H W : Type 0} (l : Layout) (traced : Bool) (w : W) (begin : W → �
         subst (λ b. Core l traced w holds (set words (bit_at o) (either b 1 r)) homes (set all n q)) (sym (ne_eqb r 0 miss))
             (still l traced w holds words homes all (bit_at o) n p q at record { seen = refl; mine = refl; places = refl; held = refl; share = refl } refl refl refl refl refl refl refl c
             (lines-same (λ k. c.owed k ++ c.queue k) (λ k. c.owed k ++ c.queue k) words words all n p q at c.sizes.few (λ t lo. refl) (λ k. refl) refl c.lines)
+            (alert-seen-frame all n p q at words words c.sizes.few (λ k lo. refl) refl c.alert_seen)
             (owes-try c.queue words words all n p q at o (λ k lo ne. refl) miss refl refl refl c.owes)),
         inr (miss, refl, refl),
       )))

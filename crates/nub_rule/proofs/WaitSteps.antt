@@ -23,7 +23,7 @@ use Rattle.nub_rule.specs.Plays.{MayFree, with_part, opened, clear_bit_in_wait_t
 use Rattle.nub_rule.specs.Rule.{FitsAs, IsKept}
 use Rattle.nub_rule.proofs.Each.{at_within, each-set, put-here, put-else}
 use Rattle.nub_rule.proofs.Members.{Steps, member_steps}
-use Rattle.nub_rule.proofs.Frames.{SameShown, other, sizes-frame, told-frame, spins-frame, lines-frame, semaphores-frame, alerts-frame, pens-frame, ready-stay, spins-stay, shown-stay, pen-stay}
+use Rattle.nub_rule.proofs.Frames.{SameShown, other, sizes-frame, told-frame, spins-frame, lines-frame, semaphores-frame, alerts-frame, pens-frame, ready-stay, spins-stay, shown-stay, pen-stay, alert-seen-stays}
 use Rattle.nub_rule.proofs.SpinSteps.{one-by}
 use Rattle.nub_rule.proofs.Owing.{owes-clear}
 use Rattle.nub_rule.proofs.Owning.{owned-give}
@@ -95,6 +95,7 @@ module _ {T H W : Type 0} (l : Layout) (traced : Bool) (w : W) (begin : W → �
             lines = lines-frame all n p q at (λ k. c.owed k ++ c.queue k) words words' c.sizes.few (ready-stay words (bit_at m) 0 (λ k up z. omega arith)) refl c.lines;
             shows = shows-close words words' c.spinner c.queue c.owner c.spec all n p q at m b (shown-stay words (bit_at m) 0 (λ k up z. omega arith) (λ k up z. omega arith) (λ k up z. omega arith)) own before refl on refl refl refl c.shows;
             pens = pens-frame all n p q at traced (length c.log) c.writer words words' (pen-stay words (bit_at m) 0 (λ z. omega arith) (λ z. omega arith)) refl c.pens;
+            alert_seen = alert-seen-stays all n p q at words (bit_at m) 0 c.sizes.few (λ k up z. omega arith) refl c.alert_seen;
             owes = owes-clear c.queue words words' all n p q at m (λ k lo ne. other words (bit_at m) (bit_at k) 0 (λ z. ne (omega arith))) apart refl refl refl c.owes;
           },
           (one-by (get_or words (bit_at m) 0) n (c.owner m) (o.bits m inside) own, (s, mine.1, refl, refl)),
