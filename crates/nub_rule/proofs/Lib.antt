@@ -17,6 +17,7 @@ pub mod Owning
 pub mod Names
 pub mod BitSteps
 pub mod SemSteps
+pub mod AlertSteps
 pub mod CondSteps
 pub mod CondQueue
 pub mod WaitSteps

@@ -158,6 +158,23 @@ module _ {T H : Type 0} (queue queue' : ℕ → List ℕ) (words words' : List �
       (own-elsewhere k (λ here. ne (stand_same p.stand k o here there)) (λ c. ap (mem k) ec ∙ c) (λ t. ap (mem k) et ∙ (mem-else k o p.turns (λ z. ne (sym z)) ∙ t))))))
       (λ r e asleep. absurd (some_none q.stand r now e))
 
+  -- the thread n leaves the queue of o, in which it stood and had found the bit set
+  pub owes-leave-tested : (o : ℕ) (s : Stand) → SameGates words words' → ((k : ℕ) → k ≢ o → queue' k ≡ queue k) → ((j : ℕ) → j ≢ n → mem j (queue' o) ≡ mem j (queue o)) → mem n (queue o) ≡ true
+      → p.stand ≡ Some s → s.at ≡ o → HasTested s.stage → q.stand ≡ None → q.cleared ≡ p.cleared → q.turns ≡ p.turns → WakeOwed queue words all → WakeOwed queue' words' (set all n q)
+  owes-leave-tested o s ws elsewhere others here was there tested now ec et = owes-step
+      (λ k low free queued. dite (ℕ_discrete k o)
+      (λ e. inr (record {
+        free = sym (ws k low) ∙ free;
+        queued = λ z. nobody-in n (queue o) (ap queue (sym e) ∙ z) here;
+        own = must-cases k (queue k) n p (λ c. by-clearing k (queue' k) n q (ap (mem k) ec ∙ c)) (λ t. by-turn k (queue' k) n q (ap (mem k) et ∙ t))
+            (λ stands gone. absurd (false_true (sym gone ∙ ((λ i. mem n (queue (e i))) ∙ here))))
+            (λ r is at_k un in_queue. absurd (tested-not s.stage tested (subst (λ (z : Stand). IsUntested z.stage) (same_stand p.stand r s is was) un)));
+        others = λ j r ne m. others-queue k j r ((λ i. mem j (queue' (e i))) ∙ (others j ne ∙ (λ i. mem j (queue (sym e i))))) m;
+      }))
+      (λ ne. inr (kept-by k (elsewhere k ne) queued (ws k low) free
+      (own-elsewhere k (λ stands. ne (stand_same p.stand k o stands (stand_at p.stand s o was there))) (λ c. ap (mem k) ec ∙ c) (λ t. ap (mem k) et ∙ t)))))
+      (λ r e asleep. absurd (some_none q.stand r now e))
+
   -- the first is popped from the queue of o, and the thread n, who popped it, owes no look there
   pub owes-pop : (o : ℕ) → SameGates words words'
       → ((x : ℕ) (xs : List ℕ) → queue o ≡ x ∷ xs → (r : Part T H) × (get_elem? all x ≡ some r) × (stands_at r.stand o ≡ true) × (queue' o ≡ xs) × (mem x xs ≡ false))

@@ -31,7 +31,7 @@ use Rattle.nub_rule.proofs.Owing.{SameGates, owes-frame, owes-empty, owes-push, 
 use Rattle.nub_rule.proofs.Beside.{Alike, beside, still}
 
 -- in distinct halves nobody is in both
-absent-before : (t : ℕ) (xs ys : List ℕ) → Distinct (xs ++ ys) → mem t ys ≡ true → mem t xs ≡ false
+pub absent-before : (t : ℕ) (xs ys : List ℕ) → Distinct (xs ++ ys) → mem t ys ≡ true → mem t xs ≡ false
 absent-before t xs ys d there = not_true (mem t xs) (λ here. both_ways (mem t ys) there (distinct-apart t xs ys d here))
 
 -- the first moves from the queue to those that are owed, and the line stays
@@ -78,7 +78,7 @@ module _ {T H W : Type 0} (l : Layout) (traced : Bool) (w : W) (begin : W → �
   length-shown o far words x = shown-stay words (length_at o) x (λ k up z. omega arith) (λ k up z. omega arith) (λ k up z. omega arith)
 
   -- the same at a gate
-  requeues : (n o : ℕ) (p q : Part T H) (ys zs : List ℕ) (words : List ℕ) (homes : List (Option (Slot T))) (all : List (Part T H)) → get_elem? all n ≡ some p → o < 128 → p.spin ≡ Some o → Alike l traced w holds p q → q.spin ≡ p.spin → q.queue ≡ ys → q.owed ≡ zs → (p.left ≡ p.queue → q.left ≡ q.queue)
+  pub requeues : (n o : ℕ) (p q : Part T H) (ys zs : List ℕ) (words : List ℕ) (homes : List (Option (Slot T))) (all : List (Part T H)) → get_elem? all n ≡ some p → o < 128 → p.spin ≡ Some o → Alike l traced w holds p q → q.spin ≡ p.spin → q.queue ≡ ys → q.owed ≡ zs → (p.left ≡ p.queue → q.left ≡ q.queue)
       → q.wait ≡ p.wait → q.pen ≡ p.pen → q.alerted ≡ p.alerted → (c : Core l traced w holds words homes all) → Lines (λ i. put c.owed o zs i ++ put c.queue o ys i) (set words (length_at o) (length ys)) (set all n q) → WakeOwed (put c.queue o ys) (set words (length_at o) (length ys)) (set all n q)
       → Core l traced w holds (set words (length_at o) (length ys)) homes (set all n q)
   requeues n o p q ys zs words homes all at low here a es eq eo el ew ep ea c lines owes = let far : o < 192 = omega arith in

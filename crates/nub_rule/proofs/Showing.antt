@@ -9,11 +9,11 @@ use Rattle.larch_actions.specs.declared.event.Pending.TheVariants.{Nothing}
 use Rattle.larch_actions.specs.Actions.{Spec, put}
 use Rattle.larch_actions.specs.Sets.{mem}
 use Rattle.nub_rule.specs.declared.view.Part.{Part}
-use Rattle.nub_rule.specs.Items.{Says, Semaphores, Holders, Pendings, Knows, Conditions, Shows}
+use Rattle.nub_rule.specs.Items.{Says, Semaphores, Alerts, Holders, Pendings, Knows, Conditions, Shows}
 use Rattle.nub_rule.specs.Parts.{waits_on, counts_in, pending_of}
-use Rattle.nub_rule.specs.Places.{bit_at, sem_object, cond_object}
+use Rattle.nub_rule.specs.Places.{most_threads, alert_at, bit_at, sem_object, cond_object}
 use Rattle.nub_rule.proofs.Each.{at_within, each-set, put-here, put-else}
-use Rattle.nub_rule.proofs.Frames.{SameCounts, SameAlerts, SameShown, holders-frame, pendings-frame, semaphores-frame, alerts-frame, conditions-frame}
+use Rattle.nub_rule.proofs.Frames.{SameCounts, SameSems, SameAlerts, SameShown, holders-frame, pendings-frame, semaphores-frame, alerts-frame, conditions-frame}
 use Rattle.nub_rule.proofs.Standing.{some_none}
 
 module _ {T H : Type 0} (words words' : List ℕ) (spinner : ℕ → Option ℕ) (queue : ℕ → List ℕ) (owner : ℕ → Option ℕ) (all : List (Part T H)) (n : ℕ) (p q : Part T H) (at : get_elem? all n ≡ some p) where
@@ -153,6 +153,13 @@ semaphores-set words words' avail s b bs now h i lo = dite (ℕ_discrete i s)
     (λ e. subst (λ (z : ℕ). Says (get_or words' (bit_at (sem_object z)) 0) (cond (put avail s b z) false true)) (sym e) (subst (λ (z : Bool). Says (get_or words' (bit_at (sem_object s)) 0) (cond z false true)) (sym (put-here avail s b)) now))
     (λ ne. subst (λ (z : ℕ × Bool). Says z.0 (cond z.1 false true)) (λ j. (sym (bs i lo ne) j, sym (put-else avail s i b ne) j)) (h i lo))
 
+-- the alert word of the thread t is set or cleared, and with it the thread alerted or not
+alerts-set : (words words' : List ℕ) (alerted : ℕ → Bool) (t : ℕ) (b : Bool) → ((i : ℕ) → i < most_threads → i ≢ t → get_or words' (alert_at i) 0 ≡ get_or words (alert_at i) 0) → Says (get_or words' (alert_at t) 0) b
+    → Alerts words alerted → Alerts words' (put alerted t b)
+alerts-set words words' alerted t b as' now h i lo = dite (ℕ_discrete i t)
+    (λ e. subst (λ (z : ℕ). Says (get_or words' (alert_at z) 0) (put alerted t b z)) (sym e) (subst (λ (z : Bool). Says (get_or words' (alert_at t) 0) z) (sym (put-here alerted t b)) now))
+    (λ ne. subst (λ (z : ℕ × Bool). Says z.0 z.1) (λ j. (sym (as' i lo ne) j, sym (put-else alerted t i b ne) j)) (h i lo))
+
 module _ {T H : Type 0} (words words' : List ℕ) (ws : SameShown words words') (spinner : ℕ → Option ℕ) (queue : ℕ → List ℕ) (owner : ℕ → Option ℕ) (spec : Spec) (all : List (Part T H)) (n : ℕ) (p q : Part T H) (at : get_elem? all n ≡ some p) where
   -- a step that changes at most the conditions, and no wait
   shows-but-conditions : (spinner' : ℕ → Option ℕ) (queue' : ℕ → List ℕ) → q.wait ≡ p.wait → Shows words spinner queue owner spec all → Conditions words' spinner' queue' spec.members (set all n q) → Shows words' spinner' queue' owner spec (set all n q)
@@ -208,5 +215,16 @@ module _ {T H : Type 0} (words words' : List ℕ) (spinner : ℕ → Option ℕ)
     pendings = pendings-frame all n p q at spec.pending ew h.pendings;
     semaphores = semaphores-set words words' spec.avail s b ss now h.semaphores;
     alerts = alerts-frame spec.alerts words words' al h.alerts;
+    conditions = conditions-frame all n p q at spinner queue spec.members words words' cs ew el eq ec h.conditions;
+  }
+
+  -- the alert word of the thread t is set or cleared
+  pub shows-alert : (t : ℕ) (b : Bool) → SameCounts words words' → SameSems words words' → ((i : ℕ) → i < most_threads → i ≢ t → get_or words' (alert_at i) 0 ≡ get_or words (alert_at i) 0) → Says (get_or words' (alert_at t) 0) b → q.wait ≡ p.wait → q.left ≡ p.left → q.queue ≡ p.queue → q.count ≡ p.count
+      → Shows words spinner queue owner spec all → Shows words' spinner queue owner (record spec { alerts = put spec.alerts t b }) (set all n q)
+  shows-alert t b cs ss as' now ew el eq ec h = record {
+    holders = holders-frame all n p q at owner spec.holder ew h.holders;
+    pendings = pendings-frame all n p q at spec.pending ew h.pendings;
+    semaphores = semaphores-frame spec.avail words words' ss h.semaphores;
+    alerts = alerts-set words words' spec.alerts t b as' now h.alerts;
     conditions = conditions-frame all n p q at spinner queue spec.members words words' cs ew el eq ec h.conditions;
   }

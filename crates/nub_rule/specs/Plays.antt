@@ -1,10 +1,10 @@
 -- What each kind of step tells of the seat before and after.
-use Rattle.std.specs.Prelude.{Bool, cond, eqb, true, false, ◌≡◌, ◌≢◌, ◌⊎◌, ℕ, ◌+◌, ◌<◌, List, [], ◌∷◌, ◌++◌, length, slice_set, Some, None, Option as Opt}
+use Rattle.std.specs.Prelude.{Bool, cond, eqb, true, false, ◌≡◌, ◌≢◌, ◌⊎◌, ℕ, ◌+◌, ◌*◌, ◌<◌, List, [], ◌∷◌, ◌++◌, length, slice_set, Some, None, Option as Opt}
 use mathlib.Core.Option.{some}
 use lib.ListN.{get_elem?}
 use Rattle.larch_actions.specs.declared.event.Event.{Event}
 use Rattle.larch_actions.specs.declared.event.Action.{Action}
-use Rattle.larch_actions.specs.declared.event.Action.TheVariants.{Acquire, Release, Enqueue, AlertEnqueue, Resume, AlertReturn, Signal, Broadcast, P, V, Alert, TestAlert}
+use Rattle.larch_actions.specs.declared.event.Action.TheVariants.{Acquire, Release, Enqueue, AlertEnqueue, Resume, AlertReturn, Signal, Broadcast, P, V, Alert, TestAlert, AlertPReturn, AlertPRaise}
 use Rattle.larch_actions.specs.Actions.{IsLegal, by_thread}
 use Rattle.larch_actions.specs.Sets.{mem, set_of, without}
 use Rattle.atomic_table.specs.Table.{Me, Step, rest}
@@ -18,8 +18,8 @@ use Rattle.nub_rule.specs.declared.view.View.{View}
 use Rattle.nub_rule.specs.declared.view.Wait.{Wait}
 use Rattle.nub_rule.specs.declared.view.WaitBit.TheVariants.{Closing, Open}
 use Rattle.nub_rule.specs.Items.{Distinct, Small, line_of}
-use Rattle.nub_rule.specs.Parts.{Got, Lacks, made, stands_at, staged, turned}
-use Rattle.nub_rule.specs.Places.{most_threads, value_at, spin_at, length_at, queue_at, bit_at, count_at, ready_at, sem_object, cond_object}
+use Rattle.nub_rule.specs.Parts.{Got, Lacks, alerted_stand, left_turns, made, stands_at, staged, turned}
+use Rattle.nub_rule.specs.Places.{most_threads, value_at, spin_at, length_at, queue_at, alert_at, bit_at, count_at, ready_at, sem_object, cond_object}
 
 abbrev pub Sat : Type 0 → Type 0 → Type 0 → Type 0
 Sat T H W = Me (Slot T) (View T H W)
@@ -54,6 +54,23 @@ alert_event t who = event t (Alert record { 0 = who })
 
 abbrev pub test_alert_event : ℕ → Bool → Event
 test_alert_event t answer = event t (TestAlert answer)
+
+-- a P of the semaphore s that an alert may end, where none has
+abbrev pub alert_p_event : ℕ → ℕ → Event
+alert_p_event t s = event t (AlertPReturn record { 0 = s })
+
+-- the same where an alert has ended it
+abbrev pub alert_p_raise_event : ℕ → ℕ → Event
+alert_p_raise_event t s = event t (AlertPRaise record { 0 = s })
+
+-- the action by which a semaphore is taken, by a P that an alert may end or by any other
+abbrev pub p_action : Bool → ℕ → Action
+p_action true s = AlertPReturn record { 0 = s }
+p_action false s = P record { 0 = s }
+
+-- the thread n may take the semaphore s by the event e
+abbrev pub MayTakeSem : ℕ → ℕ → Event → Type 0
+MayTakeSem n s e = (e ≡ p_event n s) ⊎ (e ≡ alert_p_event n s)
 
 -- the wait that was begun with the count k
 abbrev pub begun_wait : Bool → ℕ → ℕ → ℕ → Wait
@@ -222,6 +239,29 @@ module _ {T H W : Type 0} where
   abbrev pub advance_tells : (List ℕ → List ℕ) → (ℕ → List ℕ → Action) → Step (Slot T) → Sat T H W → ℕ → Sat T H W → Type 0
   advance_tells leave action st me r me' = let v = me.0 in let p = v.part in (c : ℕ) → st.word ≡ count_at (cond_object c) → let ys = leave p.queue in let e = event v.number (action c ys) in
       (r ≡ p.count) × Distinct p.queue × (between : List Event) × Grows v.number p between e × Becomes me (record (told p (p.seen ++ between) e) { left = ys; count = p.count + 1 }) me'
+
+  -- the own alert word was read
+  abbrev pub read_alert_tells : Step (Slot T) → Sat T H W → ℕ → Sat T H W → Type 0
+  read_alert_tells st me r me' = let p = me.0.part in (p.alerted ≡ true → r ≡ 1) × (r ≡ 0 → me' ≡ me) × (r ≢ 0 → (r ≡ 1) × Becomes me (record p { alerted = true; stand = alerted_stand p.stand }) me')
+
+  -- the thread t was alerted
+  abbrev pub or_alert_tells : Step (Slot T) → Sat T H W → ℕ → Sat T H W → Type 0
+  or_alert_tells st me r me' = let v = me.0 in let p = v.part in (t : ℕ) → st.word ≡ alert_at t → let e = alert_event v.number t in
+      (between : List Event) × Grows v.number p between e × Becomes me (told p (p.seen ++ between) e) me'
+
+  -- the own alert word was cleared, by the event that tells what it was
+  abbrev pub swap_alert_tells : Step (Slot T) → Sat T H W → ℕ → Sat T H W → Type 0
+  swap_alert_tells st me r me' = let v = me.0 in let p = v.part in let e = test_alert_event v.number (eqb r 1) in
+      ((r ≡ 0) ⊎ (r ≡ 1)) × (p.alerted ≡ true → r ≡ 1) × (between : List Event) × Grows v.number p between e × Becomes me (record (told p (p.seen ++ between) e) { alerted = false }) me'
+
+  -- the own alert word was cleared to raise out of a P of the semaphore s, which the mask tells
+  abbrev pub swap_alert_in_p_tells : Step (Slot T) → Sat T H W → ℕ → Sat T H W → Type 0
+  swap_alert_in_p_tells st me r me' = let v = me.0 in let p = v.part in (s : ℕ) → st.first ≡ 2 * s → let e = alert_p_raise_event v.number s in
+      (r ≡ 1) × (between : List Event) × Grows v.number p between e × Becomes me (record (told p (p.seen ++ between) e) { alerted = false }) me'
+
+  -- the thread left the queue of a semaphore, in which it was
+  abbrev pub leave_sem_queue_tells : Step (Slot T) → Sat T H W → ℕ → Sat T H W → Type 0
+  leave_sem_queue_tells st me r me' = let p = me.0.part in let n = me.0.number in Becomes me (record p { queue = less n p.queue; left = less n p.left; stand = None; turns = left_turns p.stand p.turns }) me'
 
   -- the pen was tried, the number read and written, and the pen given back
   abbrev pub take_pen_tells : Step (Slot T) → Sat T H W → ℕ → Sat T H W → Type 0

@@ -99,10 +99,20 @@ impl<T, H, W> Play<Slot<T>, View<T, H, W>> for PopGate {
 pub struct TryP;
 
 impl<T, H, W> Play<Slot<T>, View<T, H, W>> for TryP {
-    ghost use Rattle.nub_rule.specs.Plays.{try_p_tells};
-    ghost use Rattle.larch_actions.specs.declared.event.Action.TheVariants.{P};
+    ghost use Rattle.std.specs.Prelude.{false};
+    ghost use Rattle.nub_rule.specs.Plays.{p_action, try_p_tells};
 
-    ghost then = { try_p_tells (λ s. P record { 0 = s }) };
+    ghost then = { try_p_tells (p_action false) };
+}
+
+/// Tries the bit of a semaphore by a P that an alert may end.
+pub struct TryAlertP;
+
+impl<T, H, W> Play<Slot<T>, View<T, H, W>> for TryAlertP {
+    ghost use Rattle.std.specs.Prelude.{true};
+    ghost use Rattle.nub_rule.specs.Plays.{p_action, try_p_tells};
+
+    ghost then = { try_p_tells (p_action true) };
 }
 
 /// Clears the bit of a semaphore.
@@ -112,6 +122,51 @@ impl<T, H, W> Play<Slot<T>, View<T, H, W>> for ClearSem {
     ghost use Rattle.nub_rule.specs.Plays.{clear_sem_tells};
 
     ghost then = { clear_sem_tells };
+}
+
+/// Reads the own alert word.
+pub struct ReadAlert;
+
+impl<T, H, W> Play<Slot<T>, View<T, H, W>> for ReadAlert {
+    ghost use Rattle.nub_rule.specs.Plays.{read_alert_tells};
+
+    ghost then = { read_alert_tells };
+}
+
+/// Alerts a thread.
+pub struct OrAlert;
+
+impl<T, H, W> Play<Slot<T>, View<T, H, W>> for OrAlert {
+    ghost use Rattle.nub_rule.specs.Plays.{or_alert_tells};
+
+    ghost then = { or_alert_tells };
+}
+
+/// Clears the own alert word to tell what it was.
+pub struct SwapAlert;
+
+impl<T, H, W> Play<Slot<T>, View<T, H, W>> for SwapAlert {
+    ghost use Rattle.nub_rule.specs.Plays.{swap_alert_tells};
+
+    ghost then = { swap_alert_tells };
+}
+
+/// Clears the own alert word to raise out of a P.
+pub struct SwapAlertInP;
+
+impl<T, H, W> Play<Slot<T>, View<T, H, W>> for SwapAlertInP {
+    ghost use Rattle.nub_rule.specs.Plays.{swap_alert_in_p_tells};
+
+    ghost then = { swap_alert_in_p_tells };
+}
+
+/// Writes the length of a semaphore's queue after its thread has left it, for an alert or for a bit that it found clear.
+pub struct LeaveSemQueue;
+
+impl<T, H, W> Play<Slot<T>, View<T, H, W>> for LeaveSemQueue {
+    ghost use Rattle.nub_rule.specs.Plays.{leave_sem_queue_tells};
+
+    ghost then = { leave_sem_queue_tells };
 }
 
 /// Reads a count to begin a wait.
