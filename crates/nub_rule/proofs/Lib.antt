@@ -20,6 +20,7 @@ pub mod SemSteps
 pub mod AlertSteps
 pub mod CondSteps
 pub mod CondQueue
+pub mod Entering
 pub mod WaitSteps
 pub mod Handling
 pub mod Naming

@@ -4,7 +4,7 @@ use mathlib.Core.Option.{some}
 use lib.ListN.{get_elem?}
 use Rattle.larch_actions.specs.declared.event.Event.{Event}
 use Rattle.larch_actions.specs.declared.event.Action.{Action}
-use Rattle.larch_actions.specs.declared.event.Action.TheVariants.{Acquire, Release, Enqueue, AlertEnqueue, Resume, AlertReturn, Signal, Broadcast, P, V, Alert, TestAlert, AlertPReturn, AlertPRaise}
+use Rattle.larch_actions.specs.declared.event.Action.TheVariants.{Acquire, Release, Enqueue, AlertEnqueue, Resume, AlertReturn, AlertRaise, Signal, Broadcast, P, V, Alert, TestAlert, AlertPReturn, AlertPRaise}
 use Rattle.larch_actions.specs.Actions.{IsLegal, by_thread}
 use Rattle.larch_actions.specs.Sets.{mem, set_of, without}
 use Rattle.atomic_table.specs.Table.{Me, Step, rest}
@@ -16,7 +16,7 @@ use Rattle.nub_rule.specs.declared.view.Stage.TheVariants.{Pushed, Clear, Tested
 use Rattle.nub_rule.specs.declared.view.Stand.{Stand}
 use Rattle.nub_rule.specs.declared.view.View.{View}
 use Rattle.nub_rule.specs.declared.view.Wait.{Wait}
-use Rattle.nub_rule.specs.declared.view.WaitBit.TheVariants.{Closing, Open}
+use Rattle.nub_rule.specs.declared.view.WaitBit.TheVariants.{Closing, Open, Quiet}
 use Rattle.nub_rule.specs.Items.{Distinct, Small, line_of}
 use Rattle.nub_rule.specs.Parts.{Got, Lacks, alerted_stand, left_turns, made, stands_at, staged, turned}
 use Rattle.nub_rule.specs.Places.{most_threads, value_at, spin_at, length_at, queue_at, alert_at, bit_at, count_at, ready_at, sem_object, cond_object}
@@ -85,6 +85,16 @@ unread (Some w) = Some (record w { member = None })
 abbrev pub opened : Opt Wait → Opt Wait
 opened None = None
 opened (Some w) = Some (record w { bit = Open })
+
+-- the wait after the bit of its mutex was taken again, without an event
+abbrev pub quieted : Opt Wait → Opt Wait
+quieted None = None
+quieted (Some w) = Some (record w { bit = Quiet })
+
+-- the wait of a thread that took itself out of the queue of its condition when the count was k
+abbrev pub recounted : ℕ → Opt Wait → Opt Wait
+recounted k None = None
+recounted k (Some w) = Some (record w { member = Some k })
 
 -- the action by which a thread takes the bit of the mutex m, by what it has begun
 abbrev pub taken_action : ℕ → Opt Wait → Action
@@ -158,6 +168,16 @@ module _ {T H W : Type 0} where
   -- the bit of a mutex was tried
   abbrev pub try_bit_tells : (W → ℕ → T → ℕ → H → Type 0) → Step (Slot T) → Sat T H W → ℕ → Sat T H W → Type 0
   try_bit_tells fits st me r me' = let p = me.0.part in (m : ℕ) → st.word ≡ bit_at m → (r ≡ 0 → Won fits m me me') × (r ≢ 0 → Becomes me (record p { failed = m ∷ p.failed; turns = without m p.turns }) me')
+
+  -- the mutex m was taken with its value, in a wait and without an event
+  abbrev pub WonQuietly : (W → ℕ → T → ℕ → H → Type 0) → ℕ → Sat T H W → Sat T H W → Type 0
+  WonQuietly fits m me me' = let v = me.0 in let p = v.part in
+      (x : T) × ((w : W) (s : H) → v.world ≡ Some w → p.share ≡ Some s → fits w m x v.number s) × Lacks p m × (get_elem? (slice_set p.held m (Some x)) m ≡ some (Some x))
+      × (me' ≡ (with_part v (record p { held = slice_set p.held m (Some x); wait = quieted p.wait; failed = without m p.failed; turns = without m p.turns }), (value_at m, Value (Some x)) ∷ me.1))
+
+  -- the bit of a mutex was tried in a wait, for no event
+  abbrev pub take_bit_quiet_tells : (W → ℕ → T → ℕ → H → Type 0) → Step (Slot T) → Sat T H W → ℕ → Sat T H W → Type 0
+  take_bit_quiet_tells fits st me r me' = let p = me.0.part in (m : ℕ) → st.word ≡ bit_at m → (r ≡ 0 → WonQuietly fits m me me') × (r ≢ 0 → Becomes me (record p { failed = m ∷ p.failed; turns = without m p.turns }) me')
 
   -- the mutex m was given back, with its value
   abbrev pub Freed : (W → ℕ → ℕ → T → T → H → H) → ℕ → Sat T H W → ℕ → Sat T H W → Type 0
@@ -234,6 +254,10 @@ module _ {T H W : Type 0} where
   -- the first, if there is one, left the queue of a condition, and is owed its ready word: an advance had taken it out of the condition
   abbrev pub pop_cond_tells : Step (Slot T) → Sat T H W → ℕ → Sat T H W → Type 0
   pop_cond_tells st me r me' = let p = me.0.part in Becomes me (record p { queue = behind p.queue; owed = p.owed ++ front p.queue }) me'
+
+  -- the thread left the queue of a condition, in which it was, and is in the condition by the count that stands
+  abbrev pub leave_cond_queue_tells : Step (Slot T) → Sat T H W → ℕ → Sat T H W → Type 0
+  leave_cond_queue_tells st me r me' = let p = me.0.part in let n = me.0.number in Becomes me (record p { queue = less n p.queue; left = less n p.left; stand = None; wait = recounted p.count p.wait }) me'
 
   -- the count was advanced under the spin word, by an event with this action, and of the queue these were left in the condition
   abbrev pub advance_tells : (List ℕ → List ℕ) → (ℕ → List ℕ → Action) → Step (Slot T) → Sat T H W → ℕ → Sat T H W → Type 0

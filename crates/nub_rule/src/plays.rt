@@ -179,6 +179,16 @@ impl<T, H, W> Play<Slot<T>, View<T, H, W>> for LoadCount {
     ghost then = { load_count_tells false };
 }
 
+/// Reads a count to begin an alertable wait.
+pub struct LoadCountAlertable;
+
+impl<T, H, W> Play<Slot<T>, View<T, H, W>> for LoadCountAlertable {
+    ghost use Rattle.std.specs.Prelude.{true};
+    ghost use Rattle.nub_rule.specs.Plays.{load_count_tells};
+
+    ghost then = { load_count_tells true };
+}
+
 /// Reads a count under the spin word.
 pub struct KnowCount;
 
@@ -232,6 +242,15 @@ impl<T, H, W> Play<Slot<T>, View<T, H, W>> for PopCond {
     ghost use Rattle.nub_rule.specs.Plays.{pop_cond_tells};
 
     ghost then = { pop_cond_tells };
+}
+
+/// Writes the length of a condition's queue after its thread has left it.
+pub struct LeaveCondQueue;
+
+impl<T, H, W> Play<Slot<T>, View<T, H, W>> for LeaveCondQueue {
+    ghost use Rattle.nub_rule.specs.Plays.{leave_cond_queue_tells};
+
+    ghost then = { leave_cond_queue_tells };
 }
 
 /// Tries the pen.
@@ -303,4 +322,15 @@ impl<U: Uses, C: Change<U>> Play<Slot<U::Value>, View<U::Value, U::Share, U::Wor
     ghost use Rattle.nub_rule.specs.Plays.{clear_bit_in_wait_tells};
 
     ghost then = { clear_bit_in_wait_tells C.after };
+}
+
+/// Tries the bit of a mutex in a wait, for no event.
+pub struct TakeBitQuiet<U> {
+    marker: PhantomData<U>,
+}
+
+impl<U: Uses> Play<Slot<U::Value>, View<U::Value, U::Share, U::World>> for TakeBitQuiet<U> {
+    ghost use Rattle.nub_rule.specs.Plays.{take_bit_quiet_tells};
+
+    ghost then = { take_bit_quiet_tells U.fits };
 }
