@@ -39,7 +39,7 @@ use Rattle.nub_rule.proofs.Showing.{shows-alert}
 use Rattle.nub_rule.proofs.Marking.{Aside, Learns, Marked, marks}
 
 -- what an alert word says
-said-one : (x : ℕ) (b : Bool) → Says x b → x ≡ 1 → b ≡ true
+pub said-one : (x : ℕ) (b : Bool) → Says x b → x ≡ 1 → b ≡ true
 said-one x b says one = ⊎_elim (λ (t : (x ≡ 0) × (b ≡ false)). let z = t.0 in absurd (omega arith)) (λ (t : (x ≡ 1) × (b ≡ true)). t.1) says
 
 zero-one : (x : ℕ) (b : Bool) → Says x b → (x ≡ 0) ⊎ (x ≡ 1)
@@ -95,7 +95,7 @@ pub no-stand-before : (st : Opt Stand) → alerted_stand st ≡ None → st ≡ 
 no-stand-before None e = refl
 no-stand-before (Some s) e = absurd cc
 
-alert-aside : (t : ℕ) → t < most_threads → Aside (alert_at t)
+pub alert-aside : (t : ℕ) → t < most_threads → Aside (alert_at t)
 alert-aside t low = record { bits = λ k up z. omega arith; spins = λ k up z. omega arith; lengths = λ k up z. omega arith; ready = λ k up z. omega arith; pen = λ z. omega arith; number = λ z. omega arith }
 
 module _ {T H : Type 0} (words : List ℕ) (x : ℕ) (all : List (Part T H)) (n : ℕ) (p q : Part T H) (at : get_elem? all n ≡ some p) where
@@ -108,7 +108,7 @@ module _ {T H : Type 0} (words : List ℕ) (x : ℕ) (all : List (Part T H)) (n 
       each-set (λ k r. r.alerted ≡ true → get_or words (alert_at k) 0 ≡ 1) (λ k r. r.alerted ≡ true → get_or words' (alert_at k) 0 ≡ 1) all n q (λ is. moved n (h n p at (sym ea ∙ is))) (λ k r ne at' s is. moved k (s is)) h
 
   -- the thread n has cleared its own, and forgets that it saw it set
-  alert-seen-clear : q.alerted ≡ false → AlertSeen words all → AlertSeen (set words (alert_at n) x) (set all n q)
+  pub alert-seen-clear : q.alerted ≡ false → AlertSeen words all → AlertSeen (set words (alert_at n) x) (set all n q)
   alert-seen-clear out h = let words' : List ℕ = set words (alert_at n) x in
       each-set (λ k r. r.alerted ≡ true → get_or words (alert_at k) 0 ≡ 1) (λ k r. r.alerted ≡ true → get_or words' (alert_at k) 0 ≡ 1) all n q
       (λ is. absurd (let z : true ≡ false = sym is ∙ out in cc))

@@ -296,6 +296,31 @@ module _ {T H : Type 0} (words words' : List ℕ) (spinner : ℕ → Option ℕ)
         } (λ j x ne at' u. u) s.knows;
       }
 
+  -- the thread n, which isn't queued at c, is taken out of c, on which it waited, and waits no longer
+  pub conditions-out : (c : ℕ) (w : Wait) → SameCounts words words' → p.wait ≡ Some w → w.cond.0 ≡ c → q.wait ≡ None → q.left ≡ p.left → q.count ≡ p.count → mem n (queue (cond_object c)) ≡ false → Conditions words' spinner queue (put members c (put (members c) n false)) (set all n q)
+  conditions-out c w ws before on after el ec off =
+      let t = s.knows n p at in
+      let counting' = put s.counting c (put (s.counting c) n false) in
+      let now : (i k : ℕ) → counts_in q.wait i k ≡ false = λ i k. ap (λ z. counts_in z i k) after in record {
+        left = s.left;
+        count = s.count;
+        counting = counting';
+        member = λ i j. twice-either i j c n
+            (λ e f. twice-same members c n false i j e f ∙ sym ((λ x. cond (mem (f x) (s.left (e x))) true (counting' i j)) ∙ (ap (λ b. cond b true (counting' i j)) (s.queued c n off) ∙ twice-same s.counting c n false i j e f)))
+            (λ ne. twice-else members c n false i j ne ∙ (s.member i j ∙ ap (λ b. cond (mem j (s.left i)) true b) (sym (twice-else s.counting c n false i j ne))));
+        counted = λ i lo. ws i lo ∙ s.counted i lo;
+        whole = s.whole;
+        queued = s.queued;
+        knows = each-set (Knows spinner s.left s.count s.counting) (Knows spinner s.left s.count counting') all n q record {
+          counts = λ i. twice-either i n c n
+              (λ e f. twice-same s.counting c n false i n e f ∙ sym (now i (s.count i)))
+              (λ ne. twice-else s.counting c n false i n ne ∙ (t.counts i ∙ (ap (λ w. counts_in w i (s.count i)) before ∙ (counts-else w i (s.count i) (λ e. apart c i n ne (sym on ∙ e)) ∙ sym (now i (s.count i))))));
+          risen = λ i k hi. now i k;
+          inside = λ i own. let o = t.inside i own in (el ∙ o.0, ec ∙ o.1);
+          even = λ x is. absurd (some_none q.wait x after is);
+        } (λ j x ne at' u. record { counts = λ i. twice-else s.counting c n false i j (inr ne) ∙ u.counts i; risen = u.risen; inside = u.inside; even = u.even }) s.knows;
+      }
+
   -- the wait of the thread n changes in nothing that the conditions read
   pub conditions-wait : (w w' : Wait) → SameCounts words words' → p.wait ≡ Some w → q.wait ≡ Some w' → w'.cond ≡ w.cond → w'.member ≡ w.member → q.left ≡ p.left → q.queue ≡ p.queue → q.count ≡ p.count → Conditions words' spinner queue members (set all n q)
   conditions-wait w w' ws before after ec em el eq ek =

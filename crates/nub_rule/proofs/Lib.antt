@@ -22,6 +22,7 @@ pub mod CondSteps
 pub mod CondQueue
 pub mod Entering
 pub mod WaitSteps
+pub mod RaiseSteps
 pub mod Handling
 pub mod Naming
 pub mod Gating

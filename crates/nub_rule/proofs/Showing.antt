@@ -115,19 +115,19 @@ module _ {T H : Type 0} (words words' : List ℕ) (spinner : ℕ → Option ℕ)
     } (λ j x ne at' u. u) s.knows;
   }
 
-  -- the thread n takes the mutex m
-  holders-take : (holder : ℕ → Option ℕ) (m : ℕ) → q.wait ≡ None → ((k : ℕ) → k ≢ m → waits_on p.wait k ≡ false) → Holders owner holder all → Holders (put owner m (some n)) (put holder m (some n)) (set all n q)
-  holders-take holder m ew apart h = let owner' = put owner m (some n) in record {
+  -- the thread n, who has the bit of the mutex m now, holds it and waits no longer
+  pub holders-take : (owner' holder : ℕ → Option ℕ) (m : ℕ) → owner' m ≡ some n → ((k : ℕ) → k ≢ m → owner' k ≡ owner k) → q.wait ≡ None → ((k : ℕ) → k ≢ m → waits_on p.wait k ≡ false) → Holders owner holder all → Holders owner' (put holder m (some n)) (set all n q)
+  holders-take owner' holder m mine others ew apart h = record {
     free = λ k is. dite (ℕ_discrete k m)
-        (λ e. absurd (some-ne-none n (sym (put-here owner m (some n)) ∙ (ap owner' (sym e) ∙ is))))
-        (λ ne. put-else holder m k (some n) ne ∙ h.free k (sym (put-else owner m k (some n) ne) ∙ is));
+        (λ e. absurd (some-ne-none n (sym mine ∙ (ap owner' (sym e) ∙ is))))
+        (λ ne. put-else holder m k (some n) ne ∙ h.free k (sym (others k ne) ∙ is));
     holds = each-set (λ j r. (k : ℕ) → owner k ≡ some j → holder k ≡ cond (waits_on r.wait k) none (some j)) (λ j r. (k : ℕ) → owner' k ≡ some j → put holder m (some n) k ≡ cond (waits_on r.wait k) none (some j)) all n q
         (λ k is. let now : cond (waits_on q.wait k) none (some n) ≡ some n = ap (λ w. cond (waits_on w k) none (some n)) ew in dite (ℕ_discrete k m)
         (λ e. ap (put holder m (some n)) e ∙ (put-here holder m (some n) ∙ sym now))
-        (λ ne. put-else holder m k (some n) ne ∙ (h.holds n p at k (sym (put-else owner m k (some n) ne) ∙ is) ∙ (ap (λ b. cond b none (some n)) (apart k ne) ∙ sym now))))
+        (λ ne. put-else holder m k (some n) ne ∙ (h.holds n p at k (sym (others k ne) ∙ is) ∙ (ap (λ b. cond b none (some n)) (apart k ne) ∙ sym now))))
         (λ j x ne at' u k is. dite (ℕ_discrete k m)
-        (λ e. absurd (ne (some-injective j n (sym is ∙ (ap owner' e ∙ put-here owner m (some n))))))
-        (λ other. put-else holder m k (some n) other ∙ u k (sym (put-else owner m k (some n) other) ∙ is))) h.holds;
+        (λ e. absurd (ne (some-injective j n (sym is ∙ (ap owner' e ∙ mine)))))
+        (λ other. put-else holder m k (some n) other ∙ u k (sym (others k other) ∙ is))) h.holds;
   }
 
   -- the bit of the mutex m is nobody's, and nobody holds it
@@ -154,7 +154,7 @@ semaphores-set words words' avail s b bs now h i lo = dite (ℕ_discrete i s)
     (λ ne. subst (λ (z : ℕ × Bool). Says z.0 (cond z.1 false true)) (λ j. (sym (bs i lo ne) j, sym (put-else avail s i b ne) j)) (h i lo))
 
 -- the alert word of the thread t is set or cleared, and with it the thread alerted or not
-alerts-set : (words words' : List ℕ) (alerted : ℕ → Bool) (t : ℕ) (b : Bool) → ((i : ℕ) → i < most_threads → i ≢ t → get_or words' (alert_at i) 0 ≡ get_or words (alert_at i) 0) → Says (get_or words' (alert_at t) 0) b
+pub alerts-set : (words words' : List ℕ) (alerted : ℕ → Bool) (t : ℕ) (b : Bool) → ((i : ℕ) → i < most_threads → i ≢ t → get_or words' (alert_at i) 0 ≡ get_or words (alert_at i) 0) → Says (get_or words' (alert_at t) 0) b
     → Alerts words alerted → Alerts words' (put alerted t b)
 alerts-set words words' alerted t b as' now h i lo = dite (ℕ_discrete i t)
     (λ e. subst (λ (z : ℕ). Says (get_or words' (alert_at z) 0) (put alerted t b z)) (sym e) (subst (λ (z : Bool). Says (get_or words' (alert_at t) 0) z) (sym (put-here alerted t b)) now))
@@ -188,7 +188,7 @@ module _ {T H : Type 0} (words words' : List ℕ) (ws : SameShown words words') 
       → ((k : ℕ) → k ≢ m → waits_on p.wait k ≡ false) → ((c k : ℕ) → counts_in p.wait c k ≡ false) → f n ≡ Nothing → ((j : ℕ) → j ≢ n → f j ≡ spec.pending j)
       → Shows words spinner queue owner spec all → Shows words' spinner queue (put owner m (some n)) (record spec { holder = put spec.holder m (some n); pending = f }) (set all n q)
   shows-wins m f ew el ec apart out mine others s = record {
-    holders = holders-take words words' spinner queue owner all n p q at spec.holder m ew apart s.holders;
+    holders = holders-take words words' spinner queue owner all n p q at (put owner m (some n)) spec.holder m (put-here owner m (some n)) (λ k ne. put-else owner m k (some n) ne) ew apart s.holders;
     pendings = pendings-put words words' spinner queue owner all n p q at spec.pending f (mine ∙ ap pending_of (sym ew)) others s.pendings;
     semaphores = semaphores-frame spec.avail words words' ws.sems s.semaphores;
     alerts = alerts-frame spec.alerts words words' ws.alerts s.alerts;

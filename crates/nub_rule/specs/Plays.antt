@@ -63,6 +63,10 @@ alert_p_event t s = event t (AlertPReturn record { 0 = s })
 abbrev pub alert_p_raise_event : ℕ → ℕ → Event
 alert_p_raise_event t s = event t (AlertPRaise record { 0 = s })
 
+-- the second part of an alertable wait on the mutex m in the condition c, where an alert has ended it
+abbrev pub alert_raise_event : ℕ → ℕ → ℕ → Event
+alert_raise_event t m c = event t (AlertRaise record { 0 = m } record { 0 = c })
+
 -- the action by which a semaphore is taken, by a P that an alert may end or by any other
 abbrev pub p_action : Bool → ℕ → Action
 p_action true s = AlertPReturn record { 0 = s }
@@ -282,6 +286,11 @@ module _ {T H W : Type 0} where
   abbrev pub swap_alert_in_p_tells : Step (Slot T) → Sat T H W → ℕ → Sat T H W → Type 0
   swap_alert_in_p_tells st me r me' = let v = me.0 in let p = v.part in (s : ℕ) → st.first ≡ 2 * s → let e = alert_p_raise_event v.number s in
       (r ≡ 1) × (between : List Event) × Grows v.number p between e × Becomes me (record (told p (p.seen ++ between) e) { alerted = false }) me'
+
+  -- the own alert word was cleared to raise out of an alertable wait, with the bit of its mutex taken
+  abbrev pub swap_alert_in_raise_tells : Step (Slot T) → Sat T H W → ℕ → Sat T H W → Type 0
+  swap_alert_in_raise_tells st me r me' = let v = me.0 in let p = v.part in (x : Wait) → p.wait ≡ Some x → let e = alert_raise_event v.number x.mutex.0 x.cond.0 in
+      (r ≡ 1) × (between : List Event) × Grows v.number p between e × Becomes me (record (told p (p.seen ++ between) e) { wait = None; alerted = false }) me'
 
   -- the thread left the queue of a semaphore, in which it was
   abbrev pub leave_sem_queue_tells : Step (Slot T) → Sat T H W → ℕ → Sat T H W → Type 0

@@ -1,18 +1,20 @@
 //! The steps on the alert words, and leaving a semaphore's queue by an alert.
 ghost use Rattle.std.specs.Prelude.{◌≡◌, ◌≢◌, ◌⊎◌, ◌<◌, eqb, Some, None, true, false};
 ghost use Rattle.larch_actions.specs.Sets.{mem};
-ghost use Rattle.nub_rule.specs.Known.{Makes, StandsAs, learnt};
+ghost use Rattle.nub_rule.specs.declared.view.Wait.{Wait};
+ghost use Rattle.nub_rule.specs.declared.view.WaitBit.TheVariants.{Quiet};
+ghost use Rattle.nub_rule.specs.Known.{Holds, Makes, StandsAs, learnt};
 ghost use Rattle.nub_rule.specs.Parts.{IsClear, MayTell, alerted_stand, left_turns, made};
 ghost use Rattle.nub_rule.specs.Places.{sem_object};
-ghost use Rattle.nub_rule.specs.Plays.{alert_event, alert_p_raise_event, less, test_alert_event};
+ghost use Rattle.nub_rule.specs.Plays.{alert_event, alert_p_raise_event, alert_raise_event, less, test_alert_event};
 
 use crate::hand::bring;
 use crate::line::leave_line;
 use crate::package::{Package, Thread};
 use crate::places::{SEMAPHORES, alert_word, sem_length_word};
-use crate::plays::{LeaveSemQueue, OrAlert, ReadAlert, SwapAlert, SwapAlertInP};
+use crate::plays::{LeaveSemQueue, OrAlert, ReadAlert, SwapAlert, SwapAlertInP, SwapAlertInRaise};
 use crate::uses::Uses;
-use larch_actions::{SemId, ThreadId};
+use larch_actions::{CondId, MutexId, SemId, ThreadId};
 
 /// Reads the own alert word. Where it is 1, a thread that stands in a queue, has tested the bit and hasn't found its ready word set may
 /// leave the queue for that. A ready word that was found set stays found.
@@ -78,6 +80,31 @@ pub fn swap_alert_in_p<U: Uses>(p: &Package<U>, me: &mut Thread<U>, s: SemId) ->
     p.table
         .shared
         .fetch_and::<SwapAlertInP>(&mut me.seat, alert_word(me.number), 2 * s.0 as u64)
+}
+
+/// Clears the own alert word, which was found set, to raise out of an alertable wait on m in c. The thread has taken the bit of m before, for
+/// no event, and holds m from here on. An alert that comes later stays for the next call.
+pub fn swap_alert_in_raise<U: Uses>(
+    p: &Package<U>,
+    me: &mut Thread<U>,
+    m: MutexId,
+    c: CondId,
+) -> u64
+    requires of { me.old.table_id ≡ p.now.table_id }
+    requires named { (m.0 < p.now.layout.mutexes) × (c.0 < p.now.layout.conditions) }
+    requires outside { (me.old.spin ≡ None) × (me.old.stand ≡ None) }
+    requires waits { (x : Wait) × (me.old.wait ≡ Some x) × (x.mutex.0 ≡ m.0) × (x.cond.0 ≡ c.0) × (x.alertable ≡ true) × (x.bit ≡ Quiet) }
+    requires has { (x : U.Value) × Holds me.old m.0 x }
+    requires alerted { me.old.alerted ≡ true }
+    requires pen { MayTell p.now.traced me.old.pen }
+    ensures found { result ≡ 1 }
+    ensures event { Makes (alert_raise_event me.old.number m.0 c.0) me.old me.new }
+    ensures raised { me.new ≡ record (learnt me.old me.new) { wait = None; alerted = false; pen = made me.old.pen } }
+{
+    let _names = (m, c);
+    p.table
+        .shared
+        .swap::<SwapAlertInRaise>(&mut me.seat, alert_word(me.number), 0)
 }
 
 /// Takes the thread out of the queue of s, after it found the bit clear or its alert word set. It answers whether the thread was in it. A

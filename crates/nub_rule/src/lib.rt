@@ -27,7 +27,9 @@ mod uses;
 mod view;
 mod whole;
 
-pub use alert::{leave_sem_queue, or_alert, read_alert, swap_alert, swap_alert_in_p};
+pub use alert::{
+    leave_sem_queue, or_alert, read_alert, swap_alert, swap_alert_in_p, swap_alert_in_raise,
+};
 pub use cond::{
     advance_broadcast, advance_signal, compare_count, know_count, leave_cond_queue, load_count,
     load_count_alertable,

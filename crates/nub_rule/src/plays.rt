@@ -151,6 +151,15 @@ impl<T, H, W> Play<Slot<T>, View<T, H, W>> for SwapAlert {
     ghost then = { swap_alert_tells };
 }
 
+/// Clears the own alert word, to raise out of an alertable wait.
+pub struct SwapAlertInRaise;
+
+impl<T, H, W> Play<Slot<T>, View<T, H, W>> for SwapAlertInRaise {
+    ghost use Rattle.nub_rule.specs.Plays.{swap_alert_in_raise_tells};
+
+    ghost then = { swap_alert_in_raise_tells };
+}
+
 /// Clears the own alert word to raise out of a P.
 pub struct SwapAlertInP;
 
