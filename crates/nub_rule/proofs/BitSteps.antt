@@ -24,7 +24,7 @@ use Rattle.nub_rule.specs.declared.view.Part.{Part}
 use Rattle.nub_rule.specs.declared.view.Wait.{Wait}
 use Rattle.nub_rule.specs.declared.view.View.{View}
 use Rattle.nub_rule.specs.declared.view.Kind.TheVariants.{Member}
-use Rattle.nub_rule.specs.Items.{Pens, Core}
+use Rattle.nub_rule.specs.Items.{Told, Shows, Pens, Core}
 use Rattle.nub_rule.specs.Parts.{is_at, Got, Lacks, MayTell, waits_on, counts_in, pending_of}
 use Rattle.nub_rule.specs.Places.{bit_at, value_at, queue_at, cond_object}
 use Rattle.nub_rule.specs.Plays.{with_part, told, Grows, event, acquire_event, release_event, taken_action, MayTake, try_bit_tells, clear_bit_tells, Won, Freed, Becomes, MayFree}
@@ -32,7 +32,7 @@ use Rattle.nub_rule.specs.Rule.{FitsAs, IsKept}
 use Rattle.nub_rule.proofs.Each.{at_within, at_below, put-here, put-else}
 use Rattle.nub_rule.proofs.Members.{Steps, member_steps}
 use Rattle.nub_rule.proofs.Runs.{leads-snoc}
-use Rattle.nub_rule.proofs.Frames.{other, sizes-frame, told-event, spins-frame, lines-frame, ready-stay, spins-stay, shown-stay, pen-stay}
+use Rattle.nub_rule.proofs.Frames.{other, sizes-frame, told-event, spins-frame, lines-frame, ready-stay, spins-stay, shown-stay, pen-stay, alert-seen-stays, alert-seen-frame}
 use Rattle.nub_rule.proofs.Standing.{not_true, stand_none, mem-behind, lines-same}
 use Rattle.nub_rule.proofs.SpinSteps.{nobody-by, one-by}
 use Rattle.nub_rule.proofs.Penning.{either_way, pens-event, numbered-by}
@@ -58,7 +58,69 @@ by_taking n m o e may = ⊎_elim
     (λ (t : (x : Wait) × (o ≡ Some x) × (x.mutex.0 ≡ m) × (x.member ≡ None) × (e ≡ event n (taken_action m (Some x)))). t.4 ∙ ap (λ (o : Opt Wait). event n (taken_action m o)) (sym t.1))
     may
 
+module _ {T H : Type 0} where
+  -- the part of a thread that took the mutex m with the value x, and changed nothing else that the other items read
+  pub record HasTaken (m : ℕ) (x : T) (p q : Part T H) : Type 0 where
+    pub held : q.held ≡ set p.held m (Some x)
+    pub share : q.share ≡ p.share
+    pub spin : q.spin ≡ p.spin
+    pub queue : q.queue ≡ p.queue
+    pub owed : q.owed ≡ p.owed
+    pub stand : q.stand ≡ p.stand
+    pub alerted : q.alerted ≡ p.alerted
+    pub cleared : q.cleared ≡ p.cleared
+    pub turns : q.turns ≡ without m p.turns
+
+  -- the part of a thread whose try of the gate o failed
+  abbrev pub loser : Part T H → ℕ → Part T H
+  loser p o = record p { failed = o ∷ p.failed; turns = without o p.turns }
+
 module _ {T H W : Type 0} (l : Layout) (traced : Bool) (w : W) (begin : W → ℕ → H) (holds : W → List T → List H → Type 0) where
+  -- the words after a try of the bit of m
+  abbrev pub tried_words : ℕ → List ℕ → List ℕ
+  tried_words m words = let r : ℕ = get_or words (bit_at m) 0 in set words (bit_at m) (either (eqb r 0) 1 r)
+
+  -- the thread n takes the bit of m, which nobody has, with its value: what is left to show is what was told, what is shown, and the pen
+  pub bit_taken : (n m : ℕ) (p q : Part T H) (x : T) (words : List ℕ) (homes : List (Option (Slot T))) (all : List (Part T H)) → get_elem? all n ≡ some p → m < l.mutexes → (c : Core l traced w holds words homes all) → get_or words (bit_at m) 0 ≡ 0 → get_elem? c.values m ≡ some x → HasTaken m x p q
+      → (log : List Event) (spec : Spec) → IsRun log spec → Told l log (set all n q) → Shows (set words (bit_at m) 1) c.spinner c.queue (put c.owner m (some n)) spec (set all n q) → Pens traced (length log) (set words (bit_at m) 1) c.writer (set all n q)
+      → Core l traced w holds (tried_words m words) (set homes (value_at m) none) (set all n q)
+  bit_taken n m p q x words homes all at inside c hit found t log spec run told' shows pens =
+      let r : ℕ = get_or words (bit_at m) 0 in let lawful = c.sizes.lawful in let ws = c.sizes.words_wide in
+      let words' : List ℕ = set words (bit_at m) 1 in
+      let homes' : List (Option (Slot T)) = set homes (value_at m) none in
+      let free = nobody-by r (c.owner m) (c.owned.bits m inside) hit in
+      let wide : length p.held ≡ 64 = c.sizes.parts_wide n p at in
+      subst (λ b. Core l traced w holds (set words (bit_at m) (either b 1 r)) homes' (set all n q)) (sym (eq-eqb r 0 hit)) record {
+        log = log;
+        spec = spec;
+        owner = put c.owner m (some n);
+        spinner = c.spinner;
+        writer = c.writer;
+        queue = c.queue;
+        owed = c.owed;
+        values = c.values;
+        shares = c.shares;
+        sizes = sizes-frame all n p q at l words words' homes homes' (length-set words (bit_at m) 1) (length-set homes (value_at m) none) (ap length t.held ∙ length-set p.held m (Some x)) c.sizes;
+        run = run;
+        told = told';
+        owned = owned-take l (holds w) c.owner c.values c.shares words homes all n m p q at c.owned wide (omega arith) inside lawful x free found t.held t.share;
+        spins = spins-frame all n p q at c.spinner c.queue c.owed words words' homes homes' (spins-stay words (bit_at m) 1 (λ k up z. omega arith) (λ k up z. omega arith)) (λ k lo. set_else homes (value_at m) (queue_at k) none (λ z. omega arith)) t.spin t.queue t.owed c.spins;
+        lines = lines-frame all n p q at (λ k. c.owed k ++ c.queue k) words words' c.sizes.few (ready-stay words (bit_at m) 1 (λ k up z. omega arith)) t.stand c.lines;
+        shows = shows;
+        pens = pens;
+        alert_seen = alert-seen-stays all n p q at words (bit_at m) 1 c.sizes.few (λ k up z. omega arith) t.alerted c.alert_seen;
+        owes = owes-try c.queue words words' all n p q at m (λ k lo ne. other words (bit_at m) (bit_at k) 1 (λ z. ne (omega arith))) (λ z. let y = get_or-set_same words (bit_at m) 1 0 (omega arith) in omega arith) t.stand t.cleared t.turns c.owes;
+      }
+
+  -- the thread n failed to take the bit of m
+  pub bit_missed : (n m : ℕ) (p : Part T H) (words : List ℕ) (homes : List (Option (Slot T))) (all : List (Part T H)) → get_elem? all n ≡ some p → m < 192 → Core l traced w holds words homes all → get_or words (bit_at m) 0 ≢ 0 → Core l traced w holds (tried_words m words) homes (set all n (loser p m))
+  bit_missed n m p words homes all at far c miss = let r : ℕ = get_or words (bit_at m) 0 in let q : Part T H = loser p m in
+      subst (λ b. Core l traced w holds (set words (bit_at m) (either b 1 r)) homes (set all n q)) (sym (ne_eqb r 0 miss))
+      (still l traced w holds words homes all (bit_at m) n p q at record { seen = refl; mine = refl; places = refl; held = refl; share = refl } refl refl refl refl refl refl refl c
+      (lines-same (λ k. c.owed k ++ c.queue k) (λ k. c.owed k ++ c.queue k) words words all n p q at c.sizes.few (λ t lo. refl) (λ k. refl) refl c.lines)
+      (alert-seen-frame all n p q at words words c.sizes.few (λ k lo. refl) refl c.alert_seen)
+      (owes-try c.queue words words all n p q at m (λ k lo ne. refl) miss refl refl refl c.owes))
+
   -- the state after n took m, with these pending
   abbrev took : Spec → ℕ → ℕ → (ℕ → Pending) → Spec
   took spec m n f = record spec { holder = put spec.holder m (some n); pending = f }
@@ -141,26 +203,9 @@ module _ {T H W : Type 0} (l : Layout) (traced : Bool) (w : W) (begin : W → �
           q,
           takes (value_at m) (Value (Some x)),
           o.at_home m inside x found.1 free,
-          subst (λ b. Core l traced w holds (set words (bit_at m) (either b 1 r)) homes' (set all n q)) (sym (eq-eqb r 0 hit)) record {
-            log = c.log ++ e ∷ [];
-            spec = spec';
-            owner = put c.owner m (some n);
-            spinner = c.spinner;
-            writer = c.writer;
-            queue = c.queue;
-            owed = c.owed;
-            values = c.values;
-            shares = c.shares;
-            sizes = sizes-frame all n p q at l words words' homes homes' (length-set words (bit_at m) 1) (length-set homes (value_at m) none) (length-set p.held m (Some x)) c.sizes;
-            run = run;
-            told = told';
-            owned = owned-take l (holds w) c.owner c.values c.shares words homes all n m p q at o wide (omega arith) inside lawful x free found.1 refl refl;
-            spins = spins-frame all n p q at c.spinner c.queue c.owed words words' homes homes' (spins-stay words (bit_at m) 1 (λ k up z. omega arith) (λ k up z. omega arith)) (λ k lo. set_else homes (value_at m) (queue_at k) none (λ z. omega arith)) refl refl refl c.spins;
-            lines = lines-frame all n p q at (λ k. c.owed k ++ c.queue k) words words' c.sizes.few (ready-stay words (bit_at m) 1 (λ k up z. omega arith)) refl c.lines;
-            shows = shows-wins words words' (shown-stay words (bit_at m) 1 (λ k up z. omega arith) (λ k up z. omega arith) (λ k up z. omega arith)) c.spinner c.queue c.owner c.spec all n p q at m take.0 refl refl refl take.4 take.5 take.2 take.3 c.shows;
-            pens = subst (λ (z : ℕ). Pens traced z words' c.writer (set all n q)) (sym more) (pens-event traced (length c.log) words c.writer all n p q at words' (pen-stay words (bit_at m) 1 (λ z. omega arith) (λ z. omega arith)).0 (pen-stay words (bit_at m) 1 (λ z. omega arith) (λ z. omega arith)).1 may refl c.pens);
-            owes = owes-try c.queue words words' all n p q at m (λ k lo ne. other words (bit_at m) (bit_at k) 1 (λ z. ne (omega arith))) (λ z. let y = get_or-set_same words (bit_at m) 1 0 (omega arith) in omega arith) refl refl refl c.owes;
-          },
+          bit_taken n m p q x words homes all at inside c hit found.1 record { held = refl; share = refl; spin = refl; queue = refl; owed = refl; stand = refl; alerted = refl; cleared = refl; turns = refl } (c.log ++ e ∷ []) spec' run told'
+              (shows-wins words words' (shown-stay words (bit_at m) 1 (λ k up z. omega arith) (λ k up z. omega arith) (λ k up z. omega arith)) c.spinner c.queue c.owner c.spec all n p q at m take.0 refl refl refl take.4 take.5 take.2 take.3 c.shows)
+              (subst (λ (z : ℕ). Pens traced z words' c.writer (set all n q)) (sym more) (pens-event traced (length c.log) words c.writer all n p q at words' (pen-stay words (bit_at m) 1 (λ z. omega arith) (λ z. omega arith)).0 (pen-stay words (bit_at m) 1 (λ z. omega arith) (λ z. omega arith)).1 may refl c.pens)),
           inl (
             hit,
             (
@@ -179,16 +224,7 @@ module _ {T H W : Type 0} (l : Layout) (traced : Bool) (w : W) (begin : W → �
             ),
           ),
         ))
-        (λ miss. let q : Part T H = record p { failed = m ∷ p.failed; turns = without m p.turns } in (
-          q,
-          keeps,
-          tt,
-          subst (λ b. Core l traced w holds (set words (bit_at m) (either b 1 r)) homes (set all n q)) (sym (ne_eqb r 0 miss))
-              (still l traced w holds words homes all (bit_at m) n p q at record { seen = refl; mine = refl; places = refl; held = refl; share = refl } refl refl refl refl refl refl refl c
-              (lines-same (λ k. c.owed k ++ c.queue k) (λ k. c.owed k ++ c.queue k) words words all n p q at c.sizes.few (λ t lo. refl) (λ k. refl) refl c.lines)
-              (owes-try c.queue words words all n p q at m (λ k lo ne. refl) miss refl refl refl c.owes)),
-          inr (miss, refl, refl),
-        ))
+        (λ miss. (loser p m, keeps, tt, bit_missed n m p words homes all at far c miss, inr (miss, refl, refl)))
 
     try_bit_at : (slots id m : ℕ) (e : Event) (me : Me (Slot T) (View T H W)) → m < l.mutexes → me.0.kind ≡ Member → me.0.part.stand ≡ None → MayTake me.0.number m me.0.part.wait e → MayTell traced me.0.part.pen
         → Allows (IsKept l traced w begin holds) slots id me (bit_at m) (λ x. either (eqb x 0) 1 x) (try_bit_tells fits (step slots (bit_at m) 0 1 none) me)
@@ -262,6 +298,7 @@ module _ {T H W : Type 0} (l : Layout) (traced : Bool) (w : W) (begin : W → �
             lines = lines-frame all n p q at (λ k. c.owed k ++ c.queue k) words words' c.sizes.few (ready-stay words (bit_at m) 0 (λ k up z. omega arith)) refl c.lines;
             shows = shows-clears words words' (shown-stay words (bit_at m) 0 (λ k up z. omega arith) (λ k up z. omega arith) (λ k up z. omega arith)) c.spinner c.queue c.owner c.spec all n p q at m (put c.spec.holder m none) refl refl refl refl (put-here c.spec.holder m none) (λ k ne. put-else c.spec.holder m k none ne) c.shows;
             pens = subst (λ (z : ℕ). Pens traced z words' c.writer (set all n q)) (sym more) (pens-event traced (length c.log) words c.writer all n p q at words' (pen-stay words (bit_at m) 0 (λ z. omega arith) (λ z. omega arith)).0 (pen-stay words (bit_at m) 0 (λ z. omega arith) (λ z. omega arith)).1 may refl c.pens);
+            alert_seen = alert-seen-stays all n p q at words (bit_at m) 0 c.sizes.few (λ k up z. omega arith) refl c.alert_seen;
             owes = owes-clear c.queue words words' all n p q at m (λ k lo ne. other words (bit_at m) (bit_at k) 0 (λ z. ne (omega arith))) apart refl refl refl c.owes;
           },
           (

@@ -1,5 +1,5 @@
 -- The steps on the queue of a condition keep the rule.
-use Rattle.std.proofs.Common.{Bool, false, cond, ◌≡◌, ◌≢◌, ℕ, ◌<◌, List, [], ◌∷◌, ◌++◌, length, get_or, set, refl, sym, ap, ◌∙◌, subst, arith, append_assoc, Some, None}
+use Rattle.std.proofs.Common.{Bool, true, false, cond, ◌≡◌, ◌≢◌, ℕ, ◌<◌, List, [], ◌∷◌, ◌++◌, length, get_or, set, refl, sym, ap, ◌∙◌, subst, arith, append_assoc, Some, None}
 use mathlib.Core.Logic.{dite}
 use mathlib.Core.Option.{Option, some, none}
 use native.Mathlib.Decide.{ℕ_discrete}
@@ -7,7 +7,7 @@ use lib.ListN.{get_elem?}
 use lib.Seq.{set-get_or}
 use Rattle.larch_actions.specs.declared.event.Layout.{Layout}
 use Rattle.larch_actions.specs.Actions.{Spec, put}
-use Rattle.larch_actions.specs.Sets.{mem}
+use Rattle.larch_actions.specs.Sets.{mem, without}
 use Rattle.atomic_table.specs.Table.{Me, step, Allows, keeps}
 use Rattle.nub_rule.specs.declared.rule.Slot.{Slot}
 use Rattle.nub_rule.specs.declared.view.Part.{Part}
@@ -19,18 +19,18 @@ use Rattle.nub_rule.specs.declared.view.Kind.TheVariants.{Member}
 use Rattle.nub_rule.specs.Items.{Core, Conditions, Holders, Shows}
 use Rattle.nub_rule.specs.Parts.{pending_of, waits_on}
 use Rattle.nub_rule.specs.Places.{count_at, length_at, cond_object}
-use Rattle.nub_rule.specs.Plays.{with_part, behind, front, unread, compare_count_tells, push_cond_tells, pop_cond_tells}
+use Rattle.nub_rule.specs.Plays.{with_part, behind, front, less, unread, recounted, compare_count_tells, push_cond_tells, pop_cond_tells, leave_cond_queue_tells}
 use Rattle.nub_rule.specs.Rule.{IsKept}
 use Rattle.nub_rule.proofs.Each.{each-set, put-here, put-else}
 use Rattle.nub_rule.proofs.Members.{member_steps}
-use Rattle.nub_rule.proofs.Frames.{SameShown, ready-stay, spins-frame, lines-frame, semaphores-frame, alerts-frame, pens-frame}
-use Rattle.nub_rule.proofs.Standing.{lines-push, lines-same}
+use Rattle.nub_rule.proofs.Frames.{SameShown, ready-stay, spins-frame, lines-frame, semaphores-frame, alerts-frame, pens-frame, alert-seen-frame}
+use Rattle.nub_rule.proofs.Standing.{mem-behind, distinct-behind, without-append, without-absent, less-without, lines-push, lines-leave, lines-same}
 use Rattle.nub_rule.proofs.Spinning.{only_here}
 use Rattle.nub_rule.proofs.Showing.{pendings-put}
-use Rattle.nub_rule.proofs.Conditioning.{conditions-compare, conditions-push, conditions-pop}
-use Rattle.nub_rule.proofs.Owing.{owes-frame, owes-beside, owes-queued}
+use Rattle.nub_rule.proofs.Conditioning.{conditions-compare, conditions-push, conditions-leave, conditions-pop}
+use Rattle.nub_rule.proofs.Owing.{owes-frame, owes-beside, owes-queued, owes-unqueued}
 use Rattle.nub_rule.proofs.Beside.{beside, idle}
-use Rattle.nub_rule.proofs.QueueSteps.{requeues_by, length-shown, length-gates, popped-line}
+use Rattle.nub_rule.proofs.QueueSteps.{absent-before, requeues_by, length-shown, length-gates, popped-line}
 
 module _ {T H : Type 0} (words words' : List ℕ) (spinner : ℕ → Option ℕ) (queue : ℕ → List ℕ) (owner : ℕ → Option ℕ) (spec : Spec) (all : List (Part T H)) (n : ℕ) (p q : Part T H) (at : get_elem? all n ≡ some p) where
   holders-wait : (holder : ℕ → Option ℕ) → ((m : ℕ) → waits_on q.wait m ≡ waits_on p.wait m) → Holders owner holder all → Holders owner holder (set all n q)
@@ -82,6 +82,7 @@ module _ {T H W : Type 0} (l : Layout) (traced : Bool) (w : W) (begin : W → �
             (shows-wait words words k.spinner k.queue k.owner k.spec all n p q at record { counts = λ m lo. refl; sems = λ m lo. refl; alerts = λ m lo. refl } k.queue (λ m. ap (λ z. waits_on (unread z) m) before ∙ sym (ap (λ z. waits_on z m) before)) (ap (λ z. pending_of (unread z)) before ∙ sym (ap pending_of before)) k.shows
             (conditions-compare words words k.spinner k.queue k.spec.members all n p q at s c j x (record x { member = None }) (λ m lo. refl) low before on stood (λ e. miss (read ∙ sym e)) (ap unread before) refl refl refl refl))
             (pens-frame all n p q at traced (length k.log) k.writer words words (refl, refl) refl k.pens)
+            (alert-seen-frame all n p q at words words k.sizes.few (λ m lo. refl) refl k.alert_seen)
             (owes-frame k.queue words words all n p q at (λ m lo. refl) refl refl refl k.owes)),
         (known, (λ hit. absurd (miss hit)), (λ _. refl), refl),
       )))
@@ -110,7 +111,7 @@ module _ {T H W : Type 0} (l : Layout) (traced : Bool) (w : W) (begin : W → �
         q,
         keeps,
         tt,
-        requeues_by l traced w begin holds n o p q ys (k.owed o) words homes all at far here record { seen = refl; mine = refl; places = refl; held = refl; share = refl } refl refl mine.2 refl k
+        requeues_by l traced w begin holds n o p q ys (k.owed o) words homes all at far here record { seen = refl; mine = refl; places = refl; held = refl; share = refl } refl refl mine.2 refl refl k
             (lines-push line line' words words' all n p q at k.sizes.few o st (ready-stay words (length_at o) (length ys) (λ j up z. omega arith)) is (λ j ne i. put-else k.owed o j (k.owed o) ne i ++ put-else k.queue o j ys ne i) out refl refl (λ f. f) k.lines)
             (shows-wait words words' k.spinner k.queue k.owner k.spec all n p q at ws (put k.queue o ys) (λ m. ap (λ z. waits_on (unread z) m) before ∙ sym (ap (λ z. waits_on z m) before)) (ap (λ z. pending_of (unread z)) before ∙ sym (ap pending_of before)) k.shows
             (conditions-push words words' k.spinner k.queue k.spec.members all n p q at k.shows.conditions c me_wait x' ys ws.counts mine.0 (only_here k.spinner k.queue k.owed words homes all n p q at k.spins o here) before on stood (ap unread before) refl refl refl refl now))
@@ -143,7 +144,7 @@ module _ {T H W : Type 0} (l : Layout) (traced : Bool) (w : W) (begin : W → �
         q,
         keeps,
         tt,
-        requeues_by l traced w begin holds n o p q ys zs words homes all at far here record { seen = refl; mine = refl; places = refl; held = refl; share = refl } refl refl refl refl k
+        requeues_by l traced w begin holds n o p q ys zs words homes all at far here record { seen = refl; mine = refl; places = refl; held = refl; share = refl } refl refl refl refl refl k
             (lines-same line line' words words' all n p q at k.sizes.few (ready-stay words (length_at o) (length ys) (λ j up z. omega arith)) same refl k.lines)
             (shows-wait words words' k.spinner k.queue k.owner k.spec all n p q at ws (put k.queue o ys) (λ m. refl) refl k.shows (conditions-pop words words' k.spinner k.queue k.spec.members all n p q at k.shows.conditions c ys ws.counts mine.0 out refl refl refl taken))
             (owes-beside k.queue (put k.queue o ys) words words' all n p q at (length-gates o far words (length ys)) (λ j lo. put-else k.queue o j ys (λ z. omega arith)) refl refl refl k.owes),
@@ -154,3 +155,41 @@ module _ {T H W : Type 0} (l : Layout) (traced : Bool) (w : W) (begin : W → �
   pub pop_cond_keeps : (slots id c r : ℕ) (me : Me (Slot T) (View T H W)) (i : ℕ) → i ≡ length_at (cond_object c) → c < 64 → me.0.kind ≡ Member → me.0.part.spin ≡ Some (cond_object c) → me.0.part.wait ≡ None → ((t : ℕ) → mem t (behind me.0.part.queue) ≡ false → mem t me.0.part.left ≡ false) → r ≡ length (behind me.0.part.queue)
       → Allows (IsKept l traced w begin holds) slots id me i (λ _. r) (λ _. pop_cond_tells (step slots i r 0 none) me r)
   pop_cond_keeps slots id c r me i word low kind here out taken long = subst (λ (i : ℕ). Allows (IsKept l traced w begin holds) slots id me i (λ _. r) (λ _. pop_cond_tells (step slots i r 0 none) me r)) (sym word) (pop_cond_at slots id c r me low kind here out taken long)
+
+  leave_cond_queue_at : (slots id c r : ℕ) (x : Wait) (me : Me (Slot T) (View T H W)) → c < 64 → me.0.kind ≡ Member → me.0.part.spin ≡ Some (cond_object c) → me.0.part.wait ≡ Some x → x.cond.0 ≡ c → mem me.0.number me.0.part.queue ≡ true → r ≡ length (less me.0.number me.0.part.queue)
+      → Allows (IsKept l traced w begin holds) slots id me (length_at (cond_object c)) (λ _. r) (λ _. leave_cond_queue_tells (step slots (length_at (cond_object c)) r 0 none) me r)
+  leave_cond_queue_at slots id c r me_wait me low kind here before on there long = let v = me.0 in let n = v.number in let p = v.part in let o : ℕ = cond_object c in let ys : List ℕ = less n p.queue in
+      let q : Part T H = record p { queue = ys; left = less n p.left; stand = None; wait = recounted p.count p.wait } in
+      subst (λ (z : ℕ). Allows (IsKept l traced w begin holds) slots id me (length_at o) (λ _. z) (λ _. leave_cond_queue_tells (step slots (length_at o) z 0 none) me z)) (sym long)
+      (member_steps l traced w begin holds slots id (length_at o) (λ _. length ys) v me.1 (λ x s ds. (s ≡ q) × (ds ≡ me.1)) (λ _. leave_cond_queue_tells (step slots (length_at o) (length ys) 0 none) me (length ys)) kind
+      (λ x s ds world t i. (with_part v (t.0 i), t.1 i))
+      (λ words homes all k at small.
+      let mine = (k.spins.spinning n p at o).0 here in
+      let words' : List ℕ = set words (length_at o) (length ys) in
+      let far : o < 192 = omega arith in
+      let ws = length-shown l traced w begin holds o far words (length ys) in
+      let line : ℕ → List ℕ = λ i. k.owed i ++ k.queue i in
+      let line' : ℕ → List ℕ = λ i. put k.owed o (k.owed o) i ++ put k.queue o ys i in
+      let d = k.lines.distinct o in
+      let distinct = distinct-behind (k.owed o) (k.queue o) d in
+      let queued : mem n (k.queue o) ≡ true = ap (mem n) (sym mine.1) ∙ there in
+      let lined = mem-behind n (k.owed o) (k.queue o) queued in
+      let now : ys ≡ less n (k.queue o) = ap (less n) mine.1 in
+      let gone : ys ≡ without n (k.queue o) = now ∙ less-without n (k.queue o) distinct in
+      let is : line' o ≡ without n (line o) = (λ i. (put-here k.owed o (k.owed o) ∙ sym (without-absent n (k.owed o) (absent-before n (k.owed o) (k.queue o) d queued))) i ++ (put-here k.queue o ys ∙ gone) i) ∙ sym (without-append n (k.owed o) (k.queue o)) in
+      let x' : Wait = record me_wait { member = Some p.count } in (
+        q,
+        keeps,
+        tt,
+        requeues_by l traced w begin holds n o p q ys (k.owed o) words homes all at far here record { seen = refl; mine = refl; places = refl; held = refl; share = refl } refl refl mine.2 refl refl k
+            (lines-leave line line' words words' all n p q at k.sizes.few o (ready-stay words (length_at o) (length ys) (λ j up z. omega arith)) is (λ j ne i. put-else k.owed o j (k.owed o) ne i ++ put-else k.queue o j ys ne i) lined refl k.lines)
+            (shows-wait words words' k.spinner k.queue k.owner k.spec all n p q at ws (put k.queue o ys) (λ m. ap (λ z. waits_on (recounted p.count z) m) before ∙ sym (ap (λ z. waits_on z m) before)) (ap (λ z. pending_of (recounted p.count z)) before ∙ sym (ap pending_of before)) k.shows
+            (conditions-leave words words' k.spinner k.queue k.spec.members all n p q at k.shows.conditions c me_wait x' ys ws.counts mine.0 (only_here k.spinner k.queue k.owed words homes all n p q at k.spins o here) before on (ap (recounted p.count) before) on refl refl refl refl mine.1 distinct queued now))
+            (owes-unqueued k.queue (put k.queue o ys) words words' all n p q at o (length-gates o far words (length ys)) (omega arith) (λ j ne. put-else k.queue o j ys ne) ((k.lines.stands n p at).lined o lined).0 refl refl refl k.owes),
+        (refl, refl),
+      )))
+
+  -- the same at a word that is this place
+  pub leave_cond_queue_keeps : (slots id c r : ℕ) (x : Wait) (me : Me (Slot T) (View T H W)) (i : ℕ) → i ≡ length_at (cond_object c) → c < 64 → me.0.kind ≡ Member → me.0.part.spin ≡ Some (cond_object c) → me.0.part.wait ≡ Some x → x.cond.0 ≡ c → mem me.0.number me.0.part.queue ≡ true → r ≡ length (less me.0.number me.0.part.queue)
+      → Allows (IsKept l traced w begin holds) slots id me i (λ _. r) (λ _. leave_cond_queue_tells (step slots i r 0 none) me r)
+  leave_cond_queue_keeps slots id c r x me i word low kind here before on there long = subst (λ (i : ℕ). Allows (IsKept l traced w begin holds) slots id me i (λ _. r) (λ _. leave_cond_queue_tells (step slots i r 0 none) me r)) (sym word) (leave_cond_queue_at slots id c r x me low kind here before on there long)

@@ -26,7 +26,7 @@ use Rattle.nub_rule.specs.Plays.{Becomes, Grows, told, with_part, behind, event,
 use Rattle.nub_rule.specs.Rule.{IsKept}
 use Rattle.nub_rule.proofs.Each.{each-set, put-here, put-else}
 use Rattle.nub_rule.proofs.Members.{Steps, member_steps}
-use Rattle.nub_rule.proofs.Frames.{SameShown, other, pendings-frame, holders-frame, semaphores-frame, alerts-frame}
+use Rattle.nub_rule.proofs.Frames.{SameShown, other, pendings-frame, holders-frame, semaphores-frame, alerts-frame, alert-seen-stays, alert-seen-frame}
 use Rattle.nub_rule.proofs.Standing.{distinct-behind, mem-behind}
 use Rattle.nub_rule.proofs.Beside.{idle}
 use Rattle.nub_rule.proofs.Owing.{owes-frame}
@@ -118,6 +118,7 @@ module _ {T H W : Type 0} (l : Layout) (traced : Bool) (w : W) (begin : W → �
       (λ z. record { seen = refl; mine = refl; places = refl; held = refl; share = refl; spin = refl; queue = refl; owed = refl; stand = refl; pen = refl })
       (enters alertable n m c r k.spec free held)
       (λ z. shows-enter words words' k.spinner k.queue k.owner k.spec all n p (after_load alertable n m c r p z) at m c r b low (record { counts = λ j lo. stay (count_at (cond_object j)); sems = λ j lo. stay (bit_at (sem_object j)); alerts = λ j lo. stay (alert_at j) }) refl own refl refl refl out refl refl refl refl even k.shows)
+      (λ z. alert-seen-frame all n p (after_load alertable n m c r p z) at words words' k.sizes.few (λ j lo. stay (alert_at j)) refl k.alert_seen)
       (λ z. owes-frame k.queue words words' all n p (after_load alertable n m c r p z) at (λ j lo. stay (bit_at j)) refl refl refl k.owes) in
       (done.0, keeps, tt, done.1, (done.2, refl))
     where
@@ -182,6 +183,7 @@ module _ {T H W : Type 0} (l : Layout) (traced : Bool) (w : W) (begin : W → �
         conditions = conditions-advance words words' k.spinner k.queue k.spec.members all n p (after z) at s c ys f low (λ j lo ne. other words i (count_at (cond_object j)) v (λ z. ne (omega arith))) (get_or-set_same words i v 0 (omega arith) ∙ up)
             spins.0 (only_here k.spinner k.queue k.owed words homes all n p (after z) at k.spins (cond_object c) here) out refl refl refl is less;
       })
+      (λ z. alert-seen-stays all n p (after z) at words i v k.sizes.few (λ j lo z. omega arith) refl k.alert_seen)
       (λ z. owes-frame k.queue words words' all n p (after z) at (λ j lo. other words i (bit_at j) v (λ z. omega arith)) refl refl refl k.owes) in
       (done.0, keeps, tt, done.1, (sym known, subst Distinct (sym spins.1) (distinct-behind (k.owed (cond_object c)) (k.queue (cond_object c)) (k.lines.distinct (cond_object c))), done.2, refl))
 

@@ -1,20 +1,21 @@
 -- Conditions: how the steps on a count, and on the queue of a condition, change who is in one and what threads know of it.
-use Rattle.std.proofs.Common.{Bool, true, false, cond, eqb, ◌≡◌, ◌≢◌, ℕ, ◌+◌, ◌<◌, ◌⊎◌, List, [], ◌∷◌, ◌++◌, get_or, set, refl, sym, ap, ◌∙◌, inl, inr, ⊎_elim, arith, Some, None, eq-eqb, ne_eqb}
+use Rattle.std.proofs.Common.{Bool, true, false, cond, eqb, ◌≡◌, ◌≢◌, ℕ, ◌+◌, ◌<◌, ◌⊎◌, List, [], ◌∷◌, ◌++◌, get_or, set, refl, sym, ap, ◌∙◌, subst, inl, inr, ⊎_elim, arith, Some, None, eq-eqb, ne_eqb}
 use mathlib.Core.Logic.{dite}
 use mathlib.Core.Option.{Option, some, some-injective, some-ne-none}
 use native.Mathlib.Decide.{ℕ_discrete}
 use lib.ListN.{get_elem?}
 use Rattle.larch_actions.specs.Actions.{put}
-use Rattle.larch_actions.specs.Sets.{mem}
-use Rattle.larch_actions.proofs.Sets.{mem-last, mem-snoc}
+use Rattle.larch_actions.specs.Sets.{mem, without}
+use Rattle.larch_actions.proofs.Sets.{mem-last, mem-snoc, mem-gone, mem-without}
 use Rattle.nub_rule.specs.declared.view.Part.{Part}
 use Rattle.nub_rule.specs.declared.view.Wait.{Wait}
-use Rattle.nub_rule.specs.Items.{Knows, Conditions}
+use Rattle.nub_rule.specs.Items.{Distinct, Knows, Conditions}
 use Rattle.nub_rule.specs.Parts.{is_at, counts_in}
 use Rattle.nub_rule.specs.Places.{count_at, cond_object}
+use Rattle.nub_rule.specs.Plays.{less}
 use Rattle.nub_rule.proofs.Each.{each-set, put-here, put-else, put-at}
 use Rattle.nub_rule.proofs.Frames.{SameCounts}
-use Rattle.nub_rule.proofs.Standing.{some_none, false_true}
+use Rattle.nub_rule.proofs.Standing.{some_none, false_true, less-without}
 
 both_false : (b : Bool) → cond b false false ≡ false
 both_false true = refl
@@ -213,6 +214,63 @@ module _ {T H : Type 0} (words words' : List ℕ) (spinner : ℕ → Option ℕ)
         } (λ j x ne at' u. u) s.knows;
       }
 
+  -- the thread n, which is in a wait on c, leaves the queue of c, in which it was, and is in c by the count that stands
+  pub conditions-leave : (c : ℕ) (w w' : Wait) (ys : List ℕ) → SameCounts words words' → spinner (cond_object c) ≡ some n → ((k : ℕ) → spinner k ≡ some n → k ≡ cond_object c)
+      → p.wait ≡ Some w → w.cond.0 ≡ c → q.wait ≡ Some w' → w'.cond.0 ≡ c → w'.member ≡ Some p.count → q.left ≡ less n p.left → q.queue ≡ less n p.queue → q.count ≡ p.count
+      → p.queue ≡ queue (cond_object c) → Distinct (queue (cond_object c)) → mem n (queue (cond_object c)) ≡ true → ys ≡ less n (queue (cond_object c))
+      → Conditions words' spinner (put queue (cond_object c) ys) members (set all n q)
+  conditions-leave c w w' ys ws own only before on after on' stood el eq ec known distinct there is =
+      let t = s.knows n p at in
+      let mine = t.inside c own in
+      let all_left : queue (cond_object c) ≡ s.left c = sym known ∙ (sym (t.even w before) ∙ mine.0) in
+      let xs : List ℕ = less n (s.left c) in
+      let left' = put s.left c xs in
+      let counting' = put s.counting c (put (s.counting c) n true) in
+      let other_place : (i : ℕ) → i ≢ c → cond_object i ≢ cond_object c = λ i ne z. ne (omega arith) in
+      let fewer : xs ≡ without n (s.left c) = less-without n (s.left c) (subst Distinct all_left distinct) in
+      let out : mem n xs ≡ false = ap (mem n) fewer ∙ mem-gone n (s.left c) in
+      let others : (j : ℕ) → j ≢ n → mem j xs ≡ mem j (s.left c) = λ j ne. ap (mem j) fewer ∙ mem-without j n (s.left c) ne in
+      let now : (i k : ℕ) → counts_in q.wait i k ≡ counts_in (Some w') i k = λ i k. ap (λ z. counts_in z i k) after in record {
+        left = left';
+        count = s.count;
+        counting = counting';
+        member = λ i j. s.member i j ∙ twice-either i j c n
+            (λ e g. (λ x. cond (mem (g x) (s.left (e x))) true (s.counting i j)) ∙ (ap (λ b. cond b true (s.counting i j)) (ap (mem n) (sym all_left) ∙ there)
+            ∙ sym (ap (λ b. cond (mem j (left' i)) true b) (twice-same s.counting c n true i j e g) ∙ always (mem j (left' i)))))
+            (λ ne. (λ x. cond (mem j (s.left i)) true (sym (twice-else s.counting c n true i j ne) x)) ∙ ap (λ b. cond b true (counting' i j)) (sym (dite (ℕ_discrete i c)
+            (λ e. ap (mem j) (put-at s.left c xs i e) ∙ (⊎_elim (λ (a : i ≢ c). absurd (a e)) (λ (a : j ≢ n). others j a) ne ∙ ap (λ (z : ℕ). mem j (s.left z)) (sym e)))
+            (λ other. ap (mem j) (put-else s.left c i xs other)))));
+        counted = λ i lo. ws i lo ∙ s.counted i lo;
+        whole = λ i free. dite (ℕ_discrete i c)
+            (λ e. absurd (some-ne-none n (sym own ∙ (ap (λ (z : ℕ). spinner (cond_object z)) (sym e) ∙ free))))
+            (λ ne. put-else s.left c i xs ne ∙ (s.whole i free ∙ sym (put-else queue (cond_object c) (cond_object i) ys (other_place i ne))));
+        queued = λ i j off. dite (ℕ_discrete i c)
+            (λ e.
+            let same : put queue (cond_object c) ys (cond_object i) ≡ xs = put-at queue (cond_object c) ys (cond_object i) (ap cond_object e) ∙ (is ∙ ap (less n) all_left) in
+            ap (mem j) (put-at s.left c xs i e) ∙ (ap (mem j) (sym same) ∙ off))
+            (λ ne. ap (mem j) (put-else s.left c i xs ne) ∙ s.queued i j (ap (mem j) (sym (put-else queue (cond_object c) (cond_object i) ys (other_place i ne))) ∙ off));
+        knows = each-set (Knows spinner s.left s.count s.counting) (Knows spinner left' s.count counting') all n q record {
+          counts = λ i. twice-either i n c n
+              (λ e g. twice-same s.counting c n true i n e g ∙ sym (now i (s.count i) ∙ counts-here w' i (s.count i) (on' ∙ sym e) p.count stood (mine.1 ∙ ap s.count (sym e))))
+              (λ ne. twice-else s.counting c n true i n ne ∙ (t.counts i ∙ (ap (λ w. counts_in w i (s.count i)) before ∙ (counts-else w i (s.count i) (λ e. apart c i n ne (sym on ∙ e))
+              ∙ sym (now i (s.count i) ∙ counts-else w' i (s.count i) (λ e. apart c i n ne (sym on' ∙ e)))))));
+          risen = λ i k hi. now i k ∙ dite (ℕ_discrete w'.cond.0 i)
+              (λ e. counts-past w' i k p.count stood (λ z. let f = ap s.count (sym on' ∙ e) in let g = mine.1 in absurd (omega arith)))
+              (λ ne. counts-else w' i k ne);
+          inside = λ i has. dite (ℕ_discrete i c)
+              (λ e. (el ∙ (ap (less n) mine.0 ∙ sym (put-at s.left c xs i e)), ec ∙ (mine.1 ∙ ap s.count (sym e))))
+              (λ ne. absurd (ne (let z = only (cond_object i) has in omega arith)));
+          even = λ x in_wait. el ∙ (ap (less n) (t.even w before) ∙ sym eq);
+        } (λ j x ne at' u. record {
+          counts = λ i. twice-else s.counting c n true i j (inr ne) ∙ u.counts i;
+          risen = u.risen;
+          inside = λ i has. dite (ℕ_discrete i c)
+              (λ e. absurd (ne (some-injective j n (sym has ∙ (ap (λ (z : ℕ). spinner (cond_object z)) e ∙ own)))))
+              (λ other. let o = u.inside i has in (o.0 ∙ sym (put-else s.left c i xs other), o.1));
+          even = u.even;
+        }) s.knows;
+      }
+
   -- the first leaves the queue of c, of which an advance had taken it
   pub conditions-pop : (c : ℕ) (ys : List ℕ) → SameCounts words words' → spinner (cond_object c) ≡ some n → p.wait ≡ None → q.wait ≡ p.wait → q.left ≡ p.left → q.count ≡ p.count
       → ((t : ℕ) → mem t ys ≡ false → mem t p.left ≡ false) → Conditions words' spinner (put queue (cond_object c) ys) members (set all n q)
@@ -236,6 +294,31 @@ module _ {T H : Type 0} (words words' : List ℕ) (spinner : ℕ → Option ℕ)
           inside = λ i has. let o = t.inside i has in (el ∙ o.0, ec ∙ o.1);
           even = λ w in_wait. absurd (some_none q.wait w (ew ∙ out) in_wait);
         } (λ j x ne at' u. u) s.knows;
+      }
+
+  -- the thread n, which isn't queued at c, is taken out of c, on which it waited, and waits no longer
+  pub conditions-out : (c : ℕ) (w : Wait) → SameCounts words words' → p.wait ≡ Some w → w.cond.0 ≡ c → q.wait ≡ None → q.left ≡ p.left → q.count ≡ p.count → mem n (queue (cond_object c)) ≡ false → Conditions words' spinner queue (put members c (put (members c) n false)) (set all n q)
+  conditions-out c w ws before on after el ec off =
+      let t = s.knows n p at in
+      let counting' = put s.counting c (put (s.counting c) n false) in
+      let now : (i k : ℕ) → counts_in q.wait i k ≡ false = λ i k. ap (λ z. counts_in z i k) after in record {
+        left = s.left;
+        count = s.count;
+        counting = counting';
+        member = λ i j. twice-either i j c n
+            (λ e f. twice-same members c n false i j e f ∙ sym ((λ x. cond (mem (f x) (s.left (e x))) true (counting' i j)) ∙ (ap (λ b. cond b true (counting' i j)) (s.queued c n off) ∙ twice-same s.counting c n false i j e f)))
+            (λ ne. twice-else members c n false i j ne ∙ (s.member i j ∙ ap (λ b. cond (mem j (s.left i)) true b) (sym (twice-else s.counting c n false i j ne))));
+        counted = λ i lo. ws i lo ∙ s.counted i lo;
+        whole = s.whole;
+        queued = s.queued;
+        knows = each-set (Knows spinner s.left s.count s.counting) (Knows spinner s.left s.count counting') all n q record {
+          counts = λ i. twice-either i n c n
+              (λ e f. twice-same s.counting c n false i n e f ∙ sym (now i (s.count i)))
+              (λ ne. twice-else s.counting c n false i n ne ∙ (t.counts i ∙ (ap (λ w. counts_in w i (s.count i)) before ∙ (counts-else w i (s.count i) (λ e. apart c i n ne (sym on ∙ e)) ∙ sym (now i (s.count i))))));
+          risen = λ i k hi. now i k;
+          inside = λ i own. let o = t.inside i own in (el ∙ o.0, ec ∙ o.1);
+          even = λ x is. absurd (some_none q.wait x after is);
+        } (λ j x ne at' u. record { counts = λ i. twice-else s.counting c n false i j (inr ne) ∙ u.counts i; risen = u.risen; inside = u.inside; even = u.even }) s.knows;
       }
 
   -- the wait of the thread n changes in nothing that the conditions read

@@ -173,6 +173,7 @@ module _ {T H W : Type 0} (l : Layout) (traced : Bool) (w : W) (begin : W → �
             untraced = λ is. refl;
             pens = each-firsts (λ n p. PenFits 0 (get_or ws number_at 0) none n p.pen) (λ n. fresh (Some (begin w n))) l.threads (λ i low is. some-ne-none i (sym is));
           };
+          alert_seen = each-firsts (λ n p. p.alerted ≡ true → get_or ws (alert_at n) 0 ≡ 1) (λ n. fresh (Some (begin w n))) l.threads (λ i low is. absurd (ft is));
           owes = record {
             looks = λ o low free queued. absurd (queued refl);
             sound = each-firsts (λ n p. SleepsSound p) (λ n. fresh (Some (begin w n))) l.threads (λ i low s is asleep. absurd (none_some s is));

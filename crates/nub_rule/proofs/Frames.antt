@@ -14,7 +14,7 @@ use Rattle.atomic_table.proofs.Lists.{set_else, set_here}
 use Rattle.nub_rule.specs.declared.rule.Slot.{Slot}
 use Rattle.nub_rule.specs.declared.view.Part.{Part}
 use Rattle.nub_rule.specs.declared.view.Pen.{Pen}
-use Rattle.nub_rule.specs.Items.{Each, Chronicle, Told, Standing, Current, Shared, Wide, Marks, Says, Owned, Spinning, Spins, Stands, Lines, Semaphores, Alerts, Holders, Pendings, Knows, Conditions, Shows, PenFits, Pens, Sizes}
+use Rattle.nub_rule.specs.Items.{Each, Chronicle, Told, Standing, Current, Shared, Wide, Marks, Says, Owned, Spinning, Spins, Stands, Lines, Semaphores, Alerts, Holders, Pendings, Knows, Conditions, AlertSeen, Shows, PenFits, Pens, Sizes}
 use Rattle.nub_rule.specs.Parts.{waits_on, counts_in, pending_of, stands_at}
 use Rattle.nub_rule.specs.Places.{most_threads, bit_at, spin_at, length_at, count_at, alert_at, ready_at, pen_at, number_at, queue_at, value_at, sem_object, cond_object}
 use Rattle.nub_rule.proofs.Each.{each-set, each-snoc, same_at, at_within}
@@ -207,6 +207,16 @@ module _ {T H : Type 0} (all : List (Part T H)) (n : ℕ) (p q : Part T H) (at :
     alerts = alerts-frame spec.alerts words words' ws.alerts s.alerts;
     conditions = conditions-frame spinner queue spec.members words words' ws.counts ew el eq ec s.conditions;
   }
+
+  -- ALERT SEEN reads the alert words, and which threads saw their own set
+  pub alert-seen-frame : (words words' : List ℕ) → length all ≤ most_threads → SameAlerts words words' → q.alerted ≡ p.alerted → AlertSeen words all → AlertSeen words' (set all n q)
+  alert-seen-frame words words' few ws ea h = let X = λ (ws : List ℕ) (k : ℕ) (r : Part T H). r.alerted ≡ true → get_or ws (alert_at k) 0 ≡ 1 in
+      let same : (k : ℕ) (r : Part T H) → get_elem? all k ≡ some r → get_or words' (alert_at k) 0 ≡ get_or words (alert_at k) 0 = λ k r at'. ws k (let z = at_within all k r at' in omega arith) in
+      each-set (X words) (X words') all n q (λ is. same n p at ∙ h n p at (sym ea ∙ is)) (λ k r ne at' s is. same k r at' ∙ s is) h
+
+  -- a step on no alert word
+  pub alert-seen-stays : (words : List ℕ) (i x : ℕ) → length all ≤ most_threads → ((t : ℕ) → t < most_threads → alert_at t ≢ i) → q.alerted ≡ p.alerted → AlertSeen words all → AlertSeen (set words i x) (set all n q)
+  alert-seen-stays words i x few ne ea h = alert-seen-frame words (set words i x) few (λ k up. other words i (alert_at k) x (ne k up)) ea h
 
   -- NUMBERING reads the pen, the number word, the number of events and who has the pen
   pub pens-frame : (traced : Bool) (total : ℕ) (writer : Option ℕ) (words words' : List ℕ) → SamePen words words' → q.pen ≡ p.pen → Pens traced total words writer all → Pens traced total words' writer (set all n q)

@@ -307,6 +307,7 @@ module _ {T H W : Type 0} (l : Layout) (traced : Bool) (w : W) (holds : W → Li
     queued_threads = queued_threads;
     ready_words = ready_words;
     no_wake_lost = no_wake_lost;
+    alert_seen = c.alert_seen;
     counts_read = counts_read;
     values_and_shares = values_and_shares;
     numbering = numbering;

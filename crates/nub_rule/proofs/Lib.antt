@@ -17,9 +17,12 @@ pub mod Owning
 pub mod Names
 pub mod BitSteps
 pub mod SemSteps
+pub mod AlertSteps
 pub mod CondSteps
 pub mod CondQueue
+pub mod Entering
 pub mod WaitSteps
+pub mod RaiseSteps
 pub mod Handling
 pub mod Naming
 pub mod Gating

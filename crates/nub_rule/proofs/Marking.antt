@@ -1,4 +1,4 @@
--- An event by a step on no mutex's bit, no queue, no ready word and not the pen: what is left to show is its row, that words and views show the new state, and who is owed a wake.
+-- An event by a step on no mutex's bit, no queue, no ready word and not the pen: what is left to show is its row, that words and views show the new state, who saw an alert, and who is owed a wake.
 use Rattle.std.proofs.Common.{Bool, ◌≡◌, ◌≢◌, ℕ, ◌+◌, ◌<◌, List, [], ◌∷◌, ◌++◌, length, set, refl, sym, ap, ◌∙◌, subst, length-set, length-append}
 use mathlib.Core.Option.{Option, some}
 use lib.ListN.{get_elem?}
@@ -9,7 +9,7 @@ use Rattle.larch_actions.specs.Layout.{IsNamed}
 use Rattle.atomic_table.proofs.Lists.{set_here}
 use Rattle.nub_rule.specs.declared.rule.Slot.{Slot}
 use Rattle.nub_rule.specs.declared.view.Part.{Part}
-use Rattle.nub_rule.specs.Items.{Shows, Pens, Core}
+use Rattle.nub_rule.specs.Items.{Shows, Pens, AlertSeen, Core}
 use Rattle.nub_rule.specs.Owed.{WakeOwed}
 use Rattle.nub_rule.specs.Parts.{made, MayTell}
 use Rattle.nub_rule.specs.Places.{most_threads, bit_at, spin_at, length_at, ready_at, pen_at, number_at}
@@ -19,7 +19,7 @@ use Rattle.nub_rule.proofs.Runs.{leads-snoc}
 use Rattle.nub_rule.proofs.Frames.{bits-stay, spins-stay, ready-stay, pen-stay, sizes-frame, told-event, owned-frame, spins-frame, lines-frame}
 use Rattle.nub_rule.proofs.Penning.{pens-event, numbered-by}
 
--- the word i is none that the items read other than the meaning of the words and the owed wakes
+-- the word i is none that the items read other than the meaning of the words, the alerts seen and the owed wakes
 pub record Aside (i : ℕ) : Type 0 where
   pub bits : (m : ℕ) → m < 64 → bit_at m ≢ i
   pub spins : (o : ℕ) → o < 192 → spin_at o ≢ i
@@ -53,8 +53,8 @@ module _ {T H W : Type 0} (l : Layout) (traced : Bool) (w : W) (holds : W → Li
 
   pub marks : (e : Event) (n i x : ℕ) (p : Part T H) (after : List Event → Part T H) (words : List ℕ) (homes : List (Option (Slot T))) (all : List (Part T H)) (c : Core l traced w holds words homes all) (spec' : Spec) → get_elem? all n ≡ some p → e.thread.0 ≡ n → IsNamed l e.action → MayTell traced p.pen → Aside i
       → ((z : List Event) → IsTold p (after z) z e) → Acts c.spec e spec' → ((z : List Event) → Shows (set words i x) c.spinner c.queue c.owner spec' (set all n (after z)))
-      → ((z : List Event) → WakeOwed c.queue (set words i x) (set all n (after z))) → Marked e n i x p after words homes all
-  marks e n i x p after words homes all c spec' at by named may aside tells acts shows owes =
+      → ((z : List Event) → AlertSeen (set words i x) (set all n (after z))) → ((z : List Event) → WakeOwed c.queue (set words i x) (set all n (after z))) → Marked e n i x p after words homes all
+  marks e n i x p after words homes all c spec' at by named may aside tells acts shows saw owes =
       let seen = (c.told.each n p at).begins in
       let z : List Event = p.seen ++ seen.0 in
       let q : Part T H = after z in
@@ -85,6 +85,7 @@ module _ {T H W : Type 0} (l : Layout) (traced : Bool) (w : W) (holds : W → Li
           lines = lines-frame all n p q at (λ k. c.owed k ++ c.queue k) words words' c.sizes.few (ready-stay words i x aside.ready) t.stand c.lines;
           shows = shows z;
           pens = subst (λ (y : ℕ). Pens traced y words' c.writer (set all n q)) (sym more) (pens-event traced (length c.log) words c.writer all n p q at words' pen.0 pen.1 may t.pen c.pens);
+          alert_seen = saw z;
           owes = owes z;
         },
         (

@@ -39,6 +39,9 @@ module _ {W : Type 0} (z : TableId) (a : About W) (s : Shape W) (l : Layout) (v 
   pub sem_low : (m : ℕ) → m < s.layout.semaphores → m < 64
   sem_low m has = let x = lawful_now in let y = x.semaphores in omega arith
 
+  pub thread_low : (t : ℕ) → t < s.layout.threads → t < 64
+  thread_low t has = let x = lawful_now in let y = x.threads in omega arith
+
   pub cond_low : (m : ℕ) → m < s.layout.conditions → m < 64
   cond_low m has = let x = lawful_now in let y = x.conditions in omega arith
 

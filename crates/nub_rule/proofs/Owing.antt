@@ -158,6 +158,23 @@ module _ {T H : Type 0} (queue queue' : ℕ → List ℕ) (words words' : List �
       (own-elsewhere k (λ here. ne (stand_same p.stand k o here there)) (λ c. ap (mem k) ec ∙ c) (λ t. ap (mem k) et ∙ (mem-else k o p.turns (λ z. ne (sym z)) ∙ t))))))
       (λ r e asleep. absurd (some_none q.stand r now e))
 
+  -- the thread n leaves the queue of o, in which it stood and had found the bit set
+  pub owes-leave-tested : (o : ℕ) (s : Stand) → SameGates words words' → ((k : ℕ) → k ≢ o → queue' k ≡ queue k) → ((j : ℕ) → j ≢ n → mem j (queue' o) ≡ mem j (queue o)) → mem n (queue o) ≡ true
+      → p.stand ≡ Some s → s.at ≡ o → HasTested s.stage → q.stand ≡ None → q.cleared ≡ p.cleared → q.turns ≡ p.turns → WakeOwed queue words all → WakeOwed queue' words' (set all n q)
+  owes-leave-tested o s ws elsewhere others here was there tested now ec et = owes-step
+      (λ k low free queued. dite (ℕ_discrete k o)
+      (λ e. inr (record {
+        free = sym (ws k low) ∙ free;
+        queued = λ z. nobody-in n (queue o) (ap queue (sym e) ∙ z) here;
+        own = must-cases k (queue k) n p (λ c. by-clearing k (queue' k) n q (ap (mem k) ec ∙ c)) (λ t. by-turn k (queue' k) n q (ap (mem k) et ∙ t))
+            (λ stands gone. absurd (false_true (sym gone ∙ ((λ i. mem n (queue (e i))) ∙ here))))
+            (λ r is at_k un in_queue. absurd (tested-not s.stage tested (subst (λ (z : Stand). IsUntested z.stage) (same_stand p.stand r s is was) un)));
+        others = λ j r ne m. others-queue k j r ((λ i. mem j (queue' (e i))) ∙ (others j ne ∙ (λ i. mem j (queue (sym e i))))) m;
+      }))
+      (λ ne. inr (kept-by k (elsewhere k ne) queued (ws k low) free
+      (own-elsewhere k (λ stands. ne (stand_same p.stand k o stands (stand_at p.stand s o was there))) (λ c. ap (mem k) ec ∙ c) (λ t. ap (mem k) et ∙ t)))))
+      (λ r e asleep. absurd (some_none q.stand r now e))
+
   -- the first is popped from the queue of o, and the thread n, who popped it, owes no look there
   pub owes-pop : (o : ℕ) → SameGates words words'
       → ((x : ℕ) (xs : List ℕ) → queue o ≡ x ∷ xs → (r : Part T H) × (get_elem? all x ≡ some r) × (stands_at r.stand o ≡ true) × (queue' o ≡ xs) × (mem x xs ≡ false))
@@ -180,13 +197,25 @@ module _ {T H : Type 0} (queue queue' : ℕ → List ℕ) (words words' : List �
           by-own o (by-leaving o (queue' o) n q (ap (λ s. stands_at s o) es ∙ ((λ i. stands_at (sym own i).stand o) ∙ t.2)) ((λ i. mem (sym same i) (queue' o)) ∙ gone)))
           (λ ne. (x, t.0, set_else all n x q ne ∙ t.1, by-leaving o (queue' o) x t.0 t.2 gone))
 
+  -- a queue that is no gate's changes, and the thread n, which stood at no gate, doesn't sleep
+  owes-away : (o : ℕ) → SameGates words words' → 128 ≤ o → ((k : ℕ) → k ≢ o → queue' k ≡ queue k) → ((k : ℕ) → k < 128 → stands_at p.stand k ≡ true → ⊥) → SleepsSound q → q.cleared ≡ p.cleared → q.turns ≡ p.turns
+      → WakeOwed queue words all → WakeOwed queue' words' (set all n q)
+  owes-away o ws hi elsewhere out sound ec et = owes-step
+      (λ k low free queued. let ne : k ≢ o = λ z. omega arith in
+      inr (kept-by k (elsewhere k ne) queued (ws k low) free (own-elsewhere k (out k low) (λ c. ap (mem k) ec ∙ c) (λ t. ap (mem k) et ∙ t))))
+      sound
+
   -- the thread n is put into a queue that is no gate's
   pub owes-queued : (o : ℕ) → SameGates words words' → 128 ≤ o → ((k : ℕ) → k ≢ o → queue' k ≡ queue k) → p.stand ≡ None → (s : Stand) → q.stand ≡ Some s → (IsAsleep s.stage → ⊥) → q.cleared ≡ p.cleared → q.turns ≡ p.turns
       → WakeOwed queue words all → WakeOwed queue' words' (set all n q)
-  owes-queued o ws hi elsewhere out s now awake ec et = owes-step
-      (λ k low free queued. let ne : k ≢ o = λ z. omega arith in
-      inr (kept-by k (elsewhere k ne) queued (ws k low) free (own-elsewhere k (λ here. stand_none p.stand k out here) (λ c. ap (mem k) ec ∙ c) (λ t. ap (mem k) et ∙ t))))
-      (λ r e asleep. absurd (awake (subst (λ (z : Stand). IsAsleep z.stage) (same_stand q.stand r s e now) asleep)))
+  owes-queued o ws hi elsewhere out s now awake ec et = owes-away o ws hi elsewhere (λ k low here. stand_none p.stand k out here)
+      (λ r e asleep. absurd (awake (subst (λ (z : Stand). IsAsleep z.stage) (same_stand q.stand r s e now) asleep))) ec et
+
+  -- the thread n leaves a queue that is no gate's, in which it stood
+  pub owes-unqueued : (o : ℕ) → SameGates words words' → 128 ≤ o → ((k : ℕ) → k ≢ o → queue' k ≡ queue k) → stands_at p.stand o ≡ true → q.stand ≡ None → q.cleared ≡ p.cleared → q.turns ≡ p.turns
+      → WakeOwed queue words all → WakeOwed queue' words' (set all n q)
+  owes-unqueued o ws hi elsewhere there now ec et = owes-away o ws hi elsewhere (λ k low here. let e = stand_same p.stand k o here there in omega arith)
+      (λ r e asleep. absurd (some_none q.stand r now e)) ec et
 
   -- the queues of gates stay, and of the thread n where it stands and what it remembers of them
   pub owes-beside : SameGates words words' → ((k : ℕ) → k < 128 → queue' k ≡ queue k) → q.stand ≡ p.stand → q.cleared ≡ p.cleared → q.turns ≡ p.turns → WakeOwed queue words all → WakeOwed queue' words' (set all n q)

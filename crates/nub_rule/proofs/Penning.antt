@@ -20,7 +20,7 @@ use Rattle.nub_rule.specs.Plays.{with_part, take_pen_tells, read_number_tells, w
 use Rattle.nub_rule.specs.Rule.{IsKept}
 use Rattle.nub_rule.proofs.Each.{at_within, each-set}
 use Rattle.nub_rule.proofs.Members.{member_steps}
-use Rattle.nub_rule.proofs.Frames.{other, spins-frame, lines-frame, shows-frame, bits-stay, ready-stay, spins-stay, shown-stay}
+use Rattle.nub_rule.proofs.Frames.{other, spins-frame, lines-frame, shows-frame, bits-stay, ready-stay, spins-stay, shown-stay, alert-seen-stays}
 use Rattle.nub_rule.proofs.Owing.{owes-frame}
 use Rattle.nub_rule.proofs.Spinning.{taken-by}
 use Rattle.nub_rule.proofs.Beside.{Alike, beside, idle}
@@ -158,6 +158,7 @@ module _ {T H W : Type 0} (l : Layout) (traced : Bool) (w : W) (begin : W → �
       (lines-frame all n p q at (λ o. c.owed o ++ c.queue o) words (set words i y) c.sizes.few (ready-stay words i y (λ k up z. omega arith)) refl c.lines)
       (shows-frame all n p q at c.spinner c.queue c.owner c.spec words (set words i y) (shown-stay words i y (λ k up z. omega arith) (λ k up z. omega arith) (λ k up z. omega arith)) refl refl refl refl c.shows)
       pens
+      (alert-seen-stays all n p q at words i y c.sizes.few (λ k up z. omega arith) refl c.alert_seen)
       (owes-frame c.queue words (set words i y) all n p q at (λ k up. other words i (bit_at k) y (λ z. omega arith)) refl refl refl c.owes)
 
   pub take_pen_keeps : (slots id : ℕ) (me : Me (Slot T) (View T H W)) → traced ≡ true → me.0.kind ≡ Member → me.0.part.pen ≡ No → Allows (IsKept l traced w begin holds) slots id me pen_at (λ x. either (eqb x 0) 1 x) (take_pen_tells (step slots pen_at 0 1 none) me)

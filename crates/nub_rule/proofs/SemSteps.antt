@@ -6,10 +6,12 @@ use native.Mathlib.Decide.{ℕ_discrete}
 use prog.Atomic.{either}
 use lib.ListN.{get_elem?}
 use Rattle.larch_actions.specs.declared.event.Event.{Event}
-use Rattle.larch_actions.specs.declared.event.Action.TheVariants.{P}
+use Rattle.larch_actions.specs.declared.event.Action.{Action}
+use Rattle.larch_actions.specs.declared.event.Action.TheVariants.{P, AlertPReturn}
 use Rattle.larch_actions.specs.declared.event.Layout.{Layout}
+use Rattle.larch_actions.specs.declared.event.SemId.{SemId}
 use Rattle.larch_actions.specs.declared.event.Pending.TheVariants.{Nothing}
-use Rattle.larch_actions.specs.Actions.{Acts, put}
+use Rattle.larch_actions.specs.Actions.{Spec, Acts, put}
 use Rattle.larch_actions.specs.Layout.{IsNamed}
 use Rattle.larch_actions.specs.Sets.{without}
 use Rattle.atomic_table.specs.Table.{Me, step, Allows, keeps}
@@ -20,10 +22,10 @@ use Rattle.nub_rule.specs.declared.view.Kind.TheVariants.{Member}
 use Rattle.nub_rule.specs.Items.{Says, Core}
 use Rattle.nub_rule.specs.Parts.{MayTell, pending_of}
 use Rattle.nub_rule.specs.Places.{bit_at, count_at, alert_at, sem_object, cond_object}
-use Rattle.nub_rule.specs.Plays.{with_part, told, Grows, p_event, v_event, try_p_tells, clear_sem_tells, Becomes}
+use Rattle.nub_rule.specs.Plays.{with_part, told, Grows, MayTakeSem, event, p_event, alert_p_event, p_action, v_event, try_p_tells, clear_sem_tells, Becomes}
 use Rattle.nub_rule.specs.Rule.{IsKept}
 use Rattle.nub_rule.proofs.Members.{member_steps}
-use Rattle.nub_rule.proofs.Frames.{other}
+use Rattle.nub_rule.proofs.Frames.{other, alert-seen-stays, alert-seen-frame}
 use Rattle.nub_rule.proofs.Standing.{lines-same}
 use Rattle.nub_rule.proofs.Beside.{still}
 use Rattle.nub_rule.specs.Owed.{WakeOwed}
@@ -42,6 +44,21 @@ zero-shows x b says z = ⊎_elim (λ (t : (x ≡ 0) × (cond b false true ≡ fa
 says-flag : (x : ℕ) (b : Bool) → Says x b → (x ≡ 0) ⊎ (x ≡ 1)
 says-flag x b h = ⊎_elim (λ (t : (x ≡ 0) × (b ≡ false)). inl t.0) (λ (t : (x ≡ 1) × (b ≡ true)). inr t.0) h
 
+-- by which of the two events a semaphore is taken
+pub by-alertable : (n s : ℕ) (e : Event) (x : SemId) → MayTakeSem n s e → e.action ≡ AlertPReturn x → e ≡ event n (p_action true s)
+by-alertable n s e x may is = ⊎_elim (λ (u : e ≡ p_event n s). absurd (plain-not (P record { 0 = s }) x refl (sym (ap (λ (d : Event). d.action) u) ∙ is))) (λ (u : e ≡ alert_p_event n s). u) may
+  where
+    plain-not : (a : Action) (x : SemId) → a ≡ P record { 0 = s } → a ≡ AlertPReturn x → ⊥
+    plain-not a x e d = cc
+
+pub by-plain : (n s : ℕ) (e : Event) → MayTakeSem n s e → ((x : SemId) → e.action ≢ AlertPReturn x) → e ≡ event n (p_action false s)
+by-plain n s e may not = ⊎_elim (λ (u : e ≡ p_event n s). u) (λ (u : e ≡ alert_p_event n s). absurd (not record { 0 = s } (ap (λ (d : Event). d.action) u))) may
+
+-- the row of a P, whether an alert may end it or not
+p-acts : (alertable : Bool) (n s : ℕ) (old : Spec) → old.pending n ≡ Nothing → old.avail s ≡ true → Acts old (event n (p_action alertable s)) (record old { avail = put old.avail s false })
+p-acts true n s old idle free = (record { order = idle; requires_met = tt; when_met = free; choice_met = tt }, refl)
+p-acts false n s old idle free = (record { order = idle; requires_met = tt; when_met = free; choice_met = tt }, refl)
+
 module _ {T H W : Type 0} (l : Layout) (traced : Bool) (w : W) (begin : W → ℕ → H) (holds : W → List T → List H → Type 0) where
   -- an event by which the bit of the semaphore s becomes x
   sem-marks : (e : Event) (n s x : ℕ) (b : Bool) (p : Part T H) (failed turns cleared : List ℕ) (words : List ℕ) (homes : List (Option (Slot T))) (all : List (Part T H)) (c : Core l traced w holds words homes all) → get_elem? all n ≡ some p → s < 64 → e.thread.0 ≡ n → IsNamed l e.action → MayTell traced p.pen
@@ -54,16 +71,21 @@ module _ {T H W : Type 0} (l : Layout) (traced : Bool) (w : W) (begin : W → �
       (λ z. record { seen = refl; mine = refl; places = refl; held = refl; share = refl; spin = refl; queue = refl; owed = refl; stand = refl; pen = refl }) acts
       (λ z. shows-sem words (set words i x) c.spinner c.queue c.owner c.spec all n p (record (told p z e) { failed = failed; turns = turns; cleared = cleared }) at s b (λ k up. other words i (count_at (cond_object k)) x (λ y. omega arith)) (λ k up ne. other words i (bit_at (sem_object k)) x (λ y. ne (omega arith))) (λ k up. other words i (alert_at k) x (λ y. omega arith))
       (subst (λ (z : ℕ). Says z (cond b false true)) (sym (get_or-set_same words i x 0 (omega arith))) says) refl refl refl refl c.shows)
+      (λ z. alert-seen-stays all n p (record (told p z e) { failed = failed; turns = turns; cleared = cleared }) at words i x c.sizes.few (λ k up y. omega arith) refl c.alert_seen)
       (λ z. owes (record (told p z e) { failed = failed; turns = turns; cleared = cleared }) refl refl refl)
 
-  try_p_at : (slots id s : ℕ) (me : Me (Slot T) (View T H W)) → s < 64 → s < l.semaphores → me.0.kind ≡ Member → me.0.part.wait ≡ None → MayTell traced me.0.part.pen
-      → Allows (IsKept l traced w begin holds) slots id me (bit_at (sem_object s)) (λ x. either (eqb x 0) 1 x) (try_p_tells (λ s. P record { 0 = s }) (step slots (bit_at (sem_object s)) 0 1 none) me)
-  try_p_at slots id s me low named kind out may = let v = me.0 in let n = v.number in let p = v.part in let o : ℕ = sem_object s in let e = p_event n s in
+  p-named : (alertable : Bool) (s : ℕ) → s < l.semaphores → IsNamed l (p_action alertable s)
+  p-named true s low = low
+  p-named false s low = low
+
+  try_p_at : (alertable : Bool) (slots id s : ℕ) (me : Me (Slot T) (View T H W)) → s < 64 → s < l.semaphores → me.0.kind ≡ Member → me.0.part.wait ≡ None → MayTell traced me.0.part.pen
+      → Allows (IsKept l traced w begin holds) slots id me (bit_at (sem_object s)) (λ x. either (eqb x 0) 1 x) (try_p_tells (p_action alertable) (step slots (bit_at (sem_object s)) 0 1 none) me)
+  try_p_at alertable slots id s me low named kind out may = let v = me.0 in let n = v.number in let p = v.part in let o : ℕ = sem_object s in let e = event n (p_action alertable s) in
       member_steps l traced w begin holds slots id (bit_at o) (λ x. either (eqb x 0) 1 x) v me.1
       (λ r q ds. ((r ≡ 0) × Learns e n p (λ z. record (told p z e) { failed = without o p.failed; turns = without o p.turns; cleared = p.cleared }) q × (ds ≡ me.1)) ⊎ ((r ≢ 0) × (q ≡ record p { failed = o ∷ p.failed; turns = without o p.turns }) × (ds ≡ me.1)))
-      (try_p_tells (λ s. P record { 0 = s }) (step slots (bit_at o) 0 1 none) me) kind
+      (try_p_tells (p_action alertable) (step slots (bit_at o) 0 1 none) me) kind
       (λ r q ds world t k is. let same : s ≡ k = omega arith in subst (λ (k : ℕ).
-      (r ≡ 0 → (between : List Event) × Grows n p between (p_event n k) × Becomes me (record (told p (p.seen ++ between) (p_event n k)) { failed = without (sem_object k) p.failed; turns = without (sem_object k) p.turns }) (with_part v q, ds))
+      (r ≡ 0 → (between : List Event) × Grows n p between (event n (p_action alertable k)) × Becomes me (record (told p (p.seen ++ between) (event n (p_action alertable k))) { failed = without (sem_object k) p.failed; turns = without (sem_object k) p.turns }) (with_part v q, ds))
       × (r ≢ 0 → Becomes me (record p { failed = sem_object k ∷ p.failed; turns = without (sem_object k) p.turns }) (with_part v q, ds))) same (⊎_elim
       (λ (u : (r ≡ 0) × Learns e n p (λ z. record (told p z e) { failed = without o p.failed; turns = without o p.turns; cleared = p.cleared }) q × (ds ≡ me.1)). ((λ _. (u.1.0, u.1.1, λ i. (with_part v (u.1.2 i), u.2 i))), λ miss. absurd (miss u.0)))
       (λ (u : (r ≢ 0) × (q ≡ record p { failed = o ∷ p.failed; turns = without o p.turns }) × (ds ≡ me.1)). ((λ hit. absurd (u.0 hit)), λ _ i. (with_part v (u.1 i), u.2 i))) t))
@@ -71,7 +93,7 @@ module _ {T H W : Type 0} (l : Layout) (traced : Bool) (w : W) (begin : W → �
       (λ hit.
       let free = zero-shows r (c.spec.avail s) (c.shows.semaphores s low) hit in
       let idle : c.spec.pending n ≡ Nothing = c.shows.pendings.pends n p at ∙ ap pending_of out in
-      let m = sem-marks e n s 1 false p (without o p.failed) (without o p.turns) p.cleared words homes all c at low refl named may (record { order = idle; requires_met = tt; when_met = free; choice_met = tt }, refl) (inr (refl, refl))
+      let m = sem-marks e n s 1 false p (without o p.failed) (without o p.turns) p.cleared words homes all c at low refl (p-named alertable s named) may (p-acts alertable n s c.spec idle free) (inr (refl, refl))
       (λ q es et ec. owes-try c.queue words (set words (bit_at o) 1) all n p q at o (λ k lo ne. other words (bit_at o) (bit_at k) 1 (λ z. ne (omega arith))) (λ z. let y = get_or-set_same words (bit_at o) 1 0 (omega arith) in omega arith) es ec et c.owes) in
       (m.0, keeps, tt, subst (λ b. Core l traced w holds (set words (bit_at o) (either b 1 r)) homes (set all n m.0)) (sym (eq-eqb r 0 hit)) m.1, inl (hit, m.2, refl)))
       (λ miss. let q : Part T H = record p { failed = o ∷ p.failed; turns = without o p.turns } in (
@@ -81,14 +103,15 @@ module _ {T H W : Type 0} (l : Layout) (traced : Bool) (w : W) (begin : W → �
         subst (λ b. Core l traced w holds (set words (bit_at o) (either b 1 r)) homes (set all n q)) (sym (ne_eqb r 0 miss))
             (still l traced w holds words homes all (bit_at o) n p q at record { seen = refl; mine = refl; places = refl; held = refl; share = refl } refl refl refl refl refl refl refl c
             (lines-same (λ k. c.owed k ++ c.queue k) (λ k. c.owed k ++ c.queue k) words words all n p q at c.sizes.few (λ t lo. refl) (λ k. refl) refl c.lines)
+            (alert-seen-frame all n p q at words words c.sizes.few (λ k lo. refl) refl c.alert_seen)
             (owes-try c.queue words words all n p q at o (λ k lo ne. refl) miss refl refl refl c.owes)),
         inr (miss, refl, refl),
       )))
 
   -- the same at a word that is this place
-  pub try_p_keeps : (slots id s : ℕ) (me : Me (Slot T) (View T H W)) (i : ℕ) → i ≡ bit_at (sem_object s) → s < 64 → s < l.semaphores → me.0.kind ≡ Member → me.0.part.wait ≡ None → MayTell traced me.0.part.pen
-      → Allows (IsKept l traced w begin holds) slots id me i (λ x. either (eqb x 0) 1 x) (try_p_tells (λ s. P record { 0 = s }) (step slots i 0 1 none) me)
-  try_p_keeps slots id s me i word low named kind out may = subst (λ (i : ℕ). Allows (IsKept l traced w begin holds) slots id me i (λ x. either (eqb x 0) 1 x) (try_p_tells (λ s. P record { 0 = s }) (step slots i 0 1 none) me)) (sym word) (try_p_at slots id s me low named kind out may)
+  pub try_p_keeps : (alertable : Bool) (slots id s : ℕ) (me : Me (Slot T) (View T H W)) (i : ℕ) → i ≡ bit_at (sem_object s) → s < 64 → s < l.semaphores → me.0.kind ≡ Member → me.0.part.wait ≡ None → MayTell traced me.0.part.pen
+      → Allows (IsKept l traced w begin holds) slots id me i (λ x. either (eqb x 0) 1 x) (try_p_tells (p_action alertable) (step slots i 0 1 none) me)
+  try_p_keeps alertable slots id s me i word low named kind out may = subst (λ (i : ℕ). Allows (IsKept l traced w begin holds) slots id me i (λ x. either (eqb x 0) 1 x) (try_p_tells (p_action alertable) (step slots i 0 1 none) me)) (sym word) (try_p_at alertable slots id s me low named kind out may)
 
   clear_sem_at : (slots id s : ℕ) (me : Me (Slot T) (View T H W)) → s < 64 → s < l.semaphores → me.0.kind ≡ Member → me.0.part.wait ≡ None → me.0.part.stand ≡ None → MayTell traced me.0.part.pen
       → Allows (IsKept l traced w begin holds) slots id me (bit_at (sem_object s)) (λ _. 0) (clear_sem_tells (step slots (bit_at (sem_object s)) 0 0 none) me)

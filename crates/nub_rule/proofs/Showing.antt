@@ -9,11 +9,11 @@ use Rattle.larch_actions.specs.declared.event.Pending.TheVariants.{Nothing}
 use Rattle.larch_actions.specs.Actions.{Spec, put}
 use Rattle.larch_actions.specs.Sets.{mem}
 use Rattle.nub_rule.specs.declared.view.Part.{Part}
-use Rattle.nub_rule.specs.Items.{Says, Semaphores, Holders, Pendings, Knows, Conditions, Shows}
+use Rattle.nub_rule.specs.Items.{Says, Semaphores, Alerts, Holders, Pendings, Knows, Conditions, Shows}
 use Rattle.nub_rule.specs.Parts.{waits_on, counts_in, pending_of}
-use Rattle.nub_rule.specs.Places.{bit_at, sem_object, cond_object}
+use Rattle.nub_rule.specs.Places.{most_threads, alert_at, bit_at, sem_object, cond_object}
 use Rattle.nub_rule.proofs.Each.{at_within, each-set, put-here, put-else}
-use Rattle.nub_rule.proofs.Frames.{SameCounts, SameAlerts, SameShown, holders-frame, pendings-frame, semaphores-frame, alerts-frame, conditions-frame}
+use Rattle.nub_rule.proofs.Frames.{SameCounts, SameSems, SameAlerts, SameShown, holders-frame, pendings-frame, semaphores-frame, alerts-frame, conditions-frame}
 use Rattle.nub_rule.proofs.Standing.{some_none}
 
 module _ {T H : Type 0} (words words' : List ℕ) (spinner : ℕ → Option ℕ) (queue : ℕ → List ℕ) (owner : ℕ → Option ℕ) (all : List (Part T H)) (n : ℕ) (p q : Part T H) (at : get_elem? all n ≡ some p) where
@@ -115,19 +115,19 @@ module _ {T H : Type 0} (words words' : List ℕ) (spinner : ℕ → Option ℕ)
     } (λ j x ne at' u. u) s.knows;
   }
 
-  -- the thread n takes the mutex m
-  holders-take : (holder : ℕ → Option ℕ) (m : ℕ) → q.wait ≡ None → ((k : ℕ) → k ≢ m → waits_on p.wait k ≡ false) → Holders owner holder all → Holders (put owner m (some n)) (put holder m (some n)) (set all n q)
-  holders-take holder m ew apart h = let owner' = put owner m (some n) in record {
+  -- the thread n, who has the bit of the mutex m now, holds it and waits no longer
+  pub holders-take : (owner' holder : ℕ → Option ℕ) (m : ℕ) → owner' m ≡ some n → ((k : ℕ) → k ≢ m → owner' k ≡ owner k) → q.wait ≡ None → ((k : ℕ) → k ≢ m → waits_on p.wait k ≡ false) → Holders owner holder all → Holders owner' (put holder m (some n)) (set all n q)
+  holders-take owner' holder m mine others ew apart h = record {
     free = λ k is. dite (ℕ_discrete k m)
-        (λ e. absurd (some-ne-none n (sym (put-here owner m (some n)) ∙ (ap owner' (sym e) ∙ is))))
-        (λ ne. put-else holder m k (some n) ne ∙ h.free k (sym (put-else owner m k (some n) ne) ∙ is));
+        (λ e. absurd (some-ne-none n (sym mine ∙ (ap owner' (sym e) ∙ is))))
+        (λ ne. put-else holder m k (some n) ne ∙ h.free k (sym (others k ne) ∙ is));
     holds = each-set (λ j r. (k : ℕ) → owner k ≡ some j → holder k ≡ cond (waits_on r.wait k) none (some j)) (λ j r. (k : ℕ) → owner' k ≡ some j → put holder m (some n) k ≡ cond (waits_on r.wait k) none (some j)) all n q
         (λ k is. let now : cond (waits_on q.wait k) none (some n) ≡ some n = ap (λ w. cond (waits_on w k) none (some n)) ew in dite (ℕ_discrete k m)
         (λ e. ap (put holder m (some n)) e ∙ (put-here holder m (some n) ∙ sym now))
-        (λ ne. put-else holder m k (some n) ne ∙ (h.holds n p at k (sym (put-else owner m k (some n) ne) ∙ is) ∙ (ap (λ b. cond b none (some n)) (apart k ne) ∙ sym now))))
+        (λ ne. put-else holder m k (some n) ne ∙ (h.holds n p at k (sym (others k ne) ∙ is) ∙ (ap (λ b. cond b none (some n)) (apart k ne) ∙ sym now))))
         (λ j x ne at' u k is. dite (ℕ_discrete k m)
-        (λ e. absurd (ne (some-injective j n (sym is ∙ (ap owner' e ∙ put-here owner m (some n))))))
-        (λ other. put-else holder m k (some n) other ∙ u k (sym (put-else owner m k (some n) other) ∙ is))) h.holds;
+        (λ e. absurd (ne (some-injective j n (sym is ∙ (ap owner' e ∙ mine)))))
+        (λ other. put-else holder m k (some n) other ∙ u k (sym (others k other) ∙ is))) h.holds;
   }
 
   -- the bit of the mutex m is nobody's, and nobody holds it
@@ -152,6 +152,13 @@ semaphores-set : (words words' : List ℕ) (avail : ℕ → Bool) (s : ℕ) (b :
 semaphores-set words words' avail s b bs now h i lo = dite (ℕ_discrete i s)
     (λ e. subst (λ (z : ℕ). Says (get_or words' (bit_at (sem_object z)) 0) (cond (put avail s b z) false true)) (sym e) (subst (λ (z : Bool). Says (get_or words' (bit_at (sem_object s)) 0) (cond z false true)) (sym (put-here avail s b)) now))
     (λ ne. subst (λ (z : ℕ × Bool). Says z.0 (cond z.1 false true)) (λ j. (sym (bs i lo ne) j, sym (put-else avail s i b ne) j)) (h i lo))
+
+-- the alert word of the thread t is set or cleared, and with it the thread alerted or not
+pub alerts-set : (words words' : List ℕ) (alerted : ℕ → Bool) (t : ℕ) (b : Bool) → ((i : ℕ) → i < most_threads → i ≢ t → get_or words' (alert_at i) 0 ≡ get_or words (alert_at i) 0) → Says (get_or words' (alert_at t) 0) b
+    → Alerts words alerted → Alerts words' (put alerted t b)
+alerts-set words words' alerted t b as' now h i lo = dite (ℕ_discrete i t)
+    (λ e. subst (λ (z : ℕ). Says (get_or words' (alert_at z) 0) (put alerted t b z)) (sym e) (subst (λ (z : Bool). Says (get_or words' (alert_at t) 0) z) (sym (put-here alerted t b)) now))
+    (λ ne. subst (λ (z : ℕ × Bool). Says z.0 z.1) (λ j. (sym (as' i lo ne) j, sym (put-else alerted t i b ne) j)) (h i lo))
 
 module _ {T H : Type 0} (words words' : List ℕ) (ws : SameShown words words') (spinner : ℕ → Option ℕ) (queue : ℕ → List ℕ) (owner : ℕ → Option ℕ) (spec : Spec) (all : List (Part T H)) (n : ℕ) (p q : Part T H) (at : get_elem? all n ≡ some p) where
   -- a step that changes at most the conditions, and no wait
@@ -181,7 +188,7 @@ module _ {T H : Type 0} (words words' : List ℕ) (ws : SameShown words words') 
       → ((k : ℕ) → k ≢ m → waits_on p.wait k ≡ false) → ((c k : ℕ) → counts_in p.wait c k ≡ false) → f n ≡ Nothing → ((j : ℕ) → j ≢ n → f j ≡ spec.pending j)
       → Shows words spinner queue owner spec all → Shows words' spinner queue (put owner m (some n)) (record spec { holder = put spec.holder m (some n); pending = f }) (set all n q)
   shows-wins m f ew el ec apart out mine others s = record {
-    holders = holders-take words words' spinner queue owner all n p q at spec.holder m ew apart s.holders;
+    holders = holders-take words words' spinner queue owner all n p q at (put owner m (some n)) spec.holder m (put-here owner m (some n)) (λ k ne. put-else owner m k (some n) ne) ew apart s.holders;
     pendings = pendings-put words words' spinner queue owner all n p q at spec.pending f (mine ∙ ap pending_of (sym ew)) others s.pendings;
     semaphores = semaphores-frame spec.avail words words' ws.sems s.semaphores;
     alerts = alerts-frame spec.alerts words words' ws.alerts s.alerts;
@@ -208,5 +215,16 @@ module _ {T H : Type 0} (words words' : List ℕ) (spinner : ℕ → Option ℕ)
     pendings = pendings-frame all n p q at spec.pending ew h.pendings;
     semaphores = semaphores-set words words' spec.avail s b ss now h.semaphores;
     alerts = alerts-frame spec.alerts words words' al h.alerts;
+    conditions = conditions-frame all n p q at spinner queue spec.members words words' cs ew el eq ec h.conditions;
+  }
+
+  -- the alert word of the thread t is set or cleared
+  pub shows-alert : (t : ℕ) (b : Bool) → SameCounts words words' → SameSems words words' → ((i : ℕ) → i < most_threads → i ≢ t → get_or words' (alert_at i) 0 ≡ get_or words (alert_at i) 0) → Says (get_or words' (alert_at t) 0) b → q.wait ≡ p.wait → q.left ≡ p.left → q.queue ≡ p.queue → q.count ≡ p.count
+      → Shows words spinner queue owner spec all → Shows words' spinner queue owner (record spec { alerts = put spec.alerts t b }) (set all n q)
+  shows-alert t b cs ss as' now ew el eq ec h = record {
+    holders = holders-frame all n p q at owner spec.holder ew h.holders;
+    pendings = pendings-frame all n p q at spec.pending ew h.pendings;
+    semaphores = semaphores-frame spec.avail words words' ss h.semaphores;
+    alerts = alerts-set words words' spec.alerts t b as' now h.alerts;
     conditions = conditions-frame all n p q at spinner queue spec.members words words' cs ew el eq ec h.conditions;
   }

@@ -21,7 +21,7 @@ use Rattle.nub_rule.specs.Plays.{with_part, take_spin_tells, give_spin_tells}
 use Rattle.nub_rule.specs.Rule.{IsKept}
 use Rattle.nub_rule.proofs.Each.{at_within}
 use Rattle.nub_rule.proofs.Members.{Steps, member_steps}
-use Rattle.nub_rule.proofs.Frames.{pens-frame, other, bits-stay, ready-stay, shown-stay, pen-stay}
+use Rattle.nub_rule.proofs.Frames.{pens-frame, other, bits-stay, ready-stay, shown-stay, pen-stay, alert-seen-stays}
 use Rattle.nub_rule.proofs.Standing.{no_object, not_true, stand_none, distinct-behind, mem-behind, lines-same}
 use Rattle.nub_rule.proofs.Counting.{room_to_push, small_of}
 use Rattle.nub_rule.proofs.Showing.{shows-spin, shows-unspin}
@@ -63,6 +63,7 @@ module _ {T H W : Type 0} (l : Layout) (traced : Bool) (w : W) (begin : W → �
             (lines-same (λ i. c.owed i ++ c.queue i) (λ i. c.owed i ++ c.queue i) words words' all n p q at few (ready-stay words (spin_at o) 1 (λ k up z. omega arith)) (λ i. refl) refl lines)
             (shows-spin words words' (shown-stay words (spin_at o) 1 (λ k up z. omega arith) (λ k up z. omega arith) (λ k up z. omega arith)) c.spinner c.queue c.owner c.spec all n p q at o refl refl refl free (λ k is. no_object k (sym idle_there ∙ (s.spinning n p at k).1 is)) c.shows refl)
             (pens-frame all n p q at traced (length c.log) c.writer words words' (pen-stay words (spin_at o) 1 (λ z. omega arith) (λ z. omega arith)) refl c.pens)
+            (alert-seen-stays all n p q at words (spin_at o) 1 c.sizes.few (λ k up z. omega arith) refl c.alert_seen)
             (owes-frame c.queue words words' all n p q at (λ k lo. other words (spin_at o) (bit_at k) 1 (λ z. omega arith)) refl refl refl c.owes)),
         inl (
           hit,
@@ -117,6 +118,7 @@ module _ {T H W : Type 0} (l : Layout) (traced : Bool) (w : W) (begin : W → �
             (lines-same (λ i. c.owed i ++ c.queue i) (λ i. c.owed i ++ c.queue i) words words' all n p q at c.sizes.few (ready-stay words (spin_at o) 0 (λ k up z. omega arith)) (λ i. refl) refl c.lines)
             (shows-unspin words words' (shown-stay words (spin_at o) 0 (λ k up z. omega arith) (λ k up z. omega arith) (λ k up z. omega arith)) c.spinner c.queue c.owner c.spec all n p q at o refl refl mine.0 (only_here c.spinner c.queue c.owed words homes all n p q at s o here) (even ∙ mine.1) c.shows)
             (pens-frame all n p q at traced (length c.log) c.writer words words' (pen-stay words (spin_at o) 0 (λ z. omega arith) (λ z. omega arith)) refl c.pens)
+            (alert-seen-stays all n p q at words (spin_at o) 0 c.sizes.few (λ k up z. omega arith) refl c.alert_seen)
             (owes-frame c.queue words words' all n p q at (λ k lo. other words (spin_at o) (bit_at k) 0 (λ z. omega arith)) refl refl refl c.owes)),
         (one-by (get_or words (spin_at o) 0) n (c.spinner o) (s.spin o low) mine.0, refl, refl),
       ))

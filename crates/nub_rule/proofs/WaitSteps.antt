@@ -1,5 +1,6 @@
--- The clearing of a mutex's bit in a wait keeps the rule. It is no event: nobody holds the mutex since the wait began.
-use Rattle.std.proofs.Common.{Bool, true, cond, ◌≡◌, ℕ, ◌<◌, List, ◌∷◌, ◌++◌, length, get_or, set, refl, sym, ap, ◌∙◌, subst, arith, length-set, Some, None, eq-eqb}
+-- The steps on a mutex's bit in a wait keep the rule: its clearing, and taking it for no event. Nobody holds the mutex since the wait began.
+use Rattle.std.proofs.Common.{Bool, true, cond, eqb, ◌≡◌, ◌≢◌, ℕ, ◌<◌, ◌⊎◌, List, ◌∷◌, ◌++◌, length, get_or, set, refl, sym, ap, ◌∙◌, subst, inl, inr, ⊎_elim, arith, length-set, Some, None, eq-eqb}
+use prog.Atomic.{either}
 use Rattle.std.specs.Prelude.{Option as Opt}
 use mathlib.Core.Logic.{dite}
 use mathlib.Core.Option.{Option, some, none, some-injective, some-ne-none}
@@ -7,48 +8,53 @@ use native.Mathlib.Decide.{ℕ_discrete}
 use lib.ListN.{get_elem?}
 use Rattle.larch_actions.specs.declared.event.Layout.{Layout}
 use Rattle.larch_actions.specs.Actions.{Spec, put}
-use Rattle.atomic_table.specs.Table.{Me, step, Allows, gives, put_back, rest}
-use Rattle.atomic_table.proofs.Lists.{set_else}
+use Rattle.larch_actions.specs.Sets.{without}
+use Rattle.atomic_table.specs.Table.{Me, step, Allows, keeps, takes, gives, put_back, rest}
+use Rattle.atomic_table.proofs.Lists.{set_else, set_here}
 use Rattle.nub_rule.specs.declared.rule.Slot.{Slot}
 use Rattle.nub_rule.specs.declared.rule.Slot.TheVariants.{Value}
 use Rattle.nub_rule.specs.declared.view.Part.{Part}
 use Rattle.nub_rule.specs.declared.view.Wait.{Wait}
-use Rattle.nub_rule.specs.declared.view.WaitBit.TheVariants.{Open}
+use Rattle.nub_rule.specs.declared.view.WaitBit.{WaitBit}
+use Rattle.nub_rule.specs.declared.view.WaitBit.TheVariants.{Open, Quiet}
 use Rattle.nub_rule.specs.declared.view.View.{View}
 use Rattle.nub_rule.specs.declared.view.Kind.TheVariants.{Member}
 use Rattle.nub_rule.specs.Items.{Core, Holders, Shows}
-use Rattle.nub_rule.specs.Parts.{Got, waits_on, pending_of}
+use Rattle.nub_rule.specs.Parts.{Got, Lacks, waits_on, pending_of}
 use Rattle.nub_rule.specs.Places.{bit_at, value_at, queue_at}
-use Rattle.nub_rule.specs.Plays.{MayFree, with_part, opened, clear_bit_in_wait_tells}
+use Rattle.nub_rule.specs.Plays.{Becomes, MayFree, WonQuietly, with_part, opened, quieted, clear_bit_in_wait_tells, take_bit_quiet_tells}
 use Rattle.nub_rule.specs.Rule.{FitsAs, IsKept}
-use Rattle.nub_rule.proofs.Each.{at_within, each-set, put-here, put-else}
+use Rattle.nub_rule.proofs.Each.{at_within, at_below, each-set, put-at, put-else}
 use Rattle.nub_rule.proofs.Members.{Steps, member_steps}
-use Rattle.nub_rule.proofs.Frames.{SameShown, other, sizes-frame, told-frame, spins-frame, lines-frame, semaphores-frame, alerts-frame, pens-frame, ready-stay, spins-stay, shown-stay, pen-stay}
-use Rattle.nub_rule.proofs.SpinSteps.{one-by}
+use Rattle.nub_rule.proofs.Frames.{SameShown, other, sizes-frame, told-frame, spins-frame, lines-frame, semaphores-frame, alerts-frame, pens-frame, ready-stay, spins-stay, shown-stay, pen-stay, alert-seen-stays}
+use Rattle.nub_rule.proofs.SpinSteps.{nobody-by, one-by}
 use Rattle.nub_rule.proofs.Owing.{owes-clear}
-use Rattle.nub_rule.proofs.Owning.{owned-give}
+use Rattle.nub_rule.proofs.Owning.{lacking, owned-give}
 use Rattle.nub_rule.proofs.Showing.{pendings-put}
 use Rattle.nub_rule.proofs.Conditioning.{conditions-wait}
-use Rattle.nub_rule.proofs.BitSteps.{value_same}
+use Rattle.nub_rule.proofs.BitSteps.{loser, bit_taken, bit_missed, value_same}
 
 module _ {T H : Type 0} (words words' : List ℕ) (spinner : ℕ → Option ℕ) (queue : ℕ → List ℕ) (owner : ℕ → Option ℕ) (spec : Spec) (all : List (Part T H)) (n : ℕ) (p q : Part T H) (at : get_elem? all n ≡ some p) where
-  -- the bit of the mutex m, on which the thread n waits, is nobody's
-  holders-close : (holder : ℕ → Option ℕ) (m : ℕ) → owner m ≡ some n → waits_on p.wait m ≡ true → ((k : ℕ) → waits_on q.wait k ≡ waits_on p.wait k) → Holders owner holder all → Holders (put owner m none) holder (set all n q)
-  holders-close holder m own waits same h = let owner' = put owner m none in let gone : (j k : ℕ) → k ≡ m → owner' k ≡ some j → ⊥ = λ j k e is. some-ne-none j (sym is ∙ (ap owner' e ∙ put-here owner m none)) in record {
-    free = λ k is. dite (ℕ_discrete k m) (λ e. ap holder e ∙ (h.holds n p at m own ∙ ap (λ b. cond b none (some n)) waits)) (λ ne. h.free k (sym (put-else owner m k none ne) ∙ is));
+  -- the bit of the mutex m, on which the thread n waits and which nobody holds, is nobody's or that thread's now
+  holders-rebit : (holder : ℕ → Option ℕ) (m : ℕ) (o : Option ℕ) → ((j : ℕ) → o ≡ some j → j ≡ n) → holder m ≡ none → waits_on p.wait m ≡ true → ((k : ℕ) → waits_on q.wait k ≡ waits_on p.wait k) → Holders owner holder all → Holders (put owner m o) holder (set all n q)
+  holders-rebit holder m o only nobody waits same h = let owner' = put owner m o in record {
+    free = λ k is. dite (ℕ_discrete k m) (λ e. ap holder e ∙ nobody) (λ ne. h.free k (sym (put-else owner m k o ne) ∙ is));
     holds = each-set (λ j r. (k : ℕ) → owner k ≡ some j → holder k ≡ cond (waits_on r.wait k) none (some j)) (λ j r. (k : ℕ) → owner' k ≡ some j → holder k ≡ cond (waits_on r.wait k) none (some j)) all n q
-        (λ k is. dite (ℕ_discrete k m) (λ e. absurd (gone n k e is)) (λ ne. h.holds n p at k (sym (put-else owner m k none ne) ∙ is) ∙ ap (λ b. cond b none (some n)) (sym (same k))))
-        (λ j x ne at' u k is. dite (ℕ_discrete k m) (λ e. absurd (gone j k e is)) (λ other. u k (sym (put-else owner m k none other) ∙ is))) h.holds;
+        (λ k is. dite (ℕ_discrete k m)
+        (λ e. ap holder e ∙ (nobody ∙ ap (λ b. cond b none (some n)) (sym (same k ∙ (ap (waits_on p.wait) e ∙ waits)))))
+        (λ ne. h.holds n p at k (sym (put-else owner m k o ne) ∙ is) ∙ ap (λ b. cond b none (some n)) (sym (same k))))
+        (λ j x ne at' u k is. dite (ℕ_discrete k m) (λ e. absurd (ne (only j (sym (put-at owner m o k e) ∙ is)))) (λ other. u k (sym (put-else owner m k o other) ∙ is))) h.holds;
   }
 
-  shows-close : (m : ℕ) (x : Wait) → SameShown words words' → owner m ≡ some n → p.wait ≡ Some x → q.wait ≡ opened p.wait → x.mutex.0 ≡ m → q.left ≡ p.left → q.queue ≡ p.queue → q.count ≡ p.count
-      → Shows words spinner queue owner spec all → Shows words' spinner queue (put owner m none) spec (set all n q)
-  shows-close m x ws own before after on el eq ec s = let now : q.wait ≡ Some (record x { bit = Open }) = after ∙ ap opened before in record {
-    holders = holders-close spec.holder m own (ap (λ z. waits_on z m) before ∙ eq-eqb x.mutex.0 m on) (λ k. ap (λ z. waits_on z k) now ∙ sym (ap (λ z. waits_on z k) before)) s.holders;
+  -- and of its wait the thread has changed the stage of that bit alone
+  shows-rebit : (m : ℕ) (x : Wait) (b : WaitBit) (o : Option ℕ) → ((j : ℕ) → o ≡ some j → j ≡ n) → spec.holder m ≡ none → SameShown words words' → p.wait ≡ Some x → q.wait ≡ Some (record x { bit = b }) → x.mutex.0 ≡ m → q.left ≡ p.left → q.queue ≡ p.queue → q.count ≡ p.count
+      → Shows words spinner queue owner spec all → Shows words' spinner queue (put owner m o) spec (set all n q)
+  shows-rebit m x b o only nobody ws before now on el eq ec s = record {
+    holders = holders-rebit spec.holder m o only nobody (ap (λ z. waits_on z m) before ∙ eq-eqb x.mutex.0 m on) (λ k. ap (λ z. waits_on z k) now ∙ sym (ap (λ z. waits_on z k) before)) s.holders;
     pendings = pendings-put words words' spinner queue owner all n p q at spec.pending spec.pending (s.pendings.pends n p at ∙ (ap pending_of before ∙ sym (ap pending_of now))) (λ j ne. refl) s.pendings;
     semaphores = semaphores-frame spec.avail words words' ws.sems s.semaphores;
     alerts = alerts-frame spec.alerts words words' ws.alerts s.alerts;
-    conditions = conditions-wait words words' spinner queue spec.members all n p q at s.conditions x (record x { bit = Open }) ws.counts before now refl refl el eq ec;
+    conditions = conditions-wait words words' spinner queue spec.members all n p q at s.conditions x (record x { bit = b }) ws.counts before now refl refl el eq ec;
   }
 
 module _ {T H W : Type 0} (l : Layout) (traced : Bool) (w : W) (begin : W → ℕ → H) (holds : W → List T → List H → Type 0) where
@@ -93,8 +99,9 @@ module _ {T H W : Type 0} (l : Layout) (traced : Bool) (w : W) (begin : W → �
             owned = owned-give l (holds w) c.owner c.values c.shares words homes all n m p q at o wide (omega arith) inside lawful y u own (omega arith) (at_within c.values m x here) (at_within c.shares n s mine.2) (law c.values c.shares o.kept m x y here n s u mine.2 (allowed s mine.1)) refl refl;
             spins = spins-frame all n p q at c.spinner c.queue c.owed words words' homes homes' (spins-stay words (bit_at m) 0 (λ k up z. omega arith) (λ k up z. omega arith)) (λ k lo. set_else homes (value_at m) (queue_at k) (some line) (λ z. omega arith)) refl refl refl c.spins;
             lines = lines-frame all n p q at (λ k. c.owed k ++ c.queue k) words words' c.sizes.few (ready-stay words (bit_at m) 0 (λ k up z. omega arith)) refl c.lines;
-            shows = shows-close words words' c.spinner c.queue c.owner c.spec all n p q at m b (shown-stay words (bit_at m) 0 (λ k up z. omega arith) (λ k up z. omega arith) (λ k up z. omega arith)) own before refl on refl refl refl c.shows;
+            shows = shows-rebit words words' c.spinner c.queue c.owner c.spec all n p q at m b Open none (λ j is. absurd (some-ne-none j (sym is))) (c.shows.holders.holds n p at m own ∙ ap (λ z. cond z none (some n)) (ap (λ z. waits_on z m) before ∙ eq-eqb b.mutex.0 m on)) (shown-stay words (bit_at m) 0 (λ k up z. omega arith) (λ k up z. omega arith) (λ k up z. omega arith)) before (ap opened before) on refl refl refl c.shows;
             pens = pens-frame all n p q at traced (length c.log) c.writer words words' (pen-stay words (bit_at m) 0 (λ z. omega arith) (λ z. omega arith)) refl c.pens;
+            alert_seen = alert-seen-stays all n p q at words (bit_at m) 0 c.sizes.few (λ k up z. omega arith) refl c.alert_seen;
             owes = owes-clear c.queue words words' all n p q at m (λ k lo ne. other words (bit_at m) (bit_at k) 0 (λ z. ne (omega arith))) apart refl refl refl c.owes;
           },
           (one-by (get_or words (bit_at m) 0) n (c.owner m) (o.bits m inside) own, (s, mine.1, refl, refl)),
@@ -126,3 +133,58 @@ module _ {T H W : Type 0} (l : Layout) (traced : Bool) (w : W) (begin : W → �
                   λ j. Some (after (h j) m n (b j) (e j) (d j)),
             ))
             (closes_at n m p me.1 x y b next inside before on apart may.2 may.3 (λ s is. may.4 w s world is)) st r wide at small
+
+  -- what the thread n leaves that takes the mutex m in a wait, for no event
+  abbrev TakesQuietly : (W → ℕ → T → ℕ → H → Type 0) → ℕ → ℕ → Part T H → List (ℕ × Slot T) → Part T H → List (ℕ × Slot T) → Type 0
+  TakesQuietly fits m n p cs q ds = (x : T) × ((s : H) → p.share ≡ Some s → fits w m x n s) × Lacks p m × (get_elem? (set p.held m (Some x)) m ≡ some (Some x))
+      × (q ≡ record p { held = set p.held m (Some x); wait = quieted p.wait; failed = without m p.failed; turns = without m p.turns }) × (ds ≡ (value_at m, Value (Some x)) ∷ cs)
+
+  module _ (fits : W → ℕ → T → ℕ → H → Type 0)
+      (law : (values : List T) (shares : List H) → holds w values shares → (m : ℕ) (x : T) → get_elem? values m ≡ some x → (t : ℕ) (s : H) → get_elem? shares t ≡ some s → fits w m x t s) where
+    takes_quietly : (n m : ℕ) (p : Part T H) (cs : List (ℕ × Slot T)) (b : Wait) → m < l.mutexes → p.wait ≡ Some b → b.mutex.0 ≡ m
+        → Steps l traced w begin holds n (bit_at m) (λ x. either (eqb x 0) 1 x) p cs (λ r q ds. ((r ≡ 0) × TakesQuietly fits m n p cs q ds) ⊎ ((r ≢ 0) × (q ≡ loser p m) × (ds ≡ cs)))
+    takes_quietly n m p cs b inside before on words homes all c at small = let r : ℕ = get_or words (bit_at m) 0 in let lawful = c.sizes.lawful in
+        let far : m < 192 = omega arith in dite (ℕ_discrete r 0)
+        (λ hit.
+        let o = c.owned in
+        let free = nobody-by r (c.owner m) (o.bits m inside) hit in
+        let found = at_below c.values m (let z = o.values_wide in omega arith) in
+        let x = found.0 in
+        let wide : length p.held ≡ 64 = c.sizes.parts_wide n p at in
+        let q : Part T H = record p { held = set p.held m (Some x); wait = quieted p.wait; failed = without m p.failed; turns = without m p.turns } in
+        let words' : List ℕ = set words (bit_at m) 1 in (
+          q,
+          takes (value_at m) (Value (Some x)),
+          o.at_home m inside x found.1 free,
+          bit_taken l traced w begin holds n m p q x words homes all at inside c hit found.1 record { held = refl; share = refl; spin = refl; queue = refl; owed = refl; stand = refl; alerted = refl; cleared = refl; turns = refl } c.log c.spec c.run
+              (told-frame all n p q at l c.log refl refl refl c.told)
+              (shows-rebit words words' c.spinner c.queue c.owner c.spec all n p q at m b Quiet (some n) (λ j is. some-injective j n (sym is)) (c.shows.holders.free m free) (shown-stay words (bit_at m) 1 (λ k up z. omega arith) (λ k up z. omega arith) (λ k up z. omega arith)) before (ap quieted before) on refl refl refl c.shows)
+              (pens-frame all n p q at traced (length c.log) c.writer words words' (pen-stay words (bit_at m) 1 (λ z. omega arith) (λ z. omega arith)) refl c.pens),
+          inl (
+            hit,
+            (
+              x,
+              (λ s is. let u = o.shared n p at in let f : Some u.0 ≡ Some s = sym u.1 ∙ is in let g : u.0 ≡ s = cc in law c.values c.shares o.kept m x found.1 n s (u.2 ∙ ap some g)),
+              lacking p m (omega arith) (λ has. some-ne-none n (sym ((o.standing n p at m).0 has) ∙ free)),
+              set_here p.held m (Some x) (omega arith),
+              refl,
+              refl,
+            ),
+          ),
+        ))
+        (λ miss. (loser p m, keeps, tt, bit_missed l traced w begin holds n m p words homes all at far c miss, inr (miss, refl, refl)))
+
+    pub take_bit_quiet_keeps : (slots id m : ℕ) (b : Wait) (me : Me (Slot T) (View T H W)) (i : ℕ) → i ≡ bit_at m → m < l.mutexes → me.0.kind ≡ Member → me.0.part.wait ≡ Some b → b.mutex.0 ≡ m
+        → Allows (IsKept l traced w begin holds) slots id me i (λ x. either (eqb x 0) 1 x) (take_bit_quiet_tells fits (step slots i 0 1 none) me)
+    take_bit_quiet_keeps slots id m b me i word inside kind before on = subst (λ (i : ℕ). Allows (IsKept l traced w begin holds) slots id me i (λ x. either (eqb x 0) 1 x) (take_bit_quiet_tells fits (step slots i 0 1 none) me)) (sym word) here
+      where
+        here : Allows (IsKept l traced w begin holds) slots id me (bit_at m) (λ x. either (eqb x 0) 1 x) (take_bit_quiet_tells fits (step slots (bit_at m) 0 1 none) me)
+        here = let v = me.0 in let n = v.number in let p = v.part in member_steps l traced w begin holds slots id (bit_at m) (λ x. either (eqb x 0) 1 x) v me.1
+            (λ r q ds. ((r ≡ 0) × TakesQuietly fits m n p me.1 q ds) ⊎ ((r ≢ 0) × (q ≡ loser p m) × (ds ≡ me.1))) (take_bit_quiet_tells fits (step slots (bit_at m) 0 1 none) me) kind
+            (λ r q ds world t k is. let same : m ≡ k = omega arith in subst (λ (k : ℕ). (r ≡ 0 → WonQuietly fits k me (with_part v q, ds)) × (r ≢ 0 → Becomes me (loser p k) (with_part v q, ds))) same (⊎_elim
+            (λ (u : (r ≡ 0) × TakesQuietly fits m n p me.1 q ds). (
+              (λ _. let x = u.1 in (x.0, (λ w' s is has. let e : Some w ≡ Some w' = sym world ∙ is in let f : w ≡ w' = cc in subst (λ (z : W). fits z m x.0 n s) f (x.1 s has)), x.2, x.3, λ i. (with_part v (x.4 i), x.5 i))),
+              λ miss. absurd (miss u.0),
+            ))
+            (λ (u : (r ≢ 0) × (q ≡ loser p m) × (ds ≡ me.1)). ((λ hit. absurd (u.0 hit)), λ _ i. (with_part v (u.1 i), u.2 i))) t))
+            (takes_quietly n m p me.1 b inside before on)

@@ -173,6 +173,10 @@ module _ {T H : Type 0} where
     pub queued : (c t : ℕ) → mem t (queue (cond_object c)) ≡ false → mem t (left c) ≡ false
     pub knows : Each (Knows spinner left count counting) all
 
+  -- ALERT SEEN: a thread that saw its own alert word set, and hasn't swapped it since, finds it set
+  abbrev pub AlertSeen : List ℕ → List (Part T H) → Type 0
+  AlertSeen words all = Each (λ n p. p.alerted ≡ true → slice_index words (alert_at n) ≡ 1) all
+
   -- MEANING OF THE WORDS: what words and views show of the state of the specification
   pub record Shows (words : List ℕ) (spinner : ℕ → Option ℕ) (queue : ℕ → List ℕ) (owner : ℕ → Option ℕ) (spec : Spec) (all : List (Part T H)) : Type 0 where
     pub holders : Holders owner spec.holder all
@@ -218,4 +222,5 @@ module _ {T H : Type 0} where
     pub lines : Lines (λ o. owed o ++ queue o) words all
     pub shows : Shows words spinner queue owner spec all
     pub pens : Pens traced (length log) words writer all
+    pub alert_seen : AlertSeen words all
     pub owes : WakeOwed queue words all

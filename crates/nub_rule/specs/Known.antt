@@ -10,9 +10,9 @@ use Rattle.atomic_table.specs.Table.{Me}
 use Rattle.atomic_table.specs.Seated.{TableId}
 use Rattle.larch_actions.specs.Sets.{mem}
 use Rattle.nub_rule.specs.declared.object.Object.{Object}
-use Rattle.nub_rule.specs.declared.object.Object.TheVariants.{Cond}
+use Rattle.nub_rule.specs.declared.object.Object.TheVariants.{Mutex, Sem, Cond}
 use Rattle.nub_rule.specs.declared.object.Why.{Why}
-use Rattle.nub_rule.specs.declared.object.Why.TheVariants.{TryFailed, QueueSeen, Block}
+use Rattle.nub_rule.specs.declared.object.Why.TheVariants.{TryFailed, QueueSeen, Block, Leaving}
 use Rattle.nub_rule.specs.declared.package.Entry.{Entry}
 use Rattle.nub_rule.specs.declared.package.Stored.{Stored}
 use Rattle.nub_rule.specs.declared.rule.About.{About}
@@ -26,8 +26,8 @@ use Rattle.nub_rule.specs.declared.view.View.{View}
 use Rattle.nub_rule.specs.declared.view.Kind.TheVariants.{Member}
 use Rattle.nub_rule.specs.Items.{line_of}
 use Rattle.nub_rule.specs.Objects.{object_of, IsGate, IsCond}
-use Rattle.nub_rule.specs.Parts.{Got, Lacks}
-use Rattle.nub_rule.specs.Places.{most_threads, value_at, queue_at, word_count}
+use Rattle.nub_rule.specs.Parts.{Got, IsAlerted, IsClear, Lacks}
+use Rattle.nub_rule.specs.Places.{most_threads, value_at, queue_at, sem_object, word_count}
 use Rattle.nub_rule.specs.Plays.{Sat, Grows, behind}
 use Rattle.nub_rule.specs.Slots.{find, IsDistinct, Below}
 
@@ -182,11 +182,16 @@ module _ {T H W : Type 0} where
   HasCounted (Cond c) k = (x : Wait) × (j : ℕ) × (k.wait ≡ Some x) × (x.cond.0 ≡ c.0) × (x.member ≡ Some j)
   HasCounted _ k = ⊥
 
+  -- the thread stands at the object, at a stage of this sort
+  abbrev pub StandsAs : (Stand → Type 0) → Known T H W → Type 0
+  StandsAs P k = (s : Stand) × (k.stand ≡ Some s) × P s
+
   -- the reason in the view for which a thread takes the spin word of the object
   abbrev pub HasReason : Object → Known T H W → Why → Type 0
   HasReason at k TryFailed = mem (object_of at) k.failed ≡ true
   HasReason at k QueueSeen = (IsGate at × (mem (object_of at) k.looked ≡ true)) ⊎ (IsCond at × (k.wait ≡ None))
   HasReason at k Block = HasCounted at k
+  HasReason at k Leaving = StandsAs (λ s. (s.at ≡ object_of at) × IsAlerted s.stage) k
 
   -- the thread may put itself into the queue: into a condition's in a wait there whose count stands
   abbrev pub MayPush : Object → Known T H W → Type 0
@@ -198,13 +203,15 @@ module _ {T H W : Type 0} where
   MayPop (Cond c) k = (k.wait ≡ None) × ((t : ℕ) → mem t (behind k.queue) ≡ false → mem t k.left ≡ false)
   MayPop _ k = Unit {0}
 
+  -- the thread may take itself out of the queue in which it stands: it found the bit clear at its second test, or at a semaphore has seen its alert word set
+  abbrev pub MayLeave : Object → Known T H W → Type 0
+  MayLeave (Mutex m) k = StandsAs (λ s. (s.at ≡ m.0) × IsClear s.stage) k
+  MayLeave (Sem s) k = StandsAs (λ x. (x.at ≡ sem_object s.0) × (IsClear x.stage ⊎ (k.alerted ≡ true))) k
+  MayLeave (Cond c) k = ⊥
+
   -- the thread has no mutex's bit
   abbrev pub HasNone : Known T H W → Type 0
   HasNone k = (m : ℕ) (x : T) → ¬ Holds k m x
-
-  -- the thread stands at the object, at a stage of this sort
-  abbrev pub StandsAs : (Stand → Type 0) → Known T H W → Type 0
-  StandsAs P k = (s : Stand) × (k.stand ≡ Some s) × P s
 
 module _ {T H : Type 0} where
   -- the slots at hand are the values of the mutexes whose bits the thread has, and the queue of the object whose spin word it has

@@ -144,6 +144,10 @@ module _ {T H : Type 0} where
     pub waits : Each (λ n p. (s : Stand) → p.stand ≡ Some s → s.at < 128
         → IsReady words n ⊎ (AnyView (λ q. OwesAt s.at q n) views ⊎ ((slice_index words (bit_at s.at) ≢ 0) ⊎ SomebodyMustLook s.at (queue s.at) views))) views
 
+  -- ALERT SEEN: a view that saw its own alert word set, and hasn't swapped it since, finds it set
+  abbrev pub AlertSeen : List ℕ → List (Part T H) → Type 0
+  AlertSeen words views = Each (λ n p. p.alerted ≡ true → slice_index words (alert_at n) ≡ 1) views
+
   -- COUNTS READ: a count that a view has read is at most the count now, and the holder of the condition's spin word knows the count
   pub record CountsRead (words : List ℕ) (views : List (Part T H)) : Type 0 where
     pub risen : Each (λ n p. (w : Wait) (k : ℕ) → p.wait ≡ Some w → w.member ≡ Some k → w.cond.0 < 64 → k ≤ count_now words w.cond.0) views
@@ -190,6 +194,7 @@ module _ {T H : Type 0} where
     pub queued_threads : QueuedThreads words views queue
     pub ready_words : ReadyWords words views queue
     pub no_wake_lost : NoWakeLost words views queue
+    pub alert_seen : AlertSeen words views
     pub counts_read : CountsRead words views
     pub values_and_shares : ValuesAndShares l.mutexes holds homes views values shares
     pub numbering : Numbering traced log words views

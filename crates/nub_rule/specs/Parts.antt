@@ -8,7 +8,7 @@ use Rattle.nub_rule.specs.declared.view.Part.{Part}
 use Rattle.nub_rule.specs.declared.view.Wait.{Wait}
 use Rattle.nub_rule.specs.declared.view.Stand.{Stand}
 use Rattle.nub_rule.specs.declared.view.Stage.{Stage}
-use Rattle.nub_rule.specs.declared.view.Stage.TheVariants.{Pushed, Clear, Found}
+use Rattle.nub_rule.specs.declared.view.Stage.TheVariants.{Pushed, Clear, Tested, Asleep, Alerted, Found}
 use Rattle.nub_rule.specs.declared.view.Pen.{Pen}
 use Rattle.nub_rule.specs.declared.view.Pen.TheVariants.{No, Read, Made}
 
@@ -41,6 +41,30 @@ IsClear _ = ⊥
 abbrev pub IsFound : Stage → Type 0
 IsFound Found = Unit {0}
 IsFound _ = ⊥
+
+abbrev pub IsAlerted : Stage → Type 0
+IsAlerted Alerted = Unit {0}
+IsAlerted _ = ⊥
+
+-- the stage after the thread found its alert word set: who has tested the bit, and hasn't found its ready word set, may leave for that
+abbrev pub alerted_stage : Stage → Stage
+alerted_stage Tested = Alerted
+alerted_stage Asleep = Alerted
+alerted_stage g = g
+
+abbrev pub alerted_stand : Opt Stand → Opt Stand
+alerted_stand None = None
+alerted_stand (Some s) = Some (record s { stage = alerted_stage s.stage })
+
+-- the turns of a thread that took itself out of the queue of the gate o at this stage: it has its turn there, unless it had found the bit set since its push
+abbrev pub turns_from : Stage → ℕ → List ℕ → List ℕ
+turns_from Pushed o xs = o ∷ xs
+turns_from Clear o xs = o ∷ xs
+turns_from _ o xs = xs
+
+abbrev pub left_turns : Opt Stand → List ℕ → List ℕ
+left_turns None xs = xs
+left_turns (Some s) xs = turns_from s.stage s.at xs
 
 -- whoever left the queue of a gate has its turn there
 abbrev pub turned : Opt Stand → List ℕ → List ℕ

@@ -1,10 +1,10 @@
 -- What each kind of step tells of the seat before and after.
-use Rattle.std.specs.Prelude.{Bool, cond, eqb, true, false, ◌≡◌, ◌≢◌, ◌⊎◌, ℕ, ◌+◌, ◌<◌, List, [], ◌∷◌, ◌++◌, length, slice_set, Some, None, Option as Opt}
+use Rattle.std.specs.Prelude.{Bool, cond, eqb, true, false, ◌≡◌, ◌≢◌, ◌⊎◌, ℕ, ◌+◌, ◌*◌, ◌<◌, List, [], ◌∷◌, ◌++◌, length, slice_set, Some, None, Option as Opt}
 use mathlib.Core.Option.{some}
 use lib.ListN.{get_elem?}
 use Rattle.larch_actions.specs.declared.event.Event.{Event}
 use Rattle.larch_actions.specs.declared.event.Action.{Action}
-use Rattle.larch_actions.specs.declared.event.Action.TheVariants.{Acquire, Release, Enqueue, AlertEnqueue, Resume, AlertReturn, Signal, Broadcast, P, V, Alert, TestAlert}
+use Rattle.larch_actions.specs.declared.event.Action.TheVariants.{Acquire, Release, Enqueue, AlertEnqueue, Resume, AlertReturn, AlertRaise, Signal, Broadcast, P, V, Alert, TestAlert, AlertPReturn, AlertPRaise}
 use Rattle.larch_actions.specs.Actions.{IsLegal, by_thread}
 use Rattle.larch_actions.specs.Sets.{mem, set_of, without}
 use Rattle.atomic_table.specs.Table.{Me, Step, rest}
@@ -16,10 +16,10 @@ use Rattle.nub_rule.specs.declared.view.Stage.TheVariants.{Pushed, Clear, Tested
 use Rattle.nub_rule.specs.declared.view.Stand.{Stand}
 use Rattle.nub_rule.specs.declared.view.View.{View}
 use Rattle.nub_rule.specs.declared.view.Wait.{Wait}
-use Rattle.nub_rule.specs.declared.view.WaitBit.TheVariants.{Closing, Open}
+use Rattle.nub_rule.specs.declared.view.WaitBit.TheVariants.{Closing, Open, Quiet}
 use Rattle.nub_rule.specs.Items.{Distinct, Small, line_of}
-use Rattle.nub_rule.specs.Parts.{Got, Lacks, made, stands_at, staged, turned}
-use Rattle.nub_rule.specs.Places.{most_threads, value_at, spin_at, length_at, queue_at, bit_at, count_at, ready_at, sem_object, cond_object}
+use Rattle.nub_rule.specs.Parts.{Got, Lacks, alerted_stand, left_turns, made, stands_at, staged, turned}
+use Rattle.nub_rule.specs.Places.{most_threads, value_at, spin_at, length_at, queue_at, alert_at, bit_at, count_at, ready_at, sem_object, cond_object}
 
 abbrev pub Sat : Type 0 → Type 0 → Type 0 → Type 0
 Sat T H W = Me (Slot T) (View T H W)
@@ -55,6 +55,27 @@ alert_event t who = event t (Alert record { 0 = who })
 abbrev pub test_alert_event : ℕ → Bool → Event
 test_alert_event t answer = event t (TestAlert answer)
 
+-- a P of the semaphore s that an alert may end, where none has
+abbrev pub alert_p_event : ℕ → ℕ → Event
+alert_p_event t s = event t (AlertPReturn record { 0 = s })
+
+-- the same where an alert has ended it
+abbrev pub alert_p_raise_event : ℕ → ℕ → Event
+alert_p_raise_event t s = event t (AlertPRaise record { 0 = s })
+
+-- the second part of an alertable wait on the mutex m in the condition c, where an alert has ended it
+abbrev pub alert_raise_event : ℕ → ℕ → ℕ → Event
+alert_raise_event t m c = event t (AlertRaise record { 0 = m } record { 0 = c })
+
+-- the action by which a semaphore is taken, by a P that an alert may end or by any other
+abbrev pub p_action : Bool → ℕ → Action
+p_action true s = AlertPReturn record { 0 = s }
+p_action false s = P record { 0 = s }
+
+-- the thread n may take the semaphore s by the event e
+abbrev pub MayTakeSem : ℕ → ℕ → Event → Type 0
+MayTakeSem n s e = (e ≡ p_event n s) ⊎ (e ≡ alert_p_event n s)
+
 -- the wait that was begun with the count k
 abbrev pub begun_wait : Bool → ℕ → ℕ → ℕ → Wait
 begun_wait alertable m c k = record { mutex = record { 0 = m }; cond = record { 0 = c }; alertable = alertable; bit = Closing; member = Some k }
@@ -68,6 +89,16 @@ unread (Some w) = Some (record w { member = None })
 abbrev pub opened : Opt Wait → Opt Wait
 opened None = None
 opened (Some w) = Some (record w { bit = Open })
+
+-- the wait after the bit of its mutex was taken again, without an event
+abbrev pub quieted : Opt Wait → Opt Wait
+quieted None = None
+quieted (Some w) = Some (record w { bit = Quiet })
+
+-- the wait of a thread that took itself out of the queue of its condition when the count was k
+abbrev pub recounted : ℕ → Opt Wait → Opt Wait
+recounted k None = None
+recounted k (Some w) = Some (record w { member = Some k })
 
 -- the action by which a thread takes the bit of the mutex m, by what it has begun
 abbrev pub taken_action : ℕ → Opt Wait → Action
@@ -141,6 +172,16 @@ module _ {T H W : Type 0} where
   -- the bit of a mutex was tried
   abbrev pub try_bit_tells : (W → ℕ → T → ℕ → H → Type 0) → Step (Slot T) → Sat T H W → ℕ → Sat T H W → Type 0
   try_bit_tells fits st me r me' = let p = me.0.part in (m : ℕ) → st.word ≡ bit_at m → (r ≡ 0 → Won fits m me me') × (r ≢ 0 → Becomes me (record p { failed = m ∷ p.failed; turns = without m p.turns }) me')
+
+  -- the mutex m was taken with its value, in a wait and without an event
+  abbrev pub WonQuietly : (W → ℕ → T → ℕ → H → Type 0) → ℕ → Sat T H W → Sat T H W → Type 0
+  WonQuietly fits m me me' = let v = me.0 in let p = v.part in
+      (x : T) × ((w : W) (s : H) → v.world ≡ Some w → p.share ≡ Some s → fits w m x v.number s) × Lacks p m × (get_elem? (slice_set p.held m (Some x)) m ≡ some (Some x))
+      × (me' ≡ (with_part v (record p { held = slice_set p.held m (Some x); wait = quieted p.wait; failed = without m p.failed; turns = without m p.turns }), (value_at m, Value (Some x)) ∷ me.1))
+
+  -- the bit of a mutex was tried in a wait, for no event
+  abbrev pub take_bit_quiet_tells : (W → ℕ → T → ℕ → H → Type 0) → Step (Slot T) → Sat T H W → ℕ → Sat T H W → Type 0
+  take_bit_quiet_tells fits st me r me' = let p = me.0.part in (m : ℕ) → st.word ≡ bit_at m → (r ≡ 0 → WonQuietly fits m me me') × (r ≢ 0 → Becomes me (record p { failed = m ∷ p.failed; turns = without m p.turns }) me')
 
   -- the mutex m was given back, with its value
   abbrev pub Freed : (W → ℕ → ℕ → T → T → H → H) → ℕ → Sat T H W → ℕ → Sat T H W → Type 0
@@ -218,10 +259,42 @@ module _ {T H W : Type 0} where
   abbrev pub pop_cond_tells : Step (Slot T) → Sat T H W → ℕ → Sat T H W → Type 0
   pop_cond_tells st me r me' = let p = me.0.part in Becomes me (record p { queue = behind p.queue; owed = p.owed ++ front p.queue }) me'
 
+  -- the thread left the queue of a condition, in which it was, and is in the condition by the count that stands
+  abbrev pub leave_cond_queue_tells : Step (Slot T) → Sat T H W → ℕ → Sat T H W → Type 0
+  leave_cond_queue_tells st me r me' = let p = me.0.part in let n = me.0.number in Becomes me (record p { queue = less n p.queue; left = less n p.left; stand = None; wait = recounted p.count p.wait }) me'
+
   -- the count was advanced under the spin word, by an event with this action, and of the queue these were left in the condition
   abbrev pub advance_tells : (List ℕ → List ℕ) → (ℕ → List ℕ → Action) → Step (Slot T) → Sat T H W → ℕ → Sat T H W → Type 0
   advance_tells leave action st me r me' = let v = me.0 in let p = v.part in (c : ℕ) → st.word ≡ count_at (cond_object c) → let ys = leave p.queue in let e = event v.number (action c ys) in
       (r ≡ p.count) × Distinct p.queue × (between : List Event) × Grows v.number p between e × Becomes me (record (told p (p.seen ++ between) e) { left = ys; count = p.count + 1 }) me'
+
+  -- the own alert word was read
+  abbrev pub read_alert_tells : Step (Slot T) → Sat T H W → ℕ → Sat T H W → Type 0
+  read_alert_tells st me r me' = let p = me.0.part in (p.alerted ≡ true → r ≡ 1) × (r ≡ 0 → me' ≡ me) × (r ≢ 0 → (r ≡ 1) × Becomes me (record p { alerted = true; stand = alerted_stand p.stand }) me')
+
+  -- the thread t was alerted
+  abbrev pub or_alert_tells : Step (Slot T) → Sat T H W → ℕ → Sat T H W → Type 0
+  or_alert_tells st me r me' = let v = me.0 in let p = v.part in (t : ℕ) → st.word ≡ alert_at t → let e = alert_event v.number t in
+      (between : List Event) × Grows v.number p between e × Becomes me (told p (p.seen ++ between) e) me'
+
+  -- the own alert word was cleared, by the event that tells what it was
+  abbrev pub swap_alert_tells : Step (Slot T) → Sat T H W → ℕ → Sat T H W → Type 0
+  swap_alert_tells st me r me' = let v = me.0 in let p = v.part in let e = test_alert_event v.number (eqb r 1) in
+      ((r ≡ 0) ⊎ (r ≡ 1)) × (p.alerted ≡ true → r ≡ 1) × (between : List Event) × Grows v.number p between e × Becomes me (record (told p (p.seen ++ between) e) { alerted = false }) me'
+
+  -- the own alert word was cleared to raise out of a P of the semaphore s, which the mask tells
+  abbrev pub swap_alert_in_p_tells : Step (Slot T) → Sat T H W → ℕ → Sat T H W → Type 0
+  swap_alert_in_p_tells st me r me' = let v = me.0 in let p = v.part in (s : ℕ) → st.first ≡ 2 * s → let e = alert_p_raise_event v.number s in
+      (r ≡ 1) × (between : List Event) × Grows v.number p between e × Becomes me (record (told p (p.seen ++ between) e) { alerted = false }) me'
+
+  -- the own alert word was cleared to raise out of an alertable wait, with the bit of its mutex taken
+  abbrev pub swap_alert_in_raise_tells : Step (Slot T) → Sat T H W → ℕ → Sat T H W → Type 0
+  swap_alert_in_raise_tells st me r me' = let v = me.0 in let p = v.part in (x : Wait) → p.wait ≡ Some x → let e = alert_raise_event v.number x.mutex.0 x.cond.0 in
+      (r ≡ 1) × (between : List Event) × Grows v.number p between e × Becomes me (record (told p (p.seen ++ between) e) { wait = None; alerted = false }) me'
+
+  -- the thread left the queue of a semaphore, in which it was
+  abbrev pub leave_sem_queue_tells : Step (Slot T) → Sat T H W → ℕ → Sat T H W → Type 0
+  leave_sem_queue_tells st me r me' = let p = me.0.part in let n = me.0.number in Becomes me (record p { queue = less n p.queue; left = less n p.left; stand = None; turns = left_turns p.stand p.turns }) me'
 
   -- the pen was tried, the number read and written, and the pen given back
   abbrev pub take_pen_tells : Step (Slot T) → Sat T H W → ℕ → Sat T H W → Type 0

@@ -1,21 +1,22 @@
 //! The steps on a condition: its count, which is read to enter it and advanced to take threads out, and its queue.
-ghost use Rattle.std.specs.Prelude.{◌≡◌, ◌≢◌, ◌+◌, ◌<◌, ℕ, [], ◌∷◌, ◌++◌, length, None, Some, false};
+ghost use Rattle.std.specs.Prelude.{◌≡◌, ◌≢◌, ◌+◌, ◌<◌, ℕ, [], ◌∷◌, ◌++◌, length, None, Some, false, true};
 ghost use Rattle.larch_actions.specs.Sets.{mem, set_of};
 ghost use Rattle.nub_rule.specs.declared.rule.Slot.TheVariants.{Queue};
 ghost use Rattle.nub_rule.specs.declared.view.Stage.TheVariants.{Tested};
 ghost use Rattle.nub_rule.specs.declared.view.Wait.{Wait};
 ghost use Rattle.nub_rule.specs.Items.{Distinct, Small};
-ghost use Rattle.nub_rule.specs.Known.{Holds, Makes, learnt};
-ghost use Rattle.nub_rule.specs.Parts.{MayTell, made};
+ghost use Rattle.nub_rule.specs.Known.{Holds, Makes, StandsAs, learnt};
+ghost use Rattle.nub_rule.specs.Parts.{IsAlerted, MayTell, made};
 ghost use Rattle.nub_rule.specs.Places.{cond_object, most_threads};
-ghost use Rattle.nub_rule.specs.Plays.{begun_wait, behind, broadcast_action, enqueue_event, event, signal_action, unread};
+ghost use Rattle.nub_rule.specs.Plays.{begun_wait, behind, broadcast_action, enqueue_event, event, less, recounted, signal_action, unread};
 
 use crate::hand::bring;
-use crate::line::{pop_line, push_line, set_behind};
+use crate::line::{leave_line, pop_line, push_line, set_behind};
 use crate::package::{Package, Thread};
 use crate::places::{CONDITIONS, VALUES, cond_length_word, count_word};
 use crate::plays::{
-    AdvanceBroadcast, AdvanceSignal, CompareCount, KnowCount, LoadCount, PopCond, PushCond,
+    AdvanceBroadcast, AdvanceSignal, CompareCount, KnowCount, LeaveCondQueue, LoadCount,
+    LoadCountAlertable, PopCond, PushCond,
 };
 use crate::uses::Uses;
 use larch_actions::{CondId, MutexId, ThreadId, ThreadSet};
@@ -38,6 +39,30 @@ pub fn load_count<U: Uses>(p: &Package<U>, me: &mut Thread<U>, m: MutexId, c: Co
     p.table
         .shared
         .load::<LoadCount>(&mut me.seat, count_word(c))
+}
+
+/// Reads the count of c, and with that enters the condition: the first part of an alertable wait on m.
+#[inline]
+pub fn load_count_alertable<U: Uses>(
+    p: &Package<U>,
+    me: &mut Thread<U>,
+    m: MutexId,
+    c: CondId,
+) -> u64
+    requires of { me.old.table_id ≡ p.now.table_id }
+    requires named { (m.0 < p.now.layout.mutexes) × (c.0 < p.now.layout.conditions) }
+    requires has { (x : U.Value) × Holds me.old m.0 x }
+    requires outside { me.old.wait ≡ None }
+    requires even { me.old.left ≡ me.old.queue }
+    requires pen { MayTell p.now.traced me.old.pen }
+    ensures event { Makes (enqueue_event true me.old.number m.0 c.0) me.old me.new }
+    ensures begun { me.new ≡ record (learnt me.old me.new) { wait = Some (begun_wait true m.0 c.0 result); pen = made me.old.pen } }
+{
+    prove!(m.0 < p.layout.mutexes);
+    bring(&mut me.hand, &mut me.seat, VALUES + m.0 as u16);
+    p.table
+        .shared
+        .load::<LoadCountAlertable>(&mut me.seat, count_word(c))
 }
 
 /// The count of c, which the holder of its spin word knows.
@@ -136,6 +161,34 @@ pub fn push_cond<U: Uses>(p: &Package<U>, me: &mut Thread<U>, c: CondId)
     p.table
         .shared
         .store::<PushCond>(&mut me.seat, cond_length_word(c), length);
+}
+
+/// Takes the thread, which found its alert word set, out of the queue of c. It answers whether the thread was in it, and it is in the
+/// condition then as long as the count stands. Else another thread has popped it.
+pub fn leave_cond_queue<U: Uses>(p: &Package<U>, me: &mut Thread<U>, c: CondId) -> bool
+    requires of { me.old.table_id ≡ p.now.table_id }
+    requires named { c.0 < p.now.layout.conditions }
+    requires inside { me.old.spin ≡ Some (cond_object c.0) }
+    requires alerted { StandsAs (λ s. (s.at ≡ cond_object c.0) × IsAlerted s.stage) me.old }
+    requires waits { (x : Wait) × (me.old.wait ≡ Some x) × (x.cond.0 ≡ c.0) }
+    ensures there { result ≡ mem me.old.number me.old.queue }
+    ensures out { result ≡ true → me.new ≡ record me.old {
+      queue = less me.old.number me.old.queue;
+      left = less me.old.number me.old.left;
+      stand = None;
+      wait = recounted me.old.count me.old.wait;
+    } }
+    ensures same { result ≡ false → me.new ≡ me.old }
+{
+    let o = CONDITIONS + c.0 as usize;
+    bring(&mut me.hand, &mut me.seat, o as u16);
+    let Some(length) = leave_line(me.seat.slot_mut(&p.table.shared, o), me.number) else {
+        return false;
+    };
+    p.table
+        .shared
+        .store::<LeaveCondQueue>(&mut me.seat, cond_length_word(c), length);
+    true
 }
 
 /// Takes the first out of the queue of c, whom an advance has taken out of the condition. The thread owes it its ready word then.

@@ -6,6 +6,7 @@
 //! progress, and knows no call that takes more than one step.
 #![tactic(auto)]
 
+mod alert;
 mod cell;
 mod cond;
 mod hand;
@@ -26,8 +27,14 @@ mod uses;
 mod view;
 mod whole;
 
-pub use cond::{advance_broadcast, advance_signal, compare_count, know_count, load_count};
-pub use mutex::{clear_bit, clear_bit_in_wait, put_value, take_value, try_bit};
+pub use alert::{
+    leave_sem_queue, or_alert, read_alert, swap_alert, swap_alert_in_p, swap_alert_in_raise,
+};
+pub use cond::{
+    advance_broadcast, advance_signal, compare_count, know_count, leave_cond_queue, load_count,
+    load_count_alertable,
+};
+pub use mutex::{clear_bit, clear_bit_in_wait, put_value, take_bit_quiet, take_value, try_bit};
 pub use object::{Object, Why};
 pub use package::{Entry, Package, Stored, Thread};
 pub use pen::{give_pen, next_number, read_number, store_event, take_pen, write_number};

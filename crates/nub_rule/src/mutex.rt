@@ -1,19 +1,19 @@
 //! The steps on the bit of a mutex, and the moves of its value.
-ghost use Rattle.std.specs.Prelude.{◌≡◌, ◌≢◌, ◌<◌, ◌∷◌, [], slice_set, Some, None};
+ghost use Rattle.std.specs.Prelude.{◌≡◌, ◌≢◌, ◌<◌, ◌∷◌, [], slice_set, Some, None, true};
 ghost use mathlib.Core.Option.{some};
 ghost use lib.ListN.{get_elem?};
 ghost use Rattle.larch_actions.specs.Sets.{without};
 ghost use Rattle.nub_rule.specs.declared.view.Wait.{Wait};
-ghost use Rattle.nub_rule.specs.declared.view.WaitBit.TheVariants.{Closing};
+ghost use Rattle.nub_rule.specs.declared.view.WaitBit.TheVariants.{Closing, Open};
 ghost use Rattle.nub_rule.specs.Known.{Holds, IsIn, IsOut, Makes, MayGive, PicksShare, learnt};
 ghost use Rattle.nub_rule.specs.Parts.{MayTell, made};
-ghost use Rattle.nub_rule.specs.Plays.{MayTake, opened, release_event};
+ghost use Rattle.nub_rule.specs.Plays.{MayTake, opened, quieted, release_event};
 
 use crate::cell::{put_into, take_from};
 use crate::hand::bring;
 use crate::package::{Package, Thread};
 use crate::places::{VALUES, mutex_bit};
-use crate::plays::{ClearBit, ClearBitInWait, TryBit};
+use crate::plays::{ClearBit, ClearBitInWait, TakeBitQuiet, TryBit};
 use crate::uses::{Change, Uses};
 use larch_actions::{Event, MutexId};
 
@@ -105,6 +105,37 @@ pub fn clear_bit_in_wait<U: Uses, C: Change<U>>(
     p.table
         .shared
         .swap::<ClearBitInWait<U, C>>(&mut me.seat, mutex_bit(m), 0)
+}
+
+/// Tries the bit of m once in an alertable wait on m, whose thread found its alert word set. It wins where it answers 0, and is no event:
+/// nobody holds m until the thread swaps its alert word.
+#[inline]
+pub fn take_bit_quiet<U: Uses>(p: &Package<U>, me: &mut Thread<U>, m: MutexId) -> u64
+    requires of { me.old.table_id ≡ p.now.table_id }
+    requires named { m.0 < p.now.layout.mutexes }
+    requires outside { (me.old.spin ≡ None) × (me.old.stand ≡ None) }
+    requires waits { (x : Wait) × (me.old.wait ≡ Some x) × (x.mutex.0 ≡ m.0) × (x.alertable ≡ true) × (x.bit ≡ Open) }
+    requires alerted { me.old.alerted ≡ true }
+    ensures lost { result ≢ 0 → me.new ≡ record me.old { failed = m.0 ∷ me.old.failed; turns = without m.0 me.old.turns } }
+    ensures lacked { result ≡ 0 → get_elem? me.old.held m.0 ≡ some None }
+    ensures won { result ≡ 0 → (x : U.Value) × Holds me.new m.0 x × IsIn me.new m.0 x
+        × (me.new ≡ record me.old {
+          held = slice_set me.old.held m.0 (Some x);
+          wait = quieted me.old.wait;
+          failed = without m.0 me.old.failed;
+          turns = without m.0 me.old.turns;
+          values = slice_set me.old.values m.0 (Some (Some x));
+        })
+        × ((w : U.World) (s : U.Share) → me.old.world ≡ Some w → me.old.share ≡ Some s → U.fits w m.0 x me.old.number s) }
+{
+    let found = p
+        .table
+        .shared
+        .compare_exchange::<TakeBitQuiet<U>>(&mut me.seat, mutex_bit(m), 0, 1);
+    if found == 0 {
+        me.hand.take(VALUES + m.0 as u16);
+    }
+    found
 }
 
 /// Moves the value of m out of its slot.

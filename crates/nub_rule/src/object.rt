@@ -21,6 +21,8 @@ pub enum Why {
     QueueSeen,
     /// It has read the count of the condition, and is to block.
     Block,
+    /// It found its alert word set while it stood in the queue.
+    Leaving,
 }
 
 impl Object {

@@ -99,10 +99,20 @@ impl<T, H, W> Play<Slot<T>, View<T, H, W>> for PopGate {
 pub struct TryP;
 
 impl<T, H, W> Play<Slot<T>, View<T, H, W>> for TryP {
-    ghost use Rattle.nub_rule.specs.Plays.{try_p_tells};
-    ghost use Rattle.larch_actions.specs.declared.event.Action.TheVariants.{P};
+    ghost use Rattle.std.specs.Prelude.{false};
+    ghost use Rattle.nub_rule.specs.Plays.{p_action, try_p_tells};
 
-    ghost then = { try_p_tells (λ s. P record { 0 = s }) };
+    ghost then = { try_p_tells (p_action false) };
+}
+
+/// Tries the bit of a semaphore by a P that an alert may end.
+pub struct TryAlertP;
+
+impl<T, H, W> Play<Slot<T>, View<T, H, W>> for TryAlertP {
+    ghost use Rattle.std.specs.Prelude.{true};
+    ghost use Rattle.nub_rule.specs.Plays.{p_action, try_p_tells};
+
+    ghost then = { try_p_tells (p_action true) };
 }
 
 /// Clears the bit of a semaphore.
@@ -114,6 +124,60 @@ impl<T, H, W> Play<Slot<T>, View<T, H, W>> for ClearSem {
     ghost then = { clear_sem_tells };
 }
 
+/// Reads the own alert word.
+pub struct ReadAlert;
+
+impl<T, H, W> Play<Slot<T>, View<T, H, W>> for ReadAlert {
+    ghost use Rattle.nub_rule.specs.Plays.{read_alert_tells};
+
+    ghost then = { read_alert_tells };
+}
+
+/// Alerts a thread.
+pub struct OrAlert;
+
+impl<T, H, W> Play<Slot<T>, View<T, H, W>> for OrAlert {
+    ghost use Rattle.nub_rule.specs.Plays.{or_alert_tells};
+
+    ghost then = { or_alert_tells };
+}
+
+/// Clears the own alert word to tell what it was.
+pub struct SwapAlert;
+
+impl<T, H, W> Play<Slot<T>, View<T, H, W>> for SwapAlert {
+    ghost use Rattle.nub_rule.specs.Plays.{swap_alert_tells};
+
+    ghost then = { swap_alert_tells };
+}
+
+/// Clears the own alert word, to raise out of an alertable wait.
+pub struct SwapAlertInRaise;
+
+impl<T, H, W> Play<Slot<T>, View<T, H, W>> for SwapAlertInRaise {
+    ghost use Rattle.nub_rule.specs.Plays.{swap_alert_in_raise_tells};
+
+    ghost then = { swap_alert_in_raise_tells };
+}
+
+/// Clears the own alert word to raise out of a P.
+pub struct SwapAlertInP;
+
+impl<T, H, W> Play<Slot<T>, View<T, H, W>> for SwapAlertInP {
+    ghost use Rattle.nub_rule.specs.Plays.{swap_alert_in_p_tells};
+
+    ghost then = { swap_alert_in_p_tells };
+}
+
+/// Writes the length of a semaphore's queue after its thread has left it, for an alert or for a bit that it found clear.
+pub struct LeaveSemQueue;
+
+impl<T, H, W> Play<Slot<T>, View<T, H, W>> for LeaveSemQueue {
+    ghost use Rattle.nub_rule.specs.Plays.{leave_sem_queue_tells};
+
+    ghost then = { leave_sem_queue_tells };
+}
+
 /// Reads a count to begin a wait.
 pub struct LoadCount;
 
@@ -122,6 +186,16 @@ impl<T, H, W> Play<Slot<T>, View<T, H, W>> for LoadCount {
     ghost use Rattle.nub_rule.specs.Plays.{load_count_tells};
 
     ghost then = { load_count_tells false };
+}
+
+/// Reads a count to begin an alertable wait.
+pub struct LoadCountAlertable;
+
+impl<T, H, W> Play<Slot<T>, View<T, H, W>> for LoadCountAlertable {
+    ghost use Rattle.std.specs.Prelude.{true};
+    ghost use Rattle.nub_rule.specs.Plays.{load_count_tells};
+
+    ghost then = { load_count_tells true };
 }
 
 /// Reads a count under the spin word.
@@ -177,6 +251,15 @@ impl<T, H, W> Play<Slot<T>, View<T, H, W>> for PopCond {
     ghost use Rattle.nub_rule.specs.Plays.{pop_cond_tells};
 
     ghost then = { pop_cond_tells };
+}
+
+/// Writes the length of a condition's queue after its thread has left it.
+pub struct LeaveCondQueue;
+
+impl<T, H, W> Play<Slot<T>, View<T, H, W>> for LeaveCondQueue {
+    ghost use Rattle.nub_rule.specs.Plays.{leave_cond_queue_tells};
+
+    ghost then = { leave_cond_queue_tells };
 }
 
 /// Tries the pen.
@@ -248,4 +331,15 @@ impl<U: Uses, C: Change<U>> Play<Slot<U::Value>, View<U::Value, U::Share, U::Wor
     ghost use Rattle.nub_rule.specs.Plays.{clear_bit_in_wait_tells};
 
     ghost then = { clear_bit_in_wait_tells C.after };
+}
+
+/// Tries the bit of a mutex in a wait, for no event.
+pub struct TakeBitQuiet<U> {
+    marker: PhantomData<U>,
+}
+
+impl<U: Uses> Play<Slot<U::Value>, View<U::Value, U::Share, U::World>> for TakeBitQuiet<U> {
+    ghost use Rattle.nub_rule.specs.Plays.{take_bit_quiet_tells};
+
+    ghost then = { take_bit_quiet_tells U.fits };
 }

@@ -4,13 +4,13 @@ ghost use Rattle.larch_actions.specs.Sets.{without};
 ghost use Rattle.nub_rule.specs.Known.{Makes, learnt};
 ghost use Rattle.nub_rule.specs.Parts.{MayTell, made};
 ghost use Rattle.nub_rule.specs.Places.{sem_object};
-ghost use Rattle.nub_rule.specs.Plays.{p_event, v_event};
+ghost use Rattle.nub_rule.specs.Plays.{MayTakeSem, v_event};
 
 use crate::package::{Package, Thread};
 use crate::places::semaphore_bit;
-use crate::plays::{ClearSem, TryP};
+use crate::plays::{ClearSem, TryAlertP, TryP};
 use crate::uses::Uses;
-use larch_actions::{Event, SemId};
+use larch_actions::{Action, Event, SemId};
 
 /// Tries the bit of s once. It wins where it answers 0, and is the event e then.
 #[inline]
@@ -18,7 +18,7 @@ pub fn try_p<U: Uses>(p: &Package<U>, me: &mut Thread<U>, s: SemId, e: Event) ->
     requires of { me.old.table_id ≡ p.now.table_id }
     requires named { s.0 < p.now.layout.semaphores }
     requires outside { (me.old.spin ≡ None) × (me.old.stand ≡ None) }
-    requires may { (me.old.wait ≡ None) × (e ≡ p_event me.old.number s.0) }
+    requires may { (me.old.wait ≡ None) × MayTakeSem me.old.number s.0 e }
     requires pen { MayTell p.now.traced me.old.pen }
     ensures lost { result ≢ 0 → me.new ≡ record me.old {
       failed = sem_object s.0 ∷ me.old.failed;
@@ -31,10 +31,18 @@ pub fn try_p<U: Uses>(p: &Package<U>, me: &mut Thread<U>, s: SemId, e: Event) ->
       pen = made me.old.pen;
     } }
 {
-    let _event = e;
-    p.table
-        .shared
-        .compare_exchange::<TryP>(&mut me.seat, semaphore_bit(s), 0, 1)
+    let bit = semaphore_bit(s);
+    // One and the same exchange: which event it is makes a difference to the rule alone.
+    match e.action {
+        Action::AlertPReturn { .. } => p
+            .table
+            .shared
+            .compare_exchange::<TryAlertP>(&mut me.seat, bit, 0, 1),
+        _ => p
+            .table
+            .shared
+            .compare_exchange::<TryP>(&mut me.seat, bit, 0, 1),
+    }
 }
 
 /// Clears the bit of s.
