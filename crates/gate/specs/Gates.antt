@@ -5,12 +5,12 @@ use Rattle.nub_rule.specs.declared.object.Object.{Object}
 use Rattle.nub_rule.specs.declared.object.Object.TheVariants.{Mutex, Sem, Cond}
 use Rattle.nub_rule.specs.declared.view.Wait.{Wait}
 use Rattle.nub_rule.specs.Known.{Known, Holds, IsIn, MayGive, PicksShare}
-use Rattle.nub_rule.specs.Plays.{MayTake, release_event, p_event, v_event}
+use Rattle.nub_rule.specs.Plays.{MayTake, MayTakeSem, release_event, v_event}
 
 -- the thread of this number, in this wait, may make the event e by taking the bit
 abbrev pub MayMake : Object → ℕ → Opt Wait → Event → Type 0
 MayMake (Mutex m) t wait e = MayTake t m.0 wait e
-MayMake (Sem s) t wait e = (wait ≡ None) × (e ≡ p_event t s.0)
+MayMake (Sem s) t wait e = (wait ≡ None) × MayTakeSem t s.0 e
 MayMake (Cond c) t wait e = ⊥
 
 -- the event by which the thread clears the bit, where the object has one

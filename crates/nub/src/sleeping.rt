@@ -1,28 +1,29 @@
-//! Sleeping until another thread makes this one ready.
+//! Sleeping until another thread makes this one ready, or alerts it.
 ghost use Rattle.std.specs.Prelude.{◌≡◌, ◌<◌, ◌≤◌, ◌∷◌, [], Some, None, true, false};
 ghost use Rattle.nub_rule.specs.declared.view.Stand.{Stand};
+ghost use Rattle.nub_rule.specs.declared.view.Stage.TheVariants.{Alerted};
 ghost use Rattle.nub_rule.specs.Known.{StandsAs};
-ghost use Rattle.nub_rule.specs.Parts.{HasTested};
+ghost use Rattle.nub_rule.specs.Parts.{HasTested, staged};
 
-use nub_rule::{Package, Thread, Uses, clear_ready, park, read_ready};
+use nub_rule::{Package, Thread, Uses, clear_ready, park, read_alert, read_ready};
 use std::sync::Wait;
 
-/// Sleeps until the ready word is found set, and clears it; it answers true then. It may wait for ever: only a thread that pops this one
-/// sets its ready word. `alertable` is false as long as nothing can be alerted.
+/// Sleeps until the ready word is found set, and clears it; it answers true then. Where `alertable` is true it also ends where the thread's
+/// alert word is found set, and answers false: the thread stands in the queue still, unless another thread popped it meanwhile. It may wait
+/// for ever: only a thread that pops this one sets its ready word, and only an alert of it its alert word.
 pub fn sleep<U: Uses, R: Wait>(rt: &R, p: &Package<U>, me: &mut Thread<U>, alertable: bool) -> bool
     requires of { me.old.table_id ≡ p.now.table_id }
-    requires plain { alertable ≡ false }
     requires outside { me.old.spin ≡ None }
     requires tested { StandsAs (λ s. HasTested s.stage) me.old }
     requires looked { me.old.cleared ≡ [] }
-    ensures ready { result ≡ true }
-    ensures at_gate { (s : Stand) → me.old.stand ≡ Some s → s.at < 128 → me.new ≡ record me.old {
+    ensures plain { alertable ≡ false → result ≡ true }
+    ensures at_gate { result ≡ true → (s : Stand) → me.old.stand ≡ Some s → s.at < 128 → me.new ≡ record me.old {
       stand = None;
       turns = s.at ∷ me.old.turns;
     } }
-    ensures at_cond { (s : Stand) → me.old.stand ≡ Some s → 128 ≤ s.at → me.new ≡ record me.old { stand = None } }
+    ensures at_cond { result ≡ true → (s : Stand) → me.old.stand ≡ Some s → 128 ≤ s.at → me.new ≡ record me.old { stand = None } }
+    ensures alerted { result ≡ false → me.new ≡ record me.old { alerted = true; stand = staged Alerted me.old.stand } }
 {
-    let _ = alertable;
     for _ in rt.forever() {
         // The ready word decides, not the parking: a thread may be unparked for nothing, or before it parks, which makes its next park
         // return at once. So the word is read before each park, and no wake that comes between the two is lost.
@@ -30,6 +31,10 @@ pub fn sleep<U: Uses, R: Wait>(rt: &R, p: &Package<U>, me: &mut Thread<U>, alert
             // Cleared by its own thread alone, and only when found set: nobody sets it twice for one push.
             clear_ready(p, me);
             return true;
+        }
+        // Read before each park too, and set before the unparking that an alert does: so no alert is slept through.
+        if alertable && read_alert(p, me) != 0 {
+            return false;
         }
         park(rt, me);
     }

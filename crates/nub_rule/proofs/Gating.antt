@@ -1,8 +1,10 @@
 -- What is asked of a gate's queue alone.
+use Rattle.std.proofs.Common.{◌≡◌, inl}
 use Rattle.nub_rule.specs.declared.object.Object.{Object}
 use Rattle.nub_rule.specs.declared.object.Object.TheVariants.{Mutex, Sem, Cond}
-use Rattle.nub_rule.specs.Known.{Known, MayPush, MayPop}
-use Rattle.nub_rule.specs.Objects.{IsGate}
+use Rattle.nub_rule.specs.Known.{Known, MayLeave, MayPush, MayPop, StandsAs}
+use Rattle.nub_rule.specs.Objects.{object_of, IsGate}
+use Rattle.nub_rule.specs.Parts.{IsClear}
 
 module _ {T H W : Type 0} where
   pub push-gate : (at : Object) (k : Known T H W) → IsGate at → MayPush at k
@@ -14,3 +16,9 @@ module _ {T H W : Type 0} where
   pop-gate (Mutex m) k gate = tt
   pop-gate (Sem s) k gate = tt
   pop-gate (Cond c) k gate = absurd gate
+
+  -- who stands at a gate and found its bit clear may leave its queue
+  pub leave-gate : (at : Object) (k : Known T H W) → IsGate at → StandsAs (λ s. (s.at ≡ object_of at) × IsClear s.stage) k → MayLeave at k
+  leave-gate (Mutex m) k gate stands = stands
+  leave-gate (Sem s) k gate stands = (stands.0, stands.1, (stands.2.0, inl stands.2.1))
+  leave-gate (Cond c) k gate stands = absurd gate
