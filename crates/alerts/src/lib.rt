@@ -1,0 +1,61 @@
+//! Alert and TestAlert.
+//!
+//! Promises: each call adds exactly its event to those of its thread. Stands on the alert words of the Nub. Nothing is said of when an
+//! alerted thread looks.
+#![tactic(auto)]
+
+ghost use Rattle.std.specs.Prelude.{◌≡◌, ℕ, ◌<◌, []};
+ghost use Rattle.nub_rule.specs.Plays.{alert_event, test_alert_event};
+ghost use Rattle.nub.specs.Idle.{IsIdle};
+ghost use Rattle.nub.specs.Rest.{AtRest, Adds, IsSame};
+
+use larch_actions::{Action, Event, ThreadId};
+use nub::{begin_event, end_event};
+use nub_rule::{Package, Thread, Uses, or_alert, swap_alert};
+use std::sync::Wait;
+
+/// Alerts the thread t, which may be the caller itself. A thread that waits in an alertable call, or begins one later, may end it for that.
+///
+/// It doesn't block. In a traced package it may wait for a moment, for its turn to number the event.
+#[inline]
+pub fn alert<U: Uses, R: Wait>(rt: &R, p: &Package<U>, me: &mut Thread<U>, t: ThreadId)
+    requires rest { AtRest p.now me.old }
+    requires named { t.0 < p.now.layout.threads }
+    ensures rest { AtRest p.now me.new }
+    ensures same { IsSame me.old me.new }
+    ensures event { Adds [] (alert_event me.old.number t.0) me.old me.new }
+    ensures held { me.new.held ≡ me.old.held }
+    ensures share { me.new.share ≡ me.old.share }
+    ensures idle { (n : ℕ) (s : U.Share) → IsIdle p.now n s me.old → IsIdle p.now n s me.new }
+{
+    let e = Event {
+        thread: ThreadId(me.number()),
+        action: Action::Alert { who: t },
+    };
+    begin_event(rt, p, me);
+    or_alert(p, me, t);
+    end_event(p, me, Some(e));
+}
+
+/// Whether the thread was alerted; afterwards it isn't.
+///
+/// It doesn't block. In a traced package it may wait for a moment, for its turn to number the event.
+#[inline]
+pub fn test_alert<U: Uses, R: Wait>(rt: &R, p: &Package<U>, me: &mut Thread<U>) -> bool
+    requires rest { AtRest p.now me.old }
+    ensures rest { AtRest p.now me.new }
+    ensures same { IsSame me.old me.new }
+    ensures event { Adds [] (test_alert_event me.old.number result) me.old me.new }
+    ensures held { me.new.held ≡ me.old.held }
+    ensures share { me.new.share ≡ me.old.share }
+    ensures idle { (n : ℕ) (s : U.Share) → IsIdle p.now n s me.old → IsIdle p.now n s me.new }
+{
+    begin_event(rt, p, me);
+    let yes = swap_alert(p, me) == 1;
+    let e = Event {
+        thread: ThreadId(me.number()),
+        action: Action::TestAlert { yes },
+    };
+    end_event(p, me, Some(e));
+    yes
+}
