@@ -1,0 +1,10 @@
+use Rattle.std.proofs.Common.{◌≡◌, []}
+use Rattle.larch_actions.specs.Sets.{without}
+use Rattle.nub_rule.specs.Places.{sem_object}
+use Rattle.alert_wait.proofs.sem.alert_p.Given as goal
+
+abbrev pub invariant-loop : goal.invariant-loop
+invariant-loop g l = record {
+  same : l.me ≡ record l.initial.me { count = l.me.count; failed = l.me.failed; turns = l.me.turns; alerted = l.me.alerted; next = l.me.next };
+  turns : without (sem_object l.s.0) l.me.turns ≡ [];
+}
