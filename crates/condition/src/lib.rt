@@ -12,7 +12,7 @@ ghost use Rattle.nub.specs.Rest.{AtRest, Adds, IsSame};
 ghost use Rattle.condition.specs.Waits.{resume_event};
 
 use event_count::{advance, block, read_count};
-use gate::{free_in_wait, take};
+use gate::{free, take};
 use larch_actions::{Action, CondId, Event, MutexId, ThreadId};
 use nub_rule::{Change, Object, Package, Thread, Uses, put_value, take_value};
 use std::sync::Wait;
@@ -71,7 +71,7 @@ pub fn wait<U: Uses, C: Change<U>, R: Wait>(
     put_value(p, me, m, value);
     // The count is read before the bit is cleared: a Signal between the two, under the mutex or not, takes this thread out.
     let count = read_count(rt, p, me, m, c, false);
-    free_in_wait::<U, C, R>(rt, p, me, m);
+    free::<U, C, R>(rt, p, me, Object::Mutex(m), None);
     block(rt, p, me, c, count, false);
     let e = Event {
         thread: ThreadId(me.number()),

@@ -2,18 +2,21 @@
 ghost use Rattle.std.specs.Prelude.{◌≡◌, ◌<◌, [], Some, None, true, false};
 ghost use Rattle.larch_actions.specs.Sets.{without};
 ghost use Rattle.nub_rule.specs.declared.view.Wait.{Wait as Waiting};
-ghost use Rattle.nub_rule.specs.Known.{Holds, Makes, recorded};
+ghost use Rattle.nub_rule.specs.Known.{Holds, Makes, StandsAs, learnt, recorded};
+ghost use Rattle.nub_rule.specs.Parts.{IsAlerted, MayTell, made};
 ghost use Rattle.nub_rule.specs.Places.{cond_object};
-ghost use Rattle.nub_rule.specs.Plays.{begun_wait, enqueue_event, unread};
+ghost use Rattle.nub_rule.specs.Plays.{begun_wait, enqueue_event, recounted, unread};
 ghost use Rattle.nub.specs.Rest.{HasStored, IsOutside};
 
 use larch_actions::{Action, CondId, Event, MutexId, ThreadId};
-use nub::{begin_event, end_event, enter, leave, push, sleep};
-use nub_rule::{Object, Package, Thread, Uses, Why, compare_count, load_count};
+use nub::{begin_event, end_event, enter, leave, push, remove, sleep};
+use nub_rule::{
+    Object, Package, Thread, Uses, Why, compare_count, load_count, load_count_alertable,
+};
 use std::sync::Wait;
 
-/// Reads the count of c, and with that begins a wait on m: the first part of the wait. The thread has the bit of m still, but nobody holds m.
-/// In a traced package it may wait for the pen. `alertable` is false as long as nothing can be alerted.
+/// Reads the count of c, and with that begins a wait on m: the first part of the wait, which an alert may end where `alertable` is true. The
+/// thread has the bit of m still, but nobody holds m. In a traced package it may wait for the pen.
 pub fn read_count<U: Uses, R: Wait>(
     rt: &R,
     p: &Package<U>,
@@ -23,30 +26,69 @@ pub fn read_count<U: Uses, R: Wait>(
     alertable: bool,
 ) -> u64
     requires of { me.old.table_id ≡ p.now.table_id }
-    requires plain { alertable ≡ false }
     requires named { (m.0 < p.now.layout.mutexes) × (c.0 < p.now.layout.conditions) }
     requires has { (x : U.Value) × Holds me.old m.0 x }
     requires outside { IsOutside me.old }
     requires no_wait { me.old.wait ≡ None }
     requires stored { HasStored p.now.traced me.old }
-    ensures event { Makes (enqueue_event false me.old.number m.0 c.0) me.old me.new }
-    ensures begun { me.new ≡ record (recorded me.old me.new) { wait = Some (begun_wait false m.0 c.0 result) } }
+    ensures event { Makes (enqueue_event alertable me.old.number m.0 c.0) me.old me.new }
+    ensures begun { me.new ≡ record (recorded me.old me.new) { wait = Some (begun_wait alertable m.0 c.0 result) } }
     ensures stored { HasStored p.now.traced me.new }
 {
-    let _ = alertable;
-    let e = Event {
-        thread: ThreadId(me.number()),
-        action: Action::Enqueue { mutex: m, cond: c },
-    };
+    let e = beginning(me.number(), m, c, alertable);
     begin_event(rt, p, me);
     // From this load on the thread is in the condition: an advance between here and its blocking takes it out again.
-    let count = load_count(p, me, m, c);
+    let count = begin_wait(p, me, m, c, alertable);
     end_event(p, me, Some(e));
     count
 }
 
+/// The event by which the thread of this number begins a wait.
+fn beginning(number: u32, mutex: MutexId, cond: CondId, alertable: bool) -> Event
+    ensures { result ≡ enqueue_event alertable number mutex.0 cond.0 }
+{
+    let thread = ThreadId(number);
+    if alertable {
+        Event {
+            thread,
+            action: Action::AlertEnqueue { mutex, cond },
+        }
+    } else {
+        Event {
+            thread,
+            action: Action::Enqueue { mutex, cond },
+        }
+    }
+}
+
+fn begin_wait<U: Uses>(
+    p: &Package<U>,
+    me: &mut Thread<U>,
+    m: MutexId,
+    c: CondId,
+    alertable: bool,
+) -> u64
+    requires of { me.old.table_id ≡ p.now.table_id }
+    requires named { (m.0 < p.now.layout.mutexes) × (c.0 < p.now.layout.conditions) }
+    requires has { (x : U.Value) × Holds me.old m.0 x }
+    requires no_wait { me.old.wait ≡ None }
+    requires even { me.old.left ≡ me.old.queue }
+    requires pen { MayTell p.now.traced me.old.pen }
+    ensures event { Makes (enqueue_event alertable me.old.number m.0 c.0) me.old me.new }
+    ensures begun { me.new ≡ record (learnt me.old me.new) { wait = Some (begun_wait alertable m.0 c.0 result); pen = made me.old.pen } }
+{
+    if alertable {
+        load_count_alertable(p, me, m, c)
+    } else {
+        load_count(p, me, m, c)
+    }
+}
+
 /// Blocks as long as the thread is in the condition c. Where the count is no longer the one that its wait began with, it returns at once. It
-/// answers true. It may wait for ever: only an advance takes it out of the condition.
+/// answers true where the thread has left the condition and its queue. It answers false only where `alertable` is true and it found its
+/// alert word set: the thread has then taken itself out of the queue, and is in the condition as long as the count stands.
+///
+/// It may wait for ever: only an advance takes the thread out of the condition, and where `alertable` is true an alert ends the wait too.
 pub fn block<U: Uses, R: Wait>(
     rt: &R,
     p: &Package<U>,
@@ -56,28 +98,62 @@ pub fn block<U: Uses, R: Wait>(
     alertable: bool,
 ) -> bool
     requires of { me.old.table_id ≡ p.now.table_id }
-    requires plain { alertable ≡ false }
     requires named { c.0 < p.now.layout.conditions }
     requires outside { IsOutside me.old }
     requires looked { me.old.cleared ≡ [] }
-    requires waits { (x : Waiting) × (me.old.wait ≡ Some x) × (x.cond.0 ≡ c.0) × (x.member ≡ Some count) }
-    ensures outside { result ≡ true }
+    requires waits { (x : Waiting) × (me.old.wait ≡ Some x) × (x.cond.0 ≡ c.0) × (x.member ≡ Some count) × (x.alertable ≡ alertable) }
+    ensures plain { alertable ≡ false → result ≡ true }
     ensures rest { me.new ≡ record me.old {
       count = me.new.count;
       failed = without (cond_object c.0) me.old.failed;
-      wait = unread me.old.wait;
+      wait = me.new.wait;
+      alerted = me.new.alerted;
     } }
+    ensures out { result ≡ true → me.new.wait ≡ unread me.old.wait }
+    ensures left { result ≡ false → me.new.wait ≡ recounted me.new.count me.old.wait }
+    ensures alerted { result ≡ false → me.new.alerted ≡ true }
+    ensures same { alertable ≡ false → me.new.alerted ≡ me.old.alerted }
 {
     let at = Object::Cond(c);
     enter(rt, p, me, at, Why::Block);
     // Compared under the spin word, without which no thread advances the count: so nobody can take this thread out unseen between the
     // comparison and its push.
-    if compare_count(p, me, c, count) == count {
-        push(p, me, at);
+    if compare_count(p, me, c, count) != count {
         leave(rt, p, me, at);
-        sleep(rt, p, me, alertable);
-    } else {
-        leave(rt, p, me, at);
+        return true;
     }
-    true
+    push(p, me, at);
+    leave(rt, p, me, at);
+    if sleep(rt, p, me, alertable) {
+        return true;
+    }
+    !withdraw(rt, p, me, c)
+}
+
+/// Takes the alerted thread out of the queue. It answers whether the thread was in it. If it wasn't, an advance has taken it out of the
+/// condition, and the thread that popped it makes it ready, for which this waits: that advance counts, and the alert stays.
+fn withdraw<U: Uses, R: Wait>(rt: &R, p: &Package<U>, me: &mut Thread<U>, c: CondId) -> bool
+    requires of { me.old.table_id ≡ p.now.table_id }
+    requires named { c.0 < p.now.layout.conditions }
+    requires outside { (me.old.spin ≡ None) × (me.old.queue ≡ []) × (me.old.owed ≡ []) × (me.old.left ≡ []) }
+    requires looked { me.old.cleared ≡ [] }
+    requires alerted { StandsAs (λ s. (s.at ≡ cond_object c.0) × IsAlerted s.stage) me.old }
+    requires waits { (x : Waiting) × (me.old.wait ≡ Some x) × (x.cond.0 ≡ c.0) }
+    ensures rest { me.new ≡ record me.old {
+      count = me.new.count;
+      stand = None;
+      failed = without (cond_object c.0) me.old.failed;
+      wait = me.new.wait;
+    } }
+    ensures left { result ≡ true → me.new.wait ≡ recounted me.new.count me.old.wait }
+    ensures popped { result ≡ false → me.new.wait ≡ me.old.wait }
+{
+    let at = Object::Cond(c);
+    enter(rt, p, me, at, Why::Leaving);
+    let there = remove(p, me, at);
+    leave(rt, p, me, at);
+    if !there {
+        sleep(rt, p, me, false);
+    }
+    there
 }

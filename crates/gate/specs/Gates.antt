@@ -4,6 +4,7 @@ use Rattle.larch_actions.specs.declared.event.Event.{Event}
 use Rattle.nub_rule.specs.declared.object.Object.{Object}
 use Rattle.nub_rule.specs.declared.object.Object.TheVariants.{Mutex, Sem, Cond}
 use Rattle.nub_rule.specs.declared.view.Wait.{Wait}
+use Rattle.nub_rule.specs.declared.view.WaitBit.TheVariants.{Closing}
 use Rattle.nub_rule.specs.Known.{Known, Holds, IsIn, MayGive, PicksShare}
 use Rattle.nub_rule.specs.Plays.{MayTake, MayTakeSem, release_event, v_event}
 
@@ -18,6 +19,16 @@ abbrev pub clears : Object → ℕ → Event
 clears (Mutex m) t = release_event t m.0
 clears (Sem s) t = v_event t s.0
 clears (Cond c) t = v_event t c.0
+
+-- the thread is in a wait on the mutex, which it has begun, and has yet to clear the bit
+abbrev pub IsClosing : Object → Opt Wait → Type 0
+IsClosing (Mutex m) wait = (x : Wait) × (wait ≡ Some x) × (x.mutex.0 ≡ m.0) × (x.bit ≡ Closing)
+IsClosing _ wait = ⊥
+
+-- the thread of this number, in this wait, may clear the bit: by its event where it is in no wait, and for none in a wait on the mutex
+abbrev pub MayClear : Object → ℕ → Opt Wait → Opt Event → Type 0
+MayClear at t wait None = IsClosing at wait
+MayClear at t wait (Some e) = (wait ≡ None) × (e ≡ clears at t)
 
 module _ {T H W : Type 0} where
   -- who takes a mutex has its value, which fits

@@ -1,7 +1,7 @@
 //! Clearing the bit.
-ghost use Rattle.std.specs.Prelude.{◌≡◌, ◌≢◌, ◌<◌, ℕ, [], ◌∷◌, slice_set, Some, None, true, false};
+ghost use Rattle.std.specs.Prelude.{◌≡◌, ◌≢◌, ◌<◌, ℕ, [], ◌∷◌, slice_set, Some, None, true, false, IfSome, MatchOption};
 ghost use Rattle.larch_actions.specs.Sets.{mem, without};
-ghost use Rattle.gate.specs.Gates.{MayFree, IsFreed, clears};
+ghost use Rattle.gate.specs.Gates.{MayClear, MayFree, IsFreed, clears};
 ghost use Rattle.nub_rule.specs.declared.view.Wait.{Wait as Waiting};
 ghost use Rattle.nub_rule.specs.declared.view.WaitBit.TheVariants.{Closing};
 ghost use Rattle.nub_rule.specs.Known.{Makes, MayGive, PicksShare, learnt, recorded};
@@ -18,8 +18,9 @@ use nub_rule::{
 };
 use std::sync::Wait;
 
-/// Makes the event by clearing the bit, and makes one queued thread ready if the queue isn't empty. It may wait for the pen, or for the
-/// spin word of the queue, which their holders give back after a few steps; never for a mutex or a semaphore.
+/// Clears the bit, by the event or, with None, in a wait on the mutex that has yet to do so, and makes one queued thread ready if the queue
+/// isn't empty. With None it is no event: nobody holds the mutex since the wait began. It may wait for the pen, or for the spin word of the
+/// queue, which their holders give back after a few steps; never for a mutex or a semaphore.
 #[inline]
 pub fn free<U: Uses, C: Change<U>, R: Wait>(
     rt: &R,
@@ -32,8 +33,52 @@ pub fn free<U: Uses, C: Change<U>, R: Wait>(
     requires gate { IsGate at }
     requires named { HasObject p.now.layout at }
     requires outside { IsOutside me.old }
+    requires clears { MayClear at me.old.number me.old.wait e }
+    requires may { MayFree U.allows C.after at me.old }
+    requires stored { HasStored p.now.traced me.old }
+    ensures event { IfSome e (λ x. Makes x me.old me.new) }
+    ensures rest { MatchOption e (me.new ≡ record me.old {
+      held = me.new.held;
+      share = me.new.share;
+      count = me.new.count;
+      wait = opened me.old.wait;
+      failed = me.new.failed;
+      cleared = without (object_of at) me.old.cleared;
+      looked = without (object_of at) me.old.looked;
+      values = me.new.values;
+    }) (λ x. me.new ≡ record (recorded me.old me.new) {
+      held = me.new.held;
+      share = me.new.share;
+      count = me.new.count;
+      failed = me.new.failed;
+      cleared = without (object_of at) me.old.cleared;
+      looked = without (object_of at) me.old.looked;
+      values = me.new.values;
+    }) }
+    ensures freed { IsFreed C.after at me.old me.new }
+    ensures stored { HasStored p.now.traced me.new }
+{
+    // What is known where it is called is decided there: with an event that is given, all of this is `free_by_event`.
+    match (e, at) {
+        (Some(_), _) => free_by_event::<U, C, R>(rt, p, me, at),
+        (None, Object::Mutex(m)) => free_in_wait::<U, C, R>(rt, p, me, m),
+        (None, Object::Sem(_) | Object::Cond(_)) => unreachable!(),
+    }
+}
+
+/// Clears the bit by its event, which follows from the object and the thread.
+#[inline]
+fn free_by_event<U: Uses, C: Change<U>, R: Wait>(
+    rt: &R,
+    p: &Package<U>,
+    me: &mut Thread<U>,
+    at: Object,
+)
+    requires of { me.old.table_id ≡ p.now.table_id }
+    requires gate { IsGate at }
+    requires named { HasObject p.now.layout at }
+    requires outside { IsOutside me.old }
     requires no_wait { me.old.wait ≡ None }
-    requires event { e ≡ Some (clears at me.old.number) }
     requires may { MayFree U.allows C.after at me.old }
     requires stored { HasStored p.now.traced me.old }
     ensures event { Makes (clears at me.old.number) me.old me.new }
@@ -49,8 +94,6 @@ pub fn free<U: Uses, C: Change<U>, R: Wait>(
     ensures freed { IsFreed C.after at me.old me.new }
     ensures stored { HasStored p.now.traced me.new }
 {
-    // The event follows from the object and the thread, so the argument is only what the caller says it is.
-    let _event = e;
     if p.traced() {
         clear_traced::<U, C, R>(rt, p, me, at);
     } else {
@@ -63,10 +106,9 @@ pub fn free<U: Uses, C: Change<U>, R: Wait>(
     }
 }
 
-/// Clears the bit of m in a wait on m, after its first part, and makes one queued thread ready if the queue isn't empty. It is no event:
-/// nobody holds m since the wait began. It may wait for the spin word of the queue, which its holder gives back after a few steps.
+/// Clears the bit of m in a wait on m, after its first part.
 #[inline]
-pub fn free_in_wait<U: Uses, C: Change<U>, R: Wait>(
+fn free_in_wait<U: Uses, C: Change<U>, R: Wait>(
     rt: &R,
     p: &Package<U>,
     me: &mut Thread<U>,

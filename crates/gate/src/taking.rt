@@ -2,15 +2,21 @@
 ghost use Rattle.std.specs.Prelude.{◌≡◌, ◌≢◌, ◌<◌, ℕ, [], ◌∷◌, Some, None, true, false};
 ghost use Rattle.larch_actions.specs.Sets.{mem, without};
 ghost use Rattle.gate.specs.Gates.{MayMake, IsTaken};
+ghost use Rattle.nub_rule.specs.declared.object.Object.TheVariants.{Mutex};
+ghost use Rattle.nub_rule.specs.declared.view.Wait.{Wait as Waiting};
+ghost use Rattle.nub_rule.specs.declared.view.WaitBit.TheVariants.{Open};
 ghost use Rattle.nub_rule.specs.Known.{Makes, StandsAs, learnt, recorded};
 ghost use Rattle.nub_rule.specs.Objects.{object_of, HasObject, IsGate};
 ghost use Rattle.nub_rule.specs.Parts.{MayTell, made, HasTested};
+ghost use Rattle.nub_rule.specs.Plays.{quieted};
 ghost use Rattle.nub.specs.Rest.{HasStored, IsOutside};
 
 use crossbeam_utils::Backoff;
-use larch_actions::Event;
+use larch_actions::{Event, MutexId};
 use nub::{begin_event, end_event, enter, leave, push, remove, sleep};
-use nub_rule::{Object, Package, Thread, Uses, Why, peek_bit, test_again, try_bit, try_p};
+use nub_rule::{
+    Object, Package, Thread, Uses, Why, peek_bit, take_bit_quiet, test_again, try_bit, try_p,
+};
 use std::sync::Wait;
 
 // How often a thread looks at a bit before it goes on: first it only pauses between two looks, then it yields its processor.
@@ -180,6 +186,38 @@ fn take_slowly<U: Uses, R: Wait>(rt: &R, p: &Package<U>, me: &mut Thread<U>, at:
             return;
         }
         // After a sleep, too, the bit is tried anew: whoever woke this thread has not kept the bit for it.
+        stand_in_line(rt, p, me, at);
+    }
+    unreachable!()
+}
+
+/// Takes the bit of m for no event, in an alertable wait on m that an alert is to end: nobody holds m until the thread swaps its alert word.
+/// It may wait: it goes on when it has taken the bit, which another thread must have cleared. Nothing says that it ever does.
+pub fn take_quiet<U: Uses, R: Wait>(rt: &R, p: &Package<U>, me: &mut Thread<U>, m: MutexId)
+    requires of { me.old.table_id ≡ p.now.table_id }
+    requires named { m.0 < p.now.layout.mutexes }
+    requires outside { IsOutside me.old }
+    requires looked { me.old.cleared ≡ [] }
+    requires waits { (x : Waiting) × (me.old.wait ≡ Some x) × (x.mutex.0 ≡ m.0) × (x.alertable ≡ true) × (x.bit ≡ Open) }
+    requires alerted { me.old.alerted ≡ true }
+    ensures rest { me.new ≡ record me.old {
+      held = me.new.held;
+      count = me.new.count;
+      wait = quieted me.old.wait;
+      failed = me.new.failed;
+      turns = me.new.turns;
+      values = me.new.values;
+    } }
+    ensures turns { me.new.turns ≡ without m.0 me.old.turns }
+    ensures taken { IsTaken U.fits (Mutex m) me.old me.new }
+{
+    let at = Object::Mutex(m);
+    for _ in rt.forever() {
+        look_briefly(p, at);
+        // The pen isn't wanted: the try makes no event, also where it wins.
+        if take_bit_quiet(p, me, m) == 0 {
+            return;
+        }
         stand_in_line(rt, p, me, at);
     }
     unreachable!()

@@ -2,16 +2,16 @@
 ghost use Rattle.std.specs.Prelude.{◌≡◌, ◌<◌, ◌∷◌, ◌++◌, ℕ, [], Some, None, true, false};
 ghost use Rattle.larch_actions.specs.Sets.{mem, without};
 ghost use Rattle.nub_rule.specs.declared.view.Stage.TheVariants.{Pushed, Tested};
-ghost use Rattle.nub_rule.specs.Known.{MayLeave, MayPush, MayPop};
+ghost use Rattle.nub_rule.specs.Known.{HasLeft, MayLeave, MayPush, MayPop};
 ghost use Rattle.larch_actions.specs.declared.event.ThreadId.{ThreadId};
 ghost use Rattle.nub_rule.specs.Objects.{object_of, HasObject, IsGate, IsCond};
-ghost use Rattle.nub_rule.specs.Parts.{left_turns};
 ghost use Rattle.nub_rule.specs.Places.{most_threads};
-ghost use Rattle.nub_rule.specs.Plays.{behind, less, unread};
+ghost use Rattle.nub_rule.specs.Plays.{behind, unread};
 
 use larch_actions::ThreadId;
 use nub_rule::{
-    Object, Package, Thread, Uses, leave_sem_queue, pop_queue, push_queue, set_ready, take_out,
+    Object, Package, Thread, Uses, leave_cond_queue, leave_sem_queue, pop_queue, push_queue,
+    set_ready, take_out,
 };
 
 /// Puts the thread last into the queue.
@@ -36,26 +36,21 @@ pub fn push<U: Uses>(p: &Package<U>, me: &mut Thread<U>, at: Object)
     push_queue(p, me, at);
 }
 
-/// Takes the thread out of the queue, after it found the bit clear, or at a semaphore its alert word set. It answers whether the thread was
-/// in it. A thread that hadn't found the bit set since its push has its turn to try it then.
+/// Takes the thread out of the queue, after it found the bit clear, or at a semaphore or a condition its alert word set. It answers whether
+/// the thread was in it. A thread that hadn't found the bit set since its push has its turn to try it then.
 pub fn remove<U: Uses>(p: &Package<U>, me: &mut Thread<U>, at: Object) -> bool
     requires of { me.old.table_id ≡ p.now.table_id }
     requires named { HasObject p.now.layout at }
     requires inside { me.old.spin ≡ Some (object_of at) }
     requires may { MayLeave at me.old }
     ensures there { result ≡ mem me.old.number me.old.queue }
-    ensures out { result ≡ true → me.new ≡ record me.old {
-      queue = less me.old.number me.old.queue;
-      left = less me.old.number me.old.left;
-      stand = None;
-      turns = left_turns me.old.stand me.old.turns;
-    } }
+    ensures out { result ≡ true → HasLeft at me.old me.new }
     ensures same { result ≡ false → me.new ≡ me.old }
 {
     match at {
         Object::Mutex(_) => take_out(p, me, at),
         Object::Sem(s) => leave_sem_queue(p, me, s),
-        Object::Cond(_) => unreachable!(),
+        Object::Cond(c) => leave_cond_queue(p, me, c),
     }
 }
 

@@ -26,9 +26,9 @@ use Rattle.nub_rule.specs.declared.view.View.{View}
 use Rattle.nub_rule.specs.declared.view.Kind.TheVariants.{Member}
 use Rattle.nub_rule.specs.Items.{line_of}
 use Rattle.nub_rule.specs.Objects.{object_of, IsGate, IsCond}
-use Rattle.nub_rule.specs.Parts.{Got, IsAlerted, IsClear, Lacks}
-use Rattle.nub_rule.specs.Places.{most_threads, value_at, queue_at, sem_object, word_count}
-use Rattle.nub_rule.specs.Plays.{Sat, Grows, behind}
+use Rattle.nub_rule.specs.Parts.{Got, IsAlerted, IsClear, Lacks, left_turns}
+use Rattle.nub_rule.specs.Places.{most_threads, value_at, queue_at, sem_object, cond_object, word_count}
+use Rattle.nub_rule.specs.Plays.{Sat, Grows, behind, less, recounted}
 use Rattle.nub_rule.specs.Slots.{find, IsDistinct, Below}
 
 -- what contracts see of a package
@@ -203,11 +203,16 @@ module _ {T H W : Type 0} where
   MayPop (Cond c) k = (k.wait ≡ None) × ((t : ℕ) → mem t (behind k.queue) ≡ false → mem t k.left ≡ false)
   MayPop _ k = Unit {0}
 
-  -- the thread may take itself out of the queue in which it stands: it found the bit clear at its second test, or at a semaphore has seen its alert word set
+  -- the thread may take itself out of the queue in which it stands: it found the bit clear at its second test, or at a semaphore or, in its wait, at a condition has seen its alert word set
   abbrev pub MayLeave : Object → Known T H W → Type 0
   MayLeave (Mutex m) k = StandsAs (λ s. (s.at ≡ m.0) × IsClear s.stage) k
   MayLeave (Sem s) k = StandsAs (λ x. (x.at ≡ sem_object s.0) × (IsClear x.stage ⊎ (k.alerted ≡ true))) k
-  MayLeave (Cond c) k = ⊥
+  MayLeave (Cond c) k = StandsAs (λ s. (s.at ≡ cond_object c.0) × IsAlerted s.stage) k × (x : Wait) × (k.wait ≡ Some x) × (x.cond.0 ≡ c.0)
+
+  -- the thread took itself out of the queue: at a gate it has its turn to try the bit, unless it had found it set since its push; at a condition it is in the condition by the count that stands
+  abbrev pub HasLeft : Object → Known T H W → Known T H W → Type 0
+  HasLeft (Cond c) a b = b ≡ record a { queue = less a.number a.queue; left = less a.number a.left; stand = None; wait = recounted a.count a.wait }
+  HasLeft _ a b = b ≡ record a { queue = less a.number a.queue; left = less a.number a.left; stand = None; turns = left_turns a.stand a.turns }
 
   -- the thread has no mutex's bit
   abbrev pub HasNone : Known T H W → Type 0

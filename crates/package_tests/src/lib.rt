@@ -4,6 +4,10 @@
 #![tactic(auto)]
 
 #[cfg(test)]
+mod alert_waits;
+#[cfg(test)]
+mod alerted;
+#[cfg(test)]
 mod mutex;
 #[cfg(test)]
 mod notes;

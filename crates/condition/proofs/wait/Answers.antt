@@ -1,10 +1,11 @@
-use Rattle.std.proofs.Common.{◌≡◌, ℕ, Some, None, false, rules, refl, ap, sym, subst, ◌∙◌, slice_set}
+use Rattle.std.proofs.Common.{◌≡◌, ℕ, Some, None, false, rules, refl, inr, ap, sym, subst, ◌∙◌, slice_set}
 use Rattle.std.proofs.lemmas.List.{set-set}
 use mathlib.Core.Option.{some}
 use lib.ListN.{get_elem?}
 use Rattle.nub_rule.specs.declared.view.WaitBit.TheVariants.{Open}
-use Rattle.nub_rule.specs.Plays.{begun_wait, opened}
+use Rattle.nub_rule.specs.Plays.{begun_wait, opened, unread}
 use Rattle.nub.specs.Rest.{HasStored}
+use Rattle.condition.specs.Waits.{resume_event}
 use Rattle.nub.proofs.Without.{still_out}
 use Rattle.std.specs.Prelude.{Option as Opt}
 use Rattle.condition.proofs.wait.Goals as goal
@@ -12,11 +13,11 @@ use Rattle.condition.proofs.wait.Goals as goal
 same_value : {T : Type 0} (x y : T) → (let a : Opt (Opt T) = Some (Some x) in some a) ≡ some (Some (Some y)) → x ≡ y
 same_value x y e = cc
 
-pub free_in_wait-requires-clause-waits : goal.free_in_wait-requires-clause-waits
-free_in_wait-requires-clause-waits g c κs within = (begun_wait false c.args.m.0 c.args.c.0 c.read_count-count.result, ap (λ k. k.wait) c.read_count-count.ensures.begun, refl, refl)
+pub free-requires-clause-clears : goal.free-requires-clause-clears
+free-requires-clause-clears g c κs within = (begun_wait false c.args.m.0 c.args.c.0 c.read_count-count.result, ap (λ k. k.wait) c.read_count-count.ensures.begun, refl, refl)
 
-pub free_in_wait-requires-clause-may : goal.free_in_wait-requires-clause-may
-free_in_wait-requires-clause-may g c κs within =
+pub free-requires-clause-may : goal.free-requires-clause-may
+free-requires-clause-may g c κs within =
     let m = c.args.m.0 in
     let x = c.requires.may.0 in
     let y = c.args.value in
@@ -31,7 +32,13 @@ free_in_wait-requires-clause-may g c κs within =
     )
 
 pub block-requires-clause-waits : goal.block-requires-clause-waits
-block-requires-clause-waits g c κs within = (record (begun_wait false c.args.m.0 c.args.c.0 c.read_count-count.result) { bit = Open }, ap (λ k. k.wait) c.free_in_wait.ensures.rest ∙ ap opened (ap (λ k. k.wait) c.read_count-count.ensures.begun), refl, refl)
+block-requires-clause-waits g c κs within = (record (begun_wait false c.args.m.0 c.args.c.0 c.read_count-count.result) { bit = Open }, ap (λ k. k.wait) c.free.ensures.rest ∙ ap opened (ap (λ k. k.wait) c.read_count-count.ensures.begun), refl, refl, refl)
+
+pub take-requires-clause-may : goal.take-requires-clause-may
+take-requires-clause-may g c κs within =
+    let w = record (begun_wait false c.args.m.0 c.args.c.0 c.read_count-count.result) { bit = Open } in
+    let wait = c.block.ensures.out (c.block.ensures.plain refl) ∙ (ap (λ k. unread k.wait) c.free.ensures.rest ∙ ap (λ z. unread (opened z)) (ap (λ k. k.wait) c.read_count-count.ensures.begun)) in
+    inr (record w { member = None }, wait, refl, refl, λ j. resume_event (c.number.ensures j) c.args.m.0 c.args.c.0)
 
 pub returns-clause-rest : goal.returns-clause-rest
 returns-clause-rest g c =
@@ -43,11 +50,11 @@ returns-clause-rest g c =
     let y = c.args.value in
     let put = c.put_value.ensures.value in
     let begun = c.read_count-count.ensures.begun in
-    let freed = c.free_in_wait.ensures.rest in
+    let freed = c.free.ensures.rest in
     let blocked = c.block.ensures.rest in
     let out = c.take_value.ensures.out in
-    let held = ap (λ k. k.held) blocked ∙ (ap (λ k. k.held) freed ∙ ap (λ k. slice_set k.held m None) begun ∙ ap (λ k. slice_set k.held m None) put) in
-    let values = ap (λ k. k.values) blocked ∙ (ap (λ k. k.values) freed ∙ ap (λ k. slice_set k.values m None) begun ∙ ap (λ k. slice_set k.values m None) put) in
+    let held = ap (λ k. k.held) blocked ∙ (c.free.ensures.freed.0 ∙ ap (λ k. slice_set k.held m None) begun ∙ ap (λ k. slice_set k.held m None) put) in
+    let values = ap (λ k. k.values) blocked ∙ (c.free.ensures.freed.1 ∙ ap (λ k. slice_set k.values m None) begun ∙ ap (λ k. slice_set k.values m None) put) in
     record {
       of = search rules;
       outside = record { spin = search rules; queue = search rules; owed = search rules; left = search rules; stand = search rules; pen = search rules };
@@ -70,5 +77,5 @@ returns-clause-held g c =
     let m = c.args.m.0 in
     let taken = c.take.ensures.taken in
     let x = taken.0 in
-    let held = ap (λ k. k.held) c.block.ensures.rest ∙ (ap (λ k. k.held) c.free_in_wait.ensures.rest ∙ ap (λ k. slice_set k.held m None) c.read_count-count.ensures.begun ∙ ap (λ k. slice_set k.held m None) c.put_value.ensures.value) in
+    let held = ap (λ k. k.held) c.block.ensures.rest ∙ (c.free.ensures.freed.0 ∙ ap (λ k. slice_set k.held m None) c.read_count-count.ensures.begun ∙ ap (λ k. slice_set k.held m None) c.put_value.ensures.value) in
     ap (λ k. k.held) c.take_value.ensures.out ∙ (taken.1 ∙ (ap (λ h. slice_set h m (Some x)) held ∙ (set-set old.held m None (Some x) ∙ ap (λ z. slice_set old.held m (Some z)) (same_value x c.take_value.result (sym taken.4 ∙ c.take_value.ensures.value)))))

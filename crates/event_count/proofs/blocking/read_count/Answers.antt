@@ -1,4 +1,4 @@
-use Rattle.std.proofs.Common.{◌≡◌, ℕ, Some, false, ap, sym, subst, ◌∙◌}
+use Rattle.std.proofs.Common.{◌≡◌, ℕ, Some, ap, sym, subst, ◌∙◌}
 use Rattle.larch_actions.specs.declared.event.Event.{Event}
 use Rattle.nub_rule.specs.Known.{Makes}
 use Rattle.nub_rule.specs.Plays.{enqueue_event}
@@ -11,17 +11,19 @@ some_event e d is = cc
 
 pub end_event-requires-clause-last : goal.end_event-requires-clause-last
 end_event-requires-clause-last g c κs within = λ traced d made.
-    let by = λ (n : ℕ). enqueue_event false n c.args.m.0 c.args.c.0 in
-    let same = ap by (ap (λ k. k.number) c.begin_event.ensures.pen ∙ sym c.number.ensures) in
-    let begun = c.load_count-count.ensures.begun in
-    let makes = subst (λ (x : Event). Makes x c.begin_event.new.me c.load_count-count.new.me) same c.load_count-count.ensures.event in
-    subst (λ (x : Event). ComesNext x c.load_count-count.new.me) (some_event (by c.number.result) d made)
-    (comes_next c.args.p.now.traced c.args.me.now c.begin_event.new.me c.load_count-count.new.me (by c.number.result) c.begin_event.ensures.pen c.begin_event.ensures.number makes (ap (λ k. k.next) begun) (ap (λ k. k.entries) begun) (ap (λ k. k.lost) begun) c.requires.stored traced)
+    let e = c.beginning-e.result in
+    let by = λ (n : ℕ). enqueue_event c.args.alertable n c.args.m.0 c.args.c.0 in
+    let same = ap by (ap (λ k. k.number) c.begin_event.ensures.pen ∙ sym c.number.ensures) ∙ sym c.beginning-e.ensures in
+    let begun = c.begin_wait-count.ensures.begun in
+    let makes = subst (λ (x : Event). Makes x c.begin_event.new.me c.begin_wait-count.new.me) same c.begin_wait-count.ensures.event in
+    subst (λ (x : Event). ComesNext x c.begin_wait-count.new.me) (some_event e d made)
+    (comes_next c.args.p.now.traced c.args.me.now c.begin_event.new.me c.begin_wait-count.new.me e c.begin_event.ensures.pen c.begin_event.ensures.number makes (ap (λ k. k.next) begun) (ap (λ k. k.entries) begun) (ap (λ k. k.lost) begun) c.requires.stored traced)
 
 pub returns-clause-stored : goal.returns-clause-stored
 returns-clause-stored g c =
-    let by = λ (n : ℕ). enqueue_event false n c.args.m.0 c.args.c.0 in
-    let same = ap by (ap (λ k. k.number) c.begin_event.ensures.pen ∙ sym c.number.ensures) in
-    let begun = c.load_count-count.ensures.begun in
-    let makes = subst (λ (x : Event). Makes x c.begin_event.new.me c.load_count-count.new.me) same c.load_count-count.ensures.event in
-    stored_by c.args.p.now.traced c.args.me.now c.begin_event.new.me c.load_count-count.new.me c.end_event.new.me (by c.number.result) c.begin_event.ensures.pen c.begin_event.ensures.traced c.begin_event.ensures.number makes (ap (λ k. k.next) begun) (ap (λ k. k.entries) begun) (ap (λ k. k.lost) begun) c.end_event.ensures.rest c.end_event.ensures.stored c.requires.stored
+    let e = c.beginning-e.result in
+    let by = λ (n : ℕ). enqueue_event c.args.alertable n c.args.m.0 c.args.c.0 in
+    let same = ap by (ap (λ k. k.number) c.begin_event.ensures.pen ∙ sym c.number.ensures) ∙ sym c.beginning-e.ensures in
+    let begun = c.begin_wait-count.ensures.begun in
+    let makes = subst (λ (x : Event). Makes x c.begin_event.new.me c.begin_wait-count.new.me) same c.begin_wait-count.ensures.event in
+    stored_by c.args.p.now.traced c.args.me.now c.begin_event.new.me c.begin_wait-count.new.me c.end_event.new.me e c.begin_event.ensures.pen c.begin_event.ensures.traced c.begin_event.ensures.number makes (ap (λ k. k.next) begun) (ap (λ k. k.entries) begun) (ap (λ k. k.lost) begun) c.end_event.ensures.rest c.end_event.ensures.stored c.requires.stored

@@ -5,7 +5,7 @@ use Rattle.nub_rule.specs.declared.view.Stand.{Stand}
 use Rattle.nub_rule.specs.declared.view.Stage.TheVariants.{Pushed, Clear, Tested}
 use Rattle.nub_rule.specs.Parts.{left_turns, staged}
 use Rattle.nub.proofs.Without.{mem_last, without_own, after_sleep}
-use Rattle.nub_rule.proofs.Gating.{leave-gate, push-gate}
+use Rattle.nub_rule.proofs.Gating.{leave-gate, left-gate, push-gate}
 use Rattle.gate.proofs.taking.stand_in_line.Goals as goal
 
 pub push-requires-clause-may : goal.push-requires-clause-may
@@ -28,7 +28,7 @@ returns-then-test_again-eq0 g c =
     let o = object_of c.args.at in
     let clear = c.test_again.ensures.clear c.if-test_again-eq0.true in
     let there : c.remove.result ≡ true = c.remove.ensures.there ∙ (ap (λ k. mem k.number k.queue) clear ∙ (ap (λ k. mem k.number k.queue) (c.push.ensures.gate c.requires.gate) ∙ mem_last c.enter.new.me.number c.enter.new.me.queue)) in
-    let out = c.remove.ensures.out there in
+    let out = left-gate c.args.at c.test_again.new.me c.remove.new.me c.requires.gate (c.remove.ensures.out there) in
     let stood = ap (λ k. k.stand) clear ∙ ap (λ k. staged Clear k.stand) (c.push.ensures.gate c.requires.gate) in
     let turn = ap (λ z. left_turns z c.test_again.new.me.turns) stood in
     record {

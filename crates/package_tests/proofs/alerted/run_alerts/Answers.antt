@@ -1,0 +1,18 @@
+use Rattle.std.proofs.Common.{[], arith, rules, ap, sym, subst, ◌∙◌}
+use lib.ListN.{get_elem?}
+use Rattle.larch_actions.specs.Layout.{IsLawful}
+use Rattle.nub.specs.Ended.{IsDone}
+use Rattle.nub.proofs.Users.{idle_own}
+use Rattle.sum_uses.proofs.Adding.{sums_begin, all_zero}
+use Rattle.package_tests.proofs.alerted.run_alerts.Goals as goal
+
+pub open_package-requires-clause-holds : goal.open_package-requires-clause-holds
+open_package-requires-clause-holds g c κs =
+    let few = c.requires in
+    sums_begin c.in_ok-values.values.items c.args.threads (λ m x e. all_zero 1 m x (ap (λ l. get_elem? l m) (sym c.in_ok-values.ensures) ∙ e)) (omega arith)
+
+pub close_package-requires-clause-threads : goal.close_package-requires-clause-threads
+close_package-requires-clause-threads g c κs = λ n t at.
+    let back = c.in_ok-threads.ensures.each n t at in
+    let own : IsDone c.in_ok-pkg.pkg back.was.number t = (let goes = back.goes in search rules) in
+    subst (λ k. IsDone c.in_ok-pkg.pkg k t) (c.in_ok-pkg.ensures.threads n back.was back.is_was).number own
