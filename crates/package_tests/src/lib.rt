@@ -1,12 +1,16 @@
-//! Tests of the package: the calls of a mutex and of a semaphore by threads that are at work at once.
+//! Tests of the package: its calls by threads that are at work at once.
 //!
-//! Each primitive has the same list of tests: `alone`, `contended`, `two_objects_apart`, `many_threads` and `largest_layout`.
+//! Mutexes and semaphores have the same list of tests: `alone`, `contended`, `two_objects_apart`, `many_threads` and `largest_layout`.
 #![tactic(auto)]
 
+#[cfg(test)]
+mod alert;
 #[cfg(test)]
 mod alert_waits;
 #[cfg(test)]
 mod alerted;
+#[cfg(test)]
+mod alerting;
 #[cfg(test)]
 mod mutex;
 #[cfg(test)]

@@ -1,0 +1,119 @@
+//! Alerts, and waits that they end.
+ghost use Rattle.std.specs.Prelude.{[], ◌≡◌, ◌≤◌};
+ghost use Rattle.nub.specs.Ended.{IsDone};
+ghost use Rattle.nub.specs.Idle.{IsIdle};
+
+use crate::alerting::{AlertTask, do_alerts};
+use crate::notes::Notes;
+use nub::{Action, Closed, Event, Layout, SemId, Thread, ThreadId, close_package, open_package};
+use package_crew::at_once;
+use std::alloc::{AllocError, Global};
+use std::sync::Wait;
+use std::sync::atomic::Ordering;
+use std::test::Fail;
+use std::thread::Threads;
+use sum_uses::SumUses;
+
+// Three threads and five semaphores.
+const LAYOUT: Layout = Layout {
+    threads: 3,
+    mutexes: 0,
+    conditions: 0,
+    semaphores: 5,
+};
+
+/// What a package leaves after its threads have done their task, all at once.
+fn run<R: Threads + Wait + Sync>(
+    rt: &R,
+    alloc: Global,
+    what: AlertTask,
+    notes: &Notes,
+    traced: bool,
+) -> Result<Closed<SumUses>, AllocError> {
+    let values = Vec::new(alloc);
+    let (pkg, threads) = open_package::<SumUses>(alloc, LAYOUT, &(), values, traced)?;
+    let (threads, _) = at_once(
+        rt,
+        alloc,
+        threads,
+        &|me: Thread<SumUses>| -> (Thread<SumUses>, ())
+            requires { (5 ≤ pkg.layout.semaphores) × (3 ≤ pkg.layout.threads) × IsIdle pkg me.number [] me }
+            ensures { IsDone pkg me.number result.0 }
+        { (do_alerts(rt, &pkg, me, what, notes), ()) },
+    )?;
+    close_package(pkg, threads)
+}
+
+fn event(thread: u32, action: Action) -> Event {
+    Event {
+        thread: ThreadId(thread),
+        action,
+    }
+}
+
+// A thread that waits for a semaphore which nobody frees raises each time that it is alerted.
+#[test]
+fn raises_each_time(rt: HostRuntime) -> Result<(), Fail> {
+    let notes = Notes::new();
+    run(&rt, rt.alloc(), AlertTask::Raises(10_000), &notes, false)?;
+    assert_eq!(rt; notes.first.load(Ordering::SeqCst), 10_000);
+    let notes = Notes::new();
+    let closed = run(&rt, rt.alloc(), AlertTask::Raises(100), &notes, true)?;
+    assert_eq!(rt; notes.first.load(Ordering::SeqCst), 100);
+    assert_eq!(rt; closed.trace().ok_or("no trace")?.len(), 402);
+    Ok(())
+}
+
+// A semaphore is freed while the thread that waits for it is alerted: either it has the semaphore and is alerted still, or it has raised
+// and the semaphore is free. Nobody is left in the queue: a V and a P follow, and another alertable P that raises.
+#[test]
+fn freed_and_alerted_at_once(rt: HostRuntime) -> Result<(), Fail> {
+    let notes = Notes::new();
+    run(&rt, rt.alloc(), AlertTask::AtOnce(20_000), &notes, false)?;
+    assert_eq!(rt; notes.first.load(Ordering::SeqCst), 20_000);
+    assert_eq!(rt; notes.second.load(Ordering::SeqCst), 0);
+    let notes = Notes::new();
+    run(&rt, rt.alloc(), AlertTask::AtOnce(200), &notes, true)?;
+    assert_eq!(rt; notes.second.load(Ordering::SeqCst), 0);
+    Ok(())
+}
+
+// A thread that has alerted itself raises where the semaphore isn't available.
+#[test]
+fn alerts_itself(rt: HostRuntime) -> Result<(), Fail> {
+    let notes = Notes::new();
+    let closed = run(&rt, rt.alloc(), AlertTask::Oneself, &notes, true)?;
+    assert_eq!(rt; notes.first.load(Ordering::SeqCst), 1);
+    let sem = SemId(0);
+    let taken = event(0, Action::P { sem });
+    let alerted = event(0, Action::Alert { who: ThreadId(0) });
+    let raised = event(0, Action::AlertPRaise { sem });
+    let events = closed.trace().ok_or("no trace")?;
+    assert_eq!(rt; events, [taken, alerted, raised].as_slice());
+    Ok(())
+}
+
+// Two alerts are one: the first test finds it, and the second none.
+#[test]
+fn two_alerts_are_one(rt: HostRuntime) -> Result<(), Fail> {
+    let notes = Notes::new();
+    let closed = run(&rt, rt.alloc(), AlertTask::Twice, &notes, true)?;
+    assert_eq!(rt; notes.first.load(Ordering::SeqCst), 1);
+    assert_eq!(rt; notes.second.load(Ordering::SeqCst), 0);
+    let alerted = event(0, Action::Alert { who: ThreadId(0) });
+    let yes = event(0, Action::TestAlert { yes: true });
+    let no = event(0, Action::TestAlert { yes: false });
+    let events = closed.trace().ok_or("no trace")?;
+    assert_eq!(rt; events, [alerted, alerted, yes, no].as_slice());
+    Ok(())
+}
+
+// An alert of a thread at rest is there when it tests.
+#[test]
+fn alerted_at_rest(rt: HostRuntime) -> Result<(), Fail> {
+    let notes = Notes::new();
+    run(&rt, rt.alloc(), AlertTask::AtRest, &notes, false)?;
+    assert_eq!(rt; notes.first.load(Ordering::SeqCst), 1);
+    assert_eq!(rt; notes.second.load(Ordering::SeqCst), 0);
+    Ok(())
+}
