@@ -20,47 +20,45 @@ use Rattle.trace_check.specs.declared.checker.Summary.{Summary}
 use Rattle.trace_check.specs.declared.checker.Verdict.TheVariants as verdict
 use Rattle.trace_check.specs.Verdicts.{front_text, refusal}
 use Rattle.trace_check.proofs.UnderWay.{IsUnderWay, few, starts_on, step_on, fails_on, ends_on, consumes_some}
-use Rattle.trace_picture.specs.declared.history.Origin.{Origin}
 use Rattle.trace_picture.specs.declared.view.View.{View}
-use Rattle.trace_picture.specs.History.{behind, mutex_turn, wait_turn, changed, origin_of, held_since, waits_since}
+use Rattle.trace_picture.specs.Kept.{Kept, nothing_kept, kept_after, kept_since, behind}
 use Rattle.trace_picture.specs.Shapes.{with_number}
 use Rattle.trace_picture.specs.Bands.{step_text, failing_text}
 use Rattle.trace_picture.specs.Picture.{head_text, steps_text, front_picture, closing_if, last_closing, end_text, failed_note, picture, failed_picture, cut_picture}
 use Rattle.trace_picture.specs.Drawn.{IsFrontText, GotCut, IsDrawn, IsAPicture, IsCutOff}
 
-behind-push : (past es : List Event) (e : Event) → behind past (es ++ e ∷ []) ≡ e ∷ behind past es
+pub behind-push : (past es : List Event) (e : Event) → behind past (es ++ e ∷ []) ≡ e ∷ behind past es
 behind-push past [] e = refl
 behind-push past (x ∷ es) e = behind-push (x ∷ past) es e
 
-length-behind : (past es : List Event) → length (behind past es) ≡ length past + length es
+pub length-behind : (past es : List Event) → length (behind past es) ≡ length past + length es
 length-behind past [] = omega arith
 length-behind past (x ∷ es) = omega (arith, length-behind (x ∷ past) es)
 
 steps-push : (l : Layout) (v : View) (past es : List Event) (e : Event)
-    → steps_text l v past (es ++ e ∷ []) ≡ steps_text l v past es ++ step_text l v (held_since (behind past es)) (waits_since (behind past es)) (length (behind past es)) e
+    → steps_text l v past (es ++ e ∷ []) ≡ steps_text l v past es ++ step_text l v (kept_since (behind past es)) (length (behind past es)) e
 unfolding steps_text
-steps-push l v past [] e = append-nil (step_text l v (held_since past) (waits_since past) (length past) e)
+steps-push l v past [] e = append-nil (step_text l v (kept_since past) (length past) e)
 steps-push l v past (x ∷ es) e =
-    let first = step_text l v (held_since past) (waits_since past) (length past) x in
+    let first = step_text l v (kept_since past) (length past) x in
     ap (λ t. first ++ t) (steps-push l v (x ∷ past) es e)
-    ∙ sym (append_assoc first (steps_text l v (x ∷ past) es) (step_text l v (held_since (behind (x ∷ past) es)) (waits_since (behind (x ∷ past) es)) (length (behind (x ∷ past) es)) e))
+    ∙ sym (append_assoc first (steps_text l v (x ∷ past) es) (step_text l v (kept_since (behind (x ∷ past) es)) (length (behind (x ∷ past) es)) e))
 
-front-push : (l : Layout) (v : View) (es : List Event) (e : Event) → front_picture l v (es ++ e ∷ []) ≡ front_picture l v es ++ step_text l v (held_since (behind [] es)) (waits_since (behind [] es)) (length (behind [] es)) e
+front-push : (l : Layout) (v : View) (es : List Event) (e : Event) → front_picture l v (es ++ e ∷ []) ≡ front_picture l v es ++ step_text l v (kept_since (behind [] es)) (length (behind [] es)) e
 unfolding front_picture
 front-push l v es e =
     ap (λ t. head_text l ++ t) (steps-push l v [] es e)
-    ∙ sym (append_assoc (head_text l) (steps_text l v [] es) (step_text l v (held_since (behind [] es)) (waits_since (behind [] es)) (length (behind [] es)) e))
+    ∙ sym (append_assoc (head_text l) (steps_text l v [] es) (step_text l v (kept_since (behind [] es)) (length (behind [] es)) e))
 
 front-none : (l : Layout) (v : View) → front_picture l v [] ≡ head_text l
 unfolding front_picture steps_text
 front-none l v = append-nil (head_text l)
 
 -- so far these events were read and drawn
-pub record IsDrawing (budget : ℕ) (left₀ : Option (List ℕ)) (before : ℕ) (st : Standing) (now : ℕ) (m : Moment) (count : ℕ) (v : View) (told₀ told : Option (List ℕ)) (kept : List ℕ) (ht wt : ℕ → Option Origin) : Type 0 where
+pub record IsDrawing (budget : ℕ) (left₀ : Option (List ℕ)) (before : ℕ) (st : Standing) (now : ℕ) (m : Moment) (count : ℕ) (v : View) (told₀ told : Option (List ℕ)) (kept : List ℕ) (k : Kept) : Type 0 where
   pub under_way : IsUnderWay budget left₀ before st now m count
   pub flows : Pending told₀ told kept (front_picture st.layout v under_way.events) []
-  pub held_is : ht ≡ held_since (behind [] under_way.events)
-  pub waits_is : wt ≡ waits_since (behind [] under_way.events)
+  pub kept_is : k ≡ kept_since (behind [] under_way.events)
 
 -- more was put behind what is held back
 pending_text : (first now : Option (List ℕ)) (kept kept' all text : List ℕ) → Pending first now kept all [] → kept' ≡ kept ++ text → Pending first now kept' (all ++ text) []
@@ -75,53 +73,50 @@ nothing_sent : (h : Option (List ℕ)) → Appends h h []
 nothing_sent None = tt
 nothing_sent (Some xs) = sym (append-nil xs)
 
-pub drawing_starts : (budget : ℕ) (left₀ : Option (List ℕ)) (before now : ℕ) (p p' : Standing) (l : Layout) (m : Moment) (v : View) (told : Option (List ℕ)) (kept : List ℕ) (ht wt : ℕ → Option Origin)
-    → p.rest ≡ left₀ → p.room ≡ budget → p.lines ≡ 0 → TakesHead p p' l → before ≤ now → m.layout ≡ l → spec_of m ≡ at_first → kept ≡ [] ++ head_text l → ht ≡ (λ k. None) → wt ≡ (λ k. None)
-    → IsDrawing budget left₀ before p' now m 0 v told told kept ht wt
+pub drawing_starts : (budget : ℕ) (left₀ : Option (List ℕ)) (before now : ℕ) (p p' : Standing) (l : Layout) (m : Moment) (v : View) (told : Option (List ℕ)) (kept : List ℕ) (k : Kept)
+    → p.rest ≡ left₀ → p.room ≡ budget → p.lines ≡ 0 → TakesHead p p' l → before ≤ now → m.layout ≡ l → spec_of m ≡ at_first → kept ≡ [] ++ head_text l → k ≡ nothing_kept
+    → IsDrawing budget left₀ before p' now m 0 v told told kept k
 unfolding starts_on
-drawing_starts budget left₀ before now p p' l m v told kept ht wt rest room lines t le laid first text none_held none_waits =
+drawing_starts budget left₀ before now p p' l m v told kept k rest room lines t le laid first text none =
     let all : front_picture p'.layout v [] ≡ ([] ++ kept) ++ [] = front-none p'.layout v ∙ ap head_text t.layout ∙ sym text ∙ sym (append-nil kept) in
     record {
       under_way = starts_on budget left₀ before now p p' l m rest room lines t le laid first;
       flows = ([], nothing_sent told, all);
-      held_is = none_held;
-      waits_is = none_waits;
+      kept_is = none;
     }
 
-module _ (budget : ℕ) (left₀ : Option (List ℕ)) (before now : ℕ) (p : Standing) (m : Moment) (count : ℕ) (v : View) (told₀ told : Option (List ℕ)) (kept : List ℕ) (ht wt : ℕ → Option Origin)
-    (d : IsDrawing budget left₀ before p now m count v told₀ told kept ht wt) where
+module _ (budget : ℕ) (left₀ : Option (List ℕ)) (before now : ℕ) (p : Standing) (m : Moment) (count : ℕ) (v : View) (told₀ told : Option (List ℕ)) (kept : List ℕ) (k : Kept)
+    (d : IsDrawing budget left₀ before p now m count v told₀ told kept k) where
   pub drawing_few : count ≤ budget
   drawing_few = few budget left₀ before p now m count d.under_way
 
   -- some of what is held back was sent
-  pub drawing_room : (told' : Option (List ℕ)) (kept' : List ℕ) → Flows told told' kept kept' [] → IsDrawing budget left₀ before p now m count v told₀ told' kept' ht wt
+  pub drawing_room : (told' : Option (List ℕ)) (kept' : List ℕ) → Flows told told' kept kept' [] → IsDrawing budget left₀ before p now m count v told₀ told' kept' k
   drawing_room told' kept' f = record {
     under_way = d.under_way;
     flows = pending_flow told₀ told told' kept kept' (front_picture p.layout v d.under_way.events) [] d.flows f;
-    held_is = d.held_is;
-    waits_is = d.waits_is;
+    kept_is = d.kept_is;
   }
 
   counted : length (behind [] d.under_way.events) ≡ count
   counted = omega (arith, length-behind [] d.under_way.events, d.under_way.counted)
 
-  pub drawing_steps : (now' : ℕ) (p' : Standing) (m' : Moment) (e : Event) (kept' : List ℕ) (ht' wt' : ℕ → Option Origin) (l : Layout) → l ≡ p.layout → budget < 2 ^ 64 - 1 → TakesEvent p p' e → Acts (spec_of m) e (spec_of m') → m'.layout ≡ m.layout → now ≤ now'
-      → kept' ≡ kept ++ step_text l v ht wt count e → ht' ≡ changed (mutex_turn e.action) (origin_of count e) ht → wt' ≡ changed (wait_turn e.thread.0 e.action) (origin_of count e) wt
-      → IsDrawing budget left₀ before p' now' m' (count + 1) v told₀ told kept' ht' wt'
+  pub drawing_steps : (now' : ℕ) (p' : Standing) (m' : Moment) (e : Event) (kept' : List ℕ) (k' : Kept) (l : Layout) → l ≡ p.layout → budget < 2 ^ 64 - 1 → TakesEvent p p' e → Acts (spec_of m) e (spec_of m') → m'.layout ≡ m.layout → now ≤ now'
+      → kept' ≡ kept ++ step_text l v k count e → k' ≡ kept_after count e k
+      → IsDrawing budget left₀ before p' now' m' (count + 1) v told₀ told kept' k'
   unfolding step_on
-  drawing_steps now' p' m' e kept' ht' wt' l same_l fits t a same le text turns_held turns_waits =
+  drawing_steps now' p' m' e kept' k' l same_l fits t a same le text turns =
       let es = d.under_way.events in
       let n = counted in
-      let step : step_text p.layout v ht wt count e ≡ step_text p.layout v (held_since (behind [] es)) (waits_since (behind [] es)) (length (behind [] es)) e = (λ i. step_text p.layout v (d.held_is i) (d.waits_is i) (sym n i) e) in
-      let all : front_picture p.layout v es ++ step_text p.layout v ht wt count e ≡ front_picture p'.layout v (es ++ e ∷ []) =
+      let step : step_text p.layout v k count e ≡ step_text p.layout v (kept_since (behind [] es)) (length (behind [] es)) e = (λ i. step_text p.layout v (d.kept_is i) (sym n i) e) in
+      let all : front_picture p.layout v es ++ step_text p.layout v k count e ≡ front_picture p'.layout v (es ++ e ∷ []) =
       ap (λ s. front_picture p.layout v es ++ s) step ∙ sym (front-push p.layout v es e) ∙ ap (λ l. front_picture l v (es ++ e ∷ [])) (sym t.layout)
       in
-      let flows = pending_text told₀ told kept kept' (front_picture p.layout v es) (step_text p.layout v ht wt count e) d.flows (text ∙ ap (λ x. kept ++ step_text x v ht wt count e) same_l) in
+      let flows = pending_text told₀ told kept kept' (front_picture p.layout v es) (step_text p.layout v k count e) d.flows (text ∙ ap (λ x. kept ++ step_text x v k count e) same_l) in
       record {
         under_way = step_on budget left₀ before now now' p p' m m' count e fits d.under_way t a same le;
         flows = subst (λ x. Pending told₀ told kept' x []) all flows;
-        held_is = turns_held ∙ (λ i. changed (mutex_turn e.action) (origin_of (sym n i) e) (d.held_is i)) ∙ ap held_since (sym (behind-push [] es e));
-        waits_is = turns_waits ∙ (λ i. changed (wait_turn e.thread.0 e.action) (origin_of (sym n i) e) (d.waits_is i)) ∙ ap waits_since (sym (behind-push [] es e));
+        kept_is = turns ∙ (λ i. kept_after (sym n i) e (d.kept_is i)) ∙ ap kept_since (sym (behind-push [] es e));
       }
 
   -- the events that were read stand at the front of the input
@@ -141,36 +136,36 @@ module _ (budget : ℕ) (left₀ : Option (List ℕ)) (before now : ℕ) (p : St
         run = u.run;
       }
 
-  ends_same : (words : List ℕ) → closing_if p.layout v ht wt count ++ end_text p.layout v count (with_number words count)
+  ends_same : (words : List ℕ) → closing_if p.layout v k count ++ end_text p.layout v count (with_number words count)
       ≡ last_closing p.layout v d.under_way.events ++ end_text p.layout v (length d.under_way.events) (with_number words (length d.under_way.events))
   ends_same words =
       let n = sym d.under_way.counted in
-      λ i. closing_if p.layout v (d.held_is i) (d.waits_is i) (n i) ++ end_text p.layout v (n i) (with_number words (n i))
+      λ i. closing_if p.layout v (d.kept_is i) (n i) ++ end_text p.layout v (n i) (with_number words (n i))
 
-  fails_same : (e : Event) (why : Broken) → failing_text p.layout v ht wt count e why ++ end_text p.layout v (count + 1) (failed_note count e why)
-      ≡ failing_text p.layout v (held_since (behind [] d.under_way.events)) (waits_since (behind [] d.under_way.events)) (length d.under_way.events) e why ++ end_text p.layout v (length d.under_way.events + 1) (failed_note (length d.under_way.events) e why)
+  fails_same : (e : Event) (why : Broken) → failing_text p.layout v k count e why ++ end_text p.layout v (count + 1) (failed_note count e why)
+      ≡ failing_text p.layout v (kept_since (behind [] d.under_way.events)) (length d.under_way.events) e why ++ end_text p.layout v (length d.under_way.events + 1) (failed_note (length d.under_way.events) e why)
   fails_same e why =
       let n = sym d.under_way.counted in
-      λ i. failing_text p.layout v (d.held_is i) (d.waits_is i) (n i) e why ++ end_text p.layout v (n i + 1) (failed_note (n i) e why)
+      λ i. failing_text p.layout v (d.kept_is i) (n i) e why ++ end_text p.layout v (n i + 1) (failed_note (n i) e why)
 
   module _ (end : List ℕ) (told' : Option (List ℕ)) where
-    pub legal_pending : end ≡ kept ++ (closing_if p.layout v ht wt count ++ end_text p.layout v count (with_number (codes "legal, events: ") count)) → Pending told₀ told end (picture p.layout v d.under_way.events) []
+    pub legal_pending : end ≡ kept ++ (closing_if p.layout v k count ++ end_text p.layout v count (with_number (codes "legal, events: ") count)) → Pending told₀ told end (picture p.layout v d.under_way.events) []
     unfolding picture
     legal_pending text =
         let es = d.under_way.events in
         pending_text told₀ told kept end (front_picture p.layout v es) (last_closing p.layout v es ++ end_text p.layout v (length es) (with_number (codes "legal, events: ") (length es))) d.flows (text ∙ ap (λ x. kept ++ x) (ends_same (codes "legal, events: ")))
 
-    pub cut_pending : end ≡ kept ++ (closing_if p.layout v ht wt count ++ end_text p.layout v count (with_number (codes "the input can't be read further, events: ") count)) → Pending told₀ told end (cut_picture p.layout v d.under_way.events) []
+    pub cut_pending : end ≡ kept ++ (closing_if p.layout v k count ++ end_text p.layout v count (with_number (codes "the input can't be read further, events: ") count)) → Pending told₀ told end (cut_picture p.layout v d.under_way.events) []
     unfolding cut_picture
     cut_pending text =
         let es = d.under_way.events in
         pending_text told₀ told kept end (front_picture p.layout v es) (last_closing p.layout v es ++ end_text p.layout v (length es) (with_number (codes "the input can't be read further, events: ") (length es))) d.flows (text ∙ ap (λ x. kept ++ x) (ends_same (codes "the input can't be read further, events: ")))
 
-    pub failed_pending : (e : Event) (why : Broken) → end ≡ kept ++ (failing_text p.layout v ht wt count e why ++ end_text p.layout v (count + 1) (failed_note count e why)) → Pending told₀ told end (failed_picture p.layout v d.under_way.events e why) []
+    pub failed_pending : (e : Event) (why : Broken) → end ≡ kept ++ (failing_text p.layout v k count e why ++ end_text p.layout v (count + 1) (failed_note count e why)) → Pending told₀ told end (failed_picture p.layout v d.under_way.events e why) []
     unfolding failed_picture
     failed_pending e why text =
         let es = d.under_way.events in
-        pending_text told₀ told kept end (front_picture p.layout v es) (failing_text p.layout v (held_since (behind [] es)) (waits_since (behind [] es)) (length es) e why ++ end_text p.layout v (length es + 1) (failed_note (length es) e why)) d.flows (text ∙ ap (λ x. kept ++ x) (fails_same e why))
+        pending_text told₀ told kept end (front_picture p.layout v es) (failing_text p.layout v (kept_since (behind [] es)) (length es) e why ++ end_text p.layout v (length es + 1) (failed_note (length es) e why)) d.flows (text ∙ ap (λ x. kept ++ x) (fails_same e why))
 
     -- a sink that failed
     pub cut_by : (text : List ℕ) → IsAPicture p.layout v d.under_way.events text → AppendsFront told₀ told' text → (bytes : List ℕ) → left₀ ≡ Some bytes → (w : IsFrontText budget bytes) × (text : List ℕ) × IsAPicture w.layout v w.events text × AppendsFront told₀ told' text
@@ -196,8 +191,8 @@ if_some : (left : Option (List ℕ)) (Holds : List ℕ → Type 0) → ((bytes :
 if_some None Holds h = tt
 if_some (Some bytes) Holds h = h bytes refl
 
-module _ (budget : ℕ) (left₀ : Option (List ℕ)) (before now : ℕ) (p : Standing) (m : Moment) (count : ℕ) (v : View) (told₀ told : Option (List ℕ)) (kept : List ℕ) (ht wt : ℕ → Option Origin)
-    (d : IsDrawing budget left₀ before p now m count v told₀ told kept ht wt) (end : List ℕ) (told' : Option (List ℕ)) (l : Layout) (same_l : l ≡ p.layout) where
+module _ (budget : ℕ) (left₀ : Option (List ℕ)) (before now : ℕ) (p : Standing) (m : Moment) (count : ℕ) (v : View) (told₀ told : Option (List ℕ)) (kept : List ℕ) (k : Kept)
+    (d : IsDrawing budget left₀ before p now m count v told₀ told kept k) (end : List ℕ) (told' : Option (List ℕ)) (l : Layout) (same_l : l ≡ p.layout) where
   -- the sink failed between two events
   pub room_cut : AppendsFront told told' kept → IsCutOff budget v left₀ told₀ told'
   unfolding cut_picture
@@ -206,49 +201,49 @@ module _ (budget : ℕ) (left₀ : Option (List ℕ)) (before now : ℕ) (p : St
       let ending = last_closing p.layout v es ++ end_text p.layout v (length es) (with_number (codes "the input can't be read further, events: ") (length es)) in
       let more : Pending told₀ told kept (cut_picture p.layout v es) ending = (d.flows.0, d.flows.1, ap (λ x. x ++ ending) (d.flows.2 ∙ append-nil (d.flows.0 ++ kept))) in
       let front : AppendsFront told₀ told' (cut_picture p.layout v es) = pending_fault told₀ told told' kept (cut_picture p.layout v es) ending more f in
-      if_some left₀ _ (cut_by budget left₀ before now p m count v told₀ told kept ht wt d end told' (cut_picture p.layout v es) (inr (inl refl)) front)
+      if_some left₀ _ (cut_by budget left₀ before now p m count v told₀ told kept k d end told' (cut_picture p.layout v es) (inr (inl refl)) front)
 
-  pub refused_got : (f : TextFault) → end ≡ kept ++ (closing_if l v ht wt count ++ end_text l v count (with_number (codes "the input can't be read further, events: ") count)) → Appends told told' end → IsDrawn budget v left₀ told₀ told' (refusal f)
+  pub refused_got : (f : TextFault) → end ≡ kept ++ (closing_if l v k count ++ end_text l v count (with_number (codes "the input can't be read further, events: ") count)) → Appends told told' end → IsDrawn budget v left₀ told₀ told' (refusal f)
   unfolding front_read
   refused_got f text a =
-      let sent = pending_sent told₀ told told' end (cut_picture p.layout v d.under_way.events) (cut_pending budget left₀ before now p m count v told₀ told kept ht wt d end told' (subst (λ x. end ≡ kept ++ (closing_if x v ht wt count ++ end_text x v count (with_number (codes "the input can't be read further, events: ") count))) same_l text)) a in
-      refused_drawn budget v left₀ told₀ told' f (if_some left₀ _ (λ bytes told_is. inr (front_read budget left₀ before now p m count v told₀ told kept ht wt d bytes told_is, sent)))
+      let sent = pending_sent told₀ told told' end (cut_picture p.layout v d.under_way.events) (cut_pending budget left₀ before now p m count v told₀ told kept k d end told' (subst (λ x. end ≡ kept ++ (closing_if x v k count ++ end_text x v count (with_number (codes "the input can't be read further, events: ") count))) same_l text)) a in
+      refused_drawn budget v left₀ told₀ told' f (if_some left₀ _ (λ bytes told_is. inr (front_read budget left₀ before now p m count v told₀ told kept k d bytes told_is, sent)))
 
-  pub refused_cut : end ≡ kept ++ (closing_if l v ht wt count ++ end_text l v count (with_number (codes "the input can't be read further, events: ") count)) → AppendsFront told told' end → IsCutOff budget v left₀ told₀ told'
+  pub refused_cut : end ≡ kept ++ (closing_if l v k count ++ end_text l v count (with_number (codes "the input can't be read further, events: ") count)) → AppendsFront told told' end → IsCutOff budget v left₀ told₀ told'
   refused_cut text f =
       let es = d.under_way.events in
-      let front = pending_fault told₀ told told' end (cut_picture p.layout v es) [] (cut_pending budget left₀ before now p m count v told₀ told kept ht wt d end told' (subst (λ x. end ≡ kept ++ (closing_if x v ht wt count ++ end_text x v count (with_number (codes "the input can't be read further, events: ") count))) same_l text)) f in
-      if_some left₀ _ (cut_by budget left₀ before now p m count v told₀ told kept ht wt d end told' (cut_picture p.layout v es) (inr (inl refl)) front)
+      let front = pending_fault told₀ told told' end (cut_picture p.layout v es) [] (cut_pending budget left₀ before now p m count v told₀ told kept k d end told' (subst (λ x. end ≡ kept ++ (closing_if x v k count ++ end_text x v count (with_number (codes "the input can't be read further, events: ") count))) same_l text)) f in
+      if_some left₀ _ (cut_by budget left₀ before now p m count v told₀ told kept k d end told' (cut_picture p.layout v es) (inr (inl refl)) front)
 
-  pub legal_cut : end ≡ kept ++ (closing_if l v ht wt count ++ end_text l v count (with_number (codes "legal, events: ") count)) → AppendsFront told told' end → IsCutOff budget v left₀ told₀ told'
+  pub legal_cut : end ≡ kept ++ (closing_if l v k count ++ end_text l v count (with_number (codes "legal, events: ") count)) → AppendsFront told told' end → IsCutOff budget v left₀ told₀ told'
   legal_cut text f =
       let es = d.under_way.events in
-      let front = pending_fault told₀ told told' end (picture p.layout v es) [] (legal_pending budget left₀ before now p m count v told₀ told kept ht wt d end told' (subst (λ x. end ≡ kept ++ (closing_if x v ht wt count ++ end_text x v count (with_number (codes "legal, events: ") count))) same_l text)) f in
-      if_some left₀ _ (cut_by budget left₀ before now p m count v told₀ told kept ht wt d end told' (picture p.layout v es) (inl refl) front)
+      let front = pending_fault told₀ told told' end (picture p.layout v es) [] (legal_pending budget left₀ before now p m count v told₀ told kept k d end told' (subst (λ x. end ≡ kept ++ (closing_if x v k count ++ end_text x v count (with_number (codes "legal, events: ") count))) same_l text)) f in
+      if_some left₀ _ (cut_by budget left₀ before now p m count v told₀ told kept k d end told' (picture p.layout v es) (inl refl) front)
 
-  pub failed_cut : (e : Event) (why : Broken) → end ≡ kept ++ (failing_text l v ht wt count e why ++ end_text l v (count + 1) (failed_note count e why)) → AppendsFront told told' end → IsCutOff budget v left₀ told₀ told'
+  pub failed_cut : (e : Event) (why : Broken) → end ≡ kept ++ (failing_text l v k count e why ++ end_text l v (count + 1) (failed_note count e why)) → AppendsFront told told' end → IsCutOff budget v left₀ told₀ told'
   failed_cut e why text f =
       let es = d.under_way.events in
-      let front = pending_fault told₀ told told' end (failed_picture p.layout v es e why) [] (failed_pending budget left₀ before now p m count v told₀ told kept ht wt d end told' e why (subst (λ x. end ≡ kept ++ (failing_text x v ht wt count e why ++ end_text x v (count + 1) (failed_note count e why))) same_l text)) f in
-      if_some left₀ _ (cut_by budget left₀ before now p m count v told₀ told kept ht wt d end told' (failed_picture p.layout v es e why) (inr (inr (e, why, refl))) front)
+      let front = pending_fault told₀ told told' end (failed_picture p.layout v es e why) [] (failed_pending budget left₀ before now p m count v told₀ told kept k d end told' e why (subst (λ x. end ≡ kept ++ (failing_text x v k count e why ++ end_text x v (count + 1) (failed_note count e why))) same_l text)) f in
+      if_some left₀ _ (cut_by budget left₀ before now p m count v told₀ told kept k d end told' (failed_picture p.layout v es e why) (inr (inr (e, why, refl))) front)
 
-pub legal_got : (budget : ℕ) (left₀ : Option (List ℕ)) (before now : ℕ) (p p' : Standing) (m : Moment) (count : ℕ) (v : View) (told₀ told : Option (List ℕ)) (kept : List ℕ) (ht wt : ℕ → Option Origin) (d : IsDrawing budget left₀ before p now m count v told₀ told kept ht wt) (end : List ℕ) (told' : Option (List ℕ)) (l : Layout) (s : Summary) → l ≡ p.layout
+pub legal_got : (budget : ℕ) (left₀ : Option (List ℕ)) (before now : ℕ) (p p' : Standing) (m : Moment) (count : ℕ) (v : View) (told₀ told : Option (List ℕ)) (kept : List ℕ) (k : Kept) (d : IsDrawing budget left₀ before p now m count v told₀ told kept k) (end : List ℕ) (told' : Option (List ℕ)) (l : Layout) (s : Summary) → l ≡ p.layout
     → budget < 2 ^ 64 - 1 → TakesEnd p p' → s.events ≡ count → s.held ≡ held m.layout (spec_of m) → s.waiting ≡ waiting m.layout (spec_of m) → s.alerted ≡ alerted m.layout (spec_of m)
-    → end ≡ kept ++ (closing_if l v ht wt count ++ end_text l v count (with_number (codes "legal, events: ") count)) → Appends told told' end → IsDrawn budget v left₀ told₀ told' (verdict.Legal s)
+    → end ≡ kept ++ (closing_if l v k count ++ end_text l v count (with_number (codes "legal, events: ") count)) → Appends told told' end → IsDrawn budget v left₀ told₀ told' (verdict.Legal s)
 unfolding ends_on
-legal_got budget None before now p p' m count v told₀ told kept ht wt d end told' l s same_l fits t a b c e text sent = tt
-legal_got budget (Some bytes) before now p p' m count v told₀ told kept ht wt d end told' l s same_l fits t a b c e text sent = (
+legal_got budget None before now p p' m count v told₀ told kept k d end told' l s same_l fits t a b c e text sent = tt
+legal_got budget (Some bytes) before now p p' m count v told₀ told kept k d end told' l s same_l fits t a b c e text sent = (
   ends_on budget (Some bytes) before now p p' m count s fits d.under_way t a b c e,
-  pending_sent told₀ told told' end (picture p.layout v d.under_way.events) (legal_pending budget (Some bytes) before now p m count v told₀ told kept ht wt d end told' (subst (λ x. end ≡ kept ++ (closing_if x v ht wt count ++ end_text x v count (with_number (codes "legal, events: ") count))) same_l text)) sent,
+  pending_sent told₀ told told' end (picture p.layout v d.under_way.events) (legal_pending budget (Some bytes) before now p m count v told₀ told kept k d end told' (subst (λ x. end ≡ kept ++ (closing_if x v k count ++ end_text x v count (with_number (codes "legal, events: ") count))) same_l text)) sent,
 )
 
-pub failed_got : (budget : ℕ) (left₀ : Option (List ℕ)) (before now : ℕ) (p p' : Standing) (m : Moment) (count : ℕ) (v : View) (told₀ told : Option (List ℕ)) (kept : List ℕ) (ht wt : ℕ → Option Origin) (d : IsDrawing budget left₀ before p now m count v told₀ told kept ht wt) (end : List ℕ) (told' : Option (List ℕ)) (l : Layout) (e : Event) (why : Broken) → l ≡ p.layout
-    → TakesEvent p p' e → Fails (spec_of m) e why → end ≡ kept ++ (failing_text l v ht wt count e why ++ end_text l v (count + 1) (failed_note count e why)) → Appends told told' end → IsDrawn budget v left₀ told₀ told' (verdict.Illegal count why)
+pub failed_got : (budget : ℕ) (left₀ : Option (List ℕ)) (before now : ℕ) (p p' : Standing) (m : Moment) (count : ℕ) (v : View) (told₀ told : Option (List ℕ)) (kept : List ℕ) (k : Kept) (d : IsDrawing budget left₀ before p now m count v told₀ told kept k) (end : List ℕ) (told' : Option (List ℕ)) (l : Layout) (e : Event) (why : Broken) → l ≡ p.layout
+    → TakesEvent p p' e → Fails (spec_of m) e why → end ≡ kept ++ (failing_text l v k count e why ++ end_text l v (count + 1) (failed_note count e why)) → Appends told told' end → IsDrawn budget v left₀ told₀ told' (verdict.Illegal count why)
 unfolding fails_on
-failed_got budget None before now p p' m count v told₀ told kept ht wt d end told' l e why same_l t f text sent = tt
-failed_got budget (Some bytes) before now p p' m count v told₀ told kept ht wt d end told' l e why same_l t f text sent = (
+failed_got budget None before now p p' m count v told₀ told kept k d end told' l e why same_l t f text sent = tt
+failed_got budget (Some bytes) before now p p' m count v told₀ told kept k d end told' l e why same_l t f text sent = (
   fails_on budget (Some bytes) before now p p' m count e why d.under_way t f,
-  pending_sent told₀ told told' end (failed_picture p.layout v d.under_way.events e why) (failed_pending budget (Some bytes) before now p m count v told₀ told kept ht wt d end told' e why (subst (λ x. end ≡ kept ++ (failing_text x v ht wt count e why ++ end_text x v (count + 1) (failed_note count e why))) same_l text)) sent,
+  pending_sent told₀ told told' end (failed_picture p.layout v d.under_way.events e why) (failed_pending budget (Some bytes) before now p m count v told₀ told kept k d end told' e why (subst (λ x. end ≡ kept ++ (failing_text x v k count e why ++ end_text x v (count + 1) (failed_note count e why))) same_l text)) sent,
 )
 
 pub take_none : (xs : List ℕ) → take 0 xs ≡ []

@@ -11,7 +11,8 @@ use Rattle.larch_actions.specs.Actions.{Spec, acted, Leads, at_first}
 use Rattle.trace_picture.specs.declared.history.Origin.{Origin}
 use Rattle.trace_picture.specs.declared.history.Turn.{Turn}
 use Rattle.trace_picture.specs.declared.history.Turn.TheVariants.{Begins, Ends, Stays}
-use Rattle.trace_picture.specs.History.{behind, mutex_turn, changed, origin_of, held_since}
+use Rattle.trace_picture.specs.History.{mutex_turn, changed, origin_of}
+use Rattle.trace_picture.specs.Kept.{kept_since, behind}
 use Rattle.trace_picture.specs.Laws.{IsSince, BarsAreHolds}
 
 -- what the past says of a mutex is what the state says
@@ -44,11 +45,11 @@ agrees_after o f s (TestAlert b) m h = h
 agrees_after o f s (AlertPReturn k) m h = h
 agrees_after o f s (AlertPRaise k) m h = h
 
-agrees_run : (past es : List Event) (s t : Spec) (m : ℕ) → Leads s es t → Agrees (held_since past m) (s.holder m) → Agrees (held_since (behind past es) m) (t.holder m)
-agrees_run past [] s t m r h = subst (λ (u : Spec). Agrees (held_since past m) (u.holder m)) r h
+agrees_run : (past es : List Event) (s t : Spec) (m : ℕ) → Leads s es t → Agrees ((kept_since past).held m) (s.holder m) → Agrees ((kept_since (behind past es)).held m) (t.holder m)
+agrees_run past [] s t m r h = subst (λ (u : Spec). Agrees ((kept_since past).held m) (u.holder m)) r h
 agrees_run past (e ∷ es) s t m r h =
-    let step = agrees_after (origin_of (length past) e) (held_since past) s e.action m h in
-    agrees_run (e ∷ past) es r.0 t m r.2 (subst (λ (u : Spec). Agrees (held_since (e ∷ past) m) (u.holder m)) (sym r.1.1) step)
+    let step = agrees_after (origin_of (length past) e) ((kept_since past).held) s e.action m h in
+    agrees_run (e ∷ past) es r.0 t m r.2 (subst (λ (u : Spec). Agrees ((kept_since (e ∷ past)).held m) (u.holder m)) (sym r.1.1) step)
 
 -- the latest event that took it, and none since that took it or gave it back
 abbrev Since : ℕ → List Event → Option Origin → Type 0
@@ -90,12 +91,12 @@ since_ends m k e past x t h = dite (ℕ_discrete m k)
     ends_same : (m k : ℕ) → Ends m ≡ Ends k → m ≡ k
     ends_same m k u = cc
 
-since_turn : (m : ℕ) (e : Event) (past : List Event) (t : Turn) → mutex_turn e.action ≡ t → Since m past (held_since past m) → Since m (e ∷ past) (changed t (origin_of (length past) e) (held_since past) m)
-since_turn m e past (Begins k) t h = since_begins m k e past (held_since past m) t h
-since_turn m e past (Ends k) t h = since_ends m k e past (held_since past m) t h
-since_turn m e past Stays t h = stays m e past (held_since past m) (λ u. let bad : Begins m ≡ Stays = sym u ∙ t in cc) (λ u. let bad : Ends m ≡ Stays = sym u ∙ t in cc) h
+since_turn : (m : ℕ) (e : Event) (past : List Event) (t : Turn) → mutex_turn e.action ≡ t → Since m past ((kept_since past).held m) → Since m (e ∷ past) (changed t (origin_of (length past) e) ((kept_since past).held) m)
+since_turn m e past (Begins k) t h = since_begins m k e past ((kept_since past).held m) t h
+since_turn m e past (Ends k) t h = since_ends m k e past ((kept_since past).held m) t h
+since_turn m e past Stays t h = stays m e past ((kept_since past).held m) (λ u. let bad : Begins m ≡ Stays = sym u ∙ t in cc) (λ u. let bad : Ends m ≡ Stays = sym u ∙ t in cc) h
 
-since_past : (m : ℕ) (past : List Event) → Since m past (held_since past m)
+since_past : (m : ℕ) (past : List Event) → Since m past ((kept_since past).held m)
 since_past m [] = tt
 since_past m (e ∷ past) = since_turn m e past (mutex_turn e.action) refl (since_past m past)
 
@@ -104,4 +105,4 @@ both m past None h a s = a
 both m past (Some o) h a s = (a, s)
 
 pub bars_are_holds : BarsAreHolds
-bars_are_holds = λ es s r m. both m (behind [] es) (held_since (behind [] es) m) (s.holder m) (agrees_run [] es at_first s m r refl) (since_past m (behind [] es))
+bars_are_holds = λ es s r m. both m (behind [] es) ((kept_since (behind [] es)).held m) (s.holder m) (agrees_run [] es at_first s m r refl) (since_past m (behind [] es))

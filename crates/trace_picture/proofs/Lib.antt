@@ -1,5 +1,9 @@
 pub mod Added
+pub mod Agreeing
 pub mod Bars
+pub mod Causing
 pub mod Drawing
 pub mod Exact
+pub mod Freeing
 pub mod Holding
+pub mod Noting

@@ -8,9 +8,11 @@ use Rattle.trace_picture.specs.declared.history.Origin.{Origin}
 use Rattle.trace_picture.specs.declared.history.Turn.{Turn}
 use Rattle.trace_picture.specs.declared.history.Turn.TheVariants.{Begins, Ends, Stays}
 use Rattle.trace_picture.specs.declared.view.View.{View}
-use Rattle.trace_picture.specs.History.{mutex_turn, wait_turn, changed, origin_of}
+use Rattle.trace_picture.specs.History.{mutex_turn, wait_turn}
+use Rattle.trace_picture.specs.Kept.{Kept, kept_after, waker_of, let_on_by}
 use Rattle.trace_picture.specs.Places.{in_view, column, is_open, band_top}
 use Rattle.trace_picture.specs.Shapes.{with_number, each_below, mark_text, failed_text, bar_text, wait_text, row_text, number_text}
+use Rattle.trace_picture.specs.Arrows.{arrow_if}
 
 -- the first event of the band in which the event n stands
 abbrev pub band_start : View → ℕ → ℕ
@@ -32,9 +34,9 @@ wait_if start ended to None = []
 wait_if start ended to (Some o) = wait_text start o ended to
 
 -- the end of the band that begins at `start`, before the event `to`: the bars that go on
-unfoldable pub closing : Layout → (ℕ → Option Origin) → (ℕ → Option Origin) → ℕ → ℕ → List ℕ
-closing l held waits start to =
-    each_below (λ m. bar_if start false to m (held m)) l.mutexes ++ each_below (λ t. wait_if start false to (waits t)) l.threads ++ codes "</g>\n"
+unfoldable pub closing : Layout → Kept → ℕ → ℕ → List ℕ
+closing l k start to =
+    each_below (λ m. bar_if start false to m (k.held m)) l.mutexes ++ each_below (λ t. wait_if start false to (k.waits t)) l.threads ++ codes "</g>\n"
 
 -- the bar that ends with the event n
 abbrev pub bar_ended : ℕ → ℕ → (ℕ → Option Origin) → Turn → List ℕ
@@ -48,20 +50,27 @@ wait_ended start n waits (Ends k) = wait_if start true (n + 1) (waits k)
 wait_ended start n waits Stays = []
 
 -- the end of the band of the event n, where it is full or the part that is drawn ends
-unfoldable pub closing_after : Layout → View → (ℕ → Option Origin) → (ℕ → Option Origin) → ℕ → List ℕ
-closing_after l v held waits n = if is_open v (n + 1) then [] else closing l held waits (band_start v n) (n + 1)
+unfoldable pub closing_after : Layout → View → Kept → ℕ → List ℕ
+closing_after l v k n = if is_open v (n + 1) then [] else closing l k (band_start v n) (n + 1)
 
--- the event n: its mark, and the bars that it ends
-unfoldable pub event_shapes : View → (ℕ → Option Origin) → (ℕ → Option Origin) → ℕ → Event → List ℕ
-event_shapes v held waits n e =
-    number_text v n ++ mark_text v n e ++ bar_ended (band_start v n) n held (mutex_turn e.action) ++ wait_ended (band_start v n) n waits (wait_turn e.thread.0 e.action)
+-- the bars that the event n ends
+abbrev pub bars_ended : View → Kept → ℕ → Event → List ℕ
+bars_ended v k n e = bar_ended (band_start v n) n k.held (mutex_turn e.action) ++ wait_ended (band_start v n) n k.waits (wait_turn e.thread.0 e.action)
+
+-- the arrow to the event n, where another thread let its thread go on
+abbrev pub arrow_to : View → Kept → ℕ → Event → List ℕ
+arrow_to v k n e = arrow_if (band_start v n) n e.thread.0 (let_on_by k (waker_of e.thread.0 e.action))
+
+-- the event n: its mark, the bars that it ends, and the arrow to it
+unfoldable pub event_shapes : View → Kept → ℕ → Event → List ℕ
+event_shapes v k n e = number_text v n ++ mark_text v n e ++ bars_ended v k n e ++ arrow_to v k n e
 
 -- all that the event n adds, where it is drawn
-unfoldable pub step_text : Layout → View → (ℕ → Option Origin) → (ℕ → Option Origin) → ℕ → Event → List ℕ
-step_text l v held waits n e =
-    if in_view v n then opening l v n ++ event_shapes v held waits n e ++ closing_after l v (changed (mutex_turn e.action) (origin_of n e) held) (changed (wait_turn e.thread.0 e.action) (origin_of n e) waits) n else []
+unfoldable pub step_text : Layout → View → Kept → ℕ → Event → List ℕ
+step_text l v k n e =
+    if in_view v n then opening l v n ++ event_shapes v k n e ++ closing_after l v (kept_after n e k) n else []
 
 -- all that an event that fails adds, where it is drawn: it ends its band
-unfoldable pub failing_text : Layout → View → (ℕ → Option Origin) → (ℕ → Option Origin) → ℕ → Event → Broken → List ℕ
-failing_text l v held waits n e why =
-    if in_view v n then opening l v n ++ (number_text v n ++ failed_text v n e why) ++ closing l held waits (band_start v n) (n + 1) else []
+unfoldable pub failing_text : Layout → View → Kept → ℕ → Event → Broken → List ℕ
+failing_text l v k n e why =
+    if in_view v n then opening l v n ++ (number_text v n ++ failed_text v n e why) ++ closing l k (band_start v n) (n + 1) else []

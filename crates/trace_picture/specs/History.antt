@@ -1,5 +1,5 @@
--- What the events so far say of each mutex and each thread. The past has the latest event first.
-use Rattle.std.specs.Prelude.{ℕ, ◌<◌, List, [], ◌∷◌, length, Some, None}
+-- Since which event each mutex is held and each thread waits. A past has the latest event first.
+use Rattle.std.specs.Prelude.{ℕ, ◌<◌, Some, None}
 use Rattle.std.specs.declared.option.Option.{Option}
 use Rattle.larch_actions.specs.declared.event.Event.{Event}
 use Rattle.larch_actions.specs.declared.event.Action.{Action}
@@ -10,11 +10,6 @@ use Rattle.trace_picture.specs.declared.history.Origin.{Origin}
 use Rattle.trace_picture.specs.declared.history.Turn.{Turn}
 use Rattle.trace_picture.specs.declared.history.Turn.TheVariants.{Begins, Ends, Stays}
 use Rattle.trace_picture.specs.declared.history.Table.{Table}
-
--- the events before, and then these, the latest first
-abbrev pub behind : List Event → List Event → List Event
-behind past [] = past
-behind past (e ∷ es) = behind (e ∷ past) es
 
 -- which mutex an action takes, or gives back
 abbrev pub mutex_turn : Action → Turn
@@ -51,19 +46,6 @@ changed Stays o f = f
 -- the event as the one since which something is so
 abbrev pub origin_of : ℕ → Event → Origin
 origin_of n e = record { thread = e.thread; place = n }
-
--- since which event each thing is taken after these events, where it is: the latest that took it, unless a later one gave it back
-abbrev pub latest : (Event → Turn) → List Event → ℕ → Option Origin
-latest turn [] = λ k. None
-latest turn (e ∷ past) = changed (turn e) (origin_of (length past) e) (latest turn past)
-
--- since which event each mutex is held
-abbrev pub held_since : List Event → ℕ → Option Origin
-held_since past = latest (λ e. mutex_turn e.action) past
-
--- since which event each thread waits
-abbrev pub waits_since : List Event → ℕ → Option Origin
-waits_since past = latest (λ e. wait_turn e.thread.0 e.action) past
 
 -- what a table says
 abbrev pub entry_of : Table → ℕ → Option Origin

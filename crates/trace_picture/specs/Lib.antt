@@ -1,6 +1,9 @@
 pub mod History
+pub mod Causes
+pub mod Kept
 pub mod Places
 pub mod Shapes
+pub mod Arrows
 pub mod Bands
 pub mod Picture
 pub mod Drawn

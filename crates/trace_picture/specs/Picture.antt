@@ -3,10 +3,8 @@ use Rattle.std.specs.Prelude.{ℕ, ◌+◌, if◌then◌else◌, List, [], ◌�
 use Rattle.larch_actions.specs.declared.event.Layout.{Layout}
 use Rattle.larch_actions.specs.declared.event.Event.{Event}
 use Rattle.larch_actions.specs.declared.event.Broken.{Broken}
-use Rattle.std.specs.declared.option.Option.{Option}
-use Rattle.trace_picture.specs.declared.history.Origin.{Origin}
 use Rattle.trace_picture.specs.declared.view.View.{View}
-use Rattle.trace_picture.specs.History.{behind, held_since, waits_since}
+use Rattle.trace_picture.specs.Kept.{Kept, kept_since, behind}
 use Rattle.trace_picture.specs.Places.{is_open, height_of}
 use Rattle.trace_picture.specs.Shapes.{with_number, each_below, line_of, clause_word, swatch_text}
 use Rattle.trace_picture.specs.Bands.{step_text, failing_text, closing, band_start}
@@ -15,7 +13,7 @@ unfoldable pub style_text : List ℕ
 style_text = codes "<svg xmlns='http://www.w3.org/2000/svg' width='1252' font-family='sans-serif' font-size='11'>\n<title>Firefly Threads timeline</title>\n<style>\n" ++ codes "text{fill:#222}.n{fill:#555;font-size:10px;text-anchor:middle}.r{fill:#f4f4f4}.i{text-anchor:middle;font-weight:bold;font-size:10px}\n" ++ codes ".m0{fill:#e69f00}.m1{fill:#0072b2}.m2{fill:#f0e442}.m3{fill:#009e73}.m4{fill:#cc79a7}.m5{fill:#56b4e9}.m6{fill:#d55e00}\n" ++ codes ".h{fill:url(#h);stroke:#444;stroke-width:.5}.o{fill:#fff;stroke:#222}.k{fill:#ddd;stroke:#222}.g{fill:#ffe08a;stroke:#222}\n"
 
 unfoldable pub pattern_text : List ℕ
-pattern_text = codes ".b{fill:#bfe0f5;stroke:#222}.v{fill:#f5b8a0;stroke:#222}.f{fill:#222}.f+.i{fill:#fff}.o,.k,.g,.b,.v{stroke-width:.7}\n</style>\n" ++ codes "<defs><pattern id='h' width='5' height='5' patternUnits='userSpaceOnUse' patternTransform='rotate(45)'><rect width='5' height='5' fill='#fff'/><rect width='2' height='5' fill='#777'/></pattern></defs>\n" ++ codes "<rect width='100%' height='100%' fill='#fff'/>\n"
+pattern_text = codes ".b{fill:#bfe0f5;stroke:#222}.v{fill:#f5b8a0;stroke:#222}.f{fill:#222}.f+.i{fill:#fff}.o,.k,.g,.b,.v{stroke-width:.7}.a{fill:none;stroke:#a02c6b;stroke-width:1.2;marker-end:url(#a)}\n</style>\n" ++ codes "<defs><pattern id='h' width='5' height='5' patternUnits='userSpaceOnUse' patternTransform='rotate(45)'><rect width='5' height='5' fill='#fff'/><rect width='2' height='5' fill='#777'/></pattern>\n" ++ codes "<marker id='a' viewBox='0 0 6 6' refX='6' refY='3' markerWidth='6' markerHeight='6' orient='auto'><path d='M0 0L6 3L0 6z' fill='#a02c6b'/></marker></defs>\n" ++ codes "<rect width='100%' height='100%' fill='#fff'/>\n"
 
 unfoldable pub marks_text : List ℕ
 marks_text = codes "<g transform='translate(44 6)'><g id='A'><rect class='o' width='11' height='11' rx='2'/><text class='i' x='5.5' y='9'>A</text></g><text x='16' y='9'>acquire</text></g>\n" ++ codes "<g transform='translate(244 6)'><g id='R'><rect class='o' width='11' height='11' rx='2'/><text class='i' x='5.5' y='9'>R</text></g><text x='16' y='9'>release</text></g>\n" ++ codes "<g transform='translate(444 6)'><g id='W'><rect class='k' width='11' height='11' rx='2'/><text class='i' x='5.5' y='9'>W</text></g><text x='16' y='9'>enqueue</text></g>\n" ++ codes "<g transform='translate(644 6)'><g id='C'><rect class='k' width='11' height='11' rx='2'/><text class='i' x='5.5' y='9'>C</text></g><text x='16' y='9'>resume</text></g>\n" ++ codes "<g transform='translate(844 6)'><g id='S'><rect class='g' width='11' height='11' rx='2'/><text class='i' x='5.5' y='9'>S</text></g><text x='16' y='9'>signal</text></g>\n" ++ codes "<g transform='translate(1044 6)'><g id='B'><rect class='g' width='11' height='11' rx='2'/><text class='i' x='5.5' y='9'>B</text></g><text x='16' y='9'>broadcast</text></g>\n"
@@ -24,7 +22,7 @@ unfoldable pub more_marks_text : List ℕ
 more_marks_text = codes "<g transform='translate(44 22)'><g id='P'><rect class='b' width='11' height='11' rx='2'/><text class='i' x='5.5' y='9'>P</text></g><text x='16' y='9'>p</text></g>\n" ++ codes "<g transform='translate(244 22)'><g id='V'><rect class='b' width='11' height='11' rx='2'/><text class='i' x='5.5' y='9'>V</text></g><text x='16' y='9'>v</text></g>\n" ++ codes "<g transform='translate(444 22)'><g id='L'><rect class='v' width='11' height='11' rx='2'/><text class='i' x='5.5' y='9'>!</text></g><text x='16' y='9'>alert</text></g>\n" ++ codes "<g transform='translate(644 22)'><g id='T'><rect class='v' width='11' height='11' rx='2'/><text class='i' x='5.5' y='9'>?</text></g><text x='16' y='9'>test-alert</text></g>\n" ++ codes "<g transform='translate(844 22)'><g id='w'><rect class='k' width='11' height='11' rx='2'/><text class='i' x='5.5' y='9'>w</text></g><text x='16' y='9'>alert-enqueue</text></g>\n" ++ codes "<g transform='translate(1044 22)'><g id='c'><rect class='k' width='11' height='11' rx='2'/><text class='i' x='5.5' y='9'>c</text></g><text x='16' y='9'>alert-resume returns</text></g>\n"
 
 unfoldable pub last_marks_text : List ℕ
-last_marks_text = codes "<g transform='translate(44 38)'><g id='x'><rect class='v' width='11' height='11' rx='2'/><text class='i' x='5.5' y='9'>x</text></g><text x='16' y='9'>alert-resume raises</text></g>\n" ++ codes "<g transform='translate(244 38)'><g id='p'><rect class='b' width='11' height='11' rx='2'/><text class='i' x='5.5' y='9'>p</text></g><text x='16' y='9'>alert-p returns</text></g>\n" ++ codes "<g transform='translate(444 38)'><g id='y'><rect class='v' width='11' height='11' rx='2'/><text class='i' x='5.5' y='9'>y</text></g><text x='16' y='9'>alert-p raises</text></g>\n" ++ codes "<g transform='translate(644 38)'><g id='F'><rect class='f' width='11' height='11' rx='2'/><text class='i' x='5.5' y='9'>#</text></g><text x='16' y='9'>event that fails</text></g>\n" ++ codes "<rect class='h' x='844' y='39' width='22' height='9'/><text x='871' y='47'>a thread waits</text>\n" ++ codes "<text x='1044' y='47'>coloured: a mutex held, as below</text>\n"
+last_marks_text = codes "<g transform='translate(44 38)'><g id='x'><rect class='v' width='11' height='11' rx='2'/><text class='i' x='5.5' y='9'>x</text></g><text x='16' y='9'>alert-resume raises</text></g>\n" ++ codes "<g transform='translate(244 38)'><g id='p'><rect class='b' width='11' height='11' rx='2'/><text class='i' x='5.5' y='9'>p</text></g><text x='16' y='9'>alert-p returns</text></g>\n" ++ codes "<g transform='translate(444 38)'><g id='y'><rect class='v' width='11' height='11' rx='2'/><text class='i' x='5.5' y='9'>y</text></g><text x='16' y='9'>alert-p raises</text></g>\n" ++ codes "<g transform='translate(644 38)'><g id='F'><rect class='f' width='11' height='11' rx='2'/><text class='i' x='5.5' y='9'>#</text></g><text x='16' y='9'>event that fails</text></g>\n" ++ codes "<rect class='h' x='844' y='39' width='22' height='9'/><text x='871' y='47'>waits</text><text x='914' y='47'>coloured: holds a mutex</text>\n" ++ codes "<path class='a' d='M1044 43H1066'/><text x='1071' y='47'>lets another thread go on</text>\n"
 
 -- the first tag, the colours, what each mark and each colour means
 unfoldable pub head_text : Layout → List ℕ
@@ -33,7 +31,7 @@ head_text l = style_text ++ pattern_text ++ (marks_text ++ more_marks_text ++ la
 -- what events add behind this past, in order
 unfoldable pub steps_text : Layout → View → List Event → List Event → List ℕ
 steps_text l v past [] = []
-steps_text l v past (e ∷ es) = step_text l v (held_since past) (waits_since past) (length past) e ++ steps_text l v (e ∷ past) es
+steps_text l v past (e ∷ es) = step_text l v (kept_since past) (length past) e ++ steps_text l v (e ∷ past) es
 
 -- the head, and what all these events add
 unfoldable pub front_picture : Layout → View → List Event → List ℕ
@@ -45,23 +43,23 @@ end_text l v n note =
     with_number (codes "<text x='44' y='") (height_of l v n + 14) ++ (codes "'>" ++ note) ++ with_number (codes "</text>\n<style>:root{height:") (height_of l v n + 24) ++ codes "px}</style>\n</svg>\n"
 
 -- the end of the last band after n events, where it is not full
-unfoldable pub closing_if : Layout → View → (ℕ → Option Origin) → (ℕ → Option Origin) → ℕ → List ℕ
-closing_if l v held waits n = if is_open v n then closing l held waits (band_start v n) n else []
+unfoldable pub closing_if : Layout → View → Kept → ℕ → List ℕ
+closing_if l v k n = if is_open v n then closing l k (band_start v n) n else []
 
 abbrev pub last_closing : Layout → View → List Event → List ℕ
-last_closing l v es = closing_if l v (held_since (behind [] es)) (waits_since (behind [] es)) (length es)
+last_closing l v es = closing_if l v (kept_since (behind [] es)) (length es)
 
 -- which clause the event n fails, and its line
 unfoldable pub failed_note : ℕ → Event → Broken → List ℕ
 failed_note n e why = codes "illegal, fails " ++ clause_word why ++ codes ": " ++ line_of n e
 
 -- the end of the picture of a legal trace of n events
-abbrev pub legal_ending : Layout → View → (ℕ → Option Origin) → (ℕ → Option Origin) → ℕ → List ℕ
-legal_ending l v held waits n = closing_if l v held waits n ++ end_text l v n (with_number (codes "legal, events: ") n)
+abbrev pub legal_ending : Layout → View → Kept → ℕ → List ℕ
+legal_ending l v k n = closing_if l v k n ++ end_text l v n (with_number (codes "legal, events: ") n)
 
 -- the end of the picture of an input that can't be read further
-abbrev pub cut_ending : Layout → View → (ℕ → Option Origin) → (ℕ → Option Origin) → ℕ → List ℕ
-cut_ending l v held waits n = closing_if l v held waits n ++ end_text l v n (with_number (codes "the input can't be read further, events: ") n)
+abbrev pub cut_ending : Layout → View → Kept → ℕ → List ℕ
+cut_ending l v k n = closing_if l v k n ++ end_text l v n (with_number (codes "the input can't be read further, events: ") n)
 
 -- the whole picture of a legal trace
 unfoldable pub picture : Layout → View → List Event → List ℕ
@@ -70,7 +68,7 @@ picture l v es = front_picture l v es ++ (last_closing l v es ++ end_text l v (l
 -- the picture of a trace up to the event that fails
 unfoldable pub failed_picture : Layout → View → List Event → Event → Broken → List ℕ
 failed_picture l v es e why =
-    front_picture l v es ++ (failing_text l v (held_since (behind [] es)) (waits_since (behind [] es)) (length es) e why
+    front_picture l v es ++ (failing_text l v (kept_since (behind [] es)) (length es) e why
     ++ end_text l v (length es + 1) (failed_note (length es) e why))
 
 -- the picture of the events of an input that can't be read further

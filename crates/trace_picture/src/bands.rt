@@ -1,11 +1,14 @@
 //! What each event adds to the picture.
 ghost use Rattle.std.specs.Prelude.{◌≡◌, ◌+◌, ◌-◌, ◌*◌, ◌<◌, ◌≤◌, ◌^◌, ◌++◌, length, take, codes, false, ℕ, None};
 ghost use Rattle.larch_actions.specs.Layout.{IsLawful, HasNames};
-ghost use Rattle.trace_picture.specs.History.{mutex_turn, wait_turn, changed, origin_of, entry_of, IsWithin};
+ghost use Rattle.trace_picture.specs.History.{entry_of, IsWithin};
+ghost use Rattle.trace_picture.specs.Kept.{kept_of, kept_after, IsNoted};
 ghost use Rattle.trace_picture.specs.Places.{in_view, column, is_open, band_top};
 ghost use Rattle.trace_picture.specs.Shapes.{with_number, each_below, row_text, number_text, failed_text};
-ghost use Rattle.trace_picture.specs.Bands.{band_start, opening, bar_if, wait_if, closing, bar_ended, wait_ended, closing_after, event_shapes, step_text, failing_text};
+ghost use Rattle.trace_picture.specs.Bands.{opening, bar_if, wait_if, closing, bar_ended, wait_ended, closing_after, bars_ended, arrow_to, event_shapes, step_text, failing_text};
 
+use crate::arrows::add_arrow_if;
+use crate::board::{Board, waker_for};
 use crate::history::{Origin, Table, Turn, turn_of_mutex, turn_of_wait};
 use crate::shapes::{add_bar, add_failed, add_label, add_mark, add_row, add_wait_bar};
 use crate::tags::add_with_number;
@@ -137,13 +140,6 @@ fn add_waits(buf: &mut [u8], at: usize, threads: u32, waits: &Table, start: u64,
     last
 }
 
-/// Since which event each mutex is held and each thread waits.
-#[derive(Drop)]
-pub struct Board {
-    pub held: Table,
-    pub waits: Table,
-}
-
 /// Adds the end of a band.
 #[tactic(auto, unfolding(crate::specs::Bands::closing))]
 pub fn add_closing(
@@ -157,7 +153,7 @@ pub fn add_closing(
     requires lawful { IsLawful layout.now }
     requires place { to < 2 ^ 42 }
     requires room { at + 45000 ≤ length buf.old }
-    ensures text { take result buf.new ≡ take at buf.old ++ closing layout.now (entry_of board.now.held) (entry_of board.now.waits) start to }
+    ensures text { take result buf.new ≡ take at buf.old ++ closing layout.now (kept_of board.now) start to }
     ensures near { result ≤ at + 44900 }
 {
     let at = add_bars(buf, at, layout.mutexes, &board.held, start, to);
@@ -178,7 +174,7 @@ fn add_closing_after(
     requires lawful { IsLawful layout.now }
     requires few { place < 2 ^ 41 }
     requires room { at + 45000 ≤ length buf.old }
-    ensures text { take result buf.new ≡ take at buf.old ++ closing_after layout.now view.now (entry_of board.now.held) (entry_of board.now.waits) place }
+    ensures text { take result buf.new ≡ take at buf.old ++ closing_after layout.now view.now (kept_of board.now) place }
     ensures near { result ≤ at + 44900 }
 {
     if is_band_open(view, place + 1) {
@@ -233,7 +229,49 @@ fn add_wait_ended(
     }
 }
 
-// Adds the number and the mark of an event, and the bars that it ends.
+// Adds the bars that the event ends.
+fn add_bars_ended(
+    buf: &mut [u8],
+    at: usize,
+    view: &View,
+    board: &Board,
+    place: u64,
+    e: &Event,
+) -> usize
+    requires noted { IsNoted e.now }
+    requires few { place < 2 ^ 41 }
+    requires room { at + 700 ≤ length buf.old }
+    ensures text { take result buf.new ≡ take at buf.old ++ bars_ended view.now (kept_of board.now) place e.now }
+    ensures near { result ≤ at + 700 }
+{
+    let start = place - column_of(view, place);
+    let held = turn_of_mutex(&e.action);
+    let waits = turn_of_wait(e.thread, &e.action);
+    let at = add_bar_ended(buf, at, start, place, &board.held, held);
+    add_wait_ended(buf, at, start, place, &board.waits, waits)
+}
+
+// Adds the arrow to the event, where another thread let its thread go on.
+fn add_arrow_to(
+    buf: &mut [u8],
+    at: usize,
+    view: &View,
+    board: &Board,
+    place: u64,
+    e: &Event,
+) -> usize
+    requires noted { IsNoted e.now }
+    requires few { place < 2 ^ 41 }
+    requires room { at + 350 ≤ length buf.old }
+    ensures text { take result buf.new ≡ take at buf.old ++ arrow_to view.now (kept_of board.now) place e.now }
+    ensures near { result ≤ at + 350 }
+{
+    let start = place - column_of(view, place);
+    let by = board.waker(waker_for(e.thread, &e.action));
+    add_arrow_if(buf, at, start, place, e.thread, by)
+}
+
+// Adds the number and the mark of an event, the bars that it ends, and the arrow to it.
 #[tactic(auto, unfolding(crate::specs::Bands::event_shapes))]
 fn add_event_shapes(
     buf: &mut [u8],
@@ -243,53 +281,16 @@ fn add_event_shapes(
     place: u64,
     e: &Event,
 ) -> usize
-    requires mutex { IsWithin (mutex_turn e.now.action) }
-    requires wait { IsWithin (wait_turn e.now.thread.0 e.now.action) }
+    requires noted { IsNoted e.now }
     requires few { place < 2 ^ 41 }
-    requires room { at + 1500 ≤ length buf.old }
-    ensures text { take result buf.new ≡ take at buf.old ++ event_shapes view.now (entry_of board.now.held) (entry_of board.now.waits) place e.now }
-    ensures near { result ≤ at + 1500 }
+    requires room { at + 2000 ≤ length buf.old }
+    ensures text { take result buf.new ≡ take at buf.old ++ event_shapes view.now (kept_of board.now) place e.now }
+    ensures near { result ≤ at + 2000 }
 {
-    let start = place - column_of(view, place);
     let at = add_label(buf, at, view, place);
     let at = add_mark(buf, at, view, place, e);
-    let at = add_bar_ended(buf, at, start, place, &board.held, turn_of_mutex(&e.action));
-    add_wait_ended(
-        buf,
-        at,
-        start,
-        place,
-        &board.waits,
-        turn_of_wait(e.thread, &e.action),
-    )
-}
-
-impl Board {
-    /// Nothing is held, and nobody waits.
-    pub fn new() -> Board
-        ensures held { entry_of result.held ≡ (λ (k : ℕ). None) }
-        ensures waits { entry_of result.waits ≡ (λ (k : ℕ). None) }
-    {
-        Board {
-            held: Table::new(),
-            waits: Table::new(),
-        }
-    }
-
-    /// Notes what the event takes and gives back.
-    pub fn note(&mut self, place: u64, e: &Event)
-        requires mutex { IsWithin (mutex_turn e.now.action) }
-        requires wait { IsWithin (wait_turn e.now.thread.0 e.now.action) }
-        ensures held { entry_of self.new.held ≡ changed (mutex_turn e.now.action) (origin_of place e.now) (entry_of self.old.held) }
-        ensures waits { entry_of self.new.waits ≡ changed (wait_turn e.now.thread.0 e.now.action) (origin_of place e.now) (entry_of self.old.waits) }
-    {
-        let by = Origin {
-            thread: e.thread,
-            place,
-        };
-        self.held.note(turn_of_mutex(&e.action), by);
-        self.waits.note(turn_of_wait(e.thread, &e.action), by);
-    }
+    let at = add_bars_ended(buf, at, view, board, place, e);
+    add_arrow_to(buf, at, view, board, place, e)
 }
 
 // Adds what the event shows, and the end of its band, where it is drawn.
@@ -303,15 +304,13 @@ fn add_drawn(
     e: &Event,
 ) -> usize
     requires lawful { IsLawful layout.now }
-    requires mutex { IsWithin (mutex_turn e.now.action) }
-    requires wait { IsWithin (wait_turn e.now.thread.0 e.now.action) }
+    requires noted { IsNoted e.now }
     requires few { place < 2 ^ 41 }
     requires room { at + 60000 ≤ length buf.old }
     ensures text { take result buf.new ≡ take at buf.old ++
-        (opening layout.now view.now place ++ event_shapes view.now (entry_of board.old.held) (entry_of board.old.waits) place e.now
-        ++ closing_after layout.now view.now (entry_of board.new.held) (entry_of board.new.waits) place) }
-    ensures held { entry_of board.new.held ≡ changed (mutex_turn e.now.action) (origin_of place e.now) (entry_of board.old.held) }
-    ensures waits { entry_of board.new.waits ≡ changed (wait_turn e.now.thread.0 e.now.action) (origin_of place e.now) (entry_of board.old.waits) }
+        (opening layout.now view.now place ++ event_shapes view.now (kept_of board.old) place e.now
+        ++ closing_after layout.now view.now (kept_of board.new) place) }
+    ensures kept { kept_of board.new ≡ kept_after place e.now (kept_of board.old) }
     ensures near { result ≤ at + 60000 }
 {
     let at = add_opening(buf, at, layout, view, place);
@@ -321,7 +320,7 @@ fn add_drawn(
 }
 
 /// Adds all that an event adds, and notes what it takes and gives back.
-#[tactic(auto, unfolding(crate::specs::Bands::step_text))]
+#[tactic(auto, using(crate::proofs::Noting::noted), unfolding(crate::specs::Bands::step_text))]
 pub fn add_step(
     buf: &mut [u8],
     at: usize,
@@ -335,9 +334,8 @@ pub fn add_step(
     requires named { HasNames layout.now e.now }
     requires few { place < 2 ^ 41 }
     requires room { at + 60000 ≤ length buf.old }
-    ensures text { take result buf.new ≡ take at buf.old ++ step_text layout.now view.now (entry_of board.old.held) (entry_of board.old.waits) place e.now }
-    ensures held { entry_of board.new.held ≡ changed (mutex_turn e.now.action) (origin_of place e.now) (entry_of board.old.held) }
-    ensures waits { entry_of board.new.waits ≡ changed (wait_turn e.now.thread.0 e.now.action) (origin_of place e.now) (entry_of board.old.waits) }
+    ensures text { take result buf.new ≡ take at buf.old ++ step_text layout.now view.now (kept_of board.old) place e.now }
+    ensures kept { kept_of board.new ≡ kept_after place e.now (kept_of board.old) }
     ensures near { result ≤ at + 60000 }
 {
     if is_in_view(view, place) {
@@ -380,7 +378,7 @@ pub fn add_failing(
     requires lawful { IsLawful layout.now }
     requires few { place < 2 ^ 41 }
     requires room { at + 60000 ≤ length buf.old }
-    ensures text { take result buf.new ≡ take at buf.old ++ failing_text layout.now view.now (entry_of board.now.held) (entry_of board.now.waits) place e.now why }
+    ensures text { take result buf.new ≡ take at buf.old ++ failing_text layout.now view.now (kept_of board.now) place e.now why }
     ensures near { result ≤ at + 60000 }
 {
     if is_in_view(view, place) {

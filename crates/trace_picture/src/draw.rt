@@ -9,11 +9,12 @@ ghost use Rattle.trace_check.specs.declared.checker.Verdict.{Verdict};
 ghost use Rattle.trace_check.specs.declared.checker.Verdict.TheVariants as verdict;
 ghost use Rattle.trace_check.specs.Verdicts.{IsJust, refusal};
 ghost use Rattle.larch_actions.specs.Layout.{IsLawful};
-ghost use Rattle.trace_picture.specs.History.{entry_of};
+ghost use Rattle.trace_picture.specs.Kept.{kept_of};
 ghost use Rattle.trace_picture.specs.Picture.{legal_ending, cut_ending};
 ghost use Rattle.trace_picture.specs.Drawn.{IsDrawn, IsCutOff};
 
-use crate::bands::{Board, add_step};
+use crate::bands::add_step;
+use crate::board::Board;
 use crate::endings::{end_failed, end_with};
 use crate::head::add_head;
 use crate::view::View;
@@ -76,8 +77,8 @@ fn end_legal<O: Sink>(
     requires lawful { IsLawful layout.now }
     requires few { count < 2 ^ 42 }
     requires room { at + 60000 ≤ length buf.old }
-    ensures ok { OnOk result (Appends (O.held out.old) (O.held out.new) (take at buf.old ++ legal_ending layout.now view.now (entry_of board.now.held) (entry_of board.now.waits) count)) }
-    ensures err { OnErr result (AppendsFront (O.held out.old) (O.held out.new) (take at buf.old ++ legal_ending layout.now view.now (entry_of board.now.held) (entry_of board.now.waits) count)) }
+    ensures ok { OnOk result (Appends (O.held out.old) (O.held out.new) (take at buf.old ++ legal_ending layout.now view.now (kept_of board.now) count)) }
+    ensures err { OnErr result (AppendsFront (O.held out.old) (O.held out.new) (take at buf.old ++ legal_ending layout.now view.now (kept_of board.now) count)) }
     ensures cause { HasCause (O.faults out.old) (O.faults out.new) result }
 {
     end_with(buf, at, layout, view, board, count, b"legal, events: ", out)
@@ -96,8 +97,8 @@ fn end_cut<O: Sink>(
     requires lawful { IsLawful layout.now }
     requires few { count < 2 ^ 42 }
     requires room { at + 60000 ≤ length buf.old }
-    ensures ok { OnOk result (Appends (O.held out.old) (O.held out.new) (take at buf.old ++ cut_ending layout.now view.now (entry_of board.now.held) (entry_of board.now.waits) count)) }
-    ensures err { OnErr result (AppendsFront (O.held out.old) (O.held out.new) (take at buf.old ++ cut_ending layout.now view.now (entry_of board.now.held) (entry_of board.now.waits) count)) }
+    ensures ok { OnOk result (Appends (O.held out.old) (O.held out.new) (take at buf.old ++ cut_ending layout.now view.now (kept_of board.now) count)) }
+    ensures err { OnErr result (AppendsFront (O.held out.old) (O.held out.new) (take at buf.old ++ cut_ending layout.now view.now (kept_of board.now) count)) }
     ensures cause { HasCause (O.faults out.old) (O.faults out.new) result }
 {
     end_with(

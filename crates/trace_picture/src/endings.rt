@@ -3,13 +3,14 @@ ghost use Rattle.std.specs.Prelude.{◌≡◌, ◌+◌, ◌<◌, ◌≤◌, ◌^
 ghost use Rattle.std.specs.Io.KnownBytes.{Appends};
 ghost use Rattle.firefly_outside.specs.Causes.{HasCause, AppendsFront};
 ghost use Rattle.larch_actions.specs.Layout.{IsLawful};
-ghost use Rattle.trace_picture.specs.History.{entry_of};
+ghost use Rattle.trace_picture.specs.Kept.{kept_of};
 ghost use Rattle.trace_picture.specs.Places.{is_open, height_of};
 ghost use Rattle.trace_picture.specs.Shapes.{with_number, line_of, clause_word};
 ghost use Rattle.trace_picture.specs.Bands.{closing, band_start, failing_text};
 ghost use Rattle.trace_picture.specs.Picture.{end_text, closing_if, failed_note};
 
-use crate::bands::{Board, add_closing, add_failing, top_of};
+use crate::bands::{add_closing, add_failing, top_of};
+use crate::board::Board;
 use crate::shapes::word_of;
 use crate::tags::{add_line, add_with_number};
 use crate::view::{View, column_of, count_bands, is_band_open};
@@ -40,7 +41,7 @@ pub fn add_last_closing(
     requires lawful { IsLawful layout.now }
     requires few { count < 2 ^ 42 }
     requires room { at + 45000 ≤ length buf.old }
-    ensures text { take result buf.new ≡ take at buf.old ++ closing_if layout.now view.now (entry_of board.now.held) (entry_of board.now.waits) count }
+    ensures text { take result buf.new ≡ take at buf.old ++ closing_if layout.now view.now (kept_of board.now) count }
     ensures near { result ≤ at + 45000 }
 {
     if is_band_open(view, count) {
@@ -121,7 +122,7 @@ pub fn add_ending(
     requires few { count < 2 ^ 42 }
     requires short { length words.now ≤ 60 }
     requires room { at + 60000 ≤ length buf.old }
-    ensures text { take result buf.new ≡ take at buf.old ++ (closing_if layout.now view.now (entry_of board.now.held) (entry_of board.now.waits) count ++ end_text layout.now view.now count (with_number words.now count)) }
+    ensures text { take result buf.new ≡ take at buf.old ++ (closing_if layout.now view.now (kept_of board.now) count ++ end_text layout.now view.now count (with_number words.now count)) }
     ensures near { result ≤ at + 60000 }
 {
     let at = add_last_closing(buf, at, layout, view, board, count);
@@ -178,7 +179,7 @@ pub fn add_failed_ending(
     requires lawful { IsLawful layout.now }
     requires few { place < 2 ^ 41 }
     requires room { at + 62000 ≤ length buf.old }
-    ensures text { take result buf.new ≡ take at buf.old ++ (failing_text layout.now view.now (entry_of board.now.held) (entry_of board.now.waits) place e.now why ++ end_text layout.now view.now (place + 1) (failed_note place e.now why)) }
+    ensures text { take result buf.new ≡ take at buf.old ++ (failing_text layout.now view.now (kept_of board.now) place e.now why ++ end_text layout.now view.now (place + 1) (failed_note place e.now why)) }
     ensures near { result ≤ at + 62000 }
 {
     let at = add_failing(buf, at, layout, view, board, place, e, why);
@@ -200,8 +201,8 @@ pub fn end_with<O: Sink>(
     requires few { count < 2 ^ 42 }
     requires short { length words.now ≤ 60 }
     requires room { at + 60000 ≤ length buf.old }
-    ensures ok { OnOk result (Appends (O.held out.old) (O.held out.new) (take at buf.old ++ (closing_if layout.now view.now (entry_of board.now.held) (entry_of board.now.waits) count ++ end_text layout.now view.now count (with_number words.now count)))) }
-    ensures err { OnErr result (AppendsFront (O.held out.old) (O.held out.new) (take at buf.old ++ (closing_if layout.now view.now (entry_of board.now.held) (entry_of board.now.waits) count ++ end_text layout.now view.now count (with_number words.now count)))) }
+    ensures ok { OnOk result (Appends (O.held out.old) (O.held out.new) (take at buf.old ++ (closing_if layout.now view.now (kept_of board.now) count ++ end_text layout.now view.now count (with_number words.now count)))) }
+    ensures err { OnErr result (AppendsFront (O.held out.old) (O.held out.new) (take at buf.old ++ (closing_if layout.now view.now (kept_of board.now) count ++ end_text layout.now view.now count (with_number words.now count)))) }
     ensures cause { HasCause (O.faults out.old) (O.faults out.new) result }
 {
     let end = add_ending(buf, at, layout, view, board, count, words);
@@ -223,8 +224,8 @@ pub fn end_failed<O: Sink>(
     requires lawful { IsLawful layout.now }
     requires few { place < 2 ^ 41 }
     requires room { at + 62000 ≤ length buf.old }
-    ensures ok { OnOk result (Appends (O.held out.old) (O.held out.new) (take at buf.old ++ (failing_text layout.now view.now (entry_of board.now.held) (entry_of board.now.waits) place e.now why ++ end_text layout.now view.now (place + 1) (failed_note place e.now why)))) }
-    ensures err { OnErr result (AppendsFront (O.held out.old) (O.held out.new) (take at buf.old ++ (failing_text layout.now view.now (entry_of board.now.held) (entry_of board.now.waits) place e.now why ++ end_text layout.now view.now (place + 1) (failed_note place e.now why)))) }
+    ensures ok { OnOk result (Appends (O.held out.old) (O.held out.new) (take at buf.old ++ (failing_text layout.now view.now (kept_of board.now) place e.now why ++ end_text layout.now view.now (place + 1) (failed_note place e.now why)))) }
+    ensures err { OnErr result (AppendsFront (O.held out.old) (O.held out.new) (take at buf.old ++ (failing_text layout.now view.now (kept_of board.now) place e.now why ++ end_text layout.now view.now (place + 1) (failed_note place e.now why)))) }
     ensures cause { HasCause (O.faults out.old) (O.faults out.new) result }
 {
     let end = add_failed_ending(buf, at, layout, view, board, place, e, why);

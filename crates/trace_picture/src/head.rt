@@ -47,12 +47,17 @@ fn add_pattern(buf: &mut [u8], at: usize) -> usize
     let at = add(
         buf,
         at,
-        b".b{fill:#bfe0f5;stroke:#222}.v{fill:#f5b8a0;stroke:#222}.f{fill:#222}.f+.i{fill:#fff}.o,.k,.g,.b,.v{stroke-width:.7}\n</style>\n",
+        b".b{fill:#bfe0f5;stroke:#222}.v{fill:#f5b8a0;stroke:#222}.f{fill:#222}.f+.i{fill:#fff}.o,.k,.g,.b,.v{stroke-width:.7}.a{fill:none;stroke:#a02c6b;stroke-width:1.2;marker-end:url(#a)}\n</style>\n",
     );
     let at = add(
         buf,
         at,
-        b"<defs><pattern id='h' width='5' height='5' patternUnits='userSpaceOnUse' patternTransform='rotate(45)'><rect width='5' height='5' fill='#fff'/><rect width='2' height='5' fill='#777'/></pattern></defs>\n",
+        b"<defs><pattern id='h' width='5' height='5' patternUnits='userSpaceOnUse' patternTransform='rotate(45)'><rect width='5' height='5' fill='#fff'/><rect width='2' height='5' fill='#777'/></pattern>\n",
+    );
+    let at = add(
+        buf,
+        at,
+        b"<marker id='a' viewBox='0 0 6 6' refX='6' refY='3' markerWidth='6' markerHeight='6' orient='auto'><path d='M0 0L6 3L0 6z' fill='#a02c6b'/></marker></defs>\n",
     );
     add(buf, at, b"<rect width='100%' height='100%' fill='#fff'/>\n")
 }
@@ -165,12 +170,12 @@ fn add_last_marks(buf: &mut [u8], at: usize) -> usize
     let at = add(
         buf,
         at,
-        b"<rect class='h' x='844' y='39' width='22' height='9'/><text x='871' y='47'>a thread waits</text>\n",
+        b"<rect class='h' x='844' y='39' width='22' height='9'/><text x='871' y='47'>waits</text><text x='914' y='47'>coloured: holds a mutex</text>\n",
     );
     add(
         buf,
         at,
-        b"<text x='1044' y='47'>coloured: a mutex held, as below</text>\n",
+        b"<path class='a' d='M1044 43H1066'/><text x='1071' y='47'>lets another thread go on</text>\n",
     )
 }
 

@@ -1,11 +1,15 @@
-//! The picture of a trace: a row a thread, a mark an event, bars where a mutex is held and where a thread waits.
+//! The picture of a trace: a row a thread, a mark an event, bars where a mutex is held and where a thread waits,
+//! an arrow from the event that let a thread go on.
 //!
 //! Promises: `draw_trace` checks the trace as `trace_check` does, and the sink gets exactly the picture that specs/Picture.antt defines.
 //! Stands on the reader and the printer of trace_core and the state of larch_actions. It takes no memory, and keeps of the events
-//! only since when each mutex is held and each thread waits. How the picture looks is no promise.
+//! only since when each mutex is held and each thread waits, and which let each thread go on. How the picture looks is no promise.
 #![tactic(auto)]
 
+mod arrows;
 mod bands;
+mod board;
+mod causes;
 mod draw;
 mod endings;
 mod head;

@@ -9,16 +9,16 @@ use crate::view::{View, column_of};
 use larch_actions::{Action, Broken, Event};
 use trace_core::add;
 
-// The left edge of a column.
-fn x_of(column: u64) -> u64
+/// The left edge of a column.
+pub fn x_of(column: u64) -> u64
     requires { column < 2 ^ 42 }
     ensures { result ≡ column_x column }
 {
     44 + 12 * column
 }
 
-// The upper edge of the row of a thread.
-fn y_of(thread: u32) -> u64
+/// The upper edge of the row of a thread.
+pub fn y_of(thread: u32) -> u64
     ensures y { result ≡ row_y thread }
     ensures small { result < 2 ^ 40 }
 {

@@ -1,0 +1,23 @@
+-- The words of the command line, and the part of a trace that they ask for.
+use Rattle.std.specs.Prelude.{◌≡◌, ◌⊎◌, ℕ, ◌+◌, ◌-◌, ◌^◌, List, [], ◌∷◌, ◌++◌, Option, Some, None, codes, decimal, min, unwrap_or, IfSome, ◌<◌}
+use Rattle.trace_picture.specs.declared.view.View.{View}
+
+-- the words that say a bound, where there is one
+abbrev pub bound_words : List ℕ → Option ℕ → List (List ℕ)
+bound_words name None = []
+bound_words name (Some n) = name ∷ decimal n ∷ []
+
+-- the words say these bounds: each at most once and in either order, in decimal, below 2^64
+pub record Asks (words : List (List ℕ)) (from to : Option ℕ) : Type 0 where
+  pub spelt : (words ≡ bound_words (codes "--from") from ++ bound_words (codes "--to") to) ⊎ (words ≡ bound_words (codes "--to") to ++ bound_words (codes "--from") from)
+  pub first : IfSome from (λ k. k < 2 ^ 64)
+  pub last : IfSome to (λ k. k < 2 ^ 64)
+
+-- the events from the first bound on, or from the first event, and up to the last bound, or to the last event
+abbrev pub view_between : Option ℕ → Option ℕ → View
+view_between from None = record { first = unwrap_or from 0; end = 2 ^ 64 - 1 }
+view_between from (Some to) = record { first = unwrap_or from 0; end = min (to + 1) (2 ^ 64 - 1) }
+
+-- the words ask for this part
+abbrev pub AsksFor : List (List ℕ) → View → Type 0
+AsksFor words v = (from to : Option ℕ) × Asks words from to × (v ≡ view_between from to)

@@ -1,0 +1,8 @@
+use Rattle.std.proofs.Common.{[]}
+use Rattle.trace_picture.specs.Picture.{pattern_text}
+use Rattle.trace_picture.proofs.Added.{added_four}
+use Rattle.trace_picture.proofs.head.add_pattern.Goals as goal
+
+pub returns-clause-text : goal.returns-clause-text
+unfolding pattern_text
+returns-clause-text c = added_four _ _ _ _ _ _ _ _ [] c.add-at.ensures.text c.add-at-2.ensures.text c.add-at-3.ensures.text _ c.add.ensures.text

@@ -1,0 +1,93 @@
+-- What is kept of the events before. The past has the latest event first.
+use Rattle.std.specs.Prelude.{ℕ, ◌<◌, List, [], ◌∷◌, length, Some, None}
+use Rattle.std.specs.declared.option.Option.{Option}
+use Rattle.larch_actions.specs.declared.event.Event.{Event}
+use Rattle.larch_actions.specs.declared.event.Action.{Action}
+use Rattle.larch_actions.specs.declared.event.Action.TheVariants.{Acquire, Release, Enqueue, Resume, AlertEnqueue, AlertReturn, AlertRaise, Signal, Broadcast, P, V, Alert, TestAlert, AlertPReturn, AlertPRaise}
+use Rattle.trace_picture.specs.declared.history.Origin.{Origin}
+use Rattle.trace_picture.specs.declared.causes.Cause.{Cause}
+use Rattle.trace_picture.specs.declared.causes.Cause.TheVariants.{Never, Awaited, By}
+use Rattle.trace_picture.specs.declared.board.Board.{Board}
+use Rattle.trace_picture.specs.declared.board.Waker.{Waker}
+use Rattle.trace_picture.specs.declared.board.Waker.TheVariants.{Condition, Semaphore, Alarm, Nobody}
+use Rattle.trace_picture.specs.History.{mutex_turn, wait_turn, changed, origin_of, entry_of, IsWithin}
+use Rattle.trace_picture.specs.Causes.{stand_move, open_move, alert_move, moved, cause_of, IsSmall}
+
+pub record Kept : Type 0 where
+  -- since which event each mutex is held
+  pub held : ℕ → Option Origin
+  -- since which event each thread waits
+  pub waits : ℕ → Option Origin
+  -- in which condition each thread stands, or which event took it out of the one it waits on
+  pub stands : ℕ → Cause
+  -- that each semaphore isn't available, or which event made it so
+  pub opens : ℕ → Cause
+  -- which event alerted each thread
+  pub alerts : ℕ → Cause
+
+abbrev pub nothing_kept : Kept
+nothing_kept = record { held = λ (k : ℕ). None; waits = λ (k : ℕ). None; stands = λ (k : ℕ). Never; opens = λ (k : ℕ). Never; alerts = λ (k : ℕ). Never }
+
+-- what is kept after the event at the place n
+abbrev pub kept_after : ℕ → Event → Kept → Kept
+kept_after n e k = record {
+  held = changed (mutex_turn e.action) (origin_of n e) k.held;
+  waits = changed (wait_turn e.thread.0 e.action) (origin_of n e) k.waits;
+  stands = moved (stand_move e.thread.0 e.action) (origin_of n e) k.stands;
+  opens = moved (open_move e.action) (origin_of n e) k.opens;
+  alerts = moved (alert_move e.thread.0 e.action) (origin_of n e) k.alerts;
+}
+
+-- what is kept after these events
+abbrev pub kept_since : List Event → Kept
+kept_since [] = nothing_kept
+kept_since (e ∷ past) = kept_after (length past) e (kept_since past)
+
+-- the events before, and then these, the latest first
+abbrev pub behind : List Event → List Event → List Event
+behind past [] = past
+behind past (e ∷ es) = behind (e ∷ past) es
+
+-- what an action of the thread t goes on by
+abbrev pub waker_of : ℕ → Action → Waker
+waker_of t (Resume m c) = Condition t
+waker_of t (AlertReturn m c) = Condition t
+waker_of t (AlertRaise m c) = Alarm t
+waker_of t (P s) = Semaphore s.0
+waker_of t (AlertPReturn s) = Semaphore s.0
+waker_of t (AlertPRaise s) = Alarm t
+waker_of t (TestAlert answer) = Alarm t
+waker_of t _ = Nobody
+
+abbrev pub IsNear : Waker → Type 0
+IsNear (Condition t) = t < 64
+IsNear (Semaphore s) = s < 64
+IsNear (Alarm t) = t < 64
+IsNear Nobody = Unit {0}
+
+-- each thing that an event takes, gives back, awaits or lets go on has a number below 64
+pub record IsNoted (e : Event) : Type 0 where
+  pub thread : e.thread.0 < 64
+  pub held : IsWithin (mutex_turn e.action)
+  pub waits : IsWithin (wait_turn e.thread.0 e.action)
+  pub stands : IsSmall (stand_move e.thread.0 e.action)
+  pub opens : IsSmall (open_move e.action)
+  pub alerts : IsSmall (alert_move e.thread.0 e.action)
+  pub waker : IsNear (waker_of e.thread.0 e.action)
+
+-- the event that a cause is
+abbrev pub came : Cause → Option Origin
+came Never = None
+came (Awaited k) = None
+came (By o) = Some o
+
+-- the event by which a thread goes on
+abbrev pub let_on_by : Kept → Waker → Option Origin
+let_on_by k (Condition t) = came (k.stands t)
+let_on_by k (Semaphore s) = came (k.opens s)
+let_on_by k (Alarm t) = came (k.alerts t)
+let_on_by k Nobody = None
+
+-- what the tables say
+abbrev pub kept_of : Board → Kept
+kept_of b = record { held = entry_of b.held; waits = entry_of b.waits; stands = cause_of b.stands; opens = cause_of b.opens; alerts = cause_of b.alerts }

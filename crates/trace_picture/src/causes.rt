@@ -1,0 +1,212 @@
+//! Which event let a thread go on.
+ghost use Rattle.std.specs.Prelude.{◌≡◌, ◌<◌, ℕ};
+ghost use Rattle.larch_actions.specs.Actions.{put};
+ghost use Rattle.larch_actions.specs.Sets.{in_set};
+ghost use Rattle.trace_picture.specs.declared.causes.Cause.TheVariants.{Never};
+ghost use Rattle.trace_picture.specs.Causes.{taken, opened, come, stand_move, open_move, alert_move, moved, cause_of, IsSmall};
+
+use crate::history::Origin;
+use larch_actions::{Action, ThreadId, ThreadSet};
+
+/// How it stands with something that may let a thread go on.
+#[derive(Clone, Copy, Debug, PartialEq, Eq)]
+pub enum Cause {
+    /// It isn't awaited.
+    Never,
+    /// It is awaited: a thread stands in the condition of this number, or the semaphore of this number isn't available.
+    Awaited(u32),
+    /// It came, by this event.
+    By(Origin),
+}
+
+/// What an event does to the causes of a kind.
+#[derive(Clone, Copy, Debug, PartialEq, Eq)]
+pub enum Move {
+    /// The first is awaited from now on, at the second.
+    Awaits(u32, u32),
+    /// It isn't awaited any more.
+    Ends(u32),
+    /// All come that are awaited at the condition, but for those left.
+    Frees(u32, ThreadSet),
+    /// It comes, where it is awaited.
+    Opens(u32),
+    /// It comes, unless it came before.
+    Comes(u32),
+    Stays,
+}
+
+/// What the action does to those who stand in conditions.
+pub fn move_of_stand(t: ThreadId, action: &Action) -> Move
+    ensures { result ≡ stand_move t.0 action.now }
+{
+    match action {
+        Action::Enqueue { cond, .. } => Move::Awaits(t.0, cond.0),
+        Action::AlertEnqueue { cond, .. } => Move::Awaits(t.0, cond.0),
+        Action::Resume { .. } => Move::Ends(t.0),
+        Action::AlertReturn { .. } => Move::Ends(t.0),
+        Action::AlertRaise { .. } => Move::Ends(t.0),
+        Action::Signal { cond, left } => Move::Frees(cond.0, *left),
+        Action::Broadcast { cond } => Move::Frees(cond.0, ThreadSet::empty()),
+        Action::Acquire { .. } => Move::Stays,
+        Action::Release { .. } => Move::Stays,
+        Action::P { .. } => Move::Stays,
+        Action::V { .. } => Move::Stays,
+        Action::Alert { .. } => Move::Stays,
+        Action::TestAlert { .. } => Move::Stays,
+        Action::AlertPReturn { .. } => Move::Stays,
+        Action::AlertPRaise { .. } => Move::Stays,
+    }
+}
+
+/// What the action does to semaphores.
+pub fn move_of_open(action: &Action) -> Move
+    ensures { result ≡ open_move action.now }
+{
+    match action {
+        Action::P { sem } => Move::Awaits(sem.0, sem.0),
+        Action::AlertPReturn { sem } => Move::Awaits(sem.0, sem.0),
+        Action::V { sem } => Move::Opens(sem.0),
+        Action::Acquire { .. } => Move::Stays,
+        Action::Release { .. } => Move::Stays,
+        Action::Enqueue { .. } => Move::Stays,
+        Action::Resume { .. } => Move::Stays,
+        Action::AlertEnqueue { .. } => Move::Stays,
+        Action::AlertReturn { .. } => Move::Stays,
+        Action::AlertRaise { .. } => Move::Stays,
+        Action::Signal { .. } => Move::Stays,
+        Action::Broadcast { .. } => Move::Stays,
+        Action::Alert { .. } => Move::Stays,
+        Action::TestAlert { .. } => Move::Stays,
+        Action::AlertPRaise { .. } => Move::Stays,
+    }
+}
+
+/// What the action does to alerts.
+pub fn move_of_alert(t: ThreadId, action: &Action) -> Move
+    ensures { result ≡ alert_move t.0 action.now }
+{
+    match action {
+        Action::Alert { who } => Move::Comes(who.0),
+        Action::TestAlert { .. } => Move::Ends(t.0),
+        Action::AlertRaise { .. } => Move::Ends(t.0),
+        Action::AlertPRaise { .. } => Move::Ends(t.0),
+        Action::Acquire { .. } => Move::Stays,
+        Action::Release { .. } => Move::Stays,
+        Action::Enqueue { .. } => Move::Stays,
+        Action::Resume { .. } => Move::Stays,
+        Action::AlertEnqueue { .. } => Move::Stays,
+        Action::AlertReturn { .. } => Move::Stays,
+        Action::Signal { .. } => Move::Stays,
+        Action::Broadcast { .. } => Move::Stays,
+        Action::P { .. } => Move::Stays,
+        Action::V { .. } => Move::Stays,
+        Action::AlertPReturn { .. } => Move::Stays,
+    }
+}
+
+// What the event makes of a cause that is awaited at the condition.
+fn freed(was: Cause, cond: u32, stays: bool, by: Origin) -> Cause
+    ensures { result ≡ taken cond stays by was }
+{
+    match was {
+        Cause::Awaited(k) => {
+            if k == cond && !stays {
+                Cause::By(by)
+            } else {
+                Cause::Awaited(k)
+            }
+        }
+        Cause::Never => Cause::Never,
+        Cause::By(other) => Cause::By(other),
+    }
+}
+
+// What the event makes of a cause that it makes come, where it is awaited.
+fn opened_by(was: Cause, by: Origin) -> Cause
+    ensures { result ≡ opened by was }
+{
+    match was {
+        Cause::Never => Cause::Never,
+        Cause::Awaited(_) => Cause::By(by),
+        Cause::By(other) => Cause::By(other),
+    }
+}
+
+// What the event makes of a cause that may have come.
+fn come_by(was: Cause, by: Origin) -> Cause
+    ensures { result ≡ come by was }
+{
+    match was {
+        Cause::Never => Cause::By(by),
+        Cause::Awaited(_) => Cause::By(by),
+        Cause::By(other) => Cause::By(other),
+    }
+}
+
+/// A cause for each of 64 threads or semaphores.
+#[derive(Drop)]
+pub struct Causes {
+    entries: [Cause; 64],
+}
+
+impl Causes {
+    /// Nothing is awaited, and nothing came.
+    pub fn new() -> Causes
+        ensures { cause_of result ≡ (λ (k : ℕ). Never) }
+    {
+        Causes {
+            entries: [Cause::Never; 64],
+        }
+    }
+
+    /// The cause of this number.
+    pub fn at(&self, k: u32) -> Cause
+        requires { k < 64 }
+        ensures { result ≡ cause_of self.now k }
+    {
+        self.entries[k as usize]
+    }
+
+    // Sets the cause of this number.
+    fn put(&mut self, k: u32, now: Cause)
+        requires { k < 64 }
+        ensures { cause_of self.new ≡ put (cause_of self.old) k now }
+    {
+        self.entries[k as usize] = now;
+    }
+
+    // What the event makes of all who stand in the condition, but for those left.
+    fn free(&mut self, cond: u32, left: &ThreadSet, by: Origin)
+        ensures { cause_of self.new ≡ (λ t. taken cond (in_set left.now t) by (cause_of self.old t)) }
+    {
+        for t in 0..64 {
+            let stays = left.has(ThreadId(t));
+            let was = self.at(t);
+            let now = freed(was, cond, stays, by);
+            self.put(t, now);
+        }
+    }
+
+    /// Notes the move, by this event.
+    pub fn note(&mut self, change: Move, by: Origin)
+        requires { IsSmall change }
+        ensures { cause_of self.new ≡ moved change by (cause_of self.old) }
+    {
+        match change {
+            Move::Awaits(k, at) => self.put(k, Cause::Awaited(at)),
+            Move::Ends(k) => self.put(k, Cause::Never),
+            Move::Frees(cond, left) => self.free(cond, &left, by),
+            Move::Opens(k) => {
+                let was = self.at(k);
+                let now = opened_by(was, by);
+                self.put(k, now);
+            }
+            Move::Comes(k) => {
+                let was = self.at(k);
+                let now = come_by(was, by);
+                self.put(k, now);
+            }
+            Move::Stays => {}
+        }
+    }
+}
