@@ -11,6 +11,7 @@ mod number;
 mod options;
 
 pub use command::{Command, IndexOptions, WordsFault, read_words};
+pub use number::read_number;
 
 #[cfg(test)]
 mod tests;

@@ -4,7 +4,7 @@ ghost use Rattle.command_line.specs.Grammar.{IsNumber};
 ghost use Rattle.command_line.specs.Reading.{IsPlain};
 
 /// The number that the text is, where it lies from `least` to `most`.
-pub(crate) fn read_number(text: &str, least: u64, most: u64) -> Option<u64>
+pub fn read_number(text: &str, least: u64, most: u64) -> Option<u64>
     ensures number { IfSome result (IsNumber least most text.now) }
     ensures none { IfNone result ((n : ℕ) → IsNumber least most text.now n → ⊥) }
 {

@@ -21,3 +21,7 @@ view_between from (Some to) = record { first = unwrap_or from 0; end = min (to +
 -- the words ask for this part
 abbrev pub AsksFor : List (List ℕ) → View → Type 0
 AsksFor words v = (from to : Option ℕ) × Asks words from to × (v ≡ view_between from to)
+
+-- these words say the first bound, and those the second
+abbrev pub IsPair : List (List ℕ) → List (List ℕ) → ℕ → ℕ → Type 0
+IsPair words more k n = (words ≡ codes "--from" ∷ decimal k ∷ []) × (more ≡ codes "--to" ∷ decimal n ∷ []) × (k < 2 ^ 64) × (n < 2 ^ 64)

@@ -1,14 +1,32 @@
 //! The words of the command line.
-ghost use Rattle.std.specs.Prelude.{◌≡◌, ◌+◌, ◌-◌, ◌^◌, ◌<◌, List, ℕ, [], ◌∷◌, codes, decimal, map, min, IfSome, IfNone};
+ghost use Rattle.std.specs.Prelude.{◌≡◌, ◌^◌, ◌<◌, ℕ, [], ◌∷◌, decimal, map, Some, IfSome, IfNone};
 ghost use Rattle.std.specs.String.{string_bytes};
 ghost use Rattle.trace_picture.specs.declared.view.View.{View};
-ghost use Rattle.firefly_timeline.specs.Words.{AsksFor};
+ghost use Rattle.firefly_timeline.specs.Words.{AsksFor, IsPair};
+ghost use Rattle.firefly_timeline.specs.Words as asked;
 
 use command_line::read_number;
 use std::string::String;
 use trace_picture::View;
 
-// The number that stands behind this name.
+// The part between two bounds, where there are any.
+fn view_between(from: Option<u64>, to: Option<u64>) -> View
+    ensures { result ≡ asked.view_between from to }
+{
+    let first = from.unwrap_or(0);
+    match to {
+        Some(to) => View {
+            first,
+            end: to.saturating_add(1),
+        },
+        None => View {
+            first,
+            end: u64::MAX,
+        },
+    }
+}
+
+// The number behind this name.
 fn read_bound(name: &str, wanted: &str, number: &str) -> Option<u64>
     ensures found { IfSome result (λ n. (name.now ≡ wanted.now) × (number.now ≡ decimal n) × (n < 2 ^ 64)) }
     ensures none { IfNone result ((n : ℕ) → name.now ≡ wanted.now → number.now ≡ decimal n → n < 2 ^ 64 → ⊥) }
@@ -20,15 +38,62 @@ fn read_bound(name: &str, wanted: &str, number: &str) -> Option<u64>
     }
 }
 
-/// The part of the trace that the words ask for: all of it, from an event on, up to an event, or both.
-pub fn read_view(words: &[String]) -> Option<View>
-    ensures found { IfSome result (AsksFor (map string_bytes words.now)) }
-    ensures none { IfNone result ((v : View) → AsksFor (map string_bytes words.now) v → ⊥) }
+// The part that one bound asks for.
+fn read_one(name: &str, number: &str) -> Option<View>
+    ensures found { IfSome result (AsksFor (name.now ∷ number.now ∷ [])) }
+    ensures none { IfNone result ((v : View) → AsksFor (name.now ∷ number.now ∷ []) v → ⊥) }
 {
-    match words {
+    if let Some(from) = read_bound(name, "--from", number) {
+        return Some(view_between(Some(from), None));
+    }
+    match read_bound(name, "--to", number) {
+        Some(to) => Some(view_between(None, Some(to))),
+        None => None,
+    }
+}
+
+// The part that two bounds ask for, the lower in front.
+fn read_up(name: &str, number: &str, other: &str, last: &str) -> Option<View>
+    ensures found { IfSome result (λ v. (k n : ℕ) × IsPair (name.now ∷ number.now ∷ []) (other.now ∷ last.now ∷ []) k n × (v ≡ asked.view_between (Some k) (Some n))) }
+    ensures none { IfNone result ((k n : ℕ) → IsPair (name.now ∷ number.now ∷ []) (other.now ∷ last.now ∷ []) k n → ⊥) }
+{
+    let Some(from) = read_bound(name, "--from", number) else {
+        return None;
+    };
+    match read_bound(other, "--to", last) {
+        Some(to) => Some(view_between(Some(from), Some(to))),
+        None => None,
+    }
+}
+
+// The part that two bounds ask for.
+fn read_two(name: &str, number: &str, other: &str, last: &str) -> Option<View>
+    ensures found { IfSome result (AsksFor (name.now ∷ number.now ∷ other.now ∷ last.now ∷ [])) }
+    ensures none { IfNone result ((v : View) → AsksFor (name.now ∷ number.now ∷ other.now ∷ last.now ∷ []) v → ⊥) }
+{
+    if let Some(view) = read_up(name, number, other, last) {
+        return Some(view);
+    }
+    read_up(other, last, name, number)
+}
+
+/// The part of the trace that the words ask for: all of it, from an event on, up to an event, or both. There is none where they ask for
+/// nothing of this kind.
+pub fn read_view(said: &[String]) -> Option<View>
+    ensures found { IfSome result (AsksFor (map string_bytes said.now)) }
+    ensures none { IfNone result ((v : View) → AsksFor (map string_bytes said.now) v → ⊥) }
+{
+    match said {
         [] => Some(view_between(None, None)),
         [name, number] => read_one(name.as_str(), number.as_str()),
-        [name, number, other, last] => read_two(name.as_str(), number.as_str(), other.as_str(), last.as_str()),
+        [name, number, other, last] => {
+            read_two(
+                name.as_str(),
+                number.as_str(),
+                other.as_str(),
+                last.as_str(),
+            )
+        }
         _ => None,
     }
 }

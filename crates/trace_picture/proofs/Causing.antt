@@ -1,14 +1,13 @@
 -- Each event that lets a thread go on made hold what the thread waits for.
-use Rattle.std.proofs.Common.{◌≡◌, ℕ, ◌+◌, Bool, true, false, not, cond, eqb, ◌⊎◌, inl, inr, List, [], ◌∷◌, ◌++◌, length, refl, ap, sym, subst, ◌∙◌, append_assoc, append-nil, Some, None, arith, eq-eqb}
+use Rattle.std.proofs.Common.{◌≡◌, ℕ, Bool, true, false, not, cond, eqb, ◌⊎◌, inl, inr, List, [], ◌∷◌, ◌++◌, length, refl, ap, sym, subst, ◌∙◌, append_assoc, append-nil, Some, None, arith, eq-eqb}
 use Rattle.std.specs.Prelude.{◌&&◌}
 use Rattle.std.proofs.lemmas.Bool.{eqb-true}
-use Rattle.std.specs.declared.option.Option.{Option}
 use Rattle.larch_actions.specs.declared.event.Event.{Event}
 use Rattle.larch_actions.specs.declared.event.Action.{Action}
 use Rattle.larch_actions.specs.declared.event.Action.TheVariants.{Acquire, Release, Enqueue, Resume, AlertEnqueue, AlertReturn, AlertRaise, Signal, Broadcast, P, V, Alert, TestAlert, AlertPReturn, AlertPRaise}
 use Rattle.larch_actions.specs.declared.event.Pending.{Pending}
 use Rattle.larch_actions.specs.declared.event.Pending.TheVariants.{Nothing, Waiting, AlertWaiting}
-use Rattle.larch_actions.specs.Actions.{Spec, put, acted, KeepsOrder, MayAct, Acts, Leads, IsRun, at_first}
+use Rattle.larch_actions.specs.Actions.{Spec, acted, KeepsOrder, MayAct, Acts, Leads, IsRun, at_first}
 use Rattle.larch_actions.specs.Sets.{in_set, set_of}
 use Rattle.trace_picture.specs.declared.history.Origin.{Origin}
 use Rattle.trace_picture.specs.declared.causes.Cause.{Cause}
@@ -96,8 +95,8 @@ come_from o (By q) p h = inl h
 
 -- one cause was changed, and this one isn't it
 quiet : {A : Type 0} (b : Bool) (y x : Cause) (z w : A) (p : Origin) → (y ≡ By p → ⊥) → cond b y x ≡ By p → (cond b z w ≡ w) × (x ≡ By p)
-quiet true y x z w p no h = absurd (no h)
-quiet false y x z w p no h = (refl, h)
+quiet true y x z w p not_by h = absurd (not_by h)
+quiet false y x z w p not_by h = (refl, h)
 
 not_awaited : (k : ℕ) (p : Origin) → Awaited k ≡ By p → ⊥
 not_awaited k p e = cc
@@ -192,12 +191,16 @@ waits_there c (AlertWaiting m d) (Awaited k) h w e = here c k d.0 h w
 module _ (k : Kept) (es : List Event) (s : Spec) (e : Event) (r : IsRun es s) (may : MayAct s e) (told : IsTold k es s) where
   abbrev t : ℕ
   t = e.thread.0
+
   abbrev a : Action
   a = e.action
+
   abbrev o : Origin
   o = origin_of (length es) e
+
   abbrev next : Spec
   next = acted e.thread.0 s e.action
+
   abbrev later : Kept
   later = kept_after (length es) e k
 
@@ -244,7 +247,7 @@ told_first = record {
   opens = λ n. refl;
   alerts = λ x. refl;
   out = λ x o h. absurd (not_never o h);
-  open = λ n o h. absurd (not_never o h);
+  opener = λ n o h. absurd (not_never o h);
   alerted = λ x o h. absurd (not_never o h);
 }
 

@@ -1,10 +1,9 @@
 -- Causes changed one by one.
-use Rattle.std.proofs.Common.{◌≡◌, ℕ, zero, suc, ◌+◌, ◌<◌, ◌≤◌, ◌⊎◌, inl, inr, cond, eqb, List, [], ◌∷◌, length, refl, ap, sym, ◌∙◌, arith, eq-eqb, ne_eqb}
+use Rattle.std.proofs.Common.{◌≡◌, ℕ, zero, suc, ◌+◌, ◌<◌, ◌≤◌, ◌⊎◌, inl, inr, eqb, List, [], ◌∷◌, length, refl, ap, sym, ◌∙◌, arith, eq-eqb, ne_eqb}
 use Rattle.std.proofs.lemmas.Bool.{cases_order, cases_lt, cond-true, cond-false}
 use Rattle.larch_actions.specs.Actions.{put}
 use Rattle.larch_actions.specs.State.{shown_at}
 use Rattle.trace_picture.specs.declared.causes.Cause.{Cause}
-use Rattle.trace_picture.specs.declared.causes.Cause.TheVariants.{Never}
 
 -- past the end a list shows what is shown there
 pub past_end : {X Y : Type 0} (view : X → Y) (d : Y) (xs : List X) (i : ℕ) → length xs ≤ i → shown_at view d xs i ≡ d

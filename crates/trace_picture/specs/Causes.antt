@@ -1,7 +1,7 @@
 -- Which event let a thread go on: the one that took it out of its condition, that made its semaphore available, or that alerted it.
-use Rattle.std.specs.Prelude.{ℕ, ◌<◌, ◌==◌, ◌&&◌, not, Bool, true, false, if◌then◌else◌, []}
+use Rattle.std.specs.Prelude.{ℕ, ◌<◌, ◌==◌, ◌&&◌, not, Bool, if◌then◌else◌, []}
 use Rattle.larch_actions.specs.declared.event.Action.{Action}
-use Rattle.larch_actions.specs.declared.event.Action.TheVariants.{Acquire, Release, Enqueue, Resume, AlertEnqueue, AlertReturn, AlertRaise, Signal, Broadcast, P, V, Alert, TestAlert, AlertPReturn, AlertPRaise}
+use Rattle.larch_actions.specs.declared.event.Action.TheVariants.{Enqueue, Resume, AlertEnqueue, AlertReturn, AlertRaise, Signal, Broadcast, P, V, Alert, TestAlert, AlertPReturn, AlertPRaise}
 use Rattle.larch_actions.specs.Actions.{put}
 use Rattle.larch_actions.specs.Sets.{in_set, set_of}
 use Rattle.larch_actions.specs.State.{shown_at}
