@@ -1,4 +1,4 @@
-// The directories and files of the system as a tree. These lines are the trusted edge.
+//! The directories and files of the system as a tree. These lines are the trusted edge.
 ghost use Rattle.std.specs.Prelude.{◌≡◌, ◌≤◌, IfOk, None, length};
 ghost use Rattle.firefly_outside.specs.Real.{dir_faults};
 ghost use Rattle.firefly_outside.specs.Trees.{AreEntries, IsWithin, HasNoted};

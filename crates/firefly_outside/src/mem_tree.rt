@@ -1,4 +1,4 @@
-// A tree in memory.
+//! A tree in memory.
 ghost use Rattle.firefly_outside.specs.MemTrees.{told_by, IsWhole};
 
 use crate::place::{Place, Places, add_place, copy_of, may_add};

@@ -1,4 +1,4 @@
-// The names of one listing.
+//! The names of one listing.
 ghost use Rattle.std.specs.Prelude.{◌≡◌, ◌≢◌, List, map, IfOk, IfErr, OnOk, IsTrue, None, Some};
 ghost use Rattle.std.specs.Bool.{nat_eq};
 ghost use Rattle.std.specs.Cmp.Lexicographic.{pointwise};

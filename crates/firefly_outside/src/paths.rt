@@ -1,4 +1,4 @@
-// Paths as a directory's path, a slash and a name.
+//! Paths as a directory's path, a slash and a name.
 ghost use Rattle.std.specs.Prelude.{◌≡◌, ◌≢◌, All, MatchOption};
 ghost use Rattle.firefly_outside.specs.Trees.{child, slash};
 

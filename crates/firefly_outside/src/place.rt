@@ -1,4 +1,4 @@
-// What a tree in memory has at a path.
+//! What a tree in memory has at a path.
 ghost use Rattle.std.specs.Prelude.{◌≡◌, List, OnOk, OnErr, IfOk, IfSome, Some, None, if◌then◌else◌, ◌⊎◌, ◌↔◌, ◌<◌, IsTrue, length};
 ghost use Rattle.std.specs.Option.{option_map};
 ghost use Rattle.std.specs.Cmp.Lexicographic.{pointwise};

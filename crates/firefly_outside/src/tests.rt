@@ -1,4 +1,4 @@
-// Sources and sinks that end, fill up or fail in mid-stream.
+//! Sources and sinks that end, fill up or fail in mid-stream.
 use crate::{
     Failed, MemSink, MemSource, ReaderSource, Sink, SinkFault, Source, WriterSink, put_all,
 };

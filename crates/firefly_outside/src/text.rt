@@ -1,4 +1,4 @@
-// Text of its own.
+//! Text of its own.
 ghost use Rattle.std.specs.Prelude.{◌≡◌, List, ℕ, Some, IfOk, refl};
 ghost use Rattle.std.specs.String.{string_bytes};
 ghost use Rattle.std.specs.Cmp.Lexicographic.{pointwise, slice_cmp, nat_list_eq_equiv, nat_list_cmp_total, texts_ties, texts_po};

@@ -1,4 +1,4 @@
-// Trees of files.
+//! Trees of files.
 ghost use Rattle.std.specs.Prelude.{◌≡◌, List, ℕ, IfOk, IfSome};
 ghost use Rattle.std.specs.declared.option.Option.{Option};
 ghost use Rattle.firefly_outside.specs.Trees.{IsShown};

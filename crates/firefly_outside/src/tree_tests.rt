@@ -1,4 +1,4 @@
-// Trees in memory and of the system.
+//! Trees in memory and of the system.
 use crate::{DirTree, Kind, MemTree, Tree, TreeError};
 use std::test::Fail;
 

@@ -1,4 +1,4 @@
-// The bytes that were taken from a source and aren't read yet.
+//! The bytes that were taken from a source and aren't read yet.
 ghost use Rattle.std.specs.Prelude.{◌≡◌, ℕ, ◌-◌, ◌+◌, ◌<◌, ◌≤◌, [], List, length, take, drop, IfOk, OnErr, MatchResult};
 ghost use Rattle.std.specs.Io.KnownBytes.{ReadConsumes, Keeps};
 ghost use Rattle.firefly_outside.specs.Causes.{HasCause};

@@ -1,4 +1,4 @@
-// Reading actions up to the end of their lines.
+//! Reading actions up to the end of their lines.
 ghost use Rattle.std.specs.Prelude.{◌≡◌, ◌≤◌, codes};
 ghost use Rattle.larch_actions.specs.Layout.{IsLawful};
 ghost use Rattle.trace_core.specs.Reading.{Gives};

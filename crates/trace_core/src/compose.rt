@@ -1,4 +1,4 @@
-// Lines of a trace text, written into a buffer behind its first `at` bytes. Each call says where it ended.
+//! Lines of a trace text, written into a buffer behind its first `at` bytes. Each call says where it ended.
 ghost use Rattle.std.specs.Prelude.{◌≡◌, ◌+◌, ◌≤◌, ◌++◌, length, take, decimal};
 ghost use Rattle.larch_actions.specs.declared.event.Action.TheVariants.{TestAlert};
 ghost use Rattle.trace_core.specs.Text.{newline, first_line, layout_line, members, names_text, wait_text, action_text, event_line, end_line, value_line};

@@ -1,4 +1,4 @@
-// The lines of a trace text.
+//! The lines of a trace text.
 ghost use Rattle.std.specs.Prelude.{◌≡◌, ◌≤◌, ◌<◌, length};
 ghost use Rattle.larch_actions.specs.Layout.{IsLawful};
 ghost use Rattle.trace_core.specs.Reading.{Gives};

@@ -1,4 +1,4 @@
-// Reading names in rising order.
+//! Reading names in rising order.
 ghost use Rattle.std.specs.Prelude.{◌≡◌, ◌<◌, ◌≤◌};
 ghost use Rattle.trace_core.specs.Reading.{Gives, as_value};
 ghost use Rattle.trace_core.specs.Names.{reaches, may_stop, number_from, tail_at, names_at, set_from};

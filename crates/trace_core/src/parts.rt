@@ -1,4 +1,4 @@
-// The head of a text, its events, and its end.
+//! The head of a text, its events, and its end.
 ghost use Rattle.std.specs.Prelude.{◌≡◌, ◌⊎◌, ◌+◌, ◌<◌, ◌≤◌, ◌++◌, [], length, IfOk, IfErr, IfSome, IfNone, OnOk, OnErr};
 ghost use Rattle.std.specs.Io.KnownBytes.{Consumes};
 ghost use Rattle.larch_actions.specs.Layout.{IsLawful, HasNames};

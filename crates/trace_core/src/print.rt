@@ -1,4 +1,4 @@
-// Prints the lines of a trace text.
+//! Prints the lines of a trace text.
 ghost use Rattle.std.specs.Prelude.{◌++◌, OnOk, OnErr};
 ghost use Rattle.std.specs.Io.KnownBytes.{Appends};
 ghost use Rattle.firefly_outside.specs.Causes.{HasCause, AppendsFront};

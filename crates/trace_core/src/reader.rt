@@ -1,4 +1,4 @@
-// A reader of trace texts.
+//! A reader of trace texts.
 ghost use Rattle.std.specs.Prelude.{◌≡◌, ◌≢◌, ◌⊎◌, ◌≤◌, ◌++◌, ◌^◌, ◌-◌, ◌<◌, IfOk, IfErr, IfSome, IfNone};
 ghost use Rattle.trace_core.specs.declared.intake.TextFault.{TextFault};
 ghost use Rattle.trace_core.specs.declared.progress.Phase.TheVariants as phase;

@@ -1,4 +1,4 @@
-// The steps of a reader.
+//! The steps of a reader.
 ghost use Rattle.std.specs.Prelude.{◌≡◌, ◌⊎◌, ◌+◌, ◌<◌, ◌≤◌, ◌++◌, length, drop, IfOk, IfErr, IfSome, IfNone};
 ghost use Rattle.trace_core.specs.declared.progress.Phase.TheVariants as phase;
 ghost use Rattle.trace_core.specs.Text.{IsTrace, IsRest, first_line, layout_line, event_line};

@@ -1,4 +1,4 @@
-// The line that comes next.
+//! The line that comes next.
 ghost use Rattle.std.specs.Prelude.{◌≡◌, ◌⊎◌, ◌+◌, ◌<◌, ◌≤◌, length, IfOk, IfErr, OnOk, OnErr};
 ghost use Rattle.std.specs.Io.KnownBytes.{Consumes};
 ghost use Rattle.trace_core.specs.Lines.{IsPossible, IsAllowed, IsTextFrom, line_text, line_at};

@@ -1,4 +1,4 @@
-// Each kind of line, read and printed, and texts that are no traces.
+//! Each kind of line, read and printed, and texts that are no traces.
 ghost use Rattle.std.specs.Prelude.{◌≡◌, ◌^◌, ◌-◌, ◌<◌, None};
 ghost use Rattle.trace_core.specs.declared.progress.Phase.TheVariants as phase;
 ghost use Rattle.firefly_outside.specs.Memory.{source_faults};

@@ -1,4 +1,4 @@
-// Reading words and numbers from bytes in memory, of which more may come.
+//! Reading words and numbers from bytes in memory, of which more may come.
 ghost use Rattle.std.specs.Prelude.{◌≡◌, ◌≤◌, ◌<◌, ◌^◌, length, IfSome};
 ghost use Rattle.trace_core.specs.Reading.{Gives, word_at, number_at};
 ghost use Rattle.trace_core.specs.Lines.{named_at, flag_at, place_at};

@@ -1,4 +1,4 @@
-// What a walk answers.
+//! What a walk answers.
 use firefly_outside::Text;
 use word_index::Piece;
 

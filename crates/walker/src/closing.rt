@@ -1,4 +1,4 @@
-// The walk that lists what isn't listed and reads what isn't covered.
+//! The walk that lists what isn't listed and reads what isn't covered.
 ghost use Rattle.std.specs.Prelude.{◌≡◌, ◌+◌, ◌≤◌, ◌<◌, ℕ, Option, Some, false, length, IfSome, OnOk, IfErr, MatchOption, slice_get};
 ghost use Rattle.walker.specs.Walk.{IsWalkOf, IsSound, IsUnlisted};
 ghost use Rattle.walker.specs.Progress.{IsWithinLimits, IsPassed, StepCounts, Grows, IsListedBelow, IsListedWhole, ListsAt, ListsRest, EndsPassed};

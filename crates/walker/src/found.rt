@@ -1,4 +1,4 @@
-// The maps of what a walk has found.
+//! The maps of what a walk has found.
 ghost use Rattle.std.specs.Prelude.{◌≡◌, ◌≢◌, ◌++◌, ◌∷◌, [], ◌+◌, ◌≤◌, ◌<◌, ℕ, false, List, length, map, IfOk, OnOk, Contains, AllPairs, vec_len};
 ghost use Rattle.std.specs.String.{string_bytes};
 ghost use Rattle.indexmap.specs.IndexMap.{spare as map_spare, IsUnchanged as SameMap};

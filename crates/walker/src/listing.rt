@@ -1,4 +1,4 @@
-// The listing of one directory.
+//! The listing of one directory.
 ghost use Rattle.std.specs.Prelude.{◌≡◌, ◌↔◌, ◌++◌, ◌∷◌, List, map, filter, IfOk, IfSome, Contains, IsSorted, AllPairs, ◌≢◌, OnOk};
 ghost use Rattle.std.specs.Cmp.Lexicographic.{slice_cmp};
 ghost use Rattle.std.specs.Ordering.{nat_cmp};

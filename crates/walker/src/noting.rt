@@ -1,4 +1,4 @@
-// The listing of a directory is put into the maps of a walk.
+//! The listing of a directory is put into the maps of a walk.
 ghost use Rattle.std.specs.Prelude.{◌≡◌, IfErr, OnOk};
 ghost use Rattle.firefly_outside.specs.Trees.{Told};
 ghost use Rattle.walker.specs.Walk.{IsSound, IsUnlisted, IsWalkOf, walk_at};

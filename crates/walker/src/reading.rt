@@ -1,4 +1,4 @@
-// The files of a walk that was listed whole.
+//! The files of a walk that was listed whole.
 ghost use Rattle.std.specs.Prelude.{◌≡◌, ◌++◌, ◌∷◌, [], ◌+◌, ◌≤◌, ◌<◌, ℕ, List, Option, Some, length, IfSome, IfOk, OnOk, IfErr, AllPairs, Contains, map, take};
 ghost use Rattle.firefly_outside.specs.Trees.{Calls};
 ghost use Rattle.word_index.specs.Index.{File, Meet, IsIndexOf};

@@ -1,4 +1,4 @@
-// Small trees, walked whole, stopped and with a fault.
+//! Small trees, walked whole, stopped and with a fault.
 ghost use Rattle.std.specs.Prelude.{◌≤◌, IfSome};
 
 use crate::{WalkAnswer, Walked, close_walk};

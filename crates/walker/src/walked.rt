@@ -1,4 +1,4 @@
-// The directories and files that a walk has found.
+//! The directories and files that a walk has found.
 ghost use Rattle.std.specs.Prelude.{◌≡◌, ◌+◌, ◌≤◌, ℕ, List, length, map, IfOk, IfErr, OnOk, IfSome, MatchOption, slice_get, Some, ◌≢◌, ◌<◌, false};
 ghost use Rattle.firefly_outside.specs.Trees.{Told, Path};
 ghost use Rattle.walker.specs.Walk.{new_walk, IsUnlisted, IsWalkOf, IsSound};

@@ -1,4 +1,4 @@
-// Files that were read, on the way to their piece.
+//! Files that were read, on the way to their piece.
 ghost use Rattle.std.specs.Prelude.{◌≡◌, ◌∷◌, ◌++◌, [], List, map, IfOk, IsTrue};
 ghost use Rattle.std.specs.List.{Contains};
 ghost use Rattle.word_index.specs.Index.{File, IsIndexOf};

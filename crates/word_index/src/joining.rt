@@ -1,4 +1,4 @@
-// Two rising lists of texts, joined.
+//! Two rising lists of texts, joined.
 ghost use Rattle.std.specs.Prelude.{◌≡◌, ◌<◌, ◌↔◌, ℕ, [], ◌⊎◌, List, length, slice_index_or, IfOk};
 ghost use Rattle.std.specs.List.{Contains};
 ghost use Rattle.word_index.specs.Index.{IsBelow, IsRising};

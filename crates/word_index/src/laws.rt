@@ -1,4 +1,4 @@
-// Laws over the definitions.
+//! Laws over the definitions.
 ghost use Rattle.std.specs.Prelude.{◌≡◌, List, map, filter};
 ghost use Rattle.word_index.specs.Words.{is_short, lowered, file_words};
 ghost use Rattle.word_index.specs.Index.{File, Index, IsIndexOf};

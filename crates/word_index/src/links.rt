@@ -1,4 +1,4 @@
-// The places of words, linked from the last to the first.
+//! The places of words, linked from the last to the first.
 ghost use Rattle.std.specs.Prelude.{◌≡◌, ◌+◌, ◌<◌, ◌^◌, ℕ, List, ◌++◌, take, length, IfOk, OnOk};
 ghost use Rattle.word_index.specs.Links.{IsChain, IsLinked, AddsLinked, bumped};
 

@@ -1,4 +1,4 @@
-// The merge of two pieces.
+//! The merge of two pieces.
 ghost use Rattle.std.specs.Prelude.{◌≡◌, ◌++◌, List, ℕ, length, IfOk, IfErr};
 ghost use Rattle.std.specs.List.{Contains};
 ghost use Rattle.word_index.specs.Index.{File, IsIndexOf, IsUnion, Meet, entries};

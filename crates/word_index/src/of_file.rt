@@ -1,4 +1,4 @@
-// The piece of one file.
+//! The piece of one file.
 ghost use Rattle.std.specs.Prelude.{[], ◌∷◌, IfOk};
 ghost use Rattle.word_index.specs.Index.{IsIndexOf};
 ghost use Rattle.word_index.specs.Read.{read_file};

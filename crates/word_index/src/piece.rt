@@ -1,4 +1,4 @@
-// A piece: the index of the files that it covers.
+//! A piece: the index of the files that it covers.
 ghost use Rattle.std.specs.Prelude.{◌≡◌, ◌+◌, ◌<◌, ◌↔◌, ℕ, [], length, IsTrue, slice_index_or};
 ghost use Rattle.std.specs.List.{Contains};
 ghost use Rattle.word_index.specs.Index.{IsIndexOf, Meet, entries, occurrences, row_at, hit_at};

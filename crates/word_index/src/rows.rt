@@ -1,4 +1,4 @@
-// The places of words in one block of memory.
+//! The places of words in one block of memory.
 ghost use Rattle.std.specs.Prelude.{◌≡◌, ◌+◌, ◌<◌, ◌≤◌, ℕ, List, [], ◌∷◌, ◌++◌, ◌⊎◌, length, map, take, IfOk, OnOk, OnErr, slice_index, slice_index_or, sum_by};
 ghost use Rattle.std.specs.Bool.{OnTrue, OnFalse};
 ghost use Rattle.std.specs.List.{All, AllPairs, flat_map};

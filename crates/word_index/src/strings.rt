@@ -1,4 +1,4 @@
-// Byte strings in one block of memory.
+//! Byte strings in one block of memory.
 ghost use Rattle.std.specs.Prelude.{◌≡◌, ◌+◌, ◌<◌, ◌≤◌, ℕ, List, [], ◌∷◌, ◌++◌, length, map, take, IfOk, OnOk, slice_index, slice_index_or};
 ghost use Rattle.word_index.specs.Words.{lower};
 

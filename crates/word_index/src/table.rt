@@ -1,4 +1,4 @@
-// Words with their places.
+//! Words with their places.
 ghost use Rattle.std.specs.Prelude.{◌≡◌, ◌<◌, ℕ, List, map, length, IfOk};
 ghost use Rattle.std.specs.List.{All};
 ghost use Rattle.std.specs.Str.{bytes_eq};

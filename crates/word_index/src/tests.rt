@@ -1,4 +1,4 @@
-// Pieces of small files.
+//! Pieces of small files.
 use crate::{Piece, merge, piece_of};
 use firefly_outside::FileBytes;
 use std::alloc::Global;

@@ -1,4 +1,4 @@
-// The runs of a file's bytes.
+//! The runs of a file's bytes.
 ghost use Rattle.std.specs.Prelude.{◌≡◌, ℕ, ◌+◌, ◌<◌, ◌≤◌, ◌^◌, length, drop, [], ◌∷◌, MatchOption, slice_range, false};
 ghost use Rattle.std.specs.List.{prefix_len};
 ghost use Rattle.word_index.specs.Words.{is_word_byte, lower, runs};
