@@ -33,8 +33,10 @@ pub fn take_values<I: Source>(
     least: u32,
 ) -> Result<(), TextFault>
     requires { IsLawful layout.now }
-    ensures end { OnOk result (IfSome (rest_of intake.old (I.left input.old)) (λ bytes. IsValues layout.now least bytes × (length bytes ≤ room_of intake.old))) }
-    ensures fault { IfErr result (HasReason (IsValues layout.now least) intake.old.lines (room_of intake.old) (rest_of intake.old (I.left input.old)) (I.left input.new) (I.faults input.old) (I.faults input.new)) }
+    ensures end { OnOk result (IfSome (rest_of intake.old (I.left input.old)) (λ bytes. IsValues layout.now least bytes
+        × (length bytes ≤ room_of intake.old))) }
+    ensures fault { IfErr result (HasReason (IsValues layout.now least) intake.old.lines (room_of intake.old)
+        (rest_of intake.old (I.left input.old)) (I.left input.new) (I.faults input.old) (I.faults input.new)) }
     ensures later { I.faults input.old ≤ I.faults input.new }
     ensures asks { (input.new ≡ input.old) ⊎ Begins (IsValues layout.now least) intake.old.window }
 {
@@ -66,14 +68,19 @@ pub fn take_event<I: Source>(
 ) -> Result<Option<Event>, TextFault>
     requires lawful { IsLawful layout.now }
     requires placed { place ≤ intake.old.lines }
-    ensures event { IfOk result (λ found. IfSome found (λ e. HasNames layout.now e × Consumes (rest_of intake.old (I.left input.old)) (rest_of intake.new (I.left input.new)) (event_line place e))) }
+    ensures event { IfOk result (λ found. IfSome found (λ e. HasNames layout.now e
+        × Consumes (rest_of intake.old (I.left input.old)) (rest_of intake.new (I.left input.new)) (event_line place e))) }
     ensures room { IfOk result (λ found. IfSome found (λ e. room_of intake.new + length (event_line place e) ≡ room_of intake.old)) }
     ensures lines { IfOk result (λ found. IfSome found (λ _. intake.new.lines ≡ intake.old.lines + 1)) }
-    ensures end { IfOk result (λ found. IfNone found (IfSome (rest_of intake.old (I.left input.old)) (λ bytes. IsEnding layout.now place bytes × (length bytes ≤ room_of intake.old)))) }
-    ensures fault { IfErr result (HasReason (IsRest layout.now place) intake.old.lines (room_of intake.old) (rest_of intake.old (I.left input.old)) (I.left input.new) (I.faults input.old) (I.faults input.new)) }
-    ensures lacks { IfErr result (LacksAt (HasNames layout.now) (event_line place) (room_of intake.old) (rest_of intake.old (I.left input.old)) (I.left input.new)) }
+    ensures end { IfOk result (λ found. IfNone found (IfSome (rest_of intake.old (I.left input.old))
+        (λ bytes. IsEnding layout.now place bytes × (length bytes ≤ room_of intake.old)))) }
+    ensures fault { IfErr result (HasReason (IsRest layout.now place) intake.old.lines (room_of intake.old)
+        (rest_of intake.old (I.left input.old)) (I.left input.new) (I.faults input.old) (I.faults input.new)) }
+    ensures lacks { IfErr result (LacksAt (HasNames layout.now) (event_line place) (room_of intake.old)
+        (rest_of intake.old (I.left input.old)) (I.left input.new)) }
     ensures later { I.faults input.old ≤ I.faults input.new }
-    ensures asks { (input.new ≡ input.old) ⊎ IsUndecided (IsRest layout.now place) (HasNames layout.now) (event_line place) intake.old.window }
+    ensures asks { (input.new ≡ input.old) ⊎ IsUndecided (IsRest layout.now place) (HasNames layout.now)
+        (event_line place) intake.old.window }
 {
     let expect = Expect::Events {
         layout: *layout,
@@ -92,11 +99,14 @@ pub fn take_event<I: Source>(
 
 /// Takes the first line and the layout line.
 pub fn take_head<I: Source>(intake: &mut Intake, input: &mut I) -> Result<Layout, TextFault>
-    ensures layout { IfOk result (λ l. IsLawful l × Consumes (rest_of intake.old (I.left input.old)) (rest_of intake.new (I.left input.new)) (first_line ++ layout_line l)) }
+    ensures layout { IfOk result (λ l. IsLawful l × Consumes (rest_of intake.old (I.left input.old))
+        (rest_of intake.new (I.left input.new)) (first_line ++ layout_line l)) }
     ensures room { IfOk result (λ l. room_of intake.new + length (first_line ++ layout_line l) ≡ room_of intake.old) }
     ensures lines { OnOk result (intake.new.lines ≡ intake.old.lines + 2) }
-    ensures fault { IfErr result (HasReason IsTrace intake.old.lines (room_of intake.old) (rest_of intake.old (I.left input.old)) (I.left input.new) (I.faults input.old) (I.faults input.new)) }
-    ensures lacks { IfErr result (LacksAt IsLawful (λ l. first_line ++ layout_line l) (room_of intake.old) (rest_of intake.old (I.left input.old)) (I.left input.new)) }
+    ensures fault { IfErr result (HasReason IsTrace intake.old.lines (room_of intake.old) (rest_of intake.old (I.left input.old))
+        (I.left input.new) (I.faults input.old) (I.faults input.new)) }
+    ensures lacks { IfErr result (LacksAt IsLawful (λ l. first_line ++ layout_line l) (room_of intake.old)
+        (rest_of intake.old (I.left input.old)) (I.left input.new)) }
     ensures later { I.faults input.old ≤ I.faults input.new }
     ensures asks { (input.new ≡ input.old) ⊎ IsUndecided IsTrace IsLawful (λ l. first_line ++ layout_line l) intake.old.window }
 {

@@ -50,9 +50,11 @@ impl<'a, I: Source> EventReader<'a, I> {
         // On success.
         ensures head { IfOk result (TakesHead (standing I.left self.old) (standing I.left self.new)) }
         // On a fault.
-        ensures fault { IfErr result (Breaks IsTrace IsLawful (λ l. first_line ++ layout_line l) (standing I.left self.old) (standing I.left self.new) (I.left (input_of self.new).now) (I.faults (input_of self.old).now) (I.faults (input_of self.new).now)) }
+        ensures fault { IfErr result (Breaks IsTrace IsLawful (λ l. first_line ++ layout_line l) (standing I.left self.old)
+            (standing I.left self.new) (I.left (input_of self.new).now) (I.faults (input_of self.old).now) (I.faults (input_of self.new).now)) }
         // The source is asked only where the bytes that it gave don't decide.
-        ensures asks { ((input_of self.new).now ≡ (input_of self.old).now) ⊎ IsUndecided IsTrace IsLawful (λ l. first_line ++ layout_line l) (held_of self.old) }
+        ensures asks { ((input_of self.new).now ≡ (input_of self.old).now)
+            ⊎ IsUndecided IsTrace IsLawful (λ l. first_line ++ layout_line l) (held_of self.old) }
         // What stays.
         ensures same_input { (input_of self.new).ghost_name ≡ (input_of self.old).ghost_name }
         ensures later { I.faults (input_of self.old).now ≤ I.faults (input_of self.new).now }
@@ -64,12 +66,19 @@ impl<'a, I: Source> EventReader<'a, I> {
     pub fn next_event(&mut self) -> Result<Option<Event>, TextFault>
         requires { (standing I.left self.old).phase ≢ phase.Head }
         // On success.
-        ensures event { (standing I.left self.old).phase ≡ phase.Events → IfOk result (λ found. IfSome found (TakesEvent (standing I.left self.old) (standing I.left self.new))) }
-        ensures end { (standing I.left self.old).phase ≡ phase.Events → IfOk result (λ found. IfNone found (TakesEnd (standing I.left self.old) (standing I.left self.new))) }
+        ensures event { (standing I.left self.old).phase ≡ phase.Events
+            → IfOk result (λ found. IfSome found (TakesEvent (standing I.left self.old) (standing I.left self.new))) }
+        ensures end { (standing I.left self.old).phase ≡ phase.Events → IfOk result
+            (λ found. IfNone found (TakesEnd (standing I.left self.old) (standing I.left self.new))) }
         // On a fault.
-        ensures fault { (standing I.left self.old).phase ≡ phase.Events → IfErr result (let old = standing I.left self.old in Breaks (IsRest old.layout old.place) (HasNames old.layout) (event_line old.place) old (standing I.left self.new) (I.left (input_of self.new).now) (I.faults (input_of self.old).now) (I.faults (input_of self.new).now)) }
+        ensures fault { (standing I.left self.old).phase ≡ phase.Events
+            → IfErr result (let old = standing I.left self.old in Breaks (IsRest old.layout old.place) (HasNames old.layout)
+            (event_line old.place) old (standing I.left self.new) (I.left (input_of self.new).now) (I.faults (input_of self.old).now)
+            (I.faults (input_of self.new).now)) }
         // The source is asked only where the bytes that it gave don't decide.
-        ensures asks { ((input_of self.new).now ≡ (input_of self.old).now) ⊎ (let old = standing I.left self.old in IsUndecided (IsRest old.layout old.place) (HasNames old.layout) (event_line old.place) (held_of self.old)) }
+        ensures asks { ((input_of self.new).now ≡ (input_of self.old).now)
+            ⊎ (let old = standing I.left self.old in IsUndecided (IsRest old.layout old.place) (HasNames old.layout) (event_line old.place)
+            (held_of self.old)) }
         // Once it has ended or failed.
         ensures ended { (standing I.left self.old).phase ≡ phase.Ended → result ≡ Ok None }
         ensures failed { (fault : TextFault) → (standing I.left self.old).phase ≡ phase.Failed fault → result ≡ Err fault }

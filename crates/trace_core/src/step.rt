@@ -19,7 +19,8 @@ use larch_actions::{Event, Layout};
 /// Takes the head, and notes what comes next.
 pub fn begin<I: Source>(progress: &mut Progress, input: &mut I) -> Result<Layout, TextFault>
     ensures head { IfOk result (TakesHead (standing_of progress.old (I.left input.old)) (standing_of progress.new (I.left input.new))) }
-    ensures fault { IfErr result (Breaks IsTrace IsLawful (λ l. first_line ++ layout_line l) (standing_of progress.old (I.left input.old)) (standing_of progress.new (I.left input.new)) (I.left input.new) (I.faults input.old) (I.faults input.new)) }
+    ensures fault { IfErr result (Breaks IsTrace IsLawful (λ l. first_line ++ layout_line l) (standing_of progress.old (I.left input.old))
+        (standing_of progress.new (I.left input.new)) (I.left input.new) (I.faults input.old) (I.faults input.new)) }
     ensures later { I.faults input.old ≤ I.faults input.new }
     ensures asks { (input.new ≡ input.old) ⊎ IsUndecided IsTrace IsLawful (λ l. first_line ++ layout_line l) progress.old.intake.window }
 {
@@ -79,11 +80,16 @@ fn take_held(progress: &mut Progress) -> Option<Event>
 #[inline(always)]
 pub fn go_on<I: Source>(progress: &mut Progress, input: &mut I) -> Result<Option<Event>, TextFault>
     requires { progress.old.phase ≡ phase.Events }
-    ensures event { IfOk result (λ found. IfSome found (TakesEvent (standing_of progress.old (I.left input.old)) (standing_of progress.new (I.left input.new)))) }
-    ensures end { IfOk result (λ found. IfNone found (TakesEnd (standing_of progress.old (I.left input.old)) (standing_of progress.new (I.left input.new)))) }
-    ensures fault { IfErr result (Breaks (IsRest progress.old.layout progress.old.place) (HasNames progress.old.layout) (event_line progress.old.place) (standing_of progress.old (I.left input.old)) (standing_of progress.new (I.left input.new)) (I.left input.new) (I.faults input.old) (I.faults input.new)) }
+    ensures event { IfOk result (λ found. IfSome found (TakesEvent (standing_of progress.old (I.left input.old))
+        (standing_of progress.new (I.left input.new)))) }
+    ensures end { IfOk result (λ found. IfNone found (TakesEnd (standing_of progress.old (I.left input.old))
+        (standing_of progress.new (I.left input.new)))) }
+    ensures fault { IfErr result (Breaks (IsRest progress.old.layout progress.old.place) (HasNames progress.old.layout)
+        (event_line progress.old.place) (standing_of progress.old (I.left input.old)) (standing_of progress.new (I.left input.new))
+        (I.left input.new) (I.faults input.old) (I.faults input.new)) }
     ensures later { I.faults input.old ≤ I.faults input.new }
-    ensures asks { (input.new ≡ input.old) ⊎ IsUndecided (IsRest progress.old.layout progress.old.place) (HasNames progress.old.layout) (event_line progress.old.place) progress.old.intake.window }
+    ensures asks { (input.new ≡ input.old) ⊎ IsUndecided (IsRest progress.old.layout progress.old.place) (HasNames progress.old.layout)
+        (event_line progress.old.place) progress.old.intake.window }
 {
     match take_held(progress) {
         Some(event) => Ok(Some(event)),
@@ -99,11 +105,16 @@ fn go_on_slowly<I: Source>(
     input: &mut I,
 ) -> Result<Option<Event>, TextFault>
     requires { progress.old.phase ≡ phase.Events }
-    ensures event { IfOk result (λ found. IfSome found (TakesEvent (standing_of progress.old (I.left input.old)) (standing_of progress.new (I.left input.new)))) }
-    ensures end { IfOk result (λ found. IfNone found (TakesEnd (standing_of progress.old (I.left input.old)) (standing_of progress.new (I.left input.new)))) }
-    ensures fault { IfErr result (Breaks (IsRest progress.old.layout progress.old.place) (HasNames progress.old.layout) (event_line progress.old.place) (standing_of progress.old (I.left input.old)) (standing_of progress.new (I.left input.new)) (I.left input.new) (I.faults input.old) (I.faults input.new)) }
+    ensures event { IfOk result (λ found. IfSome found (TakesEvent (standing_of progress.old (I.left input.old))
+        (standing_of progress.new (I.left input.new)))) }
+    ensures end { IfOk result (λ found. IfNone found (TakesEnd (standing_of progress.old (I.left input.old))
+        (standing_of progress.new (I.left input.new)))) }
+    ensures fault { IfErr result (Breaks (IsRest progress.old.layout progress.old.place) (HasNames progress.old.layout)
+        (event_line progress.old.place) (standing_of progress.old (I.left input.old)) (standing_of progress.new (I.left input.new))
+        (I.left input.new) (I.faults input.old) (I.faults input.new)) }
     ensures later { I.faults input.old ≤ I.faults input.new }
-    ensures asks { (input.new ≡ input.old) ⊎ IsUndecided (IsRest progress.old.layout progress.old.place) (HasNames progress.old.layout) (event_line progress.old.place) progress.old.intake.window }
+    ensures asks { (input.new ≡ input.old) ⊎ IsUndecided (IsRest progress.old.layout progress.old.place) (HasNames progress.old.layout)
+        (event_line progress.old.place) progress.old.intake.window }
 {
     let layout = progress.layout;
     let place = progress.place.value();

@@ -46,15 +46,19 @@ pub fn take_line<I: Source>(
     expect: &Expect,
 ) -> Result<Line, TextFault>
     requires { IsPossible expect.now }
-    ensures line { IfOk result (λ x. IsAllowed expect.now x × Consumes (rest_of intake.old (I.left input.old)) (rest_of intake.new (I.left input.new)) (line_text expect.now x)) }
+    ensures line { IfOk result (λ x. IsAllowed expect.now x × Consumes (rest_of intake.old (I.left input.old))
+        (rest_of intake.new (I.left input.new)) (line_text expect.now x)) }
     ensures room { IfOk result (λ x. room_of intake.new + length (line_text expect.now x) ≡ room_of intake.old) }
     ensures lines { OnOk result (intake.new.lines ≡ intake.old.lines + 1) }
     ensures budget { OnOk result (intake.new.budget ≡ intake.old.budget) }
-    ensures fault { IfErr result (HasReason (IsTextFrom expect.now) intake.old.lines (room_of intake.old) (rest_of intake.old (I.left input.old)) (I.left input.new) (I.faults input.old) (I.faults input.new)) }
-    ensures lacks { IfErr result (LacksAt (IsAllowed expect.now) (line_text expect.now) (room_of intake.old) (rest_of intake.old (I.left input.old)) (I.left input.new)) }
+    ensures fault { IfErr result (HasReason (IsTextFrom expect.now) intake.old.lines (room_of intake.old)
+        (rest_of intake.old (I.left input.old)) (I.left input.new) (I.faults input.old) (I.faults input.new)) }
+    ensures lacks { IfErr result (LacksAt (IsAllowed expect.now) (line_text expect.now) (room_of intake.old)
+        (rest_of intake.old (I.left input.old)) (I.left input.new)) }
     ensures later { I.faults input.old ≤ I.faults input.new }
     // The source is asked only where the bytes held don't decide.
-    ensures asks { IfOk result (λ x. ((input.new ≡ input.old) × (line_at expect.now intake.old.window ≡ Ok (x, intake.new.window))) ⊎ (line_at expect.now intake.old.window ≡ Err Stop.More)) }
+    ensures asks { IfOk result (λ x. ((input.new ≡ input.old) × (line_at expect.now intake.old.window ≡ Ok (x, intake.new.window)))
+        ⊎ (line_at expect.now intake.old.window ≡ Err Stop.More)) }
     ensures asks_first { OnErr result ((input.new ≡ input.old) ⊎ (line_at expect.now intake.old.window ≡ Err Stop.More)) }
 {
     loop {

@@ -36,9 +36,11 @@ pub fn put_events<O: Sink>(
 ) -> Result<usize, SinkFault>
     requires within { at ≤ length buf.old }
     requires large { 1000 ≤ length buf.old }
-    ensures ok { IfOk result (λ end. Flows (O.held out.old) (O.held out.new) (take at buf.old) (take end buf.new) (event_lines 0 events.now ++ end_line (length events.now))) }
+    ensures ok { IfOk result (λ end. Flows (O.held out.old) (O.held out.new) (take at buf.old) (take end buf.new)
+        (event_lines 0 events.now ++ end_line (length events.now))) }
     ensures within { IfOk result (λ end. end ≤ length buf.old) }
-    ensures err { OnErr result (AppendsFront (O.held out.old) (O.held out.new) (take at buf.old ++ (event_lines 0 events.now ++ end_line (length events.now)))) }
+    ensures err { OnErr result (AppendsFront (O.held out.old) (O.held out.new)
+        (take at buf.old ++ (event_lines 0 events.now ++ end_line (length events.now)))) }
     ensures cause { HasCause (O.faults out.old) (O.faults out.new) result }
     ensures few { length events.now < 2 ^ 64 }
 {
@@ -66,7 +68,8 @@ pub fn put_values<O: Sink>(
     requires within { at ≤ length buf.old }
     requires large { 1000 ≤ length buf.old }
     requires few { length values.now ≤ 64 }
-    ensures ok { IfOk result (λ end. Flows (O.held out.old) (O.held out.new) (take at buf.old) (take end buf.new) (values_text (numbered 0 values.now))) }
+    ensures ok { IfOk result (λ end. Flows (O.held out.old) (O.held out.new) (take at buf.old) (take end buf.new)
+        (values_text (numbered 0 values.now))) }
     ensures within { IfOk result (λ end. end ≤ length buf.old) }
     ensures err { OnErr result (AppendsFront (O.held out.old) (O.held out.new) (take at buf.old ++ values_text (numbered 0 values.now))) }
     ensures cause { HasCause (O.faults out.old) (O.faults out.new) result }

@@ -53,13 +53,19 @@ last_closing l v es = closing_if l v (kept_since (behind [] es)) (length es)
 unfoldable pub failed_note : ℕ → Event → Broken → List ℕ
 failed_note n e why = codes "illegal, fails " ++ clause_word why ++ codes ": " ++ line_of n e
 
--- the end of the picture of a legal trace of n events
-abbrev pub legal_ending : Layout → View → Kept → ℕ → List ℕ
-legal_ending l v k n = closing_if l v k n ++ end_text l v n (with_number (codes "legal, events: ") n)
+-- the end of the picture of n events, with these words and their count on its last line
+abbrev pub ending : Layout → View → Kept → ℕ → List ℕ → List ℕ
+ending l v k n words = closing_if l v k n ++ end_text l v n (with_number words n)
 
--- the end of the picture of an input that can't be read further
-abbrev pub cut_ending : Layout → View → Kept → ℕ → List ℕ
-cut_ending l v k n = closing_if l v k n ++ end_text l v n (with_number (codes "the input can't be read further, events: ") n)
+-- the event n, which fails, and the end of the picture
+abbrev pub failed_ending : Layout → View → Kept → ℕ → Event → Broken → List ℕ
+failed_ending l v k n e why = failing_text l v k n e why ++ end_text l v (n + 1) (failed_note n e why)
+
+abbrev pub legal_words : List ℕ
+legal_words = codes "legal, events: "
+
+abbrev pub cut_words : List ℕ
+cut_words = codes "the input can't be read further, events: "
 
 -- the whole picture of a legal trace
 unfoldable pub picture : Layout → View → List Event → List ℕ

@@ -45,7 +45,8 @@ fn add_band(buf: &mut [u8], at: usize, layout: &Layout, band: u64) -> usize
     requires lawful { IsLawful layout.now }
     requires few { band < 2 ^ 42 }
     requires room { at + 100 ≤ length buf.old }
-    ensures text { take result buf.new ≡ take at buf.old ++ (with_number (codes "<g transform='translate(0 ") (band_top layout.now band) ++ codes ")'>\n") }
+    ensures text { take result buf.new ≡ take at buf.old ++ (with_number (codes "<g transform='translate(0 ")
+        (band_top layout.now band) ++ codes ")'>\n") }
     ensures near { result ≤ at + 100 }
 {
     let at = add_with_number(buf, at, b"<g transform='translate(0 ", top_of(layout, band));

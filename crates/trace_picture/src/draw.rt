@@ -10,7 +10,7 @@ ghost use Rattle.trace_check.specs.declared.checker.Verdict.TheVariants as verdi
 ghost use Rattle.trace_check.specs.Verdicts.{IsJust, refusal};
 ghost use Rattle.larch_actions.specs.Layout.{IsLawful};
 ghost use Rattle.trace_picture.specs.Kept.{kept_of};
-ghost use Rattle.trace_picture.specs.Picture.{legal_ending, cut_ending};
+ghost use Rattle.trace_picture.specs.Picture.{ending, legal_words, cut_words};
 ghost use Rattle.trace_picture.specs.Drawn.{IsDrawn, IsCutOff};
 
 use crate::bands::add_step;
@@ -77,8 +77,10 @@ fn end_legal<O: Sink>(
     requires lawful { IsLawful layout.now }
     requires few { count < 2 ^ 42 }
     requires room { at + 60000 ≤ length buf.old }
-    ensures ok { OnOk result (Appends (O.held out.old) (O.held out.new) (take at buf.old ++ legal_ending layout.now view.now (kept_of board.now) count)) }
-    ensures err { OnErr result (AppendsFront (O.held out.old) (O.held out.new) (take at buf.old ++ legal_ending layout.now view.now (kept_of board.now) count)) }
+    ensures ok { OnOk result (Appends (O.held out.old) (O.held out.new)
+        (take at buf.old ++ ending layout.now view.now (kept_of board.now) count legal_words)) }
+    ensures err { OnErr result (AppendsFront (O.held out.old) (O.held out.new)
+        (take at buf.old ++ ending layout.now view.now (kept_of board.now) count legal_words)) }
     ensures cause { HasCause (O.faults out.old) (O.faults out.new) result }
 {
     end_with(buf, at, layout, view, board, count, b"legal, events: ", out)
@@ -97,8 +99,10 @@ fn end_cut<O: Sink>(
     requires lawful { IsLawful layout.now }
     requires few { count < 2 ^ 42 }
     requires room { at + 60000 ≤ length buf.old }
-    ensures ok { OnOk result (Appends (O.held out.old) (O.held out.new) (take at buf.old ++ cut_ending layout.now view.now (kept_of board.now) count)) }
-    ensures err { OnErr result (AppendsFront (O.held out.old) (O.held out.new) (take at buf.old ++ cut_ending layout.now view.now (kept_of board.now) count)) }
+    ensures ok { OnOk result (Appends (O.held out.old) (O.held out.new)
+        (take at buf.old ++ ending layout.now view.now (kept_of board.now) count cut_words)) }
+    ensures err { OnErr result (AppendsFront (O.held out.old) (O.held out.new)
+        (take at buf.old ++ ending layout.now view.now (kept_of board.now) count cut_words)) }
     ensures cause { HasCause (O.faults out.old) (O.faults out.new) result }
 {
     end_with(
@@ -124,7 +128,8 @@ pub fn draw_trace<I: Source, O: Sink>(
     requires { budget ≤ 2 ^ 40 }
     // The verdict is just, and where no read failed no other is.
     ensures just { IfOk result (λ v. IsJust budget (I.left input.old) (I.left input.new) (I.faults input.old) (I.faults input.new) v) }
-    ensures exact { IfOk result (λ v. (bytes : List ℕ) (other : Verdict) → I.left input.old ≡ Some bytes → v ≢ verdict.ReadFault → other ≢ verdict.ReadFault
+    ensures exact { IfOk result (λ v. (bytes : List ℕ) (other : Verdict) → I.left input.old ≡ Some bytes → v ≢ verdict.ReadFault
+        → other ≢ verdict.ReadFault
         → IsJust budget (I.left input.old) (I.left input.new) (I.faults input.old) (I.faults input.new) other → v ≡ other) }
     // The sink got the picture, or a front of one where it failed.
     ensures drawn { IfOk result (λ v. IsDrawn budget view.now (I.left input.old) (O.held out.old) (O.held out.new) v) }
@@ -148,9 +153,13 @@ fn draw_all<I: Source, O: Sink>(
     requires lines { (standing I.left reader.old).lines ≡ 0 }
     requires large { 100000 ≤ length buf.old }
     requires fits { (standing I.left reader.old).room ≤ 2 ^ 40 }
-    ensures just { IfOk result (λ v. IsJust (standing I.left reader.old).room (standing I.left reader.old).rest (I.left (input_of reader.new).now) (I.faults (input_of reader.old).now) (I.faults (input_of reader.new).now) v) }
-    ensures drawn { IfOk result (λ v. IsDrawn (standing I.left reader.old).room view.now (standing I.left reader.old).rest (O.held out.old) (O.held out.new) v) }
-    ensures cut_off { OnErr result (IsCutOff (standing I.left reader.old).room view.now (standing I.left reader.old).rest (O.held out.old) (O.held out.new)) }
+    ensures just { IfOk result (λ v. IsJust (standing I.left reader.old).room (standing I.left reader.old).rest (I.left
+        (input_of reader.new).now)
+        (I.faults (input_of reader.old).now) (I.faults (input_of reader.new).now) v) }
+    ensures drawn { IfOk result (λ v. IsDrawn (standing I.left reader.old).room view.now (standing I.left reader.old).rest
+        (O.held out.old) (O.held out.new) v) }
+    ensures cut_off { OnErr result (IsCutOff (standing I.left reader.old).room view.now (standing I.left reader.old).rest
+        (O.held out.old) (O.held out.new)) }
     ensures cause { HasCause (O.faults out.old) (O.faults out.new) result }
     ensures same_input { (input_of reader.new).ghost_name ≡ (input_of reader.old).ghost_name }
     ensures later { I.faults (input_of reader.old).now ≤ I.faults (input_of reader.new).now }

@@ -6,8 +6,8 @@ ghost use Rattle.larch_actions.specs.Layout.{IsLawful};
 ghost use Rattle.trace_picture.specs.Kept.{kept_of};
 ghost use Rattle.trace_picture.specs.Places.{is_open, height_of};
 ghost use Rattle.trace_picture.specs.Shapes.{with_number, line_of, clause_word};
-ghost use Rattle.trace_picture.specs.Bands.{closing, band_start, failing_text};
-ghost use Rattle.trace_picture.specs.Picture.{end_text, closing_if, failed_note};
+ghost use Rattle.trace_picture.specs.Bands.{closing, band_start};
+ghost use Rattle.trace_picture.specs.Picture.{end_text, closing_if, ending, failed_note, failed_ending};
 
 use crate::bands::{add_closing, add_failing, top_of};
 use crate::board::Board;
@@ -57,7 +57,8 @@ pub fn add_note_place(buf: &mut [u8], at: usize, layout: &Layout, view: &View, c
     requires lawful { IsLawful layout.now }
     requires few { count < 2 ^ 42 }
     requires room { at + 60 ≤ length buf.old }
-    ensures text { take result buf.new ≡ take at buf.old ++ with_number (codes "<text x='44' y='") (height_of layout.now view.now count + 14) }
+    ensures text { take result buf.new ≡ take at buf.old ++ with_number (codes "<text x='44' y='")
+        (height_of layout.now view.now count + 14) }
     ensures near { result ≤ at + 60 }
 {
     add_with_number(
@@ -73,7 +74,8 @@ pub fn add_last_tags(buf: &mut [u8], at: usize, layout: &Layout, view: &View, co
     requires lawful { IsLawful layout.now }
     requires few { count < 2 ^ 42 }
     requires room { at + 120 ≤ length buf.old }
-    ensures text { take result buf.new ≡ take at buf.old ++ (with_number (codes "</text>\n<style>:root{height:") (height_of layout.now view.now count + 24) ++ codes "px}</style>\n</svg>\n") }
+    ensures text { take result buf.new ≡ take at buf.old ++ (with_number (codes "</text>\n<style>:root{height:")
+        (height_of layout.now view.now count + 24) ++ codes "px}</style>\n</svg>\n") }
     ensures near { result ≤ at + 120 }
 {
     let at = add_with_number(
@@ -122,7 +124,7 @@ pub fn add_ending(
     requires few { count < 2 ^ 42 }
     requires short { length words.now ≤ 60 }
     requires room { at + 60000 ≤ length buf.old }
-    ensures text { take result buf.new ≡ take at buf.old ++ (closing_if layout.now view.now (kept_of board.now) count ++ end_text layout.now view.now count (with_number words.now count)) }
+    ensures text { take result buf.new ≡ take at buf.old ++ ending layout.now view.now (kept_of board.now) count words.now }
     ensures near { result ≤ at + 60000 }
 {
     let at = add_last_closing(buf, at, layout, view, board, count);
@@ -179,7 +181,7 @@ pub fn add_failed_ending(
     requires lawful { IsLawful layout.now }
     requires few { place < 2 ^ 41 }
     requires room { at + 62000 ≤ length buf.old }
-    ensures text { take result buf.new ≡ take at buf.old ++ (failing_text layout.now view.now (kept_of board.now) place e.now why ++ end_text layout.now view.now (place + 1) (failed_note place e.now why)) }
+    ensures text { take result buf.new ≡ take at buf.old ++ failed_ending layout.now view.now (kept_of board.now) place e.now why }
     ensures near { result ≤ at + 62000 }
 {
     let at = add_failing(buf, at, layout, view, board, place, e, why);
@@ -201,8 +203,10 @@ pub fn end_with<O: Sink>(
     requires few { count < 2 ^ 42 }
     requires short { length words.now ≤ 60 }
     requires room { at + 60000 ≤ length buf.old }
-    ensures ok { OnOk result (Appends (O.held out.old) (O.held out.new) (take at buf.old ++ (closing_if layout.now view.now (kept_of board.now) count ++ end_text layout.now view.now count (with_number words.now count)))) }
-    ensures err { OnErr result (AppendsFront (O.held out.old) (O.held out.new) (take at buf.old ++ (closing_if layout.now view.now (kept_of board.now) count ++ end_text layout.now view.now count (with_number words.now count)))) }
+    ensures ok { OnOk result (Appends (O.held out.old) (O.held out.new)
+        (take at buf.old ++ ending layout.now view.now (kept_of board.now) count words.now)) }
+    ensures err { OnErr result (AppendsFront (O.held out.old) (O.held out.new)
+        (take at buf.old ++ ending layout.now view.now (kept_of board.now) count words.now)) }
     ensures cause { HasCause (O.faults out.old) (O.faults out.new) result }
 {
     let end = add_ending(buf, at, layout, view, board, count, words);
@@ -224,8 +228,10 @@ pub fn end_failed<O: Sink>(
     requires lawful { IsLawful layout.now }
     requires few { place < 2 ^ 41 }
     requires room { at + 62000 ≤ length buf.old }
-    ensures ok { OnOk result (Appends (O.held out.old) (O.held out.new) (take at buf.old ++ (failing_text layout.now view.now (kept_of board.now) place e.now why ++ end_text layout.now view.now (place + 1) (failed_note place e.now why)))) }
-    ensures err { OnErr result (AppendsFront (O.held out.old) (O.held out.new) (take at buf.old ++ (failing_text layout.now view.now (kept_of board.now) place e.now why ++ end_text layout.now view.now (place + 1) (failed_note place e.now why)))) }
+    ensures ok { OnOk result (Appends (O.held out.old) (O.held out.new)
+        (take at buf.old ++ failed_ending layout.now view.now (kept_of board.now) place e.now why)) }
+    ensures err { OnErr result (AppendsFront (O.held out.old) (O.held out.new)
+        (take at buf.old ++ failed_ending layout.now view.now (kept_of board.now) place e.now why)) }
     ensures cause { HasCause (O.faults out.old) (O.faults out.new) result }
 {
     let end = add_failed_ending(buf, at, layout, view, board, place, e, why);
