@@ -1,64 +1,34 @@
--- What two words ask for, and what four ask for.
-use Rattle.std.proofs.Common.{◌≡◌, ◌⊎◌, inl, inr, ℕ, ◌^◌, ◌<◌, List, [], ◌∷◌, ◌++◌, Option, Some, None}
-use Rattle.std.specs.Prelude.{codes, decimal}
+-- What four words ask for.
+use Rattle.std.proofs.Common.{◌≡◌, inl, inr, ℕ, List, [], ◌∷◌, ◌++◌, length, get_or, sym, arith, Option, Some, None}
+use Rattle.std.specs.Prelude.{IfSome}
 use Rattle.trace_picture.specs.declared.view.View.{View}
-use Rattle.firefly_timeline.specs.Words.{bound_words, Asks, AsksFor, IsPair}
+use Rattle.firefly_timeline.specs.Words.{AsksFor, IsPair, view_between}
 
--- these words don't say a bound of this name
-abbrev pub IsNone : List ℕ → List ℕ → List ℕ → Type 0
-IsNone name a b = (n : ℕ) → a ≡ name → b ≡ decimal n → n < 2 ^ 64 → ⊥
+-- four words of which two say the first bound and two the second ask for what lies between
+abbrev IsUp : List ℕ → List ℕ → List ℕ → List ℕ → View → Type 0
+IsUp a b c d v = (k n : ℕ) × IsPair (a ∷ b ∷ []) (c ∷ d ∷ []) k n × (v ≡ view_between (Some k) (Some n))
 
-says : (name a b : List ℕ) (n : ℕ) → IsNone name a b → n < 2 ^ 64 → a ∷ b ∷ [] ≡ name ∷ decimal n ∷ [] → ⊥
-says name a b n silent small e = let first : a ≡ name = cc in let second : b ≡ decimal n = cc in silent n first second small
+pub up_asks : (a b c d : List ℕ) (v : View) → IsUp a b c d v → AsksFor (a ∷ b ∷ c ∷ d ∷ []) v
+up_asks a b c d v (k, n, p, e) = (Some k, Some n, record { spelt = inl (λ i. p.0 i ++ p.1 i); first = p.2; last = p.3 }, e)
 
--- two words that say no bound ask for nothing
-pub one_none : (a b : List ℕ) → IsNone (codes "--from") a b → IsNone (codes "--to") a b → (v : View) → AsksFor (a ∷ b ∷ []) v → ⊥
-one_none a b f t v (None, None, x, _) = by x.spelt
-  where
-    by : (a ∷ b ∷ [] ≡ []) ⊎ (a ∷ b ∷ [] ≡ []) → ⊥
-    by (inl e) = cc
-    by (inr e) = cc
-one_none a b f t v (Some k, None, x, _) = by x.spelt
-  where
-    by : (a ∷ b ∷ [] ≡ codes "--from" ∷ decimal k ∷ []) ⊎ (a ∷ b ∷ [] ≡ codes "--from" ∷ decimal k ∷ []) → ⊥
-    by (inl e) = says (codes "--from") a b k f x.first e
-    by (inr e) = says (codes "--from") a b k f x.first e
-one_none a b f t v (None, Some n, x, _) = by x.spelt
-  where
-    by : (a ∷ b ∷ [] ≡ codes "--to" ∷ decimal n ∷ []) ⊎ (a ∷ b ∷ [] ≡ codes "--to" ∷ decimal n ∷ []) → ⊥
-    by (inl e) = says (codes "--to") a b n t x.last e
-    by (inr e) = says (codes "--to") a b n t x.last e
-one_none a b f t v (Some k, Some n, x, _) = by x.spelt
-  where
-    by : (a ∷ b ∷ [] ≡ codes "--from" ∷ decimal k ∷ codes "--to" ∷ decimal n ∷ []) ⊎ (a ∷ b ∷ [] ≡ codes "--to" ∷ decimal n ∷ codes "--from" ∷ decimal k ∷ []) → ⊥
-    by (inl e) = cc
-    by (inr e) = cc
+pub down_asks : (a b c d : List ℕ) (v : View) → IsUp c d a b v → AsksFor (a ∷ b ∷ c ∷ d ∷ []) v
+down_asks a b c d v (k, n, p, e) = (Some k, Some n, record { spelt = inr (λ i. p.1 i ++ p.0 i); first = p.2; last = p.3 }, e)
 
--- four words that are no pair of bounds ask for nothing
-pub two_none : (a b c d : List ℕ) → ((k n : ℕ) → IsPair (a ∷ b ∷ []) (c ∷ d ∷ []) k n → ⊥) → ((k n : ℕ) → IsPair (c ∷ d ∷ []) (a ∷ b ∷ []) k n → ⊥) → (v : View) → AsksFor (a ∷ b ∷ c ∷ d ∷ []) v → ⊥
-two_none a b c d f t v (None, None, x, _) = by x.spelt
-  where
-    by : (a ∷ b ∷ c ∷ d ∷ [] ≡ []) ⊎ (a ∷ b ∷ c ∷ d ∷ [] ≡ []) → ⊥
-    by (inl e) = cc
-    by (inr e) = cc
-two_none a b c d f t v (Some k, None, x, _) = by x.spelt
-  where
-    by : (a ∷ b ∷ c ∷ d ∷ [] ≡ codes "--from" ∷ decimal k ∷ []) ⊎ (a ∷ b ∷ c ∷ d ∷ [] ≡ codes "--from" ∷ decimal k ∷ []) → ⊥
-    by (inl e) = cc
-    by (inr e) = cc
-two_none a b c d f t v (None, Some n, x, _) = by x.spelt
-  where
-    by : (a ∷ b ∷ c ∷ d ∷ [] ≡ codes "--to" ∷ decimal n ∷ []) ⊎ (a ∷ b ∷ c ∷ d ∷ [] ≡ codes "--to" ∷ decimal n ∷ []) → ⊥
-    by (inl e) = cc
-    by (inr e) = cc
-two_none a b c d f t v (Some k, Some n, x, _) = by x.spelt
-  where
-    by : (a ∷ b ∷ c ∷ d ∷ [] ≡ codes "--from" ∷ decimal k ∷ codes "--to" ∷ decimal n ∷ []) ⊎ (a ∷ b ∷ c ∷ d ∷ [] ≡ codes "--to" ∷ decimal n ∷ codes "--from" ∷ decimal k ∷ []) → ⊥
-    by (inl e) =
-        let low : a ∷ b ∷ [] ≡ codes "--from" ∷ decimal k ∷ [] = cc in
-        let high : c ∷ d ∷ [] ≡ codes "--to" ∷ decimal n ∷ [] = cc in
-        f k n (low, high, x.first, x.last)
-    by (inr e) =
-        let high : a ∷ b ∷ [] ≡ codes "--to" ∷ decimal n ∷ [] = cc in
-        let low : c ∷ d ∷ [] ≡ codes "--from" ∷ decimal k ∷ [] = cc in
-        t k n (low, high, x.first, x.last)
+pub down_some : (a b c d : List ℕ) (r : Option View) → IfSome r (IsUp c d a b) → IfSome r (AsksFor (a ∷ b ∷ c ∷ d ∷ []))
+down_some a b c d None h = tt
+down_some a b c d (Some v) h = down_asks a b c d v h
+
+-- a list of two items, and one of four
+pub two_items : {X : Type 0} (xs : List X) (a b : X) → length xs ≡ 2 → a ≡ get_or xs 0 a → b ≡ get_or xs 1 b → xs ≡ a ∷ b ∷ []
+two_items [] a b e p q = absurd (omega (arith, e))
+two_items (x ∷ []) a b e p q = absurd (omega (arith, e))
+two_items (x ∷ y ∷ []) a b e p q = λ i. sym p i ∷ sym q i ∷ []
+two_items (x ∷ y ∷ z ∷ xs) a b e p q = absurd (omega (arith, e))
+
+pub four_items : {X : Type 0} (xs : List X) (a b c d : X) → length xs ≡ 4 → a ≡ get_or xs 0 a → b ≡ get_or xs 1 b → c ≡ get_or xs 2 c → d ≡ get_or xs 3 d → xs ≡ a ∷ b ∷ c ∷ d ∷ []
+four_items [] a b c d e p q r s = absurd (omega (arith, e))
+four_items (x ∷ []) a b c d e p q r s = absurd (omega (arith, e))
+four_items (x ∷ y ∷ []) a b c d e p q r s = absurd (omega (arith, e))
+four_items (x ∷ y ∷ z ∷ []) a b c d e p q r s = absurd (omega (arith, e))
+four_items (x ∷ y ∷ z ∷ w ∷ []) a b c d e p q r s = λ i. sym p i ∷ sym q i ∷ sym r i ∷ sym s i ∷ []
+four_items (x ∷ y ∷ z ∷ w ∷ v ∷ xs) a b c d e p q r s = absurd (omega (arith, e))

@@ -6,23 +6,35 @@ mod words;
 
 use command::{Status, number, say, timeline};
 use firefly_outside::{ReaderSource, WriterSink};
+use std::alloc::AllocError;
 use std::env;
+use std::io::ErrorKind;
 use std::process::ExitCode;
 use words::read_view;
 
-fn main(rt: HostRuntime) -> ExitCode {
+// The words after the program's name. Words that can't be taken are none of the command line's.
+fn take_words(rt: &HostRuntime) -> Result<Vec<String>, AllocError> {
     let mut words = Vec::new(rt.alloc());
-    // Words that can't be taken are none of the command line's.
-    if let Ok(args) = env::args(&rt) {
-        for word in args.skip(1) {
-            if words.push(word).is_err() {
-                return ExitCode::from(number(&Status::Memory));
+    match env::args(rt) {
+        Ok(args) => {
+            for word in args.skip(1) {
+                words.push(word)?;
             }
         }
+        Err(fault) if fault.kind() == ErrorKind::OutOfMemory => return Err(AllocError),
+        Err(_) => words.push(String::new(rt.alloc()))?,
     }
+    Ok(words)
+}
+
+fn main(rt: HostRuntime) -> ExitCode {
+    let mut notes = WriterSink::new(rt.stderr());
+    let Ok(words) = take_words(&rt) else {
+        say(&mut notes, b"firefly: out of memory\n");
+        return ExitCode::from(number(&Status::Memory));
+    };
     let mut input = ReaderSource::new(rt.stdin());
     let mut out = WriterSink::new(rt.stdout());
-    let mut notes = WriterSink::new(rt.stderr());
     let status = match read_view(&words) {
         Some(view) => timeline(&view, &mut input, &mut out, &mut notes),
         None => {
