@@ -10,6 +10,7 @@ use larch_actions::ThreadId;
 use trace_core::add;
 
 // Adds a point of a line.
+#[inline(always)]
 fn add_point(buf: &mut [u8], at: usize, word: &[u8], x: u64, y: u64) -> usize
     requires { at + length word.now + 50 ≤ length buf.old }
     ensures text { take result buf.new ≡ take at buf.old ++ point_text word.now x y }

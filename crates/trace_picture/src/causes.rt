@@ -176,6 +176,7 @@ impl Causes {
     }
 
     // What the event makes of all who stand in the condition, but for those left.
+    #[inline(never)]
     fn free(&mut self, cond: u32, left: &ThreadSet, by: Origin)
         ensures { cause_of self.new ≡ (λ t. taken cond (in_set left.now t) by (cause_of self.old t)) }
     {
@@ -188,6 +189,7 @@ impl Causes {
     }
 
     /// Notes the move, by this event.
+    #[inline(always)]
     pub fn note(&mut self, change: Move, by: Origin)
         requires { IsSmall change }
         ensures { cause_of self.new ≡ moved change by (cause_of self.old) }

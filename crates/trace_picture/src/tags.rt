@@ -6,6 +6,8 @@ use larch_actions::Event;
 use trace_core::{add, add_event, add_number};
 
 /// Adds words and a number.
+// Where it is called the words are known, so they are stored and not copied.
+#[inline(always)]
 pub fn add_with_number(buf: &mut [u8], at: usize, word: &[u8], n: u64) -> usize
     requires { at + length word.now + 20 ≤ length buf.old }
     ensures text { take result buf.new ≡ take at buf.old ++ with_number word.now n }
@@ -16,6 +18,7 @@ pub fn add_with_number(buf: &mut [u8], at: usize, word: &[u8], n: u64) -> usize
 }
 
 /// Adds a place.
+#[inline(always)]
 #[tactic(auto, unfolding(crate::specs::Shapes::place_text))]
 pub fn add_place(buf: &mut [u8], at: usize, x: u64, y: u64) -> usize
     requires { at + 60 ≤ length buf.old }
@@ -27,6 +30,7 @@ pub fn add_place(buf: &mut [u8], at: usize, x: u64, y: u64) -> usize
 }
 
 /// Adds a place and a width.
+#[inline(always)]
 #[tactic(auto, unfolding(crate::specs::Shapes::box_text))]
 pub fn add_box(buf: &mut [u8], at: usize, x: u64, y: u64, width: u64) -> usize
     requires { at + 100 ≤ length buf.old }
