@@ -28,7 +28,8 @@ pub fn add_number(buf: &mut [u8], at: usize, n: u64) -> usize
     add(buf, at, buffer.format(n).as_bytes())
 }
 
-// Adds a word and a number.
+// Adds a word and a number. Where it is called the word is known, so it is stored and not copied.
+#[inline(always)]
 fn add_named(buf: &mut [u8], at: usize, word: &[u8], n: u32) -> usize
     requires word { length word.now ≤ 20 }
     requires room { at + 40 ≤ length buf.old }
