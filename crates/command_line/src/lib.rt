@@ -12,6 +12,3 @@ mod options;
 
 pub use command::{Command, IndexOptions, WordsFault, read_words};
 pub use number::read_number;
-
-#[cfg(test)]
-mod tests;

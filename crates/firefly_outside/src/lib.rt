@@ -23,8 +23,3 @@ pub use source::{Failed, MemSource, Source};
 pub use text::Text;
 pub use tree::{Entry, FileBytes, Kind, Tree, TreeError};
 pub use window::{WINDOW_ROOM, Window};
-
-#[cfg(test)]
-mod tests;
-#[cfg(test)]
-mod tree_tests;

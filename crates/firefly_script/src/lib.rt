@@ -19,6 +19,3 @@ pub use laws::one_answer;
 pub use line::{Line, Operation};
 pub use read::read_script;
 pub use script::{Script, ScriptFault};
-
-#[cfg(test)]
-mod tests;

@@ -1,4 +1,5 @@
 //! Tests of the program: its answers on traces, scripts and trees in memory, compared with ones written down by hand.
+//! With them the tests of the reader of scripts.
 #![tactic(auto)]
 
 #[cfg(test)]
@@ -13,6 +14,8 @@ mod index_limits;
 mod index_texts;
 #[cfg(test)]
 mod run_texts;
+#[cfg(test)]
+mod script_reading;
 #[cfg(test)]
 mod statuses;
 #[cfg(test)]

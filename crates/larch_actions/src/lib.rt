@@ -6,8 +6,6 @@
 
 mod event;
 mod state;
-#[cfg(test)]
-mod tests;
 mod thread_set;
 
 pub use event::{Action, Broken, CondId, Event, Layout, MutexId, Pending, SemId, ThreadId};

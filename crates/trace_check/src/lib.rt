@@ -6,8 +6,6 @@
 
 mod checker;
 mod laws;
-#[cfg(test)]
-mod tests;
 
 pub use checker::{Summary, Verdict, check};
 pub use laws::one_verdict;

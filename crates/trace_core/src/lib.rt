@@ -25,6 +25,3 @@ pub use compose::{add, add_event, add_number};
 pub use intake::TextFault;
 pub use print::{print_end, print_event, print_head, print_value};
 pub use reader::EventReader;
-
-#[cfg(test)]
-mod tests;

@@ -18,6 +18,3 @@ pub use answer::WalkAnswer;
 pub use closing::close_walk;
 pub use listing::{Listing, list_dir};
 pub use walked::Walked;
-
-#[cfg(test)]
-mod tests;

@@ -25,6 +25,3 @@ pub use batch::Batch;
 pub use merging::merge;
 pub use of_file::piece_of;
 pub use piece::{Found, Piece};
-
-#[cfg(test)]
-mod tests;

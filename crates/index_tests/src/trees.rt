@@ -1,5 +1,5 @@
 //! Trees in memory and of the system.
-use crate::{DirTree, Kind, MemTree, Tree, TreeError};
+use firefly_outside::{DirTree, Kind, MemTree, Tree, TreeError};
 use std::test::Fail;
 
 fn put_dir(tree: &mut MemTree, path: &str) -> Result<(), Fail> {

@@ -1,5 +1,5 @@
 //! Sources and sinks that end, fill up or fail in mid-stream.
-use crate::{
+use firefly_outside::{
     Failed, MemSink, MemSource, ReaderSource, Sink, SinkFault, Source, WriterSink, put_all,
 };
 use std::io::{Error, ErrorKind, Read, Write};

@@ -1,10 +1,10 @@
 //! The checker over sources that stop, fail or give little at a time.
 ghost use Rattle.std.specs.Prelude.{◌<◌, length};
 
-use crate::{Summary, Verdict, check};
 use firefly_outside::{Failed, MemSource, Source};
 use larch_actions::Broken;
 use std::test::Fail;
+use trace_check::{Summary, Verdict, check};
 
 const HEAD: &[u8] = b"firefly-trace 1\nthreads 2 mutexes 1 conditions 0 semaphores 1\n";
 

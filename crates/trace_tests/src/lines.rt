@@ -4,11 +4,11 @@ ghost use Rattle.trace_core.specs.declared.progress.Phase.TheVariants as phase;
 ghost use Rattle.firefly_outside.specs.Memory.{source_faults};
 ghost use Rattle.trace_core.specs.Reader.{standing};
 
-use crate::laws::print_whole;
-use crate::{EventReader, TextFault, print_end, print_event, print_head, print_value};
 use firefly_outside::{Failed, MemSink, MemSource, SinkFault, Source};
 use larch_actions::{Action, CondId, Event, Layout, MutexId, SemId, ThreadId, ThreadSet};
 use std::test::Fail;
+use trace_core::laws::print_whole;
+use trace_core::{EventReader, TextFault, print_end, print_event, print_head, print_value};
 
 const HEAD: &[u8] = b"firefly-trace 1\nthreads 12 mutexes 2 conditions 1 semaphores 1\n";
 

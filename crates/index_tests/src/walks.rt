@@ -1,10 +1,10 @@
 //! Small trees, walked whole, stopped and with a fault.
 ghost use Rattle.std.specs.Prelude.{◌≤◌, IfSome};
 
-use crate::{WalkAnswer, Walked, close_walk};
 use firefly_outside::{MemTree, Tree};
 use std::alloc::{AllocError, Global};
 use std::test::Fail;
+use walker::{WalkAnswer, Walked, close_walk};
 use word_index::Piece;
 
 fn put_dir(tree: &mut MemTree, path: &str) -> Result<(), Fail> {

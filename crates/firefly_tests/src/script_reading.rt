@@ -1,7 +1,5 @@
-use crate::line::{Line, Operation};
-use crate::read::read_script;
-use crate::script::{Script, ScriptFault};
 use firefly_outside::MemSource;
+use firefly_script::{Line, Operation, Script, ScriptFault, read_script};
 use larch_actions::{MutexId, SemId, ThreadId};
 use std::alloc::{AllocError, Global};
 use std::test::Fail;

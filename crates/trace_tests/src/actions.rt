@@ -1,5 +1,5 @@
 //! Runs of the state by hand.
-use crate::{
+use larch_actions::{
     Action, Broken, CondId, Event, Layout, MutexId, SemId, State, ThreadId, ThreadSet, Totals,
 };
 use std::test::Fail;

@@ -1,5 +1,5 @@
 //! Words, and what is made of them.
-use crate::{Command, IndexOptions, WordsFault, read_words};
+use command_line::{Command, IndexOptions, WordsFault, read_words};
 use std::alloc::{AllocError, Global};
 
 fn strings(alloc: Global, words: &[&str]) -> Result<Vec<String>, AllocError> {

@@ -1,8 +1,8 @@
 //! Pieces of small files.
-use crate::{Piece, merge, piece_of};
 use firefly_outside::FileBytes;
 use std::alloc::Global;
 use std::test::Fail;
+use word_index::{Piece, merge, piece_of};
 
 // The piece of a file with these bytes.
 fn piece(alloc: Global, path: &str, bytes: &[u8]) -> Result<Piece, Fail> {
