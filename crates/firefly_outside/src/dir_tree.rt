@@ -129,10 +129,29 @@ fn read_bytes<R: Files + AllocGlobal>(
         Ok(file) => file,
         Err(error) => return Err(error_of(error)),
     };
-    let Ok(mut bytes) = Vec::with_capacity(alloc, room_for(length)) else {
+    read_open(alloc, file, length)
+}
+
+// Reads an open file that says to have so many bytes. Most files are read by one call.
+fn read_open<F: Read + Drop>(alloc: Global, file: F, length: u64) -> Result<FileBytes, TreeError>
+    ensures { IfOk result IsWithin }
+{
+    let mut file = file;
+    let Ok(mut bytes) = vec![in alloc; 0u8; room_for(length)] else {
         return Err(TreeError::Memory);
     };
-    match file.take(MOST_BYTES as u64 + 1).read_to_end(&mut bytes) {
+    let first = match file.read(&mut bytes) {
+        Ok(first) => first,
+        Err(error) if error.kind() == ErrorKind::Interrupted => 0,
+        Err(error) => return Err(error_of(error)),
+    };
+    bytes.truncate(first);
+    // It gave what it says to have, and no more where more was asked for, so it has ended.
+    if first > 0 && first as u64 == length {
+        return Ok(within(alloc, bytes));
+    }
+    let rest = (MOST_BYTES as u64 + 1).saturating_sub(first as u64);
+    match file.take(rest).read_to_end(&mut bytes) {
         Ok(_) => Ok(within(alloc, bytes)),
         Err(error) => Err(error_of(error)),
     }
