@@ -6,10 +6,20 @@ use crate::blocks::{end_part, part_of};
 use std::alloc::{AllocError, Global};
 use std::marker::Model;
 
+#[inline(always)]
 fn lower_byte(b: u8) -> u8
     ensures { result ≡ lower b }
 {
     if b >= 65 && b <= 90 { b + 32 } else { b }
+}
+
+// Puts the letters into lower case.
+fn make_lower(text: &mut [u8])
+    ensures { text.new ≡ map lower text.old }
+{
+    for b in text.iter_mut() {
+        *b = lower_byte(*b);
+    }
 }
 
 // Adds the bytes with their letters in lower case.
@@ -17,9 +27,9 @@ fn add_lower(text: &mut Vec<u8>, s: &[u8]) -> Result<(), AllocError>
     ensures ok { OnOk result (text.new.items ≡ text.old.items ++ map lower s.now) }
     ensures kept { take (length text.old.items) text.new.items ≡ text.old.items }
 {
-    for b in s {
-        text.push(lower_byte(*b))?;
-    }
+    let start = text.len();
+    text.extend_from_slice(s)?;
+    make_lower(&mut text[start..]);
     Ok(())
 }
 
