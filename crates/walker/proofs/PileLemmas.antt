@@ -1,5 +1,5 @@
 -- Pieces on a pile.
-use Rattle.std.proofs.Common.{◌≡◌, ◌∙◌, ℕ, ◌-◌, List, [], ◌∷◌, ◌++◌, map, sym, ap, subst, refl, arith, inl, inr, Contains, AllPairs, take}
+use Rattle.std.proofs.Common.{◌≡◌, ◌∙◌, ℕ, ◌-◌, List, [], ◌∷◌, ◌++◌, map, sym, ap, subst, refl, arith, inl, inr, Contains, AllPairs, take, length}
 use Rattle.std.proofs.lemmas.List.{append_assoc, append-nil, map-append}
 use Rattle.std.proofs.lemmas.List.Elements.{Contains-append_cases, Contains-append_left, Contains-append_right}
 use Rattle.firefly_outside.specs.Trees.{Path}
@@ -95,3 +95,12 @@ first_merged first pieces a b c none union x h meet = elim (Contains-append_case
 -- a list that gives no last element is empty
 pub nothing_left : (xs ys : List Index) (n : ℕ) → xs ≡ ys ++ [] → n ≡ 0 → ys ≡ take (n - 1) xs → xs ≡ []
 nothing_left xs ys n is none rest = is ∙ append-nil ys ∙ rest ∙ ap (λ m. take (m - 1) xs) none
+
+-- files whose index covers no path are none
+none_in : {X : Type 0} (xs : List X) (x : X) → length xs ≡ 0 → Contains xs x → ⊥
+none_in [] x none h = Contains-nil x h
+none_in (y ∷ ys) x none h = absurd (omega arith)
+
+pub no_files : (fs : List File) (index : Index) → length index.paths ≡ 0 → IsIndexOf fs index → fs ≡ []
+no_files [] index none is = refl
+no_files (f ∷ fs) index none is = absurd (none_in index.paths f.path none ((is.paths f.path).1 (Contains-head f.path (map (λ (g : File). g.path) fs))))

@@ -203,7 +203,21 @@ fn whole_of(first: Piece, pile: Vec<Piece>) -> Result<Piece, AllocError>
             Err(_) => return Err(AllocError),
         };
     }
-    match merge(first, top) {
+    match merge_first(first, top) {
+        Ok(piece) => Ok(piece),
+        Err(_) => Err(AllocError),
+    }
+}
+
+// Merges the piece that the walk began with. An empty one, which adds nothing, is dropped.
+fn merge_first(first: Piece, rest: Piece) -> Result<Piece, AllocError>
+    requires { ¬ Meet first rest }
+    ensures { IfOk result (λ p. (fs gs : List File) → IsIndexOf fs first → IsIndexOf gs rest → IsIndexOf (fs ++ gs) p) }
+{
+    if first.files() == 0 {
+        return Ok(rest);
+    }
+    match merge(first, rest) {
         Ok(piece) => Ok(piece),
         Err(_) => Err(AllocError),
     }

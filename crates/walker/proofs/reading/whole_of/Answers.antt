@@ -26,8 +26,8 @@ loop-below-preserved c = record {
       (subst (λ (l : List Index). IsPileOf (l ++ c.loop-below.top ∷ []) gs) c.in-Some-pop.ensures.items (c.loop-below.invariant.index gs pile));
 }
 
-pub merge-requires-2 : goal.merge-requires-2
-merge-requires-2 c = c.loop-below.invariant.first c.loop-below.top (Contains-append_right c.loop-below.pile.items (c.loop-below.top ∷ []) c.loop-below.top (Contains-head c.loop-below.top []))
+pub merge_first-requires : goal.merge_first-requires
+merge_first-requires c = c.loop-below.invariant.first c.loop-below.top (Contains-append_right c.loop-below.pile.items (c.loop-below.top ∷ []) c.loop-below.top (Contains-head c.loop-below.top []))
 
-pub returns-in-Ok-merge : goal.returns-in-Ok-merge
-returns-in-Ok-merge c = λ fs gs index pile. c.in-Ok-merge.ensures.index fs gs index (pile_one c.loop-below.top gs (subst (λ (l : List Index). IsPileOf (l ++ c.loop-below.top ∷ []) gs) (nothing_left _ _ _ c.in_default-pop.ensures.items c.in_default-pop.ensures.cases.0 c.in_default-pop.ensures.rest) (c.loop-below.invariant.index gs pile)))
+pub returns-in-Ok-merge_first : goal.returns-in-Ok-merge_first
+returns-in-Ok-merge_first c = λ fs gs index pile. c.in-Ok-merge_first.ensures fs gs index (pile_one c.loop-below.top gs (subst (λ (l : List Index). IsPileOf (l ++ c.loop-below.top ∷ []) gs) (nothing_left _ _ _ c.in_default-pop.ensures.items c.in_default-pop.ensures.cases.0 c.in_default-pop.ensures.rest) (c.loop-below.invariant.index gs pile)))
