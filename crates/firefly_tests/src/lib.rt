@@ -1,9 +1,11 @@
 //! Tests of the program: its answers on traces, scripts and trees in memory, compared with ones written down by hand.
-//! With them the tests of the reader of scripts.
+//! With them the tests of the reader of scripts, and of crews of threads whose jobs wait for one another.
 #![tactic(auto)]
 
 #[cfg(test)]
 mod answers;
+#[cfg(test)]
+mod crew_meetings;
 #[cfg(test)]
 mod crowd;
 #[cfg(test)]

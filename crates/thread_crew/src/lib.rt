@@ -17,6 +17,3 @@ mod task;
 pub use crews::run_crew;
 pub use outcome::{Finished, NotRun};
 pub use task::{Call, Task};
-
-#[cfg(test)]
-mod tests;

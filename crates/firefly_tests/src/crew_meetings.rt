@@ -1,12 +1,12 @@
 //! Crews whose jobs wait for one another.
 ghost use Rattle.std.specs.Prelude.{◌<◌};
 
-use crate::{Call, Finished, NotRun, run_crew};
 use std::alloc::{AllocError, Global};
 use std::sync::Wait;
 use std::sync::atomic::{AtomicBool, Ordering};
 use std::test::Fail;
 use std::thread::Threads;
+use thread_crew::{Call, Finished, NotRun, run_crew};
 
 /// Two jobs wait here for each other, for at most 50,000,000 turns.
 #[derive(Drop)]
