@@ -6,7 +6,7 @@ use Rattle.std.specs.Prelude.{decimal}
 use Rattle.larch_actions.specs.declared.event.Layout.{Layout}
 use Rattle.larch_actions.specs.Layout.{IsLawful}
 use Rattle.firefly_script.specs.declared.table.Kind.{Kind}
-use Rattle.firefly_script.specs.declared.table.Kind.TheVariants.{Mutex, Semaphore, Amount}
+use Rattle.firefly_script.specs.declared.table.Kind.TheVariants.{Mutex, Condition, Semaphore, Thread, Amount, Count}
 use Rattle.firefly_script.specs.Faults.{Lacks}
 use Rattle.firefly_script.specs.Parsing.{IsBehind, AreParted, Are}
 use Rattle.firefly_script.specs.Table.{letter, IsWithin, AreWithin, operand_text, operands_text}
@@ -14,13 +14,19 @@ use Rattle.firefly_script.proofs.Pieces.{lacks_append, lacks_decimal, decimal_sh
 
 letter_lacks : (c : ℕ) (k : Kind) → c < 48 → Lacks c (letter k)
 letter_lacks c Mutex low = (λ e. omega arith, tt)
+letter_lacks c Condition low = (λ e. omega arith, tt)
 letter_lacks c Semaphore low = (λ e. omega arith, tt)
+letter_lacks c Thread low = (λ e. omega arith, tt)
 letter_lacks c Amount low = tt
+letter_lacks c Count low = tt
 
 letter_short : (k : Kind) → length (letter k) ≤ 1
 letter_short Mutex = omega arith
+letter_short Condition = omega arith
 letter_short Semaphore = omega arith
+letter_short Thread = omega arith
 letter_short Amount = omega arith
+letter_short Count = omega arith
 
 pub operands_behind : (ks : List Kind) (ns : List ℕ) → IsBehind (operands_text ks ns)
 operands_behind [] ns = tt
@@ -40,11 +46,21 @@ part_same (x ∷ xs) (y ∷ ys) a b p q f g e =
     let ih = part_same xs ys a b p.1 q.1 f g tail in
     (let same = ih.0 in cc, ih.1)
 
+-- of three numbers at most two are taken
+take_two : (ks : List Kind) (a b e : ℕ) → length ks ≤ 2 → take (length ks) (a ∷ b ∷ e ∷ []) ≡ take (length ks) (a ∷ b ∷ [])
+take_two [] a b e few = refl
+take_two (i ∷ []) a b e few = refl
+take_two (i ∷ j ∷ []) a b e few = refl
+take_two (i ∷ j ∷ k ∷ ks) a b e few = absurd (omega arith)
+
 module _ (l : Layout) (ok : IsLawful l) where
   within_fits : (k : Kind) (n : ℕ) → IsWithin l k n → n < 2 ^ 64
   within_fits Mutex n h = omega (arith, ok.mutexes)
+  within_fits Condition n h = omega (arith, ok.conditions)
   within_fits Semaphore n h = omega (arith, ok.semaphores)
+  within_fits Thread n h = omega (arith, ok.threads)
   within_fits Amount n h = omega arith
+  within_fits Count n h = omega arith
 
   pub operand_lacks : (c : ℕ) (k : Kind) (n : ℕ) → c < 48 → IsWithin l k n → Lacks c (operand_text k n)
   operand_lacks c k n low h = lacks_append c (letter k) (decimal n) (letter_lacks c k low) (lacks_decimal c n low (within_fits k n h))
@@ -96,3 +112,19 @@ module _ (l : Layout) (ok : IsLawful l) where
       let same = part_same front (operand_text k n) behind (operands_text ks ns) p.bare (operand_lacks 32 k n (omega arith) a.0.0) p.from_space (operands_behind ks ns) (sym p.text ∙ rest ∙ tail) in
       let P : List Kind → Type 0 = λ q. Are l q behind ns in
       (n, ns, a.0.0, same.0, subst P (sym kinds) (a.0.1, same.1))
+
+  -- a number before these others: what stands there is all of them
+  pub one_more : (ks : List Kind) (d : Kind) (bytes front behind : List ℕ) (n a b e : ℕ) → 1 ≤ length ks → length ks ≤ 3 → 1 ≤ length bytes → get_or bytes 0 0 ≡ 32 → AreParted (take (length bytes - 1) (drop 1 bytes)) front behind
+      → IsWithin l (get_or ks 0 d) n → front ≡ operand_text (get_or ks 0 d) n → Are l (take (length ks - 1) (drop 1 ks)) behind (take (length (take (length ks - 1) (drop 1 ks))) (a ∷ b ∷ e ∷ [])) → Are l ks bytes (take (length ks) (n ∷ a ∷ b ∷ []))
+  one_more [] d bytes front behind n a b e some few any is p within same others = absurd (omega arith)
+  one_more (k ∷ ks) d [] front behind n a b e some few any is p within same others = absurd (omega arith)
+  one_more (k ∷ ks) d (c ∷ bytes) front behind n a b e some few any is p within same others =
+      let rest : take (length (c ∷ bytes) - 1) bytes ≡ bytes = take_all _ bytes (omega arith) in
+      let kinds : take (length (k ∷ ks) - 1) ks ≡ ks = take_all _ ks (omega arith) in
+      let P : List Kind → Type 0 = λ q. Are l q behind (take (length q) (a ∷ b ∷ e ∷ [])) in
+      let o = subst P kinds others in
+      let short = take_two ks a b e (omega arith) in
+      let Q : List ℕ → Type 0 = λ ns. Are l ks behind ns in
+      let r = subst Q short o in
+      let text : bytes ≡ operand_text k n ++ operands_text ks (take (length ks) (a ∷ b ∷ [])) = sym rest ∙ p.text ∙ cc in
+      ((within, r.0), cc)

@@ -4,7 +4,7 @@ use Rattle.std.specs.Prelude.{codes}
 use Rattle.std.specs.Str.{bytes_eq}
 use Rattle.larch_actions.specs.declared.event.Layout.{Layout}
 use Rattle.firefly_script.specs.declared.line.Operation.{Operation}
-use Rattle.firefly_script.specs.declared.line.Operation.TheVariants.{Acquire, Release, P, V, Add}
+use Rattle.firefly_script.specs.declared.line.Operation.TheVariants.{Acquire, Release, Wait, AlertWait, Signal, Broadcast, P, V, Alert, TestAlert, AlertP, Add, Until, AlertUntil}
 use Rattle.firefly_script.specs.declared.table.Word.{Word}
 use Rattle.firefly_script.specs.declared.table.Word.TheVariants as word
 use Rattle.firefly_script.specs.declared.table.Use.{Use}
@@ -17,38 +17,65 @@ use Rattle.firefly_script.specs.Text.{operation_text}
 use Rattle.firefly_script.proofs.Operands.{part_same, operands_behind}
 use Rattle.firefly_script.proofs.Pieces.{is_lacking, lacks_from}
 
--- a word has no space and no newline and is short, and at most two things stand behind it
+-- a word has no space and no newline and is short, and at most three things stand behind it
 pub record IsFit (w : Word) : Type 0 where
   pub bare : Lacks 32 (word_text w)
   pub flat : Lacks 10 (word_text w)
   pub short : length (word_text w) ≤ 20
-  pub few : length (kinds_of w) ≤ 2
+  pub few : length (kinds_of w) ≤ 3
 
-fit : (w : Word) → is_lacking 32 (word_text w) ≡ true → is_lacking 10 (word_text w) ≡ true → length (word_text w) ≤ 20 → length (kinds_of w) ≤ 2 → IsFit w
+fit : (w : Word) → is_lacking 32 (word_text w) ≡ true → is_lacking 10 (word_text w) ≡ true → length (word_text w) ≤ 20 → length (kinds_of w) ≤ 3 → IsFit w
 fit w b f short few = record { bare = lacks_from 32 (word_text w) b; flat = lacks_from 10 (word_text w) f; short = short; few = few }
 
 pub fits : (w : Word) → IsFit w
 fits word.Acquire = fit word.Acquire refl refl (omega arith) (omega arith)
 fits word.Release = fit word.Release refl refl (omega arith) (omega arith)
+fits word.Wait = fit word.Wait refl refl (omega arith) (omega arith)
+fits word.AlertWait = fit word.AlertWait refl refl (omega arith) (omega arith)
+fits word.Signal = fit word.Signal refl refl (omega arith) (omega arith)
+fits word.Broadcast = fit word.Broadcast refl refl (omega arith) (omega arith)
 fits word.P = fit word.P refl refl (omega arith) (omega arith)
 fits word.V = fit word.V refl refl (omega arith) (omega arith)
+fits word.Alert = fit word.Alert refl refl (omega arith) (omega arith)
+fits word.TestAlert = fit word.TestAlert refl refl (omega arith) (omega arith)
+fits word.AlertP = fit word.AlertP refl refl (omega arith) (omega arith)
 fits word.Add = fit word.Add refl refl (omega arith) (omega arith)
+fits word.Until = fit word.Until refl refl (omega arith) (omega arith)
+fits word.AlertUntil = fit word.AlertUntil refl refl (omega arith) (omega arith)
 
 -- the word with this text
 abbrev word_from : List ℕ → Word
 word_from bytes =
     cond (bytes_eq bytes (codes "acquire")) word.Acquire
     (cond (bytes_eq bytes (codes "release")) word.Release
+    (cond (bytes_eq bytes (codes "wait")) word.Wait
+    (cond (bytes_eq bytes (codes "alert-wait")) word.AlertWait
+    (cond (bytes_eq bytes (codes "signal")) word.Signal
+    (cond (bytes_eq bytes (codes "broadcast")) word.Broadcast
     (cond (bytes_eq bytes (codes "p")) word.P
     (cond (bytes_eq bytes (codes "v")) word.V
-    word.Add)))
+    (cond (bytes_eq bytes (codes "alert")) word.Alert
+    (cond (bytes_eq bytes (codes "test-alert")) word.TestAlert
+    (cond (bytes_eq bytes (codes "alert-p")) word.AlertP
+    (cond (bytes_eq bytes (codes "add")) word.Add
+    (cond (bytes_eq bytes (codes "until")) word.Until
+    word.AlertUntil))))))))))))
 
 word_back : (w : Word) → word_from (word_text w) ≡ w
 word_back word.Acquire = refl
 word_back word.Release = refl
+word_back word.Wait = refl
+word_back word.AlertWait = refl
+word_back word.Signal = refl
+word_back word.Broadcast = refl
 word_back word.P = refl
 word_back word.V = refl
+word_back word.Alert = refl
+word_back word.TestAlert = refl
+word_back word.AlertP = refl
 word_back word.Add = refl
+word_back word.Until = refl
+word_back word.AlertUntil = refl
 
 pub word_same : (v w : Word) → word_text v ≡ word_text w → v ≡ w
 word_same v w e = sym (word_back v) ∙ ap word_from e ∙ word_back w
@@ -57,9 +84,18 @@ word_same v w e = sym (word_back v) ∙ ap word_from e ∙ word_back w
 pub built : (o : Operation) → o ≡ made (word_of o) (numbers_of o)
 built (Acquire m) = refl
 built (Release m) = refl
+built (Wait m c) = refl
+built (AlertWait m c) = refl
+built (Signal c) = refl
+built (Broadcast c) = refl
 built (P s) = refl
 built (V s) = refl
+built (Alert u) = refl
+built TestAlert = refl
+built (AlertP s) = refl
 built (Add m n) = refl
+built (Until m c n) = refl
+built (AlertUntil m c n) = refl
 
 -- the mutex that is used is within the layout
 abbrev pub UseWithin : Layout → Use → Type 0
@@ -71,9 +107,18 @@ UseWithin l Nothing = Unit {0}
 pub named_use : (l : Layout) (o : Operation) → IsNamed l o → UseWithin l (use_of o)
 named_use l (Acquire m) n = n.0
 named_use l (Release m) n = n.0
+named_use l (Wait m c) n = n.0
+named_use l (AlertWait m c) n = n.0
+named_use l (Signal c) n = tt
+named_use l (Broadcast c) n = tt
 named_use l (P s) n = tt
 named_use l (V s) n = tt
+named_use l (Alert u) n = tt
+named_use l TestAlert n = tt
+named_use l (AlertP s) n = tt
 named_use l (Add m k) n = n.0
+named_use l (Until m c k) n = n.0
+named_use l (AlertUntil m c k) n = n.0
 
 -- the word of an operation's text, and what stands behind it
 pub word_parts : (o : Operation) (bytes front behind : List ℕ) → AreParted bytes front behind → bytes ≡ operation_text o → (front ≡ word_text (word_of o)) × (behind ≡ operands_text (kinds_of (word_of o)) (numbers_of o))

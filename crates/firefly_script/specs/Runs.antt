@@ -1,34 +1,61 @@
 -- What the run of a script leaves.
-use Rattle.std.specs.Prelude.{◌≡◌, ℕ, ◌+◌, cond, eqb, List, [], ◌∷◌, ◌++◌}
+use Rattle.std.specs.Prelude.{◌≡◌, ◌⊎◌, ℕ, zero, suc, ◌+◌, Bool, cond, eqb, List, [], ◌∷◌, ◌++◌}
+use Rattle.larch_actions.specs.declared.thread_set.ThreadSet.{ThreadSet}
+use Rattle.larch_actions.specs.declared.event.CondId.{CondId}
+use Rattle.larch_actions.specs.declared.event.MutexId.{MutexId}
 use Rattle.larch_actions.specs.declared.event.Event.{Event}
 use Rattle.larch_actions.specs.declared.event.Action.{Action}
 use Rattle.larch_actions.specs.declared.event.Action.TheVariants as action
 use Rattle.firefly_script.specs.declared.line.Operation.{Operation}
-use Rattle.firefly_script.specs.declared.line.Operation.TheVariants.{Acquire, Release, P, V, Add}
+use Rattle.firefly_script.specs.declared.line.Operation.TheVariants.{Acquire, Release, Wait, AlertWait, Signal, Broadcast, P, V, Alert, TestAlert, AlertP, Add, Until, AlertUntil}
 use Rattle.firefly_script.specs.declared.line.Line.{Line}
 
 abbrev pub event : ℕ → Action → Event
 event t a = record { thread = record { 0 = t }; action = a }
 
--- the events of one call by the thread t
+-- a wait of the thread t; one that may be alerted, and returns; one that an alert ends
+abbrev pub waited : ℕ → MutexId → CondId → List Event
+waited t m c = event t (action.Enqueue m c) ∷ event t (action.Resume m c) ∷ []
+
+abbrev pub returned : ℕ → MutexId → CondId → List Event
+returned t m c = event t (action.AlertEnqueue m c) ∷ event t (action.AlertReturn m c) ∷ []
+
+abbrev pub raised : ℕ → MutexId → CondId → List Event
+raised t m c = event t (action.AlertEnqueue m c) ∷ event t (action.AlertRaise m c) ∷ []
+
+-- k times the list
+abbrev pub times : ℕ → List Event → List Event
+times zero es = []
+times (suc k) es = es ++ times k es
+
+-- the list is one that a call by the thread t may make
 abbrev pub IsRow : ℕ → Operation → List Event → Type 0
 IsRow t (Acquire m) es = es ≡ event t (action.Acquire m) ∷ []
 IsRow t (Release m) es = es ≡ event t (action.Release m) ∷ []
+IsRow t (Wait m c) es = es ≡ waited t m c
+IsRow t (AlertWait m c) es = (es ≡ returned t m c) ⊎ (es ≡ raised t m c)
+IsRow t (Signal c) es = (left : ThreadSet) × (es ≡ event t (action.Signal c left) ∷ [])
+IsRow t (Broadcast c) es = es ≡ event t (action.Broadcast c) ∷ []
 IsRow t (P s) es = es ≡ event t (action.P s) ∷ []
 IsRow t (V s) es = es ≡ event t (action.V s) ∷ []
+IsRow t (Alert u) es = es ≡ event t (action.Alert u) ∷ []
+IsRow t TestAlert es = (yes : Bool) × (es ≡ event t (action.TestAlert yes) ∷ [])
+IsRow t (AlertP s) es = (es ≡ event t (action.AlertPReturn s) ∷ []) ⊎ (es ≡ event t (action.AlertPRaise s) ∷ [])
 IsRow t (Add m n) es = es ≡ []
+IsRow t (Until m c n) es = (k : ℕ) × (es ≡ times k (waited t m c))
+IsRow t (AlertUntil m c n) es = (k : ℕ) × ((es ≡ times k (returned t m c)) ⊎ (es ≡ times k (returned t m c) ++ raised t m c))
 
 -- the lines of one thread, in order
 abbrev pub lines_of : ℕ → List Line → List Line
 lines_of t [] = []
 lines_of t (x ∷ xs) = cond (eqb x.thread.0 t) (x ∷ lines_of t xs) (lines_of t xs)
 
--- the list is the lists of the calls, one after another
+-- the list is lists of the calls, one after another
 abbrev pub AreRows : ℕ → List Line → List Event → Type 0
 AreRows t [] es = es ≡ []
 AreRows t (x ∷ xs) es = (a b : List Event) × IsRow t x.operation a × AreRows t xs b × (es ≡ a ++ b)
 
--- the list is the events of the thread t in the script with these lines
+-- the list is one that the thread t may make in a run of the script with these lines
 abbrev pub AreEventsOf : List Line → ℕ → List Event → Type 0
 AreEventsOf xs t es = AreRows t (lines_of t xs) es
 

@@ -2,11 +2,11 @@
 use Rattle.std.specs.Prelude.{ℕ, ◌<◌, ◌≤◌, List, [], ◌∷◌, ◌++◌, codes, decimal, slice_index}
 use Rattle.larch_actions.specs.declared.event.Layout.{Layout}
 use Rattle.firefly_script.specs.declared.line.Operation.{Operation}
-use Rattle.firefly_script.specs.declared.line.Operation.TheVariants.{Acquire, Release, P, V, Add}
+use Rattle.firefly_script.specs.declared.line.Operation.TheVariants.{Acquire, Release, Wait, AlertWait, Signal, Broadcast, P, V, Alert, TestAlert, AlertP, Add, Until, AlertUntil}
 use Rattle.firefly_script.specs.declared.table.Word.{Word}
 use Rattle.firefly_script.specs.declared.table.Word.TheVariants as word
 use Rattle.firefly_script.specs.declared.table.Kind.{Kind}
-use Rattle.firefly_script.specs.declared.table.Kind.TheVariants.{Mutex, Semaphore, Amount}
+use Rattle.firefly_script.specs.declared.table.Kind.TheVariants.{Mutex, Condition, Semaphore, Thread, Amount, Count}
 use Rattle.firefly_script.specs.declared.table.Numbers.{Numbers}
 use Rattle.firefly_script.specs.declared.table.Use.{Use}
 use Rattle.firefly_script.specs.declared.table.Use.TheVariants.{Takes, Gives, Needs, Nothing}
@@ -15,60 +15,120 @@ use Rattle.firefly_script.specs.declared.table.Use.TheVariants.{Takes, Gives, Ne
 abbrev pub word_text : Word → List ℕ
 word_text word.Acquire = codes "acquire"
 word_text word.Release = codes "release"
+word_text word.Wait = codes "wait"
+word_text word.AlertWait = codes "alert-wait"
+word_text word.Signal = codes "signal"
+word_text word.Broadcast = codes "broadcast"
 word_text word.P = codes "p"
 word_text word.V = codes "v"
+word_text word.Alert = codes "alert"
+word_text word.TestAlert = codes "test-alert"
+word_text word.AlertP = codes "alert-p"
 word_text word.Add = codes "add"
+word_text word.Until = codes "until"
+word_text word.AlertUntil = codes "alert-until"
 
 -- what stands behind it
 abbrev pub kinds_of : Word → List Kind
 kinds_of word.Acquire = Mutex ∷ []
 kinds_of word.Release = Mutex ∷ []
+kinds_of word.Wait = Mutex ∷ Condition ∷ []
+kinds_of word.AlertWait = Mutex ∷ Condition ∷ []
+kinds_of word.Signal = Condition ∷ []
+kinds_of word.Broadcast = Condition ∷ []
 kinds_of word.P = Semaphore ∷ []
 kinds_of word.V = Semaphore ∷ []
+kinds_of word.Alert = Thread ∷ []
+kinds_of word.TestAlert = []
+kinds_of word.AlertP = Semaphore ∷ []
 kinds_of word.Add = Mutex ∷ Amount ∷ []
+kinds_of word.Until = Mutex ∷ Condition ∷ Count ∷ []
+kinds_of word.AlertUntil = Mutex ∷ Condition ∷ Count ∷ []
 
 -- the operation with these numbers
 abbrev pub made : Word → List ℕ → Operation
 made word.Acquire ns = Acquire (record { 0 = slice_index ns 0 })
 made word.Release ns = Release (record { 0 = slice_index ns 0 })
+made word.Wait ns = Wait (record { 0 = slice_index ns 0 }) (record { 0 = slice_index ns 1 })
+made word.AlertWait ns = AlertWait (record { 0 = slice_index ns 0 }) (record { 0 = slice_index ns 1 })
+made word.Signal ns = Signal (record { 0 = slice_index ns 0 })
+made word.Broadcast ns = Broadcast (record { 0 = slice_index ns 0 })
 made word.P ns = P (record { 0 = slice_index ns 0 })
 made word.V ns = V (record { 0 = slice_index ns 0 })
+made word.Alert ns = Alert (record { 0 = slice_index ns 0 })
+made word.TestAlert ns = TestAlert
+made word.AlertP ns = AlertP (record { 0 = slice_index ns 0 })
 made word.Add ns = Add (record { 0 = slice_index ns 0 }) (slice_index ns 1)
+made word.Until ns = Until (record { 0 = slice_index ns 0 }) (record { 0 = slice_index ns 1 }) (slice_index ns 2)
+made word.AlertUntil ns = AlertUntil (record { 0 = slice_index ns 0 }) (record { 0 = slice_index ns 1 }) (slice_index ns 2)
 
 -- the word of an operation, and the numbers behind it
 abbrev pub word_of : Operation → Word
 word_of (Acquire m) = word.Acquire
 word_of (Release m) = word.Release
+word_of (Wait m c) = word.Wait
+word_of (AlertWait m c) = word.AlertWait
+word_of (Signal c) = word.Signal
+word_of (Broadcast c) = word.Broadcast
 word_of (P s) = word.P
 word_of (V s) = word.V
+word_of (Alert u) = word.Alert
+word_of TestAlert = word.TestAlert
+word_of (AlertP s) = word.AlertP
 word_of (Add m n) = word.Add
+word_of (Until m c n) = word.Until
+word_of (AlertUntil m c n) = word.AlertUntil
 
 abbrev pub numbers_of : Operation → List ℕ
 numbers_of (Acquire m) = m.0 ∷ []
 numbers_of (Release m) = m.0 ∷ []
+numbers_of (Wait m c) = m.0 ∷ c.0 ∷ []
+numbers_of (AlertWait m c) = m.0 ∷ c.0 ∷ []
+numbers_of (Signal c) = c.0 ∷ []
+numbers_of (Broadcast c) = c.0 ∷ []
 numbers_of (P s) = s.0 ∷ []
 numbers_of (V s) = s.0 ∷ []
+numbers_of (Alert u) = u.0 ∷ []
+numbers_of TestAlert = []
+numbers_of (AlertP s) = s.0 ∷ []
 numbers_of (Add m n) = m.0 ∷ n ∷ []
+numbers_of (Until m c n) = m.0 ∷ c.0 ∷ n ∷ []
+numbers_of (AlertUntil m c n) = m.0 ∷ c.0 ∷ n ∷ []
 
 -- what it does with a mutex
 abbrev pub use_of : Operation → Use
 use_of (Acquire m) = Takes m
 use_of (Release m) = Gives m
+use_of (Wait m c) = Needs m
+use_of (AlertWait m c) = Needs m
+use_of (Signal c) = Nothing
+use_of (Broadcast c) = Nothing
 use_of (P s) = Nothing
 use_of (V s) = Nothing
+use_of (Alert u) = Nothing
+use_of TestAlert = Nothing
+use_of (AlertP s) = Nothing
 use_of (Add m n) = Needs m
+use_of (Until m c n) = Needs m
+use_of (AlertUntil m c n) = Needs m
 
 -- the letter of a name; a number has none
 abbrev pub letter : Kind → List ℕ
 letter Mutex = codes "m"
+letter Condition = codes "c"
 letter Semaphore = codes "s"
+letter Thread = codes "t"
 letter Amount = []
+letter Count = []
 
 -- a name is below the count of its kind, and a number not too large
 abbrev pub IsWithin : Layout → Kind → ℕ → Type 0
 IsWithin l Mutex n = n < l.mutexes
+IsWithin l Condition n = n < l.conditions
 IsWithin l Semaphore n = n < l.semaphores
+IsWithin l Thread n = n < l.threads
 IsWithin l Amount n = n ≤ 1000000
+IsWithin l Count n = n ≤ 18446744073709551615
 
 abbrev pub AreWithin : Layout → List Kind → List ℕ → Type 0
 AreWithin l [] [] = Unit {0}
@@ -86,13 +146,16 @@ operands_text (k ∷ ks) [] = []
 operands_text (k ∷ ks) (n ∷ ns) = 32 ∷ (operand_text k n ++ operands_text ks ns)
 
 abbrev pub listed : Numbers → List ℕ
-listed x = x.first ∷ x.second ∷ []
+listed x = x.first ∷ x.second ∷ x.third ∷ []
 
 -- a name fits 32 bits
 abbrev pub IsSmall : Kind → ℕ → Type 0
 IsSmall Mutex n = n < 64
+IsSmall Condition n = n < 64
 IsSmall Semaphore n = n < 64
+IsSmall Thread n = n < 64
 IsSmall Amount n = n ≤ 1000000
+IsSmall Count n = n ≤ 18446744073709551615
 
 abbrev pub AreSmall : List Kind → List ℕ → Type 0
 AreSmall [] ns = Unit {0}

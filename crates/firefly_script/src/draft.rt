@@ -1,4 +1,4 @@
-// The lines of a script that were read so far.
+//! The lines of a script that were read so far.
 ghost use Rattle.std.specs.Prelude.{◌≡◌, ◌<◌, ◌↔◌, ℕ, IsTrue, IfOk, Ok, true, false, not, []};
 ghost use Rattle.std.specs.List.{list_all};
 ghost use Rattle.larch_actions.specs.Layout.{IsLawful};

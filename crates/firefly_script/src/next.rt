@@ -1,4 +1,4 @@
-// The line that stands next in a window.
+//! The line that stands next in a window.
 ghost use Rattle.std.specs.Prelude.{◌≡◌, ◌<◌, ◌≤◌, MatchOption, MatchResult, length};
 ghost use Rattle.std.specs.Io.KnownBytes.{Keeps, prepend_known};
 ghost use Rattle.firefly_outside.specs.Causes.{Rose};

@@ -1,4 +1,4 @@
-// What stands in the bytes of one line.
+//! What stands in the bytes of one line.
 ghost use Rattle.std.specs.Prelude.{◌≡◌, ◌<◌, ◌≤◌, ◌++◌, ◌∷◌, List, ℕ, codes, decimal, length, MatchOption};
 ghost use Rattle.larch_actions.specs.Layout.{IsLawful};
 ghost use Rattle.firefly_script.specs.Faults.{Lacks};
@@ -16,6 +16,9 @@ use std::str;
 
 /// The greatest number that an `add` may have.
 pub const MOST_ADDED: u64 = 1_000_000;
+
+/// The greatest number that may be waited for.
+pub const MOST_AWAITED: u64 = u64::MAX;
 
 /// The bytes before the first `stop`, and those after it.
 pub fn cut(bytes: &[u8], stop: u8) -> Option<(&[u8], &[u8])>
@@ -78,15 +81,18 @@ fn operand(bytes: &[u8], kind: Kind, layout: &Layout) -> Option<u64>
 {
     match kind {
         Kind::Mutex => Some(u64::from(name(bytes, b'm', layout.mutexes)?)),
+        Kind::Condition => Some(u64::from(name(bytes, b'c', layout.conditions)?)),
         Kind::Semaphore => Some(u64::from(name(bytes, b's', layout.semaphores)?)),
+        Kind::Thread => Some(u64::from(name(bytes, b't', layout.threads)?)),
         Kind::Amount => number(bytes, MOST_ADDED),
+        Kind::Count => number(bytes, MOST_AWAITED),
     }
 }
 
 // All that stands behind a word, each behind a space.
 fn operands(bytes: &[u8], kinds: &[Kind], layout: &Layout) -> Option<Numbers>
     requires lawful { IsLawful layout.now }
-    requires few { length kinds.now ≤ 2 }
+    requires few { length kinds.now ≤ 3 }
     ensures { MatchOption result (NoneAre layout.now kinds.now bytes.now) (λ x. Are layout.now kinds.now bytes.now (first_of kinds.now x)) }
 {
     let [kind, later @ ..] = kinds else {
@@ -94,6 +100,7 @@ fn operands(bytes: &[u8], kinds: &[Kind], layout: &Layout) -> Option<Numbers>
             return Some(Numbers {
                 first: 0,
                 second: 0,
+                third: 0,
             });
         }
         return None;
@@ -108,8 +115,11 @@ fn operands(bytes: &[u8], kinds: &[Kind], layout: &Layout) -> Option<Numbers>
     let Some(others) = operands(more, later, layout) else {
         return None;
     };
-    let second = others.first;
-    Some(Numbers { first, second })
+    Some(Numbers {
+        first,
+        second: others.first,
+        third: others.second,
+    })
 }
 
 // An operation.

@@ -1,4 +1,4 @@
-// Scripts.
+//! Scripts.
 ghost use Rattle.std.specs.Prelude.{◌≡◌, ◌<◌, length};
 
 use crate::line::Line;

@@ -6,25 +6,38 @@ ghost use Rattle.firefly_script.specs.Parsing.{Parses};
 ghost use Rattle.firefly_script.specs.Table.{word_text, kinds_of, made, use_of, listed, AreSmall};
 
 use crate::line::Operation;
-use larch_actions::{MutexId, SemId};
+use larch_actions::{CondId, MutexId, SemId, ThreadId};
 
 /// The first word of an operation.
 #[derive(Clone, Copy, Debug, PartialEq, Eq)]
 pub enum Word {
     Acquire,
     Release,
+    Wait,
+    AlertWait,
+    Signal,
+    Broadcast,
     P,
     V,
+    Alert,
+    TestAlert,
+    AlertP,
     Add,
+    Until,
+    AlertUntil,
 }
 
 /// What may stand behind a word.
 #[derive(Clone, Copy, Debug, PartialEq, Eq)]
 pub enum Kind {
     Mutex,
+    Condition,
     Semaphore,
+    Thread,
     /// A number that may be added.
     Amount,
+    /// A number that may be waited for.
+    Count,
 }
 
 /// The numbers behind a word, in order. Where fewer stand there, the others are 0.
@@ -32,6 +45,7 @@ pub enum Kind {
 pub struct Numbers {
     pub first: u64,
     pub second: u64,
+    pub third: u64,
 }
 
 /// What an operation asks of a mutex, and does with it.
@@ -55,12 +69,30 @@ pub fn known_word(bytes: &[u8]) -> Option<Word>
         Some(Word::Acquire)
     } else if bytes == b"release".as_slice() {
         Some(Word::Release)
+    } else if bytes == b"wait".as_slice() {
+        Some(Word::Wait)
+    } else if bytes == b"alert-wait".as_slice() {
+        Some(Word::AlertWait)
+    } else if bytes == b"signal".as_slice() {
+        Some(Word::Signal)
+    } else if bytes == b"broadcast".as_slice() {
+        Some(Word::Broadcast)
     } else if bytes == b"p".as_slice() {
         Some(Word::P)
     } else if bytes == b"v".as_slice() {
         Some(Word::V)
+    } else if bytes == b"alert".as_slice() {
+        Some(Word::Alert)
+    } else if bytes == b"test-alert".as_slice() {
+        Some(Word::TestAlert)
+    } else if bytes == b"alert-p".as_slice() {
+        Some(Word::AlertP)
     } else if bytes == b"add".as_slice() {
         Some(Word::Add)
+    } else if bytes == b"until".as_slice() {
+        Some(Word::Until)
+    } else if bytes == b"alert-until".as_slice() {
+        Some(Word::AlertUntil)
     } else {
         None
     }
@@ -73,9 +105,18 @@ pub fn kinds(word: Word) -> &'static [Kind]
     match word {
         Word::Acquire => &[Kind::Mutex],
         Word::Release => &[Kind::Mutex],
+        Word::Wait => &[Kind::Mutex, Kind::Condition],
+        Word::AlertWait => &[Kind::Mutex, Kind::Condition],
+        Word::Signal => &[Kind::Condition],
+        Word::Broadcast => &[Kind::Condition],
         Word::P => &[Kind::Semaphore],
         Word::V => &[Kind::Semaphore],
+        Word::Alert => &[Kind::Thread],
+        Word::TestAlert => &[],
+        Word::AlertP => &[Kind::Semaphore],
         Word::Add => &[Kind::Mutex, Kind::Amount],
+        Word::Until => &[Kind::Mutex, Kind::Condition, Kind::Count],
+        Word::AlertUntil => &[Kind::Mutex, Kind::Condition, Kind::Count],
     }
 }
 
@@ -91,15 +132,46 @@ pub fn make(word: Word, numbers: Numbers) -> Operation
         Word::Release => Operation::Release {
             mutex: MutexId(numbers.first as u32),
         },
+        Word::Wait => Operation::Wait {
+            mutex: MutexId(numbers.first as u32),
+            cond: CondId(numbers.second as u32),
+        },
+        Word::AlertWait => Operation::AlertWait {
+            mutex: MutexId(numbers.first as u32),
+            cond: CondId(numbers.second as u32),
+        },
+        Word::Signal => Operation::Signal {
+            cond: CondId(numbers.first as u32),
+        },
+        Word::Broadcast => Operation::Broadcast {
+            cond: CondId(numbers.first as u32),
+        },
         Word::P => Operation::P {
             sem: SemId(numbers.first as u32),
         },
         Word::V => Operation::V {
             sem: SemId(numbers.first as u32),
         },
+        Word::Alert => Operation::Alert {
+            who: ThreadId(numbers.first as u32),
+        },
+        Word::TestAlert => Operation::TestAlert,
+        Word::AlertP => Operation::AlertP {
+            sem: SemId(numbers.first as u32),
+        },
         Word::Add => Operation::Add {
             mutex: MutexId(numbers.first as u32),
             number: numbers.second,
+        },
+        Word::Until => Operation::Until {
+            mutex: MutexId(numbers.first as u32),
+            cond: CondId(numbers.second as u32),
+            number: numbers.third,
+        },
+        Word::AlertUntil => Operation::AlertUntil {
+            mutex: MutexId(numbers.first as u32),
+            cond: CondId(numbers.second as u32),
+            number: numbers.third,
         },
     }
 }
@@ -111,8 +183,25 @@ pub fn mutex_use(operation: &Operation) -> Use
     match operation {
         Operation::Acquire { mutex } => Use::Takes(*mutex),
         Operation::Release { mutex } => Use::Gives(*mutex),
+        Operation::Wait { mutex, cond: _ } => Use::Needs(*mutex),
+        Operation::AlertWait { mutex, cond: _ } => Use::Needs(*mutex),
+        Operation::Signal { cond: _ } => Use::Nothing,
+        Operation::Broadcast { cond: _ } => Use::Nothing,
         Operation::P { sem: _ } => Use::Nothing,
         Operation::V { sem: _ } => Use::Nothing,
+        Operation::Alert { who: _ } => Use::Nothing,
+        Operation::TestAlert => Use::Nothing,
+        Operation::AlertP { sem: _ } => Use::Nothing,
         Operation::Add { mutex, number: _ } => Use::Needs(*mutex),
+        Operation::Until {
+            mutex,
+            cond: _,
+            number: _,
+        } => Use::Needs(*mutex),
+        Operation::AlertUntil {
+            mutex,
+            cond: _,
+            number: _,
+        } => Use::Needs(*mutex),
     }
 }

@@ -1,6 +1,6 @@
 use firefly_outside::MemSource;
 use firefly_script::{Line, Operation, Script, ScriptFault, read_script};
-use larch_actions::{MutexId, SemId, ThreadId};
+use larch_actions::{CondId, MutexId, SemId, ThreadId};
 use std::alloc::{AllocError, Global};
 use std::test::Fail;
 
@@ -127,5 +127,86 @@ fn a_hundred_thousand_lines_are_read_and_no_further_byte(rt: HostRuntime) -> Res
     assert_eq!(rt; fault(alloc, text.as_str())?, None);
     text.push_str("x")?;
     assert_eq!(rt; fault(alloc, text.as_str())?, Some(ScriptFault::TooLong));
+    Ok(())
+}
+
+#[test]
+fn waits_and_alerts_are_read(rt: HostRuntime) -> Result<(), Fail> {
+    let alloc = rt.alloc();
+    let (mutex, cond, sem, who) = (MutexId(1), CondId(11), SemId(0), ThreadId(2));
+    for (line, operation) in [
+        ("wait m1 c11", Operation::Wait { mutex, cond }),
+        ("alert-wait m1 c11", Operation::AlertWait { mutex, cond }),
+        ("signal c11", Operation::Signal { cond }),
+        ("broadcast c11", Operation::Broadcast { cond }),
+        ("alert t2", Operation::Alert { who }),
+        ("test-alert", Operation::TestAlert),
+        ("alert-p s0", Operation::AlertP { sem }),
+        (
+            "until m1 c11 18446744073709551615",
+            Operation::Until {
+                mutex,
+                cond,
+                number: u64::MAX,
+            },
+        ),
+        (
+            "alert-until m1 c11 0",
+            Operation::AlertUntil {
+                mutex,
+                cond,
+                number: 0,
+            },
+        ),
+    ] {
+        let text = format!(in alloc;
+            "threads 3 mutexes 2 conditions 12 semaphores 1\nt2 acquire m1\nt2 {line}\nt2 release m1\n"
+        )?;
+        match read(alloc, text.as_str(), None)? {
+            Ok(script) => match script.lines() {
+                [_, found, _] => assert_eq!(rt; found.operation, operation, "{line}"),
+                _ => assert!(rt; false, "other lines: {line}"),
+            },
+            Err(_) => assert!(rt; false, "refused: {line}"),
+        }
+    }
+    Ok(())
+}
+
+#[test]
+fn bad_lines_of_waits_and_alerts_are_named(rt: HostRuntime) -> Result<(), Fail> {
+    let alloc = rt.alloc();
+    for line in [
+        "t0 wait m0 c0",
+        "t0 alert-wait m0 c0",
+        "t0 until m0 c0 1",
+        "t0 alert-until m0 c0 1",
+        "t1 wait m0 c0",
+        "t1 wait m1 c1",
+        "t1 wait m1",
+        "t1 wait m1 c0 ",
+        "t1 wait m1 c0 1",
+        "t1 until m1 c0",
+        "t1 until m1 c0 18446744073709551616",
+        "t1 until m1 c0 -1",
+        "t1 alert-until m1 c0 00",
+        "t0 signal c1",
+        "t0 broadcast",
+        "t0 alert t2",
+        "t0 alert m0",
+        "t0 test-alert t0",
+        "t0 test-alert ",
+        "t0 alert-p s1",
+        "t0 Alert t0",
+    ] {
+        let text = format!(in alloc;
+            "threads 2 mutexes 2 conditions 1 semaphores 1\nt1 acquire m1\n{line}\nt1 release m1\n"
+        )?;
+        assert_eq!(rt;
+            fault(alloc, text.as_str())?,
+            Some(ScriptFault::BadLine(3)),
+            "{line}"
+        );
+    }
     Ok(())
 }
