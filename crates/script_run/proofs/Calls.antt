@@ -1,5 +1,5 @@
 -- The calls of a line.
-use Rattle.std.proofs.Common.{◌≡◌, ℕ, zero, suc, ◌+◌, ◌-◌, ◌^◌, ◌<◌, ◌≤◌, List, [], ◌∷◌, ◌++◌, length, get_or, refl, ap, sym, subst, ◌∙◌, append-nil, Bool, true, false, Some, None, arith}
+use Rattle.std.proofs.Common.{◌≡◌, ℕ, zero, suc, ◌+◌, ◌-◌, ◌^◌, ◌<◌, ◌≤◌, List, [], ◌∷◌, ◌++◌, append_assoc, length, get_or, refl, ap, sym, subst, ◌∙◌, append-nil, Bool, true, false, Some, None, arith}
 use mathlib.Core.Option.{some, some-ne-none}
 use lib.ListN.{get_elem?, set}
 use Rattle.std.proofs.lemmas.List.{length-set}
@@ -15,12 +15,12 @@ use Rattle.firefly_script.specs.declared.line.Operation.{Operation}
 use Rattle.firefly_script.specs.declared.line.Operation.TheVariants.{Acquire, Release, Add}
 use Rattle.firefly_script.specs.declared.line.Line.{Line}
 use Rattle.firefly_script.specs.declared.table.Use.{Use}
-use Rattle.firefly_script.specs.declared.table.Use.TheVariants.{Nothing}
-use Rattle.firefly_script.specs.Operations.{Holding, IsNamed, MayDo, none_held, held_after, holding_with, holding_after, held_if, MayFollow}
+use Rattle.firefly_script.specs.declared.table.Use.TheVariants.{Takes, Gives, Needs, Nothing}
+use Rattle.firefly_script.specs.Operations.{Holding, IsNamed, MayDo, MayUse, none_held, held_after, holding_with, holding_after, held_if, MayFollow}
 use Rattle.firefly_script.specs.Table.{use_of}
-use Rattle.script_run.specs.Playing.{Player, HasNumber, IsPlaying}
+use Rattle.script_run.specs.Playing.{Player, HasNumber, IsPlaying, HasMutex}
 use Rattle.firefly_script.specs.Runs.{IsRow, lines_of, total, added_by, event}
-use Rattle.script_run.proofs.Plays.{Stays, played, acquired, released, may_release, untouched, added_to, number_small}
+use Rattle.script_run.proofs.Plays.{Stays, played, acquired, released, may_release, untouched, added_to, number_small, waited_for}
 use Rattle.script_run.proofs.Rows.{total_small}
 
 -- what the thread may do, at its own number and this operation
@@ -36,7 +36,7 @@ pub got : (held : List _) (m number : ℕ) (share : List Added) (sum : ℕ) (b :
 got held m number share sum true e (x, h, le, small, q) = (x, h)
 got held m number share sum false e h = absurd (cc)
 
-module _ (p : Shape (Prim.Unit {0})) (xs : List Line) (numbers : List ℕ) (a : Player) (line : Line) (s : IsPlaying p a.number xs numbers a) (own : line.thread.0 ≡ a.number) where
+module _ (p : Shape (Prim.Unit {0})) (xs : List Line) (numbers : List ℕ) (a : Player) (line : Line) (s : IsPlaying p a.number xs [] numbers a) (own : line.thread.0 ≡ a.number) where
   abbrev sums : ℕ → ℕ
   sums m = total (lines_of a.number xs) m
 
@@ -46,17 +46,23 @@ module _ (p : Shape (Prim.Unit {0})) (xs : List Line) (numbers : List ℕ) (a : 
   stays : (b : Player) → AtRest p b → IsSame a b → length b.held ≡ 64 → Stays p a.number xs b
   stays b rest same size = record { rest = rest; number = same.number; world = same.world ∙ s.world; held_size = size }
 
+  -- the line finds its mutex held
+  pub has_mutex : (o : Operation) (m : MutexId) (l : Layout) → line.operation ≡ o → use_of o ≡ Needs m → MayDo h line.thread.0 line.operation → MayFollow l none_held xs → length xs < 99999 → HasMutex l a.number xs m.0
+  has_mutex o m l is uses may follow few =
+      let U : Use → Type 0 = λ u. MayUse h a.number u in
+      record { held = subst U uses (may_own h line.thread.0 a.number line.operation o own is may); follow = follow; few = few }
+
   -- after an event of its own
   after_event : (o : Operation) (e : Event) (numbers' : List ℕ) (b : Player) (share : List Added) → line.operation ≡ o → IsRow a.number o (e ∷ []) → AtRest p b → IsSame a b → Adds [] e a b → length b.held ≡ 64 → length numbers' ≡ 64 → b.share ≡ Some share
       → ((m : ℕ) → m < 64 → HasNumber (holding_after h a.number o a.number m) b.held m (get_or numbers' m 0) share (sums m + added_by o m))
-      → IsPlaying p a.number (xs ++ line ∷ []) numbers' b
+      → IsPlaying p a.number (xs ++ line ∷ []) [] numbers' b
   after_event o e numbers' b share is row rest same adds held_size size is_share each =
       let R : Operation → Type 0 = λ q. IsRow a.number q (e ∷ []) in
       let E : Operation → Type 0 = λ q. (m : ℕ) → m < 64 → HasNumber (holding_after h a.number q a.number m) b.held m (get_or numbers' m 0) share (sums m + added_by q m) in
-      played p a.number xs line numbers' a.mine (e ∷ []) b share own (stays b rest same held_size) size s.events (subst R (sym is) row) (adds.mine ∙ ap (λ l. l ++ e ∷ []) (append-nil a.mine)) is_share (subst E (sym is) each)
+      played p a.number xs line numbers' s.before (e ∷ []) b share own (stays b rest same held_size) size s.events (subst R (sym is) row) (adds.mine ∙ ap (λ l. l ++ e ∷ []) (append-nil a.mine ∙ s.mine ∙ append-nil s.before)) is_share (subst E (sym is) each)
 
   pub after_acquire : (m : MutexId) (x : ℕ) (b : Player) → line.operation ≡ Acquire m → m.0 < 64 → MayDo h line.thread.0 line.operation → AtRest p b → IsSame a b → Adds [] (event a.number (action.Acquire m)) a b → b.held ≡ set a.held m.0 (Some x) → b.share ≡ a.share → IsAbove m.0 x s.share
-      → IsPlaying p a.number (xs ++ line ∷ []) (set numbers m.0 x) b
+      → IsPlaying p a.number (xs ++ line ∷ []) [] (set numbers m.0 x) b
   after_acquire m x b is low may rest same adds held share above =
       let free = may_own h line.thread.0 a.number line.operation (Acquire m) own is may in
       let P : List _ → Type 0 = λ l. (k : ℕ) → k < 64 → HasNumber (held_if true h a.number m.0 a.number k) l k (get_or (set numbers m.0 x) k 0) s.share (sums k + 0) in
@@ -64,7 +70,7 @@ module _ (p : Shape (Prim.Unit {0})) (xs : List Line) (numbers : List ℕ) (a : 
       (subst P (sym held) (acquired h a.number m.0 a.held numbers s.share sums low s.size s.held_size s.each x free above))
 
   pub after_release : (m : MutexId) (x : ℕ) (b : Player) → line.operation ≡ Release m → m.0 < 64 → MayDo h line.thread.0 line.operation → get_elem? a.held m.0 ≡ some (Some x) → AtRest p b → IsSame a b → Adds [] (event a.number (action.Release m)) a b → b.held ≡ set a.held m.0 None
-      → b.share ≡ Some (record { mutex = m.0; amount = get_or numbers m.0 0 - x } ∷ s.share) → IsPlaying p a.number (xs ++ line ∷ []) numbers b
+      → b.share ≡ Some (record { mutex = m.0; amount = get_or numbers m.0 0 - x } ∷ s.share) → IsPlaying p a.number (xs ++ line ∷ []) [] numbers b
   after_release m x b is low may has rest same adds held share =
       let mine = may_own h line.thread.0 a.number line.operation (Release m) own is may in
       let P : List _ → Type 0 = λ l. (k : ℕ) → k < 64 → HasNumber (held_if false h a.number m.0 a.number k) l k (get_or numbers k 0) (record { mutex = m.0; amount = get_or numbers m.0 0 - x } ∷ s.share) (sums k + 0) in
@@ -73,7 +79,7 @@ module _ (p : Shape (Prim.Unit {0})) (xs : List Line) (numbers : List ℕ) (a : 
 
   -- an event that uses no mutex
   pub after_quiet : (o : Operation) (e : Event) (b : Player) → line.operation ≡ o → IsRow a.number o (e ∷ []) → use_of o ≡ Nothing → ((m : ℕ) → added_by o m ≡ 0)
-      → AtRest p b → IsSame a b → Adds [] e a b → b.held ≡ a.held → b.share ≡ a.share → IsPlaying p a.number (xs ++ line ∷ []) numbers b
+      → AtRest p b → IsSame a b → Adds [] e a b → b.held ≡ a.held → b.share ≡ a.share → IsPlaying p a.number (xs ++ line ∷ []) [] numbers b
   after_quiet o e b is row none adds_none rest same adds held share =
       let Q : List _ → Type 0 = λ l. (m : ℕ) → m < 64 → HasNumber (h a.number m) l m (get_or numbers m 0) s.share (sums m + 0) in
       let each = subst Q (sym held) (untouched h a.number 0 a.held numbers s.share sums (omega arith) s.size s.held_size s.each) in
@@ -83,13 +89,13 @@ module _ (p : Shape (Prim.Unit {0})) (xs : List Line) (numbers : List ℕ) (a : 
       let N : ℕ → Type 0 = λ n. HasNumber (h a.number m) b.held m (get_or numbers m 0) s.share (sums m + n) in
       subst U (sym none) (subst N (sym (adds_none m)) (each m low)))
 
-  pub after_add : (m : MutexId) (n : ℕ) → line.operation ≡ Add m n → m.0 < 64 → MayDo h line.thread.0 line.operation → IsPlaying p a.number (xs ++ line ∷ []) (set numbers m.0 (get_or numbers m.0 0 + n)) a
+  pub after_add : (m : MutexId) (n : ℕ) → line.operation ≡ Add m n → m.0 < 64 → MayDo h line.thread.0 line.operation → IsPlaying p a.number (xs ++ line ∷ []) [] (set numbers m.0 (get_or numbers m.0 0 + n)) a
   after_add m n is low may =
       let mine = may_own h line.thread.0 a.number line.operation (Add m n) own is may in
       let R : Operation → Type 0 = λ q. IsRow a.number q [] in
       let E : Operation → Type 0 = λ q. (k : ℕ) → k < 64 → HasNumber (holding_after h a.number q a.number k) a.held k (get_or (set numbers m.0 (get_or numbers m.0 0 + n)) k 0) s.share (sums k + added_by q k) in
       let st : Stays p a.number xs a = record { rest = s.rest; number = refl; world = s.world; held_size = s.held_size } in
-      played p a.number xs line (set numbers m.0 (get_or numbers m.0 0 + n)) a.mine [] a s.share own st (length-set numbers m.0 (get_or numbers m.0 0 + n) ∙ s.size) s.events (subst R (sym is) refl) (sym (append-nil a.mine)) s.is_share
+      played p a.number xs line (set numbers m.0 (get_or numbers m.0 0 + n)) s.before [] a s.share own st (length-set numbers m.0 (get_or numbers m.0 0 + n) ∙ s.size) s.events (subst R (sym is) refl) s.mine s.is_share
       (subst E (sym is) (added_to h a.number m.0 a.held numbers s.share sums low s.size s.held_size s.each n mine))
 
   -- what a release needs

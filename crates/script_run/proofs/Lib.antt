@@ -4,4 +4,5 @@ pub mod Crew
 pub mod Plays
 pub mod Rows
 pub mod Sums
+pub mod Waiting
 pub mod Whole

@@ -1,11 +1,11 @@
 -- One more line was played.
-use Rattle.std.proofs.Common.{◌≡◌, ◌≢◌, ℕ, ◌+◌, ◌-◌, ◌<◌, ◌≤◌, inl, inr, List, [], ◌∷◌, ◌++◌, length, get_or, refl, ap, sym, subst, ◌∙◌, Bool, true, false, cond, Some, None, Option as Opt, arith}
+use Rattle.std.proofs.Common.{◌≡◌, ◌≢◌, ℕ, ◌+◌, ◌-◌, ◌<◌, ◌≤◌, inl, inr, List, [], ◌∷◌, ◌++◌, append-nil, length, get_or, refl, ap, sym, subst, ◌∙◌, Bool, true, false, cond, Some, None, Option as Opt, arith}
 use mathlib.Core.Option.{some, some-injective}
 use lib.ListN.{get_elem?, set}
 use Rattle.atomic_table.proofs.Lists.{set_here, set_else}
 use Rattle.std.proofs.lemmas.Bool.{eq-eqb, ne_eqb}
 use Rattle.std.proofs.lemmas.Bool.Decides.{eqb_tells}
-use Rattle.std.proofs.lemmas.List.{get_or-set_same, get_or-set_other}
+use Rattle.std.proofs.lemmas.List.{get_or-set_same, get_or-set_other, length-set, set-set}
 use Rattle.std.specs.Prelude.{eqb}
 use Rattle.larch_actions.specs.declared.event.Event.{Event}
 use Rattle.nub_rule.specs.Known.{Shape}
@@ -33,14 +33,16 @@ module _ (p : Shape (Prim.Unit {0})) (t : ℕ) (xs : List Line) where
   -- the thread after a line of its own
   pub played : (x : Line) (numbers : List ℕ) (es a : List Event) (b : Player) (share : List Added) → x.thread.0 ≡ t → Stays b → length numbers ≡ 64 → AreEventsOf xs t es → IsRow t x.operation a → b.mine ≡ es ++ a → b.share ≡ Some share
       → ((m : ℕ) → m < 64 → HasNumber (holding_after (held_after none_held xs) t x.operation t m) b.held m (get_or numbers m 0) share (total (lines_of t xs) m + added_by x.operation m))
-      → IsPlaying p t (xs ++ x ∷ []) numbers b
+      → IsPlaying p t (xs ++ x ∷ []) [] numbers b
   played x numbers es a b share own s size events row mine is_share each = record {
     rest = s.rest;
     number = s.number;
     world = s.world;
     size = size;
     held_size = s.held_size;
-    events = (let P : List Event → Type 0 = λ l. AreEventsOf (xs ++ x ∷ []) t l in subst P (sym mine) (events_own t xs x es a own events row));
+    before = es ++ a;
+    events = events_own t xs x es a own events row;
+    mine = mine ∙ sym (append-nil (es ++ a));
     share = share;
     is_share = is_share;
     each = λ m low.
@@ -57,14 +59,16 @@ module _ (p : Shape (Prim.Unit {0})) (t : ℕ) (xs : List Line) where
   held_by_other u h m (Needs k) ne = refl
   held_by_other u h m Nothing ne = refl
 
-  pub passed : (x : Line) (numbers : List ℕ) (b : Player) → (x.thread.0 ≡ t → ⊥) → IsPlaying p t xs numbers b → IsPlaying p t (xs ++ x ∷ []) numbers b
+  pub passed : (x : Line) (numbers : List ℕ) (b : Player) → (x.thread.0 ≡ t → ⊥) → IsPlaying p t xs [] numbers b → IsPlaying p t (xs ++ x ∷ []) [] numbers b
   passed x numbers b other s = record {
     rest = s.rest;
     number = s.number;
     world = s.world;
     size = s.size;
     held_size = s.held_size;
-    events = (let P : List Line → Type 0 = λ ys. AreRows t ys b.mine in subst P (sym (other_line t xs x other)) s.events);
+    before = s.before;
+    events = (let P : List Line → Type 0 = λ ys. AreRows t ys s.before in subst P (sym (other_line t xs x other)) s.events);
+    mine = s.mine;
     share = s.share;
     is_share = s.is_share;
     each = λ m low.
@@ -186,3 +190,27 @@ module _ (h : Holding) (t m : ℕ) (held : List (Opt ℕ)) (numbers : List ℕ) 
             let none : sums k + cond (eqb m k) n 0 ≡ sums k = rw (ne_eqb m k q.1) (omega arith) in
             number_else (h t k) held held m k (get_or numbers k 0) (get_or (set numbers m (get_or numbers m 0 + n)) k 0) share share (sums k) (sums k + cond (eqb m k) n 0) refl (get_or-set_other numbers m k (get_or numbers m 0 + n) 0 ne) refl none (each k lk)
       ]
+
+-- the holding after the mutex was given back and taken again
+taken_again : (h : Holding) (t m k : ℕ) → h t m ≡ true → held_if true (held_if false h t m) t m t k ≡ h t k
+taken_again h t m k own =
+    elim (eqb_tells m k) [
+      | inl q ↦
+          let P : ℕ → Type 0 = λ i. held_if true (held_if false h t m) t m t i ≡ h t i in
+          subst P q.1 (at_same true (held_if false h t m) t m ∙ sym own)
+      | inr q ↦ at_else true (held_if false h t m) t m k q.1 ∙ at_else false h t m k q.1
+    ]
+
+-- a wait gives the number back that was got as x, and gets y
+pub waited_for : (h : Holding) (t m : ℕ) (held : List (Opt ℕ)) (numbers : List ℕ) (share : List Added) (sums : ℕ → ℕ) → m < 64 → length numbers ≡ 64 → length held ≡ 64 → ((k : ℕ) → k < 64 → HasNumber (h t k) held k (get_or numbers k 0) share (sums k))
+    → (x y : ℕ) → h t m ≡ true → get_elem? held m ≡ some (Some x) → IsAbove m y (record { mutex = m; amount = get_or numbers m 0 - x } ∷ share)
+    → (k : ℕ) → k < 64 → HasNumber (h t k) (set held m (Some y)) k (get_or (set numbers m y) k 0) (record { mutex = m; amount = get_or numbers m 0 - x } ∷ share) (sums k)
+waited_for h t m held numbers share sums low size held_size each x y own got above k lk =
+    let given : List Added = record { mutex = m; amount = get_or numbers m 0 - x } ∷ share in
+    let free = released h t m held numbers share sums low size held_size each x own got in
+    let again = acquired (held_if false h t m) t m (set held m None) numbers given (λ i. sums i + 0) low size (length-set held m None ∙ held_size) free y (at_same false h t m) above k lk in
+    let plain : sums k + 0 + 0 ≡ sums k = omega arith in
+    let B : Bool → Type 0 = λ b. HasNumber b (set held m (Some y)) k (get_or (set numbers m y) k 0) given (sums k) in
+    let L : List (Opt ℕ) → Type 0 = λ l. HasNumber (held_if true (held_if false h t m) t m t k) l k (get_or (set numbers m y) k 0) given (sums k) in
+    let S : ℕ → Type 0 = λ n. HasNumber (held_if true (held_if false h t m) t m t k) (set (set held m None) m (Some y)) k (get_or (set numbers m y) k 0) given n in
+    subst B (taken_again h t m k own) (subst L (set-set held m None (Some y)) (subst S plain again))

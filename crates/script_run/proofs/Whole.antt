@@ -1,9 +1,10 @@
 -- The lines up to a place, and the whole of one thread's part.
-use Rattle.std.proofs.Common.{◌≡◌, ℕ, ◌<◌, List, [], length, get_or, take, drop, refl, sym, subst, ◌∙◌, true, false, Bool, Some, None, Option as Opt, arith}
+use Rattle.std.proofs.Common.{◌≡◌, ℕ, ◌<◌, List, [], length, get_or, take, drop, append-nil, refl, sym, subst, ◌∙◌, true, false, Bool, Some, None, Option as Opt, arith}
 use Rattle.std.proofs.lemmas.List.{take-append-drop}
 use Rattle.std.proofs.Math.Seq.{drop-cons}
 use mathlib.Core.Option.{some, some-injective}
 use lib.ListN.{get_elem?}
+use Rattle.larch_actions.specs.declared.event.Event.{Event}
 use Rattle.larch_actions.specs.declared.event.Layout.{Layout}
 use Rattle.nub_rule.specs.Known.{Shape}
 use Rattle.nub.specs.Ended.{IsFirst}
@@ -12,18 +13,18 @@ use Rattle.sum_uses.specs.Sums.{added}
 use Rattle.firefly_script.specs.declared.line.Line.{Line}
 use Rattle.firefly_script.specs.Operations.{none_held, held_after, MayCome, MayFollow}
 use Rattle.script_run.specs.Playing.{Player, HasNumber, IsPlaying, IsPlayed}
-use Rattle.firefly_script.specs.Runs.{lines_of, total}
+use Rattle.firefly_script.specs.Runs.{AreEventsOf, lines_of, total}
 use Rattle.firefly_script.specs.Text.{IsScript}
 use Rattle.script_run.proofs.Calls.{elem_low}
 use Rattle.firefly_script.proofs.Follow.{follow_split}
 
 -- the same under equal names
-pub moved : (p : Shape (Prim.Unit {0})) (t u : ℕ) (xs ys : List Line) (n k : List ℕ) (a b : Player) → t ≡ u → xs ≡ ys → k ≡ n → b ≡ a → IsPlaying p t xs n a → IsPlaying p u ys k b
+pub moved : (p : Shape (Prim.Unit {0})) (t u : ℕ) (xs ys : List Line) (n k : List ℕ) (a b : Player) → t ≡ u → xs ≡ ys → k ≡ n → b ≡ a → IsPlaying p t xs [] n a → IsPlaying p u ys [] k b
 moved p t u xs ys n k a b et ex en eb s =
-    let T : ℕ → Type 0 = λ v. IsPlaying p v ys k b in
-    let X : List Line → Type 0 = λ zs. IsPlaying p t zs k b in
-    let N : List ℕ → Type 0 = λ m. IsPlaying p t xs m b in
-    let B : Player → Type 0 = λ c. IsPlaying p t xs n c in
+    let T : ℕ → Type 0 = λ v. IsPlaying p v ys [] k b in
+    let X : List Line → Type 0 = λ zs. IsPlaying p t zs [] k b in
+    let N : List ℕ → Type 0 = λ m. IsPlaying p t xs [] m b in
+    let B : Player → Type 0 = λ c. IsPlaying p t xs [] n c in
     subst T et (subst X ex (subst N (sym en) (subst B (sym eb) s)))
 
 pub comes_at : (l : Layout) (xs : List Line) (i : ℕ) (d : Line) → MayFollow l none_held xs → i < length xs → MayFollow l none_held (take i xs) × MayCome l (held_after none_held (take i xs)) (get_or xs i d)
@@ -33,14 +34,16 @@ comes_at l xs i d f lt =
     let Q : List Line → Type 0 = λ ys. MayFollow l (held_after none_held (take i xs)) ys in
     (s.0, (subst Q (drop-cons xs i d lt) s.1).0)
 
-pub begins : (p : Shape (Prim.Unit {0})) (t : ℕ) (numbers : List ℕ) (me : Player) → length numbers ≡ 64 → IsFirst p (λ w n. let s : List Added = [] in s) t me → IsPlaying p t [] numbers me
+pub begins : (p : Shape (Prim.Unit {0})) (t : ℕ) (numbers : List ℕ) (me : Player) → length numbers ≡ 64 → IsFirst p (λ w n. let s : List Added = [] in s) t me → IsPlaying p t [] [] numbers me
 begins p t numbers me size f = record {
   rest = f.rest;
   number = f.number;
   world = f.world;
   size = size;
   held_size = f.size;
-  events = f.mine;
+  before = [];
+  events = refl;
+  mine = f.mine;
   share = [];
   is_share = f.share;
   each = λ m low. (f.lacks m low, refl);
@@ -54,7 +57,7 @@ lacks_value false held m number share sum e h = h
 none_some : (o : Opt ℕ) (x : ℕ) → o ≡ None → o ≡ Some x → ⊥
 none_some o x e f = let h : (let n : Opt ℕ = None in n) ≡ Some x = sym e ∙ f in absurd (cc)
 
-pub ends : (p : Shape (Prim.Unit {0})) (l : Layout) (t : ℕ) (xs : List Line) (numbers : List ℕ) (me : Player) → IsScript l xs → IsPlaying p t xs numbers me → IsPlayed p xs t me
+pub ends : (p : Shape (Prim.Unit {0})) (l : Layout) (t : ℕ) (xs : List Line) (numbers : List ℕ) (me : Player) → IsScript l xs → IsPlaying p t xs [] numbers me → IsPlayed p xs t me
 ends p l t xs numbers me script s =
     let at : (m : ℕ) → m < 64 → (get_elem? me.held m ≡ some None) × (added m s.share ≡ total (lines_of t xs) m) = λ m low. lacks_value (held_after none_held xs t m) me.held m (get_or numbers m 0) s.share (total (lines_of t xs) m) (script.free t m) (s.each m low) in
     record {
@@ -66,7 +69,7 @@ ends p l t xs numbers me script s =
             let none = at m (omega (arith, s.held_size)) in
             none_some (Some x) x (some-injective (Some x) None (sym e ∙ none.0)) refl;
       };
-      events = s.events;
+      events = (let P : List Event → Type 0 = λ l. AreEventsOf xs t l in subst P (sym (s.mine ∙ append-nil s.before)) s.events);
       share = s.share;
       is_share = s.is_share;
       sums = λ m low. (at m low).1;

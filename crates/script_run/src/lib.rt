@@ -8,6 +8,7 @@
 
 mod play;
 mod run;
+mod waits;
 
 pub use run::run_script;
 

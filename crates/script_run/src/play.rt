@@ -1,4 +1,4 @@
-// The part of one thread in the run of a script.
+//! The part of one thread in the run of a script.
 ghost use Rattle.std.specs.Prelude.{◌≡◌, ◌<◌, ◌∷◌, ◌++◌, [], List, length};
 ghost use Rattle.larch_actions.specs.Layout.{IsLawful};
 ghost use Rattle.firefly_script.specs.declared.line.Line.{Line};
@@ -7,7 +7,11 @@ ghost use Rattle.firefly_script.specs.Text.{IsScript};
 ghost use Rattle.script_run.specs.Playing.{IsPlaying, IsPlayed};
 ghost use Rattle.nub.specs.Ended.{IsFirst};
 
+use crate::waits::{alert_until, alert_wait_once, until, wait_once};
+use alert_wait::alert_p;
+use alerts::{alert, test_alert};
 use bin_semaphore::{p, v};
+use condition::{broadcast, signal};
 use firefly_script::{Line, Operation};
 use nub_rule::{Package, Thread};
 use std::sync::Wait;
@@ -24,12 +28,12 @@ fn play_line<R: Wait>(
 )
     requires lawful { IsLawful pkg.now.layout }
     requires own { line.now.thread.0 ≡ me.old.number }
-    requires playing { (xs : List Line) × IsPlaying pkg.now me.old.number xs numbers.old me.old
+    requires playing { (xs : List Line) × IsPlaying pkg.now me.old.number xs [] numbers.old me.old
         × MayCome pkg.now.layout (held_after none_held xs) line.now × MayFollow pkg.now.layout none_held xs
         × (length xs < 99999) }
-    ensures { (xs : List Line) → IsPlaying pkg.now me.old.number xs numbers.old me.old
+    ensures { (xs : List Line) → IsPlaying pkg.now me.old.number xs [] numbers.old me.old
         → MayCome pkg.now.layout (held_after none_held xs) line.now → MayFollow pkg.now.layout none_held xs → length xs < 99999
-        → IsPlaying pkg.now me.old.number (xs ++ line.now ∷ []) numbers.new me.new }
+        → IsPlaying pkg.now me.old.number (xs ++ line.now ∷ []) [] numbers.new me.new }
 {
     match &line.operation {
         Operation::Acquire { mutex } => {
@@ -39,10 +43,35 @@ fn play_line<R: Wait>(
             let number = numbers[mutex.0 as usize];
             release::<SumUses, AddChange, R>(rt, pkg, me, *mutex, number);
         }
+        Operation::Wait { mutex, cond } => wait_once(rt, pkg, me, numbers, *mutex, *cond),
+        Operation::AlertWait { mutex, cond } => {
+            let _ = alert_wait_once(rt, pkg, me, numbers, *mutex, *cond);
+        }
+        Operation::Signal { cond } => signal(rt, pkg, me, *cond),
+        Operation::Broadcast { cond } => broadcast(rt, pkg, me, *cond),
         Operation::P { sem } => p(rt, pkg, me, *sem),
         Operation::V { sem } => v(rt, pkg, me, *sem),
+        Operation::Alert { who } => alert(rt, pkg, me, *who),
+        Operation::TestAlert => {
+            let _ = test_alert(rt, pkg, me);
+        }
+        Operation::AlertP { sem } => {
+            let _ = alert_p(rt, pkg, me, *sem);
+        }
         Operation::Add { mutex, number } => {
             numbers[mutex.0 as usize] += *number;
+        }
+        Operation::Until {
+            mutex,
+            cond,
+            number,
+        } => until(rt, pkg, me, numbers, *mutex, *cond, *number),
+        Operation::AlertUntil {
+            mutex,
+            cond,
+            number,
+        } => {
+            let _ = alert_until(rt, pkg, me, numbers, *mutex, *cond, *number);
         }
     }
 }

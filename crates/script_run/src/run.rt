@@ -1,5 +1,5 @@
-// Running scripts.
-ghost use Rattle.std.specs.Prelude.{◌≡◌, ◌<◌, ℕ, List, [], map, replicate, length, slice_index, IfOk, Some};
+//! Running scripts.
+ghost use Rattle.std.specs.Prelude.{◌≡◌, ◌<◌, ◌≤◌, ℕ, List, [], map, replicate, length, slice_index, IfOk, Some};
 ghost use Rattle.std.specs.List.{AllByRecursion};
 ghost use Rattle.larch_actions.specs.declared.event.Event.{Event};
 ghost use Rattle.larch_actions.specs.Layout.{HasNames};
@@ -11,7 +11,7 @@ ghost use Rattle.firefly_script.specs.Runs.{AreEventsOf, total};
 ghost use Rattle.script_run.specs.Playing.{IsPlayed};
 
 use crate::play::play;
-use firefly_script::{Line, Script};
+use firefly_script::{Line, Operation, Script};
 use nub::{Closed, close_package, open_package};
 use nub_rule::{Package, Thread};
 use std::alloc::{AllocError, Global};
@@ -27,20 +27,54 @@ fn zeros(alloc: Global, count: u32) -> Result<Vec<u64>, AllocError>
     vec![in alloc; 0; count as usize]
 }
 
-// How many of the lines are the thread's own.
-fn own_lines(lines: &[Line], number: u32) -> usize {
-    lines.iter().filter(|line| line.thread.0 == number).count()
+// How many events the call makes. Of `until` and `alert-until` nobody knows it beforehand: they count as one wait.
+fn call_events(operation: &Operation) -> usize
+    ensures { result ≤ 2 }
+{
+    match operation {
+        Operation::Add {
+            mutex: _,
+            number: _,
+        } => 0,
+        Operation::Wait { mutex: _, cond: _ } => 2,
+        Operation::AlertWait { mutex: _, cond: _ } => 2,
+        Operation::Until {
+            mutex: _,
+            cond: _,
+            number: _,
+        } => 2,
+        Operation::AlertUntil {
+            mutex: _,
+            cond: _,
+            number: _,
+        } => 2,
+        _ => 1,
+    }
 }
 
-// The threads, with room for all their events, of which a line makes at most one.
+// How many events the thread's own lines make.
+fn own_events(lines: &[Line], number: u32) -> usize
+    requires { length lines.now < 100000 }
+{
+    let mut events = 0;
+    for line in lines {
+        if line.thread.0 == number {
+            events += call_events(&line.operation);
+        }
+    }
+    events
+}
+
+// The threads, with room for the events of their lines. Where an `until` waits oftener than once, the list grows in the run.
 fn with_room(
     mut threads: Vec<Thread<SumUses>>,
     lines: &[Line],
 ) -> Result<Vec<Thread<SumUses>>, AllocError>
+    requires { length lines.now < 100000 }
     ensures { IfOk result (λ ts. ts.items ≡ threads.items) }
 {
     for at in 0..threads.len() {
-        let further = own_lines(lines, threads[at].number());
+        let further = own_events(lines, threads[at].number());
         threads[at].reserve(further)?;
     }
     Ok(threads)
@@ -85,8 +119,9 @@ fn play_all<R: Threads + Wait + Sync>(
 
 /// Runs a script: a thread for each number in a traced package of its own, which is closed when all have ended.
 ///
-/// Room for all events is taken before the first thread starts: for these a run is refused at once or not at all. Where a thread can't be
-/// started, its lines are played here once all others were started. A run may wait for ever.
+/// Room for the events is taken before the first thread starts, with one wait for each `until` and `alert-until`. Where these wait oftener
+/// and there is no memory for it, the run goes on to its end and is refused then. Where a thread can't be started, its lines are played
+/// here once all others were started. A run may wait for ever.
 pub fn run_script<R: Threads + Wait + Sync>(
     rt: &R,
     alloc: Global,

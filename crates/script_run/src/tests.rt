@@ -91,3 +91,43 @@ fn each_sleeper_is_woken_by_its_own_unparker(rt: HostRuntime) -> Result<(), Fail
     assert_eq!(rt; closed.trace().ok_or("no trace")?.len(), 2024);
     Ok(())
 }
+
+// Thread 0 needs three from thread 1, which signals after each one that it adds. It ends in every schedule, with no more than three waits.
+#[test]
+fn an_until_ends_when_enough_was_added(rt: HostRuntime) -> Result<(), Fail> {
+    let alloc = rt.alloc();
+    let mut text = String::from_str(
+        alloc,
+        "threads 2 mutexes 1 conditions 1 semaphores 0\nt0 acquire m0\nt0 until m0 c0 3\nt0 release m0\n",
+    )?;
+    for _ in 0..3 {
+        text.push_str("t1 acquire m0\nt1 add m0 1\nt1 signal c0\nt1 release m0\n")?;
+    }
+    let read = script(alloc, text.as_str())?;
+    for _ in 0..20 {
+        let closed = run_script(&rt, alloc, &read)?;
+        assert_eq!(rt; closed.values(), [3].as_slice());
+        let events = closed.trace().ok_or("no trace")?.len();
+        assert!(rt;
+            events == 11 || events == 13 || events == 15 || events == 17,
+            "{events}"
+        );
+    }
+    Ok(())
+}
+
+// Thread 1 finds a one only where thread 0 waits in c0 already, so its broadcast ends that wait. It ends in every schedule.
+#[test]
+fn a_wait_gives_the_mutex_to_another_thread(rt: HostRuntime) -> Result<(), Fail> {
+    let alloc = rt.alloc();
+    let text =
+        "threads 2 mutexes 1 conditions 2 semaphores 0\nt0 acquire m0\nt0 add m0 1\nt0 signal c1\nt0 wait m0 c0\nt0 add m0 1\nt0 release m0\nt1 acquire m0\nt1 until m0 c1 1\nt1 add m0 5\nt1 broadcast c0\nt1 release m0\n";
+    let read = script(alloc, text)?;
+    for _ in 0..20 {
+        let closed = run_script(&rt, alloc, &read)?;
+        assert_eq!(rt; closed.values(), [7].as_slice());
+        let events = closed.trace().ok_or("no trace")?.len();
+        assert!(rt; events == 8 || events == 10, "{events}");
+    }
+    Ok(())
+}

@@ -1,10 +1,14 @@
-use Rattle.std.proofs.Common.{◌≡◌, ◌-◌, ◌∷◌, List, Some, Option, slice_index_or, refl, sym, subst, ◌∙◌, arith}
+use Rattle.std.proofs.Common.{◌≡◌, ◌-◌, [], ◌∷◌, ◌++◌, List, Some, Option, slice_index_or, refl, sym, subst, ◌∙◌, arith}
 use Rattle.sum_uses.specs.declared.added.Added.{Added}
 use Rattle.sum_uses.specs.Sums.{GrowsAlike}
-use Rattle.firefly_script.specs.declared.line.Operation.TheVariants.{Acquire, Release, P, V, Add}
+use Rattle.firefly_script.specs.declared.line.Operation.TheVariants.{Acquire, Release, Wait, AlertWait, Signal, Broadcast, P, V, Alert, TestAlert, AlertP, Add, Until, AlertUntil}
 use Rattle.larch_actions.specs.declared.event.Action.TheVariants as action
-use Rattle.firefly_script.specs.Runs.{event}
-use Rattle.script_run.proofs.Calls.{after_acquire, after_release, after_quiet, after_add, release_needs, add_fits, named_own}
+use Rattle.firefly_script.specs.Runs.{event, returned, times, waited}
+use Rattle.larch_actions.specs.Sets.{set_of}
+use Rattle.alert_wait.specs.Outcomes.{p_end}
+use Rattle.script_run.specs.Playing.{alertable, given_up}
+use Rattle.script_run.proofs.Calls.{after_acquire, after_release, after_quiet, after_add, has_mutex, release_needs, add_fits, named_own}
+use Rattle.script_run.proofs.Waiting.{alertable_row, finished, given_up_is, p_row}
 use Rattle.script_run.proofs.play.play_line.Goals as goal
 
 some_same : (r s : List Added) → (let o : Option (List Added) = Some r in o) ≡ Some s → r ≡ s
@@ -64,3 +68,135 @@ returns-in-Add g c xs s may follow few =
     let n = c.in-Add.number in
     let named = named_own c.args.pkg.now.layout c.args.line.now.operation (Add m n) c.in-Add.is may.named in
     after_add c.args.pkg.now xs c.args.numbers.now c.args.me.now c.args.line.now s c.requires.own m n c.in-Add.is (omega (arith, named.0, c.requires.lawful.mutexes)) may.may
+
+pub wait_once-requires-clause-named : goal.wait_once-requires-clause-named
+wait_once-requires-clause-named g c =
+    let m = c.in-Wait.mutex in
+    let k = c.in-Wait.cond in
+    let named = named_own c.args.pkg.now.layout c.args.line.now.operation (Wait m k) c.in-Wait.is c.requires.playing.2.named in
+    (named.0, named.1.0)
+
+pub wait_once-requires-clause-playing : goal.wait_once-requires-clause-playing
+wait_once-requires-clause-playing g c =
+    let q = c.requires.playing in
+    let m = c.in-Wait.mutex in
+    let k = c.in-Wait.cond in
+    let has = has_mutex c.args.pkg.now q.0 c.args.numbers.now c.args.me.now c.args.line.now q.1 c.requires.own (Wait m k) m c.args.pkg.now.layout c.in-Wait.is refl q.2.may q.3 q.4 in
+    (q.0, [], q.1, has)
+
+pub returns-in-Wait : goal.returns-in-Wait
+returns-in-Wait g c xs s may follow few =
+    let m = c.in-Wait.mutex in
+    let k = c.in-Wait.cond in
+    let t = c.args.me.now.number in
+    let has = has_mutex c.args.pkg.now xs c.args.numbers.now c.args.me.now c.args.line.now s c.requires.own (Wait m k) m c.args.pkg.now.layout c.in-Wait.is refl may.may follow few in
+    finished c.args.pkg.now t xs (waited t m k) c.wait_once.new.numbers c.wait_once.new.me c.args.line.now (Wait m k) m c.requires.own c.in-Wait.is refl refl (λ i. refl) (c.wait_once.ensures xs [] s has)
+
+pub alert_wait_once-requires-clause-named : goal.alert_wait_once-requires-clause-named
+alert_wait_once-requires-clause-named g c =
+    let m = c.in-AlertWait.mutex in
+    let k = c.in-AlertWait.cond in
+    let named = named_own c.args.pkg.now.layout c.args.line.now.operation (AlertWait m k) c.in-AlertWait.is c.requires.playing.2.named in
+    (named.0, named.1.0)
+
+pub alert_wait_once-requires-clause-playing : goal.alert_wait_once-requires-clause-playing
+alert_wait_once-requires-clause-playing g c =
+    let q = c.requires.playing in
+    let m = c.in-AlertWait.mutex in
+    let k = c.in-AlertWait.cond in
+    let has = has_mutex c.args.pkg.now q.0 c.args.numbers.now c.args.me.now c.args.line.now q.1 c.requires.own (AlertWait m k) m c.args.pkg.now.layout c.in-AlertWait.is refl q.2.may q.3 q.4 in
+    (q.0, [], q.1, has)
+
+pub returns-in-AlertWait : goal.returns-in-AlertWait
+returns-in-AlertWait g c xs s may follow few =
+    let m = c.in-AlertWait.mutex in
+    let k = c.in-AlertWait.cond in
+    let t = c.args.me.now.number in
+    let has = has_mutex c.args.pkg.now xs c.args.numbers.now c.args.me.now c.args.line.now s c.requires.own (AlertWait m k) m c.args.pkg.now.layout c.in-AlertWait.is refl may.may follow few in
+    let r = c.alert_wait_once.result in
+    finished c.args.pkg.now t xs (alertable r t m k) c.alert_wait_once.new.numbers c.alert_wait_once.new.me c.args.line.now (AlertWait m k) m c.requires.own c.in-AlertWait.is (alertable_row r t m k) refl (λ i. refl) (c.alert_wait_once.ensures xs [] s has)
+
+pub until-requires-clause-named : goal.until-requires-clause-named
+until-requires-clause-named g c =
+    let m = c.in-Until.mutex in
+    let k = c.in-Until.cond in
+    let n = c.in-Until.number in
+    let named = named_own c.args.pkg.now.layout c.args.line.now.operation (Until m k n) c.in-Until.is c.requires.playing.2.named in
+    (named.0, named.1.0)
+
+pub until-requires-clause-playing : goal.until-requires-clause-playing
+until-requires-clause-playing g c =
+    let q = c.requires.playing in
+    let m = c.in-Until.mutex in
+    let k = c.in-Until.cond in
+    let n = c.in-Until.number in
+    let has = has_mutex c.args.pkg.now q.0 c.args.numbers.now c.args.me.now c.args.line.now q.1 c.requires.own (Until m k n) m c.args.pkg.now.layout c.in-Until.is refl q.2.may q.3 q.4 in
+    (q.0, q.1, has)
+
+pub returns-in-Until : goal.returns-in-Until
+returns-in-Until g c xs s may follow few =
+    let m = c.in-Until.mutex in
+    let k = c.in-Until.cond in
+    let n = c.in-Until.number in
+    let t = c.args.me.now.number in
+    let has = has_mutex c.args.pkg.now xs c.args.numbers.now c.args.me.now c.args.line.now s c.requires.own (Until m k n) m c.args.pkg.now.layout c.in-Until.is refl may.may follow few in
+    let p = c.until.ensures.played xs s has in
+    finished c.args.pkg.now t xs (times p.0 (waited t m k)) c.until.new.numbers c.until.new.me c.args.line.now (Until m k n) m c.requires.own c.in-Until.is (p.0, refl) refl (λ i. refl) p.1
+
+pub alert_until-requires-clause-named : goal.alert_until-requires-clause-named
+alert_until-requires-clause-named g c =
+    let m = c.in-AlertUntil.mutex in
+    let k = c.in-AlertUntil.cond in
+    let n = c.in-AlertUntil.number in
+    let named = named_own c.args.pkg.now.layout c.args.line.now.operation (AlertUntil m k n) c.in-AlertUntil.is c.requires.playing.2.named in
+    (named.0, named.1.0)
+
+pub alert_until-requires-clause-playing : goal.alert_until-requires-clause-playing
+alert_until-requires-clause-playing g c =
+    let q = c.requires.playing in
+    let m = c.in-AlertUntil.mutex in
+    let k = c.in-AlertUntil.cond in
+    let n = c.in-AlertUntil.number in
+    let has = has_mutex c.args.pkg.now q.0 c.args.numbers.now c.args.me.now c.args.line.now q.1 c.requires.own (AlertUntil m k n) m c.args.pkg.now.layout c.in-AlertUntil.is refl q.2.may q.3 q.4 in
+    (q.0, q.1, has)
+
+pub returns-in-AlertUntil : goal.returns-in-AlertUntil
+returns-in-AlertUntil g c xs s may follow few =
+    let m = c.in-AlertUntil.mutex in
+    let k = c.in-AlertUntil.cond in
+    let n = c.in-AlertUntil.number in
+    let t = c.args.me.now.number in
+    let has = has_mutex c.args.pkg.now xs c.args.numbers.now c.args.me.now c.args.line.now s c.requires.own (AlertUntil m k n) m c.args.pkg.now.layout c.in-AlertUntil.is refl may.may follow few in
+    let r = c.alert_until.result in
+    let p = c.alert_until.ensures.played xs s has in
+    finished c.args.pkg.now t xs (times p.0 (returned t m k) ++ given_up r t m k) c.alert_until.new.numbers c.alert_until.new.me c.args.line.now (AlertUntil m k n) m c.requires.own c.in-AlertUntil.is (given_up_is r t p.0 m k n) refl (λ i. refl) p.1
+
+pub returns-in-Signal : goal.returns-in-Signal
+returns-in-Signal g c xs s may follow few =
+    let e = c.signal.ensures in
+    let t = c.args.me.now.number in
+    after_quiet c.args.pkg.now xs c.args.numbers.now c.args.me.now c.args.line.now s c.requires.own (Signal c.in-Signal.cond) (event t (action.Signal c.in-Signal.cond (set_of e.event.0))) c.signal.new.me c.in-Signal.is (set_of e.event.0, refl) refl (λ m. refl) e.rest e.same e.event.1 e.held e.share
+
+pub returns-in-Broadcast : goal.returns-in-Broadcast
+returns-in-Broadcast g c xs s may follow few =
+    let e = c.broadcast.ensures in
+    let t = c.args.me.now.number in
+    after_quiet c.args.pkg.now xs c.args.numbers.now c.args.me.now c.args.line.now s c.requires.own (Broadcast c.in-Broadcast.cond) (event t (action.Broadcast c.in-Broadcast.cond)) c.broadcast.new.me c.in-Broadcast.is refl refl (λ m. refl) e.rest e.same e.event e.held e.share
+
+pub returns-in-Alert : goal.returns-in-Alert
+returns-in-Alert g c xs s may follow few =
+    let e = c.alert.ensures in
+    let t = c.args.me.now.number in
+    after_quiet c.args.pkg.now xs c.args.numbers.now c.args.me.now c.args.line.now s c.requires.own (Alert c.in-Alert.who) (event t (action.Alert c.in-Alert.who)) c.alert.new.me c.in-Alert.is refl refl (λ m. refl) e.rest e.same e.event e.held e.share
+
+pub returns-in-TestAlert : goal.returns-in-TestAlert
+returns-in-TestAlert g c xs s may follow few =
+    let e = c.test_alert.ensures in
+    let t = c.args.me.now.number in
+    after_quiet c.args.pkg.now xs c.args.numbers.now c.args.me.now c.args.line.now s c.requires.own TestAlert (event t (action.TestAlert c.test_alert.result)) c.test_alert.new.me c.in-TestAlert.is (c.test_alert.result, refl) refl (λ m. refl) e.rest e.same e.event e.held e.share
+
+pub returns-in-AlertP : goal.returns-in-AlertP
+returns-in-AlertP g c xs s may follow few =
+    let e = c.alert_p.ensures in
+    let t = c.args.me.now.number in
+    after_quiet c.args.pkg.now xs c.args.numbers.now c.args.me.now c.args.line.now s c.requires.own (AlertP c.in-AlertP.sem) (p_end c.alert_p.result t c.in-AlertP.sem.0) c.alert_p.new.me c.in-AlertP.is (p_row c.alert_p.result t c.in-AlertP.sem) refl (λ m. refl) e.rest e.same e.event e.held e.share

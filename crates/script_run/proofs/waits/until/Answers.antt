@@ -1,0 +1,25 @@
+use Rattle.std.proofs.Common.{◌≡◌, ◌<◌, ◌≤◌, ◌++◌, ℕ, suc, List, [], get_or, sym, ap, subst, ◌∙◌, arith}
+use Rattle.larch_actions.specs.declared.event.Event.{Event}
+use Rattle.firefly_script.specs.Runs.{times, waited}
+use Rattle.script_run.specs.Playing.{IsPlaying, HasMutex}
+use Rattle.script_run.proofs.Waiting.{numbered, has_numbered, once_more}
+use Rattle.script_run.proofs.waits.until.Goals as goal
+
+pub loop-preserved : goal.loop-preserved
+loop-preserved g c =
+    let p = c.args.pkg.now in
+    let t = c.args.me.now.number in
+    let m = c.args.mutex in
+    let k = c.args.cond in
+    let v = c.loop.invariant in
+    let q = c.requires.playing in
+    let step : (xs : List _) → IsPlaying p t xs [] c.args.numbers.now c.args.me.now → HasMutex p.layout t xs m.0 → (n : ℕ) × IsPlaying p c.loop.me.number xs (times n (waited t m k) ++ waited c.loop.me.number m k) c.wait_once.new.numbers c.wait_once.new.me =
+    λ xs s has.
+    let r = v.played xs s has in
+    (r.0, c.wait_once.ensures xs (times r.0 (waited t m k)) (numbered p t c.loop.me.number xs _ _ _ (sym v.same) r.1) (has_numbered p.layout t c.loop.me.number xs m.0 (sym v.same) has))
+    in
+    record {
+      same = (step q.0 q.1 q.2).1.number ∙ v.same;
+      played = λ xs s has. let r = step xs s has in (suc r.0, once_more (λ u. waited u m k) p t c.loop.me.number xs r.0 _ _ v.same r.1);
+      no_wait = λ le. let same = (v.no_wait le).0 in let here : get_or c.loop.numbers m.0 0 ≡ get_or c.args.numbers.now m.0 0 = ap (λ l. get_or l m.0 0) same in let less = c.if-numbers-mutex.false in absurd (omega arith);
+    }

@@ -1,0 +1,123 @@
+//! The waits of a line: the mutex is held before and afterwards, and its number is got anew.
+ghost use Rattle.std.specs.Prelude.{◌≡◌, ◌<◌, ◌≤◌, ◌++◌, ℕ, [], List, slice_index};
+ghost use Rattle.larch_actions.specs.Layout.{IsLawful};
+ghost use Rattle.larch_actions.specs.declared.event.Event.{Event};
+ghost use Rattle.alert_wait.specs.declared.outcome.Outcome.TheVariants.{Returned};
+ghost use Rattle.firefly_script.specs.declared.line.Line.{Line};
+ghost use Rattle.firefly_script.specs.Runs.{returned, times, waited};
+ghost use Rattle.script_run.specs.Playing.{IsPlaying, HasMutex, alertable, given_up};
+
+use alert_wait::{Outcome, alert_wait};
+use condition::wait;
+use larch_actions::{CondId, MutexId};
+use nub_rule::{Package, Thread};
+use std::sync::Wait;
+use sum_uses::{AddChange, SumUses};
+
+/// Waits in the condition once. It blocks until a Signal or Broadcast takes the thread out, and then until it gets the mutex.
+pub fn wait_once<R: Wait>(
+    rt: &R,
+    pkg: &Package<SumUses>,
+    me: &mut Thread<SumUses>,
+    numbers: &mut [u64],
+    mutex: MutexId,
+    cond: CondId,
+)
+    requires lawful { IsLawful pkg.now.layout }
+    requires named { (mutex.0 < pkg.now.layout.mutexes) × (cond.0 < pkg.now.layout.conditions) }
+    requires playing { (xs : List Line) × (es : List Event) × IsPlaying pkg.now me.old.number xs es numbers.old me.old
+        × HasMutex pkg.now.layout me.old.number xs mutex.0 }
+    ensures { (xs : List Line) (es : List Event) → IsPlaying pkg.now me.old.number xs es numbers.old me.old
+        → HasMutex pkg.now.layout me.old.number xs mutex.0
+        → IsPlaying pkg.now me.old.number xs (es ++ waited me.old.number mutex cond) numbers.new me.new }
+{
+    let at = mutex.0 as usize;
+    let number = numbers[at];
+    numbers[at] = wait::<SumUses, AddChange, R>(rt, pkg, me, mutex, cond, number);
+}
+
+/// The same, where an alert of the thread may end the wait too.
+pub fn alert_wait_once<R: Wait>(
+    rt: &R,
+    pkg: &Package<SumUses>,
+    me: &mut Thread<SumUses>,
+    numbers: &mut [u64],
+    mutex: MutexId,
+    cond: CondId,
+) -> Outcome
+    requires lawful { IsLawful pkg.now.layout }
+    requires named { (mutex.0 < pkg.now.layout.mutexes) × (cond.0 < pkg.now.layout.conditions) }
+    requires playing { (xs : List Line) × (es : List Event) × IsPlaying pkg.now me.old.number xs es numbers.old me.old
+        × HasMutex pkg.now.layout me.old.number xs mutex.0 }
+    ensures { (xs : List Line) (es : List Event) → IsPlaying pkg.now me.old.number xs es numbers.old me.old
+        → HasMutex pkg.now.layout me.old.number xs mutex.0
+        → IsPlaying pkg.now me.old.number xs (es ++ alertable result me.old.number mutex cond) numbers.new me.new }
+{
+    let at = mutex.0 as usize;
+    let number = numbers[at];
+    let (outcome, got) = alert_wait::<SumUses, AddChange, R>(rt, pkg, me, mutex, cond, number);
+    numbers[at] = got;
+    outcome
+}
+
+/// Waits in the condition as long as the number of the mutex is less than this one, and looks again after each wait. It may wait for ever.
+pub fn until<R: Wait>(
+    rt: &R,
+    pkg: &Package<SumUses>,
+    me: &mut Thread<SumUses>,
+    numbers: &mut [u64],
+    mutex: MutexId,
+    cond: CondId,
+    awaited: u64,
+)
+    requires lawful { IsLawful pkg.now.layout }
+    requires named { (mutex.0 < pkg.now.layout.mutexes) × (cond.0 < pkg.now.layout.conditions) }
+    requires playing { (xs : List Line) × IsPlaying pkg.now me.old.number xs [] numbers.old me.old
+        × HasMutex pkg.now.layout me.old.number xs mutex.0 }
+    ensures played { (xs : List Line) → IsPlaying pkg.now me.old.number xs [] numbers.old me.old
+        → HasMutex pkg.now.layout me.old.number xs mutex.0
+        → (k : ℕ) × IsPlaying pkg.now me.old.number xs (times k (waited me.old.number mutex cond)) numbers.new me.new }
+    ensures enough { awaited ≤ slice_index numbers.new mutex.0 }
+    ensures no_wait { awaited ≤ slice_index numbers.old mutex.0 → (numbers.new ≡ numbers.old) × (me.new ≡ me.old) }
+{
+    for _ in rt.forever() {
+        if numbers[mutex.0 as usize] >= awaited {
+            return;
+        }
+        wait_once(rt, pkg, me, numbers, mutex, cond);
+    }
+    unreachable!()
+}
+
+/// The same by waits that an alert of the thread may end. After the first that one ends it gives up.
+pub fn alert_until<R: Wait>(
+    rt: &R,
+    pkg: &Package<SumUses>,
+    me: &mut Thread<SumUses>,
+    numbers: &mut [u64],
+    mutex: MutexId,
+    cond: CondId,
+    awaited: u64,
+) -> Outcome
+    requires lawful { IsLawful pkg.now.layout }
+    requires named { (mutex.0 < pkg.now.layout.mutexes) × (cond.0 < pkg.now.layout.conditions) }
+    requires playing { (xs : List Line) × IsPlaying pkg.now me.old.number xs [] numbers.old me.old
+        × HasMutex pkg.now.layout me.old.number xs mutex.0 }
+    ensures played { (xs : List Line) → IsPlaying pkg.now me.old.number xs [] numbers.old me.old
+        → HasMutex pkg.now.layout me.old.number xs mutex.0
+        → (k : ℕ) × IsPlaying pkg.now me.old.number xs (times k (returned me.old.number mutex cond)
+        ++ given_up result me.old.number mutex cond) numbers.new me.new }
+    ensures enough { result ≡ Returned → awaited ≤ slice_index numbers.new mutex.0 }
+    ensures no_wait { awaited ≤ slice_index numbers.old mutex.0 → (numbers.new ≡ numbers.old) × (me.new ≡ me.old) }
+{
+    for _ in rt.forever() {
+        if numbers[mutex.0 as usize] >= awaited {
+            return Outcome::Returned;
+        }
+        match alert_wait_once(rt, pkg, me, numbers, mutex, cond) {
+            Outcome::Returned => {}
+            Outcome::Alerted => return Outcome::Alerted,
+        }
+    }
+    unreachable!()
+}
