@@ -17,6 +17,8 @@ mod index_texts;
 #[cfg(test)]
 mod run_texts;
 #[cfg(test)]
+mod runs;
+#[cfg(test)]
 mod script_reading;
 #[cfg(test)]
 mod statuses;
@@ -24,3 +26,5 @@ mod statuses;
 mod trees;
 #[cfg(test)]
 mod verdict_lines;
+#[cfg(test)]
+mod wait_texts;
