@@ -7,8 +7,9 @@ use crate::names::{Names, add_name, entries_of};
 use crate::tree::MOST_BYTES;
 use crate::{Entry, FileBytes, Kind, Text, Tree, TreeError};
 use std::alloc::Global;
-use std::fs::DirEntry;
+use std::fs::{DirEntry, Metadata, OpenFile};
 use std::io::{ErrorKind, Read};
+use std::os::unix::fs::MetadataExt;
 use std::rt::Files;
 use std::{fs, io};
 
@@ -112,6 +113,11 @@ fn list_entries<R: Files + AllocGlobal + Clone + Drop>(
     entries_of(alloc, names)
 }
 
+// Whether both are of one file.
+fn is_same(looked: &Metadata, opened: &Metadata) -> bool {
+    opened.is_file() && looked.dev() == opened.dev() && looked.ino() == opened.ino()
+}
+
 // Reads a file that is no link, at most as far as shows that it is too long.
 fn read_bytes<R: Files + AllocGlobal>(
     files: &R,
@@ -120,8 +126,8 @@ fn read_bytes<R: Files + AllocGlobal>(
 ) -> Result<FileBytes, TreeError>
     ensures { IfOk result IsWithin }
 {
-    let length = match fs::symlink_metadata(files, path) {
-        Ok(metadata) if metadata.is_file() => metadata.len(),
+    let looked = match fs::symlink_metadata(files, path) {
+        Ok(metadata) if metadata.is_file() => metadata,
         Ok(_) => return Err(TreeError::Failed),
         Err(error) => return Err(error_of(error)),
     };
@@ -129,7 +135,13 @@ fn read_bytes<R: Files + AllocGlobal>(
         Ok(file) => file,
         Err(error) => return Err(error_of(error)),
     };
-    read_open(alloc, file, length)
+    // Between the look and the opening the file may have been exchanged for a link.
+    match file.metadata() {
+        Ok(opened) if is_same(&looked, &opened) => {}
+        Ok(_) => return Err(TreeError::Failed),
+        Err(error) => return Err(error_of(error)),
+    }
+    read_open(alloc, file, looked.len())
 }
 
 // Reads an open file that says to have so many bytes. Most files are read by one call.
