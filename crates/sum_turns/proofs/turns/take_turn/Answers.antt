@@ -1,11 +1,8 @@
-use Rattle.std.proofs.Common.{◌≡◌, ◌≤◌, ◌+◌, ℕ, Some, None, arith, rules, refl, ap, sym, subst, ◌∙◌, slice_set, List}
-use lib.ListN.{get_elem?}
+use Rattle.std.proofs.Common.{◌+◌, ℕ, Some, None, arith, ap, sym, ◌∙◌, slice_set}
 use Rattle.std.proofs.lemmas.List.{set-set}
-use Rattle.std.proofs.lemmas.Option.{same_Some}
 use Rattle.atomic_table.proofs.Lists.{set_again}
 use Rattle.nub.proofs.Users.{idle_again}
-use Rattle.sum_uses.specs.declared.added.Added.{Added}
-use Rattle.sum_uses.specs.Sums.{IsAbove, added, grown}
+use Rattle.sum_uses.specs.Sums.{grown}
 use Rattle.sum_uses.proofs.Adding.{adding_grows}
 use Rattle.sum_turns.proofs.turns.take_turn.Goals as goal
 
