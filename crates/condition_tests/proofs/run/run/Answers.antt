@@ -1,0 +1,27 @@
+use Rattle.std.proofs.Common.{[], arith, rules, ap, sym, subst, ◌∙◌}
+use lib.ListN.{get_elem?}
+use Rattle.larch_actions.specs.Layout.{IsLawful}
+use Rattle.nub.specs.Ended.{IsDone}
+use Rattle.nub.proofs.Users.{idle_own}
+use Rattle.sum_uses.proofs.Adding.{sums_begin, all_zero}
+use Rattle.condition_tests.proofs.run.run.Goals as goal
+
+pub open_package-requires-clause-holds : goal.open_package-requires-clause-holds
+open_package-requires-clause-holds g c κs =
+    let few = c.requires.lawful.threads in
+    sums_begin c.in_ok-values.values.items c.args.layout.threads (λ m x e. all_zero c.args.layout.mutexes m x (ap (λ l. get_elem? l m) (sym c.in_ok-values.ensures) ∙ e)) (omega arith)
+
+pub at_once-requires-after_bounds : goal.at_once-requires-after_bounds
+at_once-requires-after_bounds g c κs within = λ n t at.
+    let layout = c.in_ok-pkg.ensures.package.0 in
+    let mutexes = ap (λ l. l.mutexes) layout in
+    let conditions = ap (λ l. l.conditions) layout in
+    let two = c.requires.named.0 in
+    let more = c.requires.named.1 in
+    (subst (λ l. IsLawful l) (sym layout) c.requires.lawful, omega arith, omega arith, idle_own c.in_ok-pkg.pkg (λ w t. []) n t (c.in_ok-pkg.ensures.threads n t at))
+
+pub close_package-requires-clause-threads : goal.close_package-requires-clause-threads
+close_package-requires-clause-threads g c κs = λ n t at.
+    let back = c.in_ok-threads.ensures.each n t at in
+    let own : IsDone c.in_ok-pkg.pkg back.was.number t = (let goes = back.goes in search rules) in
+    subst (λ k. IsDone c.in_ok-pkg.pkg k t) (c.in_ok-pkg.ensures.threads n back.was back.is_was).number own
