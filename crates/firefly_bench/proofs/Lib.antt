@@ -1,1 +1,2 @@
 mod Crewing
+mod Inside

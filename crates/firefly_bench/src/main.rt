@@ -3,11 +3,16 @@
 #![tactic(auto)]
 
 mod adding;
+mod calling;
+mod playing;
+mod rounds;
 mod turning;
 mod words;
 
 use adding::{Added, add_at_once};
 use anyhow::{Context, Result};
+use calling::call_alone;
+use playing::{Play, play_at_once};
 use std::alloc::Global;
 use std::env;
 use std::sync::Wait;
@@ -16,12 +21,17 @@ use turning::turn_at_once;
 use words::{Count, Workload};
 
 /// What is run where no words are given.
-const SMALL: [&str; 5] = [
+const SMALL: [&str; 10] = [
     "uncontended 1000",
     "contended 2 1000",
     "contended 4 500 20",
     "semaphore 1000",
     "sem_pingpong 1000",
+    "uncontended_signal 1000",
+    "uncontended_broadcast 1000",
+    "pingpong 1000",
+    "pingpong_after 1000",
+    "broadcast 3 500",
 ];
 
 /// The wrapping sum of the numbers.
@@ -62,6 +72,44 @@ fn run<R: Threads + Wait + Sync + Print>(rt: &R, alloc: Global, words: &[&str]) 
             let turned = turn_at_once(rt, alloc, 2, times)?;
             println!(rt; "sem_pingpong {times} sum {}", sum_of(&turned.turns))?;
         }
+        Workload::Wake { .. } | Workload::Pingpong { .. } | Workload::Broadcast { .. } => {
+            run_with_conditions(rt, alloc, workload)?;
+        }
+    }
+    Ok(())
+}
+
+/// Runs a workload with conditions, and prints its line.
+fn run_with_conditions<R: Threads + Wait + Sync + Print>(
+    rt: &R,
+    alloc: Global,
+    workload: Workload,
+) -> Result<()> {
+    match workload {
+        Workload::Wake { all, times } => {
+            let closed = call_alone(rt, alloc, all, times)?;
+            let name = if all { "broadcast" } else { "signal" };
+            println!(rt;
+                "uncontended_{name} {times} sum {}",
+                sum_of(closed.values())
+            )?;
+        }
+        Workload::Pingpong { after, times } => {
+            let (what, name) = if after {
+                (Play::After, "pingpong_after")
+            } else {
+                (Play::Before, "pingpong")
+            };
+            let closed = play_at_once(rt, alloc, Count::TWO, what, times)?;
+            println!(rt; "{name} {times} sum {}", closed.values()[0])?;
+        }
+        Workload::Broadcast { threads, times } => {
+            let closed = play_at_once(rt, alloc, threads, Play::Rounds, times)?;
+            // Who opens the rounds has added 1 in each, and the others count for the line.
+            let sum = closed.values()[0].wrapping_sub(u64::from(times));
+            println!(rt; "broadcast {} {times} sum {sum}", threads.number - 1)?;
+        }
+        _ => {}
     }
     Ok(())
 }

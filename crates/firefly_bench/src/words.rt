@@ -9,6 +9,7 @@ pub struct Count {
 }
 
 /// What is run, and how often.
+#[derive(Drop)]
 pub enum Workload {
     /// One thread acquires, adds 1 and releases.
     Uncontended {
@@ -28,15 +29,42 @@ pub enum Workload {
     SemPingpong {
         times: u32,
     },
+    /// One thread makes Signals, or Broadcasts, of a condition in which nobody waits.
+    Wake {
+        all: bool,
+        times: u32,
+    },
+    /// Two threads in turns by a mutex and two conditions; each signals before it gives the mutex back, or after that.
+    Pingpong {
+        after: bool,
+        times: u32,
+    },
+    /// Rounds: one thread opens each with a broadcast, all others count, and the last of them signals back.
+    Broadcast {
+        threads: Count,
+        times: u32,
+    },
 }
 
 impl Count {
     pub const ONE: Count = Count { number: 1 };
 
+    pub const TWO: Count = Count { number: 2 };
+
     fn read(word: &str) -> Option<Count> {
         let number = word.parse::<u32>().ok()?;
         if 1 <= number && number <= 64 {
             Some(Count { number })
+        } else {
+            None
+        }
+    }
+
+    /// So many threads and one more.
+    fn read_and_one(word: &str) -> Option<Count> {
+        let number = word.parse::<u32>().ok()?;
+        if 1 <= number && number < 64 {
+            Some(Count { number: number + 1 })
         } else {
             None
         }
@@ -63,6 +91,26 @@ pub fn read(words: &[&str]) -> Option<Workload> {
             times: n.parse().ok()?,
         }),
         ["sem_pingpong", n] => Some(Workload::SemPingpong {
+            times: n.parse().ok()?,
+        }),
+        ["uncontended_signal", n] => Some(Workload::Wake {
+            all: false,
+            times: n.parse().ok()?,
+        }),
+        ["uncontended_broadcast", n] => Some(Workload::Wake {
+            all: true,
+            times: n.parse().ok()?,
+        }),
+        ["pingpong", n] => Some(Workload::Pingpong {
+            after: false,
+            times: n.parse().ok()?,
+        }),
+        ["pingpong_after", n] => Some(Workload::Pingpong {
+            after: true,
+            times: n.parse().ok()?,
+        }),
+        ["broadcast", t, n] => Some(Workload::Broadcast {
+            threads: Count::read_and_one(t)?,
             times: n.parse().ok()?,
         }),
         _ => None,
