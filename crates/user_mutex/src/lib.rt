@@ -22,7 +22,7 @@ use std::sync::Wait;
 ///
 /// It blocks while another thread has the mutex, for ever if that one never gives it back: only a `release` of the mutex ends the wait,
 /// and then any of those who wait may get it, or a thread that came later. Nobody may call it for a mutex that it has itself.
-#[inline]
+#[inline(always)]
 pub fn acquire<U: Uses, R: Wait>(rt: &R, p: &Package<U>, me: &mut Thread<U>, m: MutexId) -> U::Value
     requires rest { AtRest p.now me.old }
     requires named { m.0 < p.now.layout.mutexes }
