@@ -1,6 +1,5 @@
 //! What one thread of a test does with alerts, and a package whose threads do it.
 ghost use Rattle.std.specs.Prelude.{[], ◌≡◌, ◌<◌, ◌≤◌, ℕ, replicate, IfOk};
-ghost use Rattle.larch_actions.specs.Layout.{IsLawful};
 ghost use Rattle.nub.specs.Ended.{IsDone};
 ghost use Rattle.nub.specs.Idle.{IsIdle};
 
@@ -30,11 +29,20 @@ pub enum Alerts {
     Race(u32),
 }
 
+// The semaphores by which thread 0 tells the others to go on, and they tell it that they have.
+const SIGNAL_GOES: SemId = SemId(0);
+
+const ALERT_GOES: SemId = SemId(1);
+
+const SIGNAL_CAME: SemId = SemId(2);
+
+const ALERT_CAME: SemId = SemId(3);
+
 /// Takes the mutex, waits until it is woken or alerted, and gives the mutex back. It answers whether an alert ended the wait.
 fn wait_once<R: Wait>(rt: &R, pkg: &Package<SumUses>, me: &mut Thread<SumUses>) -> bool
-    requires named { (0 < pkg.now.layout.mutexes) × (0 < pkg.now.layout.conditions) }
-    requires idle { (n : ℕ) × IsIdle pkg.now n [] me.old }
-    ensures idle { (n : ℕ) → IsIdle pkg.now n [] me.old → IsIdle pkg.now n [] me.new }
+    requires named { (1 ≤ pkg.now.layout.mutexes) × (1 ≤ pkg.now.layout.conditions) }
+    requires idle { IsIdle pkg.now me.old.number [] me.old }
+    ensures { IsIdle pkg.now me.old.number [] me.new }
 {
     let m = MutexId(0);
     let got = acquire(rt, pkg, me, m);
@@ -43,25 +51,32 @@ fn wait_once<R: Wait>(rt: &R, pkg: &Package<SumUses>, me: &mut Thread<SumUses>) 
     outcome == Outcome::Alerted
 }
 
-/// Alerts itself with the mutex taken and waits, and notes whether it was alerted, and whether it is so still.
-fn raise_alone<R: Wait>(
-    rt: &R,
-    pkg: &Package<SumUses>,
-    mut me: Thread<SumUses>,
-    notes: &Notes,
-) -> Thread<SumUses>
-    requires named { (0 < pkg.now.layout.mutexes) × (0 < pkg.now.layout.conditions) × (0 < pkg.now.layout.threads) }
-    requires idle { IsIdle pkg.now me.number [] me }
-    ensures { IsDone pkg.now me.number result }
+/// Alerts itself and waits, and notes whether it was alerted, and whether it is so still.
+fn raise_alone<R: Wait>(rt: &R, pkg: &Package<SumUses>, me: &mut Thread<SumUses>, notes: &Notes)
+    requires named { (1 ≤ pkg.now.layout.mutexes) × (1 ≤ pkg.now.layout.conditions) × (1 ≤ pkg.now.layout.threads) }
+    requires idle { IsIdle pkg.now me.old.number [] me.old }
+    ensures { IsIdle pkg.now me.old.number [] me.new }
 {
-    alert(rt, pkg, &mut me, ThreadId(0));
-    if wait_once(rt, pkg, &mut me) {
+    alert(rt, pkg, me, ThreadId(0));
+    if wait_once(rt, pkg, me) {
         notes.first.store(1, Ordering::SeqCst);
     }
-    if test_alert(rt, pkg, &mut me) {
+    if test_alert(rt, pkg, me) {
         notes.second.store(1, Ordering::SeqCst);
     }
-    me
+}
+
+/// Takes all semaphores, and tells the others to begin.
+fn take_all<R: Wait>(rt: &R, pkg: &Package<SumUses>, me: &mut Thread<SumUses>, notes: &Notes)
+    requires named { 4 ≤ pkg.now.layout.semaphores }
+    requires idle { IsIdle pkg.now me.old.number [] me.old }
+    ensures { IsIdle pkg.now me.old.number [] me.new }
+{
+    p(rt, pkg, me, SIGNAL_GOES);
+    p(rt, pkg, me, ALERT_GOES);
+    p(rt, pkg, me, SIGNAL_CAME);
+    p(rt, pkg, me, ALERT_CAME);
+    notes.first.store(1, Ordering::SeqCst);
 }
 
 /// Waits so often, each time while the other two signal and alert it once. When they have, the alert is there exactly where it didn't end
@@ -69,29 +84,25 @@ fn raise_alone<R: Wait>(
 fn wait_often<R: Wait>(
     rt: &R,
     pkg: &Package<SumUses>,
-    mut me: Thread<SumUses>,
+    me: &mut Thread<SumUses>,
     times: u32,
     notes: &Notes,
-) -> Thread<SumUses>
-    requires named { (0 < pkg.now.layout.mutexes) × (0 < pkg.now.layout.conditions) × (3 < pkg.now.layout.semaphores) }
-    requires idle { IsIdle pkg.now me.number [] me }
-    ensures { IsDone pkg.now me.number result }
+)
+    requires named { (1 ≤ pkg.now.layout.mutexes) × (1 ≤ pkg.now.layout.conditions) × (4 ≤ pkg.now.layout.semaphores) }
+    requires idle { IsIdle pkg.now me.old.number [] me.old }
+    ensures { IsIdle pkg.now me.old.number [] me.new }
 {
-    for i in 0..4 {
-        p(rt, pkg, &mut me, SemId(i));
-    }
-    notes.first.store(1, Ordering::SeqCst);
+    take_all(rt, pkg, me, notes);
     for _i in 0..times {
-        v(rt, pkg, &mut me, SemId(0));
-        v(rt, pkg, &mut me, SemId(1));
-        let raised = wait_once(rt, pkg, &mut me);
-        p(rt, pkg, &mut me, SemId(2));
-        p(rt, pkg, &mut me, SemId(3));
-        if test_alert(rt, pkg, &mut me) == raised {
+        v(rt, pkg, me, SIGNAL_GOES);
+        v(rt, pkg, me, ALERT_GOES);
+        let raised = wait_once(rt, pkg, me);
+        p(rt, pkg, me, SIGNAL_CAME);
+        p(rt, pkg, me, ALERT_CAME);
+        if test_alert(rt, pkg, me) == raised {
             let _ = notes.second.fetch_add(1, Ordering::SeqCst);
         }
     }
-    me
 }
 
 /// Waits until thread 0 has all semaphores.
@@ -101,63 +112,68 @@ fn await_start<R: Wait>(rt: &R, notes: &Notes) {
             return;
         }
     }
+    unreachable!()
 }
 
-/// So often, once thread 0 goes to wait, signals or alerts it, and tells that it has done so.
-fn end_often<R: Wait>(
+/// So often, once thread 0 goes to wait, signals, and tells that it has done so.
+fn signal_often<R: Wait>(
     rt: &R,
     pkg: &Package<SumUses>,
-    mut me: Thread<SumUses>,
+    me: &mut Thread<SumUses>,
     times: u32,
-    signals: bool,
     notes: &Notes,
-) -> Thread<SumUses>
-    requires named { (0 < pkg.now.layout.threads) × (0 < pkg.now.layout.conditions) × (3 < pkg.now.layout.semaphores) }
-    requires idle { IsIdle pkg.now me.number [] me }
-    ensures { IsDone pkg.now me.number result }
+)
+    requires named { (1 ≤ pkg.now.layout.conditions) × (4 ≤ pkg.now.layout.semaphores) }
+    requires idle { IsIdle pkg.now me.old.number [] me.old }
+    ensures { IsIdle pkg.now me.old.number [] me.new }
 {
-    let (start, done) = if signals {
-        (SemId(0), SemId(2))
-    } else {
-        (SemId(1), SemId(3))
-    };
     await_start(rt, notes);
     for _i in 0..times {
-        p(rt, pkg, &mut me, start);
-        if signals {
-            signal(rt, pkg, &mut me, CondId(0));
-        } else {
-            alert(rt, pkg, &mut me, ThreadId(0));
-        }
-        v(rt, pkg, &mut me, done);
+        p(rt, pkg, me, SIGNAL_GOES);
+        signal(rt, pkg, me, CondId(0));
+        v(rt, pkg, me, SIGNAL_CAME);
     }
-    me
+}
+
+/// So often, once thread 0 goes to wait, alerts it, and tells that it has done so.
+fn alert_often<R: Wait>(
+    rt: &R,
+    pkg: &Package<SumUses>,
+    me: &mut Thread<SumUses>,
+    times: u32,
+    notes: &Notes,
+)
+    requires named { (1 ≤ pkg.now.layout.threads) × (4 ≤ pkg.now.layout.semaphores) }
+    requires idle { IsIdle pkg.now me.old.number [] me.old }
+    ensures { IsIdle pkg.now me.old.number [] me.new }
+{
+    await_start(rt, notes);
+    for _i in 0..times {
+        p(rt, pkg, me, ALERT_GOES);
+        alert(rt, pkg, me, ThreadId(0));
+        v(rt, pkg, me, ALERT_CAME);
+    }
 }
 
 /// Does the task.
 fn work<R: Wait>(
     rt: &R,
     pkg: &Package<SumUses>,
-    me: Thread<SumUses>,
+    mut me: Thread<SumUses>,
     what: Alerts,
     notes: &Notes,
 ) -> Thread<SumUses>
-    requires lawful { IsLawful pkg.now.layout }
     requires named { (1 ≤ pkg.now.layout.mutexes) × (1 ≤ pkg.now.layout.conditions) × (4 ≤ pkg.now.layout.semaphores) × (1 ≤ pkg.now.layout.threads) }
     requires idle { IsIdle pkg.now me.number [] me }
     ensures { IsDone pkg.now me.number result }
 {
-    let number = me.number();
-    match what {
-        Alerts::Alone => raise_alone(rt, pkg, me, notes),
-        Alerts::Race(times) => {
-            if number == 0 {
-                wait_often(rt, pkg, me, times, notes)
-            } else {
-                end_often(rt, pkg, me, times, number == 1, notes)
-            }
-        }
+    match (what, me.number()) {
+        (Alerts::Alone, _) => raise_alone(rt, pkg, &mut me, notes),
+        (Alerts::Race(times), 0) => wait_often(rt, pkg, &mut me, times, notes),
+        (Alerts::Race(times), 1) => signal_often(rt, pkg, &mut me, times, notes),
+        (Alerts::Race(times), _) => alert_often(rt, pkg, &mut me, times, notes),
     }
+    me
 }
 
 /// What a package of this many threads leaves after they have done their task, all at once.
@@ -184,7 +200,7 @@ pub fn run_alerts<R: Threads + Wait + Sync>(
         alloc,
         threads,
         &|me: Thread<SumUses>| -> (Thread<SumUses>, ())
-            requires { IsLawful pkg.layout × ((1 ≤ pkg.layout.mutexes) × (1 ≤ pkg.layout.conditions) × (4 ≤ pkg.layout.semaphores) × (1 ≤ pkg.layout.threads)) × IsIdle pkg me.number [] me }
+            requires { ((1 ≤ pkg.layout.mutexes) × (1 ≤ pkg.layout.conditions) × (4 ≤ pkg.layout.semaphores) × (1 ≤ pkg.layout.threads)) × IsIdle pkg me.number [] me }
             ensures { IsDone pkg me.number result.0 }
         { (work(rt, &pkg, me, what, notes), ()) },
     )?;

@@ -1,6 +1,5 @@
 use Rattle.std.proofs.Common.{[], arith, rules, ap, sym, subst, ◌∙◌}
 use lib.ListN.{get_elem?}
-use Rattle.larch_actions.specs.Layout.{IsLawful}
 use Rattle.nub.specs.Ended.{IsDone}
 use Rattle.nub.proofs.Users.{idle_own}
 use Rattle.sum_uses.proofs.Adding.{sums_begin, all_zero}
@@ -9,7 +8,17 @@ use Rattle.package_tests.proofs.alerted.run_alerts.Goals as goal
 pub open_package-requires-clause-holds : goal.open_package-requires-clause-holds
 open_package-requires-clause-holds g c κs =
     let few = c.requires in
-    sums_begin c.in_ok-values.values.items c.args.threads (λ m x e. all_zero 1 m x (ap (λ l. get_elem? l m) (sym c.in_ok-values.ensures) ∙ e)) (omega arith)
+    sums_begin c.in_ok-values.values.items c.args.threads (λ m x e. all_zero 1 m x (ap (λ l. get_elem? l m) (sym (c.in_ok-values.ensures.items_if_clones_equal (λ y e. e))) ∙ e)) (omega arith)
+
+pub at_once-requires-after_bounds : goal.at_once-requires-after_bounds
+at_once-requires-after_bounds g c κs within = λ n t at.
+    let few = c.requires in
+    let layout = c.in_ok-pkg.ensures.package.0 in
+    let threads = ap (λ l. l.threads) layout in
+    let mutexes = ap (λ l. l.mutexes) layout in
+    let conditions = ap (λ l. l.conditions) layout in
+    let semaphores = ap (λ l. l.semaphores) layout in
+    ((omega arith, omega arith, omega arith, omega arith), idle_own c.in_ok-pkg.pkg (λ w t. []) n t (c.in_ok-pkg.ensures.threads n t at))
 
 pub close_package-requires-clause-threads : goal.close_package-requires-clause-threads
 close_package-requires-clause-threads g c κs = λ n t at.
