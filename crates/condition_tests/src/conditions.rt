@@ -93,9 +93,9 @@ fn largest_layout(rt: HostRuntime) -> Result<(), Fail> {
 // A Signal after the mutex was given back finds the other thread anywhere between its count and its sleep, and is never lost.
 #[test]
 fn signal_before_the_push(rt: HostRuntime) -> Result<(), Fail> {
-    let (what, notes) = (Waits::TurnsAfter(20000), Notes::new());
+    let (what, notes) = (Waits::TurnsAfter(100000), Notes::new());
     let closed = run(&rt, rt.alloc(), two_of_each(2), what, &notes, false)?;
-    assert_eq!(rt; closed.values(), [40000, 0].as_slice());
+    assert_eq!(rt; closed.values(), [200000, 0].as_slice());
     Ok(())
 }
 

@@ -69,8 +69,8 @@ fn raises_each_time(rt: HostRuntime) -> Result<(), Fail> {
 #[test]
 fn freed_and_alerted_at_once(rt: HostRuntime) -> Result<(), Fail> {
     let notes = Notes::new();
-    run(&rt, rt.alloc(), AlertTask::AtOnce(20_000), &notes, false)?;
-    assert_eq!(rt; notes.first.load(Ordering::SeqCst), 20_000);
+    run(&rt, rt.alloc(), AlertTask::AtOnce(100_000), &notes, false)?;
+    assert_eq!(rt; notes.first.load(Ordering::SeqCst), 100_000);
     assert_eq!(rt; notes.second.load(Ordering::SeqCst), 0);
     let notes = Notes::new();
     run(&rt, rt.alloc(), AlertTask::AtOnce(200), &notes, true)?;

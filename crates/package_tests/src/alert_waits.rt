@@ -30,11 +30,11 @@ fn alone(rt: HostRuntime) -> Result<(), Fail> {
     Ok(())
 }
 
-// A Signal and an alert race for a wait 20,000 times. Exactly one ends it: the alert is there afterwards where the Signal did, and else gone.
+// A Signal and an alert race for a wait 100,000 times. Exactly one ends it: the alert is there afterwards where the Signal did, and else gone.
 #[test]
 fn alert_against_signal(rt: HostRuntime) -> Result<(), Fail> {
     let notes = Notes::new();
-    run_alerts(&rt, rt.alloc(), 3, Alerts::Race(20000), &notes, false)?;
+    run_alerts(&rt, rt.alloc(), 3, Alerts::Race(100000), &notes, false)?;
     assert_eq!(rt; notes.second.load(Ordering::SeqCst), 0);
     Ok(())
 }
