@@ -1,4 +1,4 @@
-//! Tests of bounded buffers: puts and takes by one thread, and by threads that are at work at once.
+//! Tests of bounded buffers, and of readers and writers: calls by one thread, and by threads that are at work at once.
 #![tactic(auto)]
 
 #[cfg(test)]
@@ -6,6 +6,12 @@ mod buffers;
 #[cfg(test)]
 mod calls;
 #[cfg(test)]
+mod readers;
+#[cfg(test)]
+mod roles;
+#[cfg(test)]
 mod run;
+#[cfg(test)]
+mod turns;
 #[cfg(test)]
 mod work;
