@@ -1,4 +1,4 @@
-use Rattle.std.proofs.Common.{[], arith, rules, sym, subst, lit≤}
+use Rattle.std.proofs.Common.{[], rules, sym, subst, lit≤}
 use Rattle.nub.specs.Ended.{IsDone}
 use Rattle.nub.proofs.Users.{idle_own}
 use Rattle.bounded_buffer.specs.Rings.{fresh}
