@@ -1,5 +1,5 @@
 -- A call at a buffer from the mutex on.
-use Rattle.std.proofs.Common.{◌≡◌, ◌≢◌, ℕ, ◌+◌, zero, suc, true, List, [], ◌∷◌, ◌++◌, slice_set, Option as Opt, Some, None, sym, ap, subst, ◌∙◌, refl, add-one}
+use Rattle.std.proofs.Common.{◌≡◌, ℕ, ◌+◌, zero, suc, true, List, [], ◌∷◌, ◌++◌, slice_set, Option as Opt, Some, None, ap, subst, ◌∙◌, refl, add-one}
 use Rattle.std.proofs.lemmas.List.{set-set, append-nil}
 use mathlib.Core.Option.{some}
 use lib.ListN.{get_elem?}
@@ -9,13 +9,13 @@ use Rattle.nub_rule.specs.Known.{Known, Shape, Holds}
 use Rattle.nub_rule.specs.Plays.{acquire_event, release_event, enqueue_event}
 use Rattle.nub.specs.Rest.{AtRest, Adds, IsSame}
 use Rattle.alert_wait.specs.declared.outcome.Outcome.{Outcome}
-use Rattle.alert_wait.specs.declared.outcome.Outcome.TheVariants.{Returned, Alerted}
+use Rattle.alert_wait.specs.declared.outcome.Outcome.TheVariants.{Returned}
 use Rattle.alert_wait.specs.Outcomes.{wait_end}
 use Rattle.bounded_buffer.specs.declared.did.Did.{Did}
-use Rattle.bounded_buffer.specs.Calls.{waits, entered, raise, signals, finish, did_last, Looked, Ran}
+use Rattle.bounded_buffer.specs.Calls.{waits, entered, raise, signals, Looked, Ran}
 use Rattle.bounded_buffer.specs.Parts.{Used, did}
 use Rattle.bounded_buffer.specs.Rings.{Held}
-use Rattle.bounded_buffer.specs.Waiting.{Added, IsIn, HasWaited, HasGiven, signals_last}
+use Rattle.bounded_buffer.specs.Waiting.{Added, IsIn, HasWaited, HasGiven}
 use Rattle.bounded_buffer.proofs.Adding.{added, added_on, adds_on}
 
 waits-more : (t m c k : ℕ) → waits t m c k ++ enqueue_event true t m c ∷ wait_end Returned t m c ∷ [] ≡ waits t m c (suc k)

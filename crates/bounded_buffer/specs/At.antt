@@ -1,5 +1,5 @@
 -- Where a buffer is.
-use Rattle.std.specs.Prelude.{ℕ, ◌<◌}
+use Rattle.std.specs.Prelude.{◌<◌}
 use Rattle.larch_actions.specs.declared.event.Layout.{Layout}
 use Rattle.bounded_buffer.specs.declared.at.BufferAt.{BufferAt}
 

@@ -7,7 +7,7 @@ use Rattle.nub.specs.Rest.{Adds}
 use Rattle.alert_wait.specs.declared.outcome.Outcome.TheVariants.{Returned, Alerted}
 use Rattle.alert_wait.specs.Outcomes.{wait_end}
 use Rattle.bounded_buffer.specs.declared.did.Did.{Did}
-use Rattle.bounded_buffer.specs.declared.did.Did.TheVariants.{Put, Took, Shut, SawShut, SawEnd, WaitedFull, WaitedEmpty}
+use Rattle.bounded_buffer.specs.declared.did.Did.TheVariants.{Put, Took, Shut, SawShut, SawEnd}
 use Rattle.bounded_buffer.specs.declared.ends.PutEnd.{PutEnd}
 use Rattle.bounded_buffer.specs.declared.ends.PutEnd.TheVariants.{Closed, Alerted as PutAlerted}
 use Rattle.bounded_buffer.specs.declared.ends.TakeEnd.{TakeEnd}

@@ -1,7 +1,5 @@
 -- What is left of a buffer when its package is closed.
 use Rattle.std.specs.Prelude.{◌≡◌, ℕ, List, ◌++◌, length, map, take, Some}
-use mathlib.Core.Option.{some}
-use lib.ListN.{get_elem?}
 use Rattle.nub_rule.specs.Known.{Known}
 use Rattle.bounded_buffer.specs.declared.note.Note.{Note}
 use Rattle.bounded_buffer.specs.Plain.{BufferRule, all_puts, all_takes}

@@ -1,12 +1,12 @@
 -- The rule of rings behind all mutexes, where a share is the list of all that its thread did.
-use Rattle.std.specs.Prelude.{◌≡◌, ◌≢◌, ◌⊎◌, ℕ, ◌+◌, ◌*◌, ◌<◌, ◌≤◌, Bool, true, false, ◌||◌, cond, eqb, List, [], ◌∷◌, ◌++◌, length, take, drop}
+use Rattle.std.specs.Prelude.{◌≡◌, ◌⊎◌, ℕ, ◌+◌, ◌*◌, ◌≤◌, Bool, true, false, ◌||◌, cond, eqb, List, [], ◌∷◌, ◌++◌, length, take, drop}
 use Rattle.std.specs.List.{enumerate_from}
 use Rattle.std.specs.List.Sorted.{IsPermutation}
 use mathlib.Core.Option.{some}
 use lib.ListN.{get_elem?}
 use Rattle.bounded_buffer.specs.declared.at.BufferAt.{BufferAt}
 use Rattle.bounded_buffer.specs.declared.did.Did.{Did}
-use Rattle.bounded_buffer.specs.declared.did.Did.TheVariants.{Put, Took, Shut, SawShut, SawEnd, WaitedFull, WaitedEmpty}
+use Rattle.bounded_buffer.specs.declared.did.Did.TheVariants.{Put, Took, SawShut, SawEnd, WaitedFull, WaitedEmpty}
 use Rattle.bounded_buffer.specs.declared.note.Note.{Note}
 use Rattle.bounded_buffer.specs.Parts.{Used, did, unused}
 use Rattle.bounded_buffer.specs.Rings.{Held, Does, put_count}

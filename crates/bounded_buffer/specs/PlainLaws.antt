@@ -1,5 +1,5 @@
 -- The rule of plain buffers is kept by each allowed change.
-use Rattle.std.specs.Prelude.{◌≡◌, ◌≢◌, ◌⊎◌, ℕ, ◌+◌, ◌*◌, ◌<◌, ◌≤◌, Bool, true, false, ◌||◌, cond, eqb, List, [], ◌∷◌, ◌++◌, length, take, drop, slice_set, Some}
+use Rattle.std.specs.Prelude.{◌≡◌, ◌≢◌, ℕ, ◌+◌, ◌<◌, ◌≤◌, Bool, true, false, ◌||◌, cond, eqb, List, [], ◌∷◌, ◌++◌, length, take, drop, slice_set, Some}
 use Rattle.std.proofs.Common.{zero, suc, arith, sym, ap, subst, ◌∙◌, ⊎_elim, refl, length-append, add-one, inl, inr}
 use Rattle.std.specs.List.{All, enumerate_from}
 use Rattle.std.specs.List.Sorted.{IsPermutation}
@@ -17,7 +17,7 @@ use Rattle.bounded_buffer.specs.declared.at.BufferAt.{BufferAt}
 use Rattle.bounded_buffer.specs.declared.did.Did.{Did}
 use Rattle.bounded_buffer.specs.declared.did.Did.TheVariants.{Put, Took, Shut, SawShut, SawEnd, WaitedFull, WaitedEmpty}
 use Rattle.bounded_buffer.specs.declared.note.Note.{Note}
-use Rattle.bounded_buffer.specs.Parts.{Used, did, unused, IsWithin, IsOfPut, IsOfTake, IsWait, Waits, HasDone}
+use Rattle.bounded_buffer.specs.Parts.{Used, did, IsWithin, IsOfPut, IsOfTake, IsWait, Waits, HasDone}
 use Rattle.bounded_buffer.specs.Rings.{Held, Does, put_count, with_last, without_first, shut_now}
 use Rattle.bounded_buffer.specs.Plain.{note, part_of, pairs_of, all_puts, all_takes, any_shut, BufferRule, Keeps, Allowed, IsPlain, kept, is_wait, put_by, take_by, put_did, take_did}
 

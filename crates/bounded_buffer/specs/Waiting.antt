@@ -1,5 +1,5 @@
 -- A thread in a call at a buffer, which has the mutex; and one that gives it back.
-use Rattle.std.specs.Prelude.{◌≡◌, ◌≢◌, ℕ, ◌+◌, true, List, [], ◌∷◌, ◌++◌, slice_set, Option as Opt, Some, None}
+use Rattle.std.specs.Prelude.{◌≡◌, ◌≢◌, ℕ, true, List, [], ◌∷◌, ◌++◌, slice_set, Option as Opt, Some, None}
 use Rattle.larch_actions.specs.declared.event.Event.{Event}
 use Rattle.larch_actions.specs.Actions.{StartsWith}
 use Rattle.nub_rule.specs.Known.{Known, Shape, Holds}

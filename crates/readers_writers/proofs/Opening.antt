@@ -1,5 +1,5 @@
 -- The rule of readers and writers holds at first.
-use Rattle.std.proofs.Common.{◌≡◌, ℕ, ◌≤◌, zero, suc, List, [], ◌∷◌, length, map, None, arith, sym, ap, subst, ◌∙◌, refl}
+use Rattle.std.proofs.Common.{◌≡◌, ℕ, ◌≤◌, zero, suc, List, [], ◌∷◌, map, None, arith, sym, ap, ◌∙◌, refl}
 use Rattle.std.specs.List.{range_with_len}
 use Rattle.std.proofs.lemmas.List.FromFn.{length-map-range_with_len}
 use mathlib.Core.Option.{some, some-injective, some-ne-none}
@@ -8,7 +8,7 @@ use Rattle.nub_rule.specs.Ends.{firsts}
 use Rattle.readers_writers.specs.declared.role.Turn.{Turn}
 use Rattle.readers_writers.specs.declared.role.Role.TheVariants.{Idle, Writing}
 use Rattle.readers_writers.specs.declared.state.RwState.{RwState}
-use Rattle.readers_writers.specs.Roles.{AreRoles, IsRole, reading, role_of}
+use Rattle.readers_writers.specs.Roles.{AreRoles, reading, role_of}
 
 none-reading : (m : ℕ) (ns : List ℕ) → reading m (map (λ t. []) ns) ≡ 0
 none-reading m [] = refl
