@@ -21,7 +21,7 @@ use std::sync::Wait;
 /// Clears the bit, by the event or, with None, in a wait on the mutex that has yet to do so, and makes one queued thread ready if the queue
 /// isn't empty. With None it is no event: nobody holds the mutex since the wait began. It may wait for the pen, or for the spin word of the
 /// queue, which their holders give back after a few steps; never for a mutex or a semaphore.
-#[inline]
+#[inline(always)]
 pub fn free<U: Uses, C: Change<U>, R: Wait>(
     rt: &R,
     p: &Package<U>,
@@ -58,42 +58,14 @@ pub fn free<U: Uses, C: Change<U>, R: Wait>(
     ensures freed { IsFreed C.after at me.old me.new }
     ensures stored { HasStored p.now.traced me.new }
 {
-    // What is known where it is called is decided there: with an event that is given, all of this is `free_by_event`.
-    match (e, at) {
-        (Some(_), _) => free_by_event::<U, C, R>(rt, p, me, at),
-        (None, Object::Mutex(m)) => free_in_wait::<U, C, R>(rt, p, me, m),
-        (None, Object::Sem(_) | Object::Cond(_)) => unreachable!(),
+    // What is known where it is called is decided there: with an event that is given, no look at the object is left.
+    if e.is_none() {
+        match at {
+            Object::Mutex(m) => free_in_wait::<U, C, R>(rt, p, me, m),
+            Object::Sem(_) | Object::Cond(_) => unreachable!(),
+        }
+        return;
     }
-}
-
-/// Clears the bit by its event, which follows from the object and the thread.
-#[inline]
-fn free_by_event<U: Uses, C: Change<U>, R: Wait>(
-    rt: &R,
-    p: &Package<U>,
-    me: &mut Thread<U>,
-    at: Object,
-)
-    requires of { me.old.table_id ≡ p.now.table_id }
-    requires gate { IsGate at }
-    requires named { HasObject p.now.layout at }
-    requires outside { IsOutside me.old }
-    requires no_wait { me.old.wait ≡ None }
-    requires may { MayFree U.allows C.after at me.old }
-    requires stored { HasStored p.now.traced me.old }
-    ensures event { Makes (clears at me.old.number) me.old me.new }
-    ensures rest { me.new ≡ record (recorded me.old me.new) {
-      held = me.new.held;
-      share = me.new.share;
-      count = me.new.count;
-      failed = me.new.failed;
-      cleared = without (object_of at) me.old.cleared;
-      looked = without (object_of at) me.old.looked;
-      values = me.new.values;
-    } }
-    ensures freed { IsFreed C.after at me.old me.new }
-    ensures stored { HasStored p.now.traced me.new }
-{
     if p.traced() {
         clear_traced::<U, C, R>(rt, p, me, at);
     } else {
