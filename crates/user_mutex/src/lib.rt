@@ -47,7 +47,7 @@ pub fn acquire<U: Uses, R: Wait>(rt: &R, p: &Package<U>, me: &mut Thread<U>, m: 
 ///
 /// It doesn't wait for another thread to give anything back. In the package itself it may wait for a moment, as each call may: for the
 /// spin word of the mutex, where a thread stands in the queue, and in a traced package for its turn to number the event.
-#[inline]
+#[inline(always)]
 pub fn release<U: Uses, C: Change<U>, R: Wait>(
     rt: &R,
     p: &Package<U>,
