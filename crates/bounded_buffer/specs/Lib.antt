@@ -1,2 +1,5 @@
+pub mod At
 pub mod Parts
+pub mod Plain
+pub mod PlainLaws
 pub mod Rings
