@@ -1,5 +1,7 @@
 pub mod At
+pub mod Calls
 pub mod Parts
 pub mod Plain
 pub mod PlainLaws
 pub mod Rings
+pub mod Waiting

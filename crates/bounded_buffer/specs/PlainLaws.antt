@@ -61,8 +61,8 @@ module _ {T : Type 0} where
       let own = f (part_of x m) in
       let rest = pairs_of f m shares in
       IsPermutation-trans (own ++ pairs_of f m (slice_set shares t r)) (own ++ p ∷ rest) (p ∷ (own ++ rest))
-          (IsPermutation-append_right own (pairs_of f m (slice_set shares t r)) (p ∷ rest) (pairs_more f m shares t s r p e more))
-          (IsPermutation-middle own p rest)
+      (IsPermutation-append_right own (pairs_of f m (slice_set shares t r)) (p ∷ rest) (pairs_more f m shares t s r p e more))
+      (IsPermutation-middle own p rest)
 
   any_same : (m : ℕ) (shares : List (List (Note T))) (t : ℕ) (s r : List (Note T)) → get_elem? shares t ≡ some s
       → (part_of r m).shut ≡ (part_of s m).shut → any_shut m (slice_set shares t r) ≡ any_shut m shares
@@ -230,28 +230,28 @@ module _ {T : Type 0} where
   rule_did m Shut q p shares t s r at here does h = subst (λ x. BufferRule m x (slice_set shares t r)) (sym does) (rule_shut m q shares t s r at here h)
   rule_did m SawShut q p shares t s r at here does h = subst (λ x. BufferRule m x (slice_set shares t r)) (sym does.1)
       (rule_same m q shares t s r at (ap (λ u. u.puts) here) (ap (λ u. u.takes) here) (ap (λ u. u.shut) here) (λ is. does.0)
-          (λ is. let old = h.seen_end t s at (ap (λ u. u.seen_end) (sym here) ∙ is) in (old.0, old.1)) h)
+      (λ is. let old = h.seen_end t s at (ap (λ u. u.seen_end) (sym here) ∙ is) in (old.0, old.1)) h)
   rule_did m SawEnd q p shares t s r at here does h = subst (λ x. BufferRule m x (slice_set shares t r)) (sym does.2)
       (rule_same m q shares t s r at (ap (λ u. u.puts) here) (ap (λ u. u.takes) here) (ap (λ u. u.shut) here)
-          (λ is. h.seen_shut t s at (ap (λ u. u.seen_shut) (sym here) ∙ is)) (λ is. (does.0, does.1)) h)
+      (λ is. h.seen_shut t s at (ap (λ u. u.seen_shut) (sym here) ∙ is)) (λ is. (does.0, does.1)) h)
   rule_did m WaitedFull q p shares t s r at here does h = subst (λ x. BufferRule m x (slice_set shares t r)) (sym does.2)
       (rule_same m q shares t s r at (ap (λ u. u.puts) here) (ap (λ u. u.takes) here) (ap (λ u. u.shut) here)
-          (λ is. h.seen_shut t s at (ap (λ u. u.seen_shut) (sym here) ∙ is)) (λ is. let old = h.seen_end t s at (ap (λ u. u.seen_end) (sym here) ∙ is) in (old.0, old.1)) h)
+      (λ is. h.seen_shut t s at (ap (λ u. u.seen_shut) (sym here) ∙ is)) (λ is. let old = h.seen_end t s at (ap (λ u. u.seen_end) (sym here) ∙ is) in (old.0, old.1)) h)
   rule_did m WaitedEmpty q p shares t s r at here does h = subst (λ x. BufferRule m x (slice_set shares t r)) (sym does.2)
       (rule_same m q shares t s r at (ap (λ u. u.puts) here) (ap (λ u. u.takes) here) (ap (λ u. u.shut) here)
-          (λ is. h.seen_shut t s at (ap (λ u. u.seen_shut) (sym here) ∙ is)) (λ is. let old = h.seen_end t s at (ap (λ u. u.seen_end) (sym here) ∙ is) in (old.0, old.1)) h)
+      (λ is. h.seen_shut t s at (ap (λ u. u.seen_shut) (sym here) ∙ is)) (λ is. let old = h.seen_end t s at (ap (λ u. u.seen_end) (sym here) ∙ is) in (old.0, old.1)) h)
 
   pub keeps_after : (w : Prim.Unit {0}) (values : List (Held T)) (shares : List (List (Note T))) → Keeps values shares → (m : ℕ) (x y : Held T) → get_elem? values m ≡ some x
       → (t : ℕ) (s r : List (Note T)) → get_elem? shares t ≡ some s → Allowed m x y s r → Keeps (slice_set values m y) (slice_set shares t r)
   keeps_after w values shares h m x y at t s r there ok = λ k z e. ⊎_elim
       (λ (p : (k ≡ m) × (y ≡ z)). subst (λ j. BufferRule j z (slice_set shares t r)) (sym p.0) (subst (λ v. BufferRule m v (slice_set shares t r)) p.1 (⊎_elim
-          (λ (o : (y ≡ x) × (r ≡ s)). subst (λ v. BufferRule m v (slice_set shares t r)) (sym o.0) (rule_else m x shares t s r there (ap (λ l. part_of l m) o.1) (h m x at)))
-          (λ (o : (d : Did T) × Does d x y × (r ≡ note m d ∷ s)). rule_did m o.0 x y shares t s r there (ap (λ l. part_of l m) o.2 ∙ part_here m o.0 s) o.1 (h m x at))
-          ok)))
+      (λ (o : (y ≡ x) × (r ≡ s)). subst (λ v. BufferRule m v (slice_set shares t r)) (sym o.0) (rule_else m x shares t s r there (ap (λ l. part_of l m) o.1) (h m x at)))
+      (λ (o : (d : Did T) × Does d x y × (r ≡ note m d ∷ s)). rule_did m o.0 x y shares t s r there (ap (λ l. part_of l m) o.2 ∙ part_here m o.0 s) o.1 (h m x at))
+      ok)))
       (λ (p : (k ≢ m) × (get_elem? values k ≡ some z)). rule_else k z shares t s r there (⊎_elim
-          (λ (o : (y ≡ x) × (r ≡ s)). ap (λ l. part_of l k) o.1)
-          (λ (o : (d : Did T) × Does d x y × (r ≡ note m d ∷ s)). ap (λ l. part_of l k) o.2 ∙ part_there m k o.0 s p.0)
-          ok) (h k z p.1))
+      (λ (o : (y ≡ x) × (r ≡ s)). ap (λ l. part_of l k) o.1)
+      (λ (o : (d : Did T) × Does d x y × (r ≡ note m d ∷ s)). ap (λ l. part_of l k) o.2 ∙ part_there m k o.0 s p.0)
+      ok) (h k z p.1))
       (at_set values m k y z e)
 
   all-part : (P : ℕ × T → Type 0) (f : Used T → List (ℕ × T)) (m : ℕ) (shares : List (List (Note T))) (t : ℕ) (s : List (Note T)) → get_elem? shares t ≡ some s
@@ -280,7 +280,6 @@ module _ {T : Type 0} where
   pub ring_fits : (w : Prim.Unit {0}) (at : BufferAt) → IsPlain at → (t : ℕ) (x : Held T) (s : List (Note T)) → IsWithin (part_of s at.mutex.0) x
       → (q : Held T) × (Some x ≡ Some q) × IsWithin (part_of s at.mutex.0) q
   ring_fits w at is t x s fits = (x, refl, fits)
-
 
   is_put : (P : T → Type 0) (d : Did T) (x y : Held T) → Does d x y → IsOfPut P d → put_did x y ≡ d
   is_put P (Put n i) x y does of =
@@ -366,16 +365,16 @@ module _ {T : Type 0} where
   plain_waits w at is t x y s r q p a b ok k =
       let m = at.mutex.0 in
       let stays : part_of r k ≡ part_of s k → Waits WaitedFull q p (eqb k m) (part_of s k).full_waits (part_of r k).full_waits × Waits WaitedEmpty q p (eqb k m) (part_of s k).empty_waits (part_of r k).empty_waits
-          = λ same. (inl (ap (λ u. u.full_waits) same), inl (ap (λ u. u.empty_waits) same)) in
+      = λ same. (inl (ap (λ u. u.full_waits) same), inl (ap (λ u. u.empty_waits) same)) in
       ⊎_elim
-          (λ (o : (y ≡ x) × (r ≡ s)). stays (ap (λ l. part_of l k) o.1))
-          (λ (o : (d : Did T) × Does d x y × (r ≡ note m d ∷ s)). ⊎_elim
-              (λ (here : k ≡ m).
-                  let d = o.0 in
-                  let does = does_same d q p x y (sym a) (sym b) o.1 in
-                  let said : part_of r k ≡ did d (part_of s k) = ap (λ l. part_of l k) o.2 ∙ subst (λ j. part_of (note m d ∷ s) j ≡ did d (part_of s j)) (sym here) (part_here m d s) in
-                  let W : Bool → Used T → Type 0 = λ c u. Waits WaitedFull q p c (part_of s k).full_waits u.full_waits × Waits WaitedEmpty q p c (part_of s k).empty_waits u.empty_waits in
-                  subst (λ c. W c (part_of r k)) (sym (eq-eqb k m here)) (subst (λ u. W true u) (sym said) (did_waits d q p (part_of s k) does)))
-              (λ (n : k ≢ m). stays (ap (λ l. part_of l k) o.2 ∙ part_there m k o.0 s n))
-              (cases_eq k m))
-          ok
+      (λ (o : (y ≡ x) × (r ≡ s)). stays (ap (λ l. part_of l k) o.1))
+      (λ (o : (d : Did T) × Does d x y × (r ≡ note m d ∷ s)). ⊎_elim
+      (λ (here : k ≡ m).
+      let d = o.0 in
+      let does = does_same d q p x y (sym a) (sym b) o.1 in
+      let said : part_of r k ≡ did d (part_of s k) = ap (λ l. part_of l k) o.2 ∙ subst (λ j. part_of (note m d ∷ s) j ≡ did d (part_of s j)) (sym here) (part_here m d s) in
+      let W : Bool → Used T → Type 0 = λ c u. Waits WaitedFull q p c (part_of s k).full_waits u.full_waits × Waits WaitedEmpty q p c (part_of s k).empty_waits u.empty_waits in
+      subst (λ c. W c (part_of r k)) (sym (eq-eqb k m here)) (subst (λ u. W true u) (sym said) (did_waits d q p (part_of s k) does)))
+      (λ (n : k ≢ m). stays (ap (λ l. part_of l k) o.2 ∙ part_there m k o.0 s n))
+      (cases_eq k m))
+      ok

@@ -1,5 +1,5 @@
 //! A ring of items.
-ghost use Rattle.std.specs.Prelude.{◌≡◌, ◌+◌, ◌<◌, ◌≤◌, ◌^◌, ◌∷◌, true, false, [], length, IfOk, MatchOption};
+ghost use Rattle.std.specs.Prelude.{◌≡◌, ◌+◌, ◌<◌, ◌≤◌, ◌^◌, ◌∷◌, true, false, [], length, IfOk};
 ghost use Rattle.bounded_buffer.specs.Rings.{Held, fresh, put_count, with_last, without_first, shut_now};
 
 use std::alloc::{AllocError, Global};
@@ -49,6 +49,14 @@ impl<T> Ring<T> {
         self.items.len() as u32
     }
 
+    /// Whether it has no item.
+    pub fn is_empty(&self) -> bool
+        ensures empty { result ≡ true → self.now.items ≡ [] }
+        ensures some { result ≡ false → 0 < length self.now.items }
+    {
+        self.items.is_empty()
+    }
+
     /// Whether nothing may be put, until something is taken.
     pub fn is_full(&self) -> bool
         ensures full { result ≡ true → length self.now.items ≡ self.now.capacity }
@@ -91,14 +99,18 @@ impl<T> Ring<T> {
     }
 
     /// Takes the first item, and answers its number too.
-    pub(crate) fn pop(&mut self) -> Option<(u64, T)>
-        ensures cases { MatchOption result ((self.old.items ≡ []) × (self.new ≡ self.old)) (λ r.
-            (r.0 ≡ self.old.taken) × (self.old.items ≡ r.1 ∷ self.new.items) × (self.new ≡ without_first self.old self.new.items)) }
+    pub(crate) fn pop(&mut self) -> (u64, T)
+        requires { 0 < length self.old.items }
+        ensures number { result.0 ≡ self.old.taken }
+        ensures first { self.old.items ≡ result.1 ∷ self.new.items }
+        ensures ring { self.new ≡ without_first self.old self.new.items }
     {
-        let item = self.items.pop_front()?;
+        let Some(item) = self.items.pop_front() else {
+            unreachable!()
+        };
         let number = self.taken;
         self.taken += 1;
-        Some((number, item))
+        (number, item)
     }
 
     /// Shuts it.

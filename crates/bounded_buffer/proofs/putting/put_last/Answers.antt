@@ -1,0 +1,54 @@
+use Rattle.std.proofs.Common.{◌≡◌, ℕ, [], ◌∷◌, Some, refl, sym, ap, subst, ◌∙◌}
+use Rattle.std.proofs.lemmas.Option.{same_Some}
+use lib.ListN.{get_elem?}
+use Rattle.nub_rule.specs.Plays.{event, signal_action, release_event}
+use Rattle.nub.specs.Rest.{Adds}
+use Rattle.bounded_buffer.specs.declared.did.Did.TheVariants.{Put}
+use Rattle.bounded_buffer.specs.Rings.{Does}
+use Rattle.bounded_buffer.proofs.Adding.{added, adds_on}
+use Rattle.bounded_buffer.proofs.putting.put_last.Goals as goal
+
+pub release-requires-2-clause-may : goal.release-requires-2-clause-may
+release-requires-2-clause-may g c κs within =
+    let w0 = c.args.p.now.world in
+    let at = c.args.at.now in
+    let n = c.signal.new.me.number in
+    let ring = c.args.ring in
+    let got = c.requires.got in
+    let y = c.from_ring-2.result in
+    let same = c.signal.ensures.same in (
+      got.0,
+      ap (λ l. get_elem? l at.mutex.0) c.signal.ensures.held ∙ got.1,
+      λ w s world share.
+          let may = subst (λ (k : ℕ). g.B.BufferUse.may_put w0 at.mutex.0 k c.args.item s) (sym same.number) (c.requires.may s (sym c.signal.ensures.share ∙ share)) in
+          subst (λ v. g.B.Uses.allows v at.mutex.0 n got.0 y s (g.B.Put.Change.after v at.mutex.0 n got.0 y s)) (same_Some w0 w (sym c.requires.world ∙ (sym same.world ∙ world)))
+          (g.met.B.BufferUse.put_allowed w0 at c.requires.buffer n got.0 y s ring c.push-number.new.self (Put c.push-number.result c.args.item) got.2 c.from_ring-2.ensures
+          (c.requires.opened, c.requires.room, c.push-number.ensures.number, c.push-number.ensures.ring) may).0,
+    )
+
+pub returns-clause-given : goal.returns-clause-given
+returns-clause-given g c = λ s share.
+    let w = c.args.p.now.world in
+    let at = c.args.at.now in
+    let old = c.args.me.now in
+    let mid = c.signal.new.me in
+    let n = old.number in
+    let ring = c.args.ring in
+    let got = c.requires.got in
+    let y = c.from_ring-2.result in
+    let same = c.signal.ensures.same in
+    let does : Does (Put c.push-number.result c.args.item) ring c.push-number.new.self = (c.requires.opened, c.requires.room, c.push-number.ensures.number, c.push-number.ensures.ring) in
+    let law = g.met.B.BufferUse.put_allowed w at c.requires.buffer n got.0 y s ring c.push-number.new.self (Put c.push-number.result c.args.item) got.2 c.from_ring-2.ensures does (c.requires.may s share) in
+    let holds = ap (λ l. get_elem? l at.mutex.0) c.signal.ensures.held ∙ got.1 in
+    let left = c.signal.ensures.event.0 in
+    let signal = event n (signal_action at.more.0 left) in
+    let last = subst (λ (k : ℕ). Adds [] (release_event k at.mutex.0) mid c.release-2.new.me) same.number c.release-2.ensures.event in
+    record {
+      left = left;
+      events = adds_on (signal ∷ []) [] (release_event n at.mutex.0) old mid c.release-2.new.me (added [] signal old mid c.signal.ensures.event.1) last;
+      share = g.B.Put.Change.after w at.mutex.0 n got.0 y s;
+      is_share = subst (λ (k : ℕ). c.release-2.new.me.share ≡ Some (g.B.Put.Change.after w at.mutex.0 k got.0 y s)) same.number (c.release-2.ensures.share w s got.0 (same.world ∙ c.requires.world) (c.signal.ensures.share ∙ share) holds);
+      here = law.1.here;
+      elsewhere = law.1.elsewhere;
+      looked = (got.0, y, ring, c.push-number.new.self, got.2, c.from_ring-2.ensures, does, refl);
+    }

@@ -1,0 +1,44 @@
+//! Giving a mutex back with the ring as it was got.
+ghost use Rattle.std.specs.Prelude.{◌≡◌, None, Some, slice_set};
+ghost use Rattle.nub_rule.specs.Known.{Holds};
+ghost use Rattle.nub_rule.specs.Plays.{release_event};
+ghost use Rattle.std.specs.Prelude.{[]};
+ghost use Rattle.nub.specs.Rest.{AtRest, Adds, IsSame};
+ghost use Rattle.bounded_buffer.specs.At.{IsNamed};
+ghost use Rattle.bounded_buffer.specs.Rings.{Held};
+
+use crate::at::BufferAt;
+use crate::buffer_use::BufferUse;
+use nub_rule::{NoChange, Package, Thread};
+use std::sync::Wait;
+use user_mutex::release;
+
+/// Waits for ever, with the item.
+pub(crate) fn keep<T, R: Wait>(rt: &R, item: T) -> T
+    ensures { ⊥ }
+{
+    for _ in rt.forever() {}
+    item
+}
+
+/// Gives the mutex back with the value that came with it.
+pub(crate) fn give_up<B: BufferUse, R: Wait>(
+    rt: &R,
+    p: &Package<B>,
+    me: &mut Thread<B>,
+    at: &BufferAt,
+    value: B::Value,
+)
+    requires rest { AtRest p.now me.old }
+    requires named { IsNamed p.now.layout at.now }
+    requires buffer { B.is_buffer p.now.world at.now }
+    requires world { me.old.world ≡ Some p.now.world }
+    requires got { Holds me.old at.now.mutex.0 value × ((q : Held B.Item) × (B.ring_in value ≡ Some q)) }
+    ensures rest { AtRest p.now me.new }
+    ensures same { IsSame me.old me.new }
+    ensures held { me.new.held ≡ slice_set me.old.held at.now.mutex.0 None }
+    ensures share { (s : B.Share) → me.old.share ≡ Some s → me.new.share ≡ Some s }
+    ensures event { Adds [] (release_event me.old.number at.now.mutex.0) me.old me.new }
+{
+    release::<B, NoChange, R>(rt, p, me, at.mutex, value);
+}

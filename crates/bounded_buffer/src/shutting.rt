@@ -1,0 +1,37 @@
+//! Shutting a ring.
+ghost use Rattle.std.specs.Prelude.{◌≡◌, None, Some};
+ghost use mathlib.Core.Option.{some};
+ghost use lib.ListN.{get_elem?};
+ghost use Rattle.nub.specs.Rest.{AtRest, IsSame};
+ghost use Rattle.bounded_buffer.specs.At.{IsNamed};
+ghost use Rattle.bounded_buffer.specs.Calls.{HasShut};
+
+use crate::at::BufferAt;
+use crate::buffer_use::BufferUse;
+use condition::broadcast;
+use nub_rule::{Package, Thread};
+use std::sync::Wait;
+use user_mutex::{acquire, release};
+
+/// Shuts the ring, and wakes all who wait for room or for more. Where it is shut already it stays as it is.
+///
+/// It blocks while another thread has the mutex.
+pub fn shut<B: BufferUse, R: Wait>(rt: &R, p: &Package<B>, me: &mut Thread<B>, at: &BufferAt)
+    requires rest { AtRest p.now me.old }
+    requires named { IsNamed p.now.layout at.now }
+    requires buffer { B.is_buffer p.now.world at.now }
+    requires lacks { get_elem? me.old.held at.now.mutex.0 ≡ some None }
+    requires world { me.old.world ≡ Some p.now.world }
+    requires share { (s : B.Share) × (me.old.share ≡ Some s) }
+    ensures rest { AtRest p.now me.new }
+    ensures same { IsSame me.old me.new }
+    ensures held { me.new.held ≡ me.old.held }
+    ensures shut { (s : B.Share) → me.old.share ≡ Some s → HasShut B.ring_in B.part B.Shut.after p.now.world at.now.mutex.0 at.now.room.0 at.now.more.0 me.old.number s me.old me.new }
+{
+    let value = acquire(rt, p, me, at.mutex);
+    let mut ring = B::into_ring(value);
+    ring.shut();
+    broadcast(rt, p, me, at.room);
+    broadcast(rt, p, me, at.more);
+    release::<B, B::Shut, R>(rt, p, me, at.mutex, B::from_ring(ring));
+}
