@@ -1,0 +1,16 @@
+//! Many readers, or one writer.
+//!
+//! Promises: behind each mutex the number of readers is that of the threads that read there, the writer is the one thread that writes
+//! there, and there are never both; each call moves its thread between idle, reading and writing. Stands on a mutex and a condition of the
+//! package. Nothing is said of waiting: not that a thread ever gets in, nor that a writer comes before later readers.
+#![tactic(auto)]
+
+mod calls;
+mod role;
+mod rw_uses;
+mod state;
+
+pub use calls::{begin_read, begin_write, end_read, end_write};
+pub use role::{Role, Turn};
+pub use rw_uses::{Idles, Reads, RwUses, Writes};
+pub use state::{RwAt, RwState};

@@ -1,0 +1,14 @@
+//! What a share is made of.
+
+/// What a thread does behind a mutex.
+pub enum Role {
+    Idle,
+    Reading,
+    Writing,
+}
+
+/// From here on a thread does this behind the mutex.
+pub struct Turn {
+    pub mutex: u64,
+    pub now: Role,
+}

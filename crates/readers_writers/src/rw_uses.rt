@@ -1,0 +1,54 @@
+//! The use of the package by readers and writers.
+ghost use Rattle.std.specs.Prelude.{[], ◌∷◌};
+ghost use Rattle.readers_writers.specs.declared.role.Role.TheVariants.{Idle, Reading, Writing};
+ghost use Rattle.readers_writers.specs.Roles.{AreRoles, Allowed, IsKnown, turn};
+ghost use Rattle.readers_writers.specs.RoleLaws.{fits_known, roles_after};
+
+use crate::role::Turn;
+use crate::state::RwState;
+use nub_rule::{Change, Uses};
+use std::collections::LinkedList;
+
+/// Behind each mutex stands who reads and who writes there. A share says for each mutex whether its thread is idle, reads or writes.
+pub struct RwUses;
+
+impl Uses for RwUses {
+    type Value = RwState;
+
+    type World = ();
+
+    type Share = LinkedList<Turn>;
+
+    ghost begin = { λ w t. [] };
+
+    ghost holds = { λ w values shares. AreRoles values shares };
+
+    ghost fits = { λ w m x t s. IsKnown m x t s };
+
+    ghost allows = { λ w m t x y s r. Allowed m t x y s r };
+
+    ghost holds_fits = { fits_known };
+
+    ghost holds_after = { roles_after };
+}
+
+/// The thread reads.
+pub struct Reads;
+
+/// The thread writes.
+pub struct Writes;
+
+/// The thread is idle again.
+pub struct Idles;
+
+impl Change<RwUses> for Reads {
+    ghost after = { λ w m t x y s. turn m Reading ∷ s };
+}
+
+impl Change<RwUses> for Writes {
+    ghost after = { λ w m t x y s. turn m Writing ∷ s };
+}
+
+impl Change<RwUses> for Idles {
+    ghost after = { λ w m t x y s. turn m Idle ∷ s };
+}
