@@ -1,5 +1,6 @@
 pub mod At
 pub mod Calls
+pub mod Closing
 pub mod Parts
 pub mod Plain
 pub mod PlainLaws

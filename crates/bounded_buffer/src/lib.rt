@@ -6,6 +6,7 @@ mod buffer_use;
 mod did;
 mod ends;
 mod giving;
+pub mod laws;
 mod note;
 mod plain;
 mod putting;

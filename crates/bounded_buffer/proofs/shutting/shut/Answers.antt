@@ -1,13 +1,10 @@
-use Rattle.std.proofs.Common.{◌≡◌, ℕ, [], ◌∷◌, ◌++◌, Some, None, refl, sym, ap, subst, ◌∙◌, slice_set}
+use Rattle.std.proofs.Common.{◌≡◌, ℕ, [], ◌∷◌, Some, None, refl, sym, ap, subst, ◌∙◌, slice_set}
 use Rattle.std.proofs.lemmas.List.{set-set}
 use Rattle.std.proofs.lemmas.Option.{same_Some}
-use mathlib.Core.Option.{some}
 use lib.ListN.{get_elem?}
 use Rattle.atomic_table.proofs.Lists.{set_again}
 use Rattle.nub_rule.specs.Plays.{acquire_event, event, broadcast_action, release_event}
 use Rattle.nub.specs.Rest.{Adds}
-use Rattle.bounded_buffer.specs.declared.did.Did.TheVariants.{Shut}
-use Rattle.bounded_buffer.specs.Rings.{Does}
 use Rattle.bounded_buffer.proofs.Adding.{added, added_on, adds_on}
 use Rattle.bounded_buffer.proofs.shutting.shut.Goals as goal
 

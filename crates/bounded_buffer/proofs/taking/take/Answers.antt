@@ -1,13 +1,11 @@
-use Rattle.std.proofs.Common.{◌≡◌, ◌<◌, ◌+◌, ℕ, true, List, [], ◌∷◌, ◌++◌, Some, None, refl, sym, ap, subst, ◌∙◌, suc, add_assoc, add-zero}
+use Rattle.std.proofs.Common.{◌≡◌, ◌<◌, ◌+◌, ℕ, true, [], ◌∷◌, ◌++◌, Some, None, sym, ap, subst, ◌∙◌, suc, add_assoc, add-zero}
 use Rattle.std.specs.List.{All}
 use Rattle.std.proofs.lemmas.Option.{same_Some}
-use Rattle.larch_actions.specs.declared.event.Event.{Event}
 use Rattle.nub_rule.specs.Plays.{enqueue_event}
 use Rattle.alert_wait.specs.declared.outcome.Outcome.{Outcome}
 use Rattle.alert_wait.specs.Outcomes.{wait_end}
 use Rattle.bounded_buffer.specs.Calls.{Ran, entered}
 use Rattle.bounded_buffer.specs.Parts.{Used, more_empty, did}
-use Rattle.bounded_buffer.specs.Rings.{put_count}
 use Rattle.bounded_buffer.specs.Waiting.{IsIn}
 use Rattle.bounded_buffer.specs.declared.did.Did.TheVariants.{Took, SawEnd, WaitedEmpty}
 use Rattle.bounded_buffer.proofs.Ending.{same_on, held_back, entering, waiting, waited, ran_some, ran_none}

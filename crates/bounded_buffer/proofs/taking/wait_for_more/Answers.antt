@@ -1,4 +1,4 @@
-use Rattle.std.proofs.Common.{◌≡◌, ℕ, refl, sym, subst, ◌∙◌}
+use Rattle.std.proofs.Common.{ℕ, refl, sym, subst, ◌∙◌}
 use Rattle.std.proofs.lemmas.Option.{same_Some}
 use Rattle.bounded_buffer.specs.declared.did.Did.TheVariants.{WaitedEmpty}
 use Rattle.bounded_buffer.proofs.taking.wait_for_more.Goals as goal

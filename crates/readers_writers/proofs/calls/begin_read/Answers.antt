@@ -1,9 +1,8 @@
-use Rattle.std.proofs.Common.{◌≡◌, ℕ, List, ◌∷◌, Some, None, rules, arith, refl, sym, ap, subst, ◌∙◌, slice_set, inl}
+use Rattle.std.proofs.Common.{◌≡◌, ℕ, List, Some, None, rules, arith, refl, sym, ap, subst, ◌∙◌, slice_set, inl}
 use Rattle.std.proofs.lemmas.List.{set-set}
 use Rattle.std.proofs.lemmas.Option.{same_Some}
 use Rattle.readers_writers.specs.declared.role.Role.TheVariants.{Idle, Reading}
 use Rattle.readers_writers.specs.declared.role.Turn.{Turn}
-use Rattle.readers_writers.specs.declared.state.RwState.{RwState}
 use Rattle.readers_writers.specs.Roles.{IsKnown, role_of}
 use Rattle.readers_writers.proofs.Going.{goes_by, same_on, held_back}
 use Rattle.readers_writers.proofs.calls.begin_read.Goals as goal
