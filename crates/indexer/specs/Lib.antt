@@ -1,0 +1,6 @@
+pub mod Plans
+pub mod Work
+pub mod WorkLaws
+pub mod BufferLaws
+pub mod Turns
+pub mod Walks

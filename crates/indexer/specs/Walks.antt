@@ -1,0 +1,40 @@
+-- What a walker has done.
+use Rattle.std.specs.Prelude.{◌≡◌, ◌⊎◌, ℕ, ◌+◌, ◌≤◌, List, [], ◌∷◌, ◌++◌, length, Option, Some, None, IfSome, Contains, All}
+use Rattle.std.specs.Option.{option_to_list}
+use Rattle.firefly_outside.specs.Causes.{Rose}
+use Rattle.firefly_outside.specs.Trees.{Path, Told, Calls, Directory}
+use Rattle.firefly_outside.specs.declared.tree.Entry.{Entry}
+use Rattle.walker.specs.Listings.{IsListingOf, IsToldBy}
+use Rattle.indexer.specs.declared.walking.Visit.{Visit}
+use Rattle.indexer.specs.declared.walking.Findings.{Findings}
+use Rattle.indexer.specs.Turns.{Worker, Run, ComesBack, release_count}
+
+-- the listing is one of its directory, and where the tree tells, the tree's own
+pub record IsVisit (tree : Option Told) (v : Visit) : Type 0 where
+  pub lawful : IsListingOf v.dir v.listing
+  pub told : IfSome tree (λ t. IsToldBy t v.dir v.listing)
+
+-- the count rose where a path failed, and else stays
+abbrev pub FaultCounts : ℕ → ℕ → Option Path → Type 0
+FaultCounts before now None = now ≡ before
+FaultCounts before now (Some path) = (before ≤ now) × Rose before now
+
+-- the path may fail, or the tree has no directory there
+abbrev pub MayFail : List Path → Told → Path → Type 0
+MayFail weak t path = Contains weak path ⊎ ¬ ((es : List Entry) × (t path ≡ Some (Directory es)))
+
+-- only these directories were listed, and this path failed, if one did; mutex 0 was released for each of them before
+pub record ListedOnly (weak : List Path) (before now : Calls) (fault : Option Path) (a b : Worker) (t : Told) : Type 0 where
+  pub dirs : List Path
+  pub listed : now.listed ≡ before.listed ++ dirs
+  pub read : now.files_read ≡ before.files_read
+  pub failed : now.failed ≡ before.failed ++ option_to_list fault
+  pub may : IfSome fault (MayFail weak t)
+  pub times : length dirs + release_count 0 a.mine ≤ release_count 0 b.mine
+
+-- the walker has come back with these listings and this fault
+pub record HasWalked (tree : Option Told) (weak : List Path) (count then_count : ℕ) (before now : Calls) (p : Run) (a b : Worker) (w : Findings) : Type 0 where
+  pub back : ComesBack p a b
+  pub visits : All (IsVisit tree) w.visits.items
+  pub counts : FaultCounts count then_count w.fault
+  pub told : IfSome tree (ListedOnly weak before now w.fault a b)

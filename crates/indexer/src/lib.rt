@@ -1,0 +1,18 @@
+//! The index of a tree, made by walkers, parsers and mergers at once.
+//!
+//! Stands on the package, its bounded buffers, a crew of threads, the pieces of an index and the closing walk, which decides the answer.
+#![tactic(auto)]
+
+mod buffers;
+mod dirs;
+
+mod passing;
+mod plan;
+mod turns;
+mod uses;
+mod value;
+
+pub use passing::{Gate, NoGate};
+pub use plan::{Plan, index_layout};
+pub use uses::{DidPut, DidShut, DidTake, IndexUses};
+pub use value::{IndexItem, IndexValue, WaitingDirs};
