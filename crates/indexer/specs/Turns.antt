@@ -4,7 +4,7 @@ use Rattle.larch_actions.specs.declared.event.Event.{Event}
 use Rattle.larch_actions.specs.declared.event.Layout.{Layout}
 use Rattle.larch_actions.specs.declared.event.Action.{Action}
 use Rattle.larch_actions.specs.declared.event.Action.TheVariants.{Release}
-use Rattle.nub_rule.specs.Known.{Known, Shape}
+use Rattle.nub_rule.specs.Known.{Known, Shape, Holds}
 use Rattle.nub.specs.Idle.{IsIdle}
 use Rattle.nub.specs.Rest.{AtRest, IsSame}
 use Rattle.indexer.specs.declared.value.IndexValue.{IndexValue}
@@ -42,8 +42,12 @@ pub record HasReleased (p : Run) (k : ℕ) (a b : Worker) : Type 0 where
 pub record HasList (p : Run) (a : Worker) (x : IndexValue) (b : Worker) : Type 0 where
   pub rest : AtRest p b
   pub same : IsSame a b
+  pub has : Holds b 0 x
   pub held : b.held ≡ slice_set a.held 0 (Some x)
-  pub share : b.share ≡ a.share
+  pub world : b.world ≡ Some p.world
+  pub own : Share
+  pub was : a.share ≡ Some own
+  pub share : b.share ≡ Some own
   pub kind : IsBehind 0 x
   pub times : release_count 0 a.mine ≤ release_count 0 b.mine
 

@@ -5,12 +5,13 @@
 
 mod buffers;
 mod dirs;
-
+mod findings;
 mod passing;
 mod plan;
 mod turns;
 mod uses;
 mod value;
+mod walking;
 
 pub use passing::{Gate, NoGate};
 pub use plan::{Plan, index_layout};

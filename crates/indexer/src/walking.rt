@@ -3,6 +3,7 @@ ghost use Rattle.std.specs.Prelude.{◌≡◌, [], ◌∷◌, ◌++◌, OnOk, On
 ghost use Rattle.indexer.specs.Turns.{HasLists, IsBetween};
 ghost use Rattle.indexer.specs.Walks.{HasWalked};
 
+use crate::findings::{Findings, Visit};
 use crate::turns::{finish_dir, next_dir, shut_dirs};
 use crate::uses::IndexUses;
 use firefly_outside::{Text, Tree, TreeError};
@@ -10,20 +11,6 @@ use nub_rule::{Package, Thread};
 use std::alloc::{AllocError, Global};
 use std::sync::Wait;
 use walker::{Listing, list_dir};
-
-/// A directory that was listed, and its listing.
-#[derive(Drop)]
-pub struct Visit {
-    pub dir: Text,
-    pub listing: Listing,
-}
-
-/// What a walker came by: the directories that it listed, and the one that failed, if one did.
-#[derive(Drop)]
-pub struct Findings {
-    pub visits: Vec<Visit>,
-    pub fault: Option<Text>,
-}
 
 /// The same paths anew.
 fn copied(alloc: Global, paths: &Vec<Text>) -> Result<Vec<Text>, AllocError> {
@@ -63,7 +50,7 @@ pub fn walk<R: Wait, S: Tree>(
     requires between { IsBetween p.now me.old }
     ensures tree_stays { S.tree tree.new ≡ S.tree tree.old }
     ensures weak_stays { S.may_fail tree.new ≡ S.may_fail tree.old }
-    ensures walked { HasWalked (S.tree tree.old) (S.may_fail tree.old) (S.faults tree.old) (S.faults tree.new) (S.calls tree.old) (S.calls tree.new) p.now me.old me.new result }
+    ensures walked { HasWalked (S.tree tree.old) (S.may_fail tree.old) (S.faults tree.old) (S.faults tree.new) (S.calls tree.old) (S.calls tree.new) p.now 0 me.old me.new result.visits.items result.fault }
 {
     let mut visits = Vec::new(alloc);
     for _ in rt.forever() {

@@ -1,0 +1,126 @@
+-- The steps of a walker.
+use Rattle.std.proofs.Common.{◌≡◌, ℕ, ◌+◌, ◌≤◌, List, [], ◌∷◌, ◌++◌, length, Some, None, Option, ◌⊎◌, ⊎_elim, sym, ap, subst, ◌∙◌, refl, arith, append_assoc, append-nil, length-append}
+use Rattle.std.specs.Prelude.{IfSome, All, Contains}
+use Rattle.std.proofs.lemmas.List.Elements.{All-append, All-cons, All-nil}
+use Rattle.firefly_outside.specs.Causes.{Rose}
+use Rattle.firefly_outside.specs.Trees.{Path, Told, Calls, Directory, IsFault}
+use Rattle.firefly_outside.specs.declared.tree.Entry.{Entry}
+use Rattle.walker.specs.Listings.{IsListingOf, IsToldBy, with_listed}
+use Rattle.walker.specs.declared.listing.Listing.{Listing}
+use Rattle.nub.specs.Idle.{IsIdle}
+use Rattle.indexer.specs.declared.findings.Visit.{Visit}
+use Rattle.indexer.specs.Turns.{Worker, Run, ComesBack, HasReleased, IsBetween, release_count}
+use Rattle.indexer.specs.Walks.{IsVisit, FaultCounts, MayFail, ListedOnly, HasWalked}
+
+-- what is told of one thing is told of another
+pub told_on : (tree : Option Told) (P Q : Told → Type 0) → ((t : Told) → P t → Q t) → IfSome tree P → IfSome tree Q
+told_on None P Q f h = h
+told_on (Some t) P Q f h = f t h
+
+pub told_both : (tree : Option Told) (P Q S : Told → Type 0) → ((t : Told) → P t → Q t → S t) → IfSome tree P → IfSome tree Q → IfSome tree S
+told_both None P Q S f h k = h
+told_both (Some t) P Q S f h k = f t h k
+
+pub told_all : (tree : Option Told) (P : Told → Type 0) → ((t : Told) → P t) → IfSome tree P
+told_all None P f = tt
+told_all (Some t) P f = f t
+
+pub back_on : (p : Run) (a b c : Worker) → ComesBack p a b → ComesBack p b c → ComesBack p a c
+back_on p a b c first second = λ n s idle. let one = first n s idle in second n one.0 one.1
+
+pub still_between : (p : Run) (a b : Worker) → IsBetween p a → ComesBack p a b → IsBetween p b
+still_between p a b between back = let r = back between.0 between.1 between.2 in (between.0, r.0, r.1)
+
+module _ (tree : Option Told) (weak : List Path) (count : ℕ) (before : Calls) (p : Run) (a : Worker) where
+  -- nothing was done yet
+  pub walked_none : HasWalked tree weak count count before before p 0 a a [] None
+  walked_none = record {
+    back = λ n s idle. (s, idle);
+    visits = All-nil (IsVisit tree);
+    counts = refl;
+    told = told_all tree (ListedOnly weak before before None 0 a a) (λ t. record {
+      dirs = [];
+      listed = sym (append-nil before.listed);
+      read = refl;
+      failed = sym (append-nil before.failed);
+      may = tt;
+      times = omega arith;
+    });
+  }
+
+  -- mutex 0 was released at least so many times more
+  pub walked_on : (k : ℕ) (f : ℕ) (now : Calls) (b c : Worker) (visits : List Visit) (fault : Option Path)
+      → HasWalked tree weak count f before now p 0 a b visits fault → HasReleased p k b c → HasWalked tree weak count f before now p k a c visits fault
+  walked_on k f now b c visits fault h r = record {
+    back = back_on p a b c h.back r.back;
+    visits = h.visits;
+    counts = h.counts;
+    told = told_on tree (ListedOnly weak before now fault 0 a b) (ListedOnly weak before now fault k a c) (λ t l. record {
+      dirs = l.dirs;
+      listed = l.listed;
+      read = l.read;
+      failed = l.failed;
+      may = l.may;
+      times = let was = l.times in let more = r.times in omega arith;
+    }) h.told;
+  }
+
+  one_more : (now : Calls) (b : Worker) (dir : Path) (t : Told) → ListedOnly weak before now None 1 a b t → ListedOnly weak before (with_listed now dir) None 0 a b t
+  one_more now b dir t l = record {
+    dirs = l.dirs ++ dir ∷ [];
+    listed = ap (λ ds. ds ++ dir ∷ []) l.listed ∙ append_assoc before.listed l.dirs (dir ∷ []);
+    read = l.read;
+    failed = l.failed;
+    may = l.may;
+    times = let was = l.times in let long = length-append l.dirs (dir ∷ []) in omega arith;
+  }
+
+  no_more : (now : Calls) (b : Worker) (t : Told) → ListedOnly weak before now None 1 a b t → ListedOnly weak before now None 0 a b t
+  no_more now b t l = record { dirs = l.dirs; listed = l.listed; read = l.read; failed = l.failed; may = l.may; times = let was = l.times in omega arith }
+
+  -- a directory was listed
+  pub walked_listing : (f g : ℕ) (now after : Calls) (b : Worker) (visits : List Visit) (dir : Path) (l : Listing)
+      → HasWalked tree weak count f before now p 1 a b visits None → g ≡ f → IsListingOf dir l → IfSome tree (λ t. IsToldBy t dir l × (after ≡ with_listed now dir))
+      → HasWalked tree weak count g before after p 0 a b (visits ++ record { dir = dir; listing = l } ∷ []) None
+  walked_listing f g now after b visits dir l h same lawful told = record {
+    back = h.back;
+    visits = All-append (IsVisit tree) visits (record { dir = dir; listing = l } ∷ []) h.visits
+        (All-cons (IsVisit tree) (record { dir = dir; listing = l }) [] (record { lawful = lawful; told = told_on tree (λ t. IsToldBy t dir l × (after ≡ with_listed now dir)) (λ t. IsToldBy t dir l) (λ t q. q.0) told }) (All-nil (IsVisit tree)));
+    counts = same ∙ h.counts;
+    told = told_both tree (ListedOnly weak before now None 1 a b) (λ t. IsToldBy t dir l × (after ≡ with_listed now dir)) (ListedOnly weak before after None 0 a b)
+        (λ t one q. subst (λ (k : Calls). ListedOnly weak before k None 0 a b t) (sym q.1) (one_more now b dir t one)) h.told told;
+  }
+
+  -- a directory may have been listed, and the listing is lost
+  pub walked_lost : (f g : ℕ) (now after : Calls) (b : Worker) (visits : List Visit) (dir : Path)
+      → HasWalked tree weak count f before now p 1 a b visits None → g ≡ f → IfSome tree (λ t. (after ≡ now) ⊎ (after ≡ with_listed now dir))
+      → HasWalked tree weak count g before after p 0 a b visits None
+  walked_lost f g now after b visits dir h same told = record {
+    back = h.back;
+    visits = h.visits;
+    counts = same ∙ h.counts;
+    told = told_both tree (ListedOnly weak before now None 1 a b) (λ t. (after ≡ now) ⊎ (after ≡ with_listed now dir)) (ListedOnly weak before after None 0 a b)
+        (λ t one q. ⊎_elim
+            (λ (e : after ≡ now). subst (λ (k : Calls). ListedOnly weak before k None 0 a b t) (sym e) (no_more now b t one))
+            (λ (e : after ≡ with_listed now dir). subst (λ (k : Calls). ListedOnly weak before k None 0 a b t) (sym e) (one_more now b dir t one))
+            q) h.told told;
+  }
+
+  -- a directory failed
+  pub walked_fault : (f g : ℕ) (now after : Calls) (b : Worker) (visits : List Visit) (dir : Path)
+      → HasWalked tree weak count f before now p 1 a b visits None → (f ≤ g) × Rose f g → IfSome tree (λ t. IsFault weak dir ((es : List Entry) × (t dir ≡ Some (Directory es))) now after)
+      → HasWalked tree weak count g before after p 0 a b visits (Some dir)
+  walked_fault f g now after b visits dir h rose told = record {
+    back = h.back;
+    visits = h.visits;
+    counts = subst (λ (n : ℕ). (n ≤ g) × Rose n g) h.counts rose;
+    told = told_both tree (ListedOnly weak before now None 1 a b) (λ t. IsFault weak dir ((es : List Entry) × (t dir ≡ Some (Directory es))) now after) (ListedOnly weak before after (Some dir) 0 a b)
+        (λ t l q. record {
+          dirs = l.dirs;
+          listed = ap (λ (k : Calls). k.listed) q.noted ∙ l.listed;
+          read = ap (λ (k : Calls). k.files_read) q.noted ∙ l.read;
+          failed = ap (λ (k : Calls). k.failed) q.noted ∙ ap (λ ds. ds ++ dir ∷ []) (l.failed ∙ append-nil before.failed);
+          may = q.may;
+          times = let was = l.times in omega arith;
+        }) h.told told;
+  }
