@@ -1,5 +1,5 @@
 -- What a walker has done.
-use Rattle.std.specs.Prelude.{◌≡◌, ◌⊎◌, ℕ, ◌+◌, ◌≤◌, List, [], ◌∷◌, ◌++◌, length, Option, Some, None, IfSome, Contains, All}
+use Rattle.std.specs.Prelude.{◌≡◌, ◌⊎◌, ℕ, ◌+◌, ◌≤◌, List, [], ◌∷◌, ◌++◌, length, Option, Some, None, IfSome, Contains, All, Result, Ok, Err}
 use Rattle.std.specs.Option.{option_to_list}
 use Rattle.firefly_outside.specs.Causes.{Rose}
 use Rattle.firefly_outside.specs.Trees.{Path, Told, Calls, Directory}
@@ -35,6 +35,11 @@ pub record ListedOnly (weak : List Path) (before now : Calls) (fault : Option Pa
 -- the walker came from a to b by these listings, and this path failed, if one did
 pub record HasWalked (tree : Option Told) (weak : List Path) (count then_count : ℕ) (before now : Calls) (p : Run) (spare : ℕ) (a b : Worker) (visits : List Visit) (fault : Option Path) : Type 0 where
   pub back : ComesBack p a b
-  pub visits : All (IsVisit tree) visits
+  pub each : All (IsVisit tree) visits
   pub counts : FaultCounts count then_count fault
   pub told : IfSome tree (ListedOnly weak before now fault spare a b)
+
+-- the path that failed, if one did
+abbrev pub fault_of : {T : Type 0} → Result T (Option Path) → Option Path
+fault_of (Ok v) = None
+fault_of (Err fault) = fault

@@ -4,6 +4,7 @@
 #![tactic(auto)]
 
 mod buffers;
+mod collecting;
 mod dirs;
 mod findings;
 mod passing;

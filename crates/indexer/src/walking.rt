@@ -1,7 +1,8 @@
 //! The work of a walker.
-ghost use Rattle.std.specs.Prelude.{◌≡◌, [], ◌∷◌, ◌++◌, OnOk, OnErr};
-ghost use Rattle.indexer.specs.Turns.{HasLists, IsBetween};
-ghost use Rattle.indexer.specs.Walks.{HasWalked};
+ghost use Rattle.std.specs.Prelude.{◌≡◌, ℕ, [], ◌∷◌, ◌++◌, OnOk, OnErr, None};
+ghost use Rattle.firefly_outside.specs.Trees.{Calls};
+ghost use Rattle.indexer.specs.Turns.{HasLists, IsBetween, Run, Worker};
+ghost use Rattle.indexer.specs.Walks.{HasWalked, fault_of};
 
 use crate::findings::{Findings, Visit};
 use crate::turns::{finish_dir, next_dir, shut_dirs};
@@ -36,7 +37,32 @@ fn keep(
     Ok(found)
 }
 
-/// Lists directories from the list until it is over, and puts those found into it. Whoever fails or has no memory shuts the list.
+// Lists one directory, keeps its listing, and gives the directories found there. An error names the directory where it failed, and none
+// where memory wants.
+fn list_one<S: Tree>(
+    alloc: Global,
+    tree: &mut S,
+    dir: Text,
+    visits: &mut Vec<Visit>,
+) -> Result<Vec<Text>, Option<Text>>
+    ensures tree_stays { S.tree tree.new ≡ S.tree tree.old }
+    ensures weak_stays { S.may_fail tree.new ≡ S.may_fail tree.old }
+    ensures walked { (count : ℕ) (before : Calls) (p : Run) (a b : Worker)
+        → HasWalked (S.tree tree.old) (S.may_fail tree.old) count (S.faults tree.old) before (S.calls tree.old) p 1 a b visits.old.items None
+        → HasWalked (S.tree tree.old) (S.may_fail tree.old) count (S.faults tree.new) before (S.calls tree.new) p 0 a b visits.new.items (fault_of result) }
+{
+    match list_dir(alloc, tree, dir.as_str()) {
+        Ok(listing) => match keep(alloc, visits, dir, listing) {
+            Ok(found) => Ok(found),
+            Err(_) => Err(None),
+        },
+        Err(TreeError::Memory) => Err(None),
+        Err(TreeError::Failed) => Err(Some(dir)),
+    }
+}
+
+/// Lists directories from the list until it is over, and puts those found into it. Where a directory fails or memory wants, it shuts the
+/// list; what is left then is for the closing walk.
 ///
 /// It blocks as `next_dir` does.
 pub fn walk<R: Wait, S: Tree>(
@@ -55,27 +81,19 @@ pub fn walk<R: Wait, S: Tree>(
     let mut visits = Vec::new(alloc);
     for _ in rt.forever() {
         let Some(dir) = next_dir(rt, p, me) else {
-            break;
+            shut_dirs(rt, p, me);
+            return Findings {
+                visits,
+                fault: None,
+            };
         };
-        match list_dir(alloc, tree, dir.as_str()) {
-            Ok(listing) => match keep(alloc, &mut visits, dir, listing) {
-                Ok(found) => finish_dir(rt, p, me, found),
-                Err(_) => break,
-            },
-            Err(TreeError::Memory) => break,
-            Err(TreeError::Failed) => {
+        match list_one(alloc, tree, dir, &mut visits) {
+            Ok(found) => finish_dir(rt, p, me, found),
+            Err(fault) => {
                 shut_dirs(rt, p, me);
-                return Findings {
-                    visits,
-                    fault: Some(dir),
-                };
+                return Findings { visits, fault };
             }
         }
     }
-    // What is left to list is listed at the closing walk.
-    shut_dirs(rt, p, me);
-    Findings {
-        visits,
-        fault: None,
-    }
+    unreachable!()
 }

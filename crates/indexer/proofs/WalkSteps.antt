@@ -1,5 +1,5 @@
 -- The steps of a walker.
-use Rattle.std.proofs.Common.{◌≡◌, ℕ, ◌+◌, ◌≤◌, List, [], ◌∷◌, ◌++◌, length, Some, None, Option, ◌⊎◌, ⊎_elim, sym, ap, subst, ◌∙◌, refl, arith, append_assoc, append-nil, length-append}
+use Rattle.std.proofs.Common.{◌≡◌, ℕ, ◌+◌, ◌≤◌, List, [], ◌∷◌, ◌++◌, length, Some, None, Option, ◌⊎◌, ⊎_elim, inr, sym, ap, subst, ◌∙◌, refl, arith, append_assoc, append-nil, length-append}
 use Rattle.std.specs.Prelude.{IfSome, All, Contains}
 use Rattle.std.proofs.lemmas.List.Elements.{All-append, All-cons, All-nil}
 use Rattle.firefly_outside.specs.Causes.{Rose}
@@ -36,7 +36,7 @@ module _ (tree : Option Told) (weak : List Path) (count : ℕ) (before : Calls) 
   pub walked_none : HasWalked tree weak count count before before p 0 a a [] None
   walked_none = record {
     back = λ n s idle. (s, idle);
-    visits = All-nil (IsVisit tree);
+    each = All-nil (IsVisit tree);
     counts = refl;
     told = told_all tree (ListedOnly weak before before None 0 a a) (λ t. record {
       dirs = [];
@@ -53,7 +53,7 @@ module _ (tree : Option Told) (weak : List Path) (count : ℕ) (before : Calls) 
       → HasWalked tree weak count f before now p 0 a b visits fault → HasReleased p k b c → HasWalked tree weak count f before now p k a c visits fault
   walked_on k f now b c visits fault h r = record {
     back = back_on p a b c h.back r.back;
-    visits = h.visits;
+    each = h.each;
     counts = h.counts;
     told = told_on tree (ListedOnly weak before now fault 0 a b) (ListedOnly weak before now fault k a c) (λ t l. record {
       dirs = l.dirs;
@@ -84,7 +84,7 @@ module _ (tree : Option Told) (weak : List Path) (count : ℕ) (before : Calls) 
       → HasWalked tree weak count g before after p 0 a b (visits ++ record { dir = dir; listing = l } ∷ []) None
   walked_listing f g now after b visits dir l h same lawful told = record {
     back = h.back;
-    visits = All-append (IsVisit tree) visits (record { dir = dir; listing = l } ∷ []) h.visits
+    each = All-append (IsVisit tree) visits (record { dir = dir; listing = l } ∷ []) h.each
         (All-cons (IsVisit tree) (record { dir = dir; listing = l }) [] (record { lawful = lawful; told = told_on tree (λ t. IsToldBy t dir l × (after ≡ with_listed now dir)) (λ t. IsToldBy t dir l) (λ t q. q.0) told }) (All-nil (IsVisit tree)));
     counts = same ∙ h.counts;
     told = told_both tree (ListedOnly weak before now None 1 a b) (λ t. IsToldBy t dir l × (after ≡ with_listed now dir)) (ListedOnly weak before after None 0 a b)
@@ -97,7 +97,7 @@ module _ (tree : Option Told) (weak : List Path) (count : ℕ) (before : Calls) 
       → HasWalked tree weak count g before after p 0 a b visits None
   walked_lost f g now after b visits dir h same told = record {
     back = h.back;
-    visits = h.visits;
+    each = h.each;
     counts = same ∙ h.counts;
     told = told_both tree (ListedOnly weak before now None 1 a b) (λ t. (after ≡ now) ⊎ (after ≡ with_listed now dir)) (ListedOnly weak before after None 0 a b)
         (λ t one q. ⊎_elim
@@ -112,7 +112,7 @@ module _ (tree : Option Told) (weak : List Path) (count : ℕ) (before : Calls) 
       → HasWalked tree weak count g before after p 0 a b visits (Some dir)
   walked_fault f g now after b visits dir h rose told = record {
     back = h.back;
-    visits = h.visits;
+    each = h.each;
     counts = subst (λ (n : ℕ). (n ≤ g) × Rose n g) h.counts rose;
     told = told_both tree (ListedOnly weak before now None 1 a b) (λ t. IsFault weak dir ((es : List Entry) × (t dir ≡ Some (Directory es))) now after) (ListedOnly weak before after (Some dir) 0 a b)
         (λ t l q. record {
@@ -124,3 +124,48 @@ module _ (tree : Option Told) (weak : List Path) (count : ℕ) (before : Calls) 
           times = let was = l.times in omega arith;
         }) h.told told;
   }
+
+  -- the listing of a directory was kept
+  pub walked_kept : (f g : ℕ) (now after : Calls) (b : Worker) (visits kept : List Visit) (dir text : Path) (l : Listing)
+      → HasWalked tree weak count f before now p 1 a b visits None → text ≡ dir → kept ≡ visits ++ record { dir = dir; listing = l } ∷ []
+      → g ≡ f → IsListingOf text l → IfSome tree (λ t. IsToldBy t text l × (after ≡ with_listed now text))
+      → HasWalked tree weak count g before after p 0 a b kept None
+  walked_kept f g now after b visits kept dir text l h is all same lawful told =
+      subst (λ vs. HasWalked tree weak count g before after p 0 a b vs None) (ap (λ (d : Path). visits ++ record { dir = d; listing = l } ∷ []) is ∙ sym all)
+      (walked_listing f g now after b visits text l h same lawful told)
+
+  -- it was listed, and its listing isn't kept
+  pub walked_dropped : (f g : ℕ) (now after : Calls) (b : Worker) (visits kept : List Visit) (text : Path) (l : Listing)
+      → HasWalked tree weak count f before now p 1 a b visits None → kept ≡ visits
+      → g ≡ f → IfSome tree (λ t. IsToldBy t text l × (after ≡ with_listed now text))
+      → HasWalked tree weak count g before after p 0 a b kept None
+  walked_dropped f g now after b visits kept text l h stay same told =
+      subst (λ vs. HasWalked tree weak count g before after p 0 a b vs None) (sym stay)
+      (walked_lost f g now after b visits text h same (told_on tree (λ t. IsToldBy t text l × (after ≡ with_listed now text)) (λ t. (after ≡ now) ⊎ (after ≡ with_listed now text)) (λ t q. inr q.1) told))
+
+  -- it failed
+  pub walked_failed : (f g : ℕ) (now after : Calls) (b : Worker) (visits : List Visit) (dir text : Path)
+      → HasWalked tree weak count f before now p 1 a b visits None → text ≡ dir → (f ≤ g) × Rose f g
+      → IfSome tree (λ t. IsFault weak text ((es : List Entry) × (t text ≡ Some (Directory es))) now after)
+      → HasWalked tree weak count g before after p 0 a b visits (Some dir)
+  walked_failed f g now after b visits dir text h is rose told =
+      subst (λ (d : Path). HasWalked tree weak count g before after p 0 a b visits (Some d)) is (walked_fault f g now after b visits text h rose told)
+
+  -- a turn of a walker: it got a directory, did something with it, and told the list
+  pub walked_turn : (tree' : Option Told) (weak' : List Path) → tree' ≡ tree → weak' ≡ weak → (f g : ℕ) (now after : Calls) (b c d : Worker) (visits more : List Visit) (fault : Option Path)
+      → HasWalked tree weak count f before now p 0 a b visits None → HasReleased p 1 b c
+      → (HasWalked tree' weak' count f before now p 1 a c visits None → HasWalked tree' weak' count g before after p 0 a c more fault)
+      → HasReleased p 0 c d → HasWalked tree weak count g before after p 0 a d more fault
+  walked_turn tree' weak' same same_weak f g now after b c d visits more fault h first step last =
+      let got = walked_on 1 f now b c visits None h first in
+      let got_so : HasWalked tree' weak' count f before now p 1 a c visits None =
+          subst (λ (o : Option Told). HasWalked o weak' count f before now p 1 a c visits None) (sym same)
+          (subst (λ (k : List Path). HasWalked tree k count f before now p 1 a c visits None) (sym same_weak) got) in
+      let done : HasWalked tree weak count g before after p 0 a c more fault =
+          subst (λ (o : Option Told). HasWalked o weak count g before after p 0 a c more fault) same
+          (subst (λ (k : List Path). HasWalked tree' k count g before after p 0 a c more fault) same_weak (step got_so)) in
+      walked_on 0 g after c d more fault done last
+
+-- one call after the other
+pub released_after : (p : Run) (a b c : Worker) → HasReleased p 1 a b → HasReleased p 0 b c → HasReleased p 0 a c
+released_after p a b c first last = record { back = back_on p a b c first.back last.back; times = let one = first.times in let two = last.times in omega arith }
