@@ -4,3 +4,4 @@ pub mod WorkLaws
 pub mod BufferLaws
 pub mod Turns
 pub mod Walks
+pub mod Jobs

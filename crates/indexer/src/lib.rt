@@ -7,12 +7,15 @@ mod buffers;
 mod collecting;
 mod dirs;
 mod findings;
+mod handing;
+mod job;
 mod passing;
 mod plan;
 mod turns;
 mod uses;
 mod value;
 mod walking;
+mod work;
 
 pub use passing::{Gate, NoGate};
 pub use plan::{Plan, index_layout};
