@@ -1,2 +1,5 @@
 pub mod Turning
 pub mod WalkSteps
+pub mod Placing
+pub mod CrewBack
+pub mod OpeningLaws

@@ -5,3 +5,4 @@ pub mod BufferLaws
 pub mod Turns
 pub mod Walks
 pub mod Jobs
+pub mod Opening

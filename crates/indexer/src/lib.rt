@@ -5,10 +5,12 @@
 
 mod buffers;
 mod collecting;
+mod crew;
 mod dirs;
 mod findings;
 mod handing;
 mod job;
+mod opening;
 mod passing;
 mod plan;
 mod turns;
