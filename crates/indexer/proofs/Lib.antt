@@ -3,3 +3,4 @@ pub mod WalkSteps
 pub mod Placing
 pub mod CrewBack
 pub mod OpeningLaws
+pub mod GatherLaws

@@ -6,3 +6,4 @@ pub mod Turns
 pub mod Walks
 pub mod Jobs
 pub mod Opening
+pub mod Gathered

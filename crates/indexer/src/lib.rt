@@ -6,8 +6,10 @@
 mod buffers;
 mod collecting;
 mod crew;
+mod deciding;
 mod dirs;
 mod findings;
+mod gathering;
 mod handing;
 mod job;
 mod opening;
