@@ -1,10 +1,13 @@
 -- What the walkers came by, put together.
-use Rattle.std.proofs.Common.{◌≡◌, List, [], ◌∷◌, ◌++◌, Option, Some, None, refl, sym, ap, ◌∙◌}
-use Rattle.std.specs.Prelude.{All}
+use Rattle.std.proofs.Common.{◌≡◌, ℕ, List, [], ◌∷◌, ◌++◌, Option, Some, None, refl, sym, ap, subst, inr, ◌∙◌}
+use Rattle.std.specs.Prelude.{IfSome}
 use Rattle.std.specs.Option.{option_or}
-use Rattle.firefly_outside.specs.Trees.{Path}
+use Rattle.firefly_outside.specs.Trees.{Path, Told, Calls}
+use Rattle.firefly_outside.specs.Under.{IsUnder}
+use Rattle.firefly_outside.specs.declared.tree.Kind.TheVariants.{Dir}
+use Rattle.walker.specs.declared.answer.WalkAnswer.TheVariants.{ReadFault}
 use Rattle.indexer.specs.declared.findings.Findings.{Findings}
-use Rattle.indexer.specs.Gathered.{first_fault}
+use Rattle.indexer.specs.Gathered.{first_fault, Ends}
 
 or-none : (o : Option Path) → option_or o None ≡ o
 or-none None = refl
@@ -18,3 +21,10 @@ or-or (Some p) b c = refl
 pub first_fault-more : (fs : List Findings) (f : Findings) → first_fault (fs ++ f ∷ []) ≡ option_or (first_fault fs) f.fault
 first_fault-more [] f = or-none f.fault
 first_fault-more (g ∷ fs) f = ap (option_or g.fault) (first_fault-more fs f) ∙ or-or g.fault (first_fault fs) f.fault
+
+-- the directory that failed is answered
+pub ends_fault : (tree : Option Told) (weak : List Path) (root : Path) (stop : Option ℕ) (fault : Option Path) (path : Path) (count : ℕ) (calls : Calls) → fault ≡ Some path
+    → IfSome tree (λ t. IsUnder t root Dir path) → Ends tree weak root stop fault count count calls calls (ReadFault path)
+ends_fault tree weak root stop fault path count calls is under =
+    subst (λ (o : Option Path). Ends tree weak root stop o count count calls calls (ReadFault path)) (sym is)
+    (record { cases = inr (refl, under); count_stays = refl; no_calls = refl })

@@ -4,3 +4,4 @@ pub mod Placing
 pub mod CrewBack
 pub mod OpeningLaws
 pub mod GatherLaws
+pub mod RunLaws

@@ -7,3 +7,4 @@ pub mod Walks
 pub mod Jobs
 pub mod Opening
 pub mod Gathered
+pub mod Runs

@@ -15,6 +15,7 @@ mod job;
 mod opening;
 mod passing;
 mod plan;
+mod running;
 mod turns;
 mod uses;
 mod value;
