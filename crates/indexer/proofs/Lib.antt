@@ -5,3 +5,4 @@ pub mod CrewBack
 pub mod OpeningLaws
 pub mod GatherLaws
 pub mod RunLaws
+pub mod SaysLaws

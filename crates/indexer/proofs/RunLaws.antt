@@ -23,8 +23,8 @@ behind_first [] n t e = absurd (some-ne-none t (sym e))
 behind_first (x ∷ xs) n t e = e
 
 pub at_first : {A : Type 0} (xs : List A) (x : A) → 0 < length xs → x ≡ get_or xs 0 x → get_elem? xs 0 ≡ some x
-at_first [] x some e = absurd (omega arith)
-at_first (y ∷ xs) x some e = ap (λ z. some z) (sym e)
+at_first [] x low e = absurd (omega arith)
+at_first (y ∷ xs) x low e = ap (λ z. some z) (sym e)
 
 -- something stands at each place
 pub some_at : {A : Type 0} (xs : List A) (k : ℕ) → k < length xs → (x : A) × (get_elem? xs k ≡ some x)

@@ -8,3 +8,4 @@ pub mod Jobs
 pub mod Opening
 pub mod Gathered
 pub mod Runs
+pub mod Says

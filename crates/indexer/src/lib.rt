@@ -3,6 +3,7 @@
 //! Stands on the package, its bounded buffers, a crew of threads, the pieces of an index and the closing walk, which decides the answer.
 #![tactic(auto)]
 
+mod answer;
 mod buffers;
 mod collecting;
 mod crew;
@@ -11,6 +12,7 @@ mod dirs;
 mod findings;
 mod gathering;
 mod handing;
+mod indexing;
 mod job;
 mod opening;
 mod passing;
@@ -22,6 +24,8 @@ mod value;
 mod walking;
 mod work;
 
+pub use answer::IndexAnswer;
+pub use indexing::index;
 pub use passing::{Gate, NoGate};
 pub use plan::{Plan, index_layout};
 pub use uses::{DidPut, DidShut, DidTake, IndexUses};
