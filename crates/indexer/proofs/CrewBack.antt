@@ -48,8 +48,8 @@ module _ {S : Type 0} (tree : S → Option Told) (weak : S → List Path) (fault
       let own : b.was.tree ≡ tree_at n old k = ap (λ (x : Job S). x.tree) there.1 ∙ got k b.was there.0 in
       let put : k < n → get_or new k None ≡ j.0.tree = λ below. gone k None j.0 below here.0 ∙ ap (λ (x : Job S). x.tree) (sym here.1) in
       let goes : GivesTree tree weak faults calls p b.was.me t b.left (tree_at n old k) j.0.tree =
-          subst (λ (w : Worker). GivesTree tree weak faults calls p b.was.me w b.left (tree_at n old k) j.0.tree) j.2
-          (subst (λ (o : Option S). GivesTree tree weak faults calls p b.was.me j.0.me b.left o j.0.tree) own b.goes) in
+      subst (λ (w : Worker). GivesTree tree weak faults calls p b.was.me w b.left (tree_at n old k) j.0.tree) j.2
+      (subst (λ (o : Option S). GivesTree tree weak faults calls p b.was.me j.0.me b.left o j.0.tree) own b.goes) in
       record {
         was = b.was.me;
         is_was = ap (λ l. get_elem? l k) (sym same) ∙ to_map (λ (x : Job S). x.me) jobs k b.was b.is_was;

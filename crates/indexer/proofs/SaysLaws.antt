@@ -71,5 +71,17 @@ ends_say o weak root stop None count then_count before now answer h = walk_says 
 ends_say o weak root stop (Some path) count then_count before now answer h = ⊎_elim
     (λ (e : answer ≡ Memory). subst (WalkSays o root stop) (sym e) tt)
     (λ (e : (answer ≡ ReadFault path) × IfSome o (λ t. IsUnder t root Dir path)). subst (WalkSays o root stop) (sym e.0)
-        (told_on o (λ t. IsUnder t root Dir path) (λ t. (kind : Kind) × IsUnder t root kind path) (λ t u. (Dir, u)) e.1))
+    (told_on o (λ t. IsUnder t root Dir path) (λ t. (kind : Kind) × IsUnder t root kind path) (λ t u. (Dir, u)) e.1))
     h.cases
+
+pub if_each : (x : Option ℕ) (P : ℕ → Type 0) → ((n : ℕ) → x ≡ Some n → P n) → IfSome x P
+if_each None P h = tt
+if_each (Some n) P h = h n refl
+
+module _ {S : Type 0} (tree : S → Option Told) (weak : S → List Path) (faults : S → ℕ) (calls : S → Calls) where
+  -- what the answer says where the closing walk's tree is the told one
+  pub end_says : (o : Option Told) (root : Path) (stop : Option ℕ) (fault : Option Path) (s : S) (after : Option S) (answer : WalkAnswer) → tree s ≡ o
+      → ((r : S) × (after ≡ Some r) × (tree r ≡ tree s) × (weak r ≡ weak s) × Ends (tree s) (weak s) root stop fault (faults s) (faults r) (calls s) (calls r) answer)
+      → WalkSays o root stop answer
+  end_says o root stop fault s after answer same h = subst (λ (q : Option Told). WalkSays q root stop answer) same
+      (ends_say (tree s) (weak s) root stop fault (faults s) (faults h.0) (calls s) (calls h.0) answer h.4)

@@ -101,9 +101,9 @@ module _ (tree : Option Told) (weak : List Path) (count : ℕ) (before : Calls) 
     counts = same ∙ h.counts;
     told = told_both tree (ListedOnly weak before now None 1 a b) (λ t. (after ≡ now) ⊎ (after ≡ with_listed now dir)) (ListedOnly weak before after None 0 a b)
         (λ t one q. ⊎_elim
-            (λ (e : after ≡ now). subst (λ (k : Calls). ListedOnly weak before k None 0 a b t) (sym e) (no_more now b t one))
-            (λ (e : after ≡ with_listed now dir). subst (λ (k : Calls). ListedOnly weak before k None 0 a b t) (sym e) (one_more now b dir t one))
-            q) h.told told;
+        (λ (e : after ≡ now). subst (λ (k : Calls). ListedOnly weak before k None 0 a b t) (sym e) (no_more now b t one))
+        (λ (e : after ≡ with_listed now dir). subst (λ (k : Calls). ListedOnly weak before k None 0 a b t) (sym e) (one_more now b dir t one))
+        q) h.told told;
   }
 
   -- a directory failed
@@ -159,11 +159,11 @@ module _ (tree : Option Told) (weak : List Path) (count : ℕ) (before : Calls) 
   walked_turn tree' weak' same same_weak f g now after b c d visits more fault h first step last =
       let got = walked_on 1 f now b c visits None h first in
       let got_so : HasWalked tree' weak' count f before now p 1 a c visits None =
-          subst (λ (o : Option Told). HasWalked o weak' count f before now p 1 a c visits None) (sym same)
-          (subst (λ (k : List Path). HasWalked tree k count f before now p 1 a c visits None) (sym same_weak) got) in
+      subst (λ (o : Option Told). HasWalked o weak' count f before now p 1 a c visits None) (sym same)
+      (subst (λ (k : List Path). HasWalked tree k count f before now p 1 a c visits None) (sym same_weak) got) in
       let done : HasWalked tree weak count g before after p 0 a c more fault =
-          subst (λ (o : Option Told). HasWalked o weak count g before after p 0 a c more fault) same
-          (subst (λ (k : List Path). HasWalked tree' k count g before after p 0 a c more fault) same_weak (step got_so)) in
+      subst (λ (o : Option Told). HasWalked o weak count g before after p 0 a c more fault) same
+      (subst (λ (k : List Path). HasWalked tree' k count g before after p 0 a c more fault) same_weak (step got_so)) in
       walked_on 0 g after c d more fault done last
 
 -- one call after the other

@@ -39,8 +39,7 @@ pub fn walked_run<R: Threads + Wait + Sync, S: Tree>(
     let mut all = Vec::with_capacity(alloc, threads.len())?;
     // The caller is thread 0.
     let caller = threads.remove(0);
-    let (mut back, findings) =
-        run_workers(rt, alloc, &p, threads, trees, plan.walkers as usize)?;
+    let (mut back, findings) = run_workers(rt, alloc, &p, threads, trees, plan.walkers as usize)?;
     all.push(caller)?;
     all.append(&mut back)?;
     let closed = close_package(p, all)?;

@@ -22,11 +22,7 @@ const DIRS: MutexId = MutexId(0);
 const MORE_DIRS: CondId = CondId(0);
 
 // Takes the list.
-fn take_list<R: Wait>(
-    rt: &R,
-    p: &Package<IndexUses>,
-    me: &mut Thread<IndexUses>,
-) -> WaitingDirs
+fn take_list<R: Wait>(rt: &R, p: &Package<IndexUses>, me: &mut Thread<IndexUses>) -> WaitingDirs
     requires layout { HasLists p.now.layout }
     requires between { IsBetween p.now me.old }
     ensures { HasList p.now me.old (IndexValue.Dirs result) me.new }
@@ -35,12 +31,7 @@ fn take_list<R: Wait>(
 }
 
 // Gives the list back.
-fn give_list<R: Wait>(
-    rt: &R,
-    p: &Package<IndexUses>,
-    me: &mut Thread<IndexUses>,
-    list: WaitingDirs,
-)
+fn give_list<R: Wait>(rt: &R, p: &Package<IndexUses>, me: &mut Thread<IndexUses>, list: WaitingDirs)
     requires layout { HasLists p.now.layout }
     requires has { (a : Worker) × (x : IndexValue) × HasList p.now a x me.old }
     ensures { (a : Worker) (x : IndexValue) → HasList p.now a x me.old → IsBetween p.now a → HasReleased p.now 1 a me.new }
@@ -74,11 +65,7 @@ fn wait_for_dirs<R: Wait>(
 /// the thread is alerted.
 ///
 /// It blocks while another walker has the list, and while the list is empty and a directory is in work.
-pub fn next_dir<R: Wait>(
-    rt: &R,
-    p: &Package<IndexUses>,
-    me: &mut Thread<IndexUses>,
-) -> Option<Text>
+pub fn next_dir<R: Wait>(rt: &R, p: &Package<IndexUses>, me: &mut Thread<IndexUses>) -> Option<Text>
     requires layout { HasLists p.now.layout }
     requires between { IsBetween p.now me.old }
     ensures { HasReleased p.now 1 me.old me.new }

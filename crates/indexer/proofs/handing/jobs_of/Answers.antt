@@ -29,8 +29,8 @@ loop-me-preserved g c =
       made = ap (map (λ j. j.me)) push.items ∙ map_snoc (λ j. j.me) at.jobs.items job ∙ ap (λ l. l ++ x ∷ []) was.made;
       own = subst Own (sym push.items)
           (one_place (λ j. j.tree) (tree_at c.args.walkers c.args.trees.now) at.jobs.items job
-              (took.tree ∙ ap (λ j. tree_at c.args.walkers at.trees j) here ∙ ap (λ t. cond (nat_lt n c.args.walkers) t None) (was.ahead n None (omega arith)))
-              was.own);
+          (took.tree ∙ ap (λ j. tree_at c.args.walkers at.trees j) here ∙ ap (λ t. cond (nat_lt n c.args.walkers) t None) (was.ahead n None (omega arith)))
+          was.own);
       ahead = λ i d h. took.others i d (λ e. omega arith) ∙ was.ahead i d (omega arith);
       above = λ i d h. took.above i d h ∙ was.above i d h;
     }
