@@ -6,3 +6,4 @@ pub mod OpeningLaws
 pub mod GatherLaws
 pub mod RunLaws
 pub mod SaysLaws
+pub mod TreesLaws

@@ -1,7 +1,10 @@
 -- What an index run answers.
-use Rattle.std.specs.Prelude.{◌≡◌, ℕ, ◌+◌, true, false, List, Option, Some, None, IfSome, slice_index_or}
+use Rattle.std.specs.Prelude.{◌≡◌, ℕ, ◌+◌, ◌<◌, ◌≤◌, true, false, List, ◌++◌, length, Option, Some, None, IfSome, slice_index_or}
+use Rattle.std.proofs.Common.{suc}
+use mathlib.Core.Option.{some}
+use lib.ListN.{get_elem?}
 use Rattle.larch_actions.specs.declared.event.Event.{Event}
-use Rattle.firefly_outside.specs.Trees.{Path, Told}
+use Rattle.firefly_outside.specs.Trees.{Path, Told, Calls}
 use Rattle.firefly_outside.specs.Under.{IsUnder, AreMany}
 use Rattle.firefly_outside.specs.declared.tree.Kind.{Kind}
 use Rattle.firefly_outside.specs.declared.tree.Kind.TheVariants.{File, Dir}
@@ -14,6 +17,7 @@ use Rattle.indexer.specs.declared.answer.IndexAnswer.TheVariants.{Done as IndexD
 use Rattle.indexer.specs.declared.plan.Plan.{Plan}
 use Rattle.indexer.specs.declared.value.IndexValue.{IndexValue}
 use Rattle.indexer.specs.Plans.{layout_of}
+use Rattle.indexer.specs.Turns.{Worker, release_count}
 use Rattle.indexer.specs.Work.{Share}
 
 -- all trees tell this tree, or none tells
@@ -45,3 +49,44 @@ IndexSays o root plan (IndexStopped many) = WalkSays o root plan.stop_after (Sto
 IndexSays o root plan (IndexReadFault path) = WalkSays o root plan.stop_after (ReadFault path)
 IndexSays o root plan (IndexTooMany many) = WalkSays o root plan.stop_after (TooMany many)
 IndexSays o root plan IndexMemory = Unit {0}
+
+-- directories alone were listed, no more than the times that the thread released mutex 0
+pub record OnlyLists (before now : Calls) (thread : Worker) : Type 0 where
+  pub dirs : List Path
+  pub listed : now.listed ≡ before.listed ++ dirs
+  pub read : now.files_read ≡ before.files_read
+  pub failed : now.failed ≡ before.failed
+  pub times : length dirs ≤ release_count 0 thread.mine
+
+module _ {S : Type 0} (tree : S → Option Told) (weak : S → List Path) (faults : S → ℕ) (calls : S → Calls) where
+  -- the tree came back as it was, and its count didn't fall
+  pub record IsBack (s r : S) : Type 0 where
+    pub same_tree : tree r ≡ tree s
+    pub same_weak : weak r ≡ weak s
+    pub count : faults s ≤ faults r
+
+  -- the walkers' trees are the first n, and the closing walk's is the one at this place: they are back, and no other was touched
+  pub record AreBack (n at : ℕ) (old new : List (Option S)) : Type 0 where
+    pub walkers : (k : ℕ) (s : S) → k < n → slice_index_or old k None ≡ Some s → (r : S) × (slice_index_or new k None ≡ Some r) × IsBack s r
+    pub closing : (s : S) → slice_index_or old at None ≡ Some s → (r : S) × (slice_index_or new at None ≡ Some r) × IsBack s r
+    pub others : (i : ℕ) (d : Option S) → n ≤ i → (i ≡ at → ⊥) → slice_index_or new i d ≡ slice_index_or old i d
+
+  -- the tree of the walker k, which is thread k + 1: its count didn't rise, and it was only listed
+  pub record IsListedBy (threads : List Worker) (k : ℕ) (s r : S) : Type 0 where
+    pub none_rose : faults r ≡ faults s
+    pub thread : Worker
+    pub is_thread : get_elem? threads (suc k) ≡ some thread
+    pub lists : IfSome (tree s) (λ t. OnlyLists (calls s) (calls r) thread)
+
+  -- no count rose, and the walkers' trees were only listed
+  pub record AreListed (n at : ℕ) (threads : List Worker) (old new : List (Option S)) : Type 0 where
+    pub walkers : (k : ℕ) (s r : S) → k < n → slice_index_or old k None ≡ Some s → slice_index_or new k None ≡ Some r → IsListedBy threads k s r
+    pub closing : (s r : S) → slice_index_or old at None ≡ Some s → slice_index_or new at None ≡ Some r → faults r ≡ faults s
+
+  -- the trees after a run, by its answer
+  abbrev pub TreesAfter : ℕ → ℕ → List (Option S) → List (Option S) → IndexAnswer → Type 0
+  TreesAfter n at old new (IndexDone piece closed) = AreBack n at old new × AreListed n at closed.threads old new
+  TreesAfter n at old new (IndexStopped many) = AreBack n at old new
+  TreesAfter n at old new (IndexReadFault path) = AreBack n at old new
+  TreesAfter n at old new (IndexTooMany many) = AreBack n at old new
+  TreesAfter n at old new IndexMemory = Unit {0}

@@ -32,6 +32,7 @@ pub fn walked_run<R: Threads + Wait + Sync, S: Tree>(
     ensures layout { IfOk result (λ r. r.0.layout ≡ layout_of plan.now) }
     ensures untraced { plan.now.traced ≡ false → IfOk result (λ r. r.0.trace ≡ None) }
     ensures traced { plan.now.traced ≡ true → IfOk result (λ r. (h : List Event) × (r.0.trace ≡ Some h) × IsWhole (layout_of plan.now) r.0.threads h) }
+    ensures count { IfOk result (λ r. length r.1.items + 1 ≡ (layout_of plan.now).threads) }
     ensures found { IfOk result (λ r. Each (IsFoundBy S.tree S.may_fail S.faults S.calls plan.now.walkers r.0.threads trees.old trees.new) r.1.items) }
     ensures others { IfOk result (λ r. (i : ℕ) (d : Option S) → plan.now.walkers ≤ i → slice_index_or trees.new i d ≡ slice_index_or trees.old i d) }
 {
