@@ -57,17 +57,17 @@ pub visits_told : (o : Option Told) (visits : List Visit) → All (IsVisit o) vi
 visits_told None visits all = tt
 visits_told (Some t) visits all = λ k d low. (all k d low).told
 
-walk_says : (o : Option Told) (weak : List Path) (root : Path) (stop : Option ℕ) (count then_count : ℕ) (answer : WalkAnswer) → EndsByWalk o weak root stop count then_count answer → WalkSays o root stop answer
-walk_says o weak root stop count then_count (Done piece) h = h.answers
-walk_says o weak root stop count then_count (Stopped many) h = (h.numbers, h.answers)
-walk_says o weak root stop count then_count (ReadFault path) h = told_on o (λ t. IsFaultUnder t root weak path) (λ t. (kind : Kind) × IsUnder t root kind path) (λ t f. (f.kind, f.under)) h.answers
-walk_says o weak root stop count then_count (TooMany many) h = (h.numbers, h.answers)
-walk_says o weak root stop count then_count Memory h = tt
+walk_says : (o : Option Told) (weak : List Path) (root : Path) (stop : Option ℕ) (count then_count : ℕ) (before now : Calls) (answer : WalkAnswer) → EndsByWalk o weak root stop count then_count before now answer → WalkSays o root stop answer
+walk_says o weak root stop count then_count before now (Done piece) h = h.answers
+walk_says o weak root stop count then_count before now (Stopped many) h = (h.numbers, h.answers)
+walk_says o weak root stop count then_count before now (ReadFault path) h = told_on o (λ t. IsFaultUnder t root weak path) (λ t. (kind : Kind) × IsUnder t root kind path) (λ t f. (f.kind, f.under)) h.answers
+walk_says o weak root stop count then_count before now (TooMany many) h = (h.numbers, h.answers)
+walk_says o weak root stop count then_count before now Memory h = tt
 
 -- whatever ended the run, the answer says of the tree what it should
 pub ends_say : (o : Option Told) (weak : List Path) (root : Path) (stop : Option ℕ) (fault : Option Path) (count then_count : ℕ) (before now : Calls) (answer : WalkAnswer)
     → Ends o weak root stop fault count then_count before now answer → WalkSays o root stop answer
-ends_say o weak root stop None count then_count before now answer h = walk_says o weak root stop count then_count answer h
+ends_say o weak root stop None count then_count before now answer h = walk_says o weak root stop count then_count before now answer h
 ends_say o weak root stop (Some path) count then_count before now answer h = ⊎_elim
     (λ (e : answer ≡ Memory). subst (WalkSays o root stop) (sym e) tt)
     (λ (e : (answer ≡ ReadFault path) × IfSome o (λ t. IsUnder t root Dir path)). subst (WalkSays o root stop) (sym e.0)

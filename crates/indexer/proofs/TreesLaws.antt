@@ -1,14 +1,18 @@
 -- The trees after a run.
-use Rattle.std.proofs.Common.{◌≡◌, ℕ, ◌+◌, ◌<◌, ◌≤◌, Bool, true, suc, zero, List, [], ◌∷◌, ◌++◌, length, get_or, Option, Some, None, cond, nat_lt, refl, sym, ap, subst, ◌∙◌, ⊎_elim, arith, append-nil}
-use Rattle.std.specs.Prelude.{IfSome, slice_index_or}
+use Rattle.std.proofs.Common.{◌≡◌, ℕ, ◌+◌, ◌<◌, ◌≤◌, Bool, true, suc, zero, List, [], ◌∷◌, ◌++◌, length, get_or, Option, Some, None, cond, nat_lt, refl, sym, ap, subst, ◌∙◌, ⊎_elim, arith, append-nil, false}
+use Rattle.std.specs.Prelude.{IfSome, Contains, slice_index_or}
 use Rattle.std.specs.Option.{option_or}
 use mathlib.Core.Option.{some, some-injective, some-ne-none}
 use lib.ListN.{get_elem?}
-use Rattle.std.proofs.lemmas.Bool.{lt-ltb}
+use Rattle.std.proofs.lemmas.Bool.{lt-ltb, ltb-true}
+use Rattle.std.proofs.lemmas.List.Elements.{Contains-append_right}
 use Rattle.std.proofs.lemmas.Option.{same_Some}
 use Rattle.firefly_outside.specs.Trees.{Path, Told, Calls}
+use Rattle.firefly_outside.specs.Causes.{Rose}
+use Rattle.firefly_outside.specs.Under.{IsUnder}
+use Rattle.firefly_outside.specs.declared.tree.Kind.TheVariants.{Dir}
 use Rattle.nub_rule.specs.Items.{Each}
-use Rattle.walker.specs.Closing.{HasRisen}
+use Rattle.walker.specs.Closing.{HasRisen, IsFaultUnder}
 use Rattle.walker.specs.declared.answer.WalkAnswer.{WalkAnswer}
 use Rattle.walker.specs.declared.answer.WalkAnswer.TheVariants.{Done, Stopped, ReadFault, TooMany, Memory}
 use Rattle.word_index.specs.Index.{Index}
@@ -16,11 +20,11 @@ use Rattle.indexer.specs.declared.findings.Findings.{Findings}
 use Rattle.indexer.specs.Gathered.{first_fault, Ends}
 use Rattle.indexer.specs.Jobs.{GivesTree, tree_at}
 use Rattle.indexer.specs.Runs.{IsFoundBy}
-use Rattle.indexer.specs.Says.{OnlyLists, IsBack, AreBack, IsListedBy, AreListed}
+use Rattle.indexer.specs.Says.{AllTell, OnlyLists, IsBack, AreBack, IsListedBy, AreListed, IsCausedAt}
 use Rattle.indexer.specs.Turns.{Worker, Run, release_count}
-use Rattle.indexer.specs.Walks.{HasWalked, FaultCounts, ListedOnly}
+use Rattle.indexer.specs.Walks.{HasWalked, FaultCounts, ListedOnly, MayFail}
 use Rattle.indexer.proofs.RunLaws.{some_at}
-use Rattle.indexer.proofs.WalkSteps.{told_on}
+use Rattle.indexer.proofs.WalkSteps.{told_on, told_both}
 
 fault_count : (a b : ℕ) (fault : Option Path) → FaultCounts a b fault → a ≤ b
 fault_count a b None h = omega (arith, h)
@@ -159,3 +163,102 @@ module _ {S : Type 0} (tree : S → Option Told) (weak : S → List Path) (fault
             let stays = done_none (tree s) (weak s) root stop fault (faults s) (faults h.0) (calls s) (calls h.0) piece h.4 in
             ap faults (sym same) ∙ stays.1;
       }
+
+-- one of them failed at the path
+abbrev OneFailed : List Findings → Path → Type 0
+OneFailed fs path = (k : ℕ) × (f : Findings) × (get_elem? fs k ≡ some f) × (f.fault ≡ Some path)
+
+first_here : (g : Findings) (fs : List Findings) (path : Path) (o : Option Path) → g.fault ≡ o → option_or g.fault (first_fault fs) ≡ Some path → (first_fault fs ≡ Some path → OneFailed fs path) → OneFailed (g ∷ fs) path
+first_here g fs path (Some q) is e later = (0, g, refl, is ∙ (sym (ap (λ u. option_or u (first_fault fs)) is) ∙ e))
+first_here g fs path None is e later = let r = later (sym (ap (λ u. option_or u (first_fault fs)) is) ∙ e) in (suc r.0, r.1, r.2, r.3)
+
+-- the first that failed is one of them
+first_failed : (fs : List Findings) (path : Path) → first_fault fs ≡ Some path → OneFailed fs path
+first_failed [] path e = absurd (cc)
+first_failed (g ∷ fs) path e = first_here g fs path g.fault refl e (first_failed fs path)
+
+low_by : {S : Type 0} (v : Bool) (x : Option S) (s : S) → cond v x None ≡ Some s → v ≡ true
+low_by true x s e = refl
+low_by false x s e = absurd (cc)
+
+last_among : (xs : List Path) (x : Path) → Contains (xs ++ x ∷ []) x
+last_among xs x = Contains-append_right xs (x ∷ []) x (0, omega arith, refl)
+
+fault_rose : (a b : ℕ) (path : Path) (fault : Option Path) → fault ≡ Some path → FaultCounts a b fault → Rose a b
+fault_rose a b path fault is h = (let P : Option Path → Type 0 = FaultCounts a b in subst P is h).1
+
+module _ {S : Type 0} (tree : S → Option Told) (weak : S → List Path) (faults : S → ℕ) (calls : S → Calls) where
+  -- a walker's tree failed at the path
+  record Failed (s r : S) (path : Path) : Type 0 where
+    rose : Rose (faults s) (faults r)
+    told : IfSome (tree s) (λ t. MayFail (weak s) t path × Contains (calls r).failed path)
+
+  failed_at : (p : Run) (a b : Worker) (f : Findings) (given got : Option S) (path : Path) → f.fault ≡ Some path → GivesTree tree weak faults calls p a b f given got
+      → (s : S) × (r : S) × (given ≡ Some s) × (got ≡ Some r) × Failed s r path
+  failed_at p a b f None None path is h = absurd (let bad : None ≡ Some path = sym h.2 ∙ is in cc)
+  failed_at p a b f None (Some r) path is h = absurd h
+  failed_at p a b f (Some s) None path is h = absurd h
+  failed_at p a b f (Some s) (Some r) path is h = (
+    s,
+    r,
+    refl,
+    refl,
+    record {
+      rose = fault_rose (faults s) (faults r) path f.fault is h.2.counts;
+      told = told_on (tree s) (ListedOnly (weak s) (calls s) (calls r) f.fault 0 a b) (λ t. MayFail (weak s) t path × Contains (calls r).failed path)
+          (λ t l. let k = subst (λ (o : Option Path). ListedOnly (weak s) (calls s) (calls r) o 0 a b t) is l in
+          (k.may, subst (λ (ps : List Path). Contains ps path) (sym k.failed) (last_among (calls s).failed path))) h.2.told;
+    },
+  )
+
+  -- a path that is answered was made to fail by a walker or by the closing walk
+  pub caused : (n at : ℕ) (threads : List Worker) (findings : List Findings) (old mid new : List (Option S)) (o : Option Told) (root : Path) (stop : Option ℕ) (fault : Option Path) (path : Path) → n ≤ at
+      → AllTell tree o old → Each (IsFoundBy tree weak faults calls n threads old mid) findings → fault ≡ first_fault findings
+      → (own : S) → slice_index_or old at None ≡ Some own
+      → ((i : ℕ) (d : Option S) → n ≤ i → slice_index_or mid i d ≡ slice_index_or old i d)
+      → ((i : ℕ) (d : Option S) → (i ≡ at → ⊥) → slice_index_or new i d ≡ slice_index_or mid i d)
+      → ((s : S) → slice_index_or mid at None ≡ Some s → (r : S) × (slice_index_or new at None ≡ Some r) × (tree r ≡ tree s) × (weak r ≡ weak s) × Ends (tree s) (weak s) root stop fault (faults s) (faults r) (calls s) (calls r) (ReadFault path))
+      → IsCausedAt tree weak faults calls root old new path
+  caused n at threads findings old mid new o root stop None path below tell found is_fault own is_own above others ends =
+      let h = ends own (above at None below ∙ is_own) in
+      record {
+        place = at;
+        s = own;
+        was = is_own;
+        r = h.0;
+        is = h.1;
+        rose = h.4.rises.1;
+        told = told_both (tree own) (λ t. IsFaultUnder t root (weak own) path) (λ t. (calls h.0).failed ≡ (calls own).failed ++ path ∷ []) (λ t. IsFaultUnder t root (weak own) path × Contains (calls h.0).failed path)
+            (λ t f e. (f, subst (λ (ps : List Path). Contains ps path) (sym e) (last_among (calls own).failed path))) h.4.answers h.4.failed;
+      }
+  caused n at threads findings old mid new o root stop (Some first) path below tell found is_fault own is_own above others ends =
+      let h = ends own (above at None below ∙ is_own) in
+      ⊎_elim
+      (λ (e : ReadFault path ≡ Memory). absurd (no_memory path e))
+      (λ (e : (ReadFault path ≡ ReadFault first) × IfSome (tree own) (λ t. IsUnder t root Dir first)).
+      let same : first ≡ path = sym (same_fault path first e.0) in
+      let own_told = tell at own is_own in
+      let k = first_failed findings path (sym is_fault ∙ ap (λ (q : Path). Some q) same) in
+      let w = found k.0 k.1 k.2 in
+      let f = failed_at w.run w.first w.last k.1 (tree_at n old k.0) (tree_at n mid k.0) path k.3 w.gives in
+      let low : k.0 < n = ltb-true k.0 n (low_by (nat_lt k.0 n) (slice_index_or old k.0 None) f.0 f.2) in
+      let was = sym (tree_there n old k.0 low) ∙ f.2 in
+      let under = subst (λ (q : Path). IfSome (tree own) (λ t. IsUnder t root Dir q)) same e.1 in
+      let under_here = subst (λ (q : Option Told). IfSome q (λ t. IsUnder t root Dir path)) (own_told ∙ sym (tell k.0 f.0 was)) under in
+      record {
+        place = k.0;
+        s = f.0;
+        was = was;
+        r = f.1;
+        is = others k.0 None (λ z. omega arith) ∙ (sym (tree_there n mid k.0 low) ∙ f.3);
+        rose = f.4.rose;
+        told = told_both (tree f.0) (λ t. MayFail (weak f.0) t path × Contains (calls f.1).failed path) (λ t. IsUnder t root Dir path) (λ t. IsFaultUnder t root (weak f.0) path × Contains (calls f.1).failed path)
+            (λ t m u. (record { kind = Dir; under = u; may = m.0 }, m.1)) f.4.told under_here;
+      })
+      h.4.cases
+    where
+      no_memory : (q : Path) → ReadFault q ≡ Memory → ⊥
+      no_memory q e = cc
+
+      same_fault : (q u : Path) → ReadFault q ≡ ReadFault u → q ≡ u
+      same_fault q u e = cc

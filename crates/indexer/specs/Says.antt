@@ -1,15 +1,16 @@
 -- What an index run answers.
-use Rattle.std.specs.Prelude.{◌≡◌, ℕ, ◌+◌, ◌<◌, ◌≤◌, true, false, List, ◌++◌, length, Option, Some, None, IfSome, slice_index_or}
+use Rattle.std.specs.Prelude.{◌≡◌, ℕ, ◌+◌, ◌<◌, ◌≤◌, true, false, List, ◌++◌, length, Option, Some, None, IfSome, Contains, slice_index_or}
 use Rattle.std.proofs.Common.{suc}
 use mathlib.Core.Option.{some}
 use lib.ListN.{get_elem?}
 use Rattle.larch_actions.specs.declared.event.Event.{Event}
+use Rattle.firefly_outside.specs.Causes.{Rose}
 use Rattle.firefly_outside.specs.Trees.{Path, Told, Calls}
 use Rattle.firefly_outside.specs.Under.{IsUnder, AreMany}
 use Rattle.firefly_outside.specs.declared.tree.Kind.{Kind}
 use Rattle.firefly_outside.specs.declared.tree.Kind.TheVariants.{File, Dir}
 use Rattle.nub.specs.Ended.{Ended, IsWhole as IsWholeHistory}
-use Rattle.walker.specs.Closing.{IsWhole, most_dirs}
+use Rattle.walker.specs.Closing.{IsWhole, IsFaultUnder, most_dirs}
 use Rattle.walker.specs.declared.answer.WalkAnswer.{WalkAnswer}
 use Rattle.walker.specs.declared.answer.WalkAnswer.TheVariants.{Done, Stopped, ReadFault, TooMany, Memory}
 use Rattle.indexer.specs.declared.answer.IndexAnswer.{IndexAnswer}
@@ -82,6 +83,23 @@ module _ {S : Type 0} (tree : S → Option Told) (weak : S → List Path) (fault
   pub record AreListed (n at : ℕ) (threads : List Worker) (old new : List (Option S)) : Type 0 where
     pub walkers : (k : ℕ) (s r : S) → k < n → slice_index_or old k None ≡ Some s → slice_index_or new k None ≡ Some r → IsListedBy threads k s r
     pub closing : (s r : S) → slice_index_or old at None ≡ Some s → slice_index_or new at None ≡ Some r → faults r ≡ faults s
+
+  -- a tree's count rose, and where it tells, the path is now among those that failed: it lies under the root, and may fail or isn't there as its entry says
+  pub record IsCausedAt (root : Path) (old new : List (Option S)) (path : Path) : Type 0 where
+    pub place : ℕ
+    pub s : S
+    pub was : slice_index_or old place None ≡ Some s
+    pub r : S
+    pub is : slice_index_or new place None ≡ Some r
+    pub rose : Rose (faults s) (faults r)
+    pub told : IfSome (tree s) (λ t. IsFaultUnder t root (weak s) path × Contains (calls r).failed path)
+
+  abbrev pub HasCause : Path → List (Option S) → List (Option S) → IndexAnswer → Type 0
+  HasCause root old new (IndexDone piece closed) = Unit {0}
+  HasCause root old new (IndexStopped many) = Unit {0}
+  HasCause root old new (IndexReadFault path) = IsCausedAt root old new path
+  HasCause root old new (IndexTooMany many) = Unit {0}
+  HasCause root old new IndexMemory = Unit {0}
 
   -- the trees after a run, by its answer
   abbrev pub TreesAfter : ℕ → ℕ → List (Option S) → List (Option S) → IndexAnswer → Type 0

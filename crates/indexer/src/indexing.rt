@@ -4,7 +4,7 @@ ghost use Rattle.firefly_outside.specs.Trees.{Told};
 ghost use Rattle.walker.specs.Listings.{IsListingOf, IsToldBy};
 ghost use Rattle.indexer.specs.Gathered.{Ends};
 ghost use Rattle.indexer.specs.Plans.{IsPlan, layout_of};
-ghost use Rattle.indexer.specs.Says.{AllTell, IndexSays, TreesAfter};
+ghost use Rattle.indexer.specs.Says.{AllTell, HasCause, IndexSays, TreesAfter};
 
 use crate::answer::IndexAnswer;
 use crate::deciding::decided;
@@ -61,6 +61,7 @@ pub fn index<R: Threads + Wait + Sync, S: Tree>(
     requires closing { (s : S) × (slice_index_or trees.old (plan.now.walkers + plan.now.parsers) None ≡ Some s) }
     requires tell { (o : Option Told) × AllTell S.tree o trees.old }
     ensures says { (o : Option Told) → AllTell S.tree o trees.old → IndexSays o root.now plan.now result }
+    ensures cause { HasCause S.tree S.may_fail S.faults S.calls root.now trees.old trees.new result }
     ensures trees { TreesAfter S.tree S.may_fail S.faults S.calls plan.now.walkers (plan.now.walkers + plan.now.parsers) trees.old trees.new result }
 {
     let Ok((closed, findings)) = walked_run(rt, alloc, root, plan, trees) else {

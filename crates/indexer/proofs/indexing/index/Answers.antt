@@ -6,7 +6,7 @@ use Rattle.walker.specs.declared.answer.WalkAnswer.TheVariants.{Done, Stopped, R
 use Rattle.indexer.specs.declared.findings.Visit.{Visit}
 use Rattle.indexer.specs.Walks.{IsVisit}
 use Rattle.indexer.proofs.SaysLaws.{all_visits, visits_lawful, visits_told, if_each, end_says}
-use Rattle.indexer.proofs.TreesLaws.{are_back, are_listed}
+use Rattle.indexer.proofs.TreesLaws.{are_back, are_listed, caused}
 use Rattle.indexer.proofs.indexing.index.Goals as goal
 
 pub decided_at-requires-clause-lawful : goal.decided_at-requires-clause-lawful
@@ -45,6 +45,7 @@ returns-in-Done g c =
             (c.in-Done.ensures.ends s (c.in-Ok.ensures.others at None (omega arith) ∙ e)),
         record { layout = c.in-Ok.ensures.layout; untraced = c.in-Ok.ensures.untraced; traced = c.in-Ok.ensures.traced },
       );
+      cause = tt;
       trees = (
         are_back S.tree S.may_fail S.faults S.calls c.args.plan.now.walkers at c.in-Ok.closed.threads c.in-Ok.findings.items c.args.trees.now c.walked_run.new.trees c.decided_at.new.trees
             c.args.root.now c.args.plan.now.stop_after c.in-Ok-gathered.fault (Done c.in-Done.piece) (omega arith) many c.in-Ok.ensures.found c.in-Ok.ensures.others c.in-Done.ensures.others c.in-Done.ensures.ends,
@@ -64,6 +65,7 @@ returns-in-Stopped g c =
     record {
       says = λ o tell. end_says S.tree S.may_fail S.faults S.calls o c.args.root.now c.args.plan.now.stop_after c.in-Ok-gathered.fault s (slice_index_or c.decided_at.new.trees at None) (Stopped c.in-Stopped.many) (tell at s e)
           (c.in-Stopped.ensures.ends s (c.in-Ok.ensures.others at None (omega arith) ∙ e));
+      cause = tt;
       trees = are_back S.tree S.may_fail S.faults S.calls c.args.plan.now.walkers at c.in-Ok.closed.threads c.in-Ok.findings.items c.args.trees.now c.walked_run.new.trees c.decided_at.new.trees
           c.args.root.now c.args.plan.now.stop_after c.in-Ok-gathered.fault (Stopped c.in-Stopped.many) (omega arith) many c.in-Ok.ensures.found c.in-Ok.ensures.others c.in-Stopped.ensures.others c.in-Stopped.ensures.ends;
     }
@@ -79,6 +81,8 @@ returns-in-ReadFault g c =
     record {
       says = λ o tell. end_says S.tree S.may_fail S.faults S.calls o c.args.root.now c.args.plan.now.stop_after c.in-Ok-gathered.fault s (slice_index_or c.decided_at.new.trees at None) (ReadFault c.in-ReadFault.path) (tell at s e)
           (c.in-ReadFault.ensures.ends s (c.in-Ok.ensures.others at None (omega arith) ∙ e));
+      cause = caused S.tree S.may_fail S.faults S.calls c.args.plan.now.walkers at c.in-Ok.closed.threads c.in-Ok.findings.items c.args.trees.now c.walked_run.new.trees c.decided_at.new.trees
+          c.requires.tell.0 c.args.root.now c.args.plan.now.stop_after c.in-Ok-gathered.fault c.in-ReadFault.path (omega arith) c.requires.tell.1 c.in-Ok.ensures.found c.in-Ok-gathered.ensures.fault s e c.in-Ok.ensures.others c.in-ReadFault.ensures.others c.in-ReadFault.ensures.ends;
       trees = are_back S.tree S.may_fail S.faults S.calls c.args.plan.now.walkers at c.in-Ok.closed.threads c.in-Ok.findings.items c.args.trees.now c.walked_run.new.trees c.decided_at.new.trees
           c.args.root.now c.args.plan.now.stop_after c.in-Ok-gathered.fault (ReadFault c.in-ReadFault.path) (omega arith) many c.in-Ok.ensures.found c.in-Ok.ensures.others c.in-ReadFault.ensures.others c.in-ReadFault.ensures.ends;
     }
@@ -94,6 +98,7 @@ returns-in-TooMany g c =
     record {
       says = λ o tell. end_says S.tree S.may_fail S.faults S.calls o c.args.root.now c.args.plan.now.stop_after c.in-Ok-gathered.fault s (slice_index_or c.decided_at.new.trees at None) (TooMany c.in-TooMany.many) (tell at s e)
           (c.in-TooMany.ensures.ends s (c.in-Ok.ensures.others at None (omega arith) ∙ e));
+      cause = tt;
       trees = are_back S.tree S.may_fail S.faults S.calls c.args.plan.now.walkers at c.in-Ok.closed.threads c.in-Ok.findings.items c.args.trees.now c.walked_run.new.trees c.decided_at.new.trees
           c.args.root.now c.args.plan.now.stop_after c.in-Ok-gathered.fault (TooMany c.in-TooMany.many) (omega arith) many c.in-Ok.ensures.found c.in-Ok.ensures.others c.in-TooMany.ensures.others c.in-TooMany.ensures.ends;
     }
