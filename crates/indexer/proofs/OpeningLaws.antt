@@ -1,11 +1,11 @@
 -- What stands behind the mutexes at first keeps the rule.
-use Rattle.std.proofs.Common.{◌≡◌, ◌≢◌, ℕ, ◌+◌, ◌<◌, ◌≤◌, Bool, true, false, ◌||◌, zero, suc, List, [], ◌∷◌, ◌++◌, map, length, refl, sym, ap, subst, ◌∙◌, arith}
+use Rattle.std.proofs.Common.{◌≡◌, ℕ, Bool, true, false, zero, suc, List, [], ◌∷◌, ◌++◌, map, refl, sym, ap, subst, ◌∙◌, arith}
 use mathlib.Core.Option.{some, some-injective, some-ne-none}
 use lib.ListN.{get_elem?}
 use Rattle.std.specs.List.Sorted.{IsPermutation}
 use Rattle.std.proofs.lemmas.List.Sorted.{IsPermutation-refl}
 use Rattle.bounded_buffer.specs.Parts.{Used, unused}
-use Rattle.bounded_buffer.specs.Plain.{BufferRule, part_of, pairs_of, all_puts, all_takes, any_shut}
+use Rattle.bounded_buffer.specs.Plain.{BufferRule, part_of, pairs_of, any_shut}
 use Rattle.bounded_buffer.specs.Rings.{Held, fresh}
 use Rattle.indexer.specs.declared.value.IndexItem.{IndexItem}
 use Rattle.indexer.specs.declared.value.IndexValue.{IndexValue}

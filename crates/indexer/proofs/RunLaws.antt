@@ -1,12 +1,11 @@
 -- A run of workers in a package of its own.
-use Rattle.std.proofs.Common.{◌≡◌, ℕ, ◌+◌, ◌<◌, zero, suc, List, [], ◌∷◌, length, get_or, Option, Some, None, refl, sym, ap, subst, ◌∙◌, arith}
+use Rattle.std.proofs.Common.{◌≡◌, ℕ, ◌<◌, zero, suc, List, [], ◌∷◌, length, get_or, Option, Some, None, refl, sym, ap, subst, ◌∙◌, arith}
 use Rattle.std.specs.Prelude.{remove}
 use mathlib.Core.Option.{some, some-injective, some-ne-none}
 use lib.ListN.{get_elem?}
 use Rattle.firefly_outside.specs.Trees.{Path, Told, Calls}
 use Rattle.nub_rule.specs.Items.{Each}
 use Rattle.nub.specs.Ended.{IsFirst, IsDone}
-use Rattle.nub.specs.Idle.{IsIdle}
 use Rattle.nub.proofs.Users.{from_at, idle_first, idle_done}
 use Rattle.indexer.specs.declared.findings.Findings.{Findings}
 use Rattle.indexer.specs.Jobs.{GivesTree, HasWorked, tree_at}

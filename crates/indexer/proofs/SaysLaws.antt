@@ -1,21 +1,20 @@
 -- What follows from what the walkers came by.
-use Rattle.std.proofs.Common.{◌≡◌, ℕ, ◌<◌, Bool, true, false, suc, List, [], ◌∷◌, ◌++◌, length, get_or, Option, Some, None, cond, nat_lt, refl, sym, ap, subst, ◌∙◌, ⊎_elim, ◌⊎◌, arith}
+use Rattle.std.proofs.Common.{◌≡◌, ℕ, Bool, true, false, suc, List, [], ◌∷◌, Option, Some, None, cond, nat_lt, refl, sym, subst, ⊎_elim}
 use Rattle.std.specs.Prelude.{All, IfSome, slice_index_or}
 use Rattle.std.specs.List.{flat_map}
 use Rattle.std.proofs.lemmas.List.Elements.{All-append, All-nil}
-use lib.ListN.{get_elem?}
 use Rattle.firefly_outside.specs.Trees.{Path, Told, Calls}
-use Rattle.firefly_outside.specs.Under.{IsUnder, AreMany}
+use Rattle.firefly_outside.specs.Under.{IsUnder}
 use Rattle.firefly_outside.specs.declared.tree.Kind.{Kind}
-use Rattle.firefly_outside.specs.declared.tree.Kind.TheVariants.{File, Dir}
+use Rattle.firefly_outside.specs.declared.tree.Kind.TheVariants.{Dir}
 use Rattle.nub_rule.specs.Items.{Each}
-use Rattle.walker.specs.Closing.{Answers, IsFaultUnder}
+use Rattle.walker.specs.Closing.{IsFaultUnder}
 use Rattle.walker.specs.Listings.{IsListingOf, IsToldBy}
 use Rattle.walker.specs.declared.answer.WalkAnswer.{WalkAnswer}
 use Rattle.walker.specs.declared.answer.WalkAnswer.TheVariants.{Done, Stopped, ReadFault, TooMany, Memory}
 use Rattle.indexer.specs.declared.findings.Findings.{Findings}
 use Rattle.indexer.specs.declared.findings.Visit.{Visit}
-use Rattle.indexer.specs.Gathered.{Ends, EndsByWalk, EndsByFault}
+use Rattle.indexer.specs.Gathered.{Ends, EndsByWalk}
 use Rattle.indexer.specs.Jobs.{GivesTree, tree_at}
 use Rattle.indexer.specs.Runs.{IsFoundBy}
 use Rattle.indexer.specs.Says.{AllTell, WalkSays}

@@ -1,5 +1,5 @@
 -- The trees after a run.
-use Rattle.std.proofs.Common.{◌≡◌, ℕ, ◌+◌, ◌<◌, ◌≤◌, Bool, true, suc, zero, List, [], ◌∷◌, ◌++◌, length, get_or, Option, Some, None, cond, nat_lt, refl, sym, ap, subst, ◌∙◌, ⊎_elim, arith, append-nil, false}
+use Rattle.std.proofs.Common.{◌≡◌, ℕ, ◌<◌, ◌≤◌, Bool, true, suc, zero, List, [], ◌∷◌, ◌++◌, length, Option, Some, None, cond, nat_lt, refl, sym, ap, subst, ◌∙◌, ⊎_elim, arith, append-nil, false}
 use Rattle.std.specs.Prelude.{IfSome, Contains, slice_index_or}
 use Rattle.std.specs.Option.{option_or}
 use mathlib.Core.Option.{some, some-injective, some-ne-none}
@@ -20,7 +20,7 @@ use Rattle.indexer.specs.declared.findings.Findings.{Findings}
 use Rattle.indexer.specs.Gathered.{first_fault, Ends}
 use Rattle.indexer.specs.Jobs.{GivesTree, tree_at}
 use Rattle.indexer.specs.Runs.{IsFoundBy}
-use Rattle.indexer.specs.Says.{AllTell, OnlyLists, IsBack, AreBack, IsListedBy, AreListed, IsCausedAt}
+use Rattle.indexer.specs.Says.{AllTell, OnlyLists, AreBack, IsListedBy, AreListed, IsCausedAt}
 use Rattle.indexer.specs.Turns.{Worker, Run, release_count}
 use Rattle.indexer.specs.Walks.{HasWalked, FaultCounts, ListedOnly, MayFail}
 use Rattle.indexer.proofs.RunLaws.{some_at}

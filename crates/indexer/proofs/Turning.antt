@@ -1,20 +1,17 @@
 -- A worker that takes the list of directories and gives it back.
-use Rattle.std.proofs.Common.{◌≡◌, ◌≢◌, ℕ, ◌+◌, ◌<◌, ◌≤◌, List, [], ◌∷◌, ◌++◌, Some, None, inl, sym, ap, subst, ◌∙◌, refl, arith, slice_set, count_by, cond}
-use mathlib.Core.Option.{some}
-use lib.ListN.{get_elem?}
+use Rattle.std.proofs.Common.{◌≡◌, ℕ, ◌+◌, ◌≤◌, List, [], ◌∷◌, ◌++◌, Some, None, inl, sym, ap, ◌∙◌, refl, arith, slice_set, cond}
 use Rattle.std.proofs.lemmas.List.{set-set}
-use Rattle.std.proofs.lemmas.List.Sums.{sum_by-append, sum_by-cons}
+use Rattle.std.proofs.lemmas.List.Sums.{sum_by-append}
 use Rattle.atomic_table.proofs.Lists.{set_again}
 use Rattle.larch_actions.specs.declared.event.Event.{Event}
-use Rattle.nub_rule.specs.Known.{Known, Holds}
+use Rattle.nub_rule.specs.Known.{Holds}
 use Rattle.nub_rule.specs.Plays.{release_event}
-use Rattle.nub.specs.Idle.{IsIdle}
 use Rattle.nub.specs.Rest.{AtRest, Adds, IsSame}
 use Rattle.nub.proofs.Users.{idle_again}
 use Rattle.indexer.specs.declared.value.IndexValue.{IndexValue}
 use Rattle.indexer.specs.declared.value.IndexValue.TheVariants.{Dirs, Ring}
 use Rattle.indexer.specs.Work.{Share, IsBehind, MayChange}
-use Rattle.indexer.specs.Turns.{Worker, Run, releases, release_count, ComesBack, HasReleased, HasList}
+use Rattle.indexer.specs.Turns.{Worker, Run, releases, release_count, HasReleased, HasList}
 
 -- the list may be given back with whatever it has
 pub dirs_stay : (x y : IndexValue) (s : Share) → IsBehind 0 x → IsBehind 0 y → MayChange 0 x y s s

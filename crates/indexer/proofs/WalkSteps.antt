@@ -1,16 +1,15 @@
 -- The steps of a walker.
-use Rattle.std.proofs.Common.{◌≡◌, ℕ, ◌+◌, ◌≤◌, List, [], ◌∷◌, ◌++◌, length, Some, None, Option, ◌⊎◌, ⊎_elim, inr, sym, ap, subst, ◌∙◌, refl, arith, append_assoc, append-nil, length-append}
-use Rattle.std.specs.Prelude.{IfSome, All, Contains}
+use Rattle.std.proofs.Common.{◌≡◌, ℕ, ◌≤◌, List, [], ◌∷◌, ◌++◌, Some, None, Option, ◌⊎◌, ⊎_elim, inr, sym, ap, subst, ◌∙◌, refl, arith, append_assoc, append-nil, length-append}
+use Rattle.std.specs.Prelude.{IfSome}
 use Rattle.std.proofs.lemmas.List.Elements.{All-append, All-cons, All-nil}
 use Rattle.firefly_outside.specs.Causes.{Rose}
 use Rattle.firefly_outside.specs.Trees.{Path, Told, Calls, Directory, IsFault}
 use Rattle.firefly_outside.specs.declared.tree.Entry.{Entry}
 use Rattle.walker.specs.Listings.{IsListingOf, IsToldBy, with_listed}
 use Rattle.walker.specs.declared.listing.Listing.{Listing}
-use Rattle.nub.specs.Idle.{IsIdle}
 use Rattle.indexer.specs.declared.findings.Visit.{Visit}
-use Rattle.indexer.specs.Turns.{Worker, Run, ComesBack, HasReleased, IsBetween, release_count}
-use Rattle.indexer.specs.Walks.{IsVisit, FaultCounts, MayFail, ListedOnly, HasWalked}
+use Rattle.indexer.specs.Turns.{Worker, Run, ComesBack, HasReleased, IsBetween}
+use Rattle.indexer.specs.Walks.{IsVisit, ListedOnly, HasWalked}
 
 -- what is told of one thing is told of another
 pub told_on : (tree : Option Told) (P Q : Told → Type 0) → ((t : Told) → P t → Q t) → IfSome tree P → IfSome tree Q

@@ -1,11 +1,11 @@
 -- The laws of the two buffers, which are those of plain buffers.
-use Rattle.std.specs.Prelude.{◌≡◌, ◌≢◌, ◌⊎◌, ℕ, ◌+◌, ◌*◌, eqb, List, ◌∷◌, Option, Some, None}
-use Rattle.std.proofs.Common.{arith, sym, ap, subst, ◌∙◌, ⊎_elim, refl}
+use Rattle.std.specs.Prelude.{◌≡◌, ◌≢◌, ℕ, ◌+◌, ◌*◌, eqb, ◌∷◌, Some, None}
+use Rattle.std.proofs.Common.{arith, ap, ⊎_elim, refl}
 use Rattle.bounded_buffer.specs.declared.at.BufferAt.{BufferAt}
 use Rattle.bounded_buffer.specs.declared.did.Did.{Did}
 use Rattle.bounded_buffer.specs.declared.did.Did.TheVariants.{Shut, WaitedFull, WaitedEmpty}
 use Rattle.bounded_buffer.specs.Parts.{IsWithin, IsOfPut, IsOfTake, IsWait, HasDone, Waits}
-use Rattle.bounded_buffer.specs.Plain.{IsPlain, Allowed, part_of, kept, note, put_did, take_did}
+use Rattle.bounded_buffer.specs.Plain.{IsPlain, part_of, kept, note, put_did, take_did}
 use Rattle.bounded_buffer.specs.PlainLaws.{plain_put, plain_take, plain_shut, plain_stay, plain_waits}
 use Rattle.bounded_buffer.specs.Rings.{Held, Does}
 use Rattle.indexer.specs.declared.value.IndexItem.{IndexItem}

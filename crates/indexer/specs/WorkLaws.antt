@@ -1,13 +1,11 @@
 -- The two laws of the use: what a holder knows follows from the rule, and each change that is allowed keeps it.
 use Rattle.std.specs.Prelude.{◌≡◌, ◌≢◌, ℕ, List, [], ◌∷◌, map, slice_set}
-use Rattle.std.proofs.Common.{zero, suc, arith, sym, ap, subst, ◌∙◌, ⊎_elim, refl}
+use Rattle.std.proofs.Common.{zero, suc, sym, ap, subst, ⊎_elim, refl}
 use mathlib.Core.Option.{some, some-injective, some-ne-none}
 use lib.ListN.{get_elem?}
 use Rattle.atomic_table.proofs.Lists.{at_set}
 use Rattle.bounded_buffer.specs.Plain.{Keeps}
 use Rattle.bounded_buffer.specs.PlainLaws.{fits_plain, keeps_after}
-use Rattle.bounded_buffer.specs.Rings.{Held}
-use Rattle.indexer.specs.declared.value.IndexItem.{IndexItem}
 use Rattle.indexer.specs.declared.value.IndexValue.{IndexValue}
 use Rattle.indexer.specs.Work.{Share, ring_of, IsBehind, KeepsWork, FitsWork, MayChange}
 

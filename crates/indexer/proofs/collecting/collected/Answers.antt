@@ -1,4 +1,4 @@
-use Rattle.std.proofs.Common.{◌≡◌, All, ◌∷◌, List, ap, sym, subst, ◌∙◌}
+use Rattle.std.proofs.Common.{All, ap, sym, subst, ◌∙◌}
 use Rattle.std.specs.Vec.Iter.{into_iter_items}
 use Rattle.std.proofs.lemmas.List.Elements.{All-head, All-tail}
 use Rattle.std.proofs.lemmas.List.Sorted.{All-permutation}

@@ -1,4 +1,4 @@
-use Rattle.std.proofs.Common.{rules, ◌≡◌, ◌++◌, map, length, ap, sym, ◌∙◌, arith}
+use Rattle.std.proofs.Common.{rules, ◌++◌, map, ap, sym, ◌∙◌, arith}
 use lib.ListN.{get_elem?}
 use Rattle.indexer.specs.declared.job.Job.{Job}
 use Rattle.indexer.proofs.CrewBack.{to_map, all_worked}

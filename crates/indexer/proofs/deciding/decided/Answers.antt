@@ -1,6 +1,6 @@
-use Rattle.std.proofs.Common.{◌≡◌, ap, sym, subst, refl, inr, Some}
+use Rattle.std.proofs.Common.{subst, refl}
 use Rattle.std.specs.Prelude.{All}
-use Rattle.firefly_outside.specs.Trees.{Path, Told}
+use Rattle.firefly_outside.specs.Trees.{Path}
 use Rattle.firefly_outside.specs.Under.{IsUnder}
 use Rattle.firefly_outside.specs.declared.tree.Kind.TheVariants.{Dir}
 use Rattle.walker.specs.Listings.{IsToldBy}

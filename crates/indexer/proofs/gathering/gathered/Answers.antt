@@ -1,11 +1,7 @@
-use Rattle.std.proofs.Common.{◌≡◌, ◌∷◌, [], ◌++◌, length, ap, sym, subst, ◌∙◌, append_assoc, arith}
-use Rattle.std.specs.List.{flat_map}
+use Rattle.std.proofs.Common.{◌∷◌, [], ◌++◌, length, ap, sym, ◌∙◌, append_assoc, arith}
 use Rattle.std.specs.Option.{option_or}
-use Rattle.std.specs.Vec.Iter.{into_iter_items}
 use Rattle.std.proofs.lemmas.List.{flat_map_more}
-use Rattle.thread_crew.proofs.Zips.{all_yielded}
 use Rattle.indexer.specs.declared.findings.Findings.{Findings}
-use Rattle.indexer.specs.Gathered.{first_fault}
 use Rattle.indexer.proofs.GatherLaws.{first_fault-more}
 use Rattle.indexer.proofs.gathering.gathered.Goals as goal
 

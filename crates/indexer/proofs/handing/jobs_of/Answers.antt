@@ -1,4 +1,4 @@
-use Rattle.std.proofs.Common.{◌≡◌, ℕ, ◌+◌, ◌<◌, ◌∷◌, [], ◌++◌, List, map, length, get_or, ap, sym, subst, ◌∙◌, append_assoc, length-append, arith, vec_len, cond, nat_lt, None}
+use Rattle.std.proofs.Common.{◌≡◌, ℕ, ◌<◌, ◌∷◌, [], ◌++◌, List, map, length, get_or, ap, sym, subst, ◌∙◌, append_assoc, length-append, arith, cond, nat_lt, None}
 use Rattle.indexer.specs.Jobs.{tree_at}
 use Rattle.indexer.specs.declared.job.Job.{Job}
 use Rattle.indexer.proofs.Placing.{one_place, map_snoc}

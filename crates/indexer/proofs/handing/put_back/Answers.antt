@@ -1,5 +1,4 @@
-use Rattle.std.proofs.Common.{◌≡◌, ℕ, ◌+◌, ◌<◌, ◌∷◌, [], ◌++◌, List, map, length, get_or, ap, sym, subst, ◌∙◌, append_assoc, length-append, arith, vec_len}
-use Rattle.std.specs.Vec.Iter.{into_iter_items}
+use Rattle.std.proofs.Common.{◌≡◌, ◌<◌, ◌∷◌, [], ◌++◌, map, length, get_or, ap, sym, subst, ◌∙◌, append_assoc, length-append, arith}
 use Rattle.thread_crew.proofs.Zips.{all_yielded}
 use Rattle.indexer.proofs.Placing.{placed, map_snoc}
 use Rattle.indexer.proofs.handing.put_back.Goals as goal

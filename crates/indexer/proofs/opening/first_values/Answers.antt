@@ -1,4 +1,4 @@
-use Rattle.std.proofs.Common.{◌≡◌, List, [], ◌∷◌, ◌++◌, ap, ◌∙◌, false}
+use Rattle.std.proofs.Common.{List, [], ◌∷◌, ◌++◌, ap, ◌∙◌, false}
 use Rattle.bounded_buffer.specs.Rings.{Held, fresh}
 use Rattle.indexer.specs.declared.value.IndexItem.{IndexItem}
 use Rattle.indexer.specs.declared.value.IndexValue.{IndexValue}

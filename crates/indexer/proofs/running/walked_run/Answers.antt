@@ -1,5 +1,4 @@
-use Rattle.std.proofs.Common.{◌≡◌, ◌+◌, ◌<◌, List, ◌∷◌, [], ◌++◌, length, ap, sym, subst, ◌∙◌, arith, suc}
-use Rattle.std.specs.Prelude.{remove}
+use Rattle.std.proofs.Common.{List, ◌∷◌, [], ◌++◌, ap, sym, subst, ◌∙◌, arith, suc}
 use lib.ListN.{get_elem?}
 use Rattle.nub_rule.specs.Items.{Each}
 use Rattle.indexer.specs.Jobs.{HasWorked}

@@ -1,5 +1,5 @@
 use Rattle.std.proofs.Common.{None, ◌∙◌}
-use Rattle.indexer.proofs.WalkSteps.{still_between, walked_none, walked_on, walked_turn, released_after, back_on}
+use Rattle.indexer.proofs.WalkSteps.{still_between, walked_on, walked_turn, released_after, back_on}
 use Rattle.indexer.proofs.walking.walk.Goals as goal
 
 pub next_dir-requires-clause-between : goal.next_dir-requires-clause-between
