@@ -8,3 +8,4 @@ pub mod Steps
 pub mod PileLemmas
 pub mod ReadLemmas
 pub mod CloseLemmas
+pub mod Lookups

@@ -1,5 +1,5 @@
 //! The maps of what a walk has found.
-ghost use Rattle.std.specs.Prelude.{◌≡◌, ◌≢◌, ◌++◌, ◌∷◌, [], ◌+◌, ◌≤◌, ◌<◌, ℕ, false, List, length, map, IfOk, OnOk, Contains, AllPairs, vec_len};
+ghost use Rattle.std.specs.Prelude.{◌≡◌, ◌≢◌, ◌↔◌, ◌++◌, ◌∷◌, [], ◌+◌, ◌≤◌, ◌<◌, ℕ, false, List, length, map, IfOk, OnOk, IsTrue, Contains, AllPairs, vec_len};
 ghost use Rattle.std.specs.String.{string_bytes};
 ghost use Rattle.indexmap.specs.IndexMap.{spare as map_spare, IsUnchanged as SameMap};
 ghost use Rattle.indexmap.specs.IndexSet.{spare as set_spare, IsUnchanged as SameSet};
@@ -50,6 +50,27 @@ pub fn mark(dirs: &mut Dirs, dir: &str)
 {
     if let Some(listed) = dirs.get_mut(dir) {
         *listed = true;
+    }
+}
+
+/// Whether the directory was found and isn't listed.
+pub fn has_unlisted(dirs: &Dirs, dir: &str) -> bool
+    requires { AllPairs (λ p q. p ≢ q) (map (λ d. d.0) (pairs_of dirs.now.entries)) }
+    ensures { IsTrue result ↔ Contains (pairs_of dirs.now.entries) (dir.now, false) }
+{
+    match dirs.get(dir) {
+        Some(listed) => !*listed,
+        None => false,
+    }
+}
+
+/// Whether a file of these bytes for its name was found. What is no text is the name of none.
+pub fn has_file(files: &Files, name: &[u8]) -> bool
+    ensures { IsTrue result ↔ Contains (map string_bytes files.now.keys) name.now }
+{
+    match str::from_utf8(name) {
+        Ok(name) => files.contains(name),
+        Err(_) => false,
     }
 }
 

@@ -1,14 +1,15 @@
 //! The directories and files that a walk has found.
-ghost use Rattle.std.specs.Prelude.{◌≡◌, ◌+◌, ◌≤◌, ℕ, List, length, map, IfOk, IfErr, OnOk, IfSome, MatchOption, slice_get, Some, ◌≢◌, ◌<◌, false};
+ghost use Rattle.std.specs.Prelude.{◌≡◌, ◌↔◌, ◌+◌, ◌≤◌, ℕ, List, length, map, IfOk, IfErr, OnOk, IfSome, IsTrue, Contains, MatchOption, slice_get, Some, ◌≢◌, ◌<◌, false};
 ghost use Rattle.firefly_outside.specs.Trees.{Told, Path};
 ghost use Rattle.walker.specs.Walk.{new_walk, IsUnlisted, IsWalkOf, IsSound};
 ghost use Rattle.walker.specs.Listings.{IsListingOf, IsToldBy, Notes};
 
 use crate::Listing;
-use crate::found::{Dirs, Files};
+use crate::found::{Dirs, Files, has_file, has_unlisted};
 use crate::noting::note_in;
 use std::alloc::{AllocError, Global};
 use std::marker::Model;
+use word_index::Piece;
 
 /// The directories found, those of them that were listed, and the files found.
 #[derive(Drop)]
@@ -61,6 +62,25 @@ impl Walked {
         ensures sound { IsSound self.now }
     {
         self.files.len() as u64
+    }
+
+    /// Whether the directory was found and isn't listed.
+    pub fn unlisted(&self, dir: &str) -> bool
+        ensures { IsTrue result ↔ IsUnlisted self.now dir.now }
+    {
+        has_unlisted(&self.dirs, dir)
+    }
+
+    /// Whether each path that the piece covers is that of a file found.
+    pub fn all_found(&self, piece: &Piece) -> bool
+        ensures { IsTrue result ↔ ((p : Path) → Contains piece.now.paths p → Contains self.now.files p) }
+    {
+        for at in 0..piece.files() as usize {
+            if !has_file(&self.files, piece.path(at)) {
+                return false;
+            }
+        }
+        true
     }
 }
 

@@ -158,6 +158,14 @@ impl Piece {
         }
     }
 
+    /// A path that is covered.
+    pub fn path(&self, at: usize) -> &[u8]
+        requires { at < length self.now.paths }
+        ensures { result.now ≡ slice_index_or self.now.paths at [] }
+    {
+        self.paths.get(at)
+    }
+
     /// The number of skipped paths.
     pub fn skipped_files(&self) -> usize
         ensures { result ≡ length self.now.skipped }

@@ -1,0 +1,32 @@
+use Rattle.std.proofs.Common.{rules, ◌≡◌, ◌<◌, [], length, map, get_or, ap, subst, sym, ◌∙◌, refl, arith, below_more, Contains}
+use Rattle.std.specs.String.{string_bytes}
+use Rattle.std.proofs.lemmas.List.{get_or_default}
+use Rattle.std.proofs.lemmas.List.Elements.{Contains-get_or}
+use Rattle.firefly_outside.specs.Trees.{Path}
+use Rattle.walker.proofs.walked.Walked.all_found.Goals as goal
+
+pub returns-then-not-has_file : goal.returns-then-not-has_file
+returns-then-not-has_file c =
+    let paths = c.args.piece.now.paths in
+    let within : c.loop-at.at < length paths = search rules in
+    let files : map string_bytes c.self.inside.files.keys ≡ c.args.self.now.files = ap (λ w. w.files) c.self.view_is in (
+      λ no. absurd (cc),
+      λ all. c.if-not-has_file.ensures.1 (subst (λ fs. Contains fs c.path.result.now) (sym files)
+          (all c.path.result.now (subst (λ (p : Path). Contains paths p) (sym c.path.ensures) (Contains-get_or paths c.loop-at.at [] within)))),
+    )
+
+pub loop-at-preserved : goal.loop-at-preserved
+loop-at-preserved c =
+    let paths = c.args.piece.now.paths in
+    let files : map string_bytes c.self.inside.files.keys ≡ c.args.self.now.files = ap (λ w. w.files) c.self.view_is in
+    below_more _ _ c.loop-at.invariant
+    (subst (λ fs. Contains fs (get_or paths c.loop-at.at [])) files
+    (subst (λ (p : Path). Contains (map string_bytes c.self.inside.files.keys) p) c.path.ensures (c.if-not-has_file.ensures.0 refl)))
+
+pub returns : goal.returns
+returns c = (
+  λ yes p here.
+      let low : here.0 < c.loop-at.at = let within = here.1 in search rules in
+      subst (λ (q : Path). Contains c.args.self.now.files q) (get_or_default c.args.piece.now.paths here.0 [] p here.1 ∙ here.2) (c.loop-at.invariant here.0 low),
+  λ all. refl,
+)
