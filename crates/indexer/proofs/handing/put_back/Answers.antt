@@ -1,0 +1,36 @@
+use Rattle.std.proofs.Common.{◌≡◌, ◌<◌, ◌∷◌, [], ◌++◌, map, length, get_or, ap, sym, subst, ◌∙◌, append_assoc, length-append, arith}
+use Rattle.thread_crew.proofs.Zips.{all_yielded}
+use Rattle.indexer.proofs.Placing.{placed, map_snoc}
+use Rattle.indexer.proofs.handing.put_back.Goals as goal
+
+pub loop-job-preserved : goal.loop-job-preserved
+loop-job-preserved g c =
+    let at = c.loop-job in
+    let was = at.invariant in
+    let x = c.in-Some.job in
+    let steps = c.in-Some.ensures.steps.0 in
+    let gone = c.in-Some.ensures.steps.1 in
+    let short = ap length steps in
+    let push = c.in-Ok.ensures in
+    let put = c.put_tree.ensures in
+    let front = c.args.threads.items in
+    record {
+      whole = append_assoc at.yielded (x ∷ []) _ ∙ rw (← steps) was.whole;
+      left = (let left = was.left in omega arith);
+      room = (let room = was.room in let cap = push.capacity in let len = push.len in let left = was.left in omega arith);
+      count = (let count = was.count in let more = length-append at.yielded (x ∷ []) in omega arith);
+      made = push.items ∙ (ap (λ l. l ++ x.me ∷ []) was.made ∙ (append_assoc front (map (λ j. j.me) at.yielded) (x.me ∷ []) ∙ ap (λ l. front ++ l) (sym (map_snoc (λ j. j.me) at.yielded x))));
+      back = placed (λ q. q.tree) c.args.walkers at.yielded x at.trees c.put_tree.new.trees
+          (λ i d ne. put.others i d (λ e. ne (e ∙ was.count)))
+          (λ d h. subst (λ j. j < c.args.walkers → get_or c.put_tree.new.trees j d ≡ x.tree) was.count (put.tree d) h)
+          was.back;
+      above = λ i d h. put.above i d h ∙ was.above i d h;
+    }
+
+pub returns-clause-trees : goal.returns-clause-trees
+returns-clause-trees g c k d e h low =
+    let at = c.loop-job in
+    let all = all_yielded at.yielded _ _ at.invariant.whole (sym at.invariant.left ∙ c.in-None.ensures.steps.0) ∙ c.into_iter-job-iterator.ensures.into_iter_gives.0 in
+    let ok = c.args.jobs.ok in
+    let ok0 = ok.0 in
+    subst (λ l. get_or at.trees k d ≡ (get_or l k e).tree) all (at.invariant.back k d e h (let long = ap length all in omega arith))

@@ -1,0 +1,110 @@
+-- What an index run answers.
+use Rattle.std.specs.Prelude.{◌≡◌, ℕ, ◌+◌, ◌<◌, ◌≤◌, true, false, List, ◌++◌, length, Option, Some, None, IfSome, Contains, slice_index_or}
+use Rattle.std.proofs.Common.{suc}
+use mathlib.Core.Option.{some}
+use lib.ListN.{get_elem?}
+use Rattle.larch_actions.specs.declared.event.Event.{Event}
+use Rattle.firefly_outside.specs.Causes.{Rose}
+use Rattle.firefly_outside.specs.Trees.{Path, Told, Calls}
+use Rattle.firefly_outside.specs.Under.{IsUnder, AreMany}
+use Rattle.firefly_outside.specs.declared.tree.Kind.{Kind}
+use Rattle.firefly_outside.specs.declared.tree.Kind.TheVariants.{File, Dir}
+use Rattle.nub.specs.Ended.{Ended, IsWhole as IsWholeHistory}
+use Rattle.walker.specs.Closing.{IsWhole, IsFaultUnder, most_dirs}
+use Rattle.walker.specs.declared.answer.WalkAnswer.{WalkAnswer}
+use Rattle.walker.specs.declared.answer.WalkAnswer.TheVariants.{Done, Stopped, ReadFault, TooMany, Memory}
+use Rattle.indexer.specs.declared.answer.IndexAnswer.{IndexAnswer}
+use Rattle.indexer.specs.declared.answer.IndexAnswer.TheVariants.{Done as IndexDone, Stopped as IndexStopped, ReadFault as IndexReadFault, TooMany as IndexTooMany, Memory as IndexMemory}
+use Rattle.indexer.specs.declared.plan.Plan.{Plan}
+use Rattle.indexer.specs.declared.value.IndexValue.{IndexValue}
+use Rattle.indexer.specs.Plans.{layout_of}
+use Rattle.indexer.specs.Turns.{Worker, release_count}
+use Rattle.indexer.specs.Work.{Share}
+
+-- all trees tell this tree, or none tells
+abbrev pub AllTell : {S : Type 0} → (S → Option Told) → Option Told → List (Option S) → Type 0
+AllTell {S} tree o trees = (k : ℕ) (s : S) → slice_index_or trees k None ≡ Some s → tree s ≡ o
+
+-- one more than are allowed
+abbrev pub IsStop : Option ℕ → ℕ → Type 0
+IsStop stop many = (n : ℕ) × (stop ≡ Some n) × (many ≡ n + 1)
+
+-- what an answer says of a tree that tells
+abbrev pub WalkSays : Option Told → Path → Option ℕ → WalkAnswer → Type 0
+WalkSays o root stop (Done piece) = IfSome o (λ t. IsWhole t root stop piece)
+WalkSays o root stop (Stopped many) = IsStop stop many × IfSome o (λ t. AreMany t root File many)
+WalkSays o root stop (ReadFault path) = IfSome o (λ t. (kind : Kind) × IsUnder t root kind path)
+WalkSays o root stop (TooMany many) = (many ≡ most_dirs + 1) × IfSome o (λ t. AreMany t root Dir many)
+WalkSays o root stop Memory = Unit {0}
+
+-- the closed package of the plan: its trace is there where the plan says so, and then it is the whole history
+pub record IsRunOf (plan : Plan) (c : Ended IndexValue Share (Prim.Unit {0})) : Type 0 where
+  pub layout : c.layout ≡ layout_of plan
+  pub untraced : plan.traced ≡ false → c.trace ≡ None
+  pub traced : plan.traced ≡ true → (h : List Event) × (c.trace ≡ Some h) × IsWholeHistory (layout_of plan) c.threads h
+
+-- the same of a run, and what Done says of its package
+abbrev pub IndexSays : Option Told → Path → Plan → IndexAnswer → Type 0
+IndexSays o root plan (IndexDone piece closed) = WalkSays o root plan.stop_after (Done piece) × IsRunOf plan closed
+IndexSays o root plan (IndexStopped many) = WalkSays o root plan.stop_after (Stopped many)
+IndexSays o root plan (IndexReadFault path) = WalkSays o root plan.stop_after (ReadFault path)
+IndexSays o root plan (IndexTooMany many) = WalkSays o root plan.stop_after (TooMany many)
+IndexSays o root plan IndexMemory = Unit {0}
+
+-- directories alone were listed, no more than the times that the thread released mutex 0
+pub record OnlyLists (before now : Calls) (thread : Worker) : Type 0 where
+  pub dirs : List Path
+  pub listed : now.listed ≡ before.listed ++ dirs
+  pub read : now.files_read ≡ before.files_read
+  pub failed : now.failed ≡ before.failed
+  pub times : length dirs ≤ release_count 0 thread.mine
+
+module _ {S : Type 0} (tree : S → Option Told) (weak : S → List Path) (faults : S → ℕ) (calls : S → Calls) where
+  -- the tree came back as it was, and its count didn't fall
+  pub record IsBack (s r : S) : Type 0 where
+    pub same_tree : tree r ≡ tree s
+    pub same_weak : weak r ≡ weak s
+    pub count : faults s ≤ faults r
+
+  -- the walkers' trees are the first n, and the closing walk's is the one at this place: they are back, and no other was touched
+  pub record AreBack (n at : ℕ) (old new : List (Option S)) : Type 0 where
+    pub walkers : (k : ℕ) (s : S) → k < n → slice_index_or old k None ≡ Some s → (r : S) × (slice_index_or new k None ≡ Some r) × IsBack s r
+    pub closing : (s : S) → slice_index_or old at None ≡ Some s → (r : S) × (slice_index_or new at None ≡ Some r) × IsBack s r
+    pub others : (i : ℕ) (d : Option S) → n ≤ i → (i ≡ at → ⊥) → slice_index_or new i d ≡ slice_index_or old i d
+
+  -- the tree of the walker k, which is thread k + 1: its count didn't rise, and it was only listed
+  pub record IsListedBy (threads : List Worker) (k : ℕ) (s r : S) : Type 0 where
+    pub none_rose : faults r ≡ faults s
+    pub thread : Worker
+    pub is_thread : get_elem? threads (suc k) ≡ some thread
+    pub lists : IfSome (tree s) (λ t. OnlyLists (calls s) (calls r) thread)
+
+  -- no count rose, and the walkers' trees were only listed
+  pub record AreListed (n at : ℕ) (threads : List Worker) (old new : List (Option S)) : Type 0 where
+    pub walkers : (k : ℕ) (s r : S) → k < n → slice_index_or old k None ≡ Some s → slice_index_or new k None ≡ Some r → IsListedBy threads k s r
+    pub closing : (s r : S) → slice_index_or old at None ≡ Some s → slice_index_or new at None ≡ Some r → faults r ≡ faults s
+
+  -- a tree's count rose, and where it tells, the path is now among those that failed: it lies under the root, and may fail or isn't there as its entry says
+  pub record IsCausedAt (root : Path) (old new : List (Option S)) (path : Path) : Type 0 where
+    pub place : ℕ
+    pub s : S
+    pub was : slice_index_or old place None ≡ Some s
+    pub r : S
+    pub is : slice_index_or new place None ≡ Some r
+    pub rose : Rose (faults s) (faults r)
+    pub told : IfSome (tree s) (λ t. IsFaultUnder t root (weak s) path × Contains (calls r).failed path)
+
+  abbrev pub HasCause : Path → List (Option S) → List (Option S) → IndexAnswer → Type 0
+  HasCause root old new (IndexDone piece closed) = Unit {0}
+  HasCause root old new (IndexStopped many) = Unit {0}
+  HasCause root old new (IndexReadFault path) = IsCausedAt root old new path
+  HasCause root old new (IndexTooMany many) = Unit {0}
+  HasCause root old new IndexMemory = Unit {0}
+
+  -- the trees after a run, by its answer
+  abbrev pub TreesAfter : ℕ → ℕ → List (Option S) → List (Option S) → IndexAnswer → Type 0
+  TreesAfter n at old new (IndexDone piece closed) = AreBack n at old new × AreListed n at closed.threads old new
+  TreesAfter n at old new (IndexStopped many) = AreBack n at old new
+  TreesAfter n at old new (IndexReadFault path) = AreBack n at old new
+  TreesAfter n at old new (IndexTooMany many) = AreBack n at old new
+  TreesAfter n at old new IndexMemory = Unit {0}

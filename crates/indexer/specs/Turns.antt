@@ -1,0 +1,56 @@
+-- A worker between its calls, and while it has the list of directories.
+use Rattle.std.specs.Prelude.{◌≡◌, ℕ, ◌+◌, ◌≤◌, Bool, false, eqb, List, count_by, slice_set, Some}
+use Rattle.larch_actions.specs.declared.event.Event.{Event}
+use Rattle.larch_actions.specs.declared.event.Layout.{Layout}
+use Rattle.larch_actions.specs.declared.event.Action.{Action}
+use Rattle.larch_actions.specs.declared.event.Action.TheVariants.{Release}
+use Rattle.nub_rule.specs.Known.{Known, Shape, Holds}
+use Rattle.nub.specs.Idle.{IsIdle}
+use Rattle.nub.specs.Rest.{AtRest, IsSame}
+use Rattle.indexer.specs.declared.value.IndexValue.{IndexValue}
+use Rattle.indexer.specs.Work.{Share, IsBehind}
+
+abbrev pub Worker : Type 0
+Worker = Known IndexValue Share (Prim.Unit {0})
+
+abbrev pub Run : Type 0
+Run = Shape (Prim.Unit {0})
+
+abbrev pub releases : ℕ → Action → Bool
+releases m (Release k) = eqb k.0 m
+releases m _ = false
+
+-- how often mutex m was released
+abbrev pub release_count : ℕ → List Event → ℕ
+release_count m es = count_by (λ e. releases m e.action) es
+
+-- the layout has the list of directories, its condition, and both buffers with theirs
+pub record HasLists (l : Layout) : Type 0 where
+  pub mutexes : l.mutexes ≡ 3
+  pub conditions : l.conditions ≡ 5
+
+-- who was between two calls is so again
+abbrev pub ComesBack : Run → Worker → Worker → Type 0
+ComesBack p a b = (n : ℕ) (s : Share) → IsIdle p n s a → (r : Share) × IsIdle p n r b
+
+-- the worker is between two calls again, and has released mutex 0 at least so many times more
+pub record HasReleased (p : Run) (k : ℕ) (a b : Worker) : Type 0 where
+  pub back : ComesBack p a b
+  pub times : k + release_count 0 a.mine ≤ release_count 0 b.mine
+
+-- since a the worker has taken the list of directories and nothing else; it has it in b, with this value
+pub record HasList (p : Run) (a : Worker) (x : IndexValue) (b : Worker) : Type 0 where
+  pub rest : AtRest p b
+  pub same : IsSame a b
+  pub has : Holds b 0 x
+  pub held : b.held ≡ slice_set a.held 0 (Some x)
+  pub world : b.world ≡ Some p.world
+  pub own : Share
+  pub was : a.share ≡ Some own
+  pub share : b.share ≡ Some own
+  pub kind : IsBehind 0 x
+  pub times : release_count 0 a.mine ≤ release_count 0 b.mine
+
+-- the thread is between two calls
+abbrev pub IsBetween : Run → Worker → Type 0
+IsBetween p a = (n : ℕ) × (s : Share) × IsIdle p n s a

@@ -1,0 +1,19 @@
+//! What an index run answers.
+use crate::uses::IndexUses;
+use firefly_outside::Text;
+use nub::Closed;
+use word_index::Piece;
+
+/// The index of all files, with the closed package of its run; or why there is none.
+pub enum IndexAnswer {
+    /// The index of all files under the root.
+    Done(Piece, Closed<IndexUses>),
+    /// So many files were found, one more than are allowed.
+    Stopped(u64),
+    /// This path could not be listed or read.
+    ReadFault(Text),
+    /// So many directories were found, one more than are allowed.
+    TooMany(u64),
+    /// Memory wants.
+    Memory,
+}

@@ -1,0 +1,82 @@
+//! The list of directories: what walkers take from it, and what they put there.
+ghost use Rattle.std.specs.Prelude.{◌≡◌};
+ghost use Rattle.indexer.specs.Work.{IsBehind};
+ghost use Rattle.indexer.specs.declared.value.IndexValue.TheVariants.{Dirs};
+
+use crate::value::{IndexValue, WaitingDirs};
+use firefly_outside::Text;
+
+/// What the list has for a walker.
+#[derive(Drop)]
+pub enum Turn {
+    /// A directory to be listed.
+    List(Text),
+    /// Nothing now, but directories are in work.
+    Wait,
+    /// Nothing any more.
+    End,
+}
+
+/// The list behind mutex 0.
+pub fn list_in(value: IndexValue) -> WaitingDirs
+    requires { IsBehind 0 value }
+    ensures { value ≡ Dirs result }
+{
+    match value {
+        IndexValue::Dirs(list) => list,
+        IndexValue::Ring(_) => unreachable!(),
+    }
+}
+
+/// Takes a directory, which is in work from now on.
+pub fn next_turn(list: &mut WaitingDirs) -> Turn {
+    if list.shut {
+        return Turn::End;
+    }
+    match list.waiting.pop() {
+        Some(dir) => {
+            // There are no more in work than walkers.
+            list.in_work = list.in_work.saturating_add(1);
+            Turn::List(dir)
+        }
+        None => {
+            if list.in_work == 0 {
+                Turn::End
+            } else {
+                Turn::Wait
+            }
+        }
+    }
+}
+
+/// Ends the work on a directory, whose own are to be listed too. Where memory wants, the list is shut.
+pub fn put_found(list: &mut WaitingDirs, found: Vec<Text>) {
+    list.in_work = list.in_work.saturating_sub(1);
+    for dir in found {
+        if list.waiting.push(dir).is_err() {
+            list.shut = true;
+        }
+    }
+}
+
+/// The same behind mutex 0.
+pub fn finish_in(value: &mut IndexValue, found: Vec<Text>)
+    requires { IsBehind 0 value.old }
+    ensures { IsBehind 0 value.new }
+{
+    match value {
+        IndexValue::Dirs(list) => put_found(list, found),
+        IndexValue::Ring(_) => unreachable!(),
+    }
+}
+
+/// Shuts the list behind mutex 0.
+pub fn shut_in(value: &mut IndexValue)
+    requires { IsBehind 0 value.old }
+    ensures { IsBehind 0 value.new }
+{
+    match value {
+        IndexValue::Dirs(list) => list.shut = true,
+        IndexValue::Ring(_) => unreachable!(),
+    }
+}

@@ -1,0 +1,56 @@
+//! The package of an index run.
+ghost use Rattle.std.specs.Prelude.{◌≡◌, IfOk, [], ◌∷◌, length};
+ghost use Rattle.nub_rule.specs.Items.{Each};
+ghost use Rattle.nub.specs.Ended.{IsFirst};
+ghost use Rattle.indexer.specs.Opening.{IsOpening};
+ghost use Rattle.indexer.specs.Plans.{IsPlan, layout_of};
+
+use crate::plan::{Plan, index_layout};
+use crate::uses::IndexUses;
+use crate::value::{IndexItem, IndexValue, WaitingDirs};
+use bounded_buffer::Ring;
+use firefly_outside::Text;
+use nub::open_package;
+use nub_rule::{Package, Thread};
+use std::alloc::{AllocError, Global};
+
+/// How many files' paths may wait to be read.
+const MOST_FILES: u32 = 256;
+
+/// How many pieces may wait to be merged.
+const MOST_PIECES: u32 = 8;
+
+// The list with the root alone, and the two buffers.
+fn first_values(alloc: Global, root: &str) -> Result<Vec<IndexValue>, AllocError>
+    ensures { IfOk result (λ vs. IsOpening vs.items) }
+{
+    let mut waiting = Vec::new(alloc);
+    waiting.push(Text::of(alloc, root)?)?;
+    let dirs = WaitingDirs {
+        waiting,
+        in_work: 0,
+        shut: false,
+    };
+    let files: Ring<IndexItem> = Ring::new(alloc, MOST_FILES)?;
+    let pieces: Ring<IndexItem> = Ring::new(alloc, MOST_PIECES)?;
+    let mut values = Vec::new(alloc);
+    values.push(IndexValue::Dirs(dirs))?;
+    values.push(IndexValue::Ring(files))?;
+    values.push(IndexValue::Ring(pieces))?;
+    Ok(values)
+}
+
+/// The package of a run, with the root alone in the list of directories.
+pub fn open_run(
+    alloc: Global,
+    root: &str,
+    plan: &Plan,
+) -> Result<(Package<IndexUses>, Vec<Thread<IndexUses>>), AllocError>
+    requires { IsPlan plan.now }
+    ensures package { IfOk result (λ o. (o.0.layout ≡ layout_of plan.now) × (o.0.traced ≡ plan.now.traced)) }
+    ensures count { IfOk result (λ o. length o.1.items ≡ (layout_of plan.now).threads) }
+    ensures threads { IfOk result (λ o. Each (IsFirst o.0 (λ w t. [])) o.1.items) }
+{
+    let values = first_values(alloc, root)?;
+    open_package::<IndexUses>(alloc, index_layout(plan), &(), values, plan.traced)
+}

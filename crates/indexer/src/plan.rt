@@ -1,0 +1,32 @@
+//! How many threads make an index.
+ghost use Rattle.std.specs.Prelude.{◌≡◌};
+ghost use Rattle.larch_actions.specs.Layout.{IsLawful};
+ghost use Rattle.indexer.specs.Plans.{IsPlan, layout_of};
+
+use larch_actions::Layout;
+
+/// How many workers of each kind there are, after how many files the work is to stop, and whether its whole history is kept.
+pub struct Plan {
+    pub walkers: u32,
+    pub parsers: u32,
+    pub mergers: u32,
+    pub stop_after: Option<u64>,
+    pub traced: bool,
+}
+
+/// The layout of the package of a plan.
+///
+/// Thread 0 is the caller; then come the walkers, the parsers and the mergers. Mutex 0 guards the directories in work, with condition 0;
+/// mutexes 1 and 2 are the buffers of files and of pieces, with the conditions 1 to 4 as room and more of the one and of the other.
+pub fn index_layout(plan: &Plan) -> Layout
+    requires { IsPlan plan.now }
+    ensures layout { result ≡ layout_of plan.now }
+    ensures lawful { IsLawful result }
+{
+    Layout {
+        threads: 1 + plan.walkers + plan.parsers + plan.mergers,
+        mutexes: 3,
+        conditions: 5,
+        semaphores: 0,
+    }
+}

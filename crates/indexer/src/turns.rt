@@ -1,0 +1,121 @@
+//! The calls of a walker at the list of directories.
+ghost use Rattle.std.specs.Prelude.{◌≡◌};
+ghost use Rattle.indexer.specs.Turns.{HasList, HasLists, HasReleased, IsBetween, Worker};
+ghost use Rattle.indexer.specs.Work.{IsBehind};
+ghost use Rattle.indexer.specs.declared.value.IndexValue.{IndexValue};
+
+use crate::dirs::{Turn, finish_in, list_in, next_turn, shut_in};
+use crate::uses::IndexUses;
+use crate::value::{IndexValue, WaitingDirs};
+use alert_wait::{Outcome, alert_wait};
+use condition::broadcast;
+use firefly_outside::Text;
+use larch_actions::{CondId, MutexId};
+use nub_rule::{NoChange, Package, Thread};
+use std::sync::Wait;
+use user_mutex::{acquire, locked, release};
+
+/// The mutex of the list of directories.
+const DIRS: MutexId = MutexId(0);
+
+/// Its condition: that there is something in the list, or that all is over.
+const MORE_DIRS: CondId = CondId(0);
+
+// Takes the list.
+fn take_list<R: Wait>(rt: &R, p: &Package<IndexUses>, me: &mut Thread<IndexUses>) -> WaitingDirs
+    requires layout { HasLists p.now.layout }
+    requires between { IsBetween p.now me.old }
+    ensures { HasList p.now me.old (IndexValue.Dirs result) me.new }
+{
+    list_in(acquire(rt, p, me, DIRS))
+}
+
+// Gives the list back.
+fn give_list<R: Wait>(rt: &R, p: &Package<IndexUses>, me: &mut Thread<IndexUses>, list: WaitingDirs)
+    requires layout { HasLists p.now.layout }
+    requires has { (a : Worker) × (x : IndexValue) × HasList p.now a x me.old }
+    ensures { (a : Worker) (x : IndexValue) → HasList p.now a x me.old → IsBetween p.now a → HasReleased p.now 1 a me.new }
+{
+    release::<IndexUses, NoChange, R>(rt, p, me, DIRS, IndexValue::Dirs(list));
+}
+
+// Waits until there may be something in the list, and says whether an alert ended the wait.
+fn wait_for_dirs<R: Wait>(
+    rt: &R,
+    p: &Package<IndexUses>,
+    me: &mut Thread<IndexUses>,
+    list: WaitingDirs,
+) -> (Outcome, WaitingDirs)
+    requires layout { HasLists p.now.layout }
+    requires has { (a : Worker) × (x : IndexValue) × HasList p.now a x me.old }
+    ensures { (a : Worker) (x : IndexValue) → HasList p.now a x me.old → HasList p.now a (IndexValue.Dirs result.1) me.new }
+{
+    let (outcome, value) = alert_wait::<IndexUses, NoChange, R>(
+        rt,
+        p,
+        me,
+        DIRS,
+        MORE_DIRS,
+        IndexValue::Dirs(list),
+    );
+    (outcome, list_in(value))
+}
+
+/// Takes a directory that is to be listed. None comes where nothing is left and nothing is in work, where the list is shut, and where
+/// the thread is alerted.
+///
+/// It blocks while another walker has the list, and while the list is empty and a directory is in work.
+pub fn next_dir<R: Wait>(rt: &R, p: &Package<IndexUses>, me: &mut Thread<IndexUses>) -> Option<Text>
+    requires layout { HasLists p.now.layout }
+    requires between { IsBetween p.now me.old }
+    ensures { HasReleased p.now 1 me.old me.new }
+{
+    let mut list = take_list(rt, p, me);
+    for _ in rt.forever() {
+        match next_turn(&mut list) {
+            Turn::List(dir) => {
+                give_list(rt, p, me, list);
+                return Some(dir);
+            }
+            Turn::End => {
+                give_list(rt, p, me, list);
+                return None;
+            }
+            Turn::Wait => {
+                let (outcome, again) = wait_for_dirs(rt, p, me, list);
+                if outcome == Outcome::Alerted {
+                    give_list(rt, p, me, again);
+                    return None;
+                }
+                list = again;
+            }
+        }
+    }
+    unreachable!()
+}
+
+/// Ends the work on a directory, and puts the directories found there into the list.
+pub fn finish_dir<R: Wait>(
+    rt: &R,
+    p: &Package<IndexUses>,
+    me: &mut Thread<IndexUses>,
+    found: Vec<Text>,
+)
+    requires layout { HasLists p.now.layout }
+    requires between { IsBetween p.now me.old }
+    ensures { HasReleased p.now 0 me.old me.new }
+{
+    locked::<IndexUses, NoChange, (), _, R>(rt, p, me, DIRS, |value| finish_in(value, found));
+    // There may be something to take, or nothing left to wait for.
+    broadcast(rt, p, me, MORE_DIRS);
+}
+
+/// Shuts the list: nobody gets a directory from now on.
+pub fn shut_dirs<R: Wait>(rt: &R, p: &Package<IndexUses>, me: &mut Thread<IndexUses>)
+    requires layout { HasLists p.now.layout }
+    requires between { IsBetween p.now me.old }
+    ensures { HasReleased p.now 0 me.old me.new }
+{
+    locked::<IndexUses, NoChange, (), _, R>(rt, p, me, DIRS, |value| shut_in(value));
+    broadcast(rt, p, me, MORE_DIRS);
+}
