@@ -33,13 +33,16 @@ pub fn alert_wait<U: Uses, C: Change<U>, R: Wait>(
 ) -> (Outcome, U::Value)
     requires rest { AtRest p.now me.old }
     requires named { (m.0 < p.now.layout.mutexes) × (c.0 < p.now.layout.conditions) }
-    requires may { (x : U.Value) × Holds me.old m.0 x × ((w : U.World) (s : U.Share) → me.old.world ≡ Some w → me.old.share ≡ Some s → U.allows w m.0 me.old.number x value s (C.after w m.0 me.old.number x value s)) }
+    requires may { (x : U.Value) × Holds me.old m.0 x
+        × ((w : U.World) (s : U.Share) → me.old.world ≡ Some w → me.old.share ≡ Some s
+        → U.allows w m.0 me.old.number x value s (C.after w m.0 me.old.number x value s)) }
     ensures rest { AtRest p.now me.new }
     ensures same { IsSame me.old me.new }
     ensures event { Adds (enqueue_event true me.old.number m.0 c.0 ∷ []) (wait_end result.0 me.old.number m.0 c.0) me.old me.new }
     ensures holds { Holds me.new m.0 result.1 }
     ensures held { me.new.held ≡ slice_set me.old.held m.0 (Some result.1) }
-    ensures share { (w : U.World) (s : U.Share) (x : U.Value) → me.old.world ≡ Some w → me.old.share ≡ Some s → Holds me.old m.0 x → me.new.share ≡ Some (C.after w m.0 me.old.number x value s) }
+    ensures share { (w : U.World) (s : U.Share) (x : U.Value) → me.old.world ≡ Some w → me.old.share ≡ Some s
+        → Holds me.old m.0 x → me.new.share ≡ Some (C.after w m.0 me.old.number x value s) }
     ensures fits { (w : U.World) (s : U.Share) → me.new.world ≡ Some w → me.new.share ≡ Some s → U.fits w m.0 result.1 me.new.number s }
 {
     put_value(p, me, m, value);
@@ -64,7 +67,8 @@ fn end_wait<U: Uses, R: Wait>(
     requires named { (m.0 < p.now.layout.mutexes) × (c.0 < p.now.layout.conditions) }
     requires outside { IsOutside me.old }
     requires looked { me.old.cleared ≡ [] }
-    requires waits { (x : Waiting) × (me.old.wait ≡ Some x) × (x.mutex.0 ≡ m.0) × (x.cond.0 ≡ c.0) × (x.alertable ≡ true) × (x.bit ≡ Open) × (returns ≡ true → x.member ≡ None) }
+    requires waits { (x : Waiting) × (me.old.wait ≡ Some x) × (x.mutex.0 ≡ m.0) × (x.cond.0 ≡ c.0)
+        × (x.alertable ≡ true) × (x.bit ≡ Open) × (returns ≡ true → x.member ≡ None) }
     requires alerted { returns ≡ false → me.old.alerted ≡ true }
     requires stored { HasStored p.now.traced me.old }
     ensures event { Makes (wait_end result me.old.number m.0 c.0) me.old me.new }
@@ -102,7 +106,8 @@ fn raise<U: Uses, R: Wait>(rt: &R, p: &Package<U>, me: &mut Thread<U>, m: MutexI
     requires of { me.old.table_id ≡ p.now.table_id }
     requires named { (m.0 < p.now.layout.mutexes) × (c.0 < p.now.layout.conditions) }
     requires outside { IsOutside me.old }
-    requires waits { (x : Waiting) × (me.old.wait ≡ Some x) × (x.mutex.0 ≡ m.0) × (x.cond.0 ≡ c.0) × (x.alertable ≡ true) × (x.bit ≡ Quiet) }
+    requires waits { (x : Waiting) × (me.old.wait ≡ Some x) × (x.mutex.0 ≡ m.0) × (x.cond.0 ≡ c.0)
+        × (x.alertable ≡ true) × (x.bit ≡ Quiet) }
     requires has { (x : U.Value) × Holds me.old m.0 x }
     requires alerted { me.old.alerted ≡ true }
     requires stored { HasStored p.now.traced me.old }

@@ -12,5 +12,6 @@ ghost use Rattle.bounded_buffer.specs.Rings.{Held};
 /// In a closed package each item that was put was taken once or is left, in order of puts. The premise is the clause on values of
 /// `close_package`.
 pub fn each_taken_or_left<T>()
-    ensures { (threads : List (Known (Held T) (List (Note T)) Prim.Unit)) (values : List (Held T)) → KeepsLocks Keeps threads values → (m : ℕ) (q : Held T) → get_elem? values m ≡ some q → IsSettled m q threads }
+    ensures { (threads : List (Known (Held T) (List (Note T)) Prim.Unit)) (values : List (Held T))
+        → KeepsLocks Keeps threads values → (m : ℕ) (q : Held T) → get_elem? values m ≡ some q → IsSettled m q threads }
 {}

@@ -40,7 +40,8 @@ fn refuse_put<B: BufferUse, R: Wait>(
     ensures rest { AtRest p.now me.new }
     ensures same { IsSame me.old me.new }
     ensures held { me.new.held ≡ slice_set me.old.held at.now.mutex.0 None }
-    ensures given { (s : B.Share) → me.old.share ≡ Some s → HasGiven B.ring_in B.part B.Put.after p.now.world at.now.mutex.0 at.now.more.0 (Some SawShut) s me.old me.new }
+    ensures given { (s : B.Share) → me.old.share ≡ Some s
+        → HasGiven B.ring_in B.part B.Put.after p.now.world at.now.mutex.0 at.now.more.0 (Some SawShut) s me.old me.new }
 {
     release::<B, B::Put, R>(rt, p, me, at.mutex, B::from_ring(ring));
 }
@@ -68,7 +69,8 @@ fn put_last<B: BufferUse, R: Wait>(
     ensures same { IsSame me.old me.new }
     ensures held { me.new.held ≡ slice_set me.old.held at.now.mutex.0 None }
     ensures number { result ≡ put_count ring }
-    ensures given { (s : B.Share) → me.old.share ≡ Some s → HasGiven B.ring_in B.part B.Put.after p.now.world at.now.mutex.0 at.now.more.0 (Some (Put result item)) s me.old me.new }
+    ensures given { (s : B.Share) → me.old.share ≡ Some s
+        → HasGiven B.ring_in B.part B.Put.after p.now.world at.now.mutex.0 at.now.more.0 (Some (Put result item)) s me.old me.new }
 {
     if ring.is_at_end() {
         release::<B, NoChange, R>(rt, p, me, at.mutex, B::from_ring(ring));
@@ -98,7 +100,8 @@ fn wait_for_room<B: BufferUse, R: Wait>(
     requires full { length ring.items ≡ ring.capacity }
     ensures rest { AtRest p.now me.new }
     ensures same { IsSame me.old me.new }
-    ensures waited { (s : B.Share) → me.old.share ≡ Some s → HasWaited B.part B.alike B.fits p.now at.now.mutex.0 at.now.room.0 WaitedFull s result.0 result.1 me.old me.new }
+    ensures waited { (s : B.Share) → me.old.share ≡ Some s
+        → HasWaited B.part B.alike B.fits p.now at.now.mutex.0 at.now.room.0 WaitedFull s result.0 result.1 me.old me.new }
 {
     alert_wait::<B, B::Put, R>(rt, p, me, at.mutex, at.room, B::from_ring(ring))
 }

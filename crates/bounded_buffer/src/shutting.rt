@@ -26,7 +26,8 @@ pub fn shut<B: BufferUse, R: Wait>(rt: &R, p: &Package<B>, me: &mut Thread<B>, a
     ensures rest { AtRest p.now me.new }
     ensures same { IsSame me.old me.new }
     ensures held { me.new.held ≡ me.old.held }
-    ensures shut { (s : B.Share) → me.old.share ≡ Some s → HasShut B.ring_in B.part B.Shut.after p.now.world at.now.mutex.0 at.now.room.0 at.now.more.0 me.old.number s me.old me.new }
+    ensures shut { (s : B.Share) → me.old.share ≡ Some s
+        → HasShut B.ring_in B.part B.Shut.after p.now.world at.now.mutex.0 at.now.room.0 at.now.more.0 me.old.number s me.old me.new }
 {
     let value = acquire(rt, p, me, at.mutex);
     let mut ring = B::into_ring(value);

@@ -40,7 +40,8 @@ fn refuse_take<B: BufferUse, R: Wait>(
     ensures rest { AtRest p.now me.new }
     ensures same { IsSame me.old me.new }
     ensures held { me.new.held ≡ slice_set me.old.held at.now.mutex.0 None }
-    ensures given { (s : B.Share) → me.old.share ≡ Some s → HasGiven B.ring_in B.part B.Take.after p.now.world at.now.mutex.0 at.now.room.0 (Some SawEnd) s me.old me.new }
+    ensures given { (s : B.Share) → me.old.share ≡ Some s
+        → HasGiven B.ring_in B.part B.Take.after p.now.world at.now.mutex.0 at.now.room.0 (Some SawEnd) s me.old me.new }
 {
     release::<B, B::Take, R>(rt, p, me, at.mutex, B::from_ring(ring));
 }
@@ -64,7 +65,8 @@ fn take_first<B: BufferUse, R: Wait>(
     ensures held { me.new.held ≡ slice_set me.old.held at.now.mutex.0 None }
     ensures number { result.0 ≡ ring.taken }
     ensures first { (rest : List B.Item) × (ring.items ≡ result.1 ∷ rest) }
-    ensures given { (s : B.Share) → me.old.share ≡ Some s → HasGiven B.ring_in B.part B.Take.after p.now.world at.now.mutex.0 at.now.room.0 (Some (Took result.0 result.1)) s me.old me.new }
+    ensures given { (s : B.Share) → me.old.share ≡ Some s
+        → HasGiven B.ring_in B.part B.Take.after p.now.world at.now.mutex.0 at.now.room.0 (Some (Took result.0 result.1)) s me.old me.new }
 {
     let first = ring.pop();
     signal(rt, p, me, at.room);
@@ -89,7 +91,8 @@ fn wait_for_more<B: BufferUse, R: Wait>(
     requires empty { ring.items ≡ [] }
     ensures rest { AtRest p.now me.new }
     ensures same { IsSame me.old me.new }
-    ensures waited { (s : B.Share) → me.old.share ≡ Some s → HasWaited B.part B.alike B.fits p.now at.now.mutex.0 at.now.more.0 WaitedEmpty s result.0 result.1 me.old me.new }
+    ensures waited { (s : B.Share) → me.old.share ≡ Some s
+        → HasWaited B.part B.alike B.fits p.now at.now.mutex.0 at.now.more.0 WaitedEmpty s result.0 result.1 me.old me.new }
 {
     alert_wait::<B, B::Take, R>(rt, p, me, at.mutex, at.more, B::from_ring(ring))
 }

@@ -59,13 +59,16 @@ pub fn wait<U: Uses, C: Change<U>, R: Wait>(
 ) -> U::Value
     requires rest { AtRest p.now me.old }
     requires named { (m.0 < p.now.layout.mutexes) × (c.0 < p.now.layout.conditions) }
-    requires may { (x : U.Value) × Holds me.old m.0 x × ((w : U.World) (s : U.Share) → me.old.world ≡ Some w → me.old.share ≡ Some s → U.allows w m.0 me.old.number x value s (C.after w m.0 me.old.number x value s)) }
+    requires may { (x : U.Value) × Holds me.old m.0 x
+        × ((w : U.World) (s : U.Share) → me.old.world ≡ Some w → me.old.share ≡ Some s
+        → U.allows w m.0 me.old.number x value s (C.after w m.0 me.old.number x value s)) }
     ensures rest { AtRest p.now me.new }
     ensures same { IsSame me.old me.new }
     ensures event { Adds (enqueue_event false me.old.number m.0 c.0 ∷ []) (resume_event me.old.number m.0 c.0) me.old me.new }
     ensures holds { Holds me.new m.0 result }
     ensures held { me.new.held ≡ slice_set me.old.held m.0 (Some result) }
-    ensures share { (w : U.World) (s : U.Share) (x : U.Value) → me.old.world ≡ Some w → me.old.share ≡ Some s → Holds me.old m.0 x → me.new.share ≡ Some (C.after w m.0 me.old.number x value s) }
+    ensures share { (w : U.World) (s : U.Share) (x : U.Value) → me.old.world ≡ Some w → me.old.share ≡ Some s
+        → Holds me.old m.0 x → me.new.share ≡ Some (C.after w m.0 me.old.number x value s) }
     ensures fits { (w : U.World) (s : U.Share) → me.new.world ≡ Some w → me.new.share ≡ Some s → U.fits w m.0 result me.new.number s }
 {
     put_value(p, me, m, value);

@@ -49,7 +49,8 @@ fn turns<R: Wait>(
     other: CondId,
     times: u32,
 ) -> Thread<SumUses>
-    requires named { (turn.mutex.0 < 64) × (turn.mutex.0 < pkg.now.layout.mutexes) × (turn.cond.0 < pkg.now.layout.conditions) × (other.0 < pkg.now.layout.conditions) }
+    requires named { (turn.mutex.0 < 64) × (turn.mutex.0 < pkg.now.layout.mutexes)
+        × (turn.cond.0 < pkg.now.layout.conditions) × (other.0 < pkg.now.layout.conditions) }
     requires idle { IsIdle pkg.now me.number [] me }
     ensures { IsDone pkg.now me.number result }
 {

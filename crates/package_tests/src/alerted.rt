@@ -163,7 +163,8 @@ fn work<R: Wait>(
     what: Alerts,
     notes: &Notes,
 ) -> Thread<SumUses>
-    requires named { (1 ≤ pkg.now.layout.mutexes) × (1 ≤ pkg.now.layout.conditions) × (4 ≤ pkg.now.layout.semaphores) × (1 ≤ pkg.now.layout.threads) }
+    requires named { (1 ≤ pkg.now.layout.mutexes) × (1 ≤ pkg.now.layout.conditions) × (4 ≤ pkg.now.layout.semaphores)
+        × (1 ≤ pkg.now.layout.threads) }
     requires idle { IsIdle pkg.now me.number [] me }
     ensures { IsDone pkg.now me.number result }
 {
@@ -200,7 +201,8 @@ pub fn run_alerts<R: Threads + Wait + Sync>(
         alloc,
         threads,
         &|me: Thread<SumUses>| -> (Thread<SumUses>, ())
-            requires { ((1 ≤ pkg.layout.mutexes) × (1 ≤ pkg.layout.conditions) × (4 ≤ pkg.layout.semaphores) × (1 ≤ pkg.layout.threads)) × IsIdle pkg me.number [] me }
+            requires { ((1 ≤ pkg.layout.mutexes) × (1 ≤ pkg.layout.conditions) × (4 ≤ pkg.layout.semaphores)
+                × (1 ≤ pkg.layout.threads)) × IsIdle pkg me.number [] me }
             ensures { IsDone pkg me.number result.0 }
         { (work(rt, &pkg, me, what, notes), ()) },
     )?;

@@ -107,12 +107,15 @@ fn end_turn<R: Wait>(
     requires named { turn.mutex.0 < p.now.layout.mutexes }
     requires one { (c : CondId) → whom ≡ One c → c.0 < p.now.layout.conditions }
     requires all { (c : CondId) → whom ≡ All c → c.0 < p.now.layout.conditions }
-    requires may { (x : ℕ) × Holds me.old turn.mutex.0 x × ((s : List Added) → me.old.share ≡ Some s → GrowsAlike turn.mutex.0 x value s (grown turn.mutex.0 x value s)) }
+    requires may { (x : ℕ) × Holds me.old turn.mutex.0 x
+        × ((s : List Added) → me.old.share ≡ Some s
+        → GrowsAlike turn.mutex.0 x value s (grown turn.mutex.0 x value s)) }
     requires world { me.old.world ≡ Some p.now.world }
     ensures rest { AtRest p.now me.new }
     ensures same { IsSame me.old me.new }
     ensures held { me.new.held ≡ slice_set me.old.held turn.mutex.0 None }
-    ensures share { (x : ℕ) (s : List Added) → me.old.share ≡ Some s → Holds me.old turn.mutex.0 x → me.new.share ≡ Some (grown turn.mutex.0 x value s) }
+    ensures share { (x : ℕ) (s : List Added) → me.old.share ≡ Some s → Holds me.old turn.mutex.0 x
+        → me.new.share ≡ Some (grown turn.mutex.0 x value s) }
 {
     if turn.after {
         release::<SumUses, AddChange, R>(rt, p, me, turn.mutex, value);

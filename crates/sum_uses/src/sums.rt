@@ -44,7 +44,8 @@ pub fn add_to(got: u64, amount: u64) -> u64
     requires got { got ≤ 25600000000000 }
     requires amount { amount ≤ 100000000000 }
     ensures sum { result ≡ got + amount }
-    ensures allowed { (m t : ℕ) (s : List Added) → added m s + amount ≤ 100000000000 → ⟦<SumUses as Uses>⟧.allows tt m t got result s (⟦<AddChange as Change<SumUses>>⟧.after tt m t got result s) }
+    ensures allowed { (m t : ℕ) (s : List Added) → added m s + amount ≤ 100000000000
+        → ⟦<SumUses as Uses>⟧.allows tt m t got result s (⟦<AddChange as Change<SumUses>>⟧.after tt m t got result s) }
     ensures share { (m t : ℕ) (s : List Added) → added m (⟦<AddChange as Change<SumUses>>⟧.after tt m t got result s) ≡ added m s + amount }
 {
     got + amount

@@ -43,7 +43,8 @@ fn run_held<T: Task<Output = X>, X: Drop, F: FnOnce() -> X + Drop>(
     requires ready { (jobs : List T) × AllZip (IsChildOf T.run_gives F.pre F.post) jobs children.items }
     requires room { (running.items ≡ []) × (vec_len children ≤ vec_capacity running) }
     ensures len { vec_len result ≡ vec_len children }
-    ensures turned { (jobs : List T) → AllZip (IsChildOf T.run_gives F.pre F.post) jobs children.items → AllZip (IsRunning T.run_gives) jobs result.items }
+    ensures turned { (jobs : List T) → AllZip (IsChildOf T.run_gives F.pre F.post) jobs children.items
+        → AllZip (IsRunning T.run_gives) jobs result.items }
 {
     for child in children {
         let Ok(()) = running.push(settle(child)) else {
@@ -167,8 +168,13 @@ pub fn run_crew<
         thread::scope_env(),
         rt,
         |scope| -> Result<Finished<X, Y>, NotRun<T, M>>
-            requires { AllByRecursion T.can_run jobs.items × ((running.items ≡ []) × (vec_len jobs ≤ vec_capacity running)) × ((results.items ≡ []) × (vec_len jobs ≤ vec_capacity results)) × ((refused : Bool) → M.pre between refused) }
-            ensures { IfOk result (λ r. AllZip T.run_gives jobs.items r.results.items × ((refused : Bool) × Told starts jobs.items refused × M.post between refused r.between)) × IfErr result (λ back. (back.jobs ≡ jobs) × (back.between ≡ between)) }
+            requires { AllByRecursion T.can_run jobs.items
+                × ((running.items ≡ []) × (vec_len jobs ≤ vec_capacity running))
+                × ((results.items ≡ []) × (vec_len jobs ≤ vec_capacity results))
+                × ((refused : Bool) → M.pre between refused) }
+            ensures { IfOk result (λ r. AllZip T.run_gives jobs.items r.results.items
+                × ((refused : Bool) × Told starts jobs.items refused × M.post between refused r.between))
+                × IfErr result (λ back. (back.jobs ≡ jobs) × (back.between ≡ between)) }
         { in_scope(scope, rt, alloc, jobs, starts, running, results, between) },
     )
 }

@@ -57,12 +57,15 @@ pub fn release<U: Uses, C: Change<U>, R: Wait>(
 )
     requires rest { AtRest p.now me.old }
     requires named { m.0 < p.now.layout.mutexes }
-    requires may { (x : U.Value) × Holds me.old m.0 x × ((w : U.World) (s : U.Share) → me.old.world ≡ Some w → me.old.share ≡ Some s → U.allows w m.0 me.old.number x value s (C.after w m.0 me.old.number x value s)) }
+    requires may { (x : U.Value) × Holds me.old m.0 x
+        × ((w : U.World) (s : U.Share) → me.old.world ≡ Some w → me.old.share ≡ Some s
+        → U.allows w m.0 me.old.number x value s (C.after w m.0 me.old.number x value s)) }
     ensures rest { AtRest p.now me.new }
     ensures same { IsSame me.old me.new }
     ensures event { Adds [] (release_event me.old.number m.0) me.old me.new }
     ensures held { me.new.held ≡ slice_set me.old.held m.0 None }
-    ensures share { (w : U.World) (s : U.Share) (x : U.Value) → me.old.world ≡ Some w → me.old.share ≡ Some s → Holds me.old m.0 x → me.new.share ≡ Some (C.after w m.0 me.old.number x value s) }
+    ensures share { (w : U.World) (s : U.Share) (x : U.Value) → me.old.world ≡ Some w → me.old.share ≡ Some s
+        → Holds me.old m.0 x → me.new.share ≡ Some (C.after w m.0 me.old.number x value s) }
 {
     put_value(p, me, m, value);
     let e = Event {
@@ -87,8 +90,11 @@ pub fn locked<U: Uses, C: Change<U>, X, F: FnOnce(&mut U::Value) -> X, R: Wait>(
     requires rest { AtRest p.now me.old }
     requires named { m.0 < p.now.layout.mutexes }
     requires lacks { get_elem? me.old.held m.0 ≡ some None }
-    requires callable { (x : _) → ((w : U.World) (s : U.Share) → me.old.world ≡ Some w → me.old.share ≡ Some s → U.fits w m.0 x.now me.old.number s) → F.pre f x }
-    requires may { (x y : U.Value) (r : X) (w : U.World) (s : U.Share) → me.old.world ≡ Some w → me.old.share ≡ Some s → U.fits w m.0 x me.old.number s → FnOnceReturnsAtMut F.FnOnce f x r y → U.allows w m.0 me.old.number x y s (C.after w m.0 me.old.number x y s) }
+    requires callable { (x : _) → ((w : U.World) (s : U.Share) → me.old.world ≡ Some w → me.old.share ≡ Some s
+        → U.fits w m.0 x.now me.old.number s) → F.pre f x }
+    requires may { (x y : U.Value) (r : X) (w : U.World) (s : U.Share) → me.old.world ≡ Some w → me.old.share ≡ Some s
+        → U.fits w m.0 x me.old.number s → FnOnceReturnsAtMut F.FnOnce f x r y
+        → U.allows w m.0 me.old.number x y s (C.after w m.0 me.old.number x y s) }
     ensures rest { AtRest p.now me.new }
     ensures same { IsSame me.old me.new }
     ensures event { Adds (acquire_event me.old.number m.0 ∷ []) (release_event me.old.number m.0) me.old me.new }
