@@ -59,7 +59,7 @@ fn advance_one<U: Uses, R: Wait>(rt: &R, p: &Package<U>, me: &mut Thread<U>, c: 
     end_event(p, me, Some(e));
     match pop(p, me, at) {
         Some(t) => {
-            wake(p, me, t);
+            wake(p, me, at, t);
             leave(rt, p, me, at);
         }
         None => leave(rt, p, me, at),
@@ -102,7 +102,7 @@ fn wake_all<U: Uses>(p: &Package<U>, me: &mut Thread<U>, c: CondId)
     ensures { me.new ≡ record me.old { queue = [] } }
 {
     while let Some(t) = pop(p, me, Object::Cond(c)) {
-        wake(p, me, t);
+        wake(p, me, Object::Cond(c), t);
     }
 }
 

@@ -11,7 +11,7 @@ ghost use Rattle.nub.specs.Rest.{HasStored, IsOutside};
 use larch_actions::{Action, CondId, Event, MutexId, ThreadId};
 use nub::{begin_event, end_event, enter, leave, push, remove, sleep};
 use nub_rule::{
-    Object, Package, Thread, Uses, Why, compare_count, load_count, load_count_alertable,
+    Object, Package, Thread, Uses, Why, compare_count, load_count, load_count_alertable, note_mutex,
 };
 use std::sync::Wait;
 
@@ -35,6 +35,8 @@ pub fn read_count<U: Uses, R: Wait>(
     ensures begun { me.new ≡ record (recorded me.old me.new) { wait = Some (begun_wait alertable m.0 c.0 result) } }
     ensures stored { HasStored p.now.traced me.new }
 {
+    // For who wakes this thread, before anybody can.
+    note_mutex(p, me, m);
     let e = beginning(me.number(), m, c, alertable);
     begin_event(rt, p, me);
     // From this load on the thread is in the condition: an advance between here and its blocking takes it out again.

@@ -14,7 +14,7 @@ use larch_actions::{Action, Event, MutexId, ThreadId};
 use nub::{begin_event, end_event, enter, leave, pop, wake};
 use nub_rule::{
     Change, Object, Package, Thread, Uses, Why, clear_bit, clear_bit_in_wait, clear_sem,
-    read_length,
+    owes_unparking, read_length, unpark_noted,
 };
 use std::sync::Wait;
 
@@ -71,10 +71,22 @@ pub fn free<U: Uses, C: Change<U>, R: Wait>(
     } else {
         clear_gate::<U, C>(p, me, at);
     }
+    // Asked before the length is read, so that one branch on both is left.
+    let owes = lets_go_on(me, at);
     // The length is read after the clearing: a thread that pushed itself before the clearing is seen here, one that pushes later finds the
     // bit clear at its second test. Read before, a push between the two would be seen by neither.
-    if read_length(p, me, at) != 0 {
-        wake_one(rt, p, me, at);
+    let length = read_length(p, me, at);
+    if length != 0 || owes {
+        wake_after(rt, p, me, at, length);
+    }
+}
+
+/// Whether this thread is to unpark somebody once it has cleared this bit.
+#[inline(always)]
+fn lets_go_on<U: Uses>(me: &Thread<U>, at: Object) -> bool {
+    match at {
+        Object::Mutex(_) => owes_unparking(me),
+        Object::Sem(_) | Object::Cond(_) => false,
     }
 }
 
@@ -104,8 +116,9 @@ fn free_in_wait<U: Uses, C: Change<U>, R: Wait>(
     ensures share { PicksShare C.after m.0 me.old me.new }
 {
     clear_bit_in_wait::<U, C>(p, me, m);
-    if read_length(p, me, Object::Mutex(m)) != 0 {
-        wake_one(rt, p, me, Object::Mutex(m));
+    let length = read_length(p, me, Object::Mutex(m));
+    if length != 0 || owes_unparking(me) {
+        wake_after(rt, p, me, Object::Mutex(m), length);
     }
 }
 
@@ -190,9 +203,30 @@ fn clear_gate<U: Uses, C: Change<U>>(p: &Package<U>, me: &mut Thread<U>, at: Obj
     }
 }
 
-/// Takes one thread out of the queue and makes it ready.
+/// Makes one queued thread ready, where the length of the queue, read after the clearing, wasn't 0, and unparks those that can go on now.
 #[cold]
 #[inline(never)]
+fn wake_after<U: Uses, R: Wait>(rt: &R, p: &Package<U>, me: &mut Thread<U>, at: Object, length: u64)
+    requires of { me.old.table_id ≡ p.now.table_id }
+    requires gate { IsGate at }
+    requires named { HasObject p.now.layout at }
+    requires outside { IsOutside me.old }
+    requires looked { length ≢ 0 → mem (object_of at) me.old.looked ≡ true }
+    ensures queued { length ≢ 0 → me.new ≡ record me.old {
+      count = me.new.count;
+      failed = without (object_of at) me.old.failed;
+      cleared = without (object_of at) me.old.cleared;
+      looked = without (object_of at) me.old.looked;
+    } }
+    ensures none { length ≡ 0 → me.new ≡ me.old }
+{
+    if length != 0 {
+        wake_one(rt, p, me, at);
+    }
+    unpark_noted(p, me);
+}
+
+/// Takes one thread out of the queue and makes it ready.
 fn wake_one<U: Uses, R: Wait>(rt: &R, p: &Package<U>, me: &mut Thread<U>, at: Object)
     requires of { me.old.table_id ≡ p.now.table_id }
     requires gate { IsGate at }
@@ -211,7 +245,7 @@ fn wake_one<U: Uses, R: Wait>(rt: &R, p: &Package<U>, me: &mut Thread<U>, at: Ob
         Some(t) => {
             // Woken inside: as long as this thread owes t its ready word it keeps the spin word, so whoever is in a line or owed can be
             // told by the spin words alone, and no thread leaves the Nub owing anybody.
-            wake(p, me, t);
+            wake(p, me, at, t);
             leave(rt, p, me, at);
         }
         // Those that were seen have left by themselves, or another thread has popped them.

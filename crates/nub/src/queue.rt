@@ -11,7 +11,7 @@ ghost use Rattle.nub_rule.specs.Plays.{behind, unread};
 use larch_actions::ThreadId;
 use nub_rule::{
     Object, Package, Thread, Uses, leave_cond_queue, leave_sem_queue, pop_queue, push_queue,
-    set_ready, take_out,
+    set_ready, take_out, unpark, unpark_or_note,
 };
 
 /// Puts the thread last into the queue.
@@ -76,12 +76,18 @@ pub fn pop<U: Uses>(p: &Package<U>, me: &mut Thread<U>, at: Object) -> Option<Th
     pop_queue(p, me, at)
 }
 
-/// Makes a thread ready that was popped, and wakes it. It never waits.
-pub fn wake<U: Uses>(p: &Package<U>, me: &mut Thread<U>, t: ThreadId)
+/// Makes a thread ready that was popped from the queue of this object, and wakes it. It never waits. One that was in a condition, and needs
+/// a mutex that this thread has, is unparked when that is given back: before, it would find the mutex taken, and sleep once more.
+pub fn wake<U: Uses>(p: &Package<U>, me: &mut Thread<U>, at: Object, t: ThreadId)
     requires of { me.old.table_id ≡ p.now.table_id }
     requires owed { mem t.0 me.old.owed ≡ true }
     requires named { t.0 < most_threads }
     ensures { me.new ≡ record me.old { owed = without t.0 me.old.owed } }
 {
+    // First the word, then the unparking: a thread that wakes up reads the word, and would park again if it weren't set yet.
     set_ready(p, me, t);
+    match at {
+        Object::Mutex(_) | Object::Sem(_) => unpark(p, t),
+        Object::Cond(_) => unpark_or_note(p, me, t),
+    }
 }

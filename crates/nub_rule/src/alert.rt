@@ -14,6 +14,7 @@ use crate::package::{Package, Thread};
 use crate::places::{SEMAPHORES, alert_word, sem_length_word};
 use crate::plays::{LeaveSemQueue, OrAlert, ReadAlert, SwapAlert, SwapAlertInP, SwapAlertInRaise};
 use crate::uses::Uses;
+use crate::waking::unpark;
 use larch_actions::{CondId, MutexId, SemId, ThreadId};
 
 /// Reads the own alert word. Where it is 1, a thread that stands in a queue, has tested the bit and hasn't found its ready word set may
@@ -44,9 +45,7 @@ pub fn or_alert<U: Uses>(p: &Package<U>, me: &mut Thread<U>, t: ThreadId) -> u64
         .table
         .shared
         .fetch_or::<OrAlert>(&mut me.seat, alert_word(t.0), 1);
-    if let Some(unparker) = p.unparkers.get(t.0 as usize) {
-        unparker.unpark();
-    }
+    unpark(p, t);
     found
 }
 

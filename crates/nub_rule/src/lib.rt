@@ -25,6 +25,7 @@ mod sem;
 mod spin;
 mod uses;
 mod view;
+mod waking;
 mod whole;
 
 pub use alert::{
@@ -43,4 +44,5 @@ pub use ready::{clear_ready, park, read_ready, set_ready};
 pub use sem::{clear_sem, try_p};
 pub use spin::{give_spin, take_spin};
 pub use uses::{Change, NoChange, Uses};
+pub use waking::{note_mutex, owes_unparking, unpark, unpark_noted, unpark_or_note};
 pub use whole::{Remains, close_package, open_package};

@@ -3,11 +3,12 @@ ghost use Rattle.std.specs.Prelude.{◌≡◌};
 
 use crate::hand::Hand;
 use crate::places::{MUTEXES, VALUES};
-use crate::rule::{About, Kept, Slot};
+use crate::rule::{About, Kept, Line, Slot};
 use crate::uses::Uses;
 use crate::view::View;
+use crate::waking::Waker;
 use atomic_table::{Seat, Table};
-use crossbeam_utils::sync::{Parker, Unparker};
+use crossbeam_utils::sync::Parker;
 use larch_actions::{Event, Layout, MutexId};
 use std::alloc::{AllocError, Global};
 use std::marker::Model;
@@ -39,7 +40,7 @@ pub struct Package<U: Uses> {
         Global,
     >,
     /// Of each thread, by its number.
-    pub(crate) unparkers: Vec<Unparker>,
+    pub(crate) unparkers: Vec<Waker>,
     /// Room for what the threads have stored.
     pub(crate) shelf: Vec<Stored>,
 }
@@ -67,6 +68,8 @@ pub struct Thread<U: Uses> {
     /// The number that was read with the pen last.
     pub(crate) next: u64,
     pub(crate) parker: Parker,
+    /// Those that are to be unparked when it gives a mutex back.
+    pub(crate) later: Line,
     /// With the first thread, room for the values of all mutexes.
     pub(crate) room: Vec<U::Value>,
 }

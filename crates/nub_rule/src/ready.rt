@@ -14,7 +14,7 @@ use crate::uses::Uses;
 use larch_actions::ThreadId;
 use std::sync::Wait;
 
-/// Makes a thread ready that was popped, and unparks it.
+/// Makes a thread ready that was popped. It is to be unparked after that.
 pub fn set_ready<U: Uses>(p: &Package<U>, me: &mut Thread<U>, t: ThreadId) -> u64
     requires of { me.old.table_id ≡ p.now.table_id }
     requires owed { mem t.0 me.old.owed ≡ true }
@@ -22,15 +22,9 @@ pub fn set_ready<U: Uses>(p: &Package<U>, me: &mut Thread<U>, t: ThreadId) -> u6
     ensures found { result ≡ 0 }
     ensures owes { me.new ≡ record me.old { owed = without t.0 me.old.owed } }
 {
-    // First the word, then the unparking: a thread that wakes up reads the word, and would park again if it weren't set yet.
-    let found = p
-        .table
+    p.table
         .shared
-        .swap::<SetReady>(&mut me.seat, ready_word(t.0), 1);
-    if let Some(unparker) = p.unparkers.get(t.0 as usize) {
-        unparker.unpark();
-    }
-    found
+        .swap::<SetReady>(&mut me.seat, ready_word(t.0), 1)
 }
 
 /// Reads the own ready word, after the second test. Where it is 0, the thread may sleep.

@@ -20,8 +20,9 @@ use crate::places::{QUEUES, WORDS};
 use crate::rule::{About, Collect, Cut, Gather, Kept, Line, Slot};
 use crate::uses::Uses;
 use crate::view::View;
+use crate::waking::Waker;
 use atomic_table::{Closed, Seat, Shared, Table};
-use crossbeam_utils::sync::{Parker, Unparker};
+use crossbeam_utils::sync::Parker;
 use larch_actions::Layout;
 use std::alloc::{AllocError, Global};
 use std::mem;
@@ -86,6 +87,7 @@ fn cut<U: Uses>(
         lost: false,
         next: 0,
         parker,
+        later: Line::new(),
         room,
     }
 }
@@ -117,14 +119,14 @@ fn cut_all<U: Uses>(
 }
 
 /// So many parkers, and the other end of each.
-fn parkers_of(alloc: Global, count: u32) -> Result<(Vec<Parker>, Vec<Unparker>), AllocError>
+fn parkers_of(alloc: Global, count: u32) -> Result<(Vec<Parker>, Vec<Waker>), AllocError>
     ensures { IfOk result (λ o. (length o.0.items ≡ count) × (vec_len o.1 ≡ count)) }
 {
     let mut parkers = Vec::new(alloc);
     let mut unparkers = Vec::new(alloc);
     for _i in 0..count {
         let parker = Parker::new(alloc)?;
-        unparkers.push(parker.unparker().clone()?)?;
+        unparkers.push(Waker::new(parker.unparker().clone()?))?;
         parkers.push(parker)?;
     }
     Ok((parkers, unparkers))
@@ -205,6 +207,7 @@ fn gather_all<U: Uses>(
             lost,
             next: _,
             parker: _,
+            later: _,
             room: kept,
         } = thread;
         shared.join_seat::<Gather>(&mut seat, own);

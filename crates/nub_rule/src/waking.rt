@@ -1,0 +1,74 @@
+//! Unparking who was made ready: at once, or when the mutex is given back without which it can't go on.
+//!
+//! Nothing here is an atomic step of the rule, and no clause speaks of it: who is unparked reads its ready word, which decides.
+ghost use Rattle.std.specs.Prelude.{◌≡◌};
+
+use crate::package::{Package, Thread};
+use crate::uses::Uses;
+use crossbeam_utils::atomic::AtomicCell;
+use crossbeam_utils::sync::Unparker;
+use larch_actions::{MutexId, ThreadId};
+
+/// What others have of a thread, to wake it.
+#[derive(Drop)]
+pub(crate) struct Waker {
+    unparker: Unparker,
+    /// The number of the mutex of its wait, or of its last one.
+    mutex: AtomicCell<u32>,
+}
+
+impl Waker {
+    pub(crate) fn new(unparker: Unparker) -> Waker {
+        Waker {
+            unparker,
+            mutex: AtomicCell::new(0),
+        }
+    }
+}
+
+/// Unparks the thread t.
+pub fn unpark<U: Uses>(p: &Package<U>, t: ThreadId) {
+    if let Some(waker) = p.unparkers.get(t.0 as usize) {
+        waker.unparker.unpark();
+    }
+}
+
+/// Notes the mutex with which the thread is to wait, for whoever takes it out of the condition.
+pub fn note_mutex<U: Uses>(p: &Package<U>, me: &Thread<U>, m: MutexId) {
+    if let Some(waker) = p.unparkers.get(me.number as usize) {
+        // Most threads wait with one mutex, and a store takes the line from others.
+        if waker.mutex.load() != m.0 {
+            waker.mutex.store(m.0);
+        }
+    }
+}
+
+/// Unparks the thread t, which was taken out of a condition. Where this thread has the mutex of that wait, t couldn't go on yet: then it is
+/// noted, to be unparked when this thread gives the mutex back.
+pub fn unpark_or_note<U: Uses>(p: &Package<U>, me: &mut Thread<U>, t: ThreadId)
+    ensures { me.new ≡ me.old }
+{
+    if let Some(waker) = p.unparkers.get(t.0 as usize) {
+        if me.has(MutexId(waker.mutex.load())) && !me.later.is_full() {
+            me.later.push(t.0);
+        } else {
+            waker.unparker.unpark();
+        }
+    }
+}
+
+/// Whether somebody is noted.
+#[inline]
+pub fn owes_unparking<U: Uses>(me: &Thread<U>) -> bool {
+    !me.later.is_empty()
+}
+
+/// Unparks those that are noted, after a mutex was given back.
+pub fn unpark_noted<U: Uses>(p: &Package<U>, me: &mut Thread<U>)
+    ensures { me.new ≡ me.old }
+{
+    for i in 0..me.later.len() {
+        unpark(p, ThreadId(me.later[i]));
+    }
+    me.later.clear();
+}
