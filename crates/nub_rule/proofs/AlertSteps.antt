@@ -1,5 +1,5 @@
 -- The steps on an alert word, and leaving a semaphore's queue by an alert, keep the rule.
-use Rattle.std.proofs.Common.{Bool, true, false, eqb, ◌≡◌, ◌≢◌, ℕ, ◌+◌, ◌*◌, ◌%◌, ◌^◌, ◌<◌, ◌≤◌, ◌⊎◌, List, [], ◌∷◌, ◌++◌, length, get_or, set, refl, sym, ap, ◌∙◌, subst, inl, inr, ⊎_elim, arith, get_or-set_same, Some, None}
+use Rattle.std.proofs.Common.{Bool, true, false, eqb, ◌≡◌, ◌≢◌, ℕ, ◌*◌, ◌<◌, ◌⊎◌, List, ◌∷◌, ◌++◌, length, get_or, set, refl, sym, ap, ◌∙◌, subst, inl, inr, ⊎_elim, arith, get_or-set_same, Some, None}
 use Rattle.std.specs.Prelude.{Option as Opt}
 use Rattle.std.specs.Int.RustNames.{bit_and, bit_or}
 use Rattle.std.proofs.lemmas.Grind.{numeral_and}
@@ -28,7 +28,7 @@ use Rattle.nub_rule.specs.Parts.{IsFound, IsUntested, HasTested, MayTell, alerte
 use Rattle.nub_rule.specs.Places.{most_threads, bit_at, count_at, length_at, alert_at, sem_object, cond_object}
 use Rattle.nub_rule.specs.Plays.{Becomes, Grows, told, with_part, alert_event, alert_p_raise_event, test_alert_event, less, read_alert_tells, or_alert_tells, swap_alert_tells, swap_alert_in_p_tells, leave_sem_queue_tells}
 use Rattle.nub_rule.specs.Rule.{IsKept}
-use Rattle.nub_rule.proofs.Each.{at_within, each-set, put-here, put-else}
+use Rattle.nub_rule.proofs.Each.{each-set, put-here, put-else}
 use Rattle.nub_rule.proofs.Members.{member_steps}
 use Rattle.nub_rule.proofs.Frames.{other, ready-stay}
 use Rattle.nub_rule.proofs.Standing.{distinct-behind, less-without, lines-leave, lines-same, lines-stage, mem-behind, without-absent, without-append}

@@ -17,7 +17,7 @@ use Rattle.nub_rule.specs.declared.view.View.{View}
 use Rattle.nub_rule.specs.declared.view.Wait.{Wait}
 use Rattle.nub_rule.specs.declared.view.Kind.TheVariants.{Member}
 use Rattle.nub_rule.specs.Items.{Core, Conditions, Holders, Shows}
-use Rattle.nub_rule.specs.Parts.{pending_of, waits_on}
+use Rattle.nub_rule.specs.Parts.{pending_of, waits_on, open_on}
 use Rattle.nub_rule.specs.Places.{count_at, length_at, cond_object}
 use Rattle.nub_rule.specs.Plays.{with_part, behind, front, less, unread, recounted, compare_count_tells, push_cond_tells, pop_cond_tells, leave_cond_queue_tells}
 use Rattle.nub_rule.specs.Rule.{IsKept}
@@ -33,12 +33,20 @@ use Rattle.nub_rule.proofs.Beside.{beside, idle}
 use Rattle.nub_rule.proofs.QueueSteps.{absent-before, requeues_by, length-shown, length-gates, popped-line}
 
 module _ {T H : Type 0} (words words' : List ℕ) (spinner : ℕ → Option ℕ) (queue : ℕ → List ℕ) (owner : ℕ → Option ℕ) (spec : Spec) (all : List (Part T H)) (n : ℕ) (p q : Part T H) (at : get_elem? all n ≡ some p) where
-  holders-wait : (holder : ℕ → Option ℕ) → ((m : ℕ) → waits_on q.wait m ≡ waits_on p.wait m) → Holders owner holder all → Holders owner holder (set all n q)
+  -- of its wait the thread n changed neither the mutex nor what it has of the bit
+  abbrev SameOn : Type 0
+  SameOn = (m : ℕ) → (waits_on q.wait m ≡ waits_on p.wait m) × (open_on q.wait m ≡ open_on p.wait m)
+
+  holders-wait : (holder : ℕ → Option ℕ) → SameOn → Holders owner holder all → Holders owner holder (set all n q)
   holders-wait holder same h = let X : ℕ → Part T H → Type 0 = λ n p. (m : ℕ) → owner m ≡ some n → holder m ≡ cond (waits_on p.wait m) none (some n) in
-      record { free = h.free; holds = each-set X X all n q (λ m is. h.holds n p at m is ∙ ap (λ b. cond b none (some n)) (sym (same m))) (λ j x ne at' u. u) h.holds }
+      let Y : ℕ → Part T H → Type 0 = λ n p. (m : ℕ) → owner m ≡ some n → open_on p.wait m ≡ false in record {
+        free = h.free;
+        holds = each-set X X all n q (λ m is. h.holds n p at m is ∙ ap (λ b. cond b none (some n)) (sym (same m).0)) (λ j x ne at' u. u) h.holds;
+        shut = each-set Y Y all n q (λ m is. (same m).1 ∙ h.shut n p at m is) (λ j x ne at' u. u) h.shut;
+      }
 
   -- a step that changes at most the conditions, and of the wait neither the mutex nor what is pending
-  shows-wait : SameShown words words' → (queue' : ℕ → List ℕ) → ((m : ℕ) → waits_on q.wait m ≡ waits_on p.wait m) → pending_of q.wait ≡ pending_of p.wait → Shows words spinner queue owner spec all → Conditions words' spinner queue' spec.members (set all n q) → Shows words' spinner queue' owner spec (set all n q)
+  shows-wait : SameShown words words' → (queue' : ℕ → List ℕ) → SameOn → pending_of q.wait ≡ pending_of p.wait → Shows words spinner queue owner spec all → Conditions words' spinner queue' spec.members (set all n q) → Shows words' spinner queue' owner spec (set all n q)
   shows-wait ws queue' same pending s c = record {
     holders = holders-wait spec.holder same s.holders;
     pendings = pendings-put words words' spinner queue owner all n p q at spec.pending spec.pending (s.pendings.pends n p at ∙ sym pending) (λ j ne. refl) s.pendings;
@@ -79,7 +87,7 @@ module _ {T H W : Type 0} (l : Layout) (traced : Bool) (w : W) (begin : W → �
             (beside l traced w holds words words homes homes all n p q at refl refl (λ m lo. refl) (λ m. refl) record { seen = refl; mine = refl; places = refl; held = refl; share = refl } k.spinner k.writer k.queue k.owed k
             (spins-frame all n p q at k.spinner k.queue k.owed words words homes homes (λ o lo. (refl, refl)) (λ o lo. refl) refl refl refl k.spins)
             (lines-frame all n p q at (λ o. k.owed o ++ k.queue o) words words k.sizes.few (λ t lo. refl) refl k.lines)
-            (shows-wait words words k.spinner k.queue k.owner k.spec all n p q at record { counts = λ m lo. refl; sems = λ m lo. refl; alerts = λ m lo. refl } k.queue (λ m. ap (λ z. waits_on (unread z) m) before ∙ sym (ap (λ z. waits_on z m) before)) (ap (λ z. pending_of (unread z)) before ∙ sym (ap pending_of before)) k.shows
+            (shows-wait words words k.spinner k.queue k.owner k.spec all n p q at record { counts = λ m lo. refl; sems = λ m lo. refl; alerts = λ m lo. refl } k.queue (λ m. (ap (λ z. waits_on (unread z) m) before ∙ sym (ap (λ z. waits_on z m) before), ap (λ z. open_on (unread z) m) before ∙ sym (ap (λ z. open_on z m) before))) (ap (λ z. pending_of (unread z)) before ∙ sym (ap pending_of before)) k.shows
             (conditions-compare words words k.spinner k.queue k.spec.members all n p q at s c j x (record x { member = None }) (λ m lo. refl) low before on stood (λ e. miss (read ∙ sym e)) (ap unread before) refl refl refl refl))
             (pens-frame all n p q at traced (length k.log) k.writer words words (refl, refl) refl k.pens)
             (alert-seen-frame all n p q at words words k.sizes.few (λ m lo. refl) refl k.alert_seen)
@@ -113,7 +121,7 @@ module _ {T H W : Type 0} (l : Layout) (traced : Bool) (w : W) (begin : W → �
         tt,
         requeues_by l traced w begin holds n o p q ys (k.owed o) words homes all at far here record { seen = refl; mine = refl; places = refl; held = refl; share = refl } refl refl mine.2 refl refl k
             (lines-push line line' words words' all n p q at k.sizes.few o st (ready-stay words (length_at o) (length ys) (λ j up z. omega arith)) is (λ j ne i. put-else k.owed o j (k.owed o) ne i ++ put-else k.queue o j ys ne i) out refl refl (λ f. f) k.lines)
-            (shows-wait words words' k.spinner k.queue k.owner k.spec all n p q at ws (put k.queue o ys) (λ m. ap (λ z. waits_on (unread z) m) before ∙ sym (ap (λ z. waits_on z m) before)) (ap (λ z. pending_of (unread z)) before ∙ sym (ap pending_of before)) k.shows
+            (shows-wait words words' k.spinner k.queue k.owner k.spec all n p q at ws (put k.queue o ys) (λ m. (ap (λ z. waits_on (unread z) m) before ∙ sym (ap (λ z. waits_on z m) before), ap (λ z. open_on (unread z) m) before ∙ sym (ap (λ z. open_on z m) before))) (ap (λ z. pending_of (unread z)) before ∙ sym (ap pending_of before)) k.shows
             (conditions-push words words' k.spinner k.queue k.spec.members all n p q at k.shows.conditions c me_wait x' ys ws.counts mine.0 (only_here k.spinner k.queue k.owed words homes all n p q at k.spins o here) before on stood (ap unread before) refl refl refl refl now))
             (owes-queued k.queue (put k.queue o ys) words words' all n p q at o (length-gates o far words (length ys)) (omega arith) (λ j ne. put-else k.queue o j ys ne) out st refl (λ f. f) refl refl k.owes),
         (refl, refl),
@@ -146,7 +154,7 @@ module _ {T H W : Type 0} (l : Layout) (traced : Bool) (w : W) (begin : W → �
         tt,
         requeues_by l traced w begin holds n o p q ys zs words homes all at far here record { seen = refl; mine = refl; places = refl; held = refl; share = refl } refl refl refl refl refl k
             (lines-same line line' words words' all n p q at k.sizes.few (ready-stay words (length_at o) (length ys) (λ j up z. omega arith)) same refl k.lines)
-            (shows-wait words words' k.spinner k.queue k.owner k.spec all n p q at ws (put k.queue o ys) (λ m. refl) refl k.shows (conditions-pop words words' k.spinner k.queue k.spec.members all n p q at k.shows.conditions c ys ws.counts mine.0 out refl refl refl taken))
+            (shows-wait words words' k.spinner k.queue k.owner k.spec all n p q at ws (put k.queue o ys) (λ m. (refl, refl)) refl k.shows (conditions-pop words words' k.spinner k.queue k.spec.members all n p q at k.shows.conditions c ys ws.counts mine.0 out refl refl refl taken))
             (owes-beside k.queue (put k.queue o ys) words words' all n p q at (length-gates o far words (length ys)) (λ j lo. put-else k.queue o j ys (λ z. omega arith)) refl refl refl k.owes),
         (refl, refl),
       )))
@@ -183,7 +191,7 @@ module _ {T H W : Type 0} (l : Layout) (traced : Bool) (w : W) (begin : W → �
         tt,
         requeues_by l traced w begin holds n o p q ys (k.owed o) words homes all at far here record { seen = refl; mine = refl; places = refl; held = refl; share = refl } refl refl mine.2 refl refl k
             (lines-leave line line' words words' all n p q at k.sizes.few o (ready-stay words (length_at o) (length ys) (λ j up z. omega arith)) is (λ j ne i. put-else k.owed o j (k.owed o) ne i ++ put-else k.queue o j ys ne i) lined refl k.lines)
-            (shows-wait words words' k.spinner k.queue k.owner k.spec all n p q at ws (put k.queue o ys) (λ m. ap (λ z. waits_on (recounted p.count z) m) before ∙ sym (ap (λ z. waits_on z m) before)) (ap (λ z. pending_of (recounted p.count z)) before ∙ sym (ap pending_of before)) k.shows
+            (shows-wait words words' k.spinner k.queue k.owner k.spec all n p q at ws (put k.queue o ys) (λ m. (ap (λ z. waits_on (recounted p.count z) m) before ∙ sym (ap (λ z. waits_on z m) before), ap (λ z. open_on (recounted p.count z) m) before ∙ sym (ap (λ z. open_on z m) before))) (ap (λ z. pending_of (recounted p.count z)) before ∙ sym (ap pending_of before)) k.shows
             (conditions-leave words words' k.spinner k.queue k.spec.members all n p q at k.shows.conditions c me_wait x' ys ws.counts mine.0 (only_here k.spinner k.queue k.owed words homes all n p q at k.spins o here) before on (ap (recounted p.count) before) on refl refl refl refl mine.1 distinct queued now))
             (owes-unqueued k.queue (put k.queue o ys) words words' all n p q at o (length-gates o far words (length ys)) (omega arith) (λ j ne. put-else k.queue o j ys ne) ((k.lines.stands n p at).lined o lined).0 refl refl refl k.owes),
         (refl, refl),

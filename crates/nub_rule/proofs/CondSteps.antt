@@ -20,7 +20,7 @@ use Rattle.nub_rule.specs.declared.view.View.{View}
 use Rattle.nub_rule.specs.declared.view.Wait.{Wait}
 use Rattle.nub_rule.specs.declared.view.Kind.TheVariants.{Member}
 use Rattle.nub_rule.specs.Items.{Core, Holders, Shows, Distinct}
-use Rattle.nub_rule.specs.Parts.{Got, MayTell, pending_of, waits_on}
+use Rattle.nub_rule.specs.Parts.{Got, MayTell, pending_of, waits_on, open_on}
 use Rattle.nub_rule.specs.Places.{bit_at, count_at, alert_at, value_at, sem_object, cond_object}
 use Rattle.nub_rule.specs.Plays.{Becomes, Grows, told, with_part, behind, event, begun_wait, enqueue_event, signal_action, broadcast_action, load_count_tells, know_count_tells, advance_tells}
 use Rattle.nub_rule.specs.Rule.{IsKept}
@@ -74,22 +74,23 @@ key_of xs j k x y e f = ap (λ (z : ℕ × _). z.0) (first_of (j, x) (k, y) (res
 
 module _ {T H : Type 0} (words words' : List ℕ) (spinner : ℕ → Option ℕ) (queue : ℕ → List ℕ) (owner : ℕ → Option ℕ) (spec : Spec) (all : List (Part T H)) (n : ℕ) (p q : Part T H) (at : get_elem? all n ≡ some p) where
   -- the thread n, which has the mutex m, begins a wait on it
-  holders-enter : (holder : ℕ → Option ℕ) (m : ℕ) (w : Wait) → owner m ≡ some n → p.wait ≡ None → q.wait ≡ Some w → w.mutex.0 ≡ m → Holders owner holder all → Holders owner (put holder m none) (set all n q)
-  holders-enter holder m w own before ew on h = record {
+  holders-enter : (holder : ℕ → Option ℕ) (m : ℕ) (w : Wait) → owner m ≡ some n → p.wait ≡ None → q.wait ≡ Some w → w.mutex.0 ≡ m → ((k : ℕ) → open_on (Some w) k ≡ false) → Holders owner holder all → Holders owner (put holder m none) (set all n q)
+  holders-enter holder m w own before ew on shut h = record {
     free = λ k is. dite (ℕ_discrete k m) (λ e. ap (put holder m none) e ∙ put-here holder m none) (λ ne. put-else holder m k none ne ∙ h.free k is);
     holds = each-set (λ j r. (k : ℕ) → owner k ≡ some j → holder k ≡ cond (waits_on r.wait k) none (some j)) (λ j r. (k : ℕ) → owner k ≡ some j → put holder m none k ≡ cond (waits_on r.wait k) none (some j)) all n q
         (λ k is. let now = ap (λ w. cond (waits_on w k) none (some n)) (sym ew) in dite (ℕ_discrete k m)
         (λ e. ap (put holder m none) e ∙ (put-here holder m none ∙ (ap (λ b. cond b none (some n)) (sym (eq-eqb w.mutex.0 k (on ∙ sym e))) ∙ now)))
         (λ ne. put-else holder m k none ne ∙ (h.holds n p at k is ∙ (ap (λ w. cond (waits_on w k) none (some n)) before ∙ (ap (λ b. cond b none (some n)) (sym (ne_eqb w.mutex.0 k (λ z. ne (sym z ∙ on)))) ∙ now)))))
         (λ j x ne at' u k is. dite (ℕ_discrete k m) (λ e. absurd (ne (some-injective j n (sym is ∙ (ap owner e ∙ own))))) (λ other. put-else holder m k none other ∙ u k is)) h.holds;
+    shut = let Y : ℕ → Part T H → Type 0 = λ j r. (k : ℕ) → owner k ≡ some j → open_on r.wait k ≡ false in each-set Y Y all n q (λ k is. ap (λ w. open_on w k) ew ∙ shut k) (λ j x ne at' u. u) h.shut;
   }
 
   -- the thread n, which has the mutex m, begins the wait w with the count k of c
-  shows-enter : (m c k : ℕ) (w : Wait) → c < 64 → SameShown words words' → k ≡ get_or words (count_at (cond_object c)) 0 → owner m ≡ some n → w.mutex.0 ≡ m → w.cond.0 ≡ c → w.member ≡ Some k
+  shows-enter : (m c k : ℕ) (w : Wait) → c < 64 → SameShown words words' → k ≡ get_or words (count_at (cond_object c)) 0 → owner m ≡ some n → w.mutex.0 ≡ m → ((k : ℕ) → open_on (Some w) k ≡ false) → w.cond.0 ≡ c → w.member ≡ Some k
       → p.wait ≡ None → q.wait ≡ Some w → q.left ≡ p.left → q.queue ≡ p.queue → q.count ≡ p.count → p.left ≡ p.queue
       → Shows words spinner queue owner spec all → Shows words' spinner queue owner (entered spec n m c w) (set all n q)
-  shows-enter m c k w low ws read own on_mutex on_cond stood before ew el eq ec even s = record {
-    holders = holders-enter spec.holder m w own before ew on_mutex s.holders;
+  shows-enter m c k w low ws read own on_mutex shut on_cond stood before ew el eq ec even s = record {
+    holders = holders-enter spec.holder m w own before ew on_mutex shut s.holders;
     pendings = pendings-put words words' spinner queue owner all n p q at spec.pending (put spec.pending n (pending_of (Some w))) (put-here spec.pending n (pending_of (Some w)) ∙ ap pending_of (sym ew)) (λ j ne. put-else spec.pending n j (pending_of (Some w)) ne) s.pendings;
     semaphores = semaphores-frame spec.avail words words' ws.sems s.semaphores;
     alerts = alerts-frame spec.alerts words words' ws.alerts s.alerts;
@@ -117,7 +118,7 @@ module _ {T H W : Type 0} (l : Layout) (traced : Bool) (w : W) (begin : W → �
       let done = marks l traced w holds e n i r p (after_load alertable n m c r p) words homes all k (entered k.spec n m c b) at (by_whom alertable n m c) (named_so alertable n m c named) may (count-aside c low)
       (λ z. record { seen = refl; mine = refl; places = refl; held = refl; share = refl; spin = refl; queue = refl; owed = refl; stand = refl; pen = refl })
       (enters alertable n m c r k.spec free held)
-      (λ z. shows-enter words words' k.spinner k.queue k.owner k.spec all n p (after_load alertable n m c r p z) at m c r b low (record { counts = λ j lo. stay (count_at (cond_object j)); sems = λ j lo. stay (bit_at (sem_object j)); alerts = λ j lo. stay (alert_at j) }) refl own refl refl refl out refl refl refl refl even k.shows)
+      (λ z. shows-enter words words' k.spinner k.queue k.owner k.spec all n p (after_load alertable n m c r p z) at m c r b low (record { counts = λ j lo. stay (count_at (cond_object j)); sems = λ j lo. stay (bit_at (sem_object j)); alerts = λ j lo. stay (alert_at j) }) refl own refl (λ _. refl) refl refl out refl refl refl refl even k.shows)
       (λ z. alert-seen-frame all n p (after_load alertable n m c r p z) at words words' k.sizes.few (λ j lo. stay (alert_at j)) refl k.alert_seen)
       (λ z. owes-frame k.queue words words' all n p (after_load alertable n m c r p z) at (λ j lo. stay (bit_at j)) refl refl refl k.owes) in
       (done.0, keeps, tt, done.1, (done.2, refl))

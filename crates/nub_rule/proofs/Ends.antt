@@ -19,7 +19,7 @@ use Rattle.nub_rule.specs.declared.view.Part.{Part}
 use Rattle.nub_rule.specs.declared.view.View.{View}
 use Rattle.nub_rule.specs.declared.view.Kind.TheVariants.{Collector}
 use Rattle.nub_rule.specs.Items.{no_line, Knows, Spinning, Each, Chronicle, Standing, Stands, Current, Wide, Shared, PenFits}
-use Rattle.nub_rule.specs.Parts.{Got, Lacks, fresh, pending_of, waits_on}
+use Rattle.nub_rule.specs.Parts.{Got, Lacks, fresh, pending_of, waits_on, open_on}
 use Rattle.nub_rule.specs.Owed.{SleepsSound}
 use Rattle.nub_rule.specs.Places.{most_threads, value_at, word_count, bit_at, spin_at, length_at, count_at, alert_at, ready_at, pen_at, number_at, sem_object, cond_object}
 use Rattle.nub_rule.specs.Rule.{opening_view, member_view, FitsAs, IsKept}
@@ -151,7 +151,11 @@ module _ {T H W : Type 0} (l : Layout) (traced : Bool) (w : W) (begin : W → �
             });
           };
           shows = record {
-            holders = record { free = λ m is. refl; holds = each-firsts (λ i p. (m : ℕ) → none ≡ some i → none ≡ cond (waits_on p.wait m) none (some i)) (λ n. fresh (Some (begin w n))) l.threads (λ i low m is. is) };
+            holders = record {
+              free = λ m is. refl;
+              holds = each-firsts (λ i p. (m : ℕ) → none ≡ some i → none ≡ cond (waits_on p.wait m) none (some i)) (λ n. fresh (Some (begin w n))) l.threads (λ i low m is. is);
+              shut = each-firsts (λ i p. (m : ℕ) → none ≡ some i → open_on p.wait m ≡ false) (λ n. fresh (Some (begin w n))) l.threads (λ i low m is. refl);
+            };
             pendings = record { strangers = λ t past. refl; pends = each-firsts (λ i p. Nothing ≡ pending_of p.wait) (λ n. fresh (Some (begin w n))) l.threads (λ i low. refl) };
             semaphores = λ s low. inl (zeros (bit_at (sem_object s)), refl);
             alerts = λ t low. inl (zeros (alert_at t), refl);

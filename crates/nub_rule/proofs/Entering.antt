@@ -1,9 +1,8 @@
 -- The first part of a wait, plain or alertable, as contracts see it.
-use Rattle.std.proofs.Common.{Bool, ◌≡◌, ℕ, List, [], ◌∷◌, ◌++◌, length, refl, sym, ap, ◌∙◌, subst, Some}
+use Rattle.std.proofs.Common.{Bool, ◌≡◌, ℕ, List, [], ◌∷◌, ◌++◌, length, refl, ◌∙◌, subst, Some}
 use Rattle.larch_actions.specs.declared.event.Event.{Event}
 use Rattle.atomic_table.specs.Seated.{TableId}
 use Rattle.nub_rule.specs.declared.package.Entry.{Entry}
-use Rattle.nub_rule.specs.declared.rule.Slot.{Slot}
 use Rattle.nub_rule.specs.Known.{Known, known_as, IsThread, Makes}
 use Rattle.nub_rule.specs.Parts.{made}
 use Rattle.nub_rule.specs.Places.{value_at}

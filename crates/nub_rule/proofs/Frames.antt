@@ -15,7 +15,7 @@ use Rattle.nub_rule.specs.declared.rule.Slot.{Slot}
 use Rattle.nub_rule.specs.declared.view.Part.{Part}
 use Rattle.nub_rule.specs.declared.view.Pen.{Pen}
 use Rattle.nub_rule.specs.Items.{Each, Chronicle, Told, Standing, Current, Shared, Wide, Marks, Says, Owned, Spinning, Spins, Stands, Lines, Semaphores, Alerts, Holders, Pendings, Knows, Conditions, AlertSeen, Shows, PenFits, Pens, Sizes}
-use Rattle.nub_rule.specs.Parts.{waits_on, counts_in, pending_of, stands_at}
+use Rattle.nub_rule.specs.Parts.{waits_on, open_on, counts_in, pending_of, stands_at}
 use Rattle.nub_rule.specs.Places.{most_threads, bit_at, spin_at, length_at, count_at, alert_at, ready_at, pen_at, number_at, queue_at, value_at, sem_object, cond_object}
 use Rattle.nub_rule.proofs.Each.{each-set, each-snoc, same_at, at_within}
 use Rattle.nub_rule.proofs.Runs.{by_thread-other, by_thread-own, places-other, places-own, starts-more}
@@ -172,7 +172,11 @@ module _ {T H : Type 0} (all : List (Part T H)) (n : ℕ) (p q : Part T H) (at :
   -- HOLDERS and PENDINGS read the waits of views
   pub holders-frame : (owner holder : ℕ → Option ℕ) → q.wait ≡ p.wait → Holders owner holder all → Holders owner holder (set all n q)
   holders-frame owner holder ew h = let X : ℕ → Part T H → Type 0 = λ n p. (m : ℕ) → owner m ≡ some n → holder m ≡ cond (waits_on p.wait m) none (some n) in
-      record { free = h.free; holds = each-set X X all n q (λ m is. h.holds n p at m is ∙ ap (λ w. cond (waits_on w m) none (some n)) (sym ew)) (λ j x ne at' u. u) h.holds }
+      let Y : ℕ → Part T H → Type 0 = λ n p. (m : ℕ) → owner m ≡ some n → open_on p.wait m ≡ false in record {
+        free = h.free;
+        holds = each-set X X all n q (λ m is. h.holds n p at m is ∙ ap (λ w. cond (waits_on w m) none (some n)) (sym ew)) (λ j x ne at' u. u) h.holds;
+        shut = each-set Y Y all n q (λ m is. ap (λ w. open_on w m) ew ∙ h.shut n p at m is) (λ j x ne at' u. u) h.shut;
+      }
 
   pub pendings-frame : (pending : ℕ → Pending) → q.wait ≡ p.wait → Pendings pending all → Pendings pending (set all n q)
   pendings-frame pending ew h = let X : ℕ → Part T H → Type 0 = λ n p. pending n ≡ pending_of p.wait in

@@ -1,6 +1,6 @@
 -- The invariant says the rule in its own words: from the items to what is said of words, slots and views.
-use Rattle.std.proofs.Common.{Bool, true, false, cond, ◌≡◌, ◌≢◌, ℕ, suc, ◌+◌, ◌<◌, ◌≤◌, ◌⊎◌, List, [], ◌∷◌, ◌++◌, length, get_or, refl, sym, ap, ◌∙◌, subst, inl, inr, ⊎_elim, arith, Some, eq-eqb}
-use Rattle.std.specs.Prelude.{◌↔◌}
+use Rattle.std.proofs.Common.{Bool, true, false, cond, ◌≡◌, ◌≢◌, ℕ, suc, ◌+◌, ◌<◌, ◌≤◌, ◌⊎◌, List, [], ◌∷◌, ◌++◌, length, get_or, refl, sym, ap, ◌∙◌, subst, inl, inr, ⊎_elim, arith, Some, None, eq-eqb}
+use Rattle.std.specs.Prelude.{◌↔◌, Option as Opt}
 use Rattle.std.proofs.lemmas.Bool.{cases_lt}
 use mathlib.Core.Logic.{dite}
 use mathlib.Core.Option.{Option, some, none, some-injective, some-ne-none}
@@ -19,18 +19,21 @@ use Rattle.nub_rule.specs.declared.view.Part.{Part}
 use Rattle.nub_rule.specs.declared.view.Pen.{Pen}
 use Rattle.nub_rule.specs.declared.view.Pen.TheVariants.{No, Taken, Read, Made, Written}
 use Rattle.nub_rule.specs.declared.view.Stand.{Stand}
+use Rattle.nub_rule.specs.declared.view.Wait.{Wait}
+use Rattle.nub_rule.specs.declared.view.WaitBit.{WaitBit}
+use Rattle.nub_rule.specs.declared.view.WaitBit.TheVariants.{Closing, Open, Quiet}
 use Rattle.nub_rule.specs.declared.view.View.{View}
 use Rattle.nub_rule.specs.declared.view.Kind.{Kind}
 use Rattle.nub_rule.specs.declared.view.Kind.TheVariants.{Root, Member, Collector}
 use Rattle.nub_rule.specs.Rule.{FitsAs, IsKept}
 use Rattle.atomic_table.specs.Table.{State}
 use Rattle.nub_rule.specs.Items.{Each, Marks, Says, PenFits, Core, line_of}
-use Rattle.nub_rule.specs.Parts.{Has, counts_in, is_at, stands_at, waits_on}
+use Rattle.nub_rule.specs.Parts.{Has, counts_in, is_at, is_open, open_on, stands_at, waits_on}
 use Rattle.nub_rule.specs.Places.{alert_at, bit_at, cond_object, count_at, number_at, pen_at, ready_at, sem_object, spin_at}
-use Rattle.nub_rule.specs.PackageRule.{AnyView, IsFlagOf, IsKnown, SaysHolds, OwesAt, Owes, History, Meaning, MutexBits, SpinWords, QueuedThreads, ReadyWords, NoWakeLost, IsReady, CountsRead, ValuesAndShares, Numbering, PackageRule, AreViews}
+use Rattle.nub_rule.specs.PackageRule.{AnyView, HasBitInWait, IsFlagOf, IsKnown, SaysHolds, OwesAt, Owes, History, Meaning, MutexBits, SpinWords, QueuedThreads, ReadyWords, NoWakeLost, IsReady, CountsRead, ValuesAndShares, Numbering, PackageRule, AreViews}
 use Rattle.nub_rule.proofs.Each.{at_below, put-at, put-else, same_at}
 use Rattle.nub_rule.proofs.Owing.{bound-nowhere, bound-asleep}
-use Rattle.nub_rule.proofs.Standing.{both_ways, distinct-apart, distinct-behind, false_true, mem-append, mem-behind, not_true, stand_none, stand_same, stand_some}
+use Rattle.nub_rule.proofs.Standing.{both_ways, distinct-apart, distinct-behind, eqb_is, false_true, mem-append, mem-behind, not_true, stand_none, stand_same, stand_some}
 
 -- who has something is nobody or somebody
 whose : {A : Type 0} (o : Option ℕ) → (o ≡ none → A) → ((n : ℕ) → o ≡ some n → A) → A
@@ -50,6 +53,20 @@ mem-either t (x ∷ xs) ys e = dite (ℕ_discrete x t)
 holder-of : (b : Bool) (k n : ℕ) (h : Option ℕ) → h ≡ cond b none (some k) → h ≡ some n → (b ≡ false) × (k ≡ n)
 holder-of true k n h e is = absurd (some-ne-none n (sym is ∙ e))
 holder-of false k n h e is = (refl, some-injective k n (sym e ∙ is))
+
+when-true : (b : Bool) → cond b true false ≡ false → b ≡ false
+when-true true e = e
+when-true false e = refl
+
+bit-of : (b : WaitBit) → is_open b ≡ false → (b ≡ Closing) ⊎ (b ≡ Quiet)
+bit-of Closing e = inl refl
+bit-of Open e = absurd (false_true (sym e))
+bit-of Quiet e = inr refl
+
+-- a wait on m whose bit isn't open has it
+bit-in : (wait : Opt Wait) (m : ℕ) → waits_on wait m ≡ true → open_on wait m ≡ false → HasBitInWait wait m
+bit-in None m on shut = absurd (false_true on)
+bit-in (Some w) m on shut = (w, refl, eqb_is w.mutex.0 m on, bit-of w.bit (when-true (is_open w.bit) (ap (λ z. cond (is_open w.bit) z false) (sym on) ∙ shut)))
 
 one-zero : (x : ℕ) → x ≡ 0 → x ≡ 1 → ⊥
 one-zero x a b = absurd (omega arith)
@@ -188,7 +205,7 @@ module _ {T H W : Type 0} (l : Layout) (traced : Bool) (w : W) (holds : W → Li
   mutex_bits = record {
     bit = λ m low. flag-of all (get_or words (bit_at m) 0) (c.owner m) (λ p. Has p m) (c.owned.bits m low) (λ n own. (c.owned.within m n own).1) (λ n p at. c.owned.standing n p at m);
     holder_has = λ n p at m is. let t = (holder m n).0 is in subst (λ (z : Part T H). Has z m) (same_at all n t.0 p t.1 at) t.2.0;
-    between = λ n p at m has ne. either (waits_on p.wait m) (λ e. e) (λ out. absurd (ne (holding m n p at has ∙ ap (λ b. cond b none (some n)) out)));
+    between = λ n p at m has ne. either (waits_on p.wait m) (λ e. bit-in p.wait m e (c.shows.holders.shut n p at m ((c.owned.standing n p at m).0 has))) (λ out. absurd (ne (holding m n p at has ∙ ap (λ b. cond b none (some n)) out)));
   }
 
   spin_words : SpinWords words homes all c.queue

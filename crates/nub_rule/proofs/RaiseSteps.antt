@@ -1,11 +1,10 @@
 -- The swap of the own alert word with the bit taken keeps the rule.
-use Rattle.std.proofs.Common.{Bool, true, false, cond, eqb, ◌≡◌, ◌≢◌, ℕ, ◌<◌, List, [], ◌∷◌, ◌++◌, length, get_or, set, get_or-set_same, refl, sym, ap, ◌∙◌, subst, inl, arith, Some, None, eq-eqb, ne_eqb}
-use mathlib.Core.Option.{Option, some, none}
-use lib.ListN.{get_elem?}
+use Rattle.std.proofs.Common.{Bool, true, false, cond, ◌≡◌, ℕ, ◌<◌, List, ◌++◌, get_or, set, get_or-set_same, refl, sym, ap, ◌∙◌, subst, inl, arith, Some, None, eq-eqb, ne_eqb}
+use mathlib.Core.Option.{some, none}
 use Rattle.larch_actions.specs.declared.event.Event.{Event}
 use Rattle.larch_actions.specs.declared.event.Layout.{Layout}
 use Rattle.larch_actions.specs.declared.event.Pending.TheVariants.{Nothing, Waiting, AlertWaiting}
-use Rattle.larch_actions.specs.Actions.{Spec, Acts, acted, put}
+use Rattle.larch_actions.specs.Actions.{acted, put}
 use Rattle.larch_actions.specs.Sets.{mem}
 use Rattle.atomic_table.specs.Table.{Me, step, Allows, keeps}
 use Rattle.nub_rule.specs.declared.rule.Slot.{Slot}
@@ -13,7 +12,6 @@ use Rattle.nub_rule.specs.declared.view.Part.{Part}
 use Rattle.nub_rule.specs.declared.view.View.{View}
 use Rattle.nub_rule.specs.declared.view.Wait.{Wait}
 use Rattle.nub_rule.specs.declared.view.Kind.TheVariants.{Member}
-use Rattle.nub_rule.specs.Items.{Core, Shows}
 use Rattle.nub_rule.specs.Parts.{Got, MayTell, pending_of, waits_on}
 use Rattle.nub_rule.specs.Places.{most_threads, alert_at, bit_at, count_at, sem_object, cond_object}
 use Rattle.nub_rule.specs.Plays.{Becomes, Grows, told, with_part, alert_raise_event, swap_alert_in_raise_tells}

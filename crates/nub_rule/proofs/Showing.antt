@@ -10,7 +10,7 @@ use Rattle.larch_actions.specs.Actions.{Spec, put}
 use Rattle.larch_actions.specs.Sets.{mem}
 use Rattle.nub_rule.specs.declared.view.Part.{Part}
 use Rattle.nub_rule.specs.Items.{Says, Semaphores, Alerts, Holders, Pendings, Knows, Conditions, Shows}
-use Rattle.nub_rule.specs.Parts.{waits_on, counts_in, pending_of}
+use Rattle.nub_rule.specs.Parts.{waits_on, open_on, counts_in, pending_of}
 use Rattle.nub_rule.specs.Places.{most_threads, alert_at, bit_at, sem_object, cond_object}
 use Rattle.nub_rule.proofs.Each.{at_within, each-set, put-here, put-else}
 use Rattle.nub_rule.proofs.Frames.{SameCounts, SameSems, SameAlerts, SameShown, holders-frame, pendings-frame, semaphores-frame, alerts-frame, conditions-frame}
@@ -128,6 +128,11 @@ module _ {T H : Type 0} (words words' : List ℕ) (spinner : ℕ → Option ℕ)
         (λ j x ne at' u k is. dite (ℕ_discrete k m)
         (λ e. absurd (ne (some-injective j n (sym is ∙ (ap owner' e ∙ mine)))))
         (λ other. put-else holder m k (some n) other ∙ u k (sym (others k other) ∙ is))) h.holds;
+    shut = each-set (λ j r. (k : ℕ) → owner k ≡ some j → open_on r.wait k ≡ false) (λ j r. (k : ℕ) → owner' k ≡ some j → open_on r.wait k ≡ false) all n q
+        (λ k is. ap (λ w. open_on w k) ew)
+        (λ j x ne at' u k is. dite (ℕ_discrete k m)
+        (λ e. absurd (ne (some-injective j n (sym is ∙ (ap owner' e ∙ mine)))))
+        (λ other. u k (sym (others k other) ∙ is))) h.shut;
   }
 
   -- the bit of the mutex m is nobody's, and nobody holds it
@@ -137,6 +142,9 @@ module _ {T H : Type 0} (words words' : List ℕ) (spinner : ℕ → Option ℕ)
     holds = each-set (λ j r. (k : ℕ) → owner k ≡ some j → holder k ≡ cond (waits_on r.wait k) none (some j)) (λ j r. (k : ℕ) → owner' k ≡ some j → holder' k ≡ cond (waits_on r.wait k) none (some j)) all n q
         (λ k is. dite (ℕ_discrete k m) (λ e. absurd (gone n k e is)) (λ ne. there k ne ∙ (h.holds n p at k (sym (put-else owner m k none ne) ∙ is) ∙ ap (λ w. cond (waits_on w k) none (some n)) (sym ew))))
         (λ j x ne at' u k is. dite (ℕ_discrete k m) (λ e. absurd (gone j k e is)) (λ other. there k other ∙ u k (sym (put-else owner m k none other) ∙ is))) h.holds;
+    shut = each-set (λ j r. (k : ℕ) → owner k ≡ some j → open_on r.wait k ≡ false) (λ j r. (k : ℕ) → owner' k ≡ some j → open_on r.wait k ≡ false) all n q
+        (λ k is. dite (ℕ_discrete k m) (λ e. absurd (gone n k e is)) (λ ne. ap (λ w. open_on w k) ew ∙ h.shut n p at k (sym (put-else owner m k none ne) ∙ is)))
+        (λ j x ne at' u k is. dite (ℕ_discrete k m) (λ e. absurd (gone j k e is)) (λ other. u k (sym (put-else owner m k none other) ∙ is))) h.shut;
   }
 
   -- what the thread n has begun becomes another

@@ -1,5 +1,5 @@
 -- The steps on a spin word keep the rule.
-use Rattle.std.proofs.Common.{Bool, true, ◌≡◌, ◌≢◌, ℕ, eqb, ◌-◌, ◌<◌, ◌⊎◌, List, [], ◌∷◌, ◌++◌, length, get_or, set, refl, sym, ap, ◌∙◌, subst, inl, inr, ⊎_elim, arith, length-set, Some, None, eq-eqb, ne_eqb}
+use Rattle.std.proofs.Common.{Bool, true, ◌≡◌, ℕ, eqb, ◌-◌, ◌<◌, ◌⊎◌, List, [], ◌∷◌, ◌++◌, length, get_or, set, refl, sym, ap, ◌∙◌, subst, inl, inr, ⊎_elim, arith, length-set, Some, None, eq-eqb, ne_eqb}
 use mathlib.Core.Logic.{dite}
 use mathlib.Core.Option.{Option, some, none}
 use native.Mathlib.Decide.{ℕ_discrete}

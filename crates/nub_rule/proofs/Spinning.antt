@@ -1,5 +1,5 @@
 -- Spin words and queues: how steps change them.
-use Rattle.std.proofs.Common.{◌≡◌, ◌≢◌, ℕ, ◌<◌, List, [], length, get_or, set, length-set, sym, ap, ◌∙◌, subst, inl, inr, ⊎_elim, ◌⊎◌, arith, get_or-set_same, Some, None}
+use Rattle.std.proofs.Common.{◌≡◌, ◌≢◌, ℕ, ◌<◌, List, [], length, get_or, set, length-set, sym, ap, ◌∙◌, subst, inl, inr, ⊎_elim, arith, get_or-set_same, Some, None}
 use mathlib.Core.Logic.{dite}
 use mathlib.Core.Option.{Option, some, none, some-injective, some-ne-none}
 use native.Mathlib.Decide.{ℕ_discrete}

@@ -38,7 +38,7 @@ no_object k e = cc
 pub stand_none : (st : Opt Stand) (o : ℕ) → st ≡ None → stands_at st o ≡ true → ⊥
 stand_none st o e f = false_true (sym (ap (λ s. stands_at s o) e) ∙ f)
 
-eqb_is : (i j : ℕ) → eqb i j ≡ true → i ≡ j
+pub eqb_is : (i j : ℕ) → eqb i j ≡ true → i ≡ j
 eqb_is i j e = dite (ℕ_discrete i j) (λ z. z) (λ ne. both_ways (eqb i j) e (ne_eqb i j ne))
 
 -- a stand at an object

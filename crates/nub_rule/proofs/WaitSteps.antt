@@ -1,5 +1,5 @@
 -- The steps on a mutex's bit in a wait keep the rule: its clearing, and taking it for no event. Nobody holds the mutex since the wait began.
-use Rattle.std.proofs.Common.{Bool, true, cond, eqb, ◌≡◌, ◌≢◌, ℕ, ◌<◌, ◌⊎◌, List, ◌∷◌, ◌++◌, length, get_or, set, refl, sym, ap, ◌∙◌, subst, inl, inr, ⊎_elim, arith, length-set, Some, None, eq-eqb}
+use Rattle.std.proofs.Common.{Bool, true, cond, eqb, ◌≡◌, ◌≢◌, ℕ, ◌<◌, ◌⊎◌, List, ◌∷◌, ◌++◌, length, get_or, set, refl, sym, ap, ◌∙◌, subst, inl, inr, ⊎_elim, arith, length-set, Some, None, false, eq-eqb, ne_eqb}
 use prog.Atomic.{either}
 use Rattle.std.specs.Prelude.{Option as Opt}
 use mathlib.Core.Logic.{dite}
@@ -20,7 +20,7 @@ use Rattle.nub_rule.specs.declared.view.WaitBit.TheVariants.{Open, Quiet}
 use Rattle.nub_rule.specs.declared.view.View.{View}
 use Rattle.nub_rule.specs.declared.view.Kind.TheVariants.{Member}
 use Rattle.nub_rule.specs.Items.{Core, Holders, Shows}
-use Rattle.nub_rule.specs.Parts.{Got, Lacks, waits_on, pending_of}
+use Rattle.nub_rule.specs.Parts.{Got, Lacks, waits_on, is_open, open_on, pending_of}
 use Rattle.nub_rule.specs.Places.{bit_at, value_at, queue_at}
 use Rattle.nub_rule.specs.Plays.{Becomes, MayFree, WonQuietly, with_part, opened, quieted, clear_bit_in_wait_tells, take_bit_quiet_tells}
 use Rattle.nub_rule.specs.Rule.{FitsAs, IsKept}
@@ -34,23 +34,33 @@ use Rattle.nub_rule.proofs.Showing.{pendings-put}
 use Rattle.nub_rule.proofs.Conditioning.{conditions-wait}
 use Rattle.nub_rule.proofs.BitSteps.{loser, bit_taken, bit_missed, value_same}
 
+same-either : (b : Bool) → cond b false false ≡ false
+same-either true = refl
+same-either false = refl
+
 module _ {T H : Type 0} (words words' : List ℕ) (spinner : ℕ → Option ℕ) (queue : ℕ → List ℕ) (owner : ℕ → Option ℕ) (spec : Spec) (all : List (Part T H)) (n : ℕ) (p q : Part T H) (at : get_elem? all n ≡ some p) where
   -- the bit of the mutex m, on which the thread n waits and which nobody holds, is nobody's or that thread's now
-  holders-rebit : (holder : ℕ → Option ℕ) (m : ℕ) (o : Option ℕ) → ((j : ℕ) → o ≡ some j → j ≡ n) → holder m ≡ none → waits_on p.wait m ≡ true → ((k : ℕ) → waits_on q.wait k ≡ waits_on p.wait k) → Holders owner holder all → Holders (put owner m o) holder (set all n q)
-  holders-rebit holder m o only nobody waits same h = let owner' = put owner m o in record {
+  holders-rebit : (holder : ℕ → Option ℕ) (m : ℕ) (o : Option ℕ) → ((j : ℕ) → o ≡ some j → j ≡ n) → holder m ≡ none → waits_on p.wait m ≡ true → ((k : ℕ) → waits_on q.wait k ≡ waits_on p.wait k) → ((k : ℕ) → put owner m o k ≡ some n → open_on q.wait k ≡ false)
+      → Holders owner holder all → Holders (put owner m o) holder (set all n q)
+  holders-rebit holder m o only nobody waits same shut h = let owner' = put owner m o in record {
     free = λ k is. dite (ℕ_discrete k m) (λ e. ap holder e ∙ nobody) (λ ne. h.free k (sym (put-else owner m k o ne) ∙ is));
     holds = each-set (λ j r. (k : ℕ) → owner k ≡ some j → holder k ≡ cond (waits_on r.wait k) none (some j)) (λ j r. (k : ℕ) → owner' k ≡ some j → holder k ≡ cond (waits_on r.wait k) none (some j)) all n q
         (λ k is. dite (ℕ_discrete k m)
         (λ e. ap holder e ∙ (nobody ∙ ap (λ b. cond b none (some n)) (sym (same k ∙ (ap (waits_on p.wait) e ∙ waits)))))
         (λ ne. h.holds n p at k (sym (put-else owner m k o ne) ∙ is) ∙ ap (λ b. cond b none (some n)) (sym (same k))))
         (λ j x ne at' u k is. dite (ℕ_discrete k m) (λ e. absurd (ne (only j (sym (put-at owner m o k e) ∙ is)))) (λ other. u k (sym (put-else owner m k o other) ∙ is))) h.holds;
+    shut = each-set (λ j r. (k : ℕ) → owner k ≡ some j → open_on r.wait k ≡ false) (λ j r. (k : ℕ) → owner' k ≡ some j → open_on r.wait k ≡ false) all n q shut
+        (λ j x ne at' u k is. dite (ℕ_discrete k m) (λ e. absurd (ne (only j (sym (put-at owner m o k e) ∙ is)))) (λ other. u k (sym (put-else owner m k o other) ∙ is))) h.shut;
   }
 
   -- and of its wait the thread has changed the stage of that bit alone
-  shows-rebit : (m : ℕ) (x : Wait) (b : WaitBit) (o : Option ℕ) → ((j : ℕ) → o ≡ some j → j ≡ n) → spec.holder m ≡ none → SameShown words words' → p.wait ≡ Some x → q.wait ≡ Some (record x { bit = b }) → x.mutex.0 ≡ m → q.left ≡ p.left → q.queue ≡ p.queue → q.count ≡ p.count
+  shows-rebit : (m : ℕ) (x : Wait) (b : WaitBit) (o : Option ℕ) → ((j : ℕ) → o ≡ some j → j ≡ n) → (o ≡ some n → is_open b ≡ false) → spec.holder m ≡ none → SameShown words words' → p.wait ≡ Some x → q.wait ≡ Some (record x { bit = b }) → x.mutex.0 ≡ m → q.left ≡ p.left → q.queue ≡ p.queue → q.count ≡ p.count
       → Shows words spinner queue owner spec all → Shows words' spinner queue (put owner m o) spec (set all n q)
-  shows-rebit m x b o only nobody ws before now on el eq ec s = record {
-    holders = holders-rebit spec.holder m o only nobody (ap (λ z. waits_on z m) before ∙ eq-eqb x.mutex.0 m on) (λ k. ap (λ z. waits_on z k) now ∙ sym (ap (λ z. waits_on z k) before)) s.holders;
+  shows-rebit m x b o only taken nobody ws before now on el eq ec s = record {
+    holders = holders-rebit spec.holder m o only nobody (ap (λ z. waits_on z m) before ∙ eq-eqb x.mutex.0 m on) (λ k. ap (λ z. waits_on z k) now ∙ sym (ap (λ z. waits_on z k) before))
+        (λ k is. ap (λ z. open_on z k) now ∙ dite (ℕ_discrete k m)
+        (λ e. ap (λ z. cond z (eqb x.mutex.0 k) false) (taken (sym (put-at owner m o k e) ∙ is)))
+        (λ ne. ap (λ z. cond (is_open b) z false) (ne_eqb x.mutex.0 k (λ e. ne (sym e ∙ on))) ∙ same-either (is_open b))) s.holders;
     pendings = pendings-put words words' spinner queue owner all n p q at spec.pending spec.pending (s.pendings.pends n p at ∙ (ap pending_of before ∙ sym (ap pending_of now))) (λ j ne. refl) s.pendings;
     semaphores = semaphores-frame spec.avail words words' ws.sems s.semaphores;
     alerts = alerts-frame spec.alerts words words' ws.alerts s.alerts;
@@ -99,7 +109,7 @@ module _ {T H W : Type 0} (l : Layout) (traced : Bool) (w : W) (begin : W → �
             owned = owned-give l (holds w) c.owner c.values c.shares words homes all n m p q at o wide (omega arith) inside lawful y u own (omega arith) (at_within c.values m x here) (at_within c.shares n s mine.2) (law c.values c.shares o.kept m x y here n s u mine.2 (allowed s mine.1)) refl refl;
             spins = spins-frame all n p q at c.spinner c.queue c.owed words words' homes homes' (spins-stay words (bit_at m) 0 (λ k up z. omega arith) (λ k up z. omega arith)) (λ k lo. set_else homes (value_at m) (queue_at k) (some line) (λ z. omega arith)) refl refl refl c.spins;
             lines = lines-frame all n p q at (λ k. c.owed k ++ c.queue k) words words' c.sizes.few (ready-stay words (bit_at m) 0 (λ k up z. omega arith)) refl c.lines;
-            shows = shows-rebit words words' c.spinner c.queue c.owner c.spec all n p q at m b Open none (λ j is. absurd (some-ne-none j (sym is))) (c.shows.holders.holds n p at m own ∙ ap (λ z. cond z none (some n)) (ap (λ z. waits_on z m) before ∙ eq-eqb b.mutex.0 m on)) (shown-stay words (bit_at m) 0 (λ k up z. omega arith) (λ k up z. omega arith) (λ k up z. omega arith)) before (ap opened before) on refl refl refl c.shows;
+            shows = shows-rebit words words' c.spinner c.queue c.owner c.spec all n p q at m b Open none (λ j is. absurd (some-ne-none j (sym is))) (λ is. absurd (some-ne-none n (sym is))) (c.shows.holders.holds n p at m own ∙ ap (λ z. cond z none (some n)) (ap (λ z. waits_on z m) before ∙ eq-eqb b.mutex.0 m on)) (shown-stay words (bit_at m) 0 (λ k up z. omega arith) (λ k up z. omega arith) (λ k up z. omega arith)) before (ap opened before) on refl refl refl c.shows;
             pens = pens-frame all n p q at traced (length c.log) c.writer words words' (pen-stay words (bit_at m) 0 (λ z. omega arith) (λ z. omega arith)) refl c.pens;
             alert_seen = alert-seen-stays all n p q at words (bit_at m) 0 c.sizes.few (λ k up z. omega arith) refl c.alert_seen;
             owes = owes-clear c.queue words words' all n p q at m (λ k lo ne. other words (bit_at m) (bit_at k) 0 (λ z. ne (omega arith))) apart refl refl refl c.owes;
@@ -158,7 +168,7 @@ module _ {T H W : Type 0} (l : Layout) (traced : Bool) (w : W) (begin : W → �
           o.at_home m inside x found.1 free,
           bit_taken l traced w begin holds n m p q x words homes all at inside c hit found.1 record { held = refl; share = refl; spin = refl; queue = refl; owed = refl; stand = refl; alerted = refl; cleared = refl; turns = refl } c.log c.spec c.run
               (told-frame all n p q at l c.log refl refl refl c.told)
-              (shows-rebit words words' c.spinner c.queue c.owner c.spec all n p q at m b Quiet (some n) (λ j is. some-injective j n (sym is)) (c.shows.holders.free m free) (shown-stay words (bit_at m) 1 (λ k up z. omega arith) (λ k up z. omega arith) (λ k up z. omega arith)) before (ap quieted before) on refl refl refl c.shows)
+              (shows-rebit words words' c.spinner c.queue c.owner c.spec all n p q at m b Quiet (some n) (λ j is. some-injective j n (sym is)) (λ _. refl) (c.shows.holders.free m free) (shown-stay words (bit_at m) 1 (λ k up z. omega arith) (λ k up z. omega arith) (λ k up z. omega arith)) before (ap quieted before) on refl refl refl c.shows)
               (pens-frame all n p q at traced (length c.log) c.writer words words' (pen-stay words (bit_at m) 1 (λ z. omega arith) (λ z. omega arith)) refl c.pens),
           inl (
             hit,

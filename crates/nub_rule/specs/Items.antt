@@ -18,7 +18,7 @@ use Rattle.nub_rule.specs.declared.view.Pen.{Pen}
 use Rattle.nub_rule.specs.declared.view.Pen.TheVariants.{No, Taken, Read, Made, Written}
 use Rattle.nub_rule.specs.Places.{most_threads, bit_at, spin_at, length_at, count_at, alert_at, ready_at, pen_at, number_at, word_count, queue_at, value_at, sem_object, cond_object}
 use Rattle.nub_rule.specs.Owed.{WakeOwed}
-use Rattle.nub_rule.specs.Parts.{Got, Has, stands_at, IsFound, waits_on, counts_in, pending_of}
+use Rattle.nub_rule.specs.Parts.{Got, Has, stands_at, IsFound, waits_on, open_on, counts_in, pending_of}
 use Rattle.arrayvec.specs.ArrayVec.{ArrayVec}
 
 -- what is true of each element and its place
@@ -145,10 +145,12 @@ module _ {T H : Type 0} where
     pub people : (o t : ℕ) → mem t (line o) ≡ true → t < length all
     pub stands : Each (Stands words line) all
 
-  -- HOLDERS: who has the bit of a mutex holds it, unless a wait on it is begun, and nobody else does
+  -- HOLDERS: who has the bit of a mutex holds it, unless a wait on it is begun, and nobody else does. In such a wait it has yet to clear the bit, or has
+  -- taken it again
   pub record Holders (owner holder : ℕ → Option ℕ) (all : List (Part T H)) : Type 0 where
     pub free : (m : ℕ) → owner m ≡ none → holder m ≡ none
     pub holds : Each (λ n p. (m : ℕ) → owner m ≡ some n → holder m ≡ cond (waits_on p.wait m) none (some n)) all
+    pub shut : Each (λ n p. (m : ℕ) → owner m ≡ some n → open_on p.wait m ≡ false) all
 
   -- PENDINGS: a thread waits exactly where its view does, and nobody past the threads waits
   pub record Pendings (pending : ℕ → Pending) (all : List (Part T H)) : Type 0 where

@@ -18,6 +18,7 @@ use Rattle.nub_rule.specs.declared.view.Pen.TheVariants.{No, Read, Made}
 use Rattle.nub_rule.specs.declared.view.Stand.{Stand}
 use Rattle.nub_rule.specs.declared.view.View.{View}
 use Rattle.nub_rule.specs.declared.view.Wait.{Wait}
+use Rattle.nub_rule.specs.declared.view.WaitBit.TheVariants.{Closing, Quiet}
 use Rattle.nub_rule.specs.Items.{Each, Distinct, line_of, places_from}
 use Rattle.nub_rule.specs.Owed.{HasTurn, IsAsleep, MustLook, SomebodyMustLook}
 use Rattle.nub_rule.specs.Parts.{Got, Has, IsFound, counts_in, fresh, pending_of, waits_on}
@@ -38,6 +39,10 @@ IsInNone queue n = (o : ℕ) → mem n (queue o) ≡ false
 -- what a thread has pushed itself onto, since it last cleared its ready word or took itself out
 abbrev pub StandsSomewhere : Opt Stand → Type 0
 StandsSomewhere stand = (s : Stand) × (stand ≡ Some s)
+
+-- the thread is in a wait on the mutex m, between its first part and the clearing of the bit, or between taking the bit without an event and its end
+abbrev pub HasBitInWait : Opt Wait → ℕ → Type 0
+HasBitInWait wait m = (w : Wait) × (wait ≡ Some w) × (w.mutex.0 ≡ m) × ((w.bit ≡ Closing) ⊎ (w.bit ≡ Quiet))
 
 module _ {T H : Type 0} where
   -- the view of the thread n is such
@@ -98,11 +103,12 @@ module _ {T H : Type 0} where
     pub left_in : (c t : ℕ) → mem t (left c) ≡ true → mem t (queue (cond_object c)) ≡ true
     pub none_taken : Each (λ n p. (w : Wait) (c : ℕ) → p.wait ≡ Some w → p.spin ≡ Some (cond_object c) → left c ≡ queue (cond_object c)) views
 
-  -- MUTEX BITS: the bit is 1 exactly where one view has the mutex. A holder has it, and who has it and isn't its holder is in a wait on it
+  -- MUTEX BITS: the bit is 1 exactly where one view has the mutex. A holder has it, and who has it and isn't its holder is in a wait on it, in which it
+  -- has yet to clear the bit, or has taken it again without an event
   pub record MutexBits (mutexes : ℕ) (words : List ℕ) (views : List (Part T H)) (state : Spec) : Type 0 where
     pub bit : (m : ℕ) → m < mutexes → IsFlagOf (slice_index words (bit_at m)) (λ p. Has p m) views
     pub holder_has : Each (λ n p. (m : ℕ) → state.holder m ≡ some n → Has p m) views
-    pub between : Each (λ n p. (m : ℕ) → Has p m → state.holder m ≢ some n → waits_on p.wait m ≡ true) views
+    pub between : Each (λ n p. (m : ℕ) → Has p m → state.holder m ≢ some n → HasBitInWait p.wait m) views
 
   -- SPIN WORDS AND QUEUES: a spin word is 1 exactly where one view has it. The queue is in that view, else at home. It lists distinct threads,
   -- and its length word is its length

@@ -6,6 +6,8 @@ use Rattle.larch_actions.specs.declared.event.Pending.{Pending}
 use Rattle.larch_actions.specs.declared.event.Pending.TheVariants.{Nothing, Waiting, AlertWaiting}
 use Rattle.nub_rule.specs.declared.view.Part.{Part}
 use Rattle.nub_rule.specs.declared.view.Wait.{Wait}
+use Rattle.nub_rule.specs.declared.view.WaitBit.{WaitBit}
+use Rattle.nub_rule.specs.declared.view.WaitBit.TheVariants.{Open}
 use Rattle.nub_rule.specs.declared.view.Stand.{Stand}
 use Rattle.nub_rule.specs.declared.view.Stage.{Stage}
 use Rattle.nub_rule.specs.declared.view.Stage.TheVariants.{Pushed, Clear, Tested, Asleep, Alerted, Found}
@@ -79,6 +81,15 @@ is_at (Some n) k = eqb n k
 abbrev pub waits_on : Opt Wait → ℕ → Bool
 waits_on None m = false
 waits_on (Some w) m = eqb w.mutex.0 m
+
+-- the thread is in a wait on the mutex m, in which it cleared the bit and hasn't taken it since
+abbrev pub is_open : WaitBit → Bool
+is_open Open = true
+is_open _ = false
+
+abbrev pub open_on : Opt Wait → ℕ → Bool
+open_on None m = false
+open_on (Some w) m = cond (is_open w.bit) (eqb w.mutex.0 m) false
 
 -- the thread is in the condition c by what its view says, where the count is k
 abbrev pub counts_in : Opt Wait → ℕ → ℕ → Bool

@@ -1,4 +1,4 @@
-use Rattle.std.proofs.Common.{rules, arith, ◌∙◌, ℕ, ap, sym, length, refl, Some, None, vec_capacity}
+use Rattle.std.proofs.Common.{rules, arith, ◌∙◌, ap, sym, length, refl, None, vec_capacity}
 use Rattle.nub_rule.specs.declared.rule.Slot.TheVariants.{Queue}
 use Rattle.nub_rule.specs.Items.{line_of}
 use Rattle.nub_rule.specs.Parts.{left_turns}
