@@ -8,7 +8,7 @@ ghost use Rattle.nub_rule.specs.Plays.{behind, broadcast_action, event, signal_a
 ghost use Rattle.nub.specs.Rest.{HasStored, IsOutside};
 
 use larch_actions::{Action, CondId, Event, ThreadId};
-use nub::{begin_event, end_event, enter, leave, pop, wake};
+use nub::{begin_event, end_event, enter, leave, pop, wake_from_condition};
 use nub_rule::{Object, Package, Thread, Uses, Why, advance_broadcast, advance_signal, know_count};
 use std::sync::Wait;
 
@@ -59,7 +59,7 @@ fn advance_one<U: Uses, R: Wait>(rt: &R, p: &Package<U>, me: &mut Thread<U>, c: 
     end_event(p, me, Some(e));
     match pop(p, me, at) {
         Some(t) => {
-            wake(p, me, at, t);
+            wake_from_condition(p, me, t);
             leave(rt, p, me, at);
         }
         None => leave(rt, p, me, at),
@@ -102,7 +102,7 @@ fn wake_all<U: Uses>(p: &Package<U>, me: &mut Thread<U>, c: CondId)
     ensures { me.new ≡ record me.old { queue = [] } }
 {
     while let Some(t) = pop(p, me, Object::Cond(c)) {
-        wake(p, me, Object::Cond(c), t);
+        wake_from_condition(p, me, t);
     }
 }
 

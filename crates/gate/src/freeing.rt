@@ -245,7 +245,7 @@ fn wake_one<U: Uses, R: Wait>(rt: &R, p: &Package<U>, me: &mut Thread<U>, at: Ob
         Some(t) => {
             // Woken inside: as long as this thread owes t its ready word it keeps the spin word, so whoever is in a line or owed can be
             // told by the spin words alone, and no thread leaves the Nub owing anybody.
-            wake(p, me, at, t);
+            wake(p, me, t);
             leave(rt, p, me, at);
         }
         // Those that were seen have left by themselves, or another thread has popped them.

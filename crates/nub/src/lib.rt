@@ -18,7 +18,7 @@ pub use closed::Closed;
 pub use larch_actions::{Action, CondId, Event, Layout, MutexId, SemId, ThreadId};
 pub use nub_rule::{Change, NoChange, Package, Thread, Uses};
 pub use pen::{begin_event, end_event};
-pub use queue::{pop, push, remove, wake};
+pub use queue::{pop, push, remove, wake, wake_from_condition};
 pub use sleeping::sleep;
 pub use spin::{enter, leave};
 pub use whole::{close_package, open_package};

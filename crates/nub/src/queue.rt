@@ -76,9 +76,8 @@ pub fn pop<U: Uses>(p: &Package<U>, me: &mut Thread<U>, at: Object) -> Option<Th
     pop_queue(p, me, at)
 }
 
-/// Makes a thread ready that was popped from the queue of this object, and wakes it. It never waits. One that was in a condition, and needs
-/// a mutex that this thread has, is unparked when that is given back: before, it would find the mutex taken, and sleep once more.
-pub fn wake<U: Uses>(p: &Package<U>, me: &mut Thread<U>, at: Object, t: ThreadId)
+/// Makes a thread ready that was popped, and unparks it. It never waits.
+pub fn wake<U: Uses>(p: &Package<U>, me: &mut Thread<U>, t: ThreadId)
     requires of { me.old.table_id ≡ p.now.table_id }
     requires owed { mem t.0 me.old.owed ≡ true }
     requires named { t.0 < most_threads }
@@ -86,8 +85,17 @@ pub fn wake<U: Uses>(p: &Package<U>, me: &mut Thread<U>, at: Object, t: ThreadId
 {
     // First the word, then the unparking: a thread that wakes up reads the word, and would park again if it weren't set yet.
     set_ready(p, me, t);
-    match at {
-        Object::Mutex(_) | Object::Sem(_) => unpark(p, t),
-        Object::Cond(_) => unpark_or_note(p, me, t),
-    }
+    unpark(p, t);
+}
+
+/// Makes a thread ready that was popped from the queue of a condition. It never waits. Where this thread has the mutex of that wait, the other
+/// is unparked when this thread gives it back: before, it would find the mutex taken, and sleep once more. Else it is unparked at once.
+pub fn wake_from_condition<U: Uses>(p: &Package<U>, me: &mut Thread<U>, woken: ThreadId)
+    requires of { me.old.table_id ≡ p.now.table_id }
+    requires owed { mem woken.0 me.old.owed ≡ true }
+    requires named { woken.0 < most_threads }
+    ensures { me.new ≡ record me.old { owed = without woken.0 me.old.owed } }
+{
+    set_ready(p, me, woken);
+    unpark_or_note(p, me, woken);
 }

@@ -41,16 +41,16 @@ end_event-requires-clause-last g c κs within = λ traced d made.
     (comes_next c.args.p.now.traced c.enter_below.new.me b a e c.begin_event.ensures.pen c.begin_event.ensures.number makes (ap (λ k. k.next) advanced) (ap (λ k. k.entries) advanced) (ap (λ k. k.lost) advanced)
     (subst (λ k. HasStored c.args.p.now.traced k) (sym c.enter_below.ensures.inside) c.requires.stored) traced)
 
-pub wake-requires-clause-owed : goal.wake-requires-clause-owed
-wake-requires-clause-owed g c κs within =
+pub wake_from_condition-requires-clause-owed : goal.wake_from_condition-requires-clause-owed
+wake_from_condition-requires-clause-owed g c κs within =
     let t = c.in-Some.t.0 in
     let first = c.pop.ensures.first c.in-Some.t c.in-Some.is in
     let none : c.end_event.new.me.owed ≡ [] = search rules in
     let owed : c.pop.new.me.owed ≡ t ∷ [] = first.1 ∙ ap (λ (l : List ℕ). l ++ t ∷ []) none in
     subst (λ (l : List ℕ). mem t l ≡ true) (sym owed) (mem_own t [])
 
-pub wake-requires-clause-named : goal.wake-requires-clause-named
-wake-requires-clause-named g c κs within =
+pub wake_from_condition-requires-clause-named : goal.wake_from_condition-requires-clause-named
+wake_from_condition-requires-clause-named g c κs within =
     let first = c.pop.ensures.first c.in-Some.t c.in-Some.is in
     let same : c.enter_below.new.me.queue ≡ c.end_event.new.me.queue = search rules in
     first_small most_threads c.in-Some.t.0 (behind c.end_event.new.me.queue) c.enter_below.new.me.queue (same ∙ first.0) c.enter_below.ensures.small
@@ -61,7 +61,7 @@ leave-requires-clause-owes_none g c κs within =
     let first = c.pop.ensures.first c.in-Some.t c.in-Some.is in
     let none : c.end_event.new.me.owed ≡ [] = search rules in
     let owed : c.pop.new.me.owed ≡ t ∷ [] = first.1 ∙ ap (λ (l : List ℕ). l ++ t ∷ []) none in
-    ap (λ k. k.owed) c.wake.ensures ∙ less_owed t c.pop.new.me.owed owed
+    ap (λ k. k.owed) c.wake_from_condition.ensures ∙ less_owed t c.pop.new.me.owed owed
 
 pub returns-in-Some-clause-rest : goal.returns-in-Some-clause-rest
 returns-in-Some-clause-rest g c =
@@ -69,13 +69,13 @@ returns-in-Some-clause-rest g c =
     let first = c.pop.ensures.first c.in-Some.t c.in-Some.is in
     let none : c.end_event.new.me.owed ≡ [] = search rules in
     let owed : c.pop.new.me.owed ≡ t ∷ [] = first.1 ∙ ap (λ (l : List ℕ). l ++ t ∷ []) none in
-    let gone : c.wake.new.me.owed ≡ [] = ap (λ k. k.owed) c.wake.ensures ∙ less_owed t c.pop.new.me.owed owed in
+    let gone : c.wake_from_condition.new.me.owed ≡ [] = ap (λ k. k.owed) c.wake_from_condition.ensures ∙ less_owed t c.pop.new.me.owed owed in
     let was : c.args.me.now.owed ≡ [] = c.requires.outside.owed in
     search rules
 
 pub returns-in-Some-clause-stored : goal.returns-in-Some-clause-stored
 returns-in-Some-clause-stored g c = let s = stored g (goal.at.returns-in-Some-clause-stored g c).After-end_event in
-    subst (λ k. HasStored c.args.p.now.traced k) (sym c.leave.ensures) (subst (λ k. HasStored c.args.p.now.traced k) (sym c.wake.ensures) (subst (λ k. HasStored c.args.p.now.traced k) (sym (c.pop.ensures.cond tt)) s))
+    subst (λ k. HasStored c.args.p.now.traced k) (sym c.leave.ensures) (subst (λ k. HasStored c.args.p.now.traced k) (sym c.wake_from_condition.ensures) (subst (λ k. HasStored c.args.p.now.traced k) (sym (c.pop.ensures.cond tt)) s))
 
 pub returns-in-None-clause-stored : goal.returns-in-None-clause-stored
 returns-in-None-clause-stored g c = let s = stored g (goal.at.returns-in-None-clause-stored g c).After-end_event in
