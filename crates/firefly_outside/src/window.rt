@@ -1,5 +1,5 @@
 //! The bytes that were taken from a source and aren't read yet.
-ghost use Rattle.std.specs.Prelude.{◌≡◌, ℕ, ◌-◌, ◌+◌, ◌<◌, ◌≤◌, [], List, length, take, drop, IfOk, OnErr, MatchResult};
+ghost use Rattle.std.specs.Prelude.{◌≡◌, ℕ, ◌-◌, ◌+◌, ◌<◌, ◌≤◌, [], List, length, take, drop, IfOk, OnOk, OnErr, MatchResult};
 ghost use Rattle.std.specs.Io.KnownBytes.{ReadConsumes, Keeps};
 ghost use Rattle.firefly_outside.specs.Causes.{HasCause};
 ghost use Rattle.firefly_outside.specs.Window.{Grows};
@@ -66,6 +66,7 @@ impl Window {
         requires room { length self.old < 65536 }
         ensures bytes { Grows most (I.left input.old) (I.left input.new) self.old self.new result }
         ensures cause { HasCause (I.faults input.old) (I.faults input.new) result }
+        ensures unfailed { OnOk result (I.faults input.new ≡ I.faults input.old) }
     {
         let kept = self.end - self.start;
         to_front(&mut self.buf, self.start, self.end);
@@ -100,6 +101,7 @@ fn read_behind<I: Source>(
     ensures most { IfOk result (λ n. n ≤ most) }
     ensures bytes { ReadConsumes (I.left input.old) (I.left input.new) result (drop kept buf.new) }
     ensures cause { HasCause (I.faults input.old) (I.faults input.new) result }
+    ensures unfailed { OnOk result (I.faults input.new ≡ I.faults input.old) }
 {
     let end = kept + most.min(buf.len() - kept);
     input.next(&mut buf[kept..end])

@@ -10,7 +10,8 @@ use Rattle.trace_core.specs.declared.line.Line.TheVariants as line
 use Rattle.trace_core.specs.declared.line.Expect.TheVariants as expect
 use Rattle.trace_core.specs.Text.{MutexValue, action_text, newline, first_line, layout_line, event_line, end_line, values_text, rest_text}
 use Rattle.trace_core.proofs.Outcomes.{same_line}
-use Rattle.trace_check.specs.Verdicts.{event_lines, front_text}
+use Rattle.trace_core.specs.Whole.{event_lines}
+use Rattle.trace_check.specs.Verdicts.{front_text}
 
 pub event_line_some : (n : ℕ) (e : Event) → 0 < length (event_line n e)
 event_line_some n e =

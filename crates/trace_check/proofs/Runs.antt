@@ -1,9 +1,9 @@
 -- Runs: one more event, and parts.
-use Rattle.std.proofs.Common.{◌≡◌, List, [], ◌∷◌, ◌++◌, refl, sym, ap, subst, ◌∙◌}
+use Rattle.std.proofs.Common.{◌≡◌, List, [], ◌∷◌, ◌++◌, refl, sym, subst, ◌∙◌}
 use Rattle.larch_actions.specs.declared.event.Event.{Event}
 use Rattle.larch_actions.specs.declared.event.Broken.{Broken}
 use Rattle.larch_actions.specs.declared.event.Broken.TheVariants as broken
-use Rattle.larch_actions.specs.Actions.{Spec, Acts, Fails, Leads, acted}
+use Rattle.larch_actions.specs.Actions.{Spec, Acts, Fails, Leads}
 
 pub leads-push : (s t u : Spec) (es : List Event) (e : Event) → Leads s es t → Acts t e u → Leads s (es ++ e ∷ []) u
 leads-push s t u [] e r a = (u, subst (λ (z : Spec). Acts z e u) (sym r) a, refl)

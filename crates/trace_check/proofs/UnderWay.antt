@@ -1,5 +1,5 @@
 -- What holds between two events of a check.
-use Rattle.std.proofs.Common.{◌≡◌, ℕ, ◌+◌, ◌-◌, ◌^◌, ◌<◌, ◌≤◌, ◌⊎◌, inl, inr, List, [], ◌∷◌, ◌++◌, length, length-append, take, refl, ap, sym, subst, ◌∙◌, append_assoc, append-nil, Some, None, IfSome, arith}
+use Rattle.std.proofs.Common.{◌≡◌, ℕ, ◌+◌, ◌-◌, ◌^◌, ◌<◌, ◌≤◌, inl, inr, List, [], ◌∷◌, ◌++◌, length, length-append, take, refl, ap, sym, subst, ◌∙◌, append_assoc, append-nil, Some, None, IfSome, arith}
 use Rattle.std.specs.List.{AllByRecursion}
 use Rattle.std.specs.Io.KnownBytes.{Consumes}
 use Rattle.std.specs.declared.option.Option.{Option}
@@ -8,7 +8,7 @@ use Rattle.larch_actions.specs.declared.event.Layout.{Layout}
 use Rattle.larch_actions.specs.declared.event.Event.{Event}
 use Rattle.larch_actions.specs.declared.event.Broken.{Broken}
 use Rattle.larch_actions.specs.Layout.{IsLawful, HasNames}
-use Rattle.larch_actions.specs.Actions.{Spec, Acts, Fails, IsRun, IsLegal, at_first}
+use Rattle.larch_actions.specs.Actions.{Spec, Acts, Fails, IsRun, at_first}
 use Rattle.larch_actions.specs.State.{Moment, spec_of, held, waiting, alerted}
 use Rattle.trace_core.specs.declared.intake.TextFault.{TextFault}
 use Rattle.trace_core.specs.declared.intake.TextFault.TheVariants as fault
@@ -19,12 +19,13 @@ use Rattle.trace_core.specs.Prefixes.{Begins}
 use Rattle.trace_core.specs.Intake.{IsShown, HasReason, Misses, LacksAt}
 use Rattle.trace_core.specs.Standing.{Standing}
 use Rattle.trace_core.specs.Steps.{TakesHead, TakesEvent, TakesEnd, Breaks}
-use Rattle.trace_core.specs.Text.{MutexValue, first_line, layout_line, event_line, end_line, values_text, rest_text, trace_text, ReadsAs, IsTrace, IsRest}
+use Rattle.trace_core.specs.Text.{first_line, layout_line, event_line, end_line, values_text, rest_text, trace_text, IsTrace, IsRest}
 use Rattle.trace_core.proofs.Outcomes.{reason_behind, Consumes-trans, take_behind}
-use Rattle.trace_check.specs.Verdicts.{event_lines, front_text, NoFault, IsCutOff, refusal, IsJust, IsLegalText, IsIllegalText, Counts}
+use Rattle.trace_core.specs.Whole.{event_lines}
+use Rattle.trace_check.specs.Verdicts.{front_text, NoFault, IsCutOff, refusal, IsJust, IsLegalText, IsIllegalText}
 use Rattle.trace_check.specs.declared.checker.Summary.{Summary}
 use Rattle.trace_check.proofs.Runs.{leads-push, leads-split}
-use Rattle.trace_check.proofs.Fronts.{event_line_some, front_text-push, rest_text-split, named-push, names-last, length-front_text, same_front, le_total}
+use Rattle.trace_check.proofs.Fronts.{front_text-push, rest_text-split, named-push, names-last, length-front_text, same_front, le_total}
 
 -- so far these events were read, and they are a run
 pub record IsUnderWay (budget : ℕ) (left₀ : Option (List ℕ)) (before : ℕ) (st : Standing) (now : ℕ) (m : Moment) (count : ℕ) : Type 0 where

@@ -1,26 +1,25 @@
 -- At most one verdict is just.
-use Rattle.std.proofs.Common.{◌≡◌, ◌≢◌, ℕ, ◌+◌, ◌-◌, ◌^◌, ◌<◌, ◌≤◌, ◌⊎◌, inl, inr, List, [], ◌∷◌, ◌++◌, length, length-append, take, refl, ap, sym, subst, ◌∙◌, append_assoc, append-nil, zero, suc, true, false, Some, None, IfSome, arith}
+use Rattle.std.proofs.Common.{◌≡◌, ◌≢◌, ℕ, ◌+◌, ◌-◌, ◌^◌, ◌<◌, ◌≤◌, inl, inr, List, [], ◌∷◌, ◌++◌, length, length-append, take, refl, ap, sym, subst, ◌∙◌, append_assoc, append-nil, zero, suc, Some, arith}
 use Rattle.std.proofs.lemmas.Bool.Decides.{eqb_tells}
 use Rattle.std.proofs.lemmas.List.{take_all, same_from_push}
-use Rattle.std.specs.Prelude.{◌==◌}
 use Rattle.std.specs.List.{AllByRecursion}
 use Rattle.std.specs.declared.option.Option.{Option}
 use Rattle.larch_actions.specs.declared.event.Layout.{Layout}
 use Rattle.larch_actions.specs.declared.event.Event.{Event}
 use Rattle.larch_actions.specs.declared.event.Broken.{Broken}
 use Rattle.larch_actions.specs.Layout.{IsLawful, HasNames}
-use Rattle.larch_actions.specs.Actions.{Spec, Fails, IsRun, IsLegal, FirstFault, at_first}
-use Rattle.larch_actions.specs.State.{held, waiting, alerted}
+use Rattle.larch_actions.specs.Actions.{Spec, Fails, IsRun, FirstFault, at_first}
 use Rattle.trace_core.specs.declared.line.Line.TheVariants as line
 use Rattle.trace_core.specs.declared.line.Expect.TheVariants as expect
-use Rattle.trace_core.specs.Prefixes.{Begins, first_lines, newlines, IsBrokenAt, IsCutShortAt}
+use Rattle.trace_core.specs.Prefixes.{Begins, first_lines, IsBrokenAt}
 use Rattle.trace_core.specs.Intake.{IsShown}
-use Rattle.trace_core.specs.Text.{MutexValue, first_line, layout_line, event_line, end_line, values_text, rest_text, trace_text, ReadsAs, IsTrace}
+use Rattle.trace_core.specs.Text.{first_line, layout_line, event_line, end_line, values_text, IsTrace}
 use Rattle.trace_core.proofs.Outcomes.{same_line, take_behind}
 use Rattle.trace_check.specs.declared.checker.Summary.{Summary}
 use Rattle.trace_check.specs.declared.checker.Verdict.{Verdict}
 use Rattle.trace_check.specs.declared.checker.Verdict.TheVariants.{Legal, Illegal, BadLine, TooLong, ReadFault}
-use Rattle.trace_check.specs.Verdicts.{event_lines, front_text, NoFault, IsJust, IsLegalText, IsIllegalText, Counts, OneVerdict}
+use Rattle.trace_core.specs.Whole.{event_lines}
+use Rattle.trace_check.specs.Verdicts.{front_text, NoFault, IsJust, IsLegalText, IsIllegalText, Counts, OneVerdict}
 use Rattle.trace_check.proofs.Runs.{leads_same, leads-split, fails_same, no_run}
 use Rattle.trace_check.proofs.Fronts.{same_front, length-front_text, rest_text-split, names-last, names-first, le_total, front_text-push}
 

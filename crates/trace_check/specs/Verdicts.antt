@@ -1,5 +1,5 @@
 -- When each verdict is just.
-use Rattle.std.specs.Prelude.{◌≡◌, ◌≢◌, ℕ, ◌-◌, ◌^◌, ◌<◌, ◌≤◌, List, [], ◌∷◌, ◌++◌, ◌+◌, length, take, IfSome, Some}
+use Rattle.std.specs.Prelude.{◌≡◌, ◌≢◌, ℕ, ◌-◌, ◌^◌, ◌<◌, ◌≤◌, List, [], ◌∷◌, ◌++◌, length, take, IfSome, Some}
 use Rattle.std.specs.List.{AllByRecursion}
 use Rattle.std.specs.Io.KnownBytes.{Consumes}
 use Rattle.std.specs.declared.option.Option.{Option}
@@ -14,7 +14,8 @@ use Rattle.trace_core.specs.declared.intake.TextFault.{TextFault}
 use Rattle.trace_core.specs.declared.intake.TextFault.TheVariants as fault
 use Rattle.trace_core.specs.Prefixes.{Begins}
 use Rattle.trace_core.specs.Intake.{IsShown}
-use Rattle.trace_core.specs.Text.{MutexValue, first_line, layout_line, event_line, ReadsAs, IsTrace}
+use Rattle.trace_core.specs.Text.{MutexValue, first_line, layout_line, ReadsAs, IsTrace}
+use Rattle.trace_core.specs.Whole.{event_lines}
 use Rattle.trace_check.specs.declared.checker.Summary.{Summary}
 use Rattle.trace_check.specs.declared.checker.Verdict.{Verdict}
 use Rattle.trace_check.specs.declared.checker.Verdict.TheVariants.{Legal, Illegal, BadLine, TooLong, ReadFault}
@@ -24,11 +25,6 @@ abbrev pub refusal : TextFault → Verdict
 refusal (fault.BadLine k) = BadLine k
 refusal fault.TooLong = TooLong
 refusal fault.Read = ReadFault
-
--- the lines of the events from place n on
-abbrev pub event_lines : ℕ → List Event → List ℕ
-event_lines n [] = []
-event_lines n (e ∷ es) = event_line n e ++ event_lines (n + 1) es
 
 -- the head of a text, and the lines of its first events
 abbrev pub front_text : Layout → List Event → List ℕ

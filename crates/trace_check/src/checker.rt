@@ -41,13 +41,15 @@ fn refused(fault: TextFault) -> Verdict
     }
 }
 
-/// Checks at most `budget` bytes of the input. From the first event that fails on it reads nothing more.
+/// Checks at most `budget` bytes of the input. From the byte that decides on it reads nothing more.
 pub fn check<I: Source>(input: &mut I, budget: u64) -> Verdict
     requires { budget < 2 ^ 64 - 1 }
     ensures just { IsJust budget (I.left input.old) (I.left input.new) (I.faults input.old) (I.faults input.new) result }
     // Where no read failed, no other verdict is just.
     ensures exact { (bytes : List ℕ) (verdict : Verdict) → I.left input.old ≡ Some bytes → result ≢ Verdict.ReadFault → verdict ≢ Verdict.ReadFault
         → IsJust budget (I.left input.old) (I.left input.new) (I.faults input.old) (I.faults input.new) verdict → result ≡ verdict }
+    // A read that fails is told, and can fail only where no verdict is due yet. So from the byte that decides on nothing is asked.
+    ensures told { result ≢ Verdict.ReadFault → I.faults input.new ≡ I.faults input.old }
     ensures later { I.faults input.old ≤ I.faults input.new }
 {
     let mut reader = EventReader::new(input, budget);
@@ -59,8 +61,10 @@ fn check_all<I: Source>(reader: &mut EventReader<I>) -> Verdict
     requires phase { (standing I.left reader.old).phase ≡ phase.Head }
     requires lines { (standing I.left reader.old).lines ≡ 0 }
     requires fits { (standing I.left reader.old).room < 2 ^ 64 - 1 }
-    ensures just { IsJust (standing I.left reader.old).room (standing I.left reader.old).rest (I.left (input_of reader.new).now) (I.faults (input_of reader.old).now) (I.faults (input_of reader.new).now) result }
+    ensures just { IsJust (standing I.left reader.old).room (standing I.left reader.old).rest (I.left (input_of reader.new).now)
+        (I.faults (input_of reader.old).now) (I.faults (input_of reader.new).now) result }
     ensures same_input { (input_of reader.new).ghost_name ≡ (input_of reader.old).ghost_name }
+    ensures told { result ≢ Verdict.ReadFault → I.faults (input_of reader.new).now ≡ I.faults (input_of reader.old).now }
     ensures later { I.faults (input_of reader.old).now ≤ I.faults (input_of reader.new).now }
 {
     let layout = match reader.head() {

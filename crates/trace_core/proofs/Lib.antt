@@ -20,6 +20,7 @@ pub mod Ends
 pub mod Asking
 pub mod NamesPrinted
 pub mod Added
+pub mod InPlace
 pub mod Flowing
 pub mod Wholes
 pub mod Grammar

@@ -3,6 +3,7 @@ ghost use Rattle.std.specs.Prelude.{◌≡◌, ◌+◌, ◌≤◌, ◌++◌, len
 ghost use Rattle.larch_actions.specs.declared.event.Action.TheVariants.{TestAlert};
 ghost use Rattle.trace_core.specs.Text.{newline, first_line, layout_line, members, names_text, wait_text, action_text, event_line, end_line, value_line};
 
+use crate::digits::add_short_number;
 use itoa::Buffer;
 use larch_actions::{Action, CondId, Event, Layout, MutexId, ThreadId, ThreadSet};
 
@@ -19,6 +20,21 @@ pub fn add(buf: &mut [u8], at: usize, piece: &[u8]) -> usize
 
 /// Adds the number.
 pub fn add_number(buf: &mut [u8], at: usize, n: u64) -> usize
+    requires { at + 20 ≤ length buf.old }
+    ensures text { take result buf.new ≡ take at buf.old ++ decimal n }
+    ensures end { result ≡ at + length (decimal n) }
+    ensures near { result ≤ at + 20 }
+{
+    if n < 100_000_000 {
+        return add_short_number(buf, at, n);
+    }
+    add_long_number(buf, at, n)
+}
+
+// The same of a number of any size.
+#[cold]
+#[inline(never)]
+fn add_long_number(buf: &mut [u8], at: usize, n: u64) -> usize
     requires { at + 20 ≤ length buf.old }
     ensures text { take result buf.new ≡ take at buf.old ++ decimal n }
     ensures end { result ≡ at + length (decimal n) }
@@ -157,6 +173,7 @@ pub fn add_head(buf: &mut [u8], at: usize, layout: &Layout) -> usize
     let at = add(buf, at, b"firefly-trace 1\n");
     add_layout(buf, at, layout)
 }
+
 // Adds the end line.
 pub fn add_end(buf: &mut [u8], at: usize, count: u64) -> usize
     requires { at + 400 ≤ length buf.old }

@@ -6,6 +6,7 @@
 
 mod action;
 mod compose;
+mod digits;
 mod held;
 mod intake;
 pub mod laws;

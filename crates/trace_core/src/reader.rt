@@ -1,5 +1,5 @@
 //! A reader of trace texts.
-ghost use Rattle.std.specs.Prelude.{◌≡◌, ◌≢◌, ◌⊎◌, ◌≤◌, ◌++◌, ◌^◌, ◌-◌, ◌<◌, IfOk, IfErr, IfSome, IfNone};
+ghost use Rattle.std.specs.Prelude.{◌≡◌, ◌≢◌, ◌⊎◌, ◌≤◌, ◌++◌, ◌^◌, ◌-◌, ◌<◌, IfOk, IfErr, IfSome, IfNone, OnOk};
 ghost use Rattle.trace_core.specs.declared.intake.TextFault.{TextFault};
 ghost use Rattle.trace_core.specs.declared.progress.Phase.TheVariants as phase;
 ghost use Rattle.trace_core.specs.Text.{IsTrace, IsRest, first_line, layout_line, event_line};
@@ -57,6 +57,9 @@ impl<'a, I: Source> EventReader<'a, I> {
             ⊎ IsUndecided IsTrace IsLawful (λ l. first_line ++ layout_line l) (held_of self.old) }
         // What stays.
         ensures same_input { (input_of self.new).ghost_name ≡ (input_of self.old).ghost_name }
+        // A question that fails is told, and fails only where the bytes given don't decide: none is asked where they do.
+        ensures unfailed { OnOk result (I.faults (input_of self.new).now ≡ I.faults (input_of self.old).now) }
+        ensures told { IfErr result (λ fault. fault ≢ TextFault.Read → I.faults (input_of self.new).now ≡ I.faults (input_of self.old).now) }
         ensures later { I.faults (input_of self.old).now ≤ I.faults (input_of self.new).now }
     {
         begin(&mut self.progress, self.input)
@@ -85,6 +88,9 @@ impl<'a, I: Source> EventReader<'a, I> {
         ensures stays { (standing I.left self.old).phase ≢ phase.Events → self.new ≡ self.old }
         // What stays.
         ensures same_input { (input_of self.new).ghost_name ≡ (input_of self.old).ghost_name }
+        // A question that fails is told, and fails only where the bytes given don't decide: none is asked where they do.
+        ensures unfailed { OnOk result (I.faults (input_of self.new).now ≡ I.faults (input_of self.old).now) }
+        ensures told { IfErr result (λ fault. fault ≢ TextFault.Read → I.faults (input_of self.new).now ≡ I.faults (input_of self.old).now) }
         ensures later { I.faults (input_of self.old).now ≤ I.faults (input_of self.new).now }
     {
         match self.progress.phase {

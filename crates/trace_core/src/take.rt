@@ -1,5 +1,5 @@
 //! The line that comes next.
-ghost use Rattle.std.specs.Prelude.{◌≡◌, ◌⊎◌, ◌+◌, ◌<◌, ◌≤◌, length, IfOk, IfErr, OnOk, OnErr};
+ghost use Rattle.std.specs.Prelude.{◌≡◌, ◌≢◌, ◌⊎◌, ◌+◌, ◌<◌, ◌≤◌, length, IfOk, IfErr, OnOk, OnErr};
 ghost use Rattle.std.specs.Io.KnownBytes.{Consumes};
 ghost use Rattle.trace_core.specs.Lines.{IsPossible, IsAllowed, IsTextFrom, line_text, line_at};
 ghost use Rattle.trace_core.specs.Intake.{rest_of, room_of, HasReason, LacksAt};
@@ -56,6 +56,9 @@ pub fn take_line<I: Source>(
     ensures lacks { IfErr result (LacksAt (IsAllowed expect.now) (line_text expect.now) (room_of intake.old)
         (rest_of intake.old (I.left input.old)) (I.left input.new)) }
     ensures later { I.faults input.old ≤ I.faults input.new }
+    // A question that fails is told.
+    ensures unfailed { OnOk result (I.faults input.new ≡ I.faults input.old) }
+    ensures told { IfErr result (λ fault. fault ≢ TextFault.Read → I.faults input.new ≡ I.faults input.old) }
     // The source is asked only where the bytes held don't decide.
     ensures asks { IfOk result (λ x. ((input.new ≡ input.old) × (line_at expect.now intake.old.window ≡ Ok (x, intake.new.window)))
         ⊎ (line_at expect.now intake.old.window ≡ Err Stop.More)) }

@@ -1,4 +1,4 @@
-use Rattle.std.proofs.Common.{◌≡◌, ap, sym, ◌∙◌, refl, arith}
+use Rattle.std.proofs.Common.{◌∙◌, refl, arith}
 use Rattle.trace_check.proofs.UnderWay.{head_fault, fault_on, starts_on, step_on, fails_on, ends_on, few}
 use Rattle.trace_check.proofs.Fronts.{event_line_some}
 use Rattle.trace_check.proofs.checker.check_all.Goals as goal
@@ -7,6 +7,7 @@ pub loop-event-init : goal.loop-event-init
 loop-event-init g c = record {
   under_way = starts_on _ _ _ _ _ _ c.in-Ok.layout c.new-state.result refl refl c.requires.lines c.in-Ok.ensures.head c.head.ensures.later c.new-state.ensures.layout c.new-state.ensures.first;
   same_input = c.head.ensures.same_input;
+  unfailed = c.in-Ok.ensures.unfailed;
   later = c.head.ensures.later;
 }
 
@@ -29,6 +30,7 @@ loop-event-preserved g c =
     record {
       under_way = step_on _ _ _ _ _ _ _ _ _ _ c.in-Ok-Some.event c.requires.fits u taken c.in-Ok-apply.ensures.ok c.apply.ensures.layout c.next_event.ensures.later;
       same_input = c.next_event.ensures.same_input ∙ c.loop-event.invariant.same_input;
+      unfailed = c.in-Ok-Some.ensures.unfailed ∙ c.loop-event.invariant.unfailed;
       later = omega (arith, c.next_event.ensures.later, c.loop-event.invariant.later);
     }
 
