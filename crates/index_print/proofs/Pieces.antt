@@ -79,13 +79,7 @@ module _ (t0 t1 : Option (List ℕ)) (h0 : List ℕ) where
   pub front_of_three : (p q r : List ℕ) → AppendsFront t0 t1 (h0 ++ p) → AppendsFront t0 t1 (h0 ++ ((p ++ q) ++ r))
   front_of_three p q r k = front_of_two (p ++ q) r (front_of_two p q k)
 
-  pub front_of_four : (p q r s : List ℕ) → AppendsFront t0 t1 (h0 ++ p) → AppendsFront t0 t1 (h0 ++ (((p ++ q) ++ r) ++ s))
-  front_of_four p q r s k = front_of_two ((p ++ q) ++ r) s (front_of_three p q r k)
-
 -- the same bytes, as the calls put them
-pub regrouped : (p b m c e f : List ℕ) → p ++ b ++ m ++ c ++ e ++ f ≡ ((p ++ (b ++ m)) ++ c) ++ (e ++ f)
-regrouped p b m c e f = append_assoc (((p ++ b) ++ m) ++ c) e f ∙ ap (λ l. (l ++ c) ++ (e ++ f)) (append_assoc p b m)
-
 pub regrouped_word : (w b n e : List ℕ) → w ++ b ++ n ++ e ≡ (w ++ (b ++ n)) ++ e
 regrouped_word w b n e = ap (λ l. l ++ e) (append_assoc w b n)
 

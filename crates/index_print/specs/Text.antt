@@ -1,5 +1,5 @@
 -- The index text.
-use Rattle.std.specs.Prelude.{◌≡◌, ℕ, List, [], ◌∷◌, ◌++◌, length, decimal, codes, ◌==◌, ◌&&◌, not, Bool, if◌then◌else◌}
+use Rattle.std.specs.Prelude.{ℕ, List, [], ◌∷◌, ◌++◌, length, decimal, codes, ◌==◌, ◌&&◌, not, Bool, if◌then◌else◌}
 use Rattle.std.specs.List.{flat_map}
 use Rattle.word_index.specs.Index.{Hit, Row, Index}
 
@@ -21,9 +21,13 @@ escaped path = flat_map escaped_byte path
 abbrev pub word_line : Row → List ℕ
 word_line row = row.word ++ codes " " ++ decimal (length row.hits) ++ newline
 
+-- how often a file has the word, and on which line first
+abbrev pub hit_front : ℕ → ℕ → List ℕ
+hit_front count line = codes "  " ++ decimal count ++ codes " " ++ decimal line ++ codes " "
+
 -- a file that has the word: the count, the first line and the path
 abbrev pub hit_line : Hit → List ℕ
-hit_line hit = codes "  " ++ decimal hit.count ++ codes " " ++ decimal hit.line ++ codes " " ++ escaped hit.path ++ newline
+hit_line hit = hit_front hit.count hit.line ++ escaped hit.path ++ newline
 
 abbrev pub row_text : Row → List ℕ
 row_text row = word_line row ++ flat_map hit_line row.hits

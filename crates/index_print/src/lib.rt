@@ -6,6 +6,7 @@
 //! `firefly_outside`, `arrayvec` and `itoa`.
 #![tactic(auto)]
 
+mod front;
 mod lines;
 mod print;
 

@@ -1,4 +1,4 @@
-// Bytes on their way to a sink, in large pieces.
+//! Bytes on their way to a sink, in large pieces.
 ghost use Rattle.std.specs.Prelude.{◌≡◌, [], ◌∷◌, ◌++◌, OnOk, OnErr, decimal};
 ghost use Rattle.std.specs.List.{list_all};
 ghost use Rattle.std.specs.Io.KnownBytes.{Appends};

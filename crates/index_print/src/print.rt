@@ -1,4 +1,4 @@
-// The lines of the index text.
+//! The lines of the index text.
 ghost use Rattle.std.specs.Prelude.{◌≡◌, ◌<◌, ◌++◌, [], length, OnOk, OnErr, IsOk, slice_index_or};
 ghost use Rattle.std.specs.List.{flat_map};
 ghost use Rattle.std.specs.Io.KnownBytes.{Appends};
@@ -7,6 +7,7 @@ ghost use Rattle.word_index.specs.Index.{row_at, hit_at};
 ghost use Rattle.index_print.specs.Sent.{Puts};
 ghost use Rattle.index_print.specs.Text.{word_line, hit_line, row_text, skipped_line, index_text, escaped};
 
+use crate::front::{ROOM, write_front};
 use crate::lines::{Held, flush, put, put_path, put_path_line, put_with_number};
 use firefly_outside::{Sink, SinkFault};
 use word_index::Piece;
@@ -41,9 +42,9 @@ fn put_hit<O: Sink>(
     ensures cause { HasCause (O.faults out.old) (O.faults out.new) result }
 {
     let found = piece.hit(at, number);
-    put_with_number(held, b"  ", found.count as u64, out)?;
-    put_with_number(held, b" ", found.line as u64, out)?;
-    put(held, b" ", out)?;
+    let mut text = [0; ROOM];
+    let start = write_front(&mut text, found.count as u64, found.line as u64);
+    put(held, &text[start..], out)?;
     put_path_line(held, found.path, out)
 }
 

@@ -1,9 +1,12 @@
 -- Causes changed one by one.
-use Rattle.std.proofs.Common.{◌≡◌, ℕ, zero, suc, ◌+◌, ◌<◌, ◌≤◌, ◌⊎◌, inl, inr, eqb, List, [], ◌∷◌, length, refl, ap, sym, ◌∙◌, arith, eq-eqb, ne_eqb}
+use Rattle.std.proofs.Common.{◌≡◌, ℕ, zero, suc, ◌+◌, ◌<◌, ◌≤◌, ◌⊎◌, inl, inr, Bool, true, false, not, ◌&&◌, eqb, List, [], ◌∷◌, length, refl, ap, sym, ◌∙◌, arith, eq-eqb, ne_eqb}
 use Rattle.std.proofs.lemmas.Bool.{cases_order, cases_lt, cond-true, cond-false}
 use Rattle.larch_actions.specs.Actions.{put}
 use Rattle.larch_actions.specs.State.{shown_at}
+use Rattle.trace_picture.specs.declared.history.Origin.{Origin}
 use Rattle.trace_picture.specs.declared.causes.Cause.{Cause}
+use Rattle.trace_picture.specs.declared.causes.Cause.TheVariants.{Awaited, By}
+use Rattle.trace_picture.specs.Causes.{taken}
 
 -- past the end a list shows what is shown there
 pub past_end : {X Y : Type 0} (view : X → Y) (d : Y) (xs : List X) (i : ℕ) → length xs ≤ i → shown_at view d xs i ≡ d
@@ -21,6 +24,12 @@ put_here g t k x e = cond-true (eqb k t) x (g k) (eq-eqb k t e)
 
 put_there : (g : ℕ → Cause) (t k : ℕ) (x : Cause) → (k ≡ t → ⊥) → put g t x k ≡ g k
 put_there g t k x ne = cond-false (eqb k t) x (g k) (ne_eqb k t ne)
+
+-- one who stands in the condition, and isn't left there, was taken out
+pub freed_by : (c k : ℕ) (stays : Bool) (o : Origin) (was : Cause) → was ≡ Awaited k → k ≡ c → stays ≡ false → By o ≡ taken c stays o was
+freed_by c k stays o was e same goes =
+    let both : (eqb k c && not stays) ≡ true = rw (eq-eqb k c same, goes) refl in
+    sym (ap (taken c stays o) e ∙ cond-true (eqb k c && not stays) (By o) (Awaited k) both)
 
 module _ (h : ℕ → Cause → Cause) (f : ℕ → Cause) where
   pub partly_first : IsPartly h f 0 f

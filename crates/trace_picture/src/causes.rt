@@ -104,23 +104,6 @@ pub fn move_of_alert(t: ThreadId, action: &Action) -> Move
     }
 }
 
-// What the event makes of a cause that is awaited at the condition.
-fn freed(was: Cause, cond: u32, stays: bool, by: Origin) -> Cause
-    ensures { result ≡ taken cond stays by was }
-{
-    match was {
-        Cause::Awaited(k) => {
-            if k == cond && !stays {
-                Cause::By(by)
-            } else {
-                Cause::Awaited(k)
-            }
-        }
-        Cause::Never => Cause::Never,
-        Cause::By(other) => Cause::By(other),
-    }
-}
-
 // What the event makes of a cause that it makes come, where it is awaited.
 fn opened_by(was: Cause, by: Origin) -> Cause
     ensures { result ≡ opened by was }
@@ -175,6 +158,23 @@ impl Causes {
         self.entries[k as usize] = now;
     }
 
+    // What the event makes of a thread that may stand in the condition and may stay.
+    #[inline(always)]
+    fn free_one(&mut self, t: u32, cond: u32, stays: bool, by: Origin)
+        requires { t < 64 }
+        ensures { cause_of self.new ≡ put (cause_of self.old) t (taken cond stays by (cause_of self.old t)) }
+    {
+        match self.at(t) {
+            Cause::Awaited(k) => {
+                if k == cond && !stays {
+                    self.put(t, Cause::By(by));
+                }
+            }
+            Cause::Never => {}
+            Cause::By(_) => {}
+        }
+    }
+
     // What the event makes of all who stand in the condition, but for those left.
     #[inline(never)]
     fn free(&mut self, cond: u32, left: &ThreadSet, by: Origin)
@@ -182,9 +182,7 @@ impl Causes {
     {
         for t in 0..64 {
             let stays = left.has(ThreadId(t));
-            let was = self.at(t);
-            let now = freed(was, cond, stays, by);
-            self.put(t, now);
+            self.free_one(t, cond, stays, by);
         }
     }
 

@@ -1,6 +1,4 @@
-use Rattle.std.proofs.Common.{[]}
-use Rattle.index_print.proofs.Pieces.{puts_behind, puts_failed}
-use Rattle.index_print.proofs.Fronts.{front_of_more}
+use Rattle.index_print.proofs.Pieces.{puts_behind}
 use Rattle.index_print.proofs.lines.put_both.Goals as goal
 
 pub returns-clause-text : goal.returns-clause-text

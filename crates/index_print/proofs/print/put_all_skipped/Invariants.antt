@@ -1,8 +1,7 @@
 use Rattle.std.proofs.Common.{◌≤◌, take}
 use Rattle.std.specs.List.{flat_map}
-use Rattle.word_index.specs.Index.{row_at}
 use Rattle.index_print.specs.Sent.{Sends}
-use Rattle.index_print.specs.Text.{hit_line, row_text, skipped_line}
+use Rattle.index_print.specs.Text.{skipped_line}
 use Rattle.index_print.proofs.print.put_all_skipped.Given as goal
 
 abbrev pub invariant-loop-at : goal.invariant-loop-at

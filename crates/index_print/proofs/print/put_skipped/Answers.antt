@@ -1,4 +1,4 @@
-use Rattle.std.proofs.Common.{◌++◌, codes, append_assoc}
+use Rattle.std.proofs.Common.{codes, append_assoc}
 use Rattle.index_print.specs.Text.{newline, escaped}
 use Rattle.index_print.proofs.Pieces.{puts_then, puts_failed, front_of_two}
 use Rattle.index_print.proofs.print.put_skipped.Goals as goal

@@ -13,8 +13,9 @@ pub loop-t-preserved : goal.loop-t-preserved
 loop-t-preserved c =
     let h : ℕ → Cause → Cause = λ k. taken c.args.cond (in_set c.args.left.now k) c.args.by in
     let stays = c.has-stays.ensures in
-    partly_more h (cause_of c.args.self.now) c.loop-t.t (cause_of c.loop-t.self) (cause_of c.put.new.self) c.freed-now.result c.loop-t.invariant
-    (c.freed-now.ensures ∙ (λ i. taken c.args.cond (stays i) c.args.by (c.at-was.ensures i))) c.put.ensures
+    let was = cause_of c.loop-t.self c.loop-t.t in
+    partly_more h (cause_of c.args.self.now) c.loop-t.t (cause_of c.loop-t.self) (cause_of c.free_one.new.self) (taken c.args.cond c.has-stays.result c.args.by was) c.loop-t.invariant
+    (λ i. taken c.args.cond (stays i) c.args.by was) c.free_one.ensures
 
 pub returns : goal.returns
 returns c =
