@@ -1,0 +1,4 @@
+mod Alone
+mod Passing
+mod Rising
+mod Telling

@@ -1,0 +1,24 @@
+//! An example of buffers: three threads in a row, with a buffer between each two.
+//!
+//! Promises: in every schedule what comes out is what went in, each number worked on once and in order. Nothing is left in the buffers
+//! of the package, which was closed. Stands on `bounded_buffer`, and shows how a stage hands on its items and then that there are no more,
+//! and what follows from the shares of threads of which one alone puts into a buffer and one alone takes from it.
+#![tactic(auto)]
+
+mod calls;
+mod line;
+mod stages;
+
+use line::run;
+use std::io;
+
+fn main(rt: HostRuntime) -> io::Result<()> {
+    let (squares, closed) = run(&rt, rt.alloc(), 1000)?;
+    let last = squares.last().copied().unwrap_or(0);
+    let left = closed.values()[1].len();
+    println!(rt;
+        "{} squares came out, the last is {last}, and {left} items are left",
+        squares.len()
+    )?;
+    Ok(())
+}

@@ -1,0 +1,127 @@
+//! What each of the three threads does.
+ghost use Rattle.std.specs.Prelude.{◌≡◌, ◌++◌, ◌∷◌, [], false};
+ghost use Rattle.nub.specs.Ended.{IsFirst};
+ghost use Rattle.pipeline.specs.Stages.{squared, HasEnded, IsMade, IsStage, IsTaken, IsWorked};
+ghost use Rattle.pipeline.specs.Tallies.{HasBuffers};
+
+use crate::calls::{Numbers, put_in, shut_off, take_from};
+use nub::{Package, Thread};
+use std::alloc::Global;
+use std::sync::Wait;
+
+/// What came out, and whether there was no memory for some of it.
+#[derive(Drop)]
+pub struct Came {
+    pub items: Vec<u64>,
+    pub lost: bool,
+}
+
+impl Came {
+    /// Nothing has come.
+    fn none(alloc: Global) -> Came
+        ensures { (result.items.items ≡ []) × (result.lost ≡ false) }
+    {
+        Came {
+            items: Vec::new(alloc),
+            lost: false,
+        }
+    }
+
+    /// Adds the item, if there is memory for it.
+    fn add(&mut self, item: u64)
+        ensures { self.new.lost ≡ false → (self.old.lost ≡ false) × (self.new.items.items ≡ self.old.items.items ++ item ∷ []) }
+    {
+        if self.items.push(item).is_err() {
+            self.lost = true;
+        }
+    }
+}
+
+/// The work on one number: its square, modulo 2^64.
+fn square(number: u64) -> u64
+    ensures { result ≡ squared number }
+{
+    number.wrapping_mul(number)
+}
+
+/// The maker: puts the numbers below `count` into the first buffer, and shuts it.
+fn make<R: Wait>(
+    rt: &R,
+    p: &Package<Numbers>,
+    mut me: Thread<Numbers>,
+    count: u32,
+) -> Thread<Numbers>
+    requires named { HasBuffers p.now.layout }
+    requires first { IsFirst p.now (λ w t. []) me.number me }
+    ensures { HasEnded (IsMade count) p.now me.number result }
+{
+    for i in 0..count {
+        if !put_in(rt, p, &mut me, 0, i as u64) {
+            return me;
+        }
+    }
+    shut_off(rt, p, &mut me, 0);
+    me
+}
+
+/// The worker: takes each number from the first buffer, puts its square into the second, and shuts that when no more come.
+fn square_all<R: Wait>(rt: &R, p: &Package<Numbers>, mut me: Thread<Numbers>) -> Thread<Numbers>
+    requires named { HasBuffers p.now.layout }
+    requires first { IsFirst p.now (λ w t. []) me.number me }
+    ensures { HasEnded IsWorked p.now me.number result }
+{
+    for _ in rt.forever() {
+        match take_from(rt, p, &mut me, 0) {
+            Ok(number) => {
+                if !put_in(rt, p, &mut me, 1, square(number)) {
+                    return me;
+                }
+            }
+            Err(_) => {
+                shut_off(rt, p, &mut me, 1);
+                return me;
+            }
+        }
+    }
+    unreachable!()
+}
+
+/// The taker: takes all from the second buffer.
+fn take_all<R: Wait>(
+    rt: &R,
+    alloc: Global,
+    p: &Package<Numbers>,
+    mut me: Thread<Numbers>,
+) -> (Thread<Numbers>, Came)
+    requires named { HasBuffers p.now.layout }
+    requires first { IsFirst p.now (λ w t. []) me.number me }
+    ensures { HasEnded (IsTaken result.1) p.now me.number result.0 }
+{
+    let mut came = Came::none(alloc);
+    for _ in rt.forever() {
+        match take_from(rt, p, &mut me, 1) {
+            Ok(item) => came.add(item),
+            Err(_) => return (me, came),
+        }
+    }
+    unreachable!()
+}
+
+/// The stage of the thread: thread 0 makes, thread 1 works, and what thread 2 takes is what comes out.
+pub fn stage<R: Wait>(
+    rt: &R,
+    alloc: Global,
+    p: &Package<Numbers>,
+    me: Thread<Numbers>,
+    count: u32,
+) -> (Thread<Numbers>, Came)
+    requires named { HasBuffers p.now.layout }
+    requires first { IsFirst p.now (λ w t. []) me.number me }
+    ensures { HasEnded (IsStage count result.1 me.number) p.now me.number result.0 }
+{
+    match me.number() {
+        0 => (make(rt, p, me, count), Came::none(alloc)),
+        1 => (square_all(rt, p, me), Came::none(alloc)),
+        _ => take_all(rt, alloc, p, me),
+    }
+}
