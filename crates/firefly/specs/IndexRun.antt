@@ -1,5 +1,5 @@
 -- What an index run does to the trees, and why it may give no index.
-use Rattle.std.specs.Prelude.{◌≡◌, ℕ, suc, ◌+◌, ◌<◌, ◌≤◌, Bool, List, ◌++◌, length, nat_lt, if◌then◌else◌, slice_index_or, Option, Some, None, IfSome, Contains}
+use Rattle.std.specs.Prelude.{◌≡◌, ℕ, suc, ◌+◌, ◌<◌, ◌≤◌, Bool, List, ◌++◌, length, nat_lt, if◌then◌else◌, slice_index_or, Option, Some, None, IfSome}
 use Rattle.firefly_outside.specs.Causes.{Rose}
 use Rattle.firefly_outside.specs.Trees.{Told, Path, Calls}
 use Rattle.firefly_outside.specs.Under.{AreMany}
@@ -10,6 +10,7 @@ use Rattle.larch_actions.specs.Actions.{by_thread}
 use Rattle.word_index.specs.Index.{Index}
 use Rattle.walker.specs.Closing.{IsWhole, IsFaultUnder, most_dirs}
 use Rattle.indexer.specs.declared.plan.Plan.{Plan}
+use Rattle.indexer.specs.Says.{FailsSince}
 use Rattle.indexer.specs.Turns.{release_count}
 use Rattle.command_line.specs.Grammar.{Options}
 use Rattle.firefly.specs.declared.status.Status.{Status}
@@ -61,14 +62,14 @@ pub record IsAt (old new : List (Option Look)) (place : ℕ) (before now : Look)
 abbrev pub ShowsWork : Options → List (Option Look) → List (Option Look) → List Event → Type 0
 ShowsWork o old new events = (k : ℕ) (a b : Look) → k < o.walkers + o.parsers → IsAt old new k a b → IfSome a.told (λ t. CallsOf (kind_of_worker o k) a.calls b.calls (by_thread (suc k) events))
 
--- a call on one of the trees failed at this path: its count rose, and where it tells, the path is now among those that failed, is reached
--- from the directory, and may fail or isn't in the tree as what its entry says
+-- a call on one of the trees failed at this path: its count rose, and where it tells, the path failed in this call, is reached from the
+-- directory, and may fail or isn't in the tree as what its entry says
 pub record FailedAt (o : Options) (old new : List (Option Look)) (path : Path) : Type 0 where
   pub before : Look
   pub now : Look
   pub among : Among old new before now
   pub rose : Rose before.faults now.faults
-  pub told : IfSome before.told (λ t. IsFaultUnder t o.directory before.weak path × Contains now.calls.failed path)
+  pub told : IfSome before.told (λ t. IsFaultUnder t o.directory before.weak path × FailsSince before.calls now.calls path)
 
 -- why there is no index: each status by its cause
 abbrev pub NoIndex : Options → List (Option Look) → List (Option Look) → Change → Status → Type 0

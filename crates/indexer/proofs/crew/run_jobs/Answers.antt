@@ -1,0 +1,10 @@
+use denote.Param.Send.{IsSend, sendable, Quiet-if}
+use mir.Syntax.{of_param}
+use Rattle.indexer.proofs.crew.run_jobs.Goals as goal
+
+pub at_once_beside-requires-clause-threads : goal.at_once_beside-requires-clause-threads
+at_once_beside-requires-clause-threads g c κs within = λ n x at. (
+  (c.requires.layout, c.requires.jobs n x at),
+  (record { owned = c.type_bounds.send-S.owned; leaving = λ k. Quiet-if (k (of_param 1)) _ _ (λ x w. tt) (λ x w. tt) },
+   search (sendable, c.type_bounds.sync-R) depth 20, search (sendable, c.type_bounds.sync-G) depth 20),
+)
