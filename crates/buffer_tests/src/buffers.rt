@@ -1,7 +1,8 @@
 //! Tests of put, take and shut.
 use crate::run::run;
-use crate::work::{ITEMS, Left, Task};
+use crate::work::{ITEMS, Left, MANY, Task};
 use bounded_buffer::{PutEnd, TakeEnd};
+use std::alloc::{AllocError, Global};
 use std::test::Fail;
 
 // Items come out in the order in which they were put. A shut buffer takes no more, and gives what is left.
@@ -84,5 +85,71 @@ fn each_item_once(rt: HostRuntime) -> Result<(), Fail> {
     assert_eq!(rt; came.taken, 1000);
     assert_eq!(rt; came.numbers, 1000);
     assert_eq!(rt; came.items, 1000);
+    Ok(())
+}
+
+/// How often each item was taken.
+fn counted(alloc: Global, left: &[Left]) -> Result<Vec<u32>, AllocError> {
+    let mut counts = vec![in alloc; 0u32; MANY]?;
+    for one in left {
+        let Left::TookMany(took) = one else {
+            continue;
+        };
+        for item in &took.items {
+            if let Some(count) = counts.get_mut(*item as usize) {
+                *count = count.saturating_add(1);
+            }
+        }
+    }
+    Ok(counts)
+}
+
+/// How many items threads took, and how many of these they had no memory for.
+fn how_many(left: &[Left]) -> (usize, u32) {
+    let mut all: usize = 0;
+    let mut lost: u32 = 0;
+    for one in left {
+        let Left::TookMany(took) = one else {
+            continue;
+        };
+        all = all.saturating_add(took.items.len());
+        lost = lost.saturating_add(took.lost);
+    }
+    (all, lost)
+}
+
+// Four threads put 50,000 items each into a buffer of eight places, four others take them: 200,000 were taken, each once.
+#[test]
+fn many_items_once(rt: HostRuntime) -> Result<(), Fail> {
+    let (closed, left) = run(&rt, rt.alloc(), 8, 8, Task::PassMany, false)?;
+    for one in &left {
+        if let Left::Refused(refused) = one {
+            assert_eq!(rt; *refused, 0);
+        }
+    }
+    assert_eq!(rt; how_many(left.as_slice()), (MANY, 0));
+    for count in &counted(rt.alloc(), left.as_slice())? {
+        assert_eq!(rt; *count, 1);
+    }
+    for ring in closed.values() {
+        assert_eq!(rt; ring.taken(), 200_000);
+        assert!(rt; ring.is_empty());
+    }
+    Ok(())
+}
+
+// Four threads take from an empty buffer that nobody puts into, and a fifth alerts them: each take ends by the alert, which is gone then.
+#[test]
+fn all_takers_cancelled(rt: HostRuntime) -> Result<(), Fail> {
+    let (_, left) = run(&rt, rt.alloc(), 5, 8, Task::Cancel, false)?;
+    let mut cancelled: u32 = 0;
+    for one in &left {
+        if let Left::AlertedTake(taken, still) = one {
+            assert_eq!(rt; *taken, Err(TakeEnd::Alerted));
+            assert!(rt; !*still);
+            cancelled = cancelled.saturating_add(1);
+        }
+    }
+    assert_eq!(rt; cancelled, 4);
     Ok(())
 }

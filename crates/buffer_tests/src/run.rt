@@ -1,5 +1,5 @@
 //! A package with one buffer, whose threads do a task.
-ghost use Rattle.std.specs.Prelude.{◌≤◌, ◌≡◌, ◌∷◌, [], IfOk};
+ghost use Rattle.std.specs.Prelude.{◌<◌, ◌≤◌, ◌≡◌, ◌∷◌, [], IfOk};
 ghost use Rattle.bounded_buffer.specs.Rings.{fresh};
 ghost use Rattle.nub.specs.Ended.{IsDone};
 ghost use Rattle.buffer_tests.specs.Free.{IsFree, HasBuffer};
@@ -50,9 +50,9 @@ pub fn run<R: Threads + Wait + Sync>(
         alloc,
         threads,
         &|me: Thread<Numbers>| -> (Thread<Numbers>, Left)
-            requires { HasBuffer pkg.layout × IsFree pkg me.number me }
+            requires { HasBuffer pkg.layout × IsFree pkg me.number me × (me.number < pkg.layout.threads) }
             ensures { IsDone pkg me.number result.0 }
-        { work(rt, &pkg, me, what, &ended) },
+        { work(rt, alloc, &pkg, me, what, &ended) },
     )?;
     Ok((close_package(pkg, threads)?, left))
 }

@@ -1,10 +1,12 @@
 //! What one thread of a test does, and what it leaves.
+ghost use Rattle.std.specs.Prelude.{◌<◌};
 ghost use Rattle.nub.specs.Ended.{IsDone};
 ghost use Rattle.buffer_tests.specs.Free.{IsFree, HasBuffer};
 
 use crate::calls::{Numbers, PutAnswer, TakeAnswer, put_one, shut_it, take_one};
 use alerts::{alert, test_alert};
 use nub::{Package, Thread, ThreadId};
+use std::alloc::Global;
 use std::sync::Wait;
 use std::sync::atomic::{AtomicU64, Ordering};
 
@@ -12,6 +14,11 @@ use std::sync::atomic::{AtomicU64, Ordering};
 pub const ITEMS_OF_ONE: u32 = 500;
 
 pub const ITEMS: usize = 1000;
+
+/// So many items are put by one of four threads, and by all four.
+pub const MANY_OF_ONE: u32 = 50_000;
+
+pub const MANY: usize = 200_000;
 
 /// What each thread of a test does.
 #[derive(Clone, Copy)]
@@ -22,6 +29,10 @@ pub enum Task {
     AlertedTake,
     /// Two threads put, and the one that ends last shuts the buffer; the others take until it is shut and empty.
     Pass,
+    /// Four threads put many items, and the others take them, in the same way.
+    PassMany,
+    /// Each thread takes once from an empty buffer, but the last, which alerts all others.
+    Cancel,
 }
 
 /// The answers of one thread that put, takes and shuts, in the order of its calls.
@@ -42,6 +53,13 @@ pub struct Taken {
     pub items: [Option<u32>; ITEMS],
 }
 
+/// The items that a thread took, in its order, and how many it had no memory for.
+#[derive(Drop)]
+pub struct TookMany {
+    pub items: Vec<u32>,
+    pub lost: u32,
+}
+
 /// What a thread leaves.
 #[derive(Drop)]
 pub enum Left {
@@ -51,6 +69,9 @@ pub enum Left {
     /// How many puts were refused.
     Refused(u32),
     Taken(Taken),
+    TookMany(TookMany),
+    /// It has alerted the others.
+    Told,
 }
 
 /// Puts two items, takes one, shuts the buffer, and then puts once and takes twice.
@@ -97,12 +118,46 @@ fn alerted_take<R: Wait>(
     (me, Left::AlertedTake(taken, still))
 }
 
-/// Puts as many items, from this one on. The thread that ends last shuts the buffer.
+/// Takes once, and then tests whether it is alerted.
+fn cancelled_take<R: Wait>(
+    rt: &R,
+    pkg: &Package<Numbers>,
+    mut me: Thread<Numbers>,
+) -> (Thread<Numbers>, Left)
+    requires named { HasBuffer pkg.now.layout }
+    requires free { IsFree pkg.now me.number me }
+    ensures { IsDone pkg.now me.number result.0 }
+{
+    let taken = take_one(rt, pkg, &mut me);
+    let still = test_alert(rt, pkg, &mut me);
+    (me, Left::AlertedTake(taken, still))
+}
+
+/// Alerts all threads before this one.
+fn alert_others<R: Wait>(
+    rt: &R,
+    pkg: &Package<Numbers>,
+    mut me: Thread<Numbers>,
+) -> (Thread<Numbers>, Left)
+    requires free { IsFree pkg.now me.number me }
+    requires within { me.number < pkg.now.layout.threads }
+    ensures { IsDone pkg.now me.number result.0 }
+{
+    let others = me.number();
+    for other in 0..others {
+        alert(rt, pkg, &mut me, ThreadId(other));
+    }
+    (me, Left::Told)
+}
+
+/// Puts as many items, from this one on. The thread that ends last, after so many others, shuts the buffer.
 fn put_many<R: Wait>(
     rt: &R,
     pkg: &Package<Numbers>,
     mut me: Thread<Numbers>,
     first: u32,
+    times: u32,
+    others: u64,
     ended: &AtomicU64,
 ) -> (Thread<Numbers>, Left)
     requires named { HasBuffer pkg.now.layout }
@@ -110,12 +165,12 @@ fn put_many<R: Wait>(
     ensures { IsDone pkg.now me.number result.0 }
 {
     let mut refused: u32 = 0;
-    for i in 0..ITEMS_OF_ONE {
+    for i in 0..times {
         if put_one(rt, pkg, &mut me, first.wrapping_add(i)).is_err() {
             refused = refused.saturating_add(1);
         }
     }
-    if ended.fetch_add(1, Ordering::SeqCst) == 1 {
+    if ended.fetch_add(1, Ordering::SeqCst) == others {
         shut_it(rt, pkg, &mut me);
     }
     (me, Left::Refused(refused))
@@ -145,9 +200,34 @@ fn take_all<R: Wait>(
     unreachable!()
 }
 
+/// Takes until the buffer is shut and empty, and keeps all items.
+fn take_many<R: Wait>(
+    rt: &R,
+    alloc: Global,
+    pkg: &Package<Numbers>,
+    mut me: Thread<Numbers>,
+) -> (Thread<Numbers>, Left)
+    requires named { HasBuffer pkg.now.layout }
+    requires free { IsFree pkg.now me.number me }
+    ensures { IsDone pkg.now me.number result.0 }
+{
+    let mut items = Vec::new(alloc);
+    let mut lost: u32 = 0;
+    for _ in rt.forever() {
+        let Ok((_, item)) = take_one(rt, pkg, &mut me) else {
+            return (me, Left::TookMany(TookMany { items, lost }));
+        };
+        if items.push(item).is_err() {
+            lost = lost.saturating_add(1);
+        }
+    }
+    unreachable!()
+}
+
 /// Does the task.
 pub fn work<R: Wait>(
     rt: &R,
+    alloc: Global,
     pkg: &Package<Numbers>,
     me: Thread<Numbers>,
     what: Task,
@@ -155,6 +235,7 @@ pub fn work<R: Wait>(
 ) -> (Thread<Numbers>, Left)
     requires named { HasBuffer pkg.now.layout }
     requires free { IsFree pkg.now me.number me }
+    requires within { me.number < pkg.now.layout.threads }
     ensures { IsDone pkg.now me.number result.0 }
 {
     let number = me.number();
@@ -162,9 +243,23 @@ pub fn work<R: Wait>(
         Task::InTurn => in_turn(rt, pkg, me),
         Task::AlertedTake => alerted_take(rt, pkg, me),
         Task::Pass => match number {
-            0 => put_many(rt, pkg, me, 0, ended),
-            1 => put_many(rt, pkg, me, ITEMS_OF_ONE, ended),
+            0 => put_many(rt, pkg, me, 0, ITEMS_OF_ONE, 1, ended),
+            1 => put_many(rt, pkg, me, ITEMS_OF_ONE, ITEMS_OF_ONE, 1, ended),
             _ => take_all(rt, pkg, me),
         },
+        Task::PassMany => {
+            if number < 4 {
+                put_many(rt, pkg, me, number * MANY_OF_ONE, MANY_OF_ONE, 3, ended)
+            } else {
+                take_many(rt, alloc, pkg, me)
+            }
+        }
+        Task::Cancel => {
+            if number < 4 {
+                cancelled_take(rt, pkg, me)
+            } else {
+                alert_others(rt, pkg, me)
+            }
+        }
     }
 }

@@ -1,6 +1,6 @@
-use Rattle.std.proofs.Common.{[], rules, sym, subst, lit≤}
+use Rattle.std.proofs.Common.{[], ◌<◌, arith, ap, rules, sym, subst, lit≤}
 use Rattle.nub.specs.Ended.{IsDone}
-use Rattle.nub.proofs.Users.{idle_own}
+use Rattle.nub.proofs.Users.{from_at, idle_own}
 use Rattle.bounded_buffer.specs.Rings.{fresh}
 use Rattle.bounded_buffer.proofs.Opening.{rings_begin}
 use Rattle.buffer_tests.specs.Free.{HasBuffer}
@@ -15,9 +15,14 @@ open_package-requires-clause-holds g c κs =
 pub at_once-requires-after_bounds : goal.at_once-requires-after_bounds
 at_once-requires-after_bounds g c κs within = λ n t at.
     let few = c.requires.threads in
-    let layout = c.in_ok-pkg.ensures.package.0 in (
+    let layout = c.in_ok-pkg.ensures.package.0 in
+    let low = (from_at c.in_ok-pkg.threads.items n t at).0 in
+    let number = (c.in_ok-pkg.ensures.threads n t at).number in
+    let count = c.in_ok-pkg.ensures.count in
+    let wide = ap (λ l. l.threads) layout in (
       subst (λ l. HasBuffer l) (sym layout) (record { threads = few.0; mutexes = lit≤ tt; conditions = lit≤ tt }),
       record { share = []; idle = idle_own c.in_ok-pkg.pkg (λ w t. []) n t (c.in_ok-pkg.ensures.threads n t at) },
+      omega arith,
     )
 
 pub close_package-requires-clause-threads : goal.close_package-requires-clause-threads
