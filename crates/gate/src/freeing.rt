@@ -76,7 +76,7 @@ pub fn free<U: Uses, C: Change<U>, R: Wait>(
     // The length is read after the clearing: a thread that pushed itself before the clearing is seen here, one that pushes later finds the
     // bit clear at its second test. Read before, a push between the two would be seen by neither.
     let length = read_length(p, me, at);
-    if length != 0 || owes {
+    if (length != 0) | owes {
         wake_after(rt, p, me, at, length);
     }
 }
