@@ -55,7 +55,7 @@ module _ (fits : IndexItem → Type 0) where
       let logged : All fits rule.log = without_numbers 0 rule.log (All-permutation Fits (all_puts m shares) (enumerate_from 0 rule.log) rule.puts put_all) in
       let first : List IndexItem = take q.taken rule.log in
       let took_all : All Fits (all_takes m shares) = All-permutation Fits (enumerate_from 0 first) (all_takes m shares) (IsPermutation-sym (all_takes m shares) (enumerate_from 0 first) rule.takes)
-              (with_numbers 0 first (All-take fits q.taken rule.log logged)) in
+      (with_numbers 0 first (All-take fits q.taken rule.log logged)) in
       of_each (λ (u : Used IndexItem). u.takes) m shares took_all t s there
 
   at_place : (values : List IndexValue) (m : ℕ) → m < length values → (v : IndexValue) × (get_elem? (map ring_of values) m ≡ some (ring_of v))

@@ -111,8 +111,10 @@ module _ (o : Option Told) (root : Path) where
   take_parts (Ok (n, FileItem f)) k u = ((λ h. h), (λ h. (All-tail (λ (p : ℕ × IndexItem). IsPieceItem o root p.1) (n, FileItem f) u.takes h, All-nil (IsFilesPiece o root))))
   take_parts (Ok (n, PieceItem x)) k u = (
     (λ h. h),
-    (λ h. (All-tail (λ (p : ℕ × IndexItem). IsPieceItem o root p.1) (n, PieceItem x) u.takes h,
-      All-cons (IsFilesPiece o root) x [] (All-head (λ (p : ℕ × IndexItem). IsPieceItem o root p.1) (n, PieceItem x) u.takes h) (All-nil (IsFilesPiece o root)))),
+    (λ h. (
+      All-tail (λ (p : ℕ × IndexItem). IsPieceItem o root p.1) (n, PieceItem x) u.takes h,
+      All-cons (IsFilesPiece o root) x [] (All-head (λ (p : ℕ × IndexItem). IsPieceItem o root p.1) (n, PieceItem x) u.takes h) (All-nil (IsFilesPiece o root)),
+    )),
   )
   take_parts (Err ClosedEmpty) k u = ((λ h. h), (λ h. (h, All-nil (IsFilesPiece o root))))
   take_parts (Err TakeAlerted) k u = ((λ h. h), (λ h. (h, All-nil (IsFilesPiece o root))))

@@ -21,12 +21,7 @@ const FILES: BufferAt = BufferAt {
 
 // Puts a file's path into the buffer, and answers whether the thread may go on: it may unless it was alerted. A buffer that is shut takes
 // none.
-fn put_file<R: Wait>(
-    rt: &R,
-    p: &Package<IndexUses>,
-    me: &mut Thread<IndexUses>,
-    file: Text,
-) -> bool
+fn put_file<R: Wait>(rt: &R, p: &Package<IndexUses>, me: &mut Thread<IndexUses>, file: Text) -> bool
     requires layout { HasLists p.now.layout }
     requires between { IsBetween p.now me.old }
     ensures { (o : Option Told) (root : Path) (m : ℕ) → HasCalled o root [] p.now m 0 me.old me.new }
@@ -61,11 +56,7 @@ pub fn put_files<R: Wait>(
 }
 
 // Takes the path of a file, if the buffer gives one.
-fn take_file<R: Wait>(
-    rt: &R,
-    p: &Package<IndexUses>,
-    me: &mut Thread<IndexUses>,
-) -> Option<Text>
+fn take_file<R: Wait>(rt: &R, p: &Package<IndexUses>, me: &mut Thread<IndexUses>) -> Option<Text>
     requires layout { HasLists p.now.layout }
     requires between { IsBetween p.now me.old }
     ensures { (o : Option Told) (root : Path) → HasCalled o root [] p.now 1 1 me.old me.new }

@@ -8,11 +8,11 @@ use crate::findings::Findings;
 use crate::job::Job;
 use crate::mergers::merge_all;
 use crate::parsing::parse;
-use package_crew::Gate;
 use crate::uses::IndexUses;
 use crate::walking::walk;
 use firefly_outside::{Kind, Tree};
 use nub_rule::{Package, Thread};
+use package_crew::Gate;
 use std::alloc::Global;
 use std::sync::Wait;
 
