@@ -48,9 +48,9 @@ module _ {S : Type 0} (tree : S → Option Told) (weak : S → List Path) (fault
   all_back n old new h k s e = ⊎_elim
       (λ low. let w = h.workers k s low e in (w.0, w.1, is_same s w.0 w.2))
       (λ high. ⊎_elim
-          (λ here. let w = h.closing s (ap (λ i. slice_index_or old i None) (sym here) ∙ e) in (w.0, ap (λ i. slice_index_or new i None) here ∙ w.1, is_same s w.0 w.2))
-          (λ apart. (s, h.others k None (omega (arith, high, apart)) ∙ e, same_look s))
-          (cases_eq k n))
+      (λ here. let w = h.closing s (ap (λ i. slice_index_or old i None) (sym here) ∙ e) in (w.0, ap (λ i. slice_index_or new i None) here ∙ w.1, is_same s w.0 w.2))
+      (λ apart. (s, h.others k None (omega (arith, high, apart)) ∙ e, same_look s))
+      (cases_eq k n))
       (cases_lt k n)
 
   -- no count rose
@@ -61,9 +61,9 @@ module _ {S : Type 0} (tree : S → Option Told) (weak : S → List Path) (fault
   all_still walkers n threads old new back used k s r e f = ⊎_elim
       (λ low. (used.workers k s r low e f).none_rose)
       (λ high. ⊎_elim
-          (λ here. used.closing s r (ap (λ i. slice_index_or old i None) (sym here) ∙ e) (ap (λ i. slice_index_or new i None) (sym here) ∙ f))
-          (λ apart. ap faults (sym (same_Some s r (sym e ∙ (sym (back.others k None (omega (arith, high, apart))) ∙ f)))))
-          (cases_eq k n))
+      (λ here. used.closing s r (ap (λ i. slice_index_or old i None) (sym here) ∙ e) (ap (λ i. slice_index_or new i None) (sym here) ∙ f))
+      (λ apart. ap faults (sym (same_Some s r (sym e ∙ (sym (back.others k None (omega (arith, high, apart))) ∙ f)))))
+      (cases_eq k n))
       (cases_lt k n)
 
   pub no_rise : (old new : List (Option S)) → AreStill old new → NoneRose (looks_of look old) (looks_of look new)

@@ -15,4 +15,4 @@ returns-in-Ok-clause-answers g c =
     let piece = c.in-Ok.piece in
     let printed = subst (λ n. Prints (index_text piece) Done out (change_of g.N.Sink.held g.N.Sink.faults n c.print.new.notes) c.print.result) c.in-Ok.ensures.quiet c.print.ensures in
     index_printed (options_of c.args.options.now) (looks_of look c.args.trees.now) (looks_of look c.index_by.new.trees) out (change_of g.N.Sink.held g.N.Sink.faults c.args.notes.now c.print.new.notes) piece c.print.result
-        c.in-Ok.ensures.is_index c.in-Ok.ensures.none_rose printed
+    c.in-Ok.ensures.is_index c.in-Ok.ensures.none_rose printed

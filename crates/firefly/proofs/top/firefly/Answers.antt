@@ -35,4 +35,3 @@ returns-in-Err-Memory-clause-kept g c = λ _. kept-same _ c.requires.agree
 
 pub returns-in-Ok-Index-clause-kept : goal.returns-in-Ok-Index-clause-kept
 returns-in-Ok-Index-clause-kept g c = c.run_index.ensures.kept
-

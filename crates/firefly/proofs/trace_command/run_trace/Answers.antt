@@ -27,12 +27,12 @@ returns-in-Ok-clause-answers g c =
     let bytes = trace_text c.in-Ok.closed.layout w.0 [] in
     let printed = subst (λ n. Prints bytes Done out (change_of g.N.Sink.held g.N.Sink.faults n c.print_trace.new.notes) c.print_trace.result) c.in-Ok.ensures.quiet (c.print_trace.ensures.printed w.0 w.1) in
     trace_printed (options_of c.args.options.now) (looks_of look c.args.trees.now) (looks_of look c.index_by.new.trees) out (change_of g.N.Sink.held g.N.Sink.faults c.args.notes.now c.print_trace.new.notes) bytes c.print_trace.result
-        (record {
-          events = w.0;
-          trace = record { reads = subst (λ (l : Layout). ReadsAs bytes l w.0 []) run.layout (c.print_trace.ensures.reads w.0 w.1); closed = w.2.closed };
-          piece = c.in-Ok._piece;
-          is_index = c.in-Ok.ensures.is_index;
-          none_rose = c.in-Ok.ensures.none_rose;
-          work = c.in-Ok.ensures.work w.0 w.1;
-        })
-        printed
+    (record {
+      events = w.0;
+      trace = record { reads = subst (λ (l : Layout). ReadsAs bytes l w.0 []) run.layout (c.print_trace.ensures.reads w.0 w.1); closed = w.2.closed };
+      piece = c.in-Ok._piece;
+      is_index = c.in-Ok.ensures.is_index;
+      none_rose = c.in-Ok.ensures.none_rose;
+      work = c.in-Ok.ensures.work w.0 w.1;
+    })
+    printed
