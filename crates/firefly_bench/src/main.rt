@@ -4,15 +4,20 @@
 
 mod adding;
 mod calling;
+mod passing;
 mod playing;
+mod reading;
 mod rounds;
 mod turning;
+mod waking;
 mod words;
 
 use adding::{Added, add_at_once};
 use anyhow::{Context, Result};
 use calling::call_alone;
+use passing::pass_at_once;
 use playing::{Play, play_at_once};
+use reading::{Pair, read_at_once};
 use std::alloc::Global;
 use std::env;
 use std::sync::Wait;
@@ -21,7 +26,7 @@ use turning::turn_at_once;
 use words::{Count, Workload};
 
 /// What is run where no words are given.
-const SMALL: [&str; 10] = [
+const SMALL: [&str; 13] = [
     "uncontended 1000",
     "contended 2 1000",
     "contended 4 500 20",
@@ -32,6 +37,9 @@ const SMALL: [&str; 10] = [
     "pingpong 1000",
     "pingpong_after 1000",
     "broadcast 3 500",
+    "alert_wake 500",
+    "producer_consumer 2 2 500 8",
+    "readers_writers 2 2 500",
 ];
 
 /// The wrapping sum of the numbers.
@@ -72,9 +80,32 @@ fn run<R: Threads + Wait + Sync + Print>(rt: &R, alloc: Global, words: &[&str]) 
             let turned = turn_at_once(rt, alloc, 2, times)?;
             println!(rt; "sem_pingpong {times} sum {}", sum_of(&turned.turns))?;
         }
-        Workload::Wake { .. } | Workload::Pingpong { .. } | Workload::Broadcast { .. } => {
-            run_with_conditions(rt, alloc, workload)?;
+        Workload::ProducerConsumer {
+            sides,
+            times,
+            capacity,
+        } => {
+            let passed = pass_at_once(rt, alloc, sides, times, capacity)?;
+            println!(rt;
+                "producer_consumer {} {} {times} {} sum {}",
+                sides.first,
+                sides.second,
+                capacity.number,
+                sum_of(&passed.sums)
+            )?;
         }
+        Workload::ReadersWriters { sides, times } => {
+            let pair = Pair::new();
+            let read = read_at_once(rt, alloc, sides, times, &pair)?;
+            println!(rt;
+                "readers_writers {} {} {times} sum {} torn {}",
+                sides.first,
+                sides.second,
+                pair.first(),
+                sum_of(&read.torn)
+            )?;
+        }
+        _ => run_with_conditions(rt, alloc, workload)?,
     }
     Ok(())
 }
@@ -100,14 +131,18 @@ fn run_with_conditions<R: Threads + Wait + Sync + Print>(
             } else {
                 (Play::Before, "pingpong")
             };
-            let closed = play_at_once(rt, alloc, Count::TWO, what, times)?;
-            println!(rt; "{name} {times} sum {}", closed.values()[0])?;
+            let played = play_at_once(rt, alloc, Count::TWO, what, times)?;
+            println!(rt; "{name} {times} sum {}", played.closed.values()[0])?;
         }
         Workload::Broadcast { threads, times } => {
-            let closed = play_at_once(rt, alloc, threads, Play::Rounds, times)?;
+            let played = play_at_once(rt, alloc, threads, Play::Rounds, times)?;
             // Who opens the rounds has added 1 in each, and the others count for the line.
-            let sum = closed.values()[0].wrapping_sub(u64::from(times));
+            let sum = played.closed.values()[0].wrapping_sub(u64::from(times));
             println!(rt; "broadcast {} {times} sum {sum}", threads.number - 1)?;
+        }
+        Workload::AlertWake { times } => {
+            let played = play_at_once(rt, alloc, Count::TWO, Play::Alerts, times)?;
+            println!(rt; "alert_wake {times} sum {}", sum_of(&played.alerted))?;
         }
         _ => {}
     }

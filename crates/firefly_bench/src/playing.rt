@@ -1,9 +1,11 @@
 //! Threads that take turns by a mutex and two conditions.
-ghost use Rattle.std.specs.Prelude.{[], ◌∷◌, IfOk, ◌≡◌, ◌<◌, ◌*◌};
+ghost use Rattle.std.specs.Prelude.{[], ◌∷◌, IfOk, ◌≡◌, ◌<◌, ◌≤◌, ◌*◌, length};
+ghost use Rattle.nub_rule.specs.Items.{Each};
 ghost use Rattle.nub.specs.Ended.{IsFirst};
 ghost use Rattle.firefly_bench.specs.Workloads.{HasTurned};
 
 use crate::rounds::{count_rounds, open_rounds};
+use crate::waking::{alert_each, begin_waits};
 use crate::words::Count;
 use nub::{Closed, CondId, Layout, MutexId, Package, Thread, close_package, open_package};
 use package_crew::at_once;
@@ -22,6 +24,15 @@ pub enum Play {
     After,
     /// In rounds: the last thread opens each with a broadcast, all others count, and the last of them signals back.
     Rounds,
+    /// Two threads, the first of which waits, and the second ends each wait by an alert.
+    Alerts,
+}
+
+/// The package that threads have taken turns in, and how many waits of each an alert has ended.
+#[derive(Drop)]
+pub struct Played {
+    pub closed: Closed<SumUses>,
+    pub alerted: Vec<u64>,
 }
 
 /// In turns with the other thread, this many times: waits until the sum has the thread's parity, and signals to the other.
@@ -57,7 +68,7 @@ fn alternate<R: Wait>(
     me
 }
 
-/// Takes this many turns.
+/// Takes this many turns, and answers how many waits an alert has ended.
 fn take_turns<R: Wait>(
     rt: &R,
     shared: &Package<SumUses>,
@@ -65,20 +76,28 @@ fn take_turns<R: Wait>(
     what: Play,
     threads: Count,
     times: u32,
-) -> Thread<SumUses>
-    requires named { (0 < shared.now.layout.mutexes) × (1 < shared.now.layout.conditions) }
+) -> (Thread<SumUses>, u64)
+    requires named { (0 < shared.now.layout.mutexes) × (1 < shared.now.layout.conditions) × (0 < shared.now.layout.threads) }
     requires first { IsFirst shared.now (λ w t. []) me.number me }
-    ensures { HasTurned shared.now times me.number result }
+    ensures turned { HasTurned shared.now times me.number result.0 }
+    ensures alerted { result.1 ≤ times }
 {
     match what {
-        Play::Before => alternate(rt, shared, me, false, times),
-        Play::After => alternate(rt, shared, me, true, times),
+        Play::Before => (alternate(rt, shared, me, false, times), 0),
+        Play::After => (alternate(rt, shared, me, true, times), 0),
         Play::Rounds => {
             let all = threads.number as u64;
             if me.number() == threads.number - 1 {
-                open_rounds(rt, shared, me, all, times)
+                (open_rounds(rt, shared, me, all, times), 0)
             } else {
-                count_rounds(rt, shared, me, all, times)
+                (count_rounds(rt, shared, me, all, times), 0)
+            }
+        }
+        Play::Alerts => {
+            if me.number() == 0 {
+                begin_waits(rt, shared, me, times)
+            } else {
+                alert_each(rt, shared, me, times)
             }
         }
     }
@@ -91,8 +110,9 @@ pub fn play_at_once<R: Threads + Wait + Sync>(
     threads: Count,
     what: Play,
     times: u32,
-) -> Result<Closed<SumUses>, AllocError>
-    ensures value { IfOk result (λ r. r.values ≡ (threads.number * times) ∷ []) }
+) -> Result<Played, AllocError>
+    ensures value { IfOk result (λ r. r.closed.values ≡ (threads.number * times) ∷ []) }
+    ensures alerted { IfOk result (λ r. (length r.alerted.items ≡ threads.number) × Each (λ n k. k ≤ times) r.alerted.items) }
 {
     let layout = Layout {
         threads: threads.number,
@@ -103,15 +123,15 @@ pub fn play_at_once<R: Threads + Wait + Sync>(
     let values = vec![in alloc; 0u64]?;
     let count = threads;
     let (shared, threads) = open_package::<SumUses>(alloc, layout, &(), values, false)?;
-    let (threads, _) = at_once(
+    let (threads, alerted) = at_once(
         rt,
         alloc,
         threads,
-        &|me: Thread<SumUses>| -> (Thread<SumUses>, ())
-            requires { (0 < shared.layout.mutexes) × (1 < shared.layout.conditions) × IsFirst shared (λ w t. []) me.number me }
-            ensures { HasTurned shared times me.number result.0 }
-        { (take_turns(rt, &shared, me, what, count, times), ()) },
+        &|me: Thread<SumUses>| -> (Thread<SumUses>, u64)
+            requires { (0 < shared.layout.mutexes) × (1 < shared.layout.conditions) × (0 < shared.layout.threads) × IsFirst shared (λ w t. []) me.number me }
+            ensures { HasTurned shared times me.number result.0 × (result.1 ≤ times) }
+        { take_turns(rt, &shared, me, what, count, times) },
     )?;
     let closed = close_package(shared, threads)?;
-    Ok(closed)
+    Ok(Played { closed, alerted })
 }
