@@ -3,6 +3,7 @@ pub mod WalkSteps
 pub mod Placing
 pub mod CrewBack
 pub mod OpeningLaws
+pub mod PieceLaws
 pub mod GatherLaws
 pub mod RunLaws
 pub mod SaysLaws

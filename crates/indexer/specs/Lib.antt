@@ -1,7 +1,7 @@
 pub mod Plans
 pub mod Work
-pub mod WorkLaws
 pub mod Pieces
+pub mod WorkLaws
 pub mod BufferLaws
 pub mod Turns
 pub mod Walks

@@ -1,5 +1,5 @@
 -- Pieces of the index of a tree, and the items that threads put and took.
-use Rattle.std.specs.Prelude.{ℕ, List, Option, IfSome, Contains, All}
+use Rattle.std.specs.Prelude.{ℕ, List, Option, IfSome, Contains, All, ◌↔◌}
 use Rattle.bounded_buffer.specs.Plain.{part_of}
 use Rattle.firefly_outside.specs.Trees.{Path, Told}
 use Rattle.firefly_outside.specs.declared.tree.Kind.{Kind}
@@ -17,6 +17,25 @@ pub record IsFilesPiece (tree : Option Told) (root : Path) (piece : Index) : Typ
   pub files : List File
   pub index : IsIndexOf files piece
   pub told : IfSome tree (λ t. (f : File) → Contains files f → IsFileAt t root f)
+
+-- one of the pieces covers the path
+pub record IsCovered (pieces : List Index) (path : Path) : Type 0 where
+  pub piece : Index
+  pub among : Contains pieces piece
+  pub covers : Contains piece.paths path
+
+-- what pieces become by being merged: they are of files such as those before were of, and cover the same paths
+pub record AreMergedFrom (old new : List Index) : Type 0 where
+  pub files : (tree : Option Told) (root : Path) → All (IsFilesPiece tree root) old → All (IsFilesPiece tree root) new
+  pub covers : (path : Path) → IsCovered new path ↔ IsCovered old path
+
+-- the piece is of files such as both are of
+abbrev pub JoinsFiles : Index → Index → Index → Type 0
+JoinsFiles a b both = (tree : Option Told) (root : Path) → IsFilesPiece tree root a → IsFilesPiece tree root b → IsFilesPiece tree root both
+
+-- each of these paths is covered by one of the pieces
+abbrev pub AreAllCovered : List Path → List Index → Type 0
+AreAllCovered paths pieces = (path : Path) → Contains paths path → IsCovered pieces path
 
 -- the item is such a piece
 abbrev pub IsPieceItem : Option Told → Path → IndexItem → Type 0

@@ -9,16 +9,20 @@
 #![tactic(auto)]
 
 mod answer;
+mod below;
 mod buffers;
 mod collecting;
 mod crew;
 mod deciding;
 mod dirs;
+mod faults;
 mod findings;
 mod gathering;
 mod handing;
 mod indexing;
 mod job;
+mod joining;
+mod merging;
 mod opening;
 mod passing;
 mod plan;
