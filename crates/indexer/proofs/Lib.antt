@@ -4,6 +4,7 @@ pub mod Placing
 pub mod CrewBack
 pub mod OpeningLaws
 pub mod PieceLaws
+pub mod TakenLaws
 pub mod GatherLaws
 pub mod RunLaws
 pub mod SaysLaws
