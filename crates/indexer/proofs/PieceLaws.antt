@@ -1,13 +1,14 @@
 -- Pieces that are merged.
-use Rattle.std.proofs.Common.{◌≡◌, ◌∙◌, ℕ, List, [], ◌∷◌, ◌++◌, Option, Some, None, Contains, inl, inr, refl, sym, ap, subst}
-use Rattle.std.specs.Prelude.{All, IfSome}
-use Rattle.std.proofs.lemmas.List.Elements.{Contains-append_cases, Contains-append_left, Contains-append_right}
+use Rattle.std.proofs.Common.{◌≡◌, List, [], ◌∷◌, ◌++◌, Option, Contains, inl, inr, ◌⊎◌, sym, subst}
+use Rattle.std.specs.Prelude.{All}
+use Rattle.std.proofs.lemmas.List.Elements.{All-append, All-cons, All-nil, Contains-append_cases, Contains-append_left, Contains-append_right}
 use Rattle.firefly_outside.specs.Trees.{Path, Told}
-use Rattle.walker.proofs.ListLemmas.{All-at, All-from, Contains-head, Contains-nil, Contains-cons_cases}
-use Rattle.walker.specs.TreeIndex.{IsFileAt}
+use Rattle.walker.proofs.ListLemmas.{All-at, All-from, Contains-head, Contains-map, Contains-nil, Contains-cons_cases}
+use Rattle.walker.specs.TreeIndex.{IsFileAt, IsPartOf}
+use Rattle.walker.specs.Walk.{Walk}
 use Rattle.word_index.specs.Index.{File, Index, IsIndexOf, IsUnion}
 use Rattle.indexer.specs.Pieces.{IsFilesPiece, IsCovered, AreMergedFrom, JoinsFiles}
-use Rattle.indexer.proofs.WalkSteps.{told_both}
+use Rattle.indexer.proofs.WalkSteps.{told_all, told_both}
 
 -- the index of the files of both
 pub joins_files : (a b c : Index) → ((fs gs : List File) → IsIndexOf fs a → IsIndexOf gs b → IsIndexOf (fs ++ gs) c) → JoinsFiles a b c
@@ -72,3 +73,43 @@ module _ (pieces : List Index) (a b c : Index) where
     ]);
     covers = λ path. (forth union path, back union path);
   }
+
+-- the index of no file
+pub of_none : (tree : Option Told) (root : Path) (piece : Index) → IsIndexOf [] piece → IsFilesPiece tree root piece
+of_none tree root piece index = record {
+  files = [];
+  index = index;
+  told = told_all tree (λ t. (f : File) → Contains [] f → IsFileAt t root f) (λ t f h. absurd (Contains-nil f h));
+}
+
+-- all but the last, and the last
+pub all_front : (P : Index → Type 0) (xs : List Index) (x : Index) → All P (xs ++ x ∷ []) → All P xs
+all_front P xs x all = All-from P xs (λ y h. All-at P (xs ++ x ∷ []) y all (Contains-append_left xs (x ∷ []) y h))
+
+pub all_last : (P : Index → Type 0) (xs : List Index) (x : Index) → All P (xs ++ x ∷ []) → P x
+all_last P xs x all = All-at P (xs ++ x ∷ []) x all (Contains-append_right xs (x ∷ []) x (Contains-head x []))
+
+pub all_more : (P : Index → Type 0) (xs : List Index) (x : Index) → All P xs → P x → All P (xs ++ x ∷ [])
+all_more P xs x all one = All-append P xs (x ∷ []) all (All-cons P x [] one (All-nil P))
+
+pub covered_front : (xs : List Index) (x : Index) (path : Path) → IsCovered xs path → IsCovered (xs ++ x ∷ []) path
+covered_front xs x path h = record { piece = h.piece; among = Contains-append_left xs (x ∷ []) h.piece h.among; covers = h.covers }
+
+pub covered_last : (xs : List Index) (x : Index) (path : Path) → Contains x.paths path → IsCovered (xs ++ x ∷ []) path
+covered_last xs x path h = record { piece = x; among = Contains-append_right xs (x ∷ []) x (Contains-head x []); covers = h }
+
+-- a path is covered before the last, or by the last
+pub covered_cases : (xs : List Index) (x : Index) (path : Path) → IsCovered (xs ++ x ∷ []) path → IsCovered xs path ⊎ Contains x.paths path
+covered_cases xs x path h = elim (Contains-append_cases xs (x ∷ []) h.piece h.among) [
+  | inl first ↦ inl (record { piece = h.piece; among = first; covers = h.covers })
+  | inr last ↦ inr (subst (λ (i : Index). Contains i.paths path) (sym (is_one x h.piece last)) h.covers)
+]
+
+-- files whose paths the walk has found, by a piece that is their index
+pub part_of_walk : (tree : Option Told) (w : Walk) (piece : Index) → IsFilesPiece tree w.root piece → ((path : Path) → Contains piece.paths path → Contains w.files path) → IsPartOf tree w piece
+part_of_walk tree w piece h found = record {
+  files = h.files;
+  index = h.index;
+  found = λ f among. found f.path ((h.index.paths f.path).1 (Contains-map (λ (g : File). g.path) h.files f among));
+  told = h.told;
+}

@@ -1,5 +1,5 @@
 //! One piece of all that the workers made.
-ghost use Rattle.std.specs.Prelude.{◌≡◌, All, IfOk, Option};
+ghost use Rattle.std.specs.Prelude.{◌≡◌, ◌⊎◌, All, Contains, IfOk, Option};
 ghost use Rattle.firefly_outside.specs.Trees.{Path, Told};
 ghost use Rattle.walker.specs.TreeIndex.{IsPartOf};
 ghost use Rattle.word_index.specs.Index.{Meet, IsUnion};
@@ -15,6 +15,7 @@ fn joined_two(whole: Piece, piece: Piece) -> Result<Piece, AllocError>
     ensures apart { ¬ Meet whole piece → IfOk result (IsUnion whole piece) }
     ensures meet { Meet whole piece → IfOk result (λ p. p ≡ whole) }
     ensures files { IfOk result (JoinsFiles whole piece) }
+    ensures covers { IfOk result (λ p. (path : Path) → Contains p.paths path → Contains whole.paths path ⊎ Contains piece.paths path) }
 {
     if whole.meets(&piece) {
         return Ok(whole);
@@ -40,11 +41,7 @@ fn joined(alloc: Global, kept: Vec<Piece>) -> Result<Piece, AllocError>
 
 /// One piece of those whose files the walk has found. One that covers a path which another covers may be dropped; what is dropped is for
 /// the closing walk to read.
-pub fn found_part(
-    alloc: Global,
-    walked: &Walked,
-    pieces: Vec<Piece>,
-) -> Result<Piece, AllocError>
+pub fn found_part(alloc: Global, walked: &Walked, pieces: Vec<Piece>) -> Result<Piece, AllocError>
     ensures { IfOk result (λ p. (tree : Option Told) → All (IsFilesPiece tree walked.now.root) pieces.items → IsPartOf tree walked.now p) }
 {
     let mut kept = Vec::new(alloc);
@@ -53,5 +50,6 @@ pub fn found_part(
             keep(&mut kept, piece)?;
         }
     }
-    joined(alloc, kept)
+    let part = joined(alloc, kept)?;
+    Ok(part)
 }
