@@ -1,5 +1,5 @@
 //! Threads to a crew, and back.
-ghost use Rattle.std.specs.Prelude.{◌≡◌, ◌≤◌, [], map, length, IfOk, vec_len, vec_capacity};
+ghost use Rattle.std.specs.Prelude.{◌≡◌, ◌≤◌, [], map, length, IfOk, vec_len, vec_capacity, Bool};
 ghost use Rattle.nub_rule.specs.Items.{Each};
 ghost use Rattle.package_crew.specs.Crews.{CameBack};
 
@@ -65,4 +65,38 @@ pub fn at_once<T: Send + Drop, X: Send + Drop, R: Threads + Wait, F: Fn(T) -> (T
         return Err(AllocError);
     };
     Ok(parted(finished.results, back, left))
+}
+
+/// The same, and meanwhile the caller does a part of its own: `between` is called once all were started that can be, and told whether one
+/// wasn't. It also answers what that gave.
+pub fn at_once_beside<
+    T: Send + Drop,
+    X: Send + Drop,
+    Y,
+    R: Threads + Wait,
+    F: Fn(T) -> (T, X) + Sync,
+    M: FnOnce(bool) -> Y + Drop,
+>(
+    rt: &R,
+    alloc: Global,
+    threads: Vec<T>,
+    f: &F,
+    between: M,
+) -> Result<(Vec<T>, Vec<X>, Y), AllocError>
+    requires threads { Each (λ n t. F.pre f.now t) threads.items }
+    requires between { (refused : Bool) → M.pre between refused }
+    ensures threads { IfOk result (λ r. length r.0.items ≡ length threads.items) }
+    ensures results { IfOk result (λ r. length r.1.items ≡ length threads.items) }
+    ensures each { IfOk result (λ r. Each (λ n t. CameBack (λ was left. F.post f.now was (t, left)) threads.items r.1.items n) r.0.items) }
+    ensures between { IfOk result (λ r. (refused : Bool) × M.post between refused r.2) }
+{
+    let count = threads.len();
+    let back = Vec::with_capacity(alloc, count)?;
+    let left = Vec::with_capacity(alloc, count)?;
+    let jobs = calls(alloc, threads, f)?;
+    let Ok(finished) = run_crew(rt, alloc, jobs, count, between) else {
+        return Err(AllocError);
+    };
+    let (threads, results) = parted(finished.results, back, left);
+    Ok((threads, results, finished.between))
 }
