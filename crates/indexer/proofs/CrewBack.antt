@@ -4,12 +4,13 @@ use mathlib.Core.Option.{some, some-injective, some-ne-none}
 use lib.ListN.{get_elem?}
 use Rattle.std.proofs.lemmas.Bool.{ltb-true}
 use Rattle.firefly_outside.specs.Trees.{Path, Told, Calls}
+use Rattle.firefly_outside.specs.declared.tree.Kind.{Kind}
 use Rattle.nub_rule.specs.Items.{Each}
 use Rattle.nub.proofs.Users.{from_at}
 use Rattle.package_crew.specs.Crews.{CameBack}
 use Rattle.indexer.specs.declared.findings.Findings.{Findings}
 use Rattle.indexer.specs.declared.job.Job.{Job}
-use Rattle.indexer.specs.Jobs.{GivesTree, HasWorked, tree_at}
+use Rattle.indexer.specs.Jobs.{GivesTree, HasWorked, kind_at, tree_at}
 use Rattle.indexer.specs.Turns.{Worker, Run}
 
 pub from_map : {A B : Type 0} (f : A → B) (xs : List A) (k : ℕ) (y : B) → get_elem? (map f xs) k ≡ some y → (x : A) × (get_elem? xs k ≡ some x) × (f x ≡ y)
@@ -22,38 +23,41 @@ to_map f [] k x e = absurd (some-ne-none x (sym e))
 to_map f (y ∷ xs) zero x e = ap (λ z. some (f z)) (some-injective y x e)
 to_map f (y ∷ xs) (suc k) x e = to_map f xs k x e
 
-module _ {S : Type 0} (tree : S → Option Told) (weak : S → List Path) (faults : S → ℕ) (calls : S → Calls) (p : Run) where
-  gives_by : (a b : Worker) (f : Findings) (v : Bool) (old new got : Option S) → (v ≡ true → new ≡ got) → GivesTree tree weak faults calls p a b f (cond v old None) got
-      → GivesTree tree weak faults calls p a b f (cond v old None) (cond v new None)
-  gives_by a b f true old new got e h = subst (λ (t : Option S). GivesTree tree weak faults calls p a b f old t) (sym (e refl)) h
-  gives_by a b f false old new None e h = h
-  gives_by a b f false old new (Some r) e h = absurd h
+module _ {S : Type 0} (tree : S → Option Told) (weak : S → List Path) (faults : S → ℕ) (calls : S → Calls) (root : Path) (p : Run) where
+  gives_by : (kind : Kind) (a b : Worker) (f : Findings) (v : Bool) (old new got : Option S) → (v ≡ true → new ≡ got) → GivesTree tree weak faults calls root p kind a b f (cond v old None) got
+      → GivesTree tree weak faults calls root p kind a b f (cond v old None) (cond v new None)
+  gives_by kind a b f true old new got e h = subst (λ (t : Option S). GivesTree tree weak faults calls root p kind a b f old t) (sym (e refl)) h
+  gives_by kind a b f false old new None e h = h
+  gives_by kind a b f false old new (Some r) e h = absurd h
 
   -- the tree that was put back is the one that came back
-  gives_at : (a b : Worker) (f : Findings) (n : ℕ) (old new : List (Option S)) (k : ℕ) (got : Option S) → (k < n → get_or new k None ≡ got) → GivesTree tree weak faults calls p a b f (tree_at n old k) got
-      → GivesTree tree weak faults calls p a b f (tree_at n old k) (tree_at n new k)
-  gives_at a b f n old new k got e h = gives_by a b f (nat_lt k n) (get_or old k None) (get_or new k None) got (λ t. e (ltb-true k n t)) h
+  gives_at : (kind : Kind) (a b : Worker) (f : Findings) (n : ℕ) (old new : List (Option S)) (k : ℕ) (got : Option S) → (k < n → get_or new k None ≡ got)
+      → GivesTree tree weak faults calls root p kind a b f (tree_at n old k) got → GivesTree tree weak faults calls root p kind a b f (tree_at n old k) (tree_at n new k)
+  gives_at kind a b f n old new k got e h = gives_by kind a b f (nat_lt k n) (get_or old k None) (get_or new k None) got (λ t. e (ltb-true k n t)) h
 
   -- where jobs with the trees came back, and the trees were put back, each thread has worked
-  pub all_worked : (n : ℕ) (threads : List Worker) (findings : List Findings) (old new : List (Option S)) (jobs back : List (Job S)) → map (λ j. j.me) jobs ≡ threads
+  pub all_worked : (walkers n : ℕ) (threads : List Worker) (findings : List Findings) (old new : List (Option S)) (jobs back : List (Job S)) → map (λ j. j.me) jobs ≡ threads
+      → ((k : ℕ) (e : Job S) → k < length jobs → (get_or jobs k e).kind ≡ kind_at walkers k)
       → ((k : ℕ) (e : Job S) → k < length jobs → (get_or jobs k e).tree ≡ tree_at n old k)
       → ((k : ℕ) (d : Option S) (e : Job S) → k < n → k < length back → get_or new k d ≡ (get_or back k e).tree)
-      → Each (λ k j. CameBack (λ was left. GivesTree tree weak faults calls p was.me j.me left was.tree j.tree) jobs findings k) back
-      → Each (HasWorked tree weak faults calls p n threads findings old new) (map (λ j. j.me) back)
-  all_worked n threads findings old new jobs back same got gone each k t at =
+      → Each (λ k j. CameBack (λ was left. GivesTree tree weak faults calls root p was.kind was.me j.me left was.tree j.tree) jobs findings k) back
+      → Each (HasWorked tree weak faults calls root p walkers n threads findings old new) (map (λ j. j.me) back)
+  all_worked walkers n threads findings old new jobs back same kinds got gone each k t at =
       let j = from_map (λ (j : Job S). j.me) back k t at in
       let b = each k j.0 j.1 in
       let there = from_at jobs k b.was b.is_was in
       let here = from_at back k j.0 j.1 in
       let own : b.was.tree ≡ tree_at n old k = ap (λ (x : Job S). x.tree) there.1 ∙ got k b.was there.0 in
+      let kind : b.was.kind ≡ kind_at walkers k = ap (λ (x : Job S). x.kind) there.1 ∙ kinds k b.was there.0 in
       let put : k < n → get_or new k None ≡ j.0.tree = λ below. gone k None j.0 below here.0 ∙ ap (λ (x : Job S). x.tree) (sym here.1) in
-      let goes : GivesTree tree weak faults calls p b.was.me t b.left (tree_at n old k) j.0.tree =
-      subst (λ (w : Worker). GivesTree tree weak faults calls p b.was.me w b.left (tree_at n old k) j.0.tree) j.2
-      (subst (λ (o : Option S). GivesTree tree weak faults calls p b.was.me j.0.me b.left o j.0.tree) own b.goes) in
+      let goes : GivesTree tree weak faults calls root p (kind_at walkers k) b.was.me t b.left (tree_at n old k) j.0.tree =
+      subst (λ (w : Worker). GivesTree tree weak faults calls root p (kind_at walkers k) b.was.me w b.left (tree_at n old k) j.0.tree) j.2
+      (subst (λ (q : Kind). GivesTree tree weak faults calls root p q b.was.me j.0.me b.left (tree_at n old k) j.0.tree) kind
+      (subst (λ (o : Option S). GivesTree tree weak faults calls root p b.was.kind b.was.me j.0.me b.left o j.0.tree) own b.goes)) in
       record {
         was = b.was.me;
         is_was = ap (λ l. get_elem? l k) (sym same) ∙ to_map (λ (x : Job S). x.me) jobs k b.was b.is_was;
         found = b.left;
         is_found = b.is_left;
-        gives = gives_at b.was.me t b.left n old new k j.0.tree put goes;
+        gives = gives_at (kind_at walkers k) b.was.me t b.left n old new k j.0.tree put goes;
       }

@@ -1,4 +1,4 @@
--- What follows from what the walkers came by.
+-- What follows from what the workers came by.
 use Rattle.std.proofs.Common.{◌≡◌, ℕ, Bool, true, false, suc, List, [], ◌∷◌, Option, Some, None, cond, nat_lt, refl, sym, subst, ⊎_elim}
 use Rattle.std.specs.Prelude.{All, IfSome, slice_index_or}
 use Rattle.std.specs.List.{flat_map}
@@ -6,44 +6,38 @@ use Rattle.std.proofs.lemmas.List.Elements.{All-append, All-nil}
 use Rattle.firefly_outside.specs.Trees.{Path, Told, Calls}
 use Rattle.firefly_outside.specs.Under.{IsUnder}
 use Rattle.firefly_outside.specs.declared.tree.Kind.{Kind}
-use Rattle.firefly_outside.specs.declared.tree.Kind.TheVariants.{Dir}
 use Rattle.nub_rule.specs.Items.{Each}
 use Rattle.walker.specs.Closing.{IsFaultUnder}
 use Rattle.walker.specs.Listings.{IsListingOf, IsToldBy}
 use Rattle.walker.specs.declared.answer.WalkAnswer.{WalkAnswer}
 use Rattle.walker.specs.declared.answer.WalkAnswer.TheVariants.{Done, Stopped, ReadFault, TooMany, Memory}
+use Rattle.indexer.specs.declared.findings.Fault.{Fault}
 use Rattle.indexer.specs.declared.findings.Findings.{Findings}
 use Rattle.indexer.specs.declared.findings.Visit.{Visit}
 use Rattle.indexer.specs.Gathered.{Ends, EndsByWalk}
-use Rattle.indexer.specs.Jobs.{GivesTree, tree_at}
+use Rattle.indexer.specs.Jobs.{GivesTree, kind_at, tree_at}
+use Rattle.indexer.specs.Pieces.{path_of, kind_of}
 use Rattle.indexer.specs.Runs.{IsFoundBy}
 use Rattle.indexer.specs.Says.{AllTell, WalkSays}
 use Rattle.indexer.specs.Turns.{Worker, Run}
 use Rattle.indexer.specs.Walks.{IsVisit}
+use Rattle.indexer.proofs.RunLaws.{tree_of}
 use Rattle.indexer.proofs.WalkSteps.{told_on}
 
-by_cond : {S : Type 0} (v : Bool) (x : Option S) (s : S) → cond v x None ≡ Some s → x ≡ Some s
-by_cond true x s e = e
-by_cond false x s e = absurd (cc)
-
--- the tree of a worker is one of the trees
-tree_of : {S : Type 0} (n : ℕ) (trees : List (Option S)) (k : ℕ) (s : S) → tree_at n trees k ≡ Some s → slice_index_or trees k None ≡ Some s
-tree_of n trees k s e = by_cond (nat_lt k n) (slice_index_or trees k None) s e
-
-module _ {S : Type 0} (tree : S → Option Told) (weak : S → List Path) (faults : S → ℕ) (calls : S → Calls) where
-  gives_visits : (p : Run) (a b : Worker) (f : Findings) (given got : Option S) (o : Option Told) → GivesTree tree weak faults calls p a b f given got → ((s : S) → given ≡ Some s → tree s ≡ o)
+module _ {S : Type 0} (tree : S → Option Told) (weak : S → List Path) (faults : S → ℕ) (calls : S → Calls) (root : Path) where
+  gives_visits : (p : Run) (kind : Kind) (a b : Worker) (f : Findings) (given got : Option S) (o : Option Told) → GivesTree tree weak faults calls root p kind a b f given got → ((s : S) → given ≡ Some s → tree s ≡ o)
       → All (IsVisit o) f.visits.items
-  gives_visits p a b f None None o h tells = subst (All (IsVisit o)) (sym h.1) (All-nil (IsVisit o))
-  gives_visits p a b f (Some s) (Some r) o h tells = subst (λ (q : Option Told). All (IsVisit q) f.visits.items) (tells s refl) h.2.each
-  gives_visits p a b f None (Some r) o h tells = absurd h
-  gives_visits p a b f (Some s) None o h tells = absurd h
+  gives_visits p kind a b f None None o h tells = subst (All (IsVisit o)) (sym h.1) (All-nil (IsVisit o))
+  gives_visits p kind a b f (Some s) (Some r) o h tells = subst (λ (q : Option Told). All (IsVisit q) f.visits.items) (tells s refl) h.2.each
+  gives_visits p kind a b f None (Some r) o h tells = absurd h
+  gives_visits p kind a b f (Some s) None o h tells = absurd h
 
   -- each listing is one of the told tree
-  pub all_visits : (n : ℕ) (threads : List Worker) (old new : List (Option S)) (findings : List Findings) (o : Option Told) → AllTell tree o old
-      → Each (IsFoundBy tree weak faults calls n threads old new) findings → All (IsVisit o) (flat_map (λ f. f.visits.items) findings)
-  all_visits n threads old new findings o tell found = flat findings (λ k f at.
+  pub all_visits : (walkers n : ℕ) (threads : List Worker) (old new : List (Option S)) (findings : List Findings) (o : Option Told) → AllTell tree o old
+      → Each (IsFoundBy tree weak faults calls root walkers n threads old new) findings → All (IsVisit o) (flat_map (λ f. f.visits.items) findings)
+  all_visits walkers n threads old new findings o tell found = flat findings (λ k f at.
       let w = found k f at in
-      gives_visits w.run w.first w.last f (tree_at n old k) (tree_at n new k) o w.gives (λ s e. tell k s (tree_of n old k s e)))
+      gives_visits w.run (kind_at walkers k) w.first w.last f (tree_at n old k) (tree_at n new k) o w.gives (λ s e. tell k s (tree_of n old k s e)))
     where
       flat : (fs : List Findings) → Each (λ k f. All (IsVisit o) f.visits.items) fs → All (IsVisit o) (flat_map (λ f. f.visits.items) fs)
       flat [] h = All-nil (IsVisit o)
@@ -64,13 +58,13 @@ walk_says o weak root stop count then_count before now (TooMany many) h = (h.num
 walk_says o weak root stop count then_count before now Memory h = tt
 
 -- whatever ended the run, the answer says of the tree what it should
-pub ends_say : (o : Option Told) (weak : List Path) (root : Path) (stop : Option ℕ) (fault : Option Path) (count then_count : ℕ) (before now : Calls) (answer : WalkAnswer)
+pub ends_say : (o : Option Told) (weak : List Path) (root : Path) (stop : Option ℕ) (fault : Option Fault) (count then_count : ℕ) (before now : Calls) (answer : WalkAnswer)
     → Ends o weak root stop fault count then_count before now answer → WalkSays o root stop answer
 ends_say o weak root stop None count then_count before now answer h = walk_says o weak root stop count then_count before now answer h
-ends_say o weak root stop (Some path) count then_count before now answer h = ⊎_elim
+ends_say o weak root stop (Some fault) count then_count before now answer h = ⊎_elim
     (λ (e : answer ≡ Memory). subst (WalkSays o root stop) (sym e) tt)
-    (λ (e : (answer ≡ ReadFault path) × IfSome o (λ t. IsUnder t root Dir path)). subst (WalkSays o root stop) (sym e.0)
-    (told_on o (λ t. IsUnder t root Dir path) (λ t. (kind : Kind) × IsUnder t root kind path) (λ t u. (Dir, u)) e.1))
+    (λ (e : (answer ≡ ReadFault (path_of fault)) × IfSome o (λ t. IsUnder t root (kind_of fault) (path_of fault))). subst (WalkSays o root stop) (sym e.0)
+    (told_on o (λ t. IsUnder t root (kind_of fault) (path_of fault)) (λ t. (kind : Kind) × IsUnder t root kind (path_of fault)) (λ t u. (kind_of fault, u)) e.1))
     h.cases
 
 pub if_each : (x : Option ℕ) (P : ℕ → Type 0) → ((n : ℕ) → x ≡ Some n → P n) → IfSome x P
@@ -79,7 +73,7 @@ if_each (Some n) P h = h n refl
 
 module _ {S : Type 0} (tree : S → Option Told) (weak : S → List Path) (faults : S → ℕ) (calls : S → Calls) where
   -- what the answer says where the closing walk's tree is the told one
-  pub end_says : (o : Option Told) (root : Path) (stop : Option ℕ) (fault : Option Path) (s : S) (after : Option S) (answer : WalkAnswer) → tree s ≡ o
+  pub end_says : (o : Option Told) (root : Path) (stop : Option ℕ) (fault : Option Fault) (s : S) (after : Option S) (answer : WalkAnswer) → tree s ≡ o
       → ((r : S) × (after ≡ Some r) × (tree r ≡ tree s) × (weak r ≡ weak s) × Ends (tree s) (weak s) root stop fault (faults s) (faults r) (calls s) (calls r) answer)
       → WalkSays o root stop answer
   end_says o root stop fault s after answer same h = subst (λ (q : Option Told). WalkSays q root stop answer) same

@@ -1,15 +1,22 @@
--- The steps of a walker.
-use Rattle.std.proofs.Common.{◌≡◌, ℕ, ◌≤◌, List, [], ◌∷◌, ◌++◌, Some, None, Option, ◌⊎◌, ⊎_elim, inr, sym, ap, subst, ◌∙◌, refl, arith, append_assoc, append-nil, length-append}
-use Rattle.std.specs.Prelude.{IfSome}
+-- The steps of a worker with a tree.
+use Rattle.std.proofs.Common.{◌≡◌, ℕ, ◌+◌, ◌≤◌, List, [], ◌∷◌, ◌++◌, length, Some, None, Option, ◌⊎◌, ⊎_elim, inl, inr, sym, ap, subst, ◌∙◌, refl, arith, append_assoc, append-nil, length-append}
+use Rattle.std.specs.Prelude.{All, IfSome}
 use Rattle.std.proofs.lemmas.List.Elements.{All-append, All-cons, All-nil}
 use Rattle.firefly_outside.specs.Causes.{Rose}
-use Rattle.firefly_outside.specs.Trees.{Path, Told, Calls, Directory, IsFault}
+use Rattle.firefly_outside.specs.Trees.{Path, Told, Calls, Directory, Bytes, IsFault}
 use Rattle.firefly_outside.specs.declared.tree.Entry.{Entry}
+use Rattle.firefly_outside.specs.declared.tree.Kind.{Kind}
+use Rattle.firefly_outside.specs.declared.tree.Kind.TheVariants.{File, Dir}
 use Rattle.walker.specs.Listings.{IsListingOf, IsToldBy, with_listed}
 use Rattle.walker.specs.declared.listing.Listing.{Listing}
+use Rattle.word_index.specs.Index.{Index}
+use Rattle.indexer.specs.declared.findings.Fault.{Fault}
+use Rattle.indexer.specs.declared.findings.Fault.TheVariants.{Dir as DirFault, File as FileFault}
 use Rattle.indexer.specs.declared.findings.Visit.{Visit}
-use Rattle.indexer.specs.Turns.{Worker, Run, ComesBack, HasReleased, IsBetween}
-use Rattle.indexer.specs.Walks.{IsVisit, ListedOnly, HasWalked}
+use Rattle.indexer.specs.Pieces.{IsFilesPiece, path_of, kind_of}
+use Rattle.indexer.specs.Turns.{Worker, Run, HasCalled}
+use Rattle.indexer.specs.Walks.{IsVisit, MayFail, calls_with, mutex_of, CalledOnly, HasDone}
+use Rattle.indexer.proofs.Turning.{back_on, back_as, passes_none}
 
 -- what is told of one thing is told of another
 pub told_on : (tree : Option Told) (P Q : Told → Type 0) → ((t : Told) → P t → Q t) → IfSome tree P → IfSome tree Q
@@ -24,147 +31,121 @@ pub told_all : (tree : Option Told) (P : Told → Type 0) → ((t : Told) → P 
 told_all None P f = tt
 told_all (Some t) P f = f t
 
-pub back_on : (p : Run) (a b c : Worker) → ComesBack p a b → ComesBack p b c → ComesBack p a c
-back_on p a b c first second = λ n s idle. let one = first n s idle in second n one.0 one.1
+calls_of : List Path → List Path → List Path → Calls
+calls_of listed read failed = record { listed = listed; files_read = read; failed = failed }
 
-pub still_between : (p : Run) (a b : Worker) → IsBetween p a → ComesBack p a b → IsBetween p b
-still_between p a b between back = let r = back between.0 between.1 between.2 in (between.0, r.0, r.1)
+-- calls after calls
+calls_on : (kind : Kind) (ps qs fs gs : List Path) (c : Calls) → calls_with kind qs gs (calls_with kind ps fs c) ≡ calls_with kind (ps ++ qs) (fs ++ gs) c
+unfolding calls_of
+calls_on Dir ps qs fs gs c = ap (λ l. calls_of l c.files_read ((c.failed ++ fs) ++ gs)) (append_assoc c.listed ps qs) ∙ ap (λ l. calls_of (c.listed ++ (ps ++ qs)) c.files_read l) (append_assoc c.failed fs gs)
+calls_on File ps qs fs gs c = ap (λ l. calls_of c.listed l ((c.failed ++ fs) ++ gs)) (append_assoc c.files_read ps qs) ∙ ap (λ l. calls_of c.listed (c.files_read ++ (ps ++ qs)) l) (append_assoc c.failed fs gs)
 
-module _ (tree : Option Told) (weak : List Path) (count : ℕ) (before : Calls) (p : Run) (a : Worker) where
+-- no call
+calls_none : (kind : Kind) (c : Calls) → c ≡ calls_with kind [] [] c
+unfolding calls_of
+calls_none Dir c = ap (λ l. calls_of l c.files_read c.failed) (sym (append-nil c.listed)) ∙ ap (λ l. calls_of (c.listed ++ []) c.files_read l) (sym (append-nil c.failed))
+calls_none File c = ap (λ l. calls_of c.listed l c.failed) (sym (append-nil c.files_read)) ∙ ap (λ l. calls_of c.listed (c.files_read ++ []) l) (sym (append-nil c.failed))
+
+pub calls_listed : (c : Calls) (dir : Path) → with_listed c dir ≡ calls_with Dir (dir ∷ []) [] c
+unfolding calls_of
+calls_listed c dir = ap (λ l. calls_of (c.listed ++ dir ∷ []) c.files_read l) (sym (append-nil c.failed))
+
+pub calls_read : (c : Calls) (path : Path) → record c { files_read = c.files_read ++ path ∷ [] } ≡ calls_with File (path ∷ []) [] c
+unfolding calls_of
+calls_read c path = ap (λ l. calls_of c.listed (c.files_read ++ path ∷ []) l) (sym (append-nil c.failed))
+
+pub calls_failed : (kind : Kind) (c : Calls) (path : Path) → record c { failed = c.failed ++ path ∷ [] } ≡ calls_with kind [] (path ∷ []) c
+unfolding calls_of
+calls_failed Dir c path = ap (λ l. calls_of l c.files_read (c.failed ++ path ∷ [])) (sym (append-nil c.listed))
+calls_failed File c path = ap (λ l. calls_of c.listed l (c.failed ++ path ∷ [])) (sym (append-nil c.files_read))
+
+module _ (kind : Kind) (tree : Option Told) (root : Path) (weak : List Path) (count : ℕ) (before : Calls) (p : Run) (a : Worker) where
   -- nothing was done yet
-  pub walked_none : HasWalked tree weak count count before before p 0 a a [] None
-  walked_none = record {
-    back = λ n s idle. (s, idle);
+  pub done_none : HasDone kind tree root weak count count before before p 0 a a [] [] None
+  done_none = record {
+    back = λ n s idle. (s, idle, passes_none tree root s);
     each = All-nil (IsVisit tree);
     counts = refl;
-    told = told_all tree (ListedOnly weak before before None 0 a a) (λ t. record {
-      dirs = [];
-      listed = sym (append-nil before.listed);
-      read = refl;
-      failed = sym (append-nil before.failed);
-      may = tt;
-      times = omega arith;
-    });
+    told = told_all tree (CalledOnly kind weak before before None 0 a a) (λ t. record { paths = []; made = calls_none kind before; may = tt; times = omega arith });
   }
 
-  -- mutex 0 was released at least so many times more
-  pub walked_on : (k : ℕ) (f : ℕ) (now : Calls) (b c : Worker) (visits : List Visit) (fault : Option Path)
-      → HasWalked tree weak count f before now p 0 a b visits fault → HasReleased p k b c → HasWalked tree weak count f before now p k a c visits fault
-  walked_on k f now b c visits fault h r = record {
-    back = back_on p a b c h.back r.back;
+  -- the mutex was released at least so many times more
+  pub done_on : (k f : ℕ) (now : Calls) (b c : Worker) (visits : List Visit) (fault : Option Fault)
+      → HasDone kind tree root weak count f before now p 0 a b visits [] fault → HasCalled tree root [] p (mutex_of kind) k b c → HasDone kind tree root weak count f before now p k a c visits [] fault
+  done_on k f now b c visits fault h r = record {
+    back = back_on tree root [] [] p a b c h.back r.back;
     each = h.each;
     counts = h.counts;
-    told = told_on tree (ListedOnly weak before now fault 0 a b) (ListedOnly weak before now fault k a c) (λ t l. record {
-      dirs = l.dirs;
-      listed = l.listed;
-      read = l.read;
-      failed = l.failed;
+    told = told_on tree (CalledOnly kind weak before now fault 0 a b) (CalledOnly kind weak before now fault k a c) (λ t l. record {
+      paths = l.paths;
+      made = l.made;
       may = l.may;
       times = let was = l.times in let more = r.times in omega arith;
     }) h.told;
   }
 
-  one_more : (now : Calls) (b : Worker) (dir : Path) (t : Told) → ListedOnly weak before now None 1 a b t → ListedOnly weak before (with_listed now dir) None 0 a b t
-  one_more now b dir t l = record {
-    dirs = l.dirs ++ dir ∷ [];
-    listed = ap (λ ds. ds ++ dir ∷ []) l.listed ∙ append_assoc before.listed l.dirs (dir ∷ []);
-    read = l.read;
-    failed = l.failed;
-    may = l.may;
-    times = let was = l.times in let long = length-append l.dirs (dir ∷ []) in omega arith;
+  one_more : (now after : Calls) (b : Worker) (x : Path) (t : Told) → after ≡ calls_with kind (x ∷ []) [] now → CalledOnly kind weak before now None 1 a b t → CalledOnly kind weak before after None 0 a b t
+  one_more now after b x t is l = record {
+    paths = l.paths ++ x ∷ [];
+    made = is ∙ (ap (calls_with kind (x ∷ []) []) l.made ∙ calls_on kind l.paths (x ∷ []) [] [] before);
+    may = tt;
+    times = let was = l.times in let long = length-append l.paths (x ∷ []) in omega arith;
   }
 
-  no_more : (now : Calls) (b : Worker) (t : Told) → ListedOnly weak before now None 1 a b t → ListedOnly weak before now None 0 a b t
-  no_more now b t l = record { dirs = l.dirs; listed = l.listed; read = l.read; failed = l.failed; may = l.may; times = let was = l.times in omega arith }
+  no_more : (now after : Calls) (b : Worker) (t : Told) → after ≡ now → CalledOnly kind weak before now None 1 a b t → CalledOnly kind weak before after None 0 a b t
+  no_more now after b t is l = record { paths = l.paths; made = is ∙ l.made; may = tt; times = let was = l.times in omega arith }
 
-  -- a directory was listed
-  pub walked_listing : (f g : ℕ) (now after : Calls) (b : Worker) (visits : List Visit) (dir : Path) (l : Listing)
-      → HasWalked tree weak count f before now p 1 a b visits None → g ≡ f → IsListingOf dir l → IfSome tree (λ t. IsToldBy t dir l × (after ≡ with_listed now dir))
-      → HasWalked tree weak count g before after p 0 a b (visits ++ record { dir = dir; listing = l } ∷ []) None
-  walked_listing f g now after b visits dir l h same lawful told = record {
+  -- a call may have been made
+  pub done_more : (f g : ℕ) (now after : Calls) (b : Worker) (visits more : List Visit) (x : Path)
+      → HasDone kind tree root weak count f before now p 1 a b visits [] None → g ≡ f → (All (IsVisit tree) visits → All (IsVisit tree) more)
+      → IfSome tree (λ t. (after ≡ now) ⊎ (after ≡ calls_with kind (x ∷ []) [] now)) → HasDone kind tree root weak count g before after p 0 a b more [] None
+  done_more f g now after b visits more x h same each told = record {
     back = h.back;
-    each = All-append (IsVisit tree) visits (record { dir = dir; listing = l } ∷ []) h.each
-        (All-cons (IsVisit tree) (record { dir = dir; listing = l }) [] (record { lawful = lawful; told = told_on tree (λ t. IsToldBy t dir l × (after ≡ with_listed now dir)) (λ t. IsToldBy t dir l) (λ t q. q.0) told }) (All-nil (IsVisit tree)));
+    each = each h.each;
     counts = same ∙ h.counts;
-    told = told_both tree (ListedOnly weak before now None 1 a b) (λ t. IsToldBy t dir l × (after ≡ with_listed now dir)) (ListedOnly weak before after None 0 a b)
-        (λ t one q. subst (λ (k : Calls). ListedOnly weak before k None 0 a b t) (sym q.1) (one_more now b dir t one)) h.told told;
+    told = told_both tree (CalledOnly kind weak before now None 1 a b) (λ t. (after ≡ now) ⊎ (after ≡ calls_with kind (x ∷ []) [] now)) (CalledOnly kind weak before after None 0 a b)
+        (λ t one q. ⊎_elim (λ (e : after ≡ now). no_more now after b t e one) (λ (e : after ≡ calls_with kind (x ∷ []) [] now). one_more now after b x t e one) q) h.told told;
   }
 
-  -- a directory may have been listed, and the listing is lost
-  pub walked_lost : (f g : ℕ) (now after : Calls) (b : Worker) (visits : List Visit) (dir : Path)
-      → HasWalked tree weak count f before now p 1 a b visits None → g ≡ f → IfSome tree (λ t. (after ≡ now) ⊎ (after ≡ with_listed now dir))
-      → HasWalked tree weak count g before after p 0 a b visits None
-  walked_lost f g now after b visits dir h same told = record {
-    back = h.back;
-    each = h.each;
-    counts = same ∙ h.counts;
-    told = told_both tree (ListedOnly weak before now None 1 a b) (λ t. (after ≡ now) ⊎ (after ≡ with_listed now dir)) (ListedOnly weak before after None 0 a b)
-        (λ t one q. ⊎_elim
-        (λ (e : after ≡ now). subst (λ (k : Calls). ListedOnly weak before k None 0 a b t) (sym e) (no_more now b t one))
-        (λ (e : after ≡ with_listed now dir). subst (λ (k : Calls). ListedOnly weak before k None 0 a b t) (sym e) (one_more now b dir t one))
-        q) h.told told;
-  }
-
-  -- a directory failed
-  pub walked_fault : (f g : ℕ) (now after : Calls) (b : Worker) (visits : List Visit) (dir : Path)
-      → HasWalked tree weak count f before now p 1 a b visits None → (f ≤ g) × Rose f g → IfSome tree (λ t. IsFault weak dir ((es : List Entry) × (t dir ≡ Some (Directory es))) now after)
-      → HasWalked tree weak count g before after p 0 a b visits (Some dir)
-  walked_fault f g now after b visits dir h rose told = record {
+  -- a call failed
+  pub done_fault : (f g : ℕ) (now after : Calls) (b : Worker) (visits : List Visit) (fault : Fault)
+      → HasDone kind tree root weak count f before now p 1 a b visits [] None → (f ≤ g) × Rose f g
+      → IfSome tree (λ t. (after ≡ record now { failed = now.failed ++ path_of fault ∷ [] }) × MayFail weak t fault) → HasDone kind tree root weak count g before after p 0 a b visits [] (Some fault)
+  done_fault f g now after b visits fault h rose told = record {
     back = h.back;
     each = h.each;
     counts = subst (λ (n : ℕ). (n ≤ g) × Rose n g) h.counts rose;
-    told = told_both tree (ListedOnly weak before now None 1 a b) (λ t. IsFault weak dir ((es : List Entry) × (t dir ≡ Some (Directory es))) now after) (ListedOnly weak before after (Some dir) 0 a b)
+    told = told_both tree (CalledOnly kind weak before now None 1 a b) (λ t. (after ≡ record now { failed = now.failed ++ path_of fault ∷ [] }) × MayFail weak t fault) (CalledOnly kind weak before after (Some fault) 0 a b)
         (λ t l q. record {
-          dirs = l.dirs;
-          listed = ap (λ (k : Calls). k.listed) q.noted ∙ l.listed;
-          read = ap (λ (k : Calls). k.files_read) q.noted ∙ l.read;
-          failed = ap (λ (k : Calls). k.failed) q.noted ∙ ap (λ ds. ds ++ dir ∷ []) (l.failed ∙ append-nil before.failed);
-          may = q.may;
+          paths = l.paths;
+          made = q.0 ∙ (calls_failed kind now (path_of fault) ∙ (ap (calls_with kind [] (path_of fault ∷ [])) l.made
+              ∙ (calls_on kind l.paths [] [] (path_of fault ∷ []) before ∙ ap (λ ps. calls_with kind ps (path_of fault ∷ []) before) (append-nil l.paths))));
+          may = q.1;
           times = let was = l.times in omega arith;
         }) h.told told;
   }
 
-  -- the listing of a directory was kept
-  pub walked_kept : (f g : ℕ) (now after : Calls) (b : Worker) (visits kept : List Visit) (dir text : Path) (l : Listing)
-      → HasWalked tree weak count f before now p 1 a b visits None → text ≡ dir → kept ≡ visits ++ record { dir = dir; listing = l } ∷ []
-      → g ≡ f → IsListingOf text l → IfSome tree (λ t. IsToldBy t text l × (after ≡ with_listed now text))
-      → HasWalked tree weak count g before after p 0 a b kept None
-  walked_kept f g now after b visits kept dir text l h is all same lawful told =
-      subst (λ vs. HasWalked tree weak count g before after p 0 a b vs None) (ap (λ (d : Path). visits ++ record { dir = d; listing = l } ∷ []) is ∙ sym all)
-      (walked_listing f g now after b visits text l h same lawful told)
+  -- the pieces that are left are those of files of the tree
+  pub done_pieces : (f : ℕ) (now : Calls) (b : Worker) (visits : List Visit) (pieces : List Index) (fault : Option Fault) → All (IsFilesPiece tree root) pieces
+      → HasDone kind tree root weak count f before now p 0 a b visits [] fault → HasDone kind tree root weak count f before now p 0 a b visits pieces fault
+  done_pieces f now b visits pieces fault all h = record { back = back_as tree root [] pieces p a b (λ none. all) h.back; each = h.each; counts = h.counts; told = h.told }
 
-  -- it was listed, and its listing isn't kept
-  pub walked_dropped : (f g : ℕ) (now after : Calls) (b : Worker) (visits kept : List Visit) (text : Path) (l : Listing)
-      → HasWalked tree weak count f before now p 1 a b visits None → kept ≡ visits
-      → g ≡ f → IfSome tree (λ t. IsToldBy t text l × (after ≡ with_listed now text))
-      → HasWalked tree weak count g before after p 0 a b kept None
-  walked_dropped f g now after b visits kept text l h stay same told =
-      subst (λ vs. HasWalked tree weak count g before after p 0 a b vs None) (sym stay)
-      (walked_lost f g now after b visits text h same (told_on tree (λ t. IsToldBy t text l × (after ≡ with_listed now text)) (λ t. (after ≡ now) ⊎ (after ≡ with_listed now text)) (λ t q. inr q.1) told))
+  -- a turn on the tree as it is now, which tells the same
+  pub done_along : (tree' : Option Told) (weak' : List Path) → tree' ≡ tree → weak' ≡ weak → (f g : ℕ) (now after : Calls) (k j : ℕ) (b c : Worker) (visits more : List Visit) (fault late : Option Fault)
+      → HasDone kind tree root weak count f before now p k a b visits [] fault
+      → (HasDone kind tree' root weak' count f before now p k a b visits [] fault → HasDone kind tree' root weak' count g before after p j a c more [] late)
+      → HasDone kind tree root weak count g before after p j a c more [] late
+  done_along tree' weak' same same_weak f g now after k j b c visits more fault late h step =
+      let got : HasDone kind tree' root weak' count f before now p k a b visits [] fault =
+      subst (λ (o : Option Told). HasDone kind o root weak' count f before now p k a b visits [] fault) (sym same)
+      (subst (λ (w : List Path). HasDone kind tree root w count f before now p k a b visits [] fault) (sym same_weak) h) in
+      subst (λ (o : Option Told). HasDone kind o root weak count g before after p j a c more [] late) same
+      (subst (λ (w : List Path). HasDone kind tree' root w count g before after p j a c more [] late) same_weak (step got))
 
-  -- it failed
-  pub walked_failed : (f g : ℕ) (now after : Calls) (b : Worker) (visits : List Visit) (dir text : Path)
-      → HasWalked tree weak count f before now p 1 a b visits None → text ≡ dir → (f ≤ g) × Rose f g
-      → IfSome tree (λ t. IsFault weak text ((es : List Entry) × (t text ≡ Some (Directory es))) now after)
-      → HasWalked tree weak count g before after p 0 a b visits (Some dir)
-  walked_failed f g now after b visits dir text h is rose told =
-      subst (λ (d : Path). HasWalked tree weak count g before after p 0 a b visits (Some d)) is (walked_fault f g now after b visits text h rose told)
-
-  -- a turn of a walker: it got a directory, did something with it, and told the list
-  pub walked_turn : (tree' : Option Told) (weak' : List Path) → tree' ≡ tree → weak' ≡ weak → (f g : ℕ) (now after : Calls) (b c d : Worker) (visits more : List Visit) (fault : Option Path)
-      → HasWalked tree weak count f before now p 0 a b visits None → HasReleased p 1 b c
-      → (HasWalked tree' weak' count f before now p 1 a c visits None → HasWalked tree' weak' count g before after p 0 a c more fault)
-      → HasReleased p 0 c d → HasWalked tree weak count g before after p 0 a d more fault
-  walked_turn tree' weak' same same_weak f g now after b c d visits more fault h first step last =
-      let got = walked_on 1 f now b c visits None h first in
-      let got_so : HasWalked tree' weak' count f before now p 1 a c visits None =
-      subst (λ (o : Option Told). HasWalked o weak' count f before now p 1 a c visits None) (sym same)
-      (subst (λ (k : List Path). HasWalked tree k count f before now p 1 a c visits None) (sym same_weak) got) in
-      let done : HasWalked tree weak count g before after p 0 a c more fault =
-      subst (λ (o : Option Told). HasWalked o weak count g before after p 0 a c more fault) same
-      (subst (λ (k : List Path). HasWalked tree' k count g before after p 0 a c more fault) same_weak (step got_so)) in
-      walked_on 0 g after c d more fault done last
-
--- one call after the other
-pub released_after : (p : Run) (a b c : Worker) → HasReleased p 1 a b → HasReleased p 0 b c → HasReleased p 0 a c
-released_after p a b c first last = record { back = back_on p a b c first.back last.back; times = let one = first.times in let two = last.times in omega arith }
+-- one listing more
+pub visits_more : (tree : Option Told) (visits kept : List Visit) (dir text : Path) (l : Listing) → kept ≡ visits ++ record { dir = dir; listing = l } ∷ [] → text ≡ dir → IsListingOf text l
+    → IfSome tree (λ t. IsToldBy t text l) → All (IsVisit tree) visits → All (IsVisit tree) kept
+visits_more tree visits kept dir text l all is lawful told each =
+    let v : Visit = record { dir = dir; listing = l } in
+    let here : IsVisit tree v = record { lawful = subst (λ (d : Path). IsListingOf d l) is lawful; told = subst (λ (d : Path). IfSome tree (λ t. IsToldBy t d l)) is told } in
+    subst (All (IsVisit tree)) (sym all) (All-append (IsVisit tree) visits (v ∷ []) each (All-cons (IsVisit tree) v [] here (All-nil (IsVisit tree))))

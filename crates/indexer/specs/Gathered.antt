@@ -1,22 +1,34 @@
--- What the walkers came by, together, and what follows from it.
-use Rattle.std.specs.Prelude.{◌≡◌, ◌⊎◌, ℕ, List, [], ◌∷◌, ◌++◌, Option, Some, None, IfSome}
+-- What the workers came by, together, and what follows from it.
+use Rattle.std.specs.Prelude.{◌≡◌, ◌⊎◌, ℕ, List, [], ◌∷◌, ◌++◌, Option, Some, None, IfSome, Contains}
 use Rattle.std.specs.Option.{option_or}
 use Rattle.firefly_outside.specs.Trees.{Path, Told, Calls}
 use Rattle.firefly_outside.specs.Under.{IsUnder}
-use Rattle.firefly_outside.specs.declared.tree.Kind.TheVariants.{Dir}
+use Rattle.walker.specs.Walk.{Walk, IsUnlisted, files_of}
 use Rattle.walker.specs.Closing.{Answers, HasRisen, IsNumbered, failed_by}
 use Rattle.walker.specs.declared.answer.WalkAnswer.{WalkAnswer}
 use Rattle.walker.specs.declared.answer.WalkAnswer.TheVariants.{ReadFault, Memory}
+use Rattle.indexer.specs.declared.findings.Fault.{Fault}
+use Rattle.indexer.specs.declared.findings.Fault.TheVariants.{Dir as DirFault, File as FileFault}
 use Rattle.indexer.specs.declared.findings.Findings.{Findings}
+use Rattle.indexer.specs.Pieces.{path_of, kind_of}
 
--- the first directory that failed, if one did
-abbrev pub first_fault : List Findings → Option Path
+-- the first path that failed, if one did
+abbrev pub first_fault : List Findings → Option Fault
 first_fault [] = None
 first_fault (f ∷ fs) = option_or f.fault (first_fault fs)
 
--- what is answered where a walker's directory failed: the directory, which lies under the root, or want of memory, and no more calls are made
-pub record EndsByFault (tree : Option Told) (root : Path) (path : Path) (count then_count : ℕ) (before now : Calls) (answer : WalkAnswer) : Type 0 where
-  pub cases : (answer ≡ Memory) ⊎ ((answer ≡ ReadFault path) × IfSome tree (λ t. IsUnder t root Dir path))
+-- the walk has found the path as what failed there, and a directory isn't shown as listed
+abbrev pub IsFoundFault : Walk → Fault → Type 0
+IsFoundFault w (DirFault path) = IsUnlisted w path
+IsFoundFault w (FileFault path) = Contains (files_of w) path
+
+-- the path that failed is answered where it was found so, and else want of memory
+abbrev pub TellsFault : Walk → Fault → WalkAnswer → Type 0
+TellsFault w fault answer = ((answer ≡ Memory) × (¬ IsFoundFault w fault)) ⊎ ((answer ≡ ReadFault (path_of fault)) × IsFoundFault w fault)
+
+-- what is answered where a worker's path failed: the path, which lies under the root as what failed there, or want of memory, and no more calls are made
+pub record EndsByFault (tree : Option Told) (root : Path) (fault : Fault) (count then_count : ℕ) (before now : Calls) (answer : WalkAnswer) : Type 0 where
+  pub cases : (answer ≡ Memory) ⊎ ((answer ≡ ReadFault (path_of fault)) × IfSome tree (λ t. IsUnder t root (kind_of fault) (path_of fault)))
   pub count_stays : then_count ≡ count
   pub no_calls : now ≡ before
 
@@ -27,6 +39,6 @@ pub record EndsByWalk (tree : Option Told) (weak : List Path) (root : Path) (sto
   pub answers : IfSome tree (Answers root stop weak answer)
   pub failed : IfSome tree (λ t. now.failed ≡ before.failed ++ failed_by answer)
 
-abbrev pub Ends : Option Told → List Path → Path → Option ℕ → Option Path → ℕ → ℕ → Calls → Calls → WalkAnswer → Type 0
+abbrev pub Ends : Option Told → List Path → Path → Option ℕ → Option Fault → ℕ → ℕ → Calls → Calls → WalkAnswer → Type 0
 Ends tree weak root stop None count then_count before now answer = EndsByWalk tree weak root stop count then_count before now answer
-Ends tree weak root stop (Some path) count then_count before now answer = EndsByFault tree root path count then_count before now answer
+Ends tree weak root stop (Some fault) count then_count before now answer = EndsByFault tree root fault count then_count before now answer

@@ -3,27 +3,33 @@ use Rattle.std.specs.Prelude.{◌≡◌, ℕ, List, [], Option, Some, None, cond
 use mathlib.Core.Option.{some}
 use lib.ListN.{get_elem?}
 use Rattle.firefly_outside.specs.Trees.{Path, Told, Calls}
+use Rattle.firefly_outside.specs.declared.tree.Kind.{Kind}
+use Rattle.firefly_outside.specs.declared.tree.Kind.TheVariants.{File, Dir}
 use Rattle.indexer.specs.declared.findings.Findings.{Findings}
-use Rattle.indexer.specs.Turns.{Worker, Run, ComesBack}
-use Rattle.indexer.specs.Walks.{HasWalked}
+use Rattle.indexer.specs.Turns.{Worker, Run, HasCalled}
+use Rattle.indexer.specs.Walks.{HasDone}
 
 -- the tree of the worker k, where the first n workers have one
 abbrev pub tree_at : {S : Type 0} → ℕ → List (Option S) → ℕ → Option S
 tree_at n trees k = cond (nat_lt k n) (slice_index_or trees k None) None
 
-module _ {S : Type 0} (tree : S → Option Told) (weak : S → List Path) (faults : S → ℕ) (calls : S → Calls) where
-  -- the worker came from a to b with these findings: the tree that it got came back, and was walked; without a tree it found nothing
-  abbrev pub GivesTree : Run → Worker → Worker → Findings → Option S → Option S → Type 0
-  GivesTree p a b f None None = ComesBack p a b × (f.visits.items ≡ []) × (f.fault ≡ None)
-  GivesTree p a b f (Some s) (Some r) = (tree r ≡ tree s) × (weak r ≡ weak s)
-      × HasWalked (tree s) (weak s) (faults s) (faults r) (calls s) (calls r) p 0 a b f.visits.items f.fault
-  GivesTree p a b f None (Some r) = ⊥
-  GivesTree p a b f (Some s) None = ⊥
+-- the walkers, who list directories, come first
+abbrev pub kind_at : ℕ → ℕ → Kind
+kind_at walkers k = cond (nat_lt k walkers) Dir File
 
-  -- the thread at this place came back with the findings at this place, and so did its tree
-  pub record HasWorked (p : Run) (n : ℕ) (threads : List Worker) (findings : List Findings) (old new : List (Option S)) (k : ℕ) (t : Worker) : Type 0 where
+module _ {S : Type 0} (tree : S → Option Told) (weak : S → List Path) (faults : S → ℕ) (calls : S → Calls) (root : Path) where
+  -- the worker came from a to b with these findings: the tree that it got came back, with calls of its kind; without a tree it took and merged pieces
+  abbrev pub GivesTree : Run → Kind → Worker → Worker → Findings → Option S → Option S → Type 0
+  GivesTree p kind a b f None None = ((o : Option Told) → HasCalled o root f.pieces.items p 0 0 a b) × (f.visits.items ≡ []) × (f.fault ≡ None)
+  GivesTree p kind a b f (Some s) (Some r) = (tree r ≡ tree s) × (weak r ≡ weak s)
+      × HasDone kind (tree s) root (weak s) (faults s) (faults r) (calls s) (calls r) p 0 a b f.visits.items f.pieces.items f.fault
+  GivesTree p kind a b f None (Some r) = ⊥
+  GivesTree p kind a b f (Some s) None = ⊥
+
+  -- the thread at this place came back with the findings at this place, and so did its tree; of those with a tree, which are the first n, the walkers come first
+  pub record HasWorked (p : Run) (walkers n : ℕ) (threads : List Worker) (findings : List Findings) (old new : List (Option S)) (k : ℕ) (t : Worker) : Type 0 where
     pub was : Worker
     pub is_was : get_elem? threads k ≡ some was
     pub found : Findings
     pub is_found : get_elem? findings k ≡ some found
-    pub gives : GivesTree p was t found (tree_at n old k) (tree_at n new k)
+    pub gives : GivesTree p (kind_at walkers k) was t found (tree_at n old k) (tree_at n new k)

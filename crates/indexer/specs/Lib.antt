@@ -1,11 +1,14 @@
 pub mod Plans
 pub mod Work
+pub mod Pieces
 pub mod WorkLaws
 pub mod BufferLaws
 pub mod Turns
 pub mod Walks
+pub mod Lots
 pub mod Jobs
 pub mod Opening
 pub mod Gathered
 pub mod Runs
 pub mod Says
+pub mod Taken

@@ -17,6 +17,7 @@ use Rattle.indexer.specs.declared.answer.IndexAnswer.{IndexAnswer}
 use Rattle.indexer.specs.declared.answer.IndexAnswer.TheVariants.{Done as IndexDone, Stopped as IndexStopped, ReadFault as IndexReadFault, TooMany as IndexTooMany, Memory as IndexMemory}
 use Rattle.indexer.specs.declared.plan.Plan.{Plan}
 use Rattle.indexer.specs.declared.value.IndexValue.{IndexValue}
+use Rattle.indexer.specs.Jobs.{kind_at}
 use Rattle.indexer.specs.Plans.{layout_of}
 use Rattle.indexer.specs.Turns.{Worker, release_count}
 use Rattle.indexer.specs.Work.{Share}
@@ -59,6 +60,19 @@ pub record OnlyLists (before now : Calls) (thread : Worker) : Type 0 where
   pub failed : now.failed ≡ before.failed
   pub times : length dirs ≤ release_count 0 thread.mine
 
+-- files alone were read, no more than the times that the thread released mutex 1
+pub record OnlyReads (before now : Calls) (thread : Worker) : Type 0 where
+  pub files : List Path
+  pub listed : now.listed ≡ before.listed
+  pub read : now.files_read ≡ before.files_read ++ files
+  pub failed : now.failed ≡ before.failed
+  pub times : length files ≤ release_count 1 thread.mine
+
+-- a walker's tree was only listed, and a parser's only read
+abbrev pub OnlyCalls : Kind → Calls → Calls → Worker → Type 0
+OnlyCalls Dir before now thread = OnlyLists before now thread
+OnlyCalls File before now thread = OnlyReads before now thread
+
 module _ {S : Type 0} (tree : S → Option Told) (weak : S → List Path) (faults : S → ℕ) (calls : S → Calls) where
   -- the tree came back as it was, and its count didn't fall
   pub record IsBack (s r : S) : Type 0 where
@@ -66,23 +80,23 @@ module _ {S : Type 0} (tree : S → Option Told) (weak : S → List Path) (fault
     pub same_weak : weak r ≡ weak s
     pub count : faults s ≤ faults r
 
-  -- the walkers' trees are the first n, and the closing walk's is the one at this place: they are back, and no other was touched
-  pub record AreBack (n at : ℕ) (old new : List (Option S)) : Type 0 where
-    pub walkers : (k : ℕ) (s : S) → k < n → slice_index_or old k None ≡ Some s → (r : S) × (slice_index_or new k None ≡ Some r) × IsBack s r
-    pub closing : (s : S) → slice_index_or old at None ≡ Some s → (r : S) × (slice_index_or new at None ≡ Some r) × IsBack s r
-    pub others : (i : ℕ) (d : Option S) → n ≤ i → (i ≡ at → ⊥) → slice_index_or new i d ≡ slice_index_or old i d
+  -- the workers' trees are the first n, and the closing walk's is the next: they are back, and no other was touched
+  pub record AreBack (n : ℕ) (old new : List (Option S)) : Type 0 where
+    pub workers : (k : ℕ) (s : S) → k < n → slice_index_or old k None ≡ Some s → (r : S) × (slice_index_or new k None ≡ Some r) × IsBack s r
+    pub closing : (s : S) → slice_index_or old n None ≡ Some s → (r : S) × (slice_index_or new n None ≡ Some r) × IsBack s r
+    pub others : (i : ℕ) (d : Option S) → n < i → slice_index_or new i d ≡ slice_index_or old i d
 
-  -- the tree of the walker k, which is thread k + 1: its count didn't rise, and it was only listed
-  pub record IsListedBy (threads : List Worker) (k : ℕ) (s r : S) : Type 0 where
+  -- the tree of the worker k, which is thread k + 1: its count didn't rise, and only calls of this kind were made on it
+  pub record IsUsedBy (kind : Kind) (threads : List Worker) (k : ℕ) (s r : S) : Type 0 where
     pub none_rose : faults r ≡ faults s
     pub thread : Worker
     pub is_thread : get_elem? threads (suc k) ≡ some thread
-    pub lists : IfSome (tree s) (λ t. OnlyLists (calls s) (calls r) thread)
+    pub calls_only : IfSome (tree s) (λ t. OnlyCalls kind (calls s) (calls r) thread)
 
-  -- no count rose, and the walkers' trees were only listed
-  pub record AreListed (n at : ℕ) (threads : List Worker) (old new : List (Option S)) : Type 0 where
-    pub walkers : (k : ℕ) (s r : S) → k < n → slice_index_or old k None ≡ Some s → slice_index_or new k None ≡ Some r → IsListedBy threads k s r
-    pub closing : (s r : S) → slice_index_or old at None ≡ Some s → slice_index_or new at None ≡ Some r → faults r ≡ faults s
+  -- no count rose; the trees of the walkers, who come first, were only listed, and those of the parsers only read
+  pub record AreUsed (walkers n : ℕ) (threads : List Worker) (old new : List (Option S)) : Type 0 where
+    pub workers : (k : ℕ) (s r : S) → k < n → slice_index_or old k None ≡ Some s → slice_index_or new k None ≡ Some r → IsUsedBy (kind_at walkers k) threads k s r
+    pub closing : (s r : S) → slice_index_or old n None ≡ Some s → slice_index_or new n None ≡ Some r → faults r ≡ faults s
 
   -- a tree's count rose, and where it tells, the path is now among those that failed: it lies under the root, and may fail or isn't there as its entry says
   pub record IsCausedAt (root : Path) (old new : List (Option S)) (path : Path) : Type 0 where
@@ -101,10 +115,10 @@ module _ {S : Type 0} (tree : S → Option Told) (weak : S → List Path) (fault
   HasCause root old new (IndexTooMany many) = Unit {0}
   HasCause root old new IndexMemory = Unit {0}
 
-  -- the trees after a run, by its answer
+  -- the trees after a run of so many walkers and n workers with a tree, by its answer
   abbrev pub TreesAfter : ℕ → ℕ → List (Option S) → List (Option S) → IndexAnswer → Type 0
-  TreesAfter n at old new (IndexDone piece closed) = AreBack n at old new × AreListed n at closed.threads old new
-  TreesAfter n at old new (IndexStopped many) = AreBack n at old new
-  TreesAfter n at old new (IndexReadFault path) = AreBack n at old new
-  TreesAfter n at old new (IndexTooMany many) = AreBack n at old new
-  TreesAfter n at old new IndexMemory = Unit {0}
+  TreesAfter walkers n old new (IndexDone piece closed) = AreBack n old new × AreUsed walkers n closed.threads old new
+  TreesAfter walkers n old new (IndexStopped many) = AreBack n old new
+  TreesAfter walkers n old new (IndexReadFault path) = AreBack n old new
+  TreesAfter walkers n old new (IndexTooMany many) = AreBack n old new
+  TreesAfter walkers n old new IndexMemory = Unit {0}

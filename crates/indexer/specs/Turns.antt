@@ -1,5 +1,6 @@
 -- A worker between its calls, and while it has the list of directories.
-use Rattle.std.specs.Prelude.{◌≡◌, ℕ, ◌+◌, ◌≤◌, Bool, false, eqb, List, count_by, slice_set, Some}
+use Rattle.std.specs.Prelude.{◌≡◌, ℕ, ◌+◌, ◌≤◌, Bool, false, eqb, List, count_by, slice_set, Option, Some, All}
+use Rattle.firefly_outside.specs.Trees.{Path, Told}
 use Rattle.larch_actions.specs.declared.event.Event.{Event}
 use Rattle.larch_actions.specs.declared.event.Layout.{Layout}
 use Rattle.larch_actions.specs.declared.event.Action.{Action}
@@ -7,7 +8,9 @@ use Rattle.larch_actions.specs.declared.event.Action.TheVariants.{Release}
 use Rattle.nub_rule.specs.Known.{Known, Shape, Holds}
 use Rattle.nub.specs.Idle.{IsIdle}
 use Rattle.nub.specs.Rest.{AtRest, IsSame}
+use Rattle.word_index.specs.Index.{Index}
 use Rattle.indexer.specs.declared.value.IndexValue.{IndexValue}
+use Rattle.indexer.specs.Pieces.{IsFilesPiece, IsPieceItem, AllPut, AllTaken}
 use Rattle.indexer.specs.Work.{Share, IsBehind}
 
 abbrev pub Worker : Type 0
@@ -29,14 +32,20 @@ pub record HasLists (l : Layout) : Type 0 where
   pub mutexes : l.mutexes ≡ 3
   pub conditions : l.conditions ≡ 5
 
--- who was between two calls is so again
-abbrev pub ComesBack : Run → Worker → Worker → Type 0
-ComesBack p a b = (n : ℕ) (s : Share) → IsIdle p n s a → (r : Share) × IsIdle p n r b
+-- a share goes from s to r: where all that its thread had put at the buffer of pieces were pieces of the tree, so is all now;
+-- and where all that it has taken there is, so was all before, and so are these pieces
+pub record Passes (tree : Option Told) (root : Path) (pieces : List Index) (s r : Share) : Type 0 where
+  pub puts : AllPut (IsPieceItem tree root) 2 s → AllPut (IsPieceItem tree root) 2 r
+  pub takes : AllTaken (IsPieceItem tree root) 2 r → AllTaken (IsPieceItem tree root) 2 s × All (IsFilesPiece tree root) pieces
 
--- the worker is between two calls again, and has released mutex 0 at least so many times more
-pub record HasReleased (p : Run) (k : ℕ) (a b : Worker) : Type 0 where
-  pub back : ComesBack p a b
-  pub times : k + release_count 0 a.mine ≤ release_count 0 b.mine
+-- who was between two calls is so again
+abbrev pub ComesBack : Option Told → Path → List Index → Run → Worker → Worker → Type 0
+ComesBack tree root pieces p a b = (n : ℕ) (s : Share) → IsIdle p n s a → (r : Share) × IsIdle p n r b × Passes tree root pieces s r
+
+-- the worker is between two calls again, has these pieces, and has released mutex m at least so many times more
+pub record HasCalled (tree : Option Told) (root : Path) (pieces : List Index) (p : Run) (m k : ℕ) (a b : Worker) : Type 0 where
+  pub back : ComesBack tree root pieces p a b
+  pub times : k + release_count m a.mine ≤ release_count m b.mine
 
 -- since a the worker has taken the list of directories and nothing else; it has it in b, with this value
 pub record HasList (p : Run) (a : Worker) (x : IndexValue) (b : Worker) : Type 0 where
@@ -49,7 +58,7 @@ pub record HasList (p : Run) (a : Worker) (x : IndexValue) (b : Worker) : Type 0
   pub was : a.share ≡ Some own
   pub share : b.share ≡ Some own
   pub kind : IsBehind 0 x
-  pub times : release_count 0 a.mine ≤ release_count 0 b.mine
+  pub times : (m : ℕ) → release_count m a.mine ≤ release_count m b.mine
 
 -- the thread is between two calls
 abbrev pub IsBetween : Run → Worker → Type 0

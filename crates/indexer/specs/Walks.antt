@@ -1,11 +1,15 @@
--- What a walker has done.
-use Rattle.std.specs.Prelude.{◌≡◌, ◌⊎◌, ℕ, ◌+◌, ◌≤◌, List, ◌++◌, length, Option, Some, None, IfSome, Contains, All, Result, Ok, Err}
-use Rattle.std.specs.Option.{option_to_list}
+-- What a worker with a tree has done.
+use Rattle.std.specs.Prelude.{◌≡◌, ◌⊎◌, ℕ, ◌+◌, ◌≤◌, List, [], ◌∷◌, ◌++◌, length, Option, Some, None, IfSome, Contains, All, Result, Ok, Err}
 use Rattle.firefly_outside.specs.Causes.{Rose}
-use Rattle.firefly_outside.specs.Trees.{Path, Told, Calls, Directory}
-use Rattle.firefly_outside.specs.declared.tree.Entry.{Entry}
+use Rattle.firefly_outside.specs.Trees.{Path, Told, Calls}
+use Rattle.firefly_outside.specs.Under.{IsThere}
+use Rattle.firefly_outside.specs.declared.tree.Kind.{Kind}
+use Rattle.firefly_outside.specs.declared.tree.Kind.TheVariants.{File, Dir}
 use Rattle.walker.specs.Listings.{IsListingOf, IsToldBy}
+use Rattle.word_index.specs.Index.{Index}
+use Rattle.indexer.specs.declared.findings.Fault.{Fault}
 use Rattle.indexer.specs.declared.findings.Visit.{Visit}
+use Rattle.indexer.specs.Pieces.{path_of, kind_of}
 use Rattle.indexer.specs.Turns.{Worker, Run, ComesBack, release_count}
 
 -- the listing is one of its directory, and where the tree tells, the tree's own
@@ -14,32 +18,45 @@ pub record IsVisit (tree : Option Told) (v : Visit) : Type 0 where
   pub told : IfSome tree (λ t. IsToldBy t v.dir v.listing)
 
 -- the count rose where a path failed, and else stays
-abbrev pub FaultCounts : ℕ → ℕ → Option Path → Type 0
+abbrev pub FaultCounts : ℕ → ℕ → Option Fault → Type 0
 FaultCounts before now None = now ≡ before
-FaultCounts before now (Some path) = (before ≤ now) × Rose before now
+FaultCounts before now (Some fault) = (before ≤ now) × Rose before now
 
--- the path may fail, or the tree has no directory there
-abbrev pub MayFail : List Path → Told → Path → Type 0
-MayFail weak t path = Contains weak path ⊎ ¬ ((es : List Entry) × (t path ≡ Some (Directory es)))
+-- the path may fail, or isn't in the tree as what it was asked for
+abbrev pub MayFail : List Path → Told → Fault → Type 0
+MayFail weak t fault = Contains weak (path_of fault) ⊎ ¬ IsThere t (kind_of fault) (path_of fault)
 
--- these directories were listed and nothing else was done, but that this path failed, if one did; mutex 0 was released for each of them
--- before, and so many times more
-pub record ListedOnly (weak : List Path) (before now : Calls) (fault : Option Path) (spare : ℕ) (a b : Worker) (t : Told) : Type 0 where
-  pub dirs : List Path
-  pub listed : now.listed ≡ before.listed ++ dirs
-  pub read : now.files_read ≡ before.files_read
-  pub failed : now.failed ≡ before.failed ++ option_to_list fault
+abbrev pub paths_of : Option Fault → List Path
+paths_of None = []
+paths_of (Some fault) = path_of fault ∷ []
+
+-- the calls with these directories listed, or these files read, and with these paths that failed
+abbrev pub calls_with : Kind → List Path → List Path → Calls → Calls
+calls_with Dir paths failed c = record { listed = c.listed ++ paths; files_read = c.files_read; failed = c.failed ++ failed }
+calls_with File paths failed c = record { listed = c.listed; files_read = c.files_read ++ paths; failed = c.failed ++ failed }
+
+-- the mutex that is released for each directory listed, or for each file read
+abbrev pub mutex_of : Kind → ℕ
+mutex_of Dir = 0
+mutex_of File = 1
+
+-- directories were listed, or files read, and nothing else was done, but that this failed, if something did; the mutex was released for
+-- each of them before, and so many times more
+pub record CalledOnly (kind : Kind) (weak : List Path) (before now : Calls) (fault : Option Fault) (spare : ℕ) (a b : Worker) (t : Told) : Type 0 where
+  pub paths : List Path
+  pub made : now ≡ calls_with kind paths (paths_of fault) before
   pub may : IfSome fault (MayFail weak t)
-  pub times : length dirs + spare + release_count 0 a.mine ≤ release_count 0 b.mine
+  pub times : length paths + spare + release_count (mutex_of kind) a.mine ≤ release_count (mutex_of kind) b.mine
 
--- the walker came from a to b by these listings, and this path failed, if one did
-pub record HasWalked (tree : Option Told) (weak : List Path) (count then_count : ℕ) (before now : Calls) (p : Run) (spare : ℕ) (a b : Worker) (visits : List Visit) (fault : Option Path) : Type 0 where
-  pub back : ComesBack p a b
+-- the worker came from a to b by calls of one kind on its tree, and has these listings and pieces; this failed, if something did
+pub record HasDone (kind : Kind) (tree : Option Told) (root : Path) (weak : List Path) (count then_count : ℕ) (before now : Calls) (p : Run) (spare : ℕ) (a b : Worker)
+    (visits : List Visit) (pieces : List Index) (fault : Option Fault) : Type 0 where
+  pub back : ComesBack tree root pieces p a b
   pub each : All (IsVisit tree) visits
   pub counts : FaultCounts count then_count fault
-  pub told : IfSome tree (ListedOnly weak before now fault spare a b)
+  pub told : IfSome tree (CalledOnly kind weak before now fault spare a b)
 
--- the path that failed, if one did
-abbrev pub fault_of : {T : Type 0} → Result T (Option Path) → Option Path
+-- what failed, if something did
+abbrev pub fault_of : {T : Type 0} → Result T (Option Fault) → Option Fault
 fault_of (Ok v) = None
 fault_of (Err fault) = fault

@@ -5,6 +5,7 @@ use nub::Closed;
 use word_index::Piece;
 
 /// The index of all files, with the closed package of its run; or why there is none.
+#[derive(Drop)]
 pub enum IndexAnswer {
     /// The index of all files under the root.
     Done(Piece, Closed<IndexUses>),

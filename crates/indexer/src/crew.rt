@@ -1,9 +1,12 @@
 //! The workers, all at once.
-ghost use Rattle.std.specs.Prelude.{◌≡◌, ◌≤◌, ℕ, length, slice_index_or, IfOk, Option};
+ghost use Rattle.std.specs.Prelude.{◌≡◌, ◌≤◌, ℕ, [], length, slice_index_or, IfOk, Option};
+ghost use Rattle.firefly_outside.specs.Trees.{Path, Told};
 ghost use Rattle.nub_rule.specs.Items.{Each};
+ghost use Rattle.package_crew.specs.Crews.{CameBack};
 ghost use Rattle.indexer.specs.Jobs.{GivesTree, HasWorked};
-ghost use Rattle.indexer.specs.Turns.{HasLists, IsBetween};
+ghost use Rattle.indexer.specs.Turns.{HasCalled, HasLists, IsBetween};
 
+use crate::ending::shut_all;
 use crate::findings::Findings;
 use crate::handing::{jobs_of, put_back};
 use crate::job::Job;
@@ -11,42 +14,91 @@ use crate::uses::IndexUses;
 use crate::work::work;
 use firefly_outside::Tree;
 use nub_rule::{Package, Thread};
-use package_crew::at_once;
+use package_crew::{Gate, at_once_beside};
 use std::alloc::{AllocError, Global};
 use std::sync::Wait;
 use std::thread::Threads;
 
-/// Lets the workers work, all at once; the first of them are walkers with a tree each. It answers the threads as they came back, and what
-/// each came by, in the order of the threads.
-///
-/// A worker that can't be started works here, once all others were started. It blocks until each has ended. On `Err` there was no memory;
-/// the trees may be lost then.
-pub fn run_workers<R: Threads + Wait + Sync, S: Tree>(
+// The caller's own part: where a worker couldn't be started, it shuts all, since that worker will be run here when the others have ended.
+fn wait_beside<R: Wait>(
+    rt: &R,
+    p: &Package<IndexUses>,
+    mut caller: Thread<IndexUses>,
+    refused: bool,
+) -> Thread<IndexUses>
+    requires layout { HasLists p.now.layout }
+    requires between { IsBetween p.now caller }
+    ensures { (o : Option Told) (root : Path) → HasCalled o root [] p.now 0 0 caller result }
+{
+    if refused {
+        shut_all(rt, p, &mut caller);
+    }
+    caller
+}
+
+// Lets each job be worked on, all at once.
+fn run_jobs<R: Threads + Wait + Sync, S: Tree, G: Gate>(
     rt: &R,
     alloc: Global,
     p: &Package<IndexUses>,
-    threads: Vec<Thread<IndexUses>>,
-    trees: &mut [Option<S>],
-    walkers: usize,
-) -> Result<(Vec<Thread<IndexUses>>, Vec<Findings>), AllocError>
+    caller: Thread<IndexUses>,
+    jobs: Vec<Job<S>>,
+    root: &str,
+    walkers: u32,
+    gate: &G,
+) -> Result<(Vec<Job<S>>, Vec<Findings>, Thread<IndexUses>), AllocError>
     requires layout { HasLists p.now.layout }
-    requires threads { Each (λ n t. IsBetween p.now t) threads.items }
-    requires trees { walkers ≤ length trees.old }
-    ensures threads { IfOk result (λ r. length r.0.items ≡ length threads.items) }
-    ensures findings { IfOk result (λ r. length r.1.items ≡ length threads.items) }
-    ensures worked { IfOk result (λ r. Each (HasWorked S.tree S.may_fail S.faults S.calls p.now walkers threads.items r.1.items trees.old trees.new) r.0.items) }
-    ensures others { IfOk result (λ r. (i : ℕ) (d : Option S) → walkers ≤ i → slice_index_or trees.new i d ≡ slice_index_or trees.old i d) }
+    requires caller { IsBetween p.now caller }
+    requires jobs { Each (λ n j. IsBetween p.now j.me) jobs.items }
+    ensures caller { IfOk result (λ r. (o : Option Told) (q : Path) → HasCalled o q [] p.now 0 0 caller r.2) }
+    ensures jobs { IfOk result (λ r. length r.0.items ≡ length jobs.items) }
+    ensures findings { IfOk result (λ r. length r.1.items ≡ length jobs.items) }
+    ensures each { IfOk result (λ r. Each (λ n j. CameBack (λ was left. GivesTree S.tree S.may_fail S.faults S.calls root.now p.now was.kind was.me j.me left was.tree j.tree) jobs.items r.1.items n) r.0.items) }
 {
-    let back = Vec::with_capacity(alloc, threads.len())?;
-    let jobs = jobs_of(alloc, threads, trees, walkers)?;
-    let (jobs, findings) = at_once(
+    at_once_beside(
         rt,
         alloc,
         jobs,
         &|job: Job<S>| -> (Job<S>, Findings)
             requires { HasLists p.now.layout × IsBetween p.now job.me }
-            ensures { GivesTree S.tree S.may_fail S.faults S.calls p.entry.now job.me result.0.me result.1 job.tree result.0.tree }
-        { work(rt, alloc, p, job) },
-    )?;
-    Ok((put_back(jobs, trees, walkers, back), findings))
+            ensures { GivesTree S.tree S.may_fail S.faults S.calls root.entry.now p.entry.now job.kind job.me result.0.me result.1 job.tree result.0.tree }
+        { work(rt, alloc, p, root, gate, walkers, job) },
+        |refused: bool| -> Thread<IndexUses>
+            requires { HasLists p.now.layout × IsBetween p.now caller }
+            ensures { (o : Option Told) (q : Path) → HasCalled o q [] p.entry.now 0 0 caller result }
+        { wait_beside(rt, p, caller, refused) },
+    )
+}
+
+/// Lets the workers work, all at once; the first of them have a tree each, and of these the first are walkers. It answers the caller's
+/// thread, those of the workers, and what each came by, in the order of the threads.
+///
+/// Where a worker can't be started, the list and both buffers are shut, and it is run here once all others were started; what no worker
+/// does then is for the closing walk. It blocks until each has ended. On `Err` there was no memory; the trees may be lost then.
+pub fn run_workers<R: Threads + Wait + Sync, S: Tree, G: Gate>(
+    rt: &R,
+    alloc: Global,
+    p: &Package<IndexUses>,
+    caller: Thread<IndexUses>,
+    threads: Vec<Thread<IndexUses>>,
+    root: &str,
+    trees: &mut [Option<S>],
+    walkers: u32,
+    with_tree: usize,
+    gate: &G,
+) -> Result<(Thread<IndexUses>, Vec<Thread<IndexUses>>, Vec<Findings>), AllocError>
+    requires layout { HasLists p.now.layout }
+    requires caller { IsBetween p.now caller }
+    requires threads { Each (λ n t. IsBetween p.now t) threads.items }
+    requires trees { with_tree ≤ length trees.old }
+    ensures caller { IfOk result (λ r. (o : Option Told) (q : Path) → HasCalled o q [] p.now 0 0 caller r.0) }
+    ensures threads { IfOk result (λ r. length r.1.items ≡ length threads.items) }
+    ensures findings { IfOk result (λ r. length r.2.items ≡ length threads.items) }
+    ensures worked { IfOk result (λ r. Each (HasWorked S.tree S.may_fail S.faults S.calls root.now p.now walkers with_tree threads.items r.2.items trees.old trees.new) r.1.items) }
+    ensures others { IfOk result (λ r. (i : ℕ) (d : Option S) → with_tree ≤ i → slice_index_or trees.new i d ≡ slice_index_or trees.old i d) }
+{
+    let back = Vec::with_capacity(alloc, threads.len())?;
+    let jobs = jobs_of(alloc, threads, trees, walkers as usize, with_tree)?;
+    let (jobs, findings, caller) = run_jobs(rt, alloc, p, caller, jobs, root, walkers, gate)?;
+    Ok((caller, put_back(jobs, trees, with_tree, back), findings))
 }

@@ -49,23 +49,31 @@ pub fn next_turn(list: &mut WaitingDirs) -> Turn {
     }
 }
 
-/// Ends the work on a directory, whose own are to be listed too. Where memory wants, the list is shut.
-pub fn put_found(list: &mut WaitingDirs, found: Vec<Text>) {
+/// The most directories of a tree that is indexed.
+const MOST_DIRS: u64 = 1_000_000;
+
+/// Ends the work on a directory, whose own are to be listed too, and counts what was found there. It answers whether the work may go on: no
+/// more was found than may be, and no memory wanted.
+pub fn put_found(list: &mut WaitingDirs, found: Vec<Text>, files: usize) -> bool {
     list.in_work = list.in_work.saturating_sub(1);
+    list.dirs = list.dirs.saturating_add(found.len() as u64);
+    list.files = list.files.saturating_add(files as u64);
+    let mut room = true;
     for dir in found {
         if list.waiting.push(dir).is_err() {
-            list.shut = true;
+            room = false;
         }
     }
+    room && list.dirs <= MOST_DIRS && list.files <= list.most_files
 }
 
 /// The same behind mutex 0.
-pub fn finish_in(value: &mut IndexValue, found: Vec<Text>)
+pub fn finish_in(value: &mut IndexValue, found: Vec<Text>, files: usize) -> bool
     requires { IsBehind 0 value.old }
     ensures { IsBehind 0 value.new }
 {
     match value {
-        IndexValue::Dirs(list) => put_found(list, found),
+        IndexValue::Dirs(list) => put_found(list, found, files),
         IndexValue::Ring(_) => unreachable!(),
     }
 }
@@ -77,6 +85,20 @@ pub fn shut_in(value: &mut IndexValue)
 {
     match value {
         IndexValue::Dirs(list) => list.shut = true,
+        IndexValue::Ring(_) => unreachable!(),
+    }
+}
+
+/// Notes behind mutex 0 that a parser has ended, and answers whether it was the last.
+pub fn end_parser_in(value: &mut IndexValue) -> bool
+    requires { IsBehind 0 value.old }
+    ensures { IsBehind 0 value.new }
+{
+    match value {
+        IndexValue::Dirs(list) => {
+            list.parsers = list.parsers.saturating_sub(1);
+            list.parsers == 0
+        }
         IndexValue::Ring(_) => unreachable!(),
     }
 }

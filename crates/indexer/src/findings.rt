@@ -1,6 +1,7 @@
-//! What a walker came by.
+//! What a worker came by.
 use firefly_outside::Text;
 use walker::Listing;
+use word_index::Piece;
 
 /// A directory that was listed, and its listing.
 #[derive(Drop)]
@@ -9,9 +10,17 @@ pub struct Visit {
     pub listing: Listing,
 }
 
-/// The directories that a walker listed, and the one that failed, if one did.
+/// The whole path of a directory that wasn't listed, or of a file that wasn't read, though the tree was asked.
+#[derive(Drop)]
+pub enum Fault {
+    Dir(Text),
+    File(Text),
+}
+
+/// The directories that a worker listed, the indexes of files that it is left with, and the path that failed, if one did.
 #[derive(Drop)]
 pub struct Findings {
     pub visits: Vec<Visit>,
-    pub fault: Option<Text>,
+    pub pieces: Vec<Piece>,
+    pub fault: Option<Fault>,
 }

@@ -1,29 +1,33 @@
-//! What each walker came by, put together.
+//! What each worker came by, put together.
 ghost use Rattle.std.specs.Prelude.{◌≡◌, IfOk};
 ghost use Rattle.std.specs.List.{flat_map};
 ghost use Rattle.indexer.specs.Gathered.{first_fault};
 
-use crate::findings::{Findings, Visit};
-use firefly_outside::Text;
+use crate::findings::Findings;
 use std::alloc::{AllocError, Global};
 
-/// All listings, one walker's after the other's, and the first directory that failed, if one did.
-pub fn gathered(
-    alloc: Global,
-    findings: Vec<Findings>,
-) -> Result<(Vec<Visit>, Option<Text>), AllocError>
-    ensures visits { IfOk result (λ r. r.0.items ≡ flat_map (λ f. f.visits.items) findings.items) }
-    ensures fault { IfOk result (λ r. r.1 ≡ first_fault findings.items) }
+/// All listings and all pieces, one worker's after the other's, and the first path that failed.
+pub fn gathered(alloc: Global, findings: Vec<Findings>) -> Result<Findings, AllocError>
+    ensures visits { IfOk result (λ r. r.visits.items ≡ flat_map (λ f. f.visits.items) findings.items) }
+    ensures pieces { IfOk result (λ r. r.pieces.items ≡ flat_map (λ f. f.pieces.items) findings.items) }
+    ensures fault { IfOk result (λ r. r.fault ≡ first_fault findings.items) }
 {
     let mut visits = Vec::new(alloc);
+    let mut pieces = Vec::new(alloc);
     let mut fault = None;
     for found in findings {
         let Findings {
             visits: mut more,
+            pieces: mut made,
             fault: failed,
         } = found;
         visits.append(&mut more)?;
+        pieces.append(&mut made)?;
         fault = fault.or(failed);
     }
-    Ok((visits, fault))
+    Ok(Findings {
+        visits,
+        pieces,
+        fault,
+    })
 }

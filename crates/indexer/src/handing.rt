@@ -1,11 +1,11 @@
 //! Trees are handed to the workers, and come back.
 ghost use Rattle.std.specs.Prelude.{◌≡◌, ◌+◌, ◌≤◌, ◌<◌, ◌++◌, ℕ, List, length, map, vec_len, vec_capacity, slice_index_or, IfOk, OnErr, Option};
-ghost use Rattle.indexer.specs.Jobs.{tree_at};
+ghost use Rattle.indexer.specs.Jobs.{kind_at, tree_at};
 ghost use Rattle.indexer.specs.declared.job.Job.{Job};
 
 use crate::job::Job;
 use crate::uses::IndexUses;
-use firefly_outside::Tree;
+use firefly_outside::{Kind, Tree};
 use nub_rule::Thread;
 use std::alloc::{AllocError, Global};
 
@@ -31,22 +31,32 @@ fn put_tree<S: Drop>(trees: &mut [Option<S>], with_tree: usize, k: usize, tree: 
     }
 }
 
-/// A job for each thread; the first of them get the trees.
+// What the worker k does with its tree: the walkers come first.
+fn kind_of_place(walkers: usize, k: usize) -> Kind
+    ensures { result ≡ kind_at walkers k }
+{
+    if k < walkers { Kind::Dir } else { Kind::File }
+}
+
+/// A job for each thread; the first of them get the trees, and the first of these are walkers.
 pub fn jobs_of<S: Tree>(
     alloc: Global,
     threads: Vec<Thread<IndexUses>>,
     trees: &mut [Option<S>],
     walkers: usize,
+    with_tree: usize,
 ) -> Result<Vec<Job<S>>, AllocError>
-    requires { walkers ≤ length trees.old }
+    requires { with_tree ≤ length trees.old }
     ensures threads { IfOk result (λ js. map (λ j. j.me) js.items ≡ threads.items) }
-    ensures trees { IfOk result (λ js. (k : ℕ) (e : Job S) → k < length js.items → (slice_index_or js.items k e).tree ≡ tree_at walkers trees.old k) }
-    ensures others { (i : ℕ) (d : Option S) → walkers ≤ i → slice_index_or trees.new i d ≡ slice_index_or trees.old i d }
+    ensures kinds { IfOk result (λ js. (k : ℕ) (e : Job S) → k < length js.items → (slice_index_or js.items k e).kind ≡ kind_at walkers k) }
+    ensures trees { IfOk result (λ js. (k : ℕ) (e : Job S) → k < length js.items → (slice_index_or js.items k e).tree ≡ tree_at with_tree trees.old k) }
+    ensures others { IfOk result (λ js. (i : ℕ) (d : Option S) → with_tree ≤ i → slice_index_or trees.new i d ≡ slice_index_or trees.old i d) }
 {
     let mut jobs = Vec::with_capacity(alloc, threads.len())?;
     for me in threads {
-        let tree = take_tree(trees, walkers, jobs.len());
-        let Ok(()) = jobs.push(Job { me, tree }) else {
+        let tree = take_tree(trees, with_tree, jobs.len());
+        let kind = kind_of_place(walkers, jobs.len());
+        let Ok(()) = jobs.push(Job { me, kind, tree }) else {
             unreachable!()
         };
     }
@@ -57,19 +67,19 @@ pub fn jobs_of<S: Tree>(
 pub fn put_back<S: Tree>(
     jobs: Vec<Job<S>>,
     trees: &mut [Option<S>],
-    walkers: usize,
+    with_tree: usize,
     mut threads: Vec<Thread<IndexUses>>,
 ) -> Vec<Thread<IndexUses>>
-    requires trees { walkers ≤ length trees.old }
+    requires trees { with_tree ≤ length trees.old }
     requires room { vec_len threads + vec_len jobs ≤ vec_capacity threads }
     ensures threads { result.items ≡ threads.items ++ map (λ j. j.me) jobs.items }
-    ensures trees { (k : ℕ) (d : Option S) (e : Job S) → k < walkers → k < vec_len jobs → slice_index_or trees.new k d ≡ (slice_index_or jobs.items k e).tree }
-    ensures others { (i : ℕ) (d : Option S) → walkers ≤ i → slice_index_or trees.new i d ≡ slice_index_or trees.old i d }
+    ensures trees { (k : ℕ) (d : Option S) (e : Job S) → k < with_tree → k < vec_len jobs → slice_index_or trees.new k d ≡ (slice_index_or jobs.items k e).tree }
+    ensures others { (i : ℕ) (d : Option S) → with_tree ≤ i → slice_index_or trees.new i d ≡ slice_index_or trees.old i d }
 {
     let mut k = 0;
     for job in jobs {
-        let Job { me, tree } = job;
-        put_tree(trees, walkers, k, tree);
+        let Job { me, kind: _, tree } = job;
+        put_tree(trees, with_tree, k, tree);
         k += 1;
         let Ok(()) = threads.push(me) else {
             unreachable!()

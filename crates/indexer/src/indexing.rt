@@ -1,18 +1,20 @@
-//! The index of a tree, whose directories walkers list at once.
+//! The index of a tree, made by threads.
 ghost use Rattle.std.specs.Prelude.{◌≡◌, ◌+◌, ◌≤◌, ◌<◌, ℕ, length, slice_index_or, All, IfSome, Option, Some, None};
 ghost use Rattle.firefly_outside.specs.Trees.{Told};
 ghost use Rattle.walker.specs.Listings.{IsListingOf, IsToldBy};
 ghost use Rattle.indexer.specs.Gathered.{Ends};
+ghost use Rattle.indexer.specs.Pieces.{IsFilesPiece};
 ghost use Rattle.indexer.specs.Plans.{IsPlan, layout_of};
 ghost use Rattle.indexer.specs.Says.{AllTell, HasCause, IndexSays, TreesAfter};
 
 use crate::answer::IndexAnswer;
 use crate::deciding::decided;
-use crate::findings::Visit;
+use crate::findings::Findings;
 use crate::gathering::gathered;
 use crate::plan::Plan;
-use crate::running::walked_run;
-use firefly_outside::{Text, Tree};
+use crate::running::worked_run;
+use firefly_outside::Tree;
+use package_crew::Gate;
 use std::alloc::Global;
 use std::sync::Wait;
 use std::thread::Threads;
@@ -24,54 +26,56 @@ fn decided_at<S: Tree>(
     root: &str,
     trees: &mut [Option<S>],
     at: usize,
-    visits: Vec<Visit>,
-    fault: Option<Text>,
+    found: Findings,
     stop_after: Option<u64>,
 ) -> WalkAnswer
     requires within { at < length trees.old }
     requires there { (s : S) × (slice_index_or trees.old at None ≡ Some s) }
-    requires lawful { All (λ v. IsListingOf v.dir v.listing) visits.items }
-    requires told { (s : S) → slice_index_or trees.old at None ≡ Some s → IfSome (S.tree s) (λ t. All (λ v. IsToldBy t v.dir v.listing) visits.items) }
+    requires lawful { All (λ v. IsListingOf v.dir v.listing) found.visits.items }
+    requires told { (s : S) → slice_index_or trees.old at None ≡ Some s → IfSome (S.tree s) (λ t. All (λ v. IsToldBy t v.dir v.listing) found.visits.items) }
+    requires pieces { (s : S) → slice_index_or trees.old at None ≡ Some s → All (IsFilesPiece (S.tree s) root.now) found.pieces.items }
     requires stop { IfSome stop_after (λ n. n ≤ 1000000000) }
     ensures ends { (s : S) → slice_index_or trees.old at None ≡ Some s → (r : S) × (slice_index_or trees.new at None ≡ Some r) × (S.tree r ≡ S.tree s) × (S.may_fail r ≡ S.may_fail s)
-        × Ends (S.tree s) (S.may_fail s) root.now stop_after fault (S.faults s) (S.faults r) (S.calls s) (S.calls r) result }
+        × Ends (S.tree s) (S.may_fail s) root.now stop_after found.fault (S.faults s) (S.faults r) (S.calls s) (S.calls r) result }
     ensures others { (i : ℕ) (d : Option S) → (i ≡ at → ⊥) → slice_index_or trees.new i d ≡ slice_index_or trees.old i d }
 {
     let Some(mut tree) = trees[at].take() else {
         unreachable!()
     };
-    let answer = decided(alloc, root, &mut tree, visits, fault, stop_after);
+    let answer = decided(alloc, root, &mut tree, found, stop_after);
     trees[at] = Some(tree);
     answer
 }
 
-/// The index of all files under the root: its walkers list the directories at once, each with a tree of its own, and the closing walk on a
-/// further tree reads the files.
+/// The index of all files under the root: walkers list the directories, parsers read the files and mergers put their pieces together, all
+/// at once, the walkers and the parsers each with a tree of its own. A closing walk on the next tree does what they left.
 ///
-/// It blocks until all walkers have ended.
-pub fn index<R: Threads + Wait + Sync, S: Tree>(
+/// Each parser passes the gate once, with its number counted from 1, before it takes a file. It blocks until all have ended. A fault that a
+/// worker met is answered before a stop or a limit that was passed too.
+pub fn index<R: Threads + Wait + Sync, S: Tree, G: Gate>(
     rt: &R,
     alloc: Global,
     root: &str,
     plan: &Plan,
     trees: &mut [Option<S>],
+    gate: &G,
 ) -> IndexAnswer
     requires plan { IsPlan plan.now }
     requires trees { plan.now.walkers + plan.now.parsers < length trees.old }
-    requires closing { (s : S) × (slice_index_or trees.old (plan.now.walkers + plan.now.parsers) None ≡ Some s) }
+    requires there { (k : ℕ) → k ≤ plan.now.walkers + plan.now.parsers → (s : S) × (slice_index_or trees.old k None ≡ Some s) }
     requires tell { (o : Option Told) × AllTell S.tree o trees.old }
     ensures says { (o : Option Told) → AllTell S.tree o trees.old → IndexSays o root.now plan.now result }
     ensures cause { HasCause S.tree S.may_fail S.faults S.calls root.now trees.old trees.new result }
     ensures trees { TreesAfter S.tree S.may_fail S.faults S.calls plan.now.walkers (plan.now.walkers + plan.now.parsers) trees.old trees.new result }
 {
-    let Ok((closed, findings)) = walked_run(rt, alloc, root, plan, trees) else {
+    let Ok((closed, findings)) = worked_run(rt, alloc, root, plan, trees, gate) else {
         return IndexAnswer::Memory;
     };
-    let Ok((visits, fault)) = gathered(alloc, findings) else {
+    let Ok(found) = gathered(alloc, findings) else {
         return IndexAnswer::Memory;
     };
     let at = (plan.walkers + plan.parsers) as usize;
-    match decided_at(alloc, root, trees, at, visits, fault, plan.stop_after) {
+    match decided_at(alloc, root, trees, at, found, plan.stop_after) {
         WalkAnswer::Done(piece) => IndexAnswer::Done(piece, closed),
         WalkAnswer::Stopped(many) => IndexAnswer::Stopped(many),
         WalkAnswer::ReadFault(path) => IndexAnswer::ReadFault(path),

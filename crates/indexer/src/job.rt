@@ -1,10 +1,12 @@
 //! What one worker begins with.
 use crate::uses::IndexUses;
+use firefly_outside::Kind;
 use nub_rule::Thread;
 
-/// A worker: its thread, and its tree where it is a walker.
+/// A worker: its thread; its tree where it is a walker or a parser; and then whether it lists directories or reads files.
 #[derive(Drop)]
 pub struct Job<S: Drop> {
     pub me: Thread<IndexUses>,
+    pub kind: Kind,
     pub tree: Option<S>,
 }

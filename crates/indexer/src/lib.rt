@@ -1,26 +1,37 @@
-//! The index of all files under a root. Walkers list the directories at once, each in a thread of its own with a tree of its own, and a
-//! closing walk on a further tree reads the files.
+//! The index of all files under a root, made by threads. Walkers list the directories, parsers read the files and make pieces of the index,
+//! and mergers put pieces together, all at once, the walkers and the parsers each with a tree of its own. A closing walk on a further tree
+//! does what they left.
 //!
-//! Promises: `index` answers the index that the told tree has, with the closed package of its run, or why there is none, each by its cause;
-//! the trees come back; where the index is answered no tree's count rose, and a walker released the list of directories at least as often
-//! as its tree listed one. Stands on the package, a use of it by a list and two buffers, a crew of threads, and the closing walk.
-//! It doesn't say that the walkers listed anything, nor that they ran beside each other; the buffers, the parsers and the mergers are not
-//! at work yet. A run may wait for ever.
+//! Promises: `index` answers the index that the told tree has, whatever the number of workers, with the closed package of its run, or why
+//! there is none, each by its cause; the trees come back; where the index is answered no tree's count rose, a walker's tree was only listed
+//! and a parser's only read, and a walker released the list of directories, and a parser the buffer of files, at least as often as its tree
+//! was asked. Stands on the package, a use of it by a list and two buffers, a crew of threads, and the closing walk.
+//! It doesn't say that the workers listed or read anything, nor that they ran beside each other, nor that a parser passes the gate. A run
+//! may wait for ever.
 #![tactic(auto)]
 
 mod answer;
+mod below;
 mod buffers;
 mod collecting;
 mod crew;
 mod deciding;
 mod dirs;
+mod ending;
+mod faults;
+mod files;
 mod findings;
 mod gathering;
 mod handing;
 mod indexing;
 mod job;
+mod joining;
+mod lots;
+mod mergers;
+mod merging;
 mod opening;
-mod passing;
+mod parsing;
+mod pieces;
 mod plan;
 mod running;
 mod turns;
@@ -31,7 +42,7 @@ mod work;
 
 pub use answer::IndexAnswer;
 pub use indexing::index;
-pub use passing::{Gate, NoGate};
+pub use package_crew::{Gate, NoGate};
 pub use plan::{Plan, index_layout};
 pub use uses::{DidPut, DidShut, DidTake, IndexUses};
 pub use value::{IndexItem, IndexValue, WaitingDirs};

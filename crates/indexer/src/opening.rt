@@ -21,15 +21,20 @@ const MOST_FILES: u32 = 256;
 const MOST_PIECES: u32 = 8;
 
 // The list with the root alone, and the two buffers.
-fn first_values(alloc: Global, root: &str) -> Result<Vec<IndexValue>, AllocError>
+fn first_values(alloc: Global, root: &str, plan: &Plan) -> Result<Vec<IndexValue>, AllocError>
     ensures { IfOk result (λ vs. IsOpening vs.items) }
 {
+    let most_files = plan.stop_after.unwrap_or(u64::MAX);
     let mut waiting = Vec::new(alloc);
     waiting.push(Text::of(alloc, root)?)?;
     let dirs = WaitingDirs {
         waiting,
         in_work: 0,
         shut: false,
+        dirs: 1,
+        files: 0,
+        most_files,
+        parsers: plan.parsers,
     };
     let files: Ring<IndexItem> = Ring::new(alloc, MOST_FILES)?;
     let pieces: Ring<IndexItem> = Ring::new(alloc, MOST_PIECES)?;
@@ -51,6 +56,6 @@ pub fn open_run(
     ensures count { IfOk result (λ o. length o.1.items ≡ (layout_of plan.now).threads) }
     ensures threads { IfOk result (λ o. Each (IsFirst o.0 (λ w t. [])) o.1.items) }
 {
-    let values = first_values(alloc, root)?;
+    let values = first_values(alloc, root, plan)?;
     open_package::<IndexUses>(alloc, index_layout(plan), &(), values, plan.traced)
 }

@@ -6,6 +6,7 @@ ghost use Rattle.indexer.specs.Plans.{IsPlan, layout_of};
 use larch_actions::Layout;
 
 /// How many workers of each kind there are, after how many files the work is to stop, and whether its whole history is kept.
+#[derive(Clone, Copy, Debug)]
 pub struct Plan {
     pub walkers: u32,
     pub parsers: u32,

@@ -1,10 +1,11 @@
-//! The calls of a walker at the list of directories.
-ghost use Rattle.std.specs.Prelude.{◌≡◌};
-ghost use Rattle.indexer.specs.Turns.{HasList, HasLists, HasReleased, IsBetween, Worker};
+//! The calls at the list of directories.
+ghost use Rattle.std.specs.Prelude.{◌≡◌, ℕ, [], Option};
+ghost use Rattle.firefly_outside.specs.Trees.{Path, Told};
+ghost use Rattle.indexer.specs.Turns.{HasCalled, HasList, HasLists, IsBetween, Worker};
 ghost use Rattle.indexer.specs.Work.{IsBehind};
 ghost use Rattle.indexer.specs.declared.value.IndexValue.{IndexValue};
 
-use crate::dirs::{Turn, finish_in, list_in, next_turn, shut_in};
+use crate::dirs::{Turn, end_parser_in, finish_in, list_in, next_turn, shut_in};
 use crate::uses::IndexUses;
 use crate::value::{IndexValue, WaitingDirs};
 use alert_wait::{Outcome, alert_wait};
@@ -34,7 +35,7 @@ fn take_list<R: Wait>(rt: &R, p: &Package<IndexUses>, me: &mut Thread<IndexUses>
 fn give_list<R: Wait>(rt: &R, p: &Package<IndexUses>, me: &mut Thread<IndexUses>, list: WaitingDirs)
     requires layout { HasLists p.now.layout }
     requires has { (a : Worker) × (x : IndexValue) × HasList p.now a x me.old }
-    ensures { (a : Worker) (x : IndexValue) → HasList p.now a x me.old → IsBetween p.now a → HasReleased p.now 1 a me.new }
+    ensures { (a : Worker) (x : IndexValue) → HasList p.now a x me.old → IsBetween p.now a → (o : Option Told) (root : Path) → HasCalled o root [] p.now 0 1 a me.new }
 {
     release::<IndexUses, NoChange, R>(rt, p, me, DIRS, IndexValue::Dirs(list));
 }
@@ -68,7 +69,7 @@ fn wait_for_dirs<R: Wait>(
 pub fn next_dir<R: Wait>(rt: &R, p: &Package<IndexUses>, me: &mut Thread<IndexUses>) -> Option<Text>
     requires layout { HasLists p.now.layout }
     requires between { IsBetween p.now me.old }
-    ensures { HasReleased p.now 1 me.old me.new }
+    ensures { (o : Option Told) (root : Path) → HasCalled o root [] p.now 0 1 me.old me.new }
 {
     let mut list = take_list(rt, p, me);
     for _ in rt.forever() {
@@ -94,27 +95,41 @@ pub fn next_dir<R: Wait>(rt: &R, p: &Package<IndexUses>, me: &mut Thread<IndexUs
     unreachable!()
 }
 
-/// Ends the work on a directory, and puts the directories found there into the list.
+/// Ends the work on a directory: puts the directories found there into the list, and counts them and the files found there. It answers
+/// whether the work may go on: no more was found than may be, and no memory wanted.
 pub fn finish_dir<R: Wait>(
     rt: &R,
     p: &Package<IndexUses>,
     me: &mut Thread<IndexUses>,
     found: Vec<Text>,
-)
+    files: usize,
+) -> bool
     requires layout { HasLists p.now.layout }
     requires between { IsBetween p.now me.old }
-    ensures { HasReleased p.now 0 me.old me.new }
+    ensures { (o : Option Told) (root : Path) (m : ℕ) → HasCalled o root [] p.now m 0 me.old me.new }
 {
-    locked::<IndexUses, NoChange, (), _, R>(rt, p, me, DIRS, |value| finish_in(value, found));
+    let within = locked::<IndexUses, NoChange, bool, _, R>(rt, p, me, DIRS, |value| {
+        finish_in(value, found, files)
+    });
     // There may be something to take, or nothing left to wait for.
     broadcast(rt, p, me, MORE_DIRS);
+    within
+}
+
+/// Notes that a parser has ended, and answers whether it was the last.
+pub fn end_parser<R: Wait>(rt: &R, p: &Package<IndexUses>, me: &mut Thread<IndexUses>) -> bool
+    requires layout { HasLists p.now.layout }
+    requires between { IsBetween p.now me.old }
+    ensures { (o : Option Told) (root : Path) (m : ℕ) → HasCalled o root [] p.now m 0 me.old me.new }
+{
+    locked::<IndexUses, NoChange, bool, _, R>(rt, p, me, DIRS, |value| end_parser_in(value))
 }
 
 /// Shuts the list: nobody gets a directory from now on.
 pub fn shut_dirs<R: Wait>(rt: &R, p: &Package<IndexUses>, me: &mut Thread<IndexUses>)
     requires layout { HasLists p.now.layout }
     requires between { IsBetween p.now me.old }
-    ensures { HasReleased p.now 0 me.old me.new }
+    ensures { (o : Option Told) (root : Path) (m : ℕ) → HasCalled o root [] p.now m 0 me.old me.new }
 {
     locked::<IndexUses, NoChange, (), _, R>(rt, p, me, DIRS, |value| shut_in(value));
     broadcast(rt, p, me, MORE_DIRS);

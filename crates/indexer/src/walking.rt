@@ -1,12 +1,16 @@
 //! The work of a walker.
-ghost use Rattle.std.specs.Prelude.{◌≡◌, ℕ, [], ◌∷◌, ◌++◌, OnOk, OnErr, None};
-ghost use Rattle.firefly_outside.specs.Trees.{Calls};
-ghost use Rattle.indexer.specs.Turns.{HasLists, IsBetween, Run, Worker};
-ghost use Rattle.indexer.specs.Walks.{HasWalked, fault_of};
+ghost use Rattle.std.specs.Prelude.{◌≡◌, ℕ, [], ◌∷◌, ◌++◌, OnOk, OnErr, Option, None};
+ghost use Rattle.firefly_outside.specs.Trees.{Calls, Path, Told};
+ghost use Rattle.firefly_outside.specs.declared.tree.Kind.TheVariants.{Dir};
+ghost use Rattle.indexer.specs.Turns.{HasCalled, HasLists, IsBetween, Run, Worker};
+ghost use Rattle.indexer.specs.Walks.{HasDone, fault_of};
 
-use crate::findings::{Findings, Visit};
+use crate::ending::cancel;
+use crate::files::{put_files, shut_files};
+use crate::findings::{Fault, Findings, Visit};
 use crate::turns::{finish_dir, next_dir, shut_dirs};
 use crate::uses::IndexUses;
+use alerts::test_alert;
 use firefly_outside::{Text, Tree, TreeError};
 use nub_rule::{Package, Thread};
 use std::alloc::{AllocError, Global};
@@ -22,49 +26,121 @@ fn copied(alloc: Global, paths: &Vec<Text>) -> Result<Vec<Text>, AllocError> {
     Ok(copies)
 }
 
-// Keeps a listing, and gives the directories found there.
-fn keep(
+// Keeps a listing, and gives the directories and files found there.
+fn keep_listing(
     alloc: Global,
     visits: &mut Vec<Visit>,
     dir: Text,
     listing: Listing,
-) -> Result<Vec<Text>, AllocError>
+) -> Result<(Vec<Text>, Vec<Text>), AllocError>
     ensures ok { OnOk result (visits.new.items ≡ visits.old.items ++ (record { dir = dir; listing = listing }) ∷ []) }
     ensures err { OnErr result (visits.new.items ≡ visits.old.items) }
 {
-    let found = copied(alloc, &listing.dirs)?;
+    let dirs = copied(alloc, &listing.dirs)?;
+    let files = copied(alloc, &listing.files)?;
     visits.push(Visit { dir, listing })?;
-    Ok(found)
+    Ok((dirs, files))
 }
 
-// Lists one directory, keeps its listing, and gives the directories found there. An error names the directory where it failed, and none
-// where memory wants.
+// Lists one directory, keeps its listing, and gives the directories and files found there. An error names the directory where it failed,
+// and none where memory wants.
 fn list_one<S: Tree>(
     alloc: Global,
     tree: &mut S,
     dir: Text,
     visits: &mut Vec<Visit>,
-) -> Result<Vec<Text>, Option<Text>>
+) -> Result<(Vec<Text>, Vec<Text>), Option<Fault>>
     ensures tree_stays { S.tree tree.new ≡ S.tree tree.old }
     ensures weak_stays { S.may_fail tree.new ≡ S.may_fail tree.old }
-    ensures walked { (count : ℕ) (before : Calls) (p : Run) (a b : Worker)
-        → HasWalked (S.tree tree.old) (S.may_fail tree.old) count (S.faults tree.old) before (S.calls tree.old) p 1 a b visits.old.items None
-        → HasWalked (S.tree tree.old) (S.may_fail tree.old) count (S.faults tree.new) before (S.calls tree.new) p 0 a b visits.new.items (fault_of result) }
+    ensures done { (root : Path) (count : ℕ) (before : Calls) (p : Run) (a b : Worker)
+        → HasDone Dir (S.tree tree.old) root (S.may_fail tree.old) count (S.faults tree.old) before (S.calls tree.old) p 1 a b visits.old.items [] None
+        → HasDone Dir (S.tree tree.old) root (S.may_fail tree.old) count (S.faults tree.new) before (S.calls tree.new) p 0 a b visits.new.items [] (fault_of result) }
 {
     match list_dir(alloc, tree, dir.as_str()) {
-        Ok(listing) => match keep(alloc, visits, dir, listing) {
+        Ok(listing) => match keep_listing(alloc, visits, dir, listing) {
             Ok(found) => Ok(found),
             Err(_) => Err(None),
         },
         Err(TreeError::Memory) => Err(None),
-        Err(TreeError::Failed) => Err(Some(dir)),
+        Err(TreeError::Failed) => Err(Some(Fault::Dir(dir))),
     }
 }
 
-/// Lists directories from the list until it is over, and puts those found into it. Where a directory fails or memory wants, it shuts the
-/// list; what is left then is for the closing walk.
+// Puts what was found in a directory where others take it, and ends the work on the directory. It answers whether the thread is to go on:
+// it is unless it was alerted, or more was found than may be; then all workers are to end.
+fn give_found<R: Wait>(
+    rt: &R,
+    p: &Package<IndexUses>,
+    me: &mut Thread<IndexUses>,
+    dirs: Vec<Text>,
+    files: Vec<Text>,
+) -> bool
+    requires layout { HasLists p.now.layout }
+    requires between { IsBetween p.now me.old }
+    ensures { (o : Option Told) (root : Path) (m : ℕ) → HasCalled o root [] p.now m 0 me.old me.new }
+{
+    let many = files.len();
+    if !put_files(rt, p, me, files) {
+        return false;
+    }
+    if !finish_dir(rt, p, me, dirs, many) {
+        cancel(rt, p, me);
+        return false;
+    }
+    !test_alert(rt, p, me)
+}
+
+// Shuts the list and the buffer of files: nothing more comes.
+fn end_files<R: Wait>(rt: &R, p: &Package<IndexUses>, me: &mut Thread<IndexUses>)
+    requires layout { HasLists p.now.layout }
+    requires between { IsBetween p.now me.old }
+    ensures { (o : Option Told) (root : Path) (m : ℕ) → HasCalled o root [] p.now m 0 me.old me.new }
+{
+    shut_dirs(rt, p, me);
+    shut_files(rt, p, me);
+}
+
+// One turn of a walker: it takes a directory, lists it, and gives what was found there. An error ends its work, and names the directory
+// where it failed.
+fn walk_once<R: Wait, S: Tree>(
+    rt: &R,
+    alloc: Global,
+    p: &Package<IndexUses>,
+    me: &mut Thread<IndexUses>,
+    tree: &mut S,
+    visits: &mut Vec<Visit>,
+) -> Result<(), Option<Fault>>
+    requires layout { HasLists p.now.layout }
+    requires between { IsBetween p.now me.old }
+    ensures tree_stays { S.tree tree.new ≡ S.tree tree.old }
+    ensures weak_stays { S.may_fail tree.new ≡ S.may_fail tree.old }
+    ensures done { (root : Path) (count : ℕ) (before : Calls) (a : Worker)
+        → HasDone Dir (S.tree tree.old) root (S.may_fail tree.old) count (S.faults tree.old) before (S.calls tree.old) p.now 0 a me.old visits.old.items [] None
+        → HasDone Dir (S.tree tree.old) root (S.may_fail tree.old) count (S.faults tree.new) before (S.calls tree.new) p.now 0 a me.new visits.new.items [] (fault_of result) }
+{
+    let Some(dir) = next_dir(rt, p, me) else {
+        end_files(rt, p, me);
+        return Err(None);
+    };
+    match list_one(alloc, tree, dir, visits) {
+        Ok((dirs, files)) => {
+            if give_found(rt, p, me, dirs, files) {
+                Ok(())
+            } else {
+                Err(None)
+            }
+        }
+        Err(fault) => {
+            cancel(rt, p, me);
+            Err(fault)
+        }
+    }
+}
+
+/// Lists directories from the list until it is over, and puts the directories found into it and the files into their buffer. Where a
+/// directory fails, memory wants or more is found than may be, it alerts all workers; what is left then is for the closing walk.
 ///
-/// It blocks as `next_dir` does.
+/// It blocks as `next_dir` and `put_files` do.
 pub fn walk<R: Wait, S: Tree>(
     rt: &R,
     alloc: Global,
@@ -76,22 +152,18 @@ pub fn walk<R: Wait, S: Tree>(
     requires between { IsBetween p.now me.old }
     ensures tree_stays { S.tree tree.new ≡ S.tree tree.old }
     ensures weak_stays { S.may_fail tree.new ≡ S.may_fail tree.old }
-    ensures walked { HasWalked (S.tree tree.old) (S.may_fail tree.old) (S.faults tree.old) (S.faults tree.new) (S.calls tree.old) (S.calls tree.new) p.now 0 me.old me.new result.visits.items result.fault }
+    ensures done { (root : Path) → HasDone Dir (S.tree tree.old) root (S.may_fail tree.old) (S.faults tree.old) (S.faults tree.new) (S.calls tree.old) (S.calls tree.new) p.now 0 me.old me.new result.visits.items result.pieces.items result.fault }
 {
     let mut visits = Vec::new(alloc);
     for _ in rt.forever() {
-        let Some(dir) = next_dir(rt, p, me) else {
-            shut_dirs(rt, p, me);
-            return Findings {
-                visits,
-                fault: None,
-            };
-        };
-        match list_one(alloc, tree, dir, &mut visits) {
-            Ok(found) => finish_dir(rt, p, me, found),
+        match walk_once(rt, alloc, p, me, tree, &mut visits) {
+            Ok(()) => {}
             Err(fault) => {
-                shut_dirs(rt, p, me);
-                return Findings { visits, fault };
+                return Findings {
+                    visits,
+                    pieces: Vec::new(alloc),
+                    fault,
+                };
             }
         }
     }

@@ -1,45 +1,85 @@
 //! What one worker does.
+ghost use Rattle.std.specs.Prelude.{◌≡◌};
 ghost use Rattle.indexer.specs.Jobs.{GivesTree};
 ghost use Rattle.indexer.specs.Turns.{HasLists, IsBetween};
+ghost use Rattle.indexer.specs.Walks.{HasDone};
 
 use crate::findings::Findings;
 use crate::job::Job;
+use crate::mergers::merge_all;
+use crate::parsing::parse;
 use crate::uses::IndexUses;
 use crate::walking::walk;
-use firefly_outside::Tree;
-use nub_rule::Package;
+use firefly_outside::{Kind, Tree};
+use nub_rule::{Package, Thread};
+use package_crew::Gate;
 use std::alloc::Global;
 use std::sync::Wait;
 
-/// Does the work of one worker: one with a tree walks, and one without has nothing to do.
-pub fn work<R: Wait, S: Tree>(
+// The work of a walker or of a parser. The parsers are numbered from 1; their threads come behind those of so many walkers.
+fn work_on<R: Wait, S: Tree, G: Gate>(
     rt: &R,
     alloc: Global,
     p: &Package<IndexUses>,
+    root: &str,
+    gate: &G,
+    walkers: u32,
+    me: &mut Thread<IndexUses>,
+    kind: Kind,
+    tree: &mut S,
+) -> Findings
+    requires layout { HasLists p.now.layout }
+    requires between { IsBetween p.now me.old }
+    ensures tree_stays { S.tree tree.new ≡ S.tree tree.old }
+    ensures weak_stays { S.may_fail tree.new ≡ S.may_fail tree.old }
+    ensures done { HasDone kind (S.tree tree.old) root.now (S.may_fail tree.old) (S.faults tree.old) (S.faults tree.new) (S.calls tree.old) (S.calls tree.new) p.now 0 me.old me.new result.visits.items result.pieces.items result.fault }
+{
+    match kind {
+        Kind::Dir => walk(rt, alloc, p, me, tree),
+        Kind::File => {
+            gate.pass(me.number().saturating_sub(walkers));
+            parse(rt, alloc, p, me, root, tree)
+        }
+    }
+}
+
+/// Does the work of one worker: one with a tree walks or parses, and one without merges.
+pub fn work<R: Wait, S: Tree, G: Gate>(
+    rt: &R,
+    alloc: Global,
+    p: &Package<IndexUses>,
+    root: &str,
+    gate: &G,
+    walkers: u32,
     job: Job<S>,
 ) -> (Job<S>, Findings)
     requires layout { HasLists p.now.layout }
     requires between { IsBetween p.now job.me }
-    ensures { GivesTree S.tree S.may_fail S.faults S.calls p.now job.me result.0.me result.1 job.tree result.0.tree }
+    ensures { GivesTree S.tree S.may_fail S.faults S.calls root.now p.now job.kind job.me result.0.me result.1 job.tree result.0.tree }
 {
-    let Job { mut me, tree } = job;
+    let Job { mut me, kind, tree } = job;
     match tree {
         Some(mut tree) => {
-            let findings = walk(rt, alloc, p, &mut me, &mut tree);
+            let findings = work_on(rt, alloc, p, root, gate, walkers, &mut me, kind, &mut tree);
             (
                 Job {
                     me,
+                    kind,
                     tree: Some(tree),
                 },
                 findings,
             )
         }
-        None => (
-            Job { me, tree: None },
-            Findings {
-                visits: Vec::new(alloc),
-                fault: None,
-            },
-        ),
+        None => {
+            let findings = merge_all(rt, alloc, p, &mut me);
+            (
+                Job {
+                    me,
+                    kind,
+                    tree: None,
+                },
+                findings,
+            )
+        }
     }
 }

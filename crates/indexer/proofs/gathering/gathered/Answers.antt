@@ -17,5 +17,6 @@ loop-found-preserved c =
       whole = append_assoc at.yielded (x ∷ []) _ ∙ rw (← steps) was.whole;
       left = (let left = was.left in omega arith);
       visits = c.in_ok-append.ensures.items ∙ (ap (λ l. l ++ x.visits.items) was.visits ∙ flat_map_more (λ (f : Findings). f.visits.items) [] at.yielded x);
+      pieces = c.in_ok-append-2.ensures.items ∙ (ap (λ l. l ++ x.pieces.items) was.pieces ∙ flat_map_more (λ (f : Findings). f.pieces.items) [] at.yielded x);
       fault = c.or-fault.ensures ∙ (ap (λ o. option_or o x.fault) was.fault ∙ sym (first_fault-more at.yielded x));
     }

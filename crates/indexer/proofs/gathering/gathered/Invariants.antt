@@ -10,5 +10,6 @@ invariant-loop-found l =
       whole : l.yielded ++ into_iter_items l.found-iterator ≡ into_iter_items l.initial.found-iterator;
       left : into_iter_len l.found-iterator ≡ length (into_iter_items l.found-iterator);
       visits : l.visits.items ≡ flat_map (λ f. f.visits.items) l.yielded;
+      pieces : l.pieces.items ≡ flat_map (λ f. f.pieces.items) l.yielded;
       fault : l.fault ≡ first_fault l.yielded;
     }

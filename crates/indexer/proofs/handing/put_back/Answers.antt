@@ -20,9 +20,9 @@ loop-job-preserved g c =
       room = (let room = was.room in let cap = push.capacity in let len = push.len in let left = was.left in omega arith);
       count = (let count = was.count in let more = length-append at.yielded (x ∷ []) in omega arith);
       made = push.items ∙ (ap (λ l. l ++ x.me ∷ []) was.made ∙ (append_assoc front (map (λ j. j.me) at.yielded) (x.me ∷ []) ∙ ap (λ l. front ++ l) (sym (map_snoc (λ j. j.me) at.yielded x))));
-      back = placed (λ q. q.tree) c.args.walkers at.yielded x at.trees c.put_tree.new.trees
+      back = placed (λ q. q.tree) c.args.with_tree at.yielded x at.trees c.put_tree.new.trees
           (λ i d ne. put.others i d (λ e. ne (e ∙ was.count)))
-          (λ d h. subst (λ j. j < c.args.walkers → get_or c.put_tree.new.trees j d ≡ x.tree) was.count (put.tree d) h)
+          (λ d h. subst (λ j. j < c.args.with_tree → get_or c.put_tree.new.trees j d ≡ x.tree) was.count (put.tree d) h)
           was.back;
       above = λ i d h. put.above i d h ∙ was.above i d h;
     }

@@ -10,6 +10,6 @@ invariant-loop-job g l =
       room : vec_len l.threads + into_iter_len l.job-iterator ≤ vec_capacity l.threads;
       count : l.k ≡ length l.yielded;
       made : l.threads.items ≡ l.initial.threads.items ++ map (λ j. j.me) l.yielded;
-      back : (k : ℕ) (d : _) (e : _) → k < l.walkers → k < length l.yielded → get_or l.trees k d ≡ (get_or l.yielded k e).tree;
-      above : (i : ℕ) (d : _) → l.walkers ≤ i → get_or l.trees i d ≡ get_or l.initial.trees i d;
+      back : (k : ℕ) (d : _) (e : _) → k < l.with_tree → k < length l.yielded → get_or l.trees k d ≡ (get_or l.yielded k e).tree;
+      above : (i : ℕ) (d : _) → l.with_tree ≤ i → get_or l.trees i d ≡ get_or l.initial.trees i d;
     }

@@ -8,7 +8,7 @@ use Rattle.indexer.proofs.opening.first_values.Goals as goal
 
 pub returns : goal.returns
 returns c =
-    let dirs : WaitingDirs = record { waiting = c.push.new.self; in_work = 0; shut = false } in
+    let dirs : WaitingDirs = record { waiting = c.push.new.self; in_work = 0; shut = false; dirs = 1; files = 0; most_files = c.unwrap_or-most_files.result; parsers = c.args.plan.now.parsers } in
     let files : Held IndexItem = c.in_ok-files.files in
     let pieces : Held IndexItem = c.in_ok-pieces.pieces in
     let two = c.in_ok-push-2.ensures.items ∙ ap (λ (l : List IndexValue). l ++ Dirs dirs ∷ []) c.new-values.ensures.items in

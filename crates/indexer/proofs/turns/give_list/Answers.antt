@@ -10,8 +10,8 @@ release-requires-clause-may g c κs within =
     (x, has.has, λ w s world share. dirs_stay x (Dirs c.args.list) s has.kind refl)
 
 pub returns : goal.returns
-returns g c = λ a x has between.
+returns g c = λ a x has between o root.
     let free = c.release.ensures in
-    gave_back c.args.p.now a c.args.me.now c.release.new.me x has free.rest free.same free.held
+    gave_back o root c.args.p.now a c.args.me.now c.release.new.me x has free.rest free.same free.held
     (free.share c.args.p.now.world has.own x has.world has.share has.has ∙ sym has.share)
     free.event

@@ -7,10 +7,10 @@ give_list-requires-then-eq-clause-has g c =
     (c.args.me.now, Dirs c.wait_for_dirs-outcome.result.1, c.wait_for_dirs-outcome.ensures c.args.me.now had.0 had.1)
 
 pub returns-then-eq : goal.returns-then-eq
-returns-then-eq g c =
+returns-then-eq g c = λ o root.
     let had = c.loop.invariant in
     let again = c.wait_for_dirs-outcome.ensures c.args.me.now had.0 had.1 in
-    c.give_list-then-eq.ensures c.args.me.now (Dirs c.wait_for_dirs-outcome.result.1) again c.requires.between
+    c.give_list-then-eq.ensures c.args.me.now (Dirs c.wait_for_dirs-outcome.result.1) again c.requires.between o root
 
 pub loop-preserved : goal.loop-preserved
 loop-preserved g c =

@@ -1,52 +1,52 @@
-use Rattle.std.proofs.Common.{None, ◌∙◌}
-use Rattle.indexer.proofs.WalkSteps.{still_between, walked_on, walked_turn, released_after, back_on}
+use Rattle.std.proofs.Common.{◌∙◌, [], List, None, refl, sym, subst}
+use Rattle.firefly_outside.specs.Trees.{Path}
+use Rattle.firefly_outside.specs.declared.tree.Kind.TheVariants.{Dir}
+use Rattle.word_index.specs.Index.{Index}
+use Rattle.indexer.specs.declared.findings.Fault.{Fault}
+use Rattle.indexer.specs.declared.findings.Visit.{Visit}
+use Rattle.indexer.specs.Walks.{HasDone}
+use Rattle.indexer.proofs.Turning.{still_between}
+use Rattle.indexer.proofs.WalkSteps.{done_along, done_none}
 use Rattle.indexer.proofs.walking.walk.Goals as goal
 
-pub next_dir-requires-clause-between : goal.next_dir-requires-clause-between
-next_dir-requires-clause-between g c = still_between c.args.p.now c.args.me.now c.loop.me c.requires.between c.loop.invariant.walked.back
+pub loop-init : goal.loop-init
+loop-init g c =
+    let S = g.S.Tree in
+    let tree = c.args.tree.now in
+    record {
+      tree_stays = refl;
+      weak_stays = refl;
+      done = λ root. subst (λ (vs : List Visit). HasDone Dir (S.tree tree) root (S.may_fail tree) (S.faults tree) (S.faults tree) (S.calls tree) (S.calls tree) c.args.p.now 0 c.args.me.now c.args.me.now vs [] None)
+          (sym c.new-visits.ensures.items) (done_none Dir (S.tree tree) root (S.may_fail tree) (S.faults tree) (S.calls tree) c.args.p.now c.args.me.now);
+    }
 
-pub shut_dirs-requires-clause-between : goal.shut_dirs-requires-clause-between
-shut_dirs-requires-clause-between g c =
-    still_between c.args.p.now c.args.me.now c.next_dir.new.me c.requires.between (back_on c.args.p.now c.args.me.now c.loop.me c.next_dir.new.me c.loop.invariant.walked.back c.next_dir.ensures.back)
-
-pub finish_dir-requires-clause-between : goal.finish_dir-requires-clause-between
-finish_dir-requires-clause-between g c =
-    still_between c.args.p.now c.args.me.now c.next_dir.new.me c.requires.between (back_on c.args.p.now c.args.me.now c.loop.me c.next_dir.new.me c.loop.invariant.walked.back c.next_dir.ensures.back)
-
-pub shut_dirs-requires-in-Err-clause-between : goal.shut_dirs-requires-in-Err-clause-between
-shut_dirs-requires-in-Err-clause-between g c =
-    still_between c.args.p.now c.args.me.now c.next_dir.new.me c.requires.between (back_on c.args.p.now c.args.me.now c.loop.me c.next_dir.new.me c.loop.invariant.walked.back c.next_dir.ensures.back)
-
-pub returns-in_default-clause-walked : goal.returns-in_default-clause-walked
-returns-in_default-clause-walked g c =
-    let first = c.args.tree.now in
-    let now = c.loop.tree in
-    walked_on (g.S.Tree.tree first) (g.S.Tree.may_fail first) (g.S.Tree.faults first) (g.S.Tree.calls first) c.args.p.now c.args.me.now
-    0 (g.S.Tree.faults now) (g.S.Tree.calls now) c.loop.me c.shut_dirs.new.me c.loop.visits.items None c.loop.invariant.walked
-    (released_after c.args.p.now c.loop.me c.next_dir.new.me c.shut_dirs.new.me c.next_dir.ensures c.shut_dirs.ensures)
+pub walk_once-requires-clause-between : goal.walk_once-requires-clause-between
+walk_once-requires-clause-between g c κs within = still_between (g.S.Tree.tree c.args.tree.now) [] [] c.args.p.now c.args.me.now c.loop.me c.requires.between (c.loop.invariant.done []).back
 
 pub loop-preserved : goal.loop-preserved
 loop-preserved g c =
     let first = c.args.tree.now in
     let now = c.loop.tree in
-    let then = c.list_one.new.tree in
+    let then = c.walk_once.new.tree in
     let was = c.loop.invariant in
+    let S = g.S.Tree in
     record {
-      tree_stays = c.list_one.ensures.tree_stays ∙ was.tree_stays;
-      weak_stays = c.list_one.ensures.weak_stays ∙ was.weak_stays;
-      walked = walked_turn (g.S.Tree.tree first) (g.S.Tree.may_fail first) (g.S.Tree.faults first) (g.S.Tree.calls first) c.args.p.now c.args.me.now
-          (g.S.Tree.tree now) (g.S.Tree.may_fail now) was.tree_stays was.weak_stays (g.S.Tree.faults now) (g.S.Tree.faults then) (g.S.Tree.calls now) (g.S.Tree.calls then)
-          c.loop.me c.next_dir.new.me c.finish_dir.new.me c.loop.visits.items c.list_one.new.visits.items None
-          was.walked c.next_dir.ensures (c.in-Ok.ensures.walked (g.S.Tree.faults first) (g.S.Tree.calls first) c.args.p.now c.args.me.now c.next_dir.new.me) c.finish_dir.ensures;
+      tree_stays = c.walk_once.ensures.tree_stays ∙ was.tree_stays;
+      weak_stays = c.walk_once.ensures.weak_stays ∙ was.weak_stays;
+      done = λ root. done_along Dir (S.tree first) root (S.may_fail first) (S.faults first) (S.calls first) c.args.p.now c.args.me.now (S.tree now) (S.may_fail now) was.tree_stays was.weak_stays
+          (S.faults now) (S.faults then) (S.calls now) (S.calls then) 0 0 c.loop.me c.walk_once.new.me c.loop.visits.items c.walk_once.new.visits.items None None
+          (was.done root) (c.in-Ok.ensures.done root (S.faults first) (S.calls first) c.args.me.now);
     }
 
-pub returns-in-Err-clause-walked : goal.returns-in-Err-clause-walked
-returns-in-Err-clause-walked g c =
+pub returns-in-Err-clause-done : goal.returns-in-Err-clause-done
+returns-in-Err-clause-done g c = λ root.
     let first = c.args.tree.now in
     let now = c.loop.tree in
-    let then = c.list_one.new.tree in
+    let then = c.walk_once.new.tree in
     let was = c.loop.invariant in
-    walked_turn (g.S.Tree.tree first) (g.S.Tree.may_fail first) (g.S.Tree.faults first) (g.S.Tree.calls first) c.args.p.now c.args.me.now
-    (g.S.Tree.tree now) (g.S.Tree.may_fail now) was.tree_stays was.weak_stays (g.S.Tree.faults now) (g.S.Tree.faults then) (g.S.Tree.calls now) (g.S.Tree.calls then)
-    c.loop.me c.next_dir.new.me c.shut_dirs-in-Err.new.me c.loop.visits.items c.list_one.new.visits.items c.in-Err.fault
-    was.walked c.next_dir.ensures (c.in-Err.ensures.walked (g.S.Tree.faults first) (g.S.Tree.calls first) c.args.p.now c.args.me.now c.next_dir.new.me) c.shut_dirs-in-Err.ensures
+    let S = g.S.Tree in
+    subst (λ (ps : List Index). HasDone Dir (S.tree first) root (S.may_fail first) (S.faults first) (S.faults then) (S.calls first) (S.calls then) c.args.p.now 0 c.args.me.now c.walk_once.new.me c.walk_once.new.visits.items ps c.in-Err.fault)
+    (sym c.new.ensures.items)
+    (done_along Dir (S.tree first) root (S.may_fail first) (S.faults first) (S.calls first) c.args.p.now c.args.me.now (S.tree now) (S.may_fail now) was.tree_stays was.weak_stays
+    (S.faults now) (S.faults then) (S.calls now) (S.calls then) 0 0 c.loop.me c.walk_once.new.me c.loop.visits.items c.walk_once.new.visits.items None c.in-Err.fault
+    (was.done root) (c.in-Err.ensures.done root (S.faults first) (S.calls first) c.args.me.now))

@@ -1,0 +1,32 @@
+use Rattle.std.proofs.Common.{arith}
+use Rattle.nub.proofs.Users.{idle_again}
+use Rattle.indexer.proofs.Turning.{adds_release_file, passes_same}
+use Rattle.indexer.proofs.files.take_file.Goals as goal
+
+pub returns-in-Ok-default-File : goal.returns-in-Ok-default-File
+returns-in-Ok-default-File g c = λ o root.
+    let p = c.args.p.now in
+    let a = c.args.me.now in
+    let b = c.take.new.me in
+    let e = c.take.ensures in
+    let between = c.requires.between in
+    record {
+      back = λ n s idle.
+          let ran = e.ran s idle.share in
+          (ran.share, idle_again p n s ran.share a b idle e.rest e.same e.held ran.is_share, passes_same o root s ran.share (ran.elsewhere 2 (λ z. omega arith)));
+      times = adds_release_file a.number _ a b (e.ran between.1 between.2.share).events;
+    }
+
+pub returns : goal.returns
+returns g c = λ o root.
+    let p = c.args.p.now in
+    let a = c.args.me.now in
+    let b = c.take.new.me in
+    let e = c.take.ensures in
+    let between = c.requires.between in
+    record {
+      back = λ n s idle.
+          let ran = e.ran s idle.share in
+          (ran.share, idle_again p n s ran.share a b idle e.rest e.same e.held ran.is_share, passes_same o root s ran.share (ran.elsewhere 2 (λ z. omega arith)));
+      times = adds_release_file a.number _ a b (e.ran between.1 between.2.share).events;
+    }

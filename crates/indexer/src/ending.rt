@@ -1,0 +1,45 @@
+//! Ending a run before its time.
+ghost use Rattle.std.specs.Prelude.{ℕ, [], Option};
+ghost use Rattle.firefly_outside.specs.Trees.{Path, Told};
+ghost use Rattle.indexer.specs.Turns.{HasCalled, HasLists, IsBetween};
+
+use crate::files::shut_files;
+use crate::pieces::shut_pieces;
+use crate::turns::shut_dirs;
+use crate::uses::IndexUses;
+use alerts::alert;
+use larch_actions::ThreadId;
+use nub_rule::{Package, Thread};
+use std::sync::Wait;
+
+/// Shuts the list of directories and both buffers: who comes after finds nothing to do.
+pub fn shut_all<R: Wait>(rt: &R, p: &Package<IndexUses>, me: &mut Thread<IndexUses>)
+    requires layout { HasLists p.now.layout }
+    requires between { IsBetween p.now me.old }
+    ensures { (o : Option Told) (root : Path) (m : ℕ) → HasCalled o root [] p.now m 0 me.old me.new }
+{
+    shut_dirs(rt, p, me);
+    shut_files(rt, p, me);
+    shut_pieces(rt, p, me);
+}
+
+// Alerts each worker.
+fn alert_all<R: Wait>(rt: &R, p: &Package<IndexUses>, me: &mut Thread<IndexUses>)
+    requires between { IsBetween p.now me.old }
+    ensures { (o : Option Told) (root : Path) (m : ℕ) → HasCalled o root [] p.now m 0 me.old me.new }
+{
+    for t in 1..p.layout().threads {
+        alert(rt, p, me, ThreadId(t));
+    }
+}
+
+/// Lets all end soon: shuts the list of directories and both buffers, and alerts each worker. Who is alerted finds all shut, so that it
+/// waits for nothing more.
+pub fn cancel<R: Wait>(rt: &R, p: &Package<IndexUses>, me: &mut Thread<IndexUses>)
+    requires layout { HasLists p.now.layout }
+    requires between { IsBetween p.now me.old }
+    ensures { (o : Option Told) (root : Path) (m : ℕ) → HasCalled o root [] p.now m 0 me.old me.new }
+{
+    shut_all(rt, p, me);
+    alert_all(rt, p, me);
+}

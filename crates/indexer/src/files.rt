@@ -1,0 +1,96 @@
+//! The calls at the buffer of files.
+ghost use Rattle.std.specs.Prelude.{ℕ, [], Option};
+ghost use Rattle.firefly_outside.specs.Trees.{Path, Told};
+ghost use Rattle.indexer.specs.Turns.{HasCalled, HasLists, IsBetween};
+
+use crate::uses::IndexUses;
+use crate::value::IndexItem;
+use alerts::test_alert;
+use bounded_buffer::{BufferAt, PutEnd, put, shut, take};
+use firefly_outside::Text;
+use larch_actions::{CondId, MutexId};
+use nub_rule::{Package, Thread};
+use std::sync::Wait;
+
+/// Where the buffer of files is.
+const FILES: BufferAt = BufferAt {
+    mutex: MutexId(1),
+    room: CondId(1),
+    more: CondId(2),
+};
+
+// Puts a file's path into the buffer, and answers whether the thread may go on: it may unless it was alerted. A buffer that is shut takes
+// none.
+fn put_file<R: Wait>(rt: &R, p: &Package<IndexUses>, me: &mut Thread<IndexUses>, file: Text) -> bool
+    requires layout { HasLists p.now.layout }
+    requires between { IsBetween p.now me.old }
+    ensures { (o : Option Told) (root : Path) (m : ℕ) → HasCalled o root [] p.now m 0 me.old me.new }
+{
+    match put(rt, p, me, &FILES, IndexItem::File(file)) {
+        Ok(_) => true,
+        Err((PutEnd::Closed, _)) => true,
+        Err((PutEnd::Alerted, _)) => false,
+    }
+}
+
+/// Puts the paths of files into the buffer, one after the other, and answers whether the thread may go on: it may unless it was alerted. A
+/// buffer that is shut takes none.
+///
+/// It blocks while another thread has the buffer, and while it is full and open.
+pub fn put_files<R: Wait>(
+    rt: &R,
+    p: &Package<IndexUses>,
+    me: &mut Thread<IndexUses>,
+    files: Vec<Text>,
+) -> bool
+    requires layout { HasLists p.now.layout }
+    requires between { IsBetween p.now me.old }
+    ensures { (o : Option Told) (root : Path) (m : ℕ) → HasCalled o root [] p.now m 0 me.old me.new }
+{
+    for file in files {
+        if !put_file(rt, p, me, file) {
+            return false;
+        }
+    }
+    true
+}
+
+// Takes the path of a file, if the buffer gives one.
+fn take_file<R: Wait>(rt: &R, p: &Package<IndexUses>, me: &mut Thread<IndexUses>) -> Option<Text>
+    requires layout { HasLists p.now.layout }
+    requires between { IsBetween p.now me.old }
+    ensures { (o : Option Told) (root : Path) → HasCalled o root [] p.now 1 1 me.old me.new }
+{
+    match take(rt, p, me, &FILES) {
+        Ok((_, IndexItem::File(path))) => Some(path),
+        _ => None,
+    }
+}
+
+/// Takes the path of a file that is to be read. None comes where the buffer is shut and empty, and where the thread is alerted.
+///
+/// It blocks while another thread has the buffer, and while it is empty and open.
+pub fn next_file<R: Wait>(
+    rt: &R,
+    p: &Package<IndexUses>,
+    me: &mut Thread<IndexUses>,
+) -> Option<Text>
+    requires layout { HasLists p.now.layout }
+    requires between { IsBetween p.now me.old }
+    ensures { (o : Option Told) (root : Path) → HasCalled o root [] p.now 1 1 me.old me.new }
+{
+    let path = take_file(rt, p, me);
+    if test_alert(rt, p, me) {
+        return None;
+    }
+    path
+}
+
+/// Shuts the buffer: it takes no more, and gives what it has.
+pub fn shut_files<R: Wait>(rt: &R, p: &Package<IndexUses>, me: &mut Thread<IndexUses>)
+    requires layout { HasLists p.now.layout }
+    requires between { IsBetween p.now me.old }
+    ensures { (o : Option Told) (root : Path) (m : ℕ) → HasCalled o root [] p.now m 0 me.old me.new }
+{
+    shut(rt, p, me, &FILES);
+}

@@ -1,0 +1,75 @@
+//! Pieces that are kept until they are merged.
+ghost use Rattle.std.specs.Prelude.{◌≡◌, ◌++◌, ◌∷◌, [], ◌<◌, ◌≤◌, IsTrue, IfOk, OnOk, OnErr, vec_len, vec_capacity};
+ghost use Rattle.word_index.specs.Index.{Meet, IsUnion};
+ghost use Rattle.indexer.specs.Pieces.{AreMergedFrom, JoinsFiles};
+
+use std::alloc::AllocError;
+use word_index::{Piece, merge};
+
+// How much of a piece a merge goes over.
+fn size(piece: &Piece) -> u64 {
+    piece.files().saturating_add(piece.entries())
+}
+
+// Whether the last piece is to be merged with the one before: that is at most about twice as large, and no path is covered by both.
+fn may_merge(before: &Piece, last: &Piece) -> bool
+    ensures { IsTrue result → ¬ Meet before.now last.now }
+{
+    size(before) / 2 <= size(last) && !before.meets(last)
+}
+
+// Puts a piece where there is room.
+fn put_back(kept: &mut Vec<Piece>, piece: Piece)
+    requires { vec_len kept.old < vec_capacity kept.old }
+    ensures items { kept.new.items ≡ kept.old.items ++ piece ∷ [] }
+    ensures capacity { vec_capacity kept.old ≤ vec_capacity kept.new }
+{
+    match kept.push(piece) {
+        Ok(()) => {}
+        Err(_) => unreachable!(),
+    }
+}
+
+// Merges the last piece with the one before, if they are to be, and says whether it did. Where memory wants, both stay.
+fn merge_last(kept: &mut Vec<Piece>) -> bool
+    ensures merged { AreMergedFrom kept.old.items kept.new.items }
+    ensures fewer { IsTrue result → vec_len kept.new < vec_len kept.old }
+{
+    let Some(last) = kept.pop() else {
+        return false;
+    };
+    let Some(before) = kept.pop() else {
+        put_back(kept, last);
+        return false;
+    };
+    if !may_merge(&before, &last) {
+        put_back(kept, before);
+        put_back(kept, last);
+        return false;
+    }
+    match merge(before, last) {
+        Ok(both) => {
+            put_back(kept, both);
+            true
+        }
+        Err((before, last)) => {
+            put_back(kept, before);
+            put_back(kept, last);
+            false
+        }
+    }
+}
+
+/// Keeps one piece more. Each piece kept is more than about twice as large as the next, but where the two cover a common path or memory
+/// wanted; so a piece is merged again only when it has grown by half.
+pub fn keep(kept: &mut Vec<Piece>, piece: Piece) -> Result<(), AllocError>
+    ensures kept { OnOk result (AreMergedFrom (kept.old.items ++ piece ∷ []) kept.new.items) }
+    ensures refused { OnErr result (kept.new.items ≡ kept.old.items) }
+{
+    match kept.push(piece) {
+        Ok(()) => {}
+        Err(_) => return Err(AllocError),
+    }
+    while merge_last(kept) {}
+    Ok(())
+}

@@ -1,0 +1,265 @@
+//! The work of a parser.
+ghost use Rattle.std.specs.Prelude.{◌≡◌, ℕ, [], All, Option, None};
+ghost use Rattle.firefly_outside.specs.Trees.{Calls, Path, Told};
+ghost use Rattle.firefly_outside.specs.declared.tree.Kind.TheVariants.{File};
+ghost use Rattle.indexer.specs.Lots.{AreRead};
+ghost use Rattle.indexer.specs.Pieces.{IsFilesPiece};
+ghost use Rattle.indexer.specs.Turns.{HasCalled, HasLists, IsBetween, Run, Worker};
+ghost use Rattle.indexer.specs.Walks.{HasDone, fault_of};
+
+use crate::ending::cancel;
+use crate::files::next_file;
+use crate::findings::{Fault, Findings};
+use crate::lots::{Lot, pieces_of};
+use crate::pieces::{put_piece, shut_pieces};
+use crate::turns::end_parser;
+use crate::uses::IndexUses;
+use firefly_outside::{Text, Tree, TreeError};
+use nub_rule::{Package, Thread};
+use std::alloc::{AllocError, Global};
+use std::sync::Wait;
+use word_index::Piece;
+
+// Reads one file into the lot. An error names the file where it failed, and none where memory wants.
+fn read_one<S: Tree>(
+    alloc: Global,
+    tree: &mut S,
+    path: Text,
+    lot: &mut Lot,
+) -> Result<(), Option<Fault>>
+    ensures tree_stays { S.tree tree.new ≡ S.tree tree.old }
+    ensures weak_stays { S.may_fail tree.new ≡ S.may_fail tree.old }
+    ensures read { AreRead (S.tree tree.old) lot.old.files.items → AreRead (S.tree tree.old) lot.new.files.items }
+    ensures done { (root : Path) (count : ℕ) (before : Calls) (p : Run) (a b : Worker)
+        → HasDone File (S.tree tree.old) root (S.may_fail tree.old) count (S.faults tree.old) before (S.calls tree.old) p 1 a b [] [] None
+        → HasDone File (S.tree tree.old) root (S.may_fail tree.old) count (S.faults tree.new) before (S.calls tree.new) p 0 a b [] [] (fault_of result) }
+{
+    match tree.read(alloc, path.as_str()) {
+        Ok(file) => match lot.add(path, file) {
+            Ok(()) => Ok(()),
+            Err(_) => Err(None),
+        },
+        Err(TreeError::Memory) => Err(None),
+        Err(TreeError::Failed) => Err(Some(Fault::File(path))),
+    }
+}
+
+// Puts a piece into the buffer, or where that gives it back, to those that are kept.
+fn give_piece<R: Wait>(
+    rt: &R,
+    p: &Package<IndexUses>,
+    me: &mut Thread<IndexUses>,
+    piece: Piece,
+    kept: &mut Vec<Piece>,
+) -> Result<(), AllocError>
+    requires layout { HasLists p.now.layout }
+    requires between { IsBetween p.now me.old }
+    ensures called { (o : Option Told) (root : Path) (m : ℕ) → IsFilesPiece o root piece → HasCalled o root [] p.now m 0 me.old me.new }
+    ensures kept { (o : Option Told) (root : Path) → IsFilesPiece o root piece → All (IsFilesPiece o root) kept.old.items → All (IsFilesPiece o root) kept.new.items }
+{
+    if let Some(piece) = put_piece(rt, p, me, piece) {
+        kept.push(piece)?;
+    }
+    Ok(())
+}
+
+// Gives each of the pieces so.
+fn give_pieces<R: Wait>(
+    rt: &R,
+    p: &Package<IndexUses>,
+    me: &mut Thread<IndexUses>,
+    pieces: Vec<Piece>,
+    kept: &mut Vec<Piece>,
+) -> Result<(), AllocError>
+    requires layout { HasLists p.now.layout }
+    requires between { IsBetween p.now me.old }
+    requires pieces { (o : Option Told) × (root : Path) × All (IsFilesPiece o root) pieces.items }
+    ensures called { (o : Option Told) (root : Path) (m : ℕ) → All (IsFilesPiece o root) pieces.items → HasCalled o root [] p.now m 0 me.old me.new }
+    ensures kept { (o : Option Told) (root : Path) → All (IsFilesPiece o root) pieces.items → All (IsFilesPiece o root) kept.old.items → All (IsFilesPiece o root) kept.new.items }
+{
+    for piece in pieces {
+        give_piece(rt, p, me, piece, kept)?;
+    }
+    Ok(())
+}
+
+// Makes pieces of the files of the lot, which is empty then, and gives them on.
+fn give_lot<R: Wait>(
+    rt: &R,
+    alloc: Global,
+    p: &Package<IndexUses>,
+    me: &mut Thread<IndexUses>,
+    root: &str,
+    lot: &mut Lot,
+    kept: &mut Vec<Piece>,
+) -> Result<(), AllocError>
+    requires layout { HasLists p.now.layout }
+    requires between { IsBetween p.now me.old }
+    requires read { (o : Option Told) × AreRead o lot.old.files.items }
+    ensures read { (o : Option Told) → AreRead o lot.new.files.items }
+    ensures called { (o : Option Told) (m : ℕ) → AreRead o lot.old.files.items → HasCalled o root.now [] p.now m 0 me.old me.new }
+    ensures kept { (o : Option Told) → AreRead o lot.old.files.items → All (IsFilesPiece o root.now) kept.old.items → All (IsFilesPiece o root.now) kept.new.items }
+{
+    let pieces = pieces_of(alloc, root, lot.taken(alloc))?;
+    give_pieces(rt, p, me, pieces, kept)
+}
+
+// The same; and where memory wants, all workers are to end. It answers whether the thread is to go on.
+fn pass_lot<R: Wait>(
+    rt: &R,
+    alloc: Global,
+    p: &Package<IndexUses>,
+    me: &mut Thread<IndexUses>,
+    root: &str,
+    lot: &mut Lot,
+    kept: &mut Vec<Piece>,
+) -> bool
+    requires layout { HasLists p.now.layout }
+    requires between { IsBetween p.now me.old }
+    requires read { (o : Option Told) × AreRead o lot.old.files.items }
+    ensures read { (o : Option Told) → AreRead o lot.new.files.items }
+    ensures called { (o : Option Told) (m : ℕ) → AreRead o lot.old.files.items → HasCalled o root.now [] p.now m 0 me.old me.new }
+    ensures kept { (o : Option Told) → AreRead o lot.old.files.items → All (IsFilesPiece o root.now) kept.old.items → All (IsFilesPiece o root.now) kept.new.items }
+{
+    match give_lot(rt, alloc, p, me, root, lot, kept) {
+        Ok(()) => true,
+        Err(_) => {
+            cancel(rt, p, me);
+            false
+        }
+    }
+}
+
+// The same with a lot that is full; one that isn't may grow.
+fn pass_full_lot<R: Wait>(
+    rt: &R,
+    alloc: Global,
+    p: &Package<IndexUses>,
+    me: &mut Thread<IndexUses>,
+    root: &str,
+    lot: &mut Lot,
+    kept: &mut Vec<Piece>,
+) -> bool
+    requires layout { HasLists p.now.layout }
+    requires between { IsBetween p.now me.old }
+    requires read { (o : Option Told) × AreRead o lot.old.files.items }
+    ensures read { (o : Option Told) → AreRead o lot.old.files.items → AreRead o lot.new.files.items }
+    ensures called { (o : Option Told) (m : ℕ) → AreRead o lot.old.files.items → HasCalled o root.now [] p.now m 0 me.old me.new }
+    ensures kept { (o : Option Told) → AreRead o lot.old.files.items → All (IsFilesPiece o root.now) kept.old.items → All (IsFilesPiece o root.now) kept.new.items }
+{
+    if !lot.is_full() {
+        return true;
+    }
+    pass_lot(rt, alloc, p, me, root, lot, kept)
+}
+
+// One turn of a parser: it takes a file's path, reads the file into the lot, and makes pieces of a lot that is full. An error ends its
+// work, and names the file where it failed.
+fn parse_once<R: Wait, S: Tree>(
+    rt: &R,
+    alloc: Global,
+    p: &Package<IndexUses>,
+    me: &mut Thread<IndexUses>,
+    root: &str,
+    tree: &mut S,
+    lot: &mut Lot,
+    kept: &mut Vec<Piece>,
+) -> Result<(), Option<Fault>>
+    requires layout { HasLists p.now.layout }
+    requires between { IsBetween p.now me.old }
+    requires read { AreRead (S.tree tree.old) lot.old.files.items }
+    ensures tree_stays { S.tree tree.new ≡ S.tree tree.old }
+    ensures weak_stays { S.may_fail tree.new ≡ S.may_fail tree.old }
+    ensures read { AreRead (S.tree tree.old) lot.new.files.items }
+    ensures kept { All (IsFilesPiece (S.tree tree.old) root.now) kept.old.items → All (IsFilesPiece (S.tree tree.old) root.now) kept.new.items }
+    ensures done { (count : ℕ) (before : Calls) (a : Worker)
+        → HasDone File (S.tree tree.old) root.now (S.may_fail tree.old) count (S.faults tree.old) before (S.calls tree.old) p.now 0 a me.old [] [] None
+        → HasDone File (S.tree tree.old) root.now (S.may_fail tree.old) count (S.faults tree.new) before (S.calls tree.new) p.now 0 a me.new [] [] (fault_of result) }
+{
+    let Some(path) = next_file(rt, p, me) else {
+        return Err(None);
+    };
+    match read_one(alloc, tree, path, lot) {
+        Ok(()) => {
+            if pass_full_lot(rt, alloc, p, me, root, lot, kept) {
+                Ok(())
+            } else {
+                Err(None)
+            }
+        }
+        Err(fault) => {
+            cancel(rt, p, me);
+            Err(fault)
+        }
+    }
+}
+
+// Makes pieces of what is left in a lot, if anything is.
+fn pass_rest<R: Wait>(
+    rt: &R,
+    alloc: Global,
+    p: &Package<IndexUses>,
+    me: &mut Thread<IndexUses>,
+    root: &str,
+    mut lot: Lot,
+    kept: &mut Vec<Piece>,
+)
+    requires layout { HasLists p.now.layout }
+    requires between { IsBetween p.now me.old }
+    requires read { (o : Option Told) × AreRead o lot.files.items }
+    ensures called { (o : Option Told) (m : ℕ) → AreRead o lot.files.items → HasCalled o root.now [] p.now m 0 me.old me.new }
+    ensures kept { (o : Option Told) → AreRead o lot.files.items → All (IsFilesPiece o root.now) kept.old.items → All (IsFilesPiece o root.now) kept.new.items }
+{
+    if !lot.is_empty() {
+        pass_lot(rt, alloc, p, me, root, &mut lot, kept);
+    }
+}
+
+// Says that a parser has ended; the last one shuts the buffer of pieces.
+fn end_pieces<R: Wait>(rt: &R, p: &Package<IndexUses>, me: &mut Thread<IndexUses>)
+    requires layout { HasLists p.now.layout }
+    requires between { IsBetween p.now me.old }
+    ensures { (o : Option Told) (root : Path) (m : ℕ) → HasCalled o root [] p.now m 0 me.old me.new }
+{
+    if end_parser(rt, p, me) {
+        shut_pieces(rt, p, me);
+    }
+}
+
+/// Reads files whose paths it takes from their buffer, makes pieces of them, and puts these into theirs, until there are no more. A piece
+/// that the buffer doesn't take is kept. Where a file fails or memory wants, it alerts all workers; what is left then is for the closing
+/// walk.
+///
+/// It blocks as `next_file` and `put_piece` do.
+pub fn parse<R: Wait, S: Tree>(
+    rt: &R,
+    alloc: Global,
+    p: &Package<IndexUses>,
+    me: &mut Thread<IndexUses>,
+    root: &str,
+    tree: &mut S,
+) -> Findings
+    requires layout { HasLists p.now.layout }
+    requires between { IsBetween p.now me.old }
+    ensures tree_stays { S.tree tree.new ≡ S.tree tree.old }
+    ensures weak_stays { S.may_fail tree.new ≡ S.may_fail tree.old }
+    ensures done { HasDone File (S.tree tree.old) root.now (S.may_fail tree.old) (S.faults tree.old) (S.faults tree.new) (S.calls tree.old) (S.calls tree.new) p.now 0 me.old me.new result.visits.items result.pieces.items result.fault }
+{
+    let mut lot = Lot::new(alloc);
+    let mut kept = Vec::new(alloc);
+    for _ in rt.forever() {
+        match parse_once(rt, alloc, p, me, root, tree, &mut lot, &mut kept) {
+            Ok(()) => {}
+            Err(fault) => {
+                pass_rest(rt, alloc, p, me, root, lot, &mut kept);
+                end_pieces(rt, p, me);
+                return Findings {
+                    visits: Vec::new(alloc),
+                    pieces: kept,
+                    fault,
+                };
+            }
+        }
+    }
+    unreachable!()
+}
