@@ -2,6 +2,7 @@ pub mod Statuses
 pub mod Changes
 pub mod Looks
 pub mod Texts
+pub mod Endings
 pub mod Check
 pub mod IndexCommand
 pub mod RunCommand

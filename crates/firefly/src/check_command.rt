@@ -4,7 +4,7 @@ ghost use Rattle.firefly.specs.Changes.{change_of};
 ghost use Rattle.firefly.specs.Check.{CheckAnswers, Prints, Found};
 
 use crate::Status;
-use crate::message::{INPUT_FAULT, OUTPUT_FAULT, TOO_LONG, say, say_bad_line};
+use crate::ending::{Ending, ends};
 use crate::verdict_line::{illegal, legal};
 use firefly_outside::{Sink, Source, put_all};
 use trace_check::{Verdict, check};
@@ -18,10 +18,7 @@ fn print<O: Sink, N: Sink>(line: &str, status: Status, out: &mut O, notes: &mut 
 {
     match put_all(out, line.as_bytes()) {
         Ok(()) => status,
-        Err(_) => {
-            say(notes, OUTPUT_FAULT);
-            Status::SinkFault
-        }
+        Err(_) => ends(notes, Ending::OutputFault),
     }
 }
 
@@ -35,17 +32,8 @@ pub fn run_check<I: Source, O: Sink, N: Sink>(input: &mut I, out: &mut O, notes:
         Verdict::Illegal { place, why } => {
             print(illegal(place, why).as_str(), Status::Illegal, out, notes)
         }
-        Verdict::BadLine(line) => {
-            say_bad_line(notes, line);
-            Status::BadText
-        }
-        Verdict::TooLong => {
-            say(notes, TOO_LONG);
-            Status::TooLong
-        }
-        Verdict::ReadFault => {
-            say(notes, INPUT_FAULT);
-            Status::ReadFault
-        }
+        Verdict::BadLine(line) => ends(notes, Ending::BadLine(line)),
+        Verdict::TooLong => ends(notes, Ending::TooLong),
+        Verdict::ReadFault => ends(notes, Ending::InputFault),
     }
 }

@@ -9,7 +9,7 @@ ghost use Rattle.index_print.specs.Text.{index_text};
 ghost use Rattle.firefly.specs.Check.{Prints};
 
 use crate::Status;
-use crate::message::{OUT_OF_MEMORY, OUTPUT_FAULT, TOO_MANY, say, say_stopped, say_unreadable};
+use crate::ending::{Ending, ends};
 use command_line::IndexOptions;
 use firefly_outside::{Sink, Tree};
 use index_print::print_index;
@@ -23,10 +23,7 @@ fn print<O: Sink, N: Sink>(piece: &Piece, out: &mut O, notes: &mut N) -> Status
 {
     match print_index(piece, out) {
         Ok(()) => Status::Done,
-        Err(_) => {
-            say(notes, OUTPUT_FAULT);
-            Status::SinkFault
-        }
+        Err(_) => ends(notes, Ending::OutputFault),
     }
 }
 
@@ -64,22 +61,16 @@ fn index_tree<S: Tree, O: Sink, N: Sink>(
 {
     match walk(alloc, options, tree) {
         WalkAnswer::Done(piece) => print(&piece, out, notes),
-        WalkAnswer::Stopped(found) => {
-            say_stopped(notes, found, options.stop_after.unwrap_or(0));
-            Status::Stopped
-        }
-        WalkAnswer::ReadFault(path) => {
-            say_unreadable(notes, path.as_str());
-            Status::ReadFault
-        }
-        WalkAnswer::TooMany(_) => {
-            say(notes, TOO_MANY);
-            Status::TooMany
-        }
-        WalkAnswer::Memory => {
-            say(notes, OUT_OF_MEMORY);
-            Status::Memory
-        }
+        WalkAnswer::Stopped(found) => ends(
+            notes,
+            Ending::Stopped {
+                found,
+                allowed: options.stop_after.unwrap_or(0),
+            },
+        ),
+        WalkAnswer::ReadFault(path) => ends(notes, Ending::Unreadable(path.as_str())),
+        WalkAnswer::TooMany(_) => ends(notes, Ending::TooMany),
+        WalkAnswer::Memory => ends(notes, Ending::Memory),
     }
 }
 

@@ -5,15 +5,18 @@
 #![tactic(auto)]
 
 mod check_command;
+mod ending;
 mod index_command;
 pub mod laws;
 mod message;
 mod outside;
+mod print_trace;
 mod run_command;
 mod status;
 mod top;
 mod verdict_line;
 
+pub use ending::{Ending, ends};
 pub use firefly_script::{Script, ScriptFault, read_script};
 pub use outside::system_trees;
 pub use script_run::run_script;

@@ -11,36 +11,15 @@ ghost use Rattle.firefly.specs.Check.{Prints};
 ghost use Rattle.firefly.specs.RunCommand.{RunAnswers, Runs, Decides};
 
 use crate::Status;
-use crate::message::{INPUT_FAULT, OUT_OF_MEMORY, OUTPUT_FAULT, TOO_LONG, say, say_bad_line};
+use crate::ending::{Ending, ends};
+use crate::print_trace::print_trace;
 use firefly_outside::{Sink, Source};
 use firefly_script::{Script, ScriptFault, read_script};
-use nub::Closed;
+use package_crew::NoGate;
 use script_run::run_script;
 use std::alloc::Global;
 use std::sync::Wait;
 use std::thread::Threads;
-use sum_uses::SumUses;
-use trace_core::laws::print_whole;
-
-// Writes the trace of a run that has ended, and the number of each mutex.
-fn print<O: Sink, N: Sink>(closed: &Closed<SumUses>, out: &mut O, notes: &mut N) -> Status
-    requires lawful { IsLawful closed.now.layout }
-    requires traced { (h : List Event) × (closed.now.trace ≡ Some h) × AllByRecursion (HasNames closed.now.layout) h }
-    requires values { length closed.now.values ≡ closed.now.layout.mutexes }
-    ensures printed { (h : List Event) → closed.now.trace ≡ Some h → Prints (trace_text closed.now.layout h (numbered 0 closed.now.values)) Status.Done (change_of O.held O.faults out.old out.new) (change_of N.held N.faults notes.old notes.new) result }
-    ensures reads { (h : List Event) → closed.now.trace ≡ Some h → ReadsAs (trace_text closed.now.layout h (numbered 0 closed.now.values)) closed.now.layout h (numbered 0 closed.now.values) }
-{
-    let Some(events) = closed.trace() else {
-        unreachable!()
-    };
-    match print_whole(&closed.layout(), events, closed.values(), out) {
-        Ok(()) => Status::Done,
-        Err(_) => {
-            say(notes, OUTPUT_FAULT);
-            Status::SinkFault
-        }
-    }
-}
 
 // Runs the script, and writes its trace once it has ended.
 fn run_read<R: Threads + Wait + Sync, O: Sink, N: Sink>(
@@ -53,12 +32,9 @@ fn run_read<R: Threads + Wait + Sync, O: Sink, N: Sink>(
     requires { IsScript script.now.layout script.now.lines }
     ensures { Runs script.now.layout script.now.lines (change_of O.held O.faults out.old out.new) (change_of N.held N.faults notes.old notes.new) result }
 {
-    match run_script(rt, alloc, script) {
-        Ok(closed) => print(&closed, out, notes),
-        Err(_) => {
-            say(notes, OUT_OF_MEMORY);
-            Status::Memory
-        }
+    match run_script(rt, alloc, script, &NoGate) {
+        Ok(closed) => print_trace(&closed, closed.values(), out, notes),
+        Err(_) => ends(notes, Ending::Memory),
     }
 }
 
@@ -75,21 +51,9 @@ pub fn run_input<R: Threads + Wait + Sync, I: Source, O: Sink, N: Sink>(
 {
     match read_script(alloc, input) {
         Ok(script) => run_read(rt, alloc, &script, out, notes),
-        Err(ScriptFault::BadLine(line)) => {
-            say_bad_line(notes, line);
-            Status::BadText
-        }
-        Err(ScriptFault::TooLong) => {
-            say(notes, TOO_LONG);
-            Status::TooLong
-        }
-        Err(ScriptFault::Read) => {
-            say(notes, INPUT_FAULT);
-            Status::ReadFault
-        }
-        Err(ScriptFault::Memory) => {
-            say(notes, OUT_OF_MEMORY);
-            Status::Memory
-        }
+        Err(ScriptFault::BadLine(line)) => ends(notes, Ending::BadLine(line)),
+        Err(ScriptFault::TooLong) => ends(notes, Ending::TooLong),
+        Err(ScriptFault::Read) => ends(notes, Ending::InputFault),
+        Err(ScriptFault::Memory) => ends(notes, Ending::Memory),
     }
 }

@@ -3,8 +3,7 @@ ghost use Rattle.std.specs.Prelude.{◌≡◌, ◌≢◌, ◌⊎◌, ◌≤◌, 
 ghost use Rattle.std.specs.String.{string_bytes};
 ghost use Rattle.command_line.specs.Grammar.{BeginOptions, Task, Say, SayNothing, HasOptions};
 ghost use Rattle.command_line.specs.Grammar as grammar;
-ghost use Rattle.firefly.specs.Changes.{change_of, Notes};
-ghost use Rattle.firefly.specs.Texts.{usage_message};
+ghost use Rattle.firefly.specs.Changes.{change_of};
 ghost use Rattle.firefly.specs.Check.{Found};
 ghost use Rattle.firefly.specs.RunCommand.{Decides};
 ghost use Rattle.firefly.specs.Looks.{look_of, looks_of, Agree, KeepTrees, LeaveTrees};
@@ -12,8 +11,8 @@ ghost use Rattle.firefly.specs.Top.{Answers, UsageAnswers, WordsWant, effects_of
 
 use crate::Status;
 use crate::check_command::run_check;
+use crate::ending::{Ending, ends};
 use crate::index_command::run_index;
-use crate::message::{OUT_OF_MEMORY, USAGE, say};
 use crate::run_command::run_input;
 use command_line::{Command, WordsFault, read_words};
 use firefly_outside::{Sink, Source, Tree};
@@ -51,21 +50,9 @@ pub fn firefly<R: Threads + Wait + Sync, S: Tree, I: Source, O: Sink, N: Sink>(
         Ok(Command::Check) => run_check(input, out, notes),
         Ok(Command::Index(options)) => run_index(alloc, &options, trees, out, notes),
         Ok(Command::Run) => run_input(rt, alloc, input, out, notes),
-        Ok(Command::Trace(_)) => refuse(notes),
-        Ok(Command::Sample { .. }) => refuse(notes),
-        Err(WordsFault::Usage) => refuse(notes),
-        Err(WordsFault::Memory) => {
-            say(notes, OUT_OF_MEMORY);
-            Status::Memory
-        }
+        Ok(Command::Trace(_)) => ends(notes, Ending::Usage),
+        Ok(Command::Sample { .. }) => ends(notes, Ending::Usage),
+        Err(WordsFault::Usage) => ends(notes, Ending::Usage),
+        Err(WordsFault::Memory) => ends(notes, Ending::Memory),
     }
-}
-
-// Says what the words may be.
-fn refuse<N: Sink>(notes: &mut N) -> Status
-    ensures status { result ≡ Status.Usage }
-    ensures notes { Notes (change_of N.held N.faults notes.old notes.new) usage_message }
-{
-    say(notes, USAGE);
-    Status::Usage
 }

@@ -14,11 +14,11 @@ use crate::play::play;
 use firefly_script::{Line, Operation, Script};
 use nub::{Closed, close_package, open_package};
 use nub_rule::{Package, Thread};
+use package_crew::{Gate, at_once};
 use std::alloc::{AllocError, Global};
 use std::sync::Wait;
 use std::thread::Threads;
 use sum_uses::SumUses;
-use thread_crew::{Call, run_crew};
 
 // The numbers behind the mutexes at first.
 fn zeros(alloc: Global, count: u32) -> Result<Vec<u64>, AllocError>
@@ -80,24 +80,14 @@ fn with_room(
     Ok(threads)
 }
 
-// Each job with the closure that does it.
-fn calls<'a, F, T: Drop>(
-    alloc: Global,
-    jobs: Vec<T>,
-    f: &'a F,
-) -> Result<Vec<Call<'a, F, T>>, AllocError>
-    ensures { IfOk result (λ v. v.items ≡ map (λ j. record { f = f.entry; job = j }) jobs.items) }
-{
-    jobs.into_iter().map(|job| Call { f, job }).collect(alloc)
-}
-
-// Plays the lines of each thread in a thread of its own.
-fn play_all<R: Threads + Wait + Sync>(
+// Plays the lines of each thread in a thread of its own, which passes the gate first.
+fn play_all<R: Threads + Wait + Sync, G: Gate>(
     rt: &R,
     alloc: Global,
     pkg: &Package<SumUses>,
     threads: Vec<Thread<SumUses>>,
     lines: &[Line],
+    gate: &G,
 ) -> Result<Vec<Thread<SumUses>>, AllocError>
     requires script { IsScript pkg.now.layout lines.now }
     requires few { length lines.now < 100000 }
@@ -105,27 +95,32 @@ fn play_all<R: Threads + Wait + Sync>(
     ensures count { IfOk result (λ ts. length ts.items ≡ length threads.items) }
     ensures played { IfOk result (λ ts. Each (IsPlayed pkg.now lines.now) ts.items) }
 {
-    let f = |me: Thread<SumUses>| -> Thread<SumUses>
-        requires { IsFirst pkg.now (λ w t. []) me.number me × IsScript pkg.now.layout lines.now × (length lines.now < 100000) }
-        ensures { IsPlayed pkg.entry.now lines.entry.now me.number result }
-    { play(rt, pkg, me, lines) };
-    let jobs = calls(alloc, threads, &f)?;
-    let starts = jobs.len();
-    match run_crew(rt, alloc, jobs, starts, |_refused: bool| {}) {
-        Ok(finished) => Ok(finished.results),
-        Err(_) => Err(AllocError),
-    }
+    let (threads, _nothing) = at_once(
+        rt,
+        alloc,
+        threads,
+        &|me: Thread<SumUses>| -> (Thread<SumUses>, ())
+            requires { IsFirst pkg.now (λ w t. []) me.number me × IsScript pkg.now.layout lines.now × (length lines.now < 100000) }
+            ensures { IsPlayed pkg.entry.now lines.entry.now me.number result.0 }
+        {
+            gate.pass(me.number());
+            (play(rt, pkg, me, lines), ())
+        },
+    )?;
+    Ok(threads)
 }
 
-/// Runs a script: a thread for each number in a traced package of its own, which is closed when all have ended.
+/// Runs a script: a thread for each number in a traced package of its own, which is closed when all have ended. Each thread passes the
+/// gate once, with its number, before its first line.
 ///
 /// Room for the events is taken before the first thread starts, with one wait for each `until` and `alert-until`. Where these wait oftener
 /// and there is no memory for it, the run goes on to its end and is refused then. Where a thread can't be started, its lines are played
 /// here once all others were started. A run may wait for ever.
-pub fn run_script<R: Threads + Wait + Sync>(
+pub fn run_script<R: Threads + Wait + Sync, G: Gate>(
     rt: &R,
     alloc: Global,
     script: &Script,
+    gate: &G,
 ) -> Result<Closed<SumUses>, AllocError>
     ensures layout { IfOk result (λ c. c.layout ≡ script.now.layout) }
     ensures trace { IfOk result (λ c. (h : List Event) × (c.trace ≡ Some h) × IsClosed h
@@ -138,6 +133,6 @@ pub fn run_script<R: Threads + Wait + Sync>(
     let values = zeros(alloc, layout.mutexes)?;
     let (pkg, threads) = open_package::<SumUses>(alloc, layout, &(), values, true)?;
     let roomy = with_room(threads, script.lines())?;
-    let threads = play_all(rt, alloc, &pkg, roomy, script.lines())?;
+    let threads = play_all(rt, alloc, &pkg, roomy, script.lines(), gate)?;
     close_package(pkg, threads)
 }

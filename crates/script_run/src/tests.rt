@@ -2,6 +2,7 @@ use crate::run_script;
 use firefly_outside::MemSource;
 use firefly_script::{Script, read_script};
 use larch_actions::{Action, Event, MutexId, SemId, ThreadId};
+use package_crew::NoGate;
 use std::alloc::Global;
 use std::test::Fail;
 
@@ -16,7 +17,7 @@ fn the_calls_of_one_thread_come_in_their_order(rt: HostRuntime) -> Result<(), Fa
     let alloc = rt.alloc();
     let text =
         "threads 1 mutexes 2 conditions 0 semaphores 1\nt0 p s0\nt0 acquire m1\nt0 add m1 7\nt0 release m1\nt0 v s0\n";
-    let closed = run_script(&rt, alloc, &script(alloc, text)?)?;
+    let closed = run_script(&rt, alloc, &script(alloc, text)?, &NoGate)?;
     assert_eq!(rt; closed.values(), [0, 7].as_slice());
     let (thread, m1, s0) = (ThreadId(0), MutexId(1), SemId(0));
     let events = closed.trace().ok_or("no trace")?;
@@ -53,7 +54,7 @@ fn what_two_threads_add_is_the_sum(rt: HostRuntime) -> Result<(), Fail> {
         text.push_str("t0 acquire m0\nt0 add m0 1\nt0 release m0\n")?;
         text.push_str("t1 acquire m0\nt1 add m0 1\nt1 release m0\n")?;
     }
-    let closed = run_script(&rt, alloc, &script(alloc, text.as_str())?)?;
+    let closed = run_script(&rt, alloc, &script(alloc, text.as_str())?, &NoGate)?;
     assert_eq!(rt; closed.values(), [2000].as_slice());
     assert_eq!(rt; closed.trace().ok_or("no trace")?.len(), 4000);
     Ok(())
@@ -65,7 +66,7 @@ fn threads_that_wait_for_each_other_end(rt: HostRuntime) -> Result<(), Fail> {
     let alloc = rt.alloc();
     let text =
         "threads 2 mutexes 0 conditions 0 semaphores 2\nt0 p s0\nt0 v s1\nt0 p s0\nt0 v s1\nt1 p s1\nt1 v s0\nt1 p s1\nt1 v s0\n";
-    let closed = run_script(&rt, alloc, &script(alloc, text)?)?;
+    let closed = run_script(&rt, alloc, &script(alloc, text)?, &NoGate)?;
     assert_eq!(rt; closed.trace().ok_or("no trace")?.len(), 8);
     Ok(())
 }
@@ -87,7 +88,7 @@ fn each_sleeper_is_woken_by_its_own_unparker(rt: HostRuntime) -> Result<(), Fail
     text.push_str("t1 p s3\nt1 v s0\nt1 p s3\nt1 v s0\n")?;
     text.push_str("t2 p s4\nt2 v s1\nt2 p s4\nt2 v s1\n")?;
     text.push_str("t3 p s5\nt3 v s2\nt3 p s5\nt3 v s2\n")?;
-    let closed = run_script(&rt, alloc, &script(alloc, text.as_str())?)?;
+    let closed = run_script(&rt, alloc, &script(alloc, text.as_str())?, &NoGate)?;
     assert_eq!(rt; closed.trace().ok_or("no trace")?.len(), 2024);
     Ok(())
 }
@@ -105,7 +106,7 @@ fn an_until_ends_when_enough_was_added(rt: HostRuntime) -> Result<(), Fail> {
     }
     let read = script(alloc, text.as_str())?;
     for _ in 0..20 {
-        let closed = run_script(&rt, alloc, &read)?;
+        let closed = run_script(&rt, alloc, &read, &NoGate)?;
         assert_eq!(rt; closed.values(), [3].as_slice());
         let events = closed.trace().ok_or("no trace")?.len();
         assert!(rt;
@@ -124,7 +125,7 @@ fn a_wait_gives_the_mutex_to_another_thread(rt: HostRuntime) -> Result<(), Fail>
         "threads 2 mutexes 1 conditions 2 semaphores 0\nt0 acquire m0\nt0 add m0 1\nt0 signal c1\nt0 wait m0 c0\nt0 add m0 1\nt0 release m0\nt1 acquire m0\nt1 until m0 c1 1\nt1 add m0 5\nt1 broadcast c0\nt1 release m0\n";
     let read = script(alloc, text)?;
     for _ in 0..20 {
-        let closed = run_script(&rt, alloc, &read)?;
+        let closed = run_script(&rt, alloc, &read, &NoGate)?;
         assert_eq!(rt; closed.values(), [7].as_slice());
         let events = closed.trace().ok_or("no trace")?.len();
         assert!(rt; events == 8 || events == 10, "{events}");

@@ -1,6 +1,5 @@
-use Rattle.std.proofs.Common.{inl, refl}
+use Rattle.std.proofs.Common.{inl}
 use Rattle.trace_check.specs.declared.checker.Verdict.TheVariants as verdict
-use Rattle.firefly.specs.declared.status.Status.TheVariants.{BadText, TooLong}
 use Rattle.firefly.proofs.Found.{found_by, printed}
 use Rattle.firefly.proofs.check_command.run_check.Goals as goal
 
@@ -10,8 +9,8 @@ returns-in-Illegal-clause-exact g c = λ bytes v told mine other f.
 
 pub returns-in-BadLine-clause-exact : goal.returns-in-BadLine-clause-exact
 returns-in-BadLine-clause-exact g c = λ bytes v told mine other f.
-    found_by BadText (verdict.BadLine c.in-BadLine.line) v (c.in-BadLine.ensures.exact bytes v told (λ e. cc) other f) (inl refl)
+    found_by c.ends.result (verdict.BadLine c.in-BadLine.line) v (c.in-BadLine.ensures.exact bytes v told (λ e. cc) other f) (inl c.ends.ensures.status)
 
 pub returns-in-TooLong-clause-exact : goal.returns-in-TooLong-clause-exact
 returns-in-TooLong-clause-exact g c = λ bytes v told mine other f.
-    found_by TooLong verdict.TooLong v (c.in-TooLong.ensures.exact bytes v told (λ e. cc) other f) (inl refl)
+    found_by c.ends-in-TooLong.result verdict.TooLong v (c.in-TooLong.ensures.exact bytes v told (λ e. cc) other f) (inl c.ends-in-TooLong.ensures.status)

@@ -1,6 +1,9 @@
-use Rattle.std.proofs.Common.{inl, inr, refl}
-use Rattle.trace_core.specs.Text.{trace_text}
+use Rattle.std.proofs.Common.{inl, inr, refl, subst, List, ℕ}
+use Rattle.trace_core.specs.Text.{ReadsAs, trace_text}
 use Rattle.trace_core.specs.Whole.{numbered}
+use Rattle.firefly.specs.Changes.{change_of}
+use Rattle.firefly.specs.Check.{Prints}
+use Rattle.firefly.specs.declared.status.Status.TheVariants.{Done}
 use Rattle.firefly.proofs.Ran.{is_trace}
 use Rattle.firefly.proofs.run_command.run_read.Goals as goal
 
@@ -10,11 +13,15 @@ returns-in-Ok g c =
     let w = o.trace in
     let closed = c.in-Ok.closed in
     let bytes = trace_text closed.layout w.0 (numbered 0 closed.values) in
+    let out = change_of g.O.Sink.held g.O.Sink.faults c.args.out.now c.print_trace.new.out in
+    let notes = change_of g.N.Sink.held g.N.Sink.faults c.args.notes.now c.print_trace.new.notes in
+    let reads = subst (λ (v : List ℕ). ReadsAs (trace_text closed.layout w.0 (numbered 0 v)) closed.layout w.0 (numbered 0 v)) c.values.ensures (c.print_trace.ensures.reads w.0 w.1) in
+    let printed = subst (λ (v : List ℕ). Prints (trace_text closed.layout w.0 (numbered 0 v)) Done out notes c.print_trace.result) c.values.ensures (c.print_trace.ensures.printed w.0 w.1) in
     inl (
       bytes,
-      is_trace closed.layout c.args.script.now.layout c.args.script.now.lines w.0 closed.values bytes o.layout o.count o.values (c.print.ensures.reads w.0 w.1) w.2 w.4,
-      c.print.ensures.printed w.0 w.1,
+      is_trace closed.layout c.args.script.now.layout c.args.script.now.lines w.0 closed.values bytes o.layout o.count o.values reads w.2 w.4,
+      printed,
     )
 
 pub returns-in-Err : goal.returns-in-Err
-returns-in-Err g c = inr (refl, (refl, refl), c.say.ensures)
+returns-in-Err g c = inr (c.ends.ensures.status, (refl, refl), c.ends.ensures.notes)

@@ -25,7 +25,7 @@ pub returns-in-Err-Usage-clause-kept : goal.returns-in-Err-Usage-clause-kept
 returns-in-Err-Usage-clause-kept g c = λ _. kept-same _ c.requires.agree
 
 pub returns-in-Err-Memory-clause-answers : goal.returns-in-Err-Memory-clause-answers
-returns-in-Err-Memory-clause-answers g c = λ t said. inr (c.in-Err-Memory.ensures.memory (search rules) t said, (refl, refl, (refl, refl), (refl, refl), c.say.ensures))
+returns-in-Err-Memory-clause-answers g c = λ t said. inr (c.in-Err-Memory.ensures.memory (search rules) t said, (c.ends-in-Err-Memory.ensures.status, refl, (refl, refl), (refl, refl), c.ends-in-Err-Memory.ensures.notes))
 
 pub returns-in-Err-Memory-clause-exact : goal.returns-in-Err-Memory-clause-exact
 returns-in-Err-Memory-clause-exact g c = λ said bytes v told mine other f. absurd (c.in-Err-Memory.ensures.memory (search rules) grammar.check said)

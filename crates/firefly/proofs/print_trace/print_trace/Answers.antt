@@ -1,11 +1,11 @@
 use Rattle.std.proofs.Common.{List, ℕ, inr, refl}
 use Rattle.firefly_outside.specs.Causes.{AppendsFront}
 use Rattle.firefly.proofs.Ran.{same_some, under_names}
-use Rattle.firefly.proofs.run_command.print.Goals as goal
+use Rattle.firefly.proofs.print_trace.print_trace.Goals as goal
 
 pub returns-in-Err-clause-printed : goal.returns-in-Err-clause-printed
 returns-in-Err-clause-printed g c = λ h told.
     let events = same_some c.args.closed.now.trace c.in-Some.events.now h c.in-Some.ensures told in
     let P : List ℕ → Type 0 = λ text. AppendsFront (g.O.Sink.held c.args.out.now) (g.O.Sink.held c.print_whole.new.out) text in
-    let front = under_names P c.layout.result c.args.closed.now.layout c.in-Some.events.now h c.values.result.now c.args.closed.now.values c.layout.ensures events c.values.ensures c.in-Err.ensures.err in
-    inr (refl, (c.in-Err.ensures.cause.failed, front), c.say.ensures)
+    let front = under_names P c.layout.result c.args.closed.now.layout c.in-Some.events.now h c.args.values.now c.args.values.now c.layout.ensures events refl c.in-Err.ensures.err in
+    inr (c.ends.ensures.status, (c.in-Err.ensures.cause.failed, front), c.ends.ensures.notes)
