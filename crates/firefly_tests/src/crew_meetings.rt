@@ -1,39 +1,10 @@
 //! Crews whose jobs wait for one another.
-ghost use Rattle.std.specs.Prelude.{◌<◌};
-
+use crate::meeting::Meeting;
 use std::alloc::{AllocError, Global};
 use std::sync::Wait;
-use std::sync::atomic::{AtomicBool, Ordering};
 use std::test::Fail;
 use std::thread::Threads;
 use thread_crew::{Call, Finished, NotRun, run_crew};
-
-/// Two jobs wait here for each other, for at most 50,000,000 turns.
-#[derive(Drop)]
-struct Meeting {
-    here: [AtomicBool; 2],
-}
-
-impl Meeting {
-    fn new() -> Meeting {
-        Meeting {
-            here: [AtomicBool::new(false), AtomicBool::new(false)],
-        }
-    }
-
-    // Whether the other was seen in time.
-    fn meet(&self, me: usize) -> bool
-        requires { me < 2 }
-    {
-        self.here[me].store(true, Ordering::SeqCst);
-        for _ in 0..50_000_000u64 {
-            if self.here[1 - me].load(Ordering::SeqCst) {
-                return true;
-            }
-        }
-        false
-    }
-}
 
 // Runs three jobs, of which the first two meet, and answers whether they met and whether a start was refused.
 fn meet_in_crew<R: Threads + Wait>(
@@ -41,7 +12,7 @@ fn meet_in_crew<R: Threads + Wait>(
     alloc: Global,
     starts: usize,
 ) -> Result<(bool, bool), AllocError> {
-    let meeting = Meeting::new();
+    let meeting = Meeting::new(0);
     let f = |me: usize| -> bool { if me < 2 { meeting.meet(me) } else { true } };
     let mut jobs = Vec::new(alloc);
     for me in 0..3usize {

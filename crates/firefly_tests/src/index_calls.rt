@@ -1,7 +1,7 @@
 //! Calls of the command `index`: its words, its faults, and the walk and the merge that it stands on.
 use crate::answers::{answer_of, run_on};
 use crate::index_texts::{project, project_index};
-use crate::trees::{copies_failing_at, put_file};
+use crate::trees::{copies_failing_from, put_file};
 use firefly::Status;
 use firefly_outside::{MemSink, MemSource, MemTree, Tree};
 use index_print::print_index;
@@ -59,7 +59,7 @@ fn any_other_word_is_a_directory(rt: HostRuntime) -> Result<(), Fail> {
 fn a_path_that_fails_is_named(rt: HostRuntime) -> Result<(), Fail> {
     let tree = project(rt.alloc())?;
     for path in ["proj", "proj/doc", "proj/README", "proj/src/run.rs"] {
-        let mut trees = copies_failing_at(rt.alloc(), &tree, path)?;
+        let mut trees = copies_failing_from(rt.alloc(), &tree, 0, &[path])?;
         let mut input = MemSource::new(Vec::new(rt.alloc()));
         let found = answer_of(
             &rt,

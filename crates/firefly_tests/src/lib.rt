@@ -1,5 +1,5 @@
 //! Tests of the program: its answers on traces, scripts and trees in memory, compared with ones written down by hand.
-//! With them the tests of the reader of scripts, and of crews of threads whose jobs wait for one another.
+//! With them the tests of the reader of scripts, and of crews of threads whose jobs wait for one another, as do threads of a script.
 #![tactic(auto)]
 
 #[cfg(test)]
@@ -14,6 +14,8 @@ mod index_calls;
 mod index_limits;
 #[cfg(test)]
 mod index_texts;
+#[cfg(test)]
+mod meeting;
 #[cfg(test)]
 mod run_texts;
 #[cfg(test)]

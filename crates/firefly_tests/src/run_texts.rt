@@ -1,7 +1,8 @@
 //! The runs of small scripts, as the program prints them.
 use crate::answers::run_program;
+use crate::meeting::Meeting;
 use crate::runs::{ends_with, is_accepted, refuses, run};
-use firefly::Status;
+use firefly::{Status, read_script, run_script};
 use firefly_outside::MemSource;
 use std::alloc::{AllocError, Global};
 use std::test::Fail;
@@ -87,6 +88,20 @@ fn two_threads_that_add_a_thousand_times_reach_the_sum(rt: HostRuntime) -> Resul
     let found = run(&rt, alloc, text.as_str(), 200_000)?;
     assert!(rt; ends_with(found.out.as_slice(), "\nend 4000\nvalue m0 2000\n"));
     is_accepted(&rt, alloc, &found, 4000)
+}
+
+#[test]
+fn two_threads_of_a_script_meet(rt: HostRuntime) -> Result<(), Fail> {
+    let alloc = rt.alloc();
+    let text = adding(alloc, 2, 1000)?;
+    let mut input = MemSource::new(text.as_bytes().to_vec(alloc)?);
+    let script = read_script(alloc, &mut input)?;
+    let meeting = Meeting::new(0);
+    let closed = run_script(&rt, alloc, &script, &meeting)?;
+    assert!(rt; meeting.was_kept());
+    assert_eq!(rt; closed.values(), [2000].as_slice());
+    assert_eq!(rt; closed.trace().ok_or("no trace")?.len(), 4000);
+    Ok(())
 }
 
 #[test]

@@ -1,7 +1,7 @@
 use Rattle.std.proofs.Common.{◌≡◌, length, Some}
 use Rattle.firefly_outside.specs.Seen.{tree_of, weak_of, calls_of, faults_of}
 use Rattle.firefly.specs.Looks.{AllTell, looks_of}
-use Rattle.firefly_tests.proofs.trees.copies_of.Given as goal
+use Rattle.firefly_tests.proofs.trees.copies_failing_from.Given as goal
 
 abbrev pub invariant-loop-made : goal.invariant-loop-made
 invariant-loop-made l = record {
