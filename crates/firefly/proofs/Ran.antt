@@ -47,8 +47,7 @@ is_trace k l xs h vs bytes same size each reads closed own =
     let first : (m : ℕ) → m < l.mutexes → get_or vs m 0 ≡ total xs (0 + m) = λ m low. let z : m ≡ 0 + m = omega arith in each m low ∙ ap (λ i. total xs i) z in
     record {
       events = h;
-      reads = subst V (numbered_totals xs 0 l.mutexes vs size first) (subst L same reads);
-      closed = closed;
+      trace = record { reads = subst V (numbered_totals xs 0 l.mutexes vs size first) (subst L same reads); closed = closed };
       own = own;
     }
 

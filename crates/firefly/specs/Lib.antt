@@ -3,8 +3,11 @@ pub mod Changes
 pub mod Looks
 pub mod Texts
 pub mod Endings
+pub mod Traces
 pub mod Check
+pub mod IndexRun
 pub mod IndexCommand
+pub mod TraceCommand
 pub mod RunCommand
 pub mod Top
 pub mod Laws

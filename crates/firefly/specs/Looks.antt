@@ -48,13 +48,6 @@ KeepTrees [] [] = Unit {0}
 KeepTrees (Some a ∷ xs) (Some b ∷ ys) = IsSameTree a b × KeepTrees xs ys
 KeepTrees _ _ = ⊥
 
--- each place holds its own tree or none
-abbrev pub LeaveTrees : List (Option Look) → List (Option Look) → Type 0
-LeaveTrees [] [] = Unit {0}
-LeaveTrees (Some a ∷ xs) (Some b ∷ ys) = IsSameTree a b × LeaveTrees xs ys
-LeaveTrees (Some a ∷ xs) (None ∷ ys) = LeaveTrees xs ys
-LeaveTrees _ _ = ⊥
-
 -- no tree has failed yet
 abbrev pub NoneFailed : List (Option Look) → Type 0
 NoneFailed [] = Unit {0}

@@ -3,8 +3,8 @@ use Rattle.std.specs.Prelude.{◌≡◌, ◌≢◌, ◌⊎◌, ℕ, zero, suc, �
 use Rattle.std.specs.Io.KnownBytes.{IsAtEnd}
 use Rattle.larch_actions.specs.declared.event.Layout.{Layout}
 use Rattle.larch_actions.specs.declared.event.Event.{Event}
-use Rattle.larch_actions.specs.Actions.{IsClosed, by_thread}
-use Rattle.trace_core.specs.Text.{MutexValue, ReadsAs}
+use Rattle.larch_actions.specs.Actions.{by_thread}
+use Rattle.trace_core.specs.Text.{MutexValue}
 use Rattle.firefly_script.specs.declared.line.Line.{Line}
 use Rattle.firefly_script.specs.declared.script.ScriptFault.{ScriptFault}
 use Rattle.firefly_script.specs.declared.script.ScriptFault.TheVariants as script
@@ -15,6 +15,7 @@ use Rattle.firefly.specs.declared.status.Status.{Status}
 use Rattle.firefly.specs.declared.status.Status.TheVariants.{Done, Usage, ReadFault, SinkFault, Stopped, Memory, Illegal, BadText, TooMany, TooLong}
 use Rattle.firefly.specs.Changes.{Change, IsStill, Gets, GetsFront, Notes}
 use Rattle.firefly.specs.Check.{Prints}
+use Rattle.firefly.specs.Traces.{IsClosedTrace}
 use Rattle.firefly.specs.Texts.{input_fault_message, output_fault_message, bad_line_message, memory_message, too_long_message}
 
 -- n mutexes from k on, each with the sum of all that the lines add under it
@@ -25,8 +26,7 @@ totals_from k (suc n) xs = record { mutex = k; value = total xs k } ∷ totals_f
 -- The trace of a run of these lines: a legal and closed list of events, of which each thread's are those of its lines, in order. Each mutex has its sum.
 pub record IsTraceOf (l : Layout) (xs : List Line) (bytes : List ℕ) : Type 0 where
   pub events : List Event
-  pub reads : ReadsAs bytes l events (totals_from 0 l.mutexes xs)
-  pub closed : IsClosed events
+  pub trace : IsClosedTrace l (totals_from 0 l.mutexes xs) events bytes
   pub own : (t : ℕ) → t < l.threads → AreEventsOf xs t (by_thread t events)
 
 -- the whole input is a script, and the bytes are the trace of a run of it

@@ -9,6 +9,7 @@ use Rattle.firefly.specs.Check.{CheckAnswers}
 use Rattle.firefly.specs.RunCommand.{RunAnswers}
 use Rattle.firefly.specs.Looks.{Look}
 use Rattle.firefly.specs.IndexCommand.{IndexAnswers}
+use Rattle.firefly.specs.TraceCommand.{TraceAnswers}
 
 -- what a call did to the objects that were handed in
 pub record Effects : Type 0 where
@@ -34,5 +35,5 @@ abbrev pub Answers : Task → Effects → Status → Type 0
 Answers check e status = CheckAnswers e.input e.out e.notes status × (e.new_trees ≡ e.trees)
 Answers run e status = RunAnswers e.input e.out e.notes status × (e.new_trees ≡ e.trees)
 Answers (index o) e status = IndexAnswers o e.trees e.new_trees e.out e.notes status × IsStill e.input
-Answers (trace o) e status = UsageAnswers e status
+Answers (trace o) e status = TraceAnswers o e.trees e.new_trees e.out e.notes status × IsStill e.input
 Answers (sample seed files) e status = UsageAnswers e status

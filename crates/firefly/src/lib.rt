@@ -7,6 +7,7 @@
 mod check_command;
 mod ending;
 mod index_command;
+mod index_run;
 pub mod laws;
 mod message;
 mod outside;
@@ -14,6 +15,7 @@ mod print_trace;
 mod run_command;
 mod status;
 mod top;
+mod trace_command;
 mod verdict_line;
 
 pub use ending::{Ending, ends};

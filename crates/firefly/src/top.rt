@@ -6,7 +6,7 @@ ghost use Rattle.command_line.specs.Grammar as grammar;
 ghost use Rattle.firefly.specs.Changes.{change_of};
 ghost use Rattle.firefly.specs.Check.{Found};
 ghost use Rattle.firefly.specs.RunCommand.{Decides};
-ghost use Rattle.firefly.specs.Looks.{look_of, looks_of, Agree, KeepTrees, LeaveTrees};
+ghost use Rattle.firefly.specs.Looks.{look_of, looks_of, Agree, KeepTrees};
 ghost use Rattle.firefly.specs.Top.{Answers, UsageAnswers, WordsWant, effects_of};
 
 use crate::Status;
@@ -14,6 +14,7 @@ use crate::check_command::run_check;
 use crate::ending::{Ending, ends};
 use crate::index_command::run_index;
 use crate::run_command::run_input;
+use crate::trace_command::run_trace;
 use command_line::{Command, WordsFault, read_words};
 use firefly_outside::{Sink, Source, Tree};
 use std::alloc::Global;
@@ -44,13 +45,12 @@ pub fn firefly<R: Threads + Wait + Sync, S: Tree, I: Source, O: Sink, N: Sink>(
     ensures run_exact { Say (map string_bytes words.now) grammar.run → Decides (change_of I.left I.faults input.old input.new) result }
     // Each tree is in its place. Where memory runs out, some may be gone.
     ensures kept { result ≢ Status.Memory → KeepTrees (looks_of (look_of S.tree S.may_fail S.calls S.faults) trees.old) (looks_of (look_of S.tree S.may_fail S.calls S.faults) trees.new) }
-    ensures left { LeaveTrees (looks_of (look_of S.tree S.may_fail S.calls S.faults) trees.old) (looks_of (look_of S.tree S.may_fail S.calls S.faults) trees.new) }
 {
     match read_words(alloc, words) {
         Ok(Command::Check) => run_check(input, out, notes),
-        Ok(Command::Index(options)) => run_index(alloc, &options, trees, out, notes),
+        Ok(Command::Index(options)) => run_index(rt, alloc, &options, trees, out, notes),
         Ok(Command::Run) => run_input(rt, alloc, input, out, notes),
-        Ok(Command::Trace(_)) => ends(notes, Ending::Usage),
+        Ok(Command::Trace(options)) => run_trace(rt, alloc, &options, trees, out, notes),
         Ok(Command::Sample { .. }) => ends(notes, Ending::Usage),
         Err(WordsFault::Usage) => ends(notes, Ending::Usage),
         Err(WordsFault::Memory) => ends(notes, Ending::Memory),

@@ -1,11 +1,18 @@
-use Rattle.firefly.specs.Looks.{look_of}
-use Rattle.firefly.proofs.TreeLooks.{first-answers, first-kept}
+use Rattle.std.proofs.Common.{subst}
+use Rattle.command_line.specs.Tasks.{options_of}
+use Rattle.index_print.specs.Text.{index_text}
+use Rattle.firefly.specs.Changes.{change_of}
+use Rattle.firefly.specs.Check.{Prints}
+use Rattle.firefly.specs.Looks.{look_of, looks_of}
+use Rattle.firefly.specs.declared.status.Status.TheVariants.{Done}
+use Rattle.firefly.proofs.Indexed.{index_printed, no_index}
 use Rattle.firefly.proofs.index_command.run_index.Goals as goal
 
-pub returns-clause-answers : goal.returns-clause-answers
-returns-clause-answers g c =
-    first-answers (look_of g.S.Tree.tree g.S.Tree.may_fail g.S.Tree.calls g.S.Tree.faults) c.in-Some.tree c.index_tree.new.tree _ c.args.trees.now _ _ _ c.index_tree.result c.requires.some c.in-Some.is c.index_tree.ensures.answers
-
-pub returns-clause-kept : goal.returns-clause-kept
-returns-clause-kept g c =
-    first-kept (look_of g.S.Tree.tree g.S.Tree.may_fail g.S.Tree.calls g.S.Tree.faults) c.in-Some.tree c.index_tree.new.tree c.args.trees.now _ c.requires.some c.in-Some.is c.requires.agree (record { told = c.index_tree.ensures.told; weak = c.index_tree.ensures.weak; count = c.index_tree.ensures.count })
+pub returns-in-Ok-clause-answers : goal.returns-in-Ok-clause-answers
+returns-in-Ok-clause-answers g c =
+    let look = look_of g.S.Tree.tree g.S.Tree.may_fail g.S.Tree.calls g.S.Tree.faults in
+    let out = change_of g.O.Sink.held g.O.Sink.faults c.args.out.now c.print.new.out in
+    let piece = c.in-Ok.piece in
+    let printed = subst (λ n. Prints (index_text piece) Done out (change_of g.N.Sink.held g.N.Sink.faults n c.print.new.notes) c.print.result) c.in-Ok.ensures.quiet c.print.ensures in
+    index_printed (options_of c.args.options.now) (looks_of look c.args.trees.now) (looks_of look c.index_by.new.trees) out (change_of g.N.Sink.held g.N.Sink.faults c.args.notes.now c.print.new.notes) piece c.print.result
+        c.in-Ok.ensures.is_index c.in-Ok.ensures.none_rose printed

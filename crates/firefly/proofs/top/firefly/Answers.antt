@@ -1,6 +1,6 @@
 use Rattle.std.proofs.Common.{refl, inr, rules}
 use Rattle.command_line.specs.Grammar as grammar
-use Rattle.firefly.proofs.TreeLooks.{kept-same, left-kept}
+use Rattle.firefly.proofs.TreeLooks.{kept-same}
 use Rattle.firefly.proofs.top.firefly.Goals as goal
 
 pub returns-in-Ok-Check-clause-kept : goal.returns-in-Ok-Check-clause-kept
@@ -10,7 +10,7 @@ pub returns-in-Ok-Run-clause-kept : goal.returns-in-Ok-Run-clause-kept
 returns-in-Ok-Run-clause-kept g c = λ _. kept-same _ c.requires.agree
 
 pub returns-in-Ok-Trace-clause-kept : goal.returns-in-Ok-Trace-clause-kept
-returns-in-Ok-Trace-clause-kept g c = λ _. kept-same _ c.requires.agree
+returns-in-Ok-Trace-clause-kept g c = c.run_trace.ensures.kept
 
 pub returns-in-Ok-Sample-clause-kept : goal.returns-in-Ok-Sample-clause-kept
 returns-in-Ok-Sample-clause-kept g c = λ _. kept-same _ c.requires.agree
@@ -33,26 +33,6 @@ returns-in-Err-Memory-clause-exact g c = λ said bytes v told mine other f. absu
 pub returns-in-Err-Memory-clause-kept : goal.returns-in-Err-Memory-clause-kept
 returns-in-Err-Memory-clause-kept g c = λ _. kept-same _ c.requires.agree
 
-pub returns-in-Ok-Check-clause-left : goal.returns-in-Ok-Check-clause-left
-returns-in-Ok-Check-clause-left g c = left-kept _ _ (kept-same _ c.requires.agree)
-
-pub returns-in-Ok-Run-clause-left : goal.returns-in-Ok-Run-clause-left
-returns-in-Ok-Run-clause-left g c = left-kept _ _ (kept-same _ c.requires.agree)
-
-pub returns-in-Ok-Trace-clause-left : goal.returns-in-Ok-Trace-clause-left
-returns-in-Ok-Trace-clause-left g c = left-kept _ _ (kept-same _ c.requires.agree)
-
-pub returns-in-Ok-Sample-clause-left : goal.returns-in-Ok-Sample-clause-left
-returns-in-Ok-Sample-clause-left g c = left-kept _ _ (kept-same _ c.requires.agree)
-
-pub returns-in-Err-Usage-clause-left : goal.returns-in-Err-Usage-clause-left
-returns-in-Err-Usage-clause-left g c = left-kept _ _ (kept-same _ c.requires.agree)
-
-pub returns-in-Err-Memory-clause-left : goal.returns-in-Err-Memory-clause-left
-returns-in-Err-Memory-clause-left g c = left-kept _ _ (kept-same _ c.requires.agree)
-
 pub returns-in-Ok-Index-clause-kept : goal.returns-in-Ok-Index-clause-kept
-returns-in-Ok-Index-clause-kept g c = λ _. c.run_index.ensures.kept
+returns-in-Ok-Index-clause-kept g c = c.run_index.ensures.kept
 
-pub returns-in-Ok-Index-clause-left : goal.returns-in-Ok-Index-clause-left
-returns-in-Ok-Index-clause-left g c = left-kept _ _ c.run_index.ensures.kept

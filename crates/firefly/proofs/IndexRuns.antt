@@ -1,0 +1,115 @@
+-- What an index run says of the trees that were handed in.
+use Rattle.std.proofs.Common.{◌≡◌, ◌⊎◌, inl, inr, ⊎_elim, ℕ, zero, suc, ◌+◌, ◌<◌, ◌≤◌, Bool, true, false, List, [], ◌∷◌, ◌++◌, length, Option, Some, None, refl, sym, ap, subst, ◌∙◌, arith, append-nil}
+use Rattle.std.specs.Prelude.{IfSome, slice_index_or}
+use Rattle.std.proofs.lemmas.Bool.{cases_lt, cases_eq}
+use Rattle.std.proofs.lemmas.Option.{same_Some}
+use mathlib.Core.Option.{some}
+use lib.ListN.{get_elem?}
+use Rattle.firefly_outside.specs.Trees.{Path, Told, Calls}
+use Rattle.firefly_outside.specs.declared.tree.Kind.{Kind}
+use Rattle.firefly_outside.specs.declared.tree.Kind.TheVariants.{File, Dir}
+use Rattle.larch_actions.specs.declared.event.Event.{Event}
+use Rattle.larch_actions.specs.Actions.{by_thread}
+use Rattle.nub.specs.Ended.{Ended}
+use Rattle.indexer.specs.declared.plan.Plan.{Plan}
+use Rattle.indexer.specs.declared.value.IndexValue.{IndexValue}
+use Rattle.indexer.specs.Says as says
+use Rattle.indexer.specs.Turns.{Worker, release_count}
+use Rattle.indexer.specs.Work.{Share}
+use Rattle.command_line.specs.Grammar.{Options}
+use Rattle.firefly.specs.IndexRun.{NoneRose, OnlyLists, OnlyReads, CallsOf, kind_of_worker, IsAt, ShowsWork, FailedAt, plan_of}
+use Rattle.firefly.specs.Looks.{Look, look_of, looks_of, IsSameTree, KeepTrees}
+use Rattle.firefly.proofs.Places.{Back, among_at, place_of, sees, seen}
+
+-- the history, where there is one, is the plan's, and each thread's part of it is its own events
+own_part : (plan : Plan) (c : Ended IndexValue Share (Prim.Unit {0})) (h : List Event) → says.IsRunOf plan c → c.trace ≡ Some h → (n : ℕ) (t : Worker) → get_elem? c.threads n ≡ some t → by_thread n h ≡ t.mine
+own_part plan c h run e n t at = by_traced plan.traced refl
+  where
+    by_traced : (b : Bool) → plan.traced ≡ b → by_thread n h ≡ t.mine
+    by_traced false is = absurd (let none = run.untraced is in cc)
+    by_traced true is = let w = run.traced is in subst (λ (l : List Event). by_thread n l ≡ t.mine) (same_Some w.0 h (sym w.1 ∙ e)) (w.2.own n t at)
+
+if_some : {A : Type 0} (x : Option A) (P Q : A → Type 0) → ((a : A) → P a → Q a) → IfSome x P → IfSome x Q
+if_some None P Q f h = tt
+if_some (Some a) P Q f h = f a h
+
+module _ {S : Type 0} (tree : S → Option Told) (weak : S → List Path) (faults : S → ℕ) (calls : S → Calls) where
+  abbrev look : S → Look
+  look s = look_of tree weak calls faults s
+
+  same_look : (s : S) → IsSameTree (look s) (look s)
+  same_look s = record { told = refl; weak = refl; count = omega arith }
+
+  is_same : (s r : S) → says.IsBack tree weak faults calls s r → IsSameTree (look s) (look r)
+  is_same s r h = record { told = h.same_tree; weak = h.same_weak; count = h.count }
+
+  -- each tree is back
+  pub all_back : (n : ℕ) (old new : List (Option S)) → says.AreBack tree weak faults calls n old new → Back look old new
+  all_back n old new h k s e = ⊎_elim
+      (λ low. let w = h.workers k s low e in (w.0, w.1, is_same s w.0 w.2))
+      (λ high. ⊎_elim
+          (λ here. let w = h.closing s (ap (λ i. slice_index_or old i None) (sym here) ∙ e) in (w.0, ap (λ i. slice_index_or new i None) here ∙ w.1, is_same s w.0 w.2))
+          (λ apart. (s, h.others k None (omega (arith, high, apart)) ∙ e, same_look s))
+          (cases_eq k n))
+      (cases_lt k n)
+
+  -- no count rose
+  abbrev pub AreStill : List (Option S) → List (Option S) → Type 0
+  AreStill old new = (k : ℕ) (s r : S) → slice_index_or old k None ≡ Some s → slice_index_or new k None ≡ Some r → faults r ≡ faults s
+
+  pub all_still : (walkers n : ℕ) (threads : List Worker) (old new : List (Option S)) → says.AreBack tree weak faults calls n old new → says.AreUsed tree weak faults calls walkers n threads old new → AreStill old new
+  all_still walkers n threads old new back used k s r e f = ⊎_elim
+      (λ low. (used.workers k s r low e f).none_rose)
+      (λ high. ⊎_elim
+          (λ here. used.closing s r (ap (λ i. slice_index_or old i None) (sym here) ∙ e) (ap (λ i. slice_index_or new i None) (sym here) ∙ f))
+          (λ apart. ap faults (sym (same_Some s r (sym e ∙ (sym (back.others k None (omega (arith, high, apart))) ∙ f)))))
+          (cases_eq k n))
+      (cases_lt k n)
+
+  pub no_rise : (old new : List (Option S)) → AreStill old new → NoneRose (looks_of look old) (looks_of look new)
+  no_rise old new still a b among =
+      let p = place_of (looks_of look old) (looks_of look new) a b among in
+      let s = seen look old p.0 a p.1 in
+      let r = seen look new p.0 b p.2 in
+      ap (λ (l : Look). l.faults) (sym r.2) ∙ (still p.0 s.0 r.0 s.1 r.1 ∙ ap (λ (l : Look). l.faults) s.2)
+
+  -- of a tree at its place, by its look
+  by_looks : (P : Look → Look → Type 0) (old new : List (Option S)) (k : ℕ) (a b : Look) → IsAt (looks_of look old) (looks_of look new) k a b
+      → ((s r : S) → slice_index_or old k None ≡ Some s → slice_index_or new k None ≡ Some r → P (look s) (look r)) → P a b
+  by_looks P old new k a b at h =
+      let s = seen look old k a at.before_there in
+      let r = seen look new k b at.now_there in
+      subst (λ (x : Look). P x b) s.2 (subst (λ (y : Look). P (look s.0) y) r.2 (h s.0 r.0 s.1 r.1))
+
+  -- what a worker's tree tells of its calls, by the events of its thread
+  seen_calls : (kind : Kind) (s r : S) (own : List Event) (thread : Worker) → own ≡ thread.mine → IfSome (tree s) (λ t. says.OnlyCalls kind (calls s) (calls r) thread) → IfSome (tree s) (λ t. CallsOf kind (calls s) (calls r) own)
+  seen_calls Dir s r own thread is h = if_some (tree s) (λ t. says.OnlyLists (calls s) (calls r) thread) (λ t. OnlyLists (calls s) (calls r) own) (λ t l. record {
+    dirs = l.dirs;
+    listed = l.listed;
+    read = l.read;
+    times = subst (λ (es : List Event). length l.dirs ≤ release_count 0 es) (sym is) l.times;
+  }) h
+  seen_calls File s r own thread is h = if_some (tree s) (λ t. says.OnlyReads (calls s) (calls r) thread) (λ t. OnlyReads (calls s) (calls r) own) (λ t l. record {
+    files = l.files;
+    listed = l.listed;
+    read = l.read;
+    times = subst (λ (es : List Event). length l.files ≤ release_count 1 es) (sym is) l.times;
+  }) h
+
+  -- the work of the walkers and the parsers is in the history
+  pub shows_work : (o : Options) (traced : Bool) (c : Ended IndexValue Share (Prim.Unit {0})) (old new : List (Option S)) → says.IsRunOf (plan_of o traced) c
+      → says.AreUsed tree weak faults calls o.walkers (o.walkers + o.parsers) c.threads old new → (h : List Event) → c.trace ≡ Some h → ShowsWork o (looks_of look old) (looks_of look new) h
+  shows_work o traced c old new run used h e k a b low at = by_looks (λ x y. IfSome x.told (λ t. CallsOf (kind_of_worker o k) x.calls y.calls (by_thread (suc k) h))) old new k a b at (λ s r es er.
+      let w = used.workers k s r low es er in
+      seen_calls (kind_of_worker o k) s r (by_thread (suc k) h) w.thread (own_part (plan_of o traced) c h run e (suc k) w.thread w.is_thread) w.calls_only)
+
+  -- the path that is answered is one at which a call on a tree failed
+  pub failed_at : (o : Options) (old new : List (Option S)) (path : Path) → KeepTrees (looks_of look old) (looks_of look new) → says.IsCausedAt tree weak faults calls o.directory old new path
+      → FailedAt o (looks_of look old) (looks_of look new) path
+  failed_at o old new path keep h = record {
+    before = look h.s;
+    now = look h.r;
+    among = among_at (looks_of look old) (looks_of look new) keep h.place (look h.s) (look h.r) (sees look old h.place h.s h.was) (sees look new h.place h.r h.is);
+    rose = h.rose;
+    told = h.told;
+  }
