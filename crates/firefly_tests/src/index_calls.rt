@@ -77,8 +77,8 @@ fn a_path_that_fails_is_named(rt: HostRuntime) -> Result<(), Fail> {
     Ok(())
 }
 
-// Whether this is the text of the piece.
-fn is_text(alloc: Global, piece: &Piece, text: &str) -> Result<bool, Fail> {
+/// Whether this is the text of the piece.
+pub fn is_text(alloc: Global, piece: &Piece, text: &str) -> Result<bool, Fail> {
     let mut out = MemSink::with_room(alloc, 1000)?;
     let is_put = print_index(piece, &mut out).is_ok();
     Ok(is_put && out.bytes() == text.as_bytes())

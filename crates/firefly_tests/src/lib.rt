@@ -1,5 +1,6 @@
 //! Tests of the program: its answers on traces, scripts and trees in memory, compared with ones written down by hand.
-//! With them the tests of the reader of scripts, and of crews of threads whose jobs wait for one another, as do threads of a script.
+//! With them the tests of the reader of scripts, and of crews of threads whose jobs wait for one another, as do threads of a script and
+//! parsers of an index run.
 #![tactic(auto)]
 
 #[cfg(test)]
@@ -15,6 +16,8 @@ mod index_limits;
 #[cfg(test)]
 mod index_texts;
 #[cfg(test)]
+mod index_threads;
+#[cfg(test)]
 mod meeting;
 #[cfg(test)]
 mod run_texts;
@@ -24,6 +27,8 @@ mod runs;
 mod script_reading;
 #[cfg(test)]
 mod statuses;
+#[cfg(test)]
+mod trace_texts;
 #[cfg(test)]
 mod trees;
 #[cfg(test)]
