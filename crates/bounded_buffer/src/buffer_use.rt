@@ -47,43 +47,56 @@ pub trait BufferUse: Uses + Sized {
         ensures { ring_in result ≡ Some ring };
 
     // Behind the mutex of a buffer is a ring, and what the thread put and took there are below the numbers that come next.
-    ghost fits_ring: { (w : Self.World) (at : BufferAt) → is_buffer w at → (t : ℕ) (x : Self.Value) (s : Self.Share) → Self.fits w at.mutex.0 x t s
+    ghost fits_ring: { (w : Self.World) (at : BufferAt) → is_buffer w at → (t : ℕ) (x : Self.Value) (s : Self.Share)
+        → Self.fits w at.mutex.0 x t s
         → (q : Held Self.Item) × (ring_in x ≡ Some q) × IsWithin (part s at.mutex.0) q };
 
-    ghost fits_first: { (w : Self.World) (at : BufferAt) → is_buffer w at → (t : ℕ) (x : Self.Value) (s : Self.Share) → Self.fits w at.mutex.0 x t s
-        → (q : Held Self.Item) → ring_in x ≡ Some q → (i : Self.Item) (rest : List Self.Item) → q.items ≡ i ∷ rest → item_fits w at.mutex.0 t i s };
+    ghost fits_first: { (w : Self.World) (at : BufferAt) → is_buffer w at → (t : ℕ) (x : Self.Value) (s : Self.Share)
+        → Self.fits w at.mutex.0 x t s
+        → (q : Held Self.Item) → ring_in x ≡ Some q → (i : Self.Item) (rest : List Self.Item) → q.items ≡ i ∷ rest
+        → item_fits w at.mutex.0 t i s };
 
     ghost alike_self: { (s : Self.Share) → alike s s };
 
     ghost alike_on: { (s r u : Self.Share) → alike s r → alike r u → alike s u };
 
     // Neither definition changes where shares differ only in their counts of waits.
-    ghost alike_may_put: { (w : Self.World) (m t : ℕ) (i : Self.Item) (s r : Self.Share) → alike s r → may_put w m t i s ↔ may_put w m t i r };
+    ghost alike_may_put: { (w : Self.World) (m t : ℕ) (i : Self.Item) (s r : Self.Share) → alike s r → may_put w m t i s
+        ↔ may_put w m t i r };
 
-    ghost alike_item_fits: { (w : Self.World) (m t : ℕ) (i : Self.Item) (s r : Self.Share) → alike s r → item_fits w m t i s ↔ item_fits w m t i r };
+    ghost alike_item_fits: { (w : Self.World) (m t : ℕ) (i : Self.Item) (s r : Self.Share) → alike s r → item_fits w m t i s
+        ↔ item_fits w m t i r };
 
     // A put puts an item last into an open ring that isn't full, is refused by a shut ring, or waits at a full open ring.
-    ghost put_allowed: { (w : Self.World) (at : BufferAt) → is_buffer w at → (t : ℕ) (x y : Self.Value) (s : Self.Share) (q p : Held Self.Item) (d : Did Self.Item)
+    ghost put_allowed: { (w : Self.World) (at : BufferAt) → is_buffer w at
+        → (t : ℕ) (x y : Self.Value) (s : Self.Share) (q p : Held Self.Item) (d : Did Self.Item)
         → ring_in x ≡ Some q → ring_in y ≡ Some p → Does d q p → IsOfPut (λ i. may_put w at.mutex.0 t i s) d
-        → Self.allows w at.mutex.0 t x y s (Self.Put.after w at.mutex.0 t x y s) × HasDone part at.mutex.0 d s (Self.Put.after w at.mutex.0 t x y s)
+        → Self.allows w at.mutex.0 t x y s (Self.Put.after w at.mutex.0 t x y s)
+        × HasDone part at.mutex.0 d s (Self.Put.after w at.mutex.0 t x y s)
         × (IsWait d → alike s (Self.Put.after w at.mutex.0 t x y s)) };
 
     // A take takes the first item, is refused by a ring that is shut and empty, or waits at an empty open ring.
-    ghost take_allowed: { (w : Self.World) (at : BufferAt) → is_buffer w at → (t : ℕ) (x y : Self.Value) (s : Self.Share) (q p : Held Self.Item) (d : Did Self.Item)
+    ghost take_allowed: { (w : Self.World) (at : BufferAt) → is_buffer w at
+        → (t : ℕ) (x y : Self.Value) (s : Self.Share) (q p : Held Self.Item) (d : Did Self.Item)
         → ring_in x ≡ Some q → ring_in y ≡ Some p → Does d q p → IsOfTake d
-        → Self.allows w at.mutex.0 t x y s (Self.Take.after w at.mutex.0 t x y s) × HasDone part at.mutex.0 d s (Self.Take.after w at.mutex.0 t x y s)
+        → Self.allows w at.mutex.0 t x y s (Self.Take.after w at.mutex.0 t x y s)
+        × HasDone part at.mutex.0 d s (Self.Take.after w at.mutex.0 t x y s)
         × (IsWait d → alike s (Self.Take.after w at.mutex.0 t x y s)) };
 
-    ghost shut_allowed: { (w : Self.World) (at : BufferAt) → is_buffer w at → (t : ℕ) (x y : Self.Value) (s : Self.Share) (q p : Held Self.Item)
+    ghost shut_allowed: { (w : Self.World) (at : BufferAt) → is_buffer w at
+        → (t : ℕ) (x y : Self.Value) (s : Self.Share) (q p : Held Self.Item)
         → ring_in x ≡ Some q → ring_in y ≡ Some p → Does Shut q p
-        → Self.allows w at.mutex.0 t x y s (Self.Shut.after w at.mutex.0 t x y s) × HasDone part at.mutex.0 Shut s (Self.Shut.after w at.mutex.0 t x y s) };
+        → Self.allows w at.mutex.0 t x y s (Self.Shut.after w at.mutex.0 t x y s)
+        × HasDone part at.mutex.0 Shut s (Self.Shut.after w at.mutex.0 t x y s) };
 
     // The ring is given back as it was got, and the share stays.
-    ghost stay_allowed: { (w : Self.World) (at : BufferAt) → is_buffer w at → (t : ℕ) (x y : Self.Value) (s : Self.Share) (q : Held Self.Item)
+    ghost stay_allowed: { (w : Self.World) (at : BufferAt) → is_buffer w at
+        → (t : ℕ) (x y : Self.Value) (s : Self.Share) (q : Held Self.Item)
         → ring_in x ≡ Some q → ring_in y ≡ Some q → Self.allows w at.mutex.0 t x y s s };
 
     // Nothing else counts a wait.
-    ghost waits_counted: { (w : Self.World) (at : BufferAt) → is_buffer w at → (t : ℕ) (x y : Self.Value) (s r : Self.Share) (q p : Held Self.Item)
+    ghost waits_counted: { (w : Self.World) (at : BufferAt) → is_buffer w at
+        → (t : ℕ) (x y : Self.Value) (s r : Self.Share) (q p : Held Self.Item)
         → ring_in x ≡ Some q → ring_in y ≡ Some p → Self.allows w at.mutex.0 t x y s r
         → (k : ℕ) → Waits WaitedFull q p (eqb k at.mutex.0) (part s k).full_waits (part r k).full_waits
         × Waits WaitedEmpty q p (eqb k at.mutex.0) (part s k).empty_waits (part r k).empty_waits };

@@ -129,7 +129,8 @@ pub fn put<B: BufferUse, R: Wait>(
     ensures held { me.new.held ≡ me.old.held }
     ensures back { IfErr result (λ e. e.1 ≡ item) }
     ensures ran { (s : B.Share) → me.old.share ≡ Some s
-        → Ran B.ring_in B.part B.Put.after B.alike p.now.world at.now.mutex.0 at.now.room.0 at.now.more.0 me.old.number more_full (put_did item result) s me.old me.new }
+        → Ran B.ring_in B.part B.Put.after B.alike p.now.world at.now.mutex.0 at.now.room.0 at.now.more.0 me.old.number more_full
+        (put_did item result) s me.old me.new }
     ensures rises { IfOk result (λ n. (s : B.Share) → me.old.share ≡ Some s → All (λ p. p.0 < n) (B.part s at.now.mutex.0).puts) }
 {
     let mut value = acquire(rt, p, me, at.mutex);

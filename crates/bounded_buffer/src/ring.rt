@@ -24,7 +24,8 @@ impl<T> Model for Ring<T> {
 
     ghost view = { λ r. record { items = r.items.items; taken = r.taken; capacity = r.capacity; shut = r.shut } };
 
-    ghost invariant = { λ r. (deque_capacity r.items ≡ r.capacity) × (deque_len r.items ≤ r.capacity) × (1 ≤ r.capacity) × (r.capacity ≤ 4096) × (r.taken + deque_len r.items < 2 ^ 64) };
+    ghost invariant = { λ r. (deque_capacity r.items ≡ r.capacity) × (deque_len r.items ≤ r.capacity) × (1 ≤ r.capacity)
+        × (r.capacity ≤ 4096) × (r.taken + deque_len r.items < 2 ^ 64) };
 }
 
 impl<T> Ring<T> {

@@ -117,7 +117,8 @@ pub fn take<B: BufferUse, R: Wait>(
     ensures same { IsSame me.old me.new }
     ensures held { me.new.held ≡ me.old.held }
     ensures ran { (s : B.Share) → me.old.share ≡ Some s
-        → Ran B.ring_in B.part B.Take.after B.alike p.now.world at.now.mutex.0 at.now.more.0 at.now.room.0 me.old.number more_empty (take_did result) s me.old me.new }
+        → Ran B.ring_in B.part B.Take.after B.alike p.now.world at.now.mutex.0 at.now.more.0 at.now.room.0 me.old.number more_empty
+        (take_did result) s me.old me.new }
     ensures rises { IfOk result (λ r. (s : B.Share) → me.old.share ≡ Some s → All (λ p. p.0 < r.0) (B.part s at.now.mutex.0).takes) }
     ensures fits { IfOk result (λ r. (s : B.Share) → me.old.share ≡ Some s → B.item_fits p.now.world at.now.mutex.0 me.old.number r.1 s) }
 {

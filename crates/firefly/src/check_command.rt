@@ -24,7 +24,8 @@ fn print<O: Sink, N: Sink>(line: &str, status: Status, out: &mut O, notes: &mut 
 
 /// Checks the trace that the input gives, and writes the verdict.
 pub fn run_check<I: Source, O: Sink, N: Sink>(input: &mut I, out: &mut O, notes: &mut N) -> Status
-    ensures answers { CheckAnswers (change_of I.left I.faults input.old input.new) (change_of O.held O.faults out.old out.new) (change_of N.held N.faults notes.old notes.new) result }
+    ensures answers { CheckAnswers (change_of I.left I.faults input.old input.new) (change_of O.held O.faults out.old out.new)
+        (change_of N.held N.faults notes.old notes.new) result }
     ensures exact { Found (change_of I.left I.faults input.old input.new) result }
 {
     match check(input, CHECK_BUDGET) {

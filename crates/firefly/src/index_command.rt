@@ -21,7 +21,8 @@ use word_index::Piece;
 
 // Writes the index text of the piece.
 fn print<O: Sink, N: Sink>(piece: &Piece, out: &mut O, notes: &mut N) -> Status
-    ensures { Prints (index_text piece.now) Status.Done (change_of O.held O.faults out.old out.new) (change_of N.held N.faults notes.old notes.new) result }
+    ensures { Prints (index_text piece.now) Status.Done (change_of O.held O.faults out.old out.new)
+        (change_of N.held N.faults notes.old notes.new) result }
 {
     match print_index(piece, out) {
         Ok(()) => Status::Done,
@@ -41,8 +42,11 @@ pub fn run_index<R: Threads + Wait + Sync, S: Tree, O: Sink, N: Sink>(
     requires range { AreInRange (options_of options.now) }
     requires enough { 17 ≤ length trees.old }
     requires agree { Agree (looks_of (look_of S.tree S.may_fail S.calls S.faults) trees.old) }
-    ensures answers { IndexAnswers (options_of options.now) (looks_of (look_of S.tree S.may_fail S.calls S.faults) trees.old) (looks_of (look_of S.tree S.may_fail S.calls S.faults) trees.new) (change_of O.held O.faults out.old out.new) (change_of N.held N.faults notes.old notes.new) result }
-    ensures kept { result ≢ Status.Memory → KeepTrees (looks_of (look_of S.tree S.may_fail S.calls S.faults) trees.old) (looks_of (look_of S.tree S.may_fail S.calls S.faults) trees.new) }
+    ensures answers { IndexAnswers (options_of options.now) (looks_of (look_of S.tree S.may_fail S.calls S.faults) trees.old)
+        (looks_of (look_of S.tree S.may_fail S.calls S.faults) trees.new) (change_of O.held O.faults out.old out.new)
+        (change_of N.held N.faults notes.old notes.new) result }
+    ensures kept { result ≢ Status.Memory → KeepTrees (looks_of (look_of S.tree S.may_fail S.calls S.faults) trees.old)
+        (looks_of (look_of S.tree S.may_fail S.calls S.faults) trees.new) }
 {
     match index_by(rt, alloc, options, false, trees, notes) {
         Ok((piece, _closed)) => print(&piece, out, notes),

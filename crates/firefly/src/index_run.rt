@@ -48,13 +48,20 @@ pub fn index_by<R: Threads + Wait + Sync, S: Tree, N: Sink>(
     requires range { AreInRange (options_of options.now) }
     requires enough { 17 ≤ length trees.old }
     requires agree { Agree (looks_of (look_of S.tree S.may_fail S.calls S.faults) trees.old) }
-    ensures is_index { IfOk result (λ r. IsTheIndex (options_of options.now) (looks_of (look_of S.tree S.may_fail S.calls S.faults) trees.old) r.0) }
-    ensures none_rose { IfOk result (λ r. NoneRose (looks_of (look_of S.tree S.may_fail S.calls S.faults) trees.old) (looks_of (look_of S.tree S.may_fail S.calls S.faults) trees.new)) }
+    ensures is_index { IfOk result (λ r. IsTheIndex (options_of options.now)
+        (looks_of (look_of S.tree S.may_fail S.calls S.faults) trees.old) r.0) }
+    ensures none_rose { IfOk result (λ r. NoneRose (looks_of (look_of S.tree S.may_fail S.calls S.faults) trees.old)
+        (looks_of (look_of S.tree S.may_fail S.calls S.faults) trees.new)) }
     ensures run { IfOk result (λ r. IsRunOf (plan_of (options_of options.now) traced) r.1) }
-    ensures work { IfOk result (λ r. (h : List Event) → r.1.trace ≡ Some h → ShowsWork (options_of options.now) (looks_of (look_of S.tree S.may_fail S.calls S.faults) trees.old) (looks_of (look_of S.tree S.may_fail S.calls S.faults) trees.new) h) }
+    ensures work { IfOk result (λ r. (h : List Event) → r.1.trace ≡ Some h
+        → ShowsWork (options_of options.now) (looks_of (look_of S.tree S.may_fail S.calls S.faults) trees.old)
+        (looks_of (look_of S.tree S.may_fail S.calls S.faults) trees.new) h) }
     ensures quiet { IfOk result (λ r. notes.new ≡ notes.old) }
-    ensures refused { IfErr result (λ status. NoIndex (options_of options.now) (looks_of (look_of S.tree S.may_fail S.calls S.faults) trees.old) (looks_of (look_of S.tree S.may_fail S.calls S.faults) trees.new) (change_of N.held N.faults notes.old notes.new) status) }
-    ensures kept { result ≢ Err Status.Memory → KeepTrees (looks_of (look_of S.tree S.may_fail S.calls S.faults) trees.old) (looks_of (look_of S.tree S.may_fail S.calls S.faults) trees.new) }
+    ensures refused { IfErr result (λ status. NoIndex (options_of options.now)
+        (looks_of (look_of S.tree S.may_fail S.calls S.faults) trees.old)
+        (looks_of (look_of S.tree S.may_fail S.calls S.faults) trees.new) (change_of N.held N.faults notes.old notes.new) status) }
+    ensures kept { result ≢ Err Status.Memory → KeepTrees (looks_of (look_of S.tree S.may_fail S.calls S.faults) trees.old)
+        (looks_of (look_of S.tree S.may_fail S.calls S.faults) trees.new) }
 {
     let plan = plan_by(options, traced);
     match index(rt, alloc, options.dir, &plan, trees, &NoGate) {

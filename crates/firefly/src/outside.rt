@@ -15,8 +15,11 @@ pub fn system_trees<R: Files + AllocGlobal + Clone + Drop + Send>(
     alloc: Global,
 ) -> Result<Vec<Option<DirTree<R>>>, AllocError>
     ensures many { IfOk result (λ v. length v.items ≡ 17) }
-    ensures agree { IfOk result (λ v. Agree (looks_of (look_of ⟦<DirTree<R> as Tree>⟧.tree ⟦<DirTree<R> as Tree>⟧.may_fail ⟦<DirTree<R> as Tree>⟧.calls ⟦<DirTree<R> as Tree>⟧.faults) v.items)) }
-    ensures fresh { IfOk result (λ v. NoneFailed (looks_of (look_of ⟦<DirTree<R> as Tree>⟧.tree ⟦<DirTree<R> as Tree>⟧.may_fail ⟦<DirTree<R> as Tree>⟧.calls ⟦<DirTree<R> as Tree>⟧.faults) v.items)) }
+    ensures agree { IfOk result (λ v. Agree (looks_of (look_of ⟦<DirTree<R> as Tree>⟧.tree ⟦<DirTree<R> as Tree>⟧.may_fail
+        ⟦<DirTree<R> as Tree>⟧.calls ⟦<DirTree<R> as Tree>⟧.faults) v.items)) }
+    ensures fresh { IfOk result (λ v. NoneFailed (looks_of
+        (look_of ⟦<DirTree<R> as Tree>⟧.tree ⟦<DirTree<R> as Tree>⟧.may_fail ⟦<DirTree<R> as Tree>⟧.calls ⟦<DirTree<R> as Tree>⟧.faults)
+        v.items)) }
 {
     let mut trees = Vec::new(alloc);
     for made in 0..TREES {

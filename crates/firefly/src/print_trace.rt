@@ -25,8 +25,11 @@ pub fn print_trace<U: Uses, O: Sink, N: Sink>(
     requires lawful { IsLawful closed.now.layout }
     requires traced { (h : List Event) × (closed.now.trace ≡ Some h) × AllByRecursion (HasNames closed.now.layout) h }
     requires values { length values.now ≤ closed.now.layout.mutexes }
-    ensures printed { (h : List Event) → closed.now.trace ≡ Some h → Prints (trace_text closed.now.layout h (numbered 0 values.now)) Status.Done (change_of O.held O.faults out.old out.new) (change_of N.held N.faults notes.old notes.new) result }
-    ensures reads { (h : List Event) → closed.now.trace ≡ Some h → ReadsAs (trace_text closed.now.layout h (numbered 0 values.now)) closed.now.layout h (numbered 0 values.now) }
+    ensures printed { (h : List Event) → closed.now.trace ≡ Some h
+        → Prints (trace_text closed.now.layout h (numbered 0 values.now)) Status.Done (change_of O.held O.faults out.old out.new)
+        (change_of N.held N.faults notes.old notes.new) result }
+    ensures reads { (h : List Event) → closed.now.trace ≡ Some h
+        → ReadsAs (trace_text closed.now.layout h (numbered 0 values.now)) closed.now.layout h (numbered 0 values.now) }
 {
     let Some(events) = closed.trace() else {
         unreachable!()

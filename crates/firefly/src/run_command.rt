@@ -30,7 +30,8 @@ fn run_read<R: Threads + Wait + Sync, O: Sink, N: Sink>(
     notes: &mut N,
 ) -> Status
     requires { IsScript script.now.layout script.now.lines }
-    ensures { Runs script.now.layout script.now.lines (change_of O.held O.faults out.old out.new) (change_of N.held N.faults notes.old notes.new) result }
+    ensures { Runs script.now.layout script.now.lines (change_of O.held O.faults out.old out.new)
+        (change_of N.held N.faults notes.old notes.new) result }
 {
     match run_script(rt, alloc, script, &NoGate) {
         Ok(closed) => print_trace(&closed, closed.values(), out, notes),
@@ -46,7 +47,8 @@ pub fn run_input<R: Threads + Wait + Sync, I: Source, O: Sink, N: Sink>(
     out: &mut O,
     notes: &mut N,
 ) -> Status
-    ensures answers { RunAnswers (change_of I.left I.faults input.old input.new) (change_of O.held O.faults out.old out.new) (change_of N.held N.faults notes.old notes.new) result }
+    ensures answers { RunAnswers (change_of I.left I.faults input.old input.new) (change_of O.held O.faults out.old out.new)
+        (change_of N.held N.faults notes.old notes.new) result }
     ensures exact { Decides (change_of I.left I.faults input.old input.new) result }
 {
     match read_script(alloc, input) {

@@ -34,17 +34,22 @@ pub fn firefly<R: Threads + Wait + Sync, S: Tree, I: Source, O: Sink, N: Sink>(
     requires enough { 17 ≤ length trees.old }
     requires agree { Agree (looks_of (look_of S.tree S.may_fail S.calls S.faults) trees.old) }
     // Words that say no command.
-    ensures usage { let e = effects_of (looks_of (look_of S.tree S.may_fail S.calls S.faults) trees.old) (looks_of (look_of S.tree S.may_fail S.calls S.faults) trees.new) (change_of I.left I.faults input.old input.new) (change_of O.held O.faults out.old out.new) (change_of N.held N.faults notes.old notes.new) in
+    ensures usage { let e = effects_of (looks_of (look_of S.tree S.may_fail S.calls S.faults) trees.old)
+        (looks_of (look_of S.tree S.may_fail S.calls S.faults) trees.new) (change_of I.left I.faults input.old input.new)
+        (change_of O.held O.faults out.old out.new) (change_of N.held N.faults notes.old notes.new) in
         SayNothing (map string_bytes words.now) → UsageAnswers e result ⊎ (BeginOptions (map string_bytes words.now) × WordsWant e result) }
     // A command.
-    ensures answers { let e = effects_of (looks_of (look_of S.tree S.may_fail S.calls S.faults) trees.old) (looks_of (look_of S.tree S.may_fail S.calls S.faults) trees.new) (change_of I.left I.faults input.old input.new) (change_of O.held O.faults out.old out.new) (change_of N.held N.faults notes.old notes.new) in
+    ensures answers { let e = effects_of (looks_of (look_of S.tree S.may_fail S.calls S.faults) trees.old)
+        (looks_of (look_of S.tree S.may_fail S.calls S.faults) trees.new) (change_of I.left I.faults input.old input.new)
+        (change_of O.held O.faults out.old out.new) (change_of N.held N.faults notes.old notes.new) in
         (t : Task) → Say (map string_bytes words.now) t → Answers t e result ⊎ (HasOptions t × WordsWant e result) }
     // The verdict of `check` is the only one that is just.
     ensures exact { Say (map string_bytes words.now) grammar.check → Found (change_of I.left I.faults input.old input.new) result }
     // The bytes of a script decide whether `run` runs it.
     ensures run_exact { Say (map string_bytes words.now) grammar.run → Decides (change_of I.left I.faults input.old input.new) result }
     // Each tree is in its place. Where memory runs out, some may be gone.
-    ensures kept { result ≢ Status.Memory → KeepTrees (looks_of (look_of S.tree S.may_fail S.calls S.faults) trees.old) (looks_of (look_of S.tree S.may_fail S.calls S.faults) trees.new) }
+    ensures kept { result ≢ Status.Memory → KeepTrees (looks_of (look_of S.tree S.may_fail S.calls S.faults) trees.old)
+        (looks_of (look_of S.tree S.may_fail S.calls S.faults) trees.new) }
 {
     match read_words(alloc, words) {
         Ok(Command::Check) => run_check(input, out, notes),

@@ -27,8 +27,11 @@ pub fn run_trace<R: Threads + Wait + Sync, S: Tree, O: Sink, N: Sink>(
     requires range { AreInRange (options_of options.now) }
     requires enough { 17 ≤ length trees.old }
     requires agree { Agree (looks_of (look_of S.tree S.may_fail S.calls S.faults) trees.old) }
-    ensures answers { TraceAnswers (options_of options.now) (looks_of (look_of S.tree S.may_fail S.calls S.faults) trees.old) (looks_of (look_of S.tree S.may_fail S.calls S.faults) trees.new) (change_of O.held O.faults out.old out.new) (change_of N.held N.faults notes.old notes.new) result }
-    ensures kept { result ≢ Status.Memory → KeepTrees (looks_of (look_of S.tree S.may_fail S.calls S.faults) trees.old) (looks_of (look_of S.tree S.may_fail S.calls S.faults) trees.new) }
+    ensures answers { TraceAnswers (options_of options.now) (looks_of (look_of S.tree S.may_fail S.calls S.faults) trees.old)
+        (looks_of (look_of S.tree S.may_fail S.calls S.faults) trees.new) (change_of O.held O.faults out.old out.new)
+        (change_of N.held N.faults notes.old notes.new) result }
+    ensures kept { result ≢ Status.Memory → KeepTrees (looks_of (look_of S.tree S.may_fail S.calls S.faults) trees.old)
+        (looks_of (look_of S.tree S.may_fail S.calls S.faults) trees.new) }
 {
     match index_by(rt, alloc, options, true, trees, notes) {
         Ok((_piece, closed)) => print_trace(&closed, &[], out, notes),

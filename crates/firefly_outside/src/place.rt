@@ -50,7 +50,8 @@ fn push_entry(place: &mut Place, entry: Entry) -> Result<(), AllocError>
 
 // Names one more child of the directory at this path, if there is one.
 pub fn name_child(places: &mut Places, dir: &Text, entry: Entry) -> Result<(), AllocError>
-    ensures ok { OnOk result ((q : Path) → told_by places.new q ≡ (if pointwise nat_eq dir.now q then option_map (λ n. with_last n entry) (told_by places.old q) else told_by places.old q)) }
+    ensures ok { OnOk result ((q : Path) → told_by places.new q ≡
+        (if pointwise nat_eq dir.now q then option_map (λ n. with_last n entry) (told_by places.old q) else told_by places.old q)) }
     ensures err { OnErr result ((q : Path) → told_by places.new q ≡ told_by places.old q) }
     ensures spare { spare places.new ≡ spare places.old }
 {
@@ -137,7 +138,8 @@ pub fn may_add(places: &Places, alloc: Global, path: &str) -> Result<bool, Alloc
 
 // Whether the directory is there and the name is one.
 fn has_child(places: &Places, alloc: Global, dir: &str, name: &str) -> Result<bool, AllocError>
-    ensures { IfOk result (λ b. IsTrue b ↔ (0 < length name.now) × ((es : List Entry) × (told_by places.now dir.now ≡ Some (Directory es)))) }
+    ensures { IfOk result (λ b. IsTrue b ↔ (0 < length name.now)
+        × ((es : List Entry) × (told_by places.now dir.now ≡ Some (Directory es)))) }
 {
     if name.is_empty() {
         return Ok(false);

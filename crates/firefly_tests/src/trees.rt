@@ -42,7 +42,8 @@ pub fn copies_failing_from(
     paths: &[&str],
 ) -> Result<Vec<Option<MemTree>>, AllocError>
     ensures many { IfOk result (λ v. length v.items ≡ 17) }
-    ensures agree { IfOk result (λ v. Agree (looks_of (look_of ⟦<MemTree as Tree>⟧.tree ⟦<MemTree as Tree>⟧.may_fail ⟦<MemTree as Tree>⟧.calls ⟦<MemTree as Tree>⟧.faults) v.items)) }
+    ensures agree { IfOk result (λ v. Agree (looks_of (look_of ⟦<MemTree as Tree>⟧.tree ⟦<MemTree as Tree>⟧.may_fail
+        ⟦<MemTree as Tree>⟧.calls ⟦<MemTree as Tree>⟧.faults) v.items)) }
 {
     let mut trees = Vec::new(alloc);
     for made in 0..17usize {
@@ -55,7 +56,8 @@ pub fn copies_failing_from(
 /// Copies of the tree, none of which fails.
 pub fn copies_of(alloc: Global, tree: &MemTree) -> Result<Vec<Option<MemTree>>, AllocError>
     ensures many { IfOk result (λ v. length v.items ≡ 17) }
-    ensures agree { IfOk result (λ v. Agree (looks_of (look_of ⟦<MemTree as Tree>⟧.tree ⟦<MemTree as Tree>⟧.may_fail ⟦<MemTree as Tree>⟧.calls ⟦<MemTree as Tree>⟧.faults) v.items)) }
+    ensures agree { IfOk result (λ v. Agree (looks_of (look_of ⟦<MemTree as Tree>⟧.tree ⟦<MemTree as Tree>⟧.may_fail
+        ⟦<MemTree as Tree>⟧.calls ⟦<MemTree as Tree>⟧.faults) v.items)) }
 {
     copies_failing_from(alloc, tree, 17, &[])
 }

@@ -80,7 +80,8 @@ fn add_bad_line(buf: &mut [u8], line: u64) -> usize
 
 // Says which line is bad.
 fn say_bad_line<N: Sink>(notes: &mut N, line: u64)
-    ensures { Notes (N.held notes.old) (N.held notes.new) (N.faults notes.old) (N.faults notes.new) (codes "firefly: bad line " ++ decimal line ++ codes "\n") }
+    ensures { Notes (N.held notes.old) (N.held notes.new) (N.faults notes.old) (N.faults notes.new)
+        (codes "firefly: bad line " ++ decimal line ++ codes "\n") }
 {
     let mut buf = [0; 64];
     let at = add_bad_line(&mut buf, line);
@@ -107,8 +108,10 @@ pub fn timeline<I: Source, O: Sink, N: Sink>(
     out: &mut O,
     notes: &mut N,
 ) -> Status
-    ensures { Shows view.now (change_of I.left I.faults input.old input.new) (change_of O.held O.faults out.old out.new) (change_of N.held N.faults notes.old notes.new) result
-        ⊎ Fails view.now (change_of I.left I.faults input.old input.new) (change_of O.held O.faults out.old out.new) (change_of N.held N.faults notes.old notes.new) result }
+    ensures { Shows view.now (change_of I.left I.faults input.old input.new) (change_of O.held O.faults out.old out.new)
+        (change_of N.held N.faults notes.old notes.new) result
+        ⊎ Fails view.now (change_of I.left I.faults input.old input.new) (change_of O.held O.faults out.old out.new)
+        (change_of N.held N.faults notes.old notes.new) result }
 {
     match draw_trace(input, BUDGET, view, out) {
         Ok(found) => {

@@ -54,7 +54,8 @@ fn read_one(name: &str, number: &str) -> Option<View>
 
 // The part that two bounds ask for, the lower in front.
 fn read_up(name: &str, number: &str, other: &str, last: &str) -> Option<View>
-    ensures found { IfSome result (λ v. (k n : ℕ) × IsPair (name.now ∷ number.now ∷ []) (other.now ∷ last.now ∷ []) k n × (v ≡ asked.view_between (Some k) (Some n))) }
+    ensures found { IfSome result (λ v. (k n : ℕ) × IsPair (name.now ∷ number.now ∷ []) (other.now ∷ last.now ∷ []) k n
+        × (v ≡ asked.view_between (Some k) (Some n))) }
     ensures none { IfNone result ((k n : ℕ) → IsPair (name.now ∷ number.now ∷ []) (other.now ∷ last.now ∷ []) k n → ⊥) }
 {
     let Some(from) = read_bound(name, "--from", number) else {

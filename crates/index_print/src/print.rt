@@ -38,7 +38,8 @@ fn put_hit<O: Sink>(
 ) -> Result<(), SinkFault>
     requires row { at < length piece.now.rows }
     requires hit { number < length (row_at piece.now at).hits }
-    ensures text { Puts (O.held out.old) held.old.items (hit_line (hit_at (row_at piece.now at) number)) result (O.held out.new) held.new.items }
+    ensures text { Puts (O.held out.old) held.old.items (hit_line (hit_at (row_at piece.now at) number)) result
+        (O.held out.new) held.new.items }
     ensures cause { HasCause (O.faults out.old) (O.faults out.new) result }
 {
     let found = piece.hit(at, number);
@@ -56,7 +57,8 @@ fn put_hits<O: Sink>(
     out: &mut O,
 ) -> Result<(), SinkFault>
     requires { at < length piece.now.rows }
-    ensures text { Puts (O.held out.old) held.old.items (flat_map hit_line (row_at piece.now at).hits) result (O.held out.new) held.new.items }
+    ensures text { Puts (O.held out.old) held.old.items (flat_map hit_line (row_at piece.now at).hits) result
+        (O.held out.new) held.new.items }
     ensures cause { HasCause (O.faults out.old) (O.faults out.new) result }
 {
     for number in 0..piece.hits(at) {

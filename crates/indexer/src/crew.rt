@@ -53,7 +53,9 @@ fn run_jobs<R: Threads + Wait + Sync, S: Tree, G: Gate>(
     ensures caller { IfOk result (λ r. (o : Option Told) (q : Path) → HasCalled o q [] p.now 0 0 caller r.2) }
     ensures jobs { IfOk result (λ r. length r.0.items ≡ length jobs.items) }
     ensures findings { IfOk result (λ r. length r.1.items ≡ length jobs.items) }
-    ensures each { IfOk result (λ r. Each (λ n j. CameBack (λ was left. GivesTree S.tree S.may_fail S.faults S.calls root.now p.now was.kind was.me j.me left was.tree j.tree) jobs.items r.1.items n) r.0.items) }
+    ensures each { IfOk result (λ r. Each (λ n j. CameBack
+        (λ was left. GivesTree S.tree S.may_fail S.faults S.calls root.now p.now was.kind was.me j.me left was.tree j.tree) jobs.items
+        r.1.items n) r.0.items) }
 {
     at_once_beside(
         rt,
@@ -61,7 +63,8 @@ fn run_jobs<R: Threads + Wait + Sync, S: Tree, G: Gate>(
         jobs,
         &|job: Job<S>| -> (Job<S>, Findings)
             requires { HasLists p.now.layout × IsBetween p.now job.me }
-            ensures { GivesTree S.tree S.may_fail S.faults S.calls root.entry.now p.entry.now job.kind job.me result.0.me result.1 job.tree result.0.tree }
+            ensures { GivesTree S.tree S.may_fail S.faults S.calls root.entry.now p.entry.now job.kind job.me result.0.me result.1
+                job.tree result.0.tree }
         { work(rt, alloc, p, root, gate, walkers, job) },
         |refused: bool| -> Thread<IndexUses>
             requires { HasLists p.now.layout × IsBetween p.now caller }
@@ -94,8 +97,10 @@ pub fn run_workers<R: Threads + Wait + Sync, S: Tree, G: Gate>(
     ensures caller { IfOk result (λ r. (o : Option Told) (q : Path) → HasCalled o q [] p.now 0 0 caller r.0) }
     ensures threads { IfOk result (λ r. length r.1.items ≡ length threads.items) }
     ensures findings { IfOk result (λ r. length r.2.items ≡ length threads.items) }
-    ensures worked { IfOk result (λ r. Each (HasWorked S.tree S.may_fail S.faults S.calls root.now p.now walkers with_tree threads.items r.2.items trees.old trees.new) r.1.items) }
-    ensures others { IfOk result (λ r. (i : ℕ) (d : Option S) → with_tree ≤ i → slice_index_or trees.new i d ≡ slice_index_or trees.old i d) }
+    ensures worked { IfOk result (λ r. Each (HasWorked S.tree S.may_fail S.faults S.calls root.now p.now walkers with_tree threads.items
+        r.2.items trees.old trees.new) r.1.items) }
+    ensures others { IfOk result (λ r. (i : ℕ) (d : Option S) → with_tree ≤ i
+        → slice_index_or trees.new i d ≡ slice_index_or trees.old i d) }
 {
     let back = Vec::with_capacity(alloc, threads.len())?;
     let jobs = jobs_of(alloc, threads, trees, walkers as usize, with_tree)?;

@@ -27,7 +27,8 @@ pub fn decided<S: Tree>(
     requires stop { IfSome stop_after (λ n. n ≤ 1000000000) }
     ensures tree_stays { S.tree tree.new ≡ S.tree tree.old }
     ensures weak_stays { S.may_fail tree.new ≡ S.may_fail tree.old }
-    ensures ends { Ends (S.tree tree.old) (S.may_fail tree.old) root.now stop_after found.fault (S.faults tree.old) (S.faults tree.new) (S.calls tree.old) (S.calls tree.new) result }
+    ensures ends { Ends (S.tree tree.old) (S.may_fail tree.old) root.now stop_after found.fault (S.faults tree.old) (S.faults tree.new)
+        (S.calls tree.old) (S.calls tree.new) result }
 {
     let Findings {
         visits,

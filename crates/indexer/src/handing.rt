@@ -49,8 +49,10 @@ pub fn jobs_of<S: Tree>(
     requires { with_tree ≤ length trees.old }
     ensures threads { IfOk result (λ js. map (λ j. j.me) js.items ≡ threads.items) }
     ensures kinds { IfOk result (λ js. (k : ℕ) (e : Job S) → k < length js.items → (slice_index_or js.items k e).kind ≡ kind_at walkers k) }
-    ensures trees { IfOk result (λ js. (k : ℕ) (e : Job S) → k < length js.items → (slice_index_or js.items k e).tree ≡ tree_at with_tree trees.old k) }
-    ensures others { IfOk result (λ js. (i : ℕ) (d : Option S) → with_tree ≤ i → slice_index_or trees.new i d ≡ slice_index_or trees.old i d) }
+    ensures trees { IfOk result (λ js. (k : ℕ) (e : Job S) → k < length js.items
+        → (slice_index_or js.items k e).tree ≡ tree_at with_tree trees.old k) }
+    ensures others { IfOk result (λ js. (i : ℕ) (d : Option S) → with_tree ≤ i
+        → slice_index_or trees.new i d ≡ slice_index_or trees.old i d) }
 {
     let mut jobs = Vec::with_capacity(alloc, threads.len())?;
     for me in threads {
@@ -73,7 +75,8 @@ pub fn put_back<S: Tree>(
     requires trees { with_tree ≤ length trees.old }
     requires room { vec_len threads + vec_len jobs ≤ vec_capacity threads }
     ensures threads { result.items ≡ threads.items ++ map (λ j. j.me) jobs.items }
-    ensures trees { (k : ℕ) (d : Option S) (e : Job S) → k < with_tree → k < vec_len jobs → slice_index_or trees.new k d ≡ (slice_index_or jobs.items k e).tree }
+    ensures trees { (k : ℕ) (d : Option S) (e : Job S) → k < with_tree → k < vec_len jobs
+        → slice_index_or trees.new k d ≡ (slice_index_or jobs.items k e).tree }
     ensures others { (i : ℕ) (d : Option S) → with_tree ≤ i → slice_index_or trees.new i d ≡ slice_index_or trees.old i d }
 {
     let mut k = 0;

@@ -32,10 +32,12 @@ fn decided_at<S: Tree>(
     requires within { at < length trees.old }
     requires there { (s : S) × (slice_index_or trees.old at None ≡ Some s) }
     requires lawful { All (λ v. IsListingOf v.dir v.listing) found.visits.items }
-    requires told { (s : S) → slice_index_or trees.old at None ≡ Some s → IfSome (S.tree s) (λ t. All (λ v. IsToldBy t v.dir v.listing) found.visits.items) }
+    requires told { (s : S) → slice_index_or trees.old at None ≡ Some s
+        → IfSome (S.tree s) (λ t. All (λ v. IsToldBy t v.dir v.listing) found.visits.items) }
     requires pieces { (s : S) → slice_index_or trees.old at None ≡ Some s → All (IsFilesPiece (S.tree s) root.now) found.pieces.items }
     requires stop { IfSome stop_after (λ n. n ≤ 1000000000) }
-    ensures ends { (s : S) → slice_index_or trees.old at None ≡ Some s → (r : S) × (slice_index_or trees.new at None ≡ Some r) × (S.tree r ≡ S.tree s) × (S.may_fail r ≡ S.may_fail s)
+    ensures ends { (s : S) → slice_index_or trees.old at None ≡ Some s → (r : S) × (slice_index_or trees.new at None ≡ Some r)
+        × (S.tree r ≡ S.tree s) × (S.may_fail r ≡ S.may_fail s)
         × Ends (S.tree s) (S.may_fail s) root.now stop_after found.fault (S.faults s) (S.faults r) (S.calls s) (S.calls r) result }
     ensures others { (i : ℕ) (d : Option S) → (i ≡ at → ⊥) → slice_index_or trees.new i d ≡ slice_index_or trees.old i d }
 {
@@ -66,7 +68,8 @@ pub fn index<R: Threads + Wait + Sync, S: Tree, G: Gate>(
     requires tell { (o : Option Told) × AllTell S.tree o trees.old }
     ensures says { (o : Option Told) → AllTell S.tree o trees.old → IndexSays o root.now plan.now result }
     ensures cause { HasCause S.tree S.may_fail S.faults S.calls root.now trees.old trees.new result }
-    ensures trees { TreesAfter S.tree S.may_fail S.faults S.calls plan.now.walkers (plan.now.walkers + plan.now.parsers) trees.old trees.new result }
+    ensures trees { TreesAfter S.tree S.may_fail S.faults S.calls plan.now.walkers
+        (plan.now.walkers + plan.now.parsers) trees.old trees.new result }
 {
     let Ok((closed, findings)) = worked_run(rt, alloc, root, plan, trees, gate) else {
         return IndexAnswer::Memory;

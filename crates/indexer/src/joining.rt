@@ -28,7 +28,8 @@ fn joined_two(whole: Piece, piece: Piece) -> Result<Piece, AllocError>
 
 // All in one, from the last on; one that covers a path which a later one covers is dropped.
 fn joined(alloc: Global, kept: Vec<Piece>) -> Result<Piece, AllocError>
-    ensures files { IfOk result (λ p. (tree : Option Told) (root : Path) → All (IsFilesPiece tree root) kept.items → IsFilesPiece tree root p) }
+    ensures files { IfOk result (λ p. (tree : Option Told) (root : Path) → All (IsFilesPiece tree root) kept.items
+        → IsFilesPiece tree root p) }
     ensures covers { IfOk result (λ p. AreAllCovered p.paths kept.items) }
 {
     let mut kept = kept;

@@ -74,7 +74,8 @@ impl Lot {
 
 // The piece of a batch, behind the others.
 fn put_batch(pieces: &mut Vec<Piece>, batch: Batch) -> Result<(), AllocError>
-    ensures { OnOk result ((o : Option Told) (root : Path) → HoldsRead o root batch → All (IsFilesPiece o root) pieces.old.items → All (IsFilesPiece o root) pieces.new.items) }
+    ensures { OnOk result ((o : Option Told) (root : Path) → HoldsRead o root batch → All (IsFilesPiece o root) pieces.old.items
+        → All (IsFilesPiece o root) pieces.new.items) }
 {
     let piece = batch.into_piece()?;
     pieces.push(piece)?;
@@ -90,8 +91,10 @@ fn add_file(
     batch: Batch,
     read: &ReadFile,
 ) -> Result<Batch, AllocError>
-    ensures pieces { OnOk result ((o : Option Told) → HoldsRead o root.now batch → All (IsFilesPiece o root.now) pieces.old.items → All (IsFilesPiece o root.now) pieces.new.items) }
-    ensures batch { IfOk result (λ b. (o : Option Told) → HoldsRead o root.now batch → IsRead o read.now.path read.now.file → HoldsRead o root.now b) }
+    ensures pieces { OnOk result ((o : Option Told) → HoldsRead o root.now batch → All (IsFilesPiece o root.now) pieces.old.items
+        → All (IsFilesPiece o root.now) pieces.new.items) }
+    ensures batch { IfOk result (λ b. (o : Option Told) → HoldsRead o root.now batch → IsRead o read.now.path read.now.file
+        → HoldsRead o root.now b) }
 {
     let Some(name) = below(root, read.path.as_str()) else {
         return Ok(batch);

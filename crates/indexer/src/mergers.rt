@@ -23,7 +23,8 @@ fn merge_once<R: Wait>(
 ) -> bool
     requires layout { HasLists p.now.layout }
     requires between { IsBetween p.now me.old }
-    ensures { (o : Option Told) (root : Path) (a : Worker) → HasCalled o root kept.old.items p.now 0 0 a me.old → HasCalled o root kept.new.items p.now 0 0 a me.new }
+    ensures { (o : Option Told) (root : Path) (a : Worker) → HasCalled o root kept.old.items p.now 0 0 a me.old
+        → HasCalled o root kept.new.items p.now 0 0 a me.new }
 {
     let Some(piece) = next_piece(rt, p, me) else {
         return false;

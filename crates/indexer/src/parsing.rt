@@ -32,7 +32,8 @@ fn read_one<S: Tree>(
     ensures read { AreRead (S.tree tree.old) lot.old.files.items → AreRead (S.tree tree.old) lot.new.files.items }
     ensures done { (root : Path) (count : ℕ) (before : Calls) (p : Run) (a b : Worker)
         → HasDone File (S.tree tree.old) root (S.may_fail tree.old) count (S.faults tree.old) before (S.calls tree.old) p 1 a b [] [] None
-        → HasDone File (S.tree tree.old) root (S.may_fail tree.old) count (S.faults tree.new) before (S.calls tree.new) p 0 a b [] [] (fault_of result) }
+        → HasDone File (S.tree tree.old) root (S.may_fail tree.old) count (S.faults tree.new) before (S.calls tree.new) p 0 a b [] []
+        (fault_of result) }
 {
     match tree.read(alloc, path.as_str()) {
         Ok(file) => match lot.add(path, file) {
@@ -55,7 +56,8 @@ fn give_piece<R: Wait>(
     requires layout { HasLists p.now.layout }
     requires between { IsBetween p.now me.old }
     ensures called { (o : Option Told) (root : Path) (m : ℕ) → IsFilesPiece o root piece → HasCalled o root [] p.now m 0 me.old me.new }
-    ensures kept { (o : Option Told) (root : Path) → IsFilesPiece o root piece → All (IsFilesPiece o root) kept.old.items → All (IsFilesPiece o root) kept.new.items }
+    ensures kept { (o : Option Told) (root : Path) → IsFilesPiece o root piece → All (IsFilesPiece o root) kept.old.items
+        → All (IsFilesPiece o root) kept.new.items }
 {
     if let Some(piece) = put_piece(rt, p, me, piece) {
         kept.push(piece)?;
@@ -74,8 +76,10 @@ fn give_pieces<R: Wait>(
     requires layout { HasLists p.now.layout }
     requires between { IsBetween p.now me.old }
     requires pieces { (o : Option Told) × (root : Path) × All (IsFilesPiece o root) pieces.items }
-    ensures called { (o : Option Told) (root : Path) (m : ℕ) → All (IsFilesPiece o root) pieces.items → HasCalled o root [] p.now m 0 me.old me.new }
-    ensures kept { (o : Option Told) (root : Path) → All (IsFilesPiece o root) pieces.items → All (IsFilesPiece o root) kept.old.items → All (IsFilesPiece o root) kept.new.items }
+    ensures called { (o : Option Told) (root : Path) (m : ℕ) → All (IsFilesPiece o root) pieces.items
+        → HasCalled o root [] p.now m 0 me.old me.new }
+    ensures kept { (o : Option Told) (root : Path) → All (IsFilesPiece o root) pieces.items → All (IsFilesPiece o root) kept.old.items
+        → All (IsFilesPiece o root) kept.new.items }
 {
     for piece in pieces {
         give_piece(rt, p, me, piece, kept)?;
@@ -98,7 +102,8 @@ fn give_lot<R: Wait>(
     requires read { (o : Option Told) × AreRead o lot.old.files.items }
     ensures read { (o : Option Told) → AreRead o lot.new.files.items }
     ensures called { (o : Option Told) (m : ℕ) → AreRead o lot.old.files.items → HasCalled o root.now [] p.now m 0 me.old me.new }
-    ensures kept { (o : Option Told) → AreRead o lot.old.files.items → All (IsFilesPiece o root.now) kept.old.items → All (IsFilesPiece o root.now) kept.new.items }
+    ensures kept { (o : Option Told) → AreRead o lot.old.files.items → All (IsFilesPiece o root.now) kept.old.items
+        → All (IsFilesPiece o root.now) kept.new.items }
 {
     let pieces = pieces_of(alloc, root, lot.taken(alloc))?;
     give_pieces(rt, p, me, pieces, kept)
@@ -119,7 +124,8 @@ fn pass_lot<R: Wait>(
     requires read { (o : Option Told) × AreRead o lot.old.files.items }
     ensures read { (o : Option Told) → AreRead o lot.new.files.items }
     ensures called { (o : Option Told) (m : ℕ) → AreRead o lot.old.files.items → HasCalled o root.now [] p.now m 0 me.old me.new }
-    ensures kept { (o : Option Told) → AreRead o lot.old.files.items → All (IsFilesPiece o root.now) kept.old.items → All (IsFilesPiece o root.now) kept.new.items }
+    ensures kept { (o : Option Told) → AreRead o lot.old.files.items → All (IsFilesPiece o root.now) kept.old.items
+        → All (IsFilesPiece o root.now) kept.new.items }
 {
     match give_lot(rt, alloc, p, me, root, lot, kept) {
         Ok(()) => true,
@@ -145,7 +151,8 @@ fn pass_full_lot<R: Wait>(
     requires read { (o : Option Told) × AreRead o lot.old.files.items }
     ensures read { (o : Option Told) → AreRead o lot.old.files.items → AreRead o lot.new.files.items }
     ensures called { (o : Option Told) (m : ℕ) → AreRead o lot.old.files.items → HasCalled o root.now [] p.now m 0 me.old me.new }
-    ensures kept { (o : Option Told) → AreRead o lot.old.files.items → All (IsFilesPiece o root.now) kept.old.items → All (IsFilesPiece o root.now) kept.new.items }
+    ensures kept { (o : Option Told) → AreRead o lot.old.files.items → All (IsFilesPiece o root.now) kept.old.items
+        → All (IsFilesPiece o root.now) kept.new.items }
 {
     if !lot.is_full() {
         return true;
@@ -171,10 +178,13 @@ fn parse_once<R: Wait, S: Tree>(
     ensures tree_stays { S.tree tree.new ≡ S.tree tree.old }
     ensures weak_stays { S.may_fail tree.new ≡ S.may_fail tree.old }
     ensures read { AreRead (S.tree tree.old) lot.new.files.items }
-    ensures kept { All (IsFilesPiece (S.tree tree.old) root.now) kept.old.items → All (IsFilesPiece (S.tree tree.old) root.now) kept.new.items }
+    ensures kept { All (IsFilesPiece (S.tree tree.old) root.now) kept.old.items
+        → All (IsFilesPiece (S.tree tree.old) root.now) kept.new.items }
     ensures done { (count : ℕ) (before : Calls) (a : Worker)
-        → HasDone File (S.tree tree.old) root.now (S.may_fail tree.old) count (S.faults tree.old) before (S.calls tree.old) p.now 0 a me.old [] [] None
-        → HasDone File (S.tree tree.old) root.now (S.may_fail tree.old) count (S.faults tree.new) before (S.calls tree.new) p.now 0 a me.new [] [] (fault_of result) }
+        → HasDone File (S.tree tree.old) root.now (S.may_fail tree.old) count (S.faults tree.old) before
+        (S.calls tree.old) p.now 0 a me.old [] [] None
+        → HasDone File (S.tree tree.old) root.now (S.may_fail tree.old) count (S.faults tree.new) before
+        (S.calls tree.new) p.now 0 a me.new [] [] (fault_of result) }
 {
     let Some(path) = next_file(rt, p, me) else {
         return Err(None);
@@ -208,7 +218,8 @@ fn pass_rest<R: Wait>(
     requires between { IsBetween p.now me.old }
     requires read { (o : Option Told) × AreRead o lot.files.items }
     ensures called { (o : Option Told) (m : ℕ) → AreRead o lot.files.items → HasCalled o root.now [] p.now m 0 me.old me.new }
-    ensures kept { (o : Option Told) → AreRead o lot.files.items → All (IsFilesPiece o root.now) kept.old.items → All (IsFilesPiece o root.now) kept.new.items }
+    ensures kept { (o : Option Told) → AreRead o lot.files.items → All (IsFilesPiece o root.now) kept.old.items
+        → All (IsFilesPiece o root.now) kept.new.items }
 {
     if !lot.is_empty() {
         pass_lot(rt, alloc, p, me, root, &mut lot, kept);
@@ -243,7 +254,8 @@ pub fn parse<R: Wait, S: Tree>(
     requires between { IsBetween p.now me.old }
     ensures tree_stays { S.tree tree.new ≡ S.tree tree.old }
     ensures weak_stays { S.may_fail tree.new ≡ S.may_fail tree.old }
-    ensures done { HasDone File (S.tree tree.old) root.now (S.may_fail tree.old) (S.faults tree.old) (S.faults tree.new) (S.calls tree.old) (S.calls tree.new) p.now 0 me.old me.new result.visits.items result.pieces.items result.fault }
+    ensures done { HasDone File (S.tree tree.old) root.now (S.may_fail tree.old) (S.faults tree.old) (S.faults tree.new)
+        (S.calls tree.old) (S.calls tree.new) p.now 0 me.old me.new result.visits.items result.pieces.items result.fault }
 {
     let mut lot = Lot::new(alloc);
     let mut kept = Vec::new(alloc);

@@ -38,11 +38,15 @@ pub fn worked_run<R: Threads + Wait + Sync, S: Tree, G: Gate>(
     requires trees { plan.now.walkers + plan.now.parsers ≤ length trees.old }
     ensures layout { IfOk result (λ r. r.0.layout ≡ layout_of plan.now) }
     ensures untraced { plan.now.traced ≡ false → IfOk result (λ r. r.0.trace ≡ None) }
-    ensures traced { plan.now.traced ≡ true → IfOk result (λ r. (h : List Event) × (r.0.trace ≡ Some h) × IsWhole (layout_of plan.now) r.0.threads h) }
+    ensures traced { plan.now.traced ≡ true → IfOk result
+        (λ r. (h : List Event) × (r.0.trace ≡ Some h) × IsWhole (layout_of plan.now) r.0.threads h) }
     ensures count { IfOk result (λ r. length r.1.items + 1 ≡ (layout_of plan.now).threads) }
-    ensures found { IfOk result (λ r. Each (IsFoundBy S.tree S.may_fail S.faults S.calls root.now plan.now.walkers (plan.now.walkers + plan.now.parsers) r.0.threads trees.old trees.new) r.1.items) }
-    ensures pieces { IfOk result (λ r. (o : Option Told) → AllTell S.tree o trees.old → All (IsFilesPiece o root.now) (flat_map (λ f. f.pieces.items) r.1.items)) }
-    ensures others { IfOk result (λ r. (i : ℕ) (d : Option S) → plan.now.walkers + plan.now.parsers ≤ i → slice_index_or trees.new i d ≡ slice_index_or trees.old i d) }
+    ensures found { IfOk result (λ r. Each (IsFoundBy S.tree S.may_fail S.faults S.calls root.now plan.now.walkers
+        (plan.now.walkers + plan.now.parsers) r.0.threads trees.old trees.new) r.1.items) }
+    ensures pieces { IfOk result (λ r. (o : Option Told) → AllTell S.tree o trees.old
+        → All (IsFilesPiece o root.now) (flat_map (λ f. f.pieces.items) r.1.items)) }
+    ensures others { IfOk result (λ r. (i : ℕ) (d : Option S) → plan.now.walkers + plan.now.parsers ≤ i
+        → slice_index_or trees.new i d ≡ slice_index_or trees.old i d) }
 {
     let (p, mut threads) = open_run(alloc, root, plan)?;
     let mut all = Vec::with_capacity(alloc, threads.len())?;

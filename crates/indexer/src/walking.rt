@@ -53,8 +53,10 @@ fn list_one<S: Tree>(
     ensures tree_stays { S.tree tree.new ≡ S.tree tree.old }
     ensures weak_stays { S.may_fail tree.new ≡ S.may_fail tree.old }
     ensures done { (root : Path) (count : ℕ) (before : Calls) (p : Run) (a b : Worker)
-        → HasDone Dir (S.tree tree.old) root (S.may_fail tree.old) count (S.faults tree.old) before (S.calls tree.old) p 1 a b visits.old.items [] None
-        → HasDone Dir (S.tree tree.old) root (S.may_fail tree.old) count (S.faults tree.new) before (S.calls tree.new) p 0 a b visits.new.items [] (fault_of result) }
+        → HasDone Dir (S.tree tree.old) root (S.may_fail tree.old) count (S.faults tree.old) before
+        (S.calls tree.old) p 1 a b visits.old.items [] None
+        → HasDone Dir (S.tree tree.old) root (S.may_fail tree.old) count (S.faults tree.new) before
+        (S.calls tree.new) p 0 a b visits.new.items [] (fault_of result) }
 {
     match list_dir(alloc, tree, dir.as_str()) {
         Ok(listing) => match keep_listing(alloc, visits, dir, listing) {
@@ -115,8 +117,10 @@ fn walk_once<R: Wait, S: Tree>(
     ensures tree_stays { S.tree tree.new ≡ S.tree tree.old }
     ensures weak_stays { S.may_fail tree.new ≡ S.may_fail tree.old }
     ensures done { (root : Path) (count : ℕ) (before : Calls) (a : Worker)
-        → HasDone Dir (S.tree tree.old) root (S.may_fail tree.old) count (S.faults tree.old) before (S.calls tree.old) p.now 0 a me.old visits.old.items [] None
-        → HasDone Dir (S.tree tree.old) root (S.may_fail tree.old) count (S.faults tree.new) before (S.calls tree.new) p.now 0 a me.new visits.new.items [] (fault_of result) }
+        → HasDone Dir (S.tree tree.old) root (S.may_fail tree.old) count (S.faults tree.old) before
+        (S.calls tree.old) p.now 0 a me.old visits.old.items [] None
+        → HasDone Dir (S.tree tree.old) root (S.may_fail tree.old) count (S.faults tree.new) before
+        (S.calls tree.new) p.now 0 a me.new visits.new.items [] (fault_of result) }
 {
     let Some(dir) = next_dir(rt, p, me) else {
         end_files(rt, p, me);
@@ -152,7 +156,8 @@ pub fn walk<R: Wait, S: Tree>(
     requires between { IsBetween p.now me.old }
     ensures tree_stays { S.tree tree.new ≡ S.tree tree.old }
     ensures weak_stays { S.may_fail tree.new ≡ S.may_fail tree.old }
-    ensures done { (root : Path) → HasDone Dir (S.tree tree.old) root (S.may_fail tree.old) (S.faults tree.old) (S.faults tree.new) (S.calls tree.old) (S.calls tree.new) p.now 0 me.old me.new result.visits.items result.pieces.items result.fault }
+    ensures done { (root : Path) → HasDone Dir (S.tree tree.old) root (S.may_fail tree.old) (S.faults tree.old) (S.faults tree.new)
+        (S.calls tree.old) (S.calls tree.new) p.now 0 me.old me.new result.visits.items result.pieces.items result.fault }
 {
     let mut visits = Vec::new(alloc);
     for _ in rt.forever() {

@@ -32,7 +32,8 @@ fn work_on<R: Wait, S: Tree, G: Gate>(
     requires between { IsBetween p.now me.old }
     ensures tree_stays { S.tree tree.new ≡ S.tree tree.old }
     ensures weak_stays { S.may_fail tree.new ≡ S.may_fail tree.old }
-    ensures done { HasDone kind (S.tree tree.old) root.now (S.may_fail tree.old) (S.faults tree.old) (S.faults tree.new) (S.calls tree.old) (S.calls tree.new) p.now 0 me.old me.new result.visits.items result.pieces.items result.fault }
+    ensures done { HasDone kind (S.tree tree.old) root.now (S.may_fail tree.old) (S.faults tree.old) (S.faults tree.new)
+        (S.calls tree.old) (S.calls tree.new) p.now 0 me.old me.new result.visits.items result.pieces.items result.fault }
 {
     match kind {
         Kind::Dir => walk(rt, alloc, p, me, tree),

@@ -37,7 +37,14 @@ impl Model for State {
 
     ghost Value = { Moment };
 
-    ghost view = { λ s. record { layout = s.layout; holders = s.holders; members = s.members; available = s.available; alerts = s.alerts; pending = s.pending } };
+    ghost view = { λ s. record {
+      layout = s.layout;
+      holders = s.holders;
+      members = s.members;
+      available = s.available;
+      alerts = s.alerts;
+      pending = s.pending;
+    } };
 
     ghost invariant = { λ s. IsLawful s.layout };
 }

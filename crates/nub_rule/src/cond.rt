@@ -94,7 +94,11 @@ pub fn advance_signal<U: Uses>(p: &Package<U>, me: &mut Thread<U>, c: CondId) ->
     ensures left { result.1 ≡ set_of (behind me.old.queue) }
     ensures distinct { Distinct me.old.queue }
     ensures event { Makes (event me.old.number (signal_action c.0 (behind me.old.queue))) me.old me.new }
-    ensures advanced { me.new ≡ record (learnt me.old me.new) { left = behind me.old.queue; count = me.old.count + 1; pen = made me.old.pen } }
+    ensures advanced { me.new ≡ record (learnt me.old me.new) {
+      left = behind me.old.queue;
+      count = me.old.count + 1;
+      pen = made me.old.pen;
+    } }
 {
     let o = CONDITIONS + c.0 as usize;
     bring(&mut me.hand, &mut me.seat, o as u16);

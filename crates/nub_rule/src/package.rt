@@ -53,7 +53,8 @@ impl<U: Uses> Model for Package<U> {
 
     ghost view = { λ p. shape_of p.table.shared.table_id p.table.shared.key };
 
-    ghost invariant = { λ p. IsPackage p.table.shared.table_id p.table.shared.key p.layout p.traced p.shelf.items (vec_capacity p.shelf) (vec_len p.unparkers) };
+    ghost invariant = { λ p. IsPackage p.table.shared.table_id p.table.shared.key p.layout p.traced p.shelf.items (vec_capacity p.shelf)
+        (vec_len p.unparkers) };
 }
 
 /// The right of one thread to step with a package.

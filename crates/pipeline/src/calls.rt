@@ -60,7 +60,8 @@ pub fn take_from<R: Wait>(
 ) -> Result<u64, Over>
     requires named { HasBuffers p.now.layout × (number < 2) }
     requires done { (n : ℕ) × (x : Tallies) × HasDone p.now n x me.old }
-    ensures took { IfOk result (λ i. (n : ℕ) (x : Tallies) → HasDone p.now n x me.old → HasDone p.now n (on number (took_last i) x) me.new) }
+    ensures took { IfOk result (λ i. (n : ℕ) (x : Tallies) → HasDone p.now n x me.old
+        → HasDone p.now n (on number (took_last i) x) me.new) }
     ensures end { OnErr result ((n : ℕ) (x : Tallies) → HasDone p.now n x me.old → HasDone p.now n (on number saw_end x) me.new) }
 {
     let at = buffer(number);

@@ -46,7 +46,8 @@ pub fn check<I: Source>(input: &mut I, budget: u64) -> Verdict
     requires { budget < 2 ^ 64 - 1 }
     ensures just { IsJust budget (I.left input.old) (I.left input.new) (I.faults input.old) (I.faults input.new) result }
     // Where no read failed, no other verdict is just.
-    ensures exact { (bytes : List ℕ) (verdict : Verdict) → I.left input.old ≡ Some bytes → result ≢ Verdict.ReadFault → verdict ≢ Verdict.ReadFault
+    ensures exact { (bytes : List ℕ) (verdict : Verdict) → I.left input.old ≡ Some bytes → result ≢ Verdict.ReadFault
+        → verdict ≢ Verdict.ReadFault
         → IsJust budget (I.left input.old) (I.left input.new) (I.faults input.old) (I.faults input.new) verdict → result ≡ verdict }
     // A read that fails is told, and can fail only where no verdict is due yet. So from the byte that decides on nothing is asked.
     ensures told { result ≢ Verdict.ReadFault → I.faults input.new ≡ I.faults input.old }

@@ -19,7 +19,8 @@ struct Names<'b> {
 // Reads a word, and the names of a mutex and a condition up to the byte that stops them.
 fn wait<'b>(bytes: &'b [u8], before: &[u8], layout: &Layout, stop: u8) -> Result<Names<'b>, Stop>
     requires { IsLawful layout.now }
-    ensures { Gives (λ x. ((x.mutex.0, x.cond.0), x.rest.now)) result (wait_at before.now layout.now.mutexes layout.now.conditions stop bytes.now) }
+    ensures { Gives (λ x. ((x.mutex.0, x.cond.0), x.rest.now)) result
+        (wait_at before.now layout.now.mutexes layout.now.conditions stop bytes.now) }
 {
     if layout.conditions == 0 {
         return Err(Stop::Dead);

@@ -51,7 +51,8 @@ impl<'a, I: Source> EventReader<'a, I> {
         ensures head { IfOk result (TakesHead (standing I.left self.old) (standing I.left self.new)) }
         // On a fault.
         ensures fault { IfErr result (Breaks IsTrace IsLawful (λ l. first_line ++ layout_line l) (standing I.left self.old)
-            (standing I.left self.new) (I.left (input_of self.new).now) (I.faults (input_of self.old).now) (I.faults (input_of self.new).now)) }
+            (standing I.left self.new) (I.left (input_of self.new).now) (I.faults (input_of self.old).now)
+            (I.faults (input_of self.new).now)) }
         // The source is asked only where the bytes that it gave don't decide.
         ensures asks { ((input_of self.new).now ≡ (input_of self.old).now)
             ⊎ IsUndecided IsTrace IsLawful (λ l. first_line ++ layout_line l) (held_of self.old) }
@@ -59,7 +60,8 @@ impl<'a, I: Source> EventReader<'a, I> {
         ensures same_input { (input_of self.new).ghost_name ≡ (input_of self.old).ghost_name }
         // A question that fails is told, and fails only where the bytes given don't decide: none is asked where they do.
         ensures unfailed { OnOk result (I.faults (input_of self.new).now ≡ I.faults (input_of self.old).now) }
-        ensures told { IfErr result (λ fault. fault ≢ TextFault.Read → I.faults (input_of self.new).now ≡ I.faults (input_of self.old).now) }
+        ensures told { IfErr result (λ fault. fault ≢ TextFault.Read
+            → I.faults (input_of self.new).now ≡ I.faults (input_of self.old).now) }
         ensures later { I.faults (input_of self.old).now ≤ I.faults (input_of self.new).now }
     {
         begin(&mut self.progress, self.input)
@@ -90,7 +92,8 @@ impl<'a, I: Source> EventReader<'a, I> {
         ensures same_input { (input_of self.new).ghost_name ≡ (input_of self.old).ghost_name }
         // A question that fails is told, and fails only where the bytes given don't decide: none is asked where they do.
         ensures unfailed { OnOk result (I.faults (input_of self.new).now ≡ I.faults (input_of self.old).now) }
-        ensures told { IfErr result (λ fault. fault ≢ TextFault.Read → I.faults (input_of self.new).now ≡ I.faults (input_of self.old).now) }
+        ensures told { IfErr result (λ fault. fault ≢ TextFault.Read
+            → I.faults (input_of self.new).now ≡ I.faults (input_of self.old).now) }
         ensures later { I.faults (input_of self.old).now ≤ I.faults (input_of self.new).now }
     {
         match self.progress.phase {

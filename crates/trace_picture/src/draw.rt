@@ -36,7 +36,12 @@ fn refused(fault: TextFault) -> Verdict
 
 // The verdict on a legal trace of so many events.
 fn legal(events: u64, totals: &Totals) -> Verdict
-    ensures { result ≡ verdict.Legal (record { events = events; held = totals.now.held; waiting = totals.now.waiting; alerted = totals.now.alerted }) }
+    ensures { result ≡ verdict.Legal (record {
+      events = events;
+      held = totals.now.held;
+      waiting = totals.now.waiting;
+      alerted = totals.now.alerted;
+    }) }
 {
     Verdict::Legal(Summary {
         events,

@@ -100,8 +100,10 @@ pub fn locked<U: Uses, C: Change<U>, X, F: FnOnce(&mut U::Value) -> X, R: Wait>(
     ensures event { Adds (acquire_event me.old.number m.0 ∷ []) (release_event me.old.number m.0) me.old me.new }
     ensures held { me.new.held ≡ me.old.held }
     ensures answer { (x : U.Value) × (y : U.Value) × FnOnceReturnsAtMut F.FnOnce f x result y
-        × ((w : U.World) (s : U.Share) → me.old.world ≡ Some w → me.old.share ≡ Some s → U.fits w m.0 x me.old.number s × (me.new.share ≡ Some (C.after w m.0 me.old.number x y s))) }
-    ensures idle { (n : ℕ) (s : U.Share) → IsIdle p.now n s me.old → (x : U.Value) × (y : U.Value) × FnOnceReturnsAtMut F.FnOnce f x result y
+        × ((w : U.World) (s : U.Share) → me.old.world ≡ Some w → me.old.share ≡ Some s → U.fits w m.0 x me.old.number s
+        × (me.new.share ≡ Some (C.after w m.0 me.old.number x y s))) }
+    ensures idle { (n : ℕ) (s : U.Share) → IsIdle p.now n s me.old → (x : U.Value) × (y : U.Value)
+        × FnOnceReturnsAtMut F.FnOnce f x result y
         × U.fits p.now.world m.0 x n s × IsIdle p.now n (C.after p.now.world m.0 n x y s) me.new }
 {
     let mut value = acquire(rt, p, me, m);

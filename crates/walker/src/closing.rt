@@ -36,7 +36,8 @@ pub fn close_walk<S: Tree>(
     // The numbers, and which limit is told at the start.
     ensures numbers { IsNumbered stop_after result }
     ensures many_at_start { most_dirs < length walked.dirs → result ≡ WalkAnswer.TooMany (most_dirs + 1) }
-    ensures stop_at_start { (n : ℕ) → stop_after ≡ Some n → length walked.dirs ≤ most_dirs → n < length walked.files → result ≡ WalkAnswer.Stopped (n + 1) }
+    ensures stop_at_start { (n : ℕ) → stop_after ≡ Some n → length walked.dirs ≤ most_dirs → n < length walked.files
+        → result ≡ WalkAnswer.Stopped (n + 1) }
 
     // Where the tree tells: what the answer says of it, and which calls were made.
     ensures answer { IfSome (S.tree tree.old) (Answers root.now stop_after (S.may_fail tree.old) result) }
@@ -92,7 +93,8 @@ fn list_rest<S: Tree>(
     ensures listed { OnOk result (IsListedWhole walked.new) }
     ensures sound { OnOk result (IsSound walked.new) }
     ensures numbers { IfErr result (IsNumbered stop_after) }
-    ensures told { IfSome (S.tree tree.old) (ListsRest walked.old walked.new stop_after (S.may_fail tree.old) (S.calls tree.old) (S.calls tree.new) result) }
+    ensures told { IfSome (S.tree tree.old) (ListsRest walked.old walked.new stop_after (S.may_fail tree.old) (S.calls tree.old)
+        (S.calls tree.new) result) }
 {
     let mut at = 0;
     while at < walked.dirs_found() as usize {
@@ -122,7 +124,8 @@ fn list_at<S: Tree>(
     ensures grows { Grows walked.old walked.new }
     ensures below { OnOk result (IsListedBelow walked.old at → IsListedBelow walked.new (at + 1)) }
     ensures numbers { IfErr result (λ a. (stop : Option ℕ) → IsNumbered stop a) }
-    ensures told { IfSome (S.tree tree.old) (ListsAt walked.old walked.new (S.may_fail tree.old) (S.calls tree.old) (S.calls tree.new) result) }
+    ensures told { IfSome (S.tree tree.old) (ListsAt walked.old walked.new (S.may_fail tree.old) (S.calls tree.old)
+        (S.calls tree.new) result) }
 {
     let Some(dir) = walked.unlisted_at(at) else {
         return Ok(());
@@ -145,9 +148,11 @@ fn list_next<S: Tree>(
     ensures weak_stays { S.may_fail tree.new ≡ S.may_fail tree.old }
     ensures count { StepCounts (S.faults tree.old) (S.faults tree.new) result }
     ensures grows { Grows walked.old walked.new }
-    ensures below { OnOk result ((at : ℕ) → slice_get walked.old.dirs at ≡ Some (dir, false) → IsListedBelow walked.old at → IsListedBelow walked.new (at + 1)) }
+    ensures below { OnOk result ((at : ℕ) → slice_get walked.old.dirs at ≡ Some (dir, false) → IsListedBelow walked.old at
+        → IsListedBelow walked.new (at + 1)) }
     ensures numbers { IfErr result (λ a. (stop : Option ℕ) → IsNumbered stop a) }
-    ensures told { IfSome (S.tree tree.old) (ListsAt walked.old walked.new (S.may_fail tree.old) (S.calls tree.old) (S.calls tree.new) result) }
+    ensures told { IfSome (S.tree tree.old) (ListsAt walked.old walked.new (S.may_fail tree.old) (S.calls tree.old)
+        (S.calls tree.new) result) }
 {
     let path = dir.as_str();
     match list_dir(alloc, tree, path) {

@@ -23,7 +23,8 @@ pub fn note_in(
     ensures ok { OnOk result (Notes (walk_at root.now dirs.old files.old) (walk_at root.now dirs.new files.new) dir.now listing) }
     ensures err { IfErr result (λ l. (l ≡ listing) × (walk_at root.now dirs.new files.new ≡ walk_at root.now dirs.old files.old)) }
     ensures sound { IsSound (walk_at root.now dirs.new files.new) }
-    ensures told { OnOk result ((t : Told) → IsWalkOf (walk_at root.now dirs.old files.old) t → IsToldBy t dir.now listing → IsWalkOf (walk_at root.now dirs.new files.new) t) }
+    ensures told { OnOk result ((t : Told) → IsWalkOf (walk_at root.now dirs.old files.old) t → IsToldBy t dir.now listing
+        → IsWalkOf (walk_at root.now dirs.new files.new) t) }
 {
     let Ok(names) = names_below(alloc, root, &listing.files) else {
         return Err(listing);

@@ -25,7 +25,8 @@ pub fn read_rest<S: Tree>(alloc: Global, tree: &mut S, walked: &Walked, piece: P
     ensures weak_stays { S.may_fail tree.new ≡ S.may_fail tree.old }
     ensures count { HasRisen (S.faults tree.old) (S.faults tree.new) result }
     ensures end { IsReadEnd result }
-    ensures told { IfSome (S.tree tree.old) (ReadsRest walked.now piece.paths (S.may_fail tree.old) (S.calls tree.old) (S.calls tree.new) result) }
+    ensures told { IfSome (S.tree tree.old) (ReadsRest walked.now piece.paths (S.may_fail tree.old) (S.calls tree.old)
+        (S.calls tree.new) result) }
 {
     let mut pile = Vec::new(alloc);
     match read_files(alloc, tree, walked, &piece, &mut pile) {
@@ -53,7 +54,8 @@ fn read_files<S: Tree>(
     ensures count { StepCounts (S.faults tree.old) (S.faults tree.new) result }
     ensures apart { OnOk result (AreApart pile.new.items) }
     ensures end { IfErr result IsReadEnd }
-    ensures read { IsRead (S.tree tree.old) walked.now piece.now.paths (S.may_fail tree.old) (S.calls tree.old) (S.calls tree.new) pile.new.items result }
+    ensures read { IsRead (S.tree tree.old) walked.now piece.now.paths (S.may_fail tree.old) (S.calls tree.old)
+        (S.calls tree.new) pile.new.items result }
 {
     let mut batch = Batch::new(alloc);
     for at in 0..walked.files_found() as usize {
@@ -81,13 +83,15 @@ fn read_at<S: Tree>(
     requires within { at < length walked.now.files }
     requires sound { IsSound walked.now }
     requires apart { AreApart pile.old.items }
-    requires read { (start : Calls) × HasRead (S.tree tree.old) walked.now piece.now.paths start (S.calls tree.old) at (AreKept pile.old.items batch) }
+    requires read { (start : Calls) × HasRead (S.tree tree.old) walked.now piece.now.paths start (S.calls tree.old) at
+        (AreKept pile.old.items batch) }
     ensures tree_stays { S.tree tree.new ≡ S.tree tree.old }
     ensures weak_stays { S.may_fail tree.new ≡ S.may_fail tree.old }
     ensures count { StepCounts (S.faults tree.old) (S.faults tree.new) result }
     ensures apart { OnOk result (AreApart pile.new.items) }
     ensures end { IfErr result IsReadEnd }
-    ensures step { ReadsAt (S.tree tree.old) walked.now piece.now.paths at (S.may_fail tree.old) (S.calls tree.old) (S.calls tree.new) (AreKept pile.old.items batch) (AreKept pile.new.items) result }
+    ensures step { ReadsAt (S.tree tree.old) walked.now piece.now.paths at (S.may_fail tree.old) (S.calls tree.old) (S.calls tree.new)
+        (AreKept pile.old.items batch) (AreKept pile.new.items) result }
 {
     let name = walked.file_at(at);
     if piece.covers(name) {
@@ -115,7 +119,8 @@ fn read_next<S: Tree>(
     ensures count { StepCounts (S.faults tree.old) (S.faults tree.new) result }
     ensures file { IfOk result (λ file. IfSome (S.tree tree.old) (λ t. IsFileAt t walked.now.root (read_file name.now file))) }
     ensures end { IfErr result IsReadEnd }
-    ensures told { IfSome (S.tree tree.old) (ReadsNext walked.now.root name.now (S.may_fail tree.old) (S.calls tree.old) (S.calls tree.new) result) }
+    ensures told { IfSome (S.tree tree.old) (ReadsNext walked.now.root name.now (S.may_fail tree.old) (S.calls tree.old)
+        (S.calls tree.new) result) }
 {
     let Ok(path) = child_path(alloc, walked.root(), name) else {
         return Err(WalkAnswer::Memory);
@@ -138,7 +143,8 @@ fn keep_file(
     requires apart { AreApart pile.old.items }
     requires kept { (files : List File) × AreKept pile.old.items batch files × AreDistinct files }
     ensures apart { OnOk result (AreApart pile.new.items) }
-    ensures kept { IfOk result (λ b. (files : List File) → AreKept pile.old.items batch files → AreKept pile.new.items b (files ++ read_file name.now file.now ∷ [])) }
+    ensures kept { IfOk result (λ b. (files : List File) → AreKept pile.old.items batch files
+        → AreKept pile.new.items b (files ++ read_file name.now file.now ∷ [])) }
 {
     if batch.takes(name, file.bytes.len()) {
         return batch.add(name, file);
@@ -163,7 +169,8 @@ fn put_batch(pile: &mut Vec<Piece>, batch: Batch) -> Result<(), AllocError>
 fn add_piece(pile: &mut Vec<Piece>, next: Piece) -> Result<(), AllocError>
     requires { AreApart (pile.old.items ++ next ∷ []) }
     ensures apart { OnOk result (AreApart pile.new.items) }
-    ensures index { OnOk result ((fs gs : List File) → IsPileOf pile.old.items fs → IsIndexOf gs next → IsPileOf pile.new.items (fs ++ gs)) }
+    ensures index { OnOk result ((fs gs : List File) → IsPileOf pile.old.items fs → IsIndexOf gs next
+        → IsPileOf pile.new.items (fs ++ gs)) }
 {
     let mut top = next;
     while let Some(below) = pile.pop() {

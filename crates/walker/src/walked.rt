@@ -106,7 +106,8 @@ impl Walked {
     /// The directory found at this place, if it isn't listed.
     pub fn unlisted_at(&self, at: usize) -> Option<&str>
         requires { at < length self.now.dirs }
-        ensures { MatchOption result ((p : Path) → slice_get self.now.dirs at ≢ Some (p, false)) (λ d. slice_get self.now.dirs at ≡ Some (d.now, false)) }
+        ensures { MatchOption result ((p : Path) → slice_get self.now.dirs at ≢ Some (p, false))
+            (λ d. slice_get self.now.dirs at ≡ Some (d.now, false)) }
     {
         match self.dirs.get_index(at) {
             Some((dir, false)) => Some(dir.as_str()),

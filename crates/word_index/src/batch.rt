@@ -106,7 +106,8 @@ impl Batch {
 // The batch with one more file, which is too long.
 fn add_long(batch: Batch, path: &[u8]) -> Result<Batch, AllocError>
     requires { IsAboveAll path.now batch.paths }
-    ensures { IfOk result (λ b. (b.paths ≡ batch.paths ++ path.now ∷ []) × (b.skipped ≡ batch.skipped ++ path.now ∷ []) × (b.lows ≡ batch.lows ++ [] ∷ [])) }
+    ensures { IfOk result (λ b. (b.paths ≡ batch.paths ++ path.now ∷ []) × (b.skipped ≡ batch.skipped ++ path.now ∷ [])
+        × (b.lows ≡ batch.lows ++ [] ∷ [])) }
 {
     let Batch {
         alloc,
@@ -128,7 +129,8 @@ fn add_long(batch: Batch, path: &[u8]) -> Result<Batch, AllocError>
 // The batch with one more file of these bytes.
 fn add_short(batch: Batch, path: &[u8], bytes: &[u8]) -> Result<Batch, AllocError>
     requires { IsAboveAll path.now batch.paths }
-    ensures { IfOk result (λ b. (b.paths ≡ batch.paths ++ path.now ∷ []) × (b.skipped ≡ batch.skipped) × (b.lows ≡ batch.lows ++ map lower bytes.now ∷ [])) }
+    ensures { IfOk result (λ b. (b.paths ≡ batch.paths ++ path.now ∷ []) × (b.skipped ≡ batch.skipped)
+        × (b.lows ≡ batch.lows ++ map lower bytes.now ∷ [])) }
 {
     if bytes.len() >= MOST_BYTES {
         return Err(AllocError);

@@ -22,7 +22,8 @@ pub fn next_link(
 ) -> Result<Link, AllocError>
     requires { last.place.path ≡ path → last.place.count + 1 < 2 ^ 32 }
     ensures kept { (n : ℕ) (ps : List Place) → IsChain links.old.items n ps → IsChain links.new.items n ps }
-    ensures next { IfOk result (λ l. (ps : List Place) → IsLinked links.old.items last ps → IsLinked links.new.items l (bumped path line ps)) }
+    ensures next { IfOk result (λ l. (ps : List Place) → IsLinked links.old.items last ps
+        → IsLinked links.new.items l (bumped path line ps)) }
 {
     if last.place.path == path {
         let place = Place {
