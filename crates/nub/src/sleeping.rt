@@ -7,6 +7,10 @@ ghost use Rattle.nub_rule.specs.Parts.{HasTested, staged};
 
 use nub_rule::{Package, Thread, Uses, clear_ready, park, read_alert, read_ready};
 use std::sync::Wait;
+use std::thread::yield_now;
+
+// How often a thread gives its processor up before it parks.
+const YIELDS: u32 = 8;
 
 /// Sleeps until the ready word is found set, and clears it; it answers true then. Where `alertable` is true it also ends where the thread's
 /// alert word is found set, and answers false: the thread stands in the queue still, unless another thread popped it meanwhile. It may wait
@@ -24,6 +28,7 @@ pub fn sleep<U: Uses, R: Wait>(rt: &R, p: &Package<U>, me: &mut Thread<U>, alert
     ensures at_cond { result ≡ true → (s : Stand) → me.old.stand ≡ Some s → 128 ≤ s.at → me.new ≡ record me.old { stand = None } }
     ensures alerted { result ≡ false → me.new ≡ record me.old { alerted = true; stand = staged Alerted me.old.stand } }
 {
+    let mut yields = 0;
     for _ in rt.forever() {
         // The ready word decides, not the parking: a thread may be unparked for nothing, or before it parks, which makes its next park
         // return at once. So the word is read before each park, and no wake that comes between the two is lost.
@@ -36,7 +41,13 @@ pub fn sleep<U: Uses, R: Wait>(rt: &R, p: &Package<U>, me: &mut Thread<U>, alert
         if alertable && read_alert(p, me) != 0 {
             return false;
         }
-        park(rt, me);
+        // Mostly the wake comes soon, and to give the processor up costs less than to park and to be unparked.
+        if yields < YIELDS {
+            yields += 1;
+            yield_now();
+        } else {
+            park(rt, me);
+        }
     }
     unreachable!()
 }
