@@ -18,6 +18,9 @@ use nub_rule::{Change, Object, Package, Thread, Uses, put_value, take_value};
 use std::sync::Wait;
 
 /// Takes some thread out of the condition, if there is one, and wakes it.
+///
+/// It doesn't block. In the package itself it may wait for a moment: for the spin word of the condition, and in a traced package for its
+/// turn to number the event.
 #[inline]
 pub fn signal<U: Uses, R: Wait>(rt: &R, p: &Package<U>, me: &mut Thread<U>, c: CondId)
     requires rest { AtRest p.now me.old }
@@ -33,6 +36,8 @@ pub fn signal<U: Uses, R: Wait>(rt: &R, p: &Package<U>, me: &mut Thread<U>, c: C
 }
 
 /// Takes all threads out of the condition, and wakes them.
+///
+/// It doesn't block, as `signal` doesn't.
 #[inline]
 pub fn broadcast<U: Uses, R: Wait>(rt: &R, p: &Package<U>, me: &mut Thread<U>, c: CondId)
     requires rest { AtRest p.now me.old }
@@ -48,7 +53,9 @@ pub fn broadcast<U: Uses, R: Wait>(rt: &R, p: &Package<U>, me: &mut Thread<U>, c
 }
 
 /// Gives the mutex back with this value and waits in the condition, in one step for all others, until a Signal or Broadcast takes the thread
-/// out of it; then takes the mutex again, and its value.
+/// out of it; then takes the mutex again, and its value. Only the thread that has the mutex may call it.
+///
+/// It blocks until a Signal or Broadcast takes the thread out, for ever if none does, and then while another thread has the mutex.
 pub fn wait<U: Uses, C: Change<U>, R: Wait>(
     rt: &R,
     p: &Package<U>,

@@ -1,3 +1,5 @@
+//! What a share is made of.
+
 /// An addition under a mutex.
 pub struct Added {
     pub mutex: u64,

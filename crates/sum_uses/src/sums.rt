@@ -1,7 +1,8 @@
 //! Sums under mutexes.
 ghost use Rattle.std.specs.Prelude.{◌≡◌, ◌+◌, ◌≤◌, ℕ, List, []};
 ghost use Rattle.sum_uses.specs.declared.added.Added.{Added};
-ghost use Rattle.sum_uses.specs.Sums.{AreSums, IsAbove, GrowsAlike, added, grown, fits_sums, after_sums};
+ghost use Rattle.sum_uses.specs.SumLaws.{fits_sums, after_sums};
+ghost use Rattle.sum_uses.specs.Sums.{AreSums, IsAbove, GrowsAlike, added, grown};
 
 use crate::added::Added;
 use nub_rule::{Change, Uses};

@@ -1,6 +1,7 @@
 //! What stands behind the mutex: how many tickets are left.
 ghost use Rattle.std.specs.Prelude.{◌+◌, ◌-◌, eqb};
-ghost use Rattle.ticket_sale.specs.Sales.{AreSold, IsPart, IsSale, none_sold, fits_part, after_sale};
+ghost use Rattle.ticket_sale.specs.SaleLaws.{fits_part, after_sale};
+ghost use Rattle.ticket_sale.specs.Sales.{AreSold, IsPart, IsSale, none_sold};
 
 use nub::{Change, Uses};
 
