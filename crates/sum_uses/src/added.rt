@@ -1,3 +1,4 @@
+//! What a thread has added.
 /// An addition under a mutex.
 pub struct Added {
     pub mutex: u64,
