@@ -1,4 +1,8 @@
-//! Rings between threads.
+//! Rings between threads, each with a fixed number of places.
+//!
+//! Promises: `put`, `take` and `shut` do at their ring exactly what their answers say, with their events; each item that was put into a plain
+//! buffer was taken once or is left, in the order of puts. Stands on a mutex and two conditions of the package, whose waits an alert may
+//! end. Nothing is said of waiting: not that a put or a take ever returns.
 #![tactic(auto)]
 
 mod at;

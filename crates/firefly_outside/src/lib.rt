@@ -1,6 +1,7 @@
 //! Sources that give bytes, sinks that take them and trees of files, each with a count of its faults.
-//! A call fails only where that count rose. Sources, sinks and trees in memory say exactly which
-//! calls fail. The ones of the system stand on std's readers and writers, and tell what these tell.
+//!
+//! Promises: a call fails only where that count rose. Sources, sinks and trees in memory say exactly which calls fail. Those of the system
+//! stand on std's readers, writers and files, and tell what these tell. It does not know what the bytes mean.
 #![tactic(auto)]
 
 mod dir_tree;

@@ -1,4 +1,4 @@
-//! Scripts as they are read: good lines, and the first line that is bad.
+//! Scripts as they are read: each operation, bad lines and limits.
 use firefly_outside::MemSource;
 use firefly_script::{Line, Operation, Script, ScriptFault, read_script};
 use larch_actions::{CondId, MutexId, SemId, ThreadId};

@@ -75,6 +75,7 @@ impl State {
         ensures same { OnErr result (self.new ≡ self.old) }
         ensures layout { self.new.layout ≡ self.old.layout }
     {
+        // This brings the invariant of the state, that its layout is lawful, into the proof.
         let _ = &self.layout;
         let t = e.thread;
         match e.action {

@@ -1,4 +1,4 @@
-//! Runs of small scripts by real threads.
+//! Runs of scripts.
 use crate::run_script;
 use firefly_outside::MemSource;
 use firefly_script::{Script, read_script};

@@ -1,5 +1,4 @@
-//! What a share is made of.
-
+//! What a thread has added.
 /// An addition under a mutex.
 pub struct Added {
     pub mutex: u64,

@@ -1,7 +1,8 @@
 //! Trace texts: a reader that gives the events of a text one after another, and printers of its lines.
-//! The reader is exact: it gives what the text says, or the text's bad line as soon as the bytes show it.
-//! It stands on the sources and sinks of firefly_outside and the events of larch_actions.
-//! It takes no memory, and says nothing of whether a trace is legal.
+//!
+//! Promises: the reader gives what the text says, or the text's bad line as soon as the bytes show it; what is printed reads as what was
+//! given. Stands on the sources and sinks of firefly_outside and the events of larch_actions. It takes no memory, and says nothing of
+//! whether a trace is legal.
 #![tactic(auto)]
 
 mod action;

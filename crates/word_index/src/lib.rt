@@ -1,10 +1,11 @@
 //! The words of files, and the index of some files as a piece that merges with others.
 //!
-//! A batch holds files that were read, in the order of their paths, and becomes their piece. A piece is the index of the
-//! files that it covers: for each word of a file its count and first line there, in the order of words and paths, and the
-//! paths of the files that were too long. `merge` of two pieces is the index of both sets of files. Contracts see a piece
-//! as paths, skipped paths and rows. It stands on `indexmap` and `firefly_outside`. Want of memory is the one refusal.
-//! Nothing is said of the time that a call takes.
+//! A batch holds files that were read, in the order of their paths, and becomes their piece. Contracts see a piece as paths,
+//! skipped paths and rows.
+//!
+//! Promises: a piece is the index of the files that it covers: for each word of a file its count and first line there, in the order
+//! of words and paths, and the paths of the files that were too long. `merge` of two pieces is the index of both sets of files. Want
+//! of memory is the one refusal. Stands on `indexmap` and `firefly_outside`. Nothing is said of the time that a call takes.
 #![tactic(auto)]
 
 mod batch;
