@@ -1,7 +1,10 @@
 //! A thread that waits with one mutex, and one that wakes it and keeps another mutex all the while.
-ghost use Rattle.std.specs.Prelude.{[], ◌≡◌, ◌≢◌, ◌<◌, ◌≤◌};
+ghost use Rattle.std.specs.Prelude.{[], ◌≡◌, ◌≢◌, ◌<◌, Some, None};
+ghost use mathlib.Core.Option.{some};
+ghost use lib.ListN.{get_elem?};
 ghost use Rattle.nub.specs.Ended.{IsDone};
 ghost use Rattle.nub.specs.Idle.{IsIdle};
+ghost use Rattle.nub.specs.Rest.{AtRest, IsSame};
 
 use crate::notes::{Notes, await_count, linger};
 use condition::{signal, wait};
@@ -9,7 +12,7 @@ use nub::{CondId, MutexId, NoChange, Package, Thread};
 use std::sync::Wait;
 use std::sync::atomic::Ordering;
 use sum_uses::SumUses;
-use user_mutex::{acquire, locked, release};
+use user_mutex::{acquire, release};
 
 /// Waits once in condition 0. It notes that it is going to wait before it gives the mutex back, and that it has gone on when it has it again.
 fn wait_once<R: Wait>(
@@ -28,6 +31,21 @@ fn wait_once<R: Wait>(
     let again = wait::<SumUses, NoChange, R>(rt, pkg, me, own, CondId(0), got);
     let _ = notes.gone_on.fetch_add(1, Ordering::SeqCst);
     release::<SumUses, NoChange, R>(rt, pkg, me, own, again);
+}
+
+/// Takes the mutex and gives it back.
+fn pass<R: Wait>(rt: &R, pkg: &Package<SumUses>, me: &mut Thread<SumUses>, m: MutexId)
+    requires rest { AtRest pkg.now me.old }
+    requires named { m.0 < pkg.now.layout.mutexes }
+    requires lacks { get_elem? me.old.held m.0 ≡ some None }
+    requires first { (me.old.world ≡ Some pkg.now.world) × (me.old.share ≡ Some []) }
+    ensures rest { AtRest pkg.now me.new }
+    ensures same { IsSame me.old me.new }
+    ensures held { me.new.held ≡ me.old.held }
+    ensures share { me.new.share ≡ me.old.share }
+{
+    let got = acquire(rt, pkg, me, m);
+    release::<SumUses, NoChange, R>(rt, pkg, me, m, got);
 }
 
 /// Wakes the thread that is about to wait for the time of this number, and keeps the other mutex until that thread has gone on.
@@ -49,7 +67,7 @@ fn wake_once<R: Wait>(
     let got = acquire(rt, pkg, me, kept);
     await_count(rt, &notes.begun, time as u64);
     // Who waits has given its mutex back where this thread gets it, so it is in the condition.
-    locked::<SumUses, NoChange, (), _, R>(rt, pkg, me, own, |_x| {});
+    pass(rt, pkg, me, own);
     // Longer each time, so that the signal finds it before its sleep at first, and asleep at last.
     linger(&notes.begun, time);
     signal(rt, pkg, me, CondId(0));
