@@ -1,10 +1,10 @@
 //! A condition, with a mutex whose value tells whose turn it is.
 use crate::notes::Notes;
 use crate::run::{LARGEST, run, two_of_each};
-use crate::steps::{Steps, counted};
+use crate::steps::{Steps, counted, resumed_beside};
 use crate::waits::Waits;
 use larch_actions::ThreadSet;
-use nub::{Action, CondId, Event, ThreadId};
+use nub::{Action, CondId, Event, MutexId, ThreadId};
 use std::sync::atomic::Ordering;
 use std::test::Fail;
 
@@ -110,6 +110,28 @@ fn ring_of_one_place(rt: HostRuntime) -> Result<(), Fail> {
         assert_eq!(rt; taken[0].load(Ordering::SeqCst), 5000);
         assert_eq!(rt; taken[1].load(Ordering::SeqCst), 5000);
         assert_eq!(rt; notes.ring.wrong.load(Ordering::SeqCst), 0);
+    }
+    Ok(())
+}
+
+// Who signals keeps another mutex than that of the wait, and gives it back only when the other thread has gone on. So that thread is woken at once:
+// it would wait for ever if it were unparked when a mutex is given back.
+#[test]
+fn the_waker_keeps_another_mutex(rt: HostRuntime) -> Result<(), Fail> {
+    for (what, kept) in [
+        (Waits::KeepsFirst(1000), MutexId(0)),
+        (Waits::KeepsSecond(1000), MutexId(1)),
+    ] {
+        let notes = Notes::new();
+        let closed = run(&rt, rt.alloc(), two_of_each(2), what, &notes, false)?;
+        assert_eq!(rt; closed.values(), [0, 0].as_slice());
+        assert_eq!(rt; notes.gone_on.load(Ordering::SeqCst), 1000);
+        let notes = Notes::new();
+        let closed = run(&rt, rt.alloc(), two_of_each(2), what, &notes, true)?;
+        let events = closed.trace().ok_or("no trace")?;
+        let found = counted(events, CondId(0)).ok_or("a wait that nobody ended")?;
+        assert_eq!(rt; (found.enqueued, found.signals), (1000, 1000));
+        assert_eq!(rt; resumed_beside(events, kept), 1000);
     }
     Ok(())
 }

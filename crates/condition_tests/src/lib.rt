@@ -6,6 +6,8 @@
 #[cfg(test)]
 mod conditions;
 #[cfg(test)]
+mod keeping;
+#[cfg(test)]
 mod notes;
 #[cfg(test)]
 mod run;

@@ -2,10 +2,11 @@
 use std::sync::Wait;
 use std::sync::atomic::{AtomicU64, Ordering};
 
-/// How many threads have begun to wait, 0 at first, and a ring.
+/// How many threads have begun to wait, how many have gone on, both 0 at first, and a ring.
 #[derive(Drop)]
 pub struct Notes {
     pub begun: AtomicU64,
+    pub gone_on: AtomicU64,
     pub ring: Ring,
 }
 
@@ -13,6 +14,7 @@ impl Notes {
     pub fn new() -> Notes {
         Notes {
             begun: AtomicU64::new(0),
+            gone_on: AtomicU64::new(0),
             ring: Ring::new(),
         }
     }
@@ -65,6 +67,15 @@ pub fn await_count<R: Wait>(rt: &R, note: &AtomicU64, count: u64) {
     for _ in rt.forever() {
         if note.load(Ordering::SeqCst) >= count {
             return;
+        }
+    }
+}
+
+/// Looks at the note this many times sixteen.
+pub fn linger(note: &AtomicU64, times: u32) {
+    for _i in 0..times {
+        for _j in 0..16 {
+            let _ = note.load(Ordering::SeqCst);
         }
     }
 }

@@ -1,6 +1,6 @@
 //! The steps of a condition in a trace, followed in the plainest way.
 use larch_actions::ThreadSet;
-use nub::{Action, CondId, Event, ThreadId};
+use nub::{Action, CondId, Event, MutexId, ThreadId};
 
 /// How many steps of each kind a trace has.
 #[derive(Clone, Copy, Debug, PartialEq, Eq, Drop)]
@@ -74,4 +74,21 @@ pub fn counted(events: &[Event], cond: CondId) -> Option<Steps> {
         }
     }
     Some(steps)
+}
+
+/// How often a thread resumed while another one held this mutex.
+pub fn resumed_beside(events: &[Event], kept: MutexId) -> u64 {
+    let mut held = false;
+    let mut count = 0u64;
+    for e in events {
+        match e.action {
+            Action::Acquire { mutex } if mutex == kept => held = true,
+            Action::Release { mutex } if mutex == kept => held = false,
+            Action::Resume { mutex, .. } if held && mutex != kept => {
+                count = count.wrapping_add(1);
+            }
+            _ => {}
+        }
+    }
+    count
 }

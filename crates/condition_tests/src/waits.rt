@@ -4,6 +4,7 @@ ghost use Rattle.larch_actions.specs.Layout.{IsLawful};
 ghost use Rattle.nub.specs.Ended.{IsDone};
 ghost use Rattle.nub.specs.Idle.{IsIdle};
 
+use crate::keeping::wait_or_keep;
 use crate::notes::{Notes, await_count};
 use condition::{broadcast, signal};
 use nub::{CondId, MutexId, Package, Thread};
@@ -27,6 +28,10 @@ pub enum Waits {
     Ring(u32),
     /// All but thread 0 wait in one condition until the value isn't 0, and thread 0 broadcasts once when this many do.
     Gather(u64),
+    /// Thread 0 waits so often with mutex 1, and thread 1 wakes it and keeps mutex 0 until it has gone on.
+    KeepsFirst(u32),
+    /// The same with the mutexes exchanged.
+    KeepsSecond(u32),
 }
 
 /// Signals and broadcasts to nobody.
@@ -178,6 +183,12 @@ pub fn wait_and_wake<R: Wait>(
         }
         Waits::Ring(times) => ring(rt, pkg, me, times, notes),
         Waits::Gather(count) => gather(rt, pkg, me, count, notes),
+        Waits::KeepsFirst(times) => {
+            wait_or_keep(rt, pkg, me, MutexId(1), MutexId(0), times, notes)
+        }
+        Waits::KeepsSecond(times) => {
+            wait_or_keep(rt, pkg, me, MutexId(0), MutexId(1), times, notes)
+        }
     }
 }
 
