@@ -133,8 +133,3 @@ pub record Adds (old new : Told) (path : Path) (kind : Kind) (node : Node) : Typ
   pub added : new path ≡ Some node
   pub named : (dir name : Path) (es : List Entry) → IsChild dir name path → old dir ≡ Some (Directory es) → new dir ≡ Some (Directory (es ++ record { name = name; kind = kind } ∷ []))
   pub others : (q : Path) → q ≢ path → ((name : Path) (es : List Entry) → IsChild q name path → old q ≢ Some (Directory es)) → new q ≡ old q
-
--- a failure is counted, and want of memory isn't
-abbrev pub HasNoted : ℕ → ℕ → TreeError → Type 0
-HasNoted before now Memory = now ≡ before
-HasNoted before now Failed = (before ≤ now) × Rose before now

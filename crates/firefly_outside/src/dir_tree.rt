@@ -1,7 +1,7 @@
 //! The directories and files of the system as a tree. These lines are the trusted edge.
 ghost use Rattle.std.specs.Prelude.{◌≡◌, ◌≤◌, IfOk, None, length};
 ghost use Rattle.firefly_outside.specs.Real.{dir_faults};
-ghost use Rattle.firefly_outside.specs.Trees.{AreEntries, IsWithin, HasNoted};
+ghost use Rattle.firefly_outside.specs.Trees.{AreEntries, Counts, IsWithin};
 
 use crate::names::{Names, add_name, entries_of};
 use crate::tree::MOST_BYTES;
@@ -29,15 +29,15 @@ impl<R: Files + AllocGlobal + Clone + Drop> DirTree<R> {
     }
 }
 
-// Counts a failure.
-fn noted(faults: &mut u64, error: TreeError) -> TreeError
-    ensures same { result ≡ error }
-    ensures noted { HasNoted faults.old faults.new error }
+// Counts a failure, and not that memory ran out.
+fn noted<T>(faults: &mut u64, error: TreeError) -> Result<T, TreeError>
+    ensures same { result ≡ Err error }
+    ensures count { Counts faults.old faults.new result }
 {
     if error == TreeError::Failed {
         *faults = faults.saturating_add(1);
     }
-    error
+    Err(error)
 }
 
 // Want of memory, or a failure.
@@ -202,14 +202,14 @@ impl<R: Files + AllocGlobal + Clone + Drop + Send> Tree for DirTree<R> {
     fn list(&mut self, alloc: Global, dir: &str) -> Result<Vec<Entry>, TreeError> {
         match list_entries(&self.files, alloc, dir) {
             Ok(entries) => Ok(entries),
-            Err(error) => Err(noted(&mut self.faults, error)),
+            Err(error) => noted(&mut self.faults, error),
         }
     }
 
     fn read(&mut self, alloc: Global, path: &str) -> Result<FileBytes, TreeError> {
         match read_bytes(&self.files, alloc, path) {
             Ok(file) => Ok(file),
-            Err(error) => Err(noted(&mut self.faults, error)),
+            Err(error) => noted(&mut self.faults, error),
         }
     }
 }

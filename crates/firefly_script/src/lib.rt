@@ -7,7 +7,7 @@
 #![tactic(auto)]
 
 mod draft;
-mod laws;
+pub mod laws;
 mod line;
 mod next;
 mod parse;
@@ -15,7 +15,6 @@ mod read;
 mod script;
 mod table;
 
-pub use laws::one_answer;
 pub use line::{Line, Operation};
 pub use read::read_script;
 pub use script::{Script, ScriptFault};

@@ -22,7 +22,7 @@ use Rattle.nub_rule.specs.declared.view.WaitBit.TheVariants.{Closing, Quiet}
 use Rattle.nub_rule.specs.Items.{Each, Distinct, line_of, places_from}
 use Rattle.nub_rule.specs.Owed.{HasTurn, IsAsleep, MustLook, SomebodyMustLook}
 use Rattle.nub_rule.specs.Parts.{Got, Has, IsFound, counts_in, fresh, pending_of, waits_on}
-use Rattle.nub_rule.specs.Places.{alert_at, bit_at, cond_object, count_at, length_at, number_at, pen_at, queue_at, ready_at, sem_object, spin_at, value_at}
+use Rattle.nub_rule.specs.Places.{alert_at, bit_at, cond_object, count_at, length_at, most_threads, number_at, pen_at, queue_at, ready_at, sem_object, spin_at, value_at}
 use Rattle.nub_rule.specs.Rule.{IsKept}
 
 -- the count of the condition c, and whether the thread n is ready
@@ -91,7 +91,7 @@ module _ {T H : Type 0} where
     pub holder : (m n : ℕ) → (state.holder m ≡ some n) ↔ ViewIs views n (λ p. SaysHolds p m)
     -- a semaphore is available exactly where its bit is 0, and a thread is alerted exactly where its alert word is 1
     pub avail : (s : ℕ) → s < 64 → (state.avail s ≡ true) ↔ (slice_index words (bit_at (sem_object s)) ≡ 0)
-    pub alerts : (t : ℕ) → t < 64 → (state.alerts t ≡ true) ↔ (slice_index words (alert_at t) ≡ 1)
+    pub alerts : (t : ℕ) → t < most_threads → (state.alerts t ≡ true) ↔ (slice_index words (alert_at t) ≡ 1)
     -- what a thread has begun is in its view
     pub pending : Each (λ n p. state.pending n ≡ pending_of p.wait) views
     pub nobody : (t : ℕ) → length views ≤ t → state.pending t ≡ Nothing

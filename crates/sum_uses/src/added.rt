@@ -1,4 +1,5 @@
 //! What a thread has added.
+
 /// An addition under a mutex.
 pub struct Added {
     pub mutex: u64,

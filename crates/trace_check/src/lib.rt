@@ -5,7 +5,6 @@
 #![tactic(auto)]
 
 mod checker;
-mod laws;
+pub mod laws;
 
 pub use checker::{Summary, Verdict, check};
-pub use laws::one_verdict;

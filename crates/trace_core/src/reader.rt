@@ -32,6 +32,7 @@ impl<'a, I: Source> EventReader<'a, I> {
             input,
             progress: Progress {
                 intake: Intake::new(budget),
+                // Replaced by the text's own when its head is read.
                 layout: Layout {
                     threads: 1,
                     mutexes: 0,
