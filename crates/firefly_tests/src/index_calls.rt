@@ -77,6 +77,34 @@ fn a_path_that_fails_is_named(rt: HostRuntime) -> Result<(), Fail> {
     Ok(())
 }
 
+// All paths of the project.
+fn project_paths() -> [&'static str; 8] {
+    [
+        "proj",
+        "proj/src",
+        "proj/doc",
+        "proj/README",
+        "proj/src/main.rs",
+        "proj/src/run.rs",
+        "proj/doc/my notes.txt",
+        "proj/doc/logo.bin",
+    ]
+}
+
+// The default has two walkers and four parsers, so the tree of the closing walk is the seventh.
+#[test]
+fn the_workers_leave_nothing_to_the_closing_walk(rt: HostRuntime) -> Result<(), Fail> {
+    let tree = project(rt.alloc())?;
+    let mut trees = copies_failing_from(rt.alloc(), &tree, 6, &project_paths())?;
+    let mut input = MemSource::new(Vec::new(rt.alloc()));
+    let words = ["index", "proj"];
+    let found = answer_of(&rt, rt.alloc(), &words, &mut trees, &mut input, 1000)?;
+    assert_eq!(rt; found.status, Status::Done);
+    assert_eq!(rt; found.out.as_slice(), project_index().as_bytes());
+    assert_eq!(rt; found.notes.len(), 0);
+    Ok(())
+}
+
 // Whether this is the text of the piece.
 fn is_text(alloc: Global, piece: &Piece, text: &str) -> Result<bool, Fail> {
     let mut out = MemSink::with_room(alloc, 1000)?;

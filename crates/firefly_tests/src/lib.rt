@@ -25,6 +25,8 @@ mod script_reading;
 #[cfg(test)]
 mod statuses;
 #[cfg(test)]
+mod trace_texts;
+#[cfg(test)]
 mod trees;
 #[cfg(test)]
 mod verdict_lines;
