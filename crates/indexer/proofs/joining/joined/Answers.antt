@@ -14,7 +14,7 @@ returns-in_default-clause-covers c = λ path h. absurd (Contains-nil path ((c.em
 
 pub loop-piece-init : goal.loop-piece-init
 loop-piece-init c =
-    let rest = c.pop-whole.new.self.items in
+    let rest = c.pop.new.self.items in
     let whole = c.in-Some.whole in
     let items = c.in-Some.ensures.items in
     record {
@@ -28,9 +28,9 @@ loop-piece-init c =
 pub loop-piece-preserved : goal.loop-piece-preserved
 loop-piece-preserved c =
     let was = c.loop-piece.invariant in
-    let rest = c.pop.new.self.items in
-    let piece = c.in-Some.piece in
-    let items = c.in-Some.ensures.items in
+    let rest = c.pop-in-loop-piece.new.self.items in
+    let piece = c.in-Some-pop.piece in
+    let items = c.in-Some-pop.ensures.items in
     record {
       files = λ tree root all.
           let h = was.files tree root all in
