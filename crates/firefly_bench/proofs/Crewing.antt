@@ -1,6 +1,6 @@
 -- What the threads of a workload leave together.
-use Rattle.std.proofs.Common.{◌≡◌, ◌≢◌, ◌<◌, ◌≤◌, ℕ, ◌+◌, ◌*◌, List, [], ◌∷◌, ◌++◌, length, length-append, map, Option, suc, Some, arith, ap, sym, subst, ◌∙◌, refl}
-use mathlib.Core.Option.{some, some-injective}
+use Rattle.std.proofs.Common.{◌≡◌, ◌≢◌, ◌<◌, ◌≤◌, ℕ, ◌+◌, ◌*◌, List, [], ◌∷◌, ◌++◌, length, length-append, map, Option, zero, suc, Some, arith, ap, sym, subst, ◌∙◌, refl}
+use mathlib.Core.Option.{some, some-injective, some-ne-none}
 use lib.ListN.{get_elem?}
 use Rattle.std.proofs.lemmas.Option.{same_Some}
 use Rattle.larch_actions.specs.declared.event.Event.{Event}
@@ -46,3 +46,15 @@ pub only_one : (xs : List ℕ) → length xs ≡ 1 → (x : ℕ) × (xs ≡ x �
 only_one [] e = absurd (omega arith)
 only_one (x ∷ []) e = (x, refl)
 only_one (x ∷ y ∷ xs) e = absurd (omega arith)
+
+-- the thread whose share stands at a place
+pub thread_of : {A H : Type 0} (share : A → Option H) (threads : List A) (shares : List H) → map share threads ≡ map (λ s. Some s) shares
+    → (k : ℕ) (s : H) → get_elem? shares k ≡ some s → (t : A) × (get_elem? threads k ≡ some t) × (share t ≡ Some s)
+thread_of share threads [] each k s at = absurd (some-ne-none s (sym at))
+thread_of share [] (x ∷ shares) each k s at = absurd (cc)
+thread_of share (t ∷ threads) (x ∷ shares) each zero s at =
+    let head : share t ≡ Some x = cc in
+    (t, refl, head ∙ ap (λ u. Some u) (some-injective x s at))
+thread_of {A = A} {H = H} share (t ∷ threads) (x ∷ shares) each (suc k) s at =
+    let tail : map share threads ≡ map (λ s. Some s) shares = cc in
+    thread_of {A = A} {H = H} share threads shares tail k s at
