@@ -2,6 +2,7 @@
 use Rattle.std.proofs.Common.{◌≡◌, ◌≢◌, ◌<◌, ◌≤◌, ℕ, ◌+◌, ◌*◌, List, [], ◌∷◌, ◌++◌, length, length-append, map, Option, zero, suc, Some, arith, ap, sym, subst, ◌∙◌, refl}
 use mathlib.Core.Option.{some, some-injective, some-ne-none}
 use lib.ListN.{get_elem?}
+use Rattle.std.proofs.lemmas.List.{length-map}
 use Rattle.std.proofs.lemmas.Option.{same_Some}
 use Rattle.larch_actions.specs.declared.event.Event.{Event}
 use Rattle.nub_rule.specs.Known.{Shape}
@@ -46,6 +47,13 @@ pub only_one : (xs : List ℕ) → length xs ≡ 1 → (x : ℕ) × (xs ≡ x �
 only_one [] e = absurd (omega arith)
 only_one (x ∷ []) e = (x, refl)
 only_one (x ∷ y ∷ xs) e = absurd (omega arith)
+
+pub many_shares : {A H : Type 0} (share : A → Option H) (threads : List A) (shares : List H) → map share threads ≡ map (λ s. Some s) shares → length shares ≡ length threads
+many_shares {H = H} share threads shares each =
+    let a = length-map threads share in
+    let b = length-map shares (λ (s : H). Some s) in
+    let e = ap length each in
+    omega arith
 
 -- the thread whose share stands at a place
 pub thread_of : {A H : Type 0} (share : A → Option H) (threads : List A) (shares : List H) → map share threads ≡ map (λ s. Some s) shares

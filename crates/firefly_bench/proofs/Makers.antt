@@ -1,5 +1,5 @@
 -- What makers and takers leave together.
-use Rattle.std.proofs.Common.{◌≡◌, ◌⊎◌, ℕ, zero, suc, ◌+◌, ◌*◌, ◌%◌, ◌^◌, ◌<◌, ◌≤◌, Bool, true, false, ◌||◌, List, [], ◌∷◌, length, take, arith, sym, ap, subst, ◌∙◌, ⊎_elim, refl, inl, inr}
+use Rattle.std.proofs.Common.{◌≡◌, ◌⊎◌, ℕ, zero, suc, ◌+◌, ◌*◌, ◌%◌, ◌^◌, ◌<◌, ◌≤◌, Bool, true, false, ◌||◌, List, [], ◌∷◌, length, take, arith, sym, ap, subst, ◌∙◌, ⊎_elim, refl, inl, inr, Some}
 use Rattle.std.specs.List.{All, sum, enumerate_from}
 use Rattle.std.specs.List.Sorted.{IsPermutation}
 use Rattle.std.proofs.lemmas.Bool.{cases_lt}
@@ -9,13 +9,17 @@ use Rattle.std.proofs.lemmas.List.FromFn.{length-enumerate_from}
 use Rattle.std.proofs.lemmas.List.Sorted.{length_permutation, sum_by-IsPermutation}
 use mathlib.Core.Option.{some, some-injective, some-ne-none}
 use lib.ListN.{get_elem?}
+use Rattle.std.proofs.lemmas.Option.{same_Some}
+use Rattle.nub_rule.specs.Known.{Shape}
 use Rattle.nub_rule.proofs.Each.{at_below}
+use Rattle.nub.specs.Ended.{KeepsLocks}
 use Rattle.bounded_buffer.specs.declared.note.Note.{Note}
 use Rattle.bounded_buffer.specs.Parts.{Used}
 use Rattle.bounded_buffer.specs.Plain.{BufferRule, Keeps, part_of, all_puts, all_takes, any_shut}
 use Rattle.bounded_buffer.specs.PlainLaws.{fits_plain}
-use Rattle.bounded_buffer.specs.Rings.{Held, put_count}
-use Rattle.firefly_bench.specs.Passing.{HasMade, IsMaker, IsOver, IsTaker, WasRefused, items_sum, numbers_sum, said}
+use Rattle.bounded_buffer.specs.Rings.{Held, fresh, put_count}
+use Rattle.firefly_bench.specs.Passing.{Both, HasMade, HasPassed, IsMaker, IsOver, IsTaker, Passer, WasRefused, items_sum, numbers_sum, said}
+use Rattle.firefly_bench.proofs.Crewing.{many_shares, thread_of}
 use Rattle.firefly_bench.proofs.Sums.{rows-sum, rows-length, fewer_pairs, counted-sum}
 
 -- the share of the thread n says that it has done its part, and it has counted this
@@ -23,6 +27,19 @@ pub record Tells (makers times : ℕ) (lefts : List ℕ) (n : ℕ) (s : List (No
   pub counted : (left : ℕ) → get_elem? lefts n ≡ some left → left ≡ items_sum (part_of s 0).takes % 2 ^ 64
   pub makes : n < makers → IsMaker makers times n (said s)
   pub takes : makers ≤ n → IsTaker (said s)
+
+-- what a thread has done, its share says
+told : (makers times : ℕ) (p : Shape (Unit {0})) (lefts : List ℕ) (n : ℕ) (s : List (Note ℕ)) (t : Passer) → t.share ≡ Some s
+    → (left : ℕ) × (get_elem? lefts n ≡ some left) × HasPassed p makers times n left t → Tells makers times lefts n s
+told makers times p lefts n s t share passed =
+    let h = passed.2 in
+    let same : h.done.share ≡ s = same_Some h.done.share s (sym h.done.idle.share ∙ share) in
+    let is : h.both ≡ said s = sym h.done.is_said ∙ ap said same in
+    record {
+      counted = λ left at. some-injective left passed.0 (sym at ∙ passed.1) ∙ (h.sum ∙ ap (λ (x : Both). items_sum x.numbers.takes % 2 ^ 64) is);
+      makes = λ low. subst (λ x. IsMaker makers times n x) is (h.makes low);
+      takes = λ high. subst (λ x. IsTaker x) is (h.takes high);
+    }
 
 either_true : (b c : Bool) → (b || c) ≡ true → (b ≡ true) ⊎ (c ≡ true)
 either_true true c e = inl refl
@@ -140,3 +157,28 @@ module _ (makers times : ℕ) (lefts : List ℕ) (values : List (Held ℕ)) (sha
         sum = counted ∙ ap (λ n. n % 2 ^ 64) (sym one ∙ (other ∙ (rows ∙ ap (λ n. numbers_sum n (makers * times)) zero_times)));
         over = record { taken = omega arith; empty = end.1; shut = end.0 };
       }
+
+-- what all threads leave together
+pub record Closes (makers times : ℕ) (lefts : List ℕ) (values : List (Held ℕ)) : Type 0 where
+  pub sum : sum lefts % 2 ^ 64 ≡ numbers_sum 0 (makers * times) % 2 ^ 64
+  pub over : (q : Held ℕ) → get_elem? values 0 ≡ some q → IsOver (makers * times) q
+
+pub closes : (makers times : ℕ) (p : Shape (Unit {0})) (threads : List Passer) (lefts : List ℕ) (values : List (Held ℕ)) → KeepsLocks Keeps threads values
+    → makers < length threads → length lefts ≡ length threads → length values ≡ 2
+    → ((n : ℕ) (t : Passer) → get_elem? threads n ≡ some t → (left : ℕ) × (get_elem? lefts n ≡ some left) × HasPassed p makers times n left t) → Closes makers times lefts values
+closes makers times p threads lefts values locks some_taker long two passed =
+    let shares = locks.shares in
+    let as_many : length shares ≡ length threads = many_shares (λ (t : Passer). t.share) threads shares locks.each_share in
+    let each : (k : ℕ) (u : List (Note ℕ)) → get_elem? shares k ≡ some u → Tells makers times lefts k u = λ k u at.
+    let t = thread_of (λ (x : Passer). x.share) threads shares locks.each_share k u at in
+    told makers times p lefts k u t.0 t.2 (passed k t.0 t.1) in
+    let q = at_below values 0 (omega arith) in
+    let e = at_below values 1 (omega arith) in
+    let o = outcome makers times lefts values shares locks.kept each q.0 e.0 q.1 e.1 (omega arith) (omega arith) in
+    record { sum = o.sum; over = λ r at. subst (λ v. IsOver (makers * times) v) (some-injective q.0 r (sym q.1 ∙ at)) o.over }
+
+-- both rings are new
+pub both_new : (a b : ℕ) (values : List (Held ℕ)) → values ≡ fresh a ∷ fresh b ∷ [] → (m : ℕ) (q : Held ℕ) → get_elem? values m ≡ some q → (c : ℕ) × (q ≡ fresh c)
+both_new a b values is zero q at = (a, sym (some-injective (fresh a) q (sym (ap (λ l. get_elem? l 0) is) ∙ at)))
+both_new a b values is (suc zero) q at = (b, sym (some-injective (fresh b) q (sym (ap (λ l. get_elem? l 1) is) ∙ at)))
+both_new a b values is (suc (suc m)) q at = absurd (some-ne-none q (sym at ∙ ap (λ l. get_elem? l (suc (suc m))) is))

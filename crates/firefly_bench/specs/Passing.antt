@@ -81,10 +81,10 @@ pub record IsTaker (x : Both) : Type 0 where
   pub end : x.numbers.seen_end ≡ true
 
 -- the thread n of the package has done its part, with this sum modulo 2^64 of what it has taken: the first threads make, and the others take
-pub record HasPassed (p : Shape (Unit {0})) (makers times n sum : ℕ) (t : Passer) : Type 0 where
+pub record HasPassed (p : Shape (Unit {0})) (makers times n summed : ℕ) (t : Passer) : Type 0 where
   pub both : Both
   pub done : HasDone p n both t
-  pub sum : sum ≡ items_sum both.numbers.takes % 2 ^ 64
+  pub sum : summed ≡ items_sum both.numbers.takes % 2 ^ 64
   pub makes : n < makers → IsMaker makers times n both
   pub takes : makers ≤ n → IsTaker both
 

@@ -1,5 +1,5 @@
 //! Threads that pass numbers on by a bounded buffer.
-ghost use Rattle.std.specs.Prelude.{[], ◌∷◌, ◌≡◌, ◌<◌, ◌+◌, ◌*◌, ◌%◌, ◌^◌, ℕ, length, IfNone, IfOk, IfSome};
+ghost use Rattle.std.specs.Prelude.{[], ◌∷◌, ◌≡◌, ◌<◌, ◌≤◌, ◌+◌, ◌*◌, ◌%◌, ◌^◌, ℕ, length, IfNone, IfOk, IfSome};
 ghost use Rattle.std.specs.List.{sum};
 ghost use mathlib.Core.Option.{some};
 ghost use lib.ListN.{get_elem?};
@@ -125,9 +125,9 @@ fn make<R: Wait>(
     let own = me.number() as u64;
     let first = own * times as u64;
     for i in 0..times {
-        if put_in(rt, shared, &mut me, NUMBERS, first + i as u64).is_none() {
+        let Some(_) = put_in(rt, shared, &mut me, NUMBERS, first + i as u64) else {
             return me;
-        }
+        };
     }
     let Some(place) = put_in(rt, shared, &mut me, ENDS, own) else {
         return me;
