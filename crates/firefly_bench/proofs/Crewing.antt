@@ -66,3 +66,8 @@ thread_of share (t ∷ threads) (x ∷ shares) each zero s at =
 thread_of {A = A} {H = H} share (t ∷ threads) (x ∷ shares) each (suc k) s at =
     let tail : map share threads ≡ map (λ s. Some s) shares = cc in
     thread_of {A = A} {H = H} share threads shares tail k s at
+
+-- the only value of a list
+pub only_value : {A : Type 0} (values : List A) (x : A) → values ≡ x ∷ [] → (m : ℕ) (q : A) → get_elem? values m ≡ some q → q ≡ x
+only_value values x is zero q at = sym (some-injective x q (sym (ap (λ l. get_elem? l 0) is) ∙ at))
+only_value values x is (suc m) q at = absurd (some-ne-none q (sym at ∙ ap (λ l. get_elem? l (suc m)) is))

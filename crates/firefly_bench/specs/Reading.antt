@@ -37,6 +37,6 @@ abbrev pub HasPlayed : ℕ → ℕ → ℕ → Player → Type 0
 HasPlayed readers times n t = t.share ≡ Some (turns (role_by readers n) times)
 
 -- the thread n of the package has taken so many turns, and counted this many writes
-pub record HasCounted (p : Shape (Unit {0})) (readers times n counted : ℕ) (t : Player) : Type 0 where
+pub record HasCounted (p : Shape (Unit {0})) (readers times n writes : ℕ) (t : Player) : Type 0 where
   pub idle : IsIdle p n (turns (role_by readers n) times) t
-  pub counted : counted ≡ writes_by readers times n
+  pub counted : writes ≡ writes_by readers times n
