@@ -1,5 +1,5 @@
 -- What a call at one of two buffers adds to what a thread has done.
-use Rattle.std.proofs.Common.{◌≡◌, ◌≢◌, ℕ, zero, suc, ◌<◌, List, [], arith, sym, ap, subst, ◌∙◌, refl, Some}
+use Rattle.std.proofs.Common.{◌≡◌, ◌≢◌, ℕ, zero, suc, ◌<◌, List, [], arith, ap, subst, ◌∙◌, refl, Some}
 use Rattle.nub_rule.specs.Known.{Shape}
 use Rattle.nub.specs.Idle.{IsIdle}
 use Rattle.nub.specs.Rest.{AtRest, IsSame}
@@ -8,7 +8,7 @@ use Rattle.bounded_buffer.specs.declared.did.Did.{Did}
 use Rattle.bounded_buffer.specs.declared.note.Note.{Note}
 use Rattle.bounded_buffer.specs.Parts.{Used, did}
 use Rattle.bounded_buffer.specs.Plain.{part_of}
-use Rattle.firefly_bench.specs.Passing.{Both, Passer, HasDone, neither, on, said, settled}
+use Rattle.firefly_bench.specs.Passing.{Both, Passer, HasDone, neither, on, settled}
 
 abbrev both : Used ℕ → Used ℕ → Both
 both u v = record { numbers = u; ends = v }

@@ -1,5 +1,5 @@
 -- A thread that has the mutex across its rounds.
-use Rattle.std.proofs.Common.{◌≡◌, ◌≤◌, ℕ, ◌+◌, ◌-◌, List, [], Some, None, lit<, arith, refl, ap, sym, subst, ◌∙◌, slice_set}
+use Rattle.std.proofs.Common.{◌≡◌, ◌≤◌, ℕ, ◌+◌, List, [], Some, None, lit<, arith, refl, ap, sym, ◌∙◌, slice_set}
 use lib.ListN.{get_elem?}
 use Rattle.std.proofs.lemmas.List.{set-set}
 use Rattle.std.proofs.lemmas.Option.{same_Some}
@@ -10,7 +10,7 @@ use Rattle.nub.specs.Rest.{AtRest, IsSame}
 use Rattle.sum_uses.specs.declared.added.Added.{Added}
 use Rattle.sum_uses.specs.Sums.{GrowsAlike, IsAbove, added, grown}
 use Rattle.sum_uses.proofs.Adding.{added_own, adding_grows}
-use Rattle.firefly_bench.specs.Workloads.{HasTurned, HoldsNone, IsInside, Worker}
+use Rattle.firefly_bench.specs.Workloads.{HasTurned, IsInside, Worker}
 
 -- who has just got the mutex has added nothing
 pub got_inside : (p : Shape (Unit {0})) (n x : ℕ) (a b : Worker) → IsIdle p n [] a → AtRest p b → IsSame a b → Holds b 0 x → b.held ≡ slice_set a.held 0 (Some x) → b.share ≡ a.share → IsAbove 0 x [] → IsInside p b.number x 0 b

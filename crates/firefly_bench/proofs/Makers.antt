@@ -148,7 +148,7 @@ module _ (makers times : ℕ) (lefts : List ℕ) (values : List (Held ℕ)) (sha
       let other : items_sum (enumerate_from 0 rule.log) ≡ items_sum (all_puts 0 shares) = sum_by-IsPermutation (λ (p : ℕ × ℕ). p.1) (all_puts 0 shares) (enumerate_from 0 rule.log) rule.puts in
       let zero_times : 0 * times ≡ 0 = omega arith in
       let rows : items_sum (all_puts 0 shares) ≡ numbers_sum (0 * times) (makers * times) = rows-sum times makers 0 shares (omega arith)
-          (λ k u at low. let f : k * times ≡ (0 + k) * times = omega arith in (made q e at_q at_e k u at low).sum ∙ ap (λ n. numbers_sum n times) f) no_puts in
+      (λ k u at low. let f : k * times ≡ (0 + k) * times = omega arith in (made q e at_q at_e k u at low).sum ∙ ap (λ n. numbers_sum n times) f) no_puts in
       let counted = counted-sum (2 ^ 64) lefts shares long (λ k u left at_u at_left. (each k u at_u).counted left at_left) in
       let many = rows-length times makers shares (omega arith) (λ k u at low. (made q e at_q at_e k u at low).count) no_puts in
       let count = puts-count 0 q shares rule in

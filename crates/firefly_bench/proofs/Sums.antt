@@ -1,5 +1,5 @@
 -- Sums of numbers in a row, and of the items that shares speak of.
-use Rattle.std.proofs.Common.{◌≡◌, ◌≢◌, ℕ, zero, suc, ◌+◌, ◌*◌, ◌%◌, ◌<◌, ◌≤◌, List, [], ◌∷◌, ◌++◌, length, map, add-one, arith, sym, ap, ◌∙◌, refl}
+use Rattle.std.proofs.Common.{◌≡◌, ℕ, zero, suc, ◌+◌, ◌*◌, ◌%◌, ◌<◌, ◌≤◌, List, [], ◌∷◌, ◌++◌, length, add-one, arith, sym, ap, ◌∙◌, refl}
 use Rattle.std.specs.List.{sum, range_with_len}
 use Rattle.std.proofs.Math.Nat.{add-mod-mod, mod-add-mod}
 use Rattle.std.proofs.lemmas.List.{map-id, length-append}
@@ -45,8 +45,8 @@ rows-sum times zero first shares long own others =
 rows-sum times (suc makers) first [] long own others = absurd (omega arith)
 rows-sum times (suc makers) first (x ∷ shares) long own others =
     let rest = rows-sum times makers (first + 1) shares (omega arith)
-        (λ k u at low. let e : (first + suc k) * times ≡ ((first + 1) + k) * times = omega arith in own (suc k) u at (omega arith) ∙ ap (λ n. numbers_sum n times) e)
-        (λ k u at high. others (suc k) u at (omega arith)) in
+    (λ k u at low. let e : (first + suc k) * times ≡ ((first + 1) + k) * times = omega arith in own (suc k) u at (omega arith) ∙ ap (λ n. numbers_sum n times) e)
+    (λ k u at high. others (suc k) u at (omega arith)) in
     let head = own 0 x refl (omega arith) in
     let a : (first + 0) * times ≡ first * times = omega arith in
     let b : (first + 1) * times ≡ first * times + times = omega arith in

@@ -9,7 +9,9 @@ ghost use Rattle.firefly_bench.specs.Workloads.{HasTurned, IsInside, Worker};
 use alert_wait::{Outcome, alert_wait};
 use alerts::alert;
 use condition::signal;
-use nub::{Closed, CondId, Layout, MutexId, Package, Thread, ThreadId, close_package, open_package};
+use nub::{
+    Closed, CondId, Layout, MutexId, Package, Thread, ThreadId, close_package, open_package,
+};
 use package_crew::at_once;
 use std::alloc::{AllocError, Global};
 use std::sync::Wait;
@@ -161,7 +163,7 @@ pub fn alert_at_once<R: Threads + Wait + Sync>(
         threads,
         &|me: Thread<SumUses>| -> (Thread<SumUses>, u64)
             requires { (0 < shared.layout.mutexes) × (1 < shared.layout.conditions) × (0 < shared.layout.threads)
-            × IsFirst shared (λ w t. []) me.number me }
+                × IsFirst shared (λ w t. []) me.number me }
             ensures { HasWoken shared times me.number result.1 result.0 }
         { wake(rt, &shared, me, times) },
     )?;

@@ -1,4 +1,4 @@
-use Rattle.std.proofs.Common.{◌≡◌, ◌+◌, ◌*◌, ℕ, List, false, true, ◌∷◌, [], length, arith, refl, sym, ap, ◌∙◌, inl, inr}
+use Rattle.std.proofs.Common.{◌≡◌, ◌+◌, ◌*◌, ℕ, List, false, true, ◌∷◌, [], arith, refl, sym, ap, ◌∙◌, inl, inr}
 use Rattle.std.proofs.lemmas.List.Sums.{sum_by-cons}
 use Rattle.nub.proofs.Users.{idle_first}
 use Rattle.bounded_buffer.specs.declared.did.Did.TheVariants.{Put, Shut, SawShut}
@@ -29,8 +29,7 @@ put_in-requires-clause-done g c = let inv = c.loop-i.invariant in (c.args.me.num
 
 pub returns-in_default : goal.returns-in_default
 returns-in_default g c =
-    let inv = c.loop-i.invariant in
-    (
+    let inv = c.loop-i.invariant in (
       on 0 SawShut (so_far inv.0),
       c.in_default.ensures.refused c.args.me.number (so_far inv.0) inv.1,
       record { takes = refl; opened = refl; ends = inr (record { told = refl; opened = refl; seen = inl refl }) },
@@ -44,8 +43,7 @@ loop-i-preserved g c =
     let pair : ℕ × ℕ = (c.in-Some.field-0, item) in
     let own = c.number-own.ensures in
     let is : item ≡ c.args.me.number * c.args.times + i = ap (λ n. n * c.args.times + i) own in
-    let long = inv.3 in
-    (
+    let long = inv.3 in (
       pair ∷ inv.0,
       c.in-Some.ensures.put c.args.me.number (so_far inv.0) inv.1,
       row_more (c.args.me.number * c.args.times) i c.in-Some.field-0 item inv.0 is inv.2,
@@ -57,8 +55,7 @@ put_in-requires-2-clause-done g c = let inv = c.loop-i.invariant in (c.args.me.n
 
 pub returns-in_default-put_in : goal.returns-in_default-put_in
 returns-in_default-put_in g c =
-    let inv = c.loop-i.invariant in
-    (
+    let inv = c.loop-i.invariant in (
       on 1 SawShut (so_far inv.0),
       c.in_default-put_in.ensures.refused c.args.me.number (so_far inv.0) inv.1,
       record { takes = refl; opened = refl; ends = inr (record { told = refl; opened = refl; seen = inr refl }) },
@@ -79,8 +76,7 @@ returns-then-place-others g c =
     let end = c.loop-i.auto.i-end in
     let all : c.loop-i.i ≡ c.args.times = omega arith in
     let long = inv.3 in
-    let last = c.if-place-others.true in
-    (
+    let last = c.if-place-others.true in (
       on 0 Shut put,
       c.shut_off.ensures n put (c.in-Some-put_in.ensures.put n (so_far inv.0) inv.1),
       record {
@@ -104,8 +100,7 @@ returns g c =
     let over = c.loop-i-test.false in
     let end = c.loop-i.auto.i-end in
     let all : c.loop-i.i ≡ c.args.times = omega arith in
-    let long = inv.3 in
-    (
+    let long = inv.3 in (
       on 1 (Put place c.number-own.result) (so_far inv.0),
       c.in-Some-put_in.ensures.put n (so_far inv.0) inv.1,
       record {

@@ -1,4 +1,4 @@
-use Rattle.std.proofs.Common.{◌≡◌, ◌+◌, ◌<◌, ℕ, List, [], length, rules, arith, ap, sym, subst, ◌∙◌, lit≤}
+use Rattle.std.proofs.Common.{◌≡◌, ◌+◌, ℕ, [], length, rules, arith, ap, sym, subst, ◌∙◌, lit≤}
 use mathlib.Core.Option.{some}
 use lib.ListN.{get_elem?}
 use Rattle.nub.specs.Ended.{IsDone}

@@ -1,4 +1,4 @@
-use Rattle.std.proofs.Common.{◌≡◌, ◌+◌, ◌<◌, ◌≤◌, ℕ, [], length, None, rules, arith, ap, sym, subst, ◌∙◌, lit≤}
+use Rattle.std.proofs.Common.{◌≡◌, ◌+◌, ℕ, [], length, None, rules, arith, ap, sym, subst, ◌∙◌, lit≤}
 use mathlib.Core.Option.{some, some-injective}
 use lib.ListN.{get_elem?}
 use Rattle.nub.specs.Ended.{IsDone}

@@ -1,4 +1,4 @@
-use Rattle.std.proofs.Common.{◌≡◌, ◌+◌, ◌∷◌, [], add-one, arith, lit<, refl, sym, ap, subst}
+use Rattle.std.proofs.Common.{◌≡◌, ◌∷◌, [], add-one, arith, refl, sym, subst}
 use Rattle.nub.specs.Idle.{IsIdle}
 use Rattle.nub.proofs.Users.{idle_again, idle_first}
 use Rattle.readers_writers.specs.declared.role.Role.TheVariants.{Idle, Writing}

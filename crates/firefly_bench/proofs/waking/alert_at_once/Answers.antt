@@ -1,4 +1,4 @@
-use Rattle.std.proofs.Common.{◌≡◌, ◌*◌, ◌<◌, ℕ, [], ◌∷◌, length, ap, sym, subst, ◌∙◌, arith, rules, lit≤, refl}
+use Rattle.std.proofs.Common.{◌≡◌, ◌*◌, ℕ, [], ◌∷◌, length, ap, sym, subst, ◌∙◌, arith, rules, lit≤, refl}
 use mathlib.Core.Option.{some, some-injective}
 use lib.ListN.{get_elem?}
 use Rattle.nub_rule.proofs.Each.{at_below}

@@ -1,4 +1,4 @@
-use Rattle.std.proofs.Common.{◌≡◌, ◌+◌, [], length, arith, ap, lit<, refl, subst, ◌∙◌}
+use Rattle.std.proofs.Common.{◌≡◌, ◌+◌, [], arith, ap, lit<, refl, subst}
 use Rattle.nub.specs.Idle.{IsIdle}
 use Rattle.nub.proofs.Users.{idle_first}
 use Rattle.nub_rule.specs.Plays.{acquire_event, event, release_event, signal_action}
