@@ -31,6 +31,27 @@ got_inside p n x a b i rest same holds held share above = record {
   few = omega arith;
 }
 
+-- who gets the mutex again has added nothing since
+pub again_inside : (p : Shape (Unit {0})) (n x times : ℕ) (a b : Worker) (i : HasTurned p times n a) → times ≤ 100000000000 → AtRest p b → IsSame a b → Holds b 0 x → b.held ≡ slice_set a.held 0 (Some x) → b.share ≡ a.share → IsAbove 0 x i.share → IsInside p n x times b
+again_inside p n x times a b i few rest same holds held share above =
+    let sum = i.sum in
+    record {
+      number = same.number ∙ i.idle.number;
+      rest = rest;
+      world = same.world ∙ i.idle.world;
+      got = x;
+      holds = holds;
+      before = a.held;
+      none = record { lacks = i.idle.lacks; none = i.idle.none };
+      held = held;
+      share = i.share;
+      is_share = share ∙ i.idle.share;
+      above = above;
+      rises = omega arith;
+      sum = omega arith;
+      few = few;
+    }
+
 -- a call that keeps the mutexes and the share
 pub still_inside : (p : Shape (Unit {0})) (n y times : ℕ) (a b : Worker) → IsInside p n y times a → AtRest p b → IsSame a b → b.held ≡ a.held → b.share ≡ a.share → IsInside p n y times b
 still_inside p n y times a b i rest same held share = record {
