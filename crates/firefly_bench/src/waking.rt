@@ -3,7 +3,8 @@ ghost use Rattle.std.specs.Prelude.{[], ◌∷◌, IfOk, ◌≡◌, ◌<◌, ◌
 ghost use mathlib.Core.Option.{some};
 ghost use lib.ListN.{get_elem?};
 ghost use Rattle.nub.specs.Ended.{IsFirst};
-ghost use Rattle.sum_uses.specs.Sums.{AreSums, GrowsAlike, IsAbove, after_sums, fits_sums, grown};
+ghost use Rattle.sum_uses.specs.SumLaws.{after_sums, fits_sums};
+ghost use Rattle.sum_uses.specs.Sums.{AreSums, GrowsAlike, IsAbove, grown};
 ghost use Rattle.firefly_bench.specs.Waking.{HasWoken, raises};
 ghost use Rattle.firefly_bench.specs.Workloads.{HasTurned, IsInside, Worker};
 
