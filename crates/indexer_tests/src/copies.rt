@@ -1,0 +1,37 @@
+//! Copies of a tree, one for each worker that has one and one for the closing walk.
+ghost use Rattle.std.specs.Prelude.{◌≡◌, ◌+◌, All, IfOk, length};
+ghost use Rattle.firefly_outside.specs.Seen.{tree_of};
+ghost use Rattle.indexer_tests.specs.Copies.{HoldsTree};
+
+use firefly_outside::MemTree;
+use std::alloc::{AllocError, Global};
+
+// A copy of the tree that fails at these paths.
+fn copy_failing_at(alloc: Global, tree: &MemTree, paths: &[&str]) -> Result<MemTree, AllocError>
+    ensures { IfOk result (λ m. tree_of m ≡ tree_of tree.now) }
+{
+    let mut copy = tree.fork(alloc)?;
+    for path in paths {
+        copy.fail_at(path)?;
+    }
+    Ok(copy)
+}
+
+/// Copies of the tree for so many workers, that fail at the first paths, and one for the closing walk, that fails at the last ones.
+pub fn copies_of(
+    alloc: Global,
+    tree: &MemTree,
+    workers: u32,
+    first: &[&str],
+    last: &[&str],
+) -> Result<Vec<Option<MemTree>>, AllocError>
+    ensures many { IfOk result (λ v. length v.items ≡ workers + 1) }
+    ensures trees { IfOk result (λ v. All (HoldsTree (tree_of tree.now)) v.items) }
+{
+    let mut trees = Vec::new(alloc);
+    for made in 0..workers {
+        trees.push(Some(copy_failing_at(alloc, tree, first)?))?;
+    }
+    trees.push(Some(copy_failing_at(alloc, tree, last)?))?;
+    Ok(trees)
+}

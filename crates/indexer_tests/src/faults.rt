@@ -1,0 +1,148 @@
+//! Runs at which paths fail, with every number of workers.
+ghost use Rattle.indexer.specs.Plans.{IsPlan};
+
+use crate::runs::{failed_at, has_index, plan_of, run_on};
+use crate::trees::{small, small_index, small_paths};
+use firefly_outside::MemTree;
+use indexer::{NoGate, Plan};
+use std::alloc::Global;
+use std::sync::Wait;
+use std::test::Fail;
+use std::thread::Threads;
+
+// The paths of the small tree whose bits are set.
+fn chosen(alloc: Global, bits: u32) -> Result<Vec<&'static str>, Fail> {
+    let mut paths = Vec::new(alloc);
+    let mut rest = bits;
+    for path in small_paths() {
+        if rest % 2 == 1 {
+            paths.push(path)?;
+        }
+        rest /= 2;
+    }
+    Ok(paths)
+}
+
+// Whether the path lies below the directory.
+fn is_below(path: &str, dir: &str) -> bool {
+    match path.strip_prefix(dir) {
+        Some(rest) => rest.starts_with('/'),
+        None => false,
+    }
+}
+
+// Whether the path is one of those that fail, and none of these is a directory above it.
+fn may_be_named(failing: &[&str], path: &str) -> bool {
+    let mut fails = false;
+    for other in failing {
+        if *other == path {
+            fails = true;
+        }
+        if is_below(path, other) {
+            return false;
+        }
+    }
+    fails
+}
+
+// Whether a run where these paths fail answers what it should: where none fails the index, and else one that fails and is found.
+fn is_answered<R: Threads + Wait + Sync>(
+    rt: &R,
+    alloc: Global,
+    tree: &MemTree,
+    plan: &Plan,
+    failing: &[&str],
+) -> Result<bool, Fail>
+    requires { IsPlan plan.now }
+{
+    let (answer, _trees) = run_on(rt, alloc, tree, plan, failing, failing, &NoGate)?;
+    match failed_at(&answer) {
+        Some(path) => Ok(may_be_named(failing, path)),
+        None => Ok(failing.is_empty() && has_index(alloc, &answer, small_index())?),
+    }
+}
+
+// The first set of failing paths that isn't answered as it should be, if there is one.
+fn wrong_set<R: Threads + Wait + Sync>(
+    rt: &R,
+    alloc: Global,
+    tree: &MemTree,
+    plan: &Plan,
+) -> Result<Option<u32>, Fail>
+    requires { IsPlan plan.now }
+{
+    for bits in 0..32u32 {
+        let failing = chosen(alloc, bits)?;
+        if !is_answered(rt, alloc, tree, plan, &failing)? {
+            return Ok(Some(bits));
+        }
+    }
+    Ok(None)
+}
+
+#[test]
+fn a_path_that_fails_is_named_with_each_number_of_walkers(rt: HostRuntime) -> Result<(), Fail> {
+    let tree = small(rt.alloc())?;
+    for others in [1u32, 2, 8] {
+        for walkers in 1..9u32 {
+            let plan = plan_of(walkers, others, others);
+            let wrong = wrong_set(&rt, rt.alloc(), &tree, &plan)?;
+            assert_eq!(rt; wrong, None, "{walkers} {others}");
+        }
+    }
+    Ok(())
+}
+
+#[test]
+fn a_path_that_fails_is_named_with_each_number_of_parsers(rt: HostRuntime) -> Result<(), Fail> {
+    let tree = small(rt.alloc())?;
+    for others in [1u32, 2, 8] {
+        for parsers in 1..9u32 {
+            let plan = plan_of(others, parsers, others);
+            let wrong = wrong_set(&rt, rt.alloc(), &tree, &plan)?;
+            assert_eq!(rt; wrong, None, "{parsers} {others}");
+        }
+    }
+    Ok(())
+}
+
+#[test]
+fn a_path_that_fails_is_named_with_each_number_of_mergers(rt: HostRuntime) -> Result<(), Fail> {
+    let tree = small(rt.alloc())?;
+    for others in [1u32, 2, 8] {
+        for mergers in 1..9u32 {
+            let plan = plan_of(others, others, mergers);
+            let wrong = wrong_set(&rt, rt.alloc(), &tree, &plan)?;
+            assert_eq!(rt; wrong, None, "{mergers} {others}");
+        }
+    }
+    Ok(())
+}
+
+// Whether the index is found though the closing walk's tree fails at each path.
+fn is_all_found<R: Threads + Wait + Sync>(
+    rt: &R,
+    alloc: Global,
+    tree: &MemTree,
+    plan: &Plan,
+) -> Result<bool, Fail>
+    requires { IsPlan plan.now }
+{
+    let (answer, _trees) = run_on(rt, alloc, tree, plan, &[], &small_paths(), &NoGate)?;
+    has_index(alloc, &answer, small_index())
+}
+
+#[test]
+fn the_workers_leave_nothing_to_the_closing_walk(rt: HostRuntime) -> Result<(), Fail> {
+    let tree = small(rt.alloc())?;
+    for walkers in 1..9u32 {
+        for parsers in 1..9u32 {
+            for mergers in 1..9u32 {
+                let plan = plan_of(walkers, parsers, mergers);
+                let found = is_all_found(&rt, rt.alloc(), &tree, &plan)?;
+                assert!(rt; found, "{walkers} {parsers} {mergers}");
+            }
+        }
+    }
+    Ok(())
+}
