@@ -1,7 +1,8 @@
 -- What the threads of a workload leave together.
-use Rattle.std.proofs.Common.{◌≡◌, ◌≢◌, ◌<◌, ◌≤◌, ℕ, ◌+◌, ◌*◌, List, [], ◌∷◌, ◌++◌, length, length-append, map, Option, suc, Some, arith, ap, sym, subst, ◌∙◌, refl}
-use mathlib.Core.Option.{some, some-injective}
+use Rattle.std.proofs.Common.{◌≡◌, ◌≢◌, ◌≤◌, ℕ, ◌+◌, ◌*◌, List, [], ◌∷◌, ◌++◌, length, length-append, map, Option, zero, suc, Some, arith, ap, sym, ◌∙◌, refl}
+use mathlib.Core.Option.{some, some-injective, some-ne-none}
 use lib.ListN.{get_elem?}
+use Rattle.std.proofs.lemmas.List.{length-map}
 use Rattle.std.proofs.lemmas.Option.{same_Some}
 use Rattle.larch_actions.specs.declared.event.Event.{Event}
 use Rattle.nub_rule.specs.Known.{Shape}
@@ -46,3 +47,27 @@ pub only_one : (xs : List ℕ) → length xs ≡ 1 → (x : ℕ) × (xs ≡ x �
 only_one [] e = absurd (omega arith)
 only_one (x ∷ []) e = (x, refl)
 only_one (x ∷ y ∷ xs) e = absurd (omega arith)
+
+pub many_shares : {A H : Type 0} (share : A → Option H) (threads : List A) (shares : List H) → map share threads ≡ map (λ s. Some s) shares → length shares ≡ length threads
+many_shares {H = H} share threads shares each =
+    let a = length-map threads share in
+    let b = length-map shares (λ (s : H). Some s) in
+    let e = ap length each in
+    omega arith
+
+-- the thread whose share stands at a place
+pub thread_of : {A H : Type 0} (share : A → Option H) (threads : List A) (shares : List H) → map share threads ≡ map (λ s. Some s) shares
+    → (k : ℕ) (s : H) → get_elem? shares k ≡ some s → (t : A) × (get_elem? threads k ≡ some t) × (share t ≡ Some s)
+thread_of share threads [] each k s at = absurd (some-ne-none s (sym at))
+thread_of share [] (x ∷ shares) each k s at = absurd (cc)
+thread_of share (t ∷ threads) (x ∷ shares) each zero s at =
+    let head : share t ≡ Some x = cc in
+    (t, refl, head ∙ ap (λ u. Some u) (some-injective x s at))
+thread_of {A = A} {H = H} share (t ∷ threads) (x ∷ shares) each (suc k) s at =
+    let tail : map share threads ≡ map (λ s. Some s) shares = cc in
+    thread_of {A = A} {H = H} share threads shares tail k s at
+
+-- the only value of a list
+pub only_value : {A : Type 0} (values : List A) (x : A) → values ≡ x ∷ [] → (m : ℕ) (q : A) → get_elem? values m ≡ some q → q ≡ x
+only_value values x is zero q at = sym (some-injective x q (sym (ap (λ l. get_elem? l 0) is) ∙ at))
+only_value values x is (suc m) q at = absurd (some-ne-none q (sym at ∙ ap (λ l. get_elem? l (suc m)) is))

@@ -1,5 +1,5 @@
 -- A thread that has the mutex across its rounds.
-use Rattle.std.proofs.Common.{◌≡◌, ◌≤◌, ℕ, ◌+◌, ◌-◌, List, [], Some, None, lit<, arith, refl, ap, sym, subst, ◌∙◌, slice_set}
+use Rattle.std.proofs.Common.{◌≡◌, ◌≤◌, ℕ, ◌+◌, List, [], Some, None, lit<, arith, refl, ap, sym, ◌∙◌, slice_set}
 use lib.ListN.{get_elem?}
 use Rattle.std.proofs.lemmas.List.{set-set}
 use Rattle.std.proofs.lemmas.Option.{same_Some}
@@ -10,7 +10,7 @@ use Rattle.nub.specs.Rest.{AtRest, IsSame}
 use Rattle.sum_uses.specs.declared.added.Added.{Added}
 use Rattle.sum_uses.specs.Sums.{GrowsAlike, IsAbove, added, grown}
 use Rattle.sum_uses.proofs.Adding.{added_own, adding_grows}
-use Rattle.firefly_bench.specs.Workloads.{HasTurned, HoldsNone, IsInside, Worker}
+use Rattle.firefly_bench.specs.Workloads.{HasTurned, IsInside, Worker}
 
 -- who has just got the mutex has added nothing
 pub got_inside : (p : Shape (Unit {0})) (n x : ℕ) (a b : Worker) → IsIdle p n [] a → AtRest p b → IsSame a b → Holds b 0 x → b.held ≡ slice_set a.held 0 (Some x) → b.share ≡ a.share → IsAbove 0 x [] → IsInside p b.number x 0 b
@@ -30,6 +30,27 @@ got_inside p n x a b i rest same holds held share above = record {
   sum = omega arith;
   few = omega arith;
 }
+
+-- who gets the mutex again has added nothing since
+pub again_inside : (p : Shape (Unit {0})) (n x times : ℕ) (a b : Worker) (i : HasTurned p times n a) → times ≤ 100000000000 → AtRest p b → IsSame a b → Holds b 0 x → b.held ≡ slice_set a.held 0 (Some x) → b.share ≡ a.share → IsAbove 0 x i.share → IsInside p n x times b
+again_inside p n x times a b i few rest same holds held share above =
+    let sum = i.sum in
+    record {
+      number = same.number ∙ i.idle.number;
+      rest = rest;
+      world = same.world ∙ i.idle.world;
+      got = x;
+      holds = holds;
+      before = a.held;
+      none = record { lacks = i.idle.lacks; none = i.idle.none };
+      held = held;
+      share = i.share;
+      is_share = share ∙ i.idle.share;
+      above = above;
+      rises = omega arith;
+      sum = omega arith;
+      few = few;
+    }
 
 -- a call that keeps the mutexes and the share
 pub still_inside : (p : Shape (Unit {0})) (n y times : ℕ) (a b : Worker) → IsInside p n y times a → AtRest p b → IsSame a b → b.held ≡ a.held → b.share ≡ a.share → IsInside p n y times b

@@ -1,2 +1,7 @@
 mod Crewing
+mod Doing
 mod Inside
+mod Makers
+mod Raises
+mod Roles
+mod Sums

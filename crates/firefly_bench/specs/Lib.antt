@@ -1,1 +1,4 @@
+pub mod Passing
+pub mod Reading
+pub mod Waking
 pub mod Workloads

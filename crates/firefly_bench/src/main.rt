@@ -2,26 +2,35 @@
 //! With no words it runs each workload once, small. Nothing of the product stands on it.
 #![tactic(auto)]
 
+ghost use Rattle.std.specs.Prelude.{◌≡◌, ◌%◌, ◌^◌};
+ghost use Rattle.std.specs.List.{sum};
+
 mod adding;
 mod calling;
+mod passing;
 mod playing;
+mod reading;
 mod rounds;
 mod turning;
+mod waking;
 mod words;
 
 use adding::{Added, add_at_once};
 use anyhow::{Context, Result};
 use calling::call_alone;
+use passing::pass_at_once;
 use playing::{Play, play_at_once};
+use reading::{Pair, read_at_once};
 use std::alloc::Global;
 use std::env;
 use std::sync::Wait;
 use std::thread::Threads;
 use turning::turn_at_once;
+use waking::alert_at_once;
 use words::{Count, Workload};
 
 /// What is run where no words are given.
-const SMALL: [&str; 10] = [
+const SMALL: [&str; 13] = [
     "uncontended 1000",
     "contended 2 1000",
     "contended 4 500 20",
@@ -32,10 +41,15 @@ const SMALL: [&str; 10] = [
     "pingpong 1000",
     "pingpong_after 1000",
     "broadcast 3 500",
+    "alert_wake 500",
+    "producer_consumer 2 2 500 8",
+    "readers_writers 2 2 500",
 ];
 
-/// The wrapping sum of the numbers.
-fn sum_of(numbers: &[u64]) -> u64 {
+/// The sum of the numbers, modulo 2^64.
+fn sum_of(numbers: &[u64]) -> u64
+    ensures { result ≡ sum numbers.now % 2 ^ 64 }
+{
     let mut sum = 0u64;
     for number in numbers {
         sum = sum.wrapping_add(*number);
@@ -75,6 +89,9 @@ fn run<R: Threads + Wait + Sync + Print>(rt: &R, alloc: Global, words: &[&str]) 
         Workload::Wake { .. } | Workload::Pingpong { .. } | Workload::Broadcast { .. } => {
             run_with_conditions(rt, alloc, workload)?;
         }
+        Workload::AlertWake { .. }
+        | Workload::ProducerConsumer { .. }
+        | Workload::ReadersWriters { .. } => run_above(rt, alloc, workload)?,
     }
     Ok(())
 }
@@ -108,6 +125,47 @@ fn run_with_conditions<R: Threads + Wait + Sync + Print>(
             // Who opens the rounds has added 1 in each, and the others count for the line.
             let sum = closed.values()[0].wrapping_sub(u64::from(times));
             println!(rt; "broadcast {} {times} sum {sum}", threads.number - 1)?;
+        }
+        _ => {}
+    }
+    Ok(())
+}
+
+/// Runs a workload of what stands on conditions, and prints its line.
+fn run_above<R: Threads + Wait + Sync + Print>(
+    rt: &R,
+    alloc: Global,
+    workload: Workload,
+) -> Result<()> {
+    match workload {
+        Workload::AlertWake { times } => {
+            let woken = alert_at_once(rt, alloc, times)?;
+            println!(rt; "alert_wake {times} sum {}", sum_of(&woken.alerted))?;
+        }
+        Workload::ProducerConsumer {
+            sides,
+            times,
+            capacity,
+        } => {
+            let passed = pass_at_once(rt, alloc, sides, times, capacity)?;
+            println!(rt;
+                "producer_consumer {} {} {times} {} sum {}",
+                sides.first,
+                sides.second,
+                capacity.number,
+                sum_of(&passed.sums)
+            )?;
+        }
+        Workload::ReadersWriters { sides, times } => {
+            let pair = Pair::new();
+            let played = read_at_once(rt, alloc, sides, times, &pair)?;
+            let writes = sum_of(&played.writes);
+            println!(rt;
+                "readers_writers {} {} {times} sum {writes} torn {}",
+                sides.first,
+                sides.second,
+                pair.torn(writes)
+            )?;
         }
         _ => {}
     }

@@ -1,11 +1,26 @@
 //! The words of the command line.
-ghost use Rattle.std.specs.Prelude.{◌≤◌};
+ghost use Rattle.std.specs.Prelude.{◌≤◌, ◌+◌};
 
 /// A number of threads that a package can have.
 #[derive(Clone, Copy)]
 pub struct Count {
     pub number: u32,
     ghost in_package: { (1 ≤ number) × (number ≤ 64) },
+}
+
+/// Numbers of threads of two kinds, at least one of each, that a package can have.
+#[derive(Clone, Copy)]
+pub struct Sides {
+    pub first: u32,
+    pub second: u32,
+    ghost in_package: { (1 ≤ first) × (1 ≤ second) × (first + second ≤ 64) },
+}
+
+/// A number of places that a buffer can have.
+#[derive(Clone, Copy)]
+pub struct Capacity {
+    pub number: u32,
+    ghost in_buffer: { (1 ≤ number) × (number ≤ 4096) },
 }
 
 /// What is run, and how often.
@@ -44,6 +59,21 @@ pub enum Workload {
         threads: Count,
         times: u32,
     },
+    /// One thread begins waits that nobody signals, and another ends each by an alert.
+    AlertWake {
+        times: u32,
+    },
+    /// Makers pass numbers on to takers by a bounded buffer.
+    ProducerConsumer {
+        sides: Sides,
+        times: u32,
+        capacity: Capacity,
+    },
+    /// Readers compare two numbers, and writers add 1 to both.
+    ReadersWriters {
+        sides: Sides,
+        times: u32,
+    },
 }
 
 impl Count {
@@ -65,6 +95,29 @@ impl Count {
         let number = word.parse::<u32>().ok()?;
         if 1 <= number && number < 64 {
             Some(Count { number: number + 1 })
+        } else {
+            None
+        }
+    }
+}
+
+impl Sides {
+    fn read(first: &str, second: &str) -> Option<Sides> {
+        let first = first.parse::<u32>().ok()?;
+        let second = second.parse::<u32>().ok()?;
+        if 1 <= first && first < 64 && 1 <= second && second <= 64 - first {
+            Some(Sides { first, second })
+        } else {
+            None
+        }
+    }
+}
+
+impl Capacity {
+    fn read(word: &str) -> Option<Capacity> {
+        let number = word.parse::<u32>().ok()?;
+        if 1 <= number && number <= 4096 {
+            Some(Capacity { number })
         } else {
             None
         }
@@ -111,6 +164,18 @@ pub fn read(words: &[&str]) -> Option<Workload> {
         }),
         ["broadcast", t, n] => Some(Workload::Broadcast {
             threads: Count::read_and_one(t)?,
+            times: n.parse().ok()?,
+        }),
+        ["alert_wake", n] => Some(Workload::AlertWake {
+            times: n.parse().ok()?,
+        }),
+        ["producer_consumer", p, c, n, room] => Some(Workload::ProducerConsumer {
+            sides: Sides::read(p, c)?,
+            times: n.parse().ok()?,
+            capacity: Capacity::read(room)?,
+        }),
+        ["readers_writers", r, w, n] => Some(Workload::ReadersWriters {
+            sides: Sides::read(r, w)?,
             times: n.parse().ok()?,
         }),
         _ => None,

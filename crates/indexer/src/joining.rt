@@ -33,7 +33,9 @@ fn joined(alloc: Global, kept: Vec<Piece>) -> Result<Piece, AllocError>
     ensures covers { IfOk result (λ p. AreAllCovered p.paths kept.items) }
 {
     let mut kept = kept;
-    let mut whole = Piece::empty(alloc);
+    let Some(mut whole) = kept.pop() else {
+        return Ok(Piece::empty(alloc));
+    };
     while let Some(piece) = kept.pop() {
         whole = joined_two(whole, piece)?;
     }

@@ -5,7 +5,7 @@ ghost use Rattle.indexer.specs.Turns.{HasCalled, HasLists, IsBetween, Worker};
 
 use crate::ending::cancel;
 use crate::findings::Findings;
-use crate::merging::keep;
+use crate::merging::{keep, merge_rest};
 use crate::pieces::next_piece;
 use crate::uses::IndexUses;
 use alerts::test_alert;
@@ -38,8 +38,8 @@ fn merge_once<R: Wait>(
     }
 }
 
-/// Takes pieces from their buffer until there are no more, and merges those that are of like size. Where memory wants for a piece more, it
-/// alerts all workers.
+/// Takes pieces from their buffer until there are no more, and merges those that are of like size, and in the end what it has. Where memory
+/// wants for a piece more, it alerts all workers.
 ///
 /// It blocks as `next_piece` does.
 pub fn merge_all<R: Wait>(
@@ -57,6 +57,7 @@ pub fn merge_all<R: Wait>(
     let mut kept = Vec::new(alloc);
     for _ in rt.forever() {
         if !merge_once(rt, p, me, &mut kept) {
+            merge_rest(&mut kept);
             return Findings {
                 visits: Vec::new(alloc),
                 pieces: kept,

@@ -11,11 +11,12 @@ fn size(piece: &Piece) -> u64 {
     piece.files().saturating_add(piece.entries())
 }
 
-// Whether the last piece is to be merged with the one before: that is at most about twice as large, and no path is covered by both.
-fn may_merge(before: &Piece, last: &Piece) -> bool
+// Whether the last piece is to be merged with the one before: no path is covered by both, and that one is at most about twice as large, or
+// may be of any size.
+fn may_merge(before: &Piece, last: &Piece, of_any_size: bool) -> bool
     ensures { IsTrue result → ¬ Meet before.now last.now }
 {
-    size(before) / 2 <= size(last) && !before.meets(last)
+    (of_any_size || size(before) / 2 <= size(last)) && !before.meets(last)
 }
 
 // Puts a piece where there is room.
@@ -31,7 +32,7 @@ fn put_back(kept: &mut Vec<Piece>, piece: Piece)
 }
 
 // Merges the last piece with the one before, if they are to be, and says whether it did. Where memory wants, both stay.
-fn merge_last(kept: &mut Vec<Piece>) -> bool
+fn merge_last(kept: &mut Vec<Piece>, of_any_size: bool) -> bool
     ensures merged { AreMergedFrom kept.old.items kept.new.items }
     ensures fewer { IsTrue result → vec_len kept.new < vec_len kept.old }
 {
@@ -42,7 +43,7 @@ fn merge_last(kept: &mut Vec<Piece>) -> bool
         put_back(kept, last);
         return false;
     };
-    if !may_merge(&before, &last) {
+    if !may_merge(&before, &last, of_any_size) {
         put_back(kept, before);
         put_back(kept, last);
         return false;
@@ -70,6 +71,13 @@ pub fn keep(kept: &mut Vec<Piece>, piece: Piece) -> Result<(), AllocError>
         Ok(()) => {}
         Err(_) => return Err(AllocError),
     }
-    while merge_last(kept) {}
+    while merge_last(kept, false) {}
     Ok(())
+}
+
+/// Merges the pieces, from the last on, until two cover a common path or memory wants.
+pub fn merge_rest(kept: &mut Vec<Piece>)
+    ensures { AreMergedFrom kept.old.items kept.new.items }
+{
+    while merge_last(kept, true) {}
 }

@@ -216,13 +216,16 @@ fn whole_of(first: Piece, pile: Vec<Piece>) -> Result<Piece, AllocError>
     }
 }
 
-// Merges the piece that the walk began with. An empty one, which adds nothing, is dropped.
+// Merges the piece that the walk began with. An empty one of the two, which adds nothing, is dropped.
 fn merge_first(first: Piece, rest: Piece) -> Result<Piece, AllocError>
     requires { ¬ Meet first rest }
     ensures { IfOk result (λ p. (fs gs : List File) → IsIndexOf fs first → IsIndexOf gs rest → IsIndexOf (fs ++ gs) p) }
 {
     if first.files() == 0 {
         return Ok(rest);
+    }
+    if rest.files() == 0 {
+        return Ok(first);
     }
     match merge(first, rest) {
         Ok(piece) => Ok(piece),

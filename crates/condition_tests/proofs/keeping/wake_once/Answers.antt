@@ -15,12 +15,12 @@ acquire-got-requires-clause-lacks g c κs within = c.requires.idle.lacks c.args.
 
 -- the other mutex isn't the one that is kept
 pub pass-requires-clause-lacks : goal.pass-requires-clause-lacks
-pass-requires-clause-lacks g c κs within =
+pass-requires-clause-lacks g c =
     let own = c.args.own.0 in
     ap (λ h. get_elem? h own) c.acquire-got.ensures.held ∙ (set_else c.args.me.now.held c.args.kept.0 own (Some c.acquire-got.result) c.requires.apart ∙ c.requires.idle.lacks own c.requires.named.0)
 
 pub pass-requires-clause-first : goal.pass-requires-clause-first
-pass-requires-clause-first g c κs within = let got = c.acquire-got.ensures in (got.same.world ∙ c.requires.idle.world, got.share ∙ c.requires.idle.share)
+pass-requires-clause-first g c = let got = c.acquire-got.ensures in (got.same.world ∙ c.requires.idle.world, got.share ∙ c.requires.idle.share)
 
 pub release-requires-clause-may : goal.release-requires-clause-may
 release-requires-clause-may g c κs within =

@@ -1,4 +1,4 @@
-use Rattle.std.proofs.Common.{◌≡◌, ◌*◌, ◌<◌, ℕ, [], ◌∷◌, length, ap, sym, subst, ◌∙◌, arith, rules}
+use Rattle.std.proofs.Common.{◌≡◌, ◌*◌, ℕ, [], ◌∷◌, length, ap, sym, subst, ◌∙◌, arith, rules}
 use mathlib.Core.Option.{some}
 use lib.ListN.{get_elem?}
 use Rattle.nub.proofs.Users.{first_own, idle_done}

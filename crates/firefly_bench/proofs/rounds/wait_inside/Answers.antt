@@ -1,5 +1,4 @@
-use Rattle.std.proofs.Common.{refl, sym, ap, ◌∙◌}
-use Rattle.std.proofs.lemmas.Option.{same_Some}
+use Rattle.std.proofs.Common.{refl, ◌∙◌}
 use Rattle.firefly_bench.proofs.Inside.{inside_grows, waited_inside}
 use Rattle.firefly_bench.proofs.rounds.wait_inside.Goals as goal
 

@@ -1,10 +1,9 @@
-use Rattle.std.proofs.Common.{[], length, ◌≡◌, ◌≢◌, ◌≤◌, ℕ, sym, ap, ◌∙◌, arith, rules, subst, ⊎_elim, refl}
+use Rattle.std.proofs.Common.{[], length, ◌≡◌, ◌≢◌, ◌≤◌, sym, ap, ◌∙◌, arith, rules, subst, ⊎_elim}
 use mathlib.Core.Option.{some}
 use lib.ListN.{get_elem?}
 use Rattle.atomic_table.proofs.Lists.{at_index, at_set}
-use Rattle.nub.specs.Ended.{IsFirst}
 use Rattle.nub.proofs.Users.{idle_first, from_at}
-use Rattle.firefly_bench.specs.Workloads.{HasCalled, Worker}
+use Rattle.firefly_bench.specs.Workloads.{HasCalled}
 use Rattle.firefly_bench.proofs.Crewing.{one_more, first_called}
 use Rattle.firefly_bench.proofs.turning.first_to_begin.Goals as goal
 

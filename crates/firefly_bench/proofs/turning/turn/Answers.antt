@@ -1,5 +1,4 @@
-use Rattle.std.proofs.Common.{◌≡◌, ◌+◌, ◌*◌, [], length, refl, arith, ap, subst, ◌∙◌, ℕ}
-use Rattle.firefly_bench.specs.Workloads.{HasCalled}
+use Rattle.std.proofs.Common.{[], length, refl, arith, ap, ◌∙◌}
 use Rattle.firefly_bench.proofs.Crewing.{one_more}
 use Rattle.firefly_bench.proofs.turning.turn.Goals as goal
 

@@ -6,19 +6,31 @@ use Rattle.indexer.specs.Pieces.{IsFilesPiece, IsCovered}
 use Rattle.indexer.proofs.PieceLaws.{of_none, all_front, all_last, covered_front, covered_last}
 use Rattle.indexer.proofs.joining.joined.Goals as goal
 
+pub returns-in_default-clause-files : goal.returns-in_default-clause-files
+returns-in_default-clause-files c = λ tree root all. of_none tree root c.empty.result c.empty.ensures
+
+pub returns-in_default-clause-covers : goal.returns-in_default-clause-covers
+returns-in_default-clause-covers c = λ path h. absurd (Contains-nil path ((c.empty.ensures.paths path).0 h))
+
 pub loop-piece-init : goal.loop-piece-init
-loop-piece-init c = record {
-  files = λ tree root all. (all, of_none tree root c.empty-whole.result c.empty-whole.ensures);
-  covers = λ path h. absurd (Contains-nil path ((c.empty-whole.ensures.paths path).0 h));
-  rest = λ path h. h;
-}
+loop-piece-init c =
+    let rest = c.pop.new.self.items in
+    let whole = c.in-Some.whole in
+    let items = c.in-Some.ensures.items in
+    record {
+      files = λ tree root all.
+          let own : All (IsFilesPiece tree root) (rest ++ whole ∷ []) = subst (All (IsFilesPiece tree root)) items all in
+          (all_front (IsFilesPiece tree root) rest whole own, all_last (IsFilesPiece tree root) rest whole own);
+      covers = λ path h. subst (λ (l : List Index). IsCovered l path) (sym items) (covered_last rest whole path h);
+      rest = λ path h. subst (λ (l : List Index). IsCovered l path) (sym items) (covered_front rest whole path h);
+    }
 
 pub loop-piece-preserved : goal.loop-piece-preserved
 loop-piece-preserved c =
     let was = c.loop-piece.invariant in
-    let rest = c.pop.new.self.items in
-    let piece = c.in-Some.piece in
-    let items = c.in-Some.ensures.items in
+    let rest = c.pop-in-loop-piece.new.self.items in
+    let piece = c.in-Some-pop.piece in
+    let items = c.in-Some-pop.ensures.items in
     record {
       files = λ tree root all.
           let h = was.files tree root all in

@@ -1,7 +1,7 @@
 use Rattle.std.proofs.Common.{[], List, None, sym, subst}
 use Rattle.word_index.specs.Index.{Index}
 use Rattle.indexer.specs.Turns.{HasCalled}
-use Rattle.indexer.proofs.Turning.{called_none, still_between}
+use Rattle.indexer.proofs.Turning.{called_as, called_none, still_between}
 use Rattle.indexer.proofs.mergers.merge_all.Goals as goal
 
 pub loop-init : goal.loop-init
@@ -14,4 +14,6 @@ pub loop-preserved : goal.loop-preserved
 loop-preserved g c = λ o root. c.merge_once.ensures o root c.args.me.now (c.loop.invariant o root)
 
 pub returns-then-not-merge_once-clause-called : goal.returns-then-not-merge_once-clause-called
-returns-then-not-merge_once-clause-called g c = λ o root. c.merge_once.ensures o root c.args.me.now (c.loop.invariant o root)
+returns-then-not-merge_once-clause-called g c = λ o root.
+    called_as o root c.merge_once.new.kept.items c.merge_rest.new.kept.items c.args.p.now 0 0 c.args.me.now c.merge_once.new.me (c.merge_rest.ensures.files o root)
+    (c.merge_once.ensures o root c.args.me.now (c.loop.invariant o root))

@@ -1,0 +1,42 @@
+-- Turns of readers and writers.
+use Rattle.std.specs.Prelude.{◌≡◌, ◌≤◌, ℕ, cond, List, [], ◌∷◌, Some}
+use Rattle.std.proofs.Common.{zero, suc}
+use Rattle.std.specs.Bool.{nat_lt}
+use Rattle.larch_actions.specs.declared.event.Layout.{Layout}
+use Rattle.nub_rule.specs.Known.{Known, Shape}
+use Rattle.nub.specs.Idle.{IsIdle}
+use Rattle.readers_writers.specs.declared.role.Role.{Role}
+use Rattle.readers_writers.specs.declared.role.Role.TheVariants.{Idle, Reading, Writing}
+use Rattle.readers_writers.specs.declared.role.Turn.{Turn}
+use Rattle.readers_writers.specs.declared.state.RwState.{RwState}
+use Rattle.readers_writers.specs.Roles.{turn}
+
+abbrev pub Player : Type 0
+Player = Known RwState (List Turn) (Unit {0})
+
+-- there is a state, and a condition for it
+pub record HasState (l : Layout) : Type 0 where
+  pub mutexes : 1 ≤ l.mutexes
+  pub conditions : 1 ≤ l.conditions
+
+-- so many turns, in each of which a thread had this role and was idle again, the last first
+abbrev pub turns : Role → ℕ → List Turn
+turns role zero = []
+turns role (suc n) = turn 0 Idle ∷ turn 0 role ∷ turns role n
+
+-- the first threads read, so many of them, and the others write
+abbrev pub role_by : ℕ → ℕ → Role
+role_by readers n = cond (nat_lt n readers) Reading Writing
+
+-- so many turns of the thread n are writes
+abbrev pub writes_by : ℕ → ℕ → ℕ → ℕ
+writes_by readers times n = cond (nat_lt n readers) 0 times
+
+-- the thread n has taken so many turns
+abbrev pub HasPlayed : ℕ → ℕ → ℕ → Player → Type 0
+HasPlayed readers times n t = t.share ≡ Some (turns (role_by readers n) times)
+
+-- the thread n of the package has taken so many turns, and counted this many writes
+pub record HasCounted (p : Shape (Unit {0})) (readers times n writes : ℕ) (t : Player) : Type 0 where
+  pub idle : IsIdle p n (turns (role_by readers n) times) t
+  pub counted : writes ≡ writes_by readers times n
