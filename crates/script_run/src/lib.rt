@@ -3,7 +3,7 @@
 //! Promises: `run_script` answers what its package leaves: a closed legal history in which the events of each thread are those of its
 //! lines, in order, and for each mutex the sum of all that was added under it. Want of memory is its one refusal.
 //! Stands on the package, on scripts that were read, and on a crew of threads. It says nothing of waiting: a run may wait for ever,
-//! and that the threads ran beside each other is shown by tests alone.
+//! and that the threads ran beside each other is shown by runs alone.
 #![tactic(auto)]
 
 mod play;
@@ -11,6 +11,3 @@ mod run;
 mod waits;
 
 pub use run::run_script;
-
-#[cfg(test)]
-mod tests;
