@@ -6,9 +6,7 @@ use crate::trees::copies_of;
 use firefly::{Status, firefly};
 use firefly_outside::{MemSink, MemSource, MemTree, Tree};
 use std::alloc::{AllocError, Global};
-use std::process::Abort;
 use std::sync::Wait;
-use std::test::Fail;
 use std::thread::Threads;
 
 /// The status of a call, and what it wrote.
@@ -73,36 +71,4 @@ pub fn answer_of<R: Threads + Wait + Sync, S: Tree>(
         out: out.bytes().to_vec(alloc)?,
         notes: notes.bytes().to_vec(alloc)?,
     })
-}
-
-/// The command `check` writes this line for this text, with this status.
-pub fn prints<R: Abort + Threads + Wait + Sync>(
-    rt: &R,
-    alloc: Global,
-    text: &str,
-    status: Status,
-    line: &str,
-) -> Result<(), Fail> {
-    let mut input = MemSource::new(text.as_bytes().to_vec(alloc)?);
-    let found = run_program(rt, alloc, &["check"], &mut input, 200)?;
-    assert_eq!(rt; found.status, status, "{text}");
-    assert_eq!(rt; found.out.as_slice(), line.as_bytes(), "{text}");
-    assert_eq!(rt; found.notes.len(), 0, "{text}");
-    Ok(())
-}
-
-/// The command `check` writes nothing for this text, and this message.
-pub fn says<R: Abort + Threads + Wait + Sync>(
-    rt: &R,
-    alloc: Global,
-    text: &str,
-    status: Status,
-    message: &str,
-) -> Result<(), Fail> {
-    let mut input = MemSource::new(text.as_bytes().to_vec(alloc)?);
-    let found = run_program(rt, alloc, &["check"], &mut input, 200)?;
-    assert_eq!(rt; found.status, status, "{text}");
-    assert_eq!(rt; found.out.len(), 0, "{text}");
-    assert_eq!(rt; found.notes.as_slice(), message.as_bytes(), "{text}");
-    Ok(())
 }

@@ -1,7 +1,7 @@
-//! Calls of the command `index`: its words, its faults, and the walk and the merge that it stands on.
-use crate::answers::{answer_of, run_on};
-use crate::index_texts::{project, project_index};
-use crate::trees::{copies_failing_from, put_file};
+//! Calls of the command `index` on trees that fail, and the walk and the merge that it stands on.
+use crate::answers::answer_of;
+use crate::project::{project, project_index};
+use crate::trees::copies_failing_from;
 use firefly::Status;
 use firefly_outside::{MemSink, MemSource, MemTree, Tree};
 use index_print::print_index;
@@ -9,51 +9,6 @@ use std::alloc::Global;
 use std::test::Fail;
 use walker::{WalkAnswer, Walked, close_walk};
 use word_index::{Piece, merge, piece_of};
-
-#[test]
-fn other_words_after_index_are_a_usage_error(rt: HostRuntime) -> Result<(), Fail> {
-    let usage =
-        "usage: firefly check | run | index DIR [options] | trace DIR [options] | sample SEED FILES\n";
-    let tree = project(rt.alloc())?;
-    let lines: [&[&str]; 9] = [
-        &["index"],
-        &["index", "a", "b"],
-        &["index", "--", "a"],
-        &["index", "-proj"],
-        &["index", "proj", "--parsers", "9"],
-        &["index", "proj", "--walkers", "03"],
-        &["index", "a", "--walkers", "2", "--walkers", "2"],
-        &["index", "proj", "--stop-after", "1000000001"],
-        &["index", "proj", "--help"],
-    ];
-    for words in lines {
-        let mut input = MemSource::new(Vec::new(rt.alloc()));
-        let found = run_on(&rt, rt.alloc(), words, &tree, &mut input, 1000)?;
-        assert_eq!(rt; found.status, Status::Usage, "{words:?}");
-        assert_eq!(rt; found.out.len(), 0, "{words:?}");
-        assert_eq!(rt; found.notes.as_slice(), usage.as_bytes(), "{words:?}");
-    }
-    Ok(())
-}
-
-#[test]
-fn any_other_word_is_a_directory(rt: HostRuntime) -> Result<(), Fail> {
-    for name in ["help", "./-name", "proj/", "check"] {
-        let mut tree = MemTree::new(rt.alloc());
-        tree.add_dir(name)?;
-        let path = format!(in rt.alloc(); "{name}/a")?;
-        put_file(&mut tree, path.as_str(), b"Word\n".to_vec(rt.alloc())?)?;
-        let mut input = MemSource::new(Vec::new(rt.alloc()));
-        let found = run_on(&rt, rt.alloc(), &["index", name], &tree, &mut input, 1000)?;
-        assert_eq!(rt; found.status, Status::Done, "{name}");
-        assert_eq!(rt;
-            found.out.as_slice(),
-            b"word 1\n  1 1 a\n".as_slice(),
-            "{name}"
-        );
-    }
-    Ok(())
-}
 
 #[test]
 fn a_path_that_fails_is_named(rt: HostRuntime) -> Result<(), Fail> {

@@ -1,5 +1,6 @@
-//! Tests of the program: its answers on traces, scripts and trees in memory, compared with ones written down by hand.
+//! Tests of the program that its words, texts and status can't tell: sources, sinks and trees that fail where they are told to.
 //! With them the tests of the reader of scripts, and of crews of threads whose jobs wait for one another, as do threads of a script.
+//! What the program answers to its words and input stands in runs/, without a proof.
 #![tactic(auto)]
 
 #[cfg(test)]
@@ -9,26 +10,20 @@ mod crew_meetings;
 #[cfg(test)]
 mod crowd;
 #[cfg(test)]
+mod faults;
+#[cfg(test)]
 mod index_calls;
 #[cfg(test)]
 mod index_limits;
 #[cfg(test)]
-mod index_texts;
-#[cfg(test)]
 mod meeting;
 #[cfg(test)]
-mod run_texts;
+mod project;
 #[cfg(test)]
-mod runs;
+mod script_meetings;
 #[cfg(test)]
 mod script_reading;
 #[cfg(test)]
 mod statuses;
 #[cfg(test)]
-mod trace_texts;
-#[cfg(test)]
 mod trees;
-#[cfg(test)]
-mod verdict_lines;
-#[cfg(test)]
-mod wait_texts;

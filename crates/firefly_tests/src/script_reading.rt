@@ -1,4 +1,4 @@
-//! Scripts as they are read: each operation, bad lines and limits.
+//! Scripts as they are read: each operation, and a read that fails.
 use firefly_outside::MemSource;
 use firefly_script::{Line, Operation, Script, ScriptFault, read_script};
 use larch_actions::{CondId, MutexId, SemId, ThreadId};
@@ -16,11 +16,6 @@ fn read(
         source.fail_after(given);
     }
     Ok(read_script(alloc, &mut source))
-}
-
-// The fault of a text.
-fn fault(alloc: Global, text: &str) -> Result<Option<ScriptFault>, AllocError> {
-    Ok(read(alloc, text, None)?.err())
 }
 
 #[test]
@@ -67,44 +62,6 @@ fn lines_are_read_in_order(rt: HostRuntime) -> Result<(), Fail> {
 }
 
 #[test]
-fn the_first_bad_line_is_named(rt: HostRuntime) -> Result<(), Fail> {
-    let alloc = rt.alloc();
-    let one_mutex = "threads 1 mutexes 1 conditions 0 semaphores 0\n";
-    let too_much = format!(in alloc; "{one_mutex}t0 acquire m0\nt0 add m0 1000001\n")?;
-    assert_eq!(rt;
-        fault(alloc, too_much.as_str())?,
-        Some(ScriptFault::BadLine(3))
-    );
-    let not_held = format!(in alloc; "{one_mutex}t0 release m0\n")?;
-    assert_eq!(rt;
-        fault(alloc, not_held.as_str())?,
-        Some(ScriptFault::BadLine(2))
-    );
-    let still_held = format!(in alloc; "{one_mutex}t0 acquire m0\n")?;
-    assert_eq!(rt;
-        fault(alloc, still_held.as_str())?,
-        Some(ScriptFault::BadLine(3))
-    );
-    let cut = format!(in alloc; "{one_mutex}t0 acquire m0\nt0 rel")?;
-    assert_eq!(rt; fault(alloc, cut.as_str())?, Some(ScriptFault::BadLine(3)));
-    let leading_zero = format!(in alloc; "{one_mutex}t0 acquire m00\n")?;
-    assert_eq!(rt;
-        fault(alloc, leading_zero.as_str())?,
-        Some(ScriptFault::BadLine(2))
-    );
-    assert_eq!(rt;
-        fault(alloc, "threads 0 mutexes 0 conditions 0 semaphores 0\n")?,
-        Some(ScriptFault::BadLine(1))
-    );
-    assert_eq!(rt;
-        fault(alloc, "threads 65 mutexes 0 conditions 0 semaphores 0\n")?,
-        Some(ScriptFault::BadLine(1))
-    );
-    assert_eq!(rt; fault(alloc, "")?, Some(ScriptFault::BadLine(1)));
-    Ok(())
-}
-
-#[test]
 fn a_whole_bad_line_wins_over_a_later_failed_read(rt: HostRuntime) -> Result<(), Fail> {
     let text = "threads 1 mutexes 1 conditions 0 semaphores 0\nt0 release m0\nt0 acquire m0\n";
     assert_eq!(rt;
@@ -115,19 +72,6 @@ fn a_whole_bad_line_wins_over_a_later_failed_read(rt: HostRuntime) -> Result<(),
         read(rt.alloc(), text, Some(59))?.err(),
         Some(ScriptFault::Read)
     );
-    Ok(())
-}
-
-#[test]
-fn a_hundred_thousand_lines_are_read_and_no_further_byte(rt: HostRuntime) -> Result<(), Fail> {
-    let alloc = rt.alloc();
-    let mut text = String::from_str(alloc, "threads 1 mutexes 0 conditions 0 semaphores 1\n")?;
-    for _ in 0..99_999 {
-        text.push_str("t0 v s0\n")?;
-    }
-    assert_eq!(rt; fault(alloc, text.as_str())?, None);
-    text.push_str("x")?;
-    assert_eq!(rt; fault(alloc, text.as_str())?, Some(ScriptFault::TooLong));
     Ok(())
 }
 
@@ -170,44 +114,6 @@ fn waits_and_alerts_are_read(rt: HostRuntime) -> Result<(), Fail> {
             },
             Err(_) => assert!(rt; false, "refused: {line}"),
         }
-    }
-    Ok(())
-}
-
-#[test]
-fn bad_lines_of_waits_and_alerts_are_named(rt: HostRuntime) -> Result<(), Fail> {
-    let alloc = rt.alloc();
-    for line in [
-        "t0 wait m0 c0",
-        "t0 alert-wait m0 c0",
-        "t0 until m0 c0 1",
-        "t0 alert-until m0 c0 1",
-        "t1 wait m0 c0",
-        "t1 wait m1 c1",
-        "t1 wait m1",
-        "t1 wait m1 c0 ",
-        "t1 wait m1 c0 1",
-        "t1 until m1 c0",
-        "t1 until m1 c0 18446744073709551616",
-        "t1 until m1 c0 -1",
-        "t1 alert-until m1 c0 00",
-        "t0 signal c1",
-        "t0 broadcast",
-        "t0 alert t2",
-        "t0 alert m0",
-        "t0 test-alert t0",
-        "t0 test-alert ",
-        "t0 alert-p s1",
-        "t0 Alert t0",
-    ] {
-        let text = format!(in alloc;
-            "threads 2 mutexes 2 conditions 1 semaphores 1\nt1 acquire m1\n{line}\nt1 release m1\n"
-        )?;
-        assert_eq!(rt;
-            fault(alloc, text.as_str())?,
-            Some(ScriptFault::BadLine(3)),
-            "{line}"
-        );
     }
     Ok(())
 }

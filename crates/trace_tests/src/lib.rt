@@ -1,6 +1,6 @@
 //! The verdict of the checker, compared with one that is read off the definitions, line by line and by comparing with each line that can
-//! come: on each prefix, each removed byte and many changed bytes of short traces. Short traces with their verdicts tie the definitions to
-//! the table of actions, and a source that counts its questions shows that none is asked once the bytes decide.
+//! come: on each prefix, each removed byte and many changed bytes of short traces. A source that counts its questions shows that none is
+//! asked once the bytes decide. The traces that tie the definitions to the table of actions stand in runs/actions.runs.
 //! Below it, the tests of what the checker stands on: sources and sinks, the state and its actions, the lines of a trace.
 #![tactic(auto)]
 
@@ -14,8 +14,6 @@ mod every_byte;
 mod facts;
 #[cfg(test)]
 mod lines;
-#[cfg(test)]
-mod pinned;
 #[cfg(test)]
 mod plain;
 #[cfg(test)]

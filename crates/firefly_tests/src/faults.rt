@@ -1,0 +1,170 @@
+//! Inputs that fail or are past their budget, and sinks that are full.
+use crate::answers::{Answer, run_on, run_program};
+use crate::project::project;
+use firefly::Status;
+use firefly_outside::MemSource;
+use std::alloc::{AllocError, Global};
+use std::sync::Wait;
+use std::test::Fail;
+use std::thread::Threads;
+use trace_check::{Summary, Verdict, check};
+
+// The texts. A function without a clause keeps the bytes out of the proofs.
+
+fn no_event() -> &'static str {
+    "firefly-trace 1
+threads 1 mutexes 1 conditions 0 semaphores 0
+end 0
+"
+}
+
+fn signalled() -> &'static str {
+    "firefly-trace 1
+threads 2 mutexes 1 conditions 1 semaphores 0
+0 t0 acquire m0
+1 t0 enqueue m0 c0
+2 t1 acquire m0
+3 t1 signal c0 left
+4 t1 release m0
+5 t0 resume m0 c0
+6 t0 release m0
+end 7
+"
+}
+
+fn one_mutex() -> &'static str {
+    "threads 1 mutexes 1 conditions 0 semaphores 0\n"
+}
+
+fn five_lines() -> &'static str {
+    "threads 1 mutexes 2 conditions 0 semaphores 1
+t0 p s0
+t0 acquire m1
+t0 add m1 7
+t0 release m1
+t0 v s0
+"
+}
+
+fn four_events() -> &'static str {
+    "firefly-trace 1
+threads 1 mutexes 2 conditions 0 semaphores 1
+0 t0 p s0
+1 t0 acquire m1
+2 t0 release m1
+3 t0 v s0
+end 4
+value m0 0
+value m1 7
+"
+}
+
+// The command `run` on this text, with so much room for its answer.
+fn run<R: Threads + Wait + Sync>(
+    rt: &R,
+    alloc: Global,
+    text: &str,
+    room: usize,
+) -> Result<Answer, AllocError> {
+    let mut input = MemSource::new(text.as_bytes().to_vec(alloc)?);
+    run_program(rt, alloc, &["run"], &mut input, room)
+}
+
+#[test]
+fn a_budget_of_all_bytes_is_enough_and_one_less_is_not(rt: HostRuntime) -> Result<(), Fail> {
+    let bytes = no_event().as_bytes();
+    assert_eq!(rt; bytes.len(), 68);
+    let none = Summary {
+        events: 0,
+        held: 0,
+        waiting: 0,
+        alerted: 0,
+    };
+    let mut input = MemSource::new(bytes.to_vec(rt.alloc())?);
+    assert_eq!(rt; check(&mut input, 68), Verdict::Legal(none));
+    let mut input = MemSource::new(bytes.to_vec(rt.alloc())?);
+    assert_eq!(rt; check(&mut input, 67), Verdict::TooLong);
+    Ok(())
+}
+
+#[test]
+fn a_failed_read_is_reported_and_nothing_is_printed(rt: HostRuntime) -> Result<(), Fail> {
+    let mut input = MemSource::new(signalled().as_bytes().to_vec(rt.alloc())?);
+    input.fail_after(20);
+    let found = run_program(&rt, rt.alloc(), &["check"], &mut input, 200)?;
+    assert_eq!(rt; found.status, Status::ReadFault);
+    assert_eq!(rt; found.out.len(), 0);
+    assert_eq!(rt;
+        found.notes.as_slice(),
+        b"firefly: input could not be read\n".as_slice()
+    );
+    Ok(())
+}
+
+#[test]
+fn a_failed_read_of_a_script_is_reported(rt: HostRuntime) -> Result<(), Fail> {
+    let alloc = rt.alloc();
+    let mut input = MemSource::new(five_lines().as_bytes().to_vec(alloc)?);
+    input.fail_after(60);
+    let found = run_program(&rt, alloc, &["run"], &mut input, 200)?;
+    assert_eq!(rt; found.status, Status::ReadFault);
+    assert_eq!(rt; found.out.len(), 0);
+    assert_eq!(rt;
+        found.notes.as_slice(),
+        "firefly: input could not be read\n".as_bytes()
+    );
+    // A whole bad line before the fault is named.
+    let text = format!(in alloc; "{}t0 release m0\nt0 acquire m0\n", one_mutex())?;
+    let mut input = MemSource::new(text.as_bytes().to_vec(alloc)?);
+    input.fail_after(60);
+    let found = run_program(&rt, alloc, &["run"], &mut input, 200)?;
+    assert_eq!(rt; found.status, Status::BadText);
+    Ok(())
+}
+
+#[test]
+fn a_full_sink_holds_the_front_of_the_line(rt: HostRuntime) -> Result<(), Fail> {
+    let mut input = MemSource::new(no_event().as_bytes().to_vec(rt.alloc())?);
+    let found = run_program(&rt, rt.alloc(), &["check"], &mut input, 5)?;
+    assert_eq!(rt; found.status, Status::SinkFault);
+    assert_eq!(rt; found.out.as_slice(), b"legal".as_slice());
+    assert_eq!(rt;
+        found.notes.as_slice(),
+        b"firefly: output could not be written\n".as_slice()
+    );
+    Ok(())
+}
+
+#[test]
+fn a_full_sink_holds_the_front_of_the_trace(rt: HostRuntime) -> Result<(), Fail> {
+    let alloc = rt.alloc();
+    let whole = four_events().as_bytes();
+    for room in [0, 1, 16, 100, whole.len().saturating_sub(1)] {
+        let found = run(&rt, alloc, five_lines(), room)?;
+        assert_eq!(rt; found.status, Status::SinkFault);
+        assert_eq!(rt; found.out.len(), room);
+        assert!(rt; whole.starts_with(found.out.as_slice()));
+        assert_eq!(rt;
+            found.notes.as_slice(),
+            "firefly: output could not be written\n".as_bytes()
+        );
+    }
+    let found = run(&rt, alloc, five_lines(), whole.len())?;
+    assert_eq!(rt; found.status, Status::Done);
+    assert_eq!(rt; found.out.as_slice(), whole);
+    Ok(())
+}
+
+#[test]
+fn a_full_sink_holds_the_front_of_the_index(rt: HostRuntime) -> Result<(), Fail> {
+    let tree = project(rt.alloc())?;
+    let mut input = MemSource::new(Vec::new(rt.alloc()));
+    let found = run_on(&rt, rt.alloc(), &["index", "proj"], &tree, &mut input, 10)?;
+    assert_eq!(rt; found.status, Status::SinkFault);
+    assert_eq!(rt; found.out.as_slice(), "1 1\n  1 2 ".as_bytes());
+    assert_eq!(rt;
+        found.notes.as_slice(),
+        "firefly: output could not be written\n".as_bytes()
+    );
+    Ok(())
+}
