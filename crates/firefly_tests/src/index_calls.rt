@@ -1,14 +1,14 @@
-//! Calls of the command `index` on trees that fail, and the walk and the merge that it stands on.
+//! Calls of the command `index` on trees that fail, and the walk that it stands on.
 use crate::answers::answer_of;
 use crate::project::{project, project_index};
 use crate::trees::copies_failing_from;
 use firefly::Status;
-use firefly_outside::{MemSink, MemSource, MemTree, Tree};
+use firefly_outside::{MemSink, MemSource};
 use index_print::print_index;
 use std::alloc::Global;
 use std::test::Fail;
 use walker::{WalkAnswer, Walked, close_walk};
-use word_index::{Piece, merge, piece_of};
+use word_index::Piece;
 
 #[test]
 fn a_path_that_fails_is_named(rt: HostRuntime) -> Result<(), Fail> {
@@ -81,30 +81,5 @@ fn a_walk_from_nothing_gives_the_index(rt: HostRuntime) -> Result<(), Fail> {
     }
     assert_eq!(rt; tree.listed().len(), 3);
     assert_eq!(rt; tree.files_read().len(), 5);
-    Ok(())
-}
-
-// The piece of one file of the tree.
-fn piece_at(alloc: Global, tree: &mut MemTree, name: &str) -> Result<Piece, Fail> {
-    let path = format!(in alloc; "proj/{name}")?;
-    let file = tree.read(alloc, path.as_str())?;
-    Ok(piece_of(alloc, name, &file)?)
-}
-
-#[test]
-fn two_files_merge(rt: HostRuntime) -> Result<(), Fail> {
-    let mut tree = project(rt.alloc())?;
-    let readme = piece_at(rt.alloc(), &mut tree, "README")?;
-    let run = piece_at(rt.alloc(), &mut tree, "src/run.rs")?;
-    if readme.meets(&run) {
-        return Err(Fail::from("a path is in both"));
-    }
-    let Ok(both) = merge(readme, run) else {
-        return Err(Fail::from("no memory"));
-    };
-    assert_eq!(rt; both.files(), 2);
-    assert_eq!(rt; both.words(), 6);
-    assert_eq!(rt; both.entries(), 6);
-    assert_eq!(rt; both.occurrences(), 8);
     Ok(())
 }

@@ -13,6 +13,17 @@ fn piece(alloc: Global, path: &str, bytes: &[u8]) -> Result<Piece, Fail> {
     Ok(piece_of(alloc, path, &file)?)
 }
 
+// The two pieces in one. In a function of its own the condition of the merge is shown with nothing else alive, which takes the proof far less.
+fn merged(one: Piece, other: Piece) -> Result<Piece, Fail> {
+    if one.meets(&other) {
+        return Err(Fail::from("a path is in both"));
+    }
+    match merge(one, other) {
+        Ok(both) => Ok(both),
+        Err(_) => Err(Fail::from("no memory")),
+    }
+}
+
 #[test]
 fn a_merge_counts_both_files(rt: HostRuntime) -> Result<(), Fail> {
     let readme = piece(rt.alloc(), "README", b"Firefly index\n")?;
@@ -21,12 +32,7 @@ fn a_merge_counts_both_files(rt: HostRuntime) -> Result<(), Fail> {
         "src/run.rs",
         b"fn run(n) {}\r\n// run twice\r\nrun\r\n",
     )?;
-    if readme.meets(&run) {
-        return Err(Fail::from("a path is in both"));
-    }
-    let Ok(index) = merge(readme, run) else {
-        return Err(Fail::from("no memory"));
-    };
+    let index = merged(readme, run)?;
     assert_eq!(rt; index.files(), 2);
     assert_eq!(rt; index.words(), 6);
     assert_eq!(rt; index.entries(), 6);
