@@ -1,6 +1,6 @@
 -- Steps of the walk that lists the rest.
 use Rattle.std.proofs.Common.{◌≡◌, ◌≢◌, ◌∙◌, ℕ, ◌+◌, ◌<◌, ◌≤◌, Bool, true, false, ◌||◌, List, [], ◌∷◌, ◌++◌, length, map, sym, ap, subst, refl, arith, inl, inr, ◌⊎◌, Contains, AllPairs, get_or, take, slice_get, zero, suc}
-use Rattle.std.specs.Prelude.{Option, Some, None, IfSome, Result, Ok, Err, OnOk}
+use Rattle.std.specs.Prelude.{Option, Some, None, IfSome, Result, Ok, Err, OnOk, IfOk}
 use Rattle.std.proofs.lemmas.List.{append_assoc, append-nil, get_or_default, take_more, take-append-le, length-map, length-take}
 use Rattle.std.proofs.lemmas.List.Elements.{Contains-push, Contains-push_cases, Contains-append_left}
 use Rattle.std.proofs.lemmas.List.Quantifiers.{all_pairs_push}
@@ -342,6 +342,10 @@ passed_counts w stop Memory count p = absurd p
 pub OnOk-map : {T E : Type 0} (r : Result T E) (P Q : Type 0) → (P → Q) → OnOk r P → OnOk r Q
 OnOk-map (Ok v) P Q f h = f h
 OnOk-map (Err e) P Q f h = tt
+
+pub IfOk-map : {T E : Type 0} (r : Result T E) (P Q : T → Type 0) → ((x : T) → P x → Q x) → IfOk r P → IfOk r Q
+IfOk-map (Ok v) P Q f h = f v h
+IfOk-map (Err e) P Q f h = tt
 
 -- a step over a tree that tells the same
 pub moved_step : (o q : Option Told) (old new : Walk) (weak vague : List Path) (before now : Calls) (r : Result (Unit {0}) WalkAnswer) → o ≡ q → weak ≡ vague

@@ -1,7 +1,7 @@
 //! The files of a walk that was listed whole.
 ghost use Rattle.std.specs.Prelude.{◌≡◌, ◌++◌, ◌∷◌, [], ◌+◌, ◌≤◌, ◌<◌, ℕ, List, Option, Some, length, IfSome, IfOk, OnOk, IfErr, AllPairs, Contains, map, take};
 ghost use Rattle.firefly_outside.specs.Trees.{Calls};
-ghost use Rattle.word_index.specs.Index.{File, Meet, IsIndexOf};
+ghost use Rattle.word_index.specs.Index.{File, Meet, IsIndexOf, IsUnion};
 ghost use Rattle.walker.specs.Walk.{IsWalkOf, IsSound};
 ghost use Rattle.walker.specs.TreeIndex.{IsPartOf, IsFileAt};
 ghost use Rattle.walker.specs.Closing.{HasRisen};
@@ -175,15 +175,10 @@ fn add_piece(pile: &mut Vec<Piece>, next: Piece) -> Result<(), AllocError>
     let mut top = next;
     while let Some(below) = pile.pop() {
         if below.files() > top.files() {
-            return match pile.push(below) {
-                Ok(()) => put_on(pile, top),
-                Err(_) => Err(AllocError),
-            };
+            put_on(pile, below)?;
+            return put_on(pile, top);
         }
-        top = match merge(below, top) {
-            Ok(piece) => piece,
-            Err(_) => return Err(AllocError),
-        };
+        top = merged(below, top)?;
     }
     put_on(pile, top)
 }
@@ -205,15 +200,9 @@ fn whole_of(first: Piece, pile: Vec<Piece>) -> Result<Piece, AllocError>
         return Ok(first);
     };
     while let Some(below) = pile.pop() {
-        top = match merge(below, top) {
-            Ok(piece) => piece,
-            Err(_) => return Err(AllocError),
-        };
+        top = merged(below, top)?;
     }
-    match merge_first(first, top) {
-        Ok(piece) => Ok(piece),
-        Err(_) => Err(AllocError),
-    }
+    merge_first(first, top)
 }
 
 // Merges the piece that the walk began with. An empty one of the two, which adds nothing, is dropped.
@@ -227,7 +216,16 @@ fn merge_first(first: Piece, rest: Piece) -> Result<Piece, AllocError>
     if rest.files() == 0 {
         return Ok(first);
     }
-    match merge(first, rest) {
+    merged(first, rest)
+}
+
+// Merges two pieces. Where memory wants, both are dropped.
+fn merged(a: Piece, b: Piece) -> Result<Piece, AllocError>
+    requires { ¬ Meet a b }
+    ensures union { IfOk result (IsUnion a b) }
+    ensures index { IfOk result (λ p. (fs gs : List File) → IsIndexOf fs a → IsIndexOf gs b → IsIndexOf (fs ++ gs) p) }
+{
+    match merge(a, b) {
         Ok(piece) => Ok(piece),
         Err(_) => Err(AllocError),
     }
