@@ -5,9 +5,11 @@ ghost use Rattle.nub.specs.Idle.{IsIdle};
 
 use crate::alerting::{AlertTask, do_alerts};
 use crate::notes::Notes;
+use crate::traces::{event, has_events, has_length};
 use nub::{Action, Closed, Event, Layout, SemId, Thread, ThreadId, close_package, open_package};
 use package_crew::at_once;
 use std::alloc::{AllocError, Global};
+use std::process::Abort;
 use std::sync::Wait;
 use std::sync::atomic::Ordering;
 use std::test::Fail;
@@ -44,23 +46,43 @@ fn run<R: Threads + Wait + Sync>(
     close_package(pkg, threads)
 }
 
-fn event(thread: u32, action: Action) -> Event {
-    Event {
-        thread: ThreadId(thread),
-        action,
-    }
+/// Thread 1 raises so often, and leaves a trace of so many events or none.
+fn raises<R: Threads + Wait + Abort + Sync>(
+    rt: &R,
+    alloc: Global,
+    times: u32,
+    events: Option<usize>,
+) -> Result<(), Fail> {
+    let notes = Notes::new();
+    let closed = run(
+        rt,
+        alloc,
+        AlertTask::Raises(times),
+        &notes,
+        events.is_some(),
+    )?;
+    assert_eq!(rt; notes.first.load(Ordering::SeqCst), u64::from(times));
+    has_length(rt, &closed, events)
 }
 
 // A thread that waits for a semaphore which nobody frees raises each time that it is alerted.
 #[test]
 fn raises_each_time(rt: HostRuntime) -> Result<(), Fail> {
+    raises(&rt, rt.alloc(), 10_000, None)?;
+    raises(&rt, rt.alloc(), 100, Some(402))
+}
+
+/// Thread 1 ends its wait so often, and finds no fault.
+fn ends_each_wait<R: Threads + Wait + Abort + Sync>(
+    rt: &R,
+    alloc: Global,
+    times: u32,
+    traced: bool,
+) -> Result<(), Fail> {
     let notes = Notes::new();
-    run(&rt, rt.alloc(), AlertTask::Raises(10_000), &notes, false)?;
-    assert_eq!(rt; notes.first.load(Ordering::SeqCst), 10_000);
-    let notes = Notes::new();
-    let closed = run(&rt, rt.alloc(), AlertTask::Raises(100), &notes, true)?;
-    assert_eq!(rt; notes.first.load(Ordering::SeqCst), 100);
-    assert_eq!(rt; closed.trace().ok_or("no trace")?.len(), 402);
+    run(rt, alloc, AlertTask::AtOnce(times), &notes, traced)?;
+    assert_eq!(rt; notes.first.load(Ordering::SeqCst), u64::from(times));
+    assert_eq!(rt; notes.second.load(Ordering::SeqCst), 0);
     Ok(())
 }
 
@@ -68,28 +90,33 @@ fn raises_each_time(rt: HostRuntime) -> Result<(), Fail> {
 // and the semaphore is free. Nobody is left in the queue: a V and a P follow, and another alertable P that raises.
 #[test]
 fn freed_and_alerted_at_once(rt: HostRuntime) -> Result<(), Fail> {
-    let notes = Notes::new();
-    run(&rt, rt.alloc(), AlertTask::AtOnce(100_000), &notes, false)?;
-    assert_eq!(rt; notes.first.load(Ordering::SeqCst), 100_000);
-    assert_eq!(rt; notes.second.load(Ordering::SeqCst), 0);
-    let notes = Notes::new();
-    run(&rt, rt.alloc(), AlertTask::AtOnce(200), &notes, true)?;
-    assert_eq!(rt; notes.second.load(Ordering::SeqCst), 0);
-    Ok(())
+    ends_each_wait(&rt, rt.alloc(), 100_000, false)?;
+    ends_each_wait(&rt, rt.alloc(), 200, true)
+}
+
+/// Runs the task, and sees that its trace has these events.
+fn plays<R: Threads + Wait + Abort + Sync>(
+    rt: &R,
+    alloc: Global,
+    what: AlertTask,
+    notes: &Notes,
+    expected: &[Event],
+) -> Result<(), Fail> {
+    let closed = run(rt, alloc, what, notes, true)?;
+    has_events(rt, &closed, expected)
 }
 
 // A thread that has alerted itself raises where the semaphore isn't available.
 #[test]
 fn alerts_itself(rt: HostRuntime) -> Result<(), Fail> {
     let notes = Notes::new();
-    let closed = run(&rt, rt.alloc(), AlertTask::Oneself, &notes, true)?;
-    assert_eq!(rt; notes.first.load(Ordering::SeqCst), 1);
     let sem = SemId(0);
     let taken = event(0, Action::P { sem });
     let alerted = event(0, Action::Alert { who: ThreadId(0) });
     let raised = event(0, Action::AlertPRaise { sem });
-    let events = closed.trace().ok_or("no trace")?;
-    assert_eq!(rt; events, [taken, alerted, raised].as_slice());
+    let expected = [taken, alerted, raised];
+    plays(&rt, rt.alloc(), AlertTask::Oneself, &notes, &expected)?;
+    assert_eq!(rt; notes.first.load(Ordering::SeqCst), 1);
     Ok(())
 }
 
@@ -97,14 +124,13 @@ fn alerts_itself(rt: HostRuntime) -> Result<(), Fail> {
 #[test]
 fn two_alerts_are_one(rt: HostRuntime) -> Result<(), Fail> {
     let notes = Notes::new();
-    let closed = run(&rt, rt.alloc(), AlertTask::Twice, &notes, true)?;
-    assert_eq!(rt; notes.first.load(Ordering::SeqCst), 1);
-    assert_eq!(rt; notes.second.load(Ordering::SeqCst), 0);
     let alerted = event(0, Action::Alert { who: ThreadId(0) });
     let yes = event(0, Action::TestAlert { yes: true });
     let no = event(0, Action::TestAlert { yes: false });
-    let events = closed.trace().ok_or("no trace")?;
-    assert_eq!(rt; events, [alerted, alerted, yes, no].as_slice());
+    let expected = [alerted, alerted, yes, no];
+    plays(&rt, rt.alloc(), AlertTask::Twice, &notes, &expected)?;
+    assert_eq!(rt; notes.first.load(Ordering::SeqCst), 1);
+    assert_eq!(rt; notes.second.load(Ordering::SeqCst), 0);
     Ok(())
 }
 

@@ -1,32 +1,42 @@
 //! Waits in a condition that an alert may end.
 use crate::alerted::{Alerts, run_alerts};
 use crate::notes::Notes;
+use crate::traces::{event, has_events};
 use nub::{Action, CondId, Event, MutexId, ThreadId};
+use std::alloc::Global;
+use std::process::Abort;
+use std::sync::Wait;
 use std::sync::atomic::Ordering;
 use std::test::Fail;
+use std::thread::Threads;
+
+/// One thread alerts itself and waits, and the trace has these events.
+fn plays_alone<R: Threads + Wait + Abort + Sync>(
+    rt: &R,
+    alloc: Global,
+    notes: &Notes,
+    expected: &[Event],
+) -> Result<(), Fail> {
+    let closed = run_alerts(rt, alloc, 1, Alerts::Alone, notes, true)?;
+    has_events(rt, &closed, expected)
+}
 
 // A thread that was alerted before it waits raises at once, holds the mutex then, and the alert is gone.
 #[test]
 fn alone(rt: HostRuntime) -> Result<(), Fail> {
     let notes = Notes::new();
-    let closed = run_alerts(&rt, rt.alloc(), 1, Alerts::Alone, &notes, true)?;
-    assert_eq!(rt; notes.first.load(Ordering::SeqCst), 1);
-    assert_eq!(rt; notes.second.load(Ordering::SeqCst), 0);
-    let thread = ThreadId(0);
     let (mutex, cond) = (MutexId(0), CondId(0));
     let expected = [
-        Action::Alert { who: thread },
-        Action::Acquire { mutex },
-        Action::AlertEnqueue { mutex, cond },
-        Action::AlertRaise { mutex, cond },
-        Action::Release { mutex },
-        Action::TestAlert { yes: false },
+        event(0, Action::Alert { who: ThreadId(0) }),
+        event(0, Action::Acquire { mutex }),
+        event(0, Action::AlertEnqueue { mutex, cond }),
+        event(0, Action::AlertRaise { mutex, cond }),
+        event(0, Action::Release { mutex }),
+        event(0, Action::TestAlert { yes: false }),
     ];
-    let events = closed.trace().ok_or("no trace")?;
-    assert_eq!(rt; events.len(), expected.len());
-    for (event, action) in events.iter().zip(expected) {
-        assert_eq!(rt; *event, Event { thread, action });
-    }
+    plays_alone(&rt, rt.alloc(), &notes, &expected)?;
+    assert_eq!(rt; notes.first.load(Ordering::SeqCst), 1);
+    assert_eq!(rt; notes.second.load(Ordering::SeqCst), 0);
     Ok(())
 }
 
@@ -39,14 +49,10 @@ fn alert_against_signal(rt: HostRuntime) -> Result<(), Fail> {
     Ok(())
 }
 
-// The same with a trace, which is legal as a whole: each wait ends by one of its two events.
-#[test]
-fn alert_against_signal_traced(rt: HostRuntime) -> Result<(), Fail> {
-    let notes = Notes::new();
-    let closed = run_alerts(&rt, rt.alloc(), 3, Alerts::Race(1000), &notes, true)?;
-    assert_eq!(rt; notes.second.load(Ordering::SeqCst), 0);
+/// How many waits that an alert may end have ended.
+fn ended(events: &[Event]) -> u32 {
     let mut ended: u32 = 0;
-    for event in closed.trace().ok_or("no trace")? {
+    for event in events {
         if matches!(
             event.action,
             Action::AlertReturn { .. } | Action::AlertRaise { .. }
@@ -54,6 +60,26 @@ fn alert_against_signal_traced(rt: HostRuntime) -> Result<(), Fail> {
             ended = ended.wrapping_add(1);
         }
     }
+    ended
+}
+
+/// How many waits have ended in the trace of so many races.
+fn ended_in_races<R: Threads + Wait + Sync>(
+    rt: &R,
+    alloc: Global,
+    races: u32,
+    notes: &Notes,
+) -> Result<u32, Fail> {
+    let closed = run_alerts(rt, alloc, 3, Alerts::Race(races), notes, true)?;
+    Ok(ended(closed.trace().ok_or("no trace")?))
+}
+
+// The same with a trace, which is legal as a whole: each wait ends by one of its two events.
+#[test]
+fn alert_against_signal_traced(rt: HostRuntime) -> Result<(), Fail> {
+    let notes = Notes::new();
+    let ended = ended_in_races(&rt, rt.alloc(), 1000, &notes)?;
+    assert_eq!(rt; notes.second.load(Ordering::SeqCst), 0);
     assert_eq!(rt; ended, 1000);
     Ok(())
 }

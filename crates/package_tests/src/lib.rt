@@ -20,4 +20,6 @@ mod run;
 #[cfg(test)]
 mod semaphore;
 #[cfg(test)]
+mod traces;
+#[cfg(test)]
 mod work;

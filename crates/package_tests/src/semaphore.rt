@@ -1,38 +1,52 @@
 //! A binary semaphore.
+ghost use Rattle.std.specs.Prelude.{◌≤◌};
+ghost use Rattle.larch_actions.specs.Layout.{IsLawful};
+
 use crate::notes::Notes;
 use crate::run::{LARGEST, run, two_of_each};
+use crate::traces::{event, has_events, has_length};
 use crate::work::Task;
-use nub::{Action, Event, SemId, ThreadId};
+use nub::{Action, Layout, SemId};
+use std::alloc::Global;
+use std::process::Abort;
+use std::sync::Wait;
 use std::sync::atomic::Ordering;
 use std::test::Fail;
+use std::thread::Threads;
+
+/// Runs the task, and sees that it leaves a trace of so many events or none.
+fn leaves<R: Threads + Wait + Abort + Sync>(
+    rt: &R,
+    alloc: Global,
+    layout: Layout,
+    what: Task,
+    notes: &Notes,
+    events: Option<usize>,
+) -> Result<(), Fail>
+    requires lawful { IsLawful layout }
+    requires named { (2 ≤ layout.mutexes) × (2 ≤ layout.semaphores) }
+{
+    let closed = run(rt, alloc, layout, what, notes, events.is_some())?;
+    has_length(rt, &closed, events)
+}
 
 // A semaphore is available at first and after a V.
 #[test]
 fn alone(rt: HostRuntime) -> Result<(), Fail> {
     let task = Task::TakeTurns(2);
     let closed = run(&rt, rt.alloc(), two_of_each(1), task, &Notes::new(), true)?;
-    let (thread, sem) = (ThreadId(0), SemId(0));
-    let taken = Event {
-        thread,
-        action: Action::P { sem },
-    };
-    let freed = Event {
-        thread,
-        action: Action::V { sem },
-    };
-    let events = closed.trace().ok_or("no trace")?;
-    assert_eq!(rt; events, [taken, freed, taken, freed].as_slice());
-    Ok(())
+    let sem = SemId(0);
+    let taken = event(0, Action::P { sem });
+    let freed = event(0, Action::V { sem });
+    has_events(&rt, &closed, &[taken, freed, taken, freed])
 }
 
 // Two threads take turns, untraced and traced: they never meet, and the trace has every event.
 #[test]
 fn contended(rt: HostRuntime) -> Result<(), Fail> {
     let (task, notes) = (Task::TakeTurns(500), Notes::new());
-    let closed = run(&rt, rt.alloc(), two_of_each(2), task, &notes, false)?;
-    assert!(rt; closed.trace().is_none());
-    let closed = run(&rt, rt.alloc(), two_of_each(2), task, &notes, true)?;
-    assert_eq!(rt; closed.trace().ok_or("no trace")?.len(), 2000);
+    leaves(&rt, rt.alloc(), two_of_each(2), task, &notes, None)?;
+    leaves(&rt, rt.alloc(), two_of_each(2), task, &notes, Some(2000))?;
     assert_eq!(rt; notes.second.load(Ordering::SeqCst), 0);
     Ok(())
 }
@@ -40,46 +54,23 @@ fn contended(rt: HostRuntime) -> Result<(), Fail> {
 // Nobody waits for who stands between P and V of another semaphore: that one saw the other thread go through semaphore 1 in time.
 #[test]
 fn two_objects_apart(rt: HostRuntime) -> Result<(), Fail> {
-    let notes = Notes::new();
-    run(
-        &rt,
-        rt.alloc(),
-        two_of_each(2),
-        Task::PassBySem,
-        &notes,
-        false,
-    )?;
+    let (task, notes) = (Task::PassBySem, Notes::new());
+    leaves(&rt, rt.alloc(), two_of_each(2), task, &notes, None)?;
     assert_eq!(rt; notes.third.load(Ordering::SeqCst), 1);
     Ok(())
 }
 
 #[test]
 fn many_threads(rt: HostRuntime) -> Result<(), Fail> {
-    let notes = Notes::new();
-    let closed = run(
-        &rt,
-        rt.alloc(),
-        two_of_each(8),
-        Task::TakeTurns(1000),
-        &notes,
-        false,
-    )?;
+    let (task, notes) = (Task::TakeTurns(1000), Notes::new());
+    leaves(&rt, rt.alloc(), two_of_each(8), task, &notes, None)?;
     assert_eq!(rt; notes.second.load(Ordering::SeqCst), 0);
-    assert!(rt; closed.trace().is_none());
     Ok(())
 }
 
 // Each of 64 threads takes turns by a semaphore of its own.
 #[test]
 fn largest_layout(rt: HostRuntime) -> Result<(), Fail> {
-    let closed = run(
-        &rt,
-        rt.alloc(),
-        LARGEST,
-        Task::TurnApart(10),
-        &Notes::new(),
-        true,
-    )?;
-    assert_eq!(rt; closed.trace().ok_or("no trace")?.len(), 1280);
-    Ok(())
+    let (task, notes) = (Task::TurnApart(10), Notes::new());
+    leaves(&rt, rt.alloc(), LARGEST, task, &notes, Some(1280))
 }
