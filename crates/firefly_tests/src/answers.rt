@@ -50,6 +50,22 @@ pub fn run_on<R: Threads + Wait + Sync>(
     answer_of(rt, alloc, words, &mut trees, input, room)
 }
 
+// The status of a call. In a function of its own what the program tells of the call isn't alive while the answer is put together.
+fn status_of<R: Threads + Wait + Sync, S: Tree>(
+    rt: &R,
+    alloc: Global,
+    words: &[String],
+    trees: &mut [Option<S>],
+    input: &mut MemSource,
+    out: &mut MemSink,
+    notes: &mut MemSink,
+) -> Status
+    requires enough { 17 ≤ length trees.old }
+    requires agree { Agree (looks_of (look_of S.tree S.may_fail S.calls S.faults) trees.old) }
+{
+    firefly(rt, alloc, words, trees, input, out, notes)
+}
+
 /// Calls the program on these trees.
 pub fn answer_of<R: Threads + Wait + Sync, S: Tree>(
     rt: &R,
@@ -65,7 +81,7 @@ pub fn answer_of<R: Threads + Wait + Sync, S: Tree>(
     let words = words_of(alloc, words)?;
     let mut out = MemSink::with_room(alloc, room)?;
     let mut notes = MemSink::with_room(alloc, 200)?;
-    let status = firefly(rt, alloc, &words, trees, input, &mut out, &mut notes);
+    let status = status_of(rt, alloc, &words, trees, input, &mut out, &mut notes);
     Ok(Answer {
         status,
         out: out.bytes().to_vec(alloc)?,

@@ -4,6 +4,7 @@ use crate::project::project;
 use firefly::Status;
 use firefly_outside::MemSource;
 use std::alloc::{AllocError, Global};
+use std::process::Abort;
 use std::sync::Wait;
 use std::test::Fail;
 use std::thread::Threads;
@@ -32,8 +33,11 @@ end 7
 "
 }
 
-fn one_mutex() -> &'static str {
-    "threads 1 mutexes 1 conditions 0 semaphores 0\n"
+fn bad_second_line() -> &'static str {
+    "threads 1 mutexes 1 conditions 0 semaphores 0
+t0 release m0
+t0 acquire m0
+"
 }
 
 fn five_lines() -> &'static str {
@@ -70,54 +74,70 @@ fn run<R: Threads + Wait + Sync>(
     run_program(rt, alloc, &["run"], &mut input, room)
 }
 
+// The command on this text, of which so many bytes are given before the read fails.
+fn failing<R: Threads + Wait + Sync>(
+    rt: &R,
+    alloc: Global,
+    command: &str,
+    text: &str,
+    given: usize,
+) -> Result<Answer, AllocError> {
+    let mut input = MemSource::new(text.as_bytes().to_vec(alloc)?);
+    input.fail_after(given);
+    run_program(rt, alloc, &[command], &mut input, 200)
+}
+
+// The verdict on this text.
+fn verdict_on(alloc: Global, text: &str, budget: u32) -> Result<Verdict, AllocError> {
+    let mut input = MemSource::new(text.as_bytes().to_vec(alloc)?);
+    Ok(check(&mut input, u64::from(budget)))
+}
+
+// This is the answer.
+fn is_answer(rt: &impl Abort, found: &Answer, status: Status, out: &str, notes: &str) {
+    assert_eq!(rt; found.status, status);
+    assert_eq!(rt; found.out.as_slice(), out.as_bytes());
+    assert_eq!(rt; found.notes.as_slice(), notes.as_bytes());
+}
+
+const UNREAD: &str = "firefly: input could not be read\n";
+
+const UNWRITTEN: &str = "firefly: output could not be written\n";
+
 #[test]
 fn a_budget_of_all_bytes_is_enough_and_one_less_is_not(rt: HostRuntime) -> Result<(), Fail> {
-    let bytes = no_event().as_bytes();
-    assert_eq!(rt; bytes.len(), 68);
+    assert_eq!(rt; no_event().len(), 68);
     let none = Summary {
         events: 0,
         held: 0,
         waiting: 0,
         alerted: 0,
     };
-    let mut input = MemSource::new(bytes.to_vec(rt.alloc())?);
-    assert_eq!(rt; check(&mut input, 68), Verdict::Legal(none));
-    let mut input = MemSource::new(bytes.to_vec(rt.alloc())?);
-    assert_eq!(rt; check(&mut input, 67), Verdict::TooLong);
+    assert_eq!(rt;
+        verdict_on(rt.alloc(), no_event(), 68)?,
+        Verdict::Legal(none)
+    );
+    assert_eq!(rt; verdict_on(rt.alloc(), no_event(), 67)?, Verdict::TooLong);
     Ok(())
 }
 
 #[test]
 fn a_failed_read_is_reported_and_nothing_is_printed(rt: HostRuntime) -> Result<(), Fail> {
-    let mut input = MemSource::new(signalled().as_bytes().to_vec(rt.alloc())?);
-    input.fail_after(20);
-    let found = run_program(&rt, rt.alloc(), &["check"], &mut input, 200)?;
-    assert_eq!(rt; found.status, Status::ReadFault);
-    assert_eq!(rt; found.out.len(), 0);
-    assert_eq!(rt;
-        found.notes.as_slice(),
-        b"firefly: input could not be read\n".as_slice()
-    );
+    let found = failing(&rt, rt.alloc(), "check", signalled(), 20)?;
+    is_answer(&rt, &found, Status::ReadFault, "", UNREAD);
     Ok(())
 }
 
 #[test]
 fn a_failed_read_of_a_script_is_reported(rt: HostRuntime) -> Result<(), Fail> {
-    let alloc = rt.alloc();
-    let mut input = MemSource::new(five_lines().as_bytes().to_vec(alloc)?);
-    input.fail_after(60);
-    let found = run_program(&rt, alloc, &["run"], &mut input, 200)?;
-    assert_eq!(rt; found.status, Status::ReadFault);
-    assert_eq!(rt; found.out.len(), 0);
-    assert_eq!(rt;
-        found.notes.as_slice(),
-        "firefly: input could not be read\n".as_bytes()
-    );
-    // A whole bad line before the fault is named.
-    let text = format!(in alloc; "{}t0 release m0\nt0 acquire m0\n", one_mutex())?;
-    let mut input = MemSource::new(text.as_bytes().to_vec(alloc)?);
-    input.fail_after(60);
-    let found = run_program(&rt, alloc, &["run"], &mut input, 200)?;
+    let found = failing(&rt, rt.alloc(), "run", five_lines(), 60)?;
+    is_answer(&rt, &found, Status::ReadFault, "", UNREAD);
+    Ok(())
+}
+
+#[test]
+fn a_whole_bad_line_of_a_script_wins_over_a_failed_read(rt: HostRuntime) -> Result<(), Fail> {
+    let found = failing(&rt, rt.alloc(), "run", bad_second_line(), 60)?;
     assert_eq!(rt; found.status, Status::BadText);
     Ok(())
 }
@@ -126,32 +146,28 @@ fn a_failed_read_of_a_script_is_reported(rt: HostRuntime) -> Result<(), Fail> {
 fn a_full_sink_holds_the_front_of_the_line(rt: HostRuntime) -> Result<(), Fail> {
     let mut input = MemSource::new(no_event().as_bytes().to_vec(rt.alloc())?);
     let found = run_program(&rt, rt.alloc(), &["check"], &mut input, 5)?;
-    assert_eq!(rt; found.status, Status::SinkFault);
-    assert_eq!(rt; found.out.as_slice(), b"legal".as_slice());
-    assert_eq!(rt;
-        found.notes.as_slice(),
-        b"firefly: output could not be written\n".as_slice()
-    );
+    is_answer(&rt, &found, Status::SinkFault, "legal", UNWRITTEN);
     Ok(())
+}
+
+// The answer is the front of the text, which has so many bytes.
+fn is_front(rt: &impl Abort, found: &Answer, text: &str, room: usize) {
+    assert_eq!(rt; found.status, Status::SinkFault);
+    assert_eq!(rt; found.out.len(), room);
+    assert!(rt; text.as_bytes().starts_with(found.out.as_slice()));
+    assert_eq!(rt; found.notes.as_slice(), UNWRITTEN.as_bytes());
 }
 
 #[test]
 fn a_full_sink_holds_the_front_of_the_trace(rt: HostRuntime) -> Result<(), Fail> {
-    let alloc = rt.alloc();
-    let whole = four_events().as_bytes();
+    let whole = four_events();
     for room in [0, 1, 16, 100, whole.len().saturating_sub(1)] {
-        let found = run(&rt, alloc, five_lines(), room)?;
-        assert_eq!(rt; found.status, Status::SinkFault);
-        assert_eq!(rt; found.out.len(), room);
-        assert!(rt; whole.starts_with(found.out.as_slice()));
-        assert_eq!(rt;
-            found.notes.as_slice(),
-            "firefly: output could not be written\n".as_bytes()
-        );
+        let found = run(&rt, rt.alloc(), five_lines(), room)?;
+        is_front(&rt, &found, whole, room);
     }
-    let found = run(&rt, alloc, five_lines(), whole.len())?;
+    let found = run(&rt, rt.alloc(), five_lines(), whole.len())?;
     assert_eq!(rt; found.status, Status::Done);
-    assert_eq!(rt; found.out.as_slice(), whole);
+    assert_eq!(rt; found.out.as_slice(), whole.as_bytes());
     Ok(())
 }
 
@@ -160,11 +176,6 @@ fn a_full_sink_holds_the_front_of_the_index(rt: HostRuntime) -> Result<(), Fail>
     let tree = project(rt.alloc())?;
     let mut input = MemSource::new(Vec::new(rt.alloc()));
     let found = run_on(&rt, rt.alloc(), &["index", "proj"], &tree, &mut input, 10)?;
-    assert_eq!(rt; found.status, Status::SinkFault);
-    assert_eq!(rt; found.out.as_slice(), "1 1\n  1 2 ".as_bytes());
-    assert_eq!(rt;
-        found.notes.as_slice(),
-        "firefly: output could not be written\n".as_bytes()
-    );
+    is_answer(&rt, &found, Status::SinkFault, "1 1\n  1 2 ", UNWRITTEN);
     Ok(())
 }

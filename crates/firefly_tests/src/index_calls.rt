@@ -3,9 +3,9 @@ use crate::answers::answer_of;
 use crate::project::{project, project_index};
 use crate::trees::copies_failing_from;
 use firefly::Status;
-use firefly_outside::{MemSink, MemSource};
+use firefly_outside::{MemSink, MemSource, MemTree, Tree};
 use index_print::print_index;
-use std::alloc::Global;
+use std::alloc::{AllocError, Global};
 use std::test::Fail;
 use walker::{WalkAnswer, Walked, close_walk};
 use word_index::Piece;
@@ -67,19 +67,32 @@ fn is_text(alloc: Global, piece: &Piece, text: &str) -> Result<bool, Fail> {
     Ok(is_put && out.bytes() == text.as_bytes())
 }
 
+// The walk of one thread from nothing.
+fn walk<S: Tree>(alloc: Global, tree: &mut S, root: &str) -> Result<WalkAnswer, AllocError> {
+    let walked = Walked::new(alloc, root)?;
+    let piece = Piece::empty(alloc);
+    Ok(close_walk(alloc, tree, root, walked, piece, None))
+}
+
+// The index of the whole tree.
+fn index_of(alloc: Global, tree: &mut MemTree, root: &str) -> Result<Piece, Fail> {
+    match walk(alloc, tree, root)? {
+        WalkAnswer::Done(piece) => Ok(piece),
+        _ => Err(Fail::from("no index")),
+    }
+}
+
+// How many lists and reads the tree has told.
+fn calls(tree: &MemTree) -> (usize, usize) {
+    (tree.listed().len(), tree.files_read().len())
+}
+
 #[test]
 fn a_walk_from_nothing_gives_the_index(rt: HostRuntime) -> Result<(), Fail> {
     let mut tree = project(rt.alloc())?;
-    let walked = Walked::new(rt.alloc(), "proj")?;
-    let piece = Piece::empty(rt.alloc());
-    match close_walk(rt.alloc(), &mut tree, "proj", walked, piece, None) {
-        WalkAnswer::Done(piece) => {
-            assert!(rt; is_text(rt.alloc(), &piece, project_index())?);
-            assert_eq!(rt; piece.files(), 5);
-        }
-        _ => assert!(rt; false, "no index"),
-    }
-    assert_eq!(rt; tree.listed().len(), 3);
-    assert_eq!(rt; tree.files_read().len(), 5);
+    let piece = index_of(rt.alloc(), &mut tree, "proj")?;
+    assert!(rt; is_text(rt.alloc(), &piece, project_index())?);
+    assert_eq!(rt; piece.files(), 5);
+    assert_eq!(rt; calls(&tree), (3, 5));
     Ok(())
 }

@@ -1,5 +1,5 @@
 //! A small project and its index.
-use crate::trees::{put_dir, put_file};
+use crate::trees::{put_dir, put_file, tree_with};
 use firefly_outside::MemTree;
 use std::alloc::Global;
 use std::test::Fail;
@@ -54,8 +54,7 @@ twice 1
 
 /// A project of three directories and five files.
 pub fn project(alloc: Global) -> Result<MemTree, Fail> {
-    let mut tree = MemTree::new(alloc);
-    tree.add_dir("proj")?;
+    let mut tree = tree_with(alloc, "proj")?;
     put_dir(&mut tree, "proj/src")?;
     put_dir(&mut tree, "proj/doc")?;
     put_file(&mut tree, "proj/README", b"Firefly index\n".to_vec(alloc)?)?;

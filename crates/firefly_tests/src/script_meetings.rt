@@ -1,9 +1,11 @@
 //! A script whose threads wait for each other.
 use crate::meeting::Meeting;
-use firefly::{read_script, run_script};
+use firefly::{Script, read_script, run_script};
 use firefly_outside::MemSource;
 use std::alloc::{AllocError, Global};
+use std::sync::Wait;
 use std::test::Fail;
+use std::thread::Threads;
 
 // The layout, and for each thread so many times the lines in which it adds one.
 fn adding(alloc: Global, threads: u32, times: u32) -> Result<String, AllocError> {
@@ -19,16 +21,34 @@ fn adding(alloc: Global, threads: u32, times: u32) -> Result<String, AllocError>
     Ok(text)
 }
 
+// Runs the script, and answers the values at the end and how many events were recorded. What the run tells besides isn't alive in the test.
+fn run_with<R: Threads + Wait + Sync>(
+    rt: &R,
+    alloc: Global,
+    script: &Script,
+    meeting: &Meeting,
+) -> Result<(Vec<u64>, Option<usize>), AllocError> {
+    let closed = run_script(rt, alloc, script, meeting)?;
+    Ok((
+        closed.values().to_vec(alloc)?,
+        closed.trace().map(|events| events.len()),
+    ))
+}
+
+// The script of this text.
+fn script_of(alloc: Global, text: &str) -> Result<Script, Fail> {
+    let mut input = MemSource::new(text.as_bytes().to_vec(alloc)?);
+    Ok(read_script(alloc, &mut input)?)
+}
+
 #[test]
 fn two_threads_of_a_script_meet(rt: HostRuntime) -> Result<(), Fail> {
     let alloc = rt.alloc();
-    let text = adding(alloc, 2, 1000)?;
-    let mut input = MemSource::new(text.as_bytes().to_vec(alloc)?);
-    let script = read_script(alloc, &mut input)?;
+    let script = script_of(alloc, adding(alloc, 2, 1000)?.as_str())?;
     let meeting = Meeting::new(0);
-    let closed = run_script(&rt, alloc, &script, &meeting)?;
+    let (values, events) = run_with(&rt, alloc, &script, &meeting)?;
     assert!(rt; meeting.was_kept());
-    assert_eq!(rt; closed.values(), [2000].as_slice());
-    assert_eq!(rt; closed.trace().ok_or("no trace")?.len(), 4000);
+    assert_eq!(rt; values.as_slice(), [2000].as_slice());
+    assert_eq!(rt; events, Some(4000));
     Ok(())
 }

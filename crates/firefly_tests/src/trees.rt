@@ -62,6 +62,13 @@ pub fn copies_of(alloc: Global, tree: &MemTree) -> Result<Vec<Option<MemTree>>, 
     copies_failing_from(alloc, tree, 17, &[])
 }
 
+/// A tree with this directory alone. In a function of its own what is told of the tree isn't alive where more is added.
+pub fn tree_with(alloc: Global, root: &str) -> Result<MemTree, AllocError> {
+    let mut tree = MemTree::new(alloc);
+    tree.add_dir(root)?;
+    Ok(tree)
+}
+
 /// Adds an empty directory.
 pub fn put_dir(tree: &mut MemTree, path: &str) -> Result<(), Fail> {
     if tree.may_add(path)? {

@@ -24,6 +24,20 @@ fn merged(one: Piece, other: Piece) -> Result<Piece, Fail> {
     }
 }
 
+fn covers(piece: &Piece, path: &str) -> bool {
+    piece.covers(path)
+}
+
+// How many files, words and entries the piece has, and how often its words occur.
+fn counts(piece: &Piece) -> (u64, u64, u64, u128) {
+    (
+        piece.files(),
+        piece.words(),
+        piece.entries(),
+        piece.occurrences(),
+    )
+}
+
 #[test]
 fn a_merge_counts_both_files(rt: HostRuntime) -> Result<(), Fail> {
     let readme = piece(rt.alloc(), "README", b"Firefly index\n")?;
@@ -33,12 +47,9 @@ fn a_merge_counts_both_files(rt: HostRuntime) -> Result<(), Fail> {
         b"fn run(n) {}\r\n// run twice\r\nrun\r\n",
     )?;
     let index = merged(readme, run)?;
-    assert_eq!(rt; index.files(), 2);
-    assert_eq!(rt; index.words(), 6);
-    assert_eq!(rt; index.entries(), 6);
-    assert_eq!(rt; index.occurrences(), 8);
-    assert!(rt; index.covers("src/run.rs"));
-    assert!(rt; !index.covers("src"));
+    assert_eq!(rt; counts(&index), (2, 6, 6, 8));
+    assert!(rt; covers(&index, "src/run.rs"));
+    assert!(rt; !covers(&index, "src"));
     Ok(())
 }
 

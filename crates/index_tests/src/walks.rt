@@ -7,6 +7,13 @@ use std::test::Fail;
 use walker::{WalkAnswer, Walked, close_walk};
 use word_index::Piece;
 
+// A tree with this directory alone. In a function of its own what is told of the tree isn't alive where more is added.
+fn tree_with(alloc: Global, root: &str) -> Result<MemTree, AllocError> {
+    let mut tree = MemTree::new(alloc);
+    tree.add_dir(root)?;
+    Ok(tree)
+}
+
 fn put_dir(tree: &mut MemTree, path: &str) -> Result<(), Fail> {
     if tree.may_add(path)? {
         tree.add_dir(path)?;
@@ -23,8 +30,7 @@ fn put_file(tree: &mut MemTree, path: &str, bytes: Vec<u8>) -> Result<(), Fail> 
 
 // Three files in two directories.
 fn small_tree(alloc: Global) -> Result<MemTree, Fail> {
-    let mut tree = MemTree::new(alloc);
-    tree.add_dir("p")?;
+    let mut tree = tree_with(alloc, "p")?;
     put_dir(&mut tree, "p/d")?;
     put_file(&mut tree, "p/b", b"one two\n".to_vec(alloc)?)?;
     put_file(&mut tree, "p/d/a", b"two\n".to_vec(alloc)?)?;
@@ -46,19 +52,30 @@ fn index_of<S: Tree>(
     Ok(close_walk(alloc, tree, root, walked, piece, stop_after))
 }
 
+// The index of the whole tree.
+fn whole(alloc: Global, tree: &mut MemTree, root: &str) -> Result<Piece, Fail> {
+    match index_of(alloc, tree, root, None)? {
+        WalkAnswer::Done(piece) => Ok(piece),
+        _ => Err(Fail::from("no index")),
+    }
+}
+
+// How many files, words and entries the piece has.
+fn counts(piece: &Piece) -> (u64, u64, u64) {
+    (piece.files(), piece.words(), piece.entries())
+}
+
+// How many lists and reads the tree has told.
+fn calls(tree: &MemTree) -> (usize, usize) {
+    (tree.listed().len(), tree.files_read().len())
+}
+
 #[test]
 fn whole_tree_is_indexed(rt: HostRuntime) -> Result<(), Fail> {
     let mut tree = small_tree(rt.alloc())?;
-    match index_of(rt.alloc(), &mut tree, "p", None)? {
-        WalkAnswer::Done(piece) => {
-            assert_eq!(rt; piece.files(), 3);
-            assert_eq!(rt; piece.words(), 2);
-            assert_eq!(rt; piece.entries(), 3);
-        }
-        _ => assert!(rt; false, "no index"),
-    }
-    assert_eq!(rt; tree.listed().len(), 2);
-    assert_eq!(rt; tree.files_read().len(), 3);
+    let piece = whole(rt.alloc(), &mut tree, "p")?;
+    assert_eq!(rt; counts(&piece), (3, 2, 3));
+    assert_eq!(rt; calls(&tree), (2, 3));
     Ok(())
 }
 

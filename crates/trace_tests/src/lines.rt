@@ -6,6 +6,7 @@ ghost use Rattle.trace_core.specs.Reader.{standing};
 
 use firefly_outside::{Failed, MemSink, MemSource, SinkFault, Source};
 use larch_actions::{Action, CondId, Event, Layout, MutexId, SemId, ThreadId, ThreadSet};
+use std::alloc::{AllocError, Global};
 use std::test::Fail;
 use trace_core::laws::print_whole;
 use trace_core::{EventReader, TextFault, print_end, print_event, print_head, print_value};
@@ -206,8 +207,8 @@ fn each_kind_of_line_is_printed(rt: HostRuntime) -> Result<(), Fail> {
     Ok(())
 }
 
-#[test]
-fn whole_text_is_printed(rt: HostRuntime) -> Result<(), Fail> {
+// The text of one event and one value, printed into so much room, and whether it fitted.
+fn printed(alloc: Global, room: usize) -> Result<(Result<(), SinkFault>, Vec<u8>), AllocError> {
     let layout = Layout {
         threads: 1,
         mutexes: 1,
@@ -218,16 +219,20 @@ fn whole_text_is_printed(rt: HostRuntime) -> Result<(), Fail> {
         thread: ThreadId(0),
         action: Action::Acquire { mutex: MutexId(0) },
     }];
-    let mut sink = MemSink::with_room(rt.alloc(), 100)?;
-    print_whole(&layout, &events, &[5], &mut sink)?;
+    let mut sink = MemSink::with_room(alloc, room)?;
+    let put = print_whole(&layout, &events, &[5], &mut sink);
+    Ok((put, sink.bytes().to_vec(alloc)?))
+}
+
+#[test]
+fn whole_text_is_printed(rt: HostRuntime) -> Result<(), Fail> {
     let text: &[u8] =
         b"firefly-trace 1\nthreads 1 mutexes 1 conditions 0 semaphores 0\n0 t0 acquire m0\nend 1\nvalue m0 5\n";
-    assert_eq!(rt; sink.bytes(), text);
-    let mut small = MemSink::with_room(rt.alloc(), 20)?;
-    assert_eq!(rt;
-        print_whole(&layout, &events, &[5], &mut small),
-        Err(SinkFault)
-    );
-    assert_eq!(rt; small.bytes(), b"firefly-trace 1\nthre".as_slice());
+    let (put, bytes) = printed(rt.alloc(), 100)?;
+    assert_eq!(rt; put, Ok(()));
+    assert_eq!(rt; bytes.as_slice(), text);
+    let (put, bytes) = printed(rt.alloc(), 20)?;
+    assert_eq!(rt; put, Err(SinkFault));
+    assert_eq!(rt; bytes.as_slice(), b"firefly-trace 1\nthre".as_slice());
     Ok(())
 }

@@ -34,50 +34,67 @@ fn add(actions: &mut Vec<Named>, text: String, action: Action) -> Result<(), All
     Ok(())
 }
 
+// Adds the action whose text has this number between two words.
+fn add_numbered(
+    alloc: Global,
+    actions: &mut Vec<Named>,
+    front: &str,
+    number: u32,
+    after: &str,
+    action: Action,
+) -> Result<(), AllocError> {
+    let text = format!(in alloc; "{front}{number}{after}")?;
+    add(actions, text, action)
+}
+
+// Adds an action of a wait with this mutex and this condition.
+fn add_wait(
+    alloc: Global,
+    actions: &mut Vec<Named>,
+    word: &str,
+    m: u32,
+    c: u32,
+    after: &str,
+    action: Action,
+) -> Result<(), AllocError> {
+    let text = format!(in alloc; "{word} m{m} c{c}{after}")?;
+    add(actions, text, action)
+}
+
 fn add_waits(alloc: Global, actions: &mut Vec<Named>, m: u32, c: u32) -> Result<(), AllocError> {
     let mutex = MutexId(m);
     let cond = CondId(c);
-    add(
-        actions,
-        format!(in alloc; "enqueue m{m} c{c}")?,
-        Action::Enqueue { mutex, cond },
-    )?;
-    add(
-        actions,
-        format!(in alloc; "resume m{m} c{c}")?,
-        Action::Resume { mutex, cond },
-    )?;
-    add(
-        actions,
-        format!(in alloc; "alert-enqueue m{m} c{c}")?,
-        Action::AlertEnqueue { mutex, cond },
-    )?;
-    add(
-        actions,
-        format!(in alloc; "alert-resume m{m} c{c} returns")?,
-        Action::AlertReturn { mutex, cond },
-    )?;
-    add(
-        actions,
-        format!(in alloc; "alert-resume m{m} c{c} raises")?,
-        Action::AlertRaise { mutex, cond },
-    )
+    for (word, after, action) in [
+        ("enqueue", "", Action::Enqueue { mutex, cond }),
+        ("resume", "", Action::Resume { mutex, cond }),
+        ("alert-enqueue", "", Action::AlertEnqueue { mutex, cond }),
+        (
+            "alert-resume",
+            " returns",
+            Action::AlertReturn { mutex, cond },
+        ),
+        (
+            "alert-resume",
+            " raises",
+            Action::AlertRaise { mutex, cond },
+        ),
+    ] {
+        add_wait(alloc, actions, word, m, c, after, action)?;
+    }
+    Ok(())
 }
 
 fn add_semaphore(alloc: Global, actions: &mut Vec<Named>, s: u32) -> Result<(), AllocError> {
     let sem = SemId(s);
-    add(actions, format!(in alloc; "p s{s}")?, Action::P { sem })?;
-    add(actions, format!(in alloc; "v s{s}")?, Action::V { sem })?;
-    add(
-        actions,
-        format!(in alloc; "alert-p s{s} returns")?,
-        Action::AlertPReturn { sem },
-    )?;
-    add(
-        actions,
-        format!(in alloc; "alert-p s{s} raises")?,
-        Action::AlertPRaise { sem },
-    )
+    for (word, after, action) in [
+        ("p s", "", Action::P { sem }),
+        ("v s", "", Action::V { sem }),
+        ("alert-p s", " returns", Action::AlertPReturn { sem }),
+        ("alert-p s", " raises", Action::AlertPRaise { sem }),
+    ] {
+        add_numbered(alloc, actions, word, s, after, action)?;
+    }
+    Ok(())
 }
 
 // The signal that leaves the threads whose bits are set.
@@ -111,25 +128,36 @@ fn add_signal(
 fn actions_of(alloc: Global, layout: &Layout) -> Result<Vec<Named>, AllocError> {
     let mut actions = Vec::new(alloc);
     for m in 0..layout.mutexes {
-        add(
+        let mutex = MutexId(m);
+        add_numbered(
+            alloc,
             &mut actions,
-            format!(in alloc; "acquire m{m}")?,
-            Action::Acquire { mutex: MutexId(m) },
+            "acquire m",
+            m,
+            "",
+            Action::Acquire { mutex },
         )?;
-        add(
+        add_numbered(
+            alloc,
             &mut actions,
-            format!(in alloc; "release m{m}")?,
-            Action::Release { mutex: MutexId(m) },
+            "release m",
+            m,
+            "",
+            Action::Release { mutex },
         )?;
         for c in 0..layout.conditions {
             add_waits(alloc, &mut actions, m, c)?;
         }
     }
     for c in 0..layout.conditions {
-        add(
+        let cond = CondId(c);
+        add_numbered(
+            alloc,
             &mut actions,
-            format!(in alloc; "broadcast c{c}")?,
-            Action::Broadcast { cond: CondId(c) },
+            "broadcast c",
+            c,
+            "",
+            Action::Broadcast { cond },
         )?;
         for bits in 0..1 << layout.threads.min(10) {
             add_signal(alloc, &mut actions, c, layout.threads, bits)?;
@@ -139,36 +167,37 @@ fn actions_of(alloc: Global, layout: &Layout) -> Result<Vec<Named>, AllocError> 
         add_semaphore(alloc, &mut actions, s)?;
     }
     for t in 0..layout.threads {
-        add(
-            &mut actions,
-            format!(in alloc; "alert t{t}")?,
-            Action::Alert { who: ThreadId(t) },
-        )?;
+        let who = ThreadId(t);
+        add_numbered(alloc, &mut actions, "alert t", t, "", Action::Alert { who })?;
     }
-    add(
-        &mut actions,
-        format!(in alloc; "test-alert yes")?,
-        Action::TestAlert { yes: true },
-    )?;
-    add(
-        &mut actions,
-        format!(in alloc; "test-alert no")?,
-        Action::TestAlert { yes: false },
-    )?;
+    for (text, yes) in [("test-alert yes", true), ("test-alert no", false)] {
+        let text = String::from_str(alloc, text)?;
+        add(&mut actions, text, Action::TestAlert { yes })?;
+    }
     Ok(actions)
 }
 
-// The number in a range whose text, with these words round it, stands at the front of the line.
-fn number_in(
+// The number in a range that stands, with this text behind it, at the front of the line, and what comes behind them.
+fn number_in<'a>(
     alloc: Global,
-    line: &[u8],
-    front: &str,
+    line: &'a [u8],
     least: u32,
     after: &str,
-) -> Result<Option<u32>, AllocError> {
+) -> Result<Option<(u32, &'a [u8])>, AllocError> {
     for n in least..65 {
-        let text = format!(in alloc; "{front}{n}{after}")?;
-        if line.starts_with(text.as_bytes()) {
+        let text = format!(in alloc; "{n}{after}")?;
+        if let Some(rest) = line.strip_prefix(text.as_bytes()) {
+            return Ok(Some((n, rest)));
+        }
+    }
+    Ok(None)
+}
+
+// The number that is the whole line.
+fn number_of(alloc: Global, line: &[u8]) -> Result<Option<u32>, AllocError> {
+    for n in 0..65 {
+        let text = format!(in alloc; "{n}")?;
+        if line == text.as_bytes() {
             return Ok(Some(n));
         }
     }
@@ -176,31 +205,27 @@ fn number_in(
 }
 
 fn layout_in(alloc: Global, line: &[u8]) -> Result<Option<Layout>, AllocError> {
-    let Some(threads) = number_in(alloc, line, "threads ", 1, " mutexes ")? else {
+    let Some(rest) = line.strip_prefix(b"threads ") else {
         return Ok(None);
     };
-    let front = format!(in alloc; "threads {threads} mutexes ")?;
-    let Some(mutexes) = number_in(alloc, line, front.as_str(), 0, " conditions ")? else {
+    let Some((threads, rest)) = number_in(alloc, rest, 1, " mutexes ")? else {
         return Ok(None);
     };
-    let front = format!(in alloc; "threads {threads} mutexes {mutexes} conditions ")?;
-    let Some(conditions) = number_in(alloc, line, front.as_str(), 0, " semaphores ")? else {
+    let Some((mutexes, rest)) = number_in(alloc, rest, 0, " conditions ")? else {
         return Ok(None);
     };
-    for semaphores in 0..65 {
-        let text = format!(in alloc;
-            "threads {threads} mutexes {mutexes} conditions {conditions} semaphores {semaphores}"
-        )?;
-        if line == text.as_bytes() {
-            return Ok(Some(Layout {
-                threads,
-                mutexes,
-                conditions,
-                semaphores,
-            }));
-        }
-    }
-    Ok(None)
+    let Some((conditions, rest)) = number_in(alloc, rest, 0, " semaphores ")? else {
+        return Ok(None);
+    };
+    let Some(semaphores) = number_of(alloc, rest)? else {
+        return Ok(None);
+    };
+    Ok(Some(Layout {
+        threads,
+        mutexes,
+        conditions,
+        semaphores,
+    }))
 }
 
 // A number without a leading zero, of at most 64 bits.
@@ -237,10 +262,9 @@ impl Reading {
         let place = self.place;
         for t in 0..self.layout.threads {
             let front = format!(in alloc; "{place} t{t} ")?;
-            if line.starts_with(front.as_bytes()) {
+            if let Some(rest) = line.strip_prefix(front.as_bytes()) {
                 for named in &self.actions {
-                    let text = format!(in alloc; "{place} t{t} {}", named.text.as_str())?;
-                    if line == text.as_bytes() {
+                    if rest == named.text.as_bytes() {
                         return Ok(Some(Event {
                             thread: ThreadId(t),
                             action: named.action,
