@@ -1,5 +1,6 @@
-//! What is made of words. Those that say no command, and commands of one word, stand in runs/, without a proof.
-use command_line::{Command, IndexOptions, read_words};
+//! What is made of words. Those that say no command, and commands of one word, stand in runs/, without a proof; those behind `sample` stand
+//! here, since the program answers usage to each of them.
+use command_line::{Command, IndexOptions, WordsFault, read_words};
 use std::alloc::{AllocError, Global};
 
 fn strings(alloc: Global, words: &[&str]) -> Result<Vec<String>, AllocError> {
@@ -13,6 +14,11 @@ fn strings(alloc: Global, words: &[&str]) -> Result<Vec<String>, AllocError> {
 fn says(alloc: Global, words: &[&str], command: Command) -> Result<bool, AllocError> {
     let strings = strings(alloc, words)?;
     Ok(read_words(alloc, strings.as_slice()) == Ok(command))
+}
+
+fn is_usage(alloc: Global, words: &[&str]) -> Result<bool, AllocError> {
+    let strings = strings(alloc, words)?;
+    Ok(read_words(alloc, strings.as_slice()) == Err(WordsFault::Usage))
 }
 
 fn defaults(dir: &str) -> IndexOptions {
@@ -52,7 +58,7 @@ fn options_stand_in_any_order_in_one_word_or_two(rt: HostRuntime) -> Result<(), 
 }
 
 #[test]
-fn sample_takes_the_greatest_seed_and_number_of_files(rt: HostRuntime) -> Result<(), AllocError> {
+fn sample_takes_a_seed_and_a_number_of_files(rt: HostRuntime) -> Result<(), AllocError> {
     let alloc = rt.alloc();
     let greatest = Command::Sample {
         seed: u64::MAX,
@@ -60,5 +66,9 @@ fn sample_takes_the_greatest_seed_and_number_of_files(rt: HostRuntime) -> Result
     };
     let words = ["sample", "18446744073709551615", "20000"];
     assert!(rt; says(alloc, &words, greatest)?);
+    assert!(rt; is_usage(alloc, &["sample", "18446744073709551616", "1"])?);
+    assert!(rt; is_usage(alloc, &["sample", "0", "20001"])?);
+    assert!(rt; is_usage(alloc, &["sample", "0", "0"])?);
+    assert!(rt; is_usage(alloc, &["sample", "1"])?);
     Ok(())
 }
