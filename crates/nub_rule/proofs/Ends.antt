@@ -70,6 +70,9 @@ module _ {T : Type 0} where
   slots_wide n values = length-map (replicate n (Queue no_line) ++ map (λ (x : T). Value (Some x)) values) some
       ∙ (length-append (replicate n (Queue no_line)) (map (λ (x : T). Value (Some x)) values) ∙ (λ i. length-replicate {A = Slot T} n (Queue no_line) i + length-map values (λ (x : T). Value (Some x)) i))
 
+  pub opening_wide : (values : List T) → length (opening_slots values) ≡ value_at (length values)
+  opening_wide values = length-append (replicate 192 (Queue no_line)) (map (λ (x : T). Value (Some x)) values) ∙ (λ i. length-replicate {A = Slot T} 192 (Queue no_line) i + length-map values (λ (x : T). Value (Some x)) i)
+
   slot_there : (n : ℕ) (values : List T) (m : ℕ) (x : T) → get_elem? values m ≡ some x → get_elem? (map some (replicate n (Queue no_line) ++ map (λ x. Value (Some x)) values)) (n + m) ≡ some (some (Value (Some x)))
   slot_there n values m x at = at_map some (replicate n (Queue no_line) ++ map (λ (x : T). Value (Some x)) values) (n + m) (Value (Some x))
       (ap (λ (z : ℕ). get_elem? (replicate n (Queue no_line) ++ map (λ (x : T). Value (Some x)) values) (z + m)) (sym (length-replicate {A = Slot T} n (Queue no_line)))

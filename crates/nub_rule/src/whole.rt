@@ -6,9 +6,9 @@ ghost use Rattle.std.specs.Mem.Slots.Ownership.{Filled};
 ghost use mathlib.Core.Option.{some};
 ghost use lib.ListN.{get_elem?};
 ghost use Rattle.larch_actions.specs.Layout.{IsLawful};
-ghost use Rattle.nub_rule.specs.declared.rule.Slot.TheVariants.{Value};
+ghost use Rattle.nub_rule.specs.declared.rule.Slot.TheVariants.{Value, Queue};
 ghost use Rattle.nub_rule.specs.declared.view.Kind.TheVariants.{Root, Collector};
-ghost use Rattle.nub_rule.specs.Items.{Each};
+ghost use Rattle.nub_rule.specs.Items.{Each, no_line};
 ghost use Rattle.nub_rule.specs.Rule.{left_view, member_view};
 ghost use Rattle.nub_rule.specs.Known.{known_as, part_of, HasNone};
 ghost use Rattle.nub_rule.specs.Ends.{firsts, opening_slots, first_known, Leaves};
@@ -46,13 +46,22 @@ fn words(alloc: Global) -> Result<Vec<u64>, AllocError>
     Ok(words)
 }
 
-fn slots_of<T: Drop>(alloc: Global, values: Vec<T>) -> Result<Vec<Slot<T>>, AllocError>
-    ensures { IfOk result (λ s. s.items ≡ opening_slots values.items) }
+/// The slots of the queues, all empty.
+fn queue_slots<T: Drop>(alloc: Global) -> Result<Vec<Slot<T>>, AllocError>
+    ensures { IfOk result (λ s. s.items ≡ replicate 192 (Queue no_line)) }
 {
     let mut slots = Vec::new(alloc);
     for _i in 0..QUEUES {
         slots.push(Slot::Queue(Line::new()))?;
     }
+    Ok(slots)
+}
+
+/// A slot for each queue, and behind them one for each value.
+fn slots_of<T: Drop>(alloc: Global, values: Vec<T>) -> Result<Vec<Slot<T>>, AllocError>
+    ensures { IfOk result (λ s. s.items ≡ opening_slots values.items) }
+{
+    let mut slots = queue_slots(alloc)?;
     for x in values {
         slots.push(Slot::Value(Some(x)))?;
     }
@@ -132,6 +141,37 @@ fn parkers_of(alloc: Global, count: u32) -> Result<(Vec<Parker>, Vec<Waker>), Al
     Ok((parkers, unparkers))
 }
 
+/// What a package and its threads are made of.
+struct Means<T> {
+    slots: Vec<Slot<T>>,
+    words: Vec<u64>,
+    parkers: Vec<Parker>,
+    unparkers: Vec<Waker>,
+    room: Vec<T>,
+    shelf: Vec<Stored>,
+}
+
+/// All of that, or want of memory.
+fn means_of<T: Drop>(alloc: Global, layout: Layout, values: Vec<T>) -> Result<Means<T>, AllocError>
+    ensures { IfOk result (λ m. (m.slots.items ≡ opening_slots values.items) × (length m.words.items ≡ word_count)
+        × ((k : ℕ) → slice_index m.words.items k ≡ 0) × (length m.parkers.items ≡ layout.threads) × (vec_len m.unparkers ≡ layout.threads)
+        × (m.room.items ≡ []) × (layout.mutexes ≤ vec_capacity m.room) × (m.shelf.items ≡ []) × (layout.threads ≤ vec_capacity m.shelf)) }
+{
+    let words = words(alloc)?;
+    let room = Vec::with_capacity(alloc, layout.mutexes as usize)?;
+    let shelf = Vec::with_capacity(alloc, layout.threads as usize)?;
+    let (parkers, unparkers) = parkers_of(alloc, layout.threads)?;
+    let slots = slots_of(alloc, values)?;
+    Ok(Means {
+        slots,
+        words,
+        parkers,
+        unparkers,
+        room,
+        shelf,
+    })
+}
+
 /// A package and its threads, in order of their numbers.
 pub fn open_package<U: Uses>(
     alloc: Global,
@@ -147,16 +187,19 @@ pub fn open_package<U: Uses>(
     ensures count { IfOk result (λ o. length o.1.items ≡ layout.threads) }
     ensures threads { IfOk result (λ o. Each (λ n t. t ≡ first_known o.0.table_id world.now U.begin n) o.1.items) }
 {
-    let slots = slots_of(alloc, values)?;
-    let words = words(alloc)?;
-    let (parkers, unparkers) = parkers_of(alloc, layout.threads)?;
-    let room = Vec::with_capacity(alloc, layout.mutexes as usize)?;
-    let shelf = Vec::with_capacity(alloc, layout.threads as usize)?;
     let about = About {
         layout,
         traced,
         world: Snapshot::of(world),
     };
+    let Means {
+        slots,
+        words,
+        parkers,
+        unparkers,
+        room,
+        shelf,
+    } = means_of(alloc, layout, values)?;
     let Ok((table, root)) = Table::new(alloc, words.as_slice(), slots, &about) else {
         return Err(AllocError);
     };
