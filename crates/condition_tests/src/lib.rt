@@ -1,8 +1,13 @@
-//! Tests of conditions: waits, signals and broadcasts by threads that are at work at once.
+//! Tests of conditions, and of what stands on them: waits, signals and broadcasts by threads that are at work at once, bounded buffers, and
+//! readers and writers.
 //!
 //! Mutexes and semaphores have the same list of tests: `alone`, `contended`, `two_objects_apart`, `many_threads` and `largest_layout`.
 #![tactic(auto)]
 
+#[cfg(test)]
+mod buffers;
+#[cfg(test)]
+mod calls;
 #[cfg(test)]
 mod conditions;
 #[cfg(test)]
@@ -10,8 +15,18 @@ mod keeping;
 #[cfg(test)]
 mod notes;
 #[cfg(test)]
+mod readers;
+#[cfg(test)]
+mod ring_run;
+#[cfg(test)]
+mod roles;
+#[cfg(test)]
 mod run;
 #[cfg(test)]
 mod steps;
 #[cfg(test)]
+mod turns;
+#[cfg(test)]
 mod waits;
+#[cfg(test)]
+mod work;

@@ -1,33 +1,22 @@
-//! Fixed workloads over the package, to be timed: `firefly_bench WORKLOAD NUMBERS` prints one line, which its words determine.
+//! The workloads of bench_workloads, to be timed: `firefly_bench WORKLOAD NUMBERS` prints one line, which its words determine.
 //! With no words it runs each workload once, small. Nothing of the product stands on it.
 #![tactic(auto)]
 
 ghost use Rattle.std.specs.Prelude.{◌≡◌, ◌%◌, ◌^◌};
 ghost use Rattle.std.specs.List.{sum};
 
-mod adding;
-mod calling;
-mod passing;
-mod playing;
-mod reading;
-mod rounds;
-mod turning;
-mod waking;
 mod words;
 
-use adding::{Added, add_at_once};
 use anyhow::{Context, Result};
-use calling::call_alone;
-use passing::pass_at_once;
-use playing::{Play, play_at_once};
-use reading::{Pair, read_at_once};
+use bench_workloads::{
+    Added, Count, Pair, Play, add_at_once, alert_at_once, call_alone, pass_at_once, play_at_once,
+    read_at_once, turn_at_once,
+};
 use std::alloc::Global;
 use std::env;
 use std::sync::Wait;
 use std::thread::Threads;
-use turning::turn_at_once;
-use waking::alert_at_once;
-use words::{Count, Workload};
+use words::Workload;
 
 /// What is run where no words are given.
 const SMALL: [&str; 13] = [

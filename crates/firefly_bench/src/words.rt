@@ -1,27 +1,5 @@
 //! The words of the command line.
-ghost use Rattle.std.specs.Prelude.{◌≤◌, ◌+◌};
-
-/// A number of threads that a package can have.
-#[derive(Clone, Copy)]
-pub struct Count {
-    pub number: u32,
-    ghost in_package: { (1 ≤ number) × (number ≤ 64) },
-}
-
-/// Numbers of threads of two kinds, at least one of each, that a package can have.
-#[derive(Clone, Copy)]
-pub struct Sides {
-    pub first: u32,
-    pub second: u32,
-    ghost in_package: { (1 ≤ first) × (1 ≤ second) × (first + second ≤ 64) },
-}
-
-/// A number of places that a buffer can have.
-#[derive(Clone, Copy)]
-pub struct Capacity {
-    pub number: u32,
-    ghost in_buffer: { (1 ≤ number) × (number ≤ 4096) },
-}
+use bench_workloads::{Capacity, Count, Sides};
 
 /// What is run, and how often.
 #[derive(Drop)]
@@ -76,107 +54,66 @@ pub enum Workload {
     },
 }
 
-impl Count {
-    pub const ONE: Count = Count { number: 1 };
-
-    pub const TWO: Count = Count { number: 2 };
-
-    fn read(word: &str) -> Option<Count> {
-        let number = word.parse::<u32>().ok()?;
-        if 1 <= number && number <= 64 {
-            Some(Count { number })
-        } else {
-            None
-        }
-    }
-
-    /// So many threads and one more.
-    fn read_and_one(word: &str) -> Option<Count> {
-        let number = word.parse::<u32>().ok()?;
-        if 1 <= number && number < 64 {
-            Some(Count { number: number + 1 })
-        } else {
-            None
-        }
+/// The workload of this name that has nothing but a number of times.
+fn plain(name: &str, times: u32) -> Option<Workload> {
+    match name {
+        "uncontended" => Some(Workload::Uncontended { times }),
+        "semaphore" => Some(Workload::Semaphore { times }),
+        "sem_pingpong" => Some(Workload::SemPingpong { times }),
+        "uncontended_signal" => Some(Workload::Wake { all: false, times }),
+        "uncontended_broadcast" => Some(Workload::Wake { all: true, times }),
+        "pingpong" => Some(Workload::Pingpong {
+            after: false,
+            times,
+        }),
+        "pingpong_after" => Some(Workload::Pingpong { after: true, times }),
+        "alert_wake" => Some(Workload::AlertWake { times }),
+        _ => None,
     }
 }
 
-impl Sides {
-    fn read(first: &str, second: &str) -> Option<Sides> {
-        let first = first.parse::<u32>().ok()?;
-        let second = second.parse::<u32>().ok()?;
-        if 1 <= first && first < 64 && 1 <= second && second <= 64 - first {
-            Some(Sides { first, second })
-        } else {
-            None
-        }
+/// The workload of this name that has a number of threads and of times.
+fn with_threads(name: &str, threads: &str, times: u32) -> Option<Workload> {
+    match name {
+        "contended" => Some(Workload::Contended {
+            threads: Count::read(threads)?,
+            times,
+            outside: 0,
+        }),
+        "broadcast" => Some(Workload::Broadcast {
+            threads: Count::read_and_one(threads)?,
+            times,
+        }),
+        _ => None,
     }
 }
 
-impl Capacity {
-    fn read(word: &str) -> Option<Capacity> {
-        let number = word.parse::<u32>().ok()?;
-        if 1 <= number && number <= 4096 {
-            Some(Capacity { number })
-        } else {
-            None
-        }
+/// The workload of this name that has numbers of two kinds of threads, and of times.
+fn with_sides(name: &str, first: &str, second: &str, times: u32) -> Option<Workload> {
+    match name {
+        "readers_writers" => Some(Workload::ReadersWriters {
+            sides: Sides::read(first, second)?,
+            times,
+        }),
+        _ => None,
     }
 }
 
 /// The workload that the words say.
 pub fn read(words: &[&str]) -> Option<Workload> {
     match *words {
-        ["uncontended", n] => Some(Workload::Uncontended {
-            times: n.parse().ok()?,
-        }),
-        ["contended", t, n] => Some(Workload::Contended {
-            threads: Count::read(t)?,
-            times: n.parse().ok()?,
-            outside: 0,
-        }),
+        [name, n] => plain(name, n.parse().ok()?),
+        [name, t, n] => with_threads(name, t, n.parse().ok()?),
         ["contended", t, n, out] => Some(Workload::Contended {
             threads: Count::read(t)?,
             times: n.parse().ok()?,
             outside: out.parse().ok()?,
         }),
-        ["semaphore", n] => Some(Workload::Semaphore {
-            times: n.parse().ok()?,
-        }),
-        ["sem_pingpong", n] => Some(Workload::SemPingpong {
-            times: n.parse().ok()?,
-        }),
-        ["uncontended_signal", n] => Some(Workload::Wake {
-            all: false,
-            times: n.parse().ok()?,
-        }),
-        ["uncontended_broadcast", n] => Some(Workload::Wake {
-            all: true,
-            times: n.parse().ok()?,
-        }),
-        ["pingpong", n] => Some(Workload::Pingpong {
-            after: false,
-            times: n.parse().ok()?,
-        }),
-        ["pingpong_after", n] => Some(Workload::Pingpong {
-            after: true,
-            times: n.parse().ok()?,
-        }),
-        ["broadcast", t, n] => Some(Workload::Broadcast {
-            threads: Count::read_and_one(t)?,
-            times: n.parse().ok()?,
-        }),
-        ["alert_wake", n] => Some(Workload::AlertWake {
-            times: n.parse().ok()?,
-        }),
+        [name, first, second, n] => with_sides(name, first, second, n.parse().ok()?),
         ["producer_consumer", p, c, n, room] => Some(Workload::ProducerConsumer {
             sides: Sides::read(p, c)?,
             times: n.parse().ok()?,
             capacity: Capacity::read(room)?,
-        }),
-        ["readers_writers", r, w, n] => Some(Workload::ReadersWriters {
-            sides: Sides::read(r, w)?,
-            times: n.parse().ok()?,
         }),
         _ => None,
     }

@@ -1,7 +1,10 @@
 //! Tests of the index by threads, over trees in memory: runs of several plans that find the whole, that are stopped, at which paths fail,
-//! and at which two workers wait for each other.
+//! and at which two workers wait for each other. Below them, tests of what the index stands on: trees in memory and of the system, pieces of
+//! files, walks over small trees, and the words of the command line.
 #![tactic(auto)]
 
+#[cfg(test)]
+mod command_words;
 #[cfg(test)]
 mod copies;
 #[cfg(test)]
@@ -9,10 +12,16 @@ mod faults;
 #[cfg(test)]
 mod meetings;
 #[cfg(test)]
+mod pieces;
+#[cfg(test)]
 mod runs;
 #[cfg(test)]
 mod traces;
 #[cfg(test)]
+mod tree_calls;
+#[cfg(test)]
 mod trees;
+#[cfg(test)]
+mod walks;
 #[cfg(test)]
 mod wholes;

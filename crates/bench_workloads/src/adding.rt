@@ -1,0 +1,86 @@
+//! Threads that add under one mutex.
+ghost use Rattle.std.specs.Prelude.{[], ◌∷◌, length, IfOk, ◌≡◌, ◌<◌, ◌*◌};
+ghost use Rattle.nub_rule.specs.Items.{Each};
+ghost use Rattle.nub.specs.Ended.{IsFirst};
+ghost use Rattle.bench_workloads.specs.Workloads.{HasAdded, HasMade};
+
+use crate::numbers::Count;
+use nub::{Closed, Layout, MutexId, Package, Thread, close_package, open_package};
+use package_crew::at_once;
+use std::alloc::{AllocError, Global};
+use std::sync::Wait;
+use std::thread::Threads;
+use sum_uses::{AddChange, SumUses};
+use user_mutex::locked;
+
+/// The package that threads have added in, and the number that each has turned beside that.
+#[derive(Drop)]
+pub struct Added {
+    pub closed: Closed<SumUses>,
+    pub own: Vec<u64>,
+}
+
+/// The number after so many turns.
+#[inline]
+fn turned(own: u64, turns: u32) -> u64 {
+    let mut x = own;
+    for _i in 0..turns {
+        x ^= x << 13;
+        x ^= x >> 7;
+        x ^= x << 17;
+    }
+    x
+}
+
+/// Adds 1 under the mutex this many times, with so many turns on a number of its own after each.
+fn add_many<R: Wait>(
+    rt: &R,
+    shared: &Package<SumUses>,
+    mut me: Thread<SumUses>,
+    times: u32,
+    outside: u32,
+) -> (Thread<SumUses>, u64)
+    requires named { 0 < shared.now.layout.mutexes }
+    requires first { IsFirst shared.now (λ w t. []) me.number me }
+    ensures { HasAdded shared.now times me.number result.0 }
+{
+    let mut number = me.number() as u64 + 1;
+    for _i in 0..times {
+        locked::<SumUses, AddChange, (), _, R>(rt, shared, &mut me, MutexId(0), |x| *x += 1);
+        number = turned(number, outside);
+    }
+    (me, number)
+}
+
+/// So many threads add 1 this many times, all at once.
+pub fn add_at_once<R: Threads + Wait + Sync>(
+    rt: &R,
+    alloc: Global,
+    threads: Count,
+    times: u32,
+    outside: u32,
+) -> Result<Added, AllocError>
+    ensures value { IfOk result (λ r. r.closed.values ≡ (threads.number * times) ∷ []) }
+    ensures count { IfOk result (λ r. length r.closed.threads ≡ threads.number) }
+    ensures each { IfOk result (λ r. Each (λ n t. HasMade (2 * times) t) r.closed.threads) }
+{
+    let layout = Layout {
+        threads: threads.number,
+        mutexes: 1,
+        conditions: 0,
+        semaphores: 0,
+    };
+    let values = vec![in alloc; 0u64]?;
+    let (shared, threads) = open_package::<SumUses>(alloc, layout, &(), values, false)?;
+    let (threads, own) = at_once(
+        rt,
+        alloc,
+        threads,
+        &|me: Thread<SumUses>| -> (Thread<SumUses>, u64)
+            requires { (0 < shared.layout.mutexes) × IsFirst shared (λ w t. []) me.number me }
+            ensures { HasAdded shared times me.number result.0 }
+        { add_many(rt, &shared, me, times, outside) },
+    )?;
+    let closed = close_package(shared, threads)?;
+    Ok(Added { closed, own })
+}

@@ -1,0 +1,82 @@
+//! One thread that wakes nobody.
+ghost use Rattle.std.specs.Prelude.{[], IfOk, List, ◌≡◌, ◌<◌, ◌+◌, ℕ, length, true, false};
+ghost use Rattle.nub_rule.specs.Items.{Each};
+ghost use Rattle.nub_rule.specs.Plays.{broadcast_action, event, signal_action};
+ghost use Rattle.nub.specs.Ended.{IsFirst};
+ghost use Rattle.nub.specs.Idle.{IsIdle};
+ghost use Rattle.nub.specs.Rest.{Adds};
+ghost use Rattle.sum_uses.specs.declared.added.Added.{Added};
+ghost use Rattle.bench_workloads.specs.Workloads.{HasCalled, HasMade};
+
+use condition::{broadcast, signal};
+use nub::{Closed, CondId, Layout, Package, Thread, close_package, open_package};
+use package_crew::at_once;
+use std::alloc::{AllocError, Global};
+use std::sync::Wait;
+use std::thread::Threads;
+use sum_uses::SumUses;
+
+/// One Signal or Broadcast.
+#[inline]
+fn call<R: Wait>(rt: &R, shared: &Package<SumUses>, me: &mut Thread<SumUses>, all: bool)
+    requires named { 0 < shared.now.layout.conditions }
+    requires idle { IsIdle shared.now me.old.number [] me.old }
+    ensures idle { (n : ℕ) (s : List Added) → IsIdle shared.now n s me.old → IsIdle shared.now n s me.new }
+    ensures all { all ≡ true → Adds [] (event me.old.number (broadcast_action 0 [])) me.old me.new }
+    ensures one { all ≡ false → (left : List ℕ) × Adds [] (event me.old.number (signal_action 0 left)) me.old me.new }
+    ensures made { length me.new.mine ≡ length me.old.mine + 1 }
+{
+    if all {
+        broadcast(rt, shared, me, CondId(0));
+    } else {
+        signal(rt, shared, me, CondId(0));
+    }
+}
+
+/// This many calls, one after the other.
+fn call_many<R: Wait>(
+    rt: &R,
+    shared: &Package<SumUses>,
+    mut me: Thread<SumUses>,
+    all: bool,
+    times: u32,
+) -> Thread<SumUses>
+    requires named { 0 < shared.now.layout.conditions }
+    requires first { IsFirst shared.now (λ w t. []) me.number me }
+    ensures { HasCalled shared.now [] times me.number result }
+{
+    for _i in 0..times {
+        call(rt, shared, &mut me, all);
+    }
+    me
+}
+
+/// One thread makes this many calls of a condition in which nobody waits.
+pub fn call_alone<R: Threads + Wait + Sync>(
+    rt: &R,
+    alloc: Global,
+    all: bool,
+    times: u32,
+) -> Result<Closed<SumUses>, AllocError>
+    ensures count { IfOk result (λ r. length r.threads ≡ 1) }
+    ensures each { IfOk result (λ r. Each (λ n t. HasMade times t) r.threads) }
+{
+    let layout = Layout {
+        threads: 1,
+        mutexes: 0,
+        conditions: 1,
+        semaphores: 0,
+    };
+    let (shared, threads) = open_package::<SumUses>(alloc, layout, &(), Vec::new(alloc), false)?;
+    let (threads, _) = at_once(
+        rt,
+        alloc,
+        threads,
+        &|me: Thread<SumUses>| -> (Thread<SumUses>, ())
+            requires { (0 < shared.layout.conditions) × IsFirst shared (λ w t. []) me.number me }
+            ensures { HasCalled shared [] times me.number result.0 }
+        { (call_many(rt, &shared, me, all, times), ()) },
+    )?;
+    let closed = close_package(shared, threads)?;
+    Ok(closed)
+}

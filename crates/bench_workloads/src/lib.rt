@@ -1,0 +1,25 @@
+//! Fixed workloads over the package, each a call that runs a whole package of threads to its end.
+//!
+//! Promises: what a workload gives is what its numbers determine, whatever the schedule: sums, turns and counts, in one clause each.
+//! Stands on the package and what is built over it: mutexes, semaphores, conditions, alerts, bounded buffers, readers and writers.
+//! It does not say how long a workload takes: the program firefly_bench is there to time them. Nothing of the product stands on it.
+#![tactic(auto)]
+
+mod adding;
+mod calling;
+mod numbers;
+mod passing;
+mod playing;
+mod reading;
+mod rounds;
+mod turning;
+mod waking;
+
+pub use adding::{Added, add_at_once};
+pub use calling::call_alone;
+pub use numbers::{Capacity, Count, Sides};
+pub use passing::{Numbers, Passed, pass_at_once};
+pub use playing::{Play, play_at_once};
+pub use reading::{Pair, Played, read_at_once};
+pub use turning::{Turned, turn_at_once};
+pub use waking::{Adds, Woken, WokenSums, alert_at_once};

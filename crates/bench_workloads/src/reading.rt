@@ -1,0 +1,185 @@
+//! Readers of two numbers, and writers.
+ghost use Rattle.std.specs.Prelude.{[], ◌∷◌, ◌≡◌, ◌+◌, ◌*◌, ℕ, length, IfOk, None};
+ghost use Rattle.std.specs.List.{sum};
+ghost use Rattle.nub_rule.specs.Items.{Each};
+ghost use Rattle.nub.specs.Ended.{IsFirst};
+ghost use Rattle.nub.specs.Idle.{IsIdle};
+ghost use Rattle.readers_writers.specs.declared.role.Role.TheVariants.{Reading, Writing};
+ghost use Rattle.bench_workloads.specs.Reading.{HasCounted, HasPlayed, HasState, turns};
+
+use crate::numbers::Sides;
+use nub::{Closed, CondId, Layout, MutexId, Package, Thread, close_package, open_package};
+use package_crew::at_once;
+use readers_writers::{RwAt, RwState, RwUses, begin_read, begin_write, end_read, end_write};
+use std::alloc::{AllocError, Global};
+use std::sync::Wait;
+use std::sync::atomic::{AtomicU64, Ordering};
+use std::thread::Threads;
+
+/// Two numbers that are equal whenever nobody writes, and how often a reader found that they weren't.
+#[derive(Drop)]
+pub struct Pair {
+    first: AtomicU64,
+    second: AtomicU64,
+    torn: AtomicU64,
+}
+
+/// The package in which threads read and wrote, and how often each thread wrote.
+#[derive(Drop)]
+pub struct Played {
+    pub closed: Closed<RwUses>,
+    pub writes: Vec<u64>,
+}
+
+const AT: RwAt = RwAt {
+    mutex: MutexId(0),
+    changed: CondId(0),
+};
+
+impl Pair {
+    pub fn new() -> Pair {
+        Pair {
+            first: AtomicU64::new(0),
+            second: AtomicU64::new(0),
+            torn: AtomicU64::new(0),
+        }
+    }
+
+    /// How often a reader found them torn, and one more for each that isn't this in the end.
+    pub fn torn(&self, last: u64) -> u64 {
+        let first = (self.first.load(Ordering::SeqCst) != last) as u64;
+        let second = (self.second.load(Ordering::SeqCst) != last) as u64;
+        self.torn
+            .load(Ordering::SeqCst)
+            .wrapping_add(first)
+            .wrapping_add(second)
+    }
+
+    /// 1 where the numbers differ.
+    #[inline]
+    fn differ(&self) -> u64 {
+        let first = self.first.load(Ordering::Relaxed);
+        (self.second.load(Ordering::Relaxed) != first) as u64
+    }
+
+    /// Adds 1 to both.
+    #[inline]
+    fn add_one(&self) {
+        let first = self.first.load(Ordering::Relaxed);
+        self.first.store(first.wrapping_add(1), Ordering::Relaxed);
+        let second = self.second.load(Ordering::Relaxed);
+        self.second.store(second.wrapping_add(1), Ordering::Relaxed);
+    }
+}
+
+/// Reads so often, and notes in the pair how often the numbers differed.
+fn read_often<R: Wait>(
+    rt: &R,
+    shared: &Package<RwUses>,
+    mut me: Thread<RwUses>,
+    times: u32,
+    pair: &Pair,
+) -> Thread<RwUses>
+    requires named { HasState shared.now.layout }
+    requires first { IsFirst shared.now (λ w t. []) me.number me }
+    ensures { IsIdle shared.now me.number (turns Reading times) result }
+{
+    let mut torn = 0u64;
+    for _i in 0..times {
+        begin_read(rt, shared, &mut me, &AT);
+        torn = torn.wrapping_add(pair.differ());
+        end_read(rt, shared, &mut me, &AT);
+    }
+    pair.torn.fetch_add(torn, Ordering::SeqCst);
+    me
+}
+
+/// Writes so often, and answers how often it has.
+fn write_often<R: Wait>(
+    rt: &R,
+    shared: &Package<RwUses>,
+    mut me: Thread<RwUses>,
+    times: u32,
+    pair: &Pair,
+) -> (Thread<RwUses>, u64)
+    requires named { HasState shared.now.layout }
+    requires first { IsFirst shared.now (λ w t. []) me.number me }
+    ensures turns { IsIdle shared.now me.number (turns Writing times) result.0 }
+    ensures writes { result.1 ≡ times }
+{
+    let mut writes = 0u64;
+    for _i in 0..times {
+        begin_write(rt, shared, &mut me, &AT);
+        pair.add_one();
+        end_write(rt, shared, &mut me, &AT);
+        writes += 1;
+    }
+    (me, writes)
+}
+
+/// Reads or writes, by the thread's number.
+fn play<R: Wait>(
+    rt: &R,
+    shared: &Package<RwUses>,
+    me: Thread<RwUses>,
+    readers: u32,
+    times: u32,
+    pair: &Pair,
+) -> (Thread<RwUses>, u64)
+    requires named { HasState shared.now.layout }
+    requires first { IsFirst shared.now (λ w t. []) me.number me }
+    ensures { HasCounted shared.now readers times me.number result.1 result.0 }
+{
+    if me.number() < readers {
+        (read_often(rt, shared, me, times, pair), 0)
+    } else {
+        write_often(rt, shared, me, times, pair)
+    }
+}
+
+/// One state: nobody reads or writes.
+fn one_state(alloc: Global) -> Result<Vec<RwState>, AllocError>
+    ensures { IfOk result (λ v. v.items ≡ record { readers = 0; writer = None } ∷ []) }
+{
+    let mut values = Vec::new(alloc);
+    values.push(RwState {
+        readers: 0,
+        writer: None,
+    })?;
+    Ok(values)
+}
+
+/// So many readers and so many writers of the pair, each this often, all at once.
+pub fn read_at_once<R: Threads + Wait + Sync>(
+    rt: &R,
+    alloc: Global,
+    sides: Sides,
+    times: u32,
+    pair: &Pair,
+) -> Result<Played, AllocError>
+    ensures free { IfOk result (λ r. r.closed.values ≡ record { readers = 0; writer = None } ∷ []) }
+    ensures count { IfOk result (λ r. length r.closed.threads ≡ sides.first + sides.second) }
+    ensures each { IfOk result (λ r. Each (HasPlayed sides.first times) r.closed.threads) }
+    ensures sum { IfOk result (λ r. sum r.writes.items ≡ sides.second * times) }
+{
+    let layout = Layout {
+        threads: sides.first + sides.second,
+        mutexes: 1,
+        conditions: 1,
+        semaphores: 0,
+    };
+    let values = one_state(alloc)?;
+    let (shared, threads) = open_package::<RwUses>(alloc, layout, &(), values, false)?;
+    let readers = sides.first;
+    let (threads, writes) = at_once(
+        rt,
+        alloc,
+        threads,
+        &|me: Thread<RwUses>| -> (Thread<RwUses>, u64)
+            requires { HasState shared.layout × IsFirst shared (λ w t. []) me.number me }
+            ensures { HasCounted shared readers times me.number result.1 result.0 }
+        { play(rt, &shared, me, readers, times, pair) },
+    )?;
+    let closed = close_package(shared, threads)?;
+    Ok(Played { closed, writes })
+}

@@ -1,5 +1,0 @@
-use Rattle.buffer_tests.specs.Free.{IsFree}
-use Rattle.buffer_tests.proofs.work.take_all.Given as goal
-
-abbrev pub invariant-loop : goal.invariant-loop
-invariant-loop g l = IsFree l.pkg l.initial.me.number l.me

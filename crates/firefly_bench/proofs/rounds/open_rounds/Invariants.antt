@@ -1,5 +1,0 @@
-use Rattle.firefly_bench.specs.Workloads.{IsInside}
-use Rattle.firefly_bench.proofs.rounds.open_rounds.Given as goal
-
-abbrev pub invariant-loop-i : goal.invariant-loop-i
-invariant-loop-i g l = IsInside l.shared l.initial.me.number l.value l.i l.me
