@@ -2,15 +2,15 @@
 //! With no words it runs each workload once, small. Nothing of the product stands on it.
 #![tactic(auto)]
 
-ghost use Rattle.std.specs.Prelude.{◌≡◌, ◌%◌, ◌^◌};
+ghost use Rattle.std.specs.Prelude.{◌≡◌, ◌≤◌, ◌%◌, ◌^◌};
 ghost use Rattle.std.specs.List.{sum};
 
 mod words;
 
 use anyhow::{Context, Result};
 use bench_workloads::{
-    Added, Count, Pair, Play, add_at_once, alert_at_once, call_alone, pass_at_once, play_at_once,
-    read_at_once, turn_at_once,
+    Added, Capacity, Count, Pair, Play, Sides, add_at_once, alert_at_once, call_alone,
+    pass_at_once, play_at_once, read_at_once, turn_at_once,
 };
 use std::alloc::Global;
 use std::env;
@@ -46,119 +46,161 @@ fn sum_of(numbers: &[u64]) -> u64
     sum
 }
 
+/// Threads that add under one mutex, some turns outside between.
+fn contended<R: Threads + Wait + Sync + Print>(
+    rt: &R,
+    alloc: Global,
+    threads: Count,
+    times: u32,
+    outside: u32,
+) -> Result<()> {
+    let Added { closed, own } = add_at_once(rt, alloc, threads, times, outside)?;
+    let sum = closed.values()[0];
+    println!(rt;
+        "contended {} {times} sum {sum} own {}",
+        threads.number,
+        sum_of(&own)
+    )?;
+    Ok(())
+}
+
+/// One thread that adds under a mutex.
+fn uncontended<R: Threads + Wait + Sync + Print>(rt: &R, alloc: Global, times: u32) -> Result<()> {
+    let added = add_at_once(rt, alloc, Count::ONE, times, 0)?;
+    println!(rt; "uncontended {times} sum {}", added.closed.values()[0])?;
+    Ok(())
+}
+
+/// So many threads that take turns by semaphores.
+fn by_semaphores<R: Threads + Wait + Sync + Print>(
+    rt: &R,
+    alloc: Global,
+    name: &str,
+    threads: u32,
+    times: u32,
+) -> Result<()>
+    requires { (1 ≤ threads) × (threads ≤ 2) }
+{
+    let turned = turn_at_once(rt, alloc, threads, times)?;
+    println!(rt; "{name} {times} sum {}", sum_of(&turned.turns))?;
+    Ok(())
+}
+
+/// One thread that wakes nobody.
+fn calls<R: Threads + Wait + Sync + Print>(
+    rt: &R,
+    alloc: Global,
+    all: bool,
+    times: u32,
+) -> Result<()> {
+    let closed = call_alone(rt, alloc, all, times)?;
+    let name = if all { "broadcast" } else { "signal" };
+    println!(rt;
+        "uncontended_{name} {times} sum {}",
+        sum_of(closed.values())
+    )?;
+    Ok(())
+}
+
+/// Two threads that take turns by two conditions.
+fn pingpong<R: Threads + Wait + Sync + Print>(
+    rt: &R,
+    alloc: Global,
+    after: bool,
+    times: u32,
+) -> Result<()> {
+    let (what, name) = if after {
+        (Play::After, "pingpong_after")
+    } else {
+        (Play::Before, "pingpong")
+    };
+    let closed = play_at_once(rt, alloc, Count::TWO, what, times)?;
+    println!(rt; "{name} {times} sum {}", closed.values()[0])?;
+    Ok(())
+}
+
+/// One thread that opens rounds, and those that count them.
+fn broadcast<R: Threads + Wait + Sync + Print>(
+    rt: &R,
+    alloc: Global,
+    threads: Count,
+    times: u32,
+) -> Result<()> {
+    let closed = play_at_once(rt, alloc, threads, Play::Rounds, times)?;
+    // Who opens the rounds has added 1 in each, and the others count for the line.
+    let sum = closed.values()[0].wrapping_sub(u64::from(times));
+    println!(rt; "broadcast {} {times} sum {sum}", threads.number - 1)?;
+    Ok(())
+}
+
+/// One thread whose waits another ends by alerts.
+fn alert_wake<R: Threads + Wait + Sync + Print>(rt: &R, alloc: Global, times: u32) -> Result<()> {
+    let woken = alert_at_once(rt, alloc, times)?;
+    println!(rt; "alert_wake {times} sum {}", sum_of(&woken.alerted))?;
+    Ok(())
+}
+
+/// Makers and takers of a bounded buffer.
+fn producer_consumer<R: Threads + Wait + Sync + Print>(
+    rt: &R,
+    alloc: Global,
+    sides: Sides,
+    times: u32,
+    capacity: Capacity,
+) -> Result<()> {
+    let passed = pass_at_once(rt, alloc, sides, times, capacity)?;
+    println!(rt;
+        "producer_consumer {} {} {times} {} sum {}",
+        sides.first,
+        sides.second,
+        capacity.number,
+        sum_of(&passed.sums)
+    )?;
+    Ok(())
+}
+
+/// Readers and writers of two numbers.
+fn readers_writers<R: Threads + Wait + Sync + Print>(
+    rt: &R,
+    alloc: Global,
+    sides: Sides,
+    times: u32,
+) -> Result<()> {
+    let pair = Pair::new();
+    let played = read_at_once(rt, alloc, sides, times, &pair)?;
+    let writes = sum_of(&played.writes);
+    println!(rt;
+        "readers_writers {} {} {times} sum {writes} torn {}",
+        sides.first,
+        sides.second,
+        pair.torn(writes)
+    )?;
+    Ok(())
+}
+
 /// Runs the workload that the words say, and prints its line.
 fn run<R: Threads + Wait + Sync + Print>(rt: &R, alloc: Global, words: &[&str]) -> Result<()> {
     let workload = words::read(words).context(format_args!("no such workload"))?;
     match workload {
-        Workload::Uncontended { times } => {
-            let added = add_at_once(rt, alloc, Count::ONE, times, 0)?;
-            println!(rt; "uncontended {times} sum {}", added.closed.values()[0])?;
-        }
+        Workload::Uncontended { times } => uncontended(rt, alloc, times),
         Workload::Contended {
             threads,
             times,
             outside,
-        } => {
-            let Added { closed, own } = add_at_once(rt, alloc, threads, times, outside)?;
-            println!(rt;
-                "contended {} {times} sum {} own {}",
-                threads.number,
-                closed.values()[0],
-                sum_of(&own)
-            )?;
-        }
-        Workload::Semaphore { times } => {
-            let turned = turn_at_once(rt, alloc, 1, times)?;
-            println!(rt; "semaphore {times} sum {}", sum_of(&turned.turns))?;
-        }
-        Workload::SemPingpong { times } => {
-            let turned = turn_at_once(rt, alloc, 2, times)?;
-            println!(rt; "sem_pingpong {times} sum {}", sum_of(&turned.turns))?;
-        }
-        Workload::Wake { .. } | Workload::Pingpong { .. } | Workload::Broadcast { .. } => {
-            run_with_conditions(rt, alloc, workload)?;
-        }
-        Workload::AlertWake { .. }
-        | Workload::ProducerConsumer { .. }
-        | Workload::ReadersWriters { .. } => run_above(rt, alloc, workload)?,
-    }
-    Ok(())
-}
-
-/// Runs a workload with conditions, and prints its line.
-fn run_with_conditions<R: Threads + Wait + Sync + Print>(
-    rt: &R,
-    alloc: Global,
-    workload: Workload,
-) -> Result<()> {
-    match workload {
-        Workload::Wake { all, times } => {
-            let closed = call_alone(rt, alloc, all, times)?;
-            let name = if all { "broadcast" } else { "signal" };
-            println!(rt;
-                "uncontended_{name} {times} sum {}",
-                sum_of(closed.values())
-            )?;
-        }
-        Workload::Pingpong { after, times } => {
-            let (what, name) = if after {
-                (Play::After, "pingpong_after")
-            } else {
-                (Play::Before, "pingpong")
-            };
-            let closed = play_at_once(rt, alloc, Count::TWO, what, times)?;
-            println!(rt; "{name} {times} sum {}", closed.values()[0])?;
-        }
-        Workload::Broadcast { threads, times } => {
-            let closed = play_at_once(rt, alloc, threads, Play::Rounds, times)?;
-            // Who opens the rounds has added 1 in each, and the others count for the line.
-            let sum = closed.values()[0].wrapping_sub(u64::from(times));
-            println!(rt; "broadcast {} {times} sum {sum}", threads.number - 1)?;
-        }
-        _ => {}
-    }
-    Ok(())
-}
-
-/// Runs a workload of what stands on conditions, and prints its line.
-fn run_above<R: Threads + Wait + Sync + Print>(
-    rt: &R,
-    alloc: Global,
-    workload: Workload,
-) -> Result<()> {
-    match workload {
-        Workload::AlertWake { times } => {
-            let woken = alert_at_once(rt, alloc, times)?;
-            println!(rt; "alert_wake {times} sum {}", sum_of(&woken.alerted))?;
-        }
+        } => contended(rt, alloc, threads, times, outside),
+        Workload::Semaphore { times } => by_semaphores(rt, alloc, "semaphore", 1, times),
+        Workload::SemPingpong { times } => by_semaphores(rt, alloc, "sem_pingpong", 2, times),
+        Workload::Wake { all, times } => calls(rt, alloc, all, times),
+        Workload::Pingpong { after, times } => pingpong(rt, alloc, after, times),
+        Workload::Broadcast { threads, times } => broadcast(rt, alloc, threads, times),
+        Workload::AlertWake { times } => alert_wake(rt, alloc, times),
         Workload::ProducerConsumer {
             sides,
             times,
             capacity,
-        } => {
-            let passed = pass_at_once(rt, alloc, sides, times, capacity)?;
-            println!(rt;
-                "producer_consumer {} {} {times} {} sum {}",
-                sides.first,
-                sides.second,
-                capacity.number,
-                sum_of(&passed.sums)
-            )?;
-        }
-        Workload::ReadersWriters { sides, times } => {
-            let pair = Pair::new();
-            let played = read_at_once(rt, alloc, sides, times, &pair)?;
-            let writes = sum_of(&played.writes);
-            println!(rt;
-                "readers_writers {} {} {times} sum {writes} torn {}",
-                sides.first,
-                sides.second,
-                pair.torn(writes)
-            )?;
-        }
-        _ => {}
+        } => producer_consumer(rt, alloc, sides, times, capacity),
+        Workload::ReadersWriters { sides, times } => readers_writers(rt, alloc, sides, times),
     }
-    Ok(())
 }
 
 fn main(rt: HostRuntime) -> Result<()> {
