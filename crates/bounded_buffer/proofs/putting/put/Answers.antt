@@ -30,8 +30,8 @@ loop-init g c =
           (got.share ∙ c.requires.may.1) (none-more (g.B.BufferUse.part s m)) (g.met.B.BufferUse.alike_self s) (got.fits c.args.p.now.world s c.requires.world c.requires.may.1),
     )
 
-pub into_ring-ring-requires : goal.into_ring-ring-requires
-into_ring-ring-requires g c =
+pub ring_of-ring-requires-after_bounds : goal.ring_of-ring-requires-after_bounds
+ring_of-ring-requires-after_bounds g c κs within =
     let inn = c.loop.invariant.3 in
     let q = g.met.B.BufferUse.fits_ring c.args.p.now.world c.args.at.now c.requires.buffer c.args.me.now.number c.loop.value inn.share inn.fits in
     (q.0, q.1)
@@ -43,7 +43,7 @@ pub refuse_put-requires-clause-world : goal.refuse_put-requires-clause-world
 refuse_put-requires-clause-world g c κs within = c.loop.invariant.3.same.world ∙ c.requires.world
 
 pub refuse_put-requires-clause-got : goal.refuse_put-requires-clause-got
-refuse_put-requires-clause-got g c κs within = (c.loop.value, c.loop.invariant.3.holds, c.into_ring-ring.ensures)
+refuse_put-requires-clause-got g c κs within = (c.loop.value, c.loop.invariant.3.holds, c.ring_of-ring.ensures)
 
 pub returns-then-is_shut-clause-same : goal.returns-then-is_shut-clause-same
 returns-then-is_shut-clause-same g c = same_on c.args.me.now c.loop.me c.refuse_put.new.me c.loop.invariant.3.same c.refuse_put.ensures.same
@@ -73,7 +73,7 @@ pub put_last-requires-clause-world : goal.put_last-requires-clause-world
 put_last-requires-clause-world g c κs within = c.loop.invariant.3.same.world ∙ c.requires.world
 
 pub put_last-requires-clause-got : goal.put_last-requires-clause-got
-put_last-requires-clause-got g c κs within = (c.loop.value, c.loop.invariant.3.holds, c.into_ring-ring.ensures)
+put_last-requires-clause-got g c κs within = (c.loop.value, c.loop.invariant.3.holds, c.ring_of-ring.ensures)
 
 pub put_last-requires-clause-may : goal.put_last-requires-clause-may
 put_last-requires-clause-may g c κs within = λ s share.
@@ -116,8 +116,8 @@ returns-then-not-is_full-clause-rises g c = λ s share.
     let inn = inv.3 in
     let m = c.args.at.now.mutex.0 in
     let q = g.met.B.BufferUse.fits_ring c.args.p.now.world c.args.at.now c.requires.buffer c.args.me.now.number c.loop.value inn.share inn.fits in
-    let ring = c.into_ring-ring.result in
-    let number = sym (c.put_last.ensures.number ∙ ap (λ r. put_count r) (sym (same_Some q.0 ring (sym q.1 ∙ c.into_ring-ring.ensures)))) in
+    let ring = c.ring_of-ring.result in
+    let number = sym (c.put_last.ensures.number ∙ ap (λ r. put_count r) (sym (same_Some q.0 ring (sym q.1 ∙ c.ring_of-ring.ensures)))) in
     let one = subst (λ (n : ℕ). All (λ p. p.0 < n) (g.B.BufferUse.part inn.share m).puts) number q.2.puts in
     let two = subst (λ l. All (λ p. p.0 < c.put_last.result) l) (ap (λ u. u.puts) inn.here) one in
     subst (λ u. All (λ p. p.0 < c.put_last.result) (g.B.BufferUse.part u m).puts) (same_Some inv.1 s (sym inv.2 ∙ share)) two
@@ -129,7 +129,7 @@ pub wait_for_room-outcome-requires-clause-world : goal.wait_for_room-outcome-req
 wait_for_room-outcome-requires-clause-world g c κs within = c.loop.invariant.3.same.world ∙ c.requires.world
 
 pub wait_for_room-outcome-requires-clause-got : goal.wait_for_room-outcome-requires-clause-got
-wait_for_room-outcome-requires-clause-got g c κs within = (c.loop.value, c.loop.invariant.3.holds, c.into_ring-ring.ensures)
+wait_for_room-outcome-requires-clause-got g c κs within = (c.loop.value, c.loop.invariant.3.holds, c.ring_of-ring.ensures)
 
 pub give_up-requires-clause-world : goal.give_up-requires-clause-world
 give_up-requires-clause-world g c κs within = c.wait_for_room-outcome.ensures.same.world ∙ (c.loop.invariant.3.same.world ∙ c.requires.world)

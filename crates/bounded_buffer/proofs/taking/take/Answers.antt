@@ -29,8 +29,8 @@ loop-init g c =
           (got.share ∙ c.requires.share.1) (none-more (g.B.BufferUse.part s m)) (g.met.B.BufferUse.alike_self s) (got.fits c.args.p.now.world s c.requires.world c.requires.share.1),
     )
 
-pub into_ring-ring-requires : goal.into_ring-ring-requires
-into_ring-ring-requires g c =
+pub ring_of-ring-requires-after_bounds : goal.ring_of-ring-requires-after_bounds
+ring_of-ring-requires-after_bounds g c κs within =
     let inn = c.loop.invariant.3 in
     let q = g.met.B.BufferUse.fits_ring c.args.p.now.world c.args.at.now c.requires.buffer c.args.me.now.number c.loop.value inn.share inn.fits in
     (q.0, q.1)
@@ -42,7 +42,7 @@ pub take_first-requires-clause-world : goal.take_first-requires-clause-world
 take_first-requires-clause-world g c κs within = c.loop.invariant.3.same.world ∙ c.requires.world
 
 pub take_first-requires-clause-got : goal.take_first-requires-clause-got
-take_first-requires-clause-got g c κs within = (c.loop.value, c.loop.invariant.3.holds, c.into_ring-ring.ensures)
+take_first-requires-clause-got g c κs within = (c.loop.value, c.loop.invariant.3.holds, c.ring_of-ring.ensures)
 
 pub returns-then-not-is_empty-clause-same : goal.returns-then-not-is_empty-clause-same
 returns-then-not-is_empty-clause-same g c = same_on c.args.me.now c.loop.me c.take_first.new.me c.loop.invariant.3.same c.take_first.ensures.same
@@ -71,8 +71,8 @@ returns-then-not-is_empty-clause-rises g c = λ s share.
     let inn = inv.3 in
     let m = c.args.at.now.mutex.0 in
     let q = g.met.B.BufferUse.fits_ring c.args.p.now.world c.args.at.now c.requires.buffer c.args.me.now.number c.loop.value inn.share inn.fits in
-    let ring = c.into_ring-ring.result in
-    let number = sym (c.take_first.ensures.number ∙ ap (λ r. r.taken) (sym (same_Some q.0 ring (sym q.1 ∙ c.into_ring-ring.ensures)))) in
+    let ring = c.ring_of-ring.result in
+    let number = sym (c.take_first.ensures.number ∙ ap (λ r. r.taken) (sym (same_Some q.0 ring (sym q.1 ∙ c.ring_of-ring.ensures)))) in
     let one = subst (λ (n : ℕ). All (λ p. p.0 < n) (g.B.BufferUse.part inn.share m).takes) number q.2.takes in
     let two = subst (λ l. All (λ p. p.0 < c.take_first.result.0) l) (ap (λ u. u.takes) inn.here) one in
     subst (λ u. All (λ p. p.0 < c.take_first.result.0) (g.B.BufferUse.part u m).takes) (same_Some inv.1 s (sym inv.2 ∙ share)) two
@@ -86,7 +86,7 @@ returns-then-not-is_empty-clause-fits g c = λ s share.
     let m = c.args.at.now.mutex.0 in
     let item = c.take_first.result.1 in
     let first = c.take_first.ensures.first in
-    let now = g.met.B.BufferUse.fits_first w c.args.at.now c.requires.buffer n c.loop.value inn.share inn.fits c.into_ring-ring.result c.into_ring-ring.ensures item first.0 first.1 in
+    let now = g.met.B.BufferUse.fits_first w c.args.at.now c.requires.buffer n c.loop.value inn.share inn.fits c.ring_of-ring.result c.ring_of-ring.ensures item first.0 first.1 in
     let before = (g.met.B.BufferUse.alike_item_fits w m n item inv.1 inn.share inn.is_alike).1 now in
     subst (λ u. g.B.BufferUse.item_fits w m n item u) (same_Some inv.1 s (sym inv.2 ∙ share)) before
 
@@ -97,7 +97,7 @@ pub refuse_take-requires-clause-world : goal.refuse_take-requires-clause-world
 refuse_take-requires-clause-world g c κs within = c.loop.invariant.3.same.world ∙ c.requires.world
 
 pub refuse_take-requires-clause-got : goal.refuse_take-requires-clause-got
-refuse_take-requires-clause-got g c κs within = (c.loop.value, c.loop.invariant.3.holds, c.into_ring-ring.ensures)
+refuse_take-requires-clause-got g c κs within = (c.loop.value, c.loop.invariant.3.holds, c.ring_of-ring.ensures)
 
 pub returns-then-is_shut-clause-same : goal.returns-then-is_shut-clause-same
 returns-then-is_shut-clause-same g c = same_on c.args.me.now c.loop.me c.refuse_take.new.me c.loop.invariant.3.same c.refuse_take.ensures.same
@@ -127,7 +127,7 @@ pub wait_for_more-outcome-requires-clause-world : goal.wait_for_more-outcome-req
 wait_for_more-outcome-requires-clause-world g c κs within = c.loop.invariant.3.same.world ∙ c.requires.world
 
 pub wait_for_more-outcome-requires-clause-got : goal.wait_for_more-outcome-requires-clause-got
-wait_for_more-outcome-requires-clause-got g c κs within = (c.loop.value, c.loop.invariant.3.holds, c.into_ring-ring.ensures)
+wait_for_more-outcome-requires-clause-got g c κs within = (c.loop.value, c.loop.invariant.3.holds, c.ring_of-ring.ensures)
 
 pub give_up-requires-clause-world : goal.give_up-requires-clause-world
 give_up-requires-clause-world g c κs within = c.wait_for_more-outcome.ensures.same.world ∙ (c.loop.invariant.3.same.world ∙ c.requires.world)
