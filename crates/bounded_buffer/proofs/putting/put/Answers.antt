@@ -1,4 +1,4 @@
-use Rattle.std.proofs.Common.{◌≡◌, ◌<◌, ◌+◌, ℕ, true, [], ◌∷◌, ◌++◌, Some, None, sym, ap, subst, ◌∙◌, suc, add_assoc, add-zero}
+use Rattle.std.proofs.Common.{◌≡◌, ◌<◌, ◌+◌, ℕ, true, [], ◌∷◌, ◌++◌, Some, None, refl, sym, ap, subst, ◌∙◌, suc, add_assoc, add-zero}
 use Rattle.std.specs.List.{All}
 use Rattle.std.proofs.lemmas.Option.{same_Some}
 use Rattle.nub_rule.specs.Plays.{enqueue_event}
@@ -190,3 +190,63 @@ loop-preserved g c =
     let again = waiting g.B.BufferUse.part g.B.BufferUse.alike g.B.Uses.fits c.args.p.now m at.room.0 more_full WaitedFull es inv.0 inv.1 c.loop.value y o a c.loop.me b (one-more inv.0) g.met.B.BufferUse.alike_on inv.3 w.rest w.same (w.waited inv.3.share inv.3.is_share) in
     let back = subst (λ (r : Outcome). IsIn g.B.BufferUse.part g.B.BufferUse.alike g.B.Uses.fits c.args.p.now m more_full (es ++ enqueue_event true a.number m at.room.0 ∷ wait_end r a.number m at.room.0 ∷ []) (inv.0 + 1) inv.1 y a b) c.in-Returned.is again in
     (suc inv.0, inv.1, inv.2, waited g.B.BufferUse.part g.B.BufferUse.alike g.B.Uses.fits c.args.p.now m at.room.0 more_full inv.0 inv.1 y a b back)
+
+pub refuse_put-requires-clause-named : goal.refuse_put-requires-clause-named
+refuse_put-requires-clause-named g c κs within = c.requires.named
+
+pub refuse_put-requires-clause-buffer : goal.refuse_put-requires-clause-buffer
+refuse_put-requires-clause-buffer g c κs within = c.requires.buffer
+
+pub refuse_put-requires-clause-shut : goal.refuse_put-requires-clause-shut
+refuse_put-requires-clause-shut g c κs within = sym c.is_shut.ensures ∙ c.if-is_shut.true
+
+pub returns-then-is_shut-clause-rest : goal.returns-then-is_shut-clause-rest
+returns-then-is_shut-clause-rest g c = c.refuse_put.ensures.rest
+
+pub returns-then-is_shut-clause-back : goal.returns-then-is_shut-clause-back
+returns-then-is_shut-clause-back g c = refl
+
+pub returns-then-is_shut-clause-rises : goal.returns-then-is_shut-clause-rises
+returns-then-is_shut-clause-rises g c = tt
+
+pub put_last-requires-clause-named : goal.put_last-requires-clause-named
+put_last-requires-clause-named g c κs within = c.requires.named
+
+pub put_last-requires-clause-buffer : goal.put_last-requires-clause-buffer
+put_last-requires-clause-buffer g c κs within = c.requires.buffer
+
+pub put_last-requires-clause-opened : goal.put_last-requires-clause-opened
+put_last-requires-clause-opened g c κs within = sym c.is_shut.ensures ∙ c.if-is_shut.false
+
+pub returns-then-not-is_full-clause-rest : goal.returns-then-not-is_full-clause-rest
+returns-then-not-is_full-clause-rest g c = c.put_last.ensures.rest
+
+pub returns-then-not-is_full-clause-back : goal.returns-then-not-is_full-clause-back
+returns-then-not-is_full-clause-back g c = tt
+
+pub wait_for_room-outcome-requires-clause-named : goal.wait_for_room-outcome-requires-clause-named
+wait_for_room-outcome-requires-clause-named g c κs within = c.requires.named
+
+pub wait_for_room-outcome-requires-clause-buffer : goal.wait_for_room-outcome-requires-clause-buffer
+wait_for_room-outcome-requires-clause-buffer g c κs within = c.requires.buffer
+
+pub wait_for_room-outcome-requires-clause-opened : goal.wait_for_room-outcome-requires-clause-opened
+wait_for_room-outcome-requires-clause-opened g c κs within = sym c.is_shut.ensures ∙ c.if-is_shut.false
+
+pub give_up-requires-clause-rest : goal.give_up-requires-clause-rest
+give_up-requires-clause-rest g c κs within = c.wait_for_room-outcome.ensures.rest
+
+pub give_up-requires-clause-named : goal.give_up-requires-clause-named
+give_up-requires-clause-named g c κs within = c.requires.named
+
+pub give_up-requires-clause-buffer : goal.give_up-requires-clause-buffer
+give_up-requires-clause-buffer g c κs within = c.requires.buffer
+
+pub returns-in-Alerted-clause-rest : goal.returns-in-Alerted-clause-rest
+returns-in-Alerted-clause-rest g c = c.give_up.ensures.rest
+
+pub returns-in-Alerted-clause-back : goal.returns-in-Alerted-clause-back
+returns-in-Alerted-clause-back g c = refl
+
+pub returns-in-Alerted-clause-rises : goal.returns-in-Alerted-clause-rises
+returns-in-Alerted-clause-rises g c = tt

@@ -188,3 +188,66 @@ loop-preserved g c =
     let again = waiting g.B.BufferUse.part g.B.BufferUse.alike g.B.Uses.fits c.args.p.now m at.more.0 more_empty WaitedEmpty es inv.0 inv.1 c.loop.value y o a c.loop.me b (one-more inv.0) g.met.B.BufferUse.alike_on inv.3 w.rest w.same (w.waited inv.3.share inv.3.is_share) in
     let back = subst (λ (r : Outcome). IsIn g.B.BufferUse.part g.B.BufferUse.alike g.B.Uses.fits c.args.p.now m more_empty (es ++ enqueue_event true a.number m at.more.0 ∷ wait_end r a.number m at.more.0 ∷ []) (inv.0 + 1) inv.1 y a b) c.in-Returned.is again in
     (suc inv.0, inv.1, inv.2, waited g.B.BufferUse.part g.B.BufferUse.alike g.B.Uses.fits c.args.p.now m at.more.0 more_empty inv.0 inv.1 y a b back)
+
+pub take_first-requires-clause-named : goal.take_first-requires-clause-named
+take_first-requires-clause-named g c κs within = c.requires.named
+
+pub take_first-requires-clause-buffer : goal.take_first-requires-clause-buffer
+take_first-requires-clause-buffer g c κs within = c.requires.buffer
+
+pub take_first-requires-clause-some : goal.take_first-requires-clause-some
+take_first-requires-clause-some g c κs within = c.is_empty.ensures.some c.if-not-is_empty.true
+
+pub returns-then-not-is_empty-clause-rest : goal.returns-then-not-is_empty-clause-rest
+returns-then-not-is_empty-clause-rest g c = c.take_first.ensures.rest
+
+pub refuse_take-requires-clause-named : goal.refuse_take-requires-clause-named
+refuse_take-requires-clause-named g c κs within = c.requires.named
+
+pub refuse_take-requires-clause-buffer : goal.refuse_take-requires-clause-buffer
+refuse_take-requires-clause-buffer g c κs within = c.requires.buffer
+
+pub refuse_take-requires-clause-shut : goal.refuse_take-requires-clause-shut
+refuse_take-requires-clause-shut g c κs within = sym c.is_shut.ensures ∙ c.if-is_shut.true
+
+pub refuse_take-requires-clause-empty : goal.refuse_take-requires-clause-empty
+refuse_take-requires-clause-empty g c κs within = c.is_empty.ensures.empty c.if-not-is_empty.false
+
+pub returns-then-is_shut-clause-rest : goal.returns-then-is_shut-clause-rest
+returns-then-is_shut-clause-rest g c = c.refuse_take.ensures.rest
+
+pub returns-then-is_shut-clause-rises : goal.returns-then-is_shut-clause-rises
+returns-then-is_shut-clause-rises g c = tt
+
+pub returns-then-is_shut-clause-fits : goal.returns-then-is_shut-clause-fits
+returns-then-is_shut-clause-fits g c = tt
+
+pub wait_for_more-outcome-requires-clause-named : goal.wait_for_more-outcome-requires-clause-named
+wait_for_more-outcome-requires-clause-named g c κs within = c.requires.named
+
+pub wait_for_more-outcome-requires-clause-buffer : goal.wait_for_more-outcome-requires-clause-buffer
+wait_for_more-outcome-requires-clause-buffer g c κs within = c.requires.buffer
+
+pub wait_for_more-outcome-requires-clause-opened : goal.wait_for_more-outcome-requires-clause-opened
+wait_for_more-outcome-requires-clause-opened g c κs within = sym c.is_shut.ensures ∙ c.if-is_shut.false
+
+pub wait_for_more-outcome-requires-clause-empty : goal.wait_for_more-outcome-requires-clause-empty
+wait_for_more-outcome-requires-clause-empty g c κs within = c.is_empty.ensures.empty c.if-not-is_empty.false
+
+pub give_up-requires-clause-rest : goal.give_up-requires-clause-rest
+give_up-requires-clause-rest g c κs within = c.wait_for_more-outcome.ensures.rest
+
+pub give_up-requires-clause-named : goal.give_up-requires-clause-named
+give_up-requires-clause-named g c κs within = c.requires.named
+
+pub give_up-requires-clause-buffer : goal.give_up-requires-clause-buffer
+give_up-requires-clause-buffer g c κs within = c.requires.buffer
+
+pub returns-in-Alerted-clause-rest : goal.returns-in-Alerted-clause-rest
+returns-in-Alerted-clause-rest g c = c.give_up.ensures.rest
+
+pub returns-in-Alerted-clause-rises : goal.returns-in-Alerted-clause-rises
+returns-in-Alerted-clause-rises g c = tt
+
+pub returns-in-Alerted-clause-fits : goal.returns-in-Alerted-clause-fits
+returns-in-Alerted-clause-fits g c = tt
