@@ -1,6 +1,7 @@
 //! A P that an alert ends.
 ghost use Rattle.std.specs.Prelude.{◌≡◌, ℕ, ◌<◌, [], None, true, false};
 ghost use Rattle.larch_actions.specs.Sets.{mem, without};
+ghost use Rattle.nub_rule.specs.declared.view.Pen.TheVariants.{No};
 ghost use Rattle.nub_rule.specs.Known.{Makes, StandsAs, recorded};
 ghost use Rattle.nub_rule.specs.Parts.{IsAlerted};
 ghost use Rattle.nub_rule.specs.Places.{sem_object};
@@ -8,6 +9,7 @@ ghost use Rattle.nub_rule.specs.Plays.{alert_p_raise_event};
 ghost use Rattle.nub.specs.Idle.{IsIdle};
 ghost use Rattle.nub.specs.Rest.{AtRest, Adds, HasStored, IsOutside, IsSame};
 ghost use Rattle.alert_wait.specs.Outcomes.{p_end};
+ghost use Rattle.alert_wait.specs.declared.outcome.Outcome.TheVariants.{Returned};
 
 use crate::outcome::Outcome;
 use gate::try_take;
@@ -31,6 +33,27 @@ pub fn alert_p<U: Uses, R: Wait>(rt: &R, p: &Package<U>, me: &mut Thread<U>, s: 
     ensures share { me.new.share ≡ me.old.share }
     ensures idle { (n : ℕ) (s : U.Share) → IsIdle p.now n s me.old → IsIdle p.now n s me.new }
 {
+    take_or_raise(rt, p, me, s)
+}
+
+/// All of `alert_p`, told as one change of what the thread knows. It may wait.
+#[inline(always)]
+fn take_or_raise<U: Uses, R: Wait>(rt: &R, p: &Package<U>, me: &mut Thread<U>, s: SemId) -> Outcome
+    requires of { me.old.table_id ≡ p.now.table_id }
+    requires named { s.0 < p.now.layout.semaphores }
+    requires outside { IsOutside me.old }
+    requires no_wait { me.old.wait ≡ None }
+    requires turns { me.old.turns ≡ [] }
+    requires looked { me.old.cleared ≡ [] }
+    requires stored { HasStored p.now.traced me.old }
+    ensures event { Makes (p_end result me.old.number s.0) me.old me.new }
+    ensures rest { me.new ≡ record (recorded me.old me.new) {
+      count = me.new.count;
+      failed = me.new.failed;
+      alerted = me.new.alerted;
+    } }
+    ensures stored { HasStored p.now.traced me.new }
+{
     let at = Object::Sem(s);
     let e = Event {
         thread: ThreadId(me.number()),
@@ -41,16 +64,75 @@ pub fn alert_p<U: Uses, R: Wait>(rt: &R, p: &Package<U>, me: &mut Thread<U>, s: 
             return Outcome::Returned;
         }
         if !stand_in_line(rt, p, me, s) {
-            // A V that popped this thread woke nobody else. So the bit is tried once more before the alert ends the call: if that fails,
-            // another thread has the semaphore, and its V will wake the next.
-            if !withdraw(rt, p, me, s) && try_take(rt, p, me, at, e) {
-                return Outcome::Returned;
-            }
-            raise(rt, p, me, s);
-            return Outcome::Alerted;
+            return end_alerted(rt, p, me, s);
         }
     }
     unreachable!()
+}
+
+/// Ends the call of a thread that has found its alert word set while it stood in line. It may wait.
+#[cold]
+#[inline(never)]
+fn end_alerted<U: Uses, R: Wait>(rt: &R, p: &Package<U>, me: &mut Thread<U>, s: SemId) -> Outcome
+    requires of { me.old.table_id ≡ p.now.table_id }
+    requires named { s.0 < p.now.layout.semaphores }
+    requires outside { (me.old.spin ≡ None) × (me.old.queue ≡ []) × (me.old.owed ≡ []) × (me.old.left ≡ []) × (me.old.pen ≡ No) }
+    requires no_wait { me.old.wait ≡ None }
+    requires turns { me.old.turns ≡ [] }
+    requires looked { me.old.cleared ≡ [] }
+    requires alerted { StandsAs (λ x. (x.at ≡ sem_object s.0) × IsAlerted x.stage) me.old × (me.old.alerted ≡ true) }
+    requires stored { HasStored p.now.traced me.old }
+    ensures event { Makes (p_end result me.old.number s.0) me.old me.new }
+    ensures rest { me.new ≡ record (recorded me.old me.new) {
+      count = me.new.count;
+      stand = None;
+      failed = me.new.failed;
+      alerted = me.new.alerted;
+    } }
+    ensures stored { HasStored p.now.traced me.new }
+{
+    if take_at_last(rt, p, me, s) {
+        return Outcome::Returned;
+    }
+    raise(rt, p, me, s);
+    Outcome::Alerted
+}
+
+/// Takes the alerted thread out of the queue, and tries the bit once more where another thread had popped it. It answers whether it took the
+/// bit, and so made the event. It may wait.
+fn take_at_last<U: Uses, R: Wait>(rt: &R, p: &Package<U>, me: &mut Thread<U>, s: SemId) -> bool
+    requires of { me.old.table_id ≡ p.now.table_id }
+    requires named { s.0 < p.now.layout.semaphores }
+    requires outside { (me.old.spin ≡ None) × (me.old.queue ≡ []) × (me.old.owed ≡ []) × (me.old.left ≡ []) × (me.old.pen ≡ No) }
+    requires no_wait { me.old.wait ≡ None }
+    requires turns { me.old.turns ≡ [] }
+    requires looked { me.old.cleared ≡ [] }
+    requires alerted { StandsAs (λ x. (x.at ≡ sem_object s.0) × IsAlerted x.stage) me.old × (me.old.alerted ≡ true) }
+    requires stored { HasStored p.now.traced me.old }
+    ensures lost { result ≡ false → me.new ≡ record me.old {
+      count = me.new.count;
+      stand = None;
+      failed = me.new.failed;
+      next = me.new.next;
+    } }
+    ensures event { result ≡ true → Makes (p_end Returned me.old.number s.0) me.old me.new }
+    ensures won { result ≡ true → me.new ≡ record (recorded me.old me.new) {
+      count = me.new.count;
+      stand = None;
+      failed = me.new.failed;
+    } }
+    ensures stored { HasStored p.now.traced me.new }
+{
+    if withdraw(rt, p, me, s) {
+        return false;
+    }
+    // A V that popped this thread woke nobody else. So the bit is tried once more before the alert ends the call: if that fails, another
+    // thread has the semaphore, and its V will wake the next.
+    let e = Event {
+        thread: ThreadId(me.number()),
+        action: Action::AlertPReturn { sem: s },
+    };
+    try_take(rt, p, me, Object::Sem(s), e)
 }
 
 /// Queues the thread, tests the bit again, and sleeps if it is still set. It answers true where the bit is to be tried anew, and false where

@@ -1,4 +1,4 @@
-//! Giving a mutex back with the ring as it was got.
+//! Getting the ring out of a value, and giving a mutex back with the ring as it was got.
 ghost use Rattle.std.specs.Prelude.{◌≡◌, None, Some, slice_set};
 ghost use Rattle.nub_rule.specs.Known.{Holds};
 ghost use Rattle.nub_rule.specs.Plays.{release_event};
@@ -9,9 +9,19 @@ ghost use Rattle.bounded_buffer.specs.Rings.{Held};
 
 use crate::at::BufferAt;
 use crate::buffer_use::BufferUse;
+use crate::ring::Ring;
 use nub_rule::{NoChange, Package, Thread};
 use std::sync::Wait;
 use user_mutex::release;
+
+/// The ring that the value is.
+#[inline(always)]
+pub(crate) fn ring_of<B: BufferUse>(value: B::Value) -> Ring<B::Item>
+    requires { (q : Held B.Item) × (B.ring_in value ≡ Some q) }
+    ensures { B.ring_in value ≡ Some result }
+{
+    B::into_ring(value)
+}
 
 /// Waits for ever, with the item.
 pub(crate) fn keep<T, R: Wait>(rt: &R, item: T) -> T

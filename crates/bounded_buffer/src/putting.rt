@@ -15,7 +15,7 @@ ghost use Rattle.bounded_buffer.specs.Waiting.{HasGiven, HasWaited};
 use crate::at::BufferAt;
 use crate::buffer_use::BufferUse;
 use crate::ends::PutEnd;
-use crate::giving::{give_up, keep};
+use crate::giving::{give_up, keep, ring_of};
 use crate::ring::Ring;
 use alert_wait::{Outcome, alert_wait};
 use condition::signal;
@@ -135,7 +135,7 @@ pub fn put<B: BufferUse, R: Wait>(
 {
     let mut value = acquire(rt, p, me, at.mutex);
     for _ in rt.forever() {
-        let ring = B::into_ring(value);
+        let ring = ring_of::<B>(value);
         if ring.is_shut() {
             refuse_put(rt, p, me, at, ring);
             return Err((PutEnd::Closed, item));

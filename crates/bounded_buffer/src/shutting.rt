@@ -8,6 +8,7 @@ ghost use Rattle.bounded_buffer.specs.Calls.{HasShut};
 
 use crate::at::BufferAt;
 use crate::buffer_use::BufferUse;
+use crate::giving::ring_of;
 use condition::broadcast;
 use nub_rule::{Package, Thread};
 use std::sync::Wait;
@@ -30,7 +31,7 @@ pub fn shut<B: BufferUse, R: Wait>(rt: &R, p: &Package<B>, me: &mut Thread<B>, a
         → HasShut B.ring_in B.part B.Shut.after p.now.world at.now.mutex.0 at.now.room.0 at.now.more.0 me.old.number s me.old me.new }
 {
     let value = acquire(rt, p, me, at.mutex);
-    let mut ring = B::into_ring(value);
+    let mut ring = ring_of::<B>(value);
     ring.shut();
     broadcast(rt, p, me, at.room);
     broadcast(rt, p, me, at.more);

@@ -14,7 +14,7 @@ ghost use Rattle.bounded_buffer.specs.Waiting.{HasGiven, HasWaited};
 use crate::at::BufferAt;
 use crate::buffer_use::BufferUse;
 use crate::ends::TakeEnd;
-use crate::giving::give_up;
+use crate::giving::{give_up, ring_of};
 use crate::ring::Ring;
 use alert_wait::{Outcome, alert_wait};
 use condition::signal;
@@ -124,7 +124,7 @@ pub fn take<B: BufferUse, R: Wait>(
 {
     let mut value = acquire(rt, p, me, at.mutex);
     for _ in rt.forever() {
-        let ring = B::into_ring(value);
+        let ring = ring_of::<B>(value);
         if !ring.is_empty() {
             return Ok(take_first(rt, p, me, at, ring));
         }

@@ -1,5 +1,5 @@
 //! Starting the jobs of a crew, and joining them.
-ghost use Rattle.std.specs.Prelude.{◌≡◌, ◌≤◌, ◌+◌, [], List, vec_len, vec_capacity, IfOk, IfErr, length, Bool};
+ghost use Rattle.std.specs.Prelude.{◌≡◌, ◌≤◌, ◌+◌, [], List, vec_len, vec_capacity, IfOk, IfErr, length, Bool, true};
 ghost use Rattle.std.specs.List.{AllZip, AllByRecursion};
 ghost use Rattle.thread_crew.specs.Crews.{IsChildOf, IsRunning, Told, Turns};
 
@@ -71,6 +71,71 @@ fn join_all<R: Threads, T: Task<Output = X>, X: Drop>(
     results
 }
 
+/// Starts a job in a thread where less than `starts` are before it and a thread can be made. Else it holds the job's closure, and
+/// `some_held` is true then.
+fn start_or_hold<
+    's,
+    E,
+    T: Task<Output = X> + Drop,
+    X: Send + Drop + 's,
+    F: FnOnce() -> X + Send + Drop + 's,
+>(
+    scope: &'s Scope<'s, E>,
+    promise: Gives<T>,
+    work: F,
+    before: usize,
+    starts: usize,
+    some_held: &mut bool,
+) -> Child<X, Gives<T>, F>
+    requires runs { F.pre work }
+    requires gives { (r : X) → F.post work r → T.run_gives promise.task.value r }
+    ensures child { IsChildOf T.run_gives F.pre F.post promise.task.value result }
+    ensures told { starts ≤ before → some_held.new ≡ true }
+    ensures stays { some_held.old ≡ true → some_held.new ≡ true }
+{
+    if before < starts {
+        match scope.spawn_with(promise, work) {
+            Ok(handle) => Child::Started(handle),
+            Err(refused) => {
+                *some_held = true;
+                Child::Held(refused.value)
+            }
+        }
+    } else {
+        *some_held = true;
+        Child::Held(work)
+    }
+}
+
+/// Calls `between`, runs here what could not be started, and joins all.
+fn finish<
+    R: Threads,
+    T: Task<Output = X>,
+    X: Drop,
+    F: FnOnce() -> X + Drop,
+    M: FnOnce(bool) -> Y,
+    Y,
+>(
+    rt: &R,
+    children: Vec<Child<X, Gives<T>, F>>,
+    running: Vec<Running<X, Gives<T>>>,
+    results: Vec<X>,
+    between: M,
+    some_held: bool,
+) -> Finished<X, Y>
+    requires ready { (jobs : List T) × AllZip (IsChildOf T.run_gives F.pre F.post) jobs children.items }
+    requires running { (running.items ≡ []) × (vec_len children ≤ vec_capacity running) }
+    requires results { (results.items ≡ []) × (vec_len children ≤ vec_capacity results) }
+    requires between { M.pre between some_held }
+    ensures results { (jobs : List T) → AllZip (IsChildOf T.run_gives F.pre F.post) jobs children.items
+        → AllZip T.run_gives jobs result.results.items }
+    ensures between { M.post between some_held result.between }
+{
+    let between = between(some_held);
+    let results = join_all(rt, run_held(children, running), results);
+    Finished { results, between }
+}
+
 /// Starts the jobs, calls `between`, runs here what could not be started, and joins all.
 fn in_scope<
     's,
@@ -111,26 +176,12 @@ fn in_scope<
             requires { T.can_run job }
             ensures { T.run_gives job result }
         { job.run() };
-        let child = if children.len() < starts {
-            match scope.spawn_with(promise, work) {
-                Ok(handle) => Child::Started(handle),
-                Err(refused) => {
-                    some_held = true;
-                    Child::Held(refused.value)
-                }
-            }
-        } else {
-            drop(promise);
-            some_held = true;
-            Child::Held(work)
-        };
+        let child = start_or_hold(scope, promise, work, children.len(), starts, &mut some_held);
         let Ok(()) = children.push(child) else {
             unreachable!()
         };
     }
-    let between = between(some_held);
-    let results = join_all(rt, run_held(children, running), results);
-    Ok(Finished { results, between })
+    Ok(finish(rt, children, running, results, between, some_held))
 }
 
 /// Runs each job in a thread of its own, where it is below `starts` and a thread can be made, and else here once the others were started.

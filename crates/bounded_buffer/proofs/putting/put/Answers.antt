@@ -1,4 +1,4 @@
-use Rattle.std.proofs.Common.{◌≡◌, ◌<◌, ◌+◌, ℕ, true, [], ◌∷◌, ◌++◌, Some, None, sym, ap, subst, ◌∙◌, suc, add_assoc, add-zero}
+use Rattle.std.proofs.Common.{◌≡◌, ◌<◌, ◌+◌, ℕ, true, [], ◌∷◌, ◌++◌, Some, None, refl, sym, ap, subst, ◌∙◌, suc, add_assoc, add-zero}
 use Rattle.std.specs.List.{All}
 use Rattle.std.proofs.lemmas.Option.{same_Some}
 use Rattle.nub_rule.specs.Plays.{enqueue_event}
@@ -30,8 +30,8 @@ loop-init g c =
           (got.share ∙ c.requires.may.1) (none-more (g.B.BufferUse.part s m)) (g.met.B.BufferUse.alike_self s) (got.fits c.args.p.now.world s c.requires.world c.requires.may.1),
     )
 
-pub into_ring-ring-requires : goal.into_ring-ring-requires
-into_ring-ring-requires g c =
+pub ring_of-ring-requires-after_bounds : goal.ring_of-ring-requires-after_bounds
+ring_of-ring-requires-after_bounds g c κs within =
     let inn = c.loop.invariant.3 in
     let q = g.met.B.BufferUse.fits_ring c.args.p.now.world c.args.at.now c.requires.buffer c.args.me.now.number c.loop.value inn.share inn.fits in
     (q.0, q.1)
@@ -43,7 +43,7 @@ pub refuse_put-requires-clause-world : goal.refuse_put-requires-clause-world
 refuse_put-requires-clause-world g c κs within = c.loop.invariant.3.same.world ∙ c.requires.world
 
 pub refuse_put-requires-clause-got : goal.refuse_put-requires-clause-got
-refuse_put-requires-clause-got g c κs within = (c.loop.value, c.loop.invariant.3.holds, c.into_ring-ring.ensures)
+refuse_put-requires-clause-got g c κs within = (c.loop.value, c.loop.invariant.3.holds, c.ring_of-ring.ensures)
 
 pub returns-then-is_shut-clause-same : goal.returns-then-is_shut-clause-same
 returns-then-is_shut-clause-same g c = same_on c.args.me.now c.loop.me c.refuse_put.new.me c.loop.invariant.3.same c.refuse_put.ensures.same
@@ -73,7 +73,7 @@ pub put_last-requires-clause-world : goal.put_last-requires-clause-world
 put_last-requires-clause-world g c κs within = c.loop.invariant.3.same.world ∙ c.requires.world
 
 pub put_last-requires-clause-got : goal.put_last-requires-clause-got
-put_last-requires-clause-got g c κs within = (c.loop.value, c.loop.invariant.3.holds, c.into_ring-ring.ensures)
+put_last-requires-clause-got g c κs within = (c.loop.value, c.loop.invariant.3.holds, c.ring_of-ring.ensures)
 
 pub put_last-requires-clause-may : goal.put_last-requires-clause-may
 put_last-requires-clause-may g c κs within = λ s share.
@@ -116,8 +116,8 @@ returns-then-not-is_full-clause-rises g c = λ s share.
     let inn = inv.3 in
     let m = c.args.at.now.mutex.0 in
     let q = g.met.B.BufferUse.fits_ring c.args.p.now.world c.args.at.now c.requires.buffer c.args.me.now.number c.loop.value inn.share inn.fits in
-    let ring = c.into_ring-ring.result in
-    let number = sym (c.put_last.ensures.number ∙ ap (λ r. put_count r) (sym (same_Some q.0 ring (sym q.1 ∙ c.into_ring-ring.ensures)))) in
+    let ring = c.ring_of-ring.result in
+    let number = sym (c.put_last.ensures.number ∙ ap (λ r. put_count r) (sym (same_Some q.0 ring (sym q.1 ∙ c.ring_of-ring.ensures)))) in
     let one = subst (λ (n : ℕ). All (λ p. p.0 < n) (g.B.BufferUse.part inn.share m).puts) number q.2.puts in
     let two = subst (λ l. All (λ p. p.0 < c.put_last.result) l) (ap (λ u. u.puts) inn.here) one in
     subst (λ u. All (λ p. p.0 < c.put_last.result) (g.B.BufferUse.part u m).puts) (same_Some inv.1 s (sym inv.2 ∙ share)) two
@@ -129,7 +129,7 @@ pub wait_for_room-outcome-requires-clause-world : goal.wait_for_room-outcome-req
 wait_for_room-outcome-requires-clause-world g c κs within = c.loop.invariant.3.same.world ∙ c.requires.world
 
 pub wait_for_room-outcome-requires-clause-got : goal.wait_for_room-outcome-requires-clause-got
-wait_for_room-outcome-requires-clause-got g c κs within = (c.loop.value, c.loop.invariant.3.holds, c.into_ring-ring.ensures)
+wait_for_room-outcome-requires-clause-got g c κs within = (c.loop.value, c.loop.invariant.3.holds, c.ring_of-ring.ensures)
 
 pub give_up-requires-clause-world : goal.give_up-requires-clause-world
 give_up-requires-clause-world g c κs within = c.wait_for_room-outcome.ensures.same.world ∙ (c.loop.invariant.3.same.world ∙ c.requires.world)
@@ -190,3 +190,63 @@ loop-preserved g c =
     let again = waiting g.B.BufferUse.part g.B.BufferUse.alike g.B.Uses.fits c.args.p.now m at.room.0 more_full WaitedFull es inv.0 inv.1 c.loop.value y o a c.loop.me b (one-more inv.0) g.met.B.BufferUse.alike_on inv.3 w.rest w.same (w.waited inv.3.share inv.3.is_share) in
     let back = subst (λ (r : Outcome). IsIn g.B.BufferUse.part g.B.BufferUse.alike g.B.Uses.fits c.args.p.now m more_full (es ++ enqueue_event true a.number m at.room.0 ∷ wait_end r a.number m at.room.0 ∷ []) (inv.0 + 1) inv.1 y a b) c.in-Returned.is again in
     (suc inv.0, inv.1, inv.2, waited g.B.BufferUse.part g.B.BufferUse.alike g.B.Uses.fits c.args.p.now m at.room.0 more_full inv.0 inv.1 y a b back)
+
+pub refuse_put-requires-clause-named : goal.refuse_put-requires-clause-named
+refuse_put-requires-clause-named g c κs within = c.requires.named
+
+pub refuse_put-requires-clause-buffer : goal.refuse_put-requires-clause-buffer
+refuse_put-requires-clause-buffer g c κs within = c.requires.buffer
+
+pub refuse_put-requires-clause-shut : goal.refuse_put-requires-clause-shut
+refuse_put-requires-clause-shut g c κs within = sym c.is_shut.ensures ∙ c.if-is_shut.true
+
+pub returns-then-is_shut-clause-rest : goal.returns-then-is_shut-clause-rest
+returns-then-is_shut-clause-rest g c = c.refuse_put.ensures.rest
+
+pub returns-then-is_shut-clause-back : goal.returns-then-is_shut-clause-back
+returns-then-is_shut-clause-back g c = refl
+
+pub returns-then-is_shut-clause-rises : goal.returns-then-is_shut-clause-rises
+returns-then-is_shut-clause-rises g c = tt
+
+pub put_last-requires-clause-named : goal.put_last-requires-clause-named
+put_last-requires-clause-named g c κs within = c.requires.named
+
+pub put_last-requires-clause-buffer : goal.put_last-requires-clause-buffer
+put_last-requires-clause-buffer g c κs within = c.requires.buffer
+
+pub put_last-requires-clause-opened : goal.put_last-requires-clause-opened
+put_last-requires-clause-opened g c κs within = sym c.is_shut.ensures ∙ c.if-is_shut.false
+
+pub returns-then-not-is_full-clause-rest : goal.returns-then-not-is_full-clause-rest
+returns-then-not-is_full-clause-rest g c = c.put_last.ensures.rest
+
+pub returns-then-not-is_full-clause-back : goal.returns-then-not-is_full-clause-back
+returns-then-not-is_full-clause-back g c = tt
+
+pub wait_for_room-outcome-requires-clause-named : goal.wait_for_room-outcome-requires-clause-named
+wait_for_room-outcome-requires-clause-named g c κs within = c.requires.named
+
+pub wait_for_room-outcome-requires-clause-buffer : goal.wait_for_room-outcome-requires-clause-buffer
+wait_for_room-outcome-requires-clause-buffer g c κs within = c.requires.buffer
+
+pub wait_for_room-outcome-requires-clause-opened : goal.wait_for_room-outcome-requires-clause-opened
+wait_for_room-outcome-requires-clause-opened g c κs within = sym c.is_shut.ensures ∙ c.if-is_shut.false
+
+pub give_up-requires-clause-rest : goal.give_up-requires-clause-rest
+give_up-requires-clause-rest g c κs within = c.wait_for_room-outcome.ensures.rest
+
+pub give_up-requires-clause-named : goal.give_up-requires-clause-named
+give_up-requires-clause-named g c κs within = c.requires.named
+
+pub give_up-requires-clause-buffer : goal.give_up-requires-clause-buffer
+give_up-requires-clause-buffer g c κs within = c.requires.buffer
+
+pub returns-in-Alerted-clause-rest : goal.returns-in-Alerted-clause-rest
+returns-in-Alerted-clause-rest g c = c.give_up.ensures.rest
+
+pub returns-in-Alerted-clause-back : goal.returns-in-Alerted-clause-back
+returns-in-Alerted-clause-back g c = refl
+
+pub returns-in-Alerted-clause-rises : goal.returns-in-Alerted-clause-rises
+returns-in-Alerted-clause-rises g c = tt

@@ -1,4 +1,4 @@
-use Rattle.std.proofs.Common.{◌≡◌, ℕ, [], ◌∷◌, Some, refl, sym, ap, subst, ◌∙◌}
+use Rattle.std.proofs.Common.{◌≡◌, ℕ, [], ◌∷◌, Some, None, refl, sym, ap, subst, ◌∙◌, slice_set}
 use Rattle.std.proofs.lemmas.Option.{same_Some}
 use lib.ListN.{get_elem?}
 use Rattle.nub_rule.specs.Plays.{event, signal_action, release_event}
@@ -6,6 +6,7 @@ use Rattle.nub.specs.Rest.{Adds}
 use Rattle.bounded_buffer.specs.declared.did.Did.TheVariants.{Put}
 use Rattle.bounded_buffer.specs.Rings.{Does}
 use Rattle.bounded_buffer.proofs.Adding.{added, adds_on}
+use Rattle.bounded_buffer.proofs.Ending.{same_on}
 use Rattle.bounded_buffer.proofs.putting.put_last.Goals as goal
 
 pub release-requires-2-clause-may : goal.release-requires-2-clause-may
@@ -52,3 +53,52 @@ returns-clause-given g c = λ s share.
       elsewhere = law.1.elsewhere;
       looked = (got.0, y, ring, c.push-number.new.self, got.2, c.from_ring-2.ensures, does, refl);
     }
+
+pub release-requires-clause-rest : goal.release-requires-clause-rest
+release-requires-clause-rest g c κs within = c.requires.rest
+
+pub release-requires-clause-named : goal.release-requires-clause-named
+release-requires-clause-named g c κs within = c.requires.named.mutex
+
+pub release-requires-clause-may : goal.release-requires-clause-may
+release-requires-clause-may g c κs within =
+    let w0 = c.args.p.now.world in
+    let at = c.args.at.now in
+    let n = c.args.me.now.number in
+    let got = c.requires.got in
+    let y = c.from_ring.result in (
+      got.0,
+      got.1,
+      λ w s world share.
+          subst (λ v. g.B.Uses.allows v at.mutex.0 n got.0 y s s) (same_Some w0 w (sym c.requires.world ∙ world)) (g.met.B.BufferUse.stay_allowed w0 at c.requires.buffer n got.0 y s c.args.ring got.2 c.from_ring.ensures),
+    )
+
+pub push-number-requires-clause-room : goal.push-number-requires-clause-room
+push-number-requires-clause-room g c = c.requires.room
+
+pub push-number-requires-clause-few : goal.push-number-requires-clause-few
+push-number-requires-clause-few g c = c.is_at_end.ensures.end c.if-is_at_end.false
+
+pub signal-requires-clause-rest : goal.signal-requires-clause-rest
+signal-requires-clause-rest g c κs within = c.requires.rest
+
+pub signal-requires-clause-named : goal.signal-requires-clause-named
+signal-requires-clause-named g c κs within = c.requires.named.more
+
+pub release-requires-2-clause-rest : goal.release-requires-2-clause-rest
+release-requires-2-clause-rest g c κs within = c.signal.ensures.rest
+
+pub release-requires-2-clause-named : goal.release-requires-2-clause-named
+release-requires-2-clause-named g c κs within = c.requires.named.mutex
+
+pub returns-clause-rest : goal.returns-clause-rest
+returns-clause-rest g c = c.release-2.ensures.rest
+
+pub returns-clause-same : goal.returns-clause-same
+returns-clause-same g c = same_on c.args.me.now c.signal.new.me c.release-2.new.me c.signal.ensures.same c.release-2.ensures.same
+
+pub returns-clause-held : goal.returns-clause-held
+returns-clause-held g c = c.release-2.ensures.held ∙ ap (λ h. slice_set h c.args.at.now.mutex.0 None) c.signal.ensures.held
+
+pub returns-clause-number : goal.returns-clause-number
+returns-clause-number g c = c.push-number.ensures.number

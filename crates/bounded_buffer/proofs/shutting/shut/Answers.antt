@@ -8,8 +8,8 @@ use Rattle.nub.specs.Rest.{Adds}
 use Rattle.bounded_buffer.proofs.Adding.{added, added_on, adds_on}
 use Rattle.bounded_buffer.proofs.shutting.shut.Goals as goal
 
-pub into_ring-ring-requires : goal.into_ring-ring-requires
-into_ring-ring-requires g c =
+pub ring_of-ring-requires-after_bounds : goal.ring_of-ring-requires-after_bounds
+ring_of-ring-requires-after_bounds g c κs within =
     let got = c.acquire-value.ensures in
     let s = c.requires.share in
     let q = g.met.B.BufferUse.fits_ring c.args.p.now.world c.args.at.now c.requires.buffer c.args.me.now.number c.acquire-value.result s.0 (got.fits c.args.p.now.world s.0 c.requires.world s.1) in
@@ -27,7 +27,7 @@ release-requires-clause-may g c κs within =
       ap (λ l. get_elem? l at.mutex.0) (c.broadcast-2.ensures.held ∙ c.broadcast.ensures.held) ∙ got.ensures.holds,
       λ w s is_world share.
           subst (λ v. g.B.Uses.allows v at.mutex.0 n got.result y s (g.B.Shut.Change.after v at.mutex.0 n got.result y s)) (same_Some w0 w (sym world ∙ is_world))
-          (g.met.B.BufferUse.shut_allowed w0 at c.requires.buffer n got.result y s c.into_ring-ring.result c.shut.new.self c.into_ring-ring.ensures c.from_ring.ensures c.shut.ensures).0,
+          (g.met.B.BufferUse.shut_allowed w0 at c.requires.buffer n got.result y s c.ring_of-ring.result c.shut.new.self c.ring_of-ring.ensures c.from_ring.ensures c.shut.ensures).0,
     )
 
 pub returns-clause-held : goal.returns-clause-held
@@ -55,7 +55,7 @@ returns-clause-shut g c = λ s share.
     let world = c.broadcast-2.ensures.same.world ∙ (c.broadcast.ensures.same.world ∙ (c.acquire-value.ensures.same.world ∙ c.requires.world)) in
     let now = c.broadcast-2.ensures.share ∙ (c.broadcast.ensures.share ∙ (c.acquire-value.ensures.share ∙ share)) in
     let holds = ap (λ l. get_elem? l m) (c.broadcast-2.ensures.held ∙ c.broadcast.ensures.held) ∙ c.acquire-value.ensures.holds in
-    let law = g.met.B.BufferUse.shut_allowed w at c.requires.buffer n got y s c.into_ring-ring.result c.shut.new.self c.into_ring-ring.ensures c.from_ring.ensures c.shut.ensures in
+    let law = g.met.B.BufferUse.shut_allowed w at c.requires.buffer n got y s c.ring_of-ring.result c.shut.new.self c.ring_of-ring.ensures c.from_ring.ensures c.shut.ensures in
     let acquires = acquire_event n m in
     let rooms = event n (broadcast_action at.room.0 []) in
     let mores = event n (broadcast_action at.more.0 []) in
@@ -69,5 +69,5 @@ returns-clause-shut g c = λ s share.
       is_share = subst (λ (k : ℕ). last.share ≡ Some (g.B.Shut.Change.after w m k got y s)) same_three (c.release.ensures.share w s got world now holds);
       here = law.1.here;
       elsewhere = law.1.elsewhere;
-      looked = (got, y, c.into_ring-ring.result, c.shut.new.self, c.into_ring-ring.ensures, c.from_ring.ensures, c.shut.ensures, refl);
+      looked = (got, y, c.ring_of-ring.result, c.shut.new.self, c.ring_of-ring.ensures, c.from_ring.ensures, c.shut.ensures, refl);
     }

@@ -29,8 +29,8 @@ loop-init g c =
           (got.share ∙ c.requires.share.1) (none-more (g.B.BufferUse.part s m)) (g.met.B.BufferUse.alike_self s) (got.fits c.args.p.now.world s c.requires.world c.requires.share.1),
     )
 
-pub into_ring-ring-requires : goal.into_ring-ring-requires
-into_ring-ring-requires g c =
+pub ring_of-ring-requires-after_bounds : goal.ring_of-ring-requires-after_bounds
+ring_of-ring-requires-after_bounds g c κs within =
     let inn = c.loop.invariant.3 in
     let q = g.met.B.BufferUse.fits_ring c.args.p.now.world c.args.at.now c.requires.buffer c.args.me.now.number c.loop.value inn.share inn.fits in
     (q.0, q.1)
@@ -42,7 +42,7 @@ pub take_first-requires-clause-world : goal.take_first-requires-clause-world
 take_first-requires-clause-world g c κs within = c.loop.invariant.3.same.world ∙ c.requires.world
 
 pub take_first-requires-clause-got : goal.take_first-requires-clause-got
-take_first-requires-clause-got g c κs within = (c.loop.value, c.loop.invariant.3.holds, c.into_ring-ring.ensures)
+take_first-requires-clause-got g c κs within = (c.loop.value, c.loop.invariant.3.holds, c.ring_of-ring.ensures)
 
 pub returns-then-not-is_empty-clause-same : goal.returns-then-not-is_empty-clause-same
 returns-then-not-is_empty-clause-same g c = same_on c.args.me.now c.loop.me c.take_first.new.me c.loop.invariant.3.same c.take_first.ensures.same
@@ -71,8 +71,8 @@ returns-then-not-is_empty-clause-rises g c = λ s share.
     let inn = inv.3 in
     let m = c.args.at.now.mutex.0 in
     let q = g.met.B.BufferUse.fits_ring c.args.p.now.world c.args.at.now c.requires.buffer c.args.me.now.number c.loop.value inn.share inn.fits in
-    let ring = c.into_ring-ring.result in
-    let number = sym (c.take_first.ensures.number ∙ ap (λ r. r.taken) (sym (same_Some q.0 ring (sym q.1 ∙ c.into_ring-ring.ensures)))) in
+    let ring = c.ring_of-ring.result in
+    let number = sym (c.take_first.ensures.number ∙ ap (λ r. r.taken) (sym (same_Some q.0 ring (sym q.1 ∙ c.ring_of-ring.ensures)))) in
     let one = subst (λ (n : ℕ). All (λ p. p.0 < n) (g.B.BufferUse.part inn.share m).takes) number q.2.takes in
     let two = subst (λ l. All (λ p. p.0 < c.take_first.result.0) l) (ap (λ u. u.takes) inn.here) one in
     subst (λ u. All (λ p. p.0 < c.take_first.result.0) (g.B.BufferUse.part u m).takes) (same_Some inv.1 s (sym inv.2 ∙ share)) two
@@ -86,7 +86,7 @@ returns-then-not-is_empty-clause-fits g c = λ s share.
     let m = c.args.at.now.mutex.0 in
     let item = c.take_first.result.1 in
     let first = c.take_first.ensures.first in
-    let now = g.met.B.BufferUse.fits_first w c.args.at.now c.requires.buffer n c.loop.value inn.share inn.fits c.into_ring-ring.result c.into_ring-ring.ensures item first.0 first.1 in
+    let now = g.met.B.BufferUse.fits_first w c.args.at.now c.requires.buffer n c.loop.value inn.share inn.fits c.ring_of-ring.result c.ring_of-ring.ensures item first.0 first.1 in
     let before = (g.met.B.BufferUse.alike_item_fits w m n item inv.1 inn.share inn.is_alike).1 now in
     subst (λ u. g.B.BufferUse.item_fits w m n item u) (same_Some inv.1 s (sym inv.2 ∙ share)) before
 
@@ -97,7 +97,7 @@ pub refuse_take-requires-clause-world : goal.refuse_take-requires-clause-world
 refuse_take-requires-clause-world g c κs within = c.loop.invariant.3.same.world ∙ c.requires.world
 
 pub refuse_take-requires-clause-got : goal.refuse_take-requires-clause-got
-refuse_take-requires-clause-got g c κs within = (c.loop.value, c.loop.invariant.3.holds, c.into_ring-ring.ensures)
+refuse_take-requires-clause-got g c κs within = (c.loop.value, c.loop.invariant.3.holds, c.ring_of-ring.ensures)
 
 pub returns-then-is_shut-clause-same : goal.returns-then-is_shut-clause-same
 returns-then-is_shut-clause-same g c = same_on c.args.me.now c.loop.me c.refuse_take.new.me c.loop.invariant.3.same c.refuse_take.ensures.same
@@ -127,7 +127,7 @@ pub wait_for_more-outcome-requires-clause-world : goal.wait_for_more-outcome-req
 wait_for_more-outcome-requires-clause-world g c κs within = c.loop.invariant.3.same.world ∙ c.requires.world
 
 pub wait_for_more-outcome-requires-clause-got : goal.wait_for_more-outcome-requires-clause-got
-wait_for_more-outcome-requires-clause-got g c κs within = (c.loop.value, c.loop.invariant.3.holds, c.into_ring-ring.ensures)
+wait_for_more-outcome-requires-clause-got g c κs within = (c.loop.value, c.loop.invariant.3.holds, c.ring_of-ring.ensures)
 
 pub give_up-requires-clause-world : goal.give_up-requires-clause-world
 give_up-requires-clause-world g c κs within = c.wait_for_more-outcome.ensures.same.world ∙ (c.loop.invariant.3.same.world ∙ c.requires.world)
@@ -188,3 +188,66 @@ loop-preserved g c =
     let again = waiting g.B.BufferUse.part g.B.BufferUse.alike g.B.Uses.fits c.args.p.now m at.more.0 more_empty WaitedEmpty es inv.0 inv.1 c.loop.value y o a c.loop.me b (one-more inv.0) g.met.B.BufferUse.alike_on inv.3 w.rest w.same (w.waited inv.3.share inv.3.is_share) in
     let back = subst (λ (r : Outcome). IsIn g.B.BufferUse.part g.B.BufferUse.alike g.B.Uses.fits c.args.p.now m more_empty (es ++ enqueue_event true a.number m at.more.0 ∷ wait_end r a.number m at.more.0 ∷ []) (inv.0 + 1) inv.1 y a b) c.in-Returned.is again in
     (suc inv.0, inv.1, inv.2, waited g.B.BufferUse.part g.B.BufferUse.alike g.B.Uses.fits c.args.p.now m at.more.0 more_empty inv.0 inv.1 y a b back)
+
+pub take_first-requires-clause-named : goal.take_first-requires-clause-named
+take_first-requires-clause-named g c κs within = c.requires.named
+
+pub take_first-requires-clause-buffer : goal.take_first-requires-clause-buffer
+take_first-requires-clause-buffer g c κs within = c.requires.buffer
+
+pub take_first-requires-clause-some : goal.take_first-requires-clause-some
+take_first-requires-clause-some g c κs within = c.is_empty.ensures.some c.if-not-is_empty.true
+
+pub returns-then-not-is_empty-clause-rest : goal.returns-then-not-is_empty-clause-rest
+returns-then-not-is_empty-clause-rest g c = c.take_first.ensures.rest
+
+pub refuse_take-requires-clause-named : goal.refuse_take-requires-clause-named
+refuse_take-requires-clause-named g c κs within = c.requires.named
+
+pub refuse_take-requires-clause-buffer : goal.refuse_take-requires-clause-buffer
+refuse_take-requires-clause-buffer g c κs within = c.requires.buffer
+
+pub refuse_take-requires-clause-shut : goal.refuse_take-requires-clause-shut
+refuse_take-requires-clause-shut g c κs within = sym c.is_shut.ensures ∙ c.if-is_shut.true
+
+pub refuse_take-requires-clause-empty : goal.refuse_take-requires-clause-empty
+refuse_take-requires-clause-empty g c κs within = c.is_empty.ensures.empty c.if-not-is_empty.false
+
+pub returns-then-is_shut-clause-rest : goal.returns-then-is_shut-clause-rest
+returns-then-is_shut-clause-rest g c = c.refuse_take.ensures.rest
+
+pub returns-then-is_shut-clause-rises : goal.returns-then-is_shut-clause-rises
+returns-then-is_shut-clause-rises g c = tt
+
+pub returns-then-is_shut-clause-fits : goal.returns-then-is_shut-clause-fits
+returns-then-is_shut-clause-fits g c = tt
+
+pub wait_for_more-outcome-requires-clause-named : goal.wait_for_more-outcome-requires-clause-named
+wait_for_more-outcome-requires-clause-named g c κs within = c.requires.named
+
+pub wait_for_more-outcome-requires-clause-buffer : goal.wait_for_more-outcome-requires-clause-buffer
+wait_for_more-outcome-requires-clause-buffer g c κs within = c.requires.buffer
+
+pub wait_for_more-outcome-requires-clause-opened : goal.wait_for_more-outcome-requires-clause-opened
+wait_for_more-outcome-requires-clause-opened g c κs within = sym c.is_shut.ensures ∙ c.if-is_shut.false
+
+pub wait_for_more-outcome-requires-clause-empty : goal.wait_for_more-outcome-requires-clause-empty
+wait_for_more-outcome-requires-clause-empty g c κs within = c.is_empty.ensures.empty c.if-not-is_empty.false
+
+pub give_up-requires-clause-rest : goal.give_up-requires-clause-rest
+give_up-requires-clause-rest g c κs within = c.wait_for_more-outcome.ensures.rest
+
+pub give_up-requires-clause-named : goal.give_up-requires-clause-named
+give_up-requires-clause-named g c κs within = c.requires.named
+
+pub give_up-requires-clause-buffer : goal.give_up-requires-clause-buffer
+give_up-requires-clause-buffer g c κs within = c.requires.buffer
+
+pub returns-in-Alerted-clause-rest : goal.returns-in-Alerted-clause-rest
+returns-in-Alerted-clause-rest g c = c.give_up.ensures.rest
+
+pub returns-in-Alerted-clause-rises : goal.returns-in-Alerted-clause-rises
+returns-in-Alerted-clause-rises g c = tt
+
+pub returns-in-Alerted-clause-fits : goal.returns-in-Alerted-clause-fits
+returns-in-Alerted-clause-fits g c = tt

@@ -1,14 +1,9 @@
-use Rattle.std.proofs.Common.{◌≡◌, ◌∷◌, [], length, ap, refl, subst, ◌∙◌, append_assoc, arith, sym}
+use Rattle.std.proofs.Common.{◌≡◌, ◌∷◌, [], length, ap, sym, subst, ◌∙◌, append_assoc, arith}
 use Rattle.std.specs.Vec.Iter.{into_iter_items}
-use Rattle.std.specs.List.{AllByRecursion}
+use Rattle.std.specs.List.{AllZip, AllByRecursion}
 use Rattle.thread_crew.specs.Crews.{IsChildOf}
-use Rattle.thread_crew.proofs.Zips.{zip_push}
+use Rattle.thread_crew.proofs.Zips.{zip_push, all_yielded}
 use Rattle.thread_crew.proofs.crews.in_scope.Goals as goal
-use Rattle.thread_crew.proofs.crews.in_scope.Goals.{then-len-starts+in-Ok-spawn_with, then-len-starts+in-Err, else-len-starts}
-
--- a closure that has the job may be called, and gives what the job may give
-held : {T X : Type 0} (can : T → Type 0) (gives : T → X → Type 0) (f job : T) → f ≡ job → can job → (can f × ((r : X) → gives f r → gives job r))
-held can gives f job e h = (subst can (sym e) h, λ r k. let Q : _ → Type 0 = λ j. gives j r in subst Q e k)
 
 pub loop-job-preserved : goal.loop-job-preserved
 loop-job-preserved g c =
@@ -24,23 +19,41 @@ loop-job-preserved g c =
       left = (let left = was.left in omega arith);
       room = (let room = was.room in let cap = c.in-Ok-push.ensures.capacity in let len = c.in-Ok-push.ensures.len in omega arith);
       count = (let count = was.count in let len = c.in-Ok-push.ensures.len in omega arith);
-      told = elim c.if-len-starts.branch [
-        | then-len-starts+in-Ok-spawn_with w ↦ λ h. let len = c.in-Ok-push.ensures.len in let low = w.if-len-starts.true in absurd (omega arith)
-        | then-len-starts+in-Err w ↦ λ h. w.some_held-is
-        | else-len-starts w ↦ λ h. w.some_held-is
-      ];
+      told = λ h. let len = c.in-Ok-push.ensures.len in c.start_or_hold-child.ensures.told (omega arith);
       none = λ h. let len = c.in-Ok-push.ensures.len in omega arith;
       runs = runs.1;
       given = rw c.in-Ok-push.ensures.items (zip_push (IsChildOf g.T.Task.run_gives (λ f. g.T.Task.can_run f.0) (λ f r. g.T.Task.run_gives f.0 r)) at.yielded _ x _ was.given
-          (elim c.if-len-starts.branch [
-            | then-len-starts+in-Ok-spawn_with w ↦ rw w.child-is (ap (λ p. p.task.value) w.in-Ok-spawn_with.ensures.ok ∙ c.of.ensures)
-            | then-len-starts+in-Err w ↦ rw w.child-is (held g.T.Task.can_run g.T.Task.run_gives _ x (ap (λ f. f.0) w.in-Err.ensures.err) runs.0)
-            | else-len-starts w ↦ rw w.child-is (held g.T.Task.can_run g.T.Task.run_gives _ x refl runs.0)
-          ]));
+          (let k = c.start_or_hold-child.ensures.child in rw c.of.ensures at k));
     }
 
-pub join_all-results-requires : goal.join_all-results-requires
-join_all-results-requires g c =
-    let count = c.loop-job.invariant.count in let none = c.in-None.ensures.steps in let len = c.run_held.ensures.len in
+pub start_or_hold-child-requires-clause-runs : goal.start_or_hold-child-requires-clause-runs
+start_or_hold-child-requires-clause-runs g c κs within =
+    let runs : AllByRecursion g.T.Task.can_run (c.in-Some.job ∷ into_iter_items c.next.new.self) = (let steps = c.in-Some.ensures.steps.0 in let h = c.loop-job.invariant.runs in rw steps at h) in
+    runs.0
+
+pub start_or_hold-child-requires-clause-gives : goal.start_or_hold-child-requires-clause-gives
+start_or_hold-child-requires-clause-gives g c κs within = λ r given. subst (λ job. g.T.Task.run_gives job r) (sym c.of.ensures) given
+
+pub finish-requires-clause-ready : goal.finish-requires-clause-ready
+finish-requires-clause-ready g c = (c.loop-job.yielded, c.loop-job.invariant.given)
+
+pub finish-requires-clause-running : goal.finish-requires-clause-running
+finish-requires-clause-running g c =
+    let count = c.loop-job.invariant.count in let none = c.in-None.ensures.steps in
+    let gives = c.into_iter-job-iterator.ensures.into_iter_gives in let r = c.requires.running in
+    (r.0, omega arith)
+
+pub finish-requires-clause-results : goal.finish-requires-clause-results
+finish-requires-clause-results g c =
+    let count = c.loop-job.invariant.count in let none = c.in-None.ensures.steps in
     let gives = c.into_iter-job-iterator.ensures.into_iter_gives in let r = c.requires.results in
-    record { room = (r.0, omega arith) }
+    (r.0, omega arith)
+
+pub finish-requires-clause-between : goal.finish-requires-clause-between
+finish-requires-clause-between g c = c.requires.between c.loop-job.some_held
+
+pub returns-clause-done : goal.returns-clause-done
+returns-clause-done g c =
+    let at = c.loop-job in
+    let all = all_yielded at.yielded _ _ at.invariant.whole (sym at.invariant.left ∙ c.in-None.ensures.steps.0) ∙ c.into_iter-job-iterator.ensures.into_iter_gives.0 in
+    c.finish.ensures.results c.args.jobs.items (subst (λ l. AllZip (IsChildOf g.T.Task.run_gives (λ f. g.T.Task.can_run f.0) (λ f r. g.T.Task.run_gives f.0 r)) l at.children.items) all at.invariant.given)

@@ -1,7 +1,7 @@
 use Rattle.std.proofs.Common.{◌≡◌, []}
 use Rattle.larch_actions.specs.Sets.{without}
 use Rattle.nub_rule.specs.Places.{sem_object}
-use Rattle.alert_wait.proofs.sem.alert_p.Given as goal
+use Rattle.alert_wait.proofs.sem.take_or_raise.Given as goal
 
 abbrev pub invariant-loop : goal.invariant-loop
 invariant-loop g l = record {
