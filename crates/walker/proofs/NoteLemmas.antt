@@ -150,3 +150,8 @@ is_noted root dir before marks after was now dirs names e f g = λ i. record {
   dirs = (ap (λ l. l ++ map (λ p. (p, false)) dirs) (sym e) ∙ sym f) i;
   files = sym g i;
 }
+
+-- a walk whose maps hold what they held
+pub kept_walk : (root : Path) (before after : List (Path × Bool)) (was now : List Path) → after ≡ before → now ≡ was
+    → ◌≡◌ {A = Walk} (record { root = root; dirs = after; files = now }) (record { root = root; dirs = before; files = was })
+kept_walk root before after was now e f = λ i. record { root = root; dirs = e i; files = f i }
