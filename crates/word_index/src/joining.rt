@@ -63,6 +63,7 @@ pub fn join_texts(alloc: Global, a: &Strings, b: &Strings) -> Result<Union, Allo
 }
 
 // Puts the texts of both in order into a list that is empty, and their numbers there into two.
+#[inline]
 fn join_into(
     a: &Strings,
     b: &Strings,

@@ -30,6 +30,7 @@ fn join_tables(a: &Piece, b: &Piece, paths: &Union) -> Result<Table, AllocError>
 }
 
 // Puts the words of both in order into a list that is empty, and their places into another.
+#[inline]
 fn join_rows(
     a: &Piece,
     b: &Piece,
