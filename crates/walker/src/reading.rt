@@ -232,6 +232,10 @@ fn merged(a: Piece, b: Piece) -> Result<Piece, AllocError>
 {
     match merge(a, b) {
         Ok(piece) => Ok(piece),
-        Err(_) => Err(AllocError),
+        Err((a, b)) => {
+            drop_piece(a);
+            drop_piece(b);
+            Err(AllocError)
+        }
     }
 }
