@@ -47,8 +47,11 @@ returns-clause-told c = λ t walk told.
     subst (λ (v : Walk). IsWalkOf v t) (is c) (IsWalkOf-noted (walk_at c.args.root.now c.args.dirs.now c.args.files.now) c.args.dir.now c.args.listing (map string_bytes c.in-Ok.names.items) c.requires.sound c.requires.unlisted c.requires.lawful (below c) t walk told)
 
 pub returns-in_default-clause-err : goal.returns-in_default-clause-err
-returns-in_default-clause-err c = (refl, kept_walk c.args.root.now (pairs_of c.args.dirs.now.entries) (pairs_of c.room_for.new.dirs.entries) (map string_bytes c.args.files.now.keys) (map string_bytes c.room_for.new.files.keys)
-    (ap pairs_of c.room_for.ensures.dirs_stay) (ap (map string_bytes) c.room_for.ensures.files_stay))
+returns-in_default-clause-err c = (
+  refl,
+  kept_walk c.args.root.now (pairs_of c.args.dirs.now.entries) (pairs_of c.room_for.new.dirs.entries) (map string_bytes c.args.files.now.keys) (map string_bytes c.room_for.new.files.keys)
+      (ap pairs_of c.room_for.ensures.dirs_stay) (ap (map string_bytes) c.room_for.ensures.files_stay),
+)
 
 pub returns-in_default-clause-sound : goal.returns-in_default-clause-sound
 returns-in_default-clause-sound c = subst IsSound (sym (kept_walk c.args.root.now (pairs_of c.args.dirs.now.entries) (pairs_of c.room_for.new.dirs.entries) (map string_bytes c.args.files.now.keys) (map string_bytes c.room_for.new.files.keys)
