@@ -1,11 +1,11 @@
 -- Pieces put one behind the other.
-use Rattle.std.proofs.Common.{◌≡◌, ℕ, ◌+◌, ◌<◌, Bool, true, false, not, cond, ◌==◌, ◌&&◌, List, [], ◌∷◌, ◌++◌, length, get_or, take, drop, Option, Some, None, Result, Ok, Err, IsErr, refl, sym, ap, subst, ◌∙◌, append-nil, append_assoc, OnOk, OnErr}
+use Rattle.std.proofs.Common.{◌≡◌, ℕ, ◌+◌, ◌<◌, ◌≤◌, Bool, true, false, not, cond, ◌==◌, ◌&&◌, List, [], ◌∷◌, ◌++◌, length, get_or, take, drop, Option, Some, None, Result, Ok, Err, IsErr, refl, sym, ap, subst, ◌∙◌, append-nil, append_assoc, OnOk, OnErr, inl, inr, arith}
 use Rattle.std.specs.Io.KnownBytes.{Appends}
 use Rattle.std.specs.Cmp.{first_so, second_so}
 use Rattle.std.specs.List.{flat_map, list_all}
 use Rattle.std.proofs.lemmas.List.{take_more, take-append-drop}
 use Rattle.std.proofs.lemmas.List.Concat.{flat_map-append}
-use Rattle.firefly_outside.specs.Causes.{AppendsFront}
+use Rattle.firefly_outside.specs.Causes.{AppendsFront, HasCause}
 use Rattle.index_print.specs.Sent.{Sends, Puts}
 use Rattle.index_print.specs.Text.{is_plain_byte, escaped, escaped_byte}
 use Rattle.index_print.proofs.Fronts.{appends_then, front_behind, sends_then, fails_then, fails_first}
@@ -94,3 +94,20 @@ flushed_front t0 t1 t2 h p a k = subst (AppendsFront t0 t2) a.2 (front_behind t0
 pub on_err_if : {E : Type 0} {P : Type 0} (r : Result (Unit {0}) E) → P → OnErr r P
 on_err_if (Ok u) h = tt
 on_err_if (Err e) h = h
+
+-- the cause of a call is one since an earlier call too
+pub cause_then : {T E : Type 0} (r : Result T E) {a b c : ℕ} → a ≤ b → HasCause b c r → HasCause a c r
+cause_then (Ok x) h k = record { later = (let l = k.later in omega arith); failed = tt }
+cause_then (Err e) h k = record { later = (let l = k.later in omega arith); failed = elim k.failed [ inl up ↦ inl (omega arith) | inr last ↦ inr last ] }
+
+-- and it is the cause of the result that hands on its fault
+pub cause_on : {T E F : Type 0} (r : Result (Unit {0}) F) {e : E} {a b c : ℕ} → a ≤ b → HasCause {T = T} b c (Err e) → HasCause a c r
+cause_on r h k = let since = cause_then (Err _) h k in record { later = since.later; failed = on_err_if r since.failed }
+
+pub on_ok_then : {E : Type 0} {P Q : Type 0} (r : Result (Unit {0}) E) → OnOk r P → (P → Q) → OnOk r Q
+on_ok_then (Ok u) h f = f h
+on_ok_then (Err e) h f = tt
+
+-- what was held went behind what was sent, whole
+pub flushed_whole : (t0 t1 t2 : Option (List ℕ)) (h p : List ℕ) → Sends t0 [] p t1 h → Appends t1 t2 h → Appends t0 t2 p
+flushed_whole t0 t1 t2 h p a k = subst (Appends t0 t2) a.2 (appends_then t0 t1 t2 a.0 h a.1 k)

@@ -29,16 +29,27 @@ fn note_visit(walked: &mut Walked, visit: Visit) -> Result<(), AllocError>
 
 /// The walk of these listings. A directory is listed after the one that names it; a second listing of a directory and one of a directory
 /// that no other names are dropped.
-pub fn collected(alloc: Global, root: &str, mut visits: Vec<Visit>) -> Result<Walked, AllocError>
+pub fn collected(alloc: Global, root: &str, visits: Vec<Visit>) -> Result<Walked, AllocError>
     requires { All (λ v. IsListingOf v.dir v.listing) visits.items }
     ensures root { IfOk result (λ w. w.root ≡ root.now) }
     ensures told { IfOk result (λ w. (t : Told) → All (λ v. IsToldBy t v.dir v.listing) visits.items → IsWalkOf w t) }
 {
+    let mut walked = Walked::new(alloc, root)?;
+    note_visits(&mut walked, visits)?;
+    Ok(walked)
+}
+
+// Puts these listings into the walk, that of a directory after the one that names it.
+fn note_visits(walked: &mut Walked, mut visits: Vec<Visit>) -> Result<(), AllocError>
+    requires { All (λ v. IsListingOf v.dir v.listing) visits.items }
+    ensures root { OnOk result (walked.new.root ≡ walked.old.root) }
+    ensures told { OnOk result ((t : Told) → IsWalkOf walked.old t → All (λ v. IsToldBy t v.dir v.listing) visits.items
+        → IsWalkOf walked.new t) }
+{
     // A parent's path begins its child's, so it comes first in the order of bytes.
     visits.sort_by(|a, b| a.dir.cmp(&b.dir))?;
-    let mut walked = Walked::new(alloc, root)?;
     for visit in visits {
-        note_visit(&mut walked, visit)?;
+        note_visit(walked, visit)?;
     }
-    Ok(walked)
+    Ok(())
 }

@@ -1,5 +1,5 @@
 //! The calls at the buffer of files.
-ghost use Rattle.std.specs.Prelude.{ℕ, [], Option};
+ghost use Rattle.std.specs.Prelude.{◌≡◌, ◌↔◌, ℕ, [], Option, IsTrue};
 ghost use Rattle.firefly_outside.specs.Trees.{Path, Told};
 ghost use Rattle.indexer.specs.Turns.{HasCalled, HasLists, IsBetween};
 
@@ -28,10 +28,25 @@ fn put_file<R: Wait>(rt: &R, p: &Package<IndexUses>, me: &mut Thread<IndexUses>,
 {
     match put(rt, p, me, &FILES, IndexItem::File(file)) {
         Ok(_) => true,
-        Err((PutEnd::Closed, _)) => true,
-        Err((PutEnd::Alerted, _)) => false,
+        Err((end, file)) => {
+            drop_item(file);
+            is_closed(end)
+        }
     }
 }
+
+// Whether a put ended since the buffer is shut.
+fn is_closed(end: PutEnd) -> bool
+    ensures { IsTrue result ↔ end ≡ PutEnd.Closed }
+{
+    match end {
+        PutEnd::Closed => true,
+        PutEnd::Alerted => false,
+    }
+}
+
+// Drops what the buffer gave back.
+fn drop_item(_item: IndexItem) {}
 
 /// Puts the paths of files into the buffer, one after the other, and answers whether the thread may go on: it may unless it was alerted. A
 /// buffer that is shut takes none.

@@ -67,10 +67,7 @@ pub fn keep(kept: &mut Vec<Piece>, piece: Piece) -> Result<(), AllocError>
     ensures kept { OnOk result (AreMergedFrom (kept.old.items ++ piece ∷ []) kept.new.items) }
     ensures refused { OnErr result (kept.new.items ≡ kept.old.items) }
 {
-    match kept.push(piece) {
-        Ok(()) => {}
-        Err(_) => return Err(AllocError),
-    }
+    kept.push(piece)?;
     while merge_last(kept, false) {}
     Ok(())
 }

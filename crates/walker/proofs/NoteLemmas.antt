@@ -132,6 +132,11 @@ IsWalkOf-new root t = record {
   files = λ p. (λ h. absurd (Contains-nil p h), λ s. absurd (none_listed root s.dir s.listed));
 }
 
+-- the parts of a new walk
+pub is_new : (root name : Path) (dirs : List (Path × Bool)) (files : List Path) → name ≡ root → dirs ≡ (root, false) ∷ [] → files ≡ []
+    → new_walk root ≡ record { root = name; dirs = dirs; files = files }
+is_new root name dirs files e f g = λ i. record { root = sym e i; dirs = sym f i; files = sym g i }
+
 -- texts as paths, and these below a root
 pub map-below : {A : Type 0} (root : Path) (ss : List (String A)) → map (child root) (map string_bytes ss) ≡ map (λ s. child root (string_bytes s)) ss
 map-below root [] = refl
@@ -145,3 +150,8 @@ is_noted root dir before marks after was now dirs names e f g = λ i. record {
   dirs = (ap (λ l. l ++ map (λ p. (p, false)) dirs) (sym e) ∙ sym f) i;
   files = sym g i;
 }
+
+-- a walk whose maps hold what they held
+pub kept_walk : (root : Path) (before after : List (Path × Bool)) (was now : List Path) → after ≡ before → now ≡ was
+    → ◌≡◌ {A = Walk} (record { root = root; dirs = after; files = now }) (record { root = root; dirs = before; files = was })
+kept_walk root before after was now e f = λ i. record { root = root; dirs = e i; files = f i }

@@ -45,13 +45,65 @@ pub fn close_walk<S: Tree>(
     ensures passed { IfSome (S.tree tree.old) (EndsPassed walked stop_after (S.calls tree.old) (S.calls tree.new) result) }
 {
     let mut walked = walked;
-    if let Some(answer) = passed(&walked, stop_after) {
-        return answer;
-    }
-    match list_rest(alloc, tree, &mut walked, stop_after) {
-        Ok(()) => read_rest(alloc, tree, &walked, piece),
+    close_rest(alloc, tree, &mut walked, piece, stop_after)
+}
+
+// Lists and reads what is left of a walk.
+fn close_rest<S: Tree>(
+    alloc: Global,
+    tree: &mut S,
+    walked: &mut Walked,
+    piece: Piece,
+    stop_after: Option<u64>,
+) -> WalkAnswer
+    requires stop { IfSome stop_after (λ n. n ≤ 1000000000) }
+    requires told { IfSome (S.tree tree.old) (IsWalkOf walked.old) }
+    requires part { IsPartOf (S.tree tree.old) walked.old piece }
+    ensures tree_stays { S.tree tree.new ≡ S.tree tree.old }
+    ensures weak_stays { S.may_fail tree.new ≡ S.may_fail tree.old }
+    ensures count { HasRisen (S.faults tree.old) (S.faults tree.new) result }
+    ensures numbers { IsNumbered stop_after result }
+    ensures many_at_start { most_dirs < length walked.old.dirs → result ≡ WalkAnswer.TooMany (most_dirs + 1) }
+    ensures stop_at_start { (n : ℕ) → stop_after ≡ Some n → length walked.old.dirs ≤ most_dirs → n < length walked.old.files
+        → result ≡ WalkAnswer.Stopped (n + 1) }
+    ensures answer { IfSome (S.tree tree.old) (Answers walked.old.root stop_after (S.may_fail tree.old) result) }
+    ensures once { IfSome (S.tree tree.old) (λ t. CallsOnce t walked.old piece.paths (S.calls tree.old) (S.calls tree.new) result) }
+    ensures passed { IfSome (S.tree tree.old) (EndsPassed walked.old stop_after (S.calls tree.old) (S.calls tree.new) result) }
+{
+    match list_whole(alloc, tree, walked, stop_after) {
+        Ok(()) => read_rest(alloc, tree, walked, piece),
         Err(answer) => answer,
     }
+}
+
+// Lists what isn't listed, if neither limit is passed at the start.
+fn list_whole<S: Tree>(
+    alloc: Global,
+    tree: &mut S,
+    walked: &mut Walked,
+    stop_after: Option<u64>,
+) -> Result<(), WalkAnswer>
+    requires stop { IfSome stop_after (λ n. n ≤ 1000000000) }
+    requires told { IfSome (S.tree tree.old) (IsWalkOf walked.old) }
+    ensures tree_stays { S.tree tree.new ≡ S.tree tree.old }
+    ensures weak_stays { S.may_fail tree.new ≡ S.may_fail tree.old }
+    ensures count { StepCounts (S.faults tree.old) (S.faults tree.new) result }
+    ensures grows { Grows walked.old walked.new }
+    ensures start { OnOk result (IsWithinLimits walked.old stop_after) }
+    ensures many_at_start { IfErr result (λ a. most_dirs < length walked.old.dirs → a ≡ WalkAnswer.TooMany (most_dirs + 1)) }
+    ensures stop_at_start { IfErr result (λ a. (n : ℕ) → stop_after ≡ Some n → length walked.old.dirs ≤ most_dirs
+        → n < length walked.old.files → a ≡ WalkAnswer.Stopped (n + 1)) }
+    ensures limits { OnOk result (IsWithinLimits walked.new stop_after) }
+    ensures listed { OnOk result (IsListedWhole walked.new) }
+    ensures sound { OnOk result (IsSound walked.new) }
+    ensures numbers { IfErr result (IsNumbered stop_after) }
+    ensures told { IfSome (S.tree tree.old) (ListsRest walked.old walked.new stop_after (S.may_fail tree.old) (S.calls tree.old)
+        (S.calls tree.new) result) }
+{
+    if let Some(answer) = passed(walked, stop_after) {
+        return Err(answer);
+    }
+    list_rest(alloc, tree, walked, stop_after)
 }
 
 // The answer where a limit is passed: of the directories first.

@@ -74,6 +74,16 @@ pub fn has_file(files: &Files, name: &[u8]) -> bool
     }
 }
 
+/// The map of the root alone, which isn't listed.
+pub fn first_dirs(alloc: Global, root: &str) -> Result<Dirs, AllocError>
+    ensures { IfOk result (λ d. pairs_of d.entries ≡ (root.now, false) ∷ []) }
+{
+    let name = String::from_str(alloc, root)?;
+    let mut dirs = Dirs::new(alloc);
+    dirs.insert(name, false)?;
+    Ok(dirs)
+}
+
 // Adds a directory for which there is room.
 fn add_dir(dirs: &mut Dirs, dir: String)
     requires room { 0 < map_spare dirs.old }

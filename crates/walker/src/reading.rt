@@ -211,13 +211,18 @@ fn merge_first(first: Piece, rest: Piece) -> Result<Piece, AllocError>
     ensures { IfOk result (λ p. (fs gs : List File) → IsIndexOf fs first → IsIndexOf gs rest → IsIndexOf (fs ++ gs) p) }
 {
     if first.files() == 0 {
+        drop_piece(first);
         return Ok(rest);
     }
     if rest.files() == 0 {
+        drop_piece(rest);
         return Ok(first);
     }
     merged(first, rest)
 }
+
+// Drops a piece.
+fn drop_piece(_piece: Piece) {}
 
 // Merges two pieces. Where memory wants, both are dropped.
 fn merged(a: Piece, b: Piece) -> Result<Piece, AllocError>
@@ -227,6 +232,10 @@ fn merged(a: Piece, b: Piece) -> Result<Piece, AllocError>
 {
     match merge(a, b) {
         Ok(piece) => Ok(piece),
-        Err(_) => Err(AllocError),
+        Err((a, b)) => {
+            drop_piece(a);
+            drop_piece(b);
+            Err(AllocError)
+        }
     }
 }

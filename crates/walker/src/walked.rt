@@ -5,7 +5,7 @@ ghost use Rattle.walker.specs.Walk.{new_walk, IsUnlisted, IsWalkOf, IsSound};
 ghost use Rattle.walker.specs.Listings.{IsListingOf, IsToldBy, Notes};
 
 use crate::Listing;
-use crate::found::{Dirs, Files, has_file, has_unlisted};
+use crate::found::{Dirs, Files, first_dirs, has_file, has_unlisted};
 use crate::noting::note_in;
 use std::alloc::{AllocError, Global};
 use std::marker::Model;
@@ -38,11 +38,11 @@ impl Walked {
         ensures new { IfOk result (λ w. w ≡ new_walk root.now) }
         ensures told { IfOk result (λ w. (t : Told) → IsWalkOf w t) }
     {
-        let mut dirs = Dirs::new(alloc);
-        dirs.insert(String::from_str(alloc, root)?, false)?;
+        let name = String::from_str(alloc, root)?;
+        let dirs = first_dirs(alloc, root)?;
         Ok(Walked {
             alloc,
-            root: String::from_str(alloc, root)?,
+            root: name,
             dirs,
             files: Files::new(alloc),
         })

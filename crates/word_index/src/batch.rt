@@ -1,10 +1,10 @@
 //! Files that were read, on the way to their piece.
-ghost use Rattle.std.specs.Prelude.{◌≡◌, ◌∷◌, ◌++◌, [], List, map, IfOk, IsTrue};
+ghost use Rattle.std.specs.Prelude.{◌≡◌, ◌∷◌, ◌++◌, [], List, map, IfOk, OnOk, IsTrue};
 ghost use Rattle.std.specs.List.{Contains};
 ghost use Rattle.word_index.specs.Index.{File, IsIndexOf};
 ghost use Rattle.word_index.specs.Words.{lower};
 ghost use Rattle.word_index.specs.Read.{read_file};
-ghost use Rattle.word_index.specs.Batch.{HoldsFiles, IsAboveAll};
+ghost use Rattle.word_index.specs.Batch.{HoldsFiles, IsAboveAll, IsShort};
 
 use crate::Piece;
 use crate::strings::Strings;
@@ -132,21 +132,36 @@ fn add_short(batch: Batch, path: &[u8], bytes: &[u8]) -> Result<Batch, AllocErro
     ensures { IfOk result (λ b. (b.paths ≡ batch.paths ++ path.now ∷ []) × (b.skipped ≡ batch.skipped)
         × (b.lows ≡ batch.lows ++ map lower bytes.now ∷ [])) }
 {
-    if bytes.len() >= MOST_BYTES {
-        return Err(AllocError);
-    }
     let Batch {
         alloc,
         mut paths,
         skipped,
         mut lows,
     } = batch;
-    paths.push(path)?;
-    lows.push_lower(bytes)?;
+    put_short(&mut paths, &mut lows, path, bytes)?;
     Ok(Batch {
         alloc,
         paths,
         skipped,
         lows,
     })
+}
+
+// Puts what is kept of a file of these bytes behind the others.
+fn put_short(
+    paths: &mut Strings,
+    lows: &mut Strings,
+    path: &[u8],
+    bytes: &[u8],
+) -> Result<(), AllocError>
+    ensures short { OnOk result (IsShort bytes.now) }
+    ensures paths { OnOk result (paths.new ≡ paths.old ++ path.now ∷ []) }
+    ensures lows { OnOk result (lows.new ≡ lows.old ++ map lower bytes.now ∷ []) }
+{
+    if bytes.len() >= MOST_BYTES {
+        return Err(AllocError);
+    }
+    paths.push(path)?;
+    lows.push_lower(bytes)?;
+    Ok(())
 }

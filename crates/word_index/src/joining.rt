@@ -1,5 +1,5 @@
 //! Two rising lists of texts, joined.
-ghost use Rattle.std.specs.Prelude.{◌≡◌, ◌<◌, ◌↔◌, ℕ, [], ◌⊎◌, List, length, slice_index_or, IfOk};
+ghost use Rattle.std.specs.Prelude.{◌≡◌, ◌<◌, ◌↔◌, ℕ, [], ◌⊎◌, List, length, slice_index_or, IfOk, OnOk};
 ghost use Rattle.std.specs.List.{Contains};
 ghost use Rattle.word_index.specs.Index.{IsBelow, IsRising};
 ghost use Rattle.word_index.specs.Numbered.{IsNumbered};
@@ -58,9 +58,34 @@ pub fn join_texts(alloc: Global, a: &Strings, b: &Strings) -> Result<Union, Allo
     let mut all = Strings::with_room(alloc, a.bytes(), a.len())?;
     let mut of_a = Vec::with_capacity(alloc, a.len())?;
     let mut of_b = Vec::with_capacity(alloc, b.len())?;
+    join_into(a, b, &mut all, &mut of_a, &mut of_b)?;
+    Ok(Union { all, of_a, of_b })
+}
+
+// Puts the texts of both in order into a list that is empty, and their numbers there into two.
+#[inline]
+fn join_into(
+    a: &Strings,
+    b: &Strings,
+    all: &mut Strings,
+    of_a: &mut Vec<u32>,
+    of_b: &mut Vec<u32>,
+) -> Result<(), AllocError>
+    requires a_rises { IsRising a.now }
+    requires b_rises { IsRising b.now }
+    requires none { all.old ≡ [] }
+    requires none_of_a { of_a.old.items ≡ [] }
+    requires none_of_b { of_b.old.items ≡ [] }
+    ensures first { OnOk result (IsNumbered a.now all.new of_a.new.items (length a.now)) }
+    ensures second { OnOk result (IsNumbered b.now all.new of_b.new.items (length b.now)) }
+    ensures rising { OnOk result (IsRising all.new) }
+    ensures members { OnOk result ((x : List ℕ) → Contains all.new x ↔ (Contains a.now x ⊎ Contains b.now x)) }
+{
+    let many_of_a = a.len();
+    let many_of_b = b.len();
     let mut i = 0;
     let mut j = 0;
-    while i < a.len() || j < b.len() {
+    while i < many_of_a || j < many_of_b {
         let place = number_of(all.len())?;
         match order_at(a, i, b, j) {
             Ordering::Less => {
@@ -82,5 +107,5 @@ pub fn join_texts(alloc: Global, a: &Strings, b: &Strings) -> Result<Union, Allo
             }
         }
     }
-    Ok(Union { all, of_a, of_b })
+    Ok(())
 }

@@ -1,5 +1,5 @@
 //! The merge of two pieces.
-ghost use Rattle.std.specs.Prelude.{◌≡◌, ◌++◌, List, ℕ, length, IfOk, IfErr};
+ghost use Rattle.std.specs.Prelude.{◌≡◌, ◌++◌, [], List, ℕ, length, IfOk, OnOk, IfErr};
 ghost use Rattle.std.specs.List.{Contains};
 ghost use Rattle.word_index.specs.Index.{File, IsIndexOf, IsUnion, Meet, entries};
 ghost use Rattle.word_index.specs.Numbered.{IsNumbered, AreApart};
@@ -25,9 +25,31 @@ fn join_tables(a: &Piece, b: &Piece, paths: &Union) -> Result<Table, AllocError>
     let total = a.places.total().saturating_add(b.places.total());
     let mut words = Strings::with_room(a.alloc, bytes, most)?;
     let mut places = Rows::with_room(a.alloc, total, most)?;
+    join_rows(a, b, paths, &mut words, &mut places)?;
+    Ok(Table { words, places })
+}
+
+// Puts the words of both in order into a list that is empty, and their places into another.
+#[inline]
+fn join_rows(
+    a: &Piece,
+    b: &Piece,
+    paths: &Union,
+    words: &mut Strings,
+    places: &mut Rows,
+) -> Result<(), AllocError>
+    requires first { IsNumbered a.now.paths paths.now.all paths.now.of_a.items (length a.now.paths) }
+    requires second { IsNumbered b.now.paths paths.now.all paths.now.of_b.items (length b.now.paths) }
+    requires apart { AreApart paths.now.of_a.items paths.now.of_b.items }
+    requires no_words { words.old ≡ [] }
+    requires no_places { places.old ≡ [] }
+    ensures { OnOk result (IsTable paths.now.all words.new places.new (entries a.now ++ entries b.now)) }
+{
+    let many_of_a = a.words.len();
+    let many_of_b = b.words.len();
     let mut i = 0;
     let mut j = 0;
-    while i < a.words.len() || j < b.words.len() {
+    while i < many_of_a || j < many_of_b {
         match order_at(&a.words, i, &b.words, j) {
             Ordering::Less => {
                 words.push(a.words.get(i))?;
@@ -47,7 +69,7 @@ fn join_tables(a: &Piece, b: &Piece, paths: &Union) -> Result<Table, AllocError>
             }
         }
     }
-    Ok(Table { words, places })
+    Ok(())
 }
 
 fn merged(a: &Piece, b: &Piece) -> Result<Piece, AllocError>
@@ -75,7 +97,14 @@ pub fn merge(a: Piece, b: Piece) -> Result<Piece, (Piece, Piece)>
     ensures back { IfErr result (λ e. e ≡ (a, b)) }
 {
     match merged(&a, &b) {
-        Ok(p) => Ok(p),
+        Ok(p) => {
+            drop_piece(a);
+            drop_piece(b);
+            Ok(p)
+        }
         Err(_) => Err((a, b)),
     }
 }
+
+// Drops a piece.
+fn drop_piece(_piece: Piece) {}

@@ -1,5 +1,5 @@
 //! Words with their places.
-ghost use Rattle.std.specs.Prelude.{◌≡◌, ◌<◌, ℕ, List, map, length, IfOk};
+ghost use Rattle.std.specs.Prelude.{◌≡◌, ◌<◌, ℕ, [], List, map, length, IfOk, OnOk};
 ghost use Rattle.std.specs.List.{All};
 ghost use Rattle.std.specs.Str.{bytes_eq};
 ghost use Rattle.indexmap.specs.IndexMap.{keys};
@@ -45,6 +45,28 @@ fn listed(alloc: Global, words: &Words<'_>, links: &[Link]) -> Result<Table, All
     let many = words.len();
     let mut texts = Strings::with_room(alloc, word_bytes(words), many)?;
     let mut places = Rows::with_room(alloc, links.len().saturating_add(many), many)?;
+    list_into(words, links, &mut texts, &mut places)?;
+    Ok(Table {
+        words: texts,
+        places,
+    })
+}
+
+// Puts the words in their order in the map into a list that is empty, and the places of each into another.
+#[inline]
+fn list_into(
+    words: &Words<'_>,
+    links: &[Link],
+    texts: &mut Strings,
+    places: &mut Rows,
+) -> Result<(), AllocError>
+    requires held { (f : List ℕ → List Place) × HoldPlaces words.now links.now f }
+    requires no_texts { texts.old ≡ [] }
+    requires no_places { places.old ≡ [] }
+    ensures words { OnOk result (texts.new ≡ map (λ k. k.now) (keys words.now)) }
+    ensures places { OnOk result ((f : List ℕ → List Place) → HoldPlaces words.now links.now f → places.new ≡ map f texts.new) }
+{
+    let many = words.len();
     for at in 0..many {
         match words.get_index(at) {
             Some((word, last)) => {
@@ -54,10 +76,7 @@ fn listed(alloc: Global, words: &Words<'_>, links: &[Link]) -> Result<Table, All
             None => unreachable!(),
         }
     }
-    Ok(Table {
-        words: texts,
-        places,
-    })
+    Ok(())
 }
 
 /// The words of files in lower case, each with its places, under the numbers of the files.
@@ -67,7 +86,21 @@ pub fn table_of(alloc: Global, lows: &Strings) -> Result<Table, AllocError>
 {
     let mut words = Words::with_capacity(alloc, first_room(lows.bytes()))?;
     let mut links = Vec::new(alloc);
-    count_files(&mut words, &mut links, lows)?;
+    counted(alloc, &mut words, &mut links, lows)
+}
+
+// The same by way of a map and of links that are empty.
+fn counted<'a>(
+    alloc: Global,
+    words: &mut Words<'a>,
+    links: &mut Vec<Link>,
+    lows: &'a Strings,
+) -> Result<Table, AllocError>
+    requires empty { HoldPlaces words.old links.old.items (λ _. []) }
+    requires short { All IsShort lows.now }
+    ensures { IfOk result (λ t. IsTableOf lows.now t.words t.places) }
+{
+    count_files(words, links, lows)?;
     words.sort_unstable_keys()?;
-    listed(alloc, &words, &links)
+    listed(alloc, words, links.as_slice())
 }

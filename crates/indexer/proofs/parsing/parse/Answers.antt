@@ -1,13 +1,29 @@
-use Rattle.std.proofs.Common.{◌≡◌, ◌∙◌, [], List, All, None, Option, sym, subst}
+use Rattle.std.proofs.Common.{◌≡◌, ◌∙◌, [], List, All, None, Option, refl, sym, subst}
+use Rattle.std.proofs.lemmas.List.Elements.{All-nil}
 use Rattle.firefly_outside.specs.Trees.{Path, Told}
 use Rattle.firefly_outside.specs.declared.tree.Kind.TheVariants.{File}
+use Rattle.word_index.specs.Index.{Index}
 use Rattle.indexer.specs.declared.findings.Visit.{Visit}
-use Rattle.indexer.specs.Lots.{AreRead}
+use Rattle.indexer.specs.declared.lots.ReadFile.{ReadFile}
+use Rattle.indexer.specs.Lots.{AreRead, IsRead}
 use Rattle.indexer.specs.Pieces.{IsFilesPiece}
 use Rattle.indexer.specs.Walks.{HasDone}
 use Rattle.indexer.proofs.Turning.{still_between}
 use Rattle.indexer.proofs.WalkSteps.{done_along, done_none, done_on, done_pieces}
 use Rattle.indexer.proofs.parsing.parse.Goals as goal
+
+pub loop-init : goal.loop-init
+loop-init g c =
+    let S = g.S.Tree in
+    let tree = c.args.tree.now in
+    let fits = IsFilesPiece (S.tree tree) c.args.root.now in
+    record {
+      tree_stays = refl;
+      weak_stays = refl;
+      read = subst (AreRead (S.tree tree)) (sym c.new-lot.ensures) (All-nil (λ (r : ReadFile). IsRead (S.tree tree) r.path r.file));
+      kept = subst (λ (ps : List Index). All fits ps) (sym c.new-kept.ensures.items) (All-nil fits);
+      done = done_none File (S.tree tree) c.args.root.now (S.may_fail tree) (S.faults tree) (S.calls tree) c.args.p.now c.args.me.now;
+    }
 
 pub parse_once-requires-clause-between : goal.parse_once-requires-clause-between
 parse_once-requires-clause-between g c κs within = still_between (g.S.Tree.tree c.args.tree.now) c.args.root.now [] c.args.p.now c.args.me.now c.loop.me c.requires.between c.loop.invariant.done.back

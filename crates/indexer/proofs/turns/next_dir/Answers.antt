@@ -16,3 +16,18 @@ pub loop-preserved : goal.loop-preserved
 loop-preserved g c =
     let had = c.loop.invariant in
     (Dirs c.wait_for_dirs-outcome.result.1, c.wait_for_dirs-outcome.ensures c.args.me.now had.0 had.1)
+
+pub give_list-requires-clause-has : goal.give_list-requires-clause-has
+give_list-requires-clause-has g c = let had = c.loop.invariant in (c.args.me.now, had.0, had.1)
+
+pub give_list-requires-in-End-clause-has : goal.give_list-requires-in-End-clause-has
+give_list-requires-in-End-clause-has g c = let had = c.loop.invariant in (c.args.me.now, had.0, had.1)
+
+pub wait_for_dirs-outcome-requires-clause-has : goal.wait_for_dirs-outcome-requires-clause-has
+wait_for_dirs-outcome-requires-clause-has g c = let had = c.loop.invariant in (c.args.me.now, had.0, had.1)
+
+pub returns-in-List : goal.returns-in-List
+returns-in-List g c = λ o root. let had = c.loop.invariant in c.give_list.ensures c.args.me.now had.0 had.1 c.requires.between o root
+
+pub returns-in-End : goal.returns-in-End
+returns-in-End g c = λ o root. let had = c.loop.invariant in c.give_list-in-End.ensures c.args.me.now had.0 had.1 c.requires.between o root

@@ -1,4 +1,4 @@
-use Rattle.std.proofs.Common.{subst, sym, inr, ◌⊎◌, ◌≡◌, List, [], ◌∷◌, ◌++◌, ◌∙◌, Some, Err}
+use Rattle.std.proofs.Common.{subst, sym, inl, inr, ◌⊎◌, ◌≡◌, List, [], ◌∷◌, ◌++◌, ◌∙◌, Some, Err}
 use Rattle.std.specs.Prelude.{All, IfSome}
 use Rattle.firefly_outside.specs.Trees.{Counts, Path, IsFault, Directory}
 use Rattle.firefly_outside.specs.declared.tree.Entry.{Entry}
@@ -53,3 +53,19 @@ returns-in-Err-Failed-clause-done g c = λ root count before p a b h.
     let told_dir = subst (λ (d : Path). IfSome tree (λ t. IsFault weak d ((es : List Entry) × (t d ≡ Some (Directory es))) calls calls')) c.as_str.ensures told in
     done_fault Dir tree root weak count before p a (g.S.Tree.faults old) (g.S.Tree.faults new) calls calls' b c.args.visits.now.items (DirFault dir) h rose
     (told_on tree (λ t. IsFault weak dir ((es : List Entry) × (t dir ≡ Some (Directory es))) calls calls') (λ t. (calls' ≡ record calls { failed = calls.failed ++ dir ∷ [] }) × MayFail weak t (DirFault dir)) (λ t q. (q.noted, q.may)) told_dir)
+
+pub returns-in-Err-Memory-clause-done : goal.returns-in-Err-Memory-clause-done
+returns-in-Err-Memory-clause-done g c = λ root count before p a b h.
+    let old = c.args.tree.now in
+    let new = c.list_dir.new.tree in
+    let tree = g.S.Tree.tree old in
+    let weak = g.S.Tree.may_fail old in
+    let text = c.as_str.result.now in
+    let calls = g.S.Tree.calls old in
+    let calls' = g.S.Tree.calls new in
+    let visits = c.args.visits.now.items in
+    let same = subst (λ (e : TreeError). Counts {T = Listing} (g.S.Tree.faults old) (g.S.Tree.faults new) (Err e)) c.in-Err-Memory.field-0-is c.in-Err-Memory.ensures.count in
+    let told = subst (λ (e : TreeError). IfSome tree (ListsDir weak text calls calls' (Err e))) c.in-Err-Memory.field-0-is c.in-Err-Memory.ensures.told in
+    done_more Dir tree root weak count before p a (g.S.Tree.faults old) (g.S.Tree.faults new) calls calls' b visits visits text h same (λ each. each)
+    (told_on tree (λ t. (calls' ≡ calls) ⊎ (calls' ≡ with_listed calls text)) (λ t. (calls' ≡ calls) ⊎ (calls' ≡ calls_with Dir (text ∷ []) [] calls))
+    (λ t q. elim q [ inl none ↦ inl none | inr one ↦ inr (one ∙ calls_listed calls text) ]) told)

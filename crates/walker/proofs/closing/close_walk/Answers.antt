@@ -1,40 +1,8 @@
-use Rattle.std.proofs.Common.{◌∙◌, sym}
-use Rattle.walker.proofs.Steps.{passing_start, Grows-refl, rest_passed}
-use Rattle.walker.proofs.CloseLemmas.{stopped_answer, stopped_once, stopped_passed, IsPartOf-grows, end_answer, end_once, end_passed, moved_rest}
+use Rattle.std.proofs.Common.{subst}
+use Rattle.std.specs.Prelude.{IfSome}
+use Rattle.firefly_outside.specs.Trees.{Path}
+use Rattle.walker.specs.Closing.{Answers}
 use Rattle.walker.proofs.closing.close_walk.Goals as goal
 
-pub returns-in-Some-clause-answer : goal.returns-in-Some-clause-answer
-returns-in-Some-clause-answer g c = stopped_answer (g.S.Tree.tree c.args.tree.now) c.args.walked c.args.walked c.args.root.now c.args.stop_after (g.S.Tree.may_fail c.args.tree.now) (g.S.Tree.calls c.args.tree.now) (g.S.Tree.calls c.args.tree.now) c.in-Some.answer c.requires.root
-    (rest_passed (g.S.Tree.tree c.args.tree.now) c.args.walked c.args.walked c.args.stop_after (g.S.Tree.may_fail c.args.tree.now) (g.S.Tree.calls c.args.tree.now) (g.S.Tree.calls c.args.tree.now) c.in-Some.answer c.passed.ensures.sound (Grows-refl c.args.walked)
-    (passing_start (g.S.Tree.tree c.args.tree.now) c.args.walked c.args.stop_after (g.S.Tree.calls c.args.tree.now) c.requires.told) c.in-Some.ensures.limits)
-
-pub returns-in-Some-clause-once : goal.returns-in-Some-clause-once
-returns-in-Some-clause-once g c = stopped_once (g.S.Tree.tree c.args.tree.now) c.args.walked c.args.walked c.args.piece.paths c.args.stop_after (g.S.Tree.may_fail c.args.tree.now) (g.S.Tree.calls c.args.tree.now) (g.S.Tree.calls c.args.tree.now) c.in-Some.answer
-    (rest_passed (g.S.Tree.tree c.args.tree.now) c.args.walked c.args.walked c.args.stop_after (g.S.Tree.may_fail c.args.tree.now) (g.S.Tree.calls c.args.tree.now) (g.S.Tree.calls c.args.tree.now) c.in-Some.answer c.passed.ensures.sound (Grows-refl c.args.walked)
-    (passing_start (g.S.Tree.tree c.args.tree.now) c.args.walked c.args.stop_after (g.S.Tree.calls c.args.tree.now) c.requires.told) c.in-Some.ensures.limits)
-
-pub read_rest-requires-clause-part : goal.read_rest-requires-clause-part
-read_rest-requires-clause-part g c = λ κs b. IsPartOf-grows (g.S.Tree.tree c.args.tree.now) (g.S.Tree.tree c.list_rest.new.tree) c.args.walked c.list_rest.new.walked c.args.piece (sym c.list_rest.ensures.tree_stays) c.list_rest.ensures.grows c.requires.part
-
-pub returns-in-Ok-clause-answer : goal.returns-in-Ok-clause-answer
-returns-in-Ok-clause-answer g c = end_answer (g.S.Tree.tree c.args.tree.now) c.args.walked c.list_rest.new.walked c.args.root.now c.args.piece.paths c.args.stop_after (g.S.Tree.may_fail c.args.tree.now) (g.S.Tree.may_fail c.args.tree.now)
-    (g.S.Tree.calls c.args.tree.now) (g.S.Tree.calls c.list_rest.new.tree) (g.S.Tree.calls c.read_rest.new.tree) c.read_rest.result (c.list_rest.ensures.grows.root ∙ c.requires.root) c.in-Ok.ensures.limits c.in-Ok.ensures.listed c.in-Ok.ensures.told
-    (moved_rest (g.S.Tree.tree c.list_rest.new.tree) (g.S.Tree.tree c.args.tree.now) c.list_rest.new.walked c.args.piece.paths (g.S.Tree.may_fail c.list_rest.new.tree) (g.S.Tree.may_fail c.args.tree.now) (g.S.Tree.calls c.list_rest.new.tree) (g.S.Tree.calls c.read_rest.new.tree) c.read_rest.result
-    c.list_rest.ensures.tree_stays c.list_rest.ensures.weak_stays c.read_rest.ensures.told)
-
-pub returns-in-Ok-clause-once : goal.returns-in-Ok-clause-once
-returns-in-Ok-clause-once g c = end_once (g.S.Tree.tree c.args.tree.now) c.args.walked c.list_rest.new.walked c.args.piece.paths c.args.stop_after (g.S.Tree.may_fail c.args.tree.now) (g.S.Tree.may_fail c.args.tree.now)
-    (g.S.Tree.calls c.args.tree.now) (g.S.Tree.calls c.list_rest.new.tree) (g.S.Tree.calls c.read_rest.new.tree) c.read_rest.result c.list_rest.ensures.grows.root c.in-Ok.ensures.listed c.in-Ok.ensures.told
-    (moved_rest (g.S.Tree.tree c.list_rest.new.tree) (g.S.Tree.tree c.args.tree.now) c.list_rest.new.walked c.args.piece.paths (g.S.Tree.may_fail c.list_rest.new.tree) (g.S.Tree.may_fail c.args.tree.now) (g.S.Tree.calls c.list_rest.new.tree) (g.S.Tree.calls c.read_rest.new.tree) c.read_rest.result
-    c.list_rest.ensures.tree_stays c.list_rest.ensures.weak_stays c.read_rest.ensures.told)
-
-pub returns-in-Some-clause-passed : goal.returns-in-Some-clause-passed
-returns-in-Some-clause-passed g c = stopped_passed (g.S.Tree.tree c.args.tree.now) c.args.walked c.args.walked c.args.stop_after (g.S.Tree.may_fail c.args.tree.now) (g.S.Tree.calls c.args.tree.now) (g.S.Tree.calls c.args.tree.now) c.in-Some.answer
-    (rest_passed (g.S.Tree.tree c.args.tree.now) c.args.walked c.args.walked c.args.stop_after (g.S.Tree.may_fail c.args.tree.now) (g.S.Tree.calls c.args.tree.now) (g.S.Tree.calls c.args.tree.now) c.in-Some.answer c.passed.ensures.sound (Grows-refl c.args.walked)
-    (passing_start (g.S.Tree.tree c.args.tree.now) c.args.walked c.args.stop_after (g.S.Tree.calls c.args.tree.now) c.requires.told) c.in-Some.ensures.limits)
-
-pub returns-in-Ok-clause-passed : goal.returns-in-Ok-clause-passed
-returns-in-Ok-clause-passed g c = end_passed (g.S.Tree.tree c.args.tree.now) c.args.walked c.list_rest.new.walked c.args.piece.paths c.args.stop_after (g.S.Tree.may_fail c.args.tree.now) (g.S.Tree.may_fail c.args.tree.now)
-    (g.S.Tree.calls c.args.tree.now) (g.S.Tree.calls c.list_rest.new.tree) (g.S.Tree.calls c.read_rest.new.tree) c.read_rest.result c.in-Ok.ensures.sound c.in-Ok.ensures.limits c.in-Ok.ensures.told
-    (moved_rest (g.S.Tree.tree c.list_rest.new.tree) (g.S.Tree.tree c.args.tree.now) c.list_rest.new.walked c.args.piece.paths (g.S.Tree.may_fail c.list_rest.new.tree) (g.S.Tree.may_fail c.args.tree.now) (g.S.Tree.calls c.list_rest.new.tree) (g.S.Tree.calls c.read_rest.new.tree) c.read_rest.result
-    c.list_rest.ensures.tree_stays c.list_rest.ensures.weak_stays c.read_rest.ensures.told)
+pub returns-clause-answer : goal.returns-clause-answer
+returns-clause-answer g c = subst (λ (root : Path). IfSome (g.S.Tree.tree c.args.tree.now) (Answers root c.args.stop_after (g.S.Tree.may_fail c.args.tree.now) c.close_rest.result)) c.requires.root c.close_rest.ensures.answer

@@ -1,5 +1,5 @@
-use Rattle.std.proofs.Common.{◌≡◌, ℕ, length, refl, sym, subst, arith}
-use Rattle.std.specs.Prelude.{Err}
+use Rattle.std.proofs.Common.{◌≡◌, ◌∙◌, ℕ, length, refl, sym, subst, arith}
+use Rattle.std.specs.Prelude.{Ok, Err}
 use Rattle.walker.specs.Pile.{IsPileOf, AreApart, AreKept, HasRead}
 use Rattle.walker.proofs.ListLemmas.{AllPairs-nil}
 use Rattle.walker.proofs.PileLemmas.{NoMeet}
@@ -20,6 +20,16 @@ returns-in-Err-clause-read g c = read_stopped (g.S.Tree.tree c.args.tree.now) c.
     (AreKept c.loop-at.pile.items c.loop-at.batch) (AreKept c.read_at.new.pile.items) c.in-Err.answer c.requires.told c.loop-at.invariant.read
     (moved_read (g.S.Tree.tree c.loop-at.tree) (g.S.Tree.tree c.args.tree.now) c.args.walked.now c.args.piece.now.paths c.loop-at.at (g.S.Tree.may_fail c.loop-at.tree) (g.S.Tree.may_fail c.args.tree.now) (g.S.Tree.calls c.loop-at.tree) (g.S.Tree.calls c.read_at.new.tree)
     (AreKept c.loop-at.pile.items c.loop-at.batch) (AreKept c.read_at.new.pile.items) (Err c.in-Err.answer) c.loop-at.invariant.tree c.loop-at.invariant.weak c.in-Err.ensures.step)
+
+pub loop-at-preserved : goal.loop-at-preserved
+loop-at-preserved g c = record {
+  tree = c.read_at.ensures.tree_stays ∙ c.loop-at.invariant.tree;
+  weak = c.read_at.ensures.weak_stays ∙ c.loop-at.invariant.weak;
+  count = c.in-Ok.ensures.count ∙ c.loop-at.invariant.count;
+  apart = c.in-Ok.ensures.apart;
+  read = moved_read (g.S.Tree.tree c.loop-at.tree) (g.S.Tree.tree c.args.tree.now) c.args.walked.now c.args.piece.now.paths c.loop-at.at (g.S.Tree.may_fail c.loop-at.tree) (g.S.Tree.may_fail c.args.tree.now) (g.S.Tree.calls c.loop-at.tree) (g.S.Tree.calls c.read_at.new.tree)
+      (AreKept c.loop-at.pile.items c.loop-at.batch) (AreKept c.read_at.new.pile.items) (Ok c.in-Ok.next) c.loop-at.invariant.tree c.loop-at.invariant.weak c.in-Ok.ensures.step (g.S.Tree.calls c.args.tree.now) c.loop-at.invariant.read;
+}
 
 pub put_batch-requires-clause-kept : goal.put_batch-requires-clause-kept
 put_batch-requires-clause-kept g c = let h = c.loop-at.invariant.read in (h.files, h.kept, h.once)

@@ -1,4 +1,4 @@
-use Rattle.std.proofs.Common.{◌≡◌, ◌<◌, ◌≤◌, length, map, get_or, sym, ap, ◌∙◌, arith}
+use Rattle.std.proofs.Common.{◌≡◌, ◌<◌, ◌≤◌, length, map, take, get_or, sym, ap, ◌∙◌, arith}
 use Rattle.std.proofs.lemmas.List.{get_or-map, length-map}
 use Rattle.word_index.specs.Numbered.{moved}
 use Rattle.word_index.specs.Merged.{nowhere}
@@ -27,3 +27,12 @@ loop-i-preserved c =
     let y = get_or-map f ys c.loop-i.j nowhere nowhere second.0 in
     rw (c.in_ok-push-2.ensures.items, c.moved_place-else-takes_first.ensures, ← y)
     (merging_second c.loop-i.invariant c.requires.ys_rise here (λ more. second.1 (omega (arith, more, length-map c.args.xs.now (moved c.args.of_x.now)))))
+
+pub returns-in_err-push-clause-kept : goal.returns-in_err-push-clause-kept
+returns-in_err-push-clause-kept c = ap (take (length c.args.out.now.items)) c.in_err-push.ensures.items ∙ merging_keeps c.loop-i.invariant
+
+pub returns-in_err-push-2-clause-kept : goal.returns-in_err-push-2-clause-kept
+returns-in_err-push-2-clause-kept c = ap (take (length c.args.out.now.items)) c.in_err-push-2.ensures.items ∙ merging_keeps c.loop-i.invariant
+
+pub returns-clause-kept : goal.returns-clause-kept
+returns-clause-kept c = merging_keeps c.loop-i.invariant

@@ -1,6 +1,6 @@
 use Rattle.std.proofs.Common.{◌+◌, ◌-◌, length}
 use Rattle.word_index.proofs.Tables.{Side, TablesJoined}
-use Rattle.word_index.proofs.merging.join_tables.Given as goal
+use Rattle.word_index.proofs.merging.join_rows.Given as goal
 
 abbrev pub invariant-loop-i : goal.invariant-loop-i
 invariant-loop-i l =

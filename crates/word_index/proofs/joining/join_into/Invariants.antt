@@ -1,6 +1,6 @@
 use Rattle.std.proofs.Common.{◌+◌, ◌-◌, length}
 use Rattle.word_index.proofs.Joined.{Joined}
-use Rattle.word_index.proofs.joining.join_texts.Given as goal
+use Rattle.word_index.proofs.joining.join_into.Given as goal
 
 abbrev pub invariant-loop-i : goal.invariant-loop-i
 invariant-loop-i l = Joined l.a l.b l.i l.j l.all l.of_a.items l.of_b.items

@@ -2,13 +2,16 @@ use Rattle.std.proofs.Common.{◌≡◌, ◌≤◌, ◌∙◌, List, length, sym
 use Rattle.word_index.specs.declared.links.Link.{Link}
 use Rattle.word_index.specs.Links.{HasPlaces, link_at}
 use Rattle.word_index.proofs.WordLists.{lists_none, lists_next, lists_all, texts_keys}
-use Rattle.word_index.proofs.table.listed.Goals as goal
+use Rattle.word_index.proofs.table.list_into.Goals as goal
+
+pub loop-at-init : goal.loop-at-init
+loop-at-init c = rw (c.requires.no_texts, c.requires.no_places) (lists_none c.args.words.now c.args.links.now)
 
 pub push_linked-requires : goal.push_linked-requires
 push_linked-requires c =
-    let f = c.requires.0 in
+    let f = c.requires.held.0 in
     let w = c.in-Some.word.now.now in
-    (f w, subst (λ (o : Option Link). HasPlaces c.args.links.now o (f w)) c.in-Some.ensures.value (c.requires.1 w))
+    (f w, subst (λ (o : Option Link). HasPlaces c.args.links.now o (f w)) c.in-Some.ensures.value (c.requires.held.1 w))
 
 pub loop-at-preserved : goal.loop-at-preserved
 loop-at-preserved c =

@@ -1,5 +1,5 @@
 use Rattle.word_index.proofs.WordLists.{Lists}
-use Rattle.word_index.proofs.table.listed.Given as goal
+use Rattle.word_index.proofs.table.list_into.Given as goal
 
 abbrev pub invariant-loop-at : goal.invariant-loop-at
 invariant-loop-at l = Lists l.words l.links l.at l.texts l.places

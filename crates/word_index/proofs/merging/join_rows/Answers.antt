@@ -8,7 +8,7 @@ use Rattle.word_index.specs.Merged.{IsPathBelow}
 use Rattle.word_index.specs.Table.{IsTable}
 use Rattle.word_index.proofs.Sides.{row_moved}
 use Rattle.word_index.proofs.Tables.{tables_first, tables_second, tables_both, tables_all}
-use Rattle.word_index.proofs.merging.join_tables.Goals as goal
+use Rattle.word_index.proofs.merging.join_rows.Goals as goal
 
 pub loop-i-preserved-in-Less : goal.loop-i-preserved-in-Less
 loop-i-preserved-in-Less c =

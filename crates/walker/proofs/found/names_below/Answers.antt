@@ -1,0 +1,16 @@
+use Rattle.std.proofs.Common.{◌≡◌, ◌∙◌, ◌+◌, ◌<◌, ℕ, List, [], ◌∷◌, ◌++◌, map, take, get_or, length, ap, sym, arith}
+use Rattle.std.specs.String.{string_bytes}
+use Rattle.std.proofs.lemmas.List.{map-append, take_more}
+use Rattle.firefly_outside.specs.Trees.{Path, child}
+use Rattle.walker.proofs.found.names_below.Goals as goal
+
+-- one name more
+name_more : {S : Type 0} (path_of : S → Path) (names more : List S) (files : List Path) (k : ℕ) (name : S) (file : Path) → map path_of names ≡ take k files
+    → more ≡ names ++ name ∷ [] → path_of name ≡ file → file ≡ get_or files k file → k < length files → map path_of more ≡ take (k + 1) files
+name_more path_of names more files k name file was pushed is at here =
+    ap (map path_of) pushed ∙ (map-append path_of names (name ∷ []) ∙ (ap (λ (l : List Path). l ++ path_of name ∷ []) was
+    ∙ (ap (λ (p : Path). take k files ++ p ∷ []) (is ∙ at) ∙ sym (take_more files k file here))))
+
+pub loop-file-preserved : goal.loop-file-preserved
+loop-file-preserved c = name_more (λ s. child c.args.root.now (string_bytes s)) c.loop-file.names.items c.push.new.self.items c.args.files.now.items c.loop-file.file-index c.in_ok-name.name c.file-item.result
+    c.loop-file.invariant c.in_ok-push.ensures.items (ap (child c.args.root.now) c.in_ok-name.ensures.ok ∙ (c.below.ensures ∙ c.as_str.ensures)) (rw c.deref-file-items.ensures.value at c.file-item.is) (omega (arith, ap length c.deref-file-items.ensures.value))
