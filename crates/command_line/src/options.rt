@@ -1,9 +1,9 @@
 //! The words after `index` and `trace`.
 ghost use Rattle.std.specs.Prelude.{◌≡◌, ◌≢◌, ◌↔◌, ℕ, Option, [], false, All, IfNone, IfOk, IfSome, IsTrue, map, option_map};
 ghost use Rattle.std.specs.String.{string_bytes};
-ghost use Rattle.clap.specs.Words.{app_of, fault_of, found_of, matches_of, rows_of, rule_of};
+ghost use Rattle.clap.specs.Words.{app_of, with_rule, fault_of, found_of, matches_of, rows_of, rule_of};
 ghost use Rattle.command_line.specs.Grammar.{Options, SayOptions};
-ghost use Rattle.command_line.specs.Reading.{HoldOptions, IsNumberOr, IsOffered, IsStop, index_app, option_rule};
+ghost use Rattle.command_line.specs.Reading.{HoldOptions, IsNumberOr, IsOffered, IsStop, bare_app, directory_rule, index_app, option_rule};
 ghost use Rattle.command_line.specs.Tasks.{options_of};
 
 use crate::command::{IndexOptions, WordsFault};
@@ -69,15 +69,39 @@ fn parse<'a>(alloc: Global, words: &'a [String]) -> Result<ArgMatches<'a>, Words
 fn index_command<'a>(alloc: Global) -> Result<clap::Command<'a>, AllocError>
     ensures { IfOk result (λ c. app_of c ≡ index_app) }
 {
-    let dir = Arg::new(alloc, "dir").required(true).action(ArgAction::Set);
+    let walkers = with_option(alloc, bare_command(alloc), "walkers")?;
+    let parsers = with_option(alloc, walkers, "parsers")?;
+    let mergers = with_option(alloc, parsers, "mergers")?;
+    let stop = with_option(alloc, mergers, "stop-after")?;
+    with_dir(alloc, stop)
+}
+
+// No help, no name of the program, and nothing else yet.
+fn bare_command<'a>(alloc: Global) -> clap::Command<'a>
+    ensures { app_of result ≡ bare_app }
+{
     clap::Command::new(alloc, "firefly")
         .no_binary_name(true)
         .disable_help_flag(true)
-        .arg(option_named(alloc, "walkers"))?
-        .arg(option_named(alloc, "parsers"))?
-        .arg(option_named(alloc, "mergers"))?
-        .arg(option_named(alloc, "stop-after"))?
-        .arg(dir)
+}
+
+// One more option.
+fn with_option<'a>(
+    alloc: Global,
+    command: clap::Command<'a>,
+    name: &'a str,
+) -> Result<clap::Command<'a>, AllocError>
+    ensures { IfOk result (λ c. app_of c ≡ with_rule (app_of command.entry) (option_rule name.entry.now)) }
+{
+    command.arg(option_named(alloc, name))
+}
+
+// DIR behind what there is.
+fn with_dir<'a>(alloc: Global, command: clap::Command<'a>) -> Result<clap::Command<'a>, AllocError>
+    ensures { IfOk result (λ c. app_of c ≡ with_rule (app_of command.entry) directory_rule) }
+{
+    let dir = Arg::new(alloc, "dir").required(true).action(ArgAction::Set);
+    command.arg(dir)
 }
 
 fn option_named<'a>(alloc: Global, name: &'a str) -> Arg<'a>

@@ -9,7 +9,7 @@ use Rattle.firefly_script.specs.declared.table.Kind.{Kind}
 use Rattle.firefly_script.specs.declared.table.Kind.TheVariants.{Mutex, Condition, Semaphore, Thread, Amount, Count}
 use Rattle.firefly_script.specs.Faults.{Lacks}
 use Rattle.firefly_script.specs.Parsing.{IsBehind, AreParted, Are}
-use Rattle.firefly_script.specs.Table.{letter, IsWithin, AreWithin, operand_text, operands_text}
+use Rattle.firefly_script.specs.Table.{letter, IsWithin, AreWithin, IsSmall, AreSmall, operand_text, operands_text}
 use Rattle.firefly_script.proofs.Pieces.{lacks_append, lacks_decimal, decimal_short}
 
 letter_lacks : (c : ℕ) (k : Kind) → c < 48 → Lacks c (letter k)
@@ -61,6 +61,20 @@ module _ (l : Layout) (ok : IsLawful l) where
   within_fits Thread n h = omega (arith, ok.threads)
   within_fits Amount n h = omega arith
   within_fits Count n h = omega arith
+
+  within_small : (k : Kind) (n : ℕ) → IsWithin l k n → IsSmall k n
+  within_small Mutex n h = omega (arith, ok.mutexes)
+  within_small Condition n h = omega (arith, ok.conditions)
+  within_small Semaphore n h = omega (arith, ok.semaphores)
+  within_small Thread n h = omega (arith, ok.threads)
+  within_small Amount n h = h
+  within_small Count n h = h
+
+  -- the first numbers are as small as what stands behind a word has to be
+  pub first_small : (ks : List Kind) (ns : List ℕ) → AreWithin l ks (take (length ks) ns) → AreSmall ks ns
+  first_small [] ns h = tt
+  first_small (k ∷ ks) [] h = tt
+  first_small (k ∷ ks) (n ∷ ns) h = (within_small k n h.0, first_small ks ns h.1)
 
   pub operand_lacks : (c : ℕ) (k : Kind) (n : ℕ) → c < 48 → IsWithin l k n → Lacks c (operand_text k n)
   operand_lacks c k n low h = lacks_append c (letter k) (decimal n) (letter_lacks c k low) (lacks_decimal c n low (within_fits k n h))

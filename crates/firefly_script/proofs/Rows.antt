@@ -1,5 +1,5 @@
 -- What the rows of the table keep, and what is known of an operation by its row.
-use Rattle.std.proofs.Common.{◌≡◌, ℕ, ◌<◌, ◌≤◌, List, length, refl, ap, sym, ◌∙◌, cond, true, arith}
+use Rattle.std.proofs.Common.{◌≡◌, ℕ, ◌<◌, ◌≤◌, List, ◌++◌, length, refl, ap, sym, subst, ◌∙◌, cond, true, arith}
 use Rattle.std.specs.Prelude.{codes}
 use Rattle.std.specs.Str.{bytes_eq}
 use Rattle.larch_actions.specs.declared.event.Layout.{Layout}
@@ -7,12 +7,13 @@ use Rattle.firefly_script.specs.declared.line.Operation.{Operation}
 use Rattle.firefly_script.specs.declared.line.Operation.TheVariants.{Acquire, Release, Wait, AlertWait, Signal, Broadcast, P, V, Alert, TestAlert, AlertP, Add, Until, AlertUntil}
 use Rattle.firefly_script.specs.declared.table.Word.{Word}
 use Rattle.firefly_script.specs.declared.table.Word.TheVariants as word
+use Rattle.firefly_script.specs.declared.table.Numbers.{Numbers}
 use Rattle.firefly_script.specs.declared.table.Use.{Use}
 use Rattle.firefly_script.specs.declared.table.Use.TheVariants.{Takes, Gives, Needs, Nothing}
 use Rattle.firefly_script.specs.Faults.{Lacks}
 use Rattle.firefly_script.specs.Operations.{IsNamed}
-use Rattle.firefly_script.specs.Parsing.{AreParted}
-use Rattle.firefly_script.specs.Table.{word_text, kinds_of, made, word_of, numbers_of, use_of, operands_text}
+use Rattle.firefly_script.specs.Parsing.{AreParted, Are, first_of}
+use Rattle.firefly_script.specs.Table.{word_text, kinds_of, made, word_of, numbers_of, use_of, operands_text, AreWithin, listed}
 use Rattle.firefly_script.specs.Text.{operation_text}
 use Rattle.firefly_script.proofs.Operands.{part_same, operands_behind}
 use Rattle.firefly_script.proofs.Pieces.{is_lacking, lacks_from}
@@ -96,6 +97,52 @@ built (AlertP s) = refl
 built (Add m n) = refl
 built (Until m c n) = refl
 built (AlertUntil m c n) = refl
+
+-- the operation that is made of a word has this word, and the numbers that stand behind it
+made_word : (w : Word) (ns : List ℕ) → word_of (made w ns) ≡ w
+made_word word.Acquire ns = refl
+made_word word.Release ns = refl
+made_word word.Wait ns = refl
+made_word word.AlertWait ns = refl
+made_word word.Signal ns = refl
+made_word word.Broadcast ns = refl
+made_word word.P ns = refl
+made_word word.V ns = refl
+made_word word.Alert ns = refl
+made_word word.TestAlert ns = refl
+made_word word.AlertP ns = refl
+made_word word.Add ns = refl
+made_word word.Until ns = refl
+made_word word.AlertUntil ns = refl
+
+made_numbers : (w : Word) (x : Numbers) → numbers_of (made w (listed x)) ≡ first_of (kinds_of w) x
+made_numbers word.Acquire x = refl
+made_numbers word.Release x = refl
+made_numbers word.Wait x = refl
+made_numbers word.AlertWait x = refl
+made_numbers word.Signal x = refl
+made_numbers word.Broadcast x = refl
+made_numbers word.P x = refl
+made_numbers word.V x = refl
+made_numbers word.Alert x = refl
+made_numbers word.TestAlert x = refl
+made_numbers word.AlertP x = refl
+made_numbers word.Add x = refl
+made_numbers word.Until x = refl
+made_numbers word.AlertUntil x = refl
+
+-- the operation that is made of a word and the numbers behind it
+pub made_of : (l : Layout) (w : Word) (x : Numbers) (bytes front behind : List ℕ) → AreParted bytes front behind → front ≡ word_text w → Are l (kinds_of w) behind (first_of (kinds_of w) x) → IsNamed l (made w (listed x)) × (bytes ≡ operation_text (made w (listed x)))
+made_of l w x bytes front behind p e a =
+    let o = made w (listed x) in
+    let Named : Word → List ℕ → Type 0 = λ v ns. AreWithin l (kinds_of v) ns in
+    let Text : Word → List ℕ → Type 0 = λ v ns. bytes ≡ word_text v ++ operands_text (kinds_of v) ns in
+    let text : Text w (first_of (kinds_of w) x) = p.text ∙ ap (λ f. f ++ behind) e ∙ ap (λ b. word_text w ++ b) a.1 in
+    let ws = sym (made_word w (listed x)) in
+    let ns = sym (made_numbers w x) in (
+      subst (λ v. Named v (numbers_of o)) ws (subst (Named w) ns a.0),
+      subst (λ v. Text v (numbers_of o)) ws (subst (Text w) ns text),
+    )
 
 -- the mutex that is used is within the layout
 abbrev pub UseWithin : Layout → Use → Type 0

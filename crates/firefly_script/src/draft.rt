@@ -1,5 +1,5 @@
 //! The lines of a script that were read so far.
-ghost use Rattle.std.specs.Prelude.{◌≡◌, ◌<◌, ◌↔◌, ℕ, IsTrue, IfOk, Ok, true, false, not, []};
+ghost use Rattle.std.specs.Prelude.{◌≡◌, ◌+◌, ◌*◌, ◌<◌, ◌↔◌, ℕ, IsTrue, IfOk, Ok, true, false, not, []};
 ghost use Rattle.std.specs.List.{list_all};
 ghost use Rattle.larch_actions.specs.Layout.{IsLawful};
 ghost use Rattle.firefly_script.specs.Operations.{Holding, IsNamed, MayDo, holding_after, held_after, none_held, AllFree};
@@ -11,7 +11,7 @@ ghost use Rattle.firefly_script.specs.declared.line.Line.{Line};
 use crate::line::{Line, Operation};
 use crate::parse;
 use crate::table::{Use, mutex_use};
-use larch_actions::Layout;
+use larch_actions::{Layout, MutexId};
 use std::alloc::{AllocError, Global};
 
 /// The lines so far, and which thread holds which mutex after them.
@@ -20,6 +20,18 @@ pub struct Draft {
     pub layout: Layout,
     pub lines: Vec<Line>,
     pub held: [bool; 4096],
+}
+
+// Where the table says whether the thread holds the mutex.
+#[inline]
+fn entry(thread: u32, mutex: MutexId, layout: &Layout) -> usize
+    requires lawful { IsLawful layout.now }
+    requires thread { thread < layout.now.threads }
+    requires mutex { mutex.0 < layout.now.mutexes }
+    ensures at { result ≡ 64 * thread + mutex.0 }
+    ensures within { result < 4096 }
+{
+    64 * thread as usize + mutex.0 as usize
 }
 
 // Whether the thread may do this, and if so what is held then.
@@ -33,18 +45,18 @@ fn step(held: &mut [bool], thread: u32, operation: &Operation, layout: &Layout) 
 {
     match mutex_use(operation) {
         Use::Takes(mutex) => {
-            let at = 64 * thread as usize + mutex.0 as usize;
+            let at = entry(thread, mutex, layout);
             let may = !held[at];
             held[at] = true;
             may
         }
         Use::Gives(mutex) => {
-            let at = 64 * thread as usize + mutex.0 as usize;
+            let at = entry(thread, mutex, layout);
             let may = held[at];
             held[at] = false;
             may
         }
-        Use::Needs(mutex) => held[64 * thread as usize + mutex.0 as usize],
+        Use::Needs(mutex) => held[entry(thread, mutex, layout)],
         Use::Nothing => true,
     }
 }

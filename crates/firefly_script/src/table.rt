@@ -1,7 +1,7 @@
 //! The table of operations: for each its word, what stands behind the word, and what it does with a mutex.
 //!
 //! A further operation is a row in each function here and in specs/Table.antt. Texts and their reading follow from the rows.
-ghost use Rattle.std.specs.Prelude.{◌≡◌, ◌<◌, ◌^◌};
+ghost use Rattle.std.specs.Prelude.{◌≡◌, ◌<◌, ◌^◌, ◌↔◌, IsTrue};
 ghost use Rattle.firefly_script.specs.Parsing.{Parses};
 ghost use Rattle.firefly_script.specs.Table.{word_text, kinds_of, made, use_of, listed, AreSmall};
 
@@ -61,37 +61,45 @@ pub enum Use {
     Nothing,
 }
 
+// Whether the bytes are these.
+#[inline]
+fn are(bytes: &[u8], text: &[u8]) -> bool
+    ensures { IsTrue result ↔ (bytes.now ≡ text.now) }
+{
+    bytes == text
+}
+
 /// The word that the bytes are.
 pub fn known_word(bytes: &[u8]) -> Option<Word>
     ensures { Parses (λ _. Unit {0}) word_text bytes.now result }
 {
-    if bytes == b"acquire".as_slice() {
+    if are(bytes, b"acquire") {
         Some(Word::Acquire)
-    } else if bytes == b"release".as_slice() {
+    } else if are(bytes, b"release") {
         Some(Word::Release)
-    } else if bytes == b"wait".as_slice() {
+    } else if are(bytes, b"wait") {
         Some(Word::Wait)
-    } else if bytes == b"alert-wait".as_slice() {
+    } else if are(bytes, b"alert-wait") {
         Some(Word::AlertWait)
-    } else if bytes == b"signal".as_slice() {
+    } else if are(bytes, b"signal") {
         Some(Word::Signal)
-    } else if bytes == b"broadcast".as_slice() {
+    } else if are(bytes, b"broadcast") {
         Some(Word::Broadcast)
-    } else if bytes == b"p".as_slice() {
+    } else if are(bytes, b"p") {
         Some(Word::P)
-    } else if bytes == b"v".as_slice() {
+    } else if are(bytes, b"v") {
         Some(Word::V)
-    } else if bytes == b"alert".as_slice() {
+    } else if are(bytes, b"alert") {
         Some(Word::Alert)
-    } else if bytes == b"test-alert".as_slice() {
+    } else if are(bytes, b"test-alert") {
         Some(Word::TestAlert)
-    } else if bytes == b"alert-p".as_slice() {
+    } else if are(bytes, b"alert-p") {
         Some(Word::AlertP)
-    } else if bytes == b"add".as_slice() {
+    } else if are(bytes, b"add") {
         Some(Word::Add)
-    } else if bytes == b"until".as_slice() {
+    } else if are(bytes, b"until") {
         Some(Word::Until)
-    } else if bytes == b"alert-until".as_slice() {
+    } else if are(bytes, b"alert-until") {
         Some(Word::AlertUntil)
     } else {
         None

@@ -7,6 +7,9 @@ use Rattle.trace_core.specs.Text.{layout_line, newline}
 pub added_two : (old mid new p q : List ℕ) → mid ≡ old ++ p → new ≡ mid ++ q → new ≡ old ++ (p ++ q)
 added_two old mid new p q e f = f ∙ ap (λ l. l ++ q) e ∙ append_assoc old p q
 
+pub added_three : (old mid end new p q r : List ℕ) → mid ≡ old ++ p → end ≡ mid ++ q → new ≡ end ++ r → new ≡ old ++ (p ++ q ++ r)
+added_three old mid end new p q r e f g = added_two old end new (p ++ q) r (added_two old mid end p q e f) g
+
 layout_parts : (l : Layout) → (codes "threads " ++ decimal l.threads) ++ ((codes " mutexes " ++ decimal l.mutexes) ++ ((codes " conditions " ++ decimal l.conditions) ++ ((codes " semaphores " ++ decimal l.semaphores) ++ newline))) ≡ layout_line l
 layout_parts l = simp append_assoc
 

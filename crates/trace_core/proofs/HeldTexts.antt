@@ -1,5 +1,5 @@
 -- Texts that stand in the bytes held.
-use Rattle.std.proofs.Common.{◌≡◌, ℕ, zero, suc, ◌+◌, ◌*◌, ◌/◌, ◌%◌, ◌<◌, ◌≤◌, false, inl, inr, List, [], ◌∷◌, ◌++◌, length, take, drop, get_or, refl, ap, sym, subst, ◌∙◌, append_assoc, append-nil, arith}
+use Rattle.std.proofs.Common.{◌≡◌, ℕ, zero, suc, ◌+◌, ◌*◌, ◌/◌, ◌%◌, ◌<◌, ◌≤◌, true, false, inl, inr, List, [], ◌∷◌, ◌++◌, length, take, drop, get_or, refl, ap, sym, subst, ◌∙◌, append_assoc, append-nil, arith}
 use Rattle.std.proofs.Math.Seq.{drop-cons}
 use Rattle.std.proofs.lemmas.List.{take-append-drop, drop-drop, length-take-le, length-drop, take_all}
 use Rattle.std.proofs.lemmas.Bool.Decides.{leb_tells}
@@ -8,7 +8,11 @@ use Rattle.std.specs.Prelude.{codes, decimal}
 use Rattle.larch_actions.specs.declared.thread_set.ThreadSet.{ThreadSet}
 use Rattle.larch_actions.specs.Sets.{in_set}
 use Rattle.trace_core.specs.Text.{members_from, members, names_text, newline}
-use Rattle.trace_core.specs.Held.{Stands, little, IsNameAt}
+use Rattle.trace_core.specs.declared.held.name.HeldName.{HeldName}
+use Rattle.trace_core.specs.declared.held.wait.HeldWait.{HeldWait}
+use Rattle.trace_core.specs.declared.held.wait.HeldEnding.{HeldEnding}
+use Rattle.larch_actions.specs.declared.event.Layout.{Layout}
+use Rattle.trace_core.specs.Held.{Stands, little, IsNameAt, IsWaitAt, IsEndingAt, ending_text}
 
 pub stands_then : {bytes : List ℕ} {a m e : ℕ} {t u : List ℕ} → Stands bytes a t m → Stands bytes m u e → Stands bytes a (t ++ u) e
 stands_then {bytes} {a} {m} {e} {t} {u} p q = record { within = q.within; there = p.there ∙ ap (λ l. t ++ l) q.there ∙ sym (append_assoc t u (drop e bytes)) }
@@ -113,3 +117,41 @@ no_names w d l e = simp (append_assoc, append-nil)
 pub signal_text : (c : ℕ) (s : ThreadSet) → ((k : ℕ) → in_set s k ≡ false)
     → ((codes "signal c" ++ (decimal c ++ 32 ∷ [])) ++ codes "left") ++ 10 ∷ [] ≡ (codes "signal c" ++ decimal c ++ codes " left" ++ names_text (members s)) ++ newline
 signal_text c s h = no_names (codes "signal c") (decimal c) (codes "left") (10 ∷ []) ∙ ap (λ ns. (codes "signal c" ++ decimal c ++ codes " left" ++ ns) ++ newline) (sym (nobody s h))
+
+names_are : (d e stop : List ℕ) → ((d ++ 32 ∷ []) ++ 99 ∷ []) ++ (e ++ stop) ≡ (d ++ codes " c") ++ (e ++ stop)
+names_are d e stop = simp append_assoc
+
+-- the names of a mutex and a condition, one after the other
+pub both_names : {bytes : List ℕ} {a k n end : ℕ} (m c : ℕ) (stop : List ℕ) → Stands bytes a (decimal m ++ 32 ∷ []) k → Stands bytes k (99 ∷ []) n → Stands bytes n (decimal c ++ stop) end → Stands bytes a ((decimal m ++ codes " c") ++ (decimal c ++ stop)) end
+both_names m c stop p q r = stands_as (names_are (decimal m) (decimal c) stop) (stands_then (stands_then p q) r)
+
+wait_is : (word d e stop : List ℕ) → word ++ ((d ++ codes " c") ++ (e ++ stop)) ≡ (word ++ d ++ codes " c" ++ e) ++ stop
+wait_is word d e stop = simp append_assoc
+
+-- the names of a mutex and a condition behind a word
+pub after_wait : {l : Layout} {bytes stop : List ℕ} {a k : ℕ} {x : HeldWait} (word : List ℕ) → Stands bytes a word k → IsWaitAt l bytes k stop x → Stands bytes a ((word ++ decimal x.mutex.0 ++ codes " c" ++ decimal x.cond.0) ++ stop) x.end
+after_wait {stop = stop} {x = x} word p w = stands_as (wait_is word (decimal x.mutex.0) (decimal x.cond.0) stop) (stands_then p w.text)
+
+-- how an alertable call ended, behind what stands before it
+ended_is : (front : List ℕ) → (front ++ 32 ∷ []) ++ (codes "returns" ++ newline) ≡ (front ++ codes " returns") ++ newline
+ended_is front = simp append_assoc
+
+pub returned : {bytes : List ℕ} {a k : ℕ} {x : HeldEnding} (front : List ℕ) → Stands bytes a (front ++ 32 ∷ []) k → IsEndingAt bytes k x → x.returns ≡ true → Stands bytes a ((front ++ codes " returns") ++ newline) x.end
+returned front p e is = stands_as (ap (λ r. (front ++ 32 ∷ []) ++ ending_text r) is ∙ ended_is front) (stands_then p e.text)
+
+raised_is : (front : List ℕ) → (front ++ 32 ∷ []) ++ (codes "raises" ++ newline) ≡ (front ++ codes " raises") ++ newline
+raised_is front = simp append_assoc
+
+pub raised : {bytes : List ℕ} {a k : ℕ} {x : HeldEnding} (front : List ℕ) → Stands bytes a (front ++ 32 ∷ []) k → IsEndingAt bytes k x → x.returns ≡ false → Stands bytes a ((front ++ codes " raises") ++ newline) x.end
+raised front p e is = stands_as (ap (λ r. (front ++ 32 ∷ []) ++ ending_text r) is ∙ raised_is front) (stands_then p e.text)
+
+-- a name behind a word
+pub after_name : {bytes stop : List ℕ} {a k : ℕ} {bound : ℕ} {x : HeldName} (word : List ℕ) → Stands bytes a word k → IsNameAt bytes k bound stop x → Stands bytes a ((word ++ decimal x.value) ++ stop) x.end
+after_name {stop = stop} {x = x} word p n = stands_as (sym (append_assoc word (decimal x.value) stop)) (stands_then p n.text)
+
+event_is : (n w t a b : List ℕ) → ((n ++ w) ++ (t ++ 32 ∷ [])) ++ (a ++ b) ≡ (n ++ w ++ t ++ codes " " ++ a) ++ b
+event_is n w t a b = simp append_assoc
+
+-- an event: its place, a word, its thread's name, and its action
+pub event_there : {bytes : List ℕ} {a j k m end : ℕ} (n w t act b : List ℕ) → Stands bytes a n j → Stands bytes j w k → Stands bytes k (t ++ 32 ∷ []) m → Stands bytes m (act ++ b) end → Stands bytes a ((n ++ w ++ t ++ codes " " ++ act) ++ b) end
+event_there n w t act b p q r s = stands_as (event_is n w t act b) (stands_then (stands_then (stands_then p q) r) s)

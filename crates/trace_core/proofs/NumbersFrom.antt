@@ -1,8 +1,9 @@
 -- Reading a number with a lower bound is exact.
-use Rattle.std.proofs.Common.{◌≡◌, ℕ, ◌+◌, ◌-◌, ◌*◌, ◌/◌, ◌%◌, ◌<◌, ◌≤◌, ◌⊎◌, inl, inr, List, [], ◌∷◌, ◌++◌, refl, ap, sym, subst, ◌∙◌, append_assoc, append-nil, Bool, true, false, Ok, Err, arith, rules, tests}
+use Rattle.std.proofs.Common.{◌≡◌, ℕ, ◌+◌, ◌-◌, ◌*◌, ◌/◌, ◌%◌, ◌<◌, ◌≤◌, ◌⊎◌, inl, inr, List, [], ◌∷◌, ◌++◌, length, take, drop, get_or, cond, refl, ap, sym, subst, ◌∙◌, append_assoc, append-nil, Bool, true, false, Ok, Err, arith, rules, tests}
 use Rattle.std.proofs.lemmas.Bool.{eqb-true}
 use Rattle.std.proofs.lemmas.Bool.Decides.{nat_tests}
 use Rattle.std.proofs.lemmas.Fmt.{decimal_step, decimal_digit}
+use Rattle.std.proofs.lemmas.List.{take_all}
 use Rattle.std.specs.Prelude.{decimal, ◌&&◌, nat_le, nat_lt}
 use Rattle.trace_core.specs.declared.line.Stop.TheVariants.{More, Dead}
 use Rattle.trace_core.specs.Codes.{IsCode}
@@ -226,3 +227,41 @@ only_space bound v c e = eqb-true c 32 e
 
 pub space_stops : (bound v : ℕ) → may_stop false bound v 32 ≡ true
 space_stops bound v = refl
+
+taken : {A : Type 0} (b : Bool) (x y : A) → b ≡ true → cond b x y ≡ x
+taken b x y e = rw e refl
+
+-- the first digit
+pub from_first : (several : Bool) (least bound : ℕ) (bytes : List ℕ) (v : ℕ) → 1 ≤ length bytes → 48 ≤ get_or bytes 0 0 → get_or bytes 0 0 ≤ 57 → v ≡ get_or bytes 0 0 - 48 → reaches least bound (get_or bytes 0 0 - 48) ≡ true
+    → (v < bound) × (digits_from several least bound v (take (length bytes - 1) (drop 1 bytes)) ≡ number_from several least bound bytes)
+from_first several least bound [] v some a b e r = absurd (omega arith)
+from_first several least bound (c ∷ bytes) v some a b e r =
+    let rest : take (length (c ∷ bytes) - 1) bytes ≡ bytes = take_all _ bytes (omega arith) in (
+      subst (λ n. n < bound) (sym e) (reaches_below least bound (c - 48) r),
+      ap (λ n. digits_from several least bound n (take (length (c ∷ bytes) - 1) bytes)) e ∙ ap (digits_from several least bound (c - 48)) rest
+      ∙ sym (taken (is_digit c && reaches least bound (c - 48)) _ _ (true_both (is_digit c) _ (digit_from c a b) r)),
+    )
+
+passed : {A : Type 0} (b : Bool) (x y : A) → b ≡ false → cond b x y ≡ y
+passed b x y e = rw e refl
+
+-- a stop needs both tests
+pub left_false : (a b : Bool) → a ≡ false → (a && b) ≡ false
+left_false a b e = rw e refl
+
+pub less_false : (a : Bool) (least v : ℕ) → v < least → (a && nat_le least v) ≡ false
+less_false true least v lt = search (rules, tests)
+less_false false least v lt = refl
+
+-- one more digit, where the number doesn't stop
+pub from_next : (several : Bool) (least bound v : ℕ) (bytes : List ℕ) (d : ℕ) → 1 ≤ length bytes → (may_stop several bound v (get_or bytes 0 0) && nat_le least v) ≡ false → 48 ≤ get_or bytes 0 0 → get_or bytes 0 0 ≤ 57 → 0 < v
+    → d ≡ get_or bytes 0 0 - 48 → reaches least bound (10 * v + (get_or bytes 0 0 - 48)) ≡ true
+    → (10 * v + d < bound) × (digits_from several least bound (10 * v + d) (take (length bytes - 1) (drop 1 bytes)) ≡ digits_from several least bound v bytes)
+from_next several least bound v [] d some stop a b pos e r = absurd (omega arith)
+from_next several least bound v (c ∷ bytes) d some stop a b pos e r =
+    let rest : take (length (c ∷ bytes) - 1) bytes ≡ bytes = take_all _ bytes (omega arith) in
+    let more = true_both (is_digit c) _ (digit_from c a b) (true_both (nat_lt 0 v) _ (from_lt 0 v pos) r) in (
+      subst (λ n. 10 * v + n < bound) (sym e) (reaches_below least bound (10 * v + (c - 48)) r),
+      ap (λ n. digits_from several least bound (10 * v + n) (take (length (c ∷ bytes) - 1) bytes)) e ∙ ap (digits_from several least bound (10 * v + (c - 48))) rest
+      ∙ sym (passed (may_stop several bound v c && nat_le least v) _ _ stop ∙ taken (is_digit c && (nat_lt 0 v && reaches least bound (10 * v + (c - 48)))) _ _ more),
+    )

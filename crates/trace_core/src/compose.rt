@@ -1,11 +1,11 @@
 //! Lines of a trace text, written into a buffer behind its first `at` bytes. Each call says where it ended.
-ghost use Rattle.std.specs.Prelude.{◌≡◌, ◌+◌, ◌≤◌, ◌++◌, length, take, decimal};
+ghost use Rattle.std.specs.Prelude.{◌≡◌, ◌+◌, ◌≤◌, ◌++◌, length, take, codes, decimal};
 ghost use Rattle.larch_actions.specs.declared.event.Action.TheVariants.{TestAlert};
 ghost use Rattle.trace_core.specs.Text.{newline, first_line, layout_line, members, names_text, wait_text, action_text, event_line, end_line, value_line};
 
 use crate::digits::add_short_number;
 use itoa::Buffer;
-use larch_actions::{Action, CondId, Event, Layout, MutexId, ThreadId, ThreadSet};
+use larch_actions::{Action, CondId, Event, Layout, MutexId, SemId, ThreadId, ThreadSet};
 
 /// Adds the piece.
 pub fn add(buf: &mut [u8], at: usize, piece: &[u8]) -> usize
@@ -97,6 +97,43 @@ fn add_answer(buf: &mut [u8], at: usize, yes: bool) -> usize
     }
 }
 
+// Adds the end of an alertable wait, with how it ended.
+#[inline(always)]
+fn add_resumed(buf: &mut [u8], at: usize, mutex: MutexId, cond: CondId, ending: &[u8]) -> usize
+    requires ending { length ending.now ≤ 20 }
+    requires room { at + 100 ≤ length buf.old }
+    ensures text { take result buf.new ≡ take at buf.old ++ (wait_text (codes "alert-resume") mutex.0 cond.0 ++ ending.now) }
+    ensures near { result ≤ at + 100 }
+{
+    let at = add_wait(buf, at, b"alert-resume", mutex, cond);
+    add(buf, at, ending)
+}
+
+// Adds an alertable P, with how it ended.
+#[inline(always)]
+fn add_taken(buf: &mut [u8], at: usize, sem: SemId, ending: &[u8]) -> usize
+    requires ending { length ending.now ≤ 20 }
+    requires room { at + 100 ≤ length buf.old }
+    ensures text { take result buf.new ≡ take at buf.old ++ (codes "alert-p s" ++ decimal sem.0 ++ ending.now) }
+    ensures near { result ≤ at + 100 }
+{
+    let at = add_named(buf, at, b"alert-p s", sem.0);
+    add(buf, at, ending)
+}
+
+// Adds a signal, with the threads that stay.
+#[inline(always)]
+fn add_signal(buf: &mut [u8], at: usize, cond: CondId, left: &ThreadSet) -> usize
+    requires { at + 360 ≤ length buf.old }
+    ensures text { take result buf.new ≡ take at buf.old ++ (codes "signal c" ++ decimal cond.0 ++ codes " left"
+        ++ names_text (members left.now)) }
+    ensures near { result ≤ at + 310 }
+{
+    let at = add_named(buf, at, b"signal c", cond.0);
+    let at = add(buf, at, b" left");
+    add_names(buf, at, left)
+}
+
 // Adds the action.
 fn add_action(buf: &mut [u8], at: usize, action: &Action) -> usize
     requires { at + 360 ≤ length buf.old }
@@ -109,32 +146,16 @@ fn add_action(buf: &mut [u8], at: usize, action: &Action) -> usize
         Action::Enqueue { mutex, cond } => add_wait(buf, at, b"enqueue", *mutex, *cond),
         Action::Resume { mutex, cond } => add_wait(buf, at, b"resume", *mutex, *cond),
         Action::AlertEnqueue { mutex, cond } => add_wait(buf, at, b"alert-enqueue", *mutex, *cond),
-        Action::AlertReturn { mutex, cond } => {
-            let at = add_wait(buf, at, b"alert-resume", *mutex, *cond);
-            add(buf, at, b" returns")
-        }
-        Action::AlertRaise { mutex, cond } => {
-            let at = add_wait(buf, at, b"alert-resume", *mutex, *cond);
-            add(buf, at, b" raises")
-        }
-        Action::Signal { cond, left } => {
-            let at = add_named(buf, at, b"signal c", cond.0);
-            let at = add(buf, at, b" left");
-            add_names(buf, at, left)
-        }
+        Action::AlertReturn { mutex, cond } => add_resumed(buf, at, *mutex, *cond, b" returns"),
+        Action::AlertRaise { mutex, cond } => add_resumed(buf, at, *mutex, *cond, b" raises"),
+        Action::Signal { cond, left } => add_signal(buf, at, *cond, left),
         Action::Broadcast { cond } => add_named(buf, at, b"broadcast c", cond.0),
         Action::P { sem } => add_named(buf, at, b"p s", sem.0),
         Action::V { sem } => add_named(buf, at, b"v s", sem.0),
         Action::Alert { who } => add_named(buf, at, b"alert t", who.0),
         Action::TestAlert { yes } => add_answer(buf, at, *yes),
-        Action::AlertPReturn { sem } => {
-            let at = add_named(buf, at, b"alert-p s", sem.0);
-            add(buf, at, b" returns")
-        }
-        Action::AlertPRaise { sem } => {
-            let at = add_named(buf, at, b"alert-p s", sem.0);
-            add(buf, at, b" raises")
-        }
+        Action::AlertPReturn { sem } => add_taken(buf, at, *sem, b" returns"),
+        Action::AlertPRaise { sem } => add_taken(buf, at, *sem, b" raises"),
     }
 }
 

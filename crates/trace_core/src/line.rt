@@ -1,7 +1,7 @@
 //! The lines of a trace text.
-ghost use Rattle.std.specs.Prelude.{◌≡◌, ◌≤◌, ◌<◌, length};
+ghost use Rattle.std.specs.Prelude.{◌≡◌, ◌≤◌, ◌<◌, length, codes};
 ghost use Rattle.larch_actions.specs.Layout.{IsLawful};
-ghost use Rattle.trace_core.specs.Reading.{Gives};
+ghost use Rattle.trace_core.specs.Reading.{Gives, after_word, both, number_at};
 ghost use Rattle.trace_core.specs.Lines.{IsPossible, event_at, event_or_end_at, counts_at, value_at, line_at};
 
 use crate::action::action;
@@ -71,6 +71,18 @@ fn event_or_end<'b>(bytes: &'b [u8], layout: &Layout, place: u64) -> Result<(Lin
     Ok((Line::End, rest))
 }
 
+// Reads the counts of conditions and semaphores, up to the end of the layout line.
+fn last_counts(bytes: &[u8]) -> Result<((u32, u32), &[u8]), Stop>
+    ensures { Gives (λ x. ((x.0.0, x.0.1), x.1.now)) result (after_word (codes "conditions ") (both (number_at 0 65 32) (λ _.
+        after_word (codes "semaphores ") (number_at 0 65 10))) bytes.now) }
+{
+    let rest = word(bytes, b"conditions ")?;
+    let (conditions, rest) = number(rest, 0, 65, b' ')?;
+    let rest = word(rest, b"semaphores ")?;
+    let (semaphores, rest) = number(rest, 0, 65, b'\n')?;
+    Ok(((conditions, semaphores), rest))
+}
+
 // Reads the layout line.
 fn counts(bytes: &[u8]) -> Result<(Layout, &[u8]), Stop>
     ensures { Gives (λ x. (x.0, x.1.now)) result (counts_at bytes.now) }
@@ -79,10 +91,7 @@ fn counts(bytes: &[u8]) -> Result<(Layout, &[u8]), Stop>
     let (threads, rest) = number(rest, 1, 65, b' ')?;
     let rest = word(rest, b"mutexes ")?;
     let (mutexes, rest) = number(rest, 0, 65, b' ')?;
-    let rest = word(rest, b"conditions ")?;
-    let (conditions, rest) = number(rest, 0, 65, b' ')?;
-    let rest = word(rest, b"semaphores ")?;
-    let (semaphores, rest) = number(rest, 0, 65, b'\n')?;
+    let ((conditions, semaphores), rest) = last_counts(rest)?;
     Ok((
         Layout {
             threads,

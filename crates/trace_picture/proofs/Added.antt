@@ -44,3 +44,6 @@ module _ (old a b c : List ℕ) (p q r s t : List ℕ) (one : a ≡ old ++ p) (t
 
   pub added_five : (d e : List ℕ) → d ≡ c ++ s → e ≡ d ++ t → e ≡ old ++ (p ++ q ++ r ++ s ++ t)
   added_five d e four five = added_two old d e (p ++ q ++ r ++ s) t (added_four d four) five
+
+  pub added_six : (d e f u : List ℕ) → d ≡ c ++ s → e ≡ d ++ t → f ≡ e ++ u → f ≡ old ++ (p ++ q ++ r ++ s ++ t ++ u)
+  added_six d e f u four five six = added_two old e f (p ++ q ++ r ++ s ++ t) u (added_five d e four five) six

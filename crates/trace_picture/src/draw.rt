@@ -143,8 +143,30 @@ pub fn draw_trace<I: Source, O: Sink>(
     ensures later { I.faults input.old ≤ I.faults input.new }
 {
     let mut buf = [0; 131072];
+    draw_by(&mut buf, input, budget, view, out)
+}
+
+// Checks and draws by way of the buffer.
+fn draw_by<I: Source, O: Sink>(
+    buf: &mut [u8],
+    input: &mut I,
+    budget: u64,
+    view: &View,
+    out: &mut O,
+) -> Result<Verdict, SinkFault>
+    requires large { 100000 ≤ length buf.old }
+    requires budget { budget ≤ 2 ^ 40 }
+    ensures just { IfOk result (λ v. IsJust budget (I.left input.old) (I.left input.new) (I.faults input.old) (I.faults input.new) v) }
+    ensures exact { IfOk result (λ v. (bytes : List ℕ) (other : Verdict) → I.left input.old ≡ Some bytes → v ≢ verdict.ReadFault
+        → other ≢ verdict.ReadFault
+        → IsJust budget (I.left input.old) (I.left input.new) (I.faults input.old) (I.faults input.new) other → v ≡ other) }
+    ensures drawn { IfOk result (λ v. IsDrawn budget view.now (I.left input.old) (O.held out.old) (O.held out.new) v) }
+    ensures cut_off { OnErr result (IsCutOff budget view.now (I.left input.old) (O.held out.old) (O.held out.new)) }
+    ensures cause { HasCause (O.faults out.old) (O.faults out.new) result }
+    ensures later { I.faults input.old ≤ I.faults input.new }
+{
     let mut reader = EventReader::new(input, budget);
-    draw_all(&mut reader, view, &mut buf, out)
+    draw_all(&mut reader, view, buf, out)
 }
 
 // Draws what a new reader gives.

@@ -1,15 +1,17 @@
-use Rattle.std.proofs.Common.{◌∙◌, Option, subst, sym, codes}
+use Rattle.std.proofs.Common.{◌≡◌, ◌∙◌, Option, None, Some, subst, sym, codes}
 use Rattle.clap.specs.Words.{found_of}
 use Rattle.clap.proofs.WalkLemmas.{first_value-rows}
 use Rattle.command_line.specs.Grammar.{Text}
 use Rattle.command_line.specs.Reading.{IsNumberOr, IsStop}
 use Rattle.command_line.proofs.options.options_in.Goals as goal
 
+never : {A : Type 0} (o : Option A) (x : A) → o ≡ None → o ≡ Some x → ⊥
+never o x p q = cc
+
 pub returns-in_err-get_str-clause-none : goal.returns-in_err-get_str-clause-none
 returns-in_err-get_str-clause-none c = rw c.from_residual.ensures (λ o h.
     let none = sym (first_value-rows (found_of c.args.matches.now) (codes "dir")) ∙ sym c.in_err-get_str.ensures in
-    let some = h.directory in
-    cc)
+    never _ _ none h.directory)
 
 pub returns-in_err-read_count-clause-none : goal.returns-in_err-read_count-clause-none
 returns-in_err-read_count-clause-none c = rw c.from_residual-in_err-read_count.ensures (λ o h. c.in_err-read_count.ensures.none o.walkers

@@ -1,4 +1,5 @@
-use Rattle.std.proofs.Common.{Err, List, ap, map, subst, sym}
+use Rattle.std.proofs.Common.{Err, List, ap, map, subst, sym, ◌∙◌}
+use Rattle.std.proofs.lemmas.Bool.{false≢true}
 use Rattle.std.specs.String.{string_bytes}
 use Rattle.clap.specs.Walk.{Row}
 use Rattle.command_line.specs.Reading.{HoldOptions, IsOffered}
@@ -10,7 +11,7 @@ use Rattle.command_line.proofs.options.read_options.Goals as goal
 pub returns-then-not-are_offered-clause-usage : goal.returns-then-not-are_offered-clause-usage
 returns-then-not-are_offered-clause-usage c = λ e p s.
     let yes = c.are_offered.ensures.1 (all_texts string_bytes IsOffered c.args.words.now (said-offered (map string_bytes c.args.words.now) p s)) in
-    cc
+    false≢true (sym c.if-not-are_offered.true ∙ yes)
 
 pub returns-in_err-matches-clause-usage : goal.returns-in_err-matches-clause-usage
 returns-in_err-matches-clause-usage c = λ e p s.

@@ -1,6 +1,7 @@
-use Rattle.std.proofs.Common.{subst}
+use Rattle.std.proofs.Common.{subst, sym, ◌∙◌}
+use Rattle.std.proofs.Math.Path.{fun_ext}
 use Rattle.firefly_outside.specs.Trees.{Told, Adds, Names}
-use Rattle.firefly_outside.specs.MemTrees.{told_by, node_of}
+use Rattle.firefly_outside.specs.MemTrees.{told_by, node_of, IsWhole}
 use Rattle.firefly_outside.proofs.TreeLemmas.{Adds-from_names, IsWhole-add, told_by-reordered}
 use Rattle.firefly_outside.proofs.place.add_place.Goals as goal
 
@@ -14,3 +15,10 @@ returns-clause-ok c = adds c
 
 pub returns-clause-whole : goal.returns-clause-whole
 returns-clause-whole c = IsWhole-add (told_by c.args.places.now) (told_by c.put_place.new.places) c.args.path.now c.args.kind (node_of c.args.place) c.requires.whole c.requires.absent c.requires.parent c.requires.leaf (adds c)
+
+pub returns-in_err-reserve-clause-whole : goal.returns-in_err-reserve-clause-whole
+returns-in_err-reserve-clause-whole c = subst IsWhole (sym (told_by-reordered c.args.places.now c.reserve.new.self c.in_err-reserve.ensures.entries)) c.requires.whole
+
+pub returns-in_err-name_in_parent-clause-whole : goal.returns-in_err-name_in_parent-clause-whole
+returns-in_err-name_in_parent-clause-whole c =
+    subst IsWhole (sym (fun_ext c.in_err-name_in_parent.ensures.err ∙ told_by-reordered c.args.places.now c.reserve.new.self c.in_ok-reserve.ensures.entries)) c.requires.whole

@@ -1,4 +1,5 @@
 use Rattle.std.proofs.Common.{sym, ◌∙◌, arith}
+use Rattle.std.proofs.lemmas.Bool.{false≢true}
 use Rattle.std.proofs.lemmas.Bool.Decides.{Decides-eqb}
 use Rattle.std.proofs.lemmas.Fmt.{decimal_injective}
 use Rattle.std.proofs.lemmas.List.{append_cancel_left}
@@ -52,4 +53,4 @@ returns-else-lawful c l ok e =
       conditions = omega (arith, d.0, ok.conditions);
       semaphores = n.0;
     }) in
-    absurd (cc)
+    absurd (false≢true k)

@@ -1,4 +1,5 @@
-use Rattle.std.proofs.Common.{◌≡◌, ap, subst, sym, ◌∙◌, arith}
+use Rattle.std.proofs.Common.{◌≡◌, ℕ, Result, Ok, ap, subst, sym, ◌∙◌, arith}
+use Rattle.std.proofs.lemmas.Bool.{false≢true}
 use Rattle.std.proofs.lemmas.Bool.Decides.{Decides-eqb}
 use Rattle.std.proofs.lemmas.Fmt.{IsAscii-decimal, parse-decimal}
 use Rattle.std.proofs.lemmas.Slice.Eq.{slice_eq-Decides}
@@ -7,6 +8,9 @@ use Rattle.std.specs.Prelude.{decimal}
 use Rattle.std.specs.Str.{IsUtf8}
 use Rattle.firefly_script.proofs.parse.number.Goals as goal
 use Rattle.firefly_script.proofs.parse.number.Goals.{else-value-most-via-then-value-most+else-eq, else-value-most-via-else-value-most}
+
+ok_same : {E : Type 0} (r : Result ℕ E) (x y : ℕ) → r ≡ Ok x → r ≡ Ok y → x ≡ y
+ok_same r x y p q = cc
 
 pub returns-in_default : goal.returns-in_default
 returns-in_default c x le e =
@@ -19,13 +23,11 @@ returns-in_default-parse c x le e =
 pub returns-else-value-most : goal.returns-else-value-most
 returns-else-value-most c x le e =
     let p = parse-decimal 64 x c.in-Ok.text.now c.parse.result (omega (arith, c.ranges.most.fits)) (omega (arith, c.ranges.most.fits)) (c.in-Ok.ensures.cases.0 ∙ e) c.parse.ensures.value.0 in
-    let is = c.in-Ok-parse.is in
-    let same : c.in-Ok-parse.value ≡ x = cc in
+    let same = ok_same c.parse.result c.in-Ok-parse.value x c.in-Ok-parse.is p in
     elim c.else-value-most.branch [
       | else-value-most-via-then-value-most+else-eq w ↦
           let spelt = c.as_bytes-spelt.ensures.value ∙ c.format.ensures.text ∙ ap decimal same ∙ sym e in
           let k = (slice_eq-Decides Decides-eqb c.as_bytes-spelt.result.now c.args.bytes.now w.eq.result w.eq.ensures).1 spelt in
-          let h = w.if-eq.false in
-          absurd (cc)
+          absurd (false≢true (sym w.if-eq.false ∙ k))
       | else-value-most-via-else-value-most w ↦ let h = w.if-value-most.false in absurd (omega arith)
     ]

@@ -1,4 +1,4 @@
-use Rattle.std.proofs.Common.{◌≡◌, ◌<◌, ◌≤◌, ◌++◌, ℕ, suc, List, [], get_or, sym, ap, subst, ◌∙◌, arith}
+use Rattle.std.proofs.Common.{◌≡◌, ◌<◌, ◌≤◌, ◌++◌, append-nil, ℕ, suc, List, [], get_or, sym, ap, subst, ◌∙◌, arith}
 use Rattle.larch_actions.specs.declared.event.Event.{Event}
 use Rattle.firefly_script.specs.Runs.{times, returned, raised}
 use Rattle.script_run.specs.Playing.{IsPlaying, HasMutex}
@@ -23,6 +23,13 @@ loop-preserved g c =
       played = λ xs s has. let r = step xs s has in (suc r.0, once_more (λ u. returned u m k) p t c.loop.me.number xs r.0 _ _ v.same r.1);
       no_wait = λ le. let same = (v.no_wait le).0 in let here : get_or c.loop.numbers m.0 0 ≡ get_or c.args.numbers.now m.0 0 = ap (λ l. get_or l m.0 0) same in let less = c.if-numbers-mutex.false in absurd (omega arith);
     }
+
+pub returns-then-numbers-mutex-clause-played : goal.returns-then-numbers-mutex-clause-played
+returns-then-numbers-mutex-clause-played g c xs s has =
+    let t = c.args.me.now.number in
+    let r = c.loop.invariant.played xs s has in
+    let P : List Event → Type 0 = λ es. IsPlaying c.args.pkg.now t xs es c.loop.numbers c.loop.me in
+    (r.0, subst P (sym (append-nil (times r.0 (returned t c.args.mutex c.args.cond)))) r.1)
 
 pub returns-in-Alerted-clause-played : goal.returns-in-Alerted-clause-played
 returns-in-Alerted-clause-played g c xs s has =

@@ -1,38 +1,17 @@
-use Rattle.std.proofs.Common.{take, arith}
-use Rattle.trace_core.specs.Whole.{numbered}
-use Rattle.trace_core.proofs.Ends.{on_ok, on_err}
-use Rattle.trace_core.proofs.Wholes.{whole_put, events_fault, values_fault, last_fault, whole_reads}
+use Rattle.std.proofs.Common.{ℕ, ◌≤◌, List, length, replicate, arith}
+use Rattle.std.proofs.lemmas.List.{length-replicate}
+use Rattle.trace_core.proofs.Wholes.{whole_reads}
 use Rattle.trace_core.proofs.laws.print_whole.Goals as goal
 
-pub returns-in-Err-clause-reads : goal.returns-in-Err-clause-reads
-returns-in-Err-clause-reads g c = whole_reads c.args.layout.now c.args.events.now c.args.values.now c.requires.lawful c.requires.named c.put_events.ensures.few c.requires.valued (λ i. omega (arith, c.type_inv.values i))
+-- said of any number of bytes, since counting so many takes long
+enough : (n : ℕ) → 1000 ≤ n → 1000 ≤ length (let bytes : List ℕ = replicate n 0 in bytes)
+enough n h = rw length-replicate h
 
-pub returns-in-Err-clause-err : goal.returns-in-Err-clause-err
-returns-in-Err-clause-err g c =
-    events_fault c.args.layout.now c.args.events.now (numbered 0 c.args.values.now) (g.O.Sink.held c.args.out.now) (g.O.Sink.held c.put_events.new.out) (take c.add_head-at.result c.add_head-at.new.buf) c.add_head-at.ensures.text c.in-Err.ensures.err
-
-pub returns-in-Err-put_values-clause-reads : goal.returns-in-Err-put_values-clause-reads
-returns-in-Err-put_values-clause-reads g c =
-    whole_reads c.args.layout.now c.args.events.now c.args.values.now c.requires.lawful c.requires.named c.put_events.ensures.few c.requires.valued (λ i. omega (arith, c.type_inv.values i))
-
-pub returns-in-Err-put_values-clause-err : goal.returns-in-Err-put_values-clause-err
-returns-in-Err-put_values-clause-err g c =
-    values_fault c.args.layout.now c.args.events.now (numbered 0 c.args.values.now) (g.O.Sink.held c.args.out.now) (g.O.Sink.held c.put_events.new.out) (g.O.Sink.held c.put_values.new.out) (take c.add_head-at.result c.add_head-at.new.buf) (take c.in-Ok.end c.put_events.new.buf) c.add_head-at.ensures.text
-    c.in-Ok.ensures.ok c.in-Err-put_values.ensures.err
-
-pub returns-clause-ok : goal.returns-clause-ok
-returns-clause-ok g c =
-    on_ok c.put_all.result
-    (whole_put c.args.layout.now c.args.events.now (numbered 0 c.args.values.now) (g.O.Sink.held c.args.out.now) (g.O.Sink.held c.put_events.new.out) (g.O.Sink.held c.put_values.new.out) (g.O.Sink.held c.put_all.new.out) (take c.add_head-at.result c.add_head-at.new.buf) (take c.in-Ok.end c.put_events.new.buf) _ c.add_head-at.ensures.text
-    c.in-Ok.ensures.ok c.in-Ok-put_values.ensures.ok)
-    c.put_all.ensures.ok
+large : 1000 ≤ 65536
+large = omega arith
 
 pub returns-clause-reads : goal.returns-clause-reads
-returns-clause-reads g c = whole_reads c.args.layout.now c.args.events.now c.args.values.now c.requires.lawful c.requires.named c.put_events.ensures.few c.requires.valued (λ i. omega (arith, c.type_inv.values i))
+returns-clause-reads g c = whole_reads c.args.layout.now c.args.events.now c.args.values.now c.requires.lawful c.requires.named c.put_whole.ensures.few c.requires.valued (λ i. omega (arith, c.type_inv.values i))
 
-pub returns-clause-err : goal.returns-clause-err
-returns-clause-err g c =
-    on_err c.put_all.result
-    (last_fault c.args.layout.now c.args.events.now (numbered 0 c.args.values.now) (g.O.Sink.held c.args.out.now) (g.O.Sink.held c.put_events.new.out) (g.O.Sink.held c.put_values.new.out) (g.O.Sink.held c.put_all.new.out) (take c.add_head-at.result c.add_head-at.new.buf) (take c.in-Ok.end c.put_events.new.buf) _ c.add_head-at.ensures.text
-    c.in-Ok.ensures.ok c.in-Ok-put_values.ensures.ok)
-    c.put_all.ensures.err
+pub put_whole-requires-clause-large : goal.put_whole-requires-clause-large
+put_whole-requires-clause-large g c = enough 65536 large

@@ -1,4 +1,5 @@
-use Rattle.std.proofs.Common.{◌≡◌, ◌-◌, ◌^◌, ◌<◌, ◌++◌, [], take, refl, ap, sym, ◌∙◌, arith}
+use Rattle.std.proofs.Common.{◌≡◌, ◌≤◌, ℕ, Result, Err, inl, inr, ◌-◌, ◌^◌, ◌<◌, ◌++◌, [], take, refl, ap, sym, ◌∙◌, arith}
+use Rattle.firefly_outside.specs.Causes.{HasCause}
 use Rattle.trace_check.specs.declared.checker.Summary.{Summary}
 use Rattle.trace_check.proofs.UnderWay.{head_fault, fault_on, fails_on, ends_on}
 use Rattle.trace_check.proofs.Fronts.{event_line_some}
@@ -7,6 +8,17 @@ use Rattle.trace_picture.specs.Kept.{kept_of}
 use Rattle.trace_picture.specs.Picture.{head_text}
 use Rattle.trace_picture.proofs.Drawing.{drawing_starts, drawing_few, drawing_room, drawing_steps, headless_drawn, room_cut, refused_got, refused_cut, legal_got, legal_cut, failed_got, failed_cut, take_none}
 use Rattle.trace_picture.proofs.draw.draw_all.Goals as goal
+
+-- a fault since a later count is one since the earlier
+cause_after : {T S E : Type 0} (a b n : ℕ) (e f : E) → a ≤ b → HasCause b n (let r : Result T E = Err e in r) → HasCause a n (let r : Result S E = Err f in r)
+cause_after a b n e f le h = record {
+  later = omega (arith, h.later);
+  failed =
+      elim h.failed [
+        | inl m ↦ inl (omega arith)
+        | inr m ↦ inr m
+      ];
+}
 
 pub returns-in-Err-clause-just : goal.returns-in-Err-clause-just
 returns-in-Err-clause-just g c =
@@ -128,3 +140,21 @@ returns-in-Err-end_cut-clause-cut_off g c =
     let i = c.loop-free.invariant in
     let d = drawing_room _ _ _ _ _ _ _ _ _ _ _ _ i.drawing (g.O.Sink.held c.make_room.new.out) (take c.in-Ok-make_room.free c.loop-free.buf) c.in-Ok-make_room.ensures.ok in
     refused_cut _ _ _ _ _ _ _ _ _ _ _ _ d _ (g.O.Sink.held c.end_cut.new.out) c.in-Ok.layout i.laid refl c.in-Err-end_cut.ensures.err
+
+pub returns-in-Err-make_room-clause-cause : goal.returns-in-Err-make_room-clause-cause
+returns-in-Err-make_room-clause-cause g c = cause_after _ _ _ _ _ c.loop-free.invariant.sunk c.in-Err-make_room.ensures.cause
+
+pub returns-in-Err-end_failed-clause-cause : goal.returns-in-Err-end_failed-clause-cause
+returns-in-Err-end_failed-clause-cause g c =
+    let i = c.loop-free.invariant in
+    cause_after _ _ _ _ _ (omega (arith, i.sunk, c.make_room.ensures.cause.later)) c.in-Err-end_failed.ensures.cause
+
+pub returns-in-Err-end_legal-clause-cause : goal.returns-in-Err-end_legal-clause-cause
+returns-in-Err-end_legal-clause-cause g c =
+    let i = c.loop-free.invariant in
+    cause_after _ _ _ _ _ (omega (arith, i.sunk, c.make_room.ensures.cause.later)) c.in-Err-end_legal.ensures.cause
+
+pub returns-in-Err-end_cut-clause-cause : goal.returns-in-Err-end_cut-clause-cause
+returns-in-Err-end_cut-clause-cause g c =
+    let i = c.loop-free.invariant in
+    cause_after _ _ _ _ _ (omega (arith, i.sunk, c.make_room.ensures.cause.later)) c.in-Err-end_cut.ensures.cause

@@ -1,8 +1,19 @@
-use Rattle.std.proofs.Common.{◌-◌, ◌^◌, ◌<◌, arith, rules}
-use Rattle.trace_picture.proofs.Exact.{exact_if}
+use Rattle.std.proofs.Common.{ℕ, ◌≤◌, List, length, replicate, refl, arith}
+use Rattle.std.proofs.lemmas.List.{length-replicate}
 use Rattle.trace_picture.proofs.draw.draw_trace.Goals as goal
 
-pub returns-clause-exact : goal.returns-clause-exact
-returns-clause-exact g c =
-    let fits : c.args.budget < 2 ^ 64 - 1 = omega arith in
-    exact_if c.args.budget (g.I.Source.left c.args.input.now) (g.I.Source.left c.input-1.given.0) (g.I.Source.faults c.args.input.now) (g.I.Source.faults c.input-1.given.0) c.draw_all.result fits (search rules)
+-- said of any number of bytes, since counting so many takes long
+enough : (n : ℕ) → 100000 ≤ n → 100000 ≤ length (let bytes : List ℕ = replicate n 0 in bytes)
+enough n h = rw length-replicate h
+
+large : 100000 ≤ 131072
+large = omega arith
+
+pub draw_by-requires-clause-large : goal.draw_by-requires-clause-large
+draw_by-requires-clause-large g c = enough 131072 large
+
+pub returns-clause-later : goal.returns-clause-later
+returns-clause-later g c = c.draw_by.ensures.later
+
+pub slice_bounds-draw_by-end : goal.slice_bounds-draw_by-end
+slice_bounds-draw_by-end g c = refl

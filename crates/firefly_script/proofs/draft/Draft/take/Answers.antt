@@ -1,4 +1,5 @@
 use Rattle.std.proofs.Common.{◌∷◌, [], refl, sym, subst, ◌∙◌}
+use Rattle.std.proofs.lemmas.Bool.{false≢true}
 use Rattle.firefly_script.specs.declared.line.Line.{Line}
 use Rattle.firefly_script.specs.Operations.{held_after, none_held, MayDo, MayCome}
 use Rattle.firefly_script.proofs.Follow.{held_append, follow_append}
@@ -13,8 +14,7 @@ returns-then-not-step-clause-refused c e x may is =
     let same = line_same d.layout c.requires.lawful x c.in-Some.line (may.thread, may.named) n.0 (sym is ∙ n.1) in
     let P : Line → Type 0 = λ y. MayDo h y.thread.0 y.operation in
     let k = (c.step.ensures.may h c.requires.shows).1 (subst P same may.may) in
-    let f = c.if-not-step.true in
-    absurd (cc)
+    absurd (false≢true (sym c.if-not-step.true ∙ k))
 
 pub returns-clause-taken : goal.returns-clause-taken
 returns-clause-taken c e =
