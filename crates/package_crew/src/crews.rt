@@ -57,14 +57,8 @@ pub fn at_once<T: Send + Drop, X: Send + Drop, R: Threads + Wait, F: Fn(T) -> (T
     ensures results { IfOk result (λ r. length r.1.items ≡ length threads.items) }
     ensures each { IfOk result (λ r. Each (λ n t. CameBack (λ was left. F.post f.now was (t, left)) threads.items r.1.items n) r.0.items) }
 {
-    let count = threads.len();
-    let back = Vec::with_capacity(alloc, count)?;
-    let left = Vec::with_capacity(alloc, count)?;
-    let jobs = calls(alloc, threads, f)?;
-    let Ok(finished) = run_crew(rt, alloc, jobs, count, |_refused: bool| {}) else {
-        return Err(AllocError);
-    };
-    Ok(parted(finished.results, back, left))
+    let (threads, results, ()) = at_once_beside(rt, alloc, threads, f, |_refused: bool| {})?;
+    Ok((threads, results))
 }
 
 /// The same, and meanwhile the caller does a part of its own: `between` is called once all were started that can be, and told whether one
