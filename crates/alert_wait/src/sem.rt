@@ -98,8 +98,8 @@ fn end_alerted<U: Uses, R: Wait>(rt: &R, p: &Package<U>, me: &mut Thread<U>, s: 
     Outcome::Alerted
 }
 
-/// Takes the alerted thread out of the queue, and tries the bit once more where another thread had popped it. It answers whether it took the
-/// bit, and so made the event. It may wait.
+/// Takes the alerted thread out of the queue, and tries the bit once more where another thread had popped it. It answers whether it took
+/// the bit, and so made the event. It may wait.
 fn take_at_last<U: Uses, R: Wait>(rt: &R, p: &Package<U>, me: &mut Thread<U>, s: SemId) -> bool
     requires of { me.old.table_id ≡ p.now.table_id }
     requires named { s.0 < p.now.layout.semaphores }
