@@ -239,7 +239,7 @@ from_first several least bound (c ∷ bytes) v some a b e r =
     let rest : take (length (c ∷ bytes) - 1) bytes ≡ bytes = take_all _ bytes (omega arith) in (
       subst (λ n. n < bound) (sym e) (reaches_below least bound (c - 48) r),
       ap (λ n. digits_from several least bound n (take (length (c ∷ bytes) - 1) bytes)) e ∙ ap (digits_from several least bound (c - 48)) rest
-      ∙ sym (taken (is_digit c && reaches least bound (c - 48)) _ _ (true_both (is_digit c) _ (digit_from c a b) r)),
+          ∙ sym (taken (is_digit c && reaches least bound (c - 48)) _ _ (true_both (is_digit c) _ (digit_from c a b) r)),
     )
 
 passed : {A : Type 0} (b : Bool) (x y : A) → b ≡ false → cond b x y ≡ y
@@ -263,5 +263,5 @@ from_next several least bound v (c ∷ bytes) d some stop a b pos e r =
     let more = true_both (is_digit c) _ (digit_from c a b) (true_both (nat_lt 0 v) _ (from_lt 0 v pos) r) in (
       subst (λ n. 10 * v + n < bound) (sym e) (reaches_below least bound (10 * v + (c - 48)) r),
       ap (λ n. digits_from several least bound (10 * v + n) (take (length (c ∷ bytes) - 1) bytes)) e ∙ ap (digits_from several least bound (10 * v + (c - 48))) rest
-      ∙ sym (passed (may_stop several bound v c && nat_le least v) _ _ stop ∙ taken (is_digit c && (nat_lt 0 v && reaches least bound (10 * v + (c - 48)))) _ _ more),
+          ∙ sym (passed (may_stop several bound v c && nat_le least v) _ _ stop ∙ taken (is_digit c && (nat_lt 0 v && reaches least bound (10 * v + (c - 48)))) _ _ more),
     )
