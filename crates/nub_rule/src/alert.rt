@@ -13,6 +13,7 @@ use crate::line::leave_line;
 use crate::package::{Package, Thread};
 use crate::places::{SEMAPHORES, alert_word, sem_length_word};
 use crate::plays::{LeaveSemQueue, OrAlert, ReadAlert, SwapAlert, SwapAlertInP, SwapAlertInRaise};
+use crate::stepping::{fetch_and, fetch_or, load, store, swap};
 use crate::uses::Uses;
 use crate::waking::unpark;
 use larch_actions::{CondId, MutexId, SemId, ThreadId};
@@ -26,9 +27,7 @@ pub fn read_alert<U: Uses>(p: &Package<U>, me: &mut Thread<U>) -> u64
     ensures none { result ≡ 0 → me.new ≡ me.old }
     ensures alerted { result ≢ 0 → me.new ≡ record me.old { alerted = true; stand = alerted_stand me.old.stand } }
 {
-    p.table
-        .shared
-        .load::<ReadAlert>(&mut me.seat, alert_word(me.number))
+    load::<ReadAlert, U>(&p.table, &mut me.seat, alert_word(me.number))
 }
 
 /// Alerts the thread t, and unparks it: it may sleep where an alert ends its sleep.
@@ -41,10 +40,7 @@ pub fn or_alert<U: Uses>(p: &Package<U>, me: &mut Thread<U>, t: ThreadId) -> u64
     ensures alerted { me.new ≡ record (learnt me.old me.new) { pen = made me.old.pen } }
 {
     // First the word, then the unparking: a thread that wakes up reads the word, and would park again if it weren't set yet.
-    let found = p
-        .table
-        .shared
-        .fetch_or::<OrAlert>(&mut me.seat, alert_word(t.0), 1);
+    let found = fetch_or::<OrAlert, U>(&p.table, &mut me.seat, alert_word(t.0), 1);
     unpark(p, t);
     found
 }
@@ -59,9 +55,7 @@ pub fn swap_alert<U: Uses>(p: &Package<U>, me: &mut Thread<U>) -> u64
     ensures event { Makes (test_alert_event me.old.number (eqb result 1)) me.old me.new }
     ensures cleared { me.new ≡ record (learnt me.old me.new) { alerted = false; pen = made me.old.pen } }
 {
-    p.table
-        .shared
-        .swap::<SwapAlert>(&mut me.seat, alert_word(me.number), 0)
+    swap::<SwapAlert, U>(&p.table, &mut me.seat, alert_word(me.number), 0)
 }
 
 /// Clears the own alert word, which was found set, to raise out of a P of s. The thread stands in no queue then.
@@ -76,9 +70,12 @@ pub fn swap_alert_in_p<U: Uses>(p: &Package<U>, me: &mut Thread<U>, s: SemId) ->
     ensures cleared { me.new ≡ record (learnt me.old me.new) { alerted = false; pen = made me.old.pen } }
 {
     // An alert word is 0 or 1, so this leaves 0, as a swap would. Which semaphore it is stands in no word: the mask tells it the rule.
-    p.table
-        .shared
-        .fetch_and::<SwapAlertInP>(&mut me.seat, alert_word(me.number), 2 * s.0 as u64)
+    fetch_and::<SwapAlertInP, U>(
+        &p.table,
+        &mut me.seat,
+        alert_word(me.number),
+        2 * s.0 as u64,
+    )
 }
 
 /// Clears the own alert word, which was found set, to raise out of an alertable wait on m in c. The thread has taken the bit of m before, for
@@ -101,9 +98,7 @@ pub fn swap_alert_in_raise<U: Uses>(
     ensures raised { me.new ≡ record (learnt me.old me.new) { wait = None; alerted = false; pen = made me.old.pen } }
 {
     let _names = (m, c);
-    p.table
-        .shared
-        .swap::<SwapAlertInRaise>(&mut me.seat, alert_word(me.number), 0)
+    swap::<SwapAlertInRaise, U>(&p.table, &mut me.seat, alert_word(me.number), 0)
 }
 
 /// Takes the thread out of the queue of s, after it found the bit clear or its alert word set. It answers whether the thread was in it. A
@@ -127,8 +122,6 @@ pub fn leave_sem_queue<U: Uses>(p: &Package<U>, me: &mut Thread<U>, s: SemId) ->
     let Some(length) = leave_line(me.seat.slot_mut(&p.table.shared, o), me.number) else {
         return false;
     };
-    p.table
-        .shared
-        .store::<LeaveSemQueue>(&mut me.seat, sem_length_word(s), length);
+    store::<LeaveSemQueue, U>(&p.table, &mut me.seat, sem_length_word(s), length);
     true
 }

@@ -18,6 +18,7 @@ use crate::plays::{
     AdvanceBroadcast, AdvanceSignal, CompareCount, KnowCount, LeaveCondQueue, LoadCount,
     LoadCountAlertable, PopCond, PushCond,
 };
+use crate::stepping::{fetch_add, load, store};
 use crate::uses::Uses;
 use larch_actions::{CondId, MutexId, ThreadId, ThreadSet};
 
@@ -36,9 +37,7 @@ pub fn load_count<U: Uses>(p: &Package<U>, me: &mut Thread<U>, m: MutexId, c: Co
 {
     prove!(m.0 < p.layout.mutexes);
     bring(&mut me.hand, &mut me.seat, VALUES + m.0 as u16);
-    p.table
-        .shared
-        .load::<LoadCount>(&mut me.seat, count_word(c))
+    load::<LoadCount, U>(&p.table, &mut me.seat, count_word(c))
 }
 
 /// Reads the count of c, and with that enters the condition: the first part of an alertable wait on m.
@@ -60,9 +59,7 @@ pub fn load_count_alertable<U: Uses>(
 {
     prove!(m.0 < p.layout.mutexes);
     bring(&mut me.hand, &mut me.seat, VALUES + m.0 as u16);
-    p.table
-        .shared
-        .load::<LoadCountAlertable>(&mut me.seat, count_word(c))
+    load::<LoadCountAlertable, U>(&p.table, &mut me.seat, count_word(c))
 }
 
 /// The count of c, which the holder of its spin word knows.
@@ -74,9 +71,7 @@ pub fn know_count<U: Uses>(p: &Package<U>, me: &mut Thread<U>, c: CondId) -> u64
     ensures count { result ≡ me.old.count }
     ensures same { me.new ≡ me.old }
 {
-    p.table
-        .shared
-        .load::<KnowCount>(&mut me.seat, count_word(c))
+    load::<KnowCount, U>(&p.table, &mut me.seat, count_word(c))
 }
 
 /// Advances the count of c by a Signal: the first in its queue, if there is one, leaves the condition, and so does whoever has read the count
@@ -103,10 +98,7 @@ pub fn advance_signal<U: Uses>(p: &Package<U>, me: &mut Thread<U>, c: CondId) ->
     let o = CONDITIONS + c.0 as usize;
     bring(&mut me.hand, &mut me.seat, o as u16);
     let left = set_behind(me.seat.slot_mut(&p.table.shared, o));
-    let count = p
-        .table
-        .shared
-        .fetch_add::<AdvanceSignal>(&mut me.seat, count_word(c), 1);
+    let count = fetch_add::<AdvanceSignal, U>(&p.table, &mut me.seat, count_word(c), 1);
     (count, left)
 }
 
@@ -122,9 +114,7 @@ pub fn advance_broadcast<U: Uses>(p: &Package<U>, me: &mut Thread<U>, c: CondId)
     ensures event { Makes (event me.old.number (broadcast_action c.0 [])) me.old me.new }
     ensures advanced { me.new ≡ record (learnt me.old me.new) { left = []; count = me.old.count + 1; pen = made me.old.pen } }
 {
-    p.table
-        .shared
-        .fetch_add::<AdvanceBroadcast>(&mut me.seat, count_word(c), 1)
+    fetch_add::<AdvanceBroadcast, U>(&p.table, &mut me.seat, count_word(c), 1)
 }
 
 /// Reads the count of c under its spin word, in a wait that began with this count, before the thread may be put into the queue. Where it is
@@ -139,9 +129,7 @@ pub fn compare_count<U: Uses>(p: &Package<U>, me: &mut Thread<U>, c: CondId, cou
     ensures moved { result ≢ count → me.new ≡ record me.old { wait = unread me.old.wait } }
 {
     let _count = count;
-    p.table
-        .shared
-        .load::<CompareCount>(&mut me.seat, count_word(c))
+    load::<CompareCount, U>(&p.table, &mut me.seat, count_word(c))
 }
 
 /// Puts the thread last into the queue of c, where the count that it read stands. A condition has no bit that it would have to test again.
@@ -162,9 +150,7 @@ pub fn push_cond<U: Uses>(p: &Package<U>, me: &mut Thread<U>, c: CondId)
     bring(&mut me.hand, &mut me.seat, o as u16);
     // The list is this thread's while it has the spin word. Others see the length word, so that is the step.
     let length = push_line(me.seat.slot_mut(&p.table.shared, o), me.number);
-    p.table
-        .shared
-        .store::<PushCond>(&mut me.seat, cond_length_word(c), length);
+    store::<PushCond, U>(&p.table, &mut me.seat, cond_length_word(c), length);
 }
 
 /// Takes the thread, which found its alert word set, out of the queue of c. It answers whether the thread was in it, and it is in the
@@ -189,9 +175,7 @@ pub fn leave_cond_queue<U: Uses>(p: &Package<U>, me: &mut Thread<U>, c: CondId) 
     let Some(length) = leave_line(me.seat.slot_mut(&p.table.shared, o), me.number) else {
         return false;
     };
-    p.table
-        .shared
-        .store::<LeaveCondQueue>(&mut me.seat, cond_length_word(c), length);
+    store::<LeaveCondQueue, U>(&p.table, &mut me.seat, cond_length_word(c), length);
     true
 }
 
@@ -211,8 +195,6 @@ pub fn pop_cond<U: Uses>(p: &Package<U>, me: &mut Thread<U>, c: CondId) -> Optio
     let o = CONDITIONS + c.0 as usize;
     bring(&mut me.hand, &mut me.seat, o as u16);
     let (first, length) = pop_line(me.seat.slot_mut(&p.table.shared, o));
-    p.table
-        .shared
-        .store::<PopCond>(&mut me.seat, cond_length_word(c), length);
+    store::<PopCond, U>(&p.table, &mut me.seat, cond_length_word(c), length);
     first
 }

@@ -23,6 +23,7 @@ mod ready;
 mod rule;
 mod sem;
 mod spin;
+mod stepping;
 mod uses;
 mod view;
 mod waking;

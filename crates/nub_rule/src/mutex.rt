@@ -14,6 +14,7 @@ use crate::hand::bring;
 use crate::package::{Package, Thread};
 use crate::places::{VALUES, mutex_bit};
 use crate::plays::{ClearBit, ClearBitInWait, TakeBitQuiet, TryBit};
+use crate::stepping::{compare_exchange, swap};
 use crate::uses::{Change, Uses};
 use larch_actions::{Event, MutexId};
 
@@ -40,10 +41,7 @@ pub fn try_bit<U: Uses>(p: &Package<U>, me: &mut Thread<U>, m: MutexId, e: Event
         × ((w : U.World) (s : U.Share) → me.old.world ≡ Some w → me.old.share ≡ Some s → U.fits w m.0 x me.old.number s) }
 {
     let _event = e;
-    let found = p
-        .table
-        .shared
-        .compare_exchange::<TryBit<U>>(&mut me.seat, mutex_bit(m), 0, 1);
+    let found = compare_exchange::<TryBit<U>, U>(&p.table, &mut me.seat, mutex_bit(m), 0, 1);
     if found == 0 {
         me.hand.take(VALUES + m.0 as u16);
     }
@@ -72,9 +70,7 @@ pub fn clear_bit<U: Uses, C: Change<U>>(p: &Package<U>, me: &mut Thread<U>, m: M
     prove!(m.0 < p.layout.mutexes);
     bring(&mut me.hand, &mut me.seat, VALUES + m.0 as u16);
     me.hand.give();
-    p.table
-        .shared
-        .swap::<ClearBit<U, C>>(&mut me.seat, mutex_bit(m), 0)
+    swap::<ClearBit<U, C>, U>(&p.table, &mut me.seat, mutex_bit(m), 0)
 }
 
 /// Clears the bit of m, and gives the value back, in a wait on m that has yet to do so. It is no event: nobody holds m since the wait began.
@@ -102,9 +98,7 @@ pub fn clear_bit_in_wait<U: Uses, C: Change<U>>(
     prove!(m.0 < p.layout.mutexes);
     bring(&mut me.hand, &mut me.seat, VALUES + m.0 as u16);
     me.hand.give();
-    p.table
-        .shared
-        .swap::<ClearBitInWait<U, C>>(&mut me.seat, mutex_bit(m), 0)
+    swap::<ClearBitInWait<U, C>, U>(&p.table, &mut me.seat, mutex_bit(m), 0)
 }
 
 /// Tries the bit of m once in an alertable wait on m, whose thread found its alert word set. It wins where it answers 0, and is no event:
@@ -128,10 +122,7 @@ pub fn take_bit_quiet<U: Uses>(p: &Package<U>, me: &mut Thread<U>, m: MutexId) -
         })
         × ((w : U.World) (s : U.Share) → me.old.world ≡ Some w → me.old.share ≡ Some s → U.fits w m.0 x me.old.number s) }
 {
-    let found = p
-        .table
-        .shared
-        .compare_exchange::<TakeBitQuiet<U>>(&mut me.seat, mutex_bit(m), 0, 1);
+    let found = compare_exchange::<TakeBitQuiet<U>, U>(&p.table, &mut me.seat, mutex_bit(m), 0, 1);
     if found == 0 {
         me.hand.take(VALUES + m.0 as u16);
     }

@@ -7,6 +7,7 @@ ghost use Rattle.nub_rule.specs.Stored.{ComesNext};
 use crate::package::{Entry, Package, Thread};
 use crate::places::{NUMBER, PEN};
 use crate::plays::{GivePen, ReadNumber, TakePen, WriteNumber};
+use crate::stepping::{compare_exchange, load, store, swap};
 use crate::uses::Uses;
 use larch_actions::Event;
 
@@ -18,9 +19,7 @@ pub fn take_pen<U: Uses>(p: &Package<U>, me: &mut Thread<U>) -> u64
     ensures lost { result ≢ 0 → (result ≡ 1) × (me.new ≡ me.old) }
     ensures won { result ≡ 0 → me.new ≡ record me.old { pen = Taken } }
 {
-    p.table
-        .shared
-        .compare_exchange::<TakePen>(&mut me.seat, PEN, 0, 1)
+    compare_exchange::<TakePen, U>(&p.table, &mut me.seat, PEN, 0, 1)
 }
 
 /// Reads the number of the next event.
@@ -29,7 +28,7 @@ pub fn read_number<U: Uses>(p: &Package<U>, me: &mut Thread<U>) -> u64
     requires taken { me.old.pen ≡ Taken }
     ensures { me.new ≡ record me.old { pen = Read result; next = result } }
 {
-    let found = p.table.shared.load::<ReadNumber>(&mut me.seat, NUMBER);
+    let found = load::<ReadNumber, U>(&p.table, &mut me.seat, NUMBER);
     me.next = found;
     found
 }
@@ -40,9 +39,7 @@ pub fn write_number<U: Uses>(p: &Package<U>, me: &mut Thread<U>, number: u64)
     requires made { (k : ℕ) × (me.old.pen ≡ Made k) × (number ≡ k + 1) }
     ensures { me.new ≡ record me.old { pen = Written } }
 {
-    p.table
-        .shared
-        .store::<WriteNumber>(&mut me.seat, NUMBER, number);
+    store::<WriteNumber, U>(&p.table, &mut me.seat, NUMBER, number);
 }
 
 /// Gives the pen back.
@@ -52,7 +49,7 @@ pub fn give_pen<U: Uses>(p: &Package<U>, me: &mut Thread<U>) -> u64
     ensures found { result ≡ 1 }
     ensures out { me.new ≡ record me.old { pen = No } }
 {
-    p.table.shared.swap::<GivePen>(&mut me.seat, PEN, 0)
+    swap::<GivePen, U>(&p.table, &mut me.seat, PEN, 0)
 }
 
 /// The number that the thread read last.

@@ -15,6 +15,7 @@ use crate::line::{leave_line, pop_line, push_line};
 use crate::object::Object;
 use crate::package::{Package, Thread};
 use crate::plays::{PopGate, PushGate, ReadLength, TakeOut, TestAgain};
+use crate::stepping::{load, store};
 use crate::uses::Uses;
 use larch_actions::ThreadId;
 
@@ -32,9 +33,7 @@ pub fn read_length<U: Uses>(p: &Package<U>, me: &mut Thread<U>, at: Object) -> u
         → me.new ≡ record me.old { looked = object_of at ∷ me.old.looked } }
     ensures same { result ≢ 0 → mem (object_of at) me.old.cleared ≡ false → me.new ≡ me.old }
 {
-    p.table
-        .shared
-        .load::<ReadLength>(&mut me.seat, at.length_word())
+    load::<ReadLength, U>(&p.table, &mut me.seat, at.length_word())
 }
 
 /// Puts the thread last into the queue.
@@ -78,9 +77,7 @@ fn push_gate<U: Uses>(p: &Package<U>, me: &mut Thread<U>, at: Object)
     bring(&mut me.hand, &mut me.seat, o as u16);
     // The list is this thread's while it has the spin word. Others see the length word, so that is the step.
     let length = push_line(me.seat.slot_mut(&p.table.shared, o), me.number);
-    p.table
-        .shared
-        .store::<PushGate>(&mut me.seat, at.length_word(), length);
+    store::<PushGate, U>(&p.table, &mut me.seat, at.length_word(), length);
 }
 
 /// Reads the bit again, after the push: a thread that found it set before may have pushed itself after the clearing's look at the queue.
@@ -92,9 +89,7 @@ pub fn test_again<U: Uses>(p: &Package<U>, me: &mut Thread<U>, at: Object) -> u6
     ensures clear { result ≡ 0 → me.new ≡ record me.old { stand = staged Clear me.old.stand } }
     ensures tested { result ≢ 0 → me.new ≡ record me.old { stand = staged Tested me.old.stand } }
 {
-    p.table
-        .shared
-        .load::<TestAgain>(&mut me.seat, at.bit_word())
+    load::<TestAgain, U>(&p.table, &mut me.seat, at.bit_word())
 }
 
 /// Takes the thread out of the queue, after it found the bit clear. It answers whether the thread was in it.
@@ -118,9 +113,7 @@ pub fn take_out<U: Uses>(p: &Package<U>, me: &mut Thread<U>, at: Object) -> bool
     let Some(length) = leave_line(me.seat.slot_mut(&p.table.shared, o), me.number) else {
         return false;
     };
-    p.table
-        .shared
-        .store::<TakeOut>(&mut me.seat, at.length_word(), length);
+    store::<TakeOut, U>(&p.table, &mut me.seat, at.length_word(), length);
     true
 }
 
@@ -169,9 +162,7 @@ fn pop_gate<U: Uses>(p: &Package<U>, me: &mut Thread<U>, at: Object) -> Option<T
     let o = at.number();
     bring(&mut me.hand, &mut me.seat, o as u16);
     let (first, length) = pop_line(me.seat.slot_mut(&p.table.shared, o));
-    p.table
-        .shared
-        .store::<PopGate>(&mut me.seat, at.length_word(), length);
+    store::<PopGate, U>(&p.table, &mut me.seat, at.length_word(), length);
     first
 }
 

@@ -10,6 +10,7 @@ ghost use Rattle.nub_rule.specs.Parts.{staged, HasTested, IsFound};
 use crate::package::{Package, Thread};
 use crate::places::ready_word;
 use crate::plays::{ClearReady, ReadReady, SetReady};
+use crate::stepping::{load, swap};
 use crate::uses::Uses;
 use larch_actions::ThreadId;
 use std::sync::Wait;
@@ -22,9 +23,7 @@ pub fn set_ready<U: Uses>(p: &Package<U>, me: &mut Thread<U>, t: ThreadId) -> u6
     ensures found { result ≡ 0 }
     ensures owes { me.new ≡ record me.old { owed = without t.0 me.old.owed } }
 {
-    p.table
-        .shared
-        .swap::<SetReady>(&mut me.seat, ready_word(t.0), 1)
+    swap::<SetReady, U>(&p.table, &mut me.seat, ready_word(t.0), 1)
 }
 
 /// Reads the own ready word, after the second test. Where it is 0, the thread may sleep.
@@ -37,9 +36,7 @@ pub fn read_ready<U: Uses>(p: &Package<U>, me: &mut Thread<U>) -> u64
     ensures found { result ≢ 0 → me.new ≡ record me.old { stand = staged Found me.old.stand } }
     ensures one { result ≢ 0 → result ≡ 1 }
 {
-    p.table
-        .shared
-        .load::<ReadReady>(&mut me.seat, ready_word(me.number))
+    load::<ReadReady, U>(&p.table, &mut me.seat, ready_word(me.number))
 }
 
 /// Clears the own ready word, which was found set. The thread stands nowhere then.
@@ -54,9 +51,7 @@ pub fn clear_ready<U: Uses>(p: &Package<U>, me: &mut Thread<U>) -> u64
     } }
     ensures at_cond { (s : Stand) → me.old.stand ≡ Some s → 128 ≤ s.at → me.new ≡ record me.old { stand = None } }
 {
-    p.table
-        .shared
-        .swap::<ClearReady>(&mut me.seat, ready_word(me.number), 0)
+    swap::<ClearReady, U>(&p.table, &mut me.seat, ready_word(me.number), 0)
 }
 
 /// Sleeps until another thread unparks this one, or for no reason; it returns at once where an unparking came before. Not an atomic step of

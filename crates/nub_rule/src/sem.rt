@@ -9,6 +9,7 @@ ghost use Rattle.nub_rule.specs.Plays.{MayTakeSem, v_event};
 use crate::package::{Package, Thread};
 use crate::places::semaphore_bit;
 use crate::plays::{ClearSem, TryAlertP, TryP};
+use crate::stepping::{compare_exchange, swap};
 use crate::uses::Uses;
 use larch_actions::{Action, Event, SemId};
 
@@ -34,14 +35,14 @@ pub fn try_p<U: Uses>(p: &Package<U>, me: &mut Thread<U>, s: SemId, e: Event) ->
     let bit = semaphore_bit(s);
     // One and the same exchange: which event it is makes a difference to the rule alone.
     match e.action {
-        Action::AlertPReturn { .. } => p
-            .table
-            .shared
-            .compare_exchange::<TryAlertP>(&mut me.seat, bit, 0, 1),
-        _ => p
-            .table
-            .shared
-            .compare_exchange::<TryP>(&mut me.seat, bit, 0, 1),
+        Action::AlertPReturn { .. } => compare_exchange::<TryAlertP, U>(
+            &p.table,
+            &mut me.seat,
+            bit,
+            0,
+            1,
+        ),
+        _ => compare_exchange::<TryP, U>(&p.table, &mut me.seat, bit, 0, 1),
     }
 }
 
@@ -56,7 +57,5 @@ pub fn clear_sem<U: Uses>(p: &Package<U>, me: &mut Thread<U>, s: SemId) -> u64
     ensures event { Makes (v_event me.old.number s.0) me.old me.new }
     ensures cleared { me.new ≡ record (learnt me.old me.new) { cleared = sem_object s.0 ∷ me.old.cleared; pen = made me.old.pen } }
 {
-    p.table
-        .shared
-        .swap::<ClearSem>(&mut me.seat, semaphore_bit(s), 0)
+    swap::<ClearSem, U>(&p.table, &mut me.seat, semaphore_bit(s), 0)
 }

@@ -11,6 +11,7 @@ use crate::hand::bring;
 use crate::object::{Object, Why};
 use crate::package::{Package, Thread};
 use crate::plays::{GiveSpin, TakeSpin};
+use crate::stepping::{compare_exchange, swap};
 use crate::uses::Uses;
 
 /// Tries the spin word of an object once, for a reason in the view. It wins where it answers 0, and then knows the queue.
@@ -33,10 +34,7 @@ pub fn take_spin<U: Uses>(p: &Package<U>, me: &mut Thread<U>, at: Object, why: W
     ensures there { result ≡ 0 → mem me.old.number me.new.queue ≡ true → stands_at me.old.stand (object_of at) ≡ true }
 {
     let o = at.number();
-    let found = p
-        .table
-        .shared
-        .compare_exchange::<TakeSpin>(&mut me.seat, at.spin_word(), 0, 1);
+    let found = compare_exchange::<TakeSpin, U>(&p.table, &mut me.seat, at.spin_word(), 0, 1);
     if found == 0 {
         me.hand.take(o as u16);
     }
@@ -56,7 +54,5 @@ pub fn give_spin<U: Uses>(p: &Package<U>, me: &mut Thread<U>, at: Object) -> u64
     let o = at.number();
     bring(&mut me.hand, &mut me.seat, o as u16);
     me.hand.give();
-    p.table
-        .shared
-        .swap::<GiveSpin>(&mut me.seat, at.spin_word(), 0)
+    swap::<GiveSpin, U>(&p.table, &mut me.seat, at.spin_word(), 0)
 }

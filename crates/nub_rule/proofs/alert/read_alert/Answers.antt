@@ -9,9 +9,13 @@ use Rattle.nub_rule.proofs.Seen.{fit_still}
 use Rattle.nub_rule.proofs.AlertSteps.{read_alert_keeps, no-stand-before}
 use Rattle.nub_rule.proofs.alert.read_alert.Goals as goal
 
-pub load-requires : goal.load-requires
-load-requires g c = let i = c.me.invariant in
-    (search rules, (let low = i.few in let e = c.alert_word.ensures in omega arith), read_alert_keeps _ _ _ _ _ _ _ _ c.me.inside.seat.me (c.alert_word.ensures ∙ ap alert_at (sym i.numbered)) (subst (λ (k : ℕ). k < most_threads) (sym i.numbered) i.few) i.member)
+pub load-requires-clause-inside : goal.load-requires-clause-inside
+load-requires-clause-inside g c κs within = let i = c.me.invariant in
+    (let low = i.few in let e = c.alert_word.ensures in omega arith)
+
+pub load-requires-clause-allowed : goal.load-requires-clause-allowed
+load-requires-clause-allowed g c κs within = let i = c.me.invariant in
+    read_alert_keeps _ _ _ _ _ _ _ _ c.me.inside.seat.me (c.alert_word.ensures ∙ ap alert_at (sym i.numbered)) (subst (λ (k : ℕ). k < most_threads) (sym i.numbered) i.few) i.member
 
 pub invariant_of-me : goal.invariant_of-me
 invariant_of-me g c = let i = c.me.invariant in let h = i.hands in dite (ℕ_discrete c.load.result 0)

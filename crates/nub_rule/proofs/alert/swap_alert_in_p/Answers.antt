@@ -9,13 +9,12 @@ use Rattle.nub_rule.proofs.Seen.{as_known, fit_still}
 use Rattle.nub_rule.proofs.AlertSteps.{swap_alert_in_p_keeps}
 use Rattle.nub_rule.proofs.alert.swap_alert_in_p.Goals as goal
 
-pub fetch_and-requires : goal.fetch_and-requires
-fetch_and-requires g c = let i = c.me.invariant in let traces : c.p.inside.table.shared.key.traced ≡ c.args.p.now.traced = ap (λ s. s.traced) c.p.view_is in (
-  search rules,
-  (let low = i.few in let e = c.alert_word.ensures in omega arith),
-  swap_alert_in_p_keeps _ _ _ _ _ _ _ c.args.s.0 _ _ c.me.inside.seat.me (c.alert_word.ensures ∙ ap alert_at (sym i.numbered)) refl (search rules) (subst (λ (k : ℕ). k < most_threads) (sym i.numbered) i.few) i.member
-      (ap (λ k. k.wait) c.me.view_is ∙ c.requires.outside.0) (ap (λ k. k.alerted) c.me.view_is ∙ c.requires.alerted) (subst (λ (z : Bool × Pen). MayTell z.0 z.1) (λ j. (sym traces j, ap (λ k. k.pen) (sym c.me.view_is) j)) c.requires.pen),
-)
+pub fetch_and-requires-clause-inside : goal.fetch_and-requires-clause-inside
+fetch_and-requires-clause-inside g c κs within = let i = c.me.invariant in let traces : c.p.inside.table.shared.key.traced ≡ c.args.p.now.traced = ap (λ s. s.traced) c.p.view_is in (let low = i.few in let e = c.alert_word.ensures in omega arith)
+
+pub fetch_and-requires-clause-allowed : goal.fetch_and-requires-clause-allowed
+fetch_and-requires-clause-allowed g c κs within = let i = c.me.invariant in let traces : c.p.inside.table.shared.key.traced ≡ c.args.p.now.traced = ap (λ s. s.traced) c.p.view_is in swap_alert_in_p_keeps _ _ _ _ _ _ _ c.args.s.0 _ _ c.me.inside.seat.me (c.alert_word.ensures ∙ ap alert_at (sym i.numbered)) refl (search rules) (subst (λ (k : ℕ). k < most_threads) (sym i.numbered) i.few) i.member
+    (ap (λ k. k.wait) c.me.view_is ∙ c.requires.outside.0) (ap (λ k. k.alerted) c.me.view_is ∙ c.requires.alerted) (subst (λ (z : Bool × Pen). MayTell z.0 z.1) (λ j. (sym traces j, ap (λ k. k.pen) (sym c.me.view_is) j)) c.requires.pen)
 
 pub invariant_of-me : goal.invariant_of-me
 invariant_of-me g c = let i = c.me.invariant in let h = i.hands in fit_still _ _ c.me.inside.number c.me.inside.hand c.me.inside.seat.me _ _ c.fetch_and.ensures.0 (c.fetch_and.ensures.2 c.args.s.0 refl).3 i refl (hands-same c.me.inside.seat.me.0.part _ c.me.inside.seat.me.1 _ (λ k. refl) refl refl refl h.room h.settled h)

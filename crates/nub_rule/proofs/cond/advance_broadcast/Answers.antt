@@ -9,13 +9,12 @@ use Rattle.nub_rule.proofs.Seen.{as_known, fit_still}
 use Rattle.nub_rule.proofs.CondSteps.{advance_broadcast_keeps}
 use Rattle.nub_rule.proofs.cond.advance_broadcast.Goals as goal
 
-pub fetch_add-requires : goal.fetch_add-requires
-fetch_add-requires g c = let near = cond_low _ _ _ _ c.p.view_is c.p.invariant.laid_out c.p.invariant.lawful c.args.c.0 c.requires.named in let word = c.count_word.ensures in let traces : c.p.inside.table.shared.key.traced ≡ c.args.p.now.traced = ap (λ s. s.traced) c.p.view_is in (
-  search rules,
-  omega arith,
-  advance_broadcast_keeps _ _ _ _ _ _ _ c.args.c.0 c.me.inside.seat.me _ word near (search rules) c.me.invariant.member (ap (λ k. k.spin) c.me.view_is ∙ c.requires.inside) (ap (λ k. k.wait) c.me.view_is ∙ c.requires.outside)
-      (subst (λ (z : ℕ). z < 18446744073709551615) (ap (λ k. k.count) (sym c.me.view_is)) c.requires.room) (subst (λ (z : Bool × Pen). MayTell z.0 z.1) (λ j. (sym traces j, ap (λ k. k.pen) (sym c.me.view_is) j)) c.requires.pen),
-)
+pub fetch_add-requires-clause-inside : goal.fetch_add-requires-clause-inside
+fetch_add-requires-clause-inside g c κs within = let near = cond_low _ _ _ _ c.p.view_is c.p.invariant.laid_out c.p.invariant.lawful c.args.c.0 c.requires.named in let word = c.count_word.ensures in let traces : c.p.inside.table.shared.key.traced ≡ c.args.p.now.traced = ap (λ s. s.traced) c.p.view_is in omega arith
+
+pub fetch_add-requires-clause-allowed : goal.fetch_add-requires-clause-allowed
+fetch_add-requires-clause-allowed g c κs within = let near = cond_low _ _ _ _ c.p.view_is c.p.invariant.laid_out c.p.invariant.lawful c.args.c.0 c.requires.named in let word = c.count_word.ensures in let traces : c.p.inside.table.shared.key.traced ≡ c.args.p.now.traced = ap (λ s. s.traced) c.p.view_is in advance_broadcast_keeps _ _ _ _ _ _ _ c.args.c.0 c.me.inside.seat.me _ word near (search rules) c.me.invariant.member (ap (λ k. k.spin) c.me.view_is ∙ c.requires.inside) (ap (λ k. k.wait) c.me.view_is ∙ c.requires.outside)
+    (subst (λ (z : ℕ). z < 18446744073709551615) (ap (λ k. k.count) (sym c.me.view_is)) c.requires.room) (subst (λ (z : Bool × Pen). MayTell z.0 z.1) (λ j. (sym traces j, ap (λ k. k.pen) (sym c.me.view_is) j)) c.requires.pen)
 
 pub invariant_of-me : goal.invariant_of-me
 invariant_of-me g c = let i = c.me.invariant in let h = i.hands in let u = c.fetch_add.ensures.2 c.args.c.0 c.count_word.ensures in

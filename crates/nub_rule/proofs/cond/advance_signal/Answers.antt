@@ -28,16 +28,16 @@ pub set_behind-left-requires : goal.set_behind-left-requires
 set_behind-left-requires g c = let a = at_hand g (goal.at.set_behind-left-requires g c).After-bring in
     (c.me.inside.seat.me.0.part.queue, same_slot (cond_object c.args.c.0) _ _ _ _ c.slot_mut.ensures.value a.first, subst (Small most_threads) (ap (λ k. k.queue) (sym c.me.view_is)) c.requires.small)
 
-pub fetch_add-count-requires : goal.fetch_add-count-requires
-fetch_add-count-requires g c = let near = cond_low _ _ _ _ c.p.view_is c.p.invariant.laid_out c.p.invariant.lawful c.args.c.0 c.requires.named in let word = c.count_word.ensures in let traces : c.p.inside.table.shared.key.traced ≡ c.args.p.now.traced = ap (λ s. s.traced) c.p.view_is in
-    let same = c.bring.ensures.same.2 in let e = ap (λ v. v.part) same in (
-      search rules,
-      omega arith,
-      advance_signal_keeps _ _ _ _ _ _ _ c.args.c.0 (c.bring.new.seat.me.0, _) _ word near (search rules) (ap (λ v. v.kind) same ∙ c.me.invariant.member) (ap (λ p. p.spin) e ∙ (ap (λ k. k.spin) c.me.view_is ∙ c.requires.inside)) (ap (λ p. p.wait) e ∙ (ap (λ k. k.wait) c.me.view_is ∙ c.requires.outside))
-          (ap (λ p. p.left) e ∙ (ap (λ k. k.left) c.me.view_is ∙ (c.requires.even ∙ (ap (λ k. k.queue) (sym c.me.view_is) ∙ ap (λ p. p.queue) (sym e)))))
-          (subst (λ (z : ℕ). z < 18446744073709551615) (ap (λ k. k.count) (sym c.me.view_is) ∙ ap (λ p. p.count) (sym e)) c.requires.room)
-          (subst (λ (z : Bool × Pen). MayTell z.0 z.1) (λ j. (sym traces j, (ap (λ k. k.pen) (sym c.me.view_is) ∙ ap (λ p. p.pen) (sym e)) j)) c.requires.pen),
-    )
+pub fetch_add-count-requires-clause-inside : goal.fetch_add-count-requires-clause-inside
+fetch_add-count-requires-clause-inside g c κs within = let near = cond_low _ _ _ _ c.p.view_is c.p.invariant.laid_out c.p.invariant.lawful c.args.c.0 c.requires.named in let word = c.count_word.ensures in let traces : c.p.inside.table.shared.key.traced ≡ c.args.p.now.traced = ap (λ s. s.traced) c.p.view_is in
+    let same = c.bring.ensures.same.2 in let e = ap (λ v. v.part) same in omega arith
+
+pub fetch_add-count-requires-clause-allowed : goal.fetch_add-count-requires-clause-allowed
+fetch_add-count-requires-clause-allowed g c κs within = let near = cond_low _ _ _ _ c.p.view_is c.p.invariant.laid_out c.p.invariant.lawful c.args.c.0 c.requires.named in let word = c.count_word.ensures in let traces : c.p.inside.table.shared.key.traced ≡ c.args.p.now.traced = ap (λ s. s.traced) c.p.view_is in
+    let same = c.bring.ensures.same.2 in let e = ap (λ v. v.part) same in advance_signal_keeps _ _ _ _ _ _ _ c.args.c.0 (c.bring.new.seat.me.0, _) _ word near (search rules) (ap (λ v. v.kind) same ∙ c.me.invariant.member) (ap (λ p. p.spin) e ∙ (ap (λ k. k.spin) c.me.view_is ∙ c.requires.inside)) (ap (λ p. p.wait) e ∙ (ap (λ k. k.wait) c.me.view_is ∙ c.requires.outside))
+    (ap (λ p. p.left) e ∙ (ap (λ k. k.left) c.me.view_is ∙ (c.requires.even ∙ (ap (λ k. k.queue) (sym c.me.view_is) ∙ ap (λ p. p.queue) (sym e)))))
+    (subst (λ (z : ℕ). z < 18446744073709551615) (ap (λ k. k.count) (sym c.me.view_is) ∙ ap (λ p. p.count) (sym e)) c.requires.room)
+    (subst (λ (z : Bool × Pen). MayTell z.0 z.1) (λ j. (sym traces j, (ap (λ k. k.pen) (sym c.me.view_is) ∙ ap (λ p. p.pen) (sym e)) j)) c.requires.pen)
 
 signalled : (g : Over) (c : After-fetch_add-count g) → QueueAtHand c.me.inside.seat.me c.bring.new.seat.me c.bring.new.hand (cond_object c.args.c.0)
     → After (λ n p. record (told p (p.seen ++ (c.fetch_add-count.ensures.2 c.args.c.0 c.count_word.ensures).2) (event n (signal_action c.args.c.0 (behind p.queue)))) { left = behind p.queue; count = p.count + 1 }) (λ vs. vs) c.me.inside.seat.table_id c.fetch_add-count.new.seat.table_id c.me.inside.number c.bring.new.hand c.me.inside.seat.me c.fetch_add-count.new.seat.me c.me.inside.room.items (vec_capacity c.me.inside.room)

@@ -9,9 +9,13 @@ use Rattle.nub_rule.proofs.AtHand.{noted}
 use Rattle.nub_rule.proofs.CondQueue.{compare_count_keeps}
 use Rattle.nub_rule.proofs.cond.compare_count.Goals as goal
 
-pub load-requires : goal.load-requires
-load-requires g c = let near = cond_low _ _ _ _ c.p.view_is c.p.invariant.laid_out c.p.invariant.lawful c.args.c.0 c.requires.named in let word = c.count_word.ensures in let x = c.requires.waits in
-    (search rules, omega arith, compare_count_keeps _ _ _ _ _ _ _ c.args.c.0 c.args.count x.0 c.me.inside.seat.me _ word near c.me.invariant.member (ap (λ k. k.spin) c.me.view_is ∙ c.requires.inside) (ap (λ k. k.wait) c.me.view_is ∙ x.1) x.2 x.3)
+pub load-requires-clause-inside : goal.load-requires-clause-inside
+load-requires-clause-inside g c κs within = let near = cond_low _ _ _ _ c.p.view_is c.p.invariant.laid_out c.p.invariant.lawful c.args.c.0 c.requires.named in let word = c.count_word.ensures in let x = c.requires.waits in
+    omega arith
+
+pub load-requires-clause-allowed : goal.load-requires-clause-allowed
+load-requires-clause-allowed g c κs within = let near = cond_low _ _ _ _ c.p.view_is c.p.invariant.laid_out c.p.invariant.lawful c.args.c.0 c.requires.named in let word = c.count_word.ensures in let x = c.requires.waits in
+    compare_count_keeps _ _ _ _ _ _ _ c.args.c.0 c.args.count x.0 c.me.inside.seat.me _ word near c.me.invariant.member (ap (λ k. k.spin) c.me.view_is ∙ c.requires.inside) (ap (λ k. k.wait) c.me.view_is ∙ x.1) x.2 x.3
 
 pub invariant_of-me : goal.invariant_of-me
 invariant_of-me g c = let i = c.me.invariant in let h = i.hands in let x = c.requires.waits in let u = c.load.ensures.2.1 x.0 c.args.count (ap (λ k. k.wait) c.me.view_is ∙ x.1) x.3 in dite (ℕ_discrete c.load.result c.args.count)

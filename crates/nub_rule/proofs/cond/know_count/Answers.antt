@@ -6,9 +6,13 @@ use Rattle.nub_rule.proofs.AtHand.{noted}
 use Rattle.nub_rule.proofs.CondSteps.{know_count_keeps}
 use Rattle.nub_rule.proofs.cond.know_count.Goals as goal
 
-pub load-requires : goal.load-requires
-load-requires g c = let near = cond_low _ _ _ _ c.p.view_is c.p.invariant.laid_out c.p.invariant.lawful c.args.c.0 c.requires.named in let word = c.count_word.ensures in
-    (search rules, omega arith, know_count_keeps _ _ _ _ _ _ _ c.args.c.0 c.me.inside.seat.me _ word near c.me.invariant.member (ap (λ k. k.spin) c.me.view_is ∙ c.requires.inside))
+pub load-requires-clause-inside : goal.load-requires-clause-inside
+load-requires-clause-inside g c κs within = let near = cond_low _ _ _ _ c.p.view_is c.p.invariant.laid_out c.p.invariant.lawful c.args.c.0 c.requires.named in let word = c.count_word.ensures in
+    omega arith
+
+pub load-requires-clause-allowed : goal.load-requires-clause-allowed
+load-requires-clause-allowed g c κs within = let near = cond_low _ _ _ _ c.p.view_is c.p.invariant.laid_out c.p.invariant.lawful c.args.c.0 c.requires.named in let word = c.count_word.ensures in
+    know_count_keeps _ _ _ _ _ _ _ c.args.c.0 c.me.inside.seat.me _ word near c.me.invariant.member (ap (λ k. k.spin) c.me.view_is ∙ c.requires.inside)
 
 pub invariant_of-me : goal.invariant_of-me
 invariant_of-me g c = let i = c.me.invariant in let h = i.hands in

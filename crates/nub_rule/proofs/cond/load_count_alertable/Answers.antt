@@ -13,17 +13,19 @@ use Rattle.nub_rule.proofs.cond.load_count_alertable.Goals as goal
 pub bring-requires-clause-there : goal.bring-requires-clause-there
 bring-requires-clause-there g c = let m : ℕ = c.args.m.0 in let t = c.me.invariant.hands.value_got m c.requires.has.0 (ap (λ k. get_elem? k.held m) c.me.view_is ∙ c.requires.has.1) in (Value t.0, t.1)
 
-pub load-requires : goal.load-requires
-load-requires g c = let near = cond_low _ _ _ _ c.p.view_is c.p.invariant.laid_out c.p.invariant.lawful c.args.c.0 c.requires.named.1 in let m : ℕ = c.args.m.0 in let b = c.bring.ensures in let same = b.same.2 in let e = ap (λ v. v.part) same in
+pub load-requires-clause-inside : goal.load-requires-clause-inside
+load-requires-clause-inside g c κs within = let near = cond_low _ _ _ _ c.p.view_is c.p.invariant.laid_out c.p.invariant.lawful c.args.c.0 c.requires.named.1 in let m : ℕ = c.args.m.0 in let b = c.bring.ensures in let same = b.same.2 in let e = ap (λ v. v.part) same in
     let traces : c.p.inside.table.shared.key.traced ≡ c.args.p.now.traced = ap (λ s. s.traced) c.p.view_is in
     let t = c.me.invariant.hands.value_got m c.requires.has.0 (ap (λ k. get_elem? k.held m) c.me.view_is ∙ c.requires.has.1) in
-    let word = c.count_word.ensures in (
-      search rules,
-      omega arith,
-      load_count_keeps _ _ _ _ _ true _ _ m c.args.c.0 (Value t.0) c.bring.new.seat.me c.requires.has.0 _ word near (search rules) (ap (λ v. v.kind) same ∙ c.me.invariant.member) (b.first (Value t.0) t.1) (ap (λ p. get_elem? p.held m) e ∙ (ap (λ k. get_elem? k.held m) c.me.view_is ∙ c.requires.has.1))
-          (ap (λ p. p.wait) e ∙ (ap (λ k. k.wait) c.me.view_is ∙ c.requires.outside)) (ap (λ p. p.left) e ∙ (ap (λ k. k.left) c.me.view_is ∙ (c.requires.even ∙ (ap (λ k. k.queue) (sym c.me.view_is) ∙ ap (λ p. p.queue) (sym e)))))
-          (subst (λ (z : Bool × Pen). MayTell z.0 z.1) (λ j. (sym traces j, (ap (λ k. k.pen) (sym c.me.view_is) ∙ ap (λ p. p.pen) (sym e)) j)) c.requires.pen),
-    )
+    let word = c.count_word.ensures in omega arith
+
+pub load-requires-clause-allowed : goal.load-requires-clause-allowed
+load-requires-clause-allowed g c κs within = let near = cond_low _ _ _ _ c.p.view_is c.p.invariant.laid_out c.p.invariant.lawful c.args.c.0 c.requires.named.1 in let m : ℕ = c.args.m.0 in let b = c.bring.ensures in let same = b.same.2 in let e = ap (λ v. v.part) same in
+    let traces : c.p.inside.table.shared.key.traced ≡ c.args.p.now.traced = ap (λ s. s.traced) c.p.view_is in
+    let t = c.me.invariant.hands.value_got m c.requires.has.0 (ap (λ k. get_elem? k.held m) c.me.view_is ∙ c.requires.has.1) in
+    let word = c.count_word.ensures in load_count_keeps _ _ _ _ _ true _ _ m c.args.c.0 (Value t.0) c.bring.new.seat.me c.requires.has.0 _ word near (search rules) (ap (λ v. v.kind) same ∙ c.me.invariant.member) (b.first (Value t.0) t.1) (ap (λ p. get_elem? p.held m) e ∙ (ap (λ k. get_elem? k.held m) c.me.view_is ∙ c.requires.has.1))
+    (ap (λ p. p.wait) e ∙ (ap (λ k. k.wait) c.me.view_is ∙ c.requires.outside)) (ap (λ p. p.left) e ∙ (ap (λ k. k.left) c.me.view_is ∙ (c.requires.even ∙ (ap (λ k. k.queue) (sym c.me.view_is) ∙ ap (λ p. p.queue) (sym e)))))
+    (subst (λ (z : Bool × Pen). MayTell z.0 z.1) (λ j. (sym traces j, (ap (λ k. k.pen) (sym c.me.view_is) ∙ ap (λ p. p.pen) (sym e)) j)) c.requires.pen)
 
 begun : (g : Over) (c : After-load g) → Entered true c.args.m.0 c.args.c.0 c.load.result c.me.inside.seat.table_id c.load.new.seat.table_id c.me.inside.number c.bring.new.hand c.me.inside.seat.me c.load.new.seat.me c.me.inside.room.items (vec_capacity c.me.inside.room)
 begun g c = let m : ℕ = c.args.m.0 in let o : ℕ = c.args.c.0 in let b = c.bring.ensures in

@@ -27,13 +27,12 @@ slot_mut-requires g c = (search rules, (Queue (line_of c.me.inside.seat.me.0.par
 pub pop_line-first-requires : goal.pop_line-first-requires
 pop_line-first-requires g c = let a = at_hand g (goal.at.pop_line-first-requires g c).After-bring in (c.me.inside.seat.me.0.part.queue, same_slot (cond_object c.args.c.0) _ _ _ _ c.slot_mut.ensures.value a.first)
 
-pub store-requires : goal.store-requires
-store-requires g c = let a = at_hand g (goal.at.store-requires g c).After-bring in let line = c.pop_line-first.ensures c.me.inside.seat.me.0.part.queue (same_slot (cond_object c.args.c.0) _ _ _ _ c.slot_mut.ensures.value a.first) in let low = cond_low _ _ _ _ c.p.view_is c.p.invariant.laid_out c.p.invariant.lawful c.args.c.0 c.requires.named in let word = c.cond_length_word.ensures in (
-  search rules,
-  omega arith,
-  pop_cond_keeps _ _ _ _ _ _ _ c.args.c.0 _ (c.bring.new.seat.me.0, _) _ c.cond_length_word.ensures low (ap (λ v. v.kind) a.same ∙ c.me.invariant.member) (ap (λ v. v.part.spin) a.same ∙ a.spins) (ap (λ v. v.part.wait) a.same ∙ (ap (λ k. k.wait) c.me.view_is ∙ c.requires.outside))
-      (subst (λ (z : List ℕ × List ℕ). (t : ℕ) → mem t (behind z.0) ≡ false → mem t z.1 ≡ false) (λ j. ((ap (λ k. k.queue) (sym c.me.view_is) ∙ ap (λ v. v.part.queue) (sym a.same)) j, (ap (λ k. k.left) (sym c.me.view_is) ∙ ap (λ v. v.part.left) (sym a.same)) j)) c.requires.taken) (line.1 ∙ (λ j. length (behind (sym a.same j).part.queue))),
-)
+pub store-requires-clause-inside : goal.store-requires-clause-inside
+store-requires-clause-inside g c κs within = let a = at_hand g (goal.at.store-requires-clause-inside g c).After-bring in let line = c.pop_line-first.ensures c.me.inside.seat.me.0.part.queue (same_slot (cond_object c.args.c.0) _ _ _ _ c.slot_mut.ensures.value a.first) in let low = cond_low _ _ _ _ c.p.view_is c.p.invariant.laid_out c.p.invariant.lawful c.args.c.0 c.requires.named in let word = c.cond_length_word.ensures in omega arith
+
+pub store-requires-clause-allowed : goal.store-requires-clause-allowed
+store-requires-clause-allowed g c κs within = let a = at_hand g (goal.at.store-requires-clause-allowed g c).After-bring in let line = c.pop_line-first.ensures c.me.inside.seat.me.0.part.queue (same_slot (cond_object c.args.c.0) _ _ _ _ c.slot_mut.ensures.value a.first) in let low = cond_low _ _ _ _ c.p.view_is c.p.invariant.laid_out c.p.invariant.lawful c.args.c.0 c.requires.named in let word = c.cond_length_word.ensures in pop_cond_keeps _ _ _ _ _ _ _ c.args.c.0 _ (c.bring.new.seat.me.0, _) _ c.cond_length_word.ensures low (ap (λ v. v.kind) a.same ∙ c.me.invariant.member) (ap (λ v. v.part.spin) a.same ∙ a.spins) (ap (λ v. v.part.wait) a.same ∙ (ap (λ k. k.wait) c.me.view_is ∙ c.requires.outside))
+    (subst (λ (z : List ℕ × List ℕ). (t : ℕ) → mem t (behind z.0) ≡ false → mem t z.1 ≡ false) (λ j. ((ap (λ k. k.queue) (sym c.me.view_is) ∙ ap (λ v. v.part.queue) (sym a.same)) j, (ap (λ k. k.left) (sym c.me.view_is) ∙ ap (λ v. v.part.left) (sym a.same)) j)) c.requires.taken) (line.1 ∙ (λ j. length (behind (sym a.same j).part.queue)))
 
 popped : (g : Over) (c : After-store g) → QueueAtHand c.me.inside.seat.me c.bring.new.seat.me c.bring.new.hand (cond_object c.args.c.0)
     → After (λ n p. record p { queue = behind p.queue; owed = p.owed ++ front p.queue }) (λ vs. vs) c.me.inside.seat.table_id c.store.new.seat.table_id c.me.inside.number c.bring.new.hand c.me.inside.seat.me c.store.new.seat.me c.me.inside.room.items (vec_capacity c.me.inside.room)

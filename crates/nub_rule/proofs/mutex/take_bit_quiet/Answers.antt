@@ -16,9 +16,13 @@ use Rattle.nub_rule.proofs.Turns.{find-else, find-here}
 use Rattle.nub_rule.proofs.WaitSteps.{take_bit_quiet_keeps}
 use Rattle.nub_rule.proofs.mutex.take_bit_quiet.Goals as goal
 
-pub compare_exchange-found-requires : goal.compare_exchange-found-requires
-compare_exchange-found-requires g c = let near = mutex_low _ _ _ _ c.p.view_is c.p.invariant.laid_out c.p.invariant.lawful c.args.m.0 c.requires.named in let m : ℕ = c.args.m.0 in let x = c.requires.waits in
-    let word = c.mutex_bit.ensures in (search rules, omega arith, take_bit_quiet_keeps _ _ _ _ _ g.U.Uses.fits (g.U.Uses.holds_fits _) _ _ m x.0 c.me.inside.seat.me _ word (search rules) c.me.invariant.member (ap (λ k. k.wait) c.me.view_is ∙ x.1) x.2)
+pub compare_exchange-found-requires-clause-inside : goal.compare_exchange-found-requires-clause-inside
+compare_exchange-found-requires-clause-inside g c κs within = let near = mutex_low _ _ _ _ c.p.view_is c.p.invariant.laid_out c.p.invariant.lawful c.args.m.0 c.requires.named in let m : ℕ = c.args.m.0 in let x = c.requires.waits in
+    let word = c.mutex_bit.ensures in omega arith
+
+pub compare_exchange-found-requires-clause-allowed : goal.compare_exchange-found-requires-clause-allowed
+compare_exchange-found-requires-clause-allowed g c κs within = let near = mutex_low _ _ _ _ c.p.view_is c.p.invariant.laid_out c.p.invariant.lawful c.args.m.0 c.requires.named in let m : ℕ = c.args.m.0 in let x = c.requires.waits in
+    let word = c.mutex_bit.ensures in take_bit_quiet_keeps _ _ _ _ _ g.U.Uses.fits (g.U.Uses.holds_fits _) _ _ m x.0 c.me.inside.seat.me _ word (search rules) c.me.invariant.member (ap (λ k. k.wait) c.me.view_is ∙ x.1) x.2
 
 pub take-requires : goal.take-requires
 take-requires g c = let near = mutex_low _ _ _ _ c.p.view_is c.p.invariant.laid_out c.p.invariant.lawful c.args.m.0 c.requires.named in let m : ℕ = c.args.m.0 in let i = c.me.invariant in let u = (c.compare_exchange-found.ensures.2 m c.mutex_bit.ensures).0 c.if-found-eq0.true in

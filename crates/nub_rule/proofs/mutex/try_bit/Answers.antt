@@ -27,9 +27,13 @@ use Rattle.nub_rule.specs.Plays.{Grows}
 use Rattle.nub_rule.proofs.BitSteps.{try_bit_keeps, by_taking}
 use Rattle.nub_rule.proofs.mutex.try_bit.Goals as goal
 
-pub compare_exchange-found-requires : goal.compare_exchange-found-requires
-compare_exchange-found-requires g c = let near = mutex_low _ _ _ _ c.p.view_is c.p.invariant.laid_out c.p.invariant.lawful c.args.m.0 c.requires.named in let m : ℕ = c.args.m.0 in let out : c.me.inside.seat.me.0.part.spin ≡ None = ap (λ k. k.spin) c.me.view_is ∙ c.requires.outside.0 in let apart : c.me.inside.seat.me.0.part.stand ≡ None = ap (λ k. k.stand) c.me.view_is ∙ c.requires.outside.1 in let traces : c.p.inside.table.shared.key.traced ≡ c.args.p.now.traced = ap (λ s. s.traced) c.p.view_is in
-    let word = c.mutex_bit.ensures in (search rules, omega arith, try_bit_keeps _ _ _ _ _ g.U.Uses.fits (g.U.Uses.holds_fits _) _ _ m c.args.e c.me.inside.seat.me _ word (search rules) c.me.invariant.member apart (subst (λ (z : ℕ × Opt Wait). MayTake z.0 m z.1 c.args.e) (λ j. ((sym (c.me.invariant.numbered ∙ ap (λ k. k.number) c.me.view_is)) j, ap (λ k. k.wait) (sym c.me.view_is) j)) c.requires.may) (subst (λ (z : Bool × Pen). MayTell z.0 z.1) (λ j. (sym traces j, ap (λ k. k.pen) (sym c.me.view_is) j)) c.requires.pen))
+pub compare_exchange-found-requires-clause-inside : goal.compare_exchange-found-requires-clause-inside
+compare_exchange-found-requires-clause-inside g c κs within = let near = mutex_low _ _ _ _ c.p.view_is c.p.invariant.laid_out c.p.invariant.lawful c.args.m.0 c.requires.named in let m : ℕ = c.args.m.0 in let out : c.me.inside.seat.me.0.part.spin ≡ None = ap (λ k. k.spin) c.me.view_is ∙ c.requires.outside.0 in let apart : c.me.inside.seat.me.0.part.stand ≡ None = ap (λ k. k.stand) c.me.view_is ∙ c.requires.outside.1 in let traces : c.p.inside.table.shared.key.traced ≡ c.args.p.now.traced = ap (λ s. s.traced) c.p.view_is in
+    let word = c.mutex_bit.ensures in omega arith
+
+pub compare_exchange-found-requires-clause-allowed : goal.compare_exchange-found-requires-clause-allowed
+compare_exchange-found-requires-clause-allowed g c κs within = let near = mutex_low _ _ _ _ c.p.view_is c.p.invariant.laid_out c.p.invariant.lawful c.args.m.0 c.requires.named in let m : ℕ = c.args.m.0 in let out : c.me.inside.seat.me.0.part.spin ≡ None = ap (λ k. k.spin) c.me.view_is ∙ c.requires.outside.0 in let apart : c.me.inside.seat.me.0.part.stand ≡ None = ap (λ k. k.stand) c.me.view_is ∙ c.requires.outside.1 in let traces : c.p.inside.table.shared.key.traced ≡ c.args.p.now.traced = ap (λ s. s.traced) c.p.view_is in
+    let word = c.mutex_bit.ensures in try_bit_keeps _ _ _ _ _ g.U.Uses.fits (g.U.Uses.holds_fits _) _ _ m c.args.e c.me.inside.seat.me _ word (search rules) c.me.invariant.member apart (subst (λ (z : ℕ × Opt Wait). MayTake z.0 m z.1 c.args.e) (λ j. ((sym (c.me.invariant.numbered ∙ ap (λ k. k.number) c.me.view_is)) j, ap (λ k. k.wait) (sym c.me.view_is) j)) c.requires.may) (subst (λ (z : Bool × Pen). MayTell z.0 z.1) (λ j. (sym traces j, ap (λ k. k.pen) (sym c.me.view_is) j)) c.requires.pen)
 
 pub take-requires : goal.take-requires
 take-requires g c = let near = mutex_low _ _ _ _ c.p.view_is c.p.invariant.laid_out c.p.invariant.lawful c.args.m.0 c.requires.named in let m : ℕ = c.args.m.0 in let i = c.me.invariant in let u = (c.compare_exchange-found.ensures.2 m c.mutex_bit.ensures).0 c.if-found-eq0.true in

@@ -11,9 +11,13 @@ use Rattle.nub_rule.proofs.Penning.{either_way as both}
 use Rattle.nub_rule.proofs.QueueSteps.{read_length_keeps}
 use Rattle.nub_rule.proofs.queue.read_length.Goals as goal
 
-pub load-requires : goal.load-requires
-load-requires g c = let low = object_low _ _ _ _ c.p.view_is c.p.invariant.laid_out c.p.invariant.lawful c.args.at c.requires.named in let word = c.length_word.ensures in
-    (search rules, omega arith, read_length_keeps _ _ _ _ _ _ _ (object_of c.args.at) c.me.inside.seat.me _ word (omega arith) c.me.invariant.member)
+pub load-requires-clause-inside : goal.load-requires-clause-inside
+load-requires-clause-inside g c κs within = let low = object_low _ _ _ _ c.p.view_is c.p.invariant.laid_out c.p.invariant.lawful c.args.at c.requires.named in let word = c.length_word.ensures in
+    omega arith
+
+pub load-requires-clause-allowed : goal.load-requires-clause-allowed
+load-requires-clause-allowed g c κs within = let low = object_low _ _ _ _ c.p.view_is c.p.invariant.laid_out c.p.invariant.lawful c.args.at c.requires.named in let word = c.length_word.ensures in
+    read_length_keeps _ _ _ _ _ _ _ (object_of c.args.at) c.me.inside.seat.me _ word (omega arith) c.me.invariant.member
 
 pub invariant_of-me : goal.invariant_of-me
 invariant_of-me g c = let o : ℕ = object_of c.args.at in let i = c.me.invariant in let h = i.hands in let u = c.load.ensures.2 o c.length_word.ensures in dite (ℕ_discrete c.load.result 0)

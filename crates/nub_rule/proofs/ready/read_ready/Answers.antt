@@ -11,8 +11,11 @@ use Rattle.nub_rule.proofs.Seen.{fit_still}
 use Rattle.nub_rule.proofs.ReadySteps.{read_ready_keeps}
 use Rattle.nub_rule.proofs.ready.read_ready.Goals as goal
 
-pub load-requires : goal.load-requires
-load-requires g c = let i = c.me.invariant in let t = c.requires.tested in (search rules, (let low = i.few in let e = c.ready_word.ensures in omega arith), read_ready_keeps _ _ _ _ _ _ _ _ c.me.inside.seat.me t.0 (c.ready_word.ensures ∙ ap ready_at (sym i.numbered)) i.member (ap (λ k. k.stand) c.me.view_is ∙ t.1) t.2 (ap (λ k. k.cleared) c.me.view_is ∙ c.requires.looked))
+pub load-requires-clause-inside : goal.load-requires-clause-inside
+load-requires-clause-inside g c κs within = let i = c.me.invariant in let t = c.requires.tested in (let low = i.few in let e = c.ready_word.ensures in omega arith)
+
+pub load-requires-clause-allowed : goal.load-requires-clause-allowed
+load-requires-clause-allowed g c κs within = let i = c.me.invariant in let t = c.requires.tested in read_ready_keeps _ _ _ _ _ _ _ _ c.me.inside.seat.me t.0 (c.ready_word.ensures ∙ ap ready_at (sym i.numbered)) i.member (ap (λ k. k.stand) c.me.view_is ∙ t.1) t.2 (ap (λ k. k.cleared) c.me.view_is ∙ c.requires.looked)
 
 pub invariant_of-me : goal.invariant_of-me
 invariant_of-me g c = let i = c.me.invariant in let h = i.hands in let out : c.me.inside.seat.me.0.part.spin ≡ None = ap (λ k. k.spin) c.me.view_is ∙ c.requires.outside in dite (ℕ_discrete c.load.result 0)

@@ -12,9 +12,13 @@ use Rattle.nub_rule.specs.Plays.{Grows, v_event}
 use Rattle.nub_rule.proofs.SemSteps.{clear_sem_keeps}
 use Rattle.nub_rule.proofs.sem.clear_sem.Goals as goal
 
-pub swap-requires : goal.swap-requires
-swap-requires g c = let near = sem_low _ _ _ _ c.p.view_is c.p.invariant.laid_out c.p.invariant.lawful c.args.s.0 c.requires.named in let s : ℕ = c.args.s.0 in let traces : c.p.inside.table.shared.key.traced ≡ c.args.p.now.traced = ap (λ s. s.traced) c.p.view_is in
-    let word = c.semaphore_bit.ensures in (search rules, omega arith, clear_sem_keeps _ _ _ _ _ _ _ s c.me.inside.seat.me _ word near (search rules) c.me.invariant.member (ap (λ k. k.wait) c.me.view_is ∙ c.requires.outside.0) (ap (λ k. k.stand) c.me.view_is ∙ c.requires.outside.1) (subst (λ (z : Bool × Pen). MayTell z.0 z.1) (λ j. (sym traces j, ap (λ k. k.pen) (sym c.me.view_is) j)) c.requires.pen))
+pub swap-requires-clause-inside : goal.swap-requires-clause-inside
+swap-requires-clause-inside g c κs within = let near = sem_low _ _ _ _ c.p.view_is c.p.invariant.laid_out c.p.invariant.lawful c.args.s.0 c.requires.named in let s : ℕ = c.args.s.0 in let traces : c.p.inside.table.shared.key.traced ≡ c.args.p.now.traced = ap (λ s. s.traced) c.p.view_is in
+    let word = c.semaphore_bit.ensures in omega arith
+
+pub swap-requires-clause-allowed : goal.swap-requires-clause-allowed
+swap-requires-clause-allowed g c κs within = let near = sem_low _ _ _ _ c.p.view_is c.p.invariant.laid_out c.p.invariant.lawful c.args.s.0 c.requires.named in let s : ℕ = c.args.s.0 in let traces : c.p.inside.table.shared.key.traced ≡ c.args.p.now.traced = ap (λ s. s.traced) c.p.view_is in
+    let word = c.semaphore_bit.ensures in clear_sem_keeps _ _ _ _ _ _ _ s c.me.inside.seat.me _ word near (search rules) c.me.invariant.member (ap (λ k. k.wait) c.me.view_is ∙ c.requires.outside.0) (ap (λ k. k.stand) c.me.view_is ∙ c.requires.outside.1) (subst (λ (z : Bool × Pen). MayTell z.0 z.1) (λ j. (sym traces j, ap (λ k. k.pen) (sym c.me.view_is) j)) c.requires.pen)
 
 pub invariant_of-me : goal.invariant_of-me
 invariant_of-me g c = let s : ℕ = c.args.s.0 in let i = c.me.invariant in let h = i.hands in fit_still _ _ c.me.inside.number c.me.inside.hand c.me.inside.seat.me _ _ c.swap.ensures.0 ((c.swap.ensures.2 s c.semaphore_bit.ensures).3) i refl (hands-same c.me.inside.seat.me.0.part _ c.me.inside.seat.me.1 _ (λ k. refl) refl refl refl h.room h.settled h)

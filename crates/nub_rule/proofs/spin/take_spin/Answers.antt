@@ -14,9 +14,13 @@ use Rattle.nub_rule.proofs.SpinSteps.{take_spin_keeps}
 use Rattle.nub_rule.proofs.Turns.{find-else}
 use Rattle.nub_rule.proofs.spin.take_spin.Goals as goal
 
-pub compare_exchange-found-requires : goal.compare_exchange-found-requires
-compare_exchange-found-requires g c = let low = object_low _ _ _ _ c.p.view_is c.p.invariant.laid_out c.p.invariant.lawful c.args.at c.requires.named in let is = c.number-o.ensures in
-    let word = c.spin_word.ensures in (search rules, omega arith, take_spin_keeps _ _ _ _ _ _ _ (object_of c.args.at) _ _ word (omega arith) (search rules) (search rules))
+pub compare_exchange-found-requires-clause-inside : goal.compare_exchange-found-requires-clause-inside
+compare_exchange-found-requires-clause-inside g c κs within = let low = object_low _ _ _ _ c.p.view_is c.p.invariant.laid_out c.p.invariant.lawful c.args.at c.requires.named in let is = c.number-o.ensures in
+    let word = c.spin_word.ensures in omega arith
+
+pub compare_exchange-found-requires-clause-allowed : goal.compare_exchange-found-requires-clause-allowed
+compare_exchange-found-requires-clause-allowed g c κs within = let low = object_low _ _ _ _ c.p.view_is c.p.invariant.laid_out c.p.invariant.lawful c.args.at c.requires.named in let is = c.number-o.ensures in
+    let word = c.spin_word.ensures in take_spin_keeps _ _ _ _ _ _ _ (object_of c.args.at) _ _ word (omega arith) (search rules) (search rules)
 
 pub take-requires : goal.take-requires
 take-requires g c = let low = object_low _ _ _ _ c.p.view_is c.p.invariant.laid_out c.p.invariant.lawful c.args.at c.requires.named in let is = c.number-o.ensures in
