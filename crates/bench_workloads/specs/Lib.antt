@@ -1,3 +1,4 @@
+pub mod Numbers
 pub mod Passing
 pub mod Reading
 pub mod Waking

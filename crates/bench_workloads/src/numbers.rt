@@ -1,5 +1,6 @@
 //! Numbers of threads and places, as words of a command line say them.
-ghost use Rattle.std.specs.Prelude.{◌≤◌, ◌+◌};
+ghost use Rattle.std.specs.Prelude.{◌≡◌, ◌≤◌, ◌<◌, ◌+◌, ℕ, IfNone, IfSome};
+ghost use Rattle.bench_workloads.specs.Numbers.{IsWordOf};
 
 /// A number of threads that a package can have.
 #[derive(Clone, Copy)]
@@ -23,6 +24,17 @@ pub struct Capacity {
     ghost in_buffer: { (1 ≤ number) × (number ≤ 4096) },
 }
 
+// The number that the word is, where it lies from `least` to `most`.
+fn number_of(word: &str, least: u32, most: u32) -> Option<u32>
+    ensures number { IfSome result (IsWordOf least most word.now) }
+    ensures none { IfNone result ((n : ℕ) → ¬ (IsWordOf least most word.now n)) }
+{
+    match word.parse::<u32>() {
+        Ok(number) if least <= number && number <= most => Some(number),
+        _ => None,
+    }
+}
+
 impl Count {
     /// One thread.
     pub const ONE: Count = Count { number: 1 };
@@ -30,33 +42,34 @@ impl Count {
     /// Two threads.
     pub const TWO: Count = Count { number: 2 };
 
-    /// The number that the word is, where it is one.
-    pub fn read(word: &str) -> Option<Count> {
-        let number = word.parse::<u32>().ok()?;
-        if 1 <= number && number <= 64 {
-            Some(Count { number })
-        } else {
-            None
-        }
+    /// The number that the word is, where it lies from 1 to 64.
+    pub fn read(word: &str) -> Option<Count>
+        ensures number { IfSome result (λ c. IsWordOf 1 64 word.now c.number) }
+        ensures none { IfNone result ((n : ℕ) → ¬ (IsWordOf 1 64 word.now n)) }
+    {
+        let number = number_of(word, 1, 64)?;
+        Some(Count { number })
     }
 
-    /// So many threads and one more.
-    pub fn read_and_one(word: &str) -> Option<Count> {
-        let number = word.parse::<u32>().ok()?;
-        if 1 <= number && number < 64 {
-            Some(Count { number: number + 1 })
-        } else {
-            None
-        }
+    /// One more than the number that the word is, where that lies from 1 to 63.
+    pub fn read_and_one(word: &str) -> Option<Count>
+        ensures number { IfSome result (λ c. (n : ℕ) × IsWordOf 1 63 word.now n × (c.number ≡ n + 1)) }
+        ensures none { IfNone result ((n : ℕ) → ¬ (IsWordOf 1 63 word.now n)) }
+    {
+        let number = number_of(word, 1, 63)?;
+        Some(Count { number: number + 1 })
     }
 }
 
 impl Sides {
-    /// The numbers that the words are, where they are such numbers.
-    pub fn read(first: &str, second: &str) -> Option<Sides> {
-        let first = first.parse::<u32>().ok()?;
-        let second = second.parse::<u32>().ok()?;
-        if 1 <= first && first < 64 && 1 <= second && second <= 64 - first {
+    /// The numbers that the words are, where each is 1 or more and together they are at most 64.
+    pub fn read(first: &str, second: &str) -> Option<Sides>
+        ensures numbers { IfSome result (λ s. IsWordOf 1 63 first.now s.first × IsWordOf 1 63 second.now s.second) }
+        ensures none { IfNone result ((m n : ℕ) → IsWordOf 1 63 first.now m → IsWordOf 1 63 second.now n → 64 < m + n) }
+    {
+        let first = number_of(first, 1, 63)?;
+        let second = number_of(second, 1, 63)?;
+        if first + second <= 64 {
             Some(Sides { first, second })
         } else {
             None
@@ -65,13 +78,12 @@ impl Sides {
 }
 
 impl Capacity {
-    /// The number that the word is, where it is one.
-    pub fn read(word: &str) -> Option<Capacity> {
-        let number = word.parse::<u32>().ok()?;
-        if 1 <= number && number <= 4096 {
-            Some(Capacity { number })
-        } else {
-            None
-        }
+    /// The number that the word is, where it lies from 1 to 4,096.
+    pub fn read(word: &str) -> Option<Capacity>
+        ensures number { IfSome result (λ c. IsWordOf 1 4096 word.now c.number) }
+        ensures none { IfNone result ((n : ℕ) → ¬ (IsWordOf 1 4096 word.now n)) }
+    {
+        let number = number_of(word, 1, 4096)?;
+        Some(Capacity { number })
     }
 }
