@@ -8,6 +8,3 @@ returns-in-Err-Failed-clause-told g c =
     let path : c.in-Ok.path ≡ child c.args.walked.now.root c.args.name.now = c.in-Ok.ensures ∙ ap (λ r. child r c.args.name.now) c.root.ensures in
     told_read_fault (g.S.Tree.tree c.args.tree.now) (g.S.Tree.may_fail c.args.tree.now) c.args.walked.now.root c.args.name.now c.in-Ok.path c.as_str.result.now (g.S.Tree.calls c.args.tree.now) (g.S.Tree.calls c.read.new.self)
     (c.as_str.ensures ∙ path) path (rw c.in-Err-Failed.field-0-is at c.in-Err-Failed.ensures.told)
-
-pub returns-in-Err-Failed-clause-count : goal.returns-in-Err-Failed-clause-count
-returns-in-Err-Failed-clause-count g c = rw c.in-Err-Failed.field-0-is at c.in-Err-Failed.ensures.count
