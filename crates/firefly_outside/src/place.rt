@@ -14,7 +14,7 @@ use std::alloc::{AllocError, Global};
 use std::collections::HashMap;
 
 /// The entries of a directory, or the bytes of a file.
-#[derive(Debug, Drop)]
+#[derive(Drop)]
 pub enum Place {
     Dir(Vec<Entry>),
     File(Vec<u8>),

@@ -1,11 +1,11 @@
 -- A text that is put piece by piece: some was sent, some is held back, and the rest is to come.
-use Rattle.std.proofs.Common.{◌≡◌, ℕ, ◌+◌, ◌<◌, ◌≤◌, List, [], ◌++◌, length, length-append, take, drop, get_or, refl, ap, sym, subst, ◌∙◌, append_assoc, append-nil, Some, None, arith}
+use Rattle.std.proofs.Common.{◌≡◌, ℕ, ◌+◌, ◌<◌, ◌≤◌, List, [], ◌++◌, length, length-append, take, drop, get_or, refl, ap, sym, subst, ◌∙◌, append_assoc, append-nil, Some, None, Ok, Err, Result, OnErr, arith}
 use Rattle.std.proofs.lemmas.List.{drop_all, drop_more, take-append-le}
 use Rattle.std.proofs.KnownBytes.{Appends-trans}
 use Rattle.std.proofs.Math.Seq.{take-append-add}
 use Rattle.std.specs.Io.KnownBytes.{Appends}
 use Rattle.std.specs.declared.option.Option.{Option}
-use Rattle.firefly_outside.specs.Causes.{AppendsFront}
+use Rattle.firefly_outside.specs.Causes.{AppendsFront, HasCause, Rose}
 use Rattle.larch_actions.specs.declared.event.Event.{Event}
 use Rattle.trace_core.specs.Text.{event_line, value_line, values_text}
 use Rattle.trace_core.specs.Whole.{event_lines, numbered, Flows}
@@ -73,3 +73,14 @@ pending_value first now later vs k held free held' all low p f e =
 
 pub no_more_values : (vs : List ℕ) (k : ℕ) → length vs ≤ k → values_text (numbered k (drop k vs)) ≡ []
 no_more_values vs k high = ap (λ l. values_text (numbered k l)) (drop_all k vs high)
+
+-- a cause since an earlier count
+pub cause_since : {T E U : Type 0} (first before now : ℕ) (e : E) → first ≤ before → HasCause {T = T} {E = E} before now (Err e) → HasCause {T = U} {E = E} first now (Err e)
+cause_since first before now e early h = record { later = omega (arith, early, h.later); failed = rose_since first before now early h.failed }
+  where
+    rose_since : (first before now : ℕ) → first ≤ before → Rose before now → Rose first now
+    rose_since first before now le rose = grind arith
+
+pub cause_of : {T E : Type 0} (first before now : ℕ) (r : Result T E) → first ≤ before → HasCause before now r → HasCause first now r
+cause_of first before now (Ok x) early h = record { later = omega (arith, early, h.later); failed = tt }
+cause_of first before now (Err e) early h = cause_since first before now e early h

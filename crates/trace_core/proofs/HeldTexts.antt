@@ -1,5 +1,5 @@
 -- Texts that stand in the bytes held.
-use Rattle.std.proofs.Common.{◌≡◌, ℕ, zero, suc, ◌+◌, ◌*◌, ◌/◌, ◌%◌, ◌<◌, ◌≤◌, true, false, inl, inr, List, [], ◌∷◌, ◌++◌, length, take, drop, get_or, refl, ap, sym, subst, ◌∙◌, append_assoc, append-nil, arith}
+use Rattle.std.proofs.Common.{◌≡◌, ℕ, zero, suc, ◌+◌, ◌*◌, ◌/◌, ◌%◌, ◌<◌, ◌≤◌, Bool, true, false, inl, inr, List, [], ◌∷◌, ◌++◌, length, take, drop, get_or, refl, ap, sym, subst, ◌∙◌, append_assoc, append-nil, arith}
 use Rattle.std.proofs.Math.Seq.{drop-cons}
 use Rattle.std.proofs.lemmas.List.{take-append-drop, drop-drop, length-take-le, length-drop, take_all}
 use Rattle.std.proofs.lemmas.Bool.Decides.{leb_tells}
@@ -13,6 +13,10 @@ use Rattle.trace_core.specs.declared.held.wait.HeldWait.{HeldWait}
 use Rattle.trace_core.specs.declared.held.wait.HeldEnding.{HeldEnding}
 use Rattle.larch_actions.specs.declared.event.Layout.{Layout}
 use Rattle.trace_core.specs.Held.{Stands, little, IsNameAt, IsWaitAt, IsEndingAt, ending_text}
+
+-- a test is not both
+pub never : {P : Type 0} (b : Bool) → b ≡ false → b ≡ true → P
+never b off on = cc
 
 pub stands_then : {bytes : List ℕ} {a m e : ℕ} {t u : List ℕ} → Stands bytes a t m → Stands bytes m u e → Stands bytes a (t ++ u) e
 stands_then {bytes} {a} {m} {e} {t} {u} p q = record { within = q.within; there = p.there ∙ ap (λ l. t ++ l) q.there ∙ sym (append_assoc t u (drop e bytes)) }

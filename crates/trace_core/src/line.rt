@@ -11,14 +11,14 @@ use itoa::Buffer;
 use larch_actions::{Event, Layout, ThreadId};
 
 /// Why nothing was read: the bytes are only a front of what could be read, or no front of it.
-#[derive(Clone, Copy, Debug, PartialEq, Eq)]
+#[derive(Clone, Copy)]
 pub enum Stop {
     More,
     Dead,
 }
 
 /// A line of a trace text.
-#[derive(Clone, Copy, Debug, PartialEq, Eq)]
+#[derive(Clone, Copy)]
 pub enum Line {
     Head,
     Counts(Layout),
@@ -28,7 +28,7 @@ pub enum Line {
 }
 
 /// Which line comes next.
-#[derive(Clone, Copy, Debug, PartialEq, Eq)]
+#[derive(Clone, Copy)]
 pub enum Expect {
     Head,
     Counts,

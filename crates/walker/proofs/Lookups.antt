@@ -13,6 +13,10 @@ use Rattle.firefly_outside.specs.Trees.{Path}
 use Rattle.walker.specs.Walk.{pairs_of}
 use Rattle.walker.proofs.ListLemmas.{Distinct, HasOrigin, Contains-head, Contains-tail, Contains-nil, Contains-cons_cases, Contains-map, Contains-unmap, All-at, AllPairs-head, AllPairs-tail}
 
+-- a test is not both
+pub never : {P : Type 0} → false ≡ true → P
+never h = cc
+
 -- what is found stands in the map
 pub entry_from : {A : Type 0} (es : List (String A × Bool)) (dir : Path) (b : Bool) → lookup (λ k. bytes_eq dir (string_bytes k)) es ≡ Some b → Contains (pairs_of es) (dir, b)
 entry_from [] dir b h = absurd (let bad : None ≡ Some b = h in cc)

@@ -175,11 +175,17 @@ fn add_piece(pile: &mut Vec<Piece>, next: Piece) -> Result<(), AllocError>
     let mut top = next;
     while let Some(below) = pile.pop() {
         if below.files() > top.files() {
-            put_on(pile, below)?;
-            return put_on(pile, top);
+            return put_both(pile, below, top);
         }
         top = merged(below, top)?;
     }
+    put_on(pile, top)
+}
+
+fn put_both(pile: &mut Vec<Piece>, below: Piece, top: Piece) -> Result<(), AllocError>
+    ensures { OnOk result (pile.new.items ≡ pile.old.items ++ below ∷ [] ++ top ∷ []) }
+{
+    put_on(pile, below)?;
     put_on(pile, top)
 }
 

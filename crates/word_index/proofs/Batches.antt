@@ -102,12 +102,15 @@ to_places w n (g ∷ fs) (suc at) f s within is seen =
     Contains-append_right (seen_place n (seen_in w (short_runs (low_of g)))) (places_from w (n + 1) (map low_of fs)) (record { path = n + suc at; count = s.count; line = s.line })
     (subst (λ (k : ℕ). Contains (places_from w (n + 1) (map low_of fs)) (record { path = k; count = s.count; line = s.line })) same (to_places w (n + 1) fs at f s (omega (arith, within)) is seen))
 
+nothing : {A P : Type 0} {x : A} → None ≡ Some x → P
+nothing h = cc
+
 -- a word is seen in a file that isn't too long
 low_short : (f : File) (w : List ℕ) (s : Seen) → seen_in w (short_runs (low_of f)) ≡ Some s → (f.long ≡ false) × (seen_in w (file_words f.bytes) ≡ Some s)
 low_short f w s h = by f.long refl h
   where
     by : (t : Bool) → f.long ≡ t → seen_in w (short_runs (cond t [] (map lower f.bytes))) ≡ Some s → (f.long ≡ false) × (seen_in w (file_words f.bytes) ≡ Some s)
-    by true e k = cc
+    by true e k = nothing k
     by false e k = (e, ap (seen_in w) (sym (file_words_lower f.bytes)) ∙ k)
 
 low_seen : (f : File) (w : List ℕ) (s : Seen) → f.long ≡ false → seen_in w (file_words f.bytes) ≡ Some s → seen_in w (short_runs (low_of f)) ≡ Some s

@@ -1,5 +1,5 @@
 -- Looking for texts in rising lists.
-use Rattle.std.proofs.Common.{◌≡◌, ℕ, ◌+◌, ◌<◌, ◌≤◌, List, [], ◌∷◌, length, get_or, arith, refl, sym, ap, subst, ◌∙◌, ⊎_elim, nat_cmp}
+use Rattle.std.proofs.Common.{◌≡◌, false, true, ℕ, ◌+◌, ◌<◌, ◌≤◌, List, [], ◌∷◌, length, get_or, arith, refl, sym, ap, subst, ◌∙◌, ⊎_elim, nat_cmp}
 use Rattle.std.specs.List.{Contains}
 use Rattle.std.specs.declared.cmp.Ordering.{Ordering}
 use Rattle.std.specs.declared.cmp.Ordering.TheVariants.{Less, Equal}
@@ -10,6 +10,10 @@ use Rattle.std.proofs.lemmas.List.{get_or_default}
 use Rattle.std.proofs.lemmas.List.Elements.{Contains-get_or}
 use Rattle.word_index.specs.Index.{IsBelow, IsRising}
 use Rattle.word_index.proofs.Below.{below_trans}
+
+-- a test is not both
+pub never : {P : Type 0} → false ≡ true → P
+never h = cc
 
 pub not_below : (x y : List ℕ) → x ≡ y → IsBelow x y → ⊥
 not_below x y same less =

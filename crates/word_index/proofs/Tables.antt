@@ -13,7 +13,7 @@ use Rattle.word_index.specs.Table.{IsTable}
 use Rattle.word_index.proofs.Below.{below_trans}
 use Rattle.word_index.proofs.Joins.{Joins, joins_none, joins_first, joins_both, flip}
 use Rattle.word_index.proofs.Permuted.{permuted_first, permuted_both}
-use Rattle.word_index.proofs.Sides.{length_rows, entries_more, entries_push, entries_merged, entries_moved, row_moved, row_merged}
+use Rattle.word_index.proofs.Sides.{length_rows, entries_more, entries_push, entries_merged, entries_moved, has_number, row_moved, row_merged}
 
 -- the words and rows of a piece, with its paths and their numbers among all
 pub record Side : Type 0 where
@@ -58,6 +58,13 @@ module _ {all : List (List ℕ)} where
   -- the row of a side at a place, as it is moved
   row_here : (s : Side) → IsSide all s → (i : ℕ) → i < length s.words → IsRow (length s.paths) (get_or s.rows i [])
   row_here s is i here = All-get_or (IsRow (length s.paths)) s.rows i [] (omega (arith, here, is.many)) is.each
+
+  -- and under numbers and as a row that are told
+  pub row_numbered : {s : Side} → IsSide all s → {i : ℕ} → i < length s.words → {row : List Place} {shown : List ℕ} → row ≡ get_or s.rows i [] → shown ≡ s.numbers → All (λ p. p.path < length shown) row
+  row_numbered {s} is {i} here {row} {shown} r n = rw (r, n) (has_number is.finds (get_or s.rows i []) (row_here s is i here).within)
+
+  pub row_rises : {s : Side} → IsSide all s → {i : ℕ} → i < length s.words → {row : List Place} {shown : List ℕ} → row ≡ get_or s.rows i [] → shown ≡ s.numbers → AllPairs IsPathBelow (map (moved shown) row)
+  row_rises {s} is {i} here {row} {shown} r n = rw (r, n) (row_moved is.finds (get_or s.rows i []) (row_here s is i here)).rising
 
   pub tables_first : {a b : Side} → IsSide all a → {i j : ℕ} {words : List (List ℕ)} {rows : List (List Place)} → TablesJoined all a b i j words rows
       → i < length a.words → (j < length b.words → IsBelow (get_or a.words i []) (get_or b.words j []))

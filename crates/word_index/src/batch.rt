@@ -115,15 +115,30 @@ fn add_long(batch: Batch, path: &[u8]) -> Result<Batch, AllocError>
         mut skipped,
         mut lows,
     } = batch;
-    paths.push(path)?;
-    skipped.push(path)?;
-    lows.push(b"")?;
+    put_long(&mut paths, &mut skipped, &mut lows, path)?;
     Ok(Batch {
         alloc,
         paths,
         skipped,
         lows,
     })
+}
+
+// Puts what is kept of a file that is too long behind the others.
+fn put_long(
+    paths: &mut Strings,
+    skipped: &mut Strings,
+    lows: &mut Strings,
+    path: &[u8],
+) -> Result<(), AllocError>
+    ensures paths { OnOk result (paths.new ≡ paths.old ++ path.now ∷ []) }
+    ensures skipped { OnOk result (skipped.new ≡ skipped.old ++ path.now ∷ []) }
+    ensures lows { OnOk result (lows.new ≡ lows.old ++ [] ∷ []) }
+{
+    paths.push(path)?;
+    skipped.push(path)?;
+    lows.push(b"")?;
+    Ok(())
 }
 
 // The batch with one more file of these bytes.

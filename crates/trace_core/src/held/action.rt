@@ -8,7 +8,7 @@ use crate::held::word::{has_byte, has_eight, has_four, has_two};
 use larch_actions::{Action, CondId, Layout, MutexId, SemId, ThreadId, ThreadSet};
 
 /// An action, and where its line ends.
-#[derive(Clone, Copy, Debug, PartialEq, Eq)]
+#[derive(Clone, Copy)]
 pub struct HeldAction {
     pub action: Action,
     pub end: usize,

@@ -9,7 +9,7 @@ use crate::place::Place;
 use larch_actions::{Event, Layout, ThreadId};
 
 /// An event, and where its line ends.
-#[derive(Clone, Copy, Debug, PartialEq, Eq)]
+#[derive(Clone, Copy)]
 pub struct HeldEvent {
     pub event: Event,
     pub end: usize,

@@ -5,14 +5,14 @@ ghost use Rattle.trace_core.specs.Held.{IsNameAt};
 use crate::held::word::has_byte;
 
 /// A name, and where what was read ends.
-#[derive(Clone, Copy, Debug, PartialEq, Eq)]
+#[derive(Clone, Copy)]
 pub struct HeldName {
     pub value: u32,
     pub end: usize,
 }
 
 // What two digits stand for, or one.
-#[derive(Clone, Copy, Debug, PartialEq, Eq)]
+#[derive(Clone, Copy)]
 struct Digits {
     value: u32,
     least: u32,

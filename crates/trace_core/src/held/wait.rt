@@ -7,7 +7,7 @@ use crate::held::word::{has_byte, has_eight, has_four};
 use larch_actions::{CondId, Layout, MutexId};
 
 /// The names of a mutex and a condition, and where what was read ends.
-#[derive(Clone, Copy, Debug, PartialEq, Eq)]
+#[derive(Clone, Copy)]
 pub struct HeldWait {
     pub mutex: MutexId,
     pub cond: CondId,
@@ -34,7 +34,7 @@ pub fn wait_held(bytes: &[u8], at: usize, layout: &Layout, stop: u8) -> Option<H
 }
 
 /// Whether an alertable call returned, and where its line ends.
-#[derive(Clone, Copy, Debug, PartialEq, Eq)]
+#[derive(Clone, Copy)]
 pub struct HeldEnding {
     pub returns: bool,
     pub end: usize,

@@ -1,4 +1,4 @@
-use Rattle.std.proofs.Common.{rules, ◌≡◌, ◌∙◌, ◌↔◌, ◌<◌, ◌≢◌, Bool, List, length, sym, subst, Result, Ok, Err, IfOk, IsTrue, Some, None, All}
+use Rattle.std.proofs.Common.{rules, ◌≡◌, ◌∙◌, ◌↔◌, ◌<◌, ◌≢◌, Bool, true, false, List, length, sym, subst, Result, Ok, Err, IfOk, IsTrue, Some, None, All}
 use Rattle.firefly_outside.specs.Trees.{Path, Told, HasParent, Directory, child, slash}
 use Rattle.firefly_outside.specs.declared.tree.Entry.{Entry}
 use Rattle.firefly_outside.specs.MemTrees.{told_by}
@@ -17,10 +17,13 @@ by_parts t path dir name (Ok b) absent is plain h = (
       h.1 (subst (λ (n : Path). 0 < length n) one.1 p.under.lawful.some, (p.entries, subst (λ (d : Path). t d ≡ Some (Directory p.entries)) one.0 p.here)),
 )
 
+never : {P : Type 0} → false ≡ true → P
+never h = cc
+
 pub returns-in-Some : goal.returns-in-Some
 returns-in-Some c =
     let absent : told_by c.args.places.now c.args.path.now ≡ None = search rules in
     by_parts (told_by c.args.places.now) c.args.path.now c.in-Some.dir.now c.in-Some.name.now c.has_child.result absent c.in-Some.ensures.0 c.in-Some.ensures.1 c.has_child.ensures
 
 pub returns : goal.returns
-returns c = ((λ yes. cc), (λ k. absurd (plain-slash c.args.path.now k.1.dir k.1.name k.1.under.is c.in-None.ensures)))
+returns c = (never, (λ k. absurd (plain-slash c.args.path.now k.1.dir k.1.name k.1.under.is c.in-None.ensures)))

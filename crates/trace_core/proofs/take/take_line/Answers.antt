@@ -1,4 +1,7 @@
-use Rattle.std.proofs.Common.{◌≡◌, ◌+◌, ◌-◌, length, ap, arith}
+use Rattle.std.proofs.Common.{◌≡◌, ◌⊎◌, ◌∙◌, ℕ, List, ◌+◌, ◌-◌, length, inl, inr, ap, sym, arith}
+use Rattle.std.proofs.KnownBytes.{Keeps-trans}
+use Rattle.trace_core.specs.Intake.{rest_of}
+use Rattle.trace_core.specs.Lines.{line_at}
 use Rattle.trace_core.proofs.Outcomes.{read_outcome, length_outcome, dead_outcome, cut_outcome, Keeps-behind, dead_lacks, cut_lacks, fault_lacks, fault_outcome}
 use Rattle.trace_core.proofs.Short.{more_short}
 use Rattle.trace_core.proofs.take.take_line.Goals as goal
@@ -60,3 +63,23 @@ returns-in-Err-clause-lacks g c =
     let e = rw c.in-Err-More.field-0-is at h.stop in
     fault_lacks c.args.expect.now c.requires c.read.new.intake c.fill.new.self _ _ _ _ _ _ c.in-Err.fault c.in-Err.ensures.filled (rw h.same_window c.loop-line.invariant.rest)
     (omega (arith, c.loop-line.invariant.room, h.given, h.budget, ap length h.same_window)) (rw h.same_window e)
+
+-- what the first bytes held said they still say
+first_said : {A P : Type 0} (read : List ℕ → A) (e : A) (start here : List ℕ) → (P × (here ≡ start)) ⊎ (read start ≡ e) → read here ≡ e → read start ≡ e
+first_said read e start here (inl same) now = ap read (sym same.1) ∙ now
+first_said read e start here (inr was) now = was
+
+pub loop-line-preserved : goal.loop-line-preserved
+loop-line-preserved g c =
+    let h = c.in-Err-More.ensures in
+    let i = c.loop-line.invariant in
+    let f = rw c.in-Ok-true.field-0-test at c.in-Ok-true.ensures.filled in
+    record {
+      lines = f.0.1 ∙ (h.same_lines ∙ i.lines);
+      budget = f.0.0 ∙ (h.budget ∙ i.budget);
+      room = omega (arith, i.room, h.given, h.budget, ap length h.same_window, f.2);
+      rest = Keeps-trans (rest_of c.args.intake.now (g.I.Source.left c.args.input.now)) (rest_of c.read.new.intake (g.I.Source.left c.loop-line.input)) (rest_of c.fill.new.self (g.I.Source.left c.fill.new.input)) (rw h.same_window i.rest) f.3;
+      untouched = inr (first_said (line_at c.args.expect.now) _ c.args.intake.now.window c.loop-line.intake.window i.untouched (rw c.in-Err-More.field-0-is at h.stop));
+      later = omega (arith, i.later, c.in-Ok-true.ensures.later);
+      unfailed = c.in-Ok-true.ensures.unfailed ∙ i.unfailed;
+    }

@@ -1,7 +1,7 @@
 use Rattle.std.proofs.Common.{◌++◌, length, take, subst, arith}
 use Rattle.trace_core.specs.Text.{end_line}
 use Rattle.trace_core.specs.Whole.{event_lines}
-use Rattle.trace_core.proofs.Flowing.{Pending, pending_event, pending_fault, pending_last, no_more_events}
+use Rattle.trace_core.proofs.Flowing.{cause_since, Pending, pending_event, pending_fault, pending_last, no_more_events}
 use Rattle.trace_core.proofs.whole.put_events.Goals as goal
 
 pub returns-in-Err-clause-err : goal.returns-in-Err-clause-err
@@ -28,3 +28,9 @@ returns-in-Ok-make_room-clause-ok g c =
 
 pub returns-in-Err-make_room-clause-err : goal.returns-in-Err-make_room-clause-err
 returns-in-Err-make_room-clause-err g c = pending_fault _ _ _ _ _ _ c.loop-i.invariant.pending c.in-Err-make_room.ensures.err
+
+pub returns-in-Err-clause-cause : goal.returns-in-Err-clause-cause
+returns-in-Err-clause-cause g c = cause_since (g.O.Sink.faults c.args.out.now) (g.O.Sink.faults c.loop-i.out) (g.O.Sink.faults c.make_room.new.out) c.in-Err.fault c.loop-i.invariant.later c.in-Err.ensures.cause
+
+pub returns-in-Err-make_room-clause-cause : goal.returns-in-Err-make_room-clause-cause
+returns-in-Err-make_room-clause-cause g c = cause_since (g.O.Sink.faults c.args.out.now) (g.O.Sink.faults c.loop-i.out) (g.O.Sink.faults c.make_room-2.new.out) c.in-Err-make_room.fault c.loop-i.invariant.later c.in-Err-make_room.ensures.cause

@@ -1,7 +1,7 @@
 use Rattle.std.proofs.Common.{◌++◌, take, subst, refl, arith}
 use Rattle.trace_core.specs.Text.{values_text}
 use Rattle.trace_core.specs.Whole.{numbered}
-use Rattle.trace_core.proofs.Flowing.{Pending, pending_value, pending_fault, pending_done, no_more_values}
+use Rattle.trace_core.proofs.Flowing.{cause_since, Pending, pending_value, pending_fault, pending_done, no_more_values}
 use Rattle.trace_core.proofs.whole.put_values.Goals as goal
 
 pub returns-in-Err-clause-err : goal.returns-in-Err-clause-err
@@ -22,3 +22,6 @@ returns-clause-ok g c =
     let now = g.O.Sink.held c.loop-k.out in
     let held = take c.loop-k.last c.loop-k.buf in
     pending_done first now before held text (before ++ text) refl (subst (Pending first now held (before ++ text)) (no_more_values c.args.values.now c.loop-k.k c.loop-k-test.false) c.loop-k.invariant.pending)
+
+pub returns-in-Err-clause-cause : goal.returns-in-Err-clause-cause
+returns-in-Err-clause-cause g c = cause_since (g.O.Sink.faults c.args.out.now) (g.O.Sink.faults c.loop-k.out) (g.O.Sink.faults c.make_room.new.out) c.in-Err.fault c.loop-k.invariant.later c.in-Err.ensures.cause

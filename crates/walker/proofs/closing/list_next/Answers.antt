@@ -1,7 +1,9 @@
-use Rattle.std.proofs.Common.{subst}
+use Rattle.std.proofs.Common.{sym, subst}
 use Rattle.firefly_outside.specs.Trees.{Path}
+use Rattle.walker.specs.Walk.{Walk, IsUnlisted}
+use Rattle.walker.specs.Progress.{Grows}
 use Rattle.walker.specs.Listings.{Notes}
-use Rattle.walker.proofs.Steps.{Grows-noted, below_next, told_ok, told_unnoted, told_memory, told_fault}
+use Rattle.walker.proofs.Steps.{Grows-refl, Grows-noted, below_next, told_ok, told_unnoted, told_memory, told_fault}
 use Rattle.walker.proofs.closing.list_next.Goals as goal
 
 pub returns-in-Ok-note-clause-grows : goal.returns-in-Ok-note-clause-grows
@@ -26,3 +28,12 @@ returns-in-Err-Memory-clause-told g c = told_memory (g.S.Tree.tree c.args.tree.n
 pub returns-clause-told : goal.returns-clause-told
 returns-clause-told g c = told_fault (g.S.Tree.tree c.args.tree.now) c.args.walked.now c.args.walked.now c.args.dir c.as_str-path.result.now (g.S.Tree.may_fail c.args.tree.now) (g.S.Tree.calls c.args.tree.now) (g.S.Tree.calls c.list_dir.new.tree)
     c.requires c.as_str-path.ensures (rw c.in-Err-Failed.field-0-is at c.in-Err-Failed.ensures.told)
+
+pub note-requires-clause-unlisted : goal.note-requires-clause-unlisted
+note-requires-clause-unlisted g c = subst (λ (p : Path). IsUnlisted c.args.walked.now p) (sym c.as_str-path.ensures) c.requires
+
+pub returns-in-Ok-clause-grows : goal.returns-in-Ok-clause-grows
+returns-in-Ok-clause-grows g c = subst (λ (w : Walk). Grows c.args.walked.now w) (sym c.in-Err.ensures.err.1) (Grows-refl c.args.walked.now)
+
+pub returns-clause-count : goal.returns-clause-count
+returns-clause-count g c = rw c.in-Err-Failed.field-0-is at c.in-Err-Failed.ensures.count

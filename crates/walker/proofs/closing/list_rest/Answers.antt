@@ -37,3 +37,9 @@ loop-at-preserved g c = record {
 
 pub returns-clause-listed : goal.returns-clause-listed
 returns-clause-listed g c = below_all c.loop-at.walked c.loop-at.at (omega (arith, c.loop-at-test.false, c.dirs_found.ensures.many)) c.loop-at.invariant.below
+
+pub returns-in-Some-clause-grows : goal.returns-in-Some-clause-grows
+returns-in-Some-clause-grows g c = Grows-trans c.args.walked.now c.loop-at.walked c.list_at.new.walked c.loop-at.invariant.grows c.list_at.ensures.grows
+
+pub returns-in-Err-clause-grows : goal.returns-in-Err-clause-grows
+returns-in-Err-clause-grows g c = Grows-trans c.args.walked.now c.loop-at.walked c.list_at.new.walked c.loop-at.invariant.grows c.list_at.ensures.grows

@@ -1,7 +1,8 @@
-use Rattle.std.proofs.Common.{◌≡◌, ◌∙◌, ◌+◌, ◌<◌, ℕ, List, [], ◌∷◌, ◌++◌, map, take, get_or, length, ap, sym, arith}
+use Rattle.std.proofs.Common.{◌≡◌, ◌∙◌, ◌+◌, ◌<◌, ℕ, List, [], ◌∷◌, ◌++◌, map, take, get_or, length, ap, sym, subst, arith}
 use Rattle.std.specs.String.{string_bytes}
-use Rattle.std.proofs.lemmas.List.{map-append, take_more}
+use Rattle.std.proofs.lemmas.List.{map-append, take_more, take_all}
 use Rattle.firefly_outside.specs.Trees.{Path, child}
+use Rattle.walker.specs.Found.{IsBelow}
 use Rattle.walker.proofs.found.names_below.Goals as goal
 
 -- one name more
@@ -14,3 +15,10 @@ name_more path_of names more files k name file was pushed is at here =
 pub loop-file-preserved : goal.loop-file-preserved
 loop-file-preserved c = name_more (λ s. child c.args.root.now (string_bytes s)) c.loop-file.names.items c.push.new.self.items c.args.files.now.items c.loop-file.file-index c.in_ok-name.name c.file-item.result
     c.loop-file.invariant c.in_ok-push.ensures.items (ap (child c.args.root.now) c.in_ok-name.ensures.ok ∙ (c.below.ensures ∙ c.as_str.ensures)) (rw c.deref-file-items.ensures.value at c.file-item.is) (omega (arith, ap length c.deref-file-items.ensures.value))
+
+pub below-requires : goal.below-requires
+below-requires c = subst (IsBelow c.args.root.now) (sym c.as_str.ensures)
+    (c.requires c.file-item.result (c.loop-file.file-index, omega (arith, ap length c.deref-file-items.ensures.value), sym (rw c.deref-file-items.ensures.value at c.file-item.is)))
+
+pub returns : goal.returns
+returns c = c.loop-file.invariant ∙ take_all c.loop-file.file-index c.args.files.now.items (omega (arith, ap length c.deref-file-items.ensures.value))

@@ -1,9 +1,11 @@
-use Rattle.std.proofs.Common.{◌≡◌, ◌∙◌, ◌++◌, List, map, ap, sym, subst, refl}
+use Rattle.std.proofs.Common.{◌≡◌, ◌∙◌, ◌++◌, Bool, List, length, map, ap, sym, subst, refl, arith, Contains}
 use Rattle.std.specs.String.{string_bytes}
+use Rattle.std.proofs.lemmas.List.{length-map}
 use Rattle.firefly_outside.specs.Trees.{Path, child}
 use Rattle.walker.specs.Walk.{Walk, walk_at, pairs_of, marked, IsSound, IsWalkOf}
 use Rattle.walker.specs.Found.{AreNew}
 use Rattle.walker.specs.Listings.{Notes}
+use Rattle.walker.proofs.ListLemmas.{Contains-map}
 use Rattle.walker.proofs.WalkLemmas.{noted, names-marked, AreBelow-listing, AreNew-dirs, AreNew-files}
 use Rattle.walker.proofs.NoteLemmas.{IsSound-noted, IsWalkOf-noted, Notes-noted, map-below, is_noted, kept_walk}
 use Rattle.walker.proofs.noting.note_in.Goals as goal
@@ -56,3 +58,9 @@ returns-in_default-clause-err c = (
 pub returns-in_default-clause-sound : goal.returns-in_default-clause-sound
 returns-in_default-clause-sound c = subst IsSound (sym (kept_walk c.args.root.now (pairs_of c.args.dirs.now.entries) (pairs_of c.room_for.new.dirs.entries) (map string_bytes c.args.files.now.keys) (map string_bytes c.room_for.new.files.keys)
     (ap pairs_of c.room_for.ensures.dirs_stay) (ap (map string_bytes) c.room_for.ensures.files_stay))) c.requires.sound
+
+pub mark-requires : goal.mark-requires
+mark-requires c = subst (λ (ps : List (Path × Bool)). Contains (map (λ d. d.0) ps) c.args.dir.now) (ap pairs_of (sym c.room_for.ensures.dirs_stay)) (Contains-map (λ (d : Path × Bool). d.0) _ _ c.requires.unlisted)
+
+pub add_files-requires-clause-room : goal.add_files-requires-clause-room
+add_files-requires-clause-room c = omega (arith, c.in-Ok.ensures.files_room, ap length c.in-Ok.ensures.names, length-map c.in-Ok.names.items (λ s. child c.args.root.now (string_bytes s)))

@@ -9,9 +9,9 @@ pub loop-below-init : goal.loop-below-init
 loop-below-init c = record { apart = c.requires; index = λ fs gs pile index. pile_push c.args.pile.now.items c.args.next fs gs pile index }
 
 pub returns-then-files-clause-apart : goal.returns-then-files-clause-apart
-returns-then-files-clause-apart c = OnOk-map c.put_on-then-files.result _ _
-    (λ is. subst AreApart (ap (λ (l : List Index). l ++ c.loop-below.top ∷ []) (c.in-Some.ensures.items ∙ sym c.in_ok-put_on.ensures) ∙ sym is) c.loop-below.invariant.apart)
-    c.put_on-then-files.ensures
+returns-then-files-clause-apart c = OnOk-map c.put_both.result _ _
+    (λ is. subst AreApart (ap (λ (l : List Index). l ++ c.loop-below.top ∷ []) c.in-Some.ensures.items ∙ sym is) c.loop-below.invariant.apart)
+    c.put_both.ensures
 
 pub merged-requires : goal.merged-requires
 merged-requires c = apart_top c.pop.new.self.items c.in-Some.below c.loop-below.top (subst (λ (l : List Index). AreApart (l ++ c.loop-below.top ∷ [])) c.in-Some.ensures.items c.loop-below.invariant.apart)

@@ -2,6 +2,7 @@ use Rattle.std.proofs.Common.{◌≡◌, ◌∙◌, sym, refl, true, false}
 use Rattle.walker.specs.declared.answer.WalkAnswer.TheVariants.{Memory}
 use Rattle.word_index.specs.Read.{read_file}
 use Rattle.walker.specs.Pile.{AreKept}
+use Rattle.walker.proofs.Lookups.{never}
 use Rattle.walker.proofs.ReadLemmas.{HasRead-covered, HasRead-next, stops_next, read_lost}
 use Rattle.walker.proofs.reading.read_at.Goals as goal
 
@@ -11,7 +12,7 @@ returns-then-covers-clause-step g c = λ start h. HasRead-covered (g.S.Tree.tree
 
 pub returns-in-Err-clause-step : goal.returns-in-Err-clause-step
 returns-in-Err-clause-step g c = λ start h. stops_next (g.S.Tree.tree c.args.tree.now) c.args.walked.now c.args.piece.now.paths start (g.S.Tree.calls c.args.tree.now) c.args.at (AreKept c.args.pile.now.items c.args.batch)
-    c.file_at-name.result.now c.requires.sound c.file_at-name.ensures (λ k. let bad : true ≡ false = sym (c.covers.ensures.1 k) ∙ c.if-covers.false in cc) h
+    c.file_at-name.result.now c.requires.sound c.file_at-name.ensures (λ k. never (sym c.if-covers.false ∙ c.covers.ensures.1 k)) h
     c.in-Err.answer (g.S.Tree.may_fail c.args.tree.now) (g.S.Tree.calls c.read_next.new.tree) c.in-Err.ensures.told
 
 pub keep_file-requires-clause-kept : goal.keep_file-requires-clause-kept
@@ -19,11 +20,11 @@ keep_file-requires-clause-kept g c = let h = c.requires.read.1 in (h.files, h.ke
 
 pub returns-in-Ok-keep_file-clause-step : goal.returns-in-Ok-keep_file-clause-step
 returns-in-Ok-keep_file-clause-step g c = λ start h. HasRead-next (g.S.Tree.tree c.args.tree.now) c.args.walked.now c.args.piece.now.paths start (g.S.Tree.calls c.args.tree.now) c.args.at (AreKept c.args.pile.now.items c.args.batch)
-    c.file_at-name.result.now c.requires.sound c.file_at-name.ensures (λ k. let bad : true ≡ false = sym (c.covers.ensures.1 k) ∙ c.if-covers.false in cc) h
+    c.file_at-name.result.now c.requires.sound c.file_at-name.ensures (λ k. never (sym c.if-covers.false ∙ c.covers.ensures.1 k)) h
     (g.S.Tree.calls c.read_next.new.tree) (AreKept c.keep_file.new.pile.items c.in-Ok-keep_file.batch) (read_file c.file_at-name.result.now c.in-Ok.file) refl c.in-Ok.ensures.file c.in-Ok-keep_file.ensures.kept c.in-Ok.ensures.told
 
 pub returns-clause-step : goal.returns-clause-step
 returns-clause-step g c = λ start h. stops_next (g.S.Tree.tree c.args.tree.now) c.args.walked.now c.args.piece.now.paths start (g.S.Tree.calls c.args.tree.now) c.args.at (AreKept c.args.pile.now.items c.args.batch)
-    c.file_at-name.result.now c.requires.sound c.file_at-name.ensures (λ k. let bad : true ≡ false = sym (c.covers.ensures.1 k) ∙ c.if-covers.false in cc) h
+    c.file_at-name.result.now c.requires.sound c.file_at-name.ensures (λ k. never (sym c.if-covers.false ∙ c.covers.ensures.1 k)) h
     Memory (g.S.Tree.may_fail c.args.tree.now) (g.S.Tree.calls c.read_next.new.tree)
     (read_lost (g.S.Tree.tree c.args.tree.now) c.args.walked.now.root c.file_at-name.result.now (g.S.Tree.may_fail c.args.tree.now) (g.S.Tree.calls c.args.tree.now) (g.S.Tree.calls c.read_next.new.tree) c.in-Ok.file c.in-Ok.ensures.told)

@@ -25,3 +25,24 @@ loop-i-preserved c =
 
 pub returns-clause-members : goal.returns-clause-members
 returns-clause-members c = joined_members (omega arith) (omega arith) c.loop-i.invariant
+
+pub get-requires : goal.get-requires
+get-requires c = (c.in-Less.ensures.less refl).0
+
+pub get-requires-in-Greater : goal.get-requires-in-Greater
+get-requires-in-Greater c = (c.in-Greater.ensures.greater refl).0
+
+pub get-requires-in-Equal : goal.get-requires-in-Equal
+get-requires-in-Equal c = (c.in-Equal.ensures.equal refl).0
+
+pub overflow_add-i : goal.overflow_add-i
+overflow_add-i c = omega (arith, (c.in-Less.ensures.less refl).0)
+
+pub overflow_add-j : goal.overflow_add-j
+overflow_add-j c = omega (arith, (c.in-Greater.ensures.greater refl).0)
+
+pub overflow_add-i-in-Equal : goal.overflow_add-i-in-Equal
+overflow_add-i-in-Equal c = omega (arith, (c.in-Equal.ensures.equal refl).0)
+
+pub overflow_add-j-in-Equal : goal.overflow_add-j-in-Equal
+overflow_add-j-in-Equal c = omega (arith, (c.in-Equal.ensures.equal refl).1)

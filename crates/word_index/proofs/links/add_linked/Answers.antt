@@ -1,4 +1,5 @@
 use Rattle.std.proofs.Common.{◌≡◌, ◌-◌, ◌<◌, ◌≤◌, ◌∙◌, List, length, take, sym, ap, subst, arith}
+use Rattle.std.proofs.Math.Seq.{take-length}
 use Rattle.word_index.specs.declared.rows.Place.{Place}
 use Rattle.word_index.proofs.Chains.{Following, following_first, following_next, following_end, following_keeps, next_of}
 use Rattle.word_index.proofs.links.add_linked.Goals as goal
@@ -26,3 +27,6 @@ returns-clause-ok c = following_end c.loop-n.invariant (omega (arith, c.loop-n-t
 
 pub returns-clause-kept : goal.returns-clause-kept
 returns-clause-kept c = following_keeps c.loop-n.invariant
+
+pub returns-in_err-push-clause-kept : goal.returns-in_err-push-clause-kept
+returns-in_err-push-clause-kept c = ap (take (length c.args.out.now.items)) c.in_err-push.ensures.items ∙ take-length c.args.out.now.items

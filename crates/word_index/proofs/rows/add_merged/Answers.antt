@@ -36,3 +36,9 @@ returns-in_err-push-2-clause-kept c = ap (take (length c.args.out.now.items)) c.
 
 pub returns-clause-kept : goal.returns-clause-kept
 returns-clause-kept c = merging_keeps c.loop-i.invariant
+
+pub loop-i-smaller : goal.loop-i-smaller
+loop-i-smaller c = omega (arith, c.if-takes_first.ensures.second.0, length-map c.args.xs.now (moved c.args.of_x.now), length-map c.args.ys.now (moved c.args.of_y.now))
+
+pub loop-i-smaller-then-takes_first : goal.loop-i-smaller-then-takes_first
+loop-i-smaller-then-takes_first c = omega (arith, c.if-takes_first.ensures.first.0, length-map c.args.xs.now (moved c.args.of_x.now), length-map c.args.ys.now (moved c.args.of_y.now))

@@ -3,6 +3,7 @@ use Rattle.std.specs.String.{string_bytes}
 use Rattle.std.proofs.lemmas.List.{get_or_default}
 use Rattle.std.proofs.lemmas.List.Elements.{Contains-get_or}
 use Rattle.firefly_outside.specs.Trees.{Path}
+use Rattle.walker.proofs.Lookups.{never}
 use Rattle.walker.proofs.walked.Walked.all_found.Goals as goal
 
 pub returns-then-not-has_file : goal.returns-then-not-has_file
@@ -10,7 +11,7 @@ returns-then-not-has_file c =
     let paths = c.args.piece.now.paths in
     let within : c.loop-at.at < length paths = search rules in
     let files : map string_bytes c.self.inside.files.keys ≡ c.args.self.now.files = ap (λ w. w.files) c.self.view_is in (
-      λ no. absurd (cc),
+      never,
       λ all. c.if-not-has_file.ensures.1 (subst (λ fs. Contains fs c.path.result.now) (sym files)
           (all c.path.result.now (subst (λ (p : Path). Contains paths p) (sym c.path.ensures) (Contains-get_or paths c.loop-at.at [] within)))),
     )

@@ -3,7 +3,7 @@ use Rattle.std.specs.List.{Contains}
 use Rattle.std.proofs.lemmas.List.Elements.{Contains-get_or}
 use Rattle.word_index.specs.Index.{IsBelow}
 use Rattle.word_index.proofs.Below.{below_back, same_texts}
-use Rattle.word_index.proofs.Searches.{searching_all, searching_above, searching_under, searched_all}
+use Rattle.word_index.proofs.Searches.{searching_all, searching_above, searching_under, searched_all, never}
 use Rattle.word_index.proofs.piece.Piece.covers.Goals as goal
 
 pub loop-low-preserved-in-Less : goal.loop-low-preserved-in-Less
@@ -25,4 +25,4 @@ loop-low-preserved c =
     searching_under s c.self.invariant.paths _ (omega arith) (omega (arith, s.order)) (rw (← c.get.ensures, ← c.as_bytes.ensures.value) (below_back c.get.result.now c.as_bytes.result.now (sym c.in-Greater.ensures)))
 
 pub returns : goal.returns
-returns c = rw (← c.self.view_is) ((λ no. cc), (λ here. absurd (searched_all c.loop-low.invariant (omega arith) here)))
+returns c = rw (← c.self.view_is) (never, (λ here. absurd (searched_all c.loop-low.invariant (omega arith) here)))

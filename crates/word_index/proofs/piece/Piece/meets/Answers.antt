@@ -1,7 +1,7 @@
 use Rattle.std.proofs.Common.{◌≡◌, ◌≤◌, ◌<◌, List, ℕ, [], get_or, refl, sym, subst, length, arith}
 use Rattle.std.specs.List.{Contains}
 use Rattle.std.proofs.lemmas.List.Elements.{Contains-get_or}
-use Rattle.word_index.proofs.Searches.{apart_first, apart_flip, apart_all}
+use Rattle.word_index.proofs.Searches.{apart_first, apart_flip, apart_all, never}
 use Rattle.word_index.proofs.piece.Piece.meets.Goals as goal
 
 pub loop-i-preserved-in-Less : goal.loop-i-preserved-in-Less
@@ -23,7 +23,7 @@ returns-in-Equal c =
     rw (← c.self.view_is, ← c.other.view_is) ((λ _. (p, Contains-get_or xs c.loop-i.i [] equal.0, subst (Contains ys) (sym equal.2) (Contains-get_or ys c.loop-i.j [] equal.1))), (λ _. refl))
 
 pub returns-else-j-len : goal.returns-else-j-len
-returns-else-j-len c = rw (← c.self.view_is, ← c.other.view_is) ((λ no. cc), (λ meet. absurd (apart_all (apart_flip c.loop-i.invariant) (omega arith) meet.0 meet.2 meet.1)))
+returns-else-j-len c = rw (← c.self.view_is, ← c.other.view_is) (never, (λ meet. absurd (apart_all (apart_flip c.loop-i.invariant) (omega arith) meet.0 meet.2 meet.1)))
 
 pub returns-after-loop-i : goal.returns-after-loop-i
-returns-after-loop-i c = rw (← c.self.view_is, ← c.other.view_is) ((λ no. cc), (λ meet. absurd (apart_all c.loop-i.invariant (omega arith) meet.0 meet.1 meet.2)))
+returns-after-loop-i c = rw (← c.self.view_is, ← c.other.view_is) (never, (λ meet. absurd (apart_all c.loop-i.invariant (omega arith) meet.0 meet.1 meet.2)))
