@@ -1,0 +1,94 @@
+-- A P that an alert may end as a row of steps, each of which says what the thread knows then.
+use Rattle.std.proofs.Common.{◌≡◌, ℕ, Option as Opt, None, List, [], ◌∷◌, ◌++◌, length, ap, ap₂, sym, subst, ◌∙◌}
+use Rattle.larch_actions.specs.declared.event.Event.{Event}
+use Rattle.larch_actions.specs.Actions.{IsLegal, by_thread}
+use Rattle.larch_actions.specs.Sets.{without}
+use Rattle.nub_rule.specs.declared.view.Stand.{Stand}
+use Rattle.nub_rule.specs.declared.view.Wait.{Wait}
+use Rattle.nub_rule.specs.Known.{Known, Makes, recorded}
+use Rattle.nub.proofs.Without.{without_twice}
+
+module _ {T H W : Type 0} where
+  -- an event that s made is made by o where s is o in all that the event hangs on
+  pub makes_from : (by : ℕ → Event) (o s e : Known T H W) → s.number ≡ o.number → s.seen ≡ o.seen → s.mine ≡ o.mine → s.places ≡ o.places → s.pen ≡ o.pen
+      → Makes (by s.number) s e → Makes (by o.number) o e
+  makes_from by o s e number seen mine places pen made =
+      let d = by o.number in
+      let at : Makes d s e = subst (λ (n : ℕ). Makes (by n) s e) number made in
+      let grows = at.1 in
+      let far = ap (λ l. l ++ at.0) seen in (
+        at.0,
+        record {
+          legal = subst IsLegal (ap (λ l. l ++ d ∷ []) far) grows.legal;
+          own = ap₂ (λ n l. by_thread n l) (sym number) (sym (ap (λ l. l ++ d ∷ []) far)) ∙ (grows.own ∙ ap (λ l. l ++ d ∷ []) mine);
+          number = λ k p. grows.number k (pen ∙ p) ∙ ap length far;
+        },
+        at.2 ∙ ap (λ l. l ++ d ∷ []) far,
+        at.3 ∙ ap (λ l. l ++ d ∷ []) mine,
+        at.4 ∙ ap₂ (λ l m. l ++ length m ∷ []) places far,
+      )
+
+  -- the thread o is l after tries that failed
+  abbrev pub Tries : Known T H W → Known T H W → Type 0
+  Tries o l = l ≡ record o { count = l.count; failed = l.failed; turns = l.turns; alerted = l.alerted; next = l.next }
+
+  -- one more try of n has failed, as t
+  abbrev pub Lost : ℕ → Known T H W → Known T H W → Type 0
+  Lost n l t = t ≡ record l { failed = n ∷ l.failed; turns = without n l.turns; next = t.next }
+
+  -- and the thread has stood in line for n, as s
+  abbrev pub Stood : ℕ → Known T H W → Known T H W → Type 0
+  Stood n t s = s ≡ record t { count = s.count; stand = s.stand; failed = without n t.failed; turns = s.turns; alerted = s.alerted }
+
+  -- a try of n has taken the bit, as t
+  pub won : (n : ℕ) (o l t : Known T H W) → Tries o l → without n l.turns ≡ [] → o.wait ≡ None → o.turns ≡ []
+      → t ≡ record (recorded l t) { held = t.held; wait = None; failed = without n l.failed; turns = without n l.turns; values = t.values }
+      → (t.held ≡ l.held) × (t.values ≡ l.values) → t ≡ record (recorded o t) { count = t.count; failed = t.failed; alerted = t.alerted }
+  won n o l t same turns no_wait no_turns is taken =
+      let F : Known T H W → List (Opt T) → List (Opt (Opt T)) → Opt Wait → List ℕ → Known T H W =
+      λ k h v w u. record (recorded k t) { held = h; values = v; wait = w; turns = u; failed = t.failed; count = t.count; alerted = t.alerted } in
+      let G : Known T H W → Known T H W = λ k. record k { failed = t.failed; count = t.count; alerted = t.alerted } in
+      ap G is
+      ∙ ap (F l t.held t.values None) turns
+      ∙ ap (λ k. F k t.held t.values None []) same
+      ∙ ap (λ h. F o h t.values None []) (taken.0 ∙ ap (λ k. k.held) same)
+      ∙ ap (λ v. F o o.held v None []) (taken.1 ∙ ap (λ k. k.values) same)
+      ∙ ap (λ w. F o o.held o.values w []) (sym no_wait)
+      ∙ ap (F o o.held o.values o.wait) (sym no_turns)
+
+  module _ (n : ℕ) (o l t s : Known T H W) (same : Tries o l) (turns : without n l.turns ≡ []) (lost : Lost n l t) (stood : Stood n t s) where
+    -- the thread goes on
+    pub still_tries : o.stand ≡ None → s.stand ≡ None → Tries o s
+    still_tries no_stand out =
+        let F : Known T H W → Opt Stand → Known T H W = λ k q. record k { stand = q; count = s.count; failed = s.failed; turns = s.turns; alerted = s.alerted; next = s.next } in
+        let G : Known T H W → Known T H W = λ k. record k { failed = s.failed; next = s.next } in
+        ap G stood
+        ∙ ap (λ k. F k s.stand) lost
+        ∙ ap (λ k. F k s.stand) same
+        ∙ ap (F o) (out ∙ sym no_stand)
+
+    pub still_none : without n s.turns ≡ without n t.turns → without n s.turns ≡ []
+    still_none is = is ∙ (ap (λ k. without n k.turns) lost ∙ (without_twice n l.turns ∙ turns))
+
+    -- it was alerted in the line, and ends the call as e
+    module _ (e : Known T H W) (no_stand : o.stand ≡ None) (no_turns : o.turns ≡ []) (stays : s.turns ≡ t.turns)
+        (ended : e ≡ record (recorded s e) { count = e.count; stand = None; failed = e.failed; alerted = e.alerted }) where
+      pub raised : e ≡ record (recorded o e) { count = e.count; failed = e.failed; alerted = e.alerted }
+      raised =
+          let F : Known T H W → Opt Stand → List ℕ → Known T H W = λ k q u. record (recorded k e) { count = e.count; stand = q; failed = e.failed; alerted = e.alerted; turns = u } in
+          ended
+          ∙ ap (λ k. F k None s.turns) stood
+          ∙ ap (λ k. F k None s.turns) lost
+          ∙ ap (λ k. F k None s.turns) same
+          ∙ ap (λ q. F o q s.turns) (sym no_stand)
+          ∙ ap (F o o.stand) (stays ∙ (ap (λ k. k.turns) lost ∙ (turns ∙ sym no_turns)))
+
+    -- the event that it made then
+    pub raises : (by : ℕ → Event) (e : Known T H W) → Makes (by s.number) s e → Makes (by o.number) o e
+    raises by e made =
+        let number = ap (λ k. k.number) stood ∙ (ap (λ k. k.number) lost ∙ ap (λ k. k.number) same) in
+        let seen = ap (λ k. k.seen) stood ∙ (ap (λ k. k.seen) lost ∙ ap (λ k. k.seen) same) in
+        let mine = ap (λ k. k.mine) stood ∙ (ap (λ k. k.mine) lost ∙ ap (λ k. k.mine) same) in
+        let places = ap (λ k. k.places) stood ∙ (ap (λ k. k.places) lost ∙ ap (λ k. k.places) same) in
+        let pen = ap (λ k. k.pen) stood ∙ (ap (λ k. k.pen) lost ∙ ap (λ k. k.pen) same) in
+        makes_from by o s e number seen mine places pen made
