@@ -1,12 +1,21 @@
 -- A P that an alert may end as a row of steps, each of which says what the thread knows then.
-use Rattle.std.proofs.Common.{◌≡◌, ℕ, Option as Opt, None, List, [], ◌∷◌, ◌++◌, length, ap, ap₂, sym, subst, ◌∙◌}
+use Rattle.std.proofs.Common.{◌≡◌, ℕ, ◌<◌, ◌≤◌, Bool, true, false, Option as Opt, None, Some, List, [], ◌∷◌, ◌++◌, length, refl, ap, ap₂, sym, subst, ◌∙◌, ⊎_elim}
+use Rattle.std.proofs.lemmas.Bool.{cases_lt}
 use Rattle.larch_actions.specs.declared.event.Event.{Event}
 use Rattle.larch_actions.specs.Actions.{IsLegal, by_thread}
 use Rattle.larch_actions.specs.Sets.{without}
+use Rattle.nub_rule.specs.declared.view.Pen.{Pen}
+use Rattle.nub_rule.specs.declared.view.Pen.TheVariants.{No}
+use Rattle.nub_rule.specs.declared.view.Stage.TheVariants.{Alerted}
 use Rattle.nub_rule.specs.declared.view.Stand.{Stand}
 use Rattle.nub_rule.specs.declared.view.Wait.{Wait}
-use Rattle.nub_rule.specs.Known.{Known, Makes, recorded}
+use Rattle.nub_rule.specs.Known.{Known, Makes, learnt, recorded}
+use Rattle.nub_rule.specs.Parts.{staged}
 use Rattle.nub.proofs.Without.{without_twice}
+
+cases : {X : Type 0} (b : Bool) → (b ≡ true → X) → (b ≡ false → X) → X
+cases true f g = f refl
+cases false f g = g refl
 
 module _ {T H W : Type 0} where
   -- an event that s made is made by o where s is o in all that the event hangs on
@@ -92,3 +101,128 @@ module _ {T H W : Type 0} where
         let places = ap (λ k. k.places) stood ∙ (ap (λ k. k.places) lost ∙ ap (λ k. k.places) same) in
         let pen = ap (λ k. k.pen) stood ∙ (ap (λ k. k.pen) lost ∙ ap (λ k. k.pen) same) in
         makes_from by o s e number seen mine places pen made
+
+  -- the thread o is in no line any more, as w
+  abbrev pub Withdrew : ℕ → Known T H W → Known T H W → Type 0
+  Withdrew n o w = w ≡ record o { count = w.count; stand = None; failed = without n o.failed; turns = w.turns }
+
+  module _ (n : ℕ) (o w : Known T H W) (is : Withdrew n o w) where
+    pub withdrew_quietly : w.turns ≡ o.turns → w ≡ record o { count = w.count; stand = None; failed = w.failed; next = w.next }
+    withdrew_quietly turns =
+        let F : List ℕ → Known T H W = λ u. record o { count = w.count; stand = None; failed = w.failed; turns = u; next = w.next } in
+        let G : Known T H W → Known T H W = λ k. record k { failed = w.failed; next = w.next } in
+        ap G is ∙ ap F turns
+
+    module _ (t : Known T H W) (turns : without n w.turns ≡ without n o.turns) (no_turns : o.turns ≡ []) where
+      -- its last try has failed, as t
+      pub lost_last : Lost n w t → t ≡ record o { count = t.count; stand = None; failed = t.failed; next = t.next }
+      lost_last lost =
+          let F : Known T H W → List ℕ → Known T H W = λ k u. record k { count = t.count; failed = t.failed; turns = u; next = t.next } in
+          let E : List ℕ → Known T H W = λ u. record o { count = t.count; stand = None; failed = t.failed; turns = u; next = t.next } in
+          let G : Known T H W → Known T H W = λ k. record k { count = t.count; failed = t.failed } in
+          ap G lost ∙ ap (λ k. F k (without n w.turns)) is ∙ ap E (turns ∙ (ap (without n) no_turns ∙ sym no_turns))
+
+      -- its last try has taken the bit, as t
+      pub won_last : o.wait ≡ None → t ≡ record (recorded w t) { held = t.held; wait = None; failed = without n w.failed; turns = without n w.turns; values = t.values }
+          → (t.held ≡ w.held) × (t.values ≡ w.values) → t ≡ record (recorded o t) { count = t.count; stand = None; failed = t.failed }
+      won_last no_wait won taken =
+          let F : Known T H W → List (Opt T) → List (Opt (Opt T)) → Opt Wait → List ℕ → Known T H W =
+          λ k h v w u. record (recorded k t) { held = h; values = v; wait = w; turns = u; failed = t.failed; count = t.count } in
+          let E : List (Opt T) → List (Opt (Opt T)) → Opt Wait → List ℕ → Known T H W =
+          λ h v w u. record (recorded o t) { held = h; values = v; wait = w; turns = u; failed = t.failed; count = t.count; stand = None } in
+          let G : Known T H W → Known T H W = λ k. record k { failed = t.failed; count = t.count } in
+          ap G won
+          ∙ ap (F w t.held t.values None) (turns ∙ ap (without n) no_turns)
+          ∙ ap (λ k. F k t.held t.values None []) is
+          ∙ ap (λ h. E h t.values None []) (taken.0 ∙ ap (λ k. k.held) is)
+          ∙ ap (λ v. E o.held v None []) (taken.1 ∙ ap (λ k. k.values) is)
+          ∙ ap (λ w. E o.held o.values w []) (sym no_wait)
+          ∙ ap (E o.held o.values o.wait) (sym no_turns)
+
+  pub with_alerted : (a b : Known T H W) → a ≡ b → a ≡ record b { alerted = a.alerted }
+  with_alerted a b is = let F : Known T H W → Known T H W = λ k. record k { alerted = a.alerted } in ap F is
+
+  -- the thread o, whose last try has failed as a, raises as z
+  pub raised_last : (o a z : Known T H W) → a ≡ record o { count = a.count; stand = None; failed = a.failed; next = a.next } → z ≡ record (recorded a z) { alerted = false }
+      → z ≡ record (recorded o z) { count = z.count; stand = None; failed = z.failed; alerted = z.alerted }
+  raised_last o a z is raised =
+      let F : Known T H W → Known T H W = λ k. record (recorded k z) { count = z.count; failed = z.failed; alerted = z.alerted } in
+      let G : Known T H W → Known T H W = λ k. record k { count = z.count; failed = z.failed; alerted = z.alerted } in
+      ap G raised ∙ ap F is
+
+  -- the thread o has the spin word of n as i; its queue is given back with the word
+  abbrev pub Enters : ℕ → Known T H W → Known T H W → Type 0
+  Enters n o i = i ≡ record o { spin = Some n; queue = i.queue; owed = []; left = i.queue; count = i.count; failed = without n o.failed }
+
+  module _ (n : ℕ) (o i z : Known T H W) (entered : Enters n o i) (spin : o.spin ≡ None) (queue : o.queue ≡ []) (owed : o.owed ≡ []) (left : o.left ≡ []) where
+    outside_again : (q : Opt Stand) (u : List ℕ) (b : Bool) → record i { spin = None; queue = []; left = []; count = z.count; stand = q; turns = u; alerted = b } ≡ record o { count = z.count; stand = q; failed = without n o.failed; turns = u; alerted = b }
+    outside_again q u b =
+        let F : Known T H W → Known T H W = λ k. record k { spin = None; queue = []; left = []; count = z.count; stand = q; turns = u; alerted = b } in
+        let E : Opt ℕ → List ℕ → List ℕ → List ℕ → Known T H W = λ s a d f. record o { spin = s; queue = a; owed = d; left = f; count = z.count; stand = q; failed = without n o.failed; turns = u; alerted = b } in
+        ap F entered ∙ ap (λ s. E s [] [] []) (sym spin) ∙ ap (λ a. E o.spin a [] []) (sym queue) ∙ ap (λ d. E o.spin o.queue d []) (sym owed) ∙ ap (E o.spin o.queue o.owed) (sym left)
+
+    -- it found itself popped as r, left as l, and slept until it was made ready, as z
+    pub popped : (r l : Known T H W) (u : List ℕ) → r ≡ i → l ≡ record r { spin = None; queue = []; left = [] } → z ≡ record l { stand = None; turns = u }
+        → z ≡ record o { count = z.count; stand = None; failed = without n o.failed; turns = z.turns }
+    popped r l u same leaves slept =
+        let F : Known T H W → Known T H W = λ k. record k { count = z.count; stand = None; turns = z.turns; alerted = z.alerted } in
+        let G : Known T H W → Known T H W = λ k. record k { count = z.count; turns = z.turns; alerted = z.alerted } in
+        let K : Known T H W → Known T H W = λ k. record k { spin = None; queue = []; left = []; count = z.count; stand = None; turns = z.turns; alerted = z.alerted } in
+        let E : Bool → Known T H W = λ b. record o { count = z.count; stand = None; failed = without n o.failed; turns = z.turns; alerted = b } in
+        let alerted = ap (λ k. k.alerted) slept ∙ (ap (λ k. k.alerted) leaves ∙ (ap (λ k. k.alerted) same ∙ ap (λ k. k.alerted) entered)) in
+        ap G slept ∙ ap F leaves ∙ ap K same ∙ outside_again None z.turns z.alerted ∙ ap E alerted
+
+    -- it took itself out as r, and left as z
+    pub left_line : (r : Known T H W) (a d u : List ℕ) → r ≡ record i { queue = a; left = d; stand = None; turns = u } → z ≡ record r { spin = None; queue = []; left = [] }
+        → z ≡ record o { count = z.count; stand = None; failed = without n o.failed; turns = z.turns }
+    left_line r a d u out leaves =
+        let G : Known T H W → Known T H W = λ k. record k { count = z.count; turns = z.turns; alerted = z.alerted } in
+        let F : Known T H W → Known T H W = λ k. record k { spin = None; queue = []; left = []; count = z.count; turns = z.turns; alerted = z.alerted } in
+        let E : Bool → Known T H W = λ b. record o { count = z.count; stand = None; failed = without n o.failed; turns = z.turns; alerted = b } in
+        let alerted = ap (λ k. k.alerted) leaves ∙ (ap (λ k. k.alerted) out ∙ ap (λ k. k.alerted) entered) in
+        ap G leaves ∙ ap F out ∙ outside_again None z.turns z.alerted ∙ ap E alerted
+
+    -- it pushed itself as q, and tested the bit as t
+    module _ (q t : Known T H W) (a d : List ℕ) (stood tested : Opt Stand) (pushed : q ≡ record i { queue = a; left = d; stand = stood }) (tests : t ≡ record q { stand = tested }) where
+      -- it found it clear, took itself out as r, and left as z
+      pub went_on : (r : Known T H W) (e f u : List ℕ) → r ≡ record t { queue = e; left = f; stand = None; turns = u } → z ≡ record r { spin = None; queue = []; left = [] }
+          → z ≡ record o { count = z.count; stand = z.stand; failed = without n o.failed; turns = z.turns; alerted = z.alerted }
+      went_on r e f u out leaves =
+          let G : Known T H W → Known T H W = λ k. record k { count = z.count; stand = z.stand; turns = z.turns; alerted = z.alerted } in
+          let K : Known T H W → Known T H W = λ k. record k { spin = None; queue = []; left = []; count = z.count; stand = z.stand; turns = z.turns; alerted = z.alerted } in
+          ap G leaves ∙ ap K out ∙ ap K tests ∙ ap K pushed ∙ outside_again z.stand z.turns z.alerted
+
+      -- it found it set, left as l, and slept, until it was made ready or was alerted, as z
+      pub slept : (l : Known T H W) (b : Bool) → l ≡ record t { spin = None; queue = []; left = [] } → (b ≡ true → n < 128 → z ≡ record l { stand = None; turns = n ∷ l.turns })
+          → (b ≡ true → 128 ≤ n → z ≡ record l { stand = None }) → (b ≡ false → z ≡ record l { alerted = true; stand = staged Alerted l.stand })
+          → z ≡ record o { count = z.count; stand = z.stand; failed = without n o.failed; turns = z.turns; alerted = z.alerted }
+      slept l b leaves at_gate at_cond alerted =
+          let G : Known T H W → Known T H W = λ k. record k { count = z.count; stand = z.stand; turns = z.turns; alerted = z.alerted } in
+          let K : Known T H W → Known T H W = λ k. record k { spin = None; queue = []; left = []; count = z.count; stand = z.stand; turns = z.turns; alerted = z.alerted } in
+          let last : z ≡ G l = cases b (λ e. ⊎_elim (λ low. ap G (at_gate e low)) (λ high. ap G (at_cond e high)) (cases_lt n 128)) (λ e. ap G (alerted e)) in
+          last ∙ ap G leaves ∙ ap K tests ∙ ap K pushed ∙ outside_again z.stand z.turns z.alerted
+
+  -- the thread o read its number as b, raised as s, and told it as z
+  module _ (o b s z : Known T H W) (pen : o.pen ≡ No) (began : b ≡ record o { pen = b.pen; next = b.next }) (told : z ≡ record s { pen = No; entries = z.entries; lost = z.lost }) where
+    pub raised_outside : (q : Pen) → s ≡ record (learnt b s) { alerted = false; pen = q } → z ≡ record (recorded o z) { alerted = false }
+    raised_outside q raised =
+        let G : Known T H W → Known T H W = λ k. record k { seen = z.seen; mine = z.mine; places = z.places; next = z.next } in
+        let F : Known T H W → Known T H W = λ k. record k { seen = z.seen; mine = z.mine; places = z.places; next = z.next; pen = No; entries = z.entries; lost = z.lost } in
+        let H : Known T H W → Pen → Known T H W = λ k p. record (recorded k z) { alerted = false; pen = p } in
+        ap G told ∙ ap F raised ∙ ap (λ k. H k No) began ∙ ap (H o) (sym pen)
+
+    pub raised_in_wait : (q : Pen) → s ≡ record (learnt b s) { wait = None; alerted = false; pen = q } → z ≡ record (recorded o z) { wait = None; alerted = false }
+    raised_in_wait q raised =
+        let G : Known T H W → Known T H W = λ k. record k { seen = z.seen; mine = z.mine; places = z.places; next = z.next } in
+        let F : Known T H W → Known T H W = λ k. record k { seen = z.seen; mine = z.mine; places = z.places; next = z.next; pen = No; entries = z.entries; lost = z.lost } in
+        let H : Known T H W → Pen → Known T H W = λ k p. record (recorded k z) { wait = None; alerted = false; pen = p } in
+        ap G told ∙ ap F raised ∙ ap (λ k. H k No) began ∙ ap (H o) (sym pen)
+
+  -- the thread o has the mutex again for no event as q, and raised as z
+  pub ended_alerted : (o q z : Known T H W) (w : Opt Wait) → q ≡ record o { held = q.held; count = q.count; wait = w; failed = q.failed; turns = q.turns; values = q.values }
+      → z ≡ record (recorded q z) { wait = None; alerted = false }
+      → z ≡ record (recorded o z) { held = z.held; count = z.count; wait = None; failed = z.failed; turns = z.turns; alerted = z.alerted; values = z.values }
+  ended_alerted o q z w quiet raised =
+      let G : Known T H W → Known T H W = λ k. record k { held = z.held; count = z.count; failed = z.failed; turns = z.turns; alerted = z.alerted; values = z.values } in
+      let F : Known T H W → Known T H W = λ k. record (recorded k z) { held = z.held; count = z.count; wait = None; failed = z.failed; turns = z.turns; alerted = z.alerted; values = z.values } in
+      ap G raised ∙ ap F quiet

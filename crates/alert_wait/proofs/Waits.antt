@@ -1,5 +1,5 @@
 -- A wait as a row of steps, each of which says what the thread knows then.
-use Rattle.std.proofs.Common.{◌≡◌, ℕ, Option as Opt, Some, None, List, [], ◌∷◌, ◌++◌, ap, subst, sym, ◌∙◌, append_assoc, slice_set}
+use Rattle.std.proofs.Common.{◌≡◌, ℕ, Option as Opt, Some, None, List, [], ◌∷◌, ◌++◌, ap, subst, sym, ◌∙◌, append_assoc, append-nil, slice_set}
 use Rattle.std.proofs.lemmas.List.{set-set}
 use Rattle.larch_actions.specs.declared.event.Event.{Event}
 use Rattle.larch_actions.specs.Actions.{IsLegal, StartsWith, by_thread}
@@ -114,3 +114,13 @@ module _ {T H W : Type 0} where
           ends = (k.seen ++ second.0, seen);
           own = ap (λ n. by_thread n z.seen) (ap (λ k. k.number) s.out ∙ ap (λ k. k.number) s.ended) ∙ (ap (by_thread k.number) seen ∙ (second.1.own ∙ sym mine));
         }
+
+  -- what one event adds
+  pub adds_one : (e : Event) (a b : Known T H W) → Makes e a b → b.number ≡ a.number → Adds [] e a b
+  adds_one e a b made number = record {
+    mine = made.3 ∙ ap (λ l. l ++ e ∷ []) (sym (append-nil a.mine));
+    legal = subst IsLegal (sym made.2) made.1.legal;
+    grows = grown a.seen made.0 b.seen e made.2;
+    ends = (a.seen ++ made.0, made.2);
+    own = ap (λ n. by_thread n b.seen) number ∙ (ap (by_thread a.number) made.2 ∙ (made.1.own ∙ sym made.3));
+  }
