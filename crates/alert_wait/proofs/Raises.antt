@@ -4,12 +4,10 @@ use Rattle.std.proofs.lemmas.Bool.{cases_lt}
 use Rattle.larch_actions.specs.declared.event.Event.{Event}
 use Rattle.larch_actions.specs.Actions.{IsLegal, by_thread}
 use Rattle.larch_actions.specs.Sets.{without}
-use Rattle.nub_rule.specs.declared.view.Pen.{Pen}
-use Rattle.nub_rule.specs.declared.view.Pen.TheVariants.{No}
 use Rattle.nub_rule.specs.declared.view.Stage.TheVariants.{Alerted}
 use Rattle.nub_rule.specs.declared.view.Stand.{Stand}
 use Rattle.nub_rule.specs.declared.view.Wait.{Wait}
-use Rattle.nub_rule.specs.Known.{Known, Makes, learnt, recorded}
+use Rattle.nub_rule.specs.Known.{Known, Makes, recorded}
 use Rattle.nub_rule.specs.Parts.{staged}
 use Rattle.nub.proofs.Without.{without_twice}
 
@@ -201,22 +199,6 @@ module _ {T H W : Type 0} where
           let K : Known T H W → Known T H W = λ k. record k { spin = None; queue = []; left = []; count = z.count; stand = z.stand; turns = z.turns; alerted = z.alerted } in
           let last : z ≡ G l = cases b (λ e. ⊎_elim (λ low. ap G (at_gate e low)) (λ high. ap G (at_cond e high)) (cases_lt n 128)) (λ e. ap G (alerted e)) in
           last ∙ ap G leaves ∙ ap K tests ∙ ap K pushed ∙ outside_again z.stand z.turns z.alerted
-
-  -- the thread o read its number as b, raised as s, and told it as z
-  module _ (o b s z : Known T H W) (pen : o.pen ≡ No) (began : b ≡ record o { pen = b.pen; next = b.next }) (told : z ≡ record s { pen = No; entries = z.entries; lost = z.lost }) where
-    pub raised_outside : (q : Pen) → s ≡ record (learnt b s) { alerted = false; pen = q } → z ≡ record (recorded o z) { alerted = false }
-    raised_outside q raised =
-        let G : Known T H W → Known T H W = λ k. record k { seen = z.seen; mine = z.mine; places = z.places; next = z.next } in
-        let F : Known T H W → Known T H W = λ k. record k { seen = z.seen; mine = z.mine; places = z.places; next = z.next; pen = No; entries = z.entries; lost = z.lost } in
-        let H : Known T H W → Pen → Known T H W = λ k p. record (recorded k z) { alerted = false; pen = p } in
-        ap G told ∙ ap F raised ∙ ap (λ k. H k No) began ∙ ap (H o) (sym pen)
-
-    pub raised_in_wait : (q : Pen) → s ≡ record (learnt b s) { wait = None; alerted = false; pen = q } → z ≡ record (recorded o z) { wait = None; alerted = false }
-    raised_in_wait q raised =
-        let G : Known T H W → Known T H W = λ k. record k { seen = z.seen; mine = z.mine; places = z.places; next = z.next } in
-        let F : Known T H W → Known T H W = λ k. record k { seen = z.seen; mine = z.mine; places = z.places; next = z.next; pen = No; entries = z.entries; lost = z.lost } in
-        let H : Known T H W → Pen → Known T H W = λ k p. record (recorded k z) { wait = None; alerted = false; pen = p } in
-        ap G told ∙ ap F raised ∙ ap (λ k. H k No) began ∙ ap (H o) (sym pen)
 
   -- the thread o has the mutex again for no event as q, and raised as z
   pub ended_alerted : (o q z : Known T H W) (w : Opt Wait) → q ≡ record o { held = q.held; count = q.count; wait = w; failed = q.failed; turns = q.turns; values = q.values }

@@ -1,5 +1,4 @@
-use Rattle.std.proofs.Common.{ℕ, ap, ◌∙◌}
-use Rattle.nub_rule.specs.Known.{recorded}
+use Rattle.std.proofs.Common.{ℕ, ap}
 use Rattle.nub_rule.specs.Plays.{alert_p_raise_event}
 use Rattle.alert_wait.proofs.Raises.{makes_from, raised_last, with_alerted}
 use Rattle.alert_wait.proofs.sem.end_alerted.Goals as goal
