@@ -100,43 +100,6 @@ module _ {T H W : Type 0} where
         let pen = ap (λ k. k.pen) stood ∙ (ap (λ k. k.pen) lost ∙ ap (λ k. k.pen) same) in
         makes_from by o s e number seen mine places pen made
 
-  -- the thread o is in no line any more, as w
-  abbrev pub Withdrew : ℕ → Known T H W → Known T H W → Type 0
-  Withdrew n o w = w ≡ record o { count = w.count; stand = None; failed = without n o.failed; turns = w.turns }
-
-  module _ (n : ℕ) (o w : Known T H W) (is : Withdrew n o w) where
-    pub withdrew_quietly : w.turns ≡ o.turns → w ≡ record o { count = w.count; stand = None; failed = w.failed; next = w.next }
-    withdrew_quietly turns =
-        let F : List ℕ → Known T H W = λ u. record o { count = w.count; stand = None; failed = w.failed; turns = u; next = w.next } in
-        let G : Known T H W → Known T H W = λ k. record k { failed = w.failed; next = w.next } in
-        ap G is ∙ ap F turns
-
-    module _ (t : Known T H W) (turns : without n w.turns ≡ without n o.turns) (no_turns : o.turns ≡ []) where
-      -- its last try has failed, as t
-      pub lost_last : Lost n w t → t ≡ record o { count = t.count; stand = None; failed = t.failed; next = t.next }
-      lost_last lost =
-          let F : Known T H W → List ℕ → Known T H W = λ k u. record k { count = t.count; failed = t.failed; turns = u; next = t.next } in
-          let E : List ℕ → Known T H W = λ u. record o { count = t.count; stand = None; failed = t.failed; turns = u; next = t.next } in
-          let G : Known T H W → Known T H W = λ k. record k { count = t.count; failed = t.failed } in
-          ap G lost ∙ ap (λ k. F k (without n w.turns)) is ∙ ap E (turns ∙ (ap (without n) no_turns ∙ sym no_turns))
-
-      -- its last try has taken the bit, as t
-      pub won_last : o.wait ≡ None → t ≡ record (recorded w t) { held = t.held; wait = None; failed = without n w.failed; turns = without n w.turns; values = t.values }
-          → (t.held ≡ w.held) × (t.values ≡ w.values) → t ≡ record (recorded o t) { count = t.count; stand = None; failed = t.failed }
-      won_last no_wait won taken =
-          let F : Known T H W → List (Opt T) → List (Opt (Opt T)) → Opt Wait → List ℕ → Known T H W =
-          λ k h v w u. record (recorded k t) { held = h; values = v; wait = w; turns = u; failed = t.failed; count = t.count } in
-          let E : List (Opt T) → List (Opt (Opt T)) → Opt Wait → List ℕ → Known T H W =
-          λ h v w u. record (recorded o t) { held = h; values = v; wait = w; turns = u; failed = t.failed; count = t.count; stand = None } in
-          let G : Known T H W → Known T H W = λ k. record k { failed = t.failed; count = t.count } in
-          ap G won
-          ∙ ap (F w t.held t.values None) (turns ∙ ap (without n) no_turns)
-          ∙ ap (λ k. F k t.held t.values None []) is
-          ∙ ap (λ h. E h t.values None []) (taken.0 ∙ ap (λ k. k.held) is)
-          ∙ ap (λ v. E o.held v None []) (taken.1 ∙ ap (λ k. k.values) is)
-          ∙ ap (λ w. E o.held o.values w []) (sym no_wait)
-          ∙ ap (E o.held o.values o.wait) (sym no_turns)
-
   pub with_alerted : (a b : Known T H W) → a ≡ b → a ≡ record b { alerted = a.alerted }
   with_alerted a b is = let F : Known T H W → Known T H W = λ k. record k { alerted = a.alerted } in ap F is
 
