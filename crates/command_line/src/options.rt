@@ -1,7 +1,7 @@
 //! The words after `index` and `trace`.
 ghost use Rattle.std.specs.Prelude.{◌≡◌, ◌≢◌, ◌↔◌, ℕ, Option, [], false, All, IfNone, IfOk, IfSome, IsTrue, map, option_map};
 ghost use Rattle.std.specs.String.{string_bytes};
-ghost use Rattle.clap.specs.Words.{app_of, with_rule, fault_of, found_of, matches_of, rows_of, rule_of};
+ghost use Rattle.clap.specs.Words.{App, app_of, with_rule, fault_of, found_of, matches_of, rows_of, rule_of};
 ghost use Rattle.command_line.specs.Grammar.{Options, SayOptions};
 ghost use Rattle.command_line.specs.Reading.{HoldOptions, IsNumberOr, IsOffered, IsStop, bare_app, directory_rule, index_app, option_rule};
 ghost use Rattle.command_line.specs.Tasks.{options_of};
@@ -69,10 +69,10 @@ fn parse<'a>(alloc: Global, words: &'a [String]) -> Result<ArgMatches<'a>, Words
 fn index_command<'a>(alloc: Global) -> Result<clap::Command<'a>, AllocError>
     ensures { IfOk result (λ c. app_of c ≡ index_app) }
 {
-    let walkers = with_option(alloc, bare_command(alloc), "walkers")?;
-    let parsers = with_option(alloc, walkers, "parsers")?;
-    let mergers = with_option(alloc, parsers, "mergers")?;
-    let stop = with_option(alloc, mergers, "stop-after")?;
+    let walkers = with_option(alloc, Ok(bare_command(alloc)), "walkers");
+    let parsers = with_option(alloc, walkers, "parsers");
+    let mergers = with_option(alloc, parsers, "mergers");
+    let stop = with_option(alloc, mergers, "stop-after");
     with_dir(alloc, stop)
 }
 
@@ -85,23 +85,25 @@ fn bare_command<'a>(alloc: Global) -> clap::Command<'a>
         .disable_help_flag(true)
 }
 
-// One more option.
+// One more option, where there is a command.
 fn with_option<'a>(
     alloc: Global,
-    command: clap::Command<'a>,
+    command: Result<clap::Command<'a>, AllocError>,
     name: &'a str,
 ) -> Result<clap::Command<'a>, AllocError>
-    ensures { IfOk result (λ c. app_of c ≡ with_rule (app_of command.entry) (option_rule name.entry.now)) }
+    ensures { (a : App) → IfOk command.entry (λ c. app_of c ≡ a) → IfOk result (λ c. app_of c ≡ with_rule a (option_rule name.entry.now)) }
 {
-    command.arg(option_named(alloc, name))
+    command?.arg(option_named(alloc, name))
 }
 
-// DIR behind what there is.
-fn with_dir<'a>(alloc: Global, command: clap::Command<'a>) -> Result<clap::Command<'a>, AllocError>
-    ensures { IfOk result (λ c. app_of c ≡ with_rule (app_of command.entry) directory_rule) }
+// DIR behind what there is, where there is a command.
+fn with_dir<'a>(
+    alloc: Global,
+    command: Result<clap::Command<'a>, AllocError>,
+) -> Result<clap::Command<'a>, AllocError>
+    ensures { (a : App) → IfOk command.entry (λ c. app_of c ≡ a) → IfOk result (λ c. app_of c ≡ with_rule a directory_rule) }
 {
-    let dir = Arg::new(alloc, "dir").required(true).action(ArgAction::Set);
-    command.arg(dir)
+    command?.arg(directory(alloc))
 }
 
 fn option_named<'a>(alloc: Global, name: &'a str) -> Arg<'a>
@@ -109,6 +111,13 @@ fn option_named<'a>(alloc: Global, name: &'a str) -> Arg<'a>
     ensures global { result.global ≡ false }
 {
     Arg::new(alloc, name).long(name).action(ArgAction::Set)
+}
+
+fn directory<'a>(alloc: Global) -> Arg<'a>
+    ensures rule { rule_of result ≡ directory_rule }
+    ensures global { result.global ≡ false }
+{
+    Arg::new(alloc, "dir").required(true).action(ArgAction::Set)
 }
 
 // The values, read as numbers.

@@ -1,5 +1,5 @@
 -- What the commands `index` and `trace` answer, by what their run gave.
-use Rattle.std.proofs.Common.{◌≡◌, ◌≢◌, ◌⊎◌, inl, inr, ℕ, true, List, [], Option, refl, sym, subst}
+use Rattle.std.proofs.Common.{◌≡◌, ◌≢◌, ◌⊎◌, inl, inr, ℕ, true, List, [], Option, Result, Ok, Err, refl, sym, subst}
 use Rattle.firefly_outside.specs.Trees.{Path}
 use Rattle.larch_actions.specs.declared.event.Event.{Event}
 use Rattle.word_index.specs.Index.{Index}
@@ -14,6 +14,13 @@ use Rattle.firefly.specs.Looks.{Look}
 use Rattle.firefly.specs.TraceCommand.{IsIndexTrace, TraceAnswers}
 use Rattle.firefly.specs.declared.status.Status.{Status}
 use Rattle.firefly.specs.declared.status.Status.TheVariants.{Done, Usage, ReadFault, SinkFault, Stopped, Memory, Illegal, BadText, TooMany, TooLong}
+
+module _ {A : Type 0} where
+  pub no_error : {x : A} {s : Status} → (let r : Result A Status = Ok x in r) ≡ Err s → ⊥
+  no_error e = cc
+
+  pub same_error : {r s : Status} → (let x : Result A Status = Err r in x) ≡ Err s → r ≡ s
+  same_error e = cc
 
 module _ (o : Options) (old new : List (Option Look)) (out notes : Change) where
   pub index_printed : (piece : Index) (answer : Status) → IsTheIndex o old piece → NoneRose old new → Prints (index_text piece) Done out notes answer → IndexAnswers o old new out notes answer

@@ -11,7 +11,7 @@ use memchr::memchr;
 pub const LONGEST: usize = 256;
 
 /// What stands next.
-#[derive(Clone, Copy, Debug, PartialEq, Eq)]
+#[derive(Clone, Copy)]
 pub enum Found {
     /// A line of so many bytes.
     Whole { length: usize },

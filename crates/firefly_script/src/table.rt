@@ -9,7 +9,7 @@ use crate::line::Operation;
 use larch_actions::{CondId, MutexId, SemId, ThreadId};
 
 /// The first word of an operation.
-#[derive(Clone, Copy, Debug, PartialEq, Eq)]
+#[derive(Clone, Copy)]
 pub enum Word {
     Acquire,
     Release,
@@ -28,7 +28,7 @@ pub enum Word {
 }
 
 /// What may stand behind a word.
-#[derive(Clone, Copy, Debug, PartialEq, Eq)]
+#[derive(Clone, Copy)]
 pub enum Kind {
     Mutex,
     Condition,
@@ -41,7 +41,7 @@ pub enum Kind {
 }
 
 /// The numbers behind a word, in order. Where fewer stand there, the others are 0.
-#[derive(Clone, Copy, Debug, PartialEq, Eq)]
+#[derive(Clone, Copy)]
 pub struct Numbers {
     pub first: u64,
     pub second: u64,
@@ -49,7 +49,7 @@ pub struct Numbers {
 }
 
 /// What an operation asks of a mutex, and does with it.
-#[derive(Clone, Copy, Debug, PartialEq, Eq)]
+#[derive(Clone, Copy)]
 pub enum Use {
     /// The thread doesn't hold it, and holds it then.
     Takes(MutexId),

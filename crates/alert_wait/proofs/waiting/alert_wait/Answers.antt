@@ -1,12 +1,14 @@
-use Rattle.std.proofs.Common.{◌≡◌, ℕ, Some, None, true, rules, refl, ap, sym, subst, ◌∙◌, slice_set}
+use Rattle.std.proofs.Common.{◌≡◌, ℕ, Some, None, true, refl, ap, sym, subst, ◌∙◌, slice_set}
 use Rattle.std.proofs.lemmas.List.{set-set}
 use mathlib.Core.Option.{some}
 use lib.ListN.{get_elem?}
+use Rattle.larch_actions.specs.Sets.{without}
 use Rattle.nub_rule.specs.declared.view.WaitBit.TheVariants.{Open}
-use Rattle.nub_rule.specs.Plays.{begun_wait, opened}
-use Rattle.nub.specs.Rest.{HasStored}
-use Rattle.nub.proofs.Without.{still_out}
+use Rattle.nub_rule.specs.Places.{cond_object}
+use Rattle.nub_rule.specs.Plays.{begun_wait, enqueue_event, opened}
 use Rattle.std.specs.Prelude.{Option as Opt}
+use Rattle.alert_wait.specs.Outcomes.{wait_end}
+use Rattle.alert_wait.proofs.Waits.{Waited, adds, held_then, rests, same}
 use Rattle.alert_wait.proofs.waiting.alert_wait.Goals as goal
 
 same_value : {T : Type 0} (x y : T) → (let a : Opt (Opt T) = Some (Some x) in some a) ≡ some (Some (Some y)) → x ≡ y
@@ -33,36 +35,77 @@ free-requires-clause-may g c κs within =
 pub block-returns-requires-clause-waits : goal.block-returns-requires-clause-waits
 block-returns-requires-clause-waits g c κs within = (record (begun_wait true c.args.m.0 c.args.c.0 c.read_count-count.result) { bit = Open }, ap (λ k. k.wait) c.free.ensures.rest ∙ ap opened (ap (λ k. k.wait) c.read_count-count.ensures.begun), refl, refl, refl)
 
+pub put_value-requires-clause-out : goal.put_value-requires-clause-out
+put_value-requires-clause-out g c κs within = c.requires.rest.taken c.args.m.0 c.requires.may.0 c.requires.may.1
+
 pub returns-clause-rest : goal.returns-clause-rest
 returns-clause-rest g c =
-    let old = c.args.me.now in
-    let new = c.take_value.new.me in
+    let taken = c.end_wait-outcome.ensures.taken in
+    let steps : Waited c.args.m.0 taken.0 c.args.value c.args.me.now c.put_value.new.me c.read_count-count.new.me c.free.new.me c.block-returns.new.me c.end_wait-outcome.new.me c.take_value.new.me = record {
+      wait = Some (begun_wait true c.args.m.0 c.args.c.0 c.read_count-count.result);
+      failed = without (cond_object c.args.c.0) c.free.new.me.failed;
+      put = c.put_value.ensures.value;
+      begun = c.read_count-count.ensures.begun;
+      freed = c.free.ensures.rest;
+      freed_held = c.free.ensures.freed.0;
+      freed_values = c.free.ensures.freed.1;
+      blocked = c.block-returns.ensures.rest;
+      ended = c.end_wait-outcome.ensures.rest;
+      turns = c.end_wait-outcome.ensures.turns;
+      held = taken.1;
+      values = taken.2;
+      out = c.take_value.ensures.out;
+    } in
+    rests c.args.m.0 taken.0 c.args.value c.args.me.now c.put_value.new.me c.read_count-count.new.me c.free.new.me c.block-returns.new.me c.end_wait-outcome.new.me c.take_value.new.me steps c.args.p.now c.requires.rest c.end_wait-outcome.ensures.stored c.take_value.ensures.is_out
+
+pub returns-clause-same : goal.returns-clause-same
+returns-clause-same g c =
+    let taken = c.end_wait-outcome.ensures.taken in
+    let steps : Waited c.args.m.0 taken.0 c.args.value c.args.me.now c.put_value.new.me c.read_count-count.new.me c.free.new.me c.block-returns.new.me c.end_wait-outcome.new.me c.take_value.new.me = record {
+      wait = Some (begun_wait true c.args.m.0 c.args.c.0 c.read_count-count.result);
+      failed = without (cond_object c.args.c.0) c.free.new.me.failed;
+      put = c.put_value.ensures.value;
+      begun = c.read_count-count.ensures.begun;
+      freed = c.free.ensures.rest;
+      freed_held = c.free.ensures.freed.0;
+      freed_values = c.free.ensures.freed.1;
+      blocked = c.block-returns.ensures.rest;
+      ended = c.end_wait-outcome.ensures.rest;
+      turns = c.end_wait-outcome.ensures.turns;
+      held = taken.1;
+      values = taken.2;
+      out = c.take_value.ensures.out;
+    } in
+    same c.args.m.0 taken.0 c.args.value c.args.me.now c.put_value.new.me c.read_count-count.new.me c.free.new.me c.block-returns.new.me c.end_wait-outcome.new.me c.take_value.new.me steps
+
+pub returns-clause-event : goal.returns-clause-event
+returns-clause-event g c =
+    let taken = c.end_wait-outcome.ensures.taken in
+    let steps : Waited c.args.m.0 taken.0 c.args.value c.args.me.now c.put_value.new.me c.read_count-count.new.me c.free.new.me c.block-returns.new.me c.end_wait-outcome.new.me c.take_value.new.me = record {
+      wait = Some (begun_wait true c.args.m.0 c.args.c.0 c.read_count-count.result);
+      failed = without (cond_object c.args.c.0) c.free.new.me.failed;
+      put = c.put_value.ensures.value;
+      begun = c.read_count-count.ensures.begun;
+      freed = c.free.ensures.rest;
+      freed_held = c.free.ensures.freed.0;
+      freed_values = c.free.ensures.freed.1;
+      blocked = c.block-returns.ensures.rest;
+      ended = c.end_wait-outcome.ensures.rest;
+      turns = c.end_wait-outcome.ensures.turns;
+      held = taken.1;
+      values = taken.2;
+      out = c.take_value.ensures.out;
+    } in
+    let m = c.args.m.0 in
+    let d = c.args.c.0 in
+    let o = c.end_wait-outcome.result in
+    adds c.args.m.0 taken.0 c.args.value c.args.me.now c.put_value.new.me c.read_count-count.new.me c.free.new.me c.block-returns.new.me c.end_wait-outcome.new.me c.take_value.new.me steps (λ (n : ℕ). enqueue_event true n m d) (λ (n : ℕ). wait_end o n m d) c.read_count-count.ensures.event c.end_wait-outcome.ensures.event
+
+pub returns-clause-holds : goal.returns-clause-holds
+returns-clause-holds g c =
     let m = c.args.m.0 in
     let taken = c.end_wait-outcome.ensures.taken in
-    let x = taken.0 in
-    let y = c.args.value in
-    let put = c.put_value.ensures.value in
-    let begun = c.read_count-count.ensures.begun in
-    let freed = c.free.ensures.rest in
-    let blocked = c.block-returns.ensures.rest in
-    let out = c.take_value.ensures.out in
-    let held = ap (λ k. k.held) blocked ∙ (c.free.ensures.freed.0 ∙ ap (λ k. slice_set k.held m None) begun ∙ ap (λ k. slice_set k.held m None) put) in
-    let values = ap (λ k. k.values) blocked ∙ (c.free.ensures.freed.1 ∙ ap (λ k. slice_set k.values m None) begun ∙ ap (λ k. slice_set k.values m None) put) in
-    record {
-      of = search rules;
-      outside = record { spin = search rules; queue = search rules; owed = search rules; left = search rules; stand = search rules; pen = search rules };
-      wait = search rules;
-      raised = search rules;
-      calling = search rules;
-      turns = search rules;
-      cleared = search rules;
-      looked = search rules;
-      taken = still_out old.held new.held old.values new.values m (Some x) (Some (Some x)) (Some None) c.requires.rest.taken
-          (ap (λ k. k.held) out ∙ (taken.1 ∙ (ap (λ h. slice_set h m (Some x)) held ∙ set-set old.held m None (Some x))))
-          (ap (λ k. k.values) out ∙ ap (λ v. slice_set v m (Some None)) (taken.2 ∙ (ap (λ v. slice_set v m (Some (Some x))) values ∙ (ap (λ v. slice_set v m (Some (Some x))) (set-set old.values m (Some (Some y)) None) ∙ set-set old.values m None (Some (Some x))))))
-          (λ z e. c.take_value.ensures.is_out);
-      stored = subst (λ k. HasStored c.args.p.now.traced k) (sym out) c.end_wait-outcome.ensures.stored;
-    }
+    ap (λ k. get_elem? k.held m) c.take_value.ensures.out ∙ (taken.3 ∙ ap (λ z. some (Some z)) (same_value taken.0 c.take_value.result (sym taken.4 ∙ c.take_value.ensures.value)))
 
 pub returns-clause-held : goal.returns-clause-held
 returns-clause-held g c =

@@ -1,4 +1,4 @@
-use Rattle.std.proofs.Common.{◌≡◌, ℕ, [], ◌∷◌, Some, refl, sym, ap, subst, ◌∙◌}
+use Rattle.std.proofs.Common.{◌≡◌, ℕ, [], ◌∷◌, None, Some, slice_set, refl, sym, ap, subst, ◌∙◌}
 use Rattle.std.proofs.lemmas.Option.{same_Some}
 use lib.ListN.{get_elem?}
 use Rattle.nub_rule.specs.Plays.{event, signal_action, release_event}
@@ -51,3 +51,6 @@ returns-clause-given g c = λ s share.
       elsewhere = law.1.elsewhere;
       looked = (got.0, y, ring, c.pop-first.new.self, got.2, c.from_ring.ensures, does, refl);
     }
+
+pub returns-clause-held : goal.returns-clause-held
+returns-clause-held g c = c.release.ensures.held ∙ ap (λ l. slice_set l c.args.at.now.mutex.0 None) c.signal.ensures.held

@@ -1,13 +1,12 @@
-use Rattle.std.proofs.Common.{◌∙◌, ap, codes}
-use Rattle.std.proofs.lemmas.Result.{IfOk-weaker}
-use Rattle.clap.specs.Words.{App, with_rule}
-use Rattle.command_line.specs.Reading.{directory_rule, option_rule}
+use Rattle.std.proofs.Common.{codes}
+use Rattle.clap.specs.Words.{with_rule}
+use Rattle.command_line.specs.Reading.{bare_app, option_rule}
 use Rattle.command_line.proofs.options.index_command.Goals as goal
 
 pub returns : goal.returns
 returns c =
-    let first = c.in_ok-walkers.ensures ∙ ap (λ (a : App). with_rule a (option_rule (codes "walkers"))) c.bare_command.ensures in
-    let second = c.in_ok-parsers.ensures ∙ ap (λ (a : App). with_rule a (option_rule (codes "parsers"))) first in
-    let third = c.in_ok-mergers.ensures ∙ ap (λ (a : App). with_rule a (option_rule (codes "mergers"))) second in
-    let fourth = c.in_ok-stop.ensures ∙ ap (λ (a : App). with_rule a (option_rule (codes "stop-after"))) third in
-    IfOk-weaker c.with_dir.result _ _ (λ m a. a ∙ ap (λ (x : App). with_rule x directory_rule) fourth) c.with_dir.ensures
+    let first = with_rule bare_app (option_rule (codes "walkers")) in
+    let second = with_rule first (option_rule (codes "parsers")) in
+    let third = with_rule second (option_rule (codes "mergers")) in
+    let fourth = with_rule third (option_rule (codes "stop-after")) in
+    c.with_dir.ensures fourth (c.with_option-stop.ensures third (c.with_option-mergers.ensures second (c.with_option-parsers.ensures first (c.with_option-walkers.ensures bare_app c.bare_command.ensures))))

@@ -9,7 +9,7 @@ use Rattle.firefly.specs.Changes.{change_of}
 use Rattle.firefly.specs.Check.{Prints}
 use Rattle.firefly.specs.Looks.{look_of, looks_of}
 use Rattle.firefly.specs.declared.status.Status.TheVariants.{Done}
-use Rattle.firefly.proofs.Indexed.{no_trace, trace_printed}
+use Rattle.firefly.proofs.Indexed.{no_error, no_trace, same_error, trace_printed}
 use Rattle.firefly.proofs.trace_command.run_trace.Goals as goal
 
 pub print_trace-requires-clause-traced : goal.print_trace-requires-clause-traced
@@ -36,3 +36,16 @@ returns-in-Ok-clause-answers g c =
       work = c.in-Ok.ensures.work w.0 w.1;
     })
     printed
+
+pub returns-in-Err-clause-answers : goal.returns-in-Err-clause-answers
+returns-in-Err-clause-answers g c =
+    let look = look_of g.S.Tree.tree g.S.Tree.may_fail g.S.Tree.calls g.S.Tree.faults in
+    let out = change_of g.O.Sink.held g.O.Sink.faults c.args.out.now c.args.out.now in
+    let notes = change_of g.N.Sink.held g.N.Sink.faults c.args.notes.now c.index_by.new.notes in
+    no_trace (options_of c.args.options.now) (looks_of look c.args.trees.now) (looks_of look c.index_by.new.trees) out notes c.in-Err.status c.in-Err.ensures.refused (refl, refl)
+
+pub returns-in-Ok-clause-kept : goal.returns-in-Ok-clause-kept
+returns-in-Ok-clause-kept g c = λ n. c.in-Ok.ensures.kept (λ e. no_error e)
+
+pub returns-in-Err-clause-kept : goal.returns-in-Err-clause-kept
+returns-in-Err-clause-kept g c = λ n. c.in-Err.ensures.kept (λ e. n (same_error e))

@@ -1,14 +1,32 @@
-use Rattle.std.proofs.Common.{ap, rules, ◌∙◌}
+use Rattle.std.proofs.Common.{ap, ◌∷◌, ◌∙◌}
 use Rattle.larch_actions.specs.Sets.{without}
 use Rattle.nub_rule.specs.Objects.{object_of}
 use Rattle.nub.proofs.Without.{without_twice}
+use Rattle.gate.proofs.Steps.{goes_on, won, won_event, won_taken}
 use Rattle.gate.proofs.taking.take_slowly.Goals as goal
 
 pub loop-preserved : goal.loop-preserved
 loop-preserved g c =
     let o = object_of c.args.at in
+    let at = c.loop.me in
+    let tried = c.try_take.new.me in
     let lost = c.try_take.ensures.lost c.if-try_take.false in
     record {
-      same = search rules;
-      turns = c.stand_in_line.ensures.turns ∙ (ap (λ k. without o k.turns) lost ∙ (without_twice o c.loop.me.turns ∙ c.loop.invariant.turns));
+      same = goes_on c.args.me.now at tried c.loop.invariant.same c.stand_in_line.new.me (o ∷ at.failed) (without o tried.failed) (without o at.turns) lost c.stand_in_line.ensures.rest;
+      turns = c.stand_in_line.ensures.turns ∙ (ap (λ k. without o k.turns) lost ∙ (without_twice o at.turns ∙ c.loop.invariant.turns));
     }
+
+pub returns-then-try_take-clause-event : goal.returns-then-try_take-clause-event
+returns-then-try_take-clause-event g c = won_event c.args.me.now c.loop.me c.try_take.new.me c.loop.invariant.same c.args.e (c.try_take.ensures.event c.if-try_take.true)
+
+pub returns-then-try_take-clause-rest : goal.returns-then-try_take-clause-rest
+returns-then-try_take-clause-rest g c =
+    let o = object_of c.args.at in
+    let at = c.loop.me in
+    won c.args.me.now at c.try_take.new.me c.loop.invariant.same (without o at.failed) (without o at.turns) (c.try_take.ensures.won c.if-try_take.true)
+
+pub returns-then-try_take-clause-turns : goal.returns-then-try_take-clause-turns
+returns-then-try_take-clause-turns g c = ap (λ k. k.turns) (c.try_take.ensures.won c.if-try_take.true) ∙ c.loop.invariant.turns
+
+pub returns-then-try_take-clause-taken : goal.returns-then-try_take-clause-taken
+returns-then-try_take-clause-taken g c = won_taken c.args.me.now c.loop.me c.try_take.new.me c.loop.invariant.same g.U.Uses.fits c.args.at (c.try_take.ensures.taken c.if-try_take.true)

@@ -1,5 +1,6 @@
 use Rattle.std.proofs.Common.{◌≡◌, ◌<◌, ℕ, List, length, get_or, ap, sym, subst, ◌∙◌, arith}
 use lib.ListN.{get_elem?}
+use Rattle.std.proofs.lemmas.List.{length-replicate}
 use Rattle.std.proofs.lemmas.List.Elements.{recursion_from_All}
 use Rattle.std.specs.List.{All}
 use Rattle.larch_actions.specs.declared.event.Layout.{Layout}
@@ -8,6 +9,7 @@ use Rattle.larch_actions.specs.Layout.{HasNames}
 use Rattle.firefly_script.specs.declared.line.Line.{Line}
 use Rattle.firefly_script.specs.Operations.{none_held, MayFollow}
 use Rattle.firefly_script.specs.Runs.{AreEventsOf, total}
+use Rattle.firefly_script.specs.Text.{IsScript}
 use Rattle.script_run.proofs.Closing.{if_ok, rows_of, values_of}
 use Rattle.script_run.proofs.Sums.{first_sums}
 use Rattle.script_run.proofs.run.run_script.Goals as goal
@@ -16,12 +18,38 @@ pub open_package-requires-clause-holds : goal.open_package-requires-clause-holds
 open_package-requires-clause-holds g c κs =
     first_sums c.layout-layout.result.mutexes c.layout-layout.result.threads c.in_ok-values.values.items (omega (arith, c.layout-layout.ensures.lawful.threads)) c.in_ok-values.ensures
 
+pub open_package-requires-clause-values : goal.open_package-requires-clause-values
+open_package-requires-clause-values g c κs = ap length c.in_ok-values.ensures ∙ length-replicate c.layout-layout.result.mutexes 0
+
+pub with_room-requires : goal.with_room-requires
+with_room-requires g c = subst (λ (xs : List Line). length xs < 100000) (sym c.lines.ensures.lines) c.lines.ensures.few
+
+pub play_all-requires-clause-script : goal.play_all-requires-clause-script
+play_all-requires-clause-script g c κs within =
+    let same = c.in_ok-pkg.ensures.package.0 ∙ c.layout-layout.ensures.layout in
+    subst (λ (l : Layout). IsScript l c.lines-2.result.now) (sym same) (subst (IsScript c.args.script.now.layout) (sym c.lines-2.ensures.lines) c.lines-2.ensures.script)
+
+pub play_all-requires-clause-few : goal.play_all-requires-clause-few
+play_all-requires-clause-few g c κs within = subst (λ (xs : List Line). length xs < 100000) (sym c.lines-2.ensures.lines) c.lines-2.ensures.few
+
 pub play_all-requires-clause-threads : goal.play_all-requires-clause-threads
 play_all-requires-clause-threads g c κs within n x got =
     c.in_ok-pkg.ensures.threads n x (ap (λ l. get_elem? l n) (sym c.in_ok-roomy.ensures) ∙ got)
 
+pub close_package-requires-clause-count : goal.close_package-requires-clause-count
+close_package-requires-clause-count g c κs =
+    c.in_ok-threads.ensures.count ∙ (ap length c.in_ok-roomy.ensures ∙ (c.in_ok-pkg.ensures.count ∙ ap (λ l. l.threads) (sym c.in_ok-pkg.ensures.package.0)))
+
 pub close_package-requires-clause-threads : goal.close_package-requires-clause-threads
 close_package-requires-clause-threads g c κs n x got = (c.in_ok-threads.ensures.played n x got).done
+
+pub returns-clause-layout : goal.returns-clause-layout
+returns-clause-layout g c = if_ok c.close_package.result _ _ (λ r same. same ∙ (c.in_ok-pkg.ensures.package.0 ∙ c.layout-layout.ensures.layout)) c.close_package.ensures.layout
+
+pub returns-clause-count : goal.returns-clause-count
+returns-clause-count g c =
+    let same = c.in_ok-pkg.ensures.package.0 ∙ c.layout-layout.ensures.layout in
+    if_ok c.close_package.result _ _ (λ r w. w.0 ∙ ap (λ l. l.mutexes) same) c.close_package.ensures.values
 
 pub returns-clause-trace : goal.returns-clause-trace
 returns-clause-trace g c =

@@ -1,9 +1,13 @@
-use Rattle.std.proofs.Common.{◌≡◌, ◌∷◌, [], length, ap, sym, subst, ◌∙◌, append_assoc, arith}
+use Rattle.std.proofs.Common.{◌≡◌, ◌∷◌, [], Bool, true, false, length, refl, ap, sym, subst, ◌∙◌, append_assoc, arith}
 use Rattle.std.specs.Vec.Iter.{into_iter_items}
 use Rattle.std.specs.List.{AllZip, AllByRecursion}
 use Rattle.thread_crew.specs.Crews.{IsChildOf}
 use Rattle.thread_crew.proofs.Zips.{zip_push, all_yielded}
 use Rattle.thread_crew.proofs.crews.in_scope.Goals as goal
+
+false_else : (b : Bool) → (b ≡ true → ⊥) → b ≡ false
+false_else true f = absurd (f refl)
+false_else false f = refl
 
 pub loop-job-preserved : goal.loop-job-preserved
 loop-job-preserved g c =
@@ -57,3 +61,17 @@ returns-clause-done g c =
     let at = c.loop-job in
     let all = all_yielded at.yielded _ _ at.invariant.whole (sym at.invariant.left ∙ c.in-None.ensures.steps.0) ∙ c.into_iter-job-iterator.ensures.into_iter_gives.0 in
     c.finish.ensures.results c.args.jobs.items (subst (λ l. AllZip (IsChildOf g.T.Task.run_gives (λ f. g.T.Task.can_run f.0) (λ f r. g.T.Task.run_gives f.0 r)) l at.children.items) all at.invariant.given)
+
+pub returns-clause-between : goal.returns-clause-between
+returns-clause-between g c =
+    let at = c.loop-job in
+    let count = at.invariant.count in
+    let none = c.in-None.ensures.steps in
+    let gives = c.into_iter-job-iterator.ensures.into_iter_gives in (
+      at.some_held,
+      (
+        λ h. at.invariant.told (omega arith),
+        λ e. false_else at.some_held (λ t. let low = at.invariant.none t in let short = ap length e in omega arith),
+      ),
+      c.finish.ensures.between,
+    )

@@ -1,0 +1,173 @@
+-- A P that an alert may end as a row of steps, each of which says what the thread knows then.
+use Rattle.std.proofs.Common.{◌≡◌, ℕ, ◌<◌, ◌≤◌, Bool, true, false, Option as Opt, None, Some, List, [], ◌∷◌, ◌++◌, length, refl, ap, ap₂, sym, subst, ◌∙◌, ⊎_elim}
+use Rattle.std.proofs.lemmas.Bool.{cases_lt}
+use Rattle.larch_actions.specs.declared.event.Event.{Event}
+use Rattle.larch_actions.specs.Actions.{IsLegal, by_thread}
+use Rattle.larch_actions.specs.Sets.{without}
+use Rattle.nub_rule.specs.declared.view.Stage.TheVariants.{Alerted}
+use Rattle.nub_rule.specs.declared.view.Stand.{Stand}
+use Rattle.nub_rule.specs.declared.view.Wait.{Wait}
+use Rattle.nub_rule.specs.Known.{Known, Makes, recorded}
+use Rattle.nub_rule.specs.Parts.{staged}
+use Rattle.nub.proofs.Without.{without_twice}
+
+cases : {X : Type 0} (b : Bool) → (b ≡ true → X) → (b ≡ false → X) → X
+cases true f g = f refl
+cases false f g = g refl
+
+module _ {T H W : Type 0} where
+  -- an event that s made is made by o where s is o in all that the event hangs on
+  pub makes_from : (by : ℕ → Event) (o s e : Known T H W) → s.number ≡ o.number → s.seen ≡ o.seen → s.mine ≡ o.mine → s.places ≡ o.places → s.pen ≡ o.pen
+      → Makes (by s.number) s e → Makes (by o.number) o e
+  makes_from by o s e number seen mine places pen made =
+      let d = by o.number in
+      let at : Makes d s e = subst (λ (n : ℕ). Makes (by n) s e) number made in
+      let grows = at.1 in
+      let far = ap (λ l. l ++ at.0) seen in (
+        at.0,
+        record {
+          legal = subst IsLegal (ap (λ l. l ++ d ∷ []) far) grows.legal;
+          own = ap₂ (λ n l. by_thread n l) (sym number) (sym (ap (λ l. l ++ d ∷ []) far)) ∙ (grows.own ∙ ap (λ l. l ++ d ∷ []) mine);
+          number = λ k p. grows.number k (pen ∙ p) ∙ ap length far;
+        },
+        at.2 ∙ ap (λ l. l ++ d ∷ []) far,
+        at.3 ∙ ap (λ l. l ++ d ∷ []) mine,
+        at.4 ∙ ap₂ (λ l m. l ++ length m ∷ []) places far,
+      )
+
+  -- the thread o is l after tries that failed
+  abbrev pub Tries : Known T H W → Known T H W → Type 0
+  Tries o l = l ≡ record o { count = l.count; failed = l.failed; turns = l.turns; alerted = l.alerted; next = l.next }
+
+  -- one more try of n has failed, as t
+  abbrev pub Lost : ℕ → Known T H W → Known T H W → Type 0
+  Lost n l t = t ≡ record l { failed = n ∷ l.failed; turns = without n l.turns; next = t.next }
+
+  -- and the thread has stood in line for n, as s
+  abbrev pub Stood : ℕ → Known T H W → Known T H W → Type 0
+  Stood n t s = s ≡ record t { count = s.count; stand = s.stand; failed = without n t.failed; turns = s.turns; alerted = s.alerted }
+
+  -- a try of n has taken the bit, as t
+  pub won : (n : ℕ) (o l t : Known T H W) → Tries o l → without n l.turns ≡ [] → o.wait ≡ None → o.turns ≡ []
+      → t ≡ record (recorded l t) { held = t.held; wait = None; failed = without n l.failed; turns = without n l.turns; values = t.values }
+      → (t.held ≡ l.held) × (t.values ≡ l.values) → t ≡ record (recorded o t) { count = t.count; failed = t.failed; alerted = t.alerted }
+  won n o l t same turns no_wait no_turns is taken =
+      let F : Known T H W → List (Opt T) → List (Opt (Opt T)) → Opt Wait → List ℕ → Known T H W =
+      λ k h v w u. record (recorded k t) { held = h; values = v; wait = w; turns = u; failed = t.failed; count = t.count; alerted = t.alerted } in
+      let G : Known T H W → Known T H W = λ k. record k { failed = t.failed; count = t.count; alerted = t.alerted } in
+      ap G is
+      ∙ ap (F l t.held t.values None) turns
+      ∙ ap (λ k. F k t.held t.values None []) same
+      ∙ ap (λ h. F o h t.values None []) (taken.0 ∙ ap (λ k. k.held) same)
+      ∙ ap (λ v. F o o.held v None []) (taken.1 ∙ ap (λ k. k.values) same)
+      ∙ ap (λ w. F o o.held o.values w []) (sym no_wait)
+      ∙ ap (F o o.held o.values o.wait) (sym no_turns)
+
+  module _ (n : ℕ) (o l t s : Known T H W) (same : Tries o l) (turns : without n l.turns ≡ []) (lost : Lost n l t) (stood : Stood n t s) where
+    -- the thread goes on
+    pub still_tries : o.stand ≡ None → s.stand ≡ None → Tries o s
+    still_tries no_stand out =
+        let F : Known T H W → Opt Stand → Known T H W = λ k q. record k { stand = q; count = s.count; failed = s.failed; turns = s.turns; alerted = s.alerted; next = s.next } in
+        let G : Known T H W → Known T H W = λ k. record k { failed = s.failed; next = s.next } in
+        ap G stood
+        ∙ ap (λ k. F k s.stand) lost
+        ∙ ap (λ k. F k s.stand) same
+        ∙ ap (F o) (out ∙ sym no_stand)
+
+    pub still_none : without n s.turns ≡ without n t.turns → without n s.turns ≡ []
+    still_none is = is ∙ (ap (λ k. without n k.turns) lost ∙ (without_twice n l.turns ∙ turns))
+
+    -- it was alerted in the line, and ends the call as e
+    module _ (e : Known T H W) (no_stand : o.stand ≡ None) (no_turns : o.turns ≡ []) (stays : s.turns ≡ t.turns)
+        (ended : e ≡ record (recorded s e) { count = e.count; stand = None; failed = e.failed; alerted = e.alerted }) where
+      pub raised : e ≡ record (recorded o e) { count = e.count; failed = e.failed; alerted = e.alerted }
+      raised =
+          let F : Known T H W → Opt Stand → List ℕ → Known T H W = λ k q u. record (recorded k e) { count = e.count; stand = q; failed = e.failed; alerted = e.alerted; turns = u } in
+          ended
+          ∙ ap (λ k. F k None s.turns) stood
+          ∙ ap (λ k. F k None s.turns) lost
+          ∙ ap (λ k. F k None s.turns) same
+          ∙ ap (λ q. F o q s.turns) (sym no_stand)
+          ∙ ap (F o o.stand) (stays ∙ (ap (λ k. k.turns) lost ∙ (turns ∙ sym no_turns)))
+
+    -- the event that it made then
+    pub raises : (by : ℕ → Event) (e : Known T H W) → Makes (by s.number) s e → Makes (by o.number) o e
+    raises by e made =
+        let number = ap (λ k. k.number) stood ∙ (ap (λ k. k.number) lost ∙ ap (λ k. k.number) same) in
+        let seen = ap (λ k. k.seen) stood ∙ (ap (λ k. k.seen) lost ∙ ap (λ k. k.seen) same) in
+        let mine = ap (λ k. k.mine) stood ∙ (ap (λ k. k.mine) lost ∙ ap (λ k. k.mine) same) in
+        let places = ap (λ k. k.places) stood ∙ (ap (λ k. k.places) lost ∙ ap (λ k. k.places) same) in
+        let pen = ap (λ k. k.pen) stood ∙ (ap (λ k. k.pen) lost ∙ ap (λ k. k.pen) same) in
+        makes_from by o s e number seen mine places pen made
+
+  pub with_alerted : (a b : Known T H W) → a ≡ b → a ≡ record b { alerted = a.alerted }
+  with_alerted a b is = let F : Known T H W → Known T H W = λ k. record k { alerted = a.alerted } in ap F is
+
+  -- the thread o, whose last try has failed as a, raises as z
+  pub raised_last : (o a z : Known T H W) → a ≡ record o { count = a.count; stand = None; failed = a.failed; next = a.next } → z ≡ record (recorded a z) { alerted = false }
+      → z ≡ record (recorded o z) { count = z.count; stand = None; failed = z.failed; alerted = z.alerted }
+  raised_last o a z is raised =
+      let F : Known T H W → Known T H W = λ k. record (recorded k z) { count = z.count; failed = z.failed; alerted = z.alerted } in
+      let G : Known T H W → Known T H W = λ k. record k { count = z.count; failed = z.failed; alerted = z.alerted } in
+      ap G raised ∙ ap F is
+
+  -- the thread o has the spin word of n as i; its queue is given back with the word
+  abbrev pub Enters : ℕ → Known T H W → Known T H W → Type 0
+  Enters n o i = i ≡ record o { spin = Some n; queue = i.queue; owed = []; left = i.queue; count = i.count; failed = without n o.failed }
+
+  module _ (n : ℕ) (o i z : Known T H W) (entered : Enters n o i) (spin : o.spin ≡ None) (queue : o.queue ≡ []) (owed : o.owed ≡ []) (left : o.left ≡ []) where
+    outside_again : (q : Opt Stand) (u : List ℕ) (b : Bool) → record i { spin = None; queue = []; left = []; count = z.count; stand = q; turns = u; alerted = b } ≡ record o { count = z.count; stand = q; failed = without n o.failed; turns = u; alerted = b }
+    outside_again q u b =
+        let F : Known T H W → Known T H W = λ k. record k { spin = None; queue = []; left = []; count = z.count; stand = q; turns = u; alerted = b } in
+        let E : Opt ℕ → List ℕ → List ℕ → List ℕ → Known T H W = λ s a d f. record o { spin = s; queue = a; owed = d; left = f; count = z.count; stand = q; failed = without n o.failed; turns = u; alerted = b } in
+        ap F entered ∙ ap (λ s. E s [] [] []) (sym spin) ∙ ap (λ a. E o.spin a [] []) (sym queue) ∙ ap (λ d. E o.spin o.queue d []) (sym owed) ∙ ap (E o.spin o.queue o.owed) (sym left)
+
+    -- it found itself popped as r, left as l, and slept until it was made ready, as z
+    pub popped : (r l : Known T H W) (u : List ℕ) → r ≡ i → l ≡ record r { spin = None; queue = []; left = [] } → z ≡ record l { stand = None; turns = u }
+        → z ≡ record o { count = z.count; stand = None; failed = without n o.failed; turns = z.turns }
+    popped r l u same leaves slept =
+        let F : Known T H W → Known T H W = λ k. record k { count = z.count; stand = None; turns = z.turns; alerted = z.alerted } in
+        let G : Known T H W → Known T H W = λ k. record k { count = z.count; turns = z.turns; alerted = z.alerted } in
+        let K : Known T H W → Known T H W = λ k. record k { spin = None; queue = []; left = []; count = z.count; stand = None; turns = z.turns; alerted = z.alerted } in
+        let E : Bool → Known T H W = λ b. record o { count = z.count; stand = None; failed = without n o.failed; turns = z.turns; alerted = b } in
+        let alerted = ap (λ k. k.alerted) slept ∙ (ap (λ k. k.alerted) leaves ∙ (ap (λ k. k.alerted) same ∙ ap (λ k. k.alerted) entered)) in
+        ap G slept ∙ ap F leaves ∙ ap K same ∙ outside_again None z.turns z.alerted ∙ ap E alerted
+
+    -- it took itself out as r, and left as z
+    pub left_line : (r : Known T H W) (a d u : List ℕ) → r ≡ record i { queue = a; left = d; stand = None; turns = u } → z ≡ record r { spin = None; queue = []; left = [] }
+        → z ≡ record o { count = z.count; stand = None; failed = without n o.failed; turns = z.turns }
+    left_line r a d u out leaves =
+        let G : Known T H W → Known T H W = λ k. record k { count = z.count; turns = z.turns; alerted = z.alerted } in
+        let F : Known T H W → Known T H W = λ k. record k { spin = None; queue = []; left = []; count = z.count; turns = z.turns; alerted = z.alerted } in
+        let E : Bool → Known T H W = λ b. record o { count = z.count; stand = None; failed = without n o.failed; turns = z.turns; alerted = b } in
+        let alerted = ap (λ k. k.alerted) leaves ∙ (ap (λ k. k.alerted) out ∙ ap (λ k. k.alerted) entered) in
+        ap G leaves ∙ ap F out ∙ outside_again None z.turns z.alerted ∙ ap E alerted
+
+    -- it pushed itself as q, and tested the bit as t
+    module _ (q t : Known T H W) (a d : List ℕ) (stood tested : Opt Stand) (pushed : q ≡ record i { queue = a; left = d; stand = stood }) (tests : t ≡ record q { stand = tested }) where
+      -- it found it clear, took itself out as r, and left as z
+      pub went_on : (r : Known T H W) (e f u : List ℕ) → r ≡ record t { queue = e; left = f; stand = None; turns = u } → z ≡ record r { spin = None; queue = []; left = [] }
+          → z ≡ record o { count = z.count; stand = z.stand; failed = without n o.failed; turns = z.turns; alerted = z.alerted }
+      went_on r e f u out leaves =
+          let G : Known T H W → Known T H W = λ k. record k { count = z.count; stand = z.stand; turns = z.turns; alerted = z.alerted } in
+          let K : Known T H W → Known T H W = λ k. record k { spin = None; queue = []; left = []; count = z.count; stand = z.stand; turns = z.turns; alerted = z.alerted } in
+          ap G leaves ∙ ap K out ∙ ap K tests ∙ ap K pushed ∙ outside_again z.stand z.turns z.alerted
+
+      -- it found it set, left as l, and slept, until it was made ready or was alerted, as z
+      pub slept : (l : Known T H W) (b : Bool) → l ≡ record t { spin = None; queue = []; left = [] } → (b ≡ true → n < 128 → z ≡ record l { stand = None; turns = n ∷ l.turns })
+          → (b ≡ true → 128 ≤ n → z ≡ record l { stand = None }) → (b ≡ false → z ≡ record l { alerted = true; stand = staged Alerted l.stand })
+          → z ≡ record o { count = z.count; stand = z.stand; failed = without n o.failed; turns = z.turns; alerted = z.alerted }
+      slept l b leaves at_gate at_cond alerted =
+          let G : Known T H W → Known T H W = λ k. record k { count = z.count; stand = z.stand; turns = z.turns; alerted = z.alerted } in
+          let K : Known T H W → Known T H W = λ k. record k { spin = None; queue = []; left = []; count = z.count; stand = z.stand; turns = z.turns; alerted = z.alerted } in
+          let last : z ≡ G l = cases b (λ e. ⊎_elim (λ low. ap G (at_gate e low)) (λ high. ap G (at_cond e high)) (cases_lt n 128)) (λ e. ap G (alerted e)) in
+          last ∙ ap G leaves ∙ ap K tests ∙ ap K pushed ∙ outside_again z.stand z.turns z.alerted
+
+  -- the thread o has the mutex again for no event as q, and raised as z
+  pub ended_alerted : (o q z : Known T H W) (w : Opt Wait) → q ≡ record o { held = q.held; count = q.count; wait = w; failed = q.failed; turns = q.turns; values = q.values }
+      → z ≡ record (recorded q z) { wait = None; alerted = false }
+      → z ≡ record (recorded o z) { held = z.held; count = z.count; wait = None; failed = z.failed; turns = z.turns; alerted = z.alerted; values = z.values }
+  ended_alerted o q z w quiet raised =
+      let G : Known T H W → Known T H W = λ k. record k { held = z.held; count = z.count; failed = z.failed; turns = z.turns; alerted = z.alerted; values = z.values } in
+      let F : Known T H W → Known T H W = λ k. record (recorded k z) { held = z.held; count = z.count; wait = None; failed = z.failed; turns = z.turns; alerted = z.alerted; values = z.values } in
+      ap G raised ∙ ap F quiet

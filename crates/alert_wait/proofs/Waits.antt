@@ -1,0 +1,126 @@
+-- A wait as a row of steps, each of which says what the thread knows then.
+use Rattle.std.proofs.Common.{◌≡◌, ℕ, Option as Opt, Some, None, List, [], ◌∷◌, ◌++◌, ap, subst, sym, ◌∙◌, append_assoc, append-nil, slice_set}
+use Rattle.std.proofs.lemmas.List.{set-set}
+use Rattle.larch_actions.specs.declared.event.Event.{Event}
+use Rattle.larch_actions.specs.Actions.{IsLegal, StartsWith, by_thread}
+use Rattle.larch_actions.specs.Sets.{without}
+use Rattle.nub_rule.specs.declared.view.Pen.{Pen}
+use Rattle.nub_rule.specs.declared.view.Stand.{Stand}
+use Rattle.nub_rule.specs.declared.view.Wait.{Wait}
+use Rattle.nub_rule.specs.Known.{IsOut, Known, Makes, Shape, recorded}
+use Rattle.nub_rule.specs.Plays.{opened}
+use Rattle.nub.specs.Rest.{Adds, AtRest, HasStored, IsSame}
+use Rattle.nub.proofs.Without.{still_out}
+
+begins_on : (x y z : List Event) → StartsWith y x → StartsWith z y → StartsWith z x
+begins_on x y z a b = (a.0 ++ b.0, b.1 ∙ ap (λ l. l ++ b.0) a.1 ∙ append_assoc x a.0 b.0)
+
+grown : (x y z : List Event) (e : Event) → z ≡ (x ++ y) ++ e ∷ [] → StartsWith z x
+grown x y z e is = (y ++ e ∷ [], is ∙ append_assoc x y (e ∷ []))
+
+module _ {T H W : Type 0} where
+  -- the thread o puts the value y in as a, begins the wait as b, frees the mutex as f, blocks as k, has the mutex again as e with the value x, and takes that out as z
+  pub record Waited (m : ℕ) (x y : T) (o a b f k e z : Known T H W) : Type 0 where
+    pub wait : Opt Wait
+    pub failed : List ℕ
+    pub put : a ≡ record o { values = slice_set o.values m (Some (Some y)) }
+    pub begun : b ≡ record (recorded a b) { wait = wait }
+    pub freed : f ≡ record b {
+      held = f.held;
+      share = f.share;
+      count = f.count;
+      wait = opened b.wait;
+      failed = f.failed;
+      cleared = without m b.cleared;
+      looked = without m b.looked;
+      values = f.values;
+    }
+    pub freed_held : f.held ≡ slice_set b.held m None
+    pub freed_values : f.values ≡ slice_set b.values m None
+    pub blocked : k ≡ record f { count = k.count; failed = failed; wait = k.wait; alerted = k.alerted }
+    pub ended : e ≡ record (recorded k e) {
+      held = e.held;
+      count = e.count;
+      wait = None;
+      failed = e.failed;
+      turns = e.turns;
+      alerted = e.alerted;
+      values = e.values;
+    }
+    pub turns : e.turns ≡ without m k.turns
+    pub held : e.held ≡ slice_set k.held m (Some x)
+    pub values : e.values ≡ slice_set k.values m (Some (Some x))
+    pub out : z ≡ record e { values = slice_set e.values m (Some None) }
+
+  -- what no part of the wait changes
+  abbrev still : Known T H W → ℕ × Opt W × Opt ℕ × List ℕ × List ℕ × List ℕ × Opt Stand × Pen × Opt ℕ × Opt ℕ
+  still k = (k.number, k.world, k.spin, k.queue, k.owed, k.left, k.stand, k.pen, k.raised, k.calling)
+
+  module _ (m : ℕ) (x y : T) (o a b f k e z : Known T H W) (s : Waited m x y o a b f k e z) where
+    stays : still z ≡ still o
+    stays = ap still s.out ∙ (ap still s.ended ∙ (ap still s.blocked ∙ (ap still s.freed ∙ (ap still s.begun ∙ ap still s.put))))
+
+    pub same : IsSame o z
+    same = record { number = ap (λ s. s.0) stays; world = ap (λ s. s.1) stays }
+
+    pub held_then : z.held ≡ slice_set o.held m (Some x)
+    held_then =
+        let held = ap (λ k. k.held) s.blocked ∙ (s.freed_held ∙ ap (λ k. slice_set k.held m None) s.begun ∙ ap (λ k. slice_set k.held m None) s.put) in
+        ap (λ k. k.held) s.out ∙ (s.held ∙ (ap (λ h. slice_set h m (Some x)) held ∙ set-set o.held m None (Some x)))
+
+    values_then : z.values ≡ slice_set (slice_set o.values m (Some (Some x))) m (Some None)
+    values_then =
+        let values = ap (λ k. k.values) s.blocked ∙ (s.freed_values ∙ ap (λ k. slice_set k.values m None) s.begun ∙ ap (λ k. slice_set k.values m None) s.put) in
+        ap (λ k. k.values) s.out
+        ∙ ap (λ v. slice_set v m (Some None)) (s.values ∙ (ap (λ v. slice_set v m (Some (Some x))) values ∙ (ap (λ v. slice_set v m (Some (Some x))) (set-set o.values m (Some (Some y)) None) ∙ set-set o.values m None (Some (Some x)))))
+
+    pub rests : (p : Shape W) → AtRest p o → HasStored p.traced e → IsOut z m → AtRest p z
+    rests p rest stored is_out = record {
+      of = ap (λ k. k.table_id) s.out ∙ (ap (λ k. k.table_id) s.ended ∙ (ap (λ k. k.table_id) s.blocked ∙ (ap (λ k. k.table_id) s.freed ∙ (ap (λ k. k.table_id) s.begun ∙ (ap (λ k. k.table_id) s.put ∙ rest.of)))));
+      outside = record {
+        spin = ap (λ s. s.2) stays ∙ rest.outside.spin;
+        queue = ap (λ s. s.3) stays ∙ rest.outside.queue;
+        owed = ap (λ s. s.4) stays ∙ rest.outside.owed;
+        left = ap (λ s. s.5) stays ∙ rest.outside.left;
+        stand = ap (λ s. s.6) stays ∙ rest.outside.stand;
+        pen = ap (λ s. s.7) stays ∙ rest.outside.pen;
+      };
+      wait = ap (λ k. k.wait) s.out ∙ ap (λ k. k.wait) s.ended;
+      raised = ap (λ s. s.8) stays ∙ rest.raised;
+      calling = ap (λ s. s.9) stays ∙ rest.calling;
+      turns = ap (λ k. k.turns) s.out ∙ (s.turns ∙ (ap (λ k. without m k.turns) s.blocked ∙ (ap (λ k. without m k.turns) s.freed ∙ (ap (λ k. without m k.turns) s.begun ∙ (ap (λ k. without m k.turns) s.put ∙ ap (without m) rest.turns)))));
+      cleared = ap (λ k. k.cleared) s.out ∙ (ap (λ k. k.cleared) s.ended ∙ (ap (λ k. k.cleared) s.blocked ∙ (ap (λ k. k.cleared) s.freed ∙ (ap (λ k. without m k.cleared) s.begun ∙ (ap (λ k. without m k.cleared) s.put ∙ ap (without m) rest.cleared)))));
+      looked = ap (λ k. k.looked) s.out ∙ (ap (λ k. k.looked) s.ended ∙ (ap (λ k. k.looked) s.blocked ∙ (ap (λ k. k.looked) s.freed ∙ (ap (λ k. without m k.looked) s.begun ∙ (ap (λ k. without m k.looked) s.put ∙ ap (without m) rest.looked)))));
+      taken = still_out o.held z.held o.values z.values m (Some x) (Some (Some x)) (Some None) rest.taken held_then values_then (λ z e. is_out);
+      stored = subst (λ k. HasStored p.traced k) (sym s.out) stored;
+    }
+
+    pub adds : (by : ℕ → Event) (ends : ℕ → Event) → Makes (by a.number) a b → Makes (ends k.number) k e → Adds (by o.number ∷ []) (ends o.number) o z
+    adds by ends first_made second_made =
+        let put_number = ap (λ k. k.number) s.put in
+        let number = ap (λ k. k.number) s.blocked ∙ (ap (λ k. k.number) s.freed ∙ (ap (λ k. k.number) s.begun ∙ put_number)) in
+        let d = by o.number in
+        let h = ends o.number in
+        let first = subst (λ (n : ℕ). Makes (by n) a b) put_number first_made in
+        let second = subst (λ (n : ℕ). Makes (ends n) k e) number second_made in
+        let between_seen = ap (λ k. k.seen) s.blocked ∙ ap (λ k. k.seen) s.freed in
+        let between_mine = ap (λ k. k.mine) s.blocked ∙ ap (λ k. k.mine) s.freed in
+        let seen = ap (λ k. k.seen) s.out ∙ second.2 in
+        let mine = ap (λ k. k.mine) s.out ∙ second.3 in
+        record {
+          mine = mine ∙ ap (λ l. l ++ h ∷ []) (between_mine ∙ (first.3 ∙ ap (λ k. k.mine ++ d ∷ []) s.put));
+          legal = subst IsLegal (sym seen) second.1.legal;
+          grows = begins_on o.seen k.seen z.seen (grown o.seen first.0 k.seen d (between_seen ∙ (first.2 ∙ ap (λ k. (k.seen ++ first.0) ++ d ∷ []) s.put))) (grown k.seen second.0 z.seen h seen);
+          ends = (k.seen ++ second.0, seen);
+          own = ap (λ n. by_thread n z.seen) (ap (λ k. k.number) s.out ∙ ap (λ k. k.number) s.ended) ∙ (ap (by_thread k.number) seen ∙ (second.1.own ∙ sym mine));
+        }
+
+  -- what one event adds
+  pub adds_one : (e : Event) (a b : Known T H W) → Makes e a b → b.number ≡ a.number → Adds [] e a b
+  adds_one e a b made number = record {
+    mine = made.3 ∙ ap (λ l. l ++ e ∷ []) (sym (append-nil a.mine));
+    legal = subst IsLegal (sym made.2) made.1.legal;
+    grows = grown a.seen made.0 b.seen e made.2;
+    ends = (a.seen ++ made.0, made.2);
+    own = ap (λ n. by_thread n b.seen) number ∙ (ap (by_thread a.number) made.2 ∙ (made.1.own ∙ sym made.3));
+  }
