@@ -6,7 +6,7 @@ ghost use Rattle.indexer.specs.declared.job.Job.{Job};
 use crate::job::Job;
 use crate::room::push_in_room;
 use crate::uses::IndexUses;
-use firefly_outside::{Kind, Tree};
+use firefly_outside::Kind;
 use nub_rule::Thread;
 use std::alloc::{AllocError, Global};
 
@@ -62,7 +62,7 @@ fn kind_of_place(walkers: usize, k: usize) -> Kind
 }
 
 /// A job for each thread; the first of them get the trees, and the first of these are walkers.
-pub fn jobs_of<S: Tree>(
+pub fn jobs_of<S: Drop>(
     alloc: Global,
     threads: Vec<Thread<IndexUses>>,
     trees: &mut [Option<S>],
@@ -88,7 +88,7 @@ pub fn jobs_of<S: Tree>(
 }
 
 /// Puts the trees back, and the threads behind those that are given.
-pub fn put_back<S: Tree>(
+pub fn put_back<S: Drop>(
     jobs: Vec<Job<S>>,
     trees: &mut [Option<S>],
     with_tree: usize,

@@ -28,7 +28,7 @@ push_in_room-requires g c =
     omega arith
 
 pub put_back-requires-clause-room : goal.put_back-requires-clause-room
-put_back-requires-clause-room g c κs within =
+put_back-requires-clause-room g c =
     let many = c.in_ok-jobs.ensures.jobs ∙ as_many c.in-Ok.jobs.items c.remove-caller.new.self.items c.in-Ok.ensures.threads in
     let room = c.in_ok-all.ensures.capacity in
     let none = c.in_ok-all.ensures.len in
