@@ -2,6 +2,7 @@
 use Rattle.std.proofs.Common.{◌≡◌, ℕ, ◌<◌, Bool, true, false, zero, suc, List, [], ◌∷◌, length, map, get_or, Option, Some, None, cond, nat_lt, refl, sym, ap, subst, ◌∙◌}
 use mathlib.Core.Option.{some, some-injective, some-ne-none}
 use lib.ListN.{get_elem?}
+use Rattle.std.proofs.lemmas.List.{length-map}
 use Rattle.std.proofs.lemmas.Bool.{ltb-true}
 use Rattle.firefly_outside.specs.Trees.{Path, Told, Calls}
 use Rattle.firefly_outside.specs.declared.tree.Kind.{Kind}
@@ -12,6 +13,10 @@ use Rattle.indexer.specs.declared.findings.Findings.{Findings}
 use Rattle.indexer.specs.declared.job.Job.{Job}
 use Rattle.indexer.specs.Jobs.{GivesTree, HasWorked, kind_at, tree_at}
 use Rattle.indexer.specs.Turns.{Worker, Run}
+
+-- as many jobs as threads
+pub as_many : {S : Type 0} (jobs : List (Job S)) (threads : List Worker) → map (λ j. j.me) jobs ≡ threads → length jobs ≡ length threads
+as_many jobs threads same = sym (length-map jobs (λ j. j.me)) ∙ ap length same
 
 pub from_map : {A B : Type 0} (f : A → B) (xs : List A) (k : ℕ) (y : B) → get_elem? (map f xs) k ≡ some y → (x : A) × (get_elem? xs k ≡ some x) × (f x ≡ y)
 from_map f [] k y e = absurd (some-ne-none y (sym e))

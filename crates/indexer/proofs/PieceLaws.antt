@@ -1,5 +1,5 @@
 -- Pieces that are merged.
-use Rattle.std.proofs.Common.{◌≡◌, List, [], ◌∷◌, ◌++◌, Option, Contains, inl, inr, ◌⊎◌, sym, subst}
+use Rattle.std.proofs.Common.{◌≡◌, ◌<◌, List, [], ◌∷◌, ◌++◌, Option, Contains, inl, inr, ◌⊎◌, ap, sym, subst, length, length-append, arith}
 use Rattle.std.specs.Prelude.{All}
 use Rattle.std.proofs.lemmas.List.Elements.{All-append, All-cons, All-nil, Contains-append_cases, Contains-append_left, Contains-append_right}
 use Rattle.firefly_outside.specs.Trees.{Path, Told}
@@ -113,3 +113,14 @@ part_of_walk tree w piece h found = record {
   found = λ f among. found f.path ((h.index.paths f.path).1 (Contains-map (λ (g : File). g.path) h.files f among));
   told = h.told;
 }
+
+-- with one in the place of the last two there is one less
+pub one_less : (rest more old new : List Index) (a b both : Index) → old ≡ more ++ b ∷ [] → more ≡ rest ++ a ∷ [] → new ≡ rest ++ both ∷ [] → length new < length old
+one_less rest more old new a b both is_old is_more is_new =
+    let n = ap length is_old in
+    let m = ap length is_more in
+    let k = ap length is_new in
+    let last = length-append more (b ∷ []) in
+    let before = length-append rest (a ∷ []) in
+    let merged = length-append rest (both ∷ []) in
+    omega arith

@@ -1,5 +1,5 @@
 -- A run of workers in a package of its own.
-use Rattle.std.proofs.Common.{◌≡◌, ℕ, ◌<◌, Bool, true, false, zero, suc, List, [], ◌∷◌, length, map, get_or, Option, Some, None, cond, nat_lt, refl, sym, ap, subst, ◌∙◌, arith}
+use Rattle.std.proofs.Common.{◌≡◌, ℕ, ◌+◌, ◌<◌, Bool, true, false, zero, suc, List, [], ◌∷◌, length, map, get_or, Option, Some, None, cond, nat_lt, refl, sym, ap, subst, ◌∙◌, arith}
 use Rattle.std.specs.Prelude.{All, remove}
 use Rattle.std.specs.List.{flat_map}
 use Rattle.std.proofs.lemmas.List.Elements.{All-append, All-nil}
@@ -41,6 +41,16 @@ pub some_at : {A : Type 0} (xs : List A) (k : ℕ) → k < length xs → (x : A)
 some_at [] k low = absurd (omega arith)
 some_at (x ∷ xs) zero low = (x, refl)
 some_at (x ∷ xs) (suc k) low = some_at xs k (omega arith)
+
+-- as many are left when all but the first have gone and come back
+pub all_many : {A : Type 0} (threads back all : List A) (last : A) (n : ℕ) → all ≡ last ∷ back → length back ≡ length (remove threads 0) → length threads ≡ n → 0 < n → length all ≡ n
+all_many [] back all last n is many long low = absurd (omega arith)
+all_many (x ∷ threads) back all last n is many long low = ap length is ∙ (ap suc many ∙ long)
+
+-- and one fewer are left without the first
+pub one_fewer : {A B : Type 0} (threads : List A) (found : List B) (n : ℕ) → length found ≡ length (remove threads 0) → length threads ≡ n → 0 < n → length found + 1 ≡ n
+one_fewer [] found n many long low = absurd (omega arith)
+one_fewer (x ∷ threads) found n many long low = let more = ap suc many ∙ long in omega arith
 
 -- a first thread is between two calls
 pub first_between : (p : Run) (n : ℕ) (t : Worker) → IsFirst p no_share n t → IsBetween p t

@@ -1,10 +1,11 @@
 -- Workers with their trees, and what comes of them.
-use Rattle.std.specs.Prelude.{◌≡◌, ℕ, List, [], Option, Some, None, cond, nat_lt, slice_index_or}
+use Rattle.std.specs.Prelude.{◌≡◌, ℕ, ◌≤◌, List, [], ◌∷◌, length, remove, Option, Some, None, cond, nat_lt, slice_index_or}
 use mathlib.Core.Option.{some}
 use lib.ListN.{get_elem?}
 use Rattle.firefly_outside.specs.Trees.{Path, Told, Calls}
 use Rattle.firefly_outside.specs.declared.tree.Kind.{Kind}
 use Rattle.firefly_outside.specs.declared.tree.Kind.TheVariants.{File, Dir}
+use Rattle.nub_rule.specs.Items.{Each}
 use Rattle.indexer.specs.declared.findings.Findings.{Findings}
 use Rattle.indexer.specs.Turns.{Worker, Run, HasCalled}
 use Rattle.indexer.specs.Walks.{HasDone}
@@ -33,3 +34,16 @@ module _ {S : Type 0} (tree : S → Option Told) (weak : S → List Path) (fault
     pub found : Findings
     pub is_found : get_elem? findings k ≡ some found
     pub gives : GivesTree p (kind_at walkers k) was t found (tree_at n old k) (tree_at n new k)
+
+  -- the first thread called, and the others worked; this is what they came back as, the first ahead, and what they came by
+  pub record HasCrew (p : Run) (walkers n : ℕ) (threads : List Worker) (old new : List (Option S)) (all : List Worker) (findings : List Findings) : Type 0 where
+    pub caller : Worker
+    pub is_caller : get_elem? threads 0 ≡ some caller
+    pub last : Worker
+    pub called : (o : Option Told) (q : Path) → HasCalled o q [] p 0 0 caller last
+    pub back : List Worker
+    pub is_all : all ≡ last ∷ back
+    pub many : length back ≡ length (remove threads 0)
+    pub found : length findings ≡ length back
+    pub worked : Each (HasWorked p walkers n (remove threads 0) findings old new) back
+    pub others : (i : ℕ) (d : Option S) → n ≤ i → slice_index_or new i d ≡ slice_index_or old i d

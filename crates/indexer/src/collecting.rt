@@ -35,8 +35,13 @@ pub fn collected(alloc: Global, root: &str, visits: Vec<Visit>) -> Result<Walked
     ensures told { IfOk result (λ w. (t : Told) → All (λ v. IsToldBy t v.dir v.listing) visits.items → IsWalkOf w t) }
 {
     let mut walked = Walked::new(alloc, root)?;
-    note_visits(&mut walked, visits)?;
-    Ok(walked)
+    match note_visits(&mut walked, visits) {
+        Ok(()) => Ok(walked),
+        Err(error) => {
+            drop(walked);
+            Err(error)
+        }
+    }
 }
 
 // Puts these listings into the walk, that of a directory after the one that names it.

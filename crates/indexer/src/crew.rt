@@ -1,15 +1,16 @@
 //! The workers, all at once.
-ghost use Rattle.std.specs.Prelude.{◌≡◌, ◌≤◌, ℕ, [], length, slice_index_or, IfOk, Option};
+ghost use Rattle.std.specs.Prelude.{◌≡◌, ◌≤◌, ◌<◌, [], length, IfOk, Option};
 ghost use Rattle.firefly_outside.specs.Trees.{Path, Told};
 ghost use Rattle.nub_rule.specs.Items.{Each};
 ghost use Rattle.package_crew.specs.Crews.{CameBack};
-ghost use Rattle.indexer.specs.Jobs.{GivesTree, HasWorked};
+ghost use Rattle.indexer.specs.Jobs.{GivesTree, HasCrew};
 ghost use Rattle.indexer.specs.Turns.{HasCalled, HasLists, IsBetween};
 
 use crate::ending::shut_all;
 use crate::findings::Findings;
 use crate::handing::{jobs_of, put_back};
 use crate::job::Job;
+use crate::room::push_in_room;
 use crate::uses::IndexUses;
 use crate::work::work;
 use firefly_outside::Tree;
@@ -73,8 +74,8 @@ fn run_jobs<R: Threads + Wait + Sync, S: Tree, G: Gate>(
     )
 }
 
-/// Lets the workers work, all at once; the first of them have a tree each, and of these the first are walkers. It answers the caller's
-/// thread, those of the workers, and what each came by, in the order of the threads.
+/// Lets the workers work, all at once, each with a thread of those behind the first, which is the caller's; the first of them have a tree
+/// each, and of these the first are walkers. It answers the threads, and what each worker came by, in the order of the threads.
 ///
 /// Where a worker can't be started, the list and both buffers are shut, and it is run here once all others were started; what no worker
 /// does then is for the closing walk. It blocks until each has ended. On `Err` there was no memory; the trees may be lost then.
@@ -82,28 +83,28 @@ pub fn run_workers<R: Threads + Wait + Sync, S: Tree, G: Gate>(
     rt: &R,
     alloc: Global,
     p: &Package<IndexUses>,
-    caller: Thread<IndexUses>,
-    threads: Vec<Thread<IndexUses>>,
+    mut threads: Vec<Thread<IndexUses>>,
     root: &str,
     trees: &mut [Option<S>],
     walkers: u32,
     with_tree: usize,
     gate: &G,
-) -> Result<(Thread<IndexUses>, Vec<Thread<IndexUses>>, Vec<Findings>), AllocError>
+) -> Result<(Vec<Thread<IndexUses>>, Vec<Findings>), AllocError>
     requires layout { HasLists p.now.layout }
-    requires caller { IsBetween p.now caller }
+    requires caller { 0 < length threads.items }
     requires threads { Each (λ n t. IsBetween p.now t) threads.items }
     requires trees { with_tree ≤ length trees.old }
-    ensures caller { IfOk result (λ r. (o : Option Told) (q : Path) → HasCalled o q [] p.now 0 0 caller r.0) }
-    ensures threads { IfOk result (λ r. length r.1.items ≡ length threads.items) }
-    ensures findings { IfOk result (λ r. length r.2.items ≡ length threads.items) }
-    ensures worked { IfOk result (λ r. Each (HasWorked S.tree S.may_fail S.faults S.calls root.now p.now walkers with_tree threads.items
-        r.2.items trees.old trees.new) r.1.items) }
-    ensures others { IfOk result (λ r. (i : ℕ) (d : Option S) → with_tree ≤ i
-        → slice_index_or trees.new i d ≡ slice_index_or trees.old i d) }
+    ensures { IfOk result (λ r. HasCrew S.tree S.may_fail S.faults S.calls root.now p.now walkers with_tree threads.items trees.old
+        trees.new r.0.items r.1.items) }
 {
-    let back = Vec::with_capacity(alloc, threads.len())?;
-    let jobs = jobs_of(alloc, threads, trees, walkers as usize, with_tree)?;
+    let mut all = Vec::with_capacity(alloc, threads.len())?;
+    // The caller is thread 0.
+    let caller = threads.remove(0);
+    let Ok(jobs) = jobs_of(alloc, threads, trees, walkers as usize, with_tree) else {
+        drop(caller);
+        return Err(AllocError);
+    };
     let (jobs, findings, caller) = run_jobs(rt, alloc, p, caller, jobs, root, walkers, gate)?;
-    Ok((caller, put_back(jobs, trees, with_tree, back), findings))
+    push_in_room(&mut all, caller);
+    Ok((put_back(jobs, trees, with_tree, all), findings))
 }

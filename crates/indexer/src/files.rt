@@ -29,7 +29,7 @@ fn put_file<R: Wait>(rt: &R, p: &Package<IndexUses>, me: &mut Thread<IndexUses>,
     match put(rt, p, me, &FILES, IndexItem::File(file)) {
         Ok(_) => true,
         Err((end, file)) => {
-            drop_item(file);
+            drop(file);
             is_closed(end)
         }
     }
@@ -44,9 +44,6 @@ fn is_closed(end: PutEnd) -> bool
         PutEnd::Alerted => false,
     }
 }
-
-// Drops what the buffer gave back.
-fn drop_item(_item: IndexItem) {}
 
 /// Puts the paths of files into the buffer, one after the other, and answers whether the thread may go on: it may unless it was alerted. A
 /// buffer that is shut takes none.
@@ -77,8 +74,19 @@ fn take_file<R: Wait>(rt: &R, p: &Package<IndexUses>, me: &mut Thread<IndexUses>
     ensures { (o : Option Told) (root : Path) → HasCalled o root [] p.now 1 1 me.old me.new }
 {
     match take(rt, p, me, &FILES) {
-        Ok((_, IndexItem::File(path))) => Some(path),
-        _ => None,
+        Ok((_, item)) => path_in(item),
+        Err(_) => None,
+    }
+}
+
+// The path of a file, if the item is one.
+fn path_in(item: IndexItem) -> Option<Text> {
+    match item {
+        IndexItem::File(path) => Some(path),
+        IndexItem::Piece(piece) => {
+            drop(piece);
+            None
+        }
     }
 }
 

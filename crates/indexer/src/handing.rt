@@ -1,13 +1,32 @@
 //! Trees are handed to the workers, and come back.
-ghost use Rattle.std.specs.Prelude.{◌≡◌, ◌+◌, ◌≤◌, ◌<◌, ◌++◌, ℕ, List, length, map, vec_len, vec_capacity, slice_index_or, IfOk, OnErr, Option};
+ghost use Rattle.std.specs.Prelude.{◌≡◌, ◌+◌, ◌≤◌, ◌<◌, ◌++◌, ℕ, List, length, map, vec_len, vec_capacity, slice_index_or, IfOk, OnErr, Option, None};
 ghost use Rattle.indexer.specs.Jobs.{kind_at, tree_at};
 ghost use Rattle.indexer.specs.declared.job.Job.{Job};
 
 use crate::job::Job;
+use crate::room::push_in_room;
 use crate::uses::IndexUses;
-use firefly_outside::{Kind, Tree};
+use firefly_outside::Kind;
 use nub_rule::Thread;
 use std::alloc::{AllocError, Global};
+
+/// Takes what stands at the place.
+pub fn take_at<S: Drop>(trees: &mut [Option<S>], k: usize) -> Option<S>
+    requires { k < length trees.old }
+    ensures tree { result ≡ slice_index_or trees.old k None }
+    ensures others { (i : ℕ) (d : Option S) → (i ≡ k → ⊥) → slice_index_or trees.new i d ≡ slice_index_or trees.old i d }
+{
+    trees[k].take()
+}
+
+/// Puts this at the place.
+pub fn put_at<S: Drop>(trees: &mut [Option<S>], k: usize, tree: Option<S>)
+    requires { k < length trees.old }
+    ensures tree { (d : Option S) → slice_index_or trees.new k d ≡ tree }
+    ensures others { (i : ℕ) (d : Option S) → (i ≡ k → ⊥) → slice_index_or trees.new i d ≡ slice_index_or trees.old i d }
+{
+    trees[k] = tree;
+}
 
 // Takes the tree of the worker k, if it has one.
 fn take_tree<S: Drop>(trees: &mut [Option<S>], with_tree: usize, k: usize) -> Option<S>
@@ -16,7 +35,11 @@ fn take_tree<S: Drop>(trees: &mut [Option<S>], with_tree: usize, k: usize) -> Op
     ensures others { (i : ℕ) (d : Option S) → (i ≡ k → ⊥) → slice_index_or trees.new i d ≡ slice_index_or trees.old i d }
     ensures above { (i : ℕ) (d : Option S) → with_tree ≤ i → slice_index_or trees.new i d ≡ slice_index_or trees.old i d }
 {
-    if k < with_tree { trees[k].take() } else { None }
+    if k < with_tree {
+        take_at(trees, k)
+    } else {
+        None
+    }
 }
 
 // Puts the tree of the worker k back.
@@ -27,7 +50,7 @@ fn put_tree<S: Drop>(trees: &mut [Option<S>], with_tree: usize, k: usize, tree: 
     ensures above { (i : ℕ) (d : Option S) → with_tree ≤ i → slice_index_or trees.new i d ≡ slice_index_or trees.old i d }
 {
     if k < with_tree {
-        trees[k] = tree;
+        put_at(trees, k, tree);
     }
 }
 
@@ -39,7 +62,7 @@ fn kind_of_place(walkers: usize, k: usize) -> Kind
 }
 
 /// A job for each thread; the first of them get the trees, and the first of these are walkers.
-pub fn jobs_of<S: Tree>(
+pub fn jobs_of<S: Drop>(
     alloc: Global,
     threads: Vec<Thread<IndexUses>>,
     trees: &mut [Option<S>],
@@ -56,17 +79,16 @@ pub fn jobs_of<S: Tree>(
 {
     let mut jobs = Vec::with_capacity(alloc, threads.len())?;
     for me in threads {
-        let tree = take_tree(trees, with_tree, jobs.len());
-        let kind = kind_of_place(walkers, jobs.len());
-        let Ok(()) = jobs.push(Job { me, kind, tree }) else {
-            unreachable!()
-        };
+        let k = jobs.len();
+        let tree = take_tree(trees, with_tree, k);
+        let kind = kind_of_place(walkers, k);
+        push_in_room(&mut jobs, Job { me, kind, tree });
     }
     Ok(jobs)
 }
 
 /// Puts the trees back, and the threads behind those that are given.
-pub fn put_back<S: Tree>(
+pub fn put_back<S: Drop>(
     jobs: Vec<Job<S>>,
     trees: &mut [Option<S>],
     with_tree: usize,
@@ -84,9 +106,7 @@ pub fn put_back<S: Tree>(
         let Job { me, kind: _, tree } = job;
         put_tree(trees, with_tree, k, tree);
         k += 1;
-        let Ok(()) = threads.push(me) else {
-            unreachable!()
-        };
+        push_in_room(&mut threads, me);
     }
     threads
 }

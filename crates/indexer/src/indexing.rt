@@ -11,6 +11,7 @@ use crate::answer::IndexAnswer;
 use crate::deciding::decided;
 use crate::findings::Findings;
 use crate::gathering::gathered;
+use crate::handing::{put_at, take_at};
 use crate::plan::Plan;
 use crate::running::worked_run;
 use firefly_outside::Tree;
@@ -41,11 +42,11 @@ fn decided_at<S: Tree>(
         × Ends (S.tree s) (S.may_fail s) root.now stop_after found.fault (S.faults s) (S.faults r) (S.calls s) (S.calls r) result }
     ensures others { (i : ℕ) (d : Option S) → (i ≡ at → ⊥) → slice_index_or trees.new i d ≡ slice_index_or trees.old i d }
 {
-    let Some(mut tree) = trees[at].take() else {
+    let Some(mut tree) = take_at(trees, at) else {
         unreachable!()
     };
     let answer = decided(alloc, root, &mut tree, found, stop_after);
-    trees[at] = Some(tree);
+    put_at(trees, at, Some(tree));
     answer
 }
 
@@ -75,14 +76,27 @@ pub fn index<R: Threads + Wait + Sync, S: Tree, G: Gate>(
         return IndexAnswer::Memory;
     };
     let Ok(found) = gathered(alloc, findings) else {
+        drop(closed);
         return IndexAnswer::Memory;
     };
     let at = (plan.walkers + plan.parsers) as usize;
     match decided_at(alloc, root, trees, at, found, plan.stop_after) {
         WalkAnswer::Done(piece) => IndexAnswer::Done(piece, closed),
-        WalkAnswer::Stopped(many) => IndexAnswer::Stopped(many),
-        WalkAnswer::ReadFault(path) => IndexAnswer::ReadFault(path),
-        WalkAnswer::TooMany(many) => IndexAnswer::TooMany(many),
-        WalkAnswer::Memory => IndexAnswer::Memory,
+        WalkAnswer::Stopped(many) => {
+            drop(closed);
+            IndexAnswer::Stopped(many)
+        }
+        WalkAnswer::ReadFault(path) => {
+            drop(closed);
+            IndexAnswer::ReadFault(path)
+        }
+        WalkAnswer::TooMany(many) => {
+            drop(closed);
+            IndexAnswer::TooMany(many)
+        }
+        WalkAnswer::Memory => {
+            drop(closed);
+            IndexAnswer::Memory
+        }
     }
 }

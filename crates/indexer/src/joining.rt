@@ -18,11 +18,15 @@ fn joined_two(whole: Piece, piece: Piece) -> Result<Piece, AllocError>
     ensures covers { IfOk result (λ p. (path : Path) → Contains p.paths path → Contains whole.paths path ⊎ Contains piece.paths path) }
 {
     if whole.meets(&piece) {
+        drop(piece);
         return Ok(whole);
     }
     match merge(whole, piece) {
         Ok(both) => Ok(both),
-        Err(_) => Err(AllocError),
+        Err(both) => {
+            drop(both);
+            Err(AllocError)
+        }
     }
 }
 
@@ -51,6 +55,8 @@ pub fn found_part(alloc: Global, walked: &Walked, pieces: Vec<Piece>) -> Result<
     for piece in pieces {
         if walked.all_found(&piece) {
             keep(&mut kept, piece)?;
+        } else {
+            drop(piece);
         }
     }
     let part = joined(alloc, kept)?;

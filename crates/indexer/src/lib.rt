@@ -33,6 +33,7 @@ mod opening;
 mod parsing;
 mod pieces;
 mod plan;
+mod room;
 mod running;
 mod turns;
 mod uses;

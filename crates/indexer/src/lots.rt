@@ -118,7 +118,9 @@ pub fn pieces_of(
     let mut pieces = Vec::new(alloc);
     let mut batch = Batch::new(alloc);
     for read in lot {
-        batch = add_file(alloc, root, &mut pieces, batch, &read)?;
+        let added = add_file(alloc, root, &mut pieces, batch, &read);
+        drop(read);
+        batch = added?;
     }
     put_batch(&mut pieces, batch)?;
     Ok(pieces)

@@ -1,5 +1,6 @@
 //! The package of an index run.
-ghost use Rattle.std.specs.Prelude.{◌≡◌, IfOk, [], ◌∷◌, length};
+ghost use Rattle.std.specs.Prelude.{◌≡◌, ◌≤◌, ◌++◌, IfOk, OnOk, [], ◌∷◌, length};
+ghost use Rattle.bounded_buffer.specs.Rings.{fresh};
 ghost use Rattle.nub_rule.specs.Items.{Each};
 ghost use Rattle.nub.specs.Ended.{IsFirst};
 ghost use Rattle.indexer.specs.Opening.{IsOpening};
@@ -20,14 +21,12 @@ const MOST_FILES: u32 = 256;
 /// How many pieces may wait to be merged.
 const MOST_PIECES: u32 = 8;
 
-// The list with the root alone, and the two buffers.
-fn first_values(alloc: Global, root: &str, plan: &Plan) -> Result<Vec<IndexValue>, AllocError>
-    ensures { IfOk result (λ vs. IsOpening vs.items) }
-{
+// The list with the root alone.
+fn first_dirs(alloc: Global, root: &str, plan: &Plan) -> Result<WaitingDirs, AllocError> {
     let most_files = plan.stop_after.unwrap_or(u64::MAX);
     let mut waiting = Vec::new(alloc);
     waiting.push(Text::of(alloc, root)?)?;
-    let dirs = WaitingDirs {
+    Ok(WaitingDirs {
         waiting,
         in_work: 0,
         shut: false,
@@ -35,13 +34,28 @@ fn first_values(alloc: Global, root: &str, plan: &Plan) -> Result<Vec<IndexValue
         files: 0,
         most_files,
         parsers: plan.parsers,
-    };
-    let files: Ring<IndexItem> = Ring::new(alloc, MOST_FILES)?;
-    let pieces: Ring<IndexItem> = Ring::new(alloc, MOST_PIECES)?;
+    })
+}
+
+// Puts an empty buffer behind the others.
+fn put_ring(values: &mut Vec<IndexValue>, alloc: Global, most: u32) -> Result<(), AllocError>
+    requires { (1 ≤ most) × (most ≤ 4096) }
+    ensures { OnOk result (values.new.items ≡ values.old.items ++ IndexValue.Ring (fresh most) ∷ []) }
+{
+    let ring: Ring<IndexItem> = Ring::new(alloc, most)?;
+    values.push(IndexValue::Ring(ring))?;
+    Ok(())
+}
+
+// The list with the root alone, and the two buffers.
+fn first_values(alloc: Global, root: &str, plan: &Plan) -> Result<Vec<IndexValue>, AllocError>
+    ensures { IfOk result (λ vs. IsOpening vs.items) }
+{
+    let dirs = first_dirs(alloc, root, plan)?;
     let mut values = Vec::new(alloc);
     values.push(IndexValue::Dirs(dirs))?;
-    values.push(IndexValue::Ring(files))?;
-    values.push(IndexValue::Ring(pieces))?;
+    put_ring(&mut values, alloc, MOST_FILES)?;
+    put_ring(&mut values, alloc, MOST_PIECES)?;
     Ok(values)
 }
 

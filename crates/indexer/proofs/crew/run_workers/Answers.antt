@@ -1,23 +1,73 @@
-use Rattle.std.proofs.Common.{◌++◌, map, ap, sym, ◌∙◌, arith}
+use Rattle.std.proofs.Common.{List, [], ◌∷◌, ◌++◌, map, ap, sym, ◌∙◌, arith, suc}
+use Rattle.std.specs.Prelude.{remove}
+use Rattle.std.proofs.lemmas.List.{length-map}
 use lib.ListN.{get_elem?}
 use Rattle.indexer.specs.declared.job.Job.{Job}
-use Rattle.indexer.proofs.CrewBack.{to_map, all_worked}
+use Rattle.indexer.specs.Turns.{Worker}
+use Rattle.indexer.proofs.CrewBack.{as_many, to_map, all_worked}
+use Rattle.indexer.proofs.RunLaws.{at_first, behind_first}
 use Rattle.indexer.proofs.crew.run_workers.Goals as goal
+
+pub run_jobs-requires-clause-caller : goal.run_jobs-requires-clause-caller
+run_jobs-requires-clause-caller g c κs within =
+    let caller = c.remove-caller.result in
+    c.requires.threads 0 caller (at_first c.args.threads.items caller c.requires.caller c.remove-caller.ensures.value)
 
 pub run_jobs-requires-clause-jobs : goal.run_jobs-requires-clause-jobs
 run_jobs-requires-clause-jobs g c κs within = λ n x at.
-    c.requires.threads n x.me (ap (λ l. get_elem? l n) (sym c.in_ok-jobs.ensures.threads) ∙ to_map (λ (j : Job g.row.S.Denot). j.me) c.in_ok-jobs.jobs.items n x at)
+    c.requires.threads (suc n) x.me (behind_first c.args.threads.items n x.me
+    (ap (λ (l : List Worker). get_elem? l n) (sym (c.in-Ok.ensures.threads ∙ c.remove-caller.ensures.items)) ∙ to_map (λ (j : Job g.row.S.Denot). j.me) c.in-Ok.jobs.items n x at))
 
-pub returns-clause-worked : goal.returns-clause-worked
-returns-clause-worked g c = λ k t at.
+pub push_in_room-requires : goal.push_in_room-requires
+push_in_room-requires g c =
+    let none = c.in_ok-all.ensures.len in
+    let room = c.in_ok-all.ensures.capacity in
+    let len = c.len.ensures in
+    let some = c.requires.caller in
+    let threads = c.args.threads.ok.0 in
+    omega arith
+
+pub put_back-requires-clause-room : goal.put_back-requires-clause-room
+put_back-requires-clause-room g c =
+    let many = c.in_ok-jobs.ensures.jobs ∙ as_many c.in-Ok.jobs.items c.remove-caller.new.self.items c.in-Ok.ensures.threads in
+    let room = c.in_ok-all.ensures.capacity in
+    let none = c.in_ok-all.ensures.len in
+    let len = c.len.ensures in
+    let less = c.remove-caller.ensures.len in
+    let push = c.push_in_room.ensures in
+    let long = push.len in
+    let cap = push.capacity in
+    let jobs = c.in_ok-jobs.jobs.ok.0 in
+    let threads = c.args.threads.ok.0 in
+    let rest = c.remove-caller.new.self.ok.0 in
+    omega arith
+
+pub returns : goal.returns
+returns g c =
     let S = g.S.Tree in
-    let back = c.in_ok-jobs-2.jobs in
-    let findings = c.in_ok-jobs-2.findings.items in
-    let all = c.put_back.ensures.threads ∙ ap (λ l. l ++ map (λ (j : Job g.row.S.Denot). j.me) back.items) c.in_ok-back.ensures.items in
-    all_worked S.tree S.may_fail S.faults S.calls c.args.root.now c.args.p.now c.args.walkers c.args.with_tree c.args.threads.items findings c.args.trees.now c.put_back.new.trees c.in_ok-jobs.jobs.items back.items
-    c.in_ok-jobs.ensures.threads c.in_ok-jobs.ensures.kinds c.in_ok-jobs.ensures.trees
-    (λ k d e below low. c.put_back.ensures.trees k d e below (let ok = back.ok in let same = ok.0 in omega arith))
-    c.in_ok-jobs-2.ensures.each k t (ap (λ l. get_elem? l k) (sym all) ∙ at)
-
-pub returns-clause-others : goal.returns-clause-others
-returns-clause-others g c = λ i d h. c.put_back.ensures.others i d h ∙ c.in_ok-jobs.ensures.others i d h
+    let threads = c.args.threads.items in
+    let jobs = c.in-Ok.jobs.items in
+    let back = c.in_ok-jobs.jobs in
+    let findings = c.in_ok-jobs.findings.items in
+    let caller = c.in_ok-jobs.caller in
+    let own = c.in-Ok.ensures in
+    let ran = c.in_ok-jobs.ensures in
+    let put = c.put_back.ensures in
+    let behind = map (λ (j : Job g.row.S.Denot). j.me) back.items in
+    let others = own.threads ∙ c.remove-caller.ensures.items in
+    let long = length-map back.items (λ (j : Job g.row.S.Denot). j.me) in
+    record {
+      caller = c.remove-caller.result;
+      is_caller = at_first threads c.remove-caller.result c.requires.caller c.remove-caller.ensures.value;
+      last = caller;
+      called = ran.caller;
+      back = behind;
+      is_all = put.threads ∙ ap (λ (l : List Worker). l ++ behind) (c.push_in_room.ensures.items ∙ ap (λ (l : List Worker). l ++ caller ∷ []) c.in_ok-all.ensures.items);
+      many = long ∙ ran.jobs ∙ as_many jobs (remove threads 0) others;
+      found = ran.findings ∙ sym (long ∙ ran.jobs);
+      worked = all_worked S.tree S.may_fail S.faults S.calls c.args.root.now c.args.p.now c.args.walkers c.args.with_tree (remove threads 0) findings c.args.trees.now c.put_back.new.trees jobs back.items
+          others own.kinds own.trees
+          (λ k d e below low. put.trees k d e below (let ok = back.ok in let same = ok.0 in omega arith))
+          ran.each;
+      others = λ i d h. put.others i d h ∙ own.others i d h;
+    }

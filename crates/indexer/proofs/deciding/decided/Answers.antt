@@ -11,6 +11,6 @@ returns-in-Some-clause-ends g c =
     let tree = g.S.Tree.tree c.args.tree.now in
     let w = c.in-Ok.walked in
     ends_fault tree (g.S.Tree.may_fail c.args.tree.now) c.args.root.now c.args.stop_after c.args.found.fault c.in-Some.fault (g.S.Tree.faults c.args.tree.now) (g.S.Tree.calls c.args.tree.now)
-    w c.fault_answer.result c.in-Some.is c.in-Ok.ensures.root
+    w c.fault_answer-answer.result c.in-Some.is c.in-Ok.ensures.root
     (told_on tree (λ t. All (λ (v : Visit). IsToldBy t v.dir v.listing) c.args.found.visits.items) (IsWalkOf w) (λ t all. c.in-Ok.ensures.told t all) c.requires.told)
-    c.fault_answer.ensures
+    c.fault_answer-answer.ensures

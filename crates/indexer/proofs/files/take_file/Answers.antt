@@ -3,8 +3,8 @@ use Rattle.nub.proofs.Users.{idle_again}
 use Rattle.indexer.proofs.Turning.{adds_release_file, passes_same}
 use Rattle.indexer.proofs.files.take_file.Goals as goal
 
-pub returns-in-Ok-default-File : goal.returns-in-Ok-default-File
-returns-in-Ok-default-File g c = λ o root.
+pub returns-in-Ok : goal.returns-in-Ok
+returns-in-Ok g c = λ o root.
     let p = c.args.p.now in
     let a = c.args.me.now in
     let b = c.take.new.me in
@@ -17,8 +17,8 @@ returns-in-Ok-default-File g c = λ o root.
       times = adds_release_file a.number _ a b (e.ran between.1 between.2.share).events;
     }
 
-pub returns : goal.returns
-returns g c = λ o root.
+pub returns-in-Err : goal.returns-in-Err
+returns-in-Err g c = λ o root.
     let p = c.args.p.now in
     let a = c.args.me.now in
     let b = c.take.new.me in

@@ -1,4 +1,5 @@
 use Rattle.std.proofs.Common.{◌≡◌, ℕ, ◌<◌, ◌∷◌, [], ◌++◌, List, map, length, get_or, ap, sym, subst, ◌∙◌, append_assoc, length-append, arith, cond, nat_lt, None}
+use Rattle.thread_crew.proofs.Zips.{all_yielded}
 use Rattle.indexer.specs.Jobs.{kind_at, tree_at}
 use Rattle.indexer.specs.declared.job.Job.{Job}
 use Rattle.indexer.proofs.Placing.{one_place, map_snoc}
@@ -12,26 +13,23 @@ loop-me-preserved g c =
     let steps = c.in-Some.ensures.steps.0 in
     let gone = c.in-Some.ensures.steps.1 in
     let short = ap length steps in
-    let push = c.in-Ok.ensures in
+    let push = c.push_in_room.ensures in
     let took = c.take_tree-tree.ensures in
     let job : Job _ = record { me = x; kind = c.kind_of_place-kind.result; tree = c.take_tree-tree.result } in
     let n = length at.jobs.items in
     let many = ap length push.items in
     let more = length-append at.jobs.items (job ∷ []) in
     let ok = at.jobs.ok in
-    let len = c.len-in-loop-me.ensures in
-    let here : c.len-in-loop-me.result ≡ n = len ∙ ok.0 in
+    let here : c.len-k.result ≡ n = c.len-k.ensures ∙ ok.0 in
     let Own : List (Job g.row.S.Denot) → Type 0 = λ l. (k : ℕ) (e : Job g.row.S.Denot) → k < length l → (get_or l k e).tree ≡ tree_at c.args.with_tree c.args.trees.now k in
     let Kinds : List (Job g.row.S.Denot) → Type 0 = λ l. (k : ℕ) (e : Job g.row.S.Denot) → k < length l → (get_or l k e).kind ≡ kind_at c.args.walkers k in
-    let len_kind = c.len-in-loop-me-2.ensures in
-    let here_kind : c.len-in-loop-me-2.result ≡ n = len_kind ∙ ok.0 in
     record {
       whole = append_assoc at.yielded (x ∷ []) _ ∙ rw (← steps) was.whole;
       left = (let left = was.left in omega arith);
       room = (let room = was.room in let cap = push.capacity in let long = push.len in let left = was.left in omega arith);
       made = ap (map (λ j. j.me)) push.items ∙ map_snoc (λ j. j.me) at.jobs.items job ∙ ap (λ l. l ++ x ∷ []) was.made;
       kinds = subst Kinds (sym push.items)
-          (one_place (λ j. j.kind) (kind_at c.args.walkers) at.jobs.items job (c.kind_of_place-kind.ensures ∙ ap (λ j. kind_at c.args.walkers j) here_kind) was.kinds);
+          (one_place (λ j. j.kind) (kind_at c.args.walkers) at.jobs.items job (c.kind_of_place-kind.ensures ∙ ap (λ j. kind_at c.args.walkers j) here) was.kinds);
       own = subst Own (sym push.items)
           (one_place (λ j. j.tree) (tree_at c.args.with_tree c.args.trees.now) at.jobs.items job
           (took.tree ∙ ap (λ j. tree_at c.args.with_tree at.trees j) here ∙ ap (λ t. cond (nat_lt n c.args.with_tree) t None) (was.ahead n None (omega arith)))
@@ -39,3 +37,20 @@ loop-me-preserved g c =
       ahead = λ i d h. took.others i d (λ e. omega arith) ∙ was.ahead i d (omega arith);
       above = λ i d h. took.above i d h ∙ was.above i d h;
     }
+
+pub push_in_room-requires : goal.push_in_room-requires
+push_in_room-requires g c =
+    let at = c.loop-me in
+    let was = at.invariant in
+    let room = was.room in
+    let left = was.left in
+    let short = ap length c.in-Some.ensures.steps.0 in
+    omega arith
+
+pub returns-clause-threads : goal.returns-clause-threads
+returns-clause-threads g c =
+    let at = c.loop-me in
+    at.invariant.made ∙ all_yielded at.yielded _ _ at.invariant.whole (sym at.invariant.left ∙ c.in-None.ensures.steps.0) ∙ c.into_iter-me-iterator.ensures.into_iter_gives.0
+
+pub returns-clause-others : goal.returns-clause-others
+returns-clause-others g c = c.loop-me.invariant.above

@@ -1,5 +1,7 @@
-use Rattle.std.proofs.Common.{◌≡◌, ◌<◌, ◌∷◌, [], ◌++◌, map, length, get_or, ap, sym, subst, ◌∙◌, append_assoc, length-append, arith}
+use Rattle.std.proofs.Common.{List, ◌≡◌, ◌<◌, ◌∷◌, [], ◌++◌, map, length, get_or, ap, sym, subst, ◌∙◌, append_assoc, length-append, arith}
+use Rattle.std.specs.Vec.Iter.{into_iter_items}
 use Rattle.thread_crew.proofs.Zips.{all_yielded}
+use Rattle.indexer.specs.declared.job.Job.{Job}
 use Rattle.indexer.proofs.Placing.{placed, map_snoc}
 use Rattle.indexer.proofs.handing.put_back.Goals as goal
 
@@ -11,7 +13,7 @@ loop-job-preserved g c =
     let steps = c.in-Some.ensures.steps.0 in
     let gone = c.in-Some.ensures.steps.1 in
     let short = ap length steps in
-    let push = c.in-Ok.ensures in
+    let push = c.push_in_room.ensures in
     let put = c.put_tree.ensures in
     let front = c.args.threads.items in
     record {
@@ -27,6 +29,14 @@ loop-job-preserved g c =
       above = λ i d h. put.above i d h ∙ was.above i d h;
     }
 
+pub push_in_room-requires : goal.push_in_room-requires
+push_in_room-requires g c =
+    let was = c.loop-job.invariant in
+    let room = was.room in
+    let left = was.left in
+    let short = ap length c.in-Some.ensures.steps.0 in
+    omega arith
+
 pub returns-clause-trees : goal.returns-clause-trees
 returns-clause-trees g c k d e h low =
     let at = c.loop-job in
@@ -34,3 +44,21 @@ returns-clause-trees g c k d e h low =
     let ok = c.args.jobs.ok in
     let ok0 = ok.0 in
     subst (λ l. get_or at.trees k d ≡ (get_or l k e).tree) all (at.invariant.back k d e h (let long = ap length all in omega arith))
+
+pub overflow_add-k : goal.overflow_add-k
+overflow_add-k g c =
+    let at = c.loop-job in
+    let whole = ap length at.invariant.whole in
+    let split = length-append at.yielded (into_iter_items at.job-iterator) in
+    let gives = ap length c.into_iter-job-iterator.ensures.into_iter_gives.0 in
+    let steps = ap length c.in-Some.ensures.steps.0 in
+    let count = at.invariant.count in
+    let ok = c.args.jobs.ok in
+    let same = ok.0 in
+    omega arith
+
+pub returns-clause-threads : goal.returns-clause-threads
+returns-clause-threads g c =
+    let at = c.loop-job in
+    let all = all_yielded at.yielded _ _ at.invariant.whole (sym at.invariant.left ∙ c.in-None.ensures.steps.0) ∙ c.into_iter-job-iterator.ensures.into_iter_gives.0 in
+    at.invariant.made ∙ ap (λ (l : List (Job g.row.S.Denot)). c.args.threads.items ++ map (λ j. j.me) l) all

@@ -1,3 +1,4 @@
+use Rattle.std.proofs.Common.{refl}
 use Rattle.indexer.proofs.PieceLaws.{joins_files}
 use Rattle.indexer.proofs.joining.joined_two.Goals as goal
 
@@ -6,3 +7,6 @@ returns-in-Ok-clause-files c = joins_files c.args.whole c.args.piece c.in-Ok.bot
 
 pub returns-in-Ok-clause-covers : goal.returns-in-Ok-clause-covers
 returns-in-Ok-clause-covers c = λ path h. (c.in-Ok.ensures.union.paths path).0 h
+
+pub returns-then-meets-clause-apart : goal.returns-then-meets-clause-apart
+returns-then-meets-clause-apart c = λ apart. absurd (apart (c.if-meets.ensures.0 refl))

@@ -1,7 +1,7 @@
-use Rattle.std.proofs.Common.{◌≡◌, ◌∙◌, List, [], ◌∷◌, ◌++◌, append-nil, sym, ap, subst}
+use Rattle.std.proofs.Common.{◌≡◌, ◌∙◌, List, [], ◌∷◌, ◌++◌, append-nil, arith, sym, ap, subst}
 use Rattle.word_index.specs.Index.{Index}
 use Rattle.indexer.specs.Pieces.{AreMergedFrom}
-use Rattle.indexer.proofs.PieceLaws.{merged_same, merged_two}
+use Rattle.indexer.proofs.PieceLaws.{one_less, merged_same, merged_two}
 use Rattle.indexer.proofs.merging.merge_last.Goals as goal
 
 pub returns-in-Ok-clause-merged : goal.returns-in-Ok-clause-merged
@@ -45,3 +45,11 @@ returns-in-Err-clause-merged c =
     (whole c.args.kept.now.items rest c.pop.new.self.items a b c.in-Some.ensures.items c.in-Some-pop.ensures.items
     ∙ sym (whole second.new.kept.items rest first.new.kept.items c.in-Err.before c.in-Err.last second.ensures.items first.ensures.items
     ∙ ap (λ (e : Index × Index). (rest ++ e.0 ∷ []) ++ e.1 ∷ []) c.in-Err.ensures.back))
+
+pub returns-in-Ok-clause-fewer : goal.returns-in-Ok-clause-fewer
+returns-in-Ok-clause-fewer c = λ yes.
+    let rest = c.pop-2.new.self.items in
+    let less = one_less rest c.pop.new.self.items c.args.kept.now.items c.put_back-in-Ok.new.kept.items c.in-Some-pop.before c.in-Some.last c.in-Ok.both c.in-Some.ensures.items c.in-Some-pop.ensures.items c.put_back-in-Ok.ensures.items in
+    let old = c.args.kept.now.ok.0 in
+    let new = c.put_back-in-Ok.new.kept.ok.0 in
+    omega arith

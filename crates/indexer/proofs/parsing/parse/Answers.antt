@@ -102,3 +102,9 @@ returns-in-Err-clause-done g c =
     subst (λ (vs : List Visit). HasDone File (S.tree first) root (S.may_fail first) (S.faults first) (S.faults then) (S.calls first) (S.calls then) c.args.p.now 0 c.args.me.now c.end_pieces.new.me vs kept c.in-Err.fault)
     (sym c.new.ensures.items)
     (done_pieces File (S.tree first) root (S.may_fail first) (S.faults first) (S.calls first) c.args.p.now c.args.me.now (S.faults then) (S.calls then) c.end_pieces.new.me [] kept c.in-Err.fault kept_last three)
+
+pub returns-in-Err-clause-tree_stays : goal.returns-in-Err-clause-tree_stays
+returns-in-Err-clause-tree_stays g c = c.parse_once.ensures.tree_stays ∙ c.loop.invariant.tree_stays
+
+pub returns-in-Err-clause-weak_stays : goal.returns-in-Err-clause-weak_stays
+returns-in-Err-clause-weak_stays g c = c.parse_once.ensures.weak_stays ∙ c.loop.invariant.weak_stays

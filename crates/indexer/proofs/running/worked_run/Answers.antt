@@ -1,74 +1,58 @@
-use Rattle.std.proofs.Common.{List, ◌∷◌, [], ◌++◌, ◌+◌, None, ap, sym, subst, ◌∙◌, arith, suc}
+use Rattle.std.proofs.Common.{List, None, [], ap, sym, subst, ◌+◌, ◌∙◌, arith}
 use lib.ListN.{get_elem?}
 use Rattle.larch_actions.specs.declared.event.Layout.{Layout}
-use Rattle.nub.specs.Ended.{KeepsLocks}
-use Rattle.nub_rule.specs.Items.{Each}
-use Rattle.indexer.specs.Jobs.{HasWorked}
+use Rattle.nub.specs.Ended.{IsWhole, KeepsLocks}
+use Rattle.indexer.specs.Plans.{layout_of}
 use Rattle.indexer.specs.Turns.{Worker}
 use Rattle.indexer.specs.Work.{KeepsWork}
-use Rattle.indexer.proofs.RunLaws.{behind_first, at_first, first_between, all_done, all_found_by, all_pieces}
+use Rattle.indexer.proofs.RunLaws.{first_between, all_many, one_fewer, all_done, all_found_by, all_pieces}
 use Rattle.indexer.proofs.running.worked_run.Goals as goal
 
 pub run_workers-requires-clause-threads : goal.run_workers-requires-clause-threads
-run_workers-requires-clause-threads g c κs within = λ n x at.
-    let threads = c.in_ok-p.threads.items in
-    first_between c.in_ok-p.p (suc n) x (c.in_ok-p.ensures.threads (suc n) x (behind_first threads n x (ap (λ (l : List Worker). get_elem? l n) (sym c.remove-caller.ensures.items) ∙ at)))
+run_workers-requires-clause-threads g c κs within = λ n x at. first_between c.in_ok-p.p n x (c.in_ok-p.ensures.threads n x at)
 
 pub run_workers-requires-clause-caller : goal.run_workers-requires-clause-caller
-run_workers-requires-clause-caller g c κs within =
-    let threads = c.in_ok-p.threads.items in
-    let count = c.in_ok-p.ensures.count in
-    first_between c.in_ok-p.p 0 c.remove-caller.result (c.in_ok-p.ensures.threads 0 c.remove-caller.result (at_first threads c.remove-caller.result (omega arith) c.remove-caller.ensures.value))
+run_workers-requires-clause-caller g c κs within = let count = c.in_ok-p.ensures.count in omega arith
+
+pub close_package-requires-clause-count : goal.close_package-requires-clause-count
+close_package-requires-clause-count g c κs =
+    let crew = c.in-Ok.ensures in
+    all_many c.in_ok-p.threads.items crew.back c.in-Ok.all.items crew.last (layout_of c.args.plan.now).threads crew.is_all crew.many c.in_ok-p.ensures.count (omega arith)
+    ∙ sym (ap (λ (l : Layout). l.threads) c.in_ok-p.ensures.package.0)
 
 pub close_package-requires-clause-threads : goal.close_package-requires-clause-threads
 close_package-requires-clause-threads g c κs =
     let S = g.S.Tree in
-    let p = c.in_ok-p.p in
-    let threads = c.in_ok-p.threads.items in
-    let caller = c.remove-caller.result in
     let plan = c.args.plan.now in
-    let crew = c.in_ok-last.ensures in
-    let last = c.in_ok-last.last in
-    let back = c.in_ok-last.back.items in
-    let findings = c.in_ok-last.findings.items in
-    let count = c.in_ok-p.ensures.count in
-    let all = c.in_ok-append.ensures.items ∙ ap (λ (l : List Worker). l ++ back) (c.in_ok-push.ensures.items ∙ ap (λ (l : List Worker). l ++ last ∷ []) c.in_ok-all.ensures.items) in
-    let worked = subst (λ (l : List Worker). Each (HasWorked S.tree S.may_fail S.faults S.calls c.args.root.now p plan.walkers (plan.walkers + plan.parsers) l findings c.args.trees.now c.run_workers.new.trees) back) c.remove-caller.ensures.items crew.worked in
-    let done = all_done S.tree S.may_fail S.faults S.calls c.args.root.now p plan.walkers (plan.walkers + plan.parsers) threads caller last back findings c.args.trees.now c.run_workers.new.trees c.in_ok-p.ensures.threads
-    (at_first threads caller (omega arith) c.remove-caller.ensures.value) (crew.caller None []) worked in
-    λ n x at. done n x (ap (λ (l : List Worker). get_elem? l n) (sym all) ∙ at)
+    let crew = c.in-Ok.ensures in
+    let done = all_done S.tree S.may_fail S.faults S.calls c.args.root.now c.in_ok-p.p plan.walkers (plan.walkers + plan.parsers) c.in_ok-p.threads.items crew.caller crew.last crew.back c.in-Ok.findings.items c.args.trees.now c.run_workers.new.trees
+    c.in_ok-p.ensures.threads crew.is_caller (crew.called None []) crew.worked in
+    λ n x at. done n x (ap (λ (l : List Worker). get_elem? l n) (sym crew.is_all) ∙ at)
 
-pub returns-clause-found : goal.returns-clause-found
-returns-clause-found g c =
+pub returns : goal.returns
+returns g c =
     let S = g.S.Tree in
     let p = c.in_ok-p.p in
     let threads = c.in_ok-p.threads.items in
     let plan = c.args.plan.now in
-    let crew = c.in_ok-last.ensures in
-    let last = c.in_ok-last.last in
-    let back = c.in_ok-last.back.items in
-    let findings = c.in_ok-last.findings.items in
-    let all = c.in_ok-append.ensures.items ∙ ap (λ (l : List Worker). l ++ back) (c.in_ok-push.ensures.items ∙ ap (λ (l : List Worker). l ++ last ∷ []) c.in_ok-all.ensures.items) in
-    let worked = subst (λ (l : List Worker). Each (HasWorked S.tree S.may_fail S.faults S.calls c.args.root.now p plan.walkers (plan.walkers + plan.parsers) l findings c.args.trees.now c.run_workers.new.trees) back) c.remove-caller.ensures.items crew.worked in
-    all_found_by S.tree S.may_fail S.faults S.calls c.args.root.now p plan.walkers (plan.walkers + plan.parsers) threads last back c.in_ok-closed.closed.threads findings c.args.trees.now c.run_workers.new.trees c.in_ok-p.ensures.threads
-    (crew.findings ∙ sym crew.threads) (c.in_ok-closed.ensures.threads ∙ all) worked
-
-pub returns-clause-pieces : goal.returns-clause-pieces
-returns-clause-pieces g c = λ o tell.
-    let S = g.S.Tree in
-    let p = c.in_ok-p.p in
-    let threads = c.in_ok-p.threads.items in
-    let caller = c.remove-caller.result in
-    let plan = c.args.plan.now in
-    let crew = c.in_ok-last.ensures in
-    let last = c.in_ok-last.last in
-    let back = c.in_ok-last.back.items in
-    let findings = c.in_ok-last.findings.items in
-    let count = c.in_ok-p.ensures.count in
-    let values = c.in_ok-closed.closed.values in
-    let kept = c.in_ok-closed.ensures.values in
-    let all = c.in_ok-append.ensures.items ∙ ap (λ (l : List Worker). l ++ back) (c.in_ok-push.ensures.items ∙ ap (λ (l : List Worker). l ++ last ∷ []) c.in_ok-all.ensures.items) in
-    let worked = subst (λ (l : List Worker). Each (HasWorked S.tree S.may_fail S.faults S.calls c.args.root.now p plan.walkers (plan.walkers + plan.parsers) l findings c.args.trees.now c.run_workers.new.trees) back) c.remove-caller.ensures.items crew.worked in
-    all_pieces S.tree S.may_fail S.faults S.calls c.args.root.now p o plan.walkers (plan.walkers + plan.parsers) threads caller last back findings c.args.trees.now c.run_workers.new.trees tell c.in_ok-p.ensures.threads
-    (at_first threads caller (omega arith) c.remove-caller.ensures.value) (crew.caller o c.args.root.now) worked
-    values (kept.0 ∙ ap (λ (l : Layout). l.mutexes) c.in_ok-p.ensures.package.0) (subst (λ (l : List Worker). KeepsLocks KeepsWork l values) all kept.1) (crew.findings ∙ sym crew.threads)
+    let root = c.args.root.now in
+    let old = c.args.trees.now in
+    let new = c.run_workers.new.trees in
+    let crew = c.in-Ok.ensures in
+    let findings = c.in-Ok.findings.items in
+    let opened = c.in_ok-p.ensures.package in
+    let firsts = c.in_ok-p.ensures.threads in
+    let closed = c.in_ok-closed.closed in
+    let ended = c.in_ok-closed.ensures in
+    record {
+      layout = ended.layout ∙ opened.0;
+      untraced = λ no. (ended.untraced (opened.1 ∙ no)).1;
+      traced = λ yes.
+          let whole = ended.traced (opened.1 ∙ yes) in
+          (whole.0, whole.1, subst (λ (l : Layout). IsWhole l closed.threads whole.0) opened.0 (subst (λ (l : List Worker). IsWhole p.layout l whole.0) (sym ended.threads) whole.2));
+      count = one_fewer threads findings (layout_of plan).threads (crew.found ∙ crew.many) c.in_ok-p.ensures.count (omega arith);
+      found = all_found_by S.tree S.may_fail S.faults S.calls root p plan.walkers (plan.walkers + plan.parsers) threads crew.last crew.back closed.threads findings old new firsts crew.found (ended.threads ∙ crew.is_all) crew.worked;
+      pieces = λ o tell. all_pieces S.tree S.may_fail S.faults S.calls root p o plan.walkers (plan.walkers + plan.parsers) threads crew.caller crew.last crew.back findings old new tell firsts crew.is_caller (crew.called o root) crew.worked
+          closed.values (ended.values.0 ∙ ap (λ (l : Layout). l.mutexes) opened.0) (subst (λ (l : List Worker). KeepsLocks KeepsWork l closed.values) crew.is_all ended.values.1) crew.found;
+      others = crew.others;
+    }

@@ -50,3 +50,9 @@ returns-in-Err-clause-done g c = λ root.
     (done_along Dir (S.tree first) root (S.may_fail first) (S.faults first) (S.calls first) c.args.p.now c.args.me.now (S.tree now) (S.may_fail now) was.tree_stays was.weak_stays
     (S.faults now) (S.faults then) (S.calls now) (S.calls then) 0 0 c.loop.me c.walk_once.new.me c.loop.visits.items c.walk_once.new.visits.items None c.in-Err.fault
     (was.done root) (c.in-Err.ensures.done root (S.faults first) (S.calls first) c.args.me.now))
+
+pub returns-in-Err-clause-tree_stays : goal.returns-in-Err-clause-tree_stays
+returns-in-Err-clause-tree_stays g c = c.walk_once.ensures.tree_stays ∙ c.loop.invariant.tree_stays
+
+pub returns-in-Err-clause-weak_stays : goal.returns-in-Err-clause-weak_stays
+returns-in-Err-clause-weak_stays g c = c.walk_once.ensures.weak_stays ∙ c.loop.invariant.weak_stays
