@@ -49,6 +49,9 @@ module _ {A : Type 0} where
   each-snoc P xs zs n y is long last all i x at = ⊎_elim (λ (t : get_elem? xs i ≡ some x). all i x t) (λ (t : (i ≡ length xs) × (y ≡ x)). subst₂ P (sym (t.0 ∙ long)) t.1 last)
       (at_new xs y x i (ap (λ l. get_elem? l i) (sym is) ∙ at))
 
+  pub each-none : (P : ℕ → A → Type 0) (xs : List A) → xs ≡ [] → Each P xs
+  each-none P xs none i x at = absurd (some-ne-none x (sym at ∙ ap (λ l. get_elem? l i) none))
+
   at_next : (xs ys : List A) (y : A) → get_elem? (xs ++ y ∷ ys) (length xs) ≡ some y
   at_next [] ys y = refl
   at_next (x ∷ xs) ys y = at_next xs ys y

@@ -1,19 +1,39 @@
-use Rattle.std.proofs.Common.{◌≡◌, rules, arith}
+use Rattle.std.proofs.Common.{◌≡◌, ◌≤◌, ◌+◌, ℕ, ◌∙◌, ap, sym, subst, refl, length, length-append, arith, vec_capacity, Vec}
 use Rattle.std.proofs.lemmas.List.{length_push}
 use Rattle.nub_rule.specs.Ends.{first_known}
-use Rattle.nub_rule.proofs.Each.{each-snoc}
+use Rattle.nub_rule.proofs.Each.{each-none, each-snoc}
 use Rattle.nub_rule.proofs.whole.cut_all.Goals as goal
 
+pub loop-parker-init : goal.loop-parker-init
+loop-parker-init g c = record {
+  of = refl;
+  kind = c.requires.root.0;
+  next = c.requires.root.1;
+  world = refl;
+  read = refl;
+  count = ap length c.new-threads.ensures.items;
+  empty = c.requires.room.0;
+  room = λ _. c.requires.room.1;
+  threads = each-none (λ n t. t ≡ first_known c.args.p.now.table_id c.args.p.now.world g.U.Uses.begin n) c.new-threads.result.items c.new-threads.ensures.items;
+}
+
+pub cut-requires-clause-world : goal.cut-requires-clause-world
+cut-requires-clause-world g c = λ _ _. c.loop-parker.invariant.world ∙ c.requires.world
+
+pub cut-requires-clause-room : goal.cut-requires-clause-room
+cut-requires-clause-room g c = λ _ _ z. let m = ap (λ v. vec_capacity v) c.replace-own.ensures.value in let h = c.loop-parker.invariant.room z in omega arith
+
 pub loop-parker-preserved : goal.loop-parker-preserved
-loop-parker-preserved g c = let i = c.loop-parker.invariant in let r = c.cut.ensures.root in let t = c.cut.ensures.thread in record {
-  of = search rules;
-  kind = search rules;
-  next = search rules;
-  world = search rules;
+loop-parker-preserved g c = let i = c.loop-parker.invariant in let r = c.cut.ensures.root in let long = c.in_ok-push.ensures.items in record {
+  of = c.cut.ensures.of ∙ i.of;
+  kind = ap (λ v. v.kind) r ∙ i.kind;
+  next = ap (λ v. v.next) r ∙ ap (λ n. n + 1) i.next;
+  world = ap (λ v. v.world) r ∙ i.world;
   read = let n = i.read in let m = length_push c.loop-parker.yielded c.in-Some.parker in omega arith;
-  count = search rules;
-  empty = search rules;
+  count = let n = i.count in let m = ap length long ∙ length_push c.loop-parker.threads.items c.cut.result in omega arith;
+  empty = ap (λ v. v.items) c.replace-own.ensures.after ∙ c.new.ensures.items;
   room = λ z. absurd (omega arith);
   threads = each-snoc (λ n t. t ≡ first_known c.args.p.now.table_id c.args.p.now.world g.U.Uses.begin n)
-      c.loop-parker.threads.items c.push.new.self.items c.loop-parker.number c.cut.result (search rules) i.count (search rules) i.threads;
+      c.loop-parker.threads.items c.push.new.self.items c.loop-parker.number c.cut.result long i.count
+      (c.cut.ensures.thread ∙ ap (λ z. first_known z c.args.p.now.world g.U.Uses.begin c.loop-parker.number) (i.of ∙ c.requires.of)) i.threads;
 }
