@@ -234,6 +234,16 @@ module _ {T : Type 0} where
       let s : y ≡ x = value_same y x (some-injective (Value (Some y)) (Value (Some x)) (sym here ∙ (ap (get_elem? slots) (sym there) ∙ at))) in ap (get_elem? zs) e ∙ (at_middle xs [] zs y is ∙ ap some s))
       (λ ne. ap (λ l. get_elem? l m) is ∙ at_longer xs (y ∷ []) m x (so_far m x (omega arith) at))
 
+-- one more zero behind zeros
+zero_last : (xs : List ℕ) → ((k : ℕ) → get_or xs k 0 ≡ 0) → (k : ℕ) → get_or (xs ++ 0 ∷ []) k 0 ≡ 0
+zero_last [] all zero = refl
+zero_last [] all (suc k) = refl
+zero_last (x ∷ xs) all zero = all 0
+zero_last (x ∷ xs) all (suc k) = zero_last xs (λ j. all (suc j)) k
+
+pub zeros_more : (xs zs : List ℕ) → zs ≡ xs ++ 0 ∷ [] → ((k : ℕ) → get_or xs k 0 ≡ 0) → (k : ℕ) → get_or zs k 0 ≡ 0
+zeros_more xs zs is all k = ap (λ l. get_or l k 0) is ∙ zero_last xs all k
+
 -- the place i is emptied, and nothing else changes
 emptied : (fs : List Bool) (i : ℕ) → get_or (set fs i false) i false ≡ false
 emptied [] i = refl

@@ -9,7 +9,8 @@ ghost use Rattle.larch_actions.specs.Layout.{IsLawful};
 ghost use Rattle.nub_rule.specs.declared.rule.Slot.TheVariants.{Value, Queue};
 ghost use Rattle.nub_rule.specs.declared.view.Kind.TheVariants.{Root, Collector};
 ghost use Rattle.nub_rule.specs.Items.{Each, no_line};
-ghost use Rattle.nub_rule.specs.Rule.{left_view, member_view};
+ghost use Rattle.atomic_table.specs.Table.{opening};
+ghost use Rattle.nub_rule.specs.Rule.{IsKept, opening_view, left_view, member_view};
 ghost use Rattle.nub_rule.specs.Known.{known_as, part_of, HasNone};
 ghost use Rattle.nub_rule.specs.Ends.{firsts, opening_slots, first_known, Leaves};
 ghost use Rattle.nub_rule.specs.Places.{word_count};
@@ -101,30 +102,31 @@ fn cut<U: Uses>(
     }
 }
 
-/// The threads, in order of their numbers.
+/// The threads, in order of their numbers, put where there is room for them.
 fn cut_all<U: Uses>(
     alloc: Global,
     p: &Package<U>,
     mut root: Seat<Slot<U::Value>, View<U::Value, U::Share, U::World>>,
     parkers: Vec<Parker>,
     mut room: Vec<U::Value>,
-) -> Result<Vec<Thread<U>>, AllocError>
+    mut threads: Vec<Thread<U>>,
+) -> Vec<Thread<U>>
     requires of { root.table_id ≡ p.now.table_id }
     requires root { (root.me.0.kind ≡ Root) × (root.me.0.next ≡ 0) }
     requires world { root.me.0.world ≡ Some p.now.world }
     requires parkers { length parkers.items ≡ p.now.layout.threads }
     requires room { (room.items ≡ []) × (p.now.layout.mutexes ≤ vec_capacity room) }
-    ensures count { IfOk result (λ o. length o.items ≡ p.now.layout.threads) }
-    ensures threads { IfOk result (λ o. Each (λ n t. t ≡ first_known p.now.table_id p.now.world U.begin n) o.items) }
+    requires threads { (threads.items ≡ []) × (p.now.layout.threads ≤ vec_capacity threads) }
+    ensures count { length result.items ≡ p.now.layout.threads }
+    ensures threads { Each (λ n t. t ≡ first_known p.now.table_id p.now.world U.begin n) result.items }
 {
-    let mut threads = Vec::new(alloc);
     let mut number = 0;
     for parker in parkers {
         let own = mem::replace(&mut room, Vec::new(alloc));
-        threads.push(cut(p, &mut root, number, parker, Vec::new(alloc), own))?;
+        threads.push_reserved(cut(p, &mut root, number, parker, Vec::new(alloc), own));
         number += 1;
     }
-    Ok(threads)
+    threads
 }
 
 /// So many parkers, and the other end of each.
@@ -172,6 +174,33 @@ fn means_of<T: Drop>(alloc: Global, layout: Layout, values: Vec<T>) -> Result<Me
     })
 }
 
+/// The table and its first seat, or want of memory.
+fn table_of<U: Uses>(
+    alloc: Global,
+    words: &[u64],
+    slots: Vec<Slot<U::Value>>,
+    about: &About<U::World>,
+) -> Result<
+    (
+        Table<Slot<U::Value>, View<U::Value, U::Share, U::World>, About<U::World>, Kept<U>, Global>,
+        Seat<Slot<U::Value>, View<U::Value, U::Share, U::World>>,
+    ),
+    AllocError,
+>
+    requires opens { IsKept about.now.layout about.now.traced about.now.world.value U.begin U.holds
+        (opening words.now slots.items (opening_view about.now.world.value U.begin)) }
+    ensures words { IfOk result (λ t. t.0.shared.table_id.words ≡ length words.now) }
+    ensures slots { IfOk result (λ t. t.0.shared.table_id.slots ≡ length slots.items) }
+    ensures of { IfOk result (λ t. t.1.table_id ≡ t.0.shared.table_id) }
+    ensures root { IfOk result (λ t. t.1.me ≡ (opening_view about.now.world.value U.begin, [])) }
+    ensures key { IfOk result (λ t. t.0.shared.key ≡ about.now) }
+{
+    let Ok(made) = Table::new(alloc, words, slots, about) else {
+        return Err(AllocError);
+    };
+    Ok(made)
+}
+
 /// A package and its threads, in order of their numbers.
 pub fn open_package<U: Uses>(
     alloc: Global,
@@ -187,6 +216,7 @@ pub fn open_package<U: Uses>(
     ensures count { IfOk result (λ o. length o.1.items ≡ layout.threads) }
     ensures threads { IfOk result (λ o. Each (λ n t. t ≡ first_known o.0.table_id world.now U.begin n) o.1.items) }
 {
+    let threads = Vec::with_capacity(alloc, layout.threads as usize)?;
     let about = About {
         layout,
         traced,
@@ -200,9 +230,7 @@ pub fn open_package<U: Uses>(
         room,
         shelf,
     } = means_of(alloc, layout, values)?;
-    let Ok((table, root)) = Table::new(alloc, words.as_slice(), slots, &about) else {
-        return Err(AllocError);
-    };
+    let (table, root) = table_of::<U>(alloc, words.as_slice(), slots, &about)?;
     let package = Package {
         layout,
         traced,
@@ -210,7 +238,7 @@ pub fn open_package<U: Uses>(
         unparkers,
         shelf,
     };
-    let threads = cut_all(alloc, &package, root, parkers, room)?;
+    let threads = cut_all(alloc, &package, root, parkers, room, threads);
     Ok((package, threads))
 }
 
@@ -254,7 +282,7 @@ fn gather_all<U: Uses>(
             room: kept,
         } = thread;
         shared.join_seat::<Gather>(&mut seat, own);
-        add(&mut stored, Stored { entries, lost });
+        stored.push_reserved(Stored { entries, lost });
         room = first_room(number, kept, room);
     }
     Gathered { seat, stored, room }
@@ -268,17 +296,6 @@ fn first_room<T: Drop>(number: u32, kept: Vec<T>, room: Vec<T>) -> Vec<T>
     ensures later { number ≢ 0 → result ≡ room }
 {
     if number == 0 { kept } else { room }
-}
-
-// Adds x where there is room.
-fn add<T: Drop>(xs: &mut Vec<T>, x: T)
-    requires { vec_len xs.old < vec_capacity xs.old }
-    ensures items { xs.new.items ≡ xs.old.items ++ x ∷ [] }
-    ensures room { vec_capacity xs.old ≤ vec_capacity xs.new }
-{
-    if xs.push(x).is_err() {
-        unreachable!();
-    }
 }
 
 /// Lets the slots of the queues go.
@@ -319,7 +336,7 @@ fn values_of<T: Drop>(mut values: Vec<T>, mut closed: Closed<Slot<T>, Global>) -
     drop_queues(&mut closed);
     for i in QUEUES..closed.slot_count() {
         let x = value_in(closed.take(i));
-        add(&mut values, x);
+        values.push_reserved(x);
     }
     closed.free();
     values

@@ -18,8 +18,8 @@ join_seat-requires g c = let t = c.in-Some.thread in let i = c.loop-thread.invar
     let v = c.thread.view_is in
     (search rules, ap (λ k. k.table_id) v ∙ f.1, no_slots c.thread.inside.seat.me.0.part c.thread.inside.seat.me.1 c.thread.invariant.hands c.thread.invariant.below c.thread.invariant.wide (ap (λ k. k.spin) v ∙ f.2) (λ m x h. f.3 m x (ap (λ k. get_elem? k.held m) (sym v) ∙ h)), search rules, joins _ _ _ _ _ _ _ _ _ i.kind c.thread.invariant.member (c.thread.invariant.numbered ∙ (ap (λ k. k.number) v ∙ (f.0 ∙ sym n))))
 
-pub add-requires : goal.add-requires
-add-requires g c = let i = c.loop-thread.invariant in
+pub push_reserved-requires : goal.push_reserved-requires
+push_reserved-requires g c = let i = c.loop-thread.invariant in
     let n : length c.loop-thread.stored.items ≡ length c.loop-thread.yielded = sym (length-map c.loop-thread.stored.items (λ s. s.lost)) ∙ (ap length i.losses ∙ length-map c.loop-thread.yielded _) in
     let m : length c.args.threads.items ≡ length c.loop-thread.yielded + length (c.in-Some.thread ∷ c.next.new.self.rest.items) = ap length (i.all ∙ ap (λ l. c.loop-thread.yielded ++ l) c.in-Some.ensures.steps.0) ∙ length-append _ _ in
     let s = i.shelf in
@@ -34,9 +34,9 @@ loop-thread-preserved g c = let t = c.in-Some.thread in let i = c.loop-thread.in
       kind = search rules;
       back = ap (λ m. m.0.back) c.join_seat.ensures.2 ∙ (ap (λ l. l ++ c.thread.inside.seat.me.0.part ∷ []) i.back ∙ (ap (λ q. map (λ t. part_of t) c.loop-thread.yielded ++ q ∷ []) (ap (λ k. part_of k) v) ∙ sym (map-append (λ t. part_of t) c.loop-thread.yielded (t ∷ []))));
       all = i.all ∙ (ap (λ l. c.loop-thread.yielded ++ l) c.in-Some.ensures.steps.0 ∙ sym (append_assoc c.loop-thread.yielded (t ∷ []) c.next.new.self.rest.items));
-      entries = push_maps (λ s. s.entries.items) (λ t. t.entries) c.loop-thread.stored.items c.add.new.xs.items c.loop-thread.yielded _ t i.entries c.add.ensures.items (ap (λ k. k.entries) v);
-      losses = push_maps (λ s. s.lost) (λ t. t.lost) c.loop-thread.stored.items c.add.new.xs.items c.loop-thread.yielded _ t i.losses c.add.ensures.items (ap (λ k. k.lost) v);
-      shelf = let a = i.shelf in let b = c.add.ensures.room in omega arith;
+      entries = push_maps (λ s. s.entries.items) (λ t. t.entries) c.loop-thread.stored.items c.push_reserved.new.self.items c.loop-thread.yielded _ t i.entries c.push_reserved.ensures.items (ap (λ k. k.entries) v);
+      losses = push_maps (λ s. s.lost) (λ t. t.lost) c.loop-thread.stored.items c.push_reserved.new.self.items c.loop-thread.yielded _ t i.losses c.push_reserved.ensures.items (ap (λ k. k.lost) v);
+      shelf = let a = i.shelf in let b = c.push_reserved.ensures.capacity in omega arith;
       empty = c.first_room-room.ensures.empty;
       room = λ _. ⊎_elim
           (λ (e : t.number ≡ 0).

@@ -21,10 +21,10 @@ loop-i-preserved g c = let i : ℕ = c.loop-i.i in let inv = c.loop-i.invariant 
   items = t.0 ∙ inv.items;
   full = full_behind _ _ i _ _ t.1 t.2 inv.full;
   empty = empty_before _ _ i t.1 inv.empty;
-  room = let a = inv.room in let b = c.add.ensures.room in let e = inv.len in let d = t.2 in omega arith;
-  count = let n = inv.count in omega (arith, ap length c.add.ensures.items, length-append c.loop-i.values.items (c.value_in-x.result ∷ []));
-  values = subst (λ (l : List (Slot g.row.T.Denot)). (m : ℕ) (x : g.row.T.Denot) → 192 + m < i + 1 → get_elem? l (192 + m) ≡ some (Value (Some x)) → get_elem? c.add.new.xs.items m ≡ some x) (sym t.0)
-      (one_more (slots_items c.loop-i.closed.slots) c.loop-i.values.items c.add.new.xs.items 192 i c.value_in-x.result c.add.ensures.items inv.count (c.take.ensures.value ∙ ap (λ z. some z) c.value_in-x.ensures) inv.values);
+  room = let a = inv.room in let b = c.push_reserved.ensures.capacity in let e = inv.len in let d = t.2 in omega arith;
+  count = let n = inv.count in omega (arith, ap length c.push_reserved.ensures.items, length-append c.loop-i.values.items (c.value_in-x.result ∷ []));
+  values = subst (λ (l : List (Slot g.row.T.Denot)). (m : ℕ) (x : g.row.T.Denot) → 192 + m < i + 1 → get_elem? l (192 + m) ≡ some (Value (Some x)) → get_elem? c.push_reserved.new.self.items m ≡ some x) (sym t.0)
+      (one_more (slots_items c.loop-i.closed.slots) c.loop-i.values.items c.push_reserved.new.self.items 192 i c.value_in-x.result c.push_reserved.ensures.items inv.count (c.take.ensures.value ∙ ap (λ z. some z) c.value_in-x.ensures) inv.values);
 }
 
 pub returns-clause-values : goal.returns-clause-values
