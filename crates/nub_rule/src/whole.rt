@@ -9,8 +9,8 @@ ghost use Rattle.larch_actions.specs.Layout.{IsLawful};
 ghost use Rattle.nub_rule.specs.declared.rule.Slot.TheVariants.{Value, Queue};
 ghost use Rattle.nub_rule.specs.declared.view.Kind.TheVariants.{Root, Collector};
 ghost use Rattle.nub_rule.specs.Items.{Each, no_line};
-ghost use Rattle.atomic_table.specs.Table.{opening};
-ghost use Rattle.nub_rule.specs.Rule.{IsKept, opening_view, left_view, member_view};
+ghost use Rattle.atomic_table.specs.Table.{opening, Enters, Joins};
+ghost use Rattle.nub_rule.specs.Rule.{IsKept, opening_view, left_view, member_view, collecting, both_views, spent_view};
 ghost use Rattle.nub_rule.specs.Known.{known_as, part_of, HasNone};
 ghost use Rattle.nub_rule.specs.Ends.{firsts, opening_slots, first_known, Leaves};
 ghost use Rattle.nub_rule.specs.Places.{word_count};
@@ -249,6 +249,38 @@ struct Gathered<U: Uses> {
     room: Vec<U::Value>,
 }
 
+/// A new seat that takes threads back.
+fn collector<U: Uses>(
+    shared: &Shared<Slot<U::Value>, View<U::Value, U::Share, U::World>, About<U::World>, Kept<U>>,
+) -> Seat<Slot<U::Value>, View<U::Value, U::Share, U::World>>
+    requires inside { 0 < shared.now.table_id.words }
+    requires enters { Enters (IsKept shared.now.key.layout shared.now.key.traced shared.now.key.world.value U.begin U.holds)
+        shared.now.table_id.slots 0 (λ _ v. v ≡ collecting (opening_view shared.now.key.world.value U.begin)) }
+    ensures of { result.table_id ≡ shared.now.table_id }
+    ensures view { result.me.0 ≡ collecting (opening_view shared.now.key.world.value U.begin) }
+{
+    let (_, seat) = shared.load_new_seat::<Collect>(0);
+    seat
+}
+
+/// Takes a thread's seat back.
+fn take_back<U: Uses>(
+    shared: &Shared<Slot<U::Value>, View<U::Value, U::Share, U::World>, About<U::World>, Kept<U>>,
+    seat: &mut Seat<Slot<U::Value>, View<U::Value, U::Share, U::World>>,
+    other: Seat<Slot<U::Value>, View<U::Value, U::Share, U::World>>,
+)
+    requires of { seat.old.table_id ≡ shared.now.table_id }
+    requires from { other.table_id ≡ shared.now.table_id }
+    requires bare { other.me.1 ≡ [] }
+    requires inside { 0 < shared.now.table_id.words }
+    requires joins { Joins (IsKept shared.now.key.layout shared.now.key.traced shared.now.key.world.value U.begin U.holds)
+        seat.old.id seat.old.me.0 other.id other.me.0 (both_views seat.old.me.0 other.me.0) spent_view }
+    ensures of { seat.new.table_id ≡ seat.old.table_id }
+    ensures view { seat.new.me.0 ≡ both_views seat.old.me.0 other.me.0 }
+{
+    shared.join_seat::<Gather>(seat, other);
+}
+
 /// A seat that has taken every thread back, and what they have stored.
 fn gather_all<U: Uses>(
     alloc: Global,
@@ -267,7 +299,7 @@ fn gather_all<U: Uses>(
         × (map (λ s. s.lost) result.stored.items ≡ map (λ t. t.lost) threads.items) }
     ensures room { (result.room.items ≡ []) × (shared.now.table_id.slots ≤ 192 + vec_capacity result.room) }
 {
-    let (_, mut seat) = shared.load_new_seat::<Collect>(0);
+    let mut seat = collector(shared);
     let mut room = Vec::new(alloc);
     for thread in threads {
         let Thread {
@@ -281,7 +313,7 @@ fn gather_all<U: Uses>(
             later: _,
             room: kept,
         } = thread;
-        shared.join_seat::<Gather>(&mut seat, own);
+        take_back(shared, &mut seat, own);
         stored.push_reserved(Stored { entries, lost });
         room = first_room(number, kept, room);
     }

@@ -8,15 +8,24 @@ use Rattle.nub_rule.proofs.Ends.{no_slots, push_maps}
 use Rattle.nub_rule.proofs.Seats.{collects, joins}
 use Rattle.nub_rule.proofs.whole.gather_all.Goals as goal
 
-pub load_new_seat-seat-requires : goal.load_new_seat-seat-requires
-load_new_seat-seat-requires g c = (search rules, collects _ _ _ g.U.Uses.begin _ _ _)
+pub collector-seat-requires-clause-enters : goal.collector-seat-requires-clause-enters
+collector-seat-requires-clause-enters g c κs within = collects _ _ _ g.U.Uses.begin _ _ _
 
-pub join_seat-requires : goal.join_seat-requires
-join_seat-requires g c = let t = c.in-Some.thread in let i = c.loop-thread.invariant in
-    let f = c.requires.threads (length c.loop-thread.yielded) t (at_middle c.loop-thread.yielded c.next.new.self.rest.items c.args.threads.items t (i.all ∙ ap (λ l. c.loop-thread.yielded ++ l) c.in-Some.ensures.steps.0)) in
+pub take_back-requires-clause-from : goal.take_back-requires-clause-from
+take_back-requires-clause-from g c κs within = let t = c.in-Some.thread in let i = c.loop-thread.invariant in
+    let f = c.requires.threads (length c.loop-thread.yielded) t (at_middle c.loop-thread.yielded c.next.new.self.rest.items c.args.threads.items t (i.all ∙ ap (λ l. c.loop-thread.yielded ++ l) c.in-Some.ensures.steps.0)) in let v = c.thread.view_is in
+    ap (λ k. k.table_id) v ∙ f.1
+
+pub take_back-requires-clause-bare : goal.take_back-requires-clause-bare
+take_back-requires-clause-bare g c κs within = let t = c.in-Some.thread in let i = c.loop-thread.invariant in
+    let f = c.requires.threads (length c.loop-thread.yielded) t (at_middle c.loop-thread.yielded c.next.new.self.rest.items c.args.threads.items t (i.all ∙ ap (λ l. c.loop-thread.yielded ++ l) c.in-Some.ensures.steps.0)) in let v = c.thread.view_is in
+    no_slots c.thread.inside.seat.me.0.part c.thread.inside.seat.me.1 c.thread.invariant.hands c.thread.invariant.below c.thread.invariant.wide (ap (λ k. k.spin) v ∙ f.2) (λ m x h. f.3 m x (ap (λ k. get_elem? k.held m) (sym v) ∙ h))
+
+pub take_back-requires-clause-joins : goal.take_back-requires-clause-joins
+take_back-requires-clause-joins g c κs within = let t = c.in-Some.thread in let i = c.loop-thread.invariant in
+    let f = c.requires.threads (length c.loop-thread.yielded) t (at_middle c.loop-thread.yielded c.next.new.self.rest.items c.args.threads.items t (i.all ∙ ap (λ l. c.loop-thread.yielded ++ l) c.in-Some.ensures.steps.0)) in let v = c.thread.view_is in
     let n : length c.loop-thread.seat.me.0.back ≡ length c.loop-thread.yielded = ap length i.back ∙ length-map c.loop-thread.yielded _ in
-    let v = c.thread.view_is in
-    (search rules, ap (λ k. k.table_id) v ∙ f.1, no_slots c.thread.inside.seat.me.0.part c.thread.inside.seat.me.1 c.thread.invariant.hands c.thread.invariant.below c.thread.invariant.wide (ap (λ k. k.spin) v ∙ f.2) (λ m x h. f.3 m x (ap (λ k. get_elem? k.held m) (sym v) ∙ h)), search rules, joins _ _ _ _ _ _ _ _ _ i.kind c.thread.invariant.member (c.thread.invariant.numbered ∙ (ap (λ k. k.number) v ∙ (f.0 ∙ sym n))))
+    joins _ _ _ _ _ _ _ _ _ i.kind c.thread.invariant.member (c.thread.invariant.numbered ∙ (ap (λ k. k.number) v ∙ (f.0 ∙ sym n)))
 
 pub push_reserved-requires : goal.push_reserved-requires
 push_reserved-requires g c = let i = c.loop-thread.invariant in
@@ -30,9 +39,9 @@ loop-thread-preserved g c = let t = c.in-Some.thread in let i = c.loop-thread.in
     let f = c.requires.threads (length c.loop-thread.yielded) t (at_middle c.loop-thread.yielded c.next.new.self.rest.items c.args.threads.items t (i.all ∙ ap (λ l. c.loop-thread.yielded ++ l) c.in-Some.ensures.steps.0)) in
     let num : c.thread.inside.number ≡ t.number = ap (λ k. k.number) v in
     record {
-      of = search rules;
-      kind = search rules;
-      back = ap (λ m. m.0.back) c.join_seat.ensures.2 ∙ (ap (λ l. l ++ c.thread.inside.seat.me.0.part ∷ []) i.back ∙ (ap (λ q. map (λ t. part_of t) c.loop-thread.yielded ++ q ∷ []) (ap (λ k. part_of k) v) ∙ sym (map-append (λ t. part_of t) c.loop-thread.yielded (t ∷ []))));
+      of = c.take_back.ensures.of ∙ i.of;
+      kind = ap (λ u. u.kind) c.take_back.ensures.view ∙ i.kind;
+      back = ap (λ u. u.back) c.take_back.ensures.view ∙ (ap (λ l. l ++ c.thread.inside.seat.me.0.part ∷ []) i.back ∙ (ap (λ q. map (λ t. part_of t) c.loop-thread.yielded ++ q ∷ []) (ap (λ k. part_of k) v) ∙ sym (map-append (λ t. part_of t) c.loop-thread.yielded (t ∷ []))));
       all = i.all ∙ (ap (λ l. c.loop-thread.yielded ++ l) c.in-Some.ensures.steps.0 ∙ sym (append_assoc c.loop-thread.yielded (t ∷ []) c.next.new.self.rest.items));
       entries = push_maps (λ s. s.entries.items) (λ t. t.entries) c.loop-thread.stored.items c.push_reserved.new.self.items c.loop-thread.yielded _ t i.entries c.push_reserved.ensures.items (ap (λ k. k.entries) v);
       losses = push_maps (λ s. s.lost) (λ t. t.lost) c.loop-thread.stored.items c.push_reserved.new.self.items c.loop-thread.yielded _ t i.losses c.push_reserved.ensures.items (ap (λ k. k.lost) v);
