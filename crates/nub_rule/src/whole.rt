@@ -129,16 +129,23 @@ fn cut_all<U: Uses>(
     threads
 }
 
+/// A parker, and its other end.
+fn parker_of(alloc: Global) -> Result<(Parker, Waker), AllocError> {
+    let parker = Parker::new(alloc)?;
+    let waker = Waker::new(parker.unparker().clone()?);
+    Ok((parker, waker))
+}
+
 /// So many parkers, and the other end of each.
 fn parkers_of(alloc: Global, count: u32) -> Result<(Vec<Parker>, Vec<Waker>), AllocError>
     ensures { IfOk result (λ o. (length o.0.items ≡ count) × (vec_len o.1 ≡ count)) }
 {
-    let mut parkers = Vec::new(alloc);
-    let mut unparkers = Vec::new(alloc);
+    let mut parkers = Vec::with_capacity(alloc, count as usize)?;
+    let mut unparkers = Vec::with_capacity(alloc, count as usize)?;
     for _i in 0..count {
-        let parker = Parker::new(alloc)?;
-        unparkers.push(Waker::new(parker.unparker().clone()?))?;
-        parkers.push(parker)?;
+        let (parker, waker) = parker_of(alloc)?;
+        parkers.push_reserved(parker);
+        unparkers.push_reserved(waker);
     }
     Ok((parkers, unparkers))
 }

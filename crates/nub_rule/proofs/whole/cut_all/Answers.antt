@@ -1,7 +1,7 @@
 use Rattle.std.proofs.Common.{◌≡◌, ◌≤◌, ◌+◌, ◌++◌, ◌∷◌, [], append_assoc, rules, ℕ, ◌∙◌, ap, sym, subst, refl, length, length-append, arith, vec_capacity, Vec}
 use Rattle.std.proofs.lemmas.List.{length_push}
 use Rattle.nub_rule.specs.Ends.{first_known}
-use Rattle.nub_rule.proofs.Each.{each-none, each-snoc}
+use Rattle.nub_rule.proofs.Each.{all_read, each-none, each-snoc}
 use Rattle.nub_rule.proofs.whole.cut_all.Goals as goal
 
 pub loop-parker-init : goal.loop-parker-init
@@ -51,3 +51,7 @@ loop-parker-preserved g c = let i = c.loop-parker.invariant in let r = c.cut.ens
       c.loop-parker.threads.items c.push_reserved.new.self.items c.loop-parker.number c.cut.result long i.count
       (c.cut.ensures.thread ∙ ap (λ z. first_known z c.args.p.now.world g.U.Uses.begin c.loop-parker.number) (i.of ∙ c.requires.of)) i.threads;
 }
+
+pub returns-clause-count : goal.returns-clause-count
+returns-clause-count g c = let i = c.loop-parker.invariant in let r = c.loop-parker.parker-iterator.rest in let z : length r.items ≡ 0 = omega (arith, c.in-None.ensures) in
+    i.count ∙ (sym i.read ∙ (ap length (all_read c.args.parkers.items c.loop-parker.yielded r.items i.all z) ∙ c.requires.parkers))

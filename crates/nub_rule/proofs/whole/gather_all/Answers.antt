@@ -3,7 +3,7 @@ use lib.ListN.{get_elem?}
 use Rattle.std.proofs.lemmas.List.{length-map, map-append}
 use Rattle.std.proofs.lemmas.Bool.{cases_eq}
 use Rattle.nub_rule.specs.Known.{part_of}
-use Rattle.nub_rule.proofs.Each.{at_middle}
+use Rattle.nub_rule.proofs.Each.{all_read, at_middle}
 use Rattle.nub_rule.proofs.Ends.{no_slots, push_maps}
 use Rattle.nub_rule.proofs.Seats.{collects, joins}
 use Rattle.nub_rule.proofs.whole.gather_all.Goals as goal
@@ -62,3 +62,15 @@ loop-thread-preserved g c = let t = c.in-Some.thread in let i = c.loop-thread.in
           omega arith)
           (cases_eq t.number 0);
     }
+
+pub returns-clause-back : goal.returns-clause-back
+returns-clause-back g c = let i = c.loop-thread.invariant in let r = c.loop-thread.thread-iterator.rest in let z : length r.items ≡ 0 = omega (arith, c.in-None.ensures) in
+    i.back ∙ ap (λ l. map (λ t. part_of t) l) (all_read c.args.threads.items c.loop-thread.yielded r.items i.all z)
+
+pub returns-clause-stored : goal.returns-clause-stored
+returns-clause-stored g c = let i = c.loop-thread.invariant in let r = c.loop-thread.thread-iterator.rest in let z : length r.items ≡ 0 = omega (arith, c.in-None.ensures) in
+    let e = all_read c.args.threads.items c.loop-thread.yielded r.items i.all z in (i.entries ∙ ap (λ l. map (λ t. t.entries) l) e, i.losses ∙ ap (λ l. map (λ t. t.lost) l) e)
+
+pub returns-clause-room : goal.returns-clause-room
+returns-clause-room g c = let i = c.loop-thread.invariant in let r = c.loop-thread.thread-iterator.rest in let z : length r.items ≡ 0 = omega (arith, c.in-None.ensures) in
+    let e = ap length (all_read c.args.threads.items c.loop-thread.yielded r.items i.all z) in let some = c.requires.some in (i.empty, i.room (omega arith))
