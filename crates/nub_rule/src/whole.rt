@@ -184,9 +184,9 @@ fn means_of<T: Drop>(alloc: Global, layout: Layout, values: Vec<T>) -> Result<Me
 /// The table and its first seat, or want of memory.
 fn table_of<U: Uses>(
     alloc: Global,
-    words: &[u64],
+    words: Vec<u64>,
     slots: Vec<Slot<U::Value>>,
-    about: &About<U::World>,
+    about: About<U::World>,
 ) -> Result<
     (
         Table<Slot<U::Value>, View<U::Value, U::Share, U::World>, About<U::World>, Kept<U>, Global>,
@@ -194,15 +194,15 @@ fn table_of<U: Uses>(
     ),
     AllocError,
 >
-    requires opens { IsKept about.now.layout about.now.traced about.now.world.value U.begin U.holds
-        (opening words.now slots.items (opening_view about.now.world.value U.begin)) }
-    ensures words { IfOk result (λ t. t.0.shared.table_id.words ≡ length words.now) }
+    requires opens { IsKept about.layout about.traced about.world.value U.begin U.holds
+        (opening words.items slots.items (opening_view about.world.value U.begin)) }
+    ensures words { IfOk result (λ t. t.0.shared.table_id.words ≡ length words.items) }
     ensures slots { IfOk result (λ t. t.0.shared.table_id.slots ≡ length slots.items) }
     ensures of { IfOk result (λ t. t.1.table_id ≡ t.0.shared.table_id) }
-    ensures root { IfOk result (λ t. t.1.me ≡ (opening_view about.now.world.value U.begin, [])) }
-    ensures key { IfOk result (λ t. t.0.shared.key ≡ about.now) }
+    ensures root { IfOk result (λ t. t.1.me ≡ (opening_view about.world.value U.begin, [])) }
+    ensures key { IfOk result (λ t. t.0.shared.key ≡ about) }
 {
-    let Ok(made) = Table::new(alloc, words, slots, about) else {
+    let Ok(made) = Table::new(alloc, words.as_slice(), slots, &about) else {
         return Err(AllocError);
     };
     Ok(made)
@@ -224,11 +224,6 @@ pub fn open_package<U: Uses>(
     ensures threads { IfOk result (λ o. Each (λ n t. t ≡ first_known o.0.table_id world.now U.begin n) o.1.items) }
 {
     let threads = Vec::with_capacity(alloc, layout.threads as usize)?;
-    let about = About {
-        layout,
-        traced,
-        world: Snapshot::of(world),
-    };
     let Means {
         slots,
         words,
@@ -237,7 +232,12 @@ pub fn open_package<U: Uses>(
         room,
         shelf,
     } = means_of(alloc, layout, values)?;
-    let (table, root) = table_of::<U>(alloc, words.as_slice(), slots, &about)?;
+    let about = About {
+        layout,
+        traced,
+        world: Snapshot::of(world),
+    };
+    let (table, root) = table_of::<U>(alloc, words, slots, about)?;
     let package = Package {
         layout,
         traced,

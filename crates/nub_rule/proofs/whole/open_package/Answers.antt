@@ -1,16 +1,16 @@
-use Rattle.std.proofs.Common.{rules, arith, ◌≡◌, ◌+◌, ◌∙◌, ap, sym, length, get_or, subst, Some}
+use Rattle.std.proofs.Common.{rules, arith, ◌≡◌, ◌+◌, ◌∙◌, ap, sym, length, subst, Some}
 use Rattle.nub_rule.specs.Items.{Each}
 use Rattle.nub_rule.specs.Ends.{first_known}
 use Rattle.nub_rule.proofs.Ends.{opens, opening_wide}
 use Rattle.nub_rule.proofs.whole.open_package.Goals as goal
 
 pub table_of-requires-clause-opens : goal.table_of-requires-clause-opens
-table_of-requires-clause-opens g c κs within = let m = c.in_ok-slots.ensures in rw (c.of.ensures, m.0) (opens c.args.layout c.args.traced c.args.world.now g.U.Uses.begin g.U.Uses.holds c.as_slice.result.now c.args.values.items
-    (ap (λ l. length l) c.as_slice.ensures.value ∙ m.1) (λ k. ap (λ l. get_or l k 0) c.as_slice.ensures.value ∙ m.2 k) c.requires.values c.requires.lawful c.requires.holds)
+table_of-requires-clause-opens g c κs within = let m = c.in_ok-slots.ensures in rw (c.of.ensures, m.0) (opens c.args.layout c.args.traced c.args.world.now g.U.Uses.begin g.U.Uses.holds c.in_ok-slots.field-0.words.items c.args.values.items
+    m.1 m.2 c.requires.values c.requires.lawful c.requires.holds)
 
 pub invariant_of-package : goal.invariant_of-package
 invariant_of-package g c = let t = c.in_ok-table.ensures in let m = c.in_ok-slots.ensures in record {
-  words = t.words ∙ (ap (λ l. length l) c.as_slice.ensures.value ∙ m.1);
+  words = t.words ∙ m.1;
   slots = t.slots ∙ (ap (λ l. length l) m.0 ∙ (opening_wide c.args.values.items ∙ ap (λ n. 192 + n) c.requires.values));
   lawful = c.requires.lawful;
   bare = m.7;
