@@ -75,6 +75,15 @@ impl State {
         ensures same { OnErr result (self.new ≡ self.old) }
         ensures layout { self.new.layout ≡ self.old.layout }
     {
+        self.act(e)
+    }
+
+    // The same, said by one clause for all actions.
+    #[inline(always)]
+    fn act(&mut self, e: &Event) -> Result<(), Broken>
+        requires { HasNames self.old.layout e.now }
+        ensures { Answers self.old self.new e.now result }
+    {
         // This brings the invariant of the state, that its layout is lawful, into the proof.
         let _ = &self.layout;
         let t = e.thread;

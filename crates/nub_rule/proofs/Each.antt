@@ -14,6 +14,10 @@ at_within_of (x ∷ xs) zero a e = omega arith
 at_within_of (x ∷ xs) (suc i) a e = let r = at_within_of xs i a e in omega arith
 
 module _ {A : Type 0} where
+  append_nil : (xs : List A) → xs ++ [] ≡ xs
+  append_nil [] = refl
+  append_nil (x ∷ xs) = λ i. x ∷ append_nil xs i
+
   pub put-here : (f : ℕ → A) (k : ℕ) (x : A) → put f k x k ≡ x
   put-here f k x = ap (λ b. cond b x (f k)) (eq-eqb k k refl)
 
@@ -48,6 +52,14 @@ module _ {A : Type 0} where
   pub each-snoc : (P : ℕ → A → Type 0) (xs zs : List A) (n : ℕ) (y : A) → zs ≡ xs ++ y ∷ [] → length xs ≡ n → P n y → Each P xs → Each P zs
   each-snoc P xs zs n y is long last all i x at = ⊎_elim (λ (t : get_elem? xs i ≡ some x). all i x t) (λ (t : (i ≡ length xs) × (y ≡ x)). subst₂ P (sym (t.0 ∙ long)) t.1 last)
       (at_new xs y x i (ap (λ l. get_elem? l i) (sym is) ∙ at))
+
+  pub each-none : (P : ℕ → A → Type 0) (xs : List A) → xs ≡ [] → Each P xs
+  each-none P xs none i x at = absurd (some-ne-none x (sym at ∙ ap (λ l. get_elem? l i) none))
+
+  -- a list that was read to its end
+  pub all_read : (all ys rest : List A) → all ≡ ys ++ rest → length rest ≡ 0 → ys ≡ all
+  all_read all ys [] is end = sym (is ∙ append_nil ys)
+  all_read all ys (x ∷ xs) is end = absurd (omega arith)
 
   at_next : (xs ys : List A) (y : A) → get_elem? (xs ++ y ∷ ys) (length xs) ≡ some y
   at_next [] ys y = refl

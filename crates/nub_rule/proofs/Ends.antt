@@ -1,10 +1,11 @@
 -- The rule at the start, and what it leaves at the end.
-use Rattle.std.proofs.Common.{cond, Bool, false, true, Option as Opt, ◌≡◌, ℕ, zero, suc, ◌+◌, ◌-◌, ◌<◌, ◌≤◌, List, [], ◌∷◌, ◌++◌, map, length, get_or, replicate, refl, sym, ap, ◌∙◌, subst, subst₂, inl, arith, length-append, Some, None, zero-add, ⊎_elim}
-use Rattle.std.proofs.lemmas.List.{length-replicate, length-map, map-append}
+use Rattle.std.proofs.Common.{cond, Bool, false, true, Option as Opt, ◌≡◌, ◌≢◌, ℕ, zero, suc, ◌+◌, ◌-◌, ◌<◌, ◌≤◌, List, [], ◌∷◌, ◌++◌, map, length, get_or, set, replicate, refl, sym, ap, ◌∙◌, subst, subst₂, inl, arith, length-append, Some, None, zero-add, ⊎_elim}
+use Rattle.std.proofs.lemmas.List.{length-replicate, length-map, map-append, get_or-set_other}
 use Rattle.std.proofs.lemmas.List.FromFn.{length-map-range_with_len}
 use mathlib.Core.Option.{Option, some, none, some-injective, some-ne-none}
 use mathlib.Core.Logic.{dite}
-use Rattle.std.proofs.lemmas.Bool.{cases_lt}
+use Rattle.std.proofs.lemmas.Bool.{cases_eq, cases_lt}
+use Rattle.std.specs.Mem.Slots.Ownership.{Filled}
 use native.Mathlib.Decide.{ℕ_discrete}
 use lib.ListN.{get_elem?}
 use Rattle.larch_actions.specs.declared.event.Layout.{Layout}
@@ -232,6 +233,31 @@ module _ {T : Type 0} where
       (λ e. let there : n + m ≡ i = omega arith in
       let s : y ≡ x = value_same y x (some-injective (Value (Some y)) (Value (Some x)) (sym here ∙ (ap (get_elem? slots) (sym there) ∙ at))) in ap (get_elem? zs) e ∙ (at_middle xs [] zs y is ∙ ap some s))
       (λ ne. ap (λ l. get_elem? l m) is ∙ at_longer xs (y ∷ []) m x (so_far m x (omega arith) at))
+
+-- one more zero behind zeros
+zero_last : (xs : List ℕ) → ((k : ℕ) → get_or xs k 0 ≡ 0) → (k : ℕ) → get_or (xs ++ 0 ∷ []) k 0 ≡ 0
+zero_last [] all zero = refl
+zero_last [] all (suc k) = refl
+zero_last (x ∷ xs) all zero = all 0
+zero_last (x ∷ xs) all (suc k) = zero_last xs (λ j. all (suc j)) k
+
+pub zeros_more : (xs zs : List ℕ) → zs ≡ xs ++ 0 ∷ [] → ((k : ℕ) → get_or xs k 0 ≡ 0) → (k : ℕ) → get_or zs k 0 ≡ 0
+zeros_more xs zs is all k = ap (λ l. get_or l k 0) is ∙ zero_last xs all k
+
+-- the place i is emptied, and nothing else changes
+emptied : (fs : List Bool) (i : ℕ) → get_or (set fs i false) i false ≡ false
+emptied [] i = refl
+emptied (f ∷ fs) zero = refl
+emptied (f ∷ fs) (suc i) = emptied fs i
+
+pub full_behind : (fs gs : List Bool) (i m n : ℕ) → gs ≡ set fs i false → n ≡ m → Filled fs i m → Filled gs (i + 1) n
+full_behind fs gs i m n is same full k lo hi = ap (λ l. get_or l k false) is ∙ (get_or-set_other fs i k false false (λ e. omega arith) ∙ full k (omega arith) (omega arith))
+
+pub empty_before : (fs gs : List Bool) (i : ℕ) → gs ≡ set fs i false → ((k : ℕ) → k < i → get_or fs k false ≡ false) → (k : ℕ) → k < i + 1 → get_or gs k false ≡ false
+empty_before fs gs i is empty k low = ap (λ l. get_or l k false) is ∙ ⊎_elim
+    (λ (e : k ≡ i). ap (λ z. get_or (set fs i false) z false) e ∙ emptied fs i)
+    (λ (ne : k ≢ i). get_or-set_other fs i k false false ne ∙ empty k (omega arith))
+    (cases_eq k i)
 
 module _ {T H : Type 0} where
   pub slot_values : (l : Layout) (holds : List T → List H → Type 0) (parts : List (Part T H)) (xs : List (Slot T)) → length xs ≡ 192 + l.mutexes → Settles l holds parts xs → (m : ℕ) → 192 + m < length xs → (x : T) × (get_elem? xs (192 + m) ≡ some (Value (Some x)))

@@ -13,7 +13,7 @@ use crate::line::leave_line;
 use crate::package::{Package, Thread};
 use crate::places::{SEMAPHORES, alert_word, sem_length_word};
 use crate::plays::{LeaveSemQueue, OrAlert, ReadAlert, SwapAlert, SwapAlertInP, SwapAlertInRaise};
-use crate::stepping::{fetch_and, fetch_or, load, store, swap};
+use crate::stepping::{fetch_and, fetch_or, load, slot_mut, store, swap};
 use crate::uses::Uses;
 use crate::waking::unpark;
 use larch_actions::{CondId, MutexId, SemId, ThreadId};
@@ -119,7 +119,7 @@ pub fn leave_sem_queue<U: Uses>(p: &Package<U>, me: &mut Thread<U>, s: SemId) ->
 {
     let o = SEMAPHORES + s.0 as usize;
     bring(&mut me.hand, &mut me.seat, o as u16);
-    let Some(length) = leave_line(me.seat.slot_mut(&p.table.shared, o), me.number) else {
+    let Some(length) = leave_line(slot_mut(&mut me.seat, &p.table.shared, o), me.number) else {
         return false;
     };
     store::<LeaveSemQueue, U>(&p.table, &mut me.seat, sem_length_word(s), length);

@@ -18,7 +18,7 @@ use crate::plays::{
     AdvanceBroadcast, AdvanceSignal, CompareCount, KnowCount, LeaveCondQueue, LoadCount,
     LoadCountAlertable, PopCond, PushCond,
 };
-use crate::stepping::{fetch_add, load, store};
+use crate::stepping::{fetch_add, load, slot_mut, store};
 use crate::uses::Uses;
 use larch_actions::{CondId, MutexId, ThreadId, ThreadSet};
 
@@ -97,7 +97,7 @@ pub fn advance_signal<U: Uses>(p: &Package<U>, me: &mut Thread<U>, c: CondId) ->
 {
     let o = CONDITIONS + c.0 as usize;
     bring(&mut me.hand, &mut me.seat, o as u16);
-    let left = set_behind(me.seat.slot_mut(&p.table.shared, o));
+    let left = set_behind(slot_mut(&mut me.seat, &p.table.shared, o));
     let count = fetch_add::<AdvanceSignal, U>(&p.table, &mut me.seat, count_word(c), 1);
     (count, left)
 }
@@ -149,7 +149,7 @@ pub fn push_cond<U: Uses>(p: &Package<U>, me: &mut Thread<U>, c: CondId)
     let o = CONDITIONS + c.0 as usize;
     bring(&mut me.hand, &mut me.seat, o as u16);
     // The list is this thread's while it has the spin word. Others see the length word, so that is the step.
-    let length = push_line(me.seat.slot_mut(&p.table.shared, o), me.number);
+    let length = push_line(slot_mut(&mut me.seat, &p.table.shared, o), me.number);
     store::<PushCond, U>(&p.table, &mut me.seat, cond_length_word(c), length);
 }
 
@@ -172,7 +172,7 @@ pub fn leave_cond_queue<U: Uses>(p: &Package<U>, me: &mut Thread<U>, c: CondId) 
 {
     let o = CONDITIONS + c.0 as usize;
     bring(&mut me.hand, &mut me.seat, o as u16);
-    let Some(length) = leave_line(me.seat.slot_mut(&p.table.shared, o), me.number) else {
+    let Some(length) = leave_line(slot_mut(&mut me.seat, &p.table.shared, o), me.number) else {
         return false;
     };
     store::<LeaveCondQueue, U>(&p.table, &mut me.seat, cond_length_word(c), length);
@@ -194,7 +194,7 @@ pub fn pop_cond<U: Uses>(p: &Package<U>, me: &mut Thread<U>, c: CondId) -> Optio
 {
     let o = CONDITIONS + c.0 as usize;
     bring(&mut me.hand, &mut me.seat, o as u16);
-    let (first, length) = pop_line(me.seat.slot_mut(&p.table.shared, o));
+    let (first, length) = pop_line(slot_mut(&mut me.seat, &p.table.shared, o));
     store::<PopCond, U>(&p.table, &mut me.seat, cond_length_word(c), length);
     first
 }

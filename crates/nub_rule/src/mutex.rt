@@ -14,7 +14,7 @@ use crate::hand::bring;
 use crate::package::{Package, Thread};
 use crate::places::{VALUES, mutex_bit};
 use crate::plays::{ClearBit, ClearBitInWait, TakeBitQuiet, TryBit};
-use crate::stepping::{compare_exchange, swap};
+use crate::stepping::{compare_exchange, slot_mut, swap};
 use crate::uses::{Change, Uses};
 use larch_actions::{Event, MutexId};
 
@@ -141,10 +141,11 @@ pub fn take_value<U: Uses>(p: &Package<U>, me: &mut Thread<U>, m: MutexId) -> U:
 {
     prove!(m.0 < p.layout.mutexes);
     bring(&mut me.hand, &mut me.seat, VALUES + m.0 as u16);
-    take_from(
-        me.seat
-            .slot_mut(&p.table.shared, VALUES as usize + m.0 as usize),
-    )
+    take_from(slot_mut(
+        &mut me.seat,
+        &p.table.shared,
+        VALUES as usize + m.0 as usize,
+    ))
 }
 
 /// Moves a value into the slot of m.
@@ -159,8 +160,11 @@ pub fn put_value<U: Uses>(p: &Package<U>, me: &mut Thread<U>, m: MutexId, value:
     prove!(m.0 < p.layout.mutexes);
     bring(&mut me.hand, &mut me.seat, VALUES + m.0 as u16);
     put_into(
-        me.seat
-            .slot_mut(&p.table.shared, VALUES as usize + m.0 as usize),
+        slot_mut(
+            &mut me.seat,
+            &p.table.shared,
+            VALUES as usize + m.0 as usize,
+        ),
         value,
     );
 }

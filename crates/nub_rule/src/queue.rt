@@ -15,7 +15,7 @@ use crate::line::{leave_line, pop_line, push_line};
 use crate::object::Object;
 use crate::package::{Package, Thread};
 use crate::plays::{PopGate, PushGate, ReadLength, TakeOut, TestAgain};
-use crate::stepping::{load, store};
+use crate::stepping::{load, slot_mut, store};
 use crate::uses::Uses;
 use larch_actions::ThreadId;
 
@@ -76,7 +76,7 @@ fn push_gate<U: Uses>(p: &Package<U>, me: &mut Thread<U>, at: Object)
     let o = at.number();
     bring(&mut me.hand, &mut me.seat, o as u16);
     // The list is this thread's while it has the spin word. Others see the length word, so that is the step.
-    let length = push_line(me.seat.slot_mut(&p.table.shared, o), me.number);
+    let length = push_line(slot_mut(&mut me.seat, &p.table.shared, o), me.number);
     store::<PushGate, U>(&p.table, &mut me.seat, at.length_word(), length);
 }
 
@@ -110,7 +110,7 @@ pub fn take_out<U: Uses>(p: &Package<U>, me: &mut Thread<U>, at: Object) -> bool
 {
     let o = at.number();
     bring(&mut me.hand, &mut me.seat, o as u16);
-    let Some(length) = leave_line(me.seat.slot_mut(&p.table.shared, o), me.number) else {
+    let Some(length) = leave_line(slot_mut(&mut me.seat, &p.table.shared, o), me.number) else {
         return false;
     };
     store::<TakeOut, U>(&p.table, &mut me.seat, at.length_word(), length);
@@ -161,7 +161,7 @@ fn pop_gate<U: Uses>(p: &Package<U>, me: &mut Thread<U>, at: Object) -> Option<T
 {
     let o = at.number();
     bring(&mut me.hand, &mut me.seat, o as u16);
-    let (first, length) = pop_line(me.seat.slot_mut(&p.table.shared, o));
+    let (first, length) = pop_line(slot_mut(&mut me.seat, &p.table.shared, o));
     store::<PopGate, U>(&p.table, &mut me.seat, at.length_word(), length);
     first
 }

@@ -1,14 +1,19 @@
-//! The steps of the table on one word, as functions of the package's own table: so a condition of a kind of step is told clause by clause.
-ghost use Rattle.std.specs.Prelude.{◌≡◌, ◌<◌, ◌+◌, ◌%◌, ◌^◌, ◌==◌, bit_and, bit_or};
+//! The steps of the table on one word, and the slot at hand, as functions of the package's own table: so a condition of a kind of step is told
+//! clause by clause.
+ghost use Rattle.std.specs.Prelude.{◌≡◌, ◌<◌, ◌+◌, ◌%◌, ◌^◌, ◌==◌, ◌∷◌, bit_and, bit_or};
 ghost use mathlib.Core.Option.{none};
 ghost use prog.Atomic.{either};
-ghost use Rattle.atomic_table.specs.Table.{step, Allows};
+ghost use types.Logic.{sem};
+ghost use denote.Follow.{follows};
+ghost use Rattle.atomic_table.specs.contracts.shared.Seat.{the_row};
+ghost use Rattle.atomic_table.specs.Lent.{seat_with};
+ghost use Rattle.atomic_table.specs.Table.{step, rest, Allows};
 ghost use Rattle.nub_rule.specs.Rule.{IsKept};
 
 use crate::rule::{About, Kept, Slot};
 use crate::uses::Uses;
 use crate::view::View;
-use atomic_table::{Play, Seat, Table};
+use atomic_table::{Play, Seat, Shared, Table, TableRule};
 use std::alloc::Global;
 
 /// Reads a word.
@@ -187,4 +192,19 @@ pub(crate) fn compare_exchange<
         × M.then (step table.now.shared.table_id.slots word old new none) seat.old.me result seat.new.me }
 {
     table.shared.compare_exchange::<M>(seat, word, old, new)
+}
+
+/// The slot that the seat took last. When the borrow ends, the seat has what was written through it.
+#[inline(always)]
+pub(crate) fn slot_mut<'a, S, V, K, P: TableRule<S, V, K>>(
+    seat: &'a mut Seat<S, V>,
+    table: &'a Shared<S, V, K, P>,
+    slot: usize,
+) -> &'a mut S
+    requires of { seat.old.table_id ≡ table.now.table_id }
+    requires first { (old : S) × (seat.old.me.1 ≡ (slot, old) ∷ rest seat.old.me.1) }
+    ensures* writes_back { sem 𝓛 (follows (the_row S.row V.row) S.row seat.entry.ghost_name result.ghost_name (seat_with seat.old slot)) }
+    ensures value { seat.old.me.1 ≡ (slot, result.now) ∷ rest seat.old.me.1 }
+{
+    seat.slot_mut(table, slot)
 }

@@ -9,7 +9,8 @@ ghost use Rattle.larch_actions.specs.Layout.{IsLawful};
 ghost use Rattle.nub_rule.specs.declared.rule.Slot.TheVariants.{Value, Queue};
 ghost use Rattle.nub_rule.specs.declared.view.Kind.TheVariants.{Root, Collector};
 ghost use Rattle.nub_rule.specs.Items.{Each, no_line};
-ghost use Rattle.nub_rule.specs.Rule.{left_view, member_view};
+ghost use Rattle.atomic_table.specs.Table.{opening, Enters, Joins};
+ghost use Rattle.nub_rule.specs.Rule.{IsKept, opening_view, left_view, member_view, collecting, both_views, spent_view};
 ghost use Rattle.nub_rule.specs.Known.{known_as, part_of, HasNone};
 ghost use Rattle.nub_rule.specs.Ends.{firsts, opening_slots, first_known, Leaves};
 ghost use Rattle.nub_rule.specs.Places.{word_count};
@@ -101,42 +102,50 @@ fn cut<U: Uses>(
     }
 }
 
-/// The threads, in order of their numbers.
+/// The threads, in order of their numbers, put where there is room for them.
 fn cut_all<U: Uses>(
     alloc: Global,
     p: &Package<U>,
     mut root: Seat<Slot<U::Value>, View<U::Value, U::Share, U::World>>,
     parkers: Vec<Parker>,
     mut room: Vec<U::Value>,
-) -> Result<Vec<Thread<U>>, AllocError>
+    mut threads: Vec<Thread<U>>,
+) -> Vec<Thread<U>>
     requires of { root.table_id ≡ p.now.table_id }
     requires root { (root.me.0.kind ≡ Root) × (root.me.0.next ≡ 0) }
     requires world { root.me.0.world ≡ Some p.now.world }
     requires parkers { length parkers.items ≡ p.now.layout.threads }
     requires room { (room.items ≡ []) × (p.now.layout.mutexes ≤ vec_capacity room) }
-    ensures count { IfOk result (λ o. length o.items ≡ p.now.layout.threads) }
-    ensures threads { IfOk result (λ o. Each (λ n t. t ≡ first_known p.now.table_id p.now.world U.begin n) o.items) }
+    requires threads { (threads.items ≡ []) × (p.now.layout.threads ≤ vec_capacity threads) }
+    ensures count { length result.items ≡ p.now.layout.threads }
+    ensures threads { Each (λ n t. t ≡ first_known p.now.table_id p.now.world U.begin n) result.items }
 {
-    let mut threads = Vec::new(alloc);
     let mut number = 0;
     for parker in parkers {
         let own = mem::replace(&mut room, Vec::new(alloc));
-        threads.push(cut(p, &mut root, number, parker, Vec::new(alloc), own))?;
+        threads.push_reserved(cut(p, &mut root, number, parker, Vec::new(alloc), own));
         number += 1;
     }
-    Ok(threads)
+    threads
+}
+
+/// A parker, and its other end.
+fn parker_of(alloc: Global) -> Result<(Parker, Waker), AllocError> {
+    let parker = Parker::new(alloc)?;
+    let waker = Waker::new(parker.unparker().clone()?);
+    Ok((parker, waker))
 }
 
 /// So many parkers, and the other end of each.
 fn parkers_of(alloc: Global, count: u32) -> Result<(Vec<Parker>, Vec<Waker>), AllocError>
     ensures { IfOk result (λ o. (length o.0.items ≡ count) × (vec_len o.1 ≡ count)) }
 {
-    let mut parkers = Vec::new(alloc);
-    let mut unparkers = Vec::new(alloc);
+    let mut parkers = Vec::with_capacity(alloc, count as usize)?;
+    let mut unparkers = Vec::with_capacity(alloc, count as usize)?;
     for _i in 0..count {
-        let parker = Parker::new(alloc)?;
-        unparkers.push(Waker::new(parker.unparker().clone()?))?;
-        parkers.push(parker)?;
+        let (parker, waker) = parker_of(alloc)?;
+        parkers.push_reserved(parker);
+        unparkers.push_reserved(waker);
     }
     Ok((parkers, unparkers))
 }
@@ -172,6 +181,33 @@ fn means_of<T: Drop>(alloc: Global, layout: Layout, values: Vec<T>) -> Result<Me
     })
 }
 
+/// The table and its first seat, or want of memory.
+fn table_of<U: Uses>(
+    alloc: Global,
+    words: Vec<u64>,
+    slots: Vec<Slot<U::Value>>,
+    about: About<U::World>,
+) -> Result<
+    (
+        Table<Slot<U::Value>, View<U::Value, U::Share, U::World>, About<U::World>, Kept<U>, Global>,
+        Seat<Slot<U::Value>, View<U::Value, U::Share, U::World>>,
+    ),
+    AllocError,
+>
+    requires opens { IsKept about.layout about.traced about.world.value U.begin U.holds
+        (opening words.items slots.items (opening_view about.world.value U.begin)) }
+    ensures words { IfOk result (λ t. t.0.shared.table_id.words ≡ length words.items) }
+    ensures slots { IfOk result (λ t. t.0.shared.table_id.slots ≡ length slots.items) }
+    ensures of { IfOk result (λ t. t.1.table_id ≡ t.0.shared.table_id) }
+    ensures root { IfOk result (λ t. t.1.me ≡ (opening_view about.world.value U.begin, [])) }
+    ensures key { IfOk result (λ t. t.0.shared.key ≡ about) }
+{
+    let Ok(made) = Table::new(alloc, words.as_slice(), slots, &about) else {
+        return Err(AllocError);
+    };
+    Ok(made)
+}
+
 /// A package and its threads, in order of their numbers.
 pub fn open_package<U: Uses>(
     alloc: Global,
@@ -187,11 +223,7 @@ pub fn open_package<U: Uses>(
     ensures count { IfOk result (λ o. length o.1.items ≡ layout.threads) }
     ensures threads { IfOk result (λ o. Each (λ n t. t ≡ first_known o.0.table_id world.now U.begin n) o.1.items) }
 {
-    let about = About {
-        layout,
-        traced,
-        world: Snapshot::of(world),
-    };
+    let threads = Vec::with_capacity(alloc, layout.threads as usize)?;
     let Means {
         slots,
         words,
@@ -200,9 +232,12 @@ pub fn open_package<U: Uses>(
         room,
         shelf,
     } = means_of(alloc, layout, values)?;
-    let Ok((table, root)) = Table::new(alloc, words.as_slice(), slots, &about) else {
-        return Err(AllocError);
+    let about = About {
+        layout,
+        traced,
+        world: Snapshot::of(world),
     };
+    let (table, root) = table_of::<U>(alloc, words, slots, about)?;
     let package = Package {
         layout,
         traced,
@@ -210,7 +245,7 @@ pub fn open_package<U: Uses>(
         unparkers,
         shelf,
     };
-    let threads = cut_all(alloc, &package, root, parkers, room)?;
+    let threads = cut_all(alloc, &package, root, parkers, room, threads);
     Ok((package, threads))
 }
 
@@ -219,6 +254,38 @@ struct Gathered<U: Uses> {
     seat: Seat<Slot<U::Value>, View<U::Value, U::Share, U::World>>,
     stored: Vec<Stored>,
     room: Vec<U::Value>,
+}
+
+/// A new seat that takes threads back.
+fn collector<U: Uses>(
+    shared: &Shared<Slot<U::Value>, View<U::Value, U::Share, U::World>, About<U::World>, Kept<U>>,
+) -> Seat<Slot<U::Value>, View<U::Value, U::Share, U::World>>
+    requires inside { 0 < shared.now.table_id.words }
+    requires enters { Enters (IsKept shared.now.key.layout shared.now.key.traced shared.now.key.world.value U.begin U.holds)
+        shared.now.table_id.slots 0 (λ _ v. v ≡ collecting (opening_view shared.now.key.world.value U.begin)) }
+    ensures of { result.table_id ≡ shared.now.table_id }
+    ensures view { result.me.0 ≡ collecting (opening_view shared.now.key.world.value U.begin) }
+{
+    let (_, seat) = shared.load_new_seat::<Collect>(0);
+    seat
+}
+
+/// Takes a thread's seat back.
+fn take_back<U: Uses>(
+    shared: &Shared<Slot<U::Value>, View<U::Value, U::Share, U::World>, About<U::World>, Kept<U>>,
+    seat: &mut Seat<Slot<U::Value>, View<U::Value, U::Share, U::World>>,
+    other: Seat<Slot<U::Value>, View<U::Value, U::Share, U::World>>,
+)
+    requires of { seat.old.table_id ≡ shared.now.table_id }
+    requires from { other.table_id ≡ shared.now.table_id }
+    requires bare { other.me.1 ≡ [] }
+    requires inside { 0 < shared.now.table_id.words }
+    requires joins { Joins (IsKept shared.now.key.layout shared.now.key.traced shared.now.key.world.value U.begin U.holds)
+        seat.old.id seat.old.me.0 other.id other.me.0 (both_views seat.old.me.0 other.me.0) spent_view }
+    ensures of { seat.new.table_id ≡ seat.old.table_id }
+    ensures view { seat.new.me.0 ≡ both_views seat.old.me.0 other.me.0 }
+{
+    shared.join_seat::<Gather>(seat, other);
 }
 
 /// A seat that has taken every thread back, and what they have stored.
@@ -239,7 +306,7 @@ fn gather_all<U: Uses>(
         × (map (λ s. s.lost) result.stored.items ≡ map (λ t. t.lost) threads.items) }
     ensures room { (result.room.items ≡ []) × (shared.now.table_id.slots ≤ 192 + vec_capacity result.room) }
 {
-    let (_, mut seat) = shared.load_new_seat::<Collect>(0);
+    let mut seat = collector(shared);
     let mut room = Vec::new(alloc);
     for thread in threads {
         let Thread {
@@ -253,8 +320,8 @@ fn gather_all<U: Uses>(
             later: _,
             room: kept,
         } = thread;
-        shared.join_seat::<Gather>(&mut seat, own);
-        add(&mut stored, Stored { entries, lost });
+        take_back(shared, &mut seat, own);
+        stored.push_reserved(Stored { entries, lost });
         room = first_room(number, kept, room);
     }
     Gathered { seat, stored, room }
@@ -268,17 +335,6 @@ fn first_room<T: Drop>(number: u32, kept: Vec<T>, room: Vec<T>) -> Vec<T>
     ensures later { number ≢ 0 → result ≡ room }
 {
     if number == 0 { kept } else { room }
-}
-
-// Adds x where there is room.
-fn add<T: Drop>(xs: &mut Vec<T>, x: T)
-    requires { vec_len xs.old < vec_capacity xs.old }
-    ensures items { xs.new.items ≡ xs.old.items ++ x ∷ [] }
-    ensures room { vec_capacity xs.old ≤ vec_capacity xs.new }
-{
-    if xs.push(x).is_err() {
-        unreachable!();
-    }
 }
 
 /// Lets the slots of the queues go.
@@ -319,7 +375,7 @@ fn values_of<T: Drop>(mut values: Vec<T>, mut closed: Closed<Slot<T>, Global>) -
     drop_queues(&mut closed);
     for i in QUEUES..closed.slot_count() {
         let x = value_in(closed.take(i));
-        add(&mut values, x);
+        values.push_reserved(x);
     }
     closed.free();
     values

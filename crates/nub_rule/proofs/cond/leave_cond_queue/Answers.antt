@@ -4,6 +4,7 @@ use Rattle.nub_rule.specs.Items.{line_of}
 use Rattle.nub_rule.specs.Places.{cond_object}
 use Rattle.nub_rule.proofs.Naming.{cond_low}
 use Rattle.nub_rule.proofs.Handling.{same_slot}
+use Rattle.nub_rule.proofs.Standing.{false_true}
 use Rattle.nub_rule.proofs.AtHand.{QueueAtHand, queue_at_hand, After, requeued}
 use Rattle.larch_actions.specs.Sets.{mem}
 use Rattle.nub_rule.specs.Plays.{less, recounted}
@@ -20,8 +21,8 @@ at_hand g c = let b = c.bring.ensures in
 pub bring-requires-clause-there : goal.bring-requires-clause-there
 bring-requires-clause-there g c = (Queue (line_of c.me.inside.seat.me.0.part.queue), c.me.invariant.hands.queue_in (cond_object c.args.c.0) (ap (λ k. k.spin) c.me.view_is ∙ c.requires.inside))
 
-pub slot_mut-requires : goal.slot_mut-requires
-slot_mut-requires g c = (search rules, (Queue (line_of c.me.inside.seat.me.0.part.queue), (at_hand g (goal.at.slot_mut-requires g c).After-bring).first))
+pub slot_mut-requires-clause-first : goal.slot_mut-requires-clause-first
+slot_mut-requires-clause-first g c = (Queue (line_of c.me.inside.seat.me.0.part.queue), (at_hand g (goal.at.slot_mut-requires-clause-first g c).After-bring).first)
 
 pub leave_line-requires : goal.leave_line-requires
 leave_line-requires g c = let a = at_hand g (goal.at.leave_line-requires g c).After-bring in (c.me.inside.seat.me.0.part.queue, same_slot (cond_object c.args.c.0) _ _ _ _ c.slot_mut.ensures.value a.first)
@@ -56,3 +57,9 @@ returns-clause-there g c = let a = at_hand g (goal.at.returns-clause-there g c).
 
 pub returns-clause-out : goal.returns-clause-out
 returns-clause-out g c = let t = goal.at.returns-clause-out g c in λ _. (took_out g t.After-store (at_hand g t.After-bring)).sees _ _ _ _ c.me.view_is
+
+pub returns-in_default-clause-out : goal.returns-in_default-clause-out
+returns-in_default-clause-out g c = λ e. absurd (false_true e)
+
+pub returns-clause-same : goal.returns-clause-same
+returns-clause-same g c = λ e. absurd (false_true (sym e))

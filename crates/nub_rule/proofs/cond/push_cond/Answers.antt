@@ -20,8 +20,8 @@ at_hand g c = let b = c.bring.ensures in
 pub bring-requires-clause-there : goal.bring-requires-clause-there
 bring-requires-clause-there g c = (Queue (line_of c.me.inside.seat.me.0.part.queue), c.me.invariant.hands.queue_in (cond_object c.args.c.0) (ap (λ k. k.spin) c.me.view_is ∙ c.requires.inside))
 
-pub slot_mut-requires : goal.slot_mut-requires
-slot_mut-requires g c = (search rules, (Queue (line_of c.me.inside.seat.me.0.part.queue), (at_hand g (goal.at.slot_mut-requires g c).After-bring).first))
+pub slot_mut-requires-clause-first : goal.slot_mut-requires-clause-first
+slot_mut-requires-clause-first g c = (Queue (line_of c.me.inside.seat.me.0.part.queue), (at_hand g (goal.at.slot_mut-requires-clause-first g c).After-bring).first)
 
 pub push_line-length-requires : goal.push_line-length-requires
 push_line-length-requires g c = let a = at_hand g (goal.at.push_line-length-requires g c).After-bring in

@@ -54,3 +54,12 @@ returns-then-found-eq0-clause-won g c = let near = mutex_low _ _ _ _ c.p.view_is
 
 pub returns-else-found-eq0-clause-lost : goal.returns-else-found-eq0-clause-lost
 returns-else-found-eq0-clause-lost g c = let m : ℕ = c.args.m.0 in λ _. noted (λ _ p. record p { failed = m ∷ p.failed; turns = without m p.turns }) _ _ _ _ _ c.me.inside.seat.me _ _ c.me.view_is c.compare_exchange-found.ensures.0 ((c.compare_exchange-found.ensures.2 m c.mutex_bit.ensures).1 c.if-found-eq0.false)
+
+pub returns-else-found-eq0-clause-won : goal.returns-else-found-eq0-clause-won
+returns-else-found-eq0-clause-won g c = λ hit. absurd (c.if-found-eq0.false hit)
+
+pub returns-else-found-eq0-clause-lacked : goal.returns-else-found-eq0-clause-lacked
+returns-else-found-eq0-clause-lacked g c = λ hit. absurd (c.if-found-eq0.false hit)
+
+pub returns-then-found-eq0-clause-lost : goal.returns-then-found-eq0-clause-lost
+returns-then-found-eq0-clause-lost g c = λ miss. absurd (miss c.if-found-eq0.true)

@@ -18,8 +18,8 @@ bring-requires-clause-there g c = (Value (Some c.requires.has.0), value_is _ _ _
 at_hand : (g : Over) (c : After-bring g) → ValueAtHand c.me.inside.seat.me c.bring.new.seat.me c.bring.new.hand c.args.m.0 (Some c.requires.has.0)
 at_hand g c = let b = c.bring.ensures in value_at_hand _ _ _ _ _ (value_is _ _ _ _ _ _ c.me.inside.seat.me _ c.me.view_is c.requires.has.1) b.same.2 b.keys b.distinct b.below b.hand b.first
 
-pub slot_mut-requires : goal.slot_mut-requires
-slot_mut-requires g c = (search rules, (Value (Some c.requires.has.0), (at_hand g (goal.at.slot_mut-requires g c).After-bring).first))
+pub slot_mut-requires-clause-first : goal.slot_mut-requires-clause-first
+slot_mut-requires-clause-first g c = (Value (Some c.requires.has.0), (at_hand g (goal.at.slot_mut-requires-clause-first g c).After-bring).first)
 
 pub take_from-requires : goal.take_from-requires
 take_from-requires g c = (c.requires.has.0, same_slot (value_at c.args.m.0) _ _ _ _ c.slot_mut.ensures.value (at_hand g (goal.at.take_from-requires g c).After-bring).first)

@@ -1,25 +1,46 @@
-use Rattle.std.proofs.Common.{rules, ◌≡◌, ◌+◌, ◌∙◌, ap, length, get_or, subst}
+use Rattle.std.proofs.Common.{rules, arith, ◌≡◌, ◌+◌, ◌∙◌, ap, sym, length, subst, Some}
 use Rattle.nub_rule.specs.Items.{Each}
 use Rattle.nub_rule.specs.Ends.{first_known}
 use Rattle.nub_rule.proofs.Ends.{opens, opening_wide}
 use Rattle.nub_rule.proofs.whole.open_package.Goals as goal
 
-pub new-requires : goal.new-requires
-new-requires g c = let m = c.in_ok-slots.ensures in rw (c.of.ensures, m.0) (opens c.args.layout c.args.traced c.args.world.now g.U.Uses.begin g.U.Uses.holds c.as_slice.result.now c.args.values.items
-    (ap (λ l. length l) c.as_slice.ensures.value ∙ m.1) (λ k. ap (λ l. get_or l k 0) c.as_slice.ensures.value ∙ m.2 k) c.requires.values c.requires.lawful c.requires.holds)
+pub table_of-requires-clause-opens : goal.table_of-requires-clause-opens
+table_of-requires-clause-opens g c κs within = let m = c.in_ok-slots.ensures in rw (c.of.ensures, m.0) (opens c.args.layout c.args.traced c.args.world.now g.U.Uses.begin g.U.Uses.holds c.in_ok-slots.field-0.words.items c.args.values.items
+    m.1 m.2 c.requires.values c.requires.lawful c.requires.holds)
 
 pub invariant_of-package : goal.invariant_of-package
-invariant_of-package g c = let t = c.in-Ok.ensures.ok in let m = c.in_ok-slots.ensures in record {
-  words = t.0 ∙ (ap (λ l. length l) c.as_slice.ensures.value ∙ m.1);
-  slots = t.1 ∙ (ap (λ l. length l) m.0 ∙ (opening_wide c.args.values.items ∙ ap (λ n. 192 + n) c.requires.values));
+invariant_of-package g c = let t = c.in_ok-table.ensures in let m = c.in_ok-slots.ensures in record {
+  words = t.words ∙ m.1;
+  slots = t.slots ∙ (ap (λ l. length l) m.0 ∙ (opening_wide c.args.values.items ∙ ap (λ n. 192 + n) c.requires.values));
   lawful = c.requires.lawful;
   bare = m.7;
   roomy = m.8;
   woken = m.4;
-  laid_out = ap (λ k. k.layout) t.5;
-  traced_so = ap (λ k. k.traced) t.5;
+  laid_out = ap (λ k. k.layout) t.key;
+  traced_so = ap (λ k. k.traced) t.key;
 }
 
+pub cut_all-threads-requires-clause-root : goal.cut_all-threads-requires-clause-root
+cut_all-threads-requires-clause-root g c κs within = let t = c.in_ok-table.ensures in (ap (λ m. m.0.kind) t.root, ap (λ m. m.0.next) t.root)
+
+pub cut_all-threads-requires-clause-world : goal.cut_all-threads-requires-clause-world
+cut_all-threads-requires-clause-world g c κs within = let t = c.in_ok-table.ensures in ap (λ m. m.0.world) t.root ∙ ap (λ k. Some k.world.value) (sym t.key)
+
+pub cut_all-threads-requires-clause-parkers : goal.cut_all-threads-requires-clause-parkers
+cut_all-threads-requires-clause-parkers g c κs within = let t = c.in_ok-table.ensures in let m = c.in_ok-slots.ensures in m.3 ∙ ap (λ k. k.layout.threads) (sym t.key)
+
+pub cut_all-threads-requires-clause-room : goal.cut_all-threads-requires-clause-room
+cut_all-threads-requires-clause-room g c κs within = let m = c.in_ok-slots.ensures in let same = ap (λ k. k.layout.mutexes) c.in_ok-table.ensures.key in let wide = m.6 in (m.5, omega arith)
+
+pub cut_all-threads-requires-clause-threads : goal.cut_all-threads-requires-clause-threads
+cut_all-threads-requires-clause-threads g c κs within = let r = c.in_ok-threads.ensures in let same = ap (λ k. k.layout.threads) c.in_ok-table.ensures.key in let wide = r.capacity in (r.items, omega arith)
+
+pub returns-clause-package : goal.returns-clause-package
+returns-clause-package g c = let key = c.in_ok-table.ensures.key in (ap (λ k. k.layout) key, ap (λ k. k.traced) key, ap (λ k. k.world.value) key ∙ c.of.ensures)
+
+pub returns-clause-count : goal.returns-clause-count
+returns-clause-count g c = c.cut_all-threads.ensures.count ∙ ap (λ k. k.layout.threads) c.in_ok-table.ensures.key
+
 pub returns-clause-threads : goal.returns-clause-threads
-returns-clause-threads g c = let e : c.in-Ok.table.shared.key.world.value ≡ c.args.world.now = search rules in
-    subst (λ (z : g.row.U-World.Denot). Each (λ n t. t ≡ first_known c.in-Ok.table.shared.table_id z g.U.Uses.begin n) c.in_ok-threads.threads.items) e c.in_ok-threads.ensures.threads
+returns-clause-threads g c = let e : c.in_ok-table.table.shared.key.world.value ≡ c.args.world.now = ap (λ k. k.world.value) c.in_ok-table.ensures.key ∙ c.of.ensures in
+    subst (λ (z : g.row.U-World.Denot). Each (λ n t. t ≡ first_known c.in_ok-table.table.shared.table_id z g.U.Uses.begin n) c.cut_all-threads.result.items) e c.cut_all-threads.ensures.threads

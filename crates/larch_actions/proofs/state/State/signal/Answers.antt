@@ -1,6 +1,7 @@
-use Rattle.std.proofs.Common.{rules, ℕ, Bool, subst}
+use Rattle.std.proofs.Common.{rules, ℕ, Bool, subst, sym, refl}
 use Rattle.larch_actions.specs.Sets.{in_set}
 use Rattle.larch_actions.specs.Actions.{MayLeave}
+use Rattle.larch_actions.proofs.Answered.{not_both}
 use Rattle.larch_actions.proofs.state.State.signal.Goals as goal
 
 pub returns : goal.returns
@@ -15,4 +16,15 @@ returns c = (
     c.set_members.ensures.spec,
   ),
   c.set_members.ensures.layout,
+)
+
+pub returns-then-not-may_leave : goal.returns-then-not-may_leave
+returns-then-not-may_leave c = (
+  (
+    search rules,
+    search rules,
+    search rules,
+    λ may. not_both c.may_leave.result (search rules) (c.may_leave.ensures.complete (subst (λ (f : ℕ → Bool). MayLeave f (in_set c.args.left)) (sym c.members_of.ensures) may)),
+  ),
+  refl,
 )
