@@ -10,7 +10,6 @@ use crate::ending::shut_all;
 use crate::findings::Findings;
 use crate::handing::{jobs_of, put_back};
 use crate::job::Job;
-use crate::room::push_in_room;
 use crate::uses::IndexUses;
 use crate::work::work;
 use firefly_outside::Tree;
@@ -105,6 +104,6 @@ pub fn run_workers<R: Threads + Wait + Sync, S: Tree, G: Gate>(
         return Err(AllocError);
     };
     let (jobs, findings, caller) = run_jobs(rt, alloc, p, caller, jobs, root, walkers, gate)?;
-    push_in_room(&mut all, caller);
+    all.push_reserved(caller);
     Ok((put_back(jobs, trees, with_tree, all), findings))
 }

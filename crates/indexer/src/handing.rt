@@ -4,7 +4,6 @@ ghost use Rattle.indexer.specs.Jobs.{kind_at, tree_at};
 ghost use Rattle.indexer.specs.declared.job.Job.{Job};
 
 use crate::job::Job;
-use crate::room::push_in_room;
 use crate::uses::IndexUses;
 use firefly_outside::Kind;
 use nub_rule::Thread;
@@ -82,7 +81,7 @@ pub fn jobs_of<S: Drop>(
         let k = jobs.len();
         let tree = take_tree(trees, with_tree, k);
         let kind = kind_of_place(walkers, k);
-        push_in_room(&mut jobs, Job { me, kind, tree });
+        jobs.push_reserved(Job { me, kind, tree });
     }
     Ok(jobs)
 }
@@ -106,7 +105,7 @@ pub fn put_back<S: Drop>(
         let Job { me, kind: _, tree } = job;
         put_tree(trees, with_tree, k, tree);
         k += 1;
-        push_in_room(&mut threads, me);
+        threads.push_reserved(me);
     }
     threads
 }

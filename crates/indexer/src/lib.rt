@@ -33,7 +33,6 @@ mod opening;
 mod parsing;
 mod pieces;
 mod plan;
-mod room;
 mod running;
 mod turns;
 mod uses;

@@ -13,7 +13,7 @@ loop-me-preserved g c =
     let steps = c.in-Some.ensures.steps.0 in
     let gone = c.in-Some.ensures.steps.1 in
     let short = ap length steps in
-    let push = c.push_in_room.ensures in
+    let push = c.push_reserved.ensures in
     let took = c.take_tree-tree.ensures in
     let job : Job _ = record { me = x; kind = c.kind_of_place-kind.result; tree = c.take_tree-tree.result } in
     let n = length at.jobs.items in
@@ -38,8 +38,8 @@ loop-me-preserved g c =
       above = λ i d h. took.above i d h ∙ was.above i d h;
     }
 
-pub push_in_room-requires : goal.push_in_room-requires
-push_in_room-requires g c =
+pub push_reserved-requires : goal.push_reserved-requires
+push_reserved-requires g c =
     let at = c.loop-me in
     let was = at.invariant in
     let room = was.room in

@@ -13,7 +13,7 @@ loop-job-preserved g c =
     let steps = c.in-Some.ensures.steps.0 in
     let gone = c.in-Some.ensures.steps.1 in
     let short = ap length steps in
-    let push = c.push_in_room.ensures in
+    let push = c.push_reserved.ensures in
     let put = c.put_tree.ensures in
     let front = c.args.threads.items in
     record {
@@ -29,8 +29,8 @@ loop-job-preserved g c =
       above = λ i d h. put.above i d h ∙ was.above i d h;
     }
 
-pub push_in_room-requires : goal.push_in_room-requires
-push_in_room-requires g c =
+pub push_reserved-requires : goal.push_reserved-requires
+push_reserved-requires g c =
     let was = c.loop-job.invariant in
     let room = was.room in
     let left = was.left in
