@@ -16,8 +16,8 @@ loop-one-preserved g c =
     record {
       whole = append_assoc at.yielded (x ∷ []) _ ∙ rw (← steps) was.whole;
       left = (let left = was.left in omega arith);
-      room = (let room = was.room in let cap = c.in-Ok.ensures.capacity in let len = c.in-Ok.ensures.len in omega arith);
-      turned = rw c.in-Ok.ensures.items (zip_push (Turns (IsRunning g.T.Task.run_gives) g.T.Task.run_gives) at.yielded _ x _ was.turned c.result_of.ensures);
+      room = (let room = was.room in let cap = c.push_reserved.ensures.capacity in let len = c.push_reserved.ensures.len in omega arith);
+      turned = rw c.push_reserved.ensures.items (zip_push (Turns (IsRunning g.T.Task.run_gives) g.T.Task.run_gives) at.yielded _ x _ was.turned c.result_of.ensures);
     }
 
 pub returns : goal.returns
