@@ -49,7 +49,12 @@ pub fn run_index<R: Threads + Wait + Sync, S: Tree, O: Sink, N: Sink>(
         (looks_of (look_of S.tree S.may_fail S.calls S.faults) trees.new) }
 {
     match index_by(rt, alloc, options, false, trees, notes) {
-        Ok((piece, _closed)) => print(&piece, out, notes),
+        Ok((piece, closed)) => {
+            drop(closed);
+            let status = print(&piece, out, notes);
+            drop(piece);
+            status
+        }
         Err(status) => status,
     }
 }

@@ -34,7 +34,11 @@ fn run_read<R: Threads + Wait + Sync, O: Sink, N: Sink>(
         (change_of N.held N.faults notes.old notes.new) result }
 {
     match run_script(rt, alloc, script, &NoGate) {
-        Ok(closed) => print_trace(&closed, closed.values(), out, notes),
+        Ok(closed) => {
+            let status = print_trace(&closed, closed.values(), out, notes);
+            drop(closed);
+            status
+        }
         Err(_) => ends(notes, Ending::Memory),
     }
 }

@@ -34,7 +34,12 @@ pub fn run_trace<R: Threads + Wait + Sync, S: Tree, O: Sink, N: Sink>(
         (looks_of (look_of S.tree S.may_fail S.calls S.faults) trees.new) }
 {
     match index_by(rt, alloc, options, true, trees, notes) {
-        Ok((_piece, closed)) => print_trace(&closed, &[], out, notes),
+        Ok((piece, closed)) => {
+            drop(piece);
+            let status = print_trace(&closed, &[], out, notes);
+            drop(closed);
+            status
+        }
         Err(status) => status,
     }
 }

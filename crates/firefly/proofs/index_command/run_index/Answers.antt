@@ -11,10 +11,10 @@ use Rattle.firefly.proofs.index_command.run_index.Goals as goal
 pub returns-in-Ok-clause-answers : goal.returns-in-Ok-clause-answers
 returns-in-Ok-clause-answers g c =
     let look = look_of g.S.Tree.tree g.S.Tree.may_fail g.S.Tree.calls g.S.Tree.faults in
-    let out = change_of g.O.Sink.held g.O.Sink.faults c.args.out.now c.print.new.out in
+    let out = change_of g.O.Sink.held g.O.Sink.faults c.args.out.now c.print-status.new.out in
     let piece = c.in-Ok.piece in
-    let printed = subst (λ n. Prints (index_text piece) Done out (change_of g.N.Sink.held g.N.Sink.faults n c.print.new.notes) c.print.result) c.in-Ok.ensures.quiet c.print.ensures in
-    index_printed (options_of c.args.options.now) (looks_of look c.args.trees.now) (looks_of look c.index_by.new.trees) out (change_of g.N.Sink.held g.N.Sink.faults c.args.notes.now c.print.new.notes) piece c.print.result
+    let printed = subst (λ n. Prints (index_text piece) Done out (change_of g.N.Sink.held g.N.Sink.faults n c.print-status.new.notes) c.print-status.result) c.in-Ok.ensures.quiet c.print-status.ensures in
+    index_printed (options_of c.args.options.now) (looks_of look c.args.trees.now) (looks_of look c.index_by.new.trees) out (change_of g.N.Sink.held g.N.Sink.faults c.args.notes.now c.print-status.new.notes) piece c.print-status.result
     c.in-Ok.ensures.is_index c.in-Ok.ensures.none_rose printed
 
 pub returns-in-Err-clause-answers : goal.returns-in-Err-clause-answers

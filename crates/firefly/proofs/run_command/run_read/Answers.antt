@@ -13,10 +13,10 @@ returns-in-Ok g c =
     let w = o.trace in
     let closed = c.in-Ok.closed in
     let bytes = trace_text closed.layout w.0 (numbered 0 closed.values) in
-    let out = change_of g.O.Sink.held g.O.Sink.faults c.args.out.now c.print_trace.new.out in
-    let notes = change_of g.N.Sink.held g.N.Sink.faults c.args.notes.now c.print_trace.new.notes in
-    let reads = subst (λ (v : List ℕ). ReadsAs (trace_text closed.layout w.0 (numbered 0 v)) closed.layout w.0 (numbered 0 v)) c.values.ensures (c.print_trace.ensures.reads w.0 w.1) in
-    let printed = subst (λ (v : List ℕ). Prints (trace_text closed.layout w.0 (numbered 0 v)) Done out notes c.print_trace.result) c.values.ensures (c.print_trace.ensures.printed w.0 w.1) in
+    let out = change_of g.O.Sink.held g.O.Sink.faults c.args.out.now c.print_trace-status.new.out in
+    let notes = change_of g.N.Sink.held g.N.Sink.faults c.args.notes.now c.print_trace-status.new.notes in
+    let reads = subst (λ (v : List ℕ). ReadsAs (trace_text closed.layout w.0 (numbered 0 v)) closed.layout w.0 (numbered 0 v)) c.values.ensures (c.print_trace-status.ensures.reads w.0 w.1) in
+    let printed = subst (λ (v : List ℕ). Prints (trace_text closed.layout w.0 (numbered 0 v)) Done out notes c.print_trace-status.result) c.values.ensures (c.print_trace-status.ensures.printed w.0 w.1) in
     inl (
       bytes,
       is_trace closed.layout c.args.script.now.layout c.args.script.now.lines w.0 closed.values bytes o.layout o.count o.values reads w.2 w.4,
