@@ -72,7 +72,10 @@ fn close_rest<S: Tree>(
 {
     match list_whole(alloc, tree, walked, stop_after) {
         Ok(()) => read_rest(alloc, tree, walked, piece),
-        Err(answer) => answer,
+        Err(answer) => {
+            drop(piece);
+            answer
+        }
     }
 }
 

@@ -34,7 +34,11 @@ pub fn read_rest<S: Tree>(alloc: Global, tree: &mut S, walked: &Walked, piece: P
             Ok(index) => WalkAnswer::Done(index),
             Err(_) => WalkAnswer::Memory,
         },
-        Err(answer) => answer,
+        Err(answer) => {
+            drop(piece);
+            drop(pile);
+            answer
+        }
     }
 }
 
@@ -99,7 +103,10 @@ fn read_at<S: Tree>(
     }
     let file = match read_next(alloc, tree, walked, name) {
         Ok(file) => file,
-        Err(answer) => return Err(answer),
+        Err(answer) => {
+            drop(batch);
+            return Err(answer);
+        }
     };
     match keep_file(alloc, pile, batch, name, &file) {
         Ok(batch) => Ok(batch),
@@ -185,8 +192,13 @@ fn add_piece(pile: &mut Vec<Piece>, next: Piece) -> Result<(), AllocError>
 fn put_both(pile: &mut Vec<Piece>, below: Piece, top: Piece) -> Result<(), AllocError>
     ensures { OnOk result (pile.new.items ≡ pile.old.items ++ below ∷ [] ++ top ∷ []) }
 {
-    put_on(pile, below)?;
-    put_on(pile, top)
+    match put_on(pile, below) {
+        Ok(()) => put_on(pile, top),
+        Err(error) => {
+            drop(top);
+            Err(error)
+        }
+    }
 }
 
 fn put_on(pile: &mut Vec<Piece>, top: Piece) -> Result<(), AllocError>
@@ -217,18 +229,15 @@ fn merge_first(first: Piece, rest: Piece) -> Result<Piece, AllocError>
     ensures { IfOk result (λ p. (fs gs : List File) → IsIndexOf fs first → IsIndexOf gs rest → IsIndexOf (fs ++ gs) p) }
 {
     if first.files() == 0 {
-        drop_piece(first);
+        drop(first);
         return Ok(rest);
     }
     if rest.files() == 0 {
-        drop_piece(rest);
+        drop(rest);
         return Ok(first);
     }
     merged(first, rest)
 }
-
-// Drops a piece.
-fn drop_piece(_piece: Piece) {}
 
 // Merges two pieces. Where memory wants, both are dropped.
 fn merged(a: Piece, b: Piece) -> Result<Piece, AllocError>
@@ -239,8 +248,8 @@ fn merged(a: Piece, b: Piece) -> Result<Piece, AllocError>
     match merge(a, b) {
         Ok(piece) => Ok(piece),
         Err((a, b)) => {
-            drop_piece(a);
-            drop_piece(b);
+            drop(a);
+            drop(b);
             Err(AllocError)
         }
     }
