@@ -1,7 +1,7 @@
 //! The files of a walk that was listed whole.
 ghost use Rattle.std.specs.Prelude.{◌≡◌, ◌++◌, ◌∷◌, [], ◌+◌, ◌≤◌, ◌<◌, ℕ, List, Option, Some, length, IfSome, IfOk, OnOk, IfErr, AllPairs, Contains, map, take};
 ghost use Rattle.firefly_outside.specs.Trees.{Calls};
-ghost use Rattle.word_index.specs.Index.{File, Meet, IsIndexOf, IsUnion};
+ghost use Rattle.word_index.specs.Index.{File, Index, Meet, IsIndexOf, IsUnion};
 ghost use Rattle.walker.specs.Walk.{IsWalkOf, IsSound};
 ghost use Rattle.walker.specs.TreeIndex.{IsPartOf, IsFileAt};
 ghost use Rattle.walker.specs.Closing.{HasRisen};
@@ -30,10 +30,14 @@ pub fn read_rest<S: Tree>(alloc: Global, tree: &mut S, walked: &Walked, piece: P
 {
     let mut pile = Vec::new(alloc);
     match read_files(alloc, tree, walked, &piece, &mut pile) {
-        Ok(()) => match whole_of(piece, pile) {
-            Ok(index) => WalkAnswer::Done(index),
-            Err(_) => WalkAnswer::Memory,
-        },
+        Ok(()) => {
+            let whole = whole_of(piece, &mut pile);
+            drop(pile);
+            match whole {
+                Ok(index) => WalkAnswer::Done(index),
+                Err(_) => WalkAnswer::Memory,
+            }
+        }
         Err(answer) => {
             drop(piece);
             drop(pile);
@@ -209,18 +213,33 @@ fn put_on(pile: &mut Vec<Piece>, top: Piece) -> Result<(), AllocError>
 }
 
 // Merges all pieces of the pile with the first.
-fn whole_of(first: Piece, pile: Vec<Piece>) -> Result<Piece, AllocError>
-    requires { AreApart (first ∷ pile.items) }
-    ensures { IfOk result (λ p. (fs gs : List File) → IsIndexOf fs first → IsPileOf pile.items gs → IsIndexOf (fs ++ gs) p) }
+fn whole_of(first: Piece, pile: &mut Vec<Piece>) -> Result<Piece, AllocError>
+    requires { AreApart (first ∷ pile.old.items) }
+    ensures { IfOk result (λ p. (fs gs : List File) → IsIndexOf fs first → IsPileOf pile.old.items gs → IsIndexOf (fs ++ gs) p) }
 {
-    let mut pile = pile;
-    let Some(mut top) = pile.pop() else {
+    let Some(top) = pile.pop() else {
         return Ok(first);
     };
+    match merged_onto(pile, top) {
+        Ok(rest) => merge_first(first, rest),
+        Err(error) => {
+            drop(first);
+            Err(error)
+        }
+    }
+}
+
+// Merges all pieces of the pile with the one that lay on top.
+fn merged_onto(pile: &mut Vec<Piece>, last: Piece) -> Result<Piece, AllocError>
+    requires { AreApart (pile.old.items ++ last ∷ []) }
+    ensures apart { IfOk result (λ p. (first : Index) → AreApart (first ∷ pile.old.items ++ last ∷ []) → ¬ Meet first p) }
+    ensures index { IfOk result (λ p. (files : List File) → IsPileOf (pile.old.items ++ last ∷ []) files → IsIndexOf files p) }
+{
+    let mut top = last;
     while let Some(below) = pile.pop() {
         top = merged(below, top)?;
     }
-    merge_first(first, top)
+    Ok(top)
 }
 
 // Merges the piece that the walk began with. An empty one of the two, which adds nothing, is dropped.
