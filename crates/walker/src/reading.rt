@@ -5,7 +5,7 @@ ghost use Rattle.word_index.specs.Index.{File, Index, Meet, IsIndexOf, IsUnion};
 ghost use Rattle.walker.specs.Walk.{IsWalkOf, IsSound};
 ghost use Rattle.walker.specs.TreeIndex.{IsPartOf, IsFileAt};
 ghost use Rattle.walker.specs.Closing.{HasRisen};
-ghost use Rattle.walker.specs.Progress.{StepCounts, IsListedWhole};
+ghost use Rattle.walker.specs.Progress.{StepStays, IsListedWhole};
 ghost use Rattle.walker.specs.Pile.{IsPileOf, AreApart, AreKept, AreDistinct, ReadsNext, ReadsRest, IsReadEnd, IsRead, ReadsAt, HasRead};
 ghost use Rattle.word_index.specs.Read.{read_file};
 
@@ -57,9 +57,8 @@ fn read_files<S: Tree>(
     requires sound { IsSound walked.now }
     requires empty { pile.old.items ≡ [] }
     requires told { IfSome (S.tree tree.old) (IsWalkOf walked.now) }
-    ensures tree_stays { S.tree tree.new ≡ S.tree tree.old }
-    ensures weak_stays { S.may_fail tree.new ≡ S.may_fail tree.old }
-    ensures count { StepCounts (S.faults tree.old) (S.faults tree.new) result }
+    ensures stays { StepStays (S.tree tree.old) (S.tree tree.new) (S.may_fail tree.old) (S.may_fail tree.new) (S.faults tree.old)
+        (S.faults tree.new) result }
     ensures apart { OnOk result (AreApart pile.new.items) }
     ensures end { IfErr result IsReadEnd }
     ensures read { IsRead (S.tree tree.old) walked.now piece.now.paths (S.may_fail tree.old) (S.calls tree.old)
@@ -93,9 +92,8 @@ fn read_at<S: Tree>(
     requires apart { AreApart pile.old.items }
     requires read { (start : Calls) × HasRead (S.tree tree.old) walked.now piece.now.paths start (S.calls tree.old) at
         (AreKept pile.old.items batch) }
-    ensures tree_stays { S.tree tree.new ≡ S.tree tree.old }
-    ensures weak_stays { S.may_fail tree.new ≡ S.may_fail tree.old }
-    ensures count { StepCounts (S.faults tree.old) (S.faults tree.new) result }
+    ensures stays { StepStays (S.tree tree.old) (S.tree tree.new) (S.may_fail tree.old) (S.may_fail tree.new) (S.faults tree.old)
+        (S.faults tree.new) result }
     ensures apart { OnOk result (AreApart pile.new.items) }
     ensures end { IfErr result IsReadEnd }
     ensures step { ReadsAt (S.tree tree.old) walked.now piece.now.paths at (S.may_fail tree.old) (S.calls tree.old) (S.calls tree.new)
@@ -125,9 +123,8 @@ fn read_next<S: Tree>(
     walked: &Walked,
     name: &str,
 ) -> Result<FileBytes, WalkAnswer>
-    ensures tree_stays { S.tree tree.new ≡ S.tree tree.old }
-    ensures weak_stays { S.may_fail tree.new ≡ S.may_fail tree.old }
-    ensures count { StepCounts (S.faults tree.old) (S.faults tree.new) result }
+    ensures stays { StepStays (S.tree tree.old) (S.tree tree.new) (S.may_fail tree.old) (S.may_fail tree.new) (S.faults tree.old)
+        (S.faults tree.new) result }
     ensures file { IfOk result (λ file. IfSome (S.tree tree.old) (λ t. IsFileAt t walked.now.root (read_file name.now file))) }
     ensures end { IfErr result IsReadEnd }
     ensures told { IfSome (S.tree tree.old) (ReadsNext walked.now.root name.now (S.may_fail tree.old) (S.calls tree.old)

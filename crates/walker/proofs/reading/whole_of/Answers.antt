@@ -1,4 +1,4 @@
-use Rattle.std.proofs.Common.{◌++◌, ◌∷◌, [], List, sym, subst}
+use Rattle.std.proofs.Common.{◌∷◌, List, subst}
 use Rattle.word_index.specs.Index.{Index}
 use Rattle.walker.specs.Pile.{AreApart, IsPileOf}
 use Rattle.walker.proofs.ListLemmas.{AllPairs-tail}
