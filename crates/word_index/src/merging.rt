@@ -23,10 +23,18 @@ fn join_tables(a: &Piece, b: &Piece, paths: &Union) -> Result<Table, AllocError>
     let most = a.words.len().saturating_add(b.words.len());
     let bytes = a.words.bytes().saturating_add(b.words.bytes());
     let total = a.places.total().saturating_add(b.places.total());
-    let mut words = Strings::with_room(a.alloc, bytes, most)?;
-    let mut places = Rows::with_room(a.alloc, total, most)?;
-    join_rows(a, b, paths, &mut words, &mut places)?;
-    Ok(Table { words, places })
+    let Table {
+        mut words,
+        mut places,
+    } = Table::with_room(a.alloc, bytes, total, most)?;
+    match join_rows(a, b, paths, &mut words, &mut places) {
+        Ok(()) => Ok(Table { words, places }),
+        Err(fault) => {
+            drop(words);
+            drop(places);
+            Err(fault)
+        }
+    }
 }
 
 // Puts the words of both in order into a list that is empty, and their places into another.
@@ -98,13 +106,10 @@ pub fn merge(a: Piece, b: Piece) -> Result<Piece, (Piece, Piece)>
 {
     match merged(&a, &b) {
         Ok(p) => {
-            drop_piece(a);
-            drop_piece(b);
+            drop(a);
+            drop(b);
             Ok(p)
         }
         Err(_) => Err((a, b)),
     }
 }
-
-// Drops a piece.
-fn drop_piece(_piece: Piece) {}
