@@ -85,15 +85,27 @@ fn merged(a: &Piece, b: &Piece) -> Result<Piece, AllocError>
     ensures { IfOk result (IsUnion a.now b.now) }
 {
     let paths = join_texts(a.alloc, &a.paths, &b.paths)?;
-    let skipped = join_texts(a.alloc, &a.skipped, &b.skipped)?;
-    let table = join_tables(a, b, &paths)?;
-    Ok(Piece {
-        alloc: a.alloc,
-        paths: paths.all,
-        skipped: skipped.all,
-        words: table.words,
-        places: table.places,
-    })
+    let skipped = match join_texts(a.alloc, &a.skipped, &b.skipped) {
+        Ok(skipped) => skipped.all,
+        Err(fault) => {
+            drop(paths.all);
+            return Err(fault);
+        }
+    };
+    match join_tables(a, b, &paths) {
+        Ok(table) => Ok(Piece {
+            alloc: a.alloc,
+            paths: paths.all,
+            skipped,
+            words: table.words,
+            places: table.places,
+        }),
+        Err(fault) => {
+            drop(paths.all);
+            drop(skipped);
+            Err(fault)
+        }
+    }
 }
 
 /// The index of the files of both. Where memory fails, both come back as they were.
