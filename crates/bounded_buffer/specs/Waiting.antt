@@ -7,7 +7,9 @@ use Rattle.nub_rule.specs.Plays.{release_event, enqueue_event}
 use Rattle.nub.specs.Rest.{AtRest, Adds, IsSame}
 use Rattle.alert_wait.specs.declared.outcome.Outcome.{Outcome}
 use Rattle.alert_wait.specs.Outcomes.{wait_end}
+use Rattle.bounded_buffer.specs.declared.at.BufferAt.{BufferAt}
 use Rattle.bounded_buffer.specs.declared.did.Did.{Did}
+use Rattle.bounded_buffer.specs.At.{IsNamed}
 use Rattle.bounded_buffer.specs.Calls.{signals, did_last, Looked}
 use Rattle.bounded_buffer.specs.Parts.{Used, did}
 use Rattle.bounded_buffer.specs.Rings.{Held}
@@ -49,6 +51,16 @@ module _ {W V H T : Type 0} (part : H → ℕ → Used T) (alike : H → H → T
     pub elsewhere : (j : ℕ) → j ≢ m → part share j ≡ part s j
     pub is_alike : alike s share
     pub fits : fit p.world m x a.number share
+
+module _ {W V H T : Type 0} (is_buffer : W → BufferAt → Type 0) (ring_in : V → Opt (Held T)) where
+  -- the thread is in a call at the buffer, and has its mutex with the value x, which is this ring
+  pub record HasRing (p : Shape W) (at : BufferAt) (x : V) (q : Held T) (me : Known V H W) : Type 0 where
+    pub rest : AtRest p me
+    pub named : IsNamed p.layout at
+    pub buffer : is_buffer p.world at
+    pub world : me.world ≡ Some p.world
+    pub holds : Holds me at.mutex.0 x
+    pub ring : ring_in x ≡ Some q
 
 module _ {W V H T : Type 0} (ring_in : V → Opt (Held T)) (part : H → ℕ → Used T) (after : W → ℕ → ℕ → V → V → H → H) where
   -- the thread did this last, or nothing, and gave m back

@@ -1,11 +1,10 @@
 //! Getting the ring out of a value, and giving a mutex back with the ring as it was got.
 ghost use Rattle.std.specs.Prelude.{◌≡◌, None, Some, slice_set};
-ghost use Rattle.nub_rule.specs.Known.{Holds};
 ghost use Rattle.nub_rule.specs.Plays.{release_event};
 ghost use Rattle.std.specs.Prelude.{[]};
 ghost use Rattle.nub.specs.Rest.{AtRest, Adds, IsSame};
-ghost use Rattle.bounded_buffer.specs.At.{IsNamed};
 ghost use Rattle.bounded_buffer.specs.Rings.{Held};
+ghost use Rattle.bounded_buffer.specs.Waiting.{HasRing};
 
 use crate::at::BufferAt;
 use crate::buffer_use::BufferUse;
@@ -39,11 +38,7 @@ pub(crate) fn give_up<B: BufferUse, R: Wait>(
     at: &BufferAt,
     value: B::Value,
 )
-    requires rest { AtRest p.now me.old }
-    requires named { IsNamed p.now.layout at.now }
-    requires buffer { B.is_buffer p.now.world at.now }
-    requires world { me.old.world ≡ Some p.now.world }
-    requires got { Holds me.old at.now.mutex.0 value × ((q : Held B.Item) × (B.ring_in value ≡ Some q)) }
+    requires { (q : Held B.Item) × HasRing B.is_buffer B.ring_in p.now at.now value q me.old }
     ensures rest { AtRest p.now me.new }
     ensures same { IsSame me.old me.new }
     ensures held { me.new.held ≡ slice_set me.old.held at.now.mutex.0 None }

@@ -3,14 +3,13 @@ ghost use Rattle.std.specs.Prelude.{◌≡◌, ◌<◌, ◌+◌, ◌^◌, ℕ, [
 ghost use Rattle.std.specs.List.{All};
 ghost use mathlib.Core.Option.{some};
 ghost use lib.ListN.{get_elem?};
-ghost use Rattle.nub_rule.specs.Known.{Holds};
 ghost use Rattle.nub.specs.Rest.{AtRest, IsSame};
 ghost use Rattle.bounded_buffer.specs.declared.did.Did.TheVariants.{Put, SawShut, WaitedFull};
 ghost use Rattle.bounded_buffer.specs.At.{IsNamed};
 ghost use Rattle.bounded_buffer.specs.Calls.{Ran, put_did};
 ghost use Rattle.bounded_buffer.specs.Parts.{more_full};
 ghost use Rattle.bounded_buffer.specs.Rings.{put_count};
-ghost use Rattle.bounded_buffer.specs.Waiting.{HasGiven, HasWaited};
+ghost use Rattle.bounded_buffer.specs.Waiting.{HasRing, HasGiven, HasWaited};
 
 use crate::at::BufferAt;
 use crate::buffer_use::BufferUse;
@@ -31,11 +30,7 @@ fn refuse_put<B: BufferUse, R: Wait>(
     at: &BufferAt,
     ring: Ring<B::Item>,
 )
-    requires rest { AtRest p.now me.old }
-    requires named { IsNamed p.now.layout at.now }
-    requires buffer { B.is_buffer p.now.world at.now }
-    requires world { me.old.world ≡ Some p.now.world }
-    requires got { (x : B.Value) × Holds me.old at.now.mutex.0 x × (B.ring_in x ≡ Some ring) }
+    requires has { (x : B.Value) × HasRing B.is_buffer B.ring_in p.now at.now x ring me.old }
     requires shut { ring.shut ≡ true }
     ensures rest { AtRest p.now me.new }
     ensures same { IsSame me.old me.new }
@@ -57,11 +52,7 @@ fn put_last<B: BufferUse, R: Wait>(
     mut ring: Ring<B::Item>,
     item: B::Item,
 ) -> u64
-    requires rest { AtRest p.now me.old }
-    requires named { IsNamed p.now.layout at.now }
-    requires buffer { B.is_buffer p.now.world at.now }
-    requires world { me.old.world ≡ Some p.now.world }
-    requires got { (x : B.Value) × Holds me.old at.now.mutex.0 x × (B.ring_in x ≡ Some ring) }
+    requires has { (x : B.Value) × HasRing B.is_buffer B.ring_in p.now at.now x ring me.old }
     requires opened { ring.shut ≡ false }
     requires room { length ring.items < ring.capacity }
     requires may { (s : B.Share) → me.old.share ≡ Some s → B.may_put p.now.world at.now.mutex.0 me.old.number item s }
@@ -91,11 +82,7 @@ fn wait_for_room<B: BufferUse, R: Wait>(
     at: &BufferAt,
     ring: Ring<B::Item>,
 ) -> (Outcome, B::Value)
-    requires rest { AtRest p.now me.old }
-    requires named { IsNamed p.now.layout at.now }
-    requires buffer { B.is_buffer p.now.world at.now }
-    requires world { me.old.world ≡ Some p.now.world }
-    requires got { (x : B.Value) × Holds me.old at.now.mutex.0 x × (B.ring_in x ≡ Some ring) }
+    requires has { (x : B.Value) × HasRing B.is_buffer B.ring_in p.now at.now x ring me.old }
     requires opened { ring.shut ≡ false }
     requires full { length ring.items ≡ ring.capacity }
     ensures rest { AtRest p.now me.new }

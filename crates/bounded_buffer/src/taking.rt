@@ -3,13 +3,12 @@ ghost use Rattle.std.specs.Prelude.{◌≡◌, ◌<◌, List, ◌∷◌, [], Non
 ghost use Rattle.std.specs.List.{All};
 ghost use mathlib.Core.Option.{some};
 ghost use lib.ListN.{get_elem?};
-ghost use Rattle.nub_rule.specs.Known.{Holds};
 ghost use Rattle.nub.specs.Rest.{AtRest, IsSame};
 ghost use Rattle.bounded_buffer.specs.declared.did.Did.TheVariants.{Took, SawEnd, WaitedEmpty};
 ghost use Rattle.bounded_buffer.specs.At.{IsNamed};
 ghost use Rattle.bounded_buffer.specs.Calls.{Ran, take_did};
 ghost use Rattle.bounded_buffer.specs.Parts.{more_empty};
-ghost use Rattle.bounded_buffer.specs.Waiting.{HasGiven, HasWaited};
+ghost use Rattle.bounded_buffer.specs.Waiting.{HasRing, HasGiven, HasWaited};
 
 use crate::at::BufferAt;
 use crate::buffer_use::BufferUse;
@@ -30,11 +29,7 @@ fn refuse_take<B: BufferUse, R: Wait>(
     at: &BufferAt,
     ring: Ring<B::Item>,
 )
-    requires rest { AtRest p.now me.old }
-    requires named { IsNamed p.now.layout at.now }
-    requires buffer { B.is_buffer p.now.world at.now }
-    requires world { me.old.world ≡ Some p.now.world }
-    requires got { (x : B.Value) × Holds me.old at.now.mutex.0 x × (B.ring_in x ≡ Some ring) }
+    requires has { (x : B.Value) × HasRing B.is_buffer B.ring_in p.now at.now x ring me.old }
     requires shut { ring.shut ≡ true }
     requires empty { ring.items ≡ [] }
     ensures rest { AtRest p.now me.new }
@@ -54,11 +49,7 @@ fn take_first<B: BufferUse, R: Wait>(
     at: &BufferAt,
     mut ring: Ring<B::Item>,
 ) -> (u64, B::Item)
-    requires rest { AtRest p.now me.old }
-    requires named { IsNamed p.now.layout at.now }
-    requires buffer { B.is_buffer p.now.world at.now }
-    requires world { me.old.world ≡ Some p.now.world }
-    requires got { (x : B.Value) × Holds me.old at.now.mutex.0 x × (B.ring_in x ≡ Some ring) }
+    requires has { (x : B.Value) × HasRing B.is_buffer B.ring_in p.now at.now x ring me.old }
     requires some { 0 < length ring.items }
     ensures rest { AtRest p.now me.new }
     ensures same { IsSame me.old me.new }
@@ -82,11 +73,7 @@ fn wait_for_more<B: BufferUse, R: Wait>(
     at: &BufferAt,
     ring: Ring<B::Item>,
 ) -> (Outcome, B::Value)
-    requires rest { AtRest p.now me.old }
-    requires named { IsNamed p.now.layout at.now }
-    requires buffer { B.is_buffer p.now.world at.now }
-    requires world { me.old.world ≡ Some p.now.world }
-    requires got { (x : B.Value) × Holds me.old at.now.mutex.0 x × (B.ring_in x ≡ Some ring) }
+    requires has { (x : B.Value) × HasRing B.is_buffer B.ring_in p.now at.now x ring me.old }
     requires opened { ring.shut ≡ false }
     requires empty { ring.items ≡ [] }
     ensures rest { AtRest p.now me.new }

@@ -1,9 +1,9 @@
 -- Words say one task.
-use Rattle.std.proofs.Common.{◌≡◌, ◌∙◌, ◌≤◌, ℕ, Option, Some, None, IfSome, List, [], ◌∷◌, ap, ap₂, arith, codes, refl, subst, sym}
+use Rattle.std.proofs.Common.{◌≡◌, ◌∙◌, ◌≤◌, ◌⊎◌, inl, inr, ℕ, Option, Some, None, IfSome, List, [], ◌∷◌, ap, ap₂, arith, codes, refl, subst, sym}
 use Rattle.std.specs.Prelude.{decimal}
 use Rattle.std.specs.List.{AllByRecursion, filter_map}
 use Rattle.std.proofs.lemmas.Fmt.{decimal_injective}
-use Rattle.command_line.specs.Grammar.{AreInRange, IsDirectory, IsPart, Options, Part, Say, SayOptions, SayWith, Task, Text, directory, path_of, setting, check, index, run, sample, trace}
+use Rattle.command_line.specs.Grammar.{AreInRange, BeginOptions, HasOptions, IsDirectory, IsInRange, IsPart, Options, Part, Say, SayOptions, SayWith, Task, Text, directory, path_of, setting, check, index, run, sample, trace}
 use Rattle.command_line.specs.Reading.{IsNumberOr, IsStop}
 use Rattle.command_line.proofs.Said.{by_recursion, said-taken}
 use Rattle.command_line.proofs.Taken.{held-same}
@@ -121,3 +121,22 @@ options_in_range words o s =
       mergers = number_in 2 _ o.mergers (omega arith) (omega arith) held.mergers;
       stop_after = stop_in _ o.stop_after held.stop_after;
     }
+
+pub task_in_range : (words : List Text) (t : Task) → Say words t → IsInRange t
+task_in_range words check s = tt
+task_in_range words run s = tt
+task_in_range words (index o) s = options_in_range s.0 o s.2
+task_in_range words (trace o) s = options_in_range s.0 o s.2
+task_in_range words (sample seed files) s = (s.2, s.3)
+
+-- ---- what words say has options where options may follow the first word
+
+begun_letter : (words : List Text) → BeginOptions words → (letter words ≡ 105) ⊎ (letter words ≡ 116)
+begun_letter words b = elim b.1 [ inl is ↦ inl (ap letter is) | inr is ↦ inr (ap letter is) ]
+
+pub begun_options : (words : List Text) (t : Task) → BeginOptions words → Say words t → HasOptions t
+begun_options words (index o) b s = tt
+begun_options words (trace o) b s = tt
+begun_options words check b s = elim (begun_letter words b) [ inl e ↦ absurd (omega (arith, e, said_letter words check s)) | inr e ↦ absurd (omega (arith, e, said_letter words check s)) ]
+begun_options words run b s = elim (begun_letter words b) [ inl e ↦ absurd (omega (arith, e, said_letter words run s)) | inr e ↦ absurd (omega (arith, e, said_letter words run s)) ]
+begun_options words (sample a n) b s = elim (begun_letter words b) [ inl e ↦ absurd (omega (arith, e, said_letter words (sample a n) s)) | inr e ↦ absurd (omega (arith, e, said_letter words (sample a n) s)) ]

@@ -48,6 +48,16 @@ pub fn read_words<'a>(alloc: Global, words: &'a [String]) -> Result<Command<'a>,
         → Say (map string_bytes words.entry.now) t → HasOptions t }
     ensures begun { result ≡ Err WordsFault.Memory → BeginOptions (map string_bytes words.entry.now) }
 {
+    read_command(alloc, words)
+}
+
+// The command that the words say.
+fn read_command<'a>(alloc: Global, words: &'a [String]) -> Result<Command<'a>, WordsFault>
+    ensures said { IfOk result (λ c. Say (map string_bytes words.entry.now) (task_of c)) }
+    ensures usage { result ≡ Err WordsFault.Usage
+        → SayNothing (map string_bytes words.entry.now) }
+    ensures begun { result ≡ Err WordsFault.Memory → BeginOptions (map string_bytes words.entry.now) }
+{
     let Some((first, rest)) = words.split_first() else {
         return Err(WordsFault::Usage);
     };

@@ -10,7 +10,7 @@ use Rattle.firefly_outside.specs.declared.tree.Kind.TheVariants.{File, Dir}
 use Rattle.walker.specs.Walk.{Walk, dirs_of, IsListed, IsUnlisted, IsSound, IsWalkOf, marked}
 use Rattle.walker.specs.Listings.{Notes, IsToldBy, ListsDir, with_listed}
 use Rattle.walker.specs.Closing.{Answers, CallsOnce, IsDone, failed_by, IsNumbered, HasRisen}
-use Rattle.walker.specs.Progress.{IsWithinLimits, IsPassed, ListsMore, KeptLimits, StopsListing, ListsOne, ListsAt, ListsRest, IsListedBelow, IsListedWhole, Grows}
+use Rattle.walker.specs.Progress.{IsWithinLimits, IsPassed, ListsMore, KeptLimits, StopsListing, ListsOne, ListsAt, ListsRest, IsListedBelow, IsListedWhole, Grows, StepStays}
 use Rattle.firefly_outside.specs.declared.tree.TreeError.TheVariants as TreeError
 use Rattle.std.specs.Bool.{nat_eq}
 use Rattle.std.specs.Cmp.Lexicographic.{pointwise}
@@ -338,6 +338,16 @@ passed_counts w stop (Stopped many) count p = refl
 passed_counts w stop (ReadFault path) count p = absurd p
 passed_counts w stop (TooMany many) count p = refl
 passed_counts w stop Memory count p = absurd p
+
+-- an end after steps that left all as it was
+pub stays_then : {T U : Type 0} {tree mid told : Option Told} {weak between vague : List Path} {before middle now : ℕ} {answer : WalkAnswer} → mid ≡ tree → between ≡ weak → middle ≡ before
+    → StepStays {T = T} mid told between vague middle now (Err answer) → StepStays {T = U} tree told weak vague before now (Err answer)
+stays_then {now} {answer} tree weak count h = record { tree = h.tree ∙ tree; weak = h.weak ∙ weak; count = subst (λ (n : ℕ). HasRisen n now answer) count h.count }
+
+-- an end at a limit after steps that left all as it was
+pub stays_passed : {T : Type 0} {tree told : Option Told} {weak vague : List Path} {before now : ℕ} → told ≡ tree → vague ≡ weak → now ≡ before
+    → (w : Walk) (stop : Option ℕ) (answer : WalkAnswer) → IsPassed w stop answer → StepStays {T = T} tree told weak vague before now (Err answer)
+stays_passed {before} tree weak count w stop answer passed = record { tree = tree; weak = weak; count = subst (λ (n : ℕ). HasRisen before n answer) (sym count) (passed_counts w stop answer before passed) }
 
 pub OnOk-map : {T E : Type 0} (r : Result T E) (P Q : Type 0) → (P → Q) → OnOk r P → OnOk r Q
 OnOk-map (Ok v) P Q f h = f h

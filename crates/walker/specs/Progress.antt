@@ -24,6 +24,12 @@ abbrev pub StepCounts : {T : Type 0} → ℕ → ℕ → Result T WalkAnswer →
 StepCounts before now (Ok v) = now ≡ before
 StepCounts before now (Err answer) = HasRisen before now answer
 
+-- a step leaves what the tree tells and which paths may fail, and the count as it may be after it
+pub record StepStays {T : Type 0} (old new : Option Told) (may might : List Path) (before now : ℕ) (result : Result T WalkAnswer) : Type 0 where
+  pub tree : new ≡ old
+  pub weak : might ≡ may
+  pub count : StepCounts before now result
+
 -- only listings were made, each of a directory that wasn't listed, once
 pub record ListsMore (first w : Walk) (before now : Calls) : Type 0 where
   pub dirs : List Path

@@ -1,7 +1,7 @@
 //! The walk that lists what isn't listed and reads what isn't covered.
 ghost use Rattle.std.specs.Prelude.{◌≡◌, ◌+◌, ◌≤◌, ◌<◌, ℕ, Option, Some, false, length, IfSome, OnOk, IfErr, MatchOption, slice_get};
 ghost use Rattle.walker.specs.Walk.{IsWalkOf, IsSound, IsUnlisted};
-ghost use Rattle.walker.specs.Progress.{IsWithinLimits, IsPassed, StepCounts, Grows, IsListedBelow, IsListedWhole, ListsAt, ListsRest, EndsPassed};
+ghost use Rattle.walker.specs.Progress.{IsWithinLimits, IsPassed, StepStays, Grows, IsListedBelow, IsListedWhole, ListsAt, ListsRest, EndsPassed};
 ghost use Rattle.walker.specs.TreeIndex.{IsPartOf};
 ghost use Rattle.walker.specs.Closing.{most_dirs, HasRisen, IsNumbered, Answers, CallsOnce};
 
@@ -72,7 +72,10 @@ fn close_rest<S: Tree>(
 {
     match list_whole(alloc, tree, walked, stop_after) {
         Ok(()) => read_rest(alloc, tree, walked, piece),
-        Err(answer) => answer,
+        Err(answer) => {
+            drop(piece);
+            answer
+        }
     }
 }
 
@@ -85,9 +88,8 @@ fn list_whole<S: Tree>(
 ) -> Result<(), WalkAnswer>
     requires stop { IfSome stop_after (λ n. n ≤ 1000000000) }
     requires told { IfSome (S.tree tree.old) (IsWalkOf walked.old) }
-    ensures tree_stays { S.tree tree.new ≡ S.tree tree.old }
-    ensures weak_stays { S.may_fail tree.new ≡ S.may_fail tree.old }
-    ensures count { StepCounts (S.faults tree.old) (S.faults tree.new) result }
+    ensures stays { StepStays (S.tree tree.old) (S.tree tree.new) (S.may_fail tree.old) (S.may_fail tree.new) (S.faults tree.old)
+        (S.faults tree.new) result }
     ensures grows { Grows walked.old walked.new }
     ensures start { OnOk result (IsWithinLimits walked.old stop_after) }
     ensures many_at_start { IfErr result (λ a. most_dirs < length walked.old.dirs → a ≡ WalkAnswer.TooMany (most_dirs + 1)) }
@@ -137,9 +139,8 @@ fn list_rest<S: Tree>(
     requires stop { IfSome stop_after (λ n. n ≤ 1000000000) }
     requires limits { IsWithinLimits walked.old stop_after }
     requires told { IfSome (S.tree tree.old) (IsWalkOf walked.old) }
-    ensures tree_stays { S.tree tree.new ≡ S.tree tree.old }
-    ensures weak_stays { S.may_fail tree.new ≡ S.may_fail tree.old }
-    ensures count { StepCounts (S.faults tree.old) (S.faults tree.new) result }
+    ensures stays { StepStays (S.tree tree.old) (S.tree tree.new) (S.may_fail tree.old) (S.may_fail tree.new) (S.faults tree.old)
+        (S.faults tree.new) result }
     ensures grows { Grows walked.old walked.new }
     ensures limits { OnOk result (IsWithinLimits walked.new stop_after) }
     ensures listed { OnOk result (IsListedWhole walked.new) }
@@ -170,9 +171,8 @@ fn list_at<S: Tree>(
     at: usize,
 ) -> Result<(), WalkAnswer>
     requires within { at < length walked.old.dirs }
-    ensures tree_stays { S.tree tree.new ≡ S.tree tree.old }
-    ensures weak_stays { S.may_fail tree.new ≡ S.may_fail tree.old }
-    ensures count { StepCounts (S.faults tree.old) (S.faults tree.new) result }
+    ensures stays { StepStays (S.tree tree.old) (S.tree tree.new) (S.may_fail tree.old) (S.may_fail tree.new) (S.faults tree.old)
+        (S.faults tree.new) result }
     ensures grows { Grows walked.old walked.new }
     ensures below { OnOk result (IsListedBelow walked.old at → IsListedBelow walked.new (at + 1)) }
     ensures numbers { IfErr result (λ a. (stop : Option ℕ) → IsNumbered stop a) }
@@ -196,9 +196,8 @@ fn list_next<S: Tree>(
     dir: Text,
 ) -> Result<(), WalkAnswer>
     requires { IsUnlisted walked.old dir }
-    ensures tree_stays { S.tree tree.new ≡ S.tree tree.old }
-    ensures weak_stays { S.may_fail tree.new ≡ S.may_fail tree.old }
-    ensures count { StepCounts (S.faults tree.old) (S.faults tree.new) result }
+    ensures stays { StepStays (S.tree tree.old) (S.tree tree.new) (S.may_fail tree.old) (S.may_fail tree.new) (S.faults tree.old)
+        (S.faults tree.new) result }
     ensures grows { Grows walked.old walked.new }
     ensures below { OnOk result ((at : ℕ) → slice_get walked.old.dirs at ≡ Some (dir, false) → IsListedBelow walked.old at
         → IsListedBelow walked.new (at + 1)) }

@@ -1,11 +1,11 @@
 //! The files of a walk that was listed whole.
 ghost use Rattle.std.specs.Prelude.{◌≡◌, ◌++◌, ◌∷◌, [], ◌+◌, ◌≤◌, ◌<◌, ℕ, List, Option, Some, length, IfSome, IfOk, OnOk, IfErr, AllPairs, Contains, map, take};
 ghost use Rattle.firefly_outside.specs.Trees.{Calls};
-ghost use Rattle.word_index.specs.Index.{File, Meet, IsIndexOf, IsUnion};
+ghost use Rattle.word_index.specs.Index.{File, Index, Meet, IsIndexOf, IsUnion};
 ghost use Rattle.walker.specs.Walk.{IsWalkOf, IsSound};
 ghost use Rattle.walker.specs.TreeIndex.{IsPartOf, IsFileAt};
 ghost use Rattle.walker.specs.Closing.{HasRisen};
-ghost use Rattle.walker.specs.Progress.{StepCounts, IsListedWhole};
+ghost use Rattle.walker.specs.Progress.{StepStays, IsListedWhole};
 ghost use Rattle.walker.specs.Pile.{IsPileOf, AreApart, AreKept, AreDistinct, ReadsNext, ReadsRest, IsReadEnd, IsRead, ReadsAt, HasRead};
 ghost use Rattle.word_index.specs.Read.{read_file};
 
@@ -30,11 +30,19 @@ pub fn read_rest<S: Tree>(alloc: Global, tree: &mut S, walked: &Walked, piece: P
 {
     let mut pile = Vec::new(alloc);
     match read_files(alloc, tree, walked, &piece, &mut pile) {
-        Ok(()) => match whole_of(piece, pile) {
-            Ok(index) => WalkAnswer::Done(index),
-            Err(_) => WalkAnswer::Memory,
-        },
-        Err(answer) => answer,
+        Ok(()) => {
+            let whole = whole_of(piece, &mut pile);
+            drop(pile);
+            match whole {
+                Ok(index) => WalkAnswer::Done(index),
+                Err(_) => WalkAnswer::Memory,
+            }
+        }
+        Err(answer) => {
+            drop(piece);
+            drop(pile);
+            answer
+        }
     }
 }
 
@@ -49,9 +57,8 @@ fn read_files<S: Tree>(
     requires sound { IsSound walked.now }
     requires empty { pile.old.items ≡ [] }
     requires told { IfSome (S.tree tree.old) (IsWalkOf walked.now) }
-    ensures tree_stays { S.tree tree.new ≡ S.tree tree.old }
-    ensures weak_stays { S.may_fail tree.new ≡ S.may_fail tree.old }
-    ensures count { StepCounts (S.faults tree.old) (S.faults tree.new) result }
+    ensures stays { StepStays (S.tree tree.old) (S.tree tree.new) (S.may_fail tree.old) (S.may_fail tree.new) (S.faults tree.old)
+        (S.faults tree.new) result }
     ensures apart { OnOk result (AreApart pile.new.items) }
     ensures end { IfErr result IsReadEnd }
     ensures read { IsRead (S.tree tree.old) walked.now piece.now.paths (S.may_fail tree.old) (S.calls tree.old)
@@ -85,9 +92,8 @@ fn read_at<S: Tree>(
     requires apart { AreApart pile.old.items }
     requires read { (start : Calls) × HasRead (S.tree tree.old) walked.now piece.now.paths start (S.calls tree.old) at
         (AreKept pile.old.items batch) }
-    ensures tree_stays { S.tree tree.new ≡ S.tree tree.old }
-    ensures weak_stays { S.may_fail tree.new ≡ S.may_fail tree.old }
-    ensures count { StepCounts (S.faults tree.old) (S.faults tree.new) result }
+    ensures stays { StepStays (S.tree tree.old) (S.tree tree.new) (S.may_fail tree.old) (S.may_fail tree.new) (S.faults tree.old)
+        (S.faults tree.new) result }
     ensures apart { OnOk result (AreApart pile.new.items) }
     ensures end { IfErr result IsReadEnd }
     ensures step { ReadsAt (S.tree tree.old) walked.now piece.now.paths at (S.may_fail tree.old) (S.calls tree.old) (S.calls tree.new)
@@ -99,7 +105,10 @@ fn read_at<S: Tree>(
     }
     let file = match read_next(alloc, tree, walked, name) {
         Ok(file) => file,
-        Err(answer) => return Err(answer),
+        Err(answer) => {
+            drop(batch);
+            return Err(answer);
+        }
     };
     match keep_file(alloc, pile, batch, name, &file) {
         Ok(batch) => Ok(batch),
@@ -114,9 +123,8 @@ fn read_next<S: Tree>(
     walked: &Walked,
     name: &str,
 ) -> Result<FileBytes, WalkAnswer>
-    ensures tree_stays { S.tree tree.new ≡ S.tree tree.old }
-    ensures weak_stays { S.may_fail tree.new ≡ S.may_fail tree.old }
-    ensures count { StepCounts (S.faults tree.old) (S.faults tree.new) result }
+    ensures stays { StepStays (S.tree tree.old) (S.tree tree.new) (S.may_fail tree.old) (S.may_fail tree.new) (S.faults tree.old)
+        (S.faults tree.new) result }
     ensures file { IfOk result (λ file. IfSome (S.tree tree.old) (λ t. IsFileAt t walked.now.root (read_file name.now file))) }
     ensures end { IfErr result IsReadEnd }
     ensures told { IfSome (S.tree tree.old) (ReadsNext walked.now.root name.now (S.may_fail tree.old) (S.calls tree.old)
@@ -185,8 +193,13 @@ fn add_piece(pile: &mut Vec<Piece>, next: Piece) -> Result<(), AllocError>
 fn put_both(pile: &mut Vec<Piece>, below: Piece, top: Piece) -> Result<(), AllocError>
     ensures { OnOk result (pile.new.items ≡ pile.old.items ++ below ∷ [] ++ top ∷ []) }
 {
-    put_on(pile, below)?;
-    put_on(pile, top)
+    match put_on(pile, below) {
+        Ok(()) => put_on(pile, top),
+        Err(error) => {
+            drop(top);
+            Err(error)
+        }
+    }
 }
 
 fn put_on(pile: &mut Vec<Piece>, top: Piece) -> Result<(), AllocError>
@@ -197,18 +210,33 @@ fn put_on(pile: &mut Vec<Piece>, top: Piece) -> Result<(), AllocError>
 }
 
 // Merges all pieces of the pile with the first.
-fn whole_of(first: Piece, pile: Vec<Piece>) -> Result<Piece, AllocError>
-    requires { AreApart (first ∷ pile.items) }
-    ensures { IfOk result (λ p. (fs gs : List File) → IsIndexOf fs first → IsPileOf pile.items gs → IsIndexOf (fs ++ gs) p) }
+fn whole_of(first: Piece, pile: &mut Vec<Piece>) -> Result<Piece, AllocError>
+    requires { AreApart (first ∷ pile.old.items) }
+    ensures { IfOk result (λ p. (fs gs : List File) → IsIndexOf fs first → IsPileOf pile.old.items gs → IsIndexOf (fs ++ gs) p) }
 {
-    let mut pile = pile;
-    let Some(mut top) = pile.pop() else {
+    let Some(top) = pile.pop() else {
         return Ok(first);
     };
+    match merged_onto(pile, top) {
+        Ok(rest) => merge_first(first, rest),
+        Err(error) => {
+            drop(first);
+            Err(error)
+        }
+    }
+}
+
+// Merges all pieces of the pile with the one that lay on top.
+fn merged_onto(pile: &mut Vec<Piece>, last: Piece) -> Result<Piece, AllocError>
+    requires { AreApart (pile.old.items ++ last ∷ []) }
+    ensures apart { IfOk result (λ p. (first : Index) → AreApart (first ∷ pile.old.items ++ last ∷ []) → ¬ Meet first p) }
+    ensures index { IfOk result (λ p. (files : List File) → IsPileOf (pile.old.items ++ last ∷ []) files → IsIndexOf files p) }
+{
+    let mut top = last;
     while let Some(below) = pile.pop() {
         top = merged(below, top)?;
     }
-    merge_first(first, top)
+    Ok(top)
 }
 
 // Merges the piece that the walk began with. An empty one of the two, which adds nothing, is dropped.
@@ -217,18 +245,15 @@ fn merge_first(first: Piece, rest: Piece) -> Result<Piece, AllocError>
     ensures { IfOk result (λ p. (fs gs : List File) → IsIndexOf fs first → IsIndexOf gs rest → IsIndexOf (fs ++ gs) p) }
 {
     if first.files() == 0 {
-        drop_piece(first);
+        drop(first);
         return Ok(rest);
     }
     if rest.files() == 0 {
-        drop_piece(rest);
+        drop(rest);
         return Ok(first);
     }
     merged(first, rest)
 }
-
-// Drops a piece.
-fn drop_piece(_piece: Piece) {}
 
 // Merges two pieces. Where memory wants, both are dropped.
 fn merged(a: Piece, b: Piece) -> Result<Piece, AllocError>
@@ -239,8 +264,8 @@ fn merged(a: Piece, b: Piece) -> Result<Piece, AllocError>
     match merge(a, b) {
         Ok(piece) => Ok(piece),
         Err((a, b)) => {
-            drop_piece(a);
-            drop_piece(b);
+            drop(a);
+            drop(b);
             Err(AllocError)
         }
     }

@@ -92,14 +92,22 @@ impl Batch {
             skipped,
             lows,
         } = self;
-        let table = table_of(alloc, &lows)?;
-        Ok(Piece {
-            alloc,
-            paths,
-            skipped,
-            words: table.words,
-            places: table.places,
-        })
+        let table = table_of(alloc, &lows);
+        drop(lows);
+        match table {
+            Ok(table) => Ok(Piece {
+                alloc,
+                paths,
+                skipped,
+                words: table.words,
+                places: table.places,
+            }),
+            Err(fault) => {
+                drop(paths);
+                drop(skipped);
+                Err(fault)
+            }
+        }
     }
 }
 
@@ -115,13 +123,20 @@ fn add_long(batch: Batch, path: &[u8]) -> Result<Batch, AllocError>
         mut skipped,
         mut lows,
     } = batch;
-    put_long(&mut paths, &mut skipped, &mut lows, path)?;
-    Ok(Batch {
-        alloc,
-        paths,
-        skipped,
-        lows,
-    })
+    match put_long(&mut paths, &mut skipped, &mut lows, path) {
+        Ok(()) => Ok(Batch {
+            alloc,
+            paths,
+            skipped,
+            lows,
+        }),
+        Err(fault) => {
+            drop(paths);
+            drop(skipped);
+            drop(lows);
+            Err(fault)
+        }
+    }
 }
 
 // Puts what is kept of a file that is too long behind the others.
@@ -153,13 +168,20 @@ fn add_short(batch: Batch, path: &[u8], bytes: &[u8]) -> Result<Batch, AllocErro
         skipped,
         mut lows,
     } = batch;
-    put_short(&mut paths, &mut lows, path, bytes)?;
-    Ok(Batch {
-        alloc,
-        paths,
-        skipped,
-        lows,
-    })
+    match put_short(&mut paths, &mut lows, path, bytes) {
+        Ok(()) => Ok(Batch {
+            alloc,
+            paths,
+            skipped,
+            lows,
+        }),
+        Err(fault) => {
+            drop(paths);
+            drop(skipped);
+            drop(lows);
+            Err(fault)
+        }
+    }
 }
 
 // Puts what is kept of a file of these bytes behind the others.

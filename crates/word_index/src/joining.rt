@@ -55,11 +55,16 @@ pub fn join_texts(alloc: Global, a: &Strings, b: &Strings) -> Result<Union, Allo
     ensures members { IfOk result (λ u. (x : List ℕ) →
         Contains u.all x ↔ (Contains a.now x ⊎ Contains b.now x)) }
 {
-    let mut all = Strings::with_room(alloc, a.bytes(), a.len())?;
     let mut of_a = Vec::with_capacity(alloc, a.len())?;
     let mut of_b = Vec::with_capacity(alloc, b.len())?;
-    join_into(a, b, &mut all, &mut of_a, &mut of_b)?;
-    Ok(Union { all, of_a, of_b })
+    let mut all = Strings::with_room(alloc, a.bytes(), a.len())?;
+    match join_into(a, b, &mut all, &mut of_a, &mut of_b) {
+        Ok(()) => Ok(Union { all, of_a, of_b }),
+        Err(fault) => {
+            drop(all);
+            Err(fault)
+        }
+    }
 }
 
 // Puts the texts of both in order into a list that is empty, and their numbers there into two.

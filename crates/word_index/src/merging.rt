@@ -23,10 +23,18 @@ fn join_tables(a: &Piece, b: &Piece, paths: &Union) -> Result<Table, AllocError>
     let most = a.words.len().saturating_add(b.words.len());
     let bytes = a.words.bytes().saturating_add(b.words.bytes());
     let total = a.places.total().saturating_add(b.places.total());
-    let mut words = Strings::with_room(a.alloc, bytes, most)?;
-    let mut places = Rows::with_room(a.alloc, total, most)?;
-    join_rows(a, b, paths, &mut words, &mut places)?;
-    Ok(Table { words, places })
+    let Table {
+        mut words,
+        mut places,
+    } = Table::with_room(a.alloc, bytes, total, most)?;
+    match join_rows(a, b, paths, &mut words, &mut places) {
+        Ok(()) => Ok(Table { words, places }),
+        Err(fault) => {
+            drop(words);
+            drop(places);
+            Err(fault)
+        }
+    }
 }
 
 // Puts the words of both in order into a list that is empty, and their places into another.
@@ -77,15 +85,27 @@ fn merged(a: &Piece, b: &Piece) -> Result<Piece, AllocError>
     ensures { IfOk result (IsUnion a.now b.now) }
 {
     let paths = join_texts(a.alloc, &a.paths, &b.paths)?;
-    let skipped = join_texts(a.alloc, &a.skipped, &b.skipped)?;
-    let table = join_tables(a, b, &paths)?;
-    Ok(Piece {
-        alloc: a.alloc,
-        paths: paths.all,
-        skipped: skipped.all,
-        words: table.words,
-        places: table.places,
-    })
+    let skipped = match join_texts(a.alloc, &a.skipped, &b.skipped) {
+        Ok(skipped) => skipped.all,
+        Err(fault) => {
+            drop(paths.all);
+            return Err(fault);
+        }
+    };
+    match join_tables(a, b, &paths) {
+        Ok(table) => Ok(Piece {
+            alloc: a.alloc,
+            paths: paths.all,
+            skipped,
+            words: table.words,
+            places: table.places,
+        }),
+        Err(fault) => {
+            drop(paths.all);
+            drop(skipped);
+            Err(fault)
+        }
+    }
 }
 
 /// The index of the files of both. Where memory fails, both come back as they were.
@@ -98,13 +118,10 @@ pub fn merge(a: Piece, b: Piece) -> Result<Piece, (Piece, Piece)>
 {
     match merged(&a, &b) {
         Ok(p) => {
-            drop_piece(a);
-            drop_piece(b);
+            drop(a);
+            drop(b);
             Ok(p)
         }
         Err(_) => Err((a, b)),
     }
 }
-
-// Drops a piece.
-fn drop_piece(_piece: Piece) {}

@@ -20,6 +20,28 @@ pub struct Table {
     pub places: Rows,
 }
 
+impl Table {
+    /// A table with room for so many words of so many bytes and so many places in all.
+    pub fn with_room(
+        alloc: Global,
+        bytes: usize,
+        places: usize,
+        many: usize,
+    ) -> Result<Table, AllocError>
+        ensures words { IfOk result (λ t. t.words ≡ []) }
+        ensures places { IfOk result (λ t. t.places ≡ []) }
+    {
+        let words = Strings::with_room(alloc, bytes, many)?;
+        match Rows::with_room(alloc, places, many) {
+            Ok(places) => Ok(Table { words, places }),
+            Err(fault) => {
+                drop(words);
+                Err(fault)
+            }
+        }
+    }
+}
+
 // Room for the words of files of so many bytes, to begin with. A map that grows puts all its words to new places.
 fn first_room(bytes: usize) -> usize {
     (bytes / 16).min(4096)
@@ -43,13 +65,22 @@ fn listed(alloc: Global, words: &Words<'_>, links: &[Link]) -> Result<Table, All
     ensures places { IfOk result (λ t. (f : List ℕ → List Place) → HoldPlaces words.now links.now f → t.places ≡ map f t.words) }
 {
     let many = words.len();
-    let mut texts = Strings::with_room(alloc, word_bytes(words), many)?;
-    let mut places = Rows::with_room(alloc, links.len().saturating_add(many), many)?;
-    list_into(words, links, &mut texts, &mut places)?;
-    Ok(Table {
-        words: texts,
-        places,
-    })
+    let total = links.len().saturating_add(many);
+    let Table {
+        words: mut texts,
+        mut places,
+    } = Table::with_room(alloc, word_bytes(words), total, many)?;
+    match list_into(words, links, &mut texts, &mut places) {
+        Ok(()) => Ok(Table {
+            words: texts,
+            places,
+        }),
+        Err(fault) => {
+            drop(texts);
+            drop(places);
+            Err(fault)
+        }
+    }
 }
 
 // Puts the words in their order in the map into a list that is empty, and the places of each into another.

@@ -36,15 +36,6 @@ ring_of-ring-requires-after_bounds g c κs within =
     let q = g.met.B.BufferUse.fits_ring c.args.p.now.world c.args.at.now c.requires.buffer c.args.me.now.number c.loop.value inn.share inn.fits in
     (q.0, q.1)
 
-pub refuse_put-requires-clause-rest : goal.refuse_put-requires-clause-rest
-refuse_put-requires-clause-rest g c κs within = c.loop.invariant.3.rest
-
-pub refuse_put-requires-clause-world : goal.refuse_put-requires-clause-world
-refuse_put-requires-clause-world g c κs within = c.loop.invariant.3.same.world ∙ c.requires.world
-
-pub refuse_put-requires-clause-got : goal.refuse_put-requires-clause-got
-refuse_put-requires-clause-got g c κs within = (c.loop.value, c.loop.invariant.3.holds, c.ring_of-ring.ensures)
-
 pub returns-then-is_shut-clause-same : goal.returns-then-is_shut-clause-same
 returns-then-is_shut-clause-same g c = same_on c.args.me.now c.loop.me c.refuse_put.new.me c.loop.invariant.3.same c.refuse_put.ensures.same
 
@@ -65,15 +56,6 @@ returns-then-is_shut-clause-ran g c = λ s share.
     subst (λ u. Ran g.B.BufferUse.ring_in g.B.BufferUse.part g.B.Put.Change.after g.B.BufferUse.alike w m at.room.0 at.more.0 a.number more_full (Some (SawShut)) u a e) (same_Some inv.1 s (sym inv.2 ∙ share))
     (ran_some g.B.BufferUse.ring_in g.B.BufferUse.part g.B.Put.Change.after g.B.BufferUse.alike g.B.Uses.fits c.args.p.now m at.room.0 at.more.0 more_full inv.0 inv.1 c.loop.value a c.loop.me e (SawShut) inv.3
     (c.refuse_put.ensures.given inv.3.share inv.3.is_share))
-
-pub put_last-requires-clause-rest : goal.put_last-requires-clause-rest
-put_last-requires-clause-rest g c κs within = c.loop.invariant.3.rest
-
-pub put_last-requires-clause-world : goal.put_last-requires-clause-world
-put_last-requires-clause-world g c κs within = c.loop.invariant.3.same.world ∙ c.requires.world
-
-pub put_last-requires-clause-got : goal.put_last-requires-clause-got
-put_last-requires-clause-got g c κs within = (c.loop.value, c.loop.invariant.3.holds, c.ring_of-ring.ensures)
 
 pub put_last-requires-clause-may : goal.put_last-requires-clause-may
 put_last-requires-clause-may g c κs within = λ s share.
@@ -121,25 +103,6 @@ returns-then-not-is_full-clause-rises g c = λ s share.
     let one = subst (λ (n : ℕ). All (λ p. p.0 < n) (g.B.BufferUse.part inn.share m).puts) number q.2.puts in
     let two = subst (λ l. All (λ p. p.0 < c.put_last.result) l) (ap (λ u. u.puts) inn.here) one in
     subst (λ u. All (λ p. p.0 < c.put_last.result) (g.B.BufferUse.part u m).puts) (same_Some inv.1 s (sym inv.2 ∙ share)) two
-
-pub wait_for_room-outcome-requires-clause-rest : goal.wait_for_room-outcome-requires-clause-rest
-wait_for_room-outcome-requires-clause-rest g c κs within = c.loop.invariant.3.rest
-
-pub wait_for_room-outcome-requires-clause-world : goal.wait_for_room-outcome-requires-clause-world
-wait_for_room-outcome-requires-clause-world g c κs within = c.loop.invariant.3.same.world ∙ c.requires.world
-
-pub wait_for_room-outcome-requires-clause-got : goal.wait_for_room-outcome-requires-clause-got
-wait_for_room-outcome-requires-clause-got g c κs within = (c.loop.value, c.loop.invariant.3.holds, c.ring_of-ring.ensures)
-
-pub give_up-requires-clause-world : goal.give_up-requires-clause-world
-give_up-requires-clause-world g c κs within = c.wait_for_room-outcome.ensures.same.world ∙ (c.loop.invariant.3.same.world ∙ c.requires.world)
-
-pub give_up-requires-clause-got : goal.give_up-requires-clause-got
-give_up-requires-clause-got g c κs within =
-    let inn = c.loop.invariant.3 in
-    let w = c.wait_for_room-outcome.ensures.waited inn.share inn.is_share in
-    let q = g.met.B.BufferUse.fits_ring c.args.p.now.world c.args.at.now c.requires.buffer c.loop.me.number c.wait_for_room-outcome.result.1 w.share w.fits in
-    (w.holds, (q.0, q.1))
 
 pub returns-in-Alerted-clause-same : goal.returns-in-Alerted-clause-same
 returns-in-Alerted-clause-same g c = same_on c.args.me.now c.wait_for_room-outcome.new.me c.give_up.new.me (same_on c.args.me.now c.loop.me c.wait_for_room-outcome.new.me c.loop.invariant.3.same c.wait_for_room-outcome.ensures.same) c.give_up.ensures.same
@@ -191,12 +154,6 @@ loop-preserved g c =
     let back = subst (λ (r : Outcome). IsIn g.B.BufferUse.part g.B.BufferUse.alike g.B.Uses.fits c.args.p.now m more_full (es ++ enqueue_event true a.number m at.room.0 ∷ wait_end r a.number m at.room.0 ∷ []) (inv.0 + 1) inv.1 y a b) c.in-Returned.is again in
     (suc inv.0, inv.1, inv.2, waited g.B.BufferUse.part g.B.BufferUse.alike g.B.Uses.fits c.args.p.now m at.room.0 more_full inv.0 inv.1 y a b back)
 
-pub refuse_put-requires-clause-named : goal.refuse_put-requires-clause-named
-refuse_put-requires-clause-named g c κs within = c.requires.named
-
-pub refuse_put-requires-clause-buffer : goal.refuse_put-requires-clause-buffer
-refuse_put-requires-clause-buffer g c κs within = c.requires.buffer
-
 pub refuse_put-requires-clause-shut : goal.refuse_put-requires-clause-shut
 refuse_put-requires-clause-shut g c κs within = sym c.is_shut.ensures ∙ c.if-is_shut.true
 
@@ -209,12 +166,6 @@ returns-then-is_shut-clause-back g c = refl
 pub returns-then-is_shut-clause-rises : goal.returns-then-is_shut-clause-rises
 returns-then-is_shut-clause-rises g c = tt
 
-pub put_last-requires-clause-named : goal.put_last-requires-clause-named
-put_last-requires-clause-named g c κs within = c.requires.named
-
-pub put_last-requires-clause-buffer : goal.put_last-requires-clause-buffer
-put_last-requires-clause-buffer g c κs within = c.requires.buffer
-
 pub put_last-requires-clause-opened : goal.put_last-requires-clause-opened
 put_last-requires-clause-opened g c κs within = sym c.is_shut.ensures ∙ c.if-is_shut.false
 
@@ -224,23 +175,8 @@ returns-then-not-is_full-clause-rest g c = c.put_last.ensures.rest
 pub returns-then-not-is_full-clause-back : goal.returns-then-not-is_full-clause-back
 returns-then-not-is_full-clause-back g c = tt
 
-pub wait_for_room-outcome-requires-clause-named : goal.wait_for_room-outcome-requires-clause-named
-wait_for_room-outcome-requires-clause-named g c κs within = c.requires.named
-
-pub wait_for_room-outcome-requires-clause-buffer : goal.wait_for_room-outcome-requires-clause-buffer
-wait_for_room-outcome-requires-clause-buffer g c κs within = c.requires.buffer
-
 pub wait_for_room-outcome-requires-clause-opened : goal.wait_for_room-outcome-requires-clause-opened
 wait_for_room-outcome-requires-clause-opened g c κs within = sym c.is_shut.ensures ∙ c.if-is_shut.false
-
-pub give_up-requires-clause-rest : goal.give_up-requires-clause-rest
-give_up-requires-clause-rest g c κs within = c.wait_for_room-outcome.ensures.rest
-
-pub give_up-requires-clause-named : goal.give_up-requires-clause-named
-give_up-requires-clause-named g c κs within = c.requires.named
-
-pub give_up-requires-clause-buffer : goal.give_up-requires-clause-buffer
-give_up-requires-clause-buffer g c κs within = c.requires.buffer
 
 pub returns-in-Alerted-clause-rest : goal.returns-in-Alerted-clause-rest
 returns-in-Alerted-clause-rest g c = c.give_up.ensures.rest
@@ -250,3 +186,25 @@ returns-in-Alerted-clause-back g c = refl
 
 pub returns-in-Alerted-clause-rises : goal.returns-in-Alerted-clause-rises
 returns-in-Alerted-clause-rises g c = tt
+
+pub refuse_put-requires-clause-has : goal.refuse_put-requires-clause-has
+refuse_put-requires-clause-has g c κs within =
+    let inn = c.loop.invariant.3 in
+    (c.loop.value, record { rest = inn.rest; named = c.requires.named; buffer = c.requires.buffer; world = inn.same.world ∙ c.requires.world; holds = inn.holds; ring = c.ring_of-ring.ensures })
+
+pub put_last-requires-clause-has : goal.put_last-requires-clause-has
+put_last-requires-clause-has g c κs within =
+    let inn = c.loop.invariant.3 in
+    (c.loop.value, record { rest = inn.rest; named = c.requires.named; buffer = c.requires.buffer; world = inn.same.world ∙ c.requires.world; holds = inn.holds; ring = c.ring_of-ring.ensures })
+
+pub wait_for_room-outcome-requires-clause-has : goal.wait_for_room-outcome-requires-clause-has
+wait_for_room-outcome-requires-clause-has g c κs within =
+    let inn = c.loop.invariant.3 in
+    (c.loop.value, record { rest = inn.rest; named = c.requires.named; buffer = c.requires.buffer; world = inn.same.world ∙ c.requires.world; holds = inn.holds; ring = c.ring_of-ring.ensures })
+
+pub give_up-requires-after_bounds : goal.give_up-requires-after_bounds
+give_up-requires-after_bounds g c κs within =
+    let inn = c.loop.invariant.3 in
+    let w = c.wait_for_room-outcome.ensures.waited inn.share inn.is_share in
+    let q = g.met.B.BufferUse.fits_ring c.args.p.now.world c.args.at.now c.requires.buffer c.loop.me.number c.wait_for_room-outcome.result.1 w.share w.fits in
+    (q.0, record { rest = c.wait_for_room-outcome.ensures.rest; named = c.requires.named; buffer = c.requires.buffer; world = c.wait_for_room-outcome.ensures.same.world ∙ (inn.same.world ∙ c.requires.world); holds = w.holds; ring = q.1 })

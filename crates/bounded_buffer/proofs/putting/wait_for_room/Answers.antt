@@ -9,13 +9,13 @@ alert_wait-requires-clause-may g c κs within =
     let at = c.args.at.now in
     let n = c.args.me.now.number in
     let ring = c.args.ring in
-    let got = c.requires.got in
+    let has = c.requires.has in
     let y = c.from_ring.result in (
-      got.0,
-      got.1,
+      has.0,
+      has.1.holds,
       λ w s world share.
-          subst (λ v. g.B.Uses.allows v at.mutex.0 n got.0 y s (g.B.Put.Change.after v at.mutex.0 n got.0 y s)) (same_Some w0 w (sym c.requires.world ∙ world))
-          (g.met.B.BufferUse.put_allowed w0 at c.requires.buffer n got.0 y s ring ring WaitedFull got.2 c.from_ring.ensures (c.requires.opened, c.requires.full, refl) tt).0,
+          subst (λ v. g.B.Uses.allows v at.mutex.0 n has.0 y s (g.B.Put.Change.after v at.mutex.0 n has.0 y s)) (same_Some w0 w (sym c.requires.has.1.world ∙ world))
+          (g.met.B.BufferUse.put_allowed w0 at c.requires.has.1.buffer n has.0 y s ring ring WaitedFull has.1.ring c.from_ring.ensures (c.requires.opened, c.requires.full, refl) tt).0,
     )
 
 pub returns-clause-waited : goal.returns-clause-waited
@@ -24,11 +24,11 @@ returns-clause-waited g c = λ s share.
     let at = c.args.at.now in
     let n = c.args.me.now.number in
     let ring = c.args.ring in
-    let got = c.requires.got in
+    let has = c.requires.has in
     let y = c.from_ring.result in
-    let law = g.met.B.BufferUse.put_allowed w at c.requires.buffer n got.0 y s ring ring WaitedFull got.2 c.from_ring.ensures (c.requires.opened, c.requires.full, refl) tt in
-    let now = c.alert_wait.ensures.share w s got.0 c.requires.world share got.1 in
-    let after = g.B.Put.Change.after w at.mutex.0 n got.0 y s in
+    let law = g.met.B.BufferUse.put_allowed w at c.requires.has.1.buffer n has.0 y s ring ring WaitedFull has.1.ring c.from_ring.ensures (c.requires.opened, c.requires.full, refl) tt in
+    let now = c.alert_wait.ensures.share w s has.0 c.requires.has.1.world share has.1.holds in
+    let after = g.B.Put.Change.after w at.mutex.0 n has.0 y s in
     record {
       events = c.alert_wait.ensures.event;
       held = c.alert_wait.ensures.held;
@@ -38,5 +38,8 @@ returns-clause-waited g c = λ s share.
       here = law.1.here;
       elsewhere = law.1.elsewhere;
       is_alike = law.2 tt;
-      fits = subst (λ (k : ℕ). g.B.Uses.fits w at.mutex.0 c.alert_wait.result.1 k after) c.alert_wait.ensures.same.number (c.alert_wait.ensures.fits w after (c.alert_wait.ensures.same.world ∙ c.requires.world) now);
+      fits = subst (λ (k : ℕ). g.B.Uses.fits w at.mutex.0 c.alert_wait.result.1 k after) c.alert_wait.ensures.same.number (c.alert_wait.ensures.fits w after (c.alert_wait.ensures.same.world ∙ c.requires.has.1.world) now);
     }
+
+pub alert_wait-requires-clause-rest : goal.alert_wait-requires-clause-rest
+alert_wait-requires-clause-rest g c κs within = c.requires.has.1.rest

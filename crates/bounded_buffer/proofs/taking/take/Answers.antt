@@ -35,15 +35,6 @@ ring_of-ring-requires-after_bounds g c κs within =
     let q = g.met.B.BufferUse.fits_ring c.args.p.now.world c.args.at.now c.requires.buffer c.args.me.now.number c.loop.value inn.share inn.fits in
     (q.0, q.1)
 
-pub take_first-requires-clause-rest : goal.take_first-requires-clause-rest
-take_first-requires-clause-rest g c κs within = c.loop.invariant.3.rest
-
-pub take_first-requires-clause-world : goal.take_first-requires-clause-world
-take_first-requires-clause-world g c κs within = c.loop.invariant.3.same.world ∙ c.requires.world
-
-pub take_first-requires-clause-got : goal.take_first-requires-clause-got
-take_first-requires-clause-got g c κs within = (c.loop.value, c.loop.invariant.3.holds, c.ring_of-ring.ensures)
-
 pub returns-then-not-is_empty-clause-same : goal.returns-then-not-is_empty-clause-same
 returns-then-not-is_empty-clause-same g c = same_on c.args.me.now c.loop.me c.take_first.new.me c.loop.invariant.3.same c.take_first.ensures.same
 
@@ -90,15 +81,6 @@ returns-then-not-is_empty-clause-fits g c = λ s share.
     let before = (g.met.B.BufferUse.alike_item_fits w m n item inv.1 inn.share inn.is_alike).1 now in
     subst (λ u. g.B.BufferUse.item_fits w m n item u) (same_Some inv.1 s (sym inv.2 ∙ share)) before
 
-pub refuse_take-requires-clause-rest : goal.refuse_take-requires-clause-rest
-refuse_take-requires-clause-rest g c κs within = c.loop.invariant.3.rest
-
-pub refuse_take-requires-clause-world : goal.refuse_take-requires-clause-world
-refuse_take-requires-clause-world g c κs within = c.loop.invariant.3.same.world ∙ c.requires.world
-
-pub refuse_take-requires-clause-got : goal.refuse_take-requires-clause-got
-refuse_take-requires-clause-got g c κs within = (c.loop.value, c.loop.invariant.3.holds, c.ring_of-ring.ensures)
-
 pub returns-then-is_shut-clause-same : goal.returns-then-is_shut-clause-same
 returns-then-is_shut-clause-same g c = same_on c.args.me.now c.loop.me c.refuse_take.new.me c.loop.invariant.3.same c.refuse_take.ensures.same
 
@@ -119,25 +101,6 @@ returns-then-is_shut-clause-ran g c = λ s share.
     subst (λ u. Ran g.B.BufferUse.ring_in g.B.BufferUse.part g.B.Take.Change.after g.B.BufferUse.alike w m at.more.0 at.room.0 a.number more_empty (Some (SawEnd)) u a e) (same_Some inv.1 s (sym inv.2 ∙ share))
     (ran_some g.B.BufferUse.ring_in g.B.BufferUse.part g.B.Take.Change.after g.B.BufferUse.alike g.B.Uses.fits c.args.p.now m at.more.0 at.room.0 more_empty inv.0 inv.1 c.loop.value a c.loop.me e (SawEnd) inv.3
     (c.refuse_take.ensures.given inv.3.share inv.3.is_share))
-
-pub wait_for_more-outcome-requires-clause-rest : goal.wait_for_more-outcome-requires-clause-rest
-wait_for_more-outcome-requires-clause-rest g c κs within = c.loop.invariant.3.rest
-
-pub wait_for_more-outcome-requires-clause-world : goal.wait_for_more-outcome-requires-clause-world
-wait_for_more-outcome-requires-clause-world g c κs within = c.loop.invariant.3.same.world ∙ c.requires.world
-
-pub wait_for_more-outcome-requires-clause-got : goal.wait_for_more-outcome-requires-clause-got
-wait_for_more-outcome-requires-clause-got g c κs within = (c.loop.value, c.loop.invariant.3.holds, c.ring_of-ring.ensures)
-
-pub give_up-requires-clause-world : goal.give_up-requires-clause-world
-give_up-requires-clause-world g c κs within = c.wait_for_more-outcome.ensures.same.world ∙ (c.loop.invariant.3.same.world ∙ c.requires.world)
-
-pub give_up-requires-clause-got : goal.give_up-requires-clause-got
-give_up-requires-clause-got g c κs within =
-    let inn = c.loop.invariant.3 in
-    let w = c.wait_for_more-outcome.ensures.waited inn.share inn.is_share in
-    let q = g.met.B.BufferUse.fits_ring c.args.p.now.world c.args.at.now c.requires.buffer c.loop.me.number c.wait_for_more-outcome.result.1 w.share w.fits in
-    (w.holds, (q.0, q.1))
 
 pub returns-in-Alerted-clause-same : goal.returns-in-Alerted-clause-same
 returns-in-Alerted-clause-same g c = same_on c.args.me.now c.wait_for_more-outcome.new.me c.give_up.new.me (same_on c.args.me.now c.loop.me c.wait_for_more-outcome.new.me c.loop.invariant.3.same c.wait_for_more-outcome.ensures.same) c.give_up.ensures.same
@@ -189,23 +152,11 @@ loop-preserved g c =
     let back = subst (λ (r : Outcome). IsIn g.B.BufferUse.part g.B.BufferUse.alike g.B.Uses.fits c.args.p.now m more_empty (es ++ enqueue_event true a.number m at.more.0 ∷ wait_end r a.number m at.more.0 ∷ []) (inv.0 + 1) inv.1 y a b) c.in-Returned.is again in
     (suc inv.0, inv.1, inv.2, waited g.B.BufferUse.part g.B.BufferUse.alike g.B.Uses.fits c.args.p.now m at.more.0 more_empty inv.0 inv.1 y a b back)
 
-pub take_first-requires-clause-named : goal.take_first-requires-clause-named
-take_first-requires-clause-named g c κs within = c.requires.named
-
-pub take_first-requires-clause-buffer : goal.take_first-requires-clause-buffer
-take_first-requires-clause-buffer g c κs within = c.requires.buffer
-
 pub take_first-requires-clause-some : goal.take_first-requires-clause-some
 take_first-requires-clause-some g c κs within = c.is_empty.ensures.some c.if-not-is_empty.true
 
 pub returns-then-not-is_empty-clause-rest : goal.returns-then-not-is_empty-clause-rest
 returns-then-not-is_empty-clause-rest g c = c.take_first.ensures.rest
-
-pub refuse_take-requires-clause-named : goal.refuse_take-requires-clause-named
-refuse_take-requires-clause-named g c κs within = c.requires.named
-
-pub refuse_take-requires-clause-buffer : goal.refuse_take-requires-clause-buffer
-refuse_take-requires-clause-buffer g c κs within = c.requires.buffer
 
 pub refuse_take-requires-clause-shut : goal.refuse_take-requires-clause-shut
 refuse_take-requires-clause-shut g c κs within = sym c.is_shut.ensures ∙ c.if-is_shut.true
@@ -222,26 +173,11 @@ returns-then-is_shut-clause-rises g c = tt
 pub returns-then-is_shut-clause-fits : goal.returns-then-is_shut-clause-fits
 returns-then-is_shut-clause-fits g c = tt
 
-pub wait_for_more-outcome-requires-clause-named : goal.wait_for_more-outcome-requires-clause-named
-wait_for_more-outcome-requires-clause-named g c κs within = c.requires.named
-
-pub wait_for_more-outcome-requires-clause-buffer : goal.wait_for_more-outcome-requires-clause-buffer
-wait_for_more-outcome-requires-clause-buffer g c κs within = c.requires.buffer
-
 pub wait_for_more-outcome-requires-clause-opened : goal.wait_for_more-outcome-requires-clause-opened
 wait_for_more-outcome-requires-clause-opened g c κs within = sym c.is_shut.ensures ∙ c.if-is_shut.false
 
 pub wait_for_more-outcome-requires-clause-empty : goal.wait_for_more-outcome-requires-clause-empty
 wait_for_more-outcome-requires-clause-empty g c κs within = c.is_empty.ensures.empty c.if-not-is_empty.false
-
-pub give_up-requires-clause-rest : goal.give_up-requires-clause-rest
-give_up-requires-clause-rest g c κs within = c.wait_for_more-outcome.ensures.rest
-
-pub give_up-requires-clause-named : goal.give_up-requires-clause-named
-give_up-requires-clause-named g c κs within = c.requires.named
-
-pub give_up-requires-clause-buffer : goal.give_up-requires-clause-buffer
-give_up-requires-clause-buffer g c κs within = c.requires.buffer
 
 pub returns-in-Alerted-clause-rest : goal.returns-in-Alerted-clause-rest
 returns-in-Alerted-clause-rest g c = c.give_up.ensures.rest
@@ -251,3 +187,25 @@ returns-in-Alerted-clause-rises g c = tt
 
 pub returns-in-Alerted-clause-fits : goal.returns-in-Alerted-clause-fits
 returns-in-Alerted-clause-fits g c = tt
+
+pub take_first-requires-clause-has : goal.take_first-requires-clause-has
+take_first-requires-clause-has g c κs within =
+    let inn = c.loop.invariant.3 in
+    (c.loop.value, record { rest = inn.rest; named = c.requires.named; buffer = c.requires.buffer; world = inn.same.world ∙ c.requires.world; holds = inn.holds; ring = c.ring_of-ring.ensures })
+
+pub refuse_take-requires-clause-has : goal.refuse_take-requires-clause-has
+refuse_take-requires-clause-has g c κs within =
+    let inn = c.loop.invariant.3 in
+    (c.loop.value, record { rest = inn.rest; named = c.requires.named; buffer = c.requires.buffer; world = inn.same.world ∙ c.requires.world; holds = inn.holds; ring = c.ring_of-ring.ensures })
+
+pub wait_for_more-outcome-requires-clause-has : goal.wait_for_more-outcome-requires-clause-has
+wait_for_more-outcome-requires-clause-has g c κs within =
+    let inn = c.loop.invariant.3 in
+    (c.loop.value, record { rest = inn.rest; named = c.requires.named; buffer = c.requires.buffer; world = inn.same.world ∙ c.requires.world; holds = inn.holds; ring = c.ring_of-ring.ensures })
+
+pub give_up-requires-after_bounds : goal.give_up-requires-after_bounds
+give_up-requires-after_bounds g c κs within =
+    let inn = c.loop.invariant.3 in
+    let w = c.wait_for_more-outcome.ensures.waited inn.share inn.is_share in
+    let q = g.met.B.BufferUse.fits_ring c.args.p.now.world c.args.at.now c.requires.buffer c.loop.me.number c.wait_for_more-outcome.result.1 w.share w.fits in
+    (q.0, record { rest = c.wait_for_more-outcome.ensures.rest; named = c.requires.named; buffer = c.requires.buffer; world = c.wait_for_more-outcome.ensures.same.world ∙ (inn.same.world ∙ c.requires.world); holds = w.holds; ring = q.1 })

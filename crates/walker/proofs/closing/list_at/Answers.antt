@@ -1,4 +1,4 @@
-use Rattle.std.proofs.Common.{◌≡◌, subst, sym, false, slice_get}
+use Rattle.std.proofs.Common.{refl, ◌≡◌, subst, sym, false, slice_get}
 use Rattle.std.specs.Prelude.{Some}
 use Rattle.firefly_outside.specs.Trees.{Path}
 use Rattle.walker.proofs.Steps.{below_same, unlisted_from, told_unread, OnOk-map}
@@ -17,3 +17,9 @@ returns-clause-below g c = OnOk-map c.list_next.result _ _
 
 pub returns-in_default-of-clause-told : goal.returns-in_default-of-clause-told
 returns-in_default-of-clause-told g c = told_unread (g.S.Tree.tree c.args.tree.now) c.args.walked.now c.in-Some.dir.now (g.S.Tree.may_fail c.args.tree.now) (g.S.Tree.calls c.args.tree.now) (unlisted_from c.args.walked.now c.args.at c.in-Some.dir.now c.in-Some.ensures)
+
+pub returns-in_default-clause-stays : goal.returns-in_default-clause-stays
+returns-in_default-clause-stays g c = record { tree = refl; weak = refl; count = refl }
+
+pub returns-in_default-of-clause-stays : goal.returns-in_default-of-clause-stays
+returns-in_default-of-clause-stays g c = record { tree = refl; weak = refl; count = refl }

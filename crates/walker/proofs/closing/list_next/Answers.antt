@@ -35,5 +35,14 @@ note-requires-clause-unlisted g c = subst (λ (p : Path). IsUnlisted c.args.walk
 pub returns-in-Ok-clause-grows : goal.returns-in-Ok-clause-grows
 returns-in-Ok-clause-grows g c = subst (λ (w : Walk). Grows c.args.walked.now w) (sym c.in-Err.ensures.err.1) (Grows-refl c.args.walked.now)
 
-pub returns-clause-count : goal.returns-clause-count
-returns-clause-count g c = rw c.in-Err-Failed.field-0-is at c.in-Err-Failed.ensures.count
+pub returns-in-Ok-note-clause-stays : goal.returns-in-Ok-note-clause-stays
+returns-in-Ok-note-clause-stays g c = record { tree = c.list_dir.ensures.tree_stays; weak = c.list_dir.ensures.weak_stays; count = c.in-Ok.ensures.count }
+
+pub returns-in-Ok-clause-stays : goal.returns-in-Ok-clause-stays
+returns-in-Ok-clause-stays g c = record { tree = c.list_dir.ensures.tree_stays; weak = c.list_dir.ensures.weak_stays; count = c.in-Ok.ensures.count }
+
+pub returns-in-Err-Memory-clause-stays : goal.returns-in-Err-Memory-clause-stays
+returns-in-Err-Memory-clause-stays g c = record { tree = c.list_dir.ensures.tree_stays; weak = c.list_dir.ensures.weak_stays; count = rw c.in-Err-Memory.field-0-is at c.in-Err-Memory.ensures.count }
+
+pub returns-clause-stays : goal.returns-clause-stays
+returns-clause-stays g c = record { tree = c.list_dir.ensures.tree_stays; weak = c.list_dir.ensures.weak_stays; count = rw c.in-Err-Failed.field-0-is at c.in-Err-Failed.ensures.count }

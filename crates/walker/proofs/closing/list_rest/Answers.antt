@@ -1,6 +1,6 @@
 use Rattle.std.proofs.Common.{◌∙◌, arith}
 use Rattle.std.specs.Prelude.{Ok, Err}
-use Rattle.walker.proofs.Steps.{Grows-trans, going_next, passing_next, rest_stopped, rest_passed, moved_step, below_all}
+use Rattle.walker.proofs.Steps.{stays_then, stays_passed, Grows-trans, going_next, passing_next, rest_stopped, rest_passed, moved_step, below_all}
 use Rattle.walker.proofs.closing.list_rest.Goals as goal
 
 pub returns-in-Err-clause-numbers : goal.returns-in-Err-clause-numbers
@@ -23,9 +23,9 @@ returns-in-Some-clause-told g c = rest_passed (g.S.Tree.tree c.args.tree.now) c.
 
 pub loop-at-preserved : goal.loop-at-preserved
 loop-at-preserved g c = record {
-  tree = c.list_at.ensures.tree_stays ∙ c.loop-at.invariant.tree;
-  weak = c.list_at.ensures.weak_stays ∙ c.loop-at.invariant.weak;
-  count = c.in-Ok.ensures.count ∙ c.loop-at.invariant.count;
+  tree = c.in-Ok.ensures.stays.tree ∙ c.loop-at.invariant.tree;
+  weak = c.in-Ok.ensures.stays.weak ∙ c.loop-at.invariant.weak;
+  count = c.in-Ok.ensures.stays.count ∙ c.loop-at.invariant.count;
   grows = Grows-trans c.args.walked.now c.loop-at.walked c.list_at.new.walked c.loop-at.invariant.grows c.list_at.ensures.grows;
   limits = c.in_default.ensures.limits;
   below = c.in-Ok.ensures.below c.loop-at.invariant.below;
@@ -43,3 +43,13 @@ returns-in-Some-clause-grows g c = Grows-trans c.args.walked.now c.loop-at.walke
 
 pub returns-in-Err-clause-grows : goal.returns-in-Err-clause-grows
 returns-in-Err-clause-grows g c = Grows-trans c.args.walked.now c.loop-at.walked c.list_at.new.walked c.loop-at.invariant.grows c.list_at.ensures.grows
+
+pub returns-in-Err-clause-stays : goal.returns-in-Err-clause-stays
+returns-in-Err-clause-stays g c = stays_then c.loop-at.invariant.tree c.loop-at.invariant.weak c.loop-at.invariant.count c.in-Err.ensures.stays
+
+pub returns-in-Some-clause-stays : goal.returns-in-Some-clause-stays
+returns-in-Some-clause-stays g c = stays_passed (c.in-Ok.ensures.stays.tree ∙ c.loop-at.invariant.tree) (c.in-Ok.ensures.stays.weak ∙ c.loop-at.invariant.weak) (c.in-Ok.ensures.stays.count ∙ c.loop-at.invariant.count)
+    c.list_at.new.walked c.args.stop_after c.in-Some.answer c.in-Some.ensures.limits
+
+pub returns-clause-stays : goal.returns-clause-stays
+returns-clause-stays g c = record { tree = c.loop-at.invariant.tree; weak = c.loop-at.invariant.weak; count = c.loop-at.invariant.count }

@@ -4,6 +4,7 @@ use Rattle.word_index.specs.Read.{read_file}
 use Rattle.walker.specs.Pile.{AreKept}
 use Rattle.walker.proofs.Lookups.{never}
 use Rattle.walker.proofs.ReadLemmas.{HasRead-covered, HasRead-next, stops_next, read_lost}
+use Rattle.walker.proofs.Steps.{stays_then}
 use Rattle.walker.proofs.reading.read_at.Goals as goal
 
 pub returns-then-covers-clause-step : goal.returns-then-covers-clause-step
@@ -28,3 +29,15 @@ returns-clause-step g c = λ start h. stops_next (g.S.Tree.tree c.args.tree.now)
     c.file_at-name.result.now c.requires.sound c.file_at-name.ensures (λ k. never (sym c.if-covers.false ∙ c.covers.ensures.1 k)) h
     Memory (g.S.Tree.may_fail c.args.tree.now) (g.S.Tree.calls c.read_next.new.tree)
     (read_lost (g.S.Tree.tree c.args.tree.now) c.args.walked.now.root c.file_at-name.result.now (g.S.Tree.may_fail c.args.tree.now) (g.S.Tree.calls c.args.tree.now) (g.S.Tree.calls c.read_next.new.tree) c.in-Ok.file c.in-Ok.ensures.told)
+
+pub returns-then-covers-clause-stays : goal.returns-then-covers-clause-stays
+returns-then-covers-clause-stays g c = record { tree = refl; weak = refl; count = refl }
+
+pub returns-in-Err-clause-stays : goal.returns-in-Err-clause-stays
+returns-in-Err-clause-stays g c = stays_then refl refl refl c.in-Err.ensures.stays
+
+pub returns-in-Ok-keep_file-clause-stays : goal.returns-in-Ok-keep_file-clause-stays
+returns-in-Ok-keep_file-clause-stays g c = let s = c.in-Ok.ensures.stays in record { tree = s.tree; weak = s.weak; count = s.count }
+
+pub returns-clause-stays : goal.returns-clause-stays
+returns-clause-stays g c = let s = c.in-Ok.ensures.stays in record { tree = s.tree; weak = s.weak; count = s.count }

@@ -4,6 +4,7 @@ use Rattle.walker.specs.Pile.{IsPileOf, AreApart, AreKept, HasRead}
 use Rattle.walker.proofs.ListLemmas.{AllPairs-nil}
 use Rattle.walker.proofs.PileLemmas.{NoMeet}
 use Rattle.walker.proofs.ReadLemmas.{HasRead-none, HasRead-kept, reads_lost, kept_none, read_stopped, moved_read}
+use Rattle.walker.proofs.Steps.{stays_then}
 use Rattle.walker.proofs.reading.read_files.Goals as goal
 
 pub loop-at-init : goal.loop-at-init
@@ -23,9 +24,9 @@ returns-in-Err-clause-read g c = read_stopped (g.S.Tree.tree c.args.tree.now) c.
 
 pub loop-at-preserved : goal.loop-at-preserved
 loop-at-preserved g c = record {
-  tree = c.read_at.ensures.tree_stays ∙ c.loop-at.invariant.tree;
-  weak = c.read_at.ensures.weak_stays ∙ c.loop-at.invariant.weak;
-  count = c.in-Ok.ensures.count ∙ c.loop-at.invariant.count;
+  tree = c.in-Ok.ensures.stays.tree ∙ c.loop-at.invariant.tree;
+  weak = c.in-Ok.ensures.stays.weak ∙ c.loop-at.invariant.weak;
+  count = c.in-Ok.ensures.stays.count ∙ c.loop-at.invariant.count;
   apart = c.in-Ok.ensures.apart;
   read = moved_read (g.S.Tree.tree c.loop-at.tree) (g.S.Tree.tree c.args.tree.now) c.args.walked.now c.args.piece.now.paths c.loop-at.at (g.S.Tree.may_fail c.loop-at.tree) (g.S.Tree.may_fail c.args.tree.now) (g.S.Tree.calls c.loop-at.tree) (g.S.Tree.calls c.read_at.new.tree)
       (AreKept c.loop-at.pile.items c.loop-at.batch) (AreKept c.read_at.new.pile.items) (Ok c.in-Ok.next) c.loop-at.invariant.tree c.loop-at.invariant.weak c.in-Ok.ensures.step (g.S.Tree.calls c.args.tree.now) c.loop-at.invariant.read;
@@ -45,3 +46,12 @@ pub returns-in-Err-put_batch-clause-read : goal.returns-in-Err-put_batch-clause-
 returns-in-Err-put_batch-clause-read g c =
     let end : c.loop-at.at ≡ length c.args.walked.now.files = omega (arith, c.loop-at.auto.at-end, c.loop-at-test.false, c.files_found-at-end.ensures.many) in
     reads_lost (g.S.Tree.tree c.args.tree.now) c.args.walked.now c.args.piece.now.paths (g.S.Tree.may_fail c.args.tree.now) (g.S.Tree.calls c.args.tree.now) (g.S.Tree.calls c.loop-at.tree) c.loop-at.at (AreKept c.loop-at.pile.items c.loop-at.batch) end c.loop-at.invariant.read
+
+pub returns-in-Err-clause-stays : goal.returns-in-Err-clause-stays
+returns-in-Err-clause-stays g c = stays_then c.loop-at.invariant.tree c.loop-at.invariant.weak c.loop-at.invariant.count c.in-Err.ensures.stays
+
+pub returns-in-Ok-put_batch-clause-stays : goal.returns-in-Ok-put_batch-clause-stays
+returns-in-Ok-put_batch-clause-stays g c = let i = c.loop-at.invariant in record { tree = i.tree; weak = i.weak; count = i.count }
+
+pub returns-in-Err-put_batch-clause-stays : goal.returns-in-Err-put_batch-clause-stays
+returns-in-Err-put_batch-clause-stays g c = let i = c.loop-at.invariant in record { tree = i.tree; weak = i.weak; count = i.count }

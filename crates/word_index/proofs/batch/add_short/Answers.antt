@@ -6,6 +6,6 @@ use Rattle.word_index.proofs.batch.add_short.Goals as goal
 
 pub invariant_of-result : goal.invariant_of-result
 invariant_of-result c =
-    let short : length (map lower c.args.bytes.now) + 1 < 2 ^ 32 = omega (arith, length-map c.args.bytes.now lower, c.in_ok-put_short.ensures.short) in
-    rw (c.in_ok-put_short.ensures.paths, c.in_ok-put_short.ensures.lows)
+    let short : length (map lower c.args.bytes.now) + 1 < 2 ^ 32 = omega (arith, length-map c.args.bytes.now lower, c.in-Ok.ensures.short) in
+    rw (c.in-Ok.ensures.paths, c.in-Ok.ensures.lows)
     (batch_short c.batch.inside.paths c.batch.inside.skipped c.batch.inside.lows c.args.path.now c.batch.invariant (rw (sym c.batch.view_is) at c.requires) (map lower c.args.bytes.now) short)

@@ -9,15 +9,15 @@ join_tables-requires-clause-apart c =
     let meet = rw (← c.a.view_is, ← c.b.view_is) at c.requires in
     numbers_apart c.in_ok-paths.ensures.first c.in_ok-paths.ensures.second (λ p here there. meet (p, here, there))
 
-pub returns : goal.returns
-returns c =
-    let table = c.in_ok-table.ensures in
+pub returns-in-Ok-join_tables : goal.returns-in-Ok-join_tables
+returns-in-Ok-join_tables c =
+    let table = c.in-Ok-join_tables.ensures in
     let same = rw (← c.a.view_is, ← c.b.view_is) at table.same in
     let paths = c.in_ok-paths.paths.all in
     rw (← c.a.view_is, ← c.b.view_is) (record {
-      ordered = ordered_view paths c.in_ok-skipped.skipped.all c.in_ok-table.table.words c.in_ok-table.table.places
-          (record { paths = c.in_ok-paths.ensures.rising; skipped = c.in_ok-skipped.ensures.rising; words = table.words; many = table.many; each = table.each });
+      ordered = ordered_view paths c.in-Ok.skipped.all c.in-Ok-join_tables.table.words c.in-Ok-join_tables.table.places
+          (record { paths = c.in_ok-paths.ensures.rising; skipped = c.in-Ok.ensures.rising; words = table.words; many = table.many; each = table.each });
       paths = c.in_ok-paths.ensures.members;
-      skipped = c.in_ok-skipped.ensures.members;
+      skipped = c.in-Ok.ensures.members;
       entries = either _ _ _ same;
     })

@@ -1,13 +1,13 @@
 use Rattle.std.proofs.Common.{◌++◌, ◌∷◌, [], List, vec_len, Contains}
 use Rattle.word_index.specs.Index.{File, Index, Meet}
 use Rattle.walker.specs.Pile.{AreApart, IsPileOf}
-use Rattle.walker.proofs.reading.whole_of.Given as goal
+use Rattle.walker.proofs.reading.merged_onto.Given as goal
 
 abbrev pub invariant-loop-below : goal.invariant-loop-below
 invariant-loop-below l = record {
   apart : AreApart (l.pile.items ++ l.top ∷ []);
-  first : (a : Index) → Contains (l.pile.items ++ l.top ∷ []) a → ¬ Meet l.fn.first a;
-  index : (gs : List File) → IsPileOf l.fn.pile.items gs → IsPileOf (l.pile.items ++ l.top ∷ []) gs;
+  first : (first : Index) → AreApart (first ∷ l.fn.pile.items ++ l.fn.last ∷ []) → (a : Index) → Contains (l.pile.items ++ l.top ∷ []) a → ¬ Meet first a;
+  index : (files : List File) → IsPileOf (l.fn.pile.items ++ l.fn.last ∷ []) files → IsPileOf (l.pile.items ++ l.top ∷ []) files;
 }
 
 abbrev pub decreases-loop-below : goal.decreases-loop-below
