@@ -148,8 +148,10 @@ pub fn named<'b>(
     if bound == 0 {
         return Err(Stop::Dead);
     }
-    let rest = word(bytes, before)?;
-    number(rest, 0, bound, stop)
+    match word(bytes, before) {
+        Ok(rest) => number(rest, 0, bound, stop),
+        Err(stop) => Err(stop),
+    }
 }
 
 // Reads one word or the other, and says whether it was the one.
@@ -161,6 +163,8 @@ pub fn flag<'b>(bytes: &'b [u8], one: &[u8], other: &[u8]) -> Result<(bool, &'b 
         Err(Stop::More) => return Err(Stop::More),
         Ok(rest) => return Ok((true, rest)),
     }
-    let rest = word(bytes, other)?;
-    Ok((false, rest))
+    match word(bytes, other) {
+        Ok(rest) => Ok((false, rest)),
+        Err(stop) => Err(stop),
+    }
 }
