@@ -131,8 +131,10 @@ pub fn place_and_t(bytes: &[u8], place: u64) -> Result<&[u8], Stop>
         }
     }
     let mut buffer = Buffer::new();
-    let rest = word(bytes, buffer.format(place).as_bytes())?;
-    word(rest, b" t")
+    match word(bytes, buffer.format(place).as_bytes()) {
+        Ok(rest) => word(rest, b" t"),
+        Err(stop) => Err(stop),
+    }
 }
 
 // Reads a word, and a name below the bound up to the byte that stops it.
