@@ -47,9 +47,7 @@ fn run_held<T: Task<Output = X>, X: Drop, F: FnOnce() -> X + Drop>(
         → AllZip (IsRunning T.run_gives) jobs result.items }
 {
     for child in children {
-        let Ok(()) = running.push(settle(child)) else {
-            unreachable!()
-        };
+        running.push_reserved(settle(child));
     }
     running
 }
@@ -64,9 +62,7 @@ fn join_all<R: Threads, T: Task<Output = X>, X: Drop>(
     ensures { (jobs : List T) → AllZip (IsRunning T.run_gives) jobs running.items → AllZip T.run_gives jobs result.items }
 {
     for one in running {
-        let Ok(()) = results.push(result_of(rt, one)) else {
-            unreachable!()
-        };
+        results.push_reserved(result_of(rt, one));
     }
     results
 }
@@ -177,9 +173,7 @@ fn in_scope<
             ensures { T.run_gives job result }
         { job.run() };
         let child = start_or_hold(scope, promise, work, children.len(), starts, &mut some_held);
-        let Ok(()) = children.push(child) else {
-            unreachable!()
-        };
+        children.push_reserved(child);
     }
     Ok(finish(rt, children, running, results, between, some_held))
 }

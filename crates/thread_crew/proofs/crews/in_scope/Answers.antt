@@ -21,12 +21,12 @@ loop-job-preserved g c =
     record {
       whole = append_assoc at.yielded (x ∷ []) _ ∙ rw (← steps) was.whole;
       left = (let left = was.left in omega arith);
-      room = (let room = was.room in let cap = c.in-Ok-push.ensures.capacity in let len = c.in-Ok-push.ensures.len in omega arith);
-      count = (let count = was.count in let len = c.in-Ok-push.ensures.len in omega arith);
-      told = λ h. let len = c.in-Ok-push.ensures.len in c.start_or_hold-child.ensures.told (omega arith);
-      none = λ h. let len = c.in-Ok-push.ensures.len in omega arith;
+      room = (let room = was.room in let cap = c.push_reserved.ensures.capacity in let len = c.push_reserved.ensures.len in omega arith);
+      count = (let count = was.count in let len = c.push_reserved.ensures.len in omega arith);
+      told = λ h. let len = c.push_reserved.ensures.len in c.start_or_hold-child.ensures.told (omega arith);
+      none = λ h. let len = c.push_reserved.ensures.len in omega arith;
       runs = runs.1;
-      given = rw c.in-Ok-push.ensures.items (zip_push (IsChildOf g.T.Task.run_gives (λ f. g.T.Task.can_run f.0) (λ f r. g.T.Task.run_gives f.0 r)) at.yielded _ x _ was.given
+      given = rw c.push_reserved.ensures.items (zip_push (IsChildOf g.T.Task.run_gives (λ f. g.T.Task.can_run f.0) (λ f r. g.T.Task.run_gives f.0 r)) at.yielded _ x _ was.given
           (let k = c.start_or_hold-child.ensures.child in rw c.of.ensures at k));
     }
 
@@ -75,3 +75,11 @@ returns-clause-between g c =
       ),
       c.finish.ensures.between,
     )
+
+pub push_reserved-requires : goal.push_reserved-requires
+push_reserved-requires g c =
+    let was = c.loop-job.invariant in
+    let room = was.room in
+    let left = was.left in
+    let short = ap length c.in-Some.ensures.steps.0 in
+    omega arith

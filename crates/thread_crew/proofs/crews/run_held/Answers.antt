@@ -23,10 +23,10 @@ loop-child-preserved g c =
     record {
       whole = append_assoc at.yielded (x ∷ []) _ ∙ rw (← steps) was.whole;
       left = (let left = was.left in omega arith);
-      room = (let room = was.room in let cap = c.in-Ok.ensures.capacity in let len = c.in-Ok.ensures.len in omega arith);
-      count = (let count = was.count in let len = c.in-Ok.ensures.len in omega arith);
+      room = (let room = was.room in let cap = c.push_reserved.ensures.capacity in let len = c.push_reserved.ensures.len in omega arith);
+      count = (let count = was.count in let len = c.push_reserved.ensures.len in omega arith);
       ready = (let first = zip_first (IsChildOf g.T.Task.run_gives (goal.F-pre g) (goal.F-post g)) was.ready.0 x _ (let h = was.ready.1 in rw steps at h) in (first.1, first.3));
-      turned = rw c.in-Ok.ensures.items (zip_push (Turns (IsChildOf g.T.Task.run_gives (goal.F-pre g) (goal.F-post g)) (IsRunning g.T.Task.run_gives)) at.yielded _ x _ was.turned c.settle.ensures);
+      turned = rw c.push_reserved.ensures.items (zip_push (Turns (IsChildOf g.T.Task.run_gives (goal.F-pre g) (goal.F-post g)) (IsRunning g.T.Task.run_gives)) at.yielded _ x _ was.turned c.settle.ensures);
     }
 
 pub returns-clause-turned : goal.returns-clause-turned
@@ -34,3 +34,11 @@ returns-clause-turned g c jobs given =
     let at = c.loop-child in
     let all = all_yielded at.yielded _ _ at.invariant.whole (sym at.invariant.left ∙ c.in-None.ensures.steps.0) ∙ c.into_iter-child-iterator.ensures.into_iter_gives.0 in
     zip_turn (IsChildOf g.T.Task.run_gives (goal.F-pre g) (goal.F-post g)) (IsRunning g.T.Task.run_gives) jobs _ _ given (subst (λ l. AllZip (Turns (IsChildOf g.T.Task.run_gives (goal.F-pre g) (goal.F-post g)) (IsRunning g.T.Task.run_gives)) l at.running.items) all at.invariant.turned)
+
+pub push_reserved-requires : goal.push_reserved-requires
+push_reserved-requires g c =
+    let was = c.loop-child.invariant in
+    let room = was.room in
+    let left = was.left in
+    let short = ap length c.in-Some.ensures.steps.0 in
+    omega arith
