@@ -18,3 +18,12 @@ returns-in-Ok-None-clause-told g c = same_told _ _ _ c.in-Ok-None.ensures.told.u
 
 pub returns-in-Err-clause-told : goal.returns-in-Err-clause-told
 returns-in-Err-clause-told g c = c.in-Err.ensures.told
+
+pub returns-in-Ok-Some-clause-asks : goal.returns-in-Ok-Some-clause-asks
+returns-in-Ok-Some-clause-asks g c = rw c.value-place.ensures at c.in-Ok-Some.ensures.asks
+
+pub returns-in-Ok-None-clause-asks : goal.returns-in-Ok-None-clause-asks
+returns-in-Ok-None-clause-asks g c = rw c.value-place.ensures at c.in-Ok-None.ensures.asks
+
+pub returns-in-Err-clause-asks : goal.returns-in-Err-clause-asks
+returns-in-Err-clause-asks g c = rw c.value-place.ensures at c.in-Err.ensures.asks
