@@ -1,5 +1,5 @@
 //! The line that comes next.
-ghost use Rattle.std.specs.Prelude.{◌≡◌, ◌⊎◌, ◌+◌, ◌<◌, ◌≤◌, length, IfOk, IfErr, OnOk, OnErr};
+ghost use Rattle.std.specs.Prelude.{◌≡◌, ◌⊎◌, ◌+◌, ◌<◌, length, IfOk, IfErr, OnOk, OnErr};
 ghost use Rattle.std.specs.Io.KnownBytes.{Consumes};
 ghost use Rattle.trace_core.specs.Lines.{IsPossible, IsAllowed, IsTextFrom, line_text, line_at};
 ghost use Rattle.trace_core.specs.Intake.{rest_of, room_of, HasReason, LacksAt, IsTold};
