@@ -55,10 +55,10 @@ pub fn name_child(places: &mut Places, dir: &Text, entry: Entry) -> Result<(), A
     ensures err { OnErr result ((q : Path) → told_by places.new q ≡ told_by places.old q) }
     ensures spare { spare places.new ≡ spare places.old }
 {
-    if let Some(place) = places.get_mut(dir) {
-        push_entry(place, entry)?;
+    match places.get_mut(dir) {
+        Some(place) => push_entry(place, entry),
+        None => Ok(()),
     }
-    Ok(())
 }
 
 // Names the path in the directory before its last slash, if there is one.

@@ -10,6 +10,7 @@ pub mod LineFaults
 pub mod Operands
 pub mod Pieces
 pub mod Releases
+pub mod Results
 pub mod Rows
 pub mod Tables
 pub mod Verdicts

@@ -13,6 +13,7 @@ pub mod Pieces
 pub mod ActionLaws
 pub mod LineLaws
 pub mod Texts
+pub mod Told
 pub mod Short
 pub mod Shown
 pub mod Outcomes

@@ -1,5 +1,5 @@
 -- What is taken from a source within a budget.
-use Rattle.std.specs.Prelude.{◌≡◌, ℕ, ◌+◌, ◌-◌, ◌<◌, ◌≤◌, ◌⊎◌, List, [], ◌++◌, length, take, Bool, true, false, Result, Ok, Err, IfSome}
+use Rattle.std.specs.Prelude.{◌≡◌, ℕ, ◌+◌, ◌-◌, ◌<◌, ◌≤◌, ◌⊎◌, List, [], ◌++◌, length, take, Bool, true, false, Result, Ok, Err, IfSome, IfErr, OnOk, ◌≢◌}
 use Rattle.std.specs.Io.KnownBytes.{Consumes, IsAtEnd, Keeps, prepend_known}
 use Rattle.std.specs.declared.option.Option.{Option}
 use Rattle.firefly_outside.specs.Causes.{Rose}
@@ -28,6 +28,12 @@ IsFilled old new left left' before now (Ok false) = SameBudget old new × (new.w
 IsFilled old new left left' before now (Err (BadLine k)) = ⊥
 IsFilled old new left left' before now (Err TooLong) = (old.given ≡ old.budget) × ((piece : List ℕ) × Consumes left left' piece × (0 < length piece))
 IsFilled old new left left' before now (Err Read) = Rose before now × Keeps left left'
+
+-- A question that fails is told: the count of faults never falls, and rises only where the call tells a failed read.
+pub record IsTold {T : Type 0} (before now : ℕ) (result : Result T TextFault) : Type 0 where
+  pub later : before ≤ now
+  pub unfailed : OnOk result (now ≡ before)
+  pub otherwise : IfErr result (λ fault. fault ≢ Read → now ≡ before)
 
 -- whether a byte is held, or else what one more piece does
 abbrev pub IsAsked : Intake → Intake → Option (List ℕ) → Option (List ℕ) → ℕ → ℕ → Result Bool TextFault → Type 0

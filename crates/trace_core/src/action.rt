@@ -25,13 +25,18 @@ fn wait<'b>(bytes: &'b [u8], before: &[u8], layout: &Layout, stop: u8) -> Result
     if layout.conditions == 0 {
         return Err(Stop::Dead);
     }
-    let (m, rest) = named(bytes, before, layout.mutexes, b' ')?;
-    let (c, rest) = named(rest, b"c", layout.conditions, stop)?;
-    Ok(Names {
-        mutex: MutexId(m),
-        cond: CondId(c),
-        rest,
-    })
+    let (m, rest) = match named(bytes, before, layout.mutexes, b' ') {
+        Ok(read) => read,
+        Err(stop) => return Err(stop),
+    };
+    match named(rest, b"c", layout.conditions, stop) {
+        Ok((c, rest)) => Ok(Names {
+            mutex: MutexId(m),
+            cond: CondId(c),
+            rest,
+        }),
+        Err(stop) => Err(stop),
+    }
 }
 
 // Reads a signal, with the threads that stay.
@@ -39,20 +44,33 @@ fn signal<'b>(bytes: &'b [u8], layout: &Layout) -> Result<(Action, &'b [u8]), St
     requires { IsLawful layout.now }
     ensures { Gives (λ x. (x.0, x.1.now)) result (signal_at layout.now bytes.now) }
 {
-    let (c, rest) = named(bytes, b"signal c", layout.conditions, b' ')?;
-    let rest = word(rest, b"left")?;
-    let (left, rest) = names(rest, layout.threads)?;
+    let (c, rest) = match named(bytes, b"signal c", layout.conditions, b' ') {
+        Ok(read) => read,
+        Err(stop) => return Err(stop),
+    };
+    let rest = match word(rest, b"left") {
+        Ok(rest) => rest,
+        Err(stop) => return Err(stop),
+    };
     let cond = CondId(c);
-    Ok((Action::Signal { cond, left }, rest))
+    match names(rest, layout.threads) {
+        Ok((left, rest)) => Ok((Action::Signal { cond, left }, rest)),
+        Err(stop) => Err(stop),
+    }
 }
 
 // Reads a test of the own alert.
 fn test_alert(bytes: &[u8]) -> Result<(Action, &[u8]), Stop>
     ensures { Gives (λ x. (x.0, x.1.now)) result (test_alert_at bytes.now) }
 {
-    let rest = word(bytes, b"test-alert ")?;
-    let (yes, rest) = flag(rest, b"yes\n", b"no\n")?;
-    Ok((Action::TestAlert { yes }, rest))
+    let rest = match word(bytes, b"test-alert ") {
+        Ok(rest) => rest,
+        Err(stop) => return Err(stop),
+    };
+    match flag(rest, b"yes\n", b"no\n") {
+        Ok((yes, rest)) => Ok((Action::TestAlert { yes }, rest)),
+        Err(stop) => Err(stop),
+    }
 }
 
 // Reads the end of an alertable wait.
@@ -60,12 +78,14 @@ fn alert_resume<'b>(bytes: &'b [u8], layout: &Layout) -> Result<(Action, &'b [u8
     requires { IsLawful layout.now }
     ensures { Gives (λ x. (x.0, x.1.now)) result (alert_resume_at layout.now bytes.now) }
 {
-    let Names { mutex, cond, rest } = wait(bytes, b"alert-resume m", layout, b' ')?;
-    let (returns, rest) = flag(rest, b"returns\n", b"raises\n")?;
-    if returns {
-        Ok((Action::AlertReturn { mutex, cond }, rest))
-    } else {
-        Ok((Action::AlertRaise { mutex, cond }, rest))
+    let Names { mutex, cond, rest } = match wait(bytes, b"alert-resume m", layout, b' ') {
+        Ok(names) => names,
+        Err(stop) => return Err(stop),
+    };
+    match flag(rest, b"returns\n", b"raises\n") {
+        Ok((true, rest)) => Ok((Action::AlertReturn { mutex, cond }, rest)),
+        Ok((false, rest)) => Ok((Action::AlertRaise { mutex, cond }, rest)),
+        Err(stop) => Err(stop),
     }
 }
 
@@ -74,13 +94,15 @@ fn alert_p<'b>(bytes: &'b [u8], layout: &Layout) -> Result<(Action, &'b [u8]), S
     requires { IsLawful layout.now }
     ensures { Gives (λ x. (x.0, x.1.now)) result (alert_p_at layout.now bytes.now) }
 {
-    let (s, rest) = named(bytes, b"alert-p s", layout.semaphores, b' ')?;
-    let (returns, rest) = flag(rest, b"returns\n", b"raises\n")?;
+    let (s, rest) = match named(bytes, b"alert-p s", layout.semaphores, b' ') {
+        Ok(read) => read,
+        Err(stop) => return Err(stop),
+    };
     let sem = SemId(s);
-    if returns {
-        Ok((Action::AlertPReturn { sem }, rest))
-    } else {
-        Ok((Action::AlertPRaise { sem }, rest))
+    match flag(rest, b"returns\n", b"raises\n") {
+        Ok((true, rest)) => Ok((Action::AlertPReturn { sem }, rest)),
+        Ok((false, rest)) => Ok((Action::AlertPRaise { sem }, rest)),
+        Err(stop) => Err(stop),
     }
 }
 
@@ -122,8 +144,10 @@ fn r<'b>(bytes: &'b [u8], layout: &Layout) -> Result<(Action, &'b [u8]), Stop>
         Err(Stop::More) => return Err(Stop::More),
         Ok((m, rest)) => return Ok((Action::Release { mutex: MutexId(m) }, rest)),
     }
-    let Names { mutex, cond, rest } = wait(bytes, b"resume m", layout, b'\n')?;
-    Ok((Action::Resume { mutex, cond }, rest))
+    match wait(bytes, b"resume m", layout, b'\n') {
+        Ok(Names { mutex, cond, rest }) => Ok((Action::Resume { mutex, cond }, rest)),
+        Err(stop) => Err(stop),
+    }
 }
 
 // Reads a P.
@@ -131,8 +155,10 @@ fn p<'b>(bytes: &'b [u8], layout: &Layout) -> Result<(Action, &'b [u8]), Stop>
     requires { IsLawful layout.now }
     ensures { Gives (λ x. (x.0, x.1.now)) result (p_at layout.now bytes.now) }
 {
-    let (s, rest) = named(bytes, b"p s", layout.semaphores, b'\n')?;
-    Ok((Action::P { sem: SemId(s) }, rest))
+    match named(bytes, b"p s", layout.semaphores, b'\n') {
+        Ok((s, rest)) => Ok((Action::P { sem: SemId(s) }, rest)),
+        Err(stop) => Err(stop),
+    }
 }
 
 // Reads a V.
@@ -140,8 +166,10 @@ fn v<'b>(bytes: &'b [u8], layout: &Layout) -> Result<(Action, &'b [u8]), Stop>
     requires { IsLawful layout.now }
     ensures { Gives (λ x. (x.0, x.1.now)) result (v_at layout.now bytes.now) }
 {
-    let (s, rest) = named(bytes, b"v s", layout.semaphores, b'\n')?;
-    Ok((Action::V { sem: SemId(s) }, rest))
+    match named(bytes, b"v s", layout.semaphores, b'\n') {
+        Ok((s, rest)) => Ok((Action::V { sem: SemId(s) }, rest)),
+        Err(stop) => Err(stop),
+    }
 }
 
 // Reads the beginning of a wait.
@@ -149,8 +177,10 @@ fn enqueue<'b>(bytes: &'b [u8], layout: &Layout) -> Result<(Action, &'b [u8]), S
     requires { IsLawful layout.now }
     ensures { Gives (λ x. (x.0, x.1.now)) result (enqueue_at layout.now bytes.now) }
 {
-    let Names { mutex, cond, rest } = wait(bytes, b"enqueue m", layout, b'\n')?;
-    Ok((Action::Enqueue { mutex, cond }, rest))
+    match wait(bytes, b"enqueue m", layout, b'\n') {
+        Ok(Names { mutex, cond, rest }) => Ok((Action::Enqueue { mutex, cond }, rest)),
+        Err(stop) => Err(stop),
+    }
 }
 
 // Reads a broadcast.
@@ -158,8 +188,10 @@ fn broadcast<'b>(bytes: &'b [u8], layout: &Layout) -> Result<(Action, &'b [u8]),
     requires { IsLawful layout.now }
     ensures { Gives (λ x. (x.0, x.1.now)) result (broadcast_at layout.now bytes.now) }
 {
-    let (c, rest) = named(bytes, b"broadcast c", layout.conditions, b'\n')?;
-    Ok((Action::Broadcast { cond: CondId(c) }, rest))
+    match named(bytes, b"broadcast c", layout.conditions, b'\n') {
+        Ok((c, rest)) => Ok((Action::Broadcast { cond: CondId(c) }, rest)),
+        Err(stop) => Err(stop),
+    }
 }
 
 // Reads an action up to the end of its line.

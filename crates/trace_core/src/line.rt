@@ -1,12 +1,12 @@
 //! The lines of a trace text.
 ghost use Rattle.std.specs.Prelude.{◌≡◌, ◌≤◌, ◌<◌, length, codes};
 ghost use Rattle.larch_actions.specs.Layout.{IsLawful};
-ghost use Rattle.trace_core.specs.Reading.{Gives, after_word, both, number_at};
-ghost use Rattle.trace_core.specs.Lines.{IsPossible, event_at, event_or_end_at, counts_at, value_at, line_at};
+ghost use Rattle.trace_core.specs.Reading.{Gives, both, as_value};
+ghost use Rattle.trace_core.specs.Lines.{IsPossible, named_at, event_at, end_at, event_or_end_at, head_at, layout_of, counts_at, value_at, line_at};
 
 use crate::action::action;
 use crate::names::number_from;
-use crate::token::{last_number, number, place_and_t, word};
+use crate::token::{last_number, named, number, place_and_t, word};
 use itoa::Buffer;
 use larch_actions::{Event, Layout, ThreadId};
 
@@ -42,16 +42,38 @@ fn event<'b>(bytes: &'b [u8], layout: &Layout, place: u64) -> Result<(Event, &'b
     requires { IsLawful layout.now }
     ensures { Gives (λ x. (x.0, x.1.now)) result (event_at layout.now place bytes.now) }
 {
-    let rest = place_and_t(bytes, place)?;
-    let (t, rest) = number(rest, 0, layout.threads, b' ')?;
-    let (action, rest) = action(rest, layout)?;
-    Ok((
-        Event {
-            thread: ThreadId(t),
-            action,
-        },
-        rest,
-    ))
+    let rest = match place_and_t(bytes, place) {
+        Ok(rest) => rest,
+        Err(stop) => return Err(stop),
+    };
+    let (t, rest) = match number(rest, 0, layout.threads, b' ') {
+        Ok(read) => read,
+        Err(stop) => return Err(stop),
+    };
+    let thread = ThreadId(t);
+    match action(rest, layout) {
+        Ok((action, rest)) => Ok((Event { thread, action }, rest)),
+        Err(stop) => Err(stop),
+    }
+}
+
+// Reads the end line of so many events.
+fn end(bytes: &[u8], count: u64) -> Result<(Line, &[u8]), Stop>
+    ensures { Gives (λ x. (x.0, x.1.now)) result (end_at count bytes.now) }
+{
+    let mut buffer = Buffer::new();
+    let rest = match word(bytes, b"end ") {
+        Ok(rest) => rest,
+        Err(stop) => return Err(stop),
+    };
+    let rest = match word(rest, buffer.format(count).as_bytes()) {
+        Ok(rest) => rest,
+        Err(stop) => return Err(stop),
+    };
+    match word(rest, b"\n") {
+        Ok(rest) => Ok((Line::End, rest)),
+        Err(stop) => Err(stop),
+    }
 }
 
 // Reads the line of the event in this place, or the end line.
@@ -60,38 +82,39 @@ fn event_or_end<'b>(bytes: &'b [u8], layout: &Layout, place: u64) -> Result<(Lin
     ensures { Gives (λ x. (x.0, x.1.now)) result (event_or_end_at layout.now place bytes.now) }
 {
     match event(bytes, layout, place) {
-        Err(Stop::Dead) => {}
-        Err(Stop::More) => return Err(Stop::More),
-        Ok((event, rest)) => return Ok((Line::Event(event), rest)),
+        Err(Stop::Dead) => end(bytes, place),
+        Err(Stop::More) => Err(Stop::More),
+        Ok((event, rest)) => Ok((Line::Event(event), rest)),
     }
-    let mut buffer = Buffer::new();
-    let rest = word(bytes, b"end ")?;
-    let rest = word(rest, buffer.format(place).as_bytes())?;
-    let rest = word(rest, b"\n")?;
-    Ok((Line::End, rest))
 }
 
-// Reads the counts of conditions and semaphores, up to the end of the layout line.
-fn last_counts(bytes: &[u8]) -> Result<((u32, u32), &[u8]), Stop>
-    ensures { Gives (λ x. ((x.0.0, x.0.1), x.1.now)) result (after_word (codes "conditions ") (both (number_at 0 65 32) (λ _.
-        after_word (codes "semaphores ") (number_at 0 65 10))) bytes.now) }
+// Reads the first line.
+fn head(bytes: &[u8]) -> Result<(Line, &[u8]), Stop>
+    ensures { Gives (λ x. (x.0, x.1.now)) result (head_at bytes.now) }
 {
-    let rest = word(bytes, b"conditions ")?;
-    let (conditions, rest) = number(rest, 0, 65, b' ')?;
-    let rest = word(rest, b"semaphores ")?;
-    let (semaphores, rest) = number(rest, 0, 65, b'\n')?;
-    Ok(((conditions, semaphores), rest))
+    match word(bytes, b"firefly-trace 1\n") {
+        Ok(rest) => Ok((Line::Head, rest)),
+        Err(stop) => Err(stop),
+    }
 }
 
-// Reads the layout line.
-fn counts(bytes: &[u8]) -> Result<(Layout, &[u8]), Stop>
-    ensures { Gives (λ x. (x.0, x.1.now)) result (counts_at bytes.now) }
+// Reads the counts behind that of the threads, up to the end of the layout line.
+fn last_counts(bytes: &[u8], threads: u32) -> Result<(Layout, &[u8]), Stop>
+    ensures { Gives (λ x. (x.0, x.1.now)) result (as_value (λ p. layout_of (threads, p)) (both (named_at (codes "mutexes ") 65 32) (λ _.
+        both (named_at (codes "conditions ") 65 32) (λ _. named_at (codes "semaphores ") 65 10))) bytes.now) }
 {
-    let rest = word(bytes, b"threads ")?;
-    let (threads, rest) = number(rest, 1, 65, b' ')?;
-    let rest = word(rest, b"mutexes ")?;
-    let (mutexes, rest) = number(rest, 0, 65, b' ')?;
-    let ((conditions, semaphores), rest) = last_counts(rest)?;
+    let (mutexes, rest) = match named(bytes, b"mutexes ", 65, b' ') {
+        Ok(read) => read,
+        Err(stop) => return Err(stop),
+    };
+    let (conditions, rest) = match named(rest, b"conditions ", 65, b' ') {
+        Ok(read) => read,
+        Err(stop) => return Err(stop),
+    };
+    let (semaphores, rest) = match named(rest, b"semaphores ", 65, b'\n') {
+        Ok(read) => read,
+        Err(stop) => return Err(stop),
+    };
     Ok((
         Layout {
             threads,
@@ -103,21 +126,42 @@ fn counts(bytes: &[u8]) -> Result<(Layout, &[u8]), Stop>
     ))
 }
 
+// Reads the layout line.
+fn counts(bytes: &[u8]) -> Result<(Line, &[u8]), Stop>
+    ensures { Gives (λ x. (x.0, x.1.now)) result (as_value Line.Counts counts_at bytes.now) }
+{
+    let rest = match word(bytes, b"threads ") {
+        Ok(rest) => rest,
+        Err(stop) => return Err(stop),
+    };
+    let (threads, rest) = match number(rest, 1, 65, b' ') {
+        Ok(read) => read,
+        Err(stop) => return Err(stop),
+    };
+    match last_counts(rest, threads) {
+        Ok((layout, rest)) => Ok((Line::Counts(layout), rest)),
+        Err(stop) => Err(stop),
+    }
+}
+
 // Reads the value line of a mutex from `least` on.
 fn value<'b>(bytes: &'b [u8], layout: &Layout, least: u32) -> Result<(Line, &'b [u8]), Stop>
     requires { IsLawful layout.now }
     ensures { Gives (λ x. (x.0, x.1.now)) result (value_at layout.now least bytes.now) }
 {
-    let rest = word(bytes, b"value m")?;
-    let name = number_from(rest, false, least, layout.mutexes)?;
-    let (value, rest) = last_number(name.rest)?;
-    Ok((
-        Line::Value {
-            mutex: name.value,
-            value,
-        },
-        rest,
-    ))
+    let rest = match word(bytes, b"value m") {
+        Ok(rest) => rest,
+        Err(stop) => return Err(stop),
+    };
+    let name = match number_from(rest, false, least, layout.mutexes) {
+        Ok(name) => name,
+        Err(stop) => return Err(stop),
+    };
+    let mutex = name.value;
+    match last_number(name.rest) {
+        Ok((value, rest)) => Ok((Line::Value { mutex, value }, rest)),
+        Err(stop) => Err(stop),
+    }
 }
 
 /// Reads the line that comes next, and gives the bytes behind it.
@@ -126,14 +170,8 @@ pub fn line_of<'b>(bytes: &'b [u8], expect: &Expect) -> Result<(Line, &'b [u8]),
     ensures { Gives (λ x. (x.0, x.1.now)) result (line_at expect.now bytes.now) }
 {
     match expect {
-        Expect::Head => {
-            let rest = word(bytes, b"firefly-trace 1\n")?;
-            Ok((Line::Head, rest))
-        }
-        Expect::Counts => {
-            let (layout, rest) = counts(bytes)?;
-            Ok((Line::Counts(layout), rest))
-        }
+        Expect::Head => head(bytes),
+        Expect::Counts => counts(bytes),
         Expect::Events { layout, place } => event_or_end(bytes, layout, *place),
         Expect::Values { layout, least } => value(bytes, layout, *least),
     }

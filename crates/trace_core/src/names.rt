@@ -106,6 +106,8 @@ pub fn names(bytes: &[u8], bound: u32) -> Result<(ThreadSet, &[u8]), Stop>
         Err(Stop::More) => return Err(Stop::More),
         Ok(rest) => return Ok((ThreadSet::empty(), rest)),
     }
-    let rest = word(bytes, b" t")?;
-    tail(rest, bound)
+    match word(bytes, b" t") {
+        Ok(rest) => tail(rest, bound),
+        Err(stop) => Err(stop),
+    }
 }

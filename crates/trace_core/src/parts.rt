@@ -1,9 +1,9 @@
 //! The head of a text, its events, and its end.
-ghost use Rattle.std.specs.Prelude.{◌≡◌, ◌≢◌, ◌⊎◌, ◌+◌, ◌<◌, ◌≤◌, ◌++◌, [], length, IfOk, IfErr, IfSome, IfNone, OnOk, OnErr};
+ghost use Rattle.std.specs.Prelude.{◌≡◌, ◌⊎◌, ◌+◌, ◌<◌, ◌≤◌, ◌++◌, [], length, IfOk, IfErr, IfSome, IfNone, OnOk, OnErr};
 ghost use Rattle.std.specs.Io.KnownBytes.{Consumes};
 ghost use Rattle.larch_actions.specs.Layout.{IsLawful, HasNames};
 ghost use Rattle.trace_core.specs.Text.{first_line, layout_line, event_line, IsTrace, IsRest, IsValues};
-ghost use Rattle.trace_core.specs.Intake.{rest_of, room_of, HasReason, LacksAt, IsAsked, IsUndecided};
+ghost use Rattle.trace_core.specs.Intake.{rest_of, room_of, HasReason, LacksAt, IsAsked, IsTold, IsUndecided};
 ghost use Rattle.trace_core.specs.Prefixes.{Begins};
 ghost use Rattle.trace_core.specs.Steps.{IsEnding};
 
@@ -16,9 +16,7 @@ use larch_actions::{Event, Layout};
 // Whether a byte is left. Where none was held, the source is asked.
 fn goes_on<I: Source>(intake: &mut Intake, input: &mut I) -> Result<bool, TextFault>
     ensures asked { IsAsked intake.old intake.new (I.left input.old) (I.left input.new) (I.faults input.old) (I.faults input.new) result }
-    ensures later { I.faults input.old ≤ I.faults input.new }
-    ensures unfailed { OnOk result (I.faults input.new ≡ I.faults input.old) }
-    ensures told { IfErr result (λ fault. fault ≢ TextFault.Read → I.faults input.new ≡ I.faults input.old) }
+    ensures told { IsTold (I.faults input.old) (I.faults input.new) result }
     ensures asks { ((input.new ≡ input.old) × (intake.new ≡ intake.old)) ⊎ (intake.old.window ≡ []) }
 {
     if intake.window.len() > 0 {
@@ -39,9 +37,7 @@ pub fn take_values<I: Source>(
         × (length bytes ≤ room_of intake.old))) }
     ensures fault { IfErr result (HasReason (IsValues layout.now least) intake.old.lines (room_of intake.old)
         (rest_of intake.old (I.left input.old)) (I.left input.new) (I.faults input.old) (I.faults input.new)) }
-    ensures later { I.faults input.old ≤ I.faults input.new }
-    ensures unfailed { OnOk result (I.faults input.new ≡ I.faults input.old) }
-    ensures told { IfErr result (λ fault. fault ≢ TextFault.Read → I.faults input.new ≡ I.faults input.old) }
+    ensures told { IsTold (I.faults input.old) (I.faults input.new) result }
     ensures asks { (input.new ≡ input.old) ⊎ Begins (IsValues layout.now least) intake.old.window }
 {
     match goes_on(intake, input) {
@@ -82,9 +78,7 @@ pub fn take_event<I: Source>(
         (rest_of intake.old (I.left input.old)) (I.left input.new) (I.faults input.old) (I.faults input.new)) }
     ensures lacks { IfErr result (LacksAt (HasNames layout.now) (event_line place) (room_of intake.old)
         (rest_of intake.old (I.left input.old)) (I.left input.new)) }
-    ensures later { I.faults input.old ≤ I.faults input.new }
-    ensures unfailed { OnOk result (I.faults input.new ≡ I.faults input.old) }
-    ensures told { IfErr result (λ fault. fault ≢ TextFault.Read → I.faults input.new ≡ I.faults input.old) }
+    ensures told { IsTold (I.faults input.old) (I.faults input.new) result }
     ensures asks { (input.new ≡ input.old) ⊎ IsUndecided (IsRest layout.now place) (HasNames layout.now)
         (event_line place) intake.old.window }
 {
@@ -113,9 +107,7 @@ pub fn take_head<I: Source>(intake: &mut Intake, input: &mut I) -> Result<Layout
         (I.left input.new) (I.faults input.old) (I.faults input.new)) }
     ensures lacks { IfErr result (LacksAt IsLawful (λ l. first_line ++ layout_line l) (room_of intake.old)
         (rest_of intake.old (I.left input.old)) (I.left input.new)) }
-    ensures later { I.faults input.old ≤ I.faults input.new }
-    ensures unfailed { OnOk result (I.faults input.new ≡ I.faults input.old) }
-    ensures told { IfErr result (λ fault. fault ≢ TextFault.Read → I.faults input.new ≡ I.faults input.old) }
+    ensures told { IsTold (I.faults input.old) (I.faults input.new) result }
     ensures asks { (input.new ≡ input.old) ⊎ IsUndecided IsTrace IsLawful (λ l. first_line ++ layout_line l) intake.old.window }
 {
     match take_line(intake, input, &Expect::Head) {

@@ -1,10 +1,10 @@
 //! The steps of a reader.
-ghost use Rattle.std.specs.Prelude.{◌≡◌, ◌≢◌, ◌⊎◌, ◌+◌, ◌<◌, ◌≤◌, ◌++◌, length, drop, IfOk, IfErr, IfSome, IfNone, OnOk};
+ghost use Rattle.std.specs.Prelude.{◌≡◌, ◌⊎◌, ◌+◌, ◌<◌, ◌≤◌, ◌++◌, length, drop, IfOk, IfErr, IfSome, IfNone};
 ghost use Rattle.trace_core.specs.declared.progress.Phase.TheVariants as phase;
 ghost use Rattle.trace_core.specs.Text.{IsTrace, IsRest, first_line, layout_line, event_line};
 ghost use Rattle.larch_actions.specs.Layout.{IsLawful, HasNames};
 ghost use Rattle.trace_core.specs.Held.{IsEventAt};
-ghost use Rattle.trace_core.specs.Intake.{IsUndecided};
+ghost use Rattle.trace_core.specs.Intake.{IsTold, IsUndecided};
 ghost use Rattle.trace_core.specs.Standing.{standing_of};
 ghost use Rattle.trace_core.specs.Steps.{TakesHead, TakesEvent, TakesEnd, Breaks, IsTaken};
 
@@ -21,9 +21,7 @@ pub fn begin<I: Source>(progress: &mut Progress, input: &mut I) -> Result<Layout
     ensures head { IfOk result (TakesHead (standing_of progress.old (I.left input.old)) (standing_of progress.new (I.left input.new))) }
     ensures fault { IfErr result (Breaks IsTrace IsLawful (λ l. first_line ++ layout_line l) (standing_of progress.old (I.left input.old))
         (standing_of progress.new (I.left input.new)) (I.left input.new) (I.faults input.old) (I.faults input.new)) }
-    ensures later { I.faults input.old ≤ I.faults input.new }
-    ensures unfailed { OnOk result (I.faults input.new ≡ I.faults input.old) }
-    ensures told { IfErr result (λ fault. fault ≢ TextFault.Read → I.faults input.new ≡ I.faults input.old) }
+    ensures told { IsTold (I.faults input.old) (I.faults input.new) result }
     ensures asks { (input.new ≡ input.old) ⊎ IsUndecided IsTrace IsLawful (λ l. first_line ++ layout_line l) progress.old.intake.window }
 {
     progress.place = Place::first();
@@ -89,9 +87,7 @@ pub fn go_on<I: Source>(progress: &mut Progress, input: &mut I) -> Result<Option
     ensures fault { IfErr result (Breaks (IsRest progress.old.layout progress.old.place) (HasNames progress.old.layout)
         (event_line progress.old.place) (standing_of progress.old (I.left input.old)) (standing_of progress.new (I.left input.new))
         (I.left input.new) (I.faults input.old) (I.faults input.new)) }
-    ensures later { I.faults input.old ≤ I.faults input.new }
-    ensures unfailed { OnOk result (I.faults input.new ≡ I.faults input.old) }
-    ensures told { IfErr result (λ fault. fault ≢ TextFault.Read → I.faults input.new ≡ I.faults input.old) }
+    ensures told { IsTold (I.faults input.old) (I.faults input.new) result }
     ensures asks { (input.new ≡ input.old) ⊎ IsUndecided (IsRest progress.old.layout progress.old.place) (HasNames progress.old.layout)
         (event_line progress.old.place) progress.old.intake.window }
 {
@@ -116,9 +112,7 @@ fn go_on_slowly<I: Source>(
     ensures fault { IfErr result (Breaks (IsRest progress.old.layout progress.old.place) (HasNames progress.old.layout)
         (event_line progress.old.place) (standing_of progress.old (I.left input.old)) (standing_of progress.new (I.left input.new))
         (I.left input.new) (I.faults input.old) (I.faults input.new)) }
-    ensures later { I.faults input.old ≤ I.faults input.new }
-    ensures unfailed { OnOk result (I.faults input.new ≡ I.faults input.old) }
-    ensures told { IfErr result (λ fault. fault ≢ TextFault.Read → I.faults input.new ≡ I.faults input.old) }
+    ensures told { IsTold (I.faults input.old) (I.faults input.new) result }
     ensures asks { (input.new ≡ input.old) ⊎ IsUndecided (IsRest progress.old.layout progress.old.place) (HasNames progress.old.layout)
         (event_line progress.old.place) progress.old.intake.window }
 {

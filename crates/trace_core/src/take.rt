@@ -1,8 +1,8 @@
 //! The line that comes next.
-ghost use Rattle.std.specs.Prelude.{◌≡◌, ◌≢◌, ◌⊎◌, ◌+◌, ◌<◌, ◌≤◌, length, IfOk, IfErr, OnOk, OnErr};
+ghost use Rattle.std.specs.Prelude.{◌≡◌, ◌⊎◌, ◌+◌, ◌<◌, length, IfOk, IfErr, OnOk, OnErr};
 ghost use Rattle.std.specs.Io.KnownBytes.{Consumes};
 ghost use Rattle.trace_core.specs.Lines.{IsPossible, IsAllowed, IsTextFrom, line_text, line_at};
-ghost use Rattle.trace_core.specs.Intake.{rest_of, room_of, HasReason, LacksAt};
+ghost use Rattle.trace_core.specs.Intake.{rest_of, room_of, HasReason, LacksAt, IsTold};
 
 use crate::intake::{Intake, TextFault};
 use crate::line::{Expect, Line, Stop, line_of};
@@ -17,10 +17,14 @@ fn try_line(window: &mut Window, expect: &Expect) -> Result<Line, Stop>
     ensures shorter { OnOk result (length window.new < length window.old) }
 {
     let bytes = window.bytes();
-    let (line, rest) = line_of(bytes, expect)?;
-    let used = bytes.len() - rest.len();
-    window.skip(used);
-    Ok(line)
+    match line_of(bytes, expect) {
+        Ok((line, rest)) => {
+            let used = bytes.len() - rest.len();
+            window.skip(used);
+            Ok(line)
+        }
+        Err(stop) => Err(stop),
+    }
 }
 
 // Reads the line that comes next from the window, and counts it.
@@ -34,9 +38,13 @@ fn read(intake: &mut Intake, expect: &Expect) -> Result<Line, Stop>
     ensures same_window { OnErr result (intake.new.window ≡ intake.old.window) }
     ensures same_lines { OnErr result (intake.new.lines ≡ intake.old.lines) }
 {
-    let line = try_line(&mut intake.window, expect)?;
-    intake.lines += 1;
-    Ok(line)
+    match try_line(&mut intake.window, expect) {
+        Ok(line) => {
+            intake.lines += 1;
+            Ok(line)
+        }
+        Err(stop) => Err(stop),
+    }
 }
 
 /// Takes the line that comes next.
@@ -55,10 +63,7 @@ pub fn take_line<I: Source>(
         (rest_of intake.old (I.left input.old)) (I.left input.new) (I.faults input.old) (I.faults input.new)) }
     ensures lacks { IfErr result (LacksAt (IsAllowed expect.now) (line_text expect.now) (room_of intake.old)
         (rest_of intake.old (I.left input.old)) (I.left input.new)) }
-    ensures later { I.faults input.old ≤ I.faults input.new }
-    // A question that fails is told.
-    ensures unfailed { OnOk result (I.faults input.new ≡ I.faults input.old) }
-    ensures told { IfErr result (λ fault. fault ≢ TextFault.Read → I.faults input.new ≡ I.faults input.old) }
+    ensures told { IsTold (I.faults input.old) (I.faults input.new) result }
     // The source is asked only where the bytes held don't decide.
     ensures asks { IfOk result (λ x. ((input.new ≡ input.old) × (line_at expect.now intake.old.window ≡ Ok (x, intake.new.window)))
         ⊎ (line_at expect.now intake.old.window ≡ Err Stop.More)) }

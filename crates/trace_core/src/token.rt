@@ -131,8 +131,10 @@ pub fn place_and_t(bytes: &[u8], place: u64) -> Result<&[u8], Stop>
         }
     }
     let mut buffer = Buffer::new();
-    let rest = word(bytes, buffer.format(place).as_bytes())?;
-    word(rest, b" t")
+    match word(bytes, buffer.format(place).as_bytes()) {
+        Ok(rest) => word(rest, b" t"),
+        Err(stop) => Err(stop),
+    }
 }
 
 // Reads a word, and a name below the bound up to the byte that stops it.
@@ -148,8 +150,10 @@ pub fn named<'b>(
     if bound == 0 {
         return Err(Stop::Dead);
     }
-    let rest = word(bytes, before)?;
-    number(rest, 0, bound, stop)
+    match word(bytes, before) {
+        Ok(rest) => number(rest, 0, bound, stop),
+        Err(stop) => Err(stop),
+    }
 }
 
 // Reads one word or the other, and says whether it was the one.
@@ -161,6 +165,8 @@ pub fn flag<'b>(bytes: &'b [u8], one: &[u8], other: &[u8]) -> Result<(bool, &'b 
         Err(Stop::More) => return Err(Stop::More),
         Ok(rest) => return Ok((true, rest)),
     }
-    let rest = word(bytes, other)?;
-    Ok((false, rest))
+    match word(bytes, other) {
+        Ok(rest) => Ok((false, rest)),
+        Err(stop) => Err(stop),
+    }
 }

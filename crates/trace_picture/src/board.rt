@@ -17,7 +17,7 @@ pub struct Board {
 }
 
 /// What a thread goes on by: that it was taken out of its condition, that a semaphore is available, or that it is alerted.
-#[derive(Clone, Copy, Debug, PartialEq, Eq)]
+#[derive(Clone, Copy)]
 pub enum Waker {
     Condition(u32),
     Semaphore(u32),

@@ -9,7 +9,7 @@ use crate::history::Origin;
 use larch_actions::{Action, ThreadId, ThreadSet};
 
 /// How it stands with something that may let a thread go on.
-#[derive(Clone, Copy, Debug, PartialEq, Eq)]
+#[derive(Clone, Copy)]
 pub enum Cause {
     /// It isn't awaited.
     Never,
@@ -20,7 +20,7 @@ pub enum Cause {
 }
 
 /// What an event does to the causes of a kind.
-#[derive(Clone, Copy, Debug, PartialEq, Eq)]
+#[derive(Clone, Copy)]
 pub enum Move {
     /// The first is awaited from now on, at the second.
     Awaits(u32, u32),

@@ -7,14 +7,14 @@ ghost use Rattle.trace_picture.specs.History.{mutex_turn, wait_turn, changed, en
 use larch_actions::{Action, ThreadId};
 
 /// The event since which something is so: by which thread, and its place.
-#[derive(Clone, Copy, Debug, PartialEq, Eq)]
+#[derive(Clone, Copy)]
 pub struct Origin {
     pub thread: ThreadId,
     pub place: u64,
 }
 
 /// What an event does to a thing of this number.
-#[derive(Clone, Copy, Debug, PartialEq, Eq)]
+#[derive(Clone, Copy)]
 pub enum Turn {
     Begins(u32),
     Ends(u32),

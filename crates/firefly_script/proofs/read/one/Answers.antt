@@ -2,6 +2,7 @@ use Rattle.std.proofs.Common.{◌+◌, arith}
 use Rattle.firefly_script.specs.Text.{line_text}
 use Rattle.firefly_script.proofs.Firsts.{line_consumed}
 use Rattle.firefly_script.proofs.LineFaults.{whole_bad, long_bad, open_bad}
+use Rattle.firefly_script.proofs.Results.{no_value, not_false, not_true}
 use Rattle.firefly_script.proofs.read.one.Goals as goal
 
 pub returns-in-Ok-clause-line : goal.returns-in-Ok-clause-line
@@ -26,3 +27,39 @@ returns-in-Ok-Open-clause-fault g c =
     let f = rw c.in-Ok-Open.field-0-is at c.in-Ok-Open.ensures.found in
     let d = c.args.draft.now in
     open_bad d.layout d.lines.items _ (g.I.Source.left c.next.new.input) c.next.new.window (g.I.Source.faults c.args.input.now) (g.I.Source.faults c.next.new.input) (c.len.result + 2) c.in-Ok-Open.ensures.kept (omega (arith, c.len.ensures)) c.requires.few f.0 f.1 f.2
+
+pub returns-in-Ok-clause-end : goal.returns-in-Ok-clause-end
+returns-in-Ok-clause-end g c e = not_false e
+
+pub returns-in-Ok-end-clause-line : goal.returns-in-Ok-end-clause-line
+returns-in-Ok-end-clause-line g c e = not_true e
+
+pub returns-in-Err-take-clause-line : goal.returns-in-Err-take-clause-line
+returns-in-Err-take-clause-line g c e = no_value _ _ e
+
+pub returns-in-Err-take-clause-end : goal.returns-in-Err-take-clause-end
+returns-in-Err-take-clause-end g c e = no_value _ _ e
+
+pub returns-in-Ok-Long-clause-line : goal.returns-in-Ok-Long-clause-line
+returns-in-Ok-Long-clause-line g c e = no_value _ _ e
+
+pub returns-in-Ok-Long-clause-end : goal.returns-in-Ok-Long-clause-end
+returns-in-Ok-Long-clause-end g c e = no_value _ _ e
+
+pub returns-in-Ok-Open-clause-line : goal.returns-in-Ok-Open-clause-line
+returns-in-Ok-Open-clause-line g c e = no_value _ _ e
+
+pub returns-in-Ok-Open-clause-end : goal.returns-in-Ok-Open-clause-end
+returns-in-Ok-Open-clause-end g c e = no_value _ _ e
+
+pub returns-in-Err-end-clause-line : goal.returns-in-Err-end-clause-line
+returns-in-Err-end-clause-line g c e = no_value _ _ e
+
+pub returns-in-Err-end-clause-end : goal.returns-in-Err-end-clause-end
+returns-in-Err-end-clause-end g c e = no_value _ _ e
+
+pub returns-in-Err-clause-line : goal.returns-in-Err-clause-line
+returns-in-Err-clause-line g c e = no_value _ _ e
+
+pub returns-in-Err-clause-end : goal.returns-in-Err-clause-end
+returns-in-Err-clause-end g c e = no_value _ _ e

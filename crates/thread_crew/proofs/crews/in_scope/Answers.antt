@@ -75,3 +75,11 @@ returns-clause-between g c =
       ),
       c.finish.ensures.between,
     )
+
+pub push_reserved-requires : goal.push_reserved-requires
+push_reserved-requires g c =
+    let was = c.loop-job.invariant in
+    let room = was.room in
+    let left = was.left in
+    let short = ap length c.in-Some.ensures.steps.0 in
+    omega arith

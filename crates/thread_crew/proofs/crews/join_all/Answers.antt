@@ -25,3 +25,11 @@ returns g c jobs given =
     let at = c.loop-one in
     let all = all_yielded at.yielded _ _ at.invariant.whole (sym at.invariant.left ∙ c.in-None.ensures.steps.0) ∙ c.into_iter-one-iterator.ensures.into_iter_gives.0 in
     zip_turn (IsRunning g.T.Task.run_gives) g.T.Task.run_gives jobs _ _ given (subst (λ l. AllZip (Turns (IsRunning g.T.Task.run_gives) g.T.Task.run_gives) l at.results.items) all at.invariant.turned)
+
+pub push_reserved-requires : goal.push_reserved-requires
+push_reserved-requires g c =
+    let was = c.loop-one.invariant in
+    let room = was.room in
+    let left = was.left in
+    let short = ap length c.in-Some.ensures.steps.0 in
+    omega arith

@@ -1,4 +1,4 @@
-use Rattle.std.proofs.Common.{◌≡◌, ◌∷◌, [], length, ap, subst, ◌∙◌, append_assoc, arith, sym}
+use Rattle.std.proofs.Common.{◌≡◌, ◌∷◌, [], List, length, refl, ap, subst, ◌∙◌, append_assoc, arith, sym}
 use Rattle.std.specs.Vec.Iter.{into_iter_items}
 use Rattle.std.specs.List.{AllZip}
 use Rattle.thread_crew.specs.Crews.{IsChildOf, IsRunning, Turns}
@@ -34,3 +34,25 @@ returns-clause-turned g c jobs given =
     let at = c.loop-child in
     let all = all_yielded at.yielded _ _ at.invariant.whole (sym at.invariant.left ∙ c.in-None.ensures.steps.0) ∙ c.into_iter-child-iterator.ensures.into_iter_gives.0 in
     zip_turn (IsChildOf g.T.Task.run_gives (goal.F-pre g) (goal.F-post g)) (IsRunning g.T.Task.run_gives) jobs _ _ given (subst (λ l. AllZip (Turns (IsChildOf g.T.Task.run_gives (goal.F-pre g) (goal.F-post g)) (IsRunning g.T.Task.run_gives)) l at.running.items) all at.invariant.turned)
+
+pub push_reserved-requires : goal.push_reserved-requires
+push_reserved-requires g c =
+    let was = c.loop-child.invariant in
+    let room = was.room in
+    let left = was.left in
+    let short = ap length c.in-Some.ensures.steps.0 in
+    omega arith
+
+pub loop-child-init : goal.loop-child-init
+loop-child-init g c =
+    let gives = c.into_iter-child-iterator.ensures.into_iter_gives in
+    let room = c.requires.room in
+    let none = ap length room.0 in
+    record {
+      whole = refl;
+      left = gives.1 ∙ c.args.children.ok.0 ∙ sym (ap length gives.0);
+      room = omega (arith, c.args.running.ok.0, none, room.1, gives.1);
+      count = omega (arith, c.args.running.ok.0, none);
+      ready = subst (λ l. (jobs : List _) × AllZip (IsChildOf g.T.Task.run_gives (goal.F-pre g) (goal.F-post g)) jobs l) (sym gives.0) c.requires.ready;
+      turned = subst (λ l. AllZip (Turns (IsChildOf g.T.Task.run_gives (goal.F-pre g) (goal.F-post g)) (IsRunning g.T.Task.run_gives)) [] l) (sym room.0) tt;
+    }

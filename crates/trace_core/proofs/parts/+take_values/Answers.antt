@@ -1,10 +1,11 @@
-use Rattle.std.proofs.Common.{◌≡◌, ◌+◌, ◌-◌, arith}
+use Rattle.std.proofs.Common.{◌≡◌, ◌+◌, ◌-◌, ◌∙◌, refl, arith}
 use Rattle.trace_core.specs.declared.line.Line.TheVariants as line
 use Rattle.trace_core.specs.declared.line.Expect.TheVariants as expect
 use Rattle.trace_core.specs.Intake.{rest_of, room_of}
 use Rattle.trace_core.proofs.Outcomes.{reason_behind}
 use Rattle.trace_core.proofs.Ends.{past_values, asked_reason, one_more_value, on_ok, if_err}
 use Rattle.trace_core.proofs.Asking.{value_asks, values_asks}
+use Rattle.trace_core.proofs.Told.{same_told, then_told, fault_told}
 use Rattle.trace_core.proofs.parts.+take_values.Goals as goal
 
 pub returns-then-least-layout-clause-fault : goal.returns-then-least-layout-clause-fault
@@ -33,16 +34,16 @@ returns-in-Ok-Value-clause-fault g t c =
     let room = rw c.in-Ok-Value.field-0-is at h.room in
     let l = c.args.layout.now in
     if_err c.take_values.result
-    (λ fault r. asked_reason l c.args.least (c.requires, c.if-least-layout.false) c.args.intake.now c.goes_on.new.intake (g.I.Source.left c.args.input.now) (g.I.Source.left c.goes_on.new.input) (g.I.Source.left c.take_values.new.input) (g.I.Source.faults c.args.input.now) (g.I.Source.faults c.goes_on.new.input) (g.I.Source.faults c.take_values.new.input) fault a c.goes_on.ensures.later
+    (λ fault r. asked_reason l c.args.least (c.requires, c.if-least-layout.false) c.args.intake.now c.goes_on.new.intake (g.I.Source.left c.args.input.now) (g.I.Source.left c.goes_on.new.input) (g.I.Source.left c.take_values.new.input) (g.I.Source.faults c.args.input.now) (g.I.Source.faults c.goes_on.new.input) (g.I.Source.faults c.take_values.new.input) fault a c.goes_on.ensures.told.later
     (reason_behind (expect.Values l c.args.least) (c.requires, c.if-least-layout.false) (line.Value c.in-Ok-Value.mutex c.in-Ok-Value.field-0-1) taken.0
     _ (rest_of c.take_line.new.intake (g.I.Source.left c.take_line.new.input)) _ _ _ (room_of c.take_line.new.intake) _ (g.I.Source.faults c.take_line.new.input) _
-    fault taken.1 room h.later (rw h.lines at r)))
+    fault taken.1 room h.told.later (rw h.lines at r)))
     c.take_values.ensures.fault
 
 pub returns-in-Err-take_line-clause-fault : goal.returns-in-Err-take_line-clause-fault
 returns-in-Err-take_line-clause-fault g t c =
     let a = rw c.in-Ok-true.field-0-test at c.in-Ok-true.ensures.asked in
-    asked_reason c.args.layout.now c.args.least (c.requires, c.if-least-layout.false) c.args.intake.now c.goes_on.new.intake (g.I.Source.left c.args.input.now) (g.I.Source.left c.goes_on.new.input) (g.I.Source.left c.take_line.new.input) (g.I.Source.faults c.args.input.now) (g.I.Source.faults c.goes_on.new.input) (g.I.Source.faults c.take_line.new.input) c.in-Err-take_line.fault a c.goes_on.ensures.later
+    asked_reason c.args.layout.now c.args.least (c.requires, c.if-least-layout.false) c.args.intake.now c.goes_on.new.intake (g.I.Source.left c.args.input.now) (g.I.Source.left c.goes_on.new.input) (g.I.Source.left c.take_line.new.input) (g.I.Source.faults c.args.input.now) (g.I.Source.faults c.goes_on.new.input) (g.I.Source.faults c.take_line.new.input) c.in-Err-take_line.fault a c.goes_on.ensures.told.later
     c.in-Err-take_line.ensures.fault
 
 pub returns-in-Ok-Value-clause-asks : goal.returns-in-Ok-Value-clause-asks
@@ -53,3 +54,18 @@ returns-in-Ok-Value-clause-asks g t c =
 pub returns-in-Err-take_line-clause-asks : goal.returns-in-Err-take_line-clause-asks
 returns-in-Err-take_line-clause-asks g t c =
     value_asks c.args.layout.now c.args.least (c.requires, c.if-least-layout.false) c.args.intake.now c.goes_on.new.intake c.goes_on.ensures.asks c.in-Err-take_line.ensures.asks_first
+
+pub returns-in-Ok-false-clause-told : goal.returns-in-Ok-false-clause-told
+returns-in-Ok-false-clause-told g t c = same_told _ _ _ c.in-Ok-false.ensures.told.unfailed
+
+pub returns-in-Err-clause-told : goal.returns-in-Err-clause-told
+returns-in-Err-clause-told g t c = fault_told _ _ _ c.in-Err.fault refl c.in-Err.ensures.told
+
+pub returns-then-least-layout-clause-told : goal.returns-then-least-layout-clause-told
+returns-then-least-layout-clause-told g t c = same_told _ _ _ c.in-Ok-true.ensures.told.unfailed
+
+pub returns-in-Ok-Value-clause-told : goal.returns-in-Ok-Value-clause-told
+returns-in-Ok-Value-clause-told g t c = then_told _ _ _ c.take_values.result (c.in-Ok-Value.ensures.told.unfailed ∙ c.in-Ok-true.ensures.told.unfailed) c.take_values.ensures.told
+
+pub returns-in-Err-take_line-clause-told : goal.returns-in-Err-take_line-clause-told
+returns-in-Err-take_line-clause-told g t c = fault_told _ _ _ c.in-Err-take_line.fault c.in-Ok-true.ensures.told.unfailed c.in-Err-take_line.ensures.told

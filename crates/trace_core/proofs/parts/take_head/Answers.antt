@@ -1,8 +1,12 @@
+use Rattle.std.proofs.Common.{◌∙◌, refl, length-append, arith}
+use Rattle.std.proofs.KnownBytes.{Consumes-trans}
 use Rattle.trace_core.specs.declared.line.Line.TheVariants as line
 use Rattle.trace_core.specs.declared.line.Expect.TheVariants as expect
 use Rattle.trace_core.specs.Intake.{rest_of, room_of}
+use Rattle.trace_core.specs.Text.{first_line, layout_line}
 use Rattle.trace_core.proofs.Outcomes.{reason_behind, first_lacks, counts_lacks}
 use Rattle.trace_core.proofs.Asking.{asked_or_not, first_asks, head_asks}
+use Rattle.trace_core.proofs.Told.{same_told, fault_told}
 use Rattle.trace_core.proofs.parts.take_head.Goals as goal
 
 pub returns-in-Err-take_line-clause-fault : goal.returns-in-Err-take_line-clause-fault
@@ -12,7 +16,7 @@ returns-in-Err-take_line-clause-fault g c =
     let room = rw c.in-Ok-Head.field-0-is at h.room in
     reason_behind expect.Head tt line.Head tt
     _ (rest_of c.take_line.new.intake (g.I.Source.left c.take_line.new.input)) _ _ _ (room_of c.take_line.new.intake) _ (g.I.Source.faults c.take_line.new.input) _
-    c.in-Err-take_line.fault taken.1 room h.later (rw h.lines at c.in-Err-take_line.ensures.fault)
+    c.in-Err-take_line.fault taken.1 room h.told.later (rw h.lines at c.in-Err-take_line.ensures.fault)
 
 pub returns-in-Err-take_line-clause-lacks : goal.returns-in-Err-take_line-clause-lacks
 returns-in-Err-take_line-clause-lacks g c =
@@ -34,3 +38,24 @@ returns-in-Ok-Counts-clause-asks g c =
 pub returns-in-Err-take_line-clause-asks : goal.returns-in-Err-take_line-clause-asks
 returns-in-Err-take_line-clause-asks g c =
     head_asks c.args.intake.now.window c.take_line.new.intake.window (rw c.in-Ok-Head.field-0-is at c.in-Ok-Head.ensures.asks) c.in-Err-take_line.ensures.asks_first
+
+pub returns-in-Ok-Counts-clause-told : goal.returns-in-Ok-Counts-clause-told
+returns-in-Ok-Counts-clause-told g c = same_told _ _ _ (c.in-Ok-Counts.ensures.told.unfailed ∙ c.in-Ok-Head.ensures.told.unfailed)
+
+pub returns-in-Err-take_line-clause-told : goal.returns-in-Err-take_line-clause-told
+returns-in-Err-take_line-clause-told g c = fault_told _ _ _ c.in-Err-take_line.fault c.in-Ok-Head.ensures.told.unfailed c.in-Err-take_line.ensures.told
+
+pub returns-in-Err-clause-told : goal.returns-in-Err-clause-told
+returns-in-Err-clause-told g c = fault_told _ _ _ c.in-Err.fault refl c.in-Err.ensures.told
+
+pub returns-in-Ok-Counts-clause-layout : goal.returns-in-Ok-Counts-clause-layout
+returns-in-Ok-Counts-clause-layout g c =
+    let first = rw c.in-Ok-Head.field-0-is at c.in-Ok-Head.ensures.line in
+    let counts = rw c.in-Ok-Counts.field-0-is at c.in-Ok-Counts.ensures.line in
+    (counts.0, Consumes-trans (rest_of c.args.intake.now (g.I.Source.left c.args.input.now)) (rest_of c.take_line.new.intake (g.I.Source.left c.take_line.new.input)) _ _ _ first.1 counts.1)
+
+pub returns-in-Ok-Counts-clause-room : goal.returns-in-Ok-Counts-clause-room
+returns-in-Ok-Counts-clause-room g c =
+    let first = rw c.in-Ok-Head.field-0-is at c.in-Ok-Head.ensures.room in
+    let counts = rw c.in-Ok-Counts.field-0-is at c.in-Ok-Counts.ensures.room in
+    omega (arith, first, counts, length-append first_line (layout_line c.in-Ok-Counts.layout))

@@ -4,6 +4,7 @@ use Rattle.trace_core.specs.Intake.{rest_of}
 use Rattle.trace_core.specs.Lines.{line_at}
 use Rattle.trace_core.proofs.Outcomes.{read_outcome, length_outcome, dead_outcome, cut_outcome, Keeps-behind, dead_lacks, cut_lacks, fault_lacks, fault_outcome}
 use Rattle.trace_core.proofs.Short.{more_short}
+use Rattle.trace_core.proofs.Told.{same_told, fault_told}
 use Rattle.trace_core.proofs.take.take_line.Goals as goal
 
 pub returns-in-Ok-clause-line : goal.returns-in-Ok-clause-line
@@ -80,6 +81,18 @@ loop-line-preserved g c =
       room = omega (arith, i.room, h.given, h.budget, ap length h.same_window, f.2);
       rest = Keeps-trans (rest_of c.args.intake.now (g.I.Source.left c.args.input.now)) (rest_of c.read.new.intake (g.I.Source.left c.loop-line.input)) (rest_of c.fill.new.self (g.I.Source.left c.fill.new.input)) (rw h.same_window i.rest) f.3;
       untouched = inr (first_said (line_at c.args.expect.now) _ c.args.intake.now.window c.loop-line.intake.window i.untouched (rw c.in-Err-More.field-0-is at h.stop));
-      later = omega (arith, i.later, c.in-Ok-true.ensures.later);
-      unfailed = c.in-Ok-true.ensures.unfailed ∙ i.unfailed;
+      later = omega (arith, i.later, c.in-Ok-true.ensures.told.later);
+      unfailed = c.in-Ok-true.ensures.told.unfailed ∙ i.unfailed;
     }
+
+pub returns-in-Ok-clause-told : goal.returns-in-Ok-clause-told
+returns-in-Ok-clause-told g c = same_told _ _ _ c.loop-line.invariant.unfailed
+
+pub returns-in-Err-Dead-clause-told : goal.returns-in-Err-Dead-clause-told
+returns-in-Err-Dead-clause-told g c = same_told _ _ _ c.loop-line.invariant.unfailed
+
+pub returns-in-Ok-false-clause-told : goal.returns-in-Ok-false-clause-told
+returns-in-Ok-false-clause-told g c = same_told _ _ _ (c.in-Ok-false.ensures.told.unfailed ∙ c.loop-line.invariant.unfailed)
+
+pub returns-in-Err-clause-told : goal.returns-in-Err-clause-told
+returns-in-Err-clause-told g c = fault_told _ _ _ c.in-Err.fault c.loop-line.invariant.unfailed c.in-Err.ensures.told

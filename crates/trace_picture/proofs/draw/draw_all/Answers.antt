@@ -1,5 +1,6 @@
-use Rattle.std.proofs.Common.{◌≡◌, ◌≤◌, ℕ, Result, Err, inl, inr, ◌-◌, ◌^◌, ◌<◌, ◌++◌, [], take, refl, ap, sym, ◌∙◌, arith}
+use Rattle.std.proofs.Common.{◌≡◌, ◌≤◌, ℕ, Result, Ok, Err, inl, inr, ◌-◌, ◌^◌, ◌<◌, ◌++◌, [], take, refl, ap, sym, subst, ◌∙◌, arith}
 use Rattle.firefly_outside.specs.Causes.{HasCause}
+use Rattle.larch_actions.specs.Layout.{HasNames}
 use Rattle.trace_check.specs.declared.checker.Summary.{Summary}
 use Rattle.trace_check.proofs.UnderWay.{head_fault, fault_on, fails_on, ends_on}
 use Rattle.trace_check.proofs.Fronts.{event_line_some}
@@ -19,6 +20,10 @@ cause_after a b n e f le h = record {
         | inr m ↦ inr m
       ];
 }
+
+-- no fault where the sink took all
+cause_on : {T E : Type 0} (a b n m : ℕ) (v : T) → a ≤ b → b ≤ n → n ≤ m → HasCause a m (let r : Result T E = Ok v in r)
+cause_on a b n m v le near last = record { later = omega arith; failed = tt }
 
 pub returns-in-Err-clause-just : goal.returns-in-Err-clause-just
 returns-in-Err-clause-just g c =
@@ -158,3 +163,93 @@ pub returns-in-Err-end_cut-clause-cause : goal.returns-in-Err-end_cut-clause-cau
 returns-in-Err-end_cut-clause-cause g c =
     let i = c.loop-free.invariant in
     cause_after _ _ _ _ _ (omega (arith, i.sunk, c.make_room.ensures.cause.later)) c.in-Err-end_cut.ensures.cause
+
+pub returns-in-Err-make_room-clause-later : goal.returns-in-Err-make_room-clause-later
+returns-in-Err-make_room-clause-later g c = c.loop-free.invariant.later
+
+pub returns-in-Err-make_room-clause-same_input : goal.returns-in-Err-make_room-clause-same_input
+returns-in-Err-make_room-clause-same_input g c = c.loop-free.invariant.same_input
+
+pub returns-in-Ok-end_failed-clause-later : goal.returns-in-Ok-end_failed-clause-later
+returns-in-Ok-end_failed-clause-later g c = omega (arith, c.next_event.ensures.later, c.loop-free.invariant.later)
+
+pub returns-in-Ok-end_failed-clause-same_input : goal.returns-in-Ok-end_failed-clause-same_input
+returns-in-Ok-end_failed-clause-same_input g c = c.next_event.ensures.same_input ∙ c.loop-free.invariant.same_input
+
+pub returns-in-Err-end_failed-clause-later : goal.returns-in-Err-end_failed-clause-later
+returns-in-Err-end_failed-clause-later g c = omega (arith, c.next_event.ensures.later, c.loop-free.invariant.later)
+
+pub returns-in-Err-end_failed-clause-same_input : goal.returns-in-Err-end_failed-clause-same_input
+returns-in-Err-end_failed-clause-same_input g c = c.next_event.ensures.same_input ∙ c.loop-free.invariant.same_input
+
+pub returns-in-Ok-end_failed-clause-cause : goal.returns-in-Ok-end_failed-clause-cause
+returns-in-Ok-end_failed-clause-cause g c = cause_on _ _ _ _ _ c.loop-free.invariant.sunk c.make_room.ensures.cause.later c.in-Ok-end_failed.ensures.cause.later
+
+pub returns-in-Ok-end_legal-clause-later : goal.returns-in-Ok-end_legal-clause-later
+returns-in-Ok-end_legal-clause-later g c = omega (arith, c.next_event.ensures.later, c.loop-free.invariant.later)
+
+pub returns-in-Ok-end_legal-clause-same_input : goal.returns-in-Ok-end_legal-clause-same_input
+returns-in-Ok-end_legal-clause-same_input g c = c.next_event.ensures.same_input ∙ c.loop-free.invariant.same_input
+
+pub returns-in-Err-end_legal-clause-later : goal.returns-in-Err-end_legal-clause-later
+returns-in-Err-end_legal-clause-later g c = omega (arith, c.next_event.ensures.later, c.loop-free.invariant.later)
+
+pub returns-in-Err-end_legal-clause-same_input : goal.returns-in-Err-end_legal-clause-same_input
+returns-in-Err-end_legal-clause-same_input g c = c.next_event.ensures.same_input ∙ c.loop-free.invariant.same_input
+
+pub returns-in-Ok-end_legal-clause-cause : goal.returns-in-Ok-end_legal-clause-cause
+returns-in-Ok-end_legal-clause-cause g c = cause_on _ _ _ _ _ c.loop-free.invariant.sunk c.make_room.ensures.cause.later c.in-Ok-end_legal.ensures.cause.later
+
+pub returns-in-Ok-end_cut-clause-later : goal.returns-in-Ok-end_cut-clause-later
+returns-in-Ok-end_cut-clause-later g c = omega (arith, c.next_event.ensures.later, c.loop-free.invariant.later)
+
+pub returns-in-Ok-end_cut-clause-same_input : goal.returns-in-Ok-end_cut-clause-same_input
+returns-in-Ok-end_cut-clause-same_input g c = c.next_event.ensures.same_input ∙ c.loop-free.invariant.same_input
+
+pub returns-in-Err-end_cut-clause-later : goal.returns-in-Err-end_cut-clause-later
+returns-in-Err-end_cut-clause-later g c = omega (arith, c.next_event.ensures.later, c.loop-free.invariant.later)
+
+pub returns-in-Err-end_cut-clause-same_input : goal.returns-in-Err-end_cut-clause-same_input
+returns-in-Err-end_cut-clause-same_input g c = c.next_event.ensures.same_input ∙ c.loop-free.invariant.same_input
+
+pub returns-in-Ok-end_cut-clause-cause : goal.returns-in-Ok-end_cut-clause-cause
+returns-in-Ok-end_cut-clause-cause g c = cause_on _ _ _ _ _ c.loop-free.invariant.sunk c.make_room.ensures.cause.later c.in-Ok-end_cut.ensures.cause.later
+
+pub add_step-at-requires-clause-lawful : goal.add_step-at-requires-clause-lawful
+add_step-at-requires-clause-lawful g c = c.in-Ok.ensures.head.lawful
+
+pub add_step-at-requires-clause-room : goal.add_step-at-requires-clause-room
+add_step-at-requires-clause-room g c = omega (arith, c.in-Ok-make_room.ensures.room)
+
+pub end_failed-requires-clause-lawful : goal.end_failed-requires-clause-lawful
+end_failed-requires-clause-lawful g c = c.in-Ok.ensures.head.lawful
+
+pub end_failed-requires-clause-room : goal.end_failed-requires-clause-room
+end_failed-requires-clause-room g c = omega (arith, c.in-Ok-make_room.ensures.room)
+
+pub end_legal-requires-clause-lawful : goal.end_legal-requires-clause-lawful
+end_legal-requires-clause-lawful g c = c.in-Ok.ensures.head.lawful
+
+pub end_legal-requires-clause-room : goal.end_legal-requires-clause-room
+end_legal-requires-clause-room g c = omega (arith, c.in-Ok-make_room.ensures.room)
+
+pub end_cut-requires-clause-lawful : goal.end_cut-requires-clause-lawful
+end_cut-requires-clause-lawful g c = c.in-Ok.ensures.head.lawful
+
+pub end_cut-requires-clause-room : goal.end_cut-requires-clause-room
+end_cut-requires-clause-room g c = omega (arith, c.in-Ok-make_room.ensures.room)
+
+pub add_step-at-requires-clause-named : goal.add_step-at-requires-clause-named
+add_step-at-requires-clause-named g c =
+    let i = c.loop-free.invariant in
+    let taken = rw c.in-Ok-Some.field-0-is at (c.in-Ok-Some.ensures.event i.drawing.under_way.phase) in
+    subst (λ l. HasNames l c.in-Ok-Some.event) (sym i.laid) taken.names
+
+pub apply-requires : goal.apply-requires
+apply-requires g c =
+    let u = c.loop-free.invariant.drawing.under_way in
+    let taken = rw c.in-Ok-Some.field-0-is at (c.in-Ok-Some.ensures.event u.phase) in
+    subst (λ l. HasNames l c.in-Ok-Some.event) (sym u.layout) taken.names
+
+pub overflow_add-place : goal.overflow_add-place
+overflow_add-place g c = omega (arith, drawing_few _ _ _ _ _ _ _ _ _ _ _ _ c.loop-free.invariant.drawing, c.requires.fits)

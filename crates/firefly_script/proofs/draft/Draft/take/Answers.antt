@@ -4,6 +4,7 @@ use Rattle.firefly_script.specs.declared.line.Line.{Line}
 use Rattle.firefly_script.specs.Operations.{held_after, none_held, MayDo, MayCome}
 use Rattle.firefly_script.proofs.Follow.{held_append, follow_append}
 use Rattle.firefly_script.proofs.Injective.{line_same}
+use Rattle.firefly_script.proofs.Results.{not_true}
 use Rattle.firefly_script.proofs.draft.Draft.take.Goals as goal
 
 pub returns-then-not-step-clause-refused : goal.returns-then-not-step-clause-refused
@@ -38,3 +39,6 @@ returns-clause-taken c e =
         };
       },
     )
+
+pub returns-then-not-step-clause-taken : goal.returns-then-not-step-clause-taken
+returns-then-not-step-clause-taken c e = not_true e
