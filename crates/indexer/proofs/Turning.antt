@@ -184,6 +184,13 @@ module _ (o : Option Told) (root : Path) where
     times = let more = adds_release b.number b c adds in let before = has.times 0 in omega arith;
   }
 
+  -- and has released no mutex less often than before
+  pub gave_any : (p : Run) (m : ℕ) (a b c : Worker) (x : IndexValue) → HasList p a x b → Adds [] (release_event b.number 0) b c → HasCalled o root [] p 0 1 a c → HasCalled o root [] p m 0 a c
+  gave_any p m a b c x has adds called = record {
+    back = called.back;
+    times = let more = adds_keep m [] (release_event b.number 0) b c adds in let before = has.times m in omega arith;
+  }
+
 -- who waited with the list has it again
 pub has_again : (p : Run) (a b c : Worker) (x y : IndexValue) (es : List Event) (e : Event) → HasList p a x b → AtRest p c → IsSame b c → Holds c 0 y → c.held ≡ slice_set b.held 0 (Some y)
     → c.share ≡ b.share → Adds es e b c → IsBehind 0 y → HasList p a y c

@@ -17,18 +17,15 @@ use std::alloc::{AllocError, Global};
 use std::sync::Wait;
 use walker::{Listing, list_dir};
 
-/// The same paths anew.
-fn copied(alloc: Global, paths: &Vec<Text>) -> Result<Vec<Text>, AllocError> {
-    let mut copies = Vec::with_capacity(alloc, paths.len())?;
-    for path in paths {
-        copies.push(Text::of(alloc, path.as_str())?)?;
-    }
-    Ok(copies)
+// The directories and files of a listing, anew.
+fn found_in(listing: &Listing) -> Result<(Vec<Text>, Vec<Text>), AllocError> {
+    let dirs = listing.dirs.clone()?;
+    let files = listing.files.clone()?;
+    Ok((dirs, files))
 }
 
 // Keeps a listing, and gives the directories and files found there.
 fn keep_listing(
-    alloc: Global,
     visits: &mut Vec<Visit>,
     dir: Text,
     listing: Listing,
@@ -36,10 +33,9 @@ fn keep_listing(
     ensures ok { OnOk result (visits.new.items ≡ visits.old.items ++ (record { dir = dir; listing = listing }) ∷ []) }
     ensures err { OnErr result (visits.new.items ≡ visits.old.items) }
 {
-    let dirs = copied(alloc, &listing.dirs)?;
-    let files = copied(alloc, &listing.files)?;
+    let found = found_in(&listing)?;
     visits.push(Visit { dir, listing })?;
-    Ok((dirs, files))
+    Ok(found)
 }
 
 // Lists one directory, keeps its listing, and gives the directories and files found there. An error names the directory where it failed,
@@ -59,7 +55,7 @@ fn list_one<S: Tree>(
         (S.calls tree.new) p 0 a b visits.new.items [] (fault_of result) }
 {
     match list_dir(alloc, tree, dir.as_str()) {
-        Ok(listing) => match keep_listing(alloc, visits, dir, listing) {
+        Ok(listing) => match keep_listing(visits, dir, listing) {
             Ok(found) => Ok(found),
             Err(_) => Err(None),
         },
