@@ -10,8 +10,10 @@ use Rattle.word_index.specs.Batch.{Held, HoldsFiles}
 use Rattle.word_index.specs.Index.{File, Index, IsIndexOf}
 use Rattle.word_index.specs.Read.{read_file}
 use Rattle.indexer.specs.declared.lots.ReadFile.{ReadFile}
-use Rattle.indexer.specs.Lots.{AreRead, HoldsRead, IsRead}
+use Rattle.indexer.specs.Lots.{AreRead, HasGiven, HoldsRead, IsRead}
 use Rattle.indexer.specs.Pieces.{IsFilesPiece}
+use Rattle.indexer.specs.Turns.{Worker, Run, HasCalled}
+use Rattle.indexer.proofs.Turning.{called_none, called_then}
 use Rattle.indexer.proofs.WalkSteps.{told_all, told_both, told_on}
 
 pub if_ok_map : {T E : Type 0} (r : Result T E) (P Q : T → Type 0) → ((x : T) → P x → Q x) → IfOk r P → IfOk r Q
@@ -64,3 +66,15 @@ module _ (o : Option Told) (root : Path) where
   batch_piece b piece old new index is h all =
       let made : IsFilesPiece o root piece = record { files = h.files; index = index h.files h.holds; told = h.told } in
       subst (All (IsFilesPiece o root)) (sym is) (All-append (IsFilesPiece o root) old (piece ∷ []) all (All-cons (IsFilesPiece o root) piece [] made (All-nil (IsFilesPiece o root))))
+
+  -- nothing was given
+  pub given_none : (p : Run) (m : ℕ) (kept : List Index) (a : Worker) → HasGiven o root p m kept kept a a
+  given_none p m kept a = record { called = called_none o root p m a; kept = λ all. all }
+
+  -- more was given then
+  pub given_then : (p : Run) (m : ℕ) (old mid new : List Index) (a b c : Worker) → HasGiven o root p m old mid a b → HasGiven o root p m mid new b c → HasGiven o root p m old new a c
+  given_then p m old mid new a b c first second = record { called = called_then o root p m a b c first.called second.called; kept = λ all. second.kept (first.kept all) }
+
+  -- another call followed
+  pub given_called : (p : Run) (m : ℕ) (old new : List Index) (a b c : Worker) → HasGiven o root p m old new a b → HasCalled o root [] p m 0 b c → HasGiven o root p m old new a c
+  given_called p m old new a b c first call = record { called = called_then o root p m a b c first.called call; kept = first.kept }

@@ -1,7 +1,8 @@
 //! The work of a walker.
-ghost use Rattle.std.specs.Prelude.{◌≡◌, ℕ, [], ◌∷◌, ◌++◌, OnOk, OnErr, Option, None};
+ghost use Rattle.std.specs.Prelude.{◌≡◌, ℕ, [], ◌∷◌, ◌++◌, OnOk, OnErr, Option, Some, None};
 ghost use Rattle.firefly_outside.specs.Trees.{Calls, Path, Told};
 ghost use Rattle.firefly_outside.specs.declared.tree.Kind.TheVariants.{Dir};
+ghost use Rattle.indexer.specs.Jobs.{GivesTree};
 ghost use Rattle.indexer.specs.Turns.{HasCalled, HasLists, IsBetween, Run, Worker};
 ghost use Rattle.indexer.specs.Walks.{HasDone, fault_of};
 
@@ -150,10 +151,8 @@ pub fn walk<R: Wait, S: Tree>(
 ) -> Findings
     requires layout { HasLists p.now.layout }
     requires between { IsBetween p.now me.old }
-    ensures tree_stays { S.tree tree.new ≡ S.tree tree.old }
-    ensures weak_stays { S.may_fail tree.new ≡ S.may_fail tree.old }
-    ensures done { (root : Path) → HasDone Dir (S.tree tree.old) root (S.may_fail tree.old) (S.faults tree.old) (S.faults tree.new)
-        (S.calls tree.old) (S.calls tree.new) p.now 0 me.old me.new result.visits.items result.pieces.items result.fault }
+    ensures { (root : Path) → GivesTree S.tree S.may_fail S.faults S.calls root p.now Dir me.old me.new result (Some tree.old)
+        (Some tree.new) }
 {
     let mut visits = Vec::new(alloc);
     for _ in rt.forever() {

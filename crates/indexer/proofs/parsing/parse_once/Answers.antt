@@ -37,12 +37,12 @@ returns-then-pass_full_lot g c =
     record {
       tree_stays = c.in-Ok.ensures.tree_stays;
       weak_stays = c.in-Ok.ensures.weak_stays;
-      read = c.pass_full_lot.ensures.read o read;
-      kept = c.pass_full_lot.ensures.kept o read;
+      read = (c.pass_full_lot.ensures o 1 read).read;
+      kept = (c.pass_full_lot.ensures o 1 read).given.kept;
       done = λ count before a h.
           done_on File o root (S.may_fail tree) count before p a 0 (S.faults after) (S.calls after) c.next_file.new.me c.pass_full_lot.new.me [] None
           (c.in-Ok.ensures.done root count before p a c.next_file.new.me (done_on File o root (S.may_fail tree) count before p a 1 (S.faults tree) (S.calls tree) me c.next_file.new.me [] None h (c.next_file.ensures o root)))
-          (c.pass_full_lot.ensures.called o 1 read);
+          (c.pass_full_lot.ensures o 1 read).given.called;
     }
 
 pub returns-else-pass_full_lot : goal.returns-else-pass_full_lot
@@ -58,12 +58,12 @@ returns-else-pass_full_lot g c =
     record {
       tree_stays = c.in-Ok.ensures.tree_stays;
       weak_stays = c.in-Ok.ensures.weak_stays;
-      read = c.pass_full_lot.ensures.read o read;
-      kept = c.pass_full_lot.ensures.kept o read;
+      read = (c.pass_full_lot.ensures o 1 read).read;
+      kept = (c.pass_full_lot.ensures o 1 read).given.kept;
       done = λ count before a h.
           done_on File o root (S.may_fail tree) count before p a 0 (S.faults after) (S.calls after) c.next_file.new.me c.pass_full_lot.new.me [] None
           (c.in-Ok.ensures.done root count before p a c.next_file.new.me (done_on File o root (S.may_fail tree) count before p a 1 (S.faults tree) (S.calls tree) me c.next_file.new.me [] None h (c.next_file.ensures o root)))
-          (c.pass_full_lot.ensures.called o 1 read);
+          (c.pass_full_lot.ensures o 1 read).given.called;
     }
 
 pub returns-in-Err-clause-done : goal.returns-in-Err-clause-done
