@@ -1,6 +1,6 @@
 //! Trees are handed to the workers, and come back.
 ghost use Rattle.std.specs.Prelude.{◌≡◌, ◌+◌, ◌≤◌, ◌<◌, ◌++◌, ℕ, List, length, map, vec_len, vec_capacity, slice_index_or, IfOk, OnErr, Option, None};
-ghost use Rattle.indexer.specs.Jobs.{kind_at, tree_at};
+ghost use Rattle.indexer.specs.Jobs.{AreJobs, kind_at, tree_at};
 ghost use Rattle.indexer.specs.declared.job.Job.{Job};
 
 use crate::job::Job;
@@ -62,12 +62,7 @@ pub fn jobs_of<S: Drop>(
     with_tree: usize,
 ) -> Result<Vec<Job<S>>, AllocError>
     requires { with_tree ≤ length trees.old }
-    ensures threads { IfOk result (λ js. map (λ j. j.me) js.items ≡ threads.items) }
-    ensures kinds { IfOk result (λ js. (k : ℕ) (e : Job S) → k < length js.items → (slice_index_or js.items k e).kind ≡ kind_at walkers k) }
-    ensures trees { IfOk result (λ js. (k : ℕ) (e : Job S) → k < length js.items
-        → (slice_index_or js.items k e).tree ≡ tree_at with_tree trees.old k) }
-    ensures others { IfOk result (λ js. (i : ℕ) (d : Option S) → with_tree ≤ i
-        → slice_index_or trees.new i d ≡ slice_index_or trees.old i d) }
+    ensures { IfOk result (λ js. AreJobs walkers with_tree threads.items trees.old trees.new js.items) }
 {
     let mut jobs = Vec::with_capacity(alloc, threads.len())?;
     for me in threads {

@@ -35,10 +35,8 @@ fn take_list<R: Wait>(rt: &R, p: &Package<IndexUses>, me: &mut Thread<IndexUses>
 fn give_list<R: Wait>(rt: &R, p: &Package<IndexUses>, me: &mut Thread<IndexUses>, list: WaitingDirs)
     requires layout { HasLists p.now.layout }
     requires has { (a : Worker) × (x : IndexValue) × HasList p.now a x me.old }
-    ensures released { (a : Worker) (x : IndexValue) → HasList p.now a x me.old → IsBetween p.now a → (o : Option Told) (root : Path)
-        → HasCalled o root [] p.now 0 1 a me.new }
-    ensures called { (a : Worker) (x : IndexValue) → HasList p.now a x me.old → IsBetween p.now a → (o : Option Told) (root : Path) (m : ℕ)
-        → HasCalled o root [] p.now m 0 a me.new }
+    ensures { (a : Worker) (x : IndexValue) → HasList p.now a x me.old → IsBetween p.now a → (o : Option Told) (root : Path)
+        → HasCalled o root [] p.now 0 1 a me.new × ((m : ℕ) → HasCalled o root [] p.now m 0 a me.new) }
 {
     release::<IndexUses, NoChange, R>(rt, p, me, DIRS, IndexValue::Dirs(list));
 }

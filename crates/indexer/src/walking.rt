@@ -47,13 +47,11 @@ fn list_one<S: Tree>(
     dir: Text,
     visits: &mut Vec<Visit>,
 ) -> Result<(Vec<Text>, Vec<Text>), Option<Fault>>
-    ensures tree_stays { S.tree tree.new ≡ S.tree tree.old }
-    ensures weak_stays { S.may_fail tree.new ≡ S.may_fail tree.old }
-    ensures done { (root : Path) (count : ℕ) (before : Calls) (p : Run) (a b : Worker)
+    ensures { (S.tree tree.new ≡ S.tree tree.old) × (S.may_fail tree.new ≡ S.may_fail tree.old) × ((root : Path) (count : ℕ) (before : Calls) (p : Run) (a b : Worker)
         → HasDone Dir (S.tree tree.old) root (S.may_fail tree.old) count (S.faults tree.old) before
         (S.calls tree.old) p 1 a b visits.old.items [] None
         → HasDone Dir (S.tree tree.old) root (S.may_fail tree.old) count (S.faults tree.new) before
-        (S.calls tree.new) p 0 a b visits.new.items [] (fault_of result) }
+        (S.calls tree.new) p 0 a b visits.new.items [] (fault_of result)) }
 {
     match list_dir(alloc, tree, dir.as_str()) {
         Ok(listing) => match keep_listing(visits, dir, listing) {
@@ -111,13 +109,11 @@ fn walk_once<R: Wait, S: Tree>(
 ) -> Result<(), Option<Fault>>
     requires layout { HasLists p.now.layout }
     requires between { IsBetween p.now me.old }
-    ensures tree_stays { S.tree tree.new ≡ S.tree tree.old }
-    ensures weak_stays { S.may_fail tree.new ≡ S.may_fail tree.old }
-    ensures done { (root : Path) (count : ℕ) (before : Calls) (a : Worker)
+    ensures { (S.tree tree.new ≡ S.tree tree.old) × (S.may_fail tree.new ≡ S.may_fail tree.old) × ((root : Path) (count : ℕ) (before : Calls) (a : Worker)
         → HasDone Dir (S.tree tree.old) root (S.may_fail tree.old) count (S.faults tree.old) before
         (S.calls tree.old) p.now 0 a me.old visits.old.items [] None
         → HasDone Dir (S.tree tree.old) root (S.may_fail tree.old) count (S.faults tree.new) before
-        (S.calls tree.new) p.now 0 a me.new visits.new.items [] (fault_of result) }
+        (S.calls tree.new) p.now 0 a me.new visits.new.items [] (fault_of result)) }
 {
     let Some(dir) = next_dir(rt, p, me) else {
         end_files(rt, p, me);

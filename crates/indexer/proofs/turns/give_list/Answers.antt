@@ -9,17 +9,10 @@ release-requires-clause-may g c κs within =
     let has = c.requires.has.2 in
     (x, has.has, λ w s world share. dirs_stay x (Dirs c.args.list) s has.kind refl)
 
-pub returns-clause-released : goal.returns-clause-released
-returns-clause-released g c = λ a x has between o root.
+pub returns : goal.returns
+returns g c = λ a x has between o root.
     let free = c.release.ensures in
-    gave_back o root c.args.p.now a c.args.me.now c.release.new.me x has free.rest free.same free.held
+    let called = gave_back o root c.args.p.now a c.args.me.now c.release.new.me x has free.rest free.same free.held
     (free.share c.args.p.now.world has.own x has.world has.share has.has ∙ sym has.share)
-    free.event
-
-pub returns-clause-called : goal.returns-clause-called
-returns-clause-called g c = λ a x has between o root m.
-    let free = c.release.ensures in
-    gave_any o root c.args.p.now m a c.args.me.now c.release.new.me x has free.event
-    (gave_back o root c.args.p.now a c.args.me.now c.release.new.me x has free.rest free.same free.held
-    (free.share c.args.p.now.world has.own x has.world has.share has.has ∙ sym has.share)
-    free.event)
+    free.event in
+    (called, λ m. gave_any o root c.args.p.now m a c.args.me.now c.release.new.me x has free.event called)

@@ -9,7 +9,7 @@ give_list-requires-clause-has g c = (c.args.me.now, Dirs c.take_list-list.result
 pub broadcast-requires-clause-rest : goal.broadcast-requires-clause-rest
 broadcast-requires-clause-rest g c κs within =
     let between = c.requires.between in
-    let called = c.give_list.ensures.called c.args.me.now (Dirs c.take_list-list.result) c.take_list-list.ensures between None [] 0 in
+    let called = (c.give_list.ensures c.args.me.now (Dirs c.take_list-list.result) c.take_list-list.ensures between None []).1 0 in
     (called.back between.0 between.1 between.2).1.rest
 
 pub returns : goal.returns
@@ -17,5 +17,5 @@ returns g c = λ o root m.
     let p = c.args.p.now in
     let a = c.args.me.now in
     let b = c.give_list.new.me in
-    called_then o root p m a b c.broadcast.new.me (c.give_list.ensures.called a (Dirs c.take_list-list.result) c.take_list-list.ensures c.requires.between o root m)
+    called_then o root p m a b c.broadcast.new.me ((c.give_list.ensures a (Dirs c.take_list-list.result) c.take_list-list.ensures c.requires.between o root).1 m)
     (called_idle o root p m _ _ b c.broadcast.new.me c.broadcast.ensures.event c.broadcast.ensures.idle)

@@ -31,11 +31,11 @@ loop-preserved g c =
     let was = c.loop.invariant in
     let S = g.S.Tree in
     record {
-      tree_stays = c.walk_once.ensures.tree_stays ∙ was.tree_stays;
-      weak_stays = c.walk_once.ensures.weak_stays ∙ was.weak_stays;
+      tree_stays = c.walk_once.ensures.0 ∙ was.tree_stays;
+      weak_stays = c.walk_once.ensures.1 ∙ was.weak_stays;
       done = λ root. done_along Dir (S.tree first) root (S.may_fail first) (S.faults first) (S.calls first) c.args.p.now c.args.me.now (S.tree now) (S.may_fail now) was.tree_stays was.weak_stays
           (S.faults now) (S.faults then) (S.calls now) (S.calls then) 0 0 c.loop.me c.walk_once.new.me c.loop.visits.items c.walk_once.new.visits.items None None
-          (was.done root) (c.in-Ok.ensures.done root (S.faults first) (S.calls first) c.args.me.now);
+          (was.done root) (c.in-Ok.ensures.2 root (S.faults first) (S.calls first) c.args.me.now);
     }
 
 pub returns-in-Err : goal.returns-in-Err
@@ -49,5 +49,5 @@ returns-in-Err g c = λ root.
     (sym c.new.ensures.items)
     (done_along Dir (S.tree first) root (S.may_fail first) (S.faults first) (S.calls first) c.args.p.now c.args.me.now (S.tree now) (S.may_fail now) was.tree_stays was.weak_stays
     (S.faults now) (S.faults then) (S.calls now) (S.calls then) 0 0 c.loop.me c.walk_once.new.me c.loop.visits.items c.walk_once.new.visits.items None c.in-Err.fault
-    (was.done root) (c.in-Err.ensures.done root (S.faults first) (S.calls first) c.args.me.now)) in
-    (c.walk_once.ensures.tree_stays ∙ was.tree_stays, c.walk_once.ensures.weak_stays ∙ was.weak_stays, all)
+    (was.done root) (c.in-Err.ensures.2 root (S.faults first) (S.calls first) c.args.me.now)) in
+    (c.walk_once.ensures.0 ∙ was.tree_stays, c.walk_once.ensures.1 ∙ was.weak_stays, all)
