@@ -1,11 +1,11 @@
 -- Files that were read, on the way to their pieces.
-use Rattle.std.proofs.Common.{◌≡◌, ℕ, Bool, List, [], ◌∷◌, ◌++◌, Option, Some, None, Result, Ok, Err, inl, inr, refl, sym, ap, subst, ◌∙◌}
-use Rattle.std.specs.Prelude.{All, Contains, IfOk, IfSome, if◌then◌else◌}
+use Rattle.std.proofs.Common.{◌≡◌, ℕ, Bool, List, [], ◌∷◌, ◌++◌, Option, Result, Ok, Err, inl, inr, sym, ap, subst, ◌∙◌}
+use Rattle.std.specs.Prelude.{All, Contains, IfOk, IfSome, OnOk, if◌then◌else◌}
 use Rattle.std.proofs.lemmas.List.Elements.{All-append, All-cons, All-nil, Contains-append_cases}
-use Rattle.firefly_outside.specs.Trees.{Path, Told, Bytes, IsFile, child, is_long}
+use Rattle.firefly_outside.specs.Trees.{Path, Told, IsFile, child, is_long}
 use Rattle.firefly_outside.specs.declared.tree.FileBytes.{FileBytes}
 use Rattle.walker.proofs.ListLemmas.{Contains-nil, Contains-cons_cases}
-use Rattle.walker.specs.TreeIndex.{IsFileAt, shown_file}
+use Rattle.walker.specs.TreeIndex.{IsFileAt}
 use Rattle.word_index.specs.Batch.{Held, HoldsFiles}
 use Rattle.word_index.specs.Index.{File, Index, IsIndexOf}
 use Rattle.word_index.specs.Read.{read_file}
@@ -14,11 +14,15 @@ use Rattle.indexer.specs.Lots.{AreRead, HasGiven, HoldsRead, IsRead}
 use Rattle.indexer.specs.Pieces.{IsFilesPiece}
 use Rattle.indexer.specs.Turns.{Worker, Run, HasCalled}
 use Rattle.indexer.proofs.Turning.{called_none, called_then}
-use Rattle.indexer.proofs.WalkSteps.{told_all, told_both, told_on}
+use Rattle.indexer.proofs.WalkSteps.{told_all, told_both}
 
 pub if_ok_map : {T E : Type 0} (r : Result T E) (P Q : T → Type 0) → ((x : T) → P x → Q x) → IfOk r P → IfOk r Q
 if_ok_map (Ok x) P Q f h = f x h
 if_ok_map (Err e) P Q f h = tt
+
+pub on_ok : {T E : Type 0} (r : Result T E) (P : Type 0) → P → OnOk r P
+on_ok (Ok x) P h = h
+on_ok (Err e) P h = tt
 
 -- one file more was read
 pub read_more : (o : Option Told) (files more : List ReadFile) (path text : Path) (file : FileBytes) → more ≡ files ++ record { path = path; file = file } ∷ [] → text ≡ path → IfSome o (λ t. IsFile t text file) → AreRead o files → AreRead o more

@@ -1,4 +1,4 @@
-use Rattle.std.proofs.Common.{All, sym, subst}
+use Rattle.std.proofs.Common.{sym, subst}
 use Rattle.std.proofs.lemmas.List.Elements.{All-nil}
 use Rattle.indexer.specs.declared.lots.ReadFile.{ReadFile}
 use Rattle.indexer.specs.Lots.{AreRead, IsRead}

@@ -1,6 +1,6 @@
-use Rattle.std.proofs.Common.{◌≡◌, ◌∙◌, [], List, All, None, Option, refl, sym, subst}
+use Rattle.std.proofs.Common.{◌∙◌, [], List, All, None, Option, refl, sym, subst}
 use Rattle.std.proofs.lemmas.List.Elements.{All-nil}
-use Rattle.firefly_outside.specs.Trees.{Path, Told}
+use Rattle.firefly_outside.specs.Trees.{Told}
 use Rattle.firefly_outside.specs.declared.tree.Kind.TheVariants.{File}
 use Rattle.word_index.specs.Index.{Index}
 use Rattle.indexer.specs.declared.findings.Visit.{Visit}

@@ -1,6 +1,6 @@
-use Rattle.std.proofs.Common.{◌≡◌, ◌∙◌, [], None, sym, subst}
+use Rattle.std.proofs.Common.{[], None}
 use Rattle.firefly_outside.specs.declared.tree.Kind.TheVariants.{File}
-use Rattle.indexer.proofs.Turning.{called_any, called_then, still_between}
+use Rattle.indexer.proofs.Turning.{called_any, still_between}
 use Rattle.indexer.proofs.WalkSteps.{done_on}
 use Rattle.indexer.proofs.parsing.parse_once.Goals as goal
 

@@ -1,8 +1,6 @@
 use Rattle.std.proofs.Common.{◌∙◌, [], List, None, refl, sym, subst}
-use Rattle.firefly_outside.specs.Trees.{Path}
 use Rattle.firefly_outside.specs.declared.tree.Kind.TheVariants.{Dir}
 use Rattle.word_index.specs.Index.{Index}
-use Rattle.indexer.specs.declared.findings.Fault.{Fault}
 use Rattle.indexer.specs.declared.findings.Visit.{Visit}
 use Rattle.indexer.specs.Walks.{HasDone}
 use Rattle.indexer.proofs.Turning.{still_between}
