@@ -1,22 +1,28 @@
 -- Files that were read, on the way to their pieces.
-use Rattle.std.proofs.Common.{◌≡◌, ℕ, Bool, List, [], ◌∷◌, ◌++◌, Option, Some, None, Result, Ok, Err, inl, inr, refl, sym, ap, subst, ◌∙◌}
-use Rattle.std.specs.Prelude.{All, Contains, IfOk, IfSome, if◌then◌else◌}
+use Rattle.std.proofs.Common.{◌≡◌, ℕ, Bool, List, [], ◌∷◌, ◌++◌, Option, Result, Ok, Err, inl, inr, sym, ap, subst, ◌∙◌}
+use Rattle.std.specs.Prelude.{All, Contains, IfOk, IfSome, OnOk, if◌then◌else◌}
 use Rattle.std.proofs.lemmas.List.Elements.{All-append, All-cons, All-nil, Contains-append_cases}
-use Rattle.firefly_outside.specs.Trees.{Path, Told, Bytes, IsFile, child, is_long}
+use Rattle.firefly_outside.specs.Trees.{Path, Told, IsFile, child, is_long}
 use Rattle.firefly_outside.specs.declared.tree.FileBytes.{FileBytes}
 use Rattle.walker.proofs.ListLemmas.{Contains-nil, Contains-cons_cases}
-use Rattle.walker.specs.TreeIndex.{IsFileAt, shown_file}
+use Rattle.walker.specs.TreeIndex.{IsFileAt}
 use Rattle.word_index.specs.Batch.{Held, HoldsFiles}
 use Rattle.word_index.specs.Index.{File, Index, IsIndexOf}
 use Rattle.word_index.specs.Read.{read_file}
 use Rattle.indexer.specs.declared.lots.ReadFile.{ReadFile}
-use Rattle.indexer.specs.Lots.{AreRead, HoldsRead, IsRead}
+use Rattle.indexer.specs.Lots.{AreRead, HasGiven, HoldsRead, IsRead}
 use Rattle.indexer.specs.Pieces.{IsFilesPiece}
-use Rattle.indexer.proofs.WalkSteps.{told_all, told_both, told_on}
+use Rattle.indexer.specs.Turns.{Worker, Run, HasCalled}
+use Rattle.indexer.proofs.Turning.{called_none, called_then}
+use Rattle.indexer.proofs.WalkSteps.{told_all, told_both}
 
 pub if_ok_map : {T E : Type 0} (r : Result T E) (P Q : T → Type 0) → ((x : T) → P x → Q x) → IfOk r P → IfOk r Q
 if_ok_map (Ok x) P Q f h = f x h
 if_ok_map (Err e) P Q f h = tt
+
+pub on_ok : {T E : Type 0} (r : Result T E) (P : Type 0) → P → OnOk r P
+on_ok (Ok x) P h = h
+on_ok (Err e) P h = tt
 
 -- one file more was read
 pub read_more : (o : Option Told) (files more : List ReadFile) (path text : Path) (file : FileBytes) → more ≡ files ++ record { path = path; file = file } ∷ [] → text ≡ path → IfSome o (λ t. IsFile t text file) → AreRead o files → AreRead o more
@@ -64,3 +70,15 @@ module _ (o : Option Told) (root : Path) where
   batch_piece b piece old new index is h all =
       let made : IsFilesPiece o root piece = record { files = h.files; index = index h.files h.holds; told = h.told } in
       subst (All (IsFilesPiece o root)) (sym is) (All-append (IsFilesPiece o root) old (piece ∷ []) all (All-cons (IsFilesPiece o root) piece [] made (All-nil (IsFilesPiece o root))))
+
+  -- nothing was given
+  pub given_none : (p : Run) (m : ℕ) (kept : List Index) (a : Worker) → HasGiven o root p m kept kept a a
+  given_none p m kept a = record { called = called_none o root p m a; kept = λ all. all }
+
+  -- more was given then
+  pub given_then : (p : Run) (m : ℕ) (old mid new : List Index) (a b c : Worker) → HasGiven o root p m old mid a b → HasGiven o root p m mid new b c → HasGiven o root p m old new a c
+  given_then p m old mid new a b c first second = record { called = called_then o root p m a b c first.called second.called; kept = λ all. second.kept (first.kept all) }
+
+  -- another call followed
+  pub given_called : (p : Run) (m : ℕ) (old new : List Index) (a b c : Worker) → HasGiven o root p m old new a b → HasCalled o root [] p m 0 b c → HasGiven o root p m old new a c
+  given_called p m old new a b c first call = record { called = called_then o root p m a b c first.called call; kept = first.kept }

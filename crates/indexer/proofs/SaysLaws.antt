@@ -1,6 +1,6 @@
 -- What follows from what the workers came by.
-use Rattle.std.proofs.Common.{◌≡◌, ℕ, Bool, true, false, suc, List, [], ◌∷◌, Option, Some, None, cond, nat_lt, refl, sym, subst, ⊎_elim}
-use Rattle.std.specs.Prelude.{All, IfSome, slice_index_or}
+use Rattle.std.proofs.Common.{◌≡◌, ℕ, suc, List, [], ◌∷◌, Option, Some, None, refl, sym, subst, ⊎_elim}
+use Rattle.std.specs.Prelude.{All, IfSome}
 use Rattle.std.specs.List.{flat_map}
 use Rattle.std.proofs.lemmas.List.Elements.{All-append, All-nil}
 use Rattle.firefly_outside.specs.Trees.{Path, Told, Calls}

@@ -25,7 +25,7 @@ use Rattle.indexer.specs.declared.value.IndexItem.{IndexItem}
 use Rattle.indexer.specs.declared.value.IndexItem.TheVariants.{File as FileItem, Piece as PieceItem}
 use Rattle.indexer.specs.declared.value.IndexValue.{IndexValue}
 use Rattle.indexer.specs.declared.value.IndexValue.TheVariants.{Dirs, Ring}
-use Rattle.indexer.specs.Pieces.{IsFilesPiece, IsPieceItem, AllPut, AllTaken}
+use Rattle.indexer.specs.Pieces.{IsFilesPiece, IsPieceItem}
 use Rattle.indexer.specs.Work.{Share, IsBehind, MayChange}
 use Rattle.indexer.specs.Turns.{Worker, Run, releases, release_count, Passes, ComesBack, HasCalled, HasList, IsBetween}
 
@@ -182,6 +182,13 @@ module _ (o : Option Told) (root : Path) where
       passes_none s,
     );
     times = let more = adds_release b.number b c adds in let before = has.times 0 in omega arith;
+  }
+
+  -- and has released no mutex less often than before
+  pub gave_any : (p : Run) (m : ℕ) (a b c : Worker) (x : IndexValue) → HasList p a x b → Adds [] (release_event b.number 0) b c → HasCalled o root [] p 0 1 a c → HasCalled o root [] p m 0 a c
+  gave_any p m a b c x has adds called = record {
+    back = called.back;
+    times = let more = adds_keep m [] (release_event b.number 0) b c adds in let before = has.times m in omega arith;
   }
 
 -- who waited with the list has it again

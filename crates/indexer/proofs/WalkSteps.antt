@@ -1,19 +1,17 @@
 -- The steps of a worker with a tree.
-use Rattle.std.proofs.Common.{◌≡◌, ℕ, ◌+◌, ◌≤◌, List, [], ◌∷◌, ◌++◌, length, Some, None, Option, ◌⊎◌, ⊎_elim, inl, inr, sym, ap, subst, ◌∙◌, refl, arith, append_assoc, append-nil, length-append}
+use Rattle.std.proofs.Common.{◌≡◌, ℕ, ◌≤◌, List, [], ◌∷◌, ◌++◌, Some, None, Option, ◌⊎◌, ⊎_elim, sym, ap, subst, ◌∙◌, refl, arith, append_assoc, append-nil, length-append}
 use Rattle.std.specs.Prelude.{All, IfSome}
 use Rattle.std.proofs.lemmas.List.Elements.{All-append, All-cons, All-nil}
 use Rattle.firefly_outside.specs.Causes.{Rose}
-use Rattle.firefly_outside.specs.Trees.{Path, Told, Calls, Directory, Bytes, IsFault}
-use Rattle.firefly_outside.specs.declared.tree.Entry.{Entry}
+use Rattle.firefly_outside.specs.Trees.{Path, Told, Calls}
 use Rattle.firefly_outside.specs.declared.tree.Kind.{Kind}
 use Rattle.firefly_outside.specs.declared.tree.Kind.TheVariants.{File, Dir}
 use Rattle.walker.specs.Listings.{IsListingOf, IsToldBy, with_listed}
 use Rattle.walker.specs.declared.listing.Listing.{Listing}
 use Rattle.word_index.specs.Index.{Index}
 use Rattle.indexer.specs.declared.findings.Fault.{Fault}
-use Rattle.indexer.specs.declared.findings.Fault.TheVariants.{Dir as DirFault, File as FileFault}
 use Rattle.indexer.specs.declared.findings.Visit.{Visit}
-use Rattle.indexer.specs.Pieces.{IsFilesPiece, path_of, kind_of}
+use Rattle.indexer.specs.Pieces.{IsFilesPiece, path_of}
 use Rattle.indexer.specs.Turns.{Worker, Run, HasCalled}
 use Rattle.indexer.specs.Walks.{IsVisit, MayFail, calls_with, mutex_of, CalledOnly, HasDone}
 use Rattle.indexer.proofs.Turning.{back_on, back_as, passes_none}

@@ -1,5 +1,5 @@
 -- Workers with their trees, and what comes of them.
-use Rattle.std.specs.Prelude.{◌≡◌, ℕ, ◌≤◌, List, [], ◌∷◌, length, remove, Option, Some, None, cond, nat_lt, slice_index_or}
+use Rattle.std.specs.Prelude.{◌≡◌, ℕ, ◌≤◌, ◌<◌, List, [], ◌∷◌, length, map, remove, Option, Some, None, cond, nat_lt, slice_index_or}
 use mathlib.Core.Option.{some}
 use lib.ListN.{get_elem?}
 use Rattle.firefly_outside.specs.Trees.{Path, Told, Calls}
@@ -7,6 +7,7 @@ use Rattle.firefly_outside.specs.declared.tree.Kind.{Kind}
 use Rattle.firefly_outside.specs.declared.tree.Kind.TheVariants.{File, Dir}
 use Rattle.nub_rule.specs.Items.{Each}
 use Rattle.indexer.specs.declared.findings.Findings.{Findings}
+use Rattle.indexer.specs.declared.job.Job.{Job}
 use Rattle.indexer.specs.Turns.{Worker, Run, HasCalled}
 use Rattle.indexer.specs.Walks.{HasDone}
 
@@ -17,6 +18,13 @@ tree_at n trees k = cond (nat_lt k n) (slice_index_or trees k None) None
 -- the walkers, who list directories, come first
 abbrev pub kind_at : ℕ → ℕ → Kind
 kind_at walkers k = cond (nat_lt k walkers) Dir File
+
+-- a job for each thread, with the tree and the kind of its place; the trees behind the first n stay
+pub record AreJobs {S : Type 0} (walkers n : ℕ) (threads : List Worker) (old new : List (Option S)) (jobs : List (Job S)) : Type 0 where
+  pub made : map (λ (j : Job S). j.me) jobs ≡ threads
+  pub kinds : (k : ℕ) (e : Job S) → k < length jobs → (slice_index_or jobs k e).kind ≡ kind_at walkers k
+  pub trees : (k : ℕ) (e : Job S) → k < length jobs → (slice_index_or jobs k e).tree ≡ tree_at n old k
+  pub others : (i : ℕ) (d : Option S) → n ≤ i → slice_index_or new i d ≡ slice_index_or old i d
 
 module _ {S : Type 0} (tree : S → Option Told) (weak : S → List Path) (faults : S → ℕ) (calls : S → Calls) (root : Path) where
   -- the worker came from a to b with these findings: the tree that it got came back, with calls of its kind; without a tree it took and merged pieces

@@ -1,11 +1,13 @@
 -- Files that were read, on the way to their pieces.
-use Rattle.std.specs.Prelude.{List, Option, IfSome, Contains, All}
+use Rattle.std.specs.Prelude.{ℕ, List, [], Option, IfSome, Contains, All}
 use Rattle.firefly_outside.specs.Trees.{Path, Told, IsFile}
 use Rattle.firefly_outside.specs.declared.tree.FileBytes.{FileBytes}
 use Rattle.walker.specs.TreeIndex.{IsFileAt}
 use Rattle.indexer.specs.declared.lots.ReadFile.{ReadFile}
 use Rattle.word_index.specs.Batch.{Held, HoldsFiles}
-use Rattle.word_index.specs.Index.{File}
+use Rattle.word_index.specs.Index.{File, Index}
+use Rattle.indexer.specs.Pieces.{IsFilesPiece}
+use Rattle.indexer.specs.Turns.{Worker, Run, HasCalled}
 
 -- the file was read so, where the tree tells
 abbrev pub IsRead : Option Told → Path → FileBytes → Type 0
@@ -20,3 +22,13 @@ pub record HoldsRead (tree : Option Told) (root : Path) (held : Held) : Type 0 w
   pub files : List File
   pub holds : HoldsFiles files held
   pub told : IfSome tree (λ t. (f : File) → Contains files f → IsFileAt t root f)
+
+-- the worker has called, and gave pieces on or kept them with others
+pub record HasGiven (tree : Option Told) (root : Path) (p : Run) (m : ℕ) (old new : List Index) (a b : Worker) : Type 0 where
+  pub called : HasCalled tree root [] p m 0 a b
+  pub kept : All (IsFilesPiece tree root) old → All (IsFilesPiece tree root) new
+
+-- these were pieces of the files of a lot, which has these files now
+pub record HasPassed (tree : Option Told) (root : Path) (p : Run) (m : ℕ) (files : List ReadFile) (old new : List Index) (a b : Worker) : Type 0 where
+  pub read : AreRead tree files
+  pub given : HasGiven tree root p m old new a b

@@ -61,7 +61,7 @@ fn run_jobs<R: Threads + Wait + Sync, S: Tree, G: Gate>(
         rt,
         alloc,
         jobs,
-        &|job: Job<S>| -> (Job<S>, Findings)
+        &move |job: Job<S>| -> (Job<S>, Findings)
             requires { HasLists p.now.layout × IsBetween p.now job.me }
             ensures { GivesTree S.tree S.may_fail S.faults S.calls root.entry.now p.entry.now job.kind job.me result.0.me result.1
                 job.tree result.0.tree }

@@ -66,39 +66,3 @@ pub fn put_found(list: &mut WaitingDirs, found: Vec<Text>, files: usize) -> bool
     }
     room && list.dirs <= MOST_DIRS && list.files <= list.most_files
 }
-
-/// The same behind mutex 0.
-pub fn finish_in(value: &mut IndexValue, found: Vec<Text>, files: usize) -> bool
-    requires { IsBehind 0 value.old }
-    ensures { IsBehind 0 value.new }
-{
-    match value {
-        IndexValue::Dirs(list) => put_found(list, found, files),
-        IndexValue::Ring(_) => unreachable!(),
-    }
-}
-
-/// Shuts the list behind mutex 0.
-pub fn shut_in(value: &mut IndexValue)
-    requires { IsBehind 0 value.old }
-    ensures { IsBehind 0 value.new }
-{
-    match value {
-        IndexValue::Dirs(list) => list.shut = true,
-        IndexValue::Ring(_) => unreachable!(),
-    }
-}
-
-/// Notes behind mutex 0 that a parser has ended, and answers whether it was the last.
-pub fn end_parser_in(value: &mut IndexValue) -> bool
-    requires { IsBehind 0 value.old }
-    ensures { IsBehind 0 value.new }
-{
-    match value {
-        IndexValue::Dirs(list) => {
-            list.parsers = list.parsers.saturating_sub(1);
-            list.parsers == 0
-        }
-        IndexValue::Ring(_) => unreachable!(),
-    }
-}

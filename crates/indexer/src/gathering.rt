@@ -21,9 +21,9 @@ pub fn gathered(alloc: Global, findings: Vec<Findings>) -> Result<Findings, Allo
             pieces: mut made,
             fault: failed,
         } = found;
+        fault = fault.or(failed);
         visits.append(&mut more)?;
         pieces.append(&mut made)?;
-        fault = fault.or(failed);
     }
     Ok(Findings {
         visits,

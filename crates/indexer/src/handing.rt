@@ -1,6 +1,6 @@
 //! Trees are handed to the workers, and come back.
 ghost use Rattle.std.specs.Prelude.{◌≡◌, ◌+◌, ◌≤◌, ◌<◌, ◌++◌, ℕ, List, length, map, vec_len, vec_capacity, slice_index_or, IfOk, OnErr, Option, None};
-ghost use Rattle.indexer.specs.Jobs.{kind_at, tree_at};
+ghost use Rattle.indexer.specs.Jobs.{AreJobs, kind_at, tree_at};
 ghost use Rattle.indexer.specs.declared.job.Job.{Job};
 
 use crate::job::Job;
@@ -8,23 +8,16 @@ use crate::uses::IndexUses;
 use firefly_outside::Kind;
 use nub_rule::Thread;
 use std::alloc::{AllocError, Global};
+use std::mem;
 
-/// Takes what stands at the place.
-pub fn take_at<S: Drop>(trees: &mut [Option<S>], k: usize) -> Option<S>
+/// Puts this at the place, and gives what stood there.
+pub fn put_at<S: Drop>(trees: &mut [Option<S>], k: usize, tree: Option<S>) -> Option<S>
     requires { k < length trees.old }
-    ensures tree { result ≡ slice_index_or trees.old k None }
-    ensures others { (i : ℕ) (d : Option S) → (i ≡ k → ⊥) → slice_index_or trees.new i d ≡ slice_index_or trees.old i d }
-{
-    trees[k].take()
-}
-
-/// Puts this at the place.
-pub fn put_at<S: Drop>(trees: &mut [Option<S>], k: usize, tree: Option<S>)
-    requires { k < length trees.old }
+    ensures was { result ≡ slice_index_or trees.old k None }
     ensures tree { (d : Option S) → slice_index_or trees.new k d ≡ tree }
     ensures others { (i : ℕ) (d : Option S) → (i ≡ k → ⊥) → slice_index_or trees.new i d ≡ slice_index_or trees.old i d }
 {
-    trees[k] = tree;
+    mem::replace(&mut trees[k], tree)
 }
 
 // Takes the tree of the worker k, if it has one.
@@ -35,7 +28,7 @@ fn take_tree<S: Drop>(trees: &mut [Option<S>], with_tree: usize, k: usize) -> Op
     ensures above { (i : ℕ) (d : Option S) → with_tree ≤ i → slice_index_or trees.new i d ≡ slice_index_or trees.old i d }
 {
     if k < with_tree {
-        take_at(trees, k)
+        put_at(trees, k, None)
     } else {
         None
     }
@@ -69,12 +62,7 @@ pub fn jobs_of<S: Drop>(
     with_tree: usize,
 ) -> Result<Vec<Job<S>>, AllocError>
     requires { with_tree ≤ length trees.old }
-    ensures threads { IfOk result (λ js. map (λ j. j.me) js.items ≡ threads.items) }
-    ensures kinds { IfOk result (λ js. (k : ℕ) (e : Job S) → k < length js.items → (slice_index_or js.items k e).kind ≡ kind_at walkers k) }
-    ensures trees { IfOk result (λ js. (k : ℕ) (e : Job S) → k < length js.items
-        → (slice_index_or js.items k e).tree ≡ tree_at with_tree trees.old k) }
-    ensures others { IfOk result (λ js. (i : ℕ) (d : Option S) → with_tree ≤ i
-        → slice_index_or trees.new i d ≡ slice_index_or trees.old i d) }
+    ensures { IfOk result (λ js. AreJobs walkers with_tree threads.items trees.old trees.new js.items) }
 {
     let mut jobs = Vec::with_capacity(alloc, threads.len())?;
     for me in threads {

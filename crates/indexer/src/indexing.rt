@@ -11,7 +11,7 @@ use crate::answer::IndexAnswer;
 use crate::deciding::decided;
 use crate::findings::Findings;
 use crate::gathering::gathered;
-use crate::handing::{put_at, take_at};
+use crate::handing::put_at;
 use crate::plan::Plan;
 use crate::running::worked_run;
 use firefly_outside::Tree;
@@ -42,7 +42,7 @@ fn decided_at<S: Tree>(
         × Ends (S.tree s) (S.may_fail s) root.now stop_after found.fault (S.faults s) (S.faults r) (S.calls s) (S.calls r) result }
     ensures others { (i : ℕ) (d : Option S) → (i ≡ at → ⊥) → slice_index_or trees.new i d ≡ slice_index_or trees.old i d }
 {
-    let Some(mut tree) = take_at(trees, at) else {
+    let Some(mut tree) = put_at(trees, at, None) else {
         unreachable!()
     };
     let answer = decided(alloc, root, &mut tree, found, stop_after);

@@ -1,8 +1,9 @@
 //! The work of a parser.
-ghost use Rattle.std.specs.Prelude.{◌≡◌, ℕ, [], All, Option, None};
+ghost use Rattle.std.specs.Prelude.{◌≡◌, ℕ, [], All, Option, Some, None};
 ghost use Rattle.firefly_outside.specs.Trees.{Calls, Path, Told};
 ghost use Rattle.firefly_outside.specs.declared.tree.Kind.TheVariants.{File};
-ghost use Rattle.indexer.specs.Lots.{AreRead};
+ghost use Rattle.indexer.specs.Jobs.{GivesTree};
+ghost use Rattle.indexer.specs.Lots.{AreRead, HasGiven, HasPassed};
 ghost use Rattle.indexer.specs.Pieces.{IsFilesPiece};
 ghost use Rattle.indexer.specs.Turns.{HasCalled, HasLists, IsBetween, Run, Worker};
 ghost use Rattle.indexer.specs.Walks.{HasDone, fault_of};
@@ -27,13 +28,11 @@ fn read_one<S: Tree>(
     path: Text,
     lot: &mut Lot,
 ) -> Result<(), Option<Fault>>
-    ensures tree_stays { S.tree tree.new ≡ S.tree tree.old }
-    ensures weak_stays { S.may_fail tree.new ≡ S.may_fail tree.old }
     ensures read { AreRead (S.tree tree.old) lot.old.files.items → AreRead (S.tree tree.old) lot.new.files.items }
-    ensures done { (root : Path) (count : ℕ) (before : Calls) (p : Run) (a b : Worker)
+    ensures done { (S.tree tree.new ≡ S.tree tree.old) × (S.may_fail tree.new ≡ S.may_fail tree.old) × ((root : Path) (count : ℕ) (before : Calls) (p : Run) (a b : Worker)
         → HasDone File (S.tree tree.old) root (S.may_fail tree.old) count (S.faults tree.old) before (S.calls tree.old) p 1 a b [] [] None
         → HasDone File (S.tree tree.old) root (S.may_fail tree.old) count (S.faults tree.new) before (S.calls tree.new) p 0 a b [] []
-        (fault_of result) }
+        (fault_of result)) }
 {
     match tree.read(alloc, path.as_str()) {
         Ok(file) => match lot.add(path, file) {
@@ -55,9 +54,8 @@ fn give_piece<R: Wait>(
 ) -> Result<(), AllocError>
     requires layout { HasLists p.now.layout }
     requires between { IsBetween p.now me.old }
-    ensures called { (o : Option Told) (root : Path) (m : ℕ) → IsFilesPiece o root piece → HasCalled o root [] p.now m 0 me.old me.new }
-    ensures kept { (o : Option Told) (root : Path) → IsFilesPiece o root piece → All (IsFilesPiece o root) kept.old.items
-        → All (IsFilesPiece o root) kept.new.items }
+    ensures { (o : Option Told) (root : Path) (m : ℕ) → IsFilesPiece o root piece → HasGiven o root p.now m kept.old.items kept.new.items
+        me.old me.new }
 {
     if let Some(piece) = put_piece(rt, p, me, piece) {
         kept.push(piece)?;
@@ -76,10 +74,8 @@ fn give_pieces<R: Wait>(
     requires layout { HasLists p.now.layout }
     requires between { IsBetween p.now me.old }
     requires pieces { (o : Option Told) × (root : Path) × All (IsFilesPiece o root) pieces.items }
-    ensures called { (o : Option Told) (root : Path) (m : ℕ) → All (IsFilesPiece o root) pieces.items
-        → HasCalled o root [] p.now m 0 me.old me.new }
-    ensures kept { (o : Option Told) (root : Path) → All (IsFilesPiece o root) pieces.items → All (IsFilesPiece o root) kept.old.items
-        → All (IsFilesPiece o root) kept.new.items }
+    ensures { (o : Option Told) (root : Path) (m : ℕ) → All (IsFilesPiece o root) pieces.items → HasGiven o root p.now m kept.old.items
+        kept.new.items me.old me.new }
 {
     for piece in pieces {
         give_piece(rt, p, me, piece, kept)?;
@@ -87,7 +83,7 @@ fn give_pieces<R: Wait>(
     Ok(())
 }
 
-// Makes pieces of the files of the lot, which is empty then, and gives them on.
+// Makes pieces of the files of the lot, if it has any, and gives them on. It is empty then.
 fn give_lot<R: Wait>(
     rt: &R,
     alloc: Global,
@@ -100,11 +96,12 @@ fn give_lot<R: Wait>(
     requires layout { HasLists p.now.layout }
     requires between { IsBetween p.now me.old }
     requires read { (o : Option Told) × AreRead o lot.old.files.items }
-    ensures read { (o : Option Told) → AreRead o lot.new.files.items }
-    ensures called { (o : Option Told) (m : ℕ) → AreRead o lot.old.files.items → HasCalled o root.now [] p.now m 0 me.old me.new }
-    ensures kept { (o : Option Told) → AreRead o lot.old.files.items → All (IsFilesPiece o root.now) kept.old.items
-        → All (IsFilesPiece o root.now) kept.new.items }
+    ensures { (o : Option Told) (m : ℕ) → AreRead o lot.old.files.items → HasPassed o root.now p.now m lot.new.files.items kept.old.items
+        kept.new.items me.old me.new }
 {
+    if lot.is_empty() {
+        return Ok(());
+    }
     let pieces = pieces_of(alloc, root, lot.taken(alloc))?;
     give_pieces(rt, p, me, pieces, kept)
 }
@@ -122,10 +119,8 @@ fn pass_lot<R: Wait>(
     requires layout { HasLists p.now.layout }
     requires between { IsBetween p.now me.old }
     requires read { (o : Option Told) × AreRead o lot.old.files.items }
-    ensures read { (o : Option Told) → AreRead o lot.new.files.items }
-    ensures called { (o : Option Told) (m : ℕ) → AreRead o lot.old.files.items → HasCalled o root.now [] p.now m 0 me.old me.new }
-    ensures kept { (o : Option Told) → AreRead o lot.old.files.items → All (IsFilesPiece o root.now) kept.old.items
-        → All (IsFilesPiece o root.now) kept.new.items }
+    ensures { (o : Option Told) (m : ℕ) → AreRead o lot.old.files.items → HasPassed o root.now p.now m lot.new.files.items kept.old.items
+        kept.new.items me.old me.new }
 {
     match give_lot(rt, alloc, p, me, root, lot, kept) {
         Ok(()) => true,
@@ -149,10 +144,8 @@ fn pass_full_lot<R: Wait>(
     requires layout { HasLists p.now.layout }
     requires between { IsBetween p.now me.old }
     requires read { (o : Option Told) × AreRead o lot.old.files.items }
-    ensures read { (o : Option Told) → AreRead o lot.old.files.items → AreRead o lot.new.files.items }
-    ensures called { (o : Option Told) (m : ℕ) → AreRead o lot.old.files.items → HasCalled o root.now [] p.now m 0 me.old me.new }
-    ensures kept { (o : Option Told) → AreRead o lot.old.files.items → All (IsFilesPiece o root.now) kept.old.items
-        → All (IsFilesPiece o root.now) kept.new.items }
+    ensures { (o : Option Told) (m : ℕ) → AreRead o lot.old.files.items → HasPassed o root.now p.now m lot.new.files.items kept.old.items
+        kept.new.items me.old me.new }
 {
     if !lot.is_full() {
         return true;
@@ -204,28 +197,6 @@ fn parse_once<R: Wait, S: Tree>(
     }
 }
 
-// Makes pieces of what is left in a lot, if anything is.
-fn pass_rest<R: Wait>(
-    rt: &R,
-    alloc: Global,
-    p: &Package<IndexUses>,
-    me: &mut Thread<IndexUses>,
-    root: &str,
-    mut lot: Lot,
-    kept: &mut Vec<Piece>,
-)
-    requires layout { HasLists p.now.layout }
-    requires between { IsBetween p.now me.old }
-    requires read { (o : Option Told) × AreRead o lot.files.items }
-    ensures called { (o : Option Told) (m : ℕ) → AreRead o lot.files.items → HasCalled o root.now [] p.now m 0 me.old me.new }
-    ensures kept { (o : Option Told) → AreRead o lot.files.items → All (IsFilesPiece o root.now) kept.old.items
-        → All (IsFilesPiece o root.now) kept.new.items }
-{
-    if !lot.is_empty() {
-        pass_lot(rt, alloc, p, me, root, &mut lot, kept);
-    }
-}
-
 // Says that a parser has ended; the last one shuts the buffer of pieces.
 fn end_pieces<R: Wait>(rt: &R, p: &Package<IndexUses>, me: &mut Thread<IndexUses>)
     requires layout { HasLists p.now.layout }
@@ -252,10 +223,7 @@ pub fn parse<R: Wait, S: Tree>(
 ) -> Findings
     requires layout { HasLists p.now.layout }
     requires between { IsBetween p.now me.old }
-    ensures tree_stays { S.tree tree.new ≡ S.tree tree.old }
-    ensures weak_stays { S.may_fail tree.new ≡ S.may_fail tree.old }
-    ensures done { HasDone File (S.tree tree.old) root.now (S.may_fail tree.old) (S.faults tree.old) (S.faults tree.new)
-        (S.calls tree.old) (S.calls tree.new) p.now 0 me.old me.new result.visits.items result.pieces.items result.fault }
+    ensures { GivesTree S.tree S.may_fail S.faults S.calls root.now p.now File me.old me.new result (Some tree.old) (Some tree.new) }
 {
     let mut lot = Lot::new(alloc);
     let mut kept = Vec::new(alloc);
@@ -263,7 +231,7 @@ pub fn parse<R: Wait, S: Tree>(
         match parse_once(rt, alloc, p, me, root, tree, &mut lot, &mut kept) {
             Ok(()) => {}
             Err(fault) => {
-                pass_rest(rt, alloc, p, me, root, lot, &mut kept);
+                pass_lot(rt, alloc, p, me, root, &mut lot, &mut kept);
                 end_pieces(rt, p, me);
                 return Findings {
                     visits: Vec::new(alloc),

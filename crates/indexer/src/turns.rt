@@ -5,7 +5,7 @@ ghost use Rattle.indexer.specs.Turns.{HasCalled, HasList, HasLists, IsBetween, W
 ghost use Rattle.indexer.specs.Work.{IsBehind};
 ghost use Rattle.indexer.specs.declared.value.IndexValue.{IndexValue};
 
-use crate::dirs::{Turn, end_parser_in, finish_in, list_in, next_turn, shut_in};
+use crate::dirs::{Turn, list_in, next_turn, put_found};
 use crate::uses::IndexUses;
 use crate::value::{IndexValue, WaitingDirs};
 use alert_wait::{Outcome, alert_wait};
@@ -14,7 +14,7 @@ use firefly_outside::Text;
 use larch_actions::{CondId, MutexId};
 use nub_rule::{NoChange, Package, Thread};
 use std::sync::Wait;
-use user_mutex::{acquire, locked, release};
+use user_mutex::{acquire, release};
 
 /// The mutex of the list of directories.
 const DIRS: MutexId = MutexId(0);
@@ -36,7 +36,7 @@ fn give_list<R: Wait>(rt: &R, p: &Package<IndexUses>, me: &mut Thread<IndexUses>
     requires layout { HasLists p.now.layout }
     requires has { (a : Worker) × (x : IndexValue) × HasList p.now a x me.old }
     ensures { (a : Worker) (x : IndexValue) → HasList p.now a x me.old → IsBetween p.now a → (o : Option Told) (root : Path)
-        → HasCalled o root [] p.now 0 1 a me.new }
+        → HasCalled o root [] p.now 0 1 a me.new × ((m : ℕ) → HasCalled o root [] p.now m 0 a me.new) }
 {
     release::<IndexUses, NoChange, R>(rt, p, me, DIRS, IndexValue::Dirs(list));
 }
@@ -109,9 +109,9 @@ pub fn finish_dir<R: Wait>(
     requires between { IsBetween p.now me.old }
     ensures { (o : Option Told) (root : Path) (m : ℕ) → HasCalled o root [] p.now m 0 me.old me.new }
 {
-    let within = locked::<IndexUses, NoChange, bool, _, R>(rt, p, me, DIRS, |value| {
-        finish_in(value, found, files)
-    });
+    let mut list = take_list(rt, p, me);
+    let within = put_found(&mut list, found, files);
+    give_list(rt, p, me, list);
     // There may be something to take, or nothing left to wait for.
     broadcast(rt, p, me, MORE_DIRS);
     within
@@ -123,7 +123,11 @@ pub fn end_parser<R: Wait>(rt: &R, p: &Package<IndexUses>, me: &mut Thread<Index
     requires between { IsBetween p.now me.old }
     ensures { (o : Option Told) (root : Path) (m : ℕ) → HasCalled o root [] p.now m 0 me.old me.new }
 {
-    locked::<IndexUses, NoChange, bool, _, R>(rt, p, me, DIRS, |value| end_parser_in(value))
+    let mut list = take_list(rt, p, me);
+    list.parsers = list.parsers.saturating_sub(1);
+    let last = list.parsers == 0;
+    give_list(rt, p, me, list);
+    last
 }
 
 /// Shuts the list: nobody gets a directory from now on.
@@ -132,6 +136,8 @@ pub fn shut_dirs<R: Wait>(rt: &R, p: &Package<IndexUses>, me: &mut Thread<IndexU
     requires between { IsBetween p.now me.old }
     ensures { (o : Option Told) (root : Path) (m : ℕ) → HasCalled o root [] p.now m 0 me.old me.new }
 {
-    locked::<IndexUses, NoChange, (), _, R>(rt, p, me, DIRS, |value| shut_in(value));
+    let mut list = take_list(rt, p, me);
+    list.shut = true;
+    give_list(rt, p, me, list);
     broadcast(rt, p, me, MORE_DIRS);
 }

@@ -1,7 +1,8 @@
 //! The work of a walker.
-ghost use Rattle.std.specs.Prelude.{◌≡◌, ℕ, [], ◌∷◌, ◌++◌, OnOk, OnErr, Option, None};
+ghost use Rattle.std.specs.Prelude.{◌≡◌, ℕ, [], ◌∷◌, ◌++◌, OnOk, OnErr, Option, Some, None};
 ghost use Rattle.firefly_outside.specs.Trees.{Calls, Path, Told};
 ghost use Rattle.firefly_outside.specs.declared.tree.Kind.TheVariants.{Dir};
+ghost use Rattle.indexer.specs.Jobs.{GivesTree};
 ghost use Rattle.indexer.specs.Turns.{HasCalled, HasLists, IsBetween, Run, Worker};
 ghost use Rattle.indexer.specs.Walks.{HasDone, fault_of};
 
@@ -17,18 +18,15 @@ use std::alloc::{AllocError, Global};
 use std::sync::Wait;
 use walker::{Listing, list_dir};
 
-/// The same paths anew.
-fn copied(alloc: Global, paths: &Vec<Text>) -> Result<Vec<Text>, AllocError> {
-    let mut copies = Vec::with_capacity(alloc, paths.len())?;
-    for path in paths {
-        copies.push(Text::of(alloc, path.as_str())?)?;
-    }
-    Ok(copies)
+// The directories and files of a listing, anew.
+fn found_in(listing: &Listing) -> Result<(Vec<Text>, Vec<Text>), AllocError> {
+    let dirs = listing.dirs.clone()?;
+    let files = listing.files.clone()?;
+    Ok((dirs, files))
 }
 
 // Keeps a listing, and gives the directories and files found there.
 fn keep_listing(
-    alloc: Global,
     visits: &mut Vec<Visit>,
     dir: Text,
     listing: Listing,
@@ -36,10 +34,9 @@ fn keep_listing(
     ensures ok { OnOk result (visits.new.items ≡ visits.old.items ++ (record { dir = dir; listing = listing }) ∷ []) }
     ensures err { OnErr result (visits.new.items ≡ visits.old.items) }
 {
-    let dirs = copied(alloc, &listing.dirs)?;
-    let files = copied(alloc, &listing.files)?;
+    let found = found_in(&listing)?;
     visits.push(Visit { dir, listing })?;
-    Ok((dirs, files))
+    Ok(found)
 }
 
 // Lists one directory, keeps its listing, and gives the directories and files found there. An error names the directory where it failed,
@@ -50,16 +47,14 @@ fn list_one<S: Tree>(
     dir: Text,
     visits: &mut Vec<Visit>,
 ) -> Result<(Vec<Text>, Vec<Text>), Option<Fault>>
-    ensures tree_stays { S.tree tree.new ≡ S.tree tree.old }
-    ensures weak_stays { S.may_fail tree.new ≡ S.may_fail tree.old }
-    ensures done { (root : Path) (count : ℕ) (before : Calls) (p : Run) (a b : Worker)
+    ensures { (S.tree tree.new ≡ S.tree tree.old) × (S.may_fail tree.new ≡ S.may_fail tree.old) × ((root : Path) (count : ℕ) (before : Calls) (p : Run) (a b : Worker)
         → HasDone Dir (S.tree tree.old) root (S.may_fail tree.old) count (S.faults tree.old) before
         (S.calls tree.old) p 1 a b visits.old.items [] None
         → HasDone Dir (S.tree tree.old) root (S.may_fail tree.old) count (S.faults tree.new) before
-        (S.calls tree.new) p 0 a b visits.new.items [] (fault_of result) }
+        (S.calls tree.new) p 0 a b visits.new.items [] (fault_of result)) }
 {
     match list_dir(alloc, tree, dir.as_str()) {
-        Ok(listing) => match keep_listing(alloc, visits, dir, listing) {
+        Ok(listing) => match keep_listing(visits, dir, listing) {
             Ok(found) => Ok(found),
             Err(_) => Err(None),
         },
@@ -114,13 +109,11 @@ fn walk_once<R: Wait, S: Tree>(
 ) -> Result<(), Option<Fault>>
     requires layout { HasLists p.now.layout }
     requires between { IsBetween p.now me.old }
-    ensures tree_stays { S.tree tree.new ≡ S.tree tree.old }
-    ensures weak_stays { S.may_fail tree.new ≡ S.may_fail tree.old }
-    ensures done { (root : Path) (count : ℕ) (before : Calls) (a : Worker)
+    ensures { (S.tree tree.new ≡ S.tree tree.old) × (S.may_fail tree.new ≡ S.may_fail tree.old) × ((root : Path) (count : ℕ) (before : Calls) (a : Worker)
         → HasDone Dir (S.tree tree.old) root (S.may_fail tree.old) count (S.faults tree.old) before
         (S.calls tree.old) p.now 0 a me.old visits.old.items [] None
         → HasDone Dir (S.tree tree.old) root (S.may_fail tree.old) count (S.faults tree.new) before
-        (S.calls tree.new) p.now 0 a me.new visits.new.items [] (fault_of result) }
+        (S.calls tree.new) p.now 0 a me.new visits.new.items [] (fault_of result)) }
 {
     let Some(dir) = next_dir(rt, p, me) else {
         end_files(rt, p, me);
@@ -154,10 +147,8 @@ pub fn walk<R: Wait, S: Tree>(
 ) -> Findings
     requires layout { HasLists p.now.layout }
     requires between { IsBetween p.now me.old }
-    ensures tree_stays { S.tree tree.new ≡ S.tree tree.old }
-    ensures weak_stays { S.may_fail tree.new ≡ S.may_fail tree.old }
-    ensures done { (root : Path) → HasDone Dir (S.tree tree.old) root (S.may_fail tree.old) (S.faults tree.old) (S.faults tree.new)
-        (S.calls tree.old) (S.calls tree.new) p.now 0 me.old me.new result.visits.items result.pieces.items result.fault }
+    ensures { (root : Path) → GivesTree S.tree S.may_fail S.faults S.calls root p.now Dir me.old me.new result (Some tree.old)
+        (Some tree.new) }
 {
     let mut visits = Vec::new(alloc);
     for _ in rt.forever() {

@@ -1,8 +1,7 @@
 //! What one worker does.
-ghost use Rattle.std.specs.Prelude.{◌≡◌};
+ghost use Rattle.std.specs.Prelude.{Some};
 ghost use Rattle.indexer.specs.Jobs.{GivesTree};
 ghost use Rattle.indexer.specs.Turns.{HasLists, IsBetween};
-ghost use Rattle.indexer.specs.Walks.{HasDone};
 
 use crate::findings::Findings;
 use crate::job::Job;
@@ -30,10 +29,7 @@ fn work_on<R: Wait, S: Tree, G: Gate>(
 ) -> Findings
     requires layout { HasLists p.now.layout }
     requires between { IsBetween p.now me.old }
-    ensures tree_stays { S.tree tree.new ≡ S.tree tree.old }
-    ensures weak_stays { S.may_fail tree.new ≡ S.may_fail tree.old }
-    ensures done { HasDone kind (S.tree tree.old) root.now (S.may_fail tree.old) (S.faults tree.old) (S.faults tree.new)
-        (S.calls tree.old) (S.calls tree.new) p.now 0 me.old me.new result.visits.items result.pieces.items result.fault }
+    ensures { GivesTree S.tree S.may_fail S.faults S.calls root.now p.now kind me.old me.new result (Some tree.old) (Some tree.new) }
 {
     match kind {
         Kind::Dir => walk(rt, alloc, p, me, tree),

@@ -1,6 +1,7 @@
 use denote.Exit.{unseen}
 use denote.Param.Send.{Quiet-if, sendable}
 use mir.Syntax.{of_param}
+use Rattle.indexer.proofs.LotLaws.{if_ok_map}
 use Rattle.indexer.proofs.crew.run_jobs.Goals as goal
 
 pub at_once_beside-requires-clause-threads : goal.at_once_beside-requires-clause-threads
@@ -12,3 +13,6 @@ at_once_beside-requires-clause-threads g c κs within = λ n x at. (
     search (sendable, c.type_bounds.sync-G) depth 20,
   ),
 )
+
+pub returns-clause-caller : goal.returns-clause-caller
+returns-clause-caller g c = if_ok_map c.at_once_beside.result _ _ (λ x h. h.1) c.at_once_beside.ensures.between

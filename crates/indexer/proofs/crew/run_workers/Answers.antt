@@ -16,7 +16,7 @@ run_jobs-requires-clause-caller g c κs within =
 pub run_jobs-requires-clause-jobs : goal.run_jobs-requires-clause-jobs
 run_jobs-requires-clause-jobs g c κs within = λ n x at.
     c.requires.threads (suc n) x.me (behind_first c.args.threads.items n x.me
-    (ap (λ (l : List Worker). get_elem? l n) (sym (c.in-Ok.ensures.threads ∙ c.remove-caller.ensures.items)) ∙ to_map (λ (j : Job g.row.S.Denot). j.me) c.in-Ok.jobs.items n x at))
+    (ap (λ (l : List Worker). get_elem? l n) (sym (c.in-Ok.ensures.made ∙ c.remove-caller.ensures.items)) ∙ to_map (λ (j : Job g.row.S.Denot). j.me) c.in-Ok.jobs.items n x at))
 
 pub push_reserved-requires : goal.push_reserved-requires
 push_reserved-requires g c =
@@ -29,7 +29,7 @@ push_reserved-requires g c =
 
 pub put_back-requires-clause-room : goal.put_back-requires-clause-room
 put_back-requires-clause-room g c =
-    let many = c.in_ok-jobs.ensures.jobs ∙ as_many c.in-Ok.jobs.items c.remove-caller.new.self.items c.in-Ok.ensures.threads in
+    let many = c.in_ok-jobs.ensures.jobs ∙ as_many c.in-Ok.jobs.items c.remove-caller.new.self.items c.in-Ok.ensures.made in
     let room = c.in_ok-all.ensures.capacity in
     let none = c.in_ok-all.ensures.len in
     let len = c.len.ensures in
@@ -54,7 +54,7 @@ returns g c =
     let ran = c.in_ok-jobs.ensures in
     let put = c.put_back.ensures in
     let behind = map (λ (j : Job g.row.S.Denot). j.me) back.items in
-    let others = own.threads ∙ c.remove-caller.ensures.items in
+    let others = own.made ∙ c.remove-caller.ensures.items in
     let long = length-map back.items (λ (j : Job g.row.S.Denot). j.me) in
     record {
       caller = c.remove-caller.result;

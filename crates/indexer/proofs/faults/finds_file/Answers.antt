@@ -1,9 +1,12 @@
-use Rattle.std.proofs.Common.{◌≡◌, ◌∙◌, Contains, sym, ap, subst}
+use Rattle.std.proofs.Common.{◌≡◌, ◌∙◌, true, false, Contains, sym, ap, subst}
 use Rattle.firefly_outside.specs.Trees.{Path, child}
 use Rattle.walker.proofs.ListLemmas.{Contains-map, Contains-unmap}
 use Rattle.walker.proofs.Children.{child_name}
 use Rattle.walker.specs.Walk.{Walk, files_of}
 use Rattle.indexer.proofs.faults.finds_file.Goals as goal
+
+untrue : false ≡ true → ⊥
+untrue e = cc
 
 by_name : (w : Walk) (root path name : Path) → root ≡ w.root → path ≡ child root name → Contains w.files name → Contains (files_of w) path
 by_name w root path name same is h = subst (Contains (files_of w)) (sym (is ∙ ap (λ (r : Path). child r name) same)) (Contains-map (child w.root) w.files name h)
@@ -21,7 +24,7 @@ returns-in-Some c = (
 
 pub returns-in-None : goal.returns-in-None
 returns-in-None c = (
-  (λ no. absurd (cc)),
+  (λ no. absurd (untrue no)),
   (λ h. let o = Contains-unmap (child c.args.walked.now.root) c.args.walked.now.files c.args.path.now h in
       absurd (c.in-None.ensures o.origin (sym o.is ∙ ap (λ (r : Path). child r o.origin) (sym c.root.ensures)))),
 )

@@ -1,10 +1,13 @@
-use Rattle.std.proofs.Common.{◌≡◌, ◌∙◌, ◌<◌, ◌≤◌, ℕ, true, List, Contains, Some, length, refl, sym, ap, subst, arith}
+use Rattle.std.proofs.Common.{◌≡◌, ◌∙◌, ◌<◌, ◌≤◌, ℕ, true, false, List, Contains, Some, length, refl, sym, ap, subst, arith}
 use Rattle.std.specs.Prelude.{slice_get}
 use Rattle.std.specs.Str.{bytes_eq}
 use Rattle.std.proofs.lemmas.Option.{slice_get_within, get_or_from_slice_get, slice_get-get_or}
 use Rattle.std.proofs.lemmas.Slice.Eq.{bytes_eq-Decides}
 use Rattle.firefly_outside.specs.Trees.{Path}
 use Rattle.indexer.proofs.faults.finds_name.Goals as goal
+
+untrue : false ≡ true → ⊥
+untrue e = cc
 
 found_at : (files : List Path) (at : ℕ) (file name : Path) → slice_get files at ≡ Some file → bytes_eq file name ≡ true → Contains files name
 found_at files at file name here same =
@@ -22,6 +25,6 @@ returns-then-eq c = (
 
 pub returns : goal.returns
 returns c = (
-  (λ no. absurd (cc)),
+  (λ no. absurd (untrue no)),
   (λ h. absurd (none_below c.args.walked.now.files c.loop-at.at c.args.name.now (let many = c.files_found-at-end.ensures.many in let end = c.loop-at-test.false in omega arith) c.loop-at.invariant h)),
 )

@@ -1,4 +1,4 @@
-use Rattle.std.proofs.Common.{arith, refl, inl}
+use Rattle.std.proofs.Common.{arith}
 use Rattle.nub.proofs.Users.{idle_again}
 use Rattle.indexer.proofs.Turning.{adds_called, passes_same}
 use Rattle.indexer.proofs.files.put_file.Goals as goal

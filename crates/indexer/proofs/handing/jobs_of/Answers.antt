@@ -47,10 +47,12 @@ push_reserved-requires g c =
     let short = ap length c.in-Some.ensures.steps.0 in
     omega arith
 
-pub returns-clause-threads : goal.returns-clause-threads
-returns-clause-threads g c =
+pub returns : goal.returns
+returns g c =
     let at = c.loop-me in
-    at.invariant.made ∙ all_yielded at.yielded _ _ at.invariant.whole (sym at.invariant.left ∙ c.in-None.ensures.steps.0) ∙ c.into_iter-me-iterator.ensures.into_iter_gives.0
-
-pub returns-clause-others : goal.returns-clause-others
-returns-clause-others g c = c.loop-me.invariant.above
+    record {
+      made = at.invariant.made ∙ all_yielded at.yielded _ _ at.invariant.whole (sym at.invariant.left ∙ c.in-None.ensures.steps.0) ∙ c.into_iter-me-iterator.ensures.into_iter_gives.0;
+      kinds = at.invariant.kinds;
+      trees = at.invariant.own;
+      others = at.invariant.above;
+    }

@@ -3,7 +3,6 @@ use Rattle.std.specs.Prelude.{All, IfSome, slice_index_or}
 use Rattle.firefly_outside.specs.Trees.{Told}
 use Rattle.walker.specs.Listings.{IsToldBy}
 use Rattle.walker.specs.declared.answer.WalkAnswer.TheVariants.{Done, Stopped, ReadFault, TooMany}
-use Rattle.word_index.specs.Index.{Index}
 use Rattle.indexer.specs.declared.findings.Visit.{Visit}
 use Rattle.indexer.specs.Pieces.{IsFilesPiece}
 use Rattle.indexer.specs.Walks.{IsVisit}

@@ -1,6 +1,6 @@
-use Rattle.std.proofs.Common.{◌≡◌, ◌∙◌, [], None, sym, subst}
+use Rattle.std.proofs.Common.{[], None}
 use Rattle.firefly_outside.specs.declared.tree.Kind.TheVariants.{File}
-use Rattle.indexer.proofs.Turning.{called_any, called_then, still_between}
+use Rattle.indexer.proofs.Turning.{called_any, still_between}
 use Rattle.indexer.proofs.WalkSteps.{done_on}
 use Rattle.indexer.proofs.parsing.parse_once.Goals as goal
 
@@ -35,14 +35,14 @@ returns-then-pass_full_lot g c =
     let me = c.args.me.now in
     let read = c.in-Ok.ensures.read c.requires.read in
     record {
-      tree_stays = c.in-Ok.ensures.tree_stays;
-      weak_stays = c.in-Ok.ensures.weak_stays;
-      read = c.pass_full_lot.ensures.read o read;
-      kept = c.pass_full_lot.ensures.kept o read;
+      tree_stays = c.in-Ok.ensures.done.0;
+      weak_stays = c.in-Ok.ensures.done.1;
+      read = (c.pass_full_lot.ensures o 1 read).read;
+      kept = (c.pass_full_lot.ensures o 1 read).given.kept;
       done = λ count before a h.
           done_on File o root (S.may_fail tree) count before p a 0 (S.faults after) (S.calls after) c.next_file.new.me c.pass_full_lot.new.me [] None
-          (c.in-Ok.ensures.done root count before p a c.next_file.new.me (done_on File o root (S.may_fail tree) count before p a 1 (S.faults tree) (S.calls tree) me c.next_file.new.me [] None h (c.next_file.ensures o root)))
-          (c.pass_full_lot.ensures.called o 1 read);
+          (c.in-Ok.ensures.done.2 root count before p a c.next_file.new.me (done_on File o root (S.may_fail tree) count before p a 1 (S.faults tree) (S.calls tree) me c.next_file.new.me [] None h (c.next_file.ensures o root)))
+          (c.pass_full_lot.ensures o 1 read).given.called;
     }
 
 pub returns-else-pass_full_lot : goal.returns-else-pass_full_lot
@@ -56,14 +56,14 @@ returns-else-pass_full_lot g c =
     let me = c.args.me.now in
     let read = c.in-Ok.ensures.read c.requires.read in
     record {
-      tree_stays = c.in-Ok.ensures.tree_stays;
-      weak_stays = c.in-Ok.ensures.weak_stays;
-      read = c.pass_full_lot.ensures.read o read;
-      kept = c.pass_full_lot.ensures.kept o read;
+      tree_stays = c.in-Ok.ensures.done.0;
+      weak_stays = c.in-Ok.ensures.done.1;
+      read = (c.pass_full_lot.ensures o 1 read).read;
+      kept = (c.pass_full_lot.ensures o 1 read).given.kept;
       done = λ count before a h.
           done_on File o root (S.may_fail tree) count before p a 0 (S.faults after) (S.calls after) c.next_file.new.me c.pass_full_lot.new.me [] None
-          (c.in-Ok.ensures.done root count before p a c.next_file.new.me (done_on File o root (S.may_fail tree) count before p a 1 (S.faults tree) (S.calls tree) me c.next_file.new.me [] None h (c.next_file.ensures o root)))
-          (c.pass_full_lot.ensures.called o 1 read);
+          (c.in-Ok.ensures.done.2 root count before p a c.next_file.new.me (done_on File o root (S.may_fail tree) count before p a 1 (S.faults tree) (S.calls tree) me c.next_file.new.me [] None h (c.next_file.ensures o root)))
+          (c.pass_full_lot.ensures o 1 read).given.called;
     }
 
 pub returns-in-Err-clause-done : goal.returns-in-Err-clause-done
@@ -76,7 +76,7 @@ returns-in-Err-clause-done g c = λ count before a h.
     let o = S.tree tree in
     let me = c.args.me.now in
     done_on File o root (S.may_fail tree) count before p a 0 (S.faults after) (S.calls after) c.next_file.new.me c.cancel.new.me [] c.in-Err.fault
-    (c.in-Err.ensures.done root count before p a c.next_file.new.me (done_on File o root (S.may_fail tree) count before p a 1 (S.faults tree) (S.calls tree) me c.next_file.new.me [] None h (c.next_file.ensures o root)))
+    (c.in-Err.ensures.done.2 root count before p a c.next_file.new.me (done_on File o root (S.may_fail tree) count before p a 1 (S.faults tree) (S.calls tree) me c.next_file.new.me [] None h (c.next_file.ensures o root)))
     (c.cancel.ensures o root 1)
 
 pub returns-in-Err-clause-read : goal.returns-in-Err-clause-read

@@ -13,56 +13,72 @@ use Rattle.indexer.proofs.LotLaws.{read_more}
 use Rattle.indexer.proofs.parsing.read_one.Goals as goal
 
 pub returns-in-Err-Failed-clause-done : goal.returns-in-Err-Failed-clause-done
-returns-in-Err-Failed-clause-done g c = λ root count before p a b h.
-    let old = c.args.tree.now in
-    let new = c.read.new.self in
-    let tree = g.S.Tree.tree old in
-    let weak = g.S.Tree.may_fail old in
-    let text = c.as_str.result.now in
-    let path = c.args.path in
-    let calls = g.S.Tree.calls old in
-    let calls' = g.S.Tree.calls new in
-    let rose = subst (λ (e : TreeError). Counts {T = FileBytes} (g.S.Tree.faults old) (g.S.Tree.faults new) (Err e)) c.in-Err-Failed.field-0-is c.in-Err-Failed.ensures.count in
-    let told = subst (λ (e : TreeError). IfSome tree (Reads weak text calls calls' (Err e))) c.in-Err-Failed.field-0-is c.in-Err-Failed.ensures.told in
-    let told_path = subst (λ (d : Path). IfSome tree (λ t. IsFault weak d ((bs : List ℕ) × (t d ≡ Some (Bytes bs))) calls calls')) c.as_str.ensures told in
-    done_fault File tree root weak count before p a (g.S.Tree.faults old) (g.S.Tree.faults new) calls calls' b [] (FileFault path) h rose
-    (told_on tree (λ t. IsFault weak path ((bs : List ℕ) × (t path ≡ Some (Bytes bs))) calls calls') (λ t. (calls' ≡ record calls { failed = calls.failed ++ path ∷ [] }) × MayFail weak t (FileFault path)) (λ t q. (q.noted, q.may)) told_path)
+returns-in-Err-Failed-clause-done g c = (
+  c.read.ensures.tree_stays,
+  c.read.ensures.weak_stays,
+  λ root count before p a b h.
+      let old = c.args.tree.now in
+      let new = c.read.new.self in
+      let tree = g.S.Tree.tree old in
+      let weak = g.S.Tree.may_fail old in
+      let text = c.as_str.result.now in
+      let path = c.args.path in
+      let calls = g.S.Tree.calls old in
+      let calls' = g.S.Tree.calls new in
+      let rose = subst (λ (e : TreeError). Counts {T = FileBytes} (g.S.Tree.faults old) (g.S.Tree.faults new) (Err e)) c.in-Err-Failed.field-0-is c.in-Err-Failed.ensures.count in
+      let told = subst (λ (e : TreeError). IfSome tree (Reads weak text calls calls' (Err e))) c.in-Err-Failed.field-0-is c.in-Err-Failed.ensures.told in
+      let told_path = subst (λ (d : Path). IfSome tree (λ t. IsFault weak d ((bs : List ℕ) × (t d ≡ Some (Bytes bs))) calls calls')) c.as_str.ensures told in
+      done_fault File tree root weak count before p a (g.S.Tree.faults old) (g.S.Tree.faults new) calls calls' b [] (FileFault path) h rose
+      (told_on tree (λ t. IsFault weak path ((bs : List ℕ) × (t path ≡ Some (Bytes bs))) calls calls') (λ t. (calls' ≡ record calls { failed = calls.failed ++ path ∷ [] }) × MayFail weak t (FileFault path)) (λ t q. (q.noted, q.may)) told_path),
+)
 
 pub returns-in-Ok-add-clause-done : goal.returns-in-Ok-add-clause-done
-returns-in-Ok-add-clause-done g c = λ root count before p a b h.
-    let old = c.args.tree.now in
-    let new = c.read.new.self in
-    let tree = g.S.Tree.tree old in
-    let text = c.as_str.result.now in
-    let calls = g.S.Tree.calls old in
-    let calls' = g.S.Tree.calls new in
-    done_more File tree root (g.S.Tree.may_fail old) count before p a (g.S.Tree.faults old) (g.S.Tree.faults new) calls calls' b [] [] text h c.in-Ok.ensures.count (λ each. each)
-    (told_on tree (λ t. IsFile t text c.in-Ok.file × (calls' ≡ record calls { files_read = calls.files_read ++ text ∷ [] })) (λ t. (calls' ≡ calls) ⊎ (calls' ≡ calls_with File (text ∷ []) [] calls)) (λ t q. inr (q.1 ∙ calls_read calls text)) c.in-Ok.ensures.told)
+returns-in-Ok-add-clause-done g c = (
+  c.read.ensures.tree_stays,
+  c.read.ensures.weak_stays,
+  λ root count before p a b h.
+      let old = c.args.tree.now in
+      let new = c.read.new.self in
+      let tree = g.S.Tree.tree old in
+      let text = c.as_str.result.now in
+      let calls = g.S.Tree.calls old in
+      let calls' = g.S.Tree.calls new in
+      done_more File tree root (g.S.Tree.may_fail old) count before p a (g.S.Tree.faults old) (g.S.Tree.faults new) calls calls' b [] [] text h c.in-Ok.ensures.count (λ each. each)
+      (told_on tree (λ t. IsFile t text c.in-Ok.file × (calls' ≡ record calls { files_read = calls.files_read ++ text ∷ [] })) (λ t. (calls' ≡ calls) ⊎ (calls' ≡ calls_with File (text ∷ []) [] calls)) (λ t q. inr (q.1 ∙ calls_read calls text)) c.in-Ok.ensures.told),
+)
 
 pub returns-in-Err-clause-done : goal.returns-in-Err-clause-done
-returns-in-Err-clause-done g c = λ root count before p a b h.
-    let old = c.args.tree.now in
-    let new = c.read.new.self in
-    let tree = g.S.Tree.tree old in
-    let text = c.as_str.result.now in
-    let calls = g.S.Tree.calls old in
-    let calls' = g.S.Tree.calls new in
-    done_more File tree root (g.S.Tree.may_fail old) count before p a (g.S.Tree.faults old) (g.S.Tree.faults new) calls calls' b [] [] text h c.in-Ok.ensures.count (λ each. each)
-    (told_on tree (λ t. IsFile t text c.in-Ok.file × (calls' ≡ record calls { files_read = calls.files_read ++ text ∷ [] })) (λ t. (calls' ≡ calls) ⊎ (calls' ≡ calls_with File (text ∷ []) [] calls)) (λ t q. inr (q.1 ∙ calls_read calls text)) c.in-Ok.ensures.told)
+returns-in-Err-clause-done g c = (
+  c.read.ensures.tree_stays,
+  c.read.ensures.weak_stays,
+  λ root count before p a b h.
+      let old = c.args.tree.now in
+      let new = c.read.new.self in
+      let tree = g.S.Tree.tree old in
+      let text = c.as_str.result.now in
+      let calls = g.S.Tree.calls old in
+      let calls' = g.S.Tree.calls new in
+      done_more File tree root (g.S.Tree.may_fail old) count before p a (g.S.Tree.faults old) (g.S.Tree.faults new) calls calls' b [] [] text h c.in-Ok.ensures.count (λ each. each)
+      (told_on tree (λ t. IsFile t text c.in-Ok.file × (calls' ≡ record calls { files_read = calls.files_read ++ text ∷ [] })) (λ t. (calls' ≡ calls) ⊎ (calls' ≡ calls_with File (text ∷ []) [] calls)) (λ t q. inr (q.1 ∙ calls_read calls text)) c.in-Ok.ensures.told),
+)
 
 pub returns-in-Err-Memory-clause-done : goal.returns-in-Err-Memory-clause-done
-returns-in-Err-Memory-clause-done g c = λ root count before p a b h.
-    let old = c.args.tree.now in
-    let new = c.read.new.self in
-    let tree = g.S.Tree.tree old in
-    let weak = g.S.Tree.may_fail old in
-    let text = c.as_str.result.now in
-    let calls = g.S.Tree.calls old in
-    let calls' = g.S.Tree.calls new in
-    let same = subst (λ (e : TreeError). Counts {T = FileBytes} (g.S.Tree.faults old) (g.S.Tree.faults new) (Err e)) c.in-Err-Memory.field-0-is c.in-Err-Memory.ensures.count in
-    let told = subst (λ (e : TreeError). IfSome tree (Reads weak text calls calls' (Err e))) c.in-Err-Memory.field-0-is c.in-Err-Memory.ensures.told in
-    done_more File tree root weak count before p a (g.S.Tree.faults old) (g.S.Tree.faults new) calls calls' b [] [] text h same (λ each. each)
-    (told_on tree (λ t. calls' ≡ calls) (λ t. (calls' ≡ calls) ⊎ (calls' ≡ calls_with File (text ∷ []) [] calls)) (λ t q. inl q) told)
+returns-in-Err-Memory-clause-done g c = (
+  c.read.ensures.tree_stays,
+  c.read.ensures.weak_stays,
+  λ root count before p a b h.
+      let old = c.args.tree.now in
+      let new = c.read.new.self in
+      let tree = g.S.Tree.tree old in
+      let weak = g.S.Tree.may_fail old in
+      let text = c.as_str.result.now in
+      let calls = g.S.Tree.calls old in
+      let calls' = g.S.Tree.calls new in
+      let same = subst (λ (e : TreeError). Counts {T = FileBytes} (g.S.Tree.faults old) (g.S.Tree.faults new) (Err e)) c.in-Err-Memory.field-0-is c.in-Err-Memory.ensures.count in
+      let told = subst (λ (e : TreeError). IfSome tree (Reads weak text calls calls' (Err e))) c.in-Err-Memory.field-0-is c.in-Err-Memory.ensures.told in
+      done_more File tree root weak count before p a (g.S.Tree.faults old) (g.S.Tree.faults new) calls calls' b [] [] text h same (λ each. each)
+      (told_on tree (λ t. calls' ≡ calls) (λ t. (calls' ≡ calls) ⊎ (calls' ≡ calls_with File (text ∷ []) [] calls)) (λ t q. inl q) told),
+)
 
 pub returns-in-Ok-add-clause-read : goal.returns-in-Ok-add-clause-read
 returns-in-Ok-add-clause-read g c = λ read.

@@ -10,7 +10,7 @@ pub returns-then-eq : goal.returns-then-eq
 returns-then-eq g c = λ o root.
     let had = c.loop.invariant in
     let again = c.wait_for_dirs-outcome.ensures c.args.me.now had.0 had.1 in
-    c.give_list-then-eq.ensures c.args.me.now (Dirs c.wait_for_dirs-outcome.result.1) again c.requires.between o root
+    (c.give_list-then-eq.ensures c.args.me.now (Dirs c.wait_for_dirs-outcome.result.1) again c.requires.between o root).0
 
 pub loop-preserved : goal.loop-preserved
 loop-preserved g c =
@@ -27,7 +27,7 @@ pub wait_for_dirs-outcome-requires-clause-has : goal.wait_for_dirs-outcome-requi
 wait_for_dirs-outcome-requires-clause-has g c = let had = c.loop.invariant in (c.args.me.now, had.0, had.1)
 
 pub returns-in-List : goal.returns-in-List
-returns-in-List g c = λ o root. let had = c.loop.invariant in c.give_list.ensures c.args.me.now had.0 had.1 c.requires.between o root
+returns-in-List g c = λ o root. let had = c.loop.invariant in (c.give_list.ensures c.args.me.now had.0 had.1 c.requires.between o root).0
 
 pub returns-in-End : goal.returns-in-End
-returns-in-End g c = λ o root. let had = c.loop.invariant in c.give_list-in-End.ensures c.args.me.now had.0 had.1 c.requires.between o root
+returns-in-End g c = λ o root. let had = c.loop.invariant in (c.give_list-in-End.ensures c.args.me.now had.0 had.1 c.requires.between o root).0

@@ -1,8 +1,6 @@
 use Rattle.std.proofs.Common.{◌∙◌, [], List, None, refl, sym, subst}
-use Rattle.firefly_outside.specs.Trees.{Path}
 use Rattle.firefly_outside.specs.declared.tree.Kind.TheVariants.{Dir}
 use Rattle.word_index.specs.Index.{Index}
-use Rattle.indexer.specs.declared.findings.Fault.{Fault}
 use Rattle.indexer.specs.declared.findings.Visit.{Visit}
 use Rattle.indexer.specs.Walks.{HasDone}
 use Rattle.indexer.proofs.Turning.{still_between}
@@ -31,28 +29,23 @@ loop-preserved g c =
     let was = c.loop.invariant in
     let S = g.S.Tree in
     record {
-      tree_stays = c.walk_once.ensures.tree_stays ∙ was.tree_stays;
-      weak_stays = c.walk_once.ensures.weak_stays ∙ was.weak_stays;
+      tree_stays = c.walk_once.ensures.0 ∙ was.tree_stays;
+      weak_stays = c.walk_once.ensures.1 ∙ was.weak_stays;
       done = λ root. done_along Dir (S.tree first) root (S.may_fail first) (S.faults first) (S.calls first) c.args.p.now c.args.me.now (S.tree now) (S.may_fail now) was.tree_stays was.weak_stays
           (S.faults now) (S.faults then) (S.calls now) (S.calls then) 0 0 c.loop.me c.walk_once.new.me c.loop.visits.items c.walk_once.new.visits.items None None
-          (was.done root) (c.in-Ok.ensures.done root (S.faults first) (S.calls first) c.args.me.now);
+          (was.done root) (c.in-Ok.ensures.2 root (S.faults first) (S.calls first) c.args.me.now);
     }
 
-pub returns-in-Err-clause-done : goal.returns-in-Err-clause-done
-returns-in-Err-clause-done g c = λ root.
+pub returns-in-Err : goal.returns-in-Err
+returns-in-Err g c = λ root.
     let first = c.args.tree.now in
     let now = c.loop.tree in
     let then = c.walk_once.new.tree in
     let was = c.loop.invariant in
     let S = g.S.Tree in
-    subst (λ (ps : List Index). HasDone Dir (S.tree first) root (S.may_fail first) (S.faults first) (S.faults then) (S.calls first) (S.calls then) c.args.p.now 0 c.args.me.now c.walk_once.new.me c.walk_once.new.visits.items ps c.in-Err.fault)
+    let all = subst (λ (ps : List Index). HasDone Dir (S.tree first) root (S.may_fail first) (S.faults first) (S.faults then) (S.calls first) (S.calls then) c.args.p.now 0 c.args.me.now c.walk_once.new.me c.walk_once.new.visits.items ps c.in-Err.fault)
     (sym c.new.ensures.items)
     (done_along Dir (S.tree first) root (S.may_fail first) (S.faults first) (S.calls first) c.args.p.now c.args.me.now (S.tree now) (S.may_fail now) was.tree_stays was.weak_stays
     (S.faults now) (S.faults then) (S.calls now) (S.calls then) 0 0 c.loop.me c.walk_once.new.me c.loop.visits.items c.walk_once.new.visits.items None c.in-Err.fault
-    (was.done root) (c.in-Err.ensures.done root (S.faults first) (S.calls first) c.args.me.now))
-
-pub returns-in-Err-clause-tree_stays : goal.returns-in-Err-clause-tree_stays
-returns-in-Err-clause-tree_stays g c = c.walk_once.ensures.tree_stays ∙ c.loop.invariant.tree_stays
-
-pub returns-in-Err-clause-weak_stays : goal.returns-in-Err-clause-weak_stays
-returns-in-Err-clause-weak_stays g c = c.walk_once.ensures.weak_stays ∙ c.loop.invariant.weak_stays
+    (was.done root) (c.in-Err.ensures.2 root (S.faults first) (S.calls first) c.args.me.now)) in
+    (c.walk_once.ensures.0 ∙ was.tree_stays, c.walk_once.ensures.1 ∙ was.weak_stays, all)

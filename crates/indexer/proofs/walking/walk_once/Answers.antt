@@ -1,4 +1,4 @@
-use Rattle.std.proofs.Common.{[], None}
+use Rattle.std.proofs.Common.{[], None, refl}
 use Rattle.firefly_outside.specs.declared.tree.Kind.TheVariants.{Dir}
 use Rattle.indexer.proofs.Turning.{called_any, called_then, still_between}
 use Rattle.indexer.proofs.WalkSteps.{done_on}
@@ -13,48 +13,64 @@ give_found-requires-clause-between g c = still_between None [] [] c.args.p.now c
 pub cancel-requires-clause-between : goal.cancel-requires-clause-between
 cancel-requires-clause-between g c = still_between None [] [] c.args.p.now c.args.me.now c.next_dir.new.me c.requires.between (c.next_dir.ensures None []).back
 
-pub returns-in_default-clause-done : goal.returns-in_default-clause-done
-returns-in_default-clause-done g c = λ root count before a h.
-    let S = g.S.Tree in
-    let tree = c.args.tree.now in
-    let p = c.args.p.now in
-    let o = S.tree tree in
-    let me = c.args.me.now in
-    done_on Dir o root (S.may_fail tree) count before p a 0 (S.faults tree) (S.calls tree) me c.end_files.new.me c.args.visits.now.items None h
-    (called_then o root p 0 me c.next_dir.new.me c.end_files.new.me (called_any o root [] p 0 1 me c.next_dir.new.me (c.next_dir.ensures o root)) (c.end_files.ensures o root 0))
+pub returns-in_default : goal.returns-in_default
+returns-in_default g c = (
+  refl,
+  refl,
+  λ root count before a h.
+      let S = g.S.Tree in
+      let tree = c.args.tree.now in
+      let p = c.args.p.now in
+      let o = S.tree tree in
+      let me = c.args.me.now in
+      done_on Dir o root (S.may_fail tree) count before p a 0 (S.faults tree) (S.calls tree) me c.end_files.new.me c.args.visits.now.items None h
+      (called_then o root p 0 me c.next_dir.new.me c.end_files.new.me (called_any o root [] p 0 1 me c.next_dir.new.me (c.next_dir.ensures o root)) (c.end_files.ensures o root 0)),
+)
 
-pub returns-then-give_found-clause-done : goal.returns-then-give_found-clause-done
-returns-then-give_found-clause-done g c = λ root count before a h.
-    let S = g.S.Tree in
-    let tree = c.args.tree.now in
-    let after = c.list_one.new.tree in
-    let p = c.args.p.now in
-    let o = S.tree tree in
-    let me = c.args.me.now in
-    done_on Dir o root (S.may_fail tree) count before p a 0 (S.faults after) (S.calls after) c.next_dir.new.me c.give_found.new.me c.list_one.new.visits.items None
-    (c.in-Ok.ensures.done root count before p a c.next_dir.new.me (done_on Dir o root (S.may_fail tree) count before p a 1 (S.faults tree) (S.calls tree) me c.next_dir.new.me c.args.visits.now.items None h (c.next_dir.ensures o root)))
-    (c.give_found.ensures o root 0)
+pub returns-then-give_found : goal.returns-then-give_found
+returns-then-give_found g c = (
+  c.list_one.ensures.0,
+  c.list_one.ensures.1,
+  λ root count before a h.
+      let S = g.S.Tree in
+      let tree = c.args.tree.now in
+      let after = c.list_one.new.tree in
+      let p = c.args.p.now in
+      let o = S.tree tree in
+      let me = c.args.me.now in
+      done_on Dir o root (S.may_fail tree) count before p a 0 (S.faults after) (S.calls after) c.next_dir.new.me c.give_found.new.me c.list_one.new.visits.items None
+      (c.in-Ok.ensures.2 root count before p a c.next_dir.new.me (done_on Dir o root (S.may_fail tree) count before p a 1 (S.faults tree) (S.calls tree) me c.next_dir.new.me c.args.visits.now.items None h (c.next_dir.ensures o root)))
+      (c.give_found.ensures o root 0),
+)
 
-pub returns-else-give_found-clause-done : goal.returns-else-give_found-clause-done
-returns-else-give_found-clause-done g c = λ root count before a h.
-    let S = g.S.Tree in
-    let tree = c.args.tree.now in
-    let after = c.list_one.new.tree in
-    let p = c.args.p.now in
-    let o = S.tree tree in
-    let me = c.args.me.now in
-    done_on Dir o root (S.may_fail tree) count before p a 0 (S.faults after) (S.calls after) c.next_dir.new.me c.give_found.new.me c.list_one.new.visits.items None
-    (c.in-Ok.ensures.done root count before p a c.next_dir.new.me (done_on Dir o root (S.may_fail tree) count before p a 1 (S.faults tree) (S.calls tree) me c.next_dir.new.me c.args.visits.now.items None h (c.next_dir.ensures o root)))
-    (c.give_found.ensures o root 0)
+pub returns-else-give_found : goal.returns-else-give_found
+returns-else-give_found g c = (
+  c.list_one.ensures.0,
+  c.list_one.ensures.1,
+  λ root count before a h.
+      let S = g.S.Tree in
+      let tree = c.args.tree.now in
+      let after = c.list_one.new.tree in
+      let p = c.args.p.now in
+      let o = S.tree tree in
+      let me = c.args.me.now in
+      done_on Dir o root (S.may_fail tree) count before p a 0 (S.faults after) (S.calls after) c.next_dir.new.me c.give_found.new.me c.list_one.new.visits.items None
+      (c.in-Ok.ensures.2 root count before p a c.next_dir.new.me (done_on Dir o root (S.may_fail tree) count before p a 1 (S.faults tree) (S.calls tree) me c.next_dir.new.me c.args.visits.now.items None h (c.next_dir.ensures o root)))
+      (c.give_found.ensures o root 0),
+)
 
-pub returns-in-Err-clause-done : goal.returns-in-Err-clause-done
-returns-in-Err-clause-done g c = λ root count before a h.
-    let S = g.S.Tree in
-    let tree = c.args.tree.now in
-    let after = c.list_one.new.tree in
-    let p = c.args.p.now in
-    let o = S.tree tree in
-    let me = c.args.me.now in
-    done_on Dir o root (S.may_fail tree) count before p a 0 (S.faults after) (S.calls after) c.next_dir.new.me c.cancel.new.me c.list_one.new.visits.items c.in-Err.fault
-    (c.in-Err.ensures.done root count before p a c.next_dir.new.me (done_on Dir o root (S.may_fail tree) count before p a 1 (S.faults tree) (S.calls tree) me c.next_dir.new.me c.args.visits.now.items None h (c.next_dir.ensures o root)))
-    (c.cancel.ensures o root 0)
+pub returns-in-Err : goal.returns-in-Err
+returns-in-Err g c = (
+  c.list_one.ensures.0,
+  c.list_one.ensures.1,
+  λ root count before a h.
+      let S = g.S.Tree in
+      let tree = c.args.tree.now in
+      let after = c.list_one.new.tree in
+      let p = c.args.p.now in
+      let o = S.tree tree in
+      let me = c.args.me.now in
+      done_on Dir o root (S.may_fail tree) count before p a 0 (S.faults after) (S.calls after) c.next_dir.new.me c.cancel.new.me c.list_one.new.visits.items c.in-Err.fault
+      (c.in-Err.ensures.2 root count before p a c.next_dir.new.me (done_on Dir o root (S.may_fail tree) count before p a 1 (S.faults tree) (S.calls tree) me c.next_dir.new.me c.args.visits.now.items None h (c.next_dir.ensures o root)))
+      (c.cancel.ensures o root 0),
+)

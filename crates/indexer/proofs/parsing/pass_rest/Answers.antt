@@ -1,2 +1,0 @@
-use Rattle.indexer.proofs.Turning.{called_none}
-use Rattle.indexer.proofs.parsing.pass_rest.Goals as goal
