@@ -209,15 +209,20 @@ fn run<R: Threads + Wait + Sync + Print>(rt: &R, alloc: Global, words: &[&str]) 
     }
 }
 
+/// Runs each workload once, small.
+fn run_small<R: Threads + Wait + Sync + Print>(rt: &R, alloc: Global) -> Result<()> {
+    for line in SMALL {
+        let words: Vec<&str> = line.split(' ').collect(alloc)?;
+        run(rt, alloc, &words)?;
+    }
+    Ok(())
+}
+
 fn main(rt: HostRuntime) -> Result<()> {
     let alloc = rt.alloc();
     let given: Vec<String> = env::args(&rt)?.skip(1).collect(alloc)?;
     if given.is_empty() {
-        for line in SMALL {
-            let words: Vec<&str> = line.split(' ').collect(alloc)?;
-            run(&rt, alloc, &words)?;
-        }
-        return Ok(());
+        return run_small(&rt, alloc);
     }
     let words: Vec<&str> = given.iter().map(|word| word.as_str()).collect(alloc)?;
     run(&rt, alloc, &words)
