@@ -9,8 +9,8 @@ mod words;
 
 use anyhow::{Context, Result};
 use bench_workloads::{
-    Added, Capacity, Count, Pair, Play, Sides, add_at_once, alert_at_once, call_alone,
-    pass_at_once, play_at_once, read_at_once, turn_at_once,
+    Capacity, Count, Pair, Play, Sides, add_at_once, alert_at_once, call_alone, pass_at_once,
+    play_at_once, read_at_once, turn_at_once,
 };
 use std::alloc::Global;
 use std::env;
@@ -54,20 +54,20 @@ fn contended<R: Threads + Wait + Sync + Print>(
     times: u32,
     outside: u32,
 ) -> Result<()> {
-    let Added { closed, own } = add_at_once(rt, alloc, threads, times, outside)?;
-    let sum = closed.values()[0];
-    println!(rt;
-        "contended {} {times} sum {sum} own {}",
-        threads.number,
-        sum_of(&own)
-    )?;
+    let added = add_at_once(rt, alloc, threads, times, outside)?;
+    let sum = added.closed.values()[0];
+    let own = sum_of(&added.own);
+    drop(added);
+    println!(rt; "contended {} {times} sum {sum} own {own}", threads.number)?;
     Ok(())
 }
 
 /// One thread that adds under a mutex.
 fn uncontended<R: Threads + Wait + Sync + Print>(rt: &R, alloc: Global, times: u32) -> Result<()> {
     let added = add_at_once(rt, alloc, Count::ONE, times, 0)?;
-    println!(rt; "uncontended {times} sum {}", added.closed.values()[0])?;
+    let sum = added.closed.values()[0];
+    drop(added);
+    println!(rt; "uncontended {times} sum {sum}")?;
     Ok(())
 }
 
@@ -82,7 +82,9 @@ fn by_semaphores<R: Threads + Wait + Sync + Print>(
     requires { (1 ≤ threads) × (threads ≤ 2) }
 {
     let turned = turn_at_once(rt, alloc, threads, times)?;
-    println!(rt; "{name} {times} sum {}", sum_of(&turned.turns))?;
+    let sum = sum_of(&turned.turns);
+    drop(turned);
+    println!(rt; "{name} {times} sum {sum}")?;
     Ok(())
 }
 
@@ -94,11 +96,10 @@ fn calls<R: Threads + Wait + Sync + Print>(
     times: u32,
 ) -> Result<()> {
     let closed = call_alone(rt, alloc, all, times)?;
+    let sum = sum_of(closed.values());
+    drop(closed);
     let name = if all { "broadcast" } else { "signal" };
-    println!(rt;
-        "uncontended_{name} {times} sum {}",
-        sum_of(closed.values())
-    )?;
+    println!(rt; "uncontended_{name} {times} sum {sum}")?;
     Ok(())
 }
 
@@ -115,7 +116,9 @@ fn pingpong<R: Threads + Wait + Sync + Print>(
         (Play::Before, "pingpong")
     };
     let closed = play_at_once(rt, alloc, Count::TWO, what, times)?;
-    println!(rt; "{name} {times} sum {}", closed.values()[0])?;
+    let sum = closed.values()[0];
+    drop(closed);
+    println!(rt; "{name} {times} sum {sum}")?;
     Ok(())
 }
 
@@ -129,6 +132,7 @@ fn broadcast<R: Threads + Wait + Sync + Print>(
     let closed = play_at_once(rt, alloc, threads, Play::Rounds, times)?;
     // Who opens the rounds has added 1 in each, and the others count for the line.
     let sum = closed.values()[0].wrapping_sub(u64::from(times));
+    drop(closed);
     println!(rt; "broadcast {} {times} sum {sum}", threads.number - 1)?;
     Ok(())
 }
@@ -136,7 +140,9 @@ fn broadcast<R: Threads + Wait + Sync + Print>(
 /// One thread whose waits another ends by alerts.
 fn alert_wake<R: Threads + Wait + Sync + Print>(rt: &R, alloc: Global, times: u32) -> Result<()> {
     let woken = alert_at_once(rt, alloc, times)?;
-    println!(rt; "alert_wake {times} sum {}", sum_of(&woken.alerted))?;
+    let sum = sum_of(&woken.alerted);
+    drop(woken);
+    println!(rt; "alert_wake {times} sum {sum}")?;
     Ok(())
 }
 
@@ -149,12 +155,11 @@ fn producer_consumer<R: Threads + Wait + Sync + Print>(
     capacity: Capacity,
 ) -> Result<()> {
     let passed = pass_at_once(rt, alloc, sides, times, capacity)?;
+    let sum = sum_of(&passed.sums);
+    drop(passed);
     println!(rt;
-        "producer_consumer {} {} {times} {} sum {}",
-        sides.first,
-        sides.second,
-        capacity.number,
-        sum_of(&passed.sums)
+        "producer_consumer {} {} {times} {} sum {sum}",
+        sides.first, sides.second, capacity.number
     )?;
     Ok(())
 }
@@ -169,6 +174,7 @@ fn readers_writers<R: Threads + Wait + Sync + Print>(
     let pair = Pair::new();
     let played = read_at_once(rt, alloc, sides, times, &pair)?;
     let writes = sum_of(&played.writes);
+    drop(played);
     println!(rt;
         "readers_writers {} {} {times} sum {writes} torn {}",
         sides.first,
@@ -203,15 +209,20 @@ fn run<R: Threads + Wait + Sync + Print>(rt: &R, alloc: Global, words: &[&str]) 
     }
 }
 
+/// Runs each workload once, small.
+fn run_small<R: Threads + Wait + Sync + Print>(rt: &R, alloc: Global) -> Result<()> {
+    for line in SMALL {
+        let words: Vec<&str> = line.split(' ').collect(alloc)?;
+        run(rt, alloc, &words)?;
+    }
+    Ok(())
+}
+
 fn main(rt: HostRuntime) -> Result<()> {
     let alloc = rt.alloc();
     let given: Vec<String> = env::args(&rt)?.skip(1).collect(alloc)?;
     if given.is_empty() {
-        for line in SMALL {
-            let words: Vec<&str> = line.split(' ').collect(alloc)?;
-            run(&rt, alloc, &words)?;
-        }
-        return Ok(());
+        return run_small(&rt, alloc);
     }
     let words: Vec<&str> = given.iter().map(|word| word.as_str()).collect(alloc)?;
     run(&rt, alloc, &words)

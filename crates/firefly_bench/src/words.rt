@@ -88,12 +88,35 @@ fn with_threads(name: &str, threads: &str, times: u32) -> Option<Workload> {
     }
 }
 
-/// The workload of this name that has numbers of two kinds of threads, and of times.
-fn with_sides(name: &str, first: &str, second: &str, times: u32) -> Option<Workload> {
+/// The workload of this name that has two words and a last number.
+fn with_two(name: &str, first: &str, second: &str, last: u32) -> Option<Workload> {
     match name {
+        "contended" => Some(Workload::Contended {
+            threads: Count::read(first)?,
+            times: second.parse().ok()?,
+            outside: last,
+        }),
         "readers_writers" => Some(Workload::ReadersWriters {
             sides: Sides::read(first, second)?,
+            times: last,
+        }),
+        _ => None,
+    }
+}
+
+/// The workload of this name that has numbers of two kinds of threads, of times, and of places.
+fn with_places(
+    name: &str,
+    first: &str,
+    second: &str,
+    times: u32,
+    places: &str,
+) -> Option<Workload> {
+    match name {
+        "producer_consumer" => Some(Workload::ProducerConsumer {
+            sides: Sides::read(first, second)?,
             times,
+            capacity: Capacity::read(places)?,
         }),
         _ => None,
     }
@@ -104,17 +127,8 @@ pub fn read(words: &[&str]) -> Option<Workload> {
     match *words {
         [name, n] => plain(name, n.parse().ok()?),
         [name, t, n] => with_threads(name, t, n.parse().ok()?),
-        ["contended", t, n, out] => Some(Workload::Contended {
-            threads: Count::read(t)?,
-            times: n.parse().ok()?,
-            outside: out.parse().ok()?,
-        }),
-        [name, first, second, n] => with_sides(name, first, second, n.parse().ok()?),
-        ["producer_consumer", p, c, n, room] => Some(Workload::ProducerConsumer {
-            sides: Sides::read(p, c)?,
-            times: n.parse().ok()?,
-            capacity: Capacity::read(room)?,
-        }),
+        [name, first, second, last] => with_two(name, first, second, last.parse().ok()?),
+        [name, p, c, n, room] => with_places(name, p, c, n.parse().ok()?, room),
         _ => None,
     }
 }

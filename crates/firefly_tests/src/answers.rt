@@ -6,6 +6,7 @@ use crate::trees::copies_of;
 use firefly::{Status, firefly};
 use firefly_outside::{MemSink, MemSource, MemTree, Tree};
 use std::alloc::{AllocError, Global};
+use std::process::Abort;
 use std::sync::Wait;
 use std::thread::Threads;
 
@@ -15,6 +16,13 @@ pub struct Answer {
     pub status: Status,
     pub out: Vec<u8>,
     pub notes: Vec<u8>,
+}
+
+/// This is the answer.
+pub fn is_answer(rt: &impl Abort, found: &Answer, status: Status, out: &str, notes: &str) {
+    assert_eq!(rt; found.status, status);
+    assert_eq!(rt; found.out.as_slice(), out.as_bytes());
+    assert_eq!(rt; found.notes.as_slice(), notes.as_bytes());
 }
 
 /// The words as the program gets them.

@@ -1,5 +1,5 @@
 //! Inputs that fail or are past their budget, and sinks that are full.
-use crate::answers::{Answer, run_on, run_program};
+use crate::answers::{Answer, is_answer, run_on, run_program};
 use crate::project::project;
 use firefly::Status;
 use firefly_outside::MemSource;
@@ -91,13 +91,6 @@ fn failing<R: Threads + Wait + Sync>(
 fn verdict_on(alloc: Global, text: &str, budget: u32) -> Result<Verdict, AllocError> {
     let mut input = MemSource::new(text.as_bytes().to_vec(alloc)?);
     Ok(check(&mut input, u64::from(budget)))
-}
-
-// This is the answer.
-fn is_answer(rt: &impl Abort, found: &Answer, status: Status, out: &str, notes: &str) {
-    assert_eq!(rt; found.status, status);
-    assert_eq!(rt; found.out.as_slice(), out.as_bytes());
-    assert_eq!(rt; found.notes.as_slice(), notes.as_bytes());
 }
 
 const UNREAD: &str = "firefly: input could not be read\n";

@@ -1,33 +1,37 @@
 //! Calls of the command `index` on trees that fail, and the walk that it stands on.
-use crate::answers::answer_of;
+use crate::answers::{Answer, answer_of, is_answer};
 use crate::project::{project, project_index};
 use crate::trees::copies_failing_from;
 use firefly::Status;
 use firefly_outside::{MemSink, MemSource, MemTree, Tree};
 use index_print::print_index;
 use std::alloc::{AllocError, Global};
+use std::sync::Wait;
 use std::test::Fail;
+use std::thread::Threads;
 use walker::{WalkAnswer, Walked, close_walk};
 use word_index::Piece;
+
+// What `index` of the project answers where the trees from this place on fail at these paths. The trees aren't alive in the test.
+fn index_failing<R: Threads + Wait + Sync>(
+    rt: &R,
+    alloc: Global,
+    tree: &MemTree,
+    from: usize,
+    paths: &[&str],
+) -> Result<Answer, AllocError> {
+    let mut trees = copies_failing_from(alloc, tree, from, paths)?;
+    let mut input = MemSource::new(Vec::new(alloc));
+    answer_of(rt, alloc, &["index", "proj"], &mut trees, &mut input, 1000)
+}
 
 #[test]
 fn a_path_that_fails_is_named(rt: HostRuntime) -> Result<(), Fail> {
     let tree = project(rt.alloc())?;
     for path in ["proj", "proj/doc", "proj/README", "proj/src/run.rs"] {
-        let mut trees = copies_failing_from(rt.alloc(), &tree, 0, &[path])?;
-        let mut input = MemSource::new(Vec::new(rt.alloc()));
-        let found = answer_of(
-            &rt,
-            rt.alloc(),
-            &["index", "proj"],
-            &mut trees,
-            &mut input,
-            1000,
-        )?;
+        let found = index_failing(&rt, rt.alloc(), &tree, 0, &[path])?;
         let message = format!(in rt.alloc(); "firefly: {path} could not be read\n")?;
-        assert_eq!(rt; found.status, Status::ReadFault, "{path}");
-        assert_eq!(rt; found.out.len(), 0, "{path}");
-        assert_eq!(rt; found.notes.as_slice(), message.as_bytes(), "{path}");
+        is_answer(&rt, &found, Status::ReadFault, "", message.as_str());
     }
     Ok(())
 }
@@ -50,13 +54,8 @@ fn project_paths() -> [&'static str; 8] {
 #[test]
 fn the_workers_leave_nothing_to_the_closing_walk(rt: HostRuntime) -> Result<(), Fail> {
     let tree = project(rt.alloc())?;
-    let mut trees = copies_failing_from(rt.alloc(), &tree, 6, &project_paths())?;
-    let mut input = MemSource::new(Vec::new(rt.alloc()));
-    let words = ["index", "proj"];
-    let found = answer_of(&rt, rt.alloc(), &words, &mut trees, &mut input, 1000)?;
-    assert_eq!(rt; found.status, Status::Done);
-    assert_eq!(rt; found.out.as_slice(), project_index().as_bytes());
-    assert_eq!(rt; found.notes.len(), 0);
+    let found = index_failing(&rt, rt.alloc(), &tree, 6, &project_paths())?;
+    is_answer(&rt, &found, Status::Done, project_index(), "");
     Ok(())
 }
 
@@ -82,6 +81,20 @@ fn index_of(alloc: Global, tree: &mut MemTree, root: &str) -> Result<Piece, Fail
     }
 }
 
+// Whether the index of the whole tree has this text, and how many files it has. The index isn't alive in the test.
+fn index_has(
+    alloc: Global,
+    tree: &mut MemTree,
+    root: &str,
+    text: &str,
+) -> Result<(bool, u64), Fail> {
+    let piece = index_of(alloc, tree, root)?;
+    let has = is_text(alloc, &piece, text);
+    let files = piece.files();
+    drop(piece);
+    Ok((has?, files))
+}
+
 // How many lists and reads the tree has told.
 fn calls(tree: &MemTree) -> (usize, usize) {
     (tree.listed().len(), tree.files_read().len())
@@ -90,9 +103,9 @@ fn calls(tree: &MemTree) -> (usize, usize) {
 #[test]
 fn a_walk_from_nothing_gives_the_index(rt: HostRuntime) -> Result<(), Fail> {
     let mut tree = project(rt.alloc())?;
-    let piece = index_of(rt.alloc(), &mut tree, "proj")?;
-    assert!(rt; is_text(rt.alloc(), &piece, project_index())?);
-    assert_eq!(rt; piece.files(), 5);
+    let (has, files) = index_has(rt.alloc(), &mut tree, "proj", project_index())?;
+    assert!(rt; has);
+    assert_eq!(rt; files, 5);
     assert_eq!(rt; calls(&tree), (3, 5));
     Ok(())
 }

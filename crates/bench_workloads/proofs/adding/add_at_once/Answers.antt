@@ -15,6 +15,9 @@ at_once-requires-after_bounds g c κs within = λ n t at.
     let mutexes = ap (λ l. l.mutexes) c.in_ok-shared.ensures.package.0 in
     (omega arith, first_own c.in_ok-shared.shared (λ w t. []) n t (c.in_ok-shared.ensures.threads n t at))
 
+pub close_package-requires-clause-count : goal.close_package-requires-clause-count
+close_package-requires-clause-count g c κs = c.in_ok-threads.ensures.threads ∙ (c.in_ok-shared.ensures.count ∙ sym (ap (λ l. l.threads) c.in_ok-shared.ensures.package.0))
+
 pub close_package-requires-clause-threads : goal.close_package-requires-clause-threads
 close_package-requires-clause-threads g c κs = λ n t at.
     let back = c.in_ok-threads.ensures.each n t at in
@@ -40,6 +43,9 @@ returns-clause-value g c =
     let all = c.in_ok-shared.ensures.count in
     let count : length threads ≡ c.args.threads.number = omega arith in
     one.1 ∙ ap (λ k. k ∷ []) (kept.kept.sums 0 one.0 (ap (λ l. get_elem? l 0) one.1) ∙ sum ∙ ap (λ k. k * c.args.times) count)
+
+pub returns-clause-count : goal.returns-clause-count
+returns-clause-count g c = ap length c.in_ok-closed.ensures.threads ∙ (c.in_ok-threads.ensures.threads ∙ c.in_ok-shared.ensures.count)
 
 pub returns-clause-each : goal.returns-clause-each
 returns-clause-each g c = λ n t there.

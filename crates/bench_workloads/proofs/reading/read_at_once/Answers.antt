@@ -23,6 +23,9 @@ at_once-requires-after_bounds g c κs within = λ n t at.
     let layout = c.in_ok-shared.ensures.package.0 in
     (subst (λ l. HasState l) (sym layout) (record { mutexes = lit≤ tt; conditions = lit≤ tt }), first_own c.in_ok-shared.shared (λ w t. []) n t (c.in_ok-shared.ensures.threads n t at))
 
+pub close_package-requires-clause-count : goal.close_package-requires-clause-count
+close_package-requires-clause-count g c κs = c.in_ok-threads.ensures.threads ∙ (c.in_ok-shared.ensures.count ∙ sym (ap (λ l. l.threads) c.in_ok-shared.ensures.package.0))
+
 pub close_package-requires-clause-threads : goal.close_package-requires-clause-threads
 close_package-requires-clause-threads g c κs = λ n t at.
     let p = c.in_ok-shared.shared in

@@ -24,3 +24,9 @@ loop-preserved g c =
           let share = w.share tt was.share was.got was.world was.is_share was.holds in
           waited_inside c.args.shared.now n c.loop.value c.wait-value.result times c.loop.me c.wait-value.new.me was w.rest w.same w.holds w.held share (w.fits tt _ (w.same.world ∙ was.world) share);
     }
+
+pub returns-then-may_go-clause-number : goal.returns-then-may_go-clause-number
+returns-then-may_go-clause-number g c = c.loop.invariant.number
+
+pub returns-then-may_go-clause-inside : goal.returns-then-may_go-clause-inside
+returns-then-may_go-clause-inside g c = c.loop.invariant.inside

@@ -1,4 +1,4 @@
-use Rattle.std.proofs.Common.{◌+◌, ◌*◌, [], ap, sym, subst, ◌∙◌, arith, rules}
+use Rattle.std.proofs.Common.{◌+◌, ◌*◌, [], ap, sym, subst, ◌∙◌, arith, rules, length}
 use mathlib.Core.Option.{some-injective, some-ne-none}
 use lib.ListN.{get_elem?}
 use Rattle.nub_rule.proofs.Each.{at_below}
@@ -19,12 +19,20 @@ at_once-requires-after_bounds g c κs within = λ n t at.
     let all = c.in_ok-shared.ensures.count in
     ((c.requires.0, ap (λ l. l.semaphores) c.in_ok-shared.ensures.package.0, omega arith, subst (λ k. HasCalled c.in_ok-shared.shared [] k k t) (sym number) d), search rules)
 
+pub close_package-requires-clause-count : goal.close_package-requires-clause-count
+close_package-requires-clause-count g c κs = c.in_ok-threads.ensures.threads ∙ (c.first_to_begin.ensures.count ∙ c.in_ok-shared.ensures.count ∙ sym (ap (λ l. l.threads) c.in_ok-shared.ensures.package.0))
+
 pub close_package-requires-clause-threads : goal.close_package-requires-clause-threads
 close_package-requires-clause-threads g c κs = λ n t at.
     let back = c.in_ok-threads.ensures.each n t at in
     let number = (c.first_to_begin.ensures.called n back.was back.is_was).idle.number in
     let called = subst (λ k. HasCalled c.in_ok-shared.shared [] (k + 2 * c.args.times) k t) number back.goes.0 in
     idle_done c.in_ok-shared.shared n [] t called.idle
+
+pub returns-clause-count : goal.returns-clause-count
+returns-clause-count g c =
+    let all = c.first_to_begin.ensures.count ∙ c.in_ok-shared.ensures.count in
+    (c.in_ok-threads.ensures.results ∙ all, ap length c.in_ok-closed.ensures.threads ∙ (c.in_ok-threads.ensures.threads ∙ all))
 
 pub returns-clause-turns : goal.returns-clause-turns
 returns-clause-turns g c = λ n k at.

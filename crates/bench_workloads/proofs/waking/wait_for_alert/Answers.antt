@@ -27,6 +27,9 @@ loop-preserved g c =
           waited_inside c.args.shared.now n c.loop.value c.alert_wait-outcome.result.1 times c.loop.me c.alert_wait-outcome.new.me was w.rest w.same w.holds w.held share (w.fits tt _ (w.same.world ∙ was.world) share);
     }
 
+pub returns-in-Alerted-clause-number : goal.returns-in-Alerted-clause-number
+returns-in-Alerted-clause-number g c = c.alert_wait-outcome.ensures.same.number ∙ c.loop.invariant.number
+
 pub returns-in-Alerted-clause-inside : goal.returns-in-Alerted-clause-inside
 returns-in-Alerted-clause-inside g c = λ n times i.
     let w = c.alert_wait-outcome.ensures in

@@ -18,6 +18,9 @@ at_once-requires-after_bounds g c κs within = λ n t at.
     let layout = c.in_ok-p.ensures.package.0 in
     (subst (λ l. HasBuffers l) (sym layout) (record { mutexes = lit≤ tt; conditions = lit≤ tt }), first_own c.in_ok-p.p (λ w t. []) n t (c.in_ok-p.ensures.threads n t at))
 
+pub close_package-requires-clause-count : goal.close_package-requires-clause-count
+close_package-requires-clause-count g c κs = c.in_ok-threads.ensures.threads ∙ (c.in_ok-p.ensures.count ∙ sym (ap (λ l. l.threads) c.in_ok-p.ensures.package.0))
+
 pub close_package-requires-clause-threads : goal.close_package-requires-clause-threads
 close_package-requires-clause-threads g c κs = λ n t at.
     let back = c.in_ok-threads.ensures.each n t at in
