@@ -1,6 +1,6 @@
 -- The rule at the start, and what it leaves at the end.
-use Rattle.std.proofs.Common.{cond, Bool, false, true, Option as Opt, ◌≡◌, ◌≢◌, ℕ, zero, suc, ◌+◌, ◌-◌, ◌<◌, ◌≤◌, List, [], ◌∷◌, ◌++◌, map, length, get_or, set, replicate, refl, sym, ap, ◌∙◌, subst, subst₂, inl, arith, length-append, Some, None, zero-add, ⊎_elim}
-use Rattle.std.proofs.lemmas.List.{length-replicate, length-map, map-append, get_or-set_other}
+use Rattle.std.proofs.Common.{cond, Bool, false, true, Option as Opt, ◌≡◌, ◌≢◌, ℕ, zero, suc, ◌+◌, ◌-◌, ◌<◌, ◌≤◌, List, [], ◌∷◌, ◌++◌, map, length, get_or, set, replicate, refl, sym, ap, ap₂, ◌∙◌, subst, subst₂, inl, arith, length-append, append_assoc, Some, None, zero-add, ⊎_elim}
+use Rattle.std.proofs.lemmas.List.{length-replicate, replicate_more, length-map, map-append, get_or-set_other}
 use Rattle.std.proofs.lemmas.List.FromFn.{length-map-range_with_len}
 use mathlib.Core.Option.{Option, some, none, some-injective, some-ne-none}
 use mathlib.Core.Logic.{dite}
@@ -19,7 +19,7 @@ use Rattle.nub_rule.specs.declared.rule.Slot.TheVariants.{Value, Queue}
 use Rattle.nub_rule.specs.declared.view.Part.{Part}
 use Rattle.nub_rule.specs.declared.view.View.{View}
 use Rattle.nub_rule.specs.declared.view.Kind.TheVariants.{Collector}
-use Rattle.nub_rule.specs.Items.{no_line, Knows, Spinning, Each, Chronicle, Standing, Stands, Current, Wide, Shared, PenFits}
+use Rattle.nub_rule.specs.Items.{line_of, no_line, Knows, Spinning, Each, Chronicle, Standing, Stands, Current, Wide, Shared, PenFits}
 use Rattle.nub_rule.specs.Parts.{Got, Lacks, fresh, pending_of, waits_on, open_on}
 use Rattle.nub_rule.specs.Owed.{SleepsSound}
 use Rattle.nub_rule.specs.Places.{most_threads, value_at, word_count, bit_at, spin_at, length_at, count_at, alert_at, ready_at, pen_at, number_at, sem_object, cond_object}
@@ -73,6 +73,18 @@ module _ {T : Type 0} where
 
   pub opening_wide : (values : List T) → length (opening_slots values) ≡ value_at (length values)
   opening_wide values = length-append (replicate 192 (Queue no_line)) (map (λ (x : T). Value (Some x)) values) ∙ (λ i. length-replicate {A = Slot T} 192 (Queue no_line) i + length-map values (λ (x : T). Value (Some x)) i)
+
+  -- one more empty queue
+  pub queues_more : (slots next : List (Slot T)) (n : ℕ) (z : List ℕ) → slots ≡ replicate n (Queue no_line) → z ≡ [] → next ≡ slots ++ Queue (line_of z) ∷ [] → next ≡ replicate (n + 1) (Queue no_line)
+  queues_more slots next n z is empty more = more ∙ (ap₂ (λ l y. l ++ Queue (line_of y) ∷ []) is empty ∙ replicate_more n (Queue no_line))
+
+  -- the slots when all queues and the values ys are there
+  module _ (slots begun : List (Slot T)) (ys : List T) (is : slots ≡ begun ++ map (λ x. Value (Some x)) ys) where
+    pub slots_long : begun ≡ replicate 192 (Queue no_line) → length slots ≡ value_at (length ys)
+    slots_long queues = ap length (is ∙ ap (λ l. l ++ map (λ x. Value (Some x)) ys) queues) ∙ opening_wide ys
+
+    pub slots_more : (next : List (Slot T)) (x : T) → next ≡ slots ++ Value (Some x) ∷ [] → next ≡ begun ++ map (λ x. Value (Some x)) (ys ++ x ∷ [])
+    slots_more next x more = more ∙ (ap (λ l. l ++ Value (Some x) ∷ []) is ∙ (append_assoc begun (map (λ x. Value (Some x)) ys) (Value (Some x) ∷ []) ∙ ap (λ l. begun ++ l) (sym (map-append (λ (x : T). Value (Some x)) ys (x ∷ [])))))
 
   slot_there : (n : ℕ) (values : List T) (m : ℕ) (x : T) → get_elem? values m ≡ some x → get_elem? (map some (replicate n (Queue no_line) ++ map (λ x. Value (Some x)) values)) (n + m) ≡ some (some (Value (Some x)))
   slot_there n values m x at = at_map some (replicate n (Queue no_line) ++ map (λ (x : T). Value (Some x)) values) (n + m) (Value (Some x))
@@ -234,15 +246,14 @@ module _ {T : Type 0} where
       let s : y ≡ x = value_same y x (some-injective (Value (Some y)) (Value (Some x)) (sym here ∙ (ap (get_elem? slots) (sym there) ∙ at))) in ap (get_elem? zs) e ∙ (at_middle xs [] zs y is ∙ ap some s))
       (λ ne. ap (λ l. get_elem? l m) is ∙ at_longer xs (y ∷ []) m x (so_far m x (omega arith) at))
 
--- one more zero behind zeros
-zero_last : (xs : List ℕ) → ((k : ℕ) → get_or xs k 0 ≡ 0) → (k : ℕ) → get_or (xs ++ 0 ∷ []) k 0 ≡ 0
-zero_last [] all zero = refl
-zero_last [] all (suc k) = refl
-zero_last (x ∷ xs) all zero = all 0
-zero_last (x ∷ xs) all (suc k) = zero_last xs (λ j. all (suc j)) k
+-- each place of so many zeros has one, and so has each place behind them
+all_alike : (z n k : ℕ) → get_or (replicate n z) k z ≡ z
+all_alike z zero k = refl
+all_alike z (suc n) zero = refl
+all_alike z (suc n) (suc k) = all_alike z n k
 
-pub zeros_more : (xs zs : List ℕ) → zs ≡ xs ++ 0 ∷ [] → ((k : ℕ) → get_or xs k 0 ≡ 0) → (k : ℕ) → get_or zs k 0 ≡ 0
-zeros_more xs zs is all k = ap (λ l. get_or l k 0) is ∙ zero_last xs all k
+pub zeros_only : (xs : List ℕ) (n : ℕ) → xs ≡ replicate n 0 → (k : ℕ) → get_or xs k 0 ≡ 0
+zeros_only xs n is k = ap (λ l. get_or l k 0) is ∙ all_alike 0 n k
 
 -- the place i is emptied, and nothing else changes
 emptied : (fs : List Bool) (i : ℕ) → get_or (set fs i false) i false ≡ false

@@ -9,7 +9,7 @@ ghost use Rattle.larch_actions.specs.Layout.{IsLawful};
 ghost use Rattle.nub_rule.specs.declared.rule.Slot.TheVariants.{Value, Queue};
 ghost use Rattle.nub_rule.specs.declared.view.Kind.TheVariants.{Root, Collector};
 ghost use Rattle.nub_rule.specs.Items.{Each, no_line};
-ghost use Rattle.atomic_table.specs.Table.{opening, Enters, Joins};
+ghost use Rattle.atomic_table.specs.Table.{opening, Enters, Joins, Splits};
 ghost use Rattle.nub_rule.specs.Rule.{IsKept, opening_view, left_view, member_view, collecting, both_views, spent_view};
 ghost use Rattle.nub_rule.specs.Known.{known_as, part_of, HasNone};
 ghost use Rattle.nub_rule.specs.Ends.{firsts, opening_slots, first_known, Leaves};
@@ -40,33 +40,50 @@ fn words(alloc: Global) -> Result<Vec<u64>, AllocError>
     ensures length { IfOk result (λ w. length w.items ≡ word_count) }
     ensures zeros { IfOk result (λ w. (k : ℕ) → slice_index w.items k ≡ 0) }
 {
-    let mut words = Vec::with_capacity(alloc, WORDS)?;
-    for _i in 0..WORDS {
-        words.push(0)?;
-    }
-    Ok(words)
+    Ok(vec![in alloc; 0; WORDS]?)
 }
 
-/// The slots of the queues, all empty.
-fn queue_slots<T: Drop>(alloc: Global) -> Result<Vec<Slot<T>>, AllocError>
-    ensures { IfOk result (λ s. s.items ≡ replicate 192 (Queue no_line)) }
+/// The slots of the queues, all empty, with room for so many more.
+fn queue_slots<T: Drop>(alloc: Global, further: u32) -> Result<Vec<Slot<T>>, AllocError>
+    ensures { IfOk result (λ s. (s.items ≡ replicate 192 (Queue no_line)) × (192 + further ≤ vec_capacity s)) }
 {
-    let mut slots = Vec::new(alloc);
+    let mut slots = Vec::with_capacity(alloc, QUEUES + further as usize)?;
     for _i in 0..QUEUES {
-        slots.push(Slot::Queue(Line::new()))?;
+        slots.push_reserved(Slot::Queue(Line::new()));
     }
     Ok(slots)
 }
 
 /// A slot for each queue, and behind them one for each value.
-fn slots_of<T: Drop>(alloc: Global, values: Vec<T>) -> Result<Vec<Slot<T>>, AllocError>
+fn slots_of<T: Drop>(
+    alloc: Global,
+    mutexes: u32,
+    values: Vec<T>,
+) -> Result<Vec<Slot<T>>, AllocError>
+    requires { length values.items ≡ mutexes }
     ensures { IfOk result (λ s. s.items ≡ opening_slots values.items) }
 {
-    let mut slots = queue_slots(alloc)?;
+    let mut slots = queue_slots(alloc, mutexes)?;
     for x in values {
-        slots.push(Slot::Value(Some(x)))?;
+        slots.push_reserved(Slot::Value(Some(x)));
     }
     Ok(slots)
+}
+
+/// The seat of the thread that comes next, cut off the first seat.
+fn split_off<U: Uses>(
+    shared: &Shared<Slot<U::Value>, View<U::Value, U::Share, U::World>, About<U::World>, Kept<U>>,
+    root: &mut Seat<Slot<U::Value>, View<U::Value, U::Share, U::World>>,
+) -> Seat<Slot<U::Value>, View<U::Value, U::Share, U::World>>
+    requires of { root.old.table_id ≡ shared.now.table_id }
+    requires inside { 0 < shared.now.table_id.words }
+    requires splits { Splits (IsKept shared.now.key.layout shared.now.key.traced shared.now.key.world.value U.begin U.holds)
+        root.old.id root.old.me.0 (left_view root.old.me.0) (member_view U.begin root.old.me.0) }
+    ensures of { root.new.table_id ≡ root.old.table_id }
+    ensures root { root.new.me.0 ≡ left_view root.old.me.0 }
+    ensures seat { (result.table_id ≡ root.old.table_id) × (result.me ≡ (member_view U.begin root.old.me.0, [])) }
+{
+    shared.split_seat::<Cut<U>>(root)
 }
 
 /// The thread with this number, cut off the first seat.
@@ -88,7 +105,7 @@ fn cut<U: Uses>(
     ensures root { root.new.me.0 ≡ left_view root.old.me.0 }
     ensures thread { result ≡ first_known root.old.table_id p.now.world U.begin number }
 {
-    let seat = p.table.shared.split_seat::<Cut<U>>(root);
+    let seat = split_off(&p.table.shared, root);
     Thread {
         number,
         hand: Hand::new(),
@@ -150,10 +167,9 @@ fn parkers_of(alloc: Global, count: u32) -> Result<(Vec<Parker>, Vec<Waker>), Al
     Ok((parkers, unparkers))
 }
 
-/// What a package and its threads are made of.
-struct Means<T> {
-    slots: Vec<Slot<T>>,
-    words: Vec<u64>,
+/// What a package and its threads are made of beside the table.
+struct Means<R, T> {
+    threads: Vec<R>,
     parkers: Vec<Parker>,
     unparkers: Vec<Waker>,
     room: Vec<T>,
@@ -161,19 +177,17 @@ struct Means<T> {
 }
 
 /// All of that, or want of memory.
-fn means_of<T: Drop>(alloc: Global, layout: Layout, values: Vec<T>) -> Result<Means<T>, AllocError>
-    ensures { IfOk result (λ m. (m.slots.items ≡ opening_slots values.items) × (length m.words.items ≡ word_count)
-        × ((k : ℕ) → slice_index m.words.items k ≡ 0) × (length m.parkers.items ≡ layout.threads) × (vec_len m.unparkers ≡ layout.threads)
-        × (m.room.items ≡ []) × (layout.mutexes ≤ vec_capacity m.room) × (m.shelf.items ≡ []) × (layout.threads ≤ vec_capacity m.shelf)) }
+fn means_of<R: Drop, T: Drop>(alloc: Global, layout: Layout) -> Result<Means<R, T>, AllocError>
+    ensures { IfOk result (λ m. (m.threads.items ≡ []) × (layout.threads ≤ vec_capacity m.threads) × (length m.parkers.items ≡ layout.threads)
+        × (vec_len m.unparkers ≡ layout.threads) × (m.room.items ≡ []) × (layout.mutexes ≤ vec_capacity m.room) × (m.shelf.items ≡ [])
+        × (layout.threads ≤ vec_capacity m.shelf)) }
 {
-    let words = words(alloc)?;
+    let threads = Vec::with_capacity(alloc, layout.threads as usize)?;
     let room = Vec::with_capacity(alloc, layout.mutexes as usize)?;
     let shelf = Vec::with_capacity(alloc, layout.threads as usize)?;
     let (parkers, unparkers) = parkers_of(alloc, layout.threads)?;
-    let slots = slots_of(alloc, values)?;
     Ok(Means {
-        slots,
-        words,
+        threads,
         parkers,
         unparkers,
         room,
@@ -223,21 +237,21 @@ pub fn open_package<U: Uses>(
     ensures count { IfOk result (λ o. length o.1.items ≡ layout.threads) }
     ensures threads { IfOk result (λ o. Each (λ n t. t ≡ first_known o.0.table_id world.now U.begin n) o.1.items) }
 {
-    let threads = Vec::with_capacity(alloc, layout.threads as usize)?;
-    let Means {
-        slots,
-        words,
-        parkers,
-        unparkers,
-        room,
-        shelf,
-    } = means_of(alloc, layout, values)?;
+    let words = words(alloc)?;
+    let slots = slots_of(alloc, layout.mutexes, values)?;
     let about = About {
         layout,
         traced,
         world: Snapshot::of(world),
     };
     let (table, root) = table_of::<U>(alloc, words, slots, about)?;
+    let Means {
+        threads,
+        parkers,
+        unparkers,
+        room,
+        shelf,
+    } = means_of(alloc, layout)?;
     let package = Package {
         layout,
         traced,

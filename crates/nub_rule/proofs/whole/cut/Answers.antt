@@ -3,16 +3,16 @@ use Rattle.nub_rule.proofs.Ends.{first_fits}
 use Rattle.nub_rule.proofs.Seats.{splits}
 use Rattle.nub_rule.proofs.whole.cut.Goals as goal
 
-pub split_seat-seat-requires : goal.split_seat-seat-requires
-split_seat-seat-requires g c = (search rules, search rules, splits _ _ _ _ _ _ _ c.requires.root (search rules))
+pub split_off-seat-requires-clause-splits : goal.split_off-seat-requires-clause-splits
+split_off-seat-requires-clause-splits g c κs within = splits _ _ _ _ _ _ _ c.requires.root (search rules)
 
 pub invariant_of-result : goal.invariant_of-result
 invariant_of-result g c =
-    let slots : c.split_seat-seat.result.table_id.slots ≡ c.p.inside.table.shared.table_id.slots = ap (λ z. z.slots) (c.split_seat-seat.ensures.3 ∙ (c.requires.of ∙ sym (ap (λ s. s.table_id) c.p.view_is))) in
+    let slots : c.split_off-seat.result.table_id.slots ≡ c.p.inside.table.shared.table_id.slots = ap (λ z. z.slots) (c.split_off-seat.ensures.seat.0 ∙ (c.requires.of ∙ sym (ap (λ s. s.table_id) c.p.view_is))) in
     let key : c.p.inside.table.shared.key.layout ≡ c.args.p.now.layout = ap (λ s. s.layout) c.p.view_is in
     let mutexes : c.p.inside.layout.mutexes ≡ c.args.p.now.layout.mutexes = ap (λ l. l.mutexes) (sym c.p.invariant.laid_out ∙ key) in
     let threads : c.p.inside.layout.threads ≡ c.args.p.now.layout.threads = ap (λ l. l.threads) (sym c.p.invariant.laid_out ∙ key) in
     let wide = c.p.invariant.slots in
     let few = c.p.invariant.lawful.threads in
     let below = c.requires.next.1 in
-    first_fits g.U.Uses.begin c.args.root.now.me.0 _ c.split_seat-seat.result.me c.args.number c.new.result _ _ (search rules) c.requires.next.0 c.new.ensures c.requires.empty.1 (λ z. let r = c.requires.room z in omega arith) (omega arith)
+    first_fits g.U.Uses.begin c.args.root.now.me.0 _ c.split_off-seat.result.me c.args.number c.new.result _ _ c.split_off-seat.ensures.seat.1 c.requires.next.0 c.new.ensures c.requires.empty.1 (λ z. let r = c.requires.room z in omega arith) (omega arith)

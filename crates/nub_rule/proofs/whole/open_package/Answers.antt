@@ -1,21 +1,21 @@
-use Rattle.std.proofs.Common.{rules, arith, ◌≡◌, ◌+◌, ◌∙◌, ap, sym, length, subst, Some}
+use Rattle.std.proofs.Common.{arith, ◌≡◌, ◌+◌, ◌∙◌, ap, sym, length, subst, Some}
 use Rattle.nub_rule.specs.Items.{Each}
 use Rattle.nub_rule.specs.Ends.{first_known}
 use Rattle.nub_rule.proofs.Ends.{opens, opening_wide}
 use Rattle.nub_rule.proofs.whole.open_package.Goals as goal
 
 pub table_of-requires-clause-opens : goal.table_of-requires-clause-opens
-table_of-requires-clause-opens g c κs within = let m = c.in_ok-slots.ensures in rw (c.of.ensures, m.0) (opens c.args.layout c.args.traced c.args.world.now g.U.Uses.begin g.U.Uses.holds c.in_ok-slots.field-0.words.items c.args.values.items
-    m.1 m.2 c.requires.values c.requires.lawful c.requires.holds)
+table_of-requires-clause-opens g c κs within = let w = c.in_ok-words.ensures in rw (c.of.ensures, c.in_ok-slots.ensures) (opens c.args.layout c.args.traced c.args.world.now g.U.Uses.begin g.U.Uses.holds c.in_ok-words.words.items c.args.values.items
+    w.length w.zeros c.requires.values c.requires.lawful c.requires.holds)
 
 pub invariant_of-package : goal.invariant_of-package
-invariant_of-package g c = let t = c.in_ok-table.ensures in let m = c.in_ok-slots.ensures in record {
-  words = t.words ∙ m.1;
-  slots = t.slots ∙ (ap (λ l. length l) m.0 ∙ (opening_wide c.args.values.items ∙ ap (λ n. 192 + n) c.requires.values));
+invariant_of-package g c = let t = c.in_ok-table.ensures in let m = c.in_ok-threads.ensures in record {
+  words = t.words ∙ c.in_ok-words.ensures.length;
+  slots = t.slots ∙ (ap (λ l. length l) c.in_ok-slots.ensures ∙ (opening_wide c.args.values.items ∙ ap (λ n. 192 + n) c.requires.values));
   lawful = c.requires.lawful;
-  bare = m.7;
-  roomy = m.8;
-  woken = m.4;
+  bare = m.6;
+  roomy = m.7;
+  woken = m.3;
   laid_out = ap (λ k. k.layout) t.key;
   traced_so = ap (λ k. k.traced) t.key;
 }
@@ -27,13 +27,13 @@ pub cut_all-threads-requires-clause-world : goal.cut_all-threads-requires-clause
 cut_all-threads-requires-clause-world g c κs within = let t = c.in_ok-table.ensures in ap (λ m. m.0.world) t.root ∙ ap (λ k. Some k.world.value) (sym t.key)
 
 pub cut_all-threads-requires-clause-parkers : goal.cut_all-threads-requires-clause-parkers
-cut_all-threads-requires-clause-parkers g c κs within = let t = c.in_ok-table.ensures in let m = c.in_ok-slots.ensures in m.3 ∙ ap (λ k. k.layout.threads) (sym t.key)
+cut_all-threads-requires-clause-parkers g c κs within = c.in_ok-threads.ensures.2 ∙ ap (λ k. k.layout.threads) (sym c.in_ok-table.ensures.key)
 
 pub cut_all-threads-requires-clause-room : goal.cut_all-threads-requires-clause-room
-cut_all-threads-requires-clause-room g c κs within = let m = c.in_ok-slots.ensures in let same = ap (λ k. k.layout.mutexes) c.in_ok-table.ensures.key in let wide = m.6 in (m.5, omega arith)
+cut_all-threads-requires-clause-room g c κs within = let m = c.in_ok-threads.ensures in let same = ap (λ k. k.layout.mutexes) c.in_ok-table.ensures.key in let wide = m.5 in (m.4, omega arith)
 
 pub cut_all-threads-requires-clause-threads : goal.cut_all-threads-requires-clause-threads
-cut_all-threads-requires-clause-threads g c κs within = let r = c.in_ok-threads.ensures in let same = ap (λ k. k.layout.threads) c.in_ok-table.ensures.key in let wide = r.capacity in (r.items, omega arith)
+cut_all-threads-requires-clause-threads g c κs within = let m = c.in_ok-threads.ensures in let same = ap (λ k. k.layout.threads) c.in_ok-table.ensures.key in let wide = m.1 in (m.0, omega arith)
 
 pub returns-clause-package : goal.returns-clause-package
 returns-clause-package g c = let key = c.in_ok-table.ensures.key in (ap (λ k. k.layout) key, ap (λ k. k.traced) key, ap (λ k. k.world.value) key ∙ c.of.ensures)
