@@ -1,4 +1,5 @@
 pub mod Closing
+pub mod Knowing
 pub mod Places
 pub mod Users
 pub mod Without

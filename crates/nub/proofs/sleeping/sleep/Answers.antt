@@ -1,5 +1,42 @@
-use Rattle.std.proofs.Common.{ap}
+use Rattle.std.proofs.Common.{ap, sym, true≢false, ◌∙◌}
+use Rattle.nub.proofs.Knowing.{alerted_asleep, still_asleep, woken_at_cond, woken_at_gate}
+use Rattle.nub.proofs.sleeping.sleep.Goals.{else-alertable-via-then-alertable+else-read_alert-ne0, else-alertable-via-else-alertable}
 use Rattle.nub.proofs.sleeping.sleep.Goals as goal
 
 pub read_ready-requires-clause-tested : goal.read_ready-requires-clause-tested
 read_ready-requires-clause-tested g c κs within = let i = c.loop.invariant in (record i.0 { stage = i.1 }, ap (λ k. k.stand) i.4, i.3)
+
+pub returns-then-read_ready-ne0-clause-at_gate : goal.returns-then-read_ready-ne0-clause-at_gate
+returns-then-read_ready-ne0-clause-at_gate g c = λ _. let i = c.loop.invariant in
+    woken_at_gate c.args.me.now c.loop.me c.read_ready.new.me i.0 i.1 i.2 i.4 c.clear_ready.new.me (c.read_ready.ensures.found c.if-read_ready-ne0.true) c.clear_ready.ensures.at_gate
+
+pub returns-then-read_ready-ne0-clause-at_cond : goal.returns-then-read_ready-ne0-clause-at_cond
+returns-then-read_ready-ne0-clause-at_cond g c = λ _. let i = c.loop.invariant in
+    woken_at_cond c.args.me.now c.loop.me c.read_ready.new.me i.0 i.1 i.2 i.4 c.clear_ready.new.me (c.read_ready.ensures.found c.if-read_ready-ne0.true) c.clear_ready.ensures.at_cond
+
+pub returns-then-read_ready-ne0-clause-alerted : goal.returns-then-read_ready-ne0-clause-alerted
+returns-then-read_ready-ne0-clause-alerted g c = λ e. absurd (true≢false e)
+
+pub returns-then-read_alert-ne0-clause-at_gate : goal.returns-then-read_alert-ne0-clause-at_gate
+returns-then-read_alert-ne0-clause-at_gate g c = λ e. absurd (true≢false (sym e))
+
+pub returns-then-read_alert-ne0-clause-at_cond : goal.returns-then-read_alert-ne0-clause-at_cond
+returns-then-read_alert-ne0-clause-at_cond g c = λ e. absurd (true≢false (sym e))
+
+pub returns-then-read_alert-ne0-clause-alerted : goal.returns-then-read_alert-ne0-clause-alerted
+returns-then-read_alert-ne0-clause-alerted g c = λ _. let i = c.loop.invariant in
+    alerted_asleep c.args.me.now c.loop.me c.read_ready.new.me i.0 i.1 i.2 i.4 c.read_alert.new.me (c.read_ready.ensures.asleep c.if-read_ready-ne0.false) (c.read_alert.ensures.alerted c.if-read_alert-ne0.true)
+
+pub loop-preserved-then-yields-lt-YIELDS : goal.loop-preserved-then-yields-lt-YIELDS
+loop-preserved-then-yields-lt-YIELDS g c = let i = c.loop.invariant in
+    still_asleep c.args.me.now c.loop.me c.read_ready.new.me i.0 i.1 i.2 i.4 c.else-alertable.me (c.read_ready.ensures.asleep c.if-read_ready-ne0.false) (elim c.else-alertable.branch [
+      | else-alertable-via-then-alertable+else-read_alert-ne0 w ↦ w.me-is ∙ w.read_alert.ensures.none w.if-read_alert-ne0.false
+      | else-alertable-via-else-alertable w ↦ w.me-is
+    ])
+
+pub loop-preserved : goal.loop-preserved
+loop-preserved g c = let i = c.loop.invariant in
+    still_asleep c.args.me.now c.loop.me c.read_ready.new.me i.0 i.1 i.2 i.4 c.else-alertable.me (c.read_ready.ensures.asleep c.if-read_ready-ne0.false) (elim c.else-alertable.branch [
+      | else-alertable-via-then-alertable+else-read_alert-ne0 w ↦ w.me-is ∙ w.read_alert.ensures.none w.if-read_alert-ne0.false
+      | else-alertable-via-else-alertable w ↦ w.me-is
+    ])
