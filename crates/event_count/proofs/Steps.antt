@@ -1,0 +1,51 @@
+-- What the thread knows after some steps, of plain variables.
+use Rattle.std.proofs.Common.{◌≡◌, ℕ, Option as Opt, None, Some, List, [], ap, sym, ◌∙◌}
+use Rattle.larch_actions.specs.Sets.{without}
+use Rattle.nub_rule.specs.declared.view.Pen.{Pen}
+use Rattle.nub_rule.specs.declared.view.Pen.TheVariants.{No}
+use Rattle.nub_rule.specs.Known.{Known, learnt, recorded}
+
+module _ {T H W : Type 0} where
+  -- the thread o has the spin word of n as i, has read its number as b, has advanced the count as a, and has told that as e
+  module _ (n : ℕ) (o i b a e : Known T H W) (l : List ℕ) (m : ℕ) (p : Pen)
+      (below : i ≡ record o { spin = Some n; queue = i.queue; left = i.queue; count = i.count; failed = without n o.failed })
+      (began : b ≡ record i { pen = b.pen; next = b.next }) (advances : a ≡ record (learnt b a) { left = l; count = m; pen = p })
+      (told : e ≡ record a { pen = No; entries = e.entries; lost = e.lost }) where
+    pub owes_as_before : e.owed ≡ o.owed
+    owes_as_before = ap (λ k. k.owed) told ∙ (ap (λ k. k.owed) advances ∙ (ap (λ k. k.owed) began ∙ ap (λ k. k.owed) below))
+
+    module _ (z : Known T H W) (spin : o.spin ≡ None) (queue : o.queue ≡ []) (left : o.left ≡ []) (pen : o.pen ≡ No) where
+      -- it has left, with what it owes then
+      advanced : (d : List ℕ) → z ≡ record e { spin = None; queue = []; left = []; owed = d } → d ≡ o.owed → z ≡ record (recorded o z) { count = z.count; failed = without n o.failed }
+      advanced d last owed =
+          let G : Known T H W → Known T H W = λ k. record k { seen = z.seen; mine = z.mine; places = z.places; count = z.count; entries = z.entries; lost = z.lost; next = z.next } in
+          let F : Known T H W → Known T H W =
+          λ k. record k { spin = None; queue = []; left = []; owed = d; seen = z.seen; mine = z.mine; places = z.places; count = z.count; entries = z.entries; lost = z.lost; next = z.next } in
+          let K : Known T H W → Known T H W = λ k. record (F k) { pen = No } in
+          let E : Opt ℕ → List ℕ → List ℕ → List ℕ → Pen → Known T H W = λ s q f u r. record (recorded o z) { spin = s; queue = q; left = f; owed = u; pen = r; count = z.count; failed = without n o.failed } in
+          ap G last ∙ ap F told ∙ ap K advances ∙ ap K began ∙ ap K below
+          ∙ ap (λ s. E s [] [] d No) (sym spin)
+          ∙ ap (λ q. E o.spin q [] d No) (sym queue)
+          ∙ ap (λ f. E o.spin o.queue f d No) (sym left)
+          ∙ ap (λ u. E o.spin o.queue o.left u No) owed
+          ∙ ap (E o.spin o.queue o.left o.owed) (sym pen)
+
+      -- it popped one as q, woke it as w, and left
+      pub advanced_one : (q w : Known T H W) (x y : List ℕ) → q ≡ record e { queue = x; owed = q.owed } → w ≡ record q { owed = y } → z ≡ record w { spin = None; queue = []; left = [] } → w.owed ≡ [] → o.owed ≡ []
+          → z ≡ record (recorded o z) { count = z.count; failed = without n o.failed }
+      advanced_one q w x y popped wakes leaves gone none =
+          let L : Known T H W → Known T H W = λ k. record k { spin = None; queue = []; left = []; owed = w.owed } in
+          advanced w.owed (leaves ∙ ap L wakes ∙ ap L popped) (gone ∙ sym none)
+
+      -- it found nobody to pop, as q, and left
+      pub advanced_none : (q : Known T H W) (x : List ℕ) → q ≡ record e { queue = x; owed = q.owed } → q.owed ≡ e.owed → z ≡ record q { spin = None; queue = []; left = [] }
+          → z ≡ record (recorded o z) { count = z.count; failed = without n o.failed }
+      advanced_none q x popped owes leaves =
+          let L : Known T H W → Known T H W = λ k. record k { spin = None; queue = []; left = []; owed = q.owed } in
+          advanced q.owed (leaves ∙ ap L popped) (owes ∙ owes_as_before)
+
+      -- it popped and woke all as w, and left
+      pub advanced_all : (w : Known T H W) → w ≡ record e { queue = [] } → z ≡ record w { spin = None; queue = []; left = [] } → z ≡ record (recorded o z) { count = z.count; failed = without n o.failed }
+      advanced_all w woken leaves =
+          let L : Known T H W → Known T H W = λ k. record k { spin = None; queue = []; left = [] } in
+          advanced e.owed (leaves ∙ ap L woken) owes_as_before
