@@ -10,8 +10,10 @@ use Rattle.nub_rule.specs.declared.object.Object.TheVariants.{Mutex, Sem, Cond}
 use Rattle.nub_rule.specs.declared.package.Entry.{Entry}
 use Rattle.nub_rule.specs.declared.view.Pen.{Pen}
 use Rattle.nub_rule.specs.declared.view.Pen.TheVariants.{No, Read}
+use Rattle.nub_rule.specs.declared.view.Stand.{Stand}
 use Rattle.nub_rule.specs.declared.view.Wait.{Wait}
 use Rattle.nub_rule.specs.Known.{Holds, IsIn, Known, Makes, learnt, recorded}
+use Rattle.nub.specs.Rest.{IsOutside}
 use Rattle.gate.specs.Gates.{IsTaken}
 
 pub zero_from_test : (n : ℕ) → eqb n 0 ≡ true → n ≡ 0
@@ -170,3 +172,35 @@ module _ {T H W : Type 0} where
     taken_traced fits at taken =
         taken_on fits at o u z (ap (λ k. k.held) told) (ap (λ k. k.values) told)
         (taken_from fits at o b u (ap (λ k. k.number) began) (ap (λ k. k.world) began) (ap (λ k. k.held) began) (ap (λ k. k.share) began) (ap (λ k. k.values) began) taken)
+
+  -- the thread o has the spin word of n as i, and is z when it has given it back
+  module _ (n : ℕ) (o i z : Known T H W) (outside : IsOutside o) (entered : i ≡ record o { spin = Some n; queue = i.queue; owed = []; left = i.queue; count = i.count; failed = without n o.failed }) where
+    -- it pushed itself as q, tested the bit as t, and took itself out as r
+    pub left_queue : (q t r : Known T H W) (a d b f u : List ℕ) (s w : Opt Stand) → q ≡ record i { queue = a; left = d; stand = s } → t ≡ record q { stand = w } → r ≡ record t { queue = b; left = f; stand = None; turns = u }
+        → z ≡ record r { spin = None; queue = []; left = [] } → z ≡ record o { count = z.count; failed = without n o.failed; turns = z.turns }
+    left_queue q t r a d b f u s w pushed tested out leaves =
+        let G : Known T H W → Known T H W = λ k. record k { count = z.count; turns = z.turns } in
+        let L : Known T H W → Known T H W = λ k. record k { spin = None; queue = []; left = []; count = z.count; turns = z.turns } in
+        let F : Known T H W → Known T H W = λ k. record k { spin = None; queue = []; left = []; count = z.count; stand = None; turns = z.turns } in
+        let E : Opt ℕ → List ℕ → List ℕ → List ℕ → Opt Stand → Known T H W = λ p x y v c. record o { spin = p; queue = x; owed = y; left = v; count = z.count; stand = c; failed = without n o.failed; turns = z.turns } in
+        ap G leaves ∙ ap L out ∙ ap F tested ∙ ap F pushed ∙ ap F entered
+        ∙ ap (λ p. E p [] [] [] None) (sym outside.spin)
+        ∙ ap (λ x. E o.spin x [] [] None) (sym outside.queue)
+        ∙ ap (λ y. E o.spin o.queue y [] None) (sym outside.owed)
+        ∙ ap (λ v. E o.spin o.queue o.owed v None) (sym outside.left)
+        ∙ ap (E o.spin o.queue o.owed o.left) (sym outside.stand)
+
+    -- it popped one as q, and woke it as w, so that it owes nobody
+    pub woke_one : (q w : Known T H W) (a d y : List ℕ) → q ≡ record i { queue = a; left = d; owed = q.owed; cleared = without n i.cleared; looked = without n i.looked } → w ≡ record q { owed = y } → y ≡ []
+        → z ≡ record w { spin = None; queue = []; left = [] } → z ≡ record o { count = z.count; failed = without n o.failed; cleared = without n o.cleared; looked = without n o.looked }
+    woke_one q w a d y popped wakes none leaves =
+        let G : Known T H W → Known T H W = λ k. record k { count = z.count } in
+        let L : Known T H W → Known T H W = λ k. record k { spin = None; queue = []; left = []; count = z.count } in
+        let F : Known T H W → Known T H W = λ k. record k { spin = None; queue = []; owed = y; left = []; count = z.count } in
+        let K : Known T H W → Known T H W = λ k. record k { spin = None; queue = []; owed = y; left = []; count = z.count; cleared = without n k.cleared; looked = without n k.looked } in
+        let E : Opt ℕ → List ℕ → List ℕ → List ℕ → Known T H W = λ p x u v. record o { spin = p; queue = x; owed = u; left = v; count = z.count; failed = without n o.failed; cleared = without n o.cleared; looked = without n o.looked } in
+        ap G leaves ∙ ap L wakes ∙ ap F popped ∙ ap K entered
+        ∙ ap (λ p. E p [] y []) (sym outside.spin)
+        ∙ ap (λ x. E o.spin x y []) (sym outside.queue)
+        ∙ ap (λ u. E o.spin o.queue u []) (none ∙ sym outside.owed)
+        ∙ ap (E o.spin o.queue o.owed) (sym outside.left)

@@ -1,9 +1,11 @@
-use Rattle.std.proofs.Common.{◌≡◌, ◌++◌, ◌∷◌, [], true, List, ℕ, rules, ap, sym, subst, inl, ◌∙◌}
+use Rattle.std.proofs.Common.{◌≡◌, ◌++◌, ◌∷◌, [], true, List, ℕ, refl, ap, sym, subst, inl, ◌∙◌}
 use Rattle.larch_actions.specs.Sets.{mem}
+use Rattle.nub_rule.specs.Objects.{object_of}
 use Rattle.nub_rule.specs.Places.{most_threads}
 use Rattle.nub_rule.specs.Plays.{behind}
 use Rattle.nub.proofs.Without.{mem_own, less_owed, first_small}
 use Rattle.nub_rule.proofs.Gating.{pop-gate}
+use Rattle.gate.proofs.Steps.{woke_one}
 use Rattle.gate.proofs.freeing.wake_one.Goals as goal
 
 pub enter-requires-clause-reason : goal.enter-requires-clause-reason
@@ -36,5 +38,8 @@ returns-in-Some g c =
     let t = c.in-Some.t.0 in
     let first = c.pop.ensures.first c.in-Some.t c.in-Some.is in
     let owed : c.pop.new.me.owed ≡ t ∷ [] = first.1 ∙ ap (λ k. k.owed ++ t ∷ []) c.enter.ensures.inside in
-    let none : c.wake.new.me.owed ≡ [] = ap (λ k. k.owed) c.wake.ensures ∙ less_owed t c.pop.new.me.owed owed in
-    search rules
+    woke_one (object_of c.args.at) c.args.me.now c.enter.new.me c.leave.new.me c.requires.outside c.enter.ensures.inside c.pop.new.me c.wake.new.me _ _ _ (c.pop.ensures.gate c.requires.gate) c.wake.ensures (less_owed t c.pop.new.me.owed owed) c.leave.ensures
+
+pub returns-in-None : goal.returns-in-None
+returns-in-None g c =
+    woke_one (object_of c.args.at) c.args.me.now c.enter.new.me c.leave-in-None.new.me c.requires.outside c.enter.ensures.inside c.pop.new.me c.pop.new.me _ _ c.pop.new.me.owed (c.pop.ensures.gate c.requires.gate) refl (c.pop.ensures.owes c.in-None.is ∙ ap (λ k. k.owed) c.enter.ensures.inside) c.leave-in-None.ensures

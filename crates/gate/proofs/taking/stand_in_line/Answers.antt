@@ -6,6 +6,7 @@ use Rattle.nub_rule.specs.declared.view.Stage.TheVariants.{Pushed, Clear, Tested
 use Rattle.nub_rule.specs.Parts.{left_turns, staged}
 use Rattle.nub.proofs.Without.{mem_last, without_own, after_sleep}
 use Rattle.nub_rule.proofs.Gating.{leave-gate, left-gate, push-gate}
+use Rattle.gate.proofs.Steps.{left_queue}
 use Rattle.gate.proofs.taking.stand_in_line.Goals as goal
 
 pub push-requires-clause-may : goal.push-requires-clause-may
@@ -32,7 +33,7 @@ returns-then-test_again-eq0 g c =
     let stood = ap (λ k. k.stand) clear ∙ ap (λ k. staged Clear k.stand) (c.push.ensures.gate c.requires.gate) in
     let turn = ap (λ z. left_turns z c.test_again.new.me.turns) stood in
     record {
-      rest = search rules;
+      rest = left_queue o c.args.me.now c.enter.new.me c.leave.new.me c.requires.outside c.enter.ensures.inside c.push.new.me c.test_again.new.me c.remove.new.me _ _ _ _ _ _ _ (c.push.ensures.gate c.requires.gate) clear out c.leave.ensures;
       turns = ap (λ k. without o k.turns) c.leave.ensures ∙ (ap (λ k. without o k.turns) out ∙ (ap (without o) turn ∙ (without_own o c.test_again.new.me.turns ∙ (ap (λ k. without o k.turns) clear ∙ (ap (λ k. without o k.turns) (c.push.ensures.gate c.requires.gate) ∙ ap (λ k. without o k.turns) c.enter.ensures.inside)))));
     }
 
