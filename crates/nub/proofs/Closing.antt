@@ -98,6 +98,10 @@ module _ {T H W : Type 0} where
   pub first_is : (p : Shape W) (begin : W → ℕ → H) (n : ℕ) (t : Known T H W) → t ≡ first_known p.table_id p.world begin n → IsFirst p begin n t
   first_is p begin n t e = let P : Known T H W → Type 0 = λ k. IsFirst p begin n k in subst P (sym e) (first-is p begin n)
 
+  -- the same threads leave the same
+  pub left_by : (layout : Layout) (holds : List T → List H → Type 0) (threads others : List (Known T H W)) (values : List T) → threads ≡ others → Leaves layout holds (map (λ t. part_of t) threads) values → Leaves layout holds (map (λ t. part_of t) others) values
+  left_by layout holds threads others values e l = subst (λ (ts : List (Known T H W)). Leaves layout holds (map (λ t. part_of t) ts) values) e l
+
   shares-are : (threads : List (Known T H W)) (shares : List H) → length shares ≡ length (map (λ t. part_of t) threads) → Each (Shared shares) (map (λ t. part_of t) threads) → map (λ t. t.share) threads ≡ map (λ s. Some s) shares
   shares-are [] [] n each = refl
   shares-are [] (s ∷ shares) n each = absurd (omega arith)

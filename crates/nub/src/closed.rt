@@ -4,6 +4,7 @@ ghost use Rattle.std.specs.Prelude.{◌≡◌, MatchOption};
 use larch_actions::{Event, Layout};
 use nub_rule::{Thread, Uses};
 use std::marker::Model;
+use std::mem::ManuallyDrop;
 use std::snapshot::Snapshot;
 
 /// What is left of a package that was closed. Only closing makes one. Contracts see each of its threads too, as it came back.
@@ -12,7 +13,8 @@ pub struct Closed<U: Uses> {
     pub(crate) layout: Layout,
     pub(crate) values: Vec<U::Value>,
     pub(crate) trace: Option<Vec<Event>>,
-    pub(crate) threads: Snapshot<Vec<Thread<U>>>,
+    /// Under `ManuallyDrop`, so that nobody who lets go of this has the drop of a thread to prove.
+    pub(crate) threads: Snapshot<ManuallyDrop<Vec<Thread<U>>>>,
 }
 
 impl<U: Uses> Model for Closed<U> {
@@ -20,7 +22,7 @@ impl<U: Uses> Model for Closed<U> {
 
     ghost Value = { Ended U.Value U.Share U.World };
 
-    ghost view = { λ c. ended c.layout c.values c.trace c.threads.value.items };
+    ghost view = { λ c. ended c.layout c.values c.trace c.threads.value.value.items };
 }
 
 impl<U: Uses> Closed<U> {

@@ -11,6 +11,7 @@ use super::trace_order::in_order;
 use larch_actions::Layout;
 use nub_rule::{Package, Remains, Thread, Uses};
 use std::alloc::{AllocError, Global};
+use std::mem::ManuallyDrop;
 use std::snapshot::Snapshot;
 
 /// A package and its threads, in order of their numbers. Its one refusal is want of memory, and then the values are dropped.
@@ -50,8 +51,9 @@ pub fn close_package<U: Uses>(
     let alloc = *threads.allocator();
     let layout = p.layout();
     let traced = p.traced();
+    let threads = ManuallyDrop::new(threads);
     let last = Snapshot::of(&threads);
-    let Remains { values, stored } = nub_rule::close_package(alloc, p, threads);
+    let Remains { values, stored } = nub_rule::close_package(alloc, p, ManuallyDrop::into_inner(threads));
     if !traced {
         return Ok(Closed {
             layout,
