@@ -140,22 +140,22 @@ fn add_action(buf: &mut [u8], at: usize, action: &Action) -> usize
     ensures text { take result buf.new ≡ take at buf.old ++ action_text action.now }
     ensures near { result ≤ at + 310 }
 {
-    match action {
+    match *action {
         Action::Acquire { mutex } => add_named(buf, at, b"acquire m", mutex.0),
         Action::Release { mutex } => add_named(buf, at, b"release m", mutex.0),
-        Action::Enqueue { mutex, cond } => add_wait(buf, at, b"enqueue", *mutex, *cond),
-        Action::Resume { mutex, cond } => add_wait(buf, at, b"resume", *mutex, *cond),
-        Action::AlertEnqueue { mutex, cond } => add_wait(buf, at, b"alert-enqueue", *mutex, *cond),
-        Action::AlertReturn { mutex, cond } => add_resumed(buf, at, *mutex, *cond, b" returns"),
-        Action::AlertRaise { mutex, cond } => add_resumed(buf, at, *mutex, *cond, b" raises"),
-        Action::Signal { cond, left } => add_signal(buf, at, *cond, left),
+        Action::Enqueue { mutex, cond } => add_wait(buf, at, b"enqueue", mutex, cond),
+        Action::Resume { mutex, cond } => add_wait(buf, at, b"resume", mutex, cond),
+        Action::AlertEnqueue { mutex, cond } => add_wait(buf, at, b"alert-enqueue", mutex, cond),
+        Action::AlertReturn { mutex, cond } => add_resumed(buf, at, mutex, cond, b" returns"),
+        Action::AlertRaise { mutex, cond } => add_resumed(buf, at, mutex, cond, b" raises"),
+        Action::Signal { cond, ref left } => add_signal(buf, at, cond, left),
         Action::Broadcast { cond } => add_named(buf, at, b"broadcast c", cond.0),
         Action::P { sem } => add_named(buf, at, b"p s", sem.0),
         Action::V { sem } => add_named(buf, at, b"v s", sem.0),
         Action::Alert { who } => add_named(buf, at, b"alert t", who.0),
-        Action::TestAlert { yes } => add_answer(buf, at, *yes),
-        Action::AlertPReturn { sem } => add_taken(buf, at, *sem, b" returns"),
-        Action::AlertPRaise { sem } => add_taken(buf, at, *sem, b" raises"),
+        Action::TestAlert { yes } => add_answer(buf, at, yes),
+        Action::AlertPReturn { sem } => add_taken(buf, at, sem, b" returns"),
+        Action::AlertPRaise { sem } => add_taken(buf, at, sem, b" raises"),
     }
 }
 
