@@ -22,5 +22,5 @@ returns-in_err-pieces g c = λ o m read. record {
   given = given_none o c.args.root.now c.args.p.now m c.args.kept.now.items c.args.me.now;
 }
 
-pub returns-then-is_empty : goal.returns-then-is_empty
-returns-then-is_empty g c = λ o m read. record { read = read; given = given_none o c.args.root.now c.args.p.now m c.args.kept.now.items c.args.me.now }
+pub returns-then-not-is_due : goal.returns-then-not-is_due
+returns-then-not-is_due g c = λ o m read. record { read = read; given = given_none o c.args.root.now c.args.p.now m c.args.kept.now.items c.args.me.now }
