@@ -17,7 +17,7 @@ use crate::turns::end_parser;
 use crate::uses::IndexUses;
 use firefly_outside::{Text, Tree, TreeError};
 use nub_rule::{Package, Thread};
-use std::alloc::{AllocError, Global};
+use std::alloc::Global;
 use std::sync::Wait;
 use word_index::Piece;
 
@@ -44,23 +44,32 @@ fn read_one<S: Tree>(
     }
 }
 
-// Puts a piece into the buffer, or where that gives it back, to those that are kept.
+// Puts a piece into the buffer, or where that gives it back, to those that are kept; where memory wants, all workers are to end. It answers
+// whether the thread is to go on.
 fn give_piece<R: Wait>(
     rt: &R,
     p: &Package<IndexUses>,
     me: &mut Thread<IndexUses>,
     piece: Piece,
     kept: &mut Vec<Piece>,
-) -> Result<(), AllocError>
+) -> bool
     requires layout { HasLists p.now.layout }
     requires between { IsBetween p.now me.old }
+    requires piece { (o : Option Told) × (root : Path) × IsFilesPiece o root piece }
     ensures { (o : Option Told) (root : Path) (m : ℕ) → IsFilesPiece o root piece → HasGiven o root p.now m kept.old.items kept.new.items
         me.old me.new }
 {
-    if let Some(piece) = put_piece(rt, p, me, piece) {
-        kept.push(piece)?;
+    let Some(piece) = put_piece(rt, p, me, piece) else {
+        return true;
+    };
+    match kept.push(piece) {
+        Ok(()) => true,
+        Err(failed) => {
+            drop(failed.value);
+            cancel(rt, p, me);
+            false
+        }
     }
-    Ok(())
 }
 
 // Gives each of the pieces so.
@@ -70,7 +79,7 @@ fn give_pieces<R: Wait>(
     me: &mut Thread<IndexUses>,
     pieces: Vec<Piece>,
     kept: &mut Vec<Piece>,
-) -> Result<(), AllocError>
+) -> bool
     requires layout { HasLists p.now.layout }
     requires between { IsBetween p.now me.old }
     requires pieces { (o : Option Told) × (root : Path) × All (IsFilesPiece o root) pieces.items }
@@ -78,37 +87,15 @@ fn give_pieces<R: Wait>(
         kept.new.items me.old me.new }
 {
     for piece in pieces {
-        give_piece(rt, p, me, piece, kept)?;
+        if !give_piece(rt, p, me, piece, kept) {
+            return false;
+        }
     }
-    Ok(())
+    true
 }
 
 // Makes pieces of the files of the lot, if it has any and is full or the last, and gives them on. It is empty then; one that isn't full may
-// grow.
-fn give_lot<R: Wait>(
-    rt: &R,
-    alloc: Global,
-    p: &Package<IndexUses>,
-    me: &mut Thread<IndexUses>,
-    root: &str,
-    lot: &mut Lot,
-    kept: &mut Vec<Piece>,
-    last: bool,
-) -> Result<(), AllocError>
-    requires layout { HasLists p.now.layout }
-    requires between { IsBetween p.now me.old }
-    requires read { (o : Option Told) × AreRead o lot.old.files.items }
-    ensures { (o : Option Told) (m : ℕ) → AreRead o lot.old.files.items → HasPassed o root.now p.now m lot.new.files.items kept.old.items
-        kept.new.items me.old me.new }
-{
-    if !lot.is_due(last) {
-        return Ok(());
-    }
-    let pieces = pieces_of(alloc, root, lot.taken(alloc))?;
-    give_pieces(rt, p, me, pieces, kept)
-}
-
-// The same; and where memory wants, all workers are to end. It answers whether the thread is to go on.
+// grow. Where memory wants, all workers are to end. It answers whether the thread is to go on.
 fn pass_lot<R: Wait>(
     rt: &R,
     alloc: Global,
@@ -125,8 +112,11 @@ fn pass_lot<R: Wait>(
     ensures { (o : Option Told) (m : ℕ) → AreRead o lot.old.files.items → HasPassed o root.now p.now m lot.new.files.items kept.old.items
         kept.new.items me.old me.new }
 {
-    match give_lot(rt, alloc, p, me, root, lot, kept, last) {
-        Ok(()) => true,
+    if !lot.is_due(last) {
+        return true;
+    }
+    match pieces_of(alloc, root, lot.taken(alloc)) {
+        Ok(pieces) => give_pieces(rt, p, me, pieces, kept),
         Err(_) => {
             cancel(rt, p, me);
             false
