@@ -1,13 +1,16 @@
 -- Files that were read, on the way to their pieces.
-use Rattle.std.specs.Prelude.{ℕ, List, [], Option, IfSome, Contains, All}
-use Rattle.firefly_outside.specs.Trees.{Path, Told, IsFile}
+use Rattle.std.specs.Prelude.{◌≡◌, ℕ, List, [], Option, None, IfSome, Contains, All}
+use Rattle.firefly_outside.specs.Trees.{Path, Told, Calls, IsFile}
 use Rattle.firefly_outside.specs.declared.tree.FileBytes.{FileBytes}
+use Rattle.firefly_outside.specs.declared.tree.Kind.TheVariants.{File as FileKind}
 use Rattle.walker.specs.TreeIndex.{IsFileAt}
+use Rattle.indexer.specs.declared.findings.Fault.{Fault}
 use Rattle.indexer.specs.declared.lots.ReadFile.{ReadFile}
 use Rattle.word_index.specs.Batch.{Held, HoldsFiles}
 use Rattle.word_index.specs.Index.{File, Index}
 use Rattle.indexer.specs.Pieces.{IsFilesPiece}
 use Rattle.indexer.specs.Turns.{Worker, Run, HasCalled}
+use Rattle.indexer.specs.Walks.{HasDone}
 
 -- the file was read so, where the tree tells
 abbrev pub IsRead : Option Told → Path → FileBytes → Type 0
@@ -32,3 +35,13 @@ pub record HasGiven (tree : Option Told) (root : Path) (p : Run) (m : ℕ) (old 
 pub record HasPassed (tree : Option Told) (root : Path) (p : Run) (m : ℕ) (files : List ReadFile) (old new : List Index) (a b : Worker) : Type 0 where
   pub read : AreRead tree files
   pub given : HasGiven tree root p m old new a b
+
+module _ {S : Type 0} (tree : S → Option Told) (weak : S → List Path) (faults : S → ℕ) (calls : S → Calls) (root : Path) where
+  -- a parser took files, read them with the tree into a lot, which has these now, and made pieces of others, which it gave on or kept
+  pub record HasParsed (p : Run) (old new : S) (files : List ReadFile) (held more : List Index) (a b : Worker) (fault : Option Fault) : Type 0 where
+    pub tree_stays : tree new ≡ tree old
+    pub weak_stays : weak new ≡ weak old
+    pub read : AreRead (tree old) files
+    pub kept : All (IsFilesPiece (tree old) root) held → All (IsFilesPiece (tree old) root) more
+    pub done : (count : ℕ) (before : Calls) (c : Worker) → HasDone FileKind (tree old) root (weak old) count (faults old) before (calls old) p 0 c a [] [] None
+        → HasDone FileKind (tree old) root (weak old) count (faults new) before (calls new) p 0 c b [] [] fault

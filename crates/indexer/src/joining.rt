@@ -23,8 +23,9 @@ fn joined_two(whole: Piece, piece: Piece) -> Result<Piece, AllocError>
     }
     match merge(whole, piece) {
         Ok(both) => Ok(both),
-        Err(both) => {
-            drop(both);
+        Err((whole, piece)) => {
+            drop(whole);
+            drop(piece);
             Err(AllocError)
         }
     }

@@ -61,14 +61,10 @@ impl Lot {
         mem::replace(&mut self.files, Vec::new(alloc))
     }
 
-    /// Whether pieces are to be made of the files.
-    pub fn is_full(&self) -> bool {
-        self.files.len() >= MOST_FILES || self.bytes >= MOST_BYTES
-    }
-
-    /// Whether there is no file.
-    pub fn is_empty(&self) -> bool {
-        self.files.is_empty()
+    /// Whether pieces are to be made of the files: there are some, and enough of them, or no more are to come.
+    pub fn is_due(&self, last: bool) -> bool {
+        !self.files.is_empty()
+            && (last || self.files.len() >= MOST_FILES || self.bytes >= MOST_BYTES)
     }
 }
 

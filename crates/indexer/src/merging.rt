@@ -1,5 +1,5 @@
 //! Pieces that are kept until they are merged.
-ghost use Rattle.std.specs.Prelude.{◌≡◌, ◌++◌, ◌∷◌, [], ◌<◌, ◌≤◌, IsTrue, IfOk, OnOk, OnErr, vec_len, vec_capacity};
+ghost use Rattle.std.specs.Prelude.{◌≡◌, ◌++◌, ◌∷◌, [], ◌<◌, IsTrue, IfOk, OnOk, OnErr, vec_len};
 ghost use Rattle.word_index.specs.Index.{Meet, IsUnion};
 ghost use Rattle.indexer.specs.Pieces.{AreMergedFrom, JoinsFiles};
 
@@ -19,18 +19,6 @@ fn may_merge(before: &Piece, last: &Piece, of_any_size: bool) -> bool
     (of_any_size || size(before) / 2 <= size(last)) && !before.meets(last)
 }
 
-// Puts a piece where there is room.
-fn put_back(kept: &mut Vec<Piece>, piece: Piece)
-    requires { vec_len kept.old < vec_capacity kept.old }
-    ensures items { kept.new.items ≡ kept.old.items ++ piece ∷ [] }
-    ensures capacity { vec_capacity kept.old ≤ vec_capacity kept.new }
-{
-    match kept.push(piece) {
-        Ok(()) => {}
-        Err(_) => unreachable!(),
-    }
-}
-
 // Merges the last piece with the one before, if they are to be, and says whether it did. Where memory wants, both stay.
 fn merge_last(kept: &mut Vec<Piece>, of_any_size: bool) -> bool
     ensures merged { AreMergedFrom kept.old.items kept.new.items }
@@ -40,22 +28,22 @@ fn merge_last(kept: &mut Vec<Piece>, of_any_size: bool) -> bool
         return false;
     };
     let Some(before) = kept.pop() else {
-        put_back(kept, last);
+        kept.push_reserved(last);
         return false;
     };
     if !may_merge(&before, &last, of_any_size) {
-        put_back(kept, before);
-        put_back(kept, last);
+        kept.push_reserved(before);
+        kept.push_reserved(last);
         return false;
     }
     match merge(before, last) {
         Ok(both) => {
-            put_back(kept, both);
+            kept.push_reserved(both);
             true
         }
         Err((before, last)) => {
-            put_back(kept, before);
-            put_back(kept, last);
+            kept.push_reserved(before);
+            kept.push_reserved(last);
             false
         }
     }

@@ -3,9 +3,9 @@ ghost use Rattle.std.specs.Prelude.{◌≡◌, ℕ, [], All, Option, Some, None}
 ghost use Rattle.firefly_outside.specs.Trees.{Calls, Path, Told};
 ghost use Rattle.firefly_outside.specs.declared.tree.Kind.TheVariants.{File};
 ghost use Rattle.indexer.specs.Jobs.{GivesTree};
-ghost use Rattle.indexer.specs.Lots.{AreRead, HasGiven, HasPassed};
+ghost use Rattle.indexer.specs.Lots.{AreRead, HasGiven, HasParsed, HasPassed};
 ghost use Rattle.indexer.specs.Pieces.{IsFilesPiece};
-ghost use Rattle.indexer.specs.Turns.{HasCalled, HasLists, IsBetween, Run, Worker};
+ghost use Rattle.indexer.specs.Turns.{HasLists, IsBetween, Run, Worker};
 ghost use Rattle.indexer.specs.Walks.{HasDone, fault_of};
 
 use crate::ending::cancel;
@@ -17,7 +17,7 @@ use crate::turns::end_parser;
 use crate::uses::IndexUses;
 use firefly_outside::{Text, Tree, TreeError};
 use nub_rule::{Package, Thread};
-use std::alloc::{AllocError, Global};
+use std::alloc::Global;
 use std::sync::Wait;
 use word_index::Piece;
 
@@ -44,23 +44,32 @@ fn read_one<S: Tree>(
     }
 }
 
-// Puts a piece into the buffer, or where that gives it back, to those that are kept.
+// Puts a piece into the buffer, or where that gives it back, to those that are kept; where memory wants, all workers are to end. It answers
+// whether the thread is to go on.
 fn give_piece<R: Wait>(
     rt: &R,
     p: &Package<IndexUses>,
     me: &mut Thread<IndexUses>,
     piece: Piece,
     kept: &mut Vec<Piece>,
-) -> Result<(), AllocError>
+) -> bool
     requires layout { HasLists p.now.layout }
     requires between { IsBetween p.now me.old }
+    requires piece { (o : Option Told) × (root : Path) × IsFilesPiece o root piece }
     ensures { (o : Option Told) (root : Path) (m : ℕ) → IsFilesPiece o root piece → HasGiven o root p.now m kept.old.items kept.new.items
         me.old me.new }
 {
-    if let Some(piece) = put_piece(rt, p, me, piece) {
-        kept.push(piece)?;
+    let Some(piece) = put_piece(rt, p, me, piece) else {
+        return true;
+    };
+    match kept.push(piece) {
+        Ok(()) => true,
+        Err(failed) => {
+            drop(failed.value);
+            cancel(rt, p, me);
+            false
+        }
     }
-    Ok(())
 }
 
 // Gives each of the pieces so.
@@ -70,7 +79,7 @@ fn give_pieces<R: Wait>(
     me: &mut Thread<IndexUses>,
     pieces: Vec<Piece>,
     kept: &mut Vec<Piece>,
-) -> Result<(), AllocError>
+) -> bool
     requires layout { HasLists p.now.layout }
     requires between { IsBetween p.now me.old }
     requires pieces { (o : Option Told) × (root : Path) × All (IsFilesPiece o root) pieces.items }
@@ -78,35 +87,15 @@ fn give_pieces<R: Wait>(
         kept.new.items me.old me.new }
 {
     for piece in pieces {
-        give_piece(rt, p, me, piece, kept)?;
+        if !give_piece(rt, p, me, piece, kept) {
+            return false;
+        }
     }
-    Ok(())
+    true
 }
 
-// Makes pieces of the files of the lot, if it has any, and gives them on. It is empty then.
-fn give_lot<R: Wait>(
-    rt: &R,
-    alloc: Global,
-    p: &Package<IndexUses>,
-    me: &mut Thread<IndexUses>,
-    root: &str,
-    lot: &mut Lot,
-    kept: &mut Vec<Piece>,
-) -> Result<(), AllocError>
-    requires layout { HasLists p.now.layout }
-    requires between { IsBetween p.now me.old }
-    requires read { (o : Option Told) × AreRead o lot.old.files.items }
-    ensures { (o : Option Told) (m : ℕ) → AreRead o lot.old.files.items → HasPassed o root.now p.now m lot.new.files.items kept.old.items
-        kept.new.items me.old me.new }
-{
-    if lot.is_empty() {
-        return Ok(());
-    }
-    let pieces = pieces_of(alloc, root, lot.taken(alloc))?;
-    give_pieces(rt, p, me, pieces, kept)
-}
-
-// The same; and where memory wants, all workers are to end. It answers whether the thread is to go on.
+// Makes pieces of the files of the lot, if it has any and is full or the last, and gives them on. It is empty then; one that isn't full may
+// grow. Where memory wants, all workers are to end. It answers whether the thread is to go on.
 fn pass_lot<R: Wait>(
     rt: &R,
     alloc: Global,
@@ -115,6 +104,7 @@ fn pass_lot<R: Wait>(
     root: &str,
     lot: &mut Lot,
     kept: &mut Vec<Piece>,
+    last: bool,
 ) -> bool
     requires layout { HasLists p.now.layout }
     requires between { IsBetween p.now me.old }
@@ -122,35 +112,16 @@ fn pass_lot<R: Wait>(
     ensures { (o : Option Told) (m : ℕ) → AreRead o lot.old.files.items → HasPassed o root.now p.now m lot.new.files.items kept.old.items
         kept.new.items me.old me.new }
 {
-    match give_lot(rt, alloc, p, me, root, lot, kept) {
-        Ok(()) => true,
+    if !lot.is_due(last) {
+        return true;
+    }
+    match pieces_of(alloc, root, lot.taken(alloc)) {
+        Ok(pieces) => give_pieces(rt, p, me, pieces, kept),
         Err(_) => {
             cancel(rt, p, me);
             false
         }
     }
-}
-
-// The same with a lot that is full; one that isn't may grow.
-fn pass_full_lot<R: Wait>(
-    rt: &R,
-    alloc: Global,
-    p: &Package<IndexUses>,
-    me: &mut Thread<IndexUses>,
-    root: &str,
-    lot: &mut Lot,
-    kept: &mut Vec<Piece>,
-) -> bool
-    requires layout { HasLists p.now.layout }
-    requires between { IsBetween p.now me.old }
-    requires read { (o : Option Told) × AreRead o lot.old.files.items }
-    ensures { (o : Option Told) (m : ℕ) → AreRead o lot.old.files.items → HasPassed o root.now p.now m lot.new.files.items kept.old.items
-        kept.new.items me.old me.new }
-{
-    if !lot.is_full() {
-        return true;
-    }
-    pass_lot(rt, alloc, p, me, root, lot, kept)
 }
 
 // One turn of a parser: it takes a file's path, reads the file into the lot, and makes pieces of a lot that is full. An error ends its
@@ -168,23 +139,15 @@ fn parse_once<R: Wait, S: Tree>(
     requires layout { HasLists p.now.layout }
     requires between { IsBetween p.now me.old }
     requires read { AreRead (S.tree tree.old) lot.old.files.items }
-    ensures tree_stays { S.tree tree.new ≡ S.tree tree.old }
-    ensures weak_stays { S.may_fail tree.new ≡ S.may_fail tree.old }
-    ensures read { AreRead (S.tree tree.old) lot.new.files.items }
-    ensures kept { All (IsFilesPiece (S.tree tree.old) root.now) kept.old.items
-        → All (IsFilesPiece (S.tree tree.old) root.now) kept.new.items }
-    ensures done { (count : ℕ) (before : Calls) (a : Worker)
-        → HasDone File (S.tree tree.old) root.now (S.may_fail tree.old) count (S.faults tree.old) before
-        (S.calls tree.old) p.now 0 a me.old [] [] None
-        → HasDone File (S.tree tree.old) root.now (S.may_fail tree.old) count (S.faults tree.new) before
-        (S.calls tree.new) p.now 0 a me.new [] [] (fault_of result) }
+    ensures { HasParsed S.tree S.may_fail S.faults S.calls root.now p.now tree.old tree.new lot.new.files.items kept.old.items kept.new.items
+        me.old me.new (fault_of result) }
 {
     let Some(path) = next_file(rt, p, me) else {
         return Err(None);
     };
     match read_one(alloc, tree, path, lot) {
         Ok(()) => {
-            if pass_full_lot(rt, alloc, p, me, root, lot, kept) {
+            if pass_lot(rt, alloc, p, me, root, lot, kept, false) {
                 Ok(())
             } else {
                 Err(None)
@@ -197,12 +160,23 @@ fn parse_once<R: Wait, S: Tree>(
     }
 }
 
-// Says that a parser has ended; the last one shuts the buffer of pieces.
-fn end_pieces<R: Wait>(rt: &R, p: &Package<IndexUses>, me: &mut Thread<IndexUses>)
+// Gives on what is left in the lot, and says that the parser has ended; the last one shuts the buffer of pieces.
+fn end_pieces<R: Wait>(
+    rt: &R,
+    alloc: Global,
+    p: &Package<IndexUses>,
+    me: &mut Thread<IndexUses>,
+    root: &str,
+    lot: &mut Lot,
+    kept: &mut Vec<Piece>,
+)
     requires layout { HasLists p.now.layout }
     requires between { IsBetween p.now me.old }
-    ensures { (o : Option Told) (root : Path) (m : ℕ) → HasCalled o root [] p.now m 0 me.old me.new }
+    requires read { (o : Option Told) × AreRead o lot.old.files.items }
+    ensures { (o : Option Told) (m : ℕ) → AreRead o lot.old.files.items → HasGiven o root.now p.now m kept.old.items kept.new.items me.old
+        me.new }
 {
+    pass_lot(rt, alloc, p, me, root, lot, kept, true);
     if end_parser(rt, p, me) {
         shut_pieces(rt, p, me);
     }
@@ -231,8 +205,7 @@ pub fn parse<R: Wait, S: Tree>(
         match parse_once(rt, alloc, p, me, root, tree, &mut lot, &mut kept) {
             Ok(()) => {}
             Err(fault) => {
-                pass_lot(rt, alloc, p, me, root, &mut lot, &mut kept);
-                end_pieces(rt, p, me);
+                end_pieces(rt, alloc, p, me, root, &mut lot, &mut kept);
                 return Findings {
                     visits: Vec::new(alloc),
                     pieces: kept,

@@ -37,7 +37,7 @@ pub fn names_below(alloc: Global, root: &str, files: &Vec<Text>) -> Result<Vec<S
     let mut names = Vec::with_capacity(alloc, files.len())?;
     for file in files {
         let name = String::from_str(alloc, below(root, file.as_str()))?;
-        names.push(name)?;
+        names.push_reserved(name);
     }
     Ok(names)
 }
@@ -80,8 +80,15 @@ pub fn first_dirs(alloc: Global, root: &str) -> Result<Dirs, AllocError>
 {
     let name = String::from_str(alloc, root)?;
     let mut dirs = Dirs::new(alloc);
-    dirs.insert(name, false)?;
-    Ok(dirs)
+    match dirs.insert(name, false) {
+        Ok(_) => Ok(dirs),
+        Err(failed) => {
+            // The name is dropped by itself, so that no pair is.
+            let (name, _) = failed.value;
+            drop(name);
+            Err(AllocError)
+        }
+    }
 }
 
 // Adds a directory for which there is room.

@@ -1,31 +1,38 @@
-use Rattle.std.proofs.Common.{[], None}
+use Rattle.std.proofs.Common.{[], None, refl}
 use Rattle.firefly_outside.specs.declared.tree.Kind.TheVariants.{File}
 use Rattle.indexer.proofs.Turning.{called_any, still_between}
 use Rattle.indexer.proofs.WalkSteps.{done_on}
 use Rattle.indexer.proofs.parsing.parse_once.Goals as goal
 
-pub pass_full_lot-requires-clause-between : goal.pass_full_lot-requires-clause-between
-pass_full_lot-requires-clause-between g c = still_between None [] [] c.args.p.now c.args.me.now c.next_file.new.me c.requires.between (c.next_file.ensures None []).back
+pub pass_lot-requires-clause-between : goal.pass_lot-requires-clause-between
+pass_lot-requires-clause-between g c = still_between None [] [] c.args.p.now c.args.me.now c.next_file.new.me c.requires.between (c.next_file.ensures None []).back
 
-pub pass_full_lot-requires-clause-read : goal.pass_full_lot-requires-clause-read
-pass_full_lot-requires-clause-read g c = (g.S.Tree.tree c.args.tree.now, c.in-Ok.ensures.read c.requires.read)
+pub pass_lot-requires-clause-read : goal.pass_lot-requires-clause-read
+pass_lot-requires-clause-read g c = (g.S.Tree.tree c.args.tree.now, c.in-Ok.ensures.read c.requires.read)
 
 pub cancel-requires-clause-between : goal.cancel-requires-clause-between
 cancel-requires-clause-between g c = still_between None [] [] c.args.p.now c.args.me.now c.next_file.new.me c.requires.between (c.next_file.ensures None []).back
 
-pub returns-in_default-clause-done : goal.returns-in_default-clause-done
-returns-in_default-clause-done g c = λ count before a h.
+pub returns-in_default : goal.returns-in_default
+returns-in_default g c =
     let S = g.S.Tree in
     let tree = c.args.tree.now in
     let p = c.args.p.now in
     let root = c.args.root.now in
     let o = S.tree tree in
     let me = c.args.me.now in
-    done_on File o root (S.may_fail tree) count before p a 0 (S.faults tree) (S.calls tree) me c.next_file.new.me [] None h
-    (called_any o root [] p 1 1 me c.next_file.new.me (c.next_file.ensures o root))
+    record {
+      tree_stays = refl;
+      weak_stays = refl;
+      read = c.requires.read;
+      kept = λ all. all;
+      done = λ count before a h.
+          done_on File o root (S.may_fail tree) count before p a 0 (S.faults tree) (S.calls tree) me c.next_file.new.me [] None h
+          (called_any o root [] p 1 1 me c.next_file.new.me (c.next_file.ensures o root));
+    }
 
-pub returns-then-pass_full_lot : goal.returns-then-pass_full_lot
-returns-then-pass_full_lot g c =
+pub returns-then-pass_lot : goal.returns-then-pass_lot
+returns-then-pass_lot g c =
     let S = g.S.Tree in
     let tree = c.args.tree.now in
     let after = c.read_one.new.tree in
@@ -37,16 +44,16 @@ returns-then-pass_full_lot g c =
     record {
       tree_stays = c.in-Ok.ensures.done.0;
       weak_stays = c.in-Ok.ensures.done.1;
-      read = (c.pass_full_lot.ensures o 1 read).read;
-      kept = (c.pass_full_lot.ensures o 1 read).given.kept;
+      read = (c.pass_lot.ensures o 1 read).read;
+      kept = (c.pass_lot.ensures o 1 read).given.kept;
       done = λ count before a h.
-          done_on File o root (S.may_fail tree) count before p a 0 (S.faults after) (S.calls after) c.next_file.new.me c.pass_full_lot.new.me [] None
+          done_on File o root (S.may_fail tree) count before p a 0 (S.faults after) (S.calls after) c.next_file.new.me c.pass_lot.new.me [] None
           (c.in-Ok.ensures.done.2 root count before p a c.next_file.new.me (done_on File o root (S.may_fail tree) count before p a 1 (S.faults tree) (S.calls tree) me c.next_file.new.me [] None h (c.next_file.ensures o root)))
-          (c.pass_full_lot.ensures o 1 read).given.called;
+          (c.pass_lot.ensures o 1 read).given.called;
     }
 
-pub returns-else-pass_full_lot : goal.returns-else-pass_full_lot
-returns-else-pass_full_lot g c =
+pub returns-else-pass_lot : goal.returns-else-pass_lot
+returns-else-pass_lot g c =
     let S = g.S.Tree in
     let tree = c.args.tree.now in
     let after = c.read_one.new.tree in
@@ -58,16 +65,16 @@ returns-else-pass_full_lot g c =
     record {
       tree_stays = c.in-Ok.ensures.done.0;
       weak_stays = c.in-Ok.ensures.done.1;
-      read = (c.pass_full_lot.ensures o 1 read).read;
-      kept = (c.pass_full_lot.ensures o 1 read).given.kept;
+      read = (c.pass_lot.ensures o 1 read).read;
+      kept = (c.pass_lot.ensures o 1 read).given.kept;
       done = λ count before a h.
-          done_on File o root (S.may_fail tree) count before p a 0 (S.faults after) (S.calls after) c.next_file.new.me c.pass_full_lot.new.me [] None
+          done_on File o root (S.may_fail tree) count before p a 0 (S.faults after) (S.calls after) c.next_file.new.me c.pass_lot.new.me [] None
           (c.in-Ok.ensures.done.2 root count before p a c.next_file.new.me (done_on File o root (S.may_fail tree) count before p a 1 (S.faults tree) (S.calls tree) me c.next_file.new.me [] None h (c.next_file.ensures o root)))
-          (c.pass_full_lot.ensures o 1 read).given.called;
+          (c.pass_lot.ensures o 1 read).given.called;
     }
 
-pub returns-in-Err-clause-done : goal.returns-in-Err-clause-done
-returns-in-Err-clause-done g c = λ count before a h.
+pub returns-in-Err : goal.returns-in-Err
+returns-in-Err g c =
     let S = g.S.Tree in
     let tree = c.args.tree.now in
     let after = c.read_one.new.tree in
@@ -75,9 +82,13 @@ returns-in-Err-clause-done g c = λ count before a h.
     let root = c.args.root.now in
     let o = S.tree tree in
     let me = c.args.me.now in
-    done_on File o root (S.may_fail tree) count before p a 0 (S.faults after) (S.calls after) c.next_file.new.me c.cancel.new.me [] c.in-Err.fault
-    (c.in-Err.ensures.done.2 root count before p a c.next_file.new.me (done_on File o root (S.may_fail tree) count before p a 1 (S.faults tree) (S.calls tree) me c.next_file.new.me [] None h (c.next_file.ensures o root)))
-    (c.cancel.ensures o root 1)
-
-pub returns-in-Err-clause-read : goal.returns-in-Err-clause-read
-returns-in-Err-clause-read g c = c.in-Err.ensures.read c.requires.read
+    record {
+      tree_stays = c.in-Err.ensures.done.0;
+      weak_stays = c.in-Err.ensures.done.1;
+      read = c.in-Err.ensures.read c.requires.read;
+      kept = λ all. all;
+      done = λ count before a h.
+          done_on File o root (S.may_fail tree) count before p a 0 (S.faults after) (S.calls after) c.next_file.new.me c.cancel.new.me [] c.in-Err.fault
+          (c.in-Err.ensures.done.2 root count before p a c.next_file.new.me (done_on File o root (S.may_fail tree) count before p a 1 (S.faults tree) (S.calls tree) me c.next_file.new.me [] None h (c.next_file.ensures o root)))
+          (c.cancel.ensures o root 1);
+    }
