@@ -10,7 +10,7 @@ use Rattle.nub_rule.proofs.AlertSteps.{swap_alert_keeps}
 use Rattle.nub_rule.proofs.alert.swap_alert.Goals as goal
 
 pub swap-requires-clause-inside : goal.swap-requires-clause-inside
-swap-requires-clause-inside g c κs within = let i = c.me.invariant in let traces : c.p.inside.table.shared.key.traced ≡ c.args.p.now.traced = ap (λ s. s.traced) c.p.view_is in (let low = i.few in let e = c.alert_word.ensures in omega arith)
+swap-requires-clause-inside g c κs within = let low = c.me.invariant.few in let e = c.alert_word.ensures in omega arith
 
 pub swap-requires-clause-allowed : goal.swap-requires-clause-allowed
 swap-requires-clause-allowed g c κs within = let i = c.me.invariant in let traces : c.p.inside.table.shared.key.traced ≡ c.args.p.now.traced = ap (λ s. s.traced) c.p.view_is in swap_alert_keeps _ _ _ _ _ _ _ _ c.me.inside.seat.me (c.alert_word.ensures ∙ ap alert_at (sym i.numbered)) (subst (λ (k : ℕ). k < most_threads) (sym i.numbered) i.few) i.member (ap (λ k. k.wait) c.me.view_is ∙ c.requires.outside)

@@ -10,7 +10,7 @@ use Rattle.nub_rule.proofs.AlertSteps.{swap_alert_in_p_keeps}
 use Rattle.nub_rule.proofs.alert.swap_alert_in_p.Goals as goal
 
 pub fetch_and-requires-clause-inside : goal.fetch_and-requires-clause-inside
-fetch_and-requires-clause-inside g c κs within = let i = c.me.invariant in let traces : c.p.inside.table.shared.key.traced ≡ c.args.p.now.traced = ap (λ s. s.traced) c.p.view_is in (let low = i.few in let e = c.alert_word.ensures in omega arith)
+fetch_and-requires-clause-inside g c κs within = let low = c.me.invariant.few in let e = c.alert_word.ensures in omega arith
 
 pub fetch_and-requires-clause-allowed : goal.fetch_and-requires-clause-allowed
 fetch_and-requires-clause-allowed g c κs within = let i = c.me.invariant in let traces : c.p.inside.table.shared.key.traced ≡ c.args.p.now.traced = ap (λ s. s.traced) c.p.view_is in swap_alert_in_p_keeps _ _ _ _ _ _ _ c.args.s.0 _ _ c.me.inside.seat.me (c.alert_word.ensures ∙ ap alert_at (sym i.numbered)) refl (search rules) (subst (λ (k : ℕ). k < most_threads) (sym i.numbered) i.few) i.member

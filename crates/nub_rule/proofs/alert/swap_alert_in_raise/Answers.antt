@@ -11,7 +11,7 @@ use Rattle.nub_rule.proofs.RaiseSteps.{swap_alert_in_raise_keeps}
 use Rattle.nub_rule.proofs.alert.swap_alert_in_raise.Goals as goal
 
 pub swap-requires-clause-inside : goal.swap-requires-clause-inside
-swap-requires-clause-inside g c κs within = let i = c.me.invariant in let x = c.requires.waits in let traces : c.p.inside.table.shared.key.traced ≡ c.args.p.now.traced = ap (λ s. s.traced) c.p.view_is in (let low = i.few in let e = c.alert_word.ensures in omega arith)
+swap-requires-clause-inside g c κs within = let low = c.me.invariant.few in let e = c.alert_word.ensures in omega arith
 
 pub swap-requires-clause-allowed : goal.swap-requires-clause-allowed
 swap-requires-clause-allowed g c κs within = let i = c.me.invariant in let x = c.requires.waits in let traces : c.p.inside.table.shared.key.traced ≡ c.args.p.now.traced = ap (λ s. s.traced) c.p.view_is in swap_alert_in_raise_keeps _ _ _ _ _ _ _ c.args.m.0 c.args.c.0 c.me.inside.seat.me _ x.0 c.requires.has.0 (c.alert_word.ensures ∙ ap alert_at (sym i.numbered)) (subst (λ (k : ℕ). k < most_threads) (sym i.numbered) i.few) i.member (search rules)

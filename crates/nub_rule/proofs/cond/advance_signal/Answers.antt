@@ -29,8 +29,7 @@ set_behind-left-requires g c = let a = at_hand g (goal.at.set_behind-left-requir
     (c.me.inside.seat.me.0.part.queue, same_slot (cond_object c.args.c.0) _ _ _ _ c.slot_mut.ensures.value a.first, subst (Small most_threads) (ap (λ k. k.queue) (sym c.me.view_is)) c.requires.small)
 
 pub fetch_add-count-requires-clause-inside : goal.fetch_add-count-requires-clause-inside
-fetch_add-count-requires-clause-inside g c κs within = let near = cond_low _ _ _ _ c.p.view_is c.p.invariant.laid_out c.p.invariant.lawful c.args.c.0 c.requires.named in let word = c.count_word.ensures in let traces : c.p.inside.table.shared.key.traced ≡ c.args.p.now.traced = ap (λ s. s.traced) c.p.view_is in
-    let same = c.bring.ensures.same.2 in let e = ap (λ v. v.part) same in omega arith
+fetch_add-count-requires-clause-inside g c κs within = let near = cond_low _ _ _ _ c.p.view_is c.p.invariant.laid_out c.p.invariant.lawful c.args.c.0 c.requires.named in let word = c.count_word.ensures in omega arith
 
 pub fetch_add-count-requires-clause-allowed : goal.fetch_add-count-requires-clause-allowed
 fetch_add-count-requires-clause-allowed g c κs within = let near = cond_low _ _ _ _ c.p.view_is c.p.invariant.laid_out c.p.invariant.lawful c.args.c.0 c.requires.named in let word = c.count_word.ensures in let traces : c.p.inside.table.shared.key.traced ≡ c.args.p.now.traced = ap (λ s. s.traced) c.p.view_is in

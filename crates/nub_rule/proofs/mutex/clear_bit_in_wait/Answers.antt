@@ -20,7 +20,7 @@ pub bring-requires-clause-there : goal.bring-requires-clause-there
 bring-requires-clause-there g c = let m : ℕ = c.args.m.0 in let has = subst (λ k. MayGive g.U.Uses.allows g.C.Change.after m k) (sym c.me.view_is) c.requires.may in let there = value-found m (Some has.1) c.me.inside.seat.me.1 has.3 in (Value (Some has.1), there)
 
 pub swap-requires-clause-inside : goal.swap-requires-clause-inside
-swap-requires-clause-inside g c κs within = let word = c.mutex_bit.ensures in let near = mutex_low _ _ _ _ c.p.view_is c.p.invariant.laid_out c.p.invariant.lawful c.args.m.0 c.requires.named in let m : ℕ = c.args.m.0 in let i = c.me.invariant in let h = i.hands in let b = c.bring.ensures in let same = b.same.2 in let e = ap (λ v. v.part) same in omega arith
+swap-requires-clause-inside g c κs within = let near = mutex_low _ _ _ _ c.p.view_is c.p.invariant.laid_out c.p.invariant.lawful c.args.m.0 c.requires.named in let word = c.mutex_bit.ensures in omega arith
 
 pub swap-requires-clause-allowed : goal.swap-requires-clause-allowed
 swap-requires-clause-allowed g c κs within = let word = c.mutex_bit.ensures in let near = mutex_low _ _ _ _ c.p.view_is c.p.invariant.laid_out c.p.invariant.lawful c.args.m.0 c.requires.named in let m : ℕ = c.args.m.0 in let i = c.me.invariant in let h = i.hands in let b = c.bring.ensures in let same = b.same.2 in let e = ap (λ v. v.part) same in clear_bit_in_wait_keeps _ _ _ _ _ g.U.Uses.allows (g.U.Uses.holds_after _) g.C.Change.after _ _ m c.requires.waits.0 c.bring.new.seat.me _ word (search rules) (ap (λ v. v.kind) same ∙ i.member) (ap (λ p. p.wait) e ∙ (ap (λ k. k.wait) c.me.view_is ∙ c.requires.waits.1)) c.requires.waits.2 (ap (λ p. p.stand) e ∙ (ap (λ k. k.stand) c.me.view_is ∙ c.requires.outside))

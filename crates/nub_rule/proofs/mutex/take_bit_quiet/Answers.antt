@@ -17,8 +17,7 @@ use Rattle.nub_rule.proofs.WaitSteps.{take_bit_quiet_keeps}
 use Rattle.nub_rule.proofs.mutex.take_bit_quiet.Goals as goal
 
 pub compare_exchange-found-requires-clause-inside : goal.compare_exchange-found-requires-clause-inside
-compare_exchange-found-requires-clause-inside g c κs within = let near = mutex_low _ _ _ _ c.p.view_is c.p.invariant.laid_out c.p.invariant.lawful c.args.m.0 c.requires.named in let m : ℕ = c.args.m.0 in let x = c.requires.waits in
-    let word = c.mutex_bit.ensures in omega arith
+compare_exchange-found-requires-clause-inside g c κs within = let near = mutex_low _ _ _ _ c.p.view_is c.p.invariant.laid_out c.p.invariant.lawful c.args.m.0 c.requires.named in let word = c.mutex_bit.ensures in omega arith
 
 pub compare_exchange-found-requires-clause-allowed : goal.compare_exchange-found-requires-clause-allowed
 compare_exchange-found-requires-clause-allowed g c κs within = let near = mutex_low _ _ _ _ c.p.view_is c.p.invariant.laid_out c.p.invariant.lawful c.args.m.0 c.requires.named in let m : ℕ = c.args.m.0 in let x = c.requires.waits in

@@ -12,8 +12,7 @@ use Rattle.nub_rule.proofs.QueueSteps.{read_length_keeps}
 use Rattle.nub_rule.proofs.queue.read_length.Goals as goal
 
 pub load-requires-clause-inside : goal.load-requires-clause-inside
-load-requires-clause-inside g c κs within = let low = object_low _ _ _ _ c.p.view_is c.p.invariant.laid_out c.p.invariant.lawful c.args.at c.requires.named in let word = c.length_word.ensures in
-    omega arith
+load-requires-clause-inside g c κs within = let low = object_low _ _ _ _ c.p.view_is c.p.invariant.laid_out c.p.invariant.lawful c.args.at c.requires.named in let word = c.length_word.ensures in omega arith
 
 pub load-requires-clause-allowed : goal.load-requires-clause-allowed
 load-requires-clause-allowed g c κs within = let low = object_low _ _ _ _ c.p.view_is c.p.invariant.laid_out c.p.invariant.lawful c.args.at c.requires.named in let word = c.length_word.ensures in

@@ -16,8 +16,7 @@ use Rattle.nub_rule.proofs.SemSteps.{by-alertable, by-plain, try_p_keeps}
 use Rattle.nub_rule.proofs.sem.try_p.Goals as goal
 
 pub compare_exchange-requires-clause-inside : goal.compare_exchange-requires-clause-inside
-compare_exchange-requires-clause-inside g c κs within = let near = sem_low _ _ _ _ c.p.view_is c.p.invariant.laid_out c.p.invariant.lawful c.args.s.0 c.requires.named in let s : ℕ = c.args.s.0 in let traces : c.p.inside.table.shared.key.traced ≡ c.args.p.now.traced = ap (λ s. s.traced) c.p.view_is in
-    let word = c.semaphore_bit-bit.ensures in omega arith
+compare_exchange-requires-clause-inside g c κs within = let near = sem_low _ _ _ _ c.p.view_is c.p.invariant.laid_out c.p.invariant.lawful c.args.s.0 c.requires.named in let word = c.semaphore_bit-bit.ensures in omega arith
 
 pub compare_exchange-requires-clause-allowed : goal.compare_exchange-requires-clause-allowed
 compare_exchange-requires-clause-allowed g c κs within = let near = sem_low _ _ _ _ c.p.view_is c.p.invariant.laid_out c.p.invariant.lawful c.args.s.0 c.requires.named in let s : ℕ = c.args.s.0 in let traces : c.p.inside.table.shared.key.traced ≡ c.args.p.now.traced = ap (λ s. s.traced) c.p.view_is in
@@ -40,8 +39,7 @@ pub returns-in-AlertPReturn-clause-won : goal.returns-in-AlertPReturn-clause-won
 returns-in-AlertPReturn-clause-won g c = let s : ℕ = c.args.s.0 in λ hit. as_known (λ z m a. let k = known_as z c.me.inside.number m c.me.inside.entries.items c.me.inside.lost c.me.inside.next in k ≡ record a { seen = k.seen; mine = k.mine; places = k.places; failed = without (sem_object s) a.failed; turns = without (sem_object s) a.turns; pen = made a.pen }) _ _ _ _ _ c.me.inside.seat.me _ _ _ c.me.view_is c.compare_exchange.ensures.0 ((c.compare_exchange.ensures.2 s c.semaphore_bit-bit.ensures).0 hit).2 refl
 
 pub compare_exchange-requires-in_default-clause-inside : goal.compare_exchange-requires-in_default-clause-inside
-compare_exchange-requires-in_default-clause-inside g c κs within = let near = sem_low _ _ _ _ c.p.view_is c.p.invariant.laid_out c.p.invariant.lawful c.args.s.0 c.requires.named in let s : ℕ = c.args.s.0 in let traces : c.p.inside.table.shared.key.traced ≡ c.args.p.now.traced = ap (λ s. s.traced) c.p.view_is in
-    let word = c.semaphore_bit-bit.ensures in omega arith
+compare_exchange-requires-in_default-clause-inside g c κs within = let near = sem_low _ _ _ _ c.p.view_is c.p.invariant.laid_out c.p.invariant.lawful c.args.s.0 c.requires.named in let word = c.semaphore_bit-bit.ensures in omega arith
 
 pub compare_exchange-requires-in_default-clause-allowed : goal.compare_exchange-requires-in_default-clause-allowed
 compare_exchange-requires-in_default-clause-allowed g c κs within = let near = sem_low _ _ _ _ c.p.view_is c.p.invariant.laid_out c.p.invariant.lawful c.args.s.0 c.requires.named in let s : ℕ = c.args.s.0 in let traces : c.p.inside.table.shared.key.traced ≡ c.args.p.now.traced = ap (λ s. s.traced) c.p.view_is in

@@ -16,8 +16,7 @@ use Rattle.nub_rule.proofs.Turns.{find-else}
 use Rattle.nub_rule.proofs.spin.take_spin.Goals as goal
 
 pub compare_exchange-found-requires-clause-inside : goal.compare_exchange-found-requires-clause-inside
-compare_exchange-found-requires-clause-inside g c κs within = let low = object_low _ _ _ _ c.p.view_is c.p.invariant.laid_out c.p.invariant.lawful c.args.at c.requires.named in let is = c.number-o.ensures in
-    let word = c.spin_word.ensures in omega arith
+compare_exchange-found-requires-clause-inside g c κs within = let low = object_low _ _ _ _ c.p.view_is c.p.invariant.laid_out c.p.invariant.lawful c.args.at c.requires.named in let word = c.spin_word.ensures in omega arith
 
 pub compare_exchange-found-requires-clause-allowed : goal.compare_exchange-found-requires-clause-allowed
 compare_exchange-found-requires-clause-allowed g c κs within = let low = object_low _ _ _ _ c.p.view_is c.p.invariant.laid_out c.p.invariant.lawful c.args.at c.requires.named in let is = c.number-o.ensures in

@@ -1,4 +1,4 @@
-use Rattle.std.proofs.Common.{◌≡◌, rules, arith, ap, sym, ◌∙◌}
+use Rattle.std.proofs.Common.{◌≡◌, rules, arith, ap, sym, ◌∙◌, vec_capacity}
 use Rattle.nub_rule.proofs.Ends.{first_fits}
 use Rattle.nub_rule.proofs.Seats.{splits}
 use Rattle.nub_rule.proofs.whole.cut.Goals as goal
@@ -15,4 +15,7 @@ invariant_of-result g c =
     let wide = c.p.invariant.slots in
     let few = c.p.invariant.lawful.threads in
     let below = c.requires.next.1 in
-    first_fits g.U.Uses.begin c.args.root.now.me.0 _ c.split_off-seat.result.me c.args.number c.new.result _ _ c.split_off-seat.ensures.seat.1 c.requires.next.0 c.new.ensures c.requires.empty.1 (λ z. let r = c.requires.room z in omega arith) (omega arith)
+    first_fits g.U.Uses.begin c.args.root.now.me.0 _ c.split_off-seat.result.me c.args.number c.new-hand.result _ _ c.split_off-seat.ensures.seat.1 c.requires.next.0 c.new-hand.ensures (ap (λ v. v.items) c.replace-own.ensures.value ∙ c.requires.empty) (λ z. let m = ap (λ v. vec_capacity v) c.replace-own.ensures.value in let r = c.requires.room z in omega arith) (omega arith)
+
+pub returns-clause-empty : goal.returns-clause-empty
+returns-clause-empty g c = ap (λ v. v.items) c.replace-own.ensures.after ∙ c.new-none.ensures.items
