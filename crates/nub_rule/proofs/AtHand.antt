@@ -17,8 +17,8 @@ use Rattle.nub_rule.specs.Places.{most_threads, queue_at, value_at}
 use Rattle.nub_rule.specs.Plays.{Sat, with_part, Grows}
 use Rattle.nub_rule.specs.Slots.{find, IsDistinct, Below}
 use Rattle.nub_rule.proofs.Each.{at_within}
-use Rattle.nub_rule.proofs.Handling.{Refilled, refilled, values-same, values-set, value-found, hands-queue, hands-value}
-use Rattle.nub_rule.proofs.Seen.{fit_moved}
+use Rattle.nub_rule.proofs.Handling.{Refilled, refilled, values-same, values-set, value-found, hands-queue, hands-same, hands-value}
+use Rattle.nub_rule.proofs.Seen.{fit_moved, fit_still}
 use Rattle.nub_rule.proofs.Turns.{keys}
 
 module _ {T H W : Type 0} where
@@ -57,6 +57,12 @@ module _ {T H W : Type 0} where
   -- and after a step that changed the part alone
   pub noted : (f : ℕ → Part T H → Part T H) (z z' : TableId) (n : ℕ) (es : List Entry) (lo : Bool) {nx : ℕ} (me me' : Sat T H W) (a : Known T H W) → known_as z n me es lo nx ≡ a → z' ≡ z → me' ≡ (with_part me.0 (f n me.0.part), me.1) → known_as z' n me' es lo nx ≡ changed a (f a.number (part_of a)) a.values
   noted f z z' n es lo me me' a v ez em = seen_as f (λ vs. vs) z z' n es lo me me' me.1 a v ez em refl
+
+  -- the thread is one still after a step that changed neither what it has nor where it stands
+  pub fit_noted : (z z' : TableId) (n : ℕ) (hand : List ℕ) (me me' : Sat T H W) (q : Part T H) {kept : List T} {room : ℕ} → z' ≡ z → me' ≡ (with_part me.0 q, me.1) → IsThread z n hand me kept room
+      → q.held ≡ me.0.part.held → q.spin ≡ me.0.part.spin → q.queue ≡ me.0.part.queue → q.owed ≡ me.0.part.owed → q.stand ≡ me.0.part.stand → IsThread z' n hand me' kept room
+  fit_noted z z' n hand me me' q ez em i eh es eq eo et = let h = i.hands in fit_still z z' n hand me me' q ez em i (ap length eh) (hands-same me.0.part q me.1 me.1 (λ k. refl) es eq eh
+      (λ o there nowhere. subst (λ (l : List ℕ). length l < 64) (sym eq) (h.room o (sym es ∙ there) (sym et ∙ nowhere))) (λ none. eo ∙ h.settled (sym es ∙ none)) h)
 
   -- the thread is one still, and contracts see it with its part changed by f and its values by h
   pub record After (f : ℕ → Part T H → Part T H) (h : List (Opt (Opt T)) → List (Opt (Opt T))) (z z' : TableId) (n : ℕ) (hand : List ℕ) (me me' : Sat T H W) (kept : List T) (room : ℕ) : Type 0 where

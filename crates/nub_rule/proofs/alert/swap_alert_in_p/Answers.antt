@@ -4,8 +4,8 @@ use Rattle.nub_rule.specs.Known.{known_as, Makes}
 use Rattle.nub_rule.specs.Parts.{made, MayTell}
 use Rattle.nub_rule.specs.Places.{alert_at, most_threads}
 use Rattle.nub_rule.specs.Plays.{Grows, alert_p_raise_event}
-use Rattle.nub_rule.proofs.Handling.{hands-same}
-use Rattle.nub_rule.proofs.Seen.{as_known, fit_still}
+use Rattle.nub_rule.proofs.Seen.{as_known}
+use Rattle.nub_rule.proofs.AtHand.{fit_noted}
 use Rattle.nub_rule.proofs.AlertSteps.{swap_alert_in_p_keeps}
 use Rattle.nub_rule.proofs.alert.swap_alert_in_p.Goals as goal
 
@@ -17,7 +17,7 @@ fetch_and-requires-clause-allowed g c κs within = let i = c.me.invariant in let
     (ap (λ k. k.wait) c.me.view_is ∙ c.requires.outside.0) (ap (λ k. k.alerted) c.me.view_is ∙ c.requires.alerted) (subst (λ (z : Bool × Pen). MayTell z.0 z.1) (λ j. (sym traces j, ap (λ k. k.pen) (sym c.me.view_is) j)) c.requires.pen)
 
 pub invariant_of-me : goal.invariant_of-me
-invariant_of-me g c = let i = c.me.invariant in let h = i.hands in fit_still _ _ c.me.inside.number c.me.inside.hand c.me.inside.seat.me _ _ c.fetch_and.ensures.0 (c.fetch_and.ensures.2 c.args.s.0 refl).3 i refl (hands-same c.me.inside.seat.me.0.part _ c.me.inside.seat.me.1 _ (λ k. refl) refl refl refl h.room h.settled h)
+invariant_of-me g c = let i = c.me.invariant in fit_noted _ _ c.me.inside.number c.me.inside.hand c.me.inside.seat.me _ _ c.fetch_and.ensures.0 (c.fetch_and.ensures.2 c.args.s.0 refl).3 i refl refl refl refl refl
 
 pub returns-clause-found : goal.returns-clause-found
 returns-clause-found g c = (c.fetch_and.ensures.2 c.args.s.0 refl).0

@@ -4,8 +4,8 @@ use Rattle.nub_rule.specs.Known.{known_as, Makes}
 use Rattle.nub_rule.specs.Parts.{made, MayTell}
 use Rattle.nub_rule.specs.Plays.{Grows, event, broadcast_action}
 use Rattle.nub_rule.proofs.Naming.{cond_low}
-use Rattle.nub_rule.proofs.Handling.{hands-same}
-use Rattle.nub_rule.proofs.Seen.{as_known, fit_still}
+use Rattle.nub_rule.proofs.Seen.{as_known}
+use Rattle.nub_rule.proofs.AtHand.{fit_noted}
 use Rattle.nub_rule.proofs.CondSteps.{advance_broadcast_keeps}
 use Rattle.nub_rule.proofs.cond.advance_broadcast.Goals as goal
 
@@ -17,8 +17,8 @@ fetch_add-requires-clause-allowed g c κs within = let near = cond_low _ _ _ _ c
     (subst (λ (z : ℕ). z < 18446744073709551615) (ap (λ k. k.count) (sym c.me.view_is)) c.requires.room) (subst (λ (z : Bool × Pen). MayTell z.0 z.1) (λ j. (sym traces j, ap (λ k. k.pen) (sym c.me.view_is) j)) c.requires.pen)
 
 pub invariant_of-me : goal.invariant_of-me
-invariant_of-me g c = let i = c.me.invariant in let h = i.hands in let u = c.fetch_add.ensures.2 c.args.c.0 c.count_word.ensures in
-    fit_still _ _ c.me.inside.number c.me.inside.hand c.me.inside.seat.me _ _ c.fetch_add.ensures.0 u.4 i refl (hands-same c.me.inside.seat.me.0.part _ c.me.inside.seat.me.1 _ (λ k. refl) refl refl refl h.room h.settled h)
+invariant_of-me g c = let i = c.me.invariant in let u = c.fetch_add.ensures.2 c.args.c.0 c.count_word.ensures in
+    fit_noted _ _ c.me.inside.number c.me.inside.hand c.me.inside.seat.me _ _ c.fetch_add.ensures.0 u.4 i refl refl refl refl refl
 
 pub returns-clause-count : goal.returns-clause-count
 returns-clause-count g c = (c.fetch_add.ensures.2 c.args.c.0 c.count_word.ensures).0 ∙ ap (λ k. k.count) c.me.view_is

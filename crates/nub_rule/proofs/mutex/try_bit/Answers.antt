@@ -6,9 +6,9 @@ use Rattle.nub_rule.specs.Known.{known_as, Makes}
 use Rattle.nub_rule.specs.Parts.{made}
 use Rattle.nub_rule.specs.Places.{value_at}
 use Rattle.nub_rule.proofs.Naming.{mutex_low}
-use Rattle.nub_rule.proofs.Handling.{values-set, value-there, hands-same, hands-won}
-use Rattle.nub_rule.proofs.AtHand.{noted}
-use Rattle.nub_rule.proofs.Seen.{as_known, fit_still, fit_moved}
+use Rattle.nub_rule.proofs.Handling.{values-set, value-there, hands-won}
+use Rattle.nub_rule.proofs.AtHand.{noted, fit_noted}
+use Rattle.nub_rule.proofs.Seen.{as_known, fit_moved}
 use Rattle.std.proofs.Common.{Bool}
 use Rattle.std.specs.Prelude.{Option as Opt}
 use mathlib.Core.Option.{some}
@@ -45,7 +45,7 @@ invariant_of-me g c = let near = mutex_low _ _ _ _ c.p.view_is c.p.invariant.lai
     (hands-won c.me.inside.seat.me.0.part _ c.me.inside.seat.me.1 ((value_at m, Value (Some u.0)) ∷ c.me.inside.seat.me.1) m u.0 near i.wide refl refl out refl refl h)
 
 pub invariant_of-me-else-found-eq0 : goal.invariant_of-me-else-found-eq0
-invariant_of-me-else-found-eq0 g c = let m : ℕ = c.args.m.0 in let i = c.me.invariant in let h = i.hands in fit_still _ _ c.me.inside.number c.me.inside.hand c.me.inside.seat.me _ _ c.compare_exchange-found.ensures.0 ((c.compare_exchange-found.ensures.2 m c.mutex_bit.ensures).1 c.if-found-eq0.false) i refl (hands-same c.me.inside.seat.me.0.part _ c.me.inside.seat.me.1 _ (λ k. refl) refl refl refl h.room h.settled h)
+invariant_of-me-else-found-eq0 g c = let m : ℕ = c.args.m.0 in let i = c.me.invariant in fit_noted _ _ c.me.inside.number c.me.inside.hand c.me.inside.seat.me _ _ c.compare_exchange-found.ensures.0 ((c.compare_exchange-found.ensures.2 m c.mutex_bit.ensures).1 c.if-found-eq0.false) i refl refl refl refl refl
 
 pub returns-then-found-eq0-clause-event : goal.returns-then-found-eq0-clause-event
 returns-then-found-eq0-clause-event g c = let m : ℕ = c.args.m.0 in let i = c.me.invariant in let u = (c.compare_exchange-found.ensures.2 m c.mutex_bit.ensures).0 c.if-found-eq0.true in let is_event = sym (by_taking c.me.inside.seat.me.0.number m c.me.inside.seat.me.0.part.wait c.args.e (subst (λ (z : ℕ × Opt Wait). MayTake z.0 m z.1 c.args.e) (λ j. ((sym (c.me.invariant.numbered ∙ ap (λ k. k.number) c.me.view_is)) j, ap (λ k. k.wait) (sym c.me.view_is) j)) c.requires.may)) in

@@ -3,12 +3,12 @@ use Rattle.nub_rule.specs.Known.{known_as, Makes}
 use Rattle.nub_rule.specs.Parts.{made}
 use Rattle.nub_rule.specs.Places.{sem_object}
 use Rattle.nub_rule.proofs.Naming.{sem_low}
-use Rattle.nub_rule.proofs.Handling.{hands-same}
-use Rattle.nub_rule.proofs.Seen.{as_known, fit_still}
+use Rattle.nub_rule.proofs.Seen.{as_known}
 use Rattle.std.proofs.Common.{Bool}
 use Rattle.nub_rule.specs.declared.view.Pen.{Pen}
 use Rattle.nub_rule.specs.Parts.{MayTell}
 use Rattle.nub_rule.specs.Plays.{Grows, v_event}
+use Rattle.nub_rule.proofs.AtHand.{fit_noted}
 use Rattle.nub_rule.proofs.SemSteps.{clear_sem_keeps}
 use Rattle.nub_rule.proofs.sem.clear_sem.Goals as goal
 
@@ -20,7 +20,7 @@ swap-requires-clause-allowed g c κs within = let near = sem_low _ _ _ _ c.p.vie
     let word = c.semaphore_bit.ensures in clear_sem_keeps _ _ _ _ _ _ _ s c.me.inside.seat.me _ word near (search rules) c.me.invariant.member (ap (λ k. k.wait) c.me.view_is ∙ c.requires.outside.0) (ap (λ k. k.stand) c.me.view_is ∙ c.requires.outside.1) (subst (λ (z : Bool × Pen). MayTell z.0 z.1) (λ j. (sym traces j, ap (λ k. k.pen) (sym c.me.view_is) j)) c.requires.pen)
 
 pub invariant_of-me : goal.invariant_of-me
-invariant_of-me g c = let s : ℕ = c.args.s.0 in let i = c.me.invariant in let h = i.hands in fit_still _ _ c.me.inside.number c.me.inside.hand c.me.inside.seat.me _ _ c.swap.ensures.0 ((c.swap.ensures.2 s c.semaphore_bit.ensures).3) i refl (hands-same c.me.inside.seat.me.0.part _ c.me.inside.seat.me.1 _ (λ k. refl) refl refl refl h.room h.settled h)
+invariant_of-me g c = let s : ℕ = c.args.s.0 in let i = c.me.invariant in fit_noted _ _ c.me.inside.number c.me.inside.hand c.me.inside.seat.me _ _ c.swap.ensures.0 ((c.swap.ensures.2 s c.semaphore_bit.ensures).3) i refl refl refl refl refl
 
 pub returns-clause-event : goal.returns-clause-event
 returns-clause-event g c = let s : ℕ = c.args.s.0 in let i = c.me.invariant in let u = (c.swap.ensures.2 s c.semaphore_bit.ensures) in

@@ -1,4 +1,8 @@
-use Rattle.std.proofs.Common.{◌≡◌, rules, arith, ap, sym, ◌∙◌, vec_capacity}
+use Rattle.std.proofs.Common.{◌≡◌, [], false, rules, arith, ap, sym, ◌∙◌, vec_capacity}
+use Rattle.nub_rule.specs.declared.view.Kind.TheVariants.{Member}
+use Rattle.nub_rule.specs.Known.{known_as}
+use Rattle.nub_rule.specs.Parts.{fresh}
+use Rattle.nub_rule.specs.Rule.{begun}
 use Rattle.nub_rule.proofs.Ends.{first_fits}
 use Rattle.nub_rule.proofs.Seats.{splits}
 use Rattle.nub_rule.proofs.whole.cut.Goals as goal
@@ -19,3 +23,8 @@ invariant_of-result g c =
 
 pub returns-clause-empty : goal.returns-clause-empty
 returns-clause-empty g c = ap (λ v. v.items) c.replace-own.ensures.after ∙ c.new-none.ensures.items
+
+pub returns-clause-thread : goal.returns-clause-thread
+returns-clause-thread g c = let s = c.split_off-seat.ensures.seat in
+    (λ j. known_as (s.0 j) c.args.number (s.1 j) (c.new-entries.ensures.items j) false 0)
+    ∙ (λ j. known_as c.args.root.now.table_id c.args.number (record { world = c.requires.world j; kind = Member; number = 0; part = fresh (begun g.U.Uses.begin (c.requires.next.0 j) (c.requires.world j)); next = 0; back = [] }, []) [] false 0)
