@@ -11,8 +11,10 @@ use Rattle.nub_rule.specs.declared.package.Entry.{Entry}
 use Rattle.nub_rule.specs.declared.rule.Slot.{Slot}
 use Rattle.nub_rule.specs.declared.rule.Slot.TheVariants.{Value, Queue}
 use Rattle.nub_rule.specs.declared.view.Part.{Part}
+use Rattle.nub_rule.specs.declared.view.View.{View}
 use Rattle.nub_rule.specs.Items.{line_of}
-use Rattle.nub_rule.specs.Known.{Known, known_as, part_of, values_of, value_in, IsThread, Makes}
+use Rattle.nub_rule.specs.Parts.{Got}
+use Rattle.nub_rule.specs.Known.{Known, known_as, part_of, values_of, value_in, IsThread, Makes, PicksShare}
 use Rattle.nub_rule.specs.Places.{most_threads, queue_at, value_at}
 use Rattle.nub_rule.specs.Plays.{Sat, with_part, told, Grows}
 use Rattle.nub_rule.specs.Slots.{find, IsDistinct, Below, behind_first}
@@ -167,6 +169,24 @@ module _ {T H W : Type 0} where
       (hands-freed front.0.part q front.1 (rest front.1) m s near wide d first refl eh es eq est eo
       (hands-same me.0.part front.0.part me.1 front.1 found (ap (λ x. x.spin) p) (ap (λ x. x.queue) p) (ap (λ x. x.held) p)
       (λ k there nowhere. subst (λ (l : List ℕ). length l < 64) (ap (λ x. x.queue) (sym p)) (h.room k (ap (λ x. x.spin) (sym p) ∙ there) (ap (λ x. x.stand) (sym p) ∙ nowhere))) (λ none. ap (λ x. x.owed) p ∙ h.settled (ap (λ x. x.spin) (sym p) ∙ none)) h))
+
+  -- the event that a step told after a slot was brought to the front, by the number and the queue of its thread
+  pub told_after : (e : ℕ → List ℕ → Event) (f : Part T H → Part T H) (u : List Event) (z z' : TableId) (n : ℕ) (es : List Entry) (lo : Bool) {nx : ℕ} (me me' : Sat T H W) (front : View T H W) (ds : List (ℕ × Slot T)) (a : Known T H W) → known_as z n me es lo nx ≡ a → z' ≡ z → front ≡ me.0 → me.0.number ≡ n
+      → Grows front.number front.part u (e front.number front.part.queue) → me' ≡ (with_part front (f (told front.part (front.part.seen ++ u) (e front.number front.part.queue))), ds)
+      → ((q : Part T H) → (f q).seen ≡ q.seen) → ((q : Part T H) → (f q).mine ≡ q.mine) → ((q : Part T H) → (f q).places ≡ q.places) → Makes (e a.number a.queue) a (known_as z' n me' es lo nx)
+  told_after e f u z z' n es lo me me' front ds a v ez same num grows em seen mine places =
+      let w = subst (λ (x : View T H W). Grows x.number x.part u (e x.number x.part.queue) × (me' ≡ (with_part x (f (told x.part (x.part.seen ++ u) (e x.number x.part.queue))), ds))) same (grows, em) in
+      let q = told me.0.part (me.0.part.seen ++ u) (e me.0.number me.0.part.queue) in
+      let is : e me.0.number me.0.part.queue ≡ e a.number a.queue = λ j. e ((num ∙ ap (λ k. k.number) v) j) (ap (λ k. k.queue) v j) in
+      makes_as (e a.number a.queue) u z z' n es lo me me' (f q) ds a v ez w.1 (subst (λ (t : ℕ × Event). Grows t.0 me.0.part u t.1) (λ j. (num j, is j)) w.0)
+      (seen q ∙ (λ j. (me.0.part.seen ++ u) ++ is j ∷ [])) (mine q ∙ (λ j. me.0.part.mine ++ is j ∷ [])) (places q)
+
+  -- the share that was picked with a value that was given back
+  pub freed_share : (after : W → ℕ → ℕ → T → T → H → H) (m : ℕ) (share : Opt H) (z z' : TableId) (n : ℕ) (es : List Entry) (lo : Bool) {nx : ℕ} (me front me' : Sat T H W) (q : Part T H) (ds : List (ℕ × Slot T)) (a : Known T H W) → known_as z n me es lo nx ≡ a → front.0 ≡ me.0 → me.0.number ≡ n
+      → ((y : T) → find (value_at m) me.1 ≡ Some (Value (Some y)) → front.1 ≡ (value_at m, Value (Some y)) ∷ rest front.1) → me' ≡ (with_part front.0 q, ds) → q.share ≡ share
+      → ((w : W) (s : H) (x y : T) → front.0.world ≡ Some w → front.0.part.share ≡ Some s → Got front.0.part m x → front.1 ≡ (value_at m, Value (Some y)) ∷ rest front.1 → share ≡ Some (after w m front.0.number x y s)) → PicksShare after m a (known_as z' n me' es lo nx)
+  freed_share after m share z z' n es lo me front me' q ds a v same num first em eq tells w s x y world had got there = ap (λ t. t.0.part.share) em ∙ (eq ∙ (tells w s x y (ap (λ u. u.world) same ∙ (ap (λ k. k.world) v ∙ world)) (ap (λ u. u.part.share) same ∙ (ap (λ k. k.share) v ∙ had))
+      (ap (λ u. get_elem? u.part.held m) same ∙ (ap (λ k. get_elem? k.held m) v ∙ got)) (first y (value_is m (Some y) z n es lo me a v there)) ∙ (λ j. Some (after w m ((ap (λ u. u.number) same ∙ (num ∙ ap (λ k. k.number) v)) j) x y s))))
 
 module _ {A : Type 0} where
   pub set_at : (xs : List A) (i : ℕ) (x y : A) → get_elem? xs i ≡ some y → get_elem? (set xs i x) i ≡ some x

@@ -8,14 +8,13 @@ use Rattle.nub_rule.proofs.Naming.{mutex_low}
 use Rattle.nub_rule.proofs.Handling.{values-set, value-found, gone}
 use Rattle.nub_rule.proofs.Seen.{as_known}
 use Rattle.std.proofs.Common.{Bool}
-use lib.ListN.{get_elem?}
 use Rattle.nub_rule.specs.declared.view.Pen.{Pen}
 use Rattle.nub_rule.specs.Parts.{MayTell}
 use Rattle.nub_rule.specs.Plays.{told}
 use Rattle.atomic_table.specs.Table.{rest}
-use Rattle.nub_rule.specs.Known.{value_in, MayGive, PicksShare}
+use Rattle.nub_rule.specs.Known.{value_in, MayGive}
 use Rattle.nub_rule.specs.Plays.{Grows, release_event}
-use Rattle.nub_rule.proofs.AtHand.{fit_freed}
+use Rattle.nub_rule.proofs.AtHand.{fit_freed, freed_share}
 use Rattle.nub_rule.proofs.Seen.{may_free}
 use Rattle.nub_rule.proofs.BitSteps.{clear_bit_keeps}
 use Rattle.nub_rule.proofs.mutex.clear_bit.Goals as goal
@@ -50,7 +49,5 @@ returns-clause-gone g c = let near = mutex_low _ _ _ _ c.p.view_is c.p.invariant
     (λ j. record (known_as c.me.inside.seat.table_id c.me.inside.number c.me.inside.seat.me c.me.inside.entries.items c.me.inside.lost c.me.inside.next) { seen = (c.me.inside.seat.me.0.part.seen ++ u.1) ++ release_event c.me.inside.seat.me.0.number m ∷ []; mine = c.me.inside.seat.me.0.part.mine ++ release_event c.me.inside.seat.me.0.number m ∷ []; places = c.me.inside.seat.me.0.part.places ++ length (c.me.inside.seat.me.0.part.seen ++ u.1) ∷ []; held = set c.me.inside.seat.me.0.part.held m None; share = u.2; cleared = m ∷ c.me.inside.seat.me.0.part.cleared; pen = made c.me.inside.seat.me.0.part.pen; values = v j })
 
 pub returns-clause-share : goal.returns-clause-share
-returns-clause-share g c = let m : ℕ = c.args.m.0 in let i = c.me.invariant in let h = i.hands in let b = c.bring.ensures in let same = b.same.2 in let u = c.swap.ensures.2 m c.mutex_bit.ensures in
-    as_known (λ z m' a. PicksShare g.C.Change.after m a (known_as z c.me.inside.number m' c.me.inside.entries.items c.me.inside.lost c.me.inside.next)) _ _ _ _ _ c.me.inside.seat.me _ _ _ c.me.view_is (c.swap.ensures.0 ∙ b.same.0) (u.4 ∙ (λ j. (with_part (same j) (record (told (same j).part ((same j).part.seen ++ u.1) (release_event (same j).number m)) { held = set (same j).part.held m None; share = u.2; cleared = m ∷ (same j).part.cleared }), rest c.bring.new.seat.me.1)))
-    (λ w s x y world share got isin. u.5 w s x y (ap (λ v. v.world) same ∙ world) (ap (λ v. v.part.share) same ∙ share) (ap (λ v. get_elem? v.part.held m) same ∙ got) (b.first _ (value-found m (Some y) c.me.inside.seat.me.1 isin))
-    ∙ (λ j. Some (g.C.Change.after w m ((ap (λ v. v.number) same ∙ i.numbered) j) x y s)))
+returns-clause-share g c = let m : ℕ = c.args.m.0 in let b = c.bring.ensures in let u = c.swap.ensures.2 m c.mutex_bit.ensures in
+    freed_share g.C.Change.after m u.2 c.me.inside.seat.table_id c.swap.new.seat.table_id c.me.inside.number _ _ c.me.inside.seat.me c.bring.new.seat.me c.swap.new.seat.me _ _ c.args.me.now c.me.view_is b.same.2 c.me.invariant.numbered (λ y at. b.first (Value (Some y)) at) u.4 refl u.5
