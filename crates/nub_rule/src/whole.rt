@@ -16,7 +16,7 @@ ghost use Rattle.nub_rule.specs.Ends.{firsts, opening_slots, first_known, Leaves
 ghost use Rattle.nub_rule.specs.Places.{word_count};
 
 use crate::hand::Hand;
-use crate::package::{Entry, Package, Stored, Thread};
+use crate::package::{Package, Stored, Thread};
 use crate::places::{QUEUES, WORDS};
 use crate::rule::{About, Collect, Cut, Gather, Kept, Line, Slot};
 use crate::uses::Uses;
