@@ -1,5 +1,5 @@
 -- What a step leaves of a thread: that it is one still, and what contracts see of it. And the slot that a step is on, at the front of the thread's hand.
-use Rattle.std.proofs.Common.{Bool, ◌≡◌, ℕ, ◌<◌, List, [], ◌∷◌, ◌++◌, length, set, refl, sym, ap, ◌∙◌, subst, arith, Some, None}
+use Rattle.std.proofs.Common.{Bool, ◌≡◌, ℕ, ◌<◌, ◌≤◌, List, [], ◌∷◌, ◌++◌, length, length-set, set, refl, sym, ap, ◌∙◌, subst, arith, Some, None}
 use Rattle.std.specs.Prelude.{Option as Opt}
 use mathlib.Core.Option.{some}
 use lib.ListN.{get_elem?}
@@ -11,14 +11,16 @@ use Rattle.nub_rule.specs.declared.package.Entry.{Entry}
 use Rattle.nub_rule.specs.declared.rule.Slot.{Slot}
 use Rattle.nub_rule.specs.declared.rule.Slot.TheVariants.{Value, Queue}
 use Rattle.nub_rule.specs.declared.view.Part.{Part}
+use Rattle.nub_rule.specs.declared.view.View.{View}
 use Rattle.nub_rule.specs.Items.{line_of}
-use Rattle.nub_rule.specs.Known.{Known, known_as, part_of, values_of, value_in, IsThread, Makes}
+use Rattle.nub_rule.specs.Parts.{Got}
+use Rattle.nub_rule.specs.Known.{Known, known_as, part_of, values_of, value_in, IsThread, Makes, PicksShare}
 use Rattle.nub_rule.specs.Places.{most_threads, queue_at, value_at}
-use Rattle.nub_rule.specs.Plays.{Sat, with_part, Grows}
-use Rattle.nub_rule.specs.Slots.{find, IsDistinct, Below}
+use Rattle.nub_rule.specs.Plays.{Sat, with_part, told, Grows}
+use Rattle.nub_rule.specs.Slots.{find, IsDistinct, Below, behind_first}
 use Rattle.nub_rule.proofs.Each.{at_within}
-use Rattle.nub_rule.proofs.Handling.{Refilled, refilled, values-same, values-set, value-found, hands-queue, hands-value}
-use Rattle.nub_rule.proofs.Seen.{fit_moved}
+use Rattle.nub_rule.proofs.Handling.{Refilled, refilled, values-same, values-set, value-found, hands-freed, hands-queue, hands-same, hands-value}
+use Rattle.nub_rule.proofs.Seen.{fit_given, fit_moved, fit_still}
 use Rattle.nub_rule.proofs.Turns.{keys}
 
 module _ {T H W : Type 0} where
@@ -57,6 +59,12 @@ module _ {T H W : Type 0} where
   -- and after a step that changed the part alone
   pub noted : (f : ℕ → Part T H → Part T H) (z z' : TableId) (n : ℕ) (es : List Entry) (lo : Bool) {nx : ℕ} (me me' : Sat T H W) (a : Known T H W) → known_as z n me es lo nx ≡ a → z' ≡ z → me' ≡ (with_part me.0 (f n me.0.part), me.1) → known_as z' n me' es lo nx ≡ changed a (f a.number (part_of a)) a.values
   noted f z z' n es lo me me' a v ez em = seen_as f (λ vs. vs) z z' n es lo me me' me.1 a v ez em refl
+
+  -- the thread is one still after a step that changed neither what it has nor where it stands
+  pub fit_noted : (z z' : TableId) (n : ℕ) (hand : List ℕ) (me me' : Sat T H W) (q : Part T H) {kept : List T} {room : ℕ} → z' ≡ z → me' ≡ (with_part me.0 q, me.1) → IsThread z n hand me kept room
+      → q.held ≡ me.0.part.held → q.spin ≡ me.0.part.spin → q.queue ≡ me.0.part.queue → q.owed ≡ me.0.part.owed → q.stand ≡ me.0.part.stand → IsThread z' n hand me' kept room
+  fit_noted z z' n hand me me' q ez em i eh es eq eo et = let h = i.hands in fit_still z z' n hand me me' q ez em i (ap length eh) (hands-same me.0.part q me.1 me.1 (λ k. refl) es eq eh
+      (λ o there nowhere. subst (λ (l : List ℕ). length l < 64) (sym eq) (h.room o (sym es ∙ there) (sym et ∙ nowhere))) (λ none. eo ∙ h.settled (sym es ∙ none)) h)
 
   -- the thread is one still, and contracts see it with its part changed by f and its values by h
   pub record After (f : ℕ → Part T H → Part T H) (h : List (Opt (Opt T)) → List (Opt (Opt T))) (z z' : TableId) (n : ℕ) (hand : List ℕ) (me me' : Sat T H W) (kept : List T) (room : ℕ) : Type 0 where
@@ -131,6 +139,54 @@ module _ {T H W : Type 0} where
   pub makes_as : (e : Event) (u : List Event) (z z' : TableId) (n : ℕ) (es : List Entry) (lo : Bool) {nx : ℕ} (me me' : Sat T H W) (q : Part T H) (ds : List (ℕ × Slot T)) (a : Known T H W) → known_as z n me es lo nx ≡ a → z' ≡ z → me' ≡ (with_part me.0 q, ds)
       → Grows n me.0.part u e → q.seen ≡ (me.0.part.seen ++ u) ++ e ∷ [] → q.mine ≡ me.0.part.mine ++ e ∷ [] → q.places ≡ me.0.part.places ++ length (me.0.part.seen ++ u) ∷ [] → Makes e a (known_as z' n me' es lo nx)
   makes_as e u z z' n es lo {nx} me me' q ds a v ez em grows seen mine places = subst (λ (t : TableId × Sat T H W × Known T H W). Makes e t.2 (known_as t.0 n t.1 es lo nx)) (λ i. (sym ez i, sym em i, v i)) (u, grows, seen, mine, places)
+
+  -- a step told the event e, which has the number of its thread, and changed the part by f besides
+  abbrev pub Told : (ℕ → Event) → (Part T H → Part T H) → Sat T H W → Sat T H W → Type 0
+  Told e f me me' = (between : List Event) × Grows me.0.number me.0.part between (e me.0.number) × (me' ≡ (with_part me.0 (f (told me.0.part (me.0.part.seen ++ between) (e me.0.number))), me.1))
+
+  pub told_fits : (e : ℕ → Event) (f : Part T H → Part T H) (z z' : TableId) (n : ℕ) (hand : List ℕ) (me me' : Sat T H W) {kept : List T} {room : ℕ} → Told e f me me' → z' ≡ z → IsThread z n hand me kept room
+      → ((q : Part T H) → (f q).held ≡ q.held) → ((q : Part T H) → (f q).spin ≡ q.spin) → ((q : Part T H) → (f q).queue ≡ q.queue) → ((q : Part T H) → (f q).owed ≡ q.owed) → ((q : Part T H) → (f q).stand ≡ q.stand) → IsThread z' n hand me' kept room
+  told_fits e f z z' n hand me me' u ez i eh es eq eo et = let q = told me.0.part (me.0.part.seen ++ u.0) (e me.0.number) in fit_noted z z' n hand me me' (f q) ez u.2 i (eh q) (es q) (eq q) (eo q) (et q)
+
+  pub told_event : (e : ℕ → Event) (f : Part T H → Part T H) (z z' : TableId) (n : ℕ) (es : List Entry) (lo : Bool) {nx : ℕ} (me me' : Sat T H W) (a : Known T H W) → Told e f me me' → known_as z n me es lo nx ≡ a → z' ≡ z → me.0.number ≡ n
+      → ((q : Part T H) → (f q).seen ≡ q.seen) → ((q : Part T H) → (f q).mine ≡ q.mine) → ((q : Part T H) → (f q).places ≡ q.places) → Makes (e a.number) a (known_as z' n me' es lo nx)
+  told_event e f z z' n es lo me me' a u v ez num seen mine places =
+      let q = told me.0.part (me.0.part.seen ++ u.0) (e me.0.number) in
+      let same : me.0.number ≡ a.number = num ∙ ap (λ k. k.number) v in
+      makes_as (e a.number) u.0 z z' n es lo me me' (f q) me.1 a v ez u.2 (subst (λ (t : ℕ × ℕ). Grows t.0 me.0.part u.0 (e t.1)) (λ j. (num j, same j)) u.1)
+      (seen q ∙ (λ j. (me.0.part.seen ++ u.0) ++ e (same j) ∷ [])) (mine q ∙ (λ j. me.0.part.mine ++ e (same j) ∷ [])) (places q)
+
+  -- the thread is one still after a step before which the slot of the mutex m, which stood first, was given back
+  pub fit_freed : (m : ℕ) (s : Slot T) (z z0 z' : TableId) (n : ℕ) (hand0 hand hand' : List ℕ) (me front me' : Sat T H W) (q : Part T H) {kept : List T} {room : ℕ} → m < 64 → IsThread z n hand0 me kept room → z0 ≡ z → front.0 ≡ me.0
+      → keys front.1 ≡ hand → IsDistinct front.1 → Below 256 front.1 → ((k : ℕ) → find k front.1 ≡ find k me.1) → front.1 ≡ (value_at m, s) ∷ rest front.1 → hand' ≡ behind_first hand → z' ≡ z0 → me' ≡ (with_part front.0 q, rest front.1)
+      → q.held ≡ set front.0.part.held m None → q.spin ≡ front.0.part.spin → q.queue ≡ front.0.part.queue → q.stand ≡ front.0.part.stand → q.owed ≡ front.0.part.owed → IsThread z' n hand' me' kept room
+  fit_freed m s z z0 z' n hand0 hand hand' me front me' q {kept} {room} near i ez same ks d low found first hs ez' em eh es eq est eo =
+      let h = i.hands in
+      let p = ap (λ v. v.part) same in
+      let wide = ap (λ x. length x.held) p ∙ i.wide in
+      fit_given z0 z' n (value_at m) s hand hand' front me' q front.1 ez' em (ap (λ v. v.kind) same ∙ i.member) (ap (λ v. v.number) same ∙ i.numbered) wide i.bare (subst (λ (x : TableId). n ≡ 0 → x.slots ≤ value_at room) (sym ez) i.roomy) i.few
+      ks hs d low first (ap length eh ∙ length-set front.0.part.held m None)
+      (hands-freed front.0.part q front.1 (rest front.1) m s near wide d first refl eh es eq est eo
+      (hands-same me.0.part front.0.part me.1 front.1 found (ap (λ x. x.spin) p) (ap (λ x. x.queue) p) (ap (λ x. x.held) p)
+      (λ k there nowhere. subst (λ (l : List ℕ). length l < 64) (ap (λ x. x.queue) (sym p)) (h.room k (ap (λ x. x.spin) (sym p) ∙ there) (ap (λ x. x.stand) (sym p) ∙ nowhere))) (λ none. ap (λ x. x.owed) p ∙ h.settled (ap (λ x. x.spin) (sym p) ∙ none)) h))
+
+  -- the event that a step told after a slot was brought to the front, by the number and the queue of its thread
+  pub told_after : (e : ℕ → List ℕ → Event) (f : Part T H → Part T H) (u : List Event) (z z' : TableId) (n : ℕ) (es : List Entry) (lo : Bool) {nx : ℕ} (me me' : Sat T H W) (front : View T H W) (ds : List (ℕ × Slot T)) (a : Known T H W) → known_as z n me es lo nx ≡ a → z' ≡ z → front ≡ me.0 → me.0.number ≡ n
+      → Grows front.number front.part u (e front.number front.part.queue) → me' ≡ (with_part front (f (told front.part (front.part.seen ++ u) (e front.number front.part.queue))), ds)
+      → ((q : Part T H) → (f q).seen ≡ q.seen) → ((q : Part T H) → (f q).mine ≡ q.mine) → ((q : Part T H) → (f q).places ≡ q.places) → Makes (e a.number a.queue) a (known_as z' n me' es lo nx)
+  told_after e f u z z' n es lo me me' front ds a v ez same num grows em seen mine places =
+      let w = subst (λ (x : View T H W). Grows x.number x.part u (e x.number x.part.queue) × (me' ≡ (with_part x (f (told x.part (x.part.seen ++ u) (e x.number x.part.queue))), ds))) same (grows, em) in
+      let q = told me.0.part (me.0.part.seen ++ u) (e me.0.number me.0.part.queue) in
+      let is : e me.0.number me.0.part.queue ≡ e a.number a.queue = λ j. e ((num ∙ ap (λ k. k.number) v) j) (ap (λ k. k.queue) v j) in
+      makes_as (e a.number a.queue) u z z' n es lo me me' (f q) ds a v ez w.1 (subst (λ (t : ℕ × Event). Grows t.0 me.0.part u t.1) (λ j. (num j, is j)) w.0)
+      (seen q ∙ (λ j. (me.0.part.seen ++ u) ++ is j ∷ [])) (mine q ∙ (λ j. me.0.part.mine ++ is j ∷ [])) (places q)
+
+  -- the share that was picked with a value that was given back
+  pub freed_share : (after : W → ℕ → ℕ → T → T → H → H) (m : ℕ) (share : Opt H) (z z' : TableId) (n : ℕ) (es : List Entry) (lo : Bool) {nx : ℕ} (me front me' : Sat T H W) (q : Part T H) (ds : List (ℕ × Slot T)) (a : Known T H W) → known_as z n me es lo nx ≡ a → front.0 ≡ me.0 → me.0.number ≡ n
+      → ((y : T) → find (value_at m) me.1 ≡ Some (Value (Some y)) → front.1 ≡ (value_at m, Value (Some y)) ∷ rest front.1) → me' ≡ (with_part front.0 q, ds) → q.share ≡ share
+      → ((w : W) (s : H) (x y : T) → front.0.world ≡ Some w → front.0.part.share ≡ Some s → Got front.0.part m x → front.1 ≡ (value_at m, Value (Some y)) ∷ rest front.1 → share ≡ Some (after w m front.0.number x y s)) → PicksShare after m a (known_as z' n me' es lo nx)
+  freed_share after m share z z' n es lo me front me' q ds a v same num first em eq tells w s x y world had got there = ap (λ t. t.0.part.share) em ∙ (eq ∙ (tells w s x y (ap (λ u. u.world) same ∙ (ap (λ k. k.world) v ∙ world)) (ap (λ u. u.part.share) same ∙ (ap (λ k. k.share) v ∙ had))
+      (ap (λ u. get_elem? u.part.held m) same ∙ (ap (λ k. get_elem? k.held m) v ∙ got)) (first y (value_is m (Some y) z n es lo me a v there)) ∙ (λ j. Some (after w m ((ap (λ u. u.number) same ∙ (num ∙ ap (λ k. k.number) v)) j) x y s))))
 
 module _ {A : Type 0} where
   pub set_at : (xs : List A) (i : ℕ) (x y : A) → get_elem? xs i ≡ some y → get_elem? (set xs i x) i ≡ some x

@@ -16,7 +16,7 @@ ghost use Rattle.nub_rule.specs.Ends.{firsts, opening_slots, first_known, Leaves
 ghost use Rattle.nub_rule.specs.Places.{word_count};
 
 use crate::hand::Hand;
-use crate::package::{Entry, Package, Stored, Thread};
+use crate::package::{Package, Stored, Thread};
 use crate::places::{QUEUES, WORDS};
 use crate::rule::{About, Collect, Cut, Gather, Kept, Line, Slot};
 use crate::uses::Uses;
@@ -86,36 +86,41 @@ fn split_off<U: Uses>(
     shared.split_seat::<Cut<U>>(root)
 }
 
-/// The thread with this number, cut off the first seat.
+/// The thread with this number, cut off the first seat. It takes the room.
 fn cut<U: Uses>(
+    alloc: Global,
     p: &Package<U>,
     root: &mut Seat<Slot<U::Value>, View<U::Value, U::Share, U::World>>,
     number: u32,
     parker: Parker,
-    entries: Vec<Entry>,
-    room: Vec<U::Value>,
+    room: &mut Vec<U::Value>,
 ) -> Thread<U>
     requires of { root.old.table_id ≡ p.now.table_id }
     requires root { root.old.me.0.kind ≡ Root }
     requires next { (root.old.me.0.next ≡ number) × (number < p.now.layout.threads) }
     requires world { root.old.me.0.world ≡ Some p.now.world }
-    requires empty { (entries.items ≡ []) × (room.items ≡ []) }
-    requires room { number ≡ 0 → p.now.layout.mutexes ≤ vec_capacity room }
+    requires empty { room.old.items ≡ [] }
+    requires room { number ≡ 0 → p.now.layout.mutexes ≤ vec_capacity room.old }
     ensures of { root.new.table_id ≡ root.old.table_id }
     ensures root { root.new.me.0 ≡ left_view root.old.me.0 }
+    ensures empty { room.new.items ≡ [] }
     ensures thread { result ≡ first_known root.old.table_id p.now.world U.begin number }
 {
     let seat = split_off(&p.table.shared, root);
+    let hand = Hand::new();
+    let entries = Vec::new(alloc);
+    let none = Vec::new(alloc);
+    let own = mem::replace(room, none);
     Thread {
         number,
-        hand: Hand::new(),
+        hand,
         seat,
         entries,
         lost: false,
         next: 0,
         parker,
         later: Line::new(),
-        room,
+        room: own,
     }
 }
 
@@ -139,10 +144,10 @@ fn cut_all<U: Uses>(
 {
     let mut number = 0;
     for parker in parkers {
-        let own = mem::replace(&mut room, Vec::new(alloc));
-        threads.push_reserved(cut(p, &mut root, number, parker, Vec::new(alloc), own));
+        threads.push_reserved(cut(alloc, p, &mut root, number, parker, &mut room));
         number += 1;
     }
+    drop(root);
     threads
 }
 

@@ -1,5 +1,5 @@
 //! Two rising lists of texts, joined.
-ghost use Rattle.std.specs.Prelude.{◌≡◌, ◌<◌, ◌↔◌, ℕ, [], ◌⊎◌, List, length, slice_index_or, IfOk, OnOk};
+ghost use Rattle.std.specs.Prelude.{◌≡◌, ◌<◌, ◌≤◌, ◌↔◌, ℕ, [], ◌⊎◌, List, length, slice_index_or, vec_capacity, IfOk, OnOk};
 ghost use Rattle.std.specs.List.{Contains};
 ghost use Rattle.word_index.specs.Index.{IsBelow, IsRising};
 ghost use Rattle.word_index.specs.Numbered.{IsNumbered};
@@ -67,7 +67,7 @@ pub fn join_texts(alloc: Global, a: &Strings, b: &Strings) -> Result<Union, Allo
     }
 }
 
-// Puts the texts of both in order into a list that is empty, and their numbers there into two.
+// Puts the texts of both in order into a list that is empty, and their numbers there into two that have room for them.
 #[inline]
 fn join_into(
     a: &Strings,
@@ -81,6 +81,8 @@ fn join_into(
     requires none { all.old ≡ [] }
     requires none_of_a { of_a.old.items ≡ [] }
     requires none_of_b { of_b.old.items ≡ [] }
+    requires room_of_a { length a.now ≤ vec_capacity of_a.old }
+    requires room_of_b { length b.now ≤ vec_capacity of_b.old }
     ensures first { OnOk result (IsNumbered a.now all.new of_a.new.items (length a.now)) }
     ensures second { OnOk result (IsNumbered b.now all.new of_b.new.items (length b.now)) }
     ensures rising { OnOk result (IsRising all.new) }
@@ -95,18 +97,18 @@ fn join_into(
         match order_at(a, i, b, j) {
             Ordering::Less => {
                 all.push(a.get(i))?;
-                of_a.push(place)?;
+                of_a.push_reserved(place);
                 i += 1;
             }
             Ordering::Greater => {
                 all.push(b.get(j))?;
-                of_b.push(place)?;
+                of_b.push_reserved(place);
                 j += 1;
             }
             Ordering::Equal => {
                 all.push(a.get(i))?;
-                of_a.push(place)?;
-                of_b.push(place)?;
+                of_a.push_reserved(place);
+                of_b.push_reserved(place);
                 i += 1;
                 j += 1;
             }

@@ -10,8 +10,7 @@ use Rattle.nub_rule.proofs.AlertSteps.{read_alert_keeps, no-stand-before}
 use Rattle.nub_rule.proofs.alert.read_alert.Goals as goal
 
 pub load-requires-clause-inside : goal.load-requires-clause-inside
-load-requires-clause-inside g c κs within = let i = c.me.invariant in
-    (let low = i.few in let e = c.alert_word.ensures in omega arith)
+load-requires-clause-inside g c κs within = let low = c.me.invariant.few in let e = c.alert_word.ensures in omega arith
 
 pub load-requires-clause-allowed : goal.load-requires-clause-allowed
 load-requires-clause-allowed g c κs within = let i = c.me.invariant in

@@ -1,17 +1,17 @@
-use Rattle.std.proofs.Common.{Bool, None, false, rules, arith, ◌≡◌, ◌<◌, ◌∙◌, ◌∷◌, ◌++◌, [], ℕ, ap, sym, subst, refl}
+use Rattle.std.proofs.Common.{Bool, None, false, rules, arith, ◌≡◌, ◌<◌, ◌∙◌, ℕ, ap, sym, subst, refl}
 use lib.ListN.{get_elem?}
 use Rattle.nub_rule.specs.declared.view.Pen.{Pen}
-use Rattle.nub_rule.specs.Known.{known_as, Makes}
+use Rattle.nub_rule.specs.Known.{known_as}
 use Rattle.nub_rule.specs.Parts.{made, MayTell}
 use Rattle.nub_rule.specs.Places.{alert_at, most_threads}
-use Rattle.nub_rule.specs.Plays.{Grows, alert_raise_event}
-use Rattle.nub_rule.proofs.Handling.{hands-same}
-use Rattle.nub_rule.proofs.Seen.{as_known, fit_still}
+use Rattle.nub_rule.specs.Plays.{alert_raise_event}
+use Rattle.nub_rule.proofs.Seen.{as_known}
+use Rattle.nub_rule.proofs.AtHand.{told_fits, told_event, Told}
 use Rattle.nub_rule.proofs.RaiseSteps.{swap_alert_in_raise_keeps}
 use Rattle.nub_rule.proofs.alert.swap_alert_in_raise.Goals as goal
 
 pub swap-requires-clause-inside : goal.swap-requires-clause-inside
-swap-requires-clause-inside g c κs within = let i = c.me.invariant in let x = c.requires.waits in let traces : c.p.inside.table.shared.key.traced ≡ c.args.p.now.traced = ap (λ s. s.traced) c.p.view_is in (let low = i.few in let e = c.alert_word.ensures in omega arith)
+swap-requires-clause-inside g c κs within = let low = c.me.invariant.few in let e = c.alert_word.ensures in omega arith
 
 pub swap-requires-clause-allowed : goal.swap-requires-clause-allowed
 swap-requires-clause-allowed g c κs within = let i = c.me.invariant in let x = c.requires.waits in let traces : c.p.inside.table.shared.key.traced ≡ c.args.p.now.traced = ap (λ s. s.traced) c.p.view_is in swap_alert_in_raise_keeps _ _ _ _ _ _ _ c.args.m.0 c.args.c.0 c.me.inside.seat.me _ x.0 c.requires.has.0 (c.alert_word.ensures ∙ ap alert_at (sym i.numbered)) (subst (λ (k : ℕ). k < most_threads) (sym i.numbered) i.few) i.member (search rules)
@@ -19,18 +19,15 @@ swap-requires-clause-allowed g c κs within = let i = c.me.invariant in let x = 
     (subst (λ (z : Bool × Pen). MayTell z.0 z.1) (λ j. (sym traces j, ap (λ k. k.pen) (sym c.me.view_is) j)) c.requires.pen)
 
 pub invariant_of-me : goal.invariant_of-me
-invariant_of-me g c = let i = c.me.invariant in let h = i.hands in let x = c.requires.waits in let u = c.swap.ensures.2 x.0 (ap (λ k. k.wait) c.me.view_is ∙ x.1) in
-    fit_still _ _ c.me.inside.number c.me.inside.hand c.me.inside.seat.me _ _ c.swap.ensures.0 u.3 i refl (hands-same c.me.inside.seat.me.0.part _ c.me.inside.seat.me.1 _ (λ k. refl) refl refl refl h.room h.settled h)
+invariant_of-me g c = let u = c.swap.ensures.2 c.requires.waits.0 (ap (λ k. k.wait) c.me.view_is ∙ c.requires.waits.1) in
+    told_fits (λ n. alert_raise_event n c.args.m.0 c.args.c.0) (λ q. record q { wait = None; alerted = false }) _ _ c.me.inside.number c.me.inside.hand c.me.inside.seat.me c.swap.new.seat.me (subst (λ (t : ℕ × ℕ). Told (λ n. alert_raise_event n t.0 t.1) (λ q. record q { wait = None; alerted = false }) c.me.inside.seat.me c.swap.new.seat.me) (λ j. (c.requires.waits.2 j, c.requires.waits.3 j)) (u.1, u.2, u.3)) c.swap.ensures.0 c.me.invariant (λ q. refl) (λ q. refl) (λ q. refl) (λ q. refl) (λ q. refl)
 
 pub returns-clause-found : goal.returns-clause-found
 returns-clause-found g c = let x = c.requires.waits in (c.swap.ensures.2 x.0 (ap (λ k. k.wait) c.me.view_is ∙ x.1)).0
 
 pub returns-clause-event : goal.returns-clause-event
-returns-clause-event g c = let m : ℕ = c.args.m.0 in let o : ℕ = c.args.c.0 in let i = c.me.invariant in let x = c.requires.waits in let p = c.me.inside.seat.me.0.part in
-    let u = c.swap.ensures.2 x.0 (ap (λ k. k.wait) c.me.view_is ∙ x.1) in
-    let e = λ (n : ℕ). alert_raise_event n m o in
-    as_known (λ z m' a. Makes (e a.number) a (known_as z c.me.inside.number m' c.me.inside.entries.items c.me.inside.lost c.me.inside.next)) _ _ _ _ _ c.me.inside.seat.me _ _ _ c.me.view_is c.swap.ensures.0 u.3
-    (u.1, subst (λ (z : ℕ × ℕ × ℕ). Grows z.0 p u.1 (alert_raise_event z.0 z.1 z.2)) (λ j. (i.numbered j, x.2 j, x.3 j)) u.2, (λ j. (p.seen ++ u.1) ++ alert_raise_event (i.numbered j) (x.2 j) (x.3 j) ∷ []), (λ j. p.mine ++ alert_raise_event (i.numbered j) (x.2 j) (x.3 j) ∷ []), refl)
+returns-clause-event g c = let u = c.swap.ensures.2 c.requires.waits.0 (ap (λ k. k.wait) c.me.view_is ∙ c.requires.waits.1) in
+    told_event (λ n. alert_raise_event n c.args.m.0 c.args.c.0) (λ q. record q { wait = None; alerted = false }) _ _ c.me.inside.number _ _ c.me.inside.seat.me c.swap.new.seat.me c.args.me.now (subst (λ (t : ℕ × ℕ). Told (λ n. alert_raise_event n t.0 t.1) (λ q. record q { wait = None; alerted = false }) c.me.inside.seat.me c.swap.new.seat.me) (λ j. (c.requires.waits.2 j, c.requires.waits.3 j)) (u.1, u.2, u.3)) c.me.view_is c.swap.ensures.0 c.me.invariant.numbered (λ q. refl) (λ q. refl) (λ q. refl)
 
 pub returns-clause-raised : goal.returns-clause-raised
 returns-clause-raised g c = let x = c.requires.waits in as_known (λ z m a. let k = known_as z c.me.inside.number m c.me.inside.entries.items c.me.inside.lost c.me.inside.next in k ≡ record a { seen = k.seen; mine = k.mine; places = k.places; wait = None; alerted = false; pen = made a.pen }) _ _ _ _ _ c.me.inside.seat.me _ _ _ c.me.view_is c.swap.ensures.0 (c.swap.ensures.2 x.0 (ap (λ k. k.wait) c.me.view_is ∙ x.1)).3 refl

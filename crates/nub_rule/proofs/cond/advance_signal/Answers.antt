@@ -2,13 +2,12 @@ use Rattle.std.proofs.Common.{Bool, rules, arith, ◌≡◌, ◌<◌, ◌+◌, �
 use Rattle.nub_rule.specs.declared.rule.Slot.TheVariants.{Queue}
 use Rattle.nub_rule.specs.declared.view.Pen.{Pen}
 use Rattle.nub_rule.specs.Items.{Distinct, Small, line_of}
-use Rattle.nub_rule.specs.Known.{part_of, Makes}
 use Rattle.nub_rule.specs.Parts.{made, MayTell}
 use Rattle.nub_rule.specs.Places.{most_threads, cond_object}
-use Rattle.nub_rule.specs.Plays.{Grows, told, behind, event, signal_action}
+use Rattle.nub_rule.specs.Plays.{told, behind, event, signal_action}
 use Rattle.nub_rule.proofs.Naming.{cond_low}
 use Rattle.nub_rule.proofs.Handling.{same_slot}
-use Rattle.nub_rule.proofs.AtHand.{QueueAtHand, queue_at_hand, After, requeued}
+use Rattle.nub_rule.proofs.AtHand.{QueueAtHand, queue_at_hand, After, requeued, told_after}
 use Rattle.nub_rule.proofs.CondSteps.{advance_signal_keeps}
 use Rattle.nub_rule.proofs.cond.advance_signal.Given.{Over}
 use Rattle.nub_rule.proofs.cond.advance_signal.Goals.{After-bring, After-fetch_add-count}
@@ -29,8 +28,7 @@ set_behind-left-requires g c = let a = at_hand g (goal.at.set_behind-left-requir
     (c.me.inside.seat.me.0.part.queue, same_slot (cond_object c.args.c.0) _ _ _ _ c.slot_mut.ensures.value a.first, subst (Small most_threads) (ap (λ k. k.queue) (sym c.me.view_is)) c.requires.small)
 
 pub fetch_add-count-requires-clause-inside : goal.fetch_add-count-requires-clause-inside
-fetch_add-count-requires-clause-inside g c κs within = let near = cond_low _ _ _ _ c.p.view_is c.p.invariant.laid_out c.p.invariant.lawful c.args.c.0 c.requires.named in let word = c.count_word.ensures in let traces : c.p.inside.table.shared.key.traced ≡ c.args.p.now.traced = ap (λ s. s.traced) c.p.view_is in
-    let same = c.bring.ensures.same.2 in let e = ap (λ v. v.part) same in omega arith
+fetch_add-count-requires-clause-inside g c κs within = let near = cond_low _ _ _ _ c.p.view_is c.p.invariant.laid_out c.p.invariant.lawful c.args.c.0 c.requires.named in let word = c.count_word.ensures in omega arith
 
 pub fetch_add-count-requires-clause-allowed : goal.fetch_add-count-requires-clause-allowed
 fetch_add-count-requires-clause-allowed g c κs within = let near = cond_low _ _ _ _ c.p.view_is c.p.invariant.laid_out c.p.invariant.lawful c.args.c.0 c.requires.named in let word = c.count_word.ensures in let traces : c.p.inside.table.shared.key.traced ≡ c.args.p.now.traced = ap (λ s. s.traced) c.p.view_is in
@@ -54,10 +52,8 @@ pub returns-clause-distinct : goal.returns-clause-distinct
 returns-clause-distinct g c = subst Distinct (ap (λ v. v.part.queue) c.bring.ensures.same.2 ∙ ap (λ k. k.queue) c.me.view_is) (c.fetch_add-count.ensures.2 c.args.c.0 c.count_word.ensures).1
 
 pub returns-clause-event : goal.returns-clause-event
-returns-clause-event g c = let o : ℕ = c.args.c.0 in let t = goal.at.returns-clause-event g c in let u = c.fetch_add-count.ensures.2 o c.count_word.ensures in let k = c.args.me.now in let e = event k.number (signal_action o (behind k.queue)) in
-    let grows = subst (λ v. Grows v.number v.part u.2 (event v.number (signal_action o (behind v.part.queue)))) c.bring.ensures.same.2 u.3 in
-    subst (λ b. Makes e k b) (sym ((signalled g t.After-fetch_add-count (at_hand g t.After-bring)).sees _ _ _ _ c.me.view_is))
-    (u.2, subst (λ b. Grows b.number (part_of b) u.2 (event b.number (signal_action o (behind b.queue)))) c.me.view_is (subst (λ (n : ℕ). Grows n c.me.inside.seat.me.0.part u.2 (event n (signal_action o (behind c.me.inside.seat.me.0.part.queue)))) c.me.invariant.numbered grows), refl, refl, refl)
+returns-clause-event g c = let u = c.fetch_add-count.ensures.2 c.args.c.0 c.count_word.ensures in
+    told_after (λ n q. event n (signal_action c.args.c.0 (behind q))) (λ p. record p { left = behind p.queue; count = p.count + 1 }) u.2 _ _ c.me.inside.number _ _ c.me.inside.seat.me c.fetch_add-count.new.seat.me c.bring.new.seat.me.0 _ c.args.me.now c.me.view_is (c.fetch_add-count.ensures.0 ∙ c.bring.ensures.same.0) c.bring.ensures.same.2 c.me.invariant.numbered u.3 u.4 (λ q. refl) (λ q. refl) (λ q. refl)
 
 pub returns-clause-advanced : goal.returns-clause-advanced
 returns-clause-advanced g c = let t = goal.at.returns-clause-advanced g c in let k = c.args.me.now in

@@ -3,24 +3,21 @@ use mathlib.Core.Logic.{dite}
 use native.Mathlib.Decide.{ℕ_discrete}
 use Rattle.nub_rule.specs.Plays.{unread}
 use Rattle.nub_rule.proofs.Naming.{cond_low}
-use Rattle.nub_rule.proofs.Handling.{hands-same}
-use Rattle.nub_rule.proofs.Seen.{fit_still}
-use Rattle.nub_rule.proofs.AtHand.{noted}
+use Rattle.nub_rule.proofs.AtHand.{noted, fit_noted}
 use Rattle.nub_rule.proofs.CondQueue.{compare_count_keeps}
 use Rattle.nub_rule.proofs.cond.compare_count.Goals as goal
 
 pub load-requires-clause-inside : goal.load-requires-clause-inside
-load-requires-clause-inside g c κs within = let near = cond_low _ _ _ _ c.p.view_is c.p.invariant.laid_out c.p.invariant.lawful c.args.c.0 c.requires.named in let word = c.count_word.ensures in let x = c.requires.waits in
-    omega arith
+load-requires-clause-inside g c κs within = let near = cond_low _ _ _ _ c.p.view_is c.p.invariant.laid_out c.p.invariant.lawful c.args.c.0 c.requires.named in let word = c.count_word.ensures in omega arith
 
 pub load-requires-clause-allowed : goal.load-requires-clause-allowed
 load-requires-clause-allowed g c κs within = let near = cond_low _ _ _ _ c.p.view_is c.p.invariant.laid_out c.p.invariant.lawful c.args.c.0 c.requires.named in let word = c.count_word.ensures in let x = c.requires.waits in
     compare_count_keeps _ _ _ _ _ _ _ c.args.c.0 c.args.count x.0 c.me.inside.seat.me _ word near c.me.invariant.member (ap (λ k. k.spin) c.me.view_is ∙ c.requires.inside) (ap (λ k. k.wait) c.me.view_is ∙ x.1) x.2 x.3
 
 pub invariant_of-me : goal.invariant_of-me
-invariant_of-me g c = let i = c.me.invariant in let h = i.hands in let x = c.requires.waits in let u = c.load.ensures.2.1 x.0 c.args.count (ap (λ k. k.wait) c.me.view_is ∙ x.1) x.3 in dite (ℕ_discrete c.load.result c.args.count)
-    (λ hit. fit_still _ _ c.me.inside.number c.me.inside.hand c.me.inside.seat.me _ c.me.inside.seat.me.0.part c.load.ensures.0 (u.0 hit) i refl (hands-same c.me.inside.seat.me.0.part _ c.me.inside.seat.me.1 _ (λ k. refl) refl refl refl h.room h.settled h))
-    (λ miss. fit_still _ _ c.me.inside.number c.me.inside.hand c.me.inside.seat.me _ _ c.load.ensures.0 (u.1 miss) i refl (hands-same c.me.inside.seat.me.0.part _ c.me.inside.seat.me.1 _ (λ k. refl) refl refl refl h.room h.settled h))
+invariant_of-me g c = let i = c.me.invariant in let x = c.requires.waits in let u = c.load.ensures.2.1 x.0 c.args.count (ap (λ k. k.wait) c.me.view_is ∙ x.1) x.3 in dite (ℕ_discrete c.load.result c.args.count)
+    (λ hit. fit_noted _ _ c.me.inside.number c.me.inside.hand c.me.inside.seat.me _ c.me.inside.seat.me.0.part c.load.ensures.0 (u.0 hit) i refl refl refl refl refl)
+    (λ miss. fit_noted _ _ c.me.inside.number c.me.inside.hand c.me.inside.seat.me _ _ c.load.ensures.0 (u.1 miss) i refl refl refl refl refl)
 
 pub returns-clause-count : goal.returns-clause-count
 returns-clause-count g c = c.load.ensures.2.0 ∙ ap (λ k. k.count) c.me.view_is

@@ -1,14 +1,11 @@
 use Rattle.std.proofs.Common.{rules, arith, ◌∙◌, ap, refl}
 use Rattle.nub_rule.proofs.Naming.{cond_low}
-use Rattle.nub_rule.proofs.Handling.{hands-same}
-use Rattle.nub_rule.proofs.Seen.{fit_still}
-use Rattle.nub_rule.proofs.AtHand.{noted}
+use Rattle.nub_rule.proofs.AtHand.{noted, fit_noted}
 use Rattle.nub_rule.proofs.CondSteps.{know_count_keeps}
 use Rattle.nub_rule.proofs.cond.know_count.Goals as goal
 
 pub load-requires-clause-inside : goal.load-requires-clause-inside
-load-requires-clause-inside g c κs within = let near = cond_low _ _ _ _ c.p.view_is c.p.invariant.laid_out c.p.invariant.lawful c.args.c.0 c.requires.named in let word = c.count_word.ensures in
-    omega arith
+load-requires-clause-inside g c κs within = let near = cond_low _ _ _ _ c.p.view_is c.p.invariant.laid_out c.p.invariant.lawful c.args.c.0 c.requires.named in let word = c.count_word.ensures in omega arith
 
 pub load-requires-clause-allowed : goal.load-requires-clause-allowed
 load-requires-clause-allowed g c κs within = let near = cond_low _ _ _ _ c.p.view_is c.p.invariant.laid_out c.p.invariant.lawful c.args.c.0 c.requires.named in let word = c.count_word.ensures in
@@ -16,7 +13,7 @@ load-requires-clause-allowed g c κs within = let near = cond_low _ _ _ _ c.p.vi
 
 pub invariant_of-me : goal.invariant_of-me
 invariant_of-me g c = let i = c.me.invariant in let h = i.hands in
-    fit_still _ _ c.me.inside.number c.me.inside.hand c.me.inside.seat.me _ c.me.inside.seat.me.0.part c.load.ensures.0 c.load.ensures.2.1 i refl (hands-same c.me.inside.seat.me.0.part _ c.me.inside.seat.me.1 _ (λ k. refl) refl refl refl h.room h.settled h)
+    fit_noted _ _ c.me.inside.number c.me.inside.hand c.me.inside.seat.me _ c.me.inside.seat.me.0.part c.load.ensures.0 c.load.ensures.2.1 i refl refl refl refl refl
 
 pub returns-clause-count : goal.returns-clause-count
 returns-clause-count g c = c.load.ensures.2.0 ∙ ap (λ k. k.count) c.me.view_is

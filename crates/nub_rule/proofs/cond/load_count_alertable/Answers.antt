@@ -14,10 +14,7 @@ pub bring-requires-clause-there : goal.bring-requires-clause-there
 bring-requires-clause-there g c = let m : ℕ = c.args.m.0 in let t = c.me.invariant.hands.value_got m c.requires.has.0 (ap (λ k. get_elem? k.held m) c.me.view_is ∙ c.requires.has.1) in (Value t.0, t.1)
 
 pub load-requires-clause-inside : goal.load-requires-clause-inside
-load-requires-clause-inside g c κs within = let near = cond_low _ _ _ _ c.p.view_is c.p.invariant.laid_out c.p.invariant.lawful c.args.c.0 c.requires.named.1 in let m : ℕ = c.args.m.0 in let b = c.bring.ensures in let same = b.same.2 in let e = ap (λ v. v.part) same in
-    let traces : c.p.inside.table.shared.key.traced ≡ c.args.p.now.traced = ap (λ s. s.traced) c.p.view_is in
-    let t = c.me.invariant.hands.value_got m c.requires.has.0 (ap (λ k. get_elem? k.held m) c.me.view_is ∙ c.requires.has.1) in
-    let word = c.count_word.ensures in omega arith
+load-requires-clause-inside g c κs within = let near = cond_low _ _ _ _ c.p.view_is c.p.invariant.laid_out c.p.invariant.lawful c.args.c.0 c.requires.named.1 in let word = c.count_word.ensures in omega arith
 
 pub load-requires-clause-allowed : goal.load-requires-clause-allowed
 load-requires-clause-allowed g c κs within = let near = cond_low _ _ _ _ c.p.view_is c.p.invariant.laid_out c.p.invariant.lawful c.args.c.0 c.requires.named.1 in let m : ℕ = c.args.m.0 in let b = c.bring.ensures in let same = b.same.2 in let e = ap (λ v. v.part) same in

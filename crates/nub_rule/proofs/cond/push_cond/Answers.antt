@@ -28,7 +28,7 @@ push_line-length-requires g c = let a = at_hand g (goal.at.push_line-length-requ
     (c.me.inside.seat.me.0.part.queue, same_slot (cond_object c.args.c.0) _ _ _ _ c.slot_mut.ensures.value a.first, c.me.invariant.hands.room (cond_object c.args.c.0) a.spins (ap (λ k. k.stand) c.me.view_is ∙ c.requires.outside))
 
 pub store-requires-clause-inside : goal.store-requires-clause-inside
-store-requires-clause-inside g c κs within = let a = at_hand g (goal.at.store-requires-clause-inside g c).After-bring in let line = c.push_line-length.ensures c.me.inside.seat.me.0.part.queue (same_slot (cond_object c.args.c.0) _ _ _ _ c.slot_mut.ensures.value a.first) in let low = cond_low _ _ _ _ c.p.view_is c.p.invariant.laid_out c.p.invariant.lawful c.args.c.0 c.requires.named in let word = c.cond_length_word.ensures in omega arith
+store-requires-clause-inside g c κs within = let low = cond_low _ _ _ _ c.p.view_is c.p.invariant.laid_out c.p.invariant.lawful c.args.c.0 c.requires.named in let word = c.cond_length_word.ensures in omega arith
 
 pub store-requires-clause-allowed : goal.store-requires-clause-allowed
 store-requires-clause-allowed g c κs within = let a = at_hand g (goal.at.store-requires-clause-allowed g c).After-bring in let line = c.push_line-length.ensures c.me.inside.seat.me.0.part.queue (same_slot (cond_object c.args.c.0) _ _ _ _ c.slot_mut.ensures.value a.first) in let low = cond_low _ _ _ _ c.p.view_is c.p.invariant.laid_out c.p.invariant.lawful c.args.c.0 c.requires.named in let word = c.cond_length_word.ensures in push_cond_keeps _ _ _ _ _ _ _ c.args.c.0 _ c.requires.waits.0 (c.bring.new.seat.me.0, _) _ c.cond_length_word.ensures low (ap (λ v. v.kind) a.same ∙ c.me.invariant.member) (ap (λ v. v.part.spin) a.same ∙ a.spins) (ap (λ v. v.part.stand) a.same ∙ (ap (λ k. k.stand) c.me.view_is ∙ c.requires.outside)) (ap (λ v. v.part.wait) a.same ∙ (ap (λ k. k.wait) c.me.view_is ∙ c.requires.waits.1)) c.requires.waits.2

@@ -8,17 +8,16 @@ use Rattle.nub_rule.specs.Known.{known_as, value_in}
 use Rattle.nub_rule.specs.Places.{value_at}
 use Rattle.nub_rule.specs.Plays.{quieted}
 use Rattle.nub_rule.proofs.Naming.{mutex_low}
-use Rattle.nub_rule.proofs.Handling.{values-set, value-there, hands-same, hands-won}
-use Rattle.nub_rule.proofs.AtHand.{noted}
+use Rattle.nub_rule.proofs.Handling.{values-set, value-there, hands-won}
+use Rattle.nub_rule.proofs.AtHand.{noted, fit_noted}
 use Rattle.nub_rule.proofs.Room.{room_for}
-use Rattle.nub_rule.proofs.Seen.{as_known, fit_still, fit_moved}
+use Rattle.nub_rule.proofs.Seen.{as_known, fit_moved}
 use Rattle.nub_rule.proofs.Turns.{find-else, find-here}
 use Rattle.nub_rule.proofs.WaitSteps.{take_bit_quiet_keeps}
 use Rattle.nub_rule.proofs.mutex.take_bit_quiet.Goals as goal
 
 pub compare_exchange-found-requires-clause-inside : goal.compare_exchange-found-requires-clause-inside
-compare_exchange-found-requires-clause-inside g c κs within = let near = mutex_low _ _ _ _ c.p.view_is c.p.invariant.laid_out c.p.invariant.lawful c.args.m.0 c.requires.named in let m : ℕ = c.args.m.0 in let x = c.requires.waits in
-    let word = c.mutex_bit.ensures in omega arith
+compare_exchange-found-requires-clause-inside g c κs within = let near = mutex_low _ _ _ _ c.p.view_is c.p.invariant.laid_out c.p.invariant.lawful c.args.m.0 c.requires.named in let word = c.mutex_bit.ensures in omega arith
 
 pub compare_exchange-found-requires-clause-allowed : goal.compare_exchange-found-requires-clause-allowed
 compare_exchange-found-requires-clause-allowed g c κs within = let near = mutex_low _ _ _ _ c.p.view_is c.p.invariant.laid_out c.p.invariant.lawful c.args.m.0 c.requires.named in let m : ℕ = c.args.m.0 in let x = c.requires.waits in
@@ -35,7 +34,7 @@ invariant_of-me g c = let near = mutex_low _ _ _ _ c.p.view_is c.p.invariant.lai
 
 pub invariant_of-me-else-found-eq0 : goal.invariant_of-me-else-found-eq0
 invariant_of-me-else-found-eq0 g c = let m : ℕ = c.args.m.0 in let i = c.me.invariant in let h = i.hands in
-    fit_still _ _ c.me.inside.number c.me.inside.hand c.me.inside.seat.me _ _ c.compare_exchange-found.ensures.0 ((c.compare_exchange-found.ensures.2 m c.mutex_bit.ensures).1 c.if-found-eq0.false) i refl (hands-same c.me.inside.seat.me.0.part _ c.me.inside.seat.me.1 _ (λ k. refl) refl refl refl h.room h.settled h)
+    fit_noted _ _ c.me.inside.number c.me.inside.hand c.me.inside.seat.me _ _ c.compare_exchange-found.ensures.0 ((c.compare_exchange-found.ensures.2 m c.mutex_bit.ensures).1 c.if-found-eq0.false) i refl refl refl refl refl
 
 pub returns-then-found-eq0-clause-lacked : goal.returns-then-found-eq0-clause-lacked
 returns-then-found-eq0-clause-lacked g c = let m : ℕ = c.args.m.0 in let u = (c.compare_exchange-found.ensures.2 m c.mutex_bit.ensures).0 c.if-found-eq0.true in λ _. ap (λ k. get_elem? k.held m) (sym c.me.view_is) ∙ u.2

@@ -6,9 +6,9 @@ use Rattle.nub_rule.specs.Known.{known_as, Makes}
 use Rattle.nub_rule.specs.Parts.{made}
 use Rattle.nub_rule.specs.Places.{value_at}
 use Rattle.nub_rule.proofs.Naming.{mutex_low}
-use Rattle.nub_rule.proofs.Handling.{values-set, value-there, hands-same, hands-won}
-use Rattle.nub_rule.proofs.AtHand.{noted}
-use Rattle.nub_rule.proofs.Seen.{as_known, fit_still, fit_moved}
+use Rattle.nub_rule.proofs.Handling.{values-set, value-there, hands-won}
+use Rattle.nub_rule.proofs.AtHand.{noted, fit_noted}
+use Rattle.nub_rule.proofs.Seen.{as_known, fit_moved}
 use Rattle.std.proofs.Common.{Bool}
 use Rattle.std.specs.Prelude.{Option as Opt}
 use mathlib.Core.Option.{some}
@@ -28,11 +28,10 @@ use Rattle.nub_rule.proofs.BitSteps.{try_bit_keeps, by_taking}
 use Rattle.nub_rule.proofs.mutex.try_bit.Goals as goal
 
 pub compare_exchange-found-requires-clause-inside : goal.compare_exchange-found-requires-clause-inside
-compare_exchange-found-requires-clause-inside g c κs within = let near = mutex_low _ _ _ _ c.p.view_is c.p.invariant.laid_out c.p.invariant.lawful c.args.m.0 c.requires.named in let m : ℕ = c.args.m.0 in let out : c.me.inside.seat.me.0.part.spin ≡ None = ap (λ k. k.spin) c.me.view_is ∙ c.requires.outside.0 in let apart : c.me.inside.seat.me.0.part.stand ≡ None = ap (λ k. k.stand) c.me.view_is ∙ c.requires.outside.1 in let traces : c.p.inside.table.shared.key.traced ≡ c.args.p.now.traced = ap (λ s. s.traced) c.p.view_is in
-    let word = c.mutex_bit.ensures in omega arith
+compare_exchange-found-requires-clause-inside g c κs within = let near = mutex_low _ _ _ _ c.p.view_is c.p.invariant.laid_out c.p.invariant.lawful c.args.m.0 c.requires.named in let word = c.mutex_bit.ensures in omega arith
 
 pub compare_exchange-found-requires-clause-allowed : goal.compare_exchange-found-requires-clause-allowed
-compare_exchange-found-requires-clause-allowed g c κs within = let near = mutex_low _ _ _ _ c.p.view_is c.p.invariant.laid_out c.p.invariant.lawful c.args.m.0 c.requires.named in let m : ℕ = c.args.m.0 in let out : c.me.inside.seat.me.0.part.spin ≡ None = ap (λ k. k.spin) c.me.view_is ∙ c.requires.outside.0 in let apart : c.me.inside.seat.me.0.part.stand ≡ None = ap (λ k. k.stand) c.me.view_is ∙ c.requires.outside.1 in let traces : c.p.inside.table.shared.key.traced ≡ c.args.p.now.traced = ap (λ s. s.traced) c.p.view_is in
+compare_exchange-found-requires-clause-allowed g c κs within = let near = mutex_low _ _ _ _ c.p.view_is c.p.invariant.laid_out c.p.invariant.lawful c.args.m.0 c.requires.named in let m : ℕ = c.args.m.0 in let apart : c.me.inside.seat.me.0.part.stand ≡ None = ap (λ k. k.stand) c.me.view_is ∙ c.requires.outside.1 in let traces : c.p.inside.table.shared.key.traced ≡ c.args.p.now.traced = ap (λ s. s.traced) c.p.view_is in
     let word = c.mutex_bit.ensures in try_bit_keeps _ _ _ _ _ g.U.Uses.fits (g.U.Uses.holds_fits _) _ _ m c.args.e c.me.inside.seat.me _ word (search rules) c.me.invariant.member apart (subst (λ (z : ℕ × Opt Wait). MayTake z.0 m z.1 c.args.e) (λ j. ((sym (c.me.invariant.numbered ∙ ap (λ k. k.number) c.me.view_is)) j, ap (λ k. k.wait) (sym c.me.view_is) j)) c.requires.may) (subst (λ (z : Bool × Pen). MayTell z.0 z.1) (λ j. (sym traces j, ap (λ k. k.pen) (sym c.me.view_is) j)) c.requires.pen)
 
 pub take-requires : goal.take-requires
@@ -40,21 +39,21 @@ take-requires g c = let near = mutex_low _ _ _ _ c.p.view_is c.p.invariant.laid_
     room_for 256 (value_at m) (Queue no_line) c.me.inside.seat.me.1 c.me.inside.hand i.distinct i.below (omega arith) (i.hands.value_lacked m u.4) i.keyed
 
 pub invariant_of-me : goal.invariant_of-me
-invariant_of-me g c = let near = mutex_low _ _ _ _ c.p.view_is c.p.invariant.laid_out c.p.invariant.lawful c.args.m.0 c.requires.named in let m : ℕ = c.args.m.0 in let out : c.me.inside.seat.me.0.part.spin ≡ None = ap (λ k. k.spin) c.me.view_is ∙ c.requires.outside.0 in let apart : c.me.inside.seat.me.0.part.stand ≡ None = ap (λ k. k.stand) c.me.view_is ∙ c.requires.outside.1 in let i = c.me.invariant in let h = i.hands in let u = (c.compare_exchange-found.ensures.2 m c.mutex_bit.ensures).0 c.if-found-eq0.true in
+invariant_of-me g c = let near = mutex_low _ _ _ _ c.p.view_is c.p.invariant.laid_out c.p.invariant.lawful c.args.m.0 c.requires.named in let m : ℕ = c.args.m.0 in let out : c.me.inside.seat.me.0.part.spin ≡ None = ap (λ k. k.spin) c.me.view_is ∙ c.requires.outside.0 in let i = c.me.invariant in let h = i.hands in let u = (c.compare_exchange-found.ensures.2 m c.mutex_bit.ensures).0 c.if-found-eq0.true in
     let far : value_at m < 256 = omega arith in
     fit_moved _ _ c.me.inside.number c.me.inside.hand _ c.me.inside.seat.me _ _ ((value_at m, Value (Some u.0)) ∷ c.me.inside.seat.me.1) c.compare_exchange-found.ensures.0 u.6 i ((λ j. value_at m ∷ i.keyed j) ∙ sym c.take.ensures) (h.value_lacked m u.4, i.distinct) (far, i.below) (length-set c.me.inside.seat.me.0.part.held m (Some u.0))
     (hands-won c.me.inside.seat.me.0.part _ c.me.inside.seat.me.1 ((value_at m, Value (Some u.0)) ∷ c.me.inside.seat.me.1) m u.0 near i.wide refl refl out refl refl h)
 
 pub invariant_of-me-else-found-eq0 : goal.invariant_of-me-else-found-eq0
-invariant_of-me-else-found-eq0 g c = let near = mutex_low _ _ _ _ c.p.view_is c.p.invariant.laid_out c.p.invariant.lawful c.args.m.0 c.requires.named in let m : ℕ = c.args.m.0 in let out : c.me.inside.seat.me.0.part.spin ≡ None = ap (λ k. k.spin) c.me.view_is ∙ c.requires.outside.0 in let apart : c.me.inside.seat.me.0.part.stand ≡ None = ap (λ k. k.stand) c.me.view_is ∙ c.requires.outside.1 in let i = c.me.invariant in let h = i.hands in fit_still _ _ c.me.inside.number c.me.inside.hand c.me.inside.seat.me _ _ c.compare_exchange-found.ensures.0 ((c.compare_exchange-found.ensures.2 m c.mutex_bit.ensures).1 c.if-found-eq0.false) i refl (hands-same c.me.inside.seat.me.0.part _ c.me.inside.seat.me.1 _ (λ k. refl) refl refl refl h.room h.settled h)
+invariant_of-me-else-found-eq0 g c = let m : ℕ = c.args.m.0 in let i = c.me.invariant in fit_noted _ _ c.me.inside.number c.me.inside.hand c.me.inside.seat.me _ _ c.compare_exchange-found.ensures.0 ((c.compare_exchange-found.ensures.2 m c.mutex_bit.ensures).1 c.if-found-eq0.false) i refl refl refl refl refl
 
 pub returns-then-found-eq0-clause-event : goal.returns-then-found-eq0-clause-event
-returns-then-found-eq0-clause-event g c = let near = mutex_low _ _ _ _ c.p.view_is c.p.invariant.laid_out c.p.invariant.lawful c.args.m.0 c.requires.named in let m : ℕ = c.args.m.0 in let i = c.me.invariant in let u = (c.compare_exchange-found.ensures.2 m c.mutex_bit.ensures).0 c.if-found-eq0.true in let is_event = sym (by_taking c.me.inside.seat.me.0.number m c.me.inside.seat.me.0.part.wait c.args.e (subst (λ (z : ℕ × Opt Wait). MayTake z.0 m z.1 c.args.e) (λ j. ((sym (c.me.invariant.numbered ∙ ap (λ k. k.number) c.me.view_is)) j, ap (λ k. k.wait) (sym c.me.view_is) j)) c.requires.may)) in
+returns-then-found-eq0-clause-event g c = let m : ℕ = c.args.m.0 in let i = c.me.invariant in let u = (c.compare_exchange-found.ensures.2 m c.mutex_bit.ensures).0 c.if-found-eq0.true in let is_event = sym (by_taking c.me.inside.seat.me.0.number m c.me.inside.seat.me.0.part.wait c.args.e (subst (λ (z : ℕ × Opt Wait). MayTake z.0 m z.1 c.args.e) (λ j. ((sym (c.me.invariant.numbered ∙ ap (λ k. k.number) c.me.view_is)) j, ap (λ k. k.wait) (sym c.me.view_is) j)) c.requires.may)) in
     λ _. as_known (λ z m' a. Makes c.args.e a (known_as z c.me.inside.number m' c.me.inside.entries.items c.me.inside.lost c.me.inside.next)) _ _ _ _ _ c.me.inside.seat.me _ _ _ c.me.view_is c.compare_exchange-found.ensures.0 u.6
     (u.1, subst (λ (z : ℕ × Event). Grows z.0 c.me.inside.seat.me.0.part u.1 z.1) (λ j. (i.numbered j, is_event j)) u.3, (λ j. (c.me.inside.seat.me.0.part.seen ++ u.1) ++ is_event j ∷ []), (λ j. c.me.inside.seat.me.0.part.mine ++ is_event j ∷ []), refl)
 
 pub returns-then-found-eq0-clause-lacked : goal.returns-then-found-eq0-clause-lacked
-returns-then-found-eq0-clause-lacked g c = let near = mutex_low _ _ _ _ c.p.view_is c.p.invariant.laid_out c.p.invariant.lawful c.args.m.0 c.requires.named in let m : ℕ = c.args.m.0 in let u = (c.compare_exchange-found.ensures.2 m c.mutex_bit.ensures).0 c.if-found-eq0.true in λ _. ap (λ k. get_elem? k.held m) (sym c.me.view_is) ∙ u.4
+returns-then-found-eq0-clause-lacked g c = let m : ℕ = c.args.m.0 in let u = (c.compare_exchange-found.ensures.2 m c.mutex_bit.ensures).0 c.if-found-eq0.true in λ _. ap (λ k. get_elem? k.held m) (sym c.me.view_is) ∙ u.4
 
 pub returns-then-found-eq0-clause-won : goal.returns-then-found-eq0-clause-won
 returns-then-found-eq0-clause-won g c = let near = mutex_low _ _ _ _ c.p.view_is c.p.invariant.laid_out c.p.invariant.lawful c.args.m.0 c.requires.named in let m : ℕ = c.args.m.0 in let i = c.me.invariant in let u = (c.compare_exchange-found.ensures.2 m c.mutex_bit.ensures).0 c.if-found-eq0.true in
@@ -69,7 +68,7 @@ returns-then-found-eq0-clause-won g c = let near = mutex_low _ _ _ _ c.p.view_is
     λ _. (u.0, r.0, r.1, r.2, r.3)
 
 pub returns-else-found-eq0-clause-lost : goal.returns-else-found-eq0-clause-lost
-returns-else-found-eq0-clause-lost g c = let near = mutex_low _ _ _ _ c.p.view_is c.p.invariant.laid_out c.p.invariant.lawful c.args.m.0 c.requires.named in let m : ℕ = c.args.m.0 in λ _. noted (λ _ p. record p { failed = m ∷ p.failed; turns = without m p.turns }) _ _ _ _ _ c.me.inside.seat.me _ _ c.me.view_is c.compare_exchange-found.ensures.0 ((c.compare_exchange-found.ensures.2 m c.mutex_bit.ensures).1 c.if-found-eq0.false)
+returns-else-found-eq0-clause-lost g c = let m : ℕ = c.args.m.0 in λ _. noted (λ _ p. record p { failed = m ∷ p.failed; turns = without m p.turns }) _ _ _ _ _ c.me.inside.seat.me _ _ c.me.view_is c.compare_exchange-found.ensures.0 ((c.compare_exchange-found.ensures.2 m c.mutex_bit.ensures).1 c.if-found-eq0.false)
 
 pub returns-else-found-eq0-clause-won : goal.returns-else-found-eq0-clause-won
 returns-else-found-eq0-clause-won g c = λ hit. absurd (c.if-found-eq0.false hit)

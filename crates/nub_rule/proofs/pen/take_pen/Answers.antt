@@ -2,9 +2,7 @@ use Rattle.std.proofs.Common.{rules, ◌≡◌, ◌≢◌, refl}
 use mathlib.Core.Logic.{dite}
 use native.Mathlib.Decide.{ℕ_discrete}
 use Rattle.nub_rule.specs.declared.view.Pen.TheVariants.{Taken}
-use Rattle.nub_rule.proofs.AtHand.{noted}
-use Rattle.nub_rule.proofs.Handling.{hands-same}
-use Rattle.nub_rule.proofs.Seen.{fit_still}
+use Rattle.nub_rule.proofs.AtHand.{noted, fit_noted}
 use Rattle.nub_rule.proofs.Penning.{take_pen_keeps}
 use Rattle.nub_rule.proofs.pen.take_pen.Goals as goal
 
@@ -12,9 +10,9 @@ pub compare_exchange-requires-clause-allowed : goal.compare_exchange-requires-cl
 compare_exchange-requires-clause-allowed g c κs within = take_pen_keeps _ _ _ _ _ _ _ _ (search rules) (search rules) (search rules)
 
 pub invariant_of-me : goal.invariant_of-me
-invariant_of-me g c = let i = c.me.invariant in let h = i.hands in let e = c.compare_exchange.ensures in dite (ℕ_discrete c.compare_exchange.result 0)
-    (λ hit. fit_still _ _ c.me.inside.number c.me.inside.hand c.me.inside.seat.me _ _ e.0 (e.2.0 hit) i refl (hands-same c.me.inside.seat.me.0.part _ c.me.inside.seat.me.1 _ (λ k. refl) refl refl refl h.room h.settled h))
-    (λ miss. fit_still _ _ c.me.inside.number c.me.inside.hand c.me.inside.seat.me _ _ e.0 (e.2.1 miss).1 i refl (hands-same c.me.inside.seat.me.0.part _ c.me.inside.seat.me.1 _ (λ k. refl) refl refl refl h.room h.settled h))
+invariant_of-me g c = let i = c.me.invariant in let e = c.compare_exchange.ensures in dite (ℕ_discrete c.compare_exchange.result 0)
+    (λ hit. fit_noted _ _ c.me.inside.number c.me.inside.hand c.me.inside.seat.me _ _ e.0 (e.2.0 hit) i refl refl refl refl refl)
+    (λ miss. fit_noted _ _ c.me.inside.number c.me.inside.hand c.me.inside.seat.me _ _ e.0 (e.2.1 miss).1 i refl refl refl refl refl)
 
 pub returns-clause-lost : goal.returns-clause-lost
 returns-clause-lost g c = λ miss. let e = c.compare_exchange.ensures in ((e.2.1 miss).0, noted (λ _ p. p) _ _ _ _ _ c.me.inside.seat.me _ _ c.me.view_is e.0 (e.2.1 miss).1)

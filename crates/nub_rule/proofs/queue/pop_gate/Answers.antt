@@ -28,7 +28,7 @@ pub pop_line-first-requires : goal.pop_line-first-requires
 pop_line-first-requires g c = let a = at_hand g (goal.at.pop_line-first-requires g c).After-bring in (c.me.inside.seat.me.0.part.queue, same_slot c.number-o.result _ _ _ _ c.slot_mut.ensures.value a.first)
 
 pub store-requires-clause-inside : goal.store-requires-clause-inside
-store-requires-clause-inside g c κs within = let a = at_hand g (goal.at.store-requires-clause-inside g c).After-bring in let line = c.pop_line-first.ensures c.me.inside.seat.me.0.part.queue (same_slot c.number-o.result _ _ _ _ c.slot_mut.ensures.value a.first) in let low = gate_low _ _ _ _ c.p.view_is c.p.invariant.laid_out c.p.invariant.lawful c.args.at c.requires.gate c.requires.named in let is = c.number-o.ensures in let word = c.length_word.ensures in omega arith
+store-requires-clause-inside g c κs within = let low = gate_low _ _ _ _ c.p.view_is c.p.invariant.laid_out c.p.invariant.lawful c.args.at c.requires.gate c.requires.named in let word = c.length_word.ensures in omega arith
 
 pub store-requires-clause-allowed : goal.store-requires-clause-allowed
 store-requires-clause-allowed g c κs within = let a = at_hand g (goal.at.store-requires-clause-allowed g c).After-bring in let line = c.pop_line-first.ensures c.me.inside.seat.me.0.part.queue (same_slot c.number-o.result _ _ _ _ c.slot_mut.ensures.value a.first) in let low = gate_low _ _ _ _ c.p.view_is c.p.invariant.laid_out c.p.invariant.lawful c.args.at c.requires.gate c.requires.named in let is = c.number-o.ensures in let word = c.length_word.ensures in pop_gate_keeps _ _ _ _ _ _ _ (object_of c.args.at) _ (c.bring.new.seat.me.0, _) _ c.length_word.ensures low (ap (λ v. v.kind) a.same ∙ c.me.invariant.member) (ap (λ v. v.part.spin) a.same ∙ (a.spins ∙ ap (λ (z : ℕ). Some z) is)) (line.1 ∙ (λ j. length (behind (sym a.same j).part.queue)))

@@ -4,27 +4,24 @@ use native.Mathlib.Decide.{ℕ_discrete}
 use Rattle.larch_actions.specs.Sets.{mem, without}
 use Rattle.nub_rule.specs.Objects.{object_of}
 use Rattle.nub_rule.proofs.Naming.{object_low}
-use Rattle.nub_rule.proofs.Handling.{hands-same}
-use Rattle.nub_rule.proofs.AtHand.{noted}
-use Rattle.nub_rule.proofs.Seen.{fit_still}
+use Rattle.nub_rule.proofs.AtHand.{noted, fit_noted}
 use Rattle.nub_rule.proofs.Penning.{either_way as both}
 use Rattle.nub_rule.proofs.QueueSteps.{read_length_keeps}
 use Rattle.nub_rule.proofs.queue.read_length.Goals as goal
 
 pub load-requires-clause-inside : goal.load-requires-clause-inside
-load-requires-clause-inside g c κs within = let low = object_low _ _ _ _ c.p.view_is c.p.invariant.laid_out c.p.invariant.lawful c.args.at c.requires.named in let word = c.length_word.ensures in
-    omega arith
+load-requires-clause-inside g c κs within = let low = object_low _ _ _ _ c.p.view_is c.p.invariant.laid_out c.p.invariant.lawful c.args.at c.requires.named in let word = c.length_word.ensures in omega arith
 
 pub load-requires-clause-allowed : goal.load-requires-clause-allowed
 load-requires-clause-allowed g c κs within = let low = object_low _ _ _ _ c.p.view_is c.p.invariant.laid_out c.p.invariant.lawful c.args.at c.requires.named in let word = c.length_word.ensures in
     read_length_keeps _ _ _ _ _ _ _ (object_of c.args.at) c.me.inside.seat.me _ word (omega arith) c.me.invariant.member
 
 pub invariant_of-me : goal.invariant_of-me
-invariant_of-me g c = let o : ℕ = object_of c.args.at in let i = c.me.invariant in let h = i.hands in let u = c.load.ensures.2 o c.length_word.ensures in dite (ℕ_discrete c.load.result 0)
-    (λ hit. fit_still _ _ c.me.inside.number c.me.inside.hand c.me.inside.seat.me _ _ c.load.ensures.0 (u.0 hit) i refl (hands-same c.me.inside.seat.me.0.part _ c.me.inside.seat.me.1 _ (λ k. refl) refl refl refl h.room h.settled h))
+invariant_of-me g c = let o : ℕ = object_of c.args.at in let i = c.me.invariant in let u = c.load.ensures.2 o c.length_word.ensures in dite (ℕ_discrete c.load.result 0)
+    (λ hit. fit_noted _ _ c.me.inside.number c.me.inside.hand c.me.inside.seat.me _ _ c.load.ensures.0 (u.0 hit) i refl refl refl refl refl)
     (λ miss. both (mem o c.me.inside.seat.me.0.part.cleared)
-    (λ there. fit_still _ _ c.me.inside.number c.me.inside.hand c.me.inside.seat.me _ _ c.load.ensures.0 (u.1 miss there) i refl (hands-same c.me.inside.seat.me.0.part _ c.me.inside.seat.me.1 _ (λ k. refl) refl refl refl h.room h.settled h))
-    (λ away. fit_still _ _ c.me.inside.number c.me.inside.hand c.me.inside.seat.me _ _ c.load.ensures.0 (u.2 miss away) i refl (hands-same c.me.inside.seat.me.0.part _ c.me.inside.seat.me.1 _ (λ k. refl) refl refl refl h.room h.settled h)))
+    (λ there. fit_noted _ _ c.me.inside.number c.me.inside.hand c.me.inside.seat.me _ _ c.load.ensures.0 (u.1 miss there) i refl refl refl refl refl)
+    (λ away. fit_noted _ _ c.me.inside.number c.me.inside.hand c.me.inside.seat.me _ _ c.load.ensures.0 (u.2 miss away) i refl refl refl refl refl))
 
 pub returns-clause-empty : goal.returns-clause-empty
 returns-clause-empty g c = let o : ℕ = object_of c.args.at in

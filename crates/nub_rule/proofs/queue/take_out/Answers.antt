@@ -28,7 +28,7 @@ pub leave_line-requires : goal.leave_line-requires
 leave_line-requires g c = let a = at_hand g (goal.at.leave_line-requires g c).After-bring in (c.me.inside.seat.me.0.part.queue, same_slot c.number-o.result _ _ _ _ c.slot_mut.ensures.value a.first)
 
 pub store-requires-clause-inside : goal.store-requires-clause-inside
-store-requires-clause-inside g c κs within = let a = at_hand g (goal.at.store-requires-clause-inside g c).After-bring in let line = c.leave_line.ensures.out c.me.inside.seat.me.0.part.queue c.in-Some.length (same_slot c.number-o.result _ _ _ _ c.slot_mut.ensures.value a.first) c.in-Some.is in let num = ap (λ v. v.number) a.same ∙ c.me.invariant.numbered in let low = gate_low _ _ _ _ c.p.view_is c.p.invariant.laid_out c.p.invariant.lawful c.args.at c.requires.gate c.requires.named in let is = c.number-o.ensures in let word = c.length_word.ensures in omega arith
+store-requires-clause-inside g c κs within = let low = gate_low _ _ _ _ c.p.view_is c.p.invariant.laid_out c.p.invariant.lawful c.args.at c.requires.gate c.requires.named in let word = c.length_word.ensures in omega arith
 
 pub store-requires-clause-allowed : goal.store-requires-clause-allowed
 store-requires-clause-allowed g c κs within = let a = at_hand g (goal.at.store-requires-clause-allowed g c).After-bring in let line = c.leave_line.ensures.out c.me.inside.seat.me.0.part.queue c.in-Some.length (same_slot c.number-o.result _ _ _ _ c.slot_mut.ensures.value a.first) c.in-Some.is in let num = ap (λ v. v.number) a.same ∙ c.me.invariant.numbered in let low = gate_low _ _ _ _ c.p.view_is c.p.invariant.laid_out c.p.invariant.lawful c.args.at c.requires.gate c.requires.named in let is = c.number-o.ensures in let word = c.length_word.ensures in take_out_keeps _ _ _ _ _ _ _ (object_of c.args.at) _ (c.bring.new.seat.me.0, _) c.requires.clear.0 _ c.length_word.ensures low (ap (λ v. v.kind) a.same ∙ c.me.invariant.member) (ap (λ v. v.part.spin) a.same ∙ (a.spins ∙ ap (λ (z : ℕ). Some z) is))

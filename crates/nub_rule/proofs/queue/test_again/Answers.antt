@@ -12,7 +12,7 @@ use Rattle.nub_rule.proofs.ReadySteps.{test_again_keeps}
 use Rattle.nub_rule.proofs.queue.test_again.Goals as goal
 
 pub load-requires-clause-inside : goal.load-requires-clause-inside
-load-requires-clause-inside g c κs within = let low = object_low _ _ _ _ c.p.view_is c.p.invariant.laid_out c.p.invariant.lawful c.args.at c.requires.named in let t = c.requires.untested in let word = c.bit_word.ensures in omega arith
+load-requires-clause-inside g c κs within = let low = object_low _ _ _ _ c.p.view_is c.p.invariant.laid_out c.p.invariant.lawful c.args.at c.requires.named in let word = c.bit_word.ensures in omega arith
 
 pub load-requires-clause-allowed : goal.load-requires-clause-allowed
 load-requires-clause-allowed g c κs within = let low = object_low _ _ _ _ c.p.view_is c.p.invariant.laid_out c.p.invariant.lawful c.args.at c.requires.named in let t = c.requires.untested in let word = c.bit_word.ensures in test_again_keeps _ _ _ _ _ _ _ _ c.me.inside.seat.me t.0 Clear Tested c.me.invariant.member (ap (λ k. k.stand) c.me.view_is ∙ t.1) (word ∙ ap bit_at (sym t.2.0)) tt (λ f. f) (λ f. f) (λ f. f) (λ f. f)

@@ -10,8 +10,7 @@ use Rattle.nub_rule.proofs.ReadySteps.{clear_ready_keeps}
 use Rattle.nub_rule.proofs.ready.clear_ready.Goals as goal
 
 pub swap-requires-clause-inside : goal.swap-requires-clause-inside
-swap-requires-clause-inside g c κs within = let i = c.me.invariant in let t = c.requires.ready in
-    (let low = i.few in let e = c.ready_word.ensures in omega arith)
+swap-requires-clause-inside g c κs within = let low = c.me.invariant.few in let e = c.ready_word.ensures in omega arith
 
 pub swap-requires-clause-allowed : goal.swap-requires-clause-allowed
 swap-requires-clause-allowed g c κs within = let i = c.me.invariant in let t = c.requires.ready in

@@ -12,7 +12,7 @@ use Rattle.nub_rule.proofs.ReadySteps.{read_ready_keeps}
 use Rattle.nub_rule.proofs.ready.read_ready.Goals as goal
 
 pub load-requires-clause-inside : goal.load-requires-clause-inside
-load-requires-clause-inside g c κs within = let i = c.me.invariant in let t = c.requires.tested in (let low = i.few in let e = c.ready_word.ensures in omega arith)
+load-requires-clause-inside g c κs within = let low = c.me.invariant.few in let e = c.ready_word.ensures in omega arith
 
 pub load-requires-clause-allowed : goal.load-requires-clause-allowed
 load-requires-clause-allowed g c κs within = let i = c.me.invariant in let t = c.requires.tested in read_ready_keeps _ _ _ _ _ _ _ _ c.me.inside.seat.me t.0 (c.ready_word.ensures ∙ ap ready_at (sym i.numbered)) i.member (ap (λ k. k.stand) c.me.view_is ∙ t.1) t.2 (ap (λ k. k.cleared) c.me.view_is ∙ c.requires.looked)

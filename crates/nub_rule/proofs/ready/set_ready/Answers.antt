@@ -7,7 +7,7 @@ use Rattle.nub_rule.proofs.ReadySteps.{set_ready_keeps}
 use Rattle.nub_rule.proofs.ready.set_ready.Goals as goal
 
 pub swap-requires-clause-inside : goal.swap-requires-clause-inside
-swap-requires-clause-inside g c κs within = let i = c.me.invariant in let h = i.hands in (let low = c.requires.named in let e = c.ready_word.ensures in omega arith)
+swap-requires-clause-inside g c κs within = let low = c.requires.named in let e = c.ready_word.ensures in omega arith
 
 pub swap-requires-clause-allowed : goal.swap-requires-clause-allowed
 swap-requires-clause-allowed g c κs within = let i = c.me.invariant in let h = i.hands in set_ready_keeps _ _ _ _ _ _ _ _ _ _ c.ready_word.ensures c.requires.named i.member h.settled h.below (ap (λ k. mem c.args.t.0 k.owed) c.me.view_is ∙ c.requires.owed)

@@ -17,8 +17,7 @@ pub bring-requires-clause-there : goal.bring-requires-clause-there
 bring-requires-clause-there g c = let is = c.number-o.ensures in let o : ℕ = c.number-o.result in let here : c.me.inside.seat.me.0.part.spin ≡ Some o = ap (λ k. k.spin) c.me.view_is ∙ (c.requires.inside ∙ ap (λ (z : ℕ). Some z) (sym is)) in (Queue (line_of c.me.inside.seat.me.0.part.queue), c.me.invariant.hands.queue_in o here)
 
 pub swap-requires-clause-inside : goal.swap-requires-clause-inside
-swap-requires-clause-inside g c κs within = let low = object_low _ _ _ _ c.p.view_is c.p.invariant.laid_out c.p.invariant.lawful c.args.at c.requires.named in let is = c.number-o.ensures in let o : ℕ = c.number-o.result in let here : c.me.inside.seat.me.0.part.spin ≡ Some o = ap (λ k. k.spin) c.me.view_is ∙ (c.requires.inside ∙ ap (λ (z : ℕ). Some z) (sym is)) in let word = c.spin_word.ensures ∙ ap spin_at (sym is) in let same = c.bring.ensures.same.2 in let q = ap (λ v. v.part) same in
-    let first = c.bring.ensures.first _ (c.me.invariant.hands.queue_in o here) in omega arith
+swap-requires-clause-inside g c κs within = let low = object_low _ _ _ _ c.p.view_is c.p.invariant.laid_out c.p.invariant.lawful c.args.at c.requires.named in let word = c.spin_word.ensures in omega arith
 
 pub swap-requires-clause-allowed : goal.swap-requires-clause-allowed
 swap-requires-clause-allowed g c κs within = let low = object_low _ _ _ _ c.p.view_is c.p.invariant.laid_out c.p.invariant.lawful c.args.at c.requires.named in let is = c.number-o.ensures in let o : ℕ = c.number-o.result in let here : c.me.inside.seat.me.0.part.spin ≡ Some o = ap (λ k. k.spin) c.me.view_is ∙ (c.requires.inside ∙ ap (λ (z : ℕ). Some z) (sym is)) in let word = c.spin_word.ensures ∙ ap spin_at (sym is) in let same = c.bring.ensures.same.2 in let q = ap (λ v. v.part) same in

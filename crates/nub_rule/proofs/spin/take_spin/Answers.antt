@@ -6,18 +6,17 @@ use Rattle.nub_rule.specs.Known.{known_as}
 use Rattle.nub_rule.specs.Objects.{object_of}
 use Rattle.nub_rule.specs.Parts.{stands_at}
 use Rattle.nub_rule.specs.Places.{spin_at}
-use Rattle.nub_rule.proofs.Handling.{values-same, hands-same, hands-spun}
+use Rattle.nub_rule.proofs.Handling.{values-same, hands-spun}
 use Rattle.nub_rule.proofs.Naming.{object_low, some_or_none}
 use Rattle.nub_rule.proofs.Room.{room_for}
-use Rattle.nub_rule.proofs.AtHand.{noted}
-use Rattle.nub_rule.proofs.Seen.{as_known, fit_moved, fit_still}
+use Rattle.nub_rule.proofs.AtHand.{noted, fit_noted}
+use Rattle.nub_rule.proofs.Seen.{as_known, fit_moved}
 use Rattle.nub_rule.proofs.SpinSteps.{take_spin_keeps}
 use Rattle.nub_rule.proofs.Turns.{find-else}
 use Rattle.nub_rule.proofs.spin.take_spin.Goals as goal
 
 pub compare_exchange-found-requires-clause-inside : goal.compare_exchange-found-requires-clause-inside
-compare_exchange-found-requires-clause-inside g c κs within = let low = object_low _ _ _ _ c.p.view_is c.p.invariant.laid_out c.p.invariant.lawful c.args.at c.requires.named in let is = c.number-o.ensures in
-    let word = c.spin_word.ensures in omega arith
+compare_exchange-found-requires-clause-inside g c κs within = let low = object_low _ _ _ _ c.p.view_is c.p.invariant.laid_out c.p.invariant.lawful c.args.at c.requires.named in let word = c.spin_word.ensures in omega arith
 
 pub compare_exchange-found-requires-clause-allowed : goal.compare_exchange-found-requires-clause-allowed
 compare_exchange-found-requires-clause-allowed g c κs within = let low = object_low _ _ _ _ c.p.view_is c.p.invariant.laid_out c.p.invariant.lawful c.args.at c.requires.named in let is = c.number-o.ensures in
@@ -54,7 +53,7 @@ returns-then-found-eq0-clause-there g c = let u = c.compare_exchange-found.ensur
     λ _ there. (λ j. stands_at ((ap (λ k. k.stand) (sym c.me.view_is)) j) (sym c.number-o.ensures j)) ∙ u.4 ((λ j. mem ((c.me.invariant.numbered ∙ ap (λ k. k.number) c.me.view_is) j) (ap (λ m. m.0.part.queue) (sym u.5) j)) ∙ there)
 
 pub invariant_of-me-else-found-eq0 : goal.invariant_of-me-else-found-eq0
-invariant_of-me-else-found-eq0 g c = let i = c.me.invariant in let h = i.hands in let e = c.compare_exchange-found.ensures in fit_still _ _ c.me.inside.number c.me.inside.hand c.me.inside.seat.me _ _ e.0 (e.2.1 c.if-found-eq0.false).1 i refl (hands-same c.me.inside.seat.me.0.part _ c.me.inside.seat.me.1 _ (λ k. refl) refl refl refl h.room h.settled h)
+invariant_of-me-else-found-eq0 g c = let i = c.me.invariant in let e = c.compare_exchange-found.ensures in fit_noted _ _ c.me.inside.number c.me.inside.hand c.me.inside.seat.me _ _ e.0 (e.2.1 c.if-found-eq0.false).1 i refl refl refl refl refl
 
 pub returns-else-found-eq0-clause-lost : goal.returns-else-found-eq0-clause-lost
 returns-else-found-eq0-clause-lost g c = λ miss. let e = c.compare_exchange-found.ensures in ((e.2.1 miss).0, noted (λ _ p. p) _ _ _ _ _ c.me.inside.seat.me _ _ c.me.view_is e.0 (e.2.1 miss).1)

@@ -1,4 +1,8 @@
-use Rattle.std.proofs.Common.{◌≡◌, rules, arith, ap, sym, ◌∙◌}
+use Rattle.std.proofs.Common.{◌≡◌, [], false, rules, arith, ap, sym, ◌∙◌, vec_capacity}
+use Rattle.nub_rule.specs.declared.view.Kind.TheVariants.{Member}
+use Rattle.nub_rule.specs.Known.{known_as}
+use Rattle.nub_rule.specs.Parts.{fresh}
+use Rattle.nub_rule.specs.Rule.{begun}
 use Rattle.nub_rule.proofs.Ends.{first_fits}
 use Rattle.nub_rule.proofs.Seats.{splits}
 use Rattle.nub_rule.proofs.whole.cut.Goals as goal
@@ -15,4 +19,12 @@ invariant_of-result g c =
     let wide = c.p.invariant.slots in
     let few = c.p.invariant.lawful.threads in
     let below = c.requires.next.1 in
-    first_fits g.U.Uses.begin c.args.root.now.me.0 _ c.split_off-seat.result.me c.args.number c.new.result _ _ c.split_off-seat.ensures.seat.1 c.requires.next.0 c.new.ensures c.requires.empty.1 (λ z. let r = c.requires.room z in omega arith) (omega arith)
+    first_fits g.U.Uses.begin c.args.root.now.me.0 _ c.split_off-seat.result.me c.args.number c.new-hand.result _ _ c.split_off-seat.ensures.seat.1 c.requires.next.0 c.new-hand.ensures (ap (λ v. v.items) c.replace-own.ensures.value ∙ c.requires.empty) (λ z. let m = ap (λ v. vec_capacity v) c.replace-own.ensures.value in let r = c.requires.room z in omega arith) (omega arith)
+
+pub returns-clause-empty : goal.returns-clause-empty
+returns-clause-empty g c = ap (λ v. v.items) c.replace-own.ensures.after ∙ c.new-none.ensures.items
+
+pub returns-clause-thread : goal.returns-clause-thread
+returns-clause-thread g c = let s = c.split_off-seat.ensures.seat in
+    (λ j. known_as (s.0 j) c.args.number (s.1 j) (c.new-entries.ensures.items j) false 0)
+    ∙ (λ j. known_as c.args.root.now.table_id c.args.number (record { world = c.requires.world j; kind = Member; number = 0; part = fresh (begun g.U.Uses.begin (c.requires.next.0 j) (c.requires.world j)); next = 0; back = [] }, []) [] false 0)

@@ -1,4 +1,4 @@
-use Rattle.std.proofs.Common.{rules, arith, vec_capacity, ◌≢◌, [], map, append_assoc, ⊎_elim, ◌≡◌, ◌+◌, ◌++◌, ◌∷◌, ◌∙◌, ap, sym, length, length-append}
+use Rattle.std.proofs.Common.{ℕ, arith, vec_capacity, ◌≢◌, ◌≤◌, [], map, append_assoc, ⊎_elim, ◌≡◌, ◌+◌, ◌++◌, ◌∷◌, ◌∙◌, ap, sym, length, length-append}
 use lib.ListN.{get_elem?}
 use Rattle.std.proofs.lemmas.List.{length-map, map-append}
 use Rattle.std.proofs.lemmas.Bool.{cases_eq}
@@ -7,6 +7,16 @@ use Rattle.nub_rule.proofs.Each.{all_read, at_middle}
 use Rattle.nub_rule.proofs.Ends.{no_slots, push_maps}
 use Rattle.nub_rule.proofs.Seats.{collects, joins}
 use Rattle.nub_rule.proofs.whole.gather_all.Goals as goal
+
+-- the room of the first thread is the one that is kept
+first_kept : (number read slots own room kept before : ℕ) → (number ≡ 0 → room ≡ kept) → (number ≢ 0 → room ≡ before) → number ≡ read → own ≡ slots → (number ≡ 0 → own ≤ 192 + kept) → (1 ≤ read → slots ≤ 192 + before) → slots ≤ 192 + room
+first_kept number read slots own room kept before first later order same fits held = ⊎_elim
+    (λ (e : number ≡ 0). let is = first e in let low = fits e in omega arith)
+    (λ (e : number ≢ 0). let is = later e in let low = held (omega arith) in omega arith)
+    (cases_eq number 0)
+
+still_room : (n a b : ℕ) → n ≤ a → b ≡ a → n ≤ b
+still_room n a b h e = omega arith
 
 pub collector-seat-requires-clause-enters : goal.collector-seat-requires-clause-enters
 collector-seat-requires-clause-enters g c κs within = collects _ _ _ g.U.Uses.begin _ _ _
@@ -45,22 +55,10 @@ loop-thread-preserved g c = let t = c.in-Some.thread in let i = c.loop-thread.in
       all = i.all ∙ (ap (λ l. c.loop-thread.yielded ++ l) c.in-Some.ensures.steps.0 ∙ sym (append_assoc c.loop-thread.yielded (t ∷ []) c.next.new.self.rest.items));
       entries = push_maps (λ s. s.entries.items) (λ t. t.entries) c.loop-thread.stored.items c.push_reserved.new.self.items c.loop-thread.yielded _ t i.entries c.push_reserved.ensures.items (ap (λ k. k.entries) v);
       losses = push_maps (λ s. s.lost) (λ t. t.lost) c.loop-thread.stored.items c.push_reserved.new.self.items c.loop-thread.yielded _ t i.losses c.push_reserved.ensures.items (ap (λ k. k.lost) v);
-      shelf = let a = i.shelf in let b = c.push_reserved.ensures.capacity in omega arith;
+      shelf = still_room _ _ _ i.shelf c.push_reserved.ensures.capacity;
       empty = c.first_room-room.ensures.empty;
-      room = λ _. ⊎_elim
-          (λ (e : t.number ≡ 0).
-          let is = c.first_room-room.ensures.first (num ∙ e) in
-          let fits = c.thread.invariant.roomy (num ∙ e) in
-          let slots : c.thread.inside.seat.table_id.slots ≡ c.args.shared.now.table_id.slots = ap (λ z. z.slots) (ap (λ k. k.table_id) v ∙ f.1) in
-          let same : vec_capacity c.first_room-room.result ≡ vec_capacity c.thread.inside.room = ap (λ r. vec_capacity r) is in
-          omega arith)
-          (λ (e : t.number ≢ 0).
-          let is = c.first_room-room.ensures.later (λ z. e (sym num ∙ z)) in
-          let order = f.0 in
-          let fits = i.room (omega arith) in
-          let same : vec_capacity c.first_room-room.result ≡ vec_capacity c.loop-thread.room = ap (λ r. vec_capacity r) is in
-          omega arith)
-          (cases_eq t.number 0);
+      room = λ some. first_kept t.number (length c.loop-thread.yielded) _ _ _ _ _ (λ z. ap (λ r. vec_capacity r) (c.first_room-room.ensures.first (num ∙ z)))
+          (λ ne. ap (λ r. vec_capacity r) (c.first_room-room.ensures.later (λ z. ne (sym num ∙ z)))) f.0 (ap (λ z. z.slots) (ap (λ k. k.table_id) v ∙ f.1)) (λ z. c.thread.invariant.roomy (num ∙ z)) i.room;
     }
 
 pub returns-clause-back : goal.returns-clause-back
