@@ -66,8 +66,9 @@ fn two_parsers_meet_and_the_closing_walk_is_asked_nothing(rt: HostRuntime) -> Re
         &paths,
         &meeting,
         project_index(),
-    )?;
-    assert!(rt; seen.found);
+    );
+    drop(tree);
+    assert!(rt; seen?.found);
     assert!(rt; meeting.was_kept());
     Ok(())
 }

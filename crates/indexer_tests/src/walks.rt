@@ -76,11 +76,12 @@ fn failed_at(answer: WalkAnswer) -> Option<Text> {
 #[test]
 fn whole_tree_is_indexed(rt: HostRuntime) -> Result<(), Fail> {
     let mut tree = small_tree(rt.alloc())?;
-    let piece = whole(rt.alloc(), &mut tree, "p")?;
-    let counts = counts(&piece);
-    drop(piece);
+    let piece = whole(rt.alloc(), &mut tree, "p");
     let calls = calls(&tree);
     drop(tree);
+    let piece = piece?;
+    let counts = counts(&piece);
+    drop(piece);
     assert_eq!(rt; counts, (3, 2, 3));
     assert_eq!(rt; calls, (2, 3));
     Ok(())
@@ -89,10 +90,11 @@ fn whole_tree_is_indexed(rt: HostRuntime) -> Result<(), Fail> {
 #[test]
 fn walk_stops_at_one_file_too_many(rt: HostRuntime) -> Result<(), Fail> {
     let mut tree = small_tree(rt.alloc())?;
-    let answer = index_of(rt.alloc(), &mut tree, "p", Some(2))?;
+    let answer = index_of(rt.alloc(), &mut tree, "p", Some(2));
+    drop(tree);
+    let answer = answer?;
     let stopped = stopped_at(&answer);
     drop(answer);
-    drop(tree);
     assert_eq!(rt; stopped, Some(3));
     Ok(())
 }
@@ -101,9 +103,9 @@ fn walk_stops_at_one_file_too_many(rt: HostRuntime) -> Result<(), Fail> {
 fn fault_names_its_path(rt: HostRuntime) -> Result<(), Fail> {
     let mut tree = small_tree(rt.alloc())?;
     tree.fail_at("p/d/a")?;
-    let answer = index_of(rt.alloc(), &mut tree, "p", None)?;
+    let answer = index_of(rt.alloc(), &mut tree, "p", None);
     drop(tree);
-    let Some(path) = failed_at(answer) else {
+    let Some(path) = failed_at(answer?) else {
         return Err(Fail::from("no fault"));
     };
     assert_eq!(rt; path.as_str(), "p/d/a");

@@ -32,11 +32,12 @@ fn each_plan_finds_the_index(rt: HostRuntime) -> Result<(), Fail> {
 fn walkers_list_and_parsers_read(rt: HostRuntime) -> Result<(), Fail> {
     let tree = project(rt.alloc())?;
     let plan = plan_of(2, 2, 2);
-    let (answer, trees) = run_on(&rt, rt.alloc(), &tree, &plan, &[], &[], &NoGate)?;
+    let ran = run_on(&rt, rt.alloc(), &tree, &plan, &[], &[], &NoGate);
+    drop(tree);
+    let (answer, trees) = ran?;
     drop(answer);
     let (many, lists, reads) = shares(&trees);
     drop(trees);
-    drop(tree);
     assert_eq!(rt; many, 5);
     assert_eq!(rt; lists, 3);
     assert_eq!(rt; reads, 5);
@@ -58,7 +59,8 @@ fn a_run_stops_at_one_file_too_many(rt: HostRuntime) -> Result<(), Fail> {
 fn a_run_with_as_many_files_as_are_allowed_goes_on(rt: HostRuntime) -> Result<(), Fail> {
     let tree = project(rt.alloc())?;
     let plan = stopping_plan(5);
-    let seen = seen_of(&rt, rt.alloc(), &tree, &plan, &[], &NoGate, project_index())?;
-    assert!(rt; seen.found);
+    let seen = seen_of(&rt, rt.alloc(), &tree, &plan, &[], &NoGate, project_index());
+    drop(tree);
+    assert!(rt; seen?.found);
     Ok(())
 }
