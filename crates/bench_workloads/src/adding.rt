@@ -72,7 +72,7 @@ pub fn add_at_once<R: Threads + Wait + Sync>(
     };
     let values = vec![in alloc; 0u64]?;
     let (shared, threads) = open_package::<SumUses>(alloc, layout, &(), values, false)?;
-    let (threads, own) = at_once(
+    let Ok((threads, own)) = at_once(
         rt,
         alloc,
         threads,
@@ -80,7 +80,10 @@ pub fn add_at_once<R: Threads + Wait + Sync>(
             requires { (0 < shared.layout.mutexes) × IsFirst shared (λ w t. []) me.number me }
             ensures { HasAdded shared times me.number result.0 }
         { add_many(rt, &shared, me, times, outside) },
-    )?;
+    ) else {
+        drop(shared);
+        return Err(AllocError);
+    };
     let closed = close_package(shared, threads)?;
     Ok(Added { closed, own })
 }

@@ -68,7 +68,7 @@ pub fn call_alone<R: Threads + Wait + Sync>(
         semaphores: 0,
     };
     let (shared, threads) = open_package::<SumUses>(alloc, layout, &(), Vec::new(alloc), false)?;
-    let (threads, _) = at_once(
+    let Ok((threads, _)) = at_once(
         rt,
         alloc,
         threads,
@@ -76,7 +76,10 @@ pub fn call_alone<R: Threads + Wait + Sync>(
             requires { (0 < shared.layout.conditions) × IsFirst shared (λ w t. []) me.number me }
             ensures { HasCalled shared [] times me.number result.0 }
         { (call_many(rt, &shared, me, all, times), ()) },
-    )?;
+    ) else {
+        drop(shared);
+        return Err(AllocError);
+    };
     let closed = close_package(shared, threads)?;
     Ok(closed)
 }

@@ -209,7 +209,7 @@ pub fn pass_at_once<R: Threads + Wait + Sync>(
     };
     let rings = two_rings(alloc, capacity, sides.first)?;
     let (shared, threads) = open_package::<Numbers>(alloc, layout, &(), rings, false)?;
-    let (threads, sums) = at_once(
+    let Ok((threads, sums)) = at_once(
         rt,
         alloc,
         threads,
@@ -217,7 +217,10 @@ pub fn pass_at_once<R: Threads + Wait + Sync>(
             requires { HasBuffers shared.layout × IsFirst shared (λ w t. []) me.number me }
             ensures { HasPassed shared sides.first times me.number result.1 result.0 }
         { pass(rt, &shared, me, sides, times) },
-    )?;
+    ) else {
+        drop(shared);
+        return Err(AllocError);
+    };
     let closed = close_package(shared, threads)?;
     Ok(Passed { closed, sums })
 }

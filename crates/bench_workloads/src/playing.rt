@@ -103,7 +103,7 @@ pub fn play_at_once<R: Threads + Wait + Sync>(
     let values = vec![in alloc; 0u64]?;
     let count = threads;
     let (shared, threads) = open_package::<SumUses>(alloc, layout, &(), values, false)?;
-    let (threads, _) = at_once(
+    let Ok((threads, _)) = at_once(
         rt,
         alloc,
         threads,
@@ -111,7 +111,10 @@ pub fn play_at_once<R: Threads + Wait + Sync>(
             requires { (0 < shared.layout.mutexes) × (1 < shared.layout.conditions) × IsFirst shared (λ w t. []) me.number me }
             ensures { HasTurned shared times me.number result.0 }
         { (take_turns(rt, &shared, me, what, count, times), ()) },
-    )?;
+    ) else {
+        drop(shared);
+        return Err(AllocError);
+    };
     let closed = close_package(shared, threads)?;
     Ok(closed)
 }

@@ -171,7 +171,7 @@ pub fn read_at_once<R: Threads + Wait + Sync>(
     let values = one_state(alloc)?;
     let (shared, threads) = open_package::<RwUses>(alloc, layout, &(), values, false)?;
     let readers = sides.first;
-    let (threads, writes) = at_once(
+    let Ok((threads, writes)) = at_once(
         rt,
         alloc,
         threads,
@@ -179,7 +179,10 @@ pub fn read_at_once<R: Threads + Wait + Sync>(
             requires { HasState shared.layout × IsFirst shared (λ w t. []) me.number me }
             ensures { HasCounted shared readers times me.number result.1 result.0 }
         { play(rt, &shared, me, readers, times, pair) },
-    )?;
+    ) else {
+        drop(shared);
+        return Err(AllocError);
+    };
     let closed = close_package(shared, threads)?;
     Ok(Played { closed, writes })
 }

@@ -82,7 +82,7 @@ pub fn turn_at_once<R: Threads + Wait + Sync>(
         false,
     )?;
     first_to_begin(rt, &shared, &mut threads);
-    let (threads, turns) = at_once(
+    let Ok((threads, turns)) = at_once(
         rt,
         alloc,
         threads,
@@ -93,7 +93,10 @@ pub fn turn_at_once<R: Threads + Wait + Sync>(
             let other = SemId((me.number() + 1) % count);
             turn(rt, &shared, me, other, times)
         },
-    )?;
+    ) else {
+        drop(shared);
+        return Err(AllocError);
+    };
     let closed = close_package(shared, threads)?;
     Ok(Turned { closed, turns })
 }

@@ -217,7 +217,7 @@ pub fn alert_at_once<R: Threads + Wait + Sync>(
     };
     let values = vec![in alloc; 0u64]?;
     let (shared, threads) = open_package::<WokenSums>(alloc, layout, &(), values, false)?;
-    let (threads, alerted) = at_once(
+    let Ok((threads, alerted)) = at_once(
         rt,
         alloc,
         threads,
@@ -226,7 +226,10 @@ pub fn alert_at_once<R: Threads + Wait + Sync>(
                 × IsFirst shared (λ w t. []) me.number me }
             ensures { HasWoken shared times me.number result.1 result.0 }
         { wake(rt, &shared, me, times) },
-    )?;
+    ) else {
+        drop(shared);
+        return Err(AllocError);
+    };
     let closed = close_package(shared, threads)?;
     Ok(Woken { closed, alerted })
 }

@@ -35,3 +35,25 @@ pub fn copies_of(
     trees.push(Some(copy_failing_at(alloc, tree, last)?))?;
     Ok(trees)
 }
+
+/// How many paths were listed, these trees together.
+pub fn listed_by(trees: &[Option<MemTree>]) -> usize {
+    let mut many = 0usize;
+    for tree in trees {
+        if let Some(tree) = tree {
+            many = many.saturating_add(tree.listed().len());
+        }
+    }
+    many
+}
+
+/// How many files were read, these trees together.
+pub fn read_by(trees: &[Option<MemTree>]) -> usize {
+    let mut many = 0usize;
+    for tree in trees {
+        if let Some(tree) = tree {
+            many = many.saturating_add(tree.files_read().len());
+        }
+    }
+    many
+}

@@ -1,11 +1,12 @@
 //! Runs at which paths fail, with every number of workers.
 ghost use Rattle.indexer.specs.Plans.{IsPlan};
 
-use crate::runs::{failed_at, has_index, plan_of, run_on};
+use crate::runs::{failed_at, has_index, plan_of, run_on, seen_of};
 use crate::trees::{small, small_index, small_paths};
 use firefly_outside::MemTree;
-use indexer::{NoGate, Plan};
+use indexer::{IndexAnswer, NoGate, Plan};
 use std::alloc::Global;
+use std::process::Abort;
 use std::sync::Wait;
 use std::test::Fail;
 use std::thread::Threads;
@@ -45,7 +46,15 @@ fn may_be_named(failing: &[&str], path: &str) -> bool {
     fails
 }
 
-// Whether a run where these paths fail answers what it should: where none fails the index, and else one that fails and is found.
+// Whether the answer is what it should be where these paths fail: where none fails the index, and else one that fails and is found.
+fn is_right(alloc: Global, answer: &IndexAnswer, failing: &[&str]) -> Result<bool, Fail> {
+    match failed_at(answer) {
+        Some(path) => Ok(may_be_named(failing, path)),
+        None => Ok(failing.is_empty() && has_index(alloc, answer, small_index())?),
+    }
+}
+
+// Whether a run where these paths fail answers what it should.
 fn is_answered<R: Threads + Wait + Sync>(
     rt: &R,
     alloc: Global,
@@ -55,11 +64,11 @@ fn is_answered<R: Threads + Wait + Sync>(
 ) -> Result<bool, Fail>
     requires { IsPlan plan.now }
 {
-    let (answer, _trees) = run_on(rt, alloc, tree, plan, failing, failing, &NoGate)?;
-    match failed_at(&answer) {
-        Some(path) => Ok(may_be_named(failing, path)),
-        None => Ok(failing.is_empty() && has_index(alloc, &answer, small_index())?),
-    }
+    let (answer, trees) = run_on(rt, alloc, tree, plan, failing, failing, &NoGate)?;
+    drop(trees);
+    let right = is_right(alloc, &answer, failing);
+    drop(answer);
+    right
 }
 
 // The first set of failing paths that isn't answered as it should be, if there is one.
@@ -80,6 +89,11 @@ fn wrong_set<R: Threads + Wait + Sync>(
     Ok(None)
 }
 
+// No set of failing paths is answered wrong, with so many workers of one kind and so many of the others.
+fn none_is_wrong(rt: &impl Abort, wrong: Option<u32>, many: u32, others: u32) {
+    assert_eq!(rt; wrong, None, "{many} {others}");
+}
+
 #[test]
 fn a_path_that_fails_is_named_with_each_number_of_walkers(rt: HostRuntime) -> Result<(), Fail> {
     let tree = small(rt.alloc())?;
@@ -87,7 +101,7 @@ fn a_path_that_fails_is_named_with_each_number_of_walkers(rt: HostRuntime) -> Re
         for walkers in 1..9u32 {
             let plan = plan_of(walkers, others, others);
             let wrong = wrong_set(&rt, rt.alloc(), &tree, &plan)?;
-            assert_eq!(rt; wrong, None, "{walkers} {others}");
+            none_is_wrong(&rt, wrong, walkers, others);
         }
     }
     Ok(())
@@ -100,7 +114,7 @@ fn a_path_that_fails_is_named_with_each_number_of_parsers(rt: HostRuntime) -> Re
         for parsers in 1..9u32 {
             let plan = plan_of(others, parsers, others);
             let wrong = wrong_set(&rt, rt.alloc(), &tree, &plan)?;
-            assert_eq!(rt; wrong, None, "{parsers} {others}");
+            none_is_wrong(&rt, wrong, parsers, others);
         }
     }
     Ok(())
@@ -113,7 +127,7 @@ fn a_path_that_fails_is_named_with_each_number_of_mergers(rt: HostRuntime) -> Re
         for mergers in 1..9u32 {
             let plan = plan_of(others, others, mergers);
             let wrong = wrong_set(&rt, rt.alloc(), &tree, &plan)?;
-            assert_eq!(rt; wrong, None, "{mergers} {others}");
+            none_is_wrong(&rt, wrong, mergers, others);
         }
     }
     Ok(())
@@ -128,8 +142,9 @@ fn is_all_found<R: Threads + Wait + Sync>(
 ) -> Result<bool, Fail>
     requires { IsPlan plan.now }
 {
-    let (answer, _trees) = run_on(rt, alloc, tree, plan, &[], &small_paths(), &NoGate)?;
-    has_index(alloc, &answer, small_index())
+    let paths = small_paths();
+    let seen = seen_of(rt, alloc, tree, plan, &paths, &NoGate, small_index())?;
+    Ok(seen.found)
 }
 
 #[test]

@@ -1,7 +1,7 @@
 //! A run at which two parsers wait for each other.
 ghost use Rattle.std.specs.Prelude.{◌<◌};
 
-use crate::runs::{has_index, plan_of, run_on};
+use crate::runs::{plan_of, seen_of};
 use crate::trees::{project, project_index, project_paths};
 use indexer::Gate;
 use std::sync::atomic::{AtomicBool, Ordering};
@@ -58,8 +58,17 @@ fn two_parsers_meet_and_the_closing_walk_is_asked_nothing(rt: HostRuntime) -> Re
     let meeting = Meeting::new();
     let plan = plan_of(1, 2, 1);
     let paths = project_paths();
-    let (answer, _trees) = run_on(&rt, rt.alloc(), &tree, &plan, &[], &paths, &meeting)?;
-    assert!(rt; has_index(rt.alloc(), &answer, project_index())?);
+    let seen = seen_of(
+        &rt,
+        rt.alloc(),
+        &tree,
+        &plan,
+        &paths,
+        &meeting,
+        project_index(),
+    );
+    drop(tree);
+    assert!(rt; seen?.found);
     assert!(rt; meeting.was_kept());
     Ok(())
 }

@@ -16,12 +16,22 @@ fn piece(alloc: Global, path: &str, bytes: &[u8]) -> Result<Piece, Fail> {
 // The two pieces in one. In a function of its own the condition of the merge is shown with nothing else alive, which takes the proof far less.
 fn merged(one: Piece, other: Piece) -> Result<Piece, Fail> {
     if one.meets(&other) {
+        drop(one);
+        drop(other);
         return Err(Fail::from("a path is in both"));
     }
     match merge(one, other) {
         Ok(both) => Ok(both),
-        Err(_) => Err(Fail::from("no memory")),
+        Err((one, other)) => {
+            drop(one);
+            drop(other);
+            Err(Fail::from("no memory"))
+        }
     }
+}
+
+fn meets(one: &Piece, other: &Piece) -> bool {
+    one.meets(other)
 }
 
 fn covers(piece: &Piece, path: &str) -> bool {
@@ -41,22 +51,35 @@ fn counts(piece: &Piece) -> (u64, u64, u64, u128) {
 #[test]
 fn a_merge_counts_both_files(rt: HostRuntime) -> Result<(), Fail> {
     let readme = piece(rt.alloc(), "README", b"Firefly index\n")?;
-    let run = piece(
+    let run = match piece(
         rt.alloc(),
         "src/run.rs",
         b"fn run(n) {}\r\n// run twice\r\nrun\r\n",
-    )?;
+    ) {
+        Ok(run) => run,
+        Err(fault) => {
+            drop(readme);
+            return Err(fault);
+        }
+    };
     let index = merged(readme, run)?;
-    assert_eq!(rt; counts(&index), (2, 6, 6, 8));
-    assert!(rt; covers(&index, "src/run.rs"));
-    assert!(rt; !covers(&index, "src"));
+    let counts = counts(&index);
+    let (file, dir) = (covers(&index, "src/run.rs"), covers(&index, "src"));
+    drop(index);
+    assert_eq!(rt; counts, (2, 6, 6, 8));
+    assert!(rt; file);
+    assert!(rt; !dir);
     Ok(())
 }
 
 #[test]
 fn a_piece_meets_itself_and_no_empty_one(rt: HostRuntime) -> Result<(), Fail> {
     let piece = piece(rt.alloc(), "a", b"")?;
-    assert!(rt; piece.meets(&piece));
-    assert!(rt; !piece.meets(&Piece::empty(rt.alloc())));
+    let empty = Piece::empty(rt.alloc());
+    let (itself, none) = (meets(&piece, &piece), meets(&piece, &empty));
+    drop(empty);
+    drop(piece);
+    assert!(rt; itself);
+    assert!(rt; !none);
     Ok(())
 }

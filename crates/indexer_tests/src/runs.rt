@@ -2,7 +2,7 @@
 ghost use Rattle.std.specs.Prelude.{◌≡◌, ◌≤◌, ◌<◌};
 ghost use Rattle.indexer.specs.Plans.{IsPlan};
 
-use crate::copies::copies_of;
+use crate::copies::{copies_of, listed_by, read_by};
 use crate::trees::is_text;
 use firefly_outside::MemTree;
 use indexer::{Gate, IndexAnswer, Plan, index};
@@ -61,13 +61,13 @@ pub fn traced_plan(workers: u32) -> Plan
 
 /// The answer of a run on copies of the tree, and the copies as they came back. The workers' copies fail at the first paths and the closing
 /// walk's at the last ones.
-pub fn run_on<R: Threads + Wait + Sync, G: Gate>(
+pub fn run_on<'a, R: Threads + Wait + Sync, G: Gate>(
     rt: &R,
     alloc: Global,
     tree: &MemTree,
     plan: &Plan,
-    first: &[&str],
-    last: &[&str],
+    first: &[&'a str],
+    last: &[&'a str],
     gate: &G,
 ) -> Result<(IndexAnswer, Vec<Option<MemTree>>), AllocError>
     requires { IsPlan plan.now }
@@ -75,6 +75,48 @@ pub fn run_on<R: Threads + Wait + Sync, G: Gate>(
     let mut trees = copies_of(alloc, tree, plan.walkers + plan.parsers, first, last)?;
     let answer = index(rt, alloc, "proj", plan, trees.as_mut_slice(), gate);
     Ok((answer, trees))
+}
+
+/// What a run answered, and how often its trees were asked.
+#[derive(Clone, Copy)]
+pub struct Seen {
+    /// Whether the index is answered, and its text is what was expected.
+    pub found: bool,
+    /// The number of files found, where the run was stopped.
+    pub stop: Option<u64>,
+    /// How many paths were listed, these trees together.
+    pub lists: usize,
+    /// How many files were read.
+    pub reads: usize,
+}
+
+/// What a run on copies of the tree does, of which the closing walk's fails at these paths, and whether it answers this text. The tests then
+/// compare beside no answer and no trees, which takes the proof far less.
+pub fn seen_of<R: Threads + Wait + Sync, G: Gate>(
+    rt: &R,
+    alloc: Global,
+    tree: &MemTree,
+    plan: &Plan,
+    last: &[&str],
+    gate: &G,
+    text: &str,
+) -> Result<Seen, Fail>
+    requires { IsPlan plan.now }
+{
+    let (answer, trees) = run_on(rt, alloc, tree, plan, &[], last, gate)?;
+    let lists = listed_by(&trees);
+    let reads = read_by(&trees);
+    drop(trees);
+    let stop = stopped_at(&answer);
+    let found = has_index(alloc, &answer, text);
+    drop(answer);
+    let found = found?;
+    Ok(Seen {
+        found,
+        stop,
+        lists,
+        reads,
+    })
 }
 
 /// Whether the index is answered, and this is its text.
@@ -85,8 +127,8 @@ pub fn has_index(alloc: Global, answer: &IndexAnswer, text: &str) -> Result<bool
     }
 }
 
-/// The number of files found, where the run was stopped.
-pub fn stopped_at(answer: &IndexAnswer) -> Option<u64> {
+// The number of files found, where the run was stopped.
+fn stopped_at(answer: &IndexAnswer) -> Option<u64> {
     match answer {
         IndexAnswer::Stopped(many) => Some(*many),
         _ => None,

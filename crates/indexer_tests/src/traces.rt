@@ -3,11 +3,13 @@ ghost use Rattle.indexer.specs.Plans.{IsPlan};
 
 use crate::runs::{run_on, traced_plan};
 use crate::trees::project;
-use firefly_outside::{MemSink, MemSource};
+use firefly_outside::{MemSink, MemSource, MemTree};
 use indexer::{IndexAnswer, NoGate, Plan, index_layout};
 use larch_actions::Event;
 use std::alloc::Global;
+use std::sync::Wait;
 use std::test::Fail;
+use std::thread::Threads;
 use trace_check::{Summary, Verdict, check};
 use trace_core::{print_end, print_event, print_head};
 
@@ -41,13 +43,28 @@ fn verdict_on(alloc: Global, plan: &Plan, answer: &IndexAnswer) -> Result<(Verdi
     Ok((check(&mut input, 1_000_000), events.len() as u64))
 }
 
+// The same of the run of a plan.
+fn verdict_of<R: Threads + Wait + Sync>(
+    rt: &R,
+    alloc: Global,
+    tree: &MemTree,
+    plan: &Plan,
+) -> Result<(Verdict, u64), Fail>
+    requires { IsPlan plan.now }
+{
+    let (answer, trees) = run_on(rt, alloc, tree, plan, &[], &[], &NoGate)?;
+    drop(trees);
+    let verdict = verdict_on(alloc, plan, &answer);
+    drop(answer);
+    verdict
+}
+
 #[test]
 fn the_trace_of_a_run_is_legal(rt: HostRuntime) -> Result<(), Fail> {
     let tree = project(rt.alloc())?;
     for workers in [1u32, 2, 8] {
         let plan = traced_plan(workers);
-        let (answer, _trees) = run_on(&rt, rt.alloc(), &tree, &plan, &[], &[], &NoGate)?;
-        let (verdict, events) = verdict_on(rt.alloc(), &plan, &answer)?;
+        let (verdict, events) = verdict_of(&rt, rt.alloc(), &tree, &plan)?;
         let expected = Verdict::Legal(Summary {
             events,
             held: 0,

@@ -1,20 +1,27 @@
 //! The trees that are indexed, and an index as text.
 use firefly_outside::{MemSink, MemTree};
 use index_print::print_index;
-use std::alloc::Global;
+use std::alloc::{AllocError, Global};
 use std::test::Fail;
 use word_index::Piece;
 
-// Adds an empty directory.
-fn put_dir(tree: &mut MemTree, path: &str) -> Result<(), Fail> {
+/// A tree with this directory alone. In a function of its own what is told of the tree isn't alive where more is added.
+pub fn tree_with(alloc: Global, root: &str) -> Result<MemTree, AllocError> {
+    let mut tree = MemTree::new(alloc);
+    tree.add_dir(root)?;
+    Ok(tree)
+}
+
+/// Adds an empty directory.
+pub fn put_dir(tree: &mut MemTree, path: &str) -> Result<(), Fail> {
     if tree.may_add(path)? {
         tree.add_dir(path)?;
     }
     Ok(())
 }
 
-// Adds a file.
-fn put_file(alloc: Global, tree: &mut MemTree, path: &str, bytes: &[u8]) -> Result<(), Fail> {
+/// Adds a file.
+pub fn put_file(alloc: Global, tree: &mut MemTree, path: &str, bytes: &[u8]) -> Result<(), Fail> {
     if tree.may_add(path)? {
         let bytes = bytes.to_vec(alloc)?;
         tree.add_file(path, bytes)?;
@@ -36,37 +43,42 @@ pub fn project_paths() -> [&'static str; 8] {
     ]
 }
 
-/// A project of three directories and five files.
-pub fn project(alloc: Global) -> Result<MemTree, Fail> {
-    let mut tree = MemTree::new(alloc);
-    tree.add_dir("proj")?;
-    put_dir(&mut tree, "proj/src")?;
-    put_dir(&mut tree, "proj/doc")?;
-    put_file(alloc, &mut tree, "proj/README", b"Firefly index\n")?;
+// Adds all below the root of the project. The tree is borrowed, so no early return lets it go.
+fn fill_project(alloc: Global, tree: &mut MemTree) -> Result<(), Fail> {
+    put_dir(tree, "proj/src")?;
+    put_dir(tree, "proj/doc")?;
+    put_file(alloc, tree, "proj/README", b"Firefly index\n")?;
     put_file(
         alloc,
-        &mut tree,
+        tree,
         "proj/src/main.rs",
         b"fn main() {\n    run(1);\n}\n",
     )?;
     put_file(
         alloc,
-        &mut tree,
+        tree,
         "proj/src/run.rs",
         b"fn run(n) {}\r\n// run twice\r\nrun\r\n",
     )?;
     put_file(
         alloc,
-        &mut tree,
+        tree,
         "proj/doc/my notes.txt",
         b"Index, INDEX\n\nindex_a\n",
     )?;
     put_file(
         alloc,
-        &mut tree,
+        tree,
         "proj/doc/logo.bin",
         &[0x00, 0xff, 0x0a, 0x41, 0x62, 0x80, 0x39],
     )?;
+    Ok(())
+}
+
+/// A project of three directories and five files.
+pub fn project(alloc: Global) -> Result<MemTree, Fail> {
+    let mut tree = tree_with(alloc, "proj")?;
+    fill_project(alloc, &mut tree)?;
     Ok(tree)
 }
 
@@ -112,14 +124,19 @@ pub fn small_paths() -> [&'static str; 5] {
     ["proj", "proj/d", "proj/a", "proj/d/b", "proj/d/c"]
 }
 
+// Adds all below the root of the small tree.
+fn fill_small(alloc: Global, tree: &mut MemTree) -> Result<(), Fail> {
+    put_dir(tree, "proj/d")?;
+    put_file(alloc, tree, "proj/a", b"one\n")?;
+    put_file(alloc, tree, "proj/d/b", b"\ntwo one\n")?;
+    put_file(alloc, tree, "proj/d/c", b"two two")?;
+    Ok(())
+}
+
 /// Two directories and three files.
 pub fn small(alloc: Global) -> Result<MemTree, Fail> {
-    let mut tree = MemTree::new(alloc);
-    tree.add_dir("proj")?;
-    put_dir(&mut tree, "proj/d")?;
-    put_file(alloc, &mut tree, "proj/a", b"one\n")?;
-    put_file(alloc, &mut tree, "proj/d/b", b"\ntwo one\n")?;
-    put_file(alloc, &mut tree, "proj/d/c", b"two two")?;
+    let mut tree = tree_with(alloc, "proj")?;
+    fill_small(alloc, &mut tree)?;
     Ok(tree)
 }
 

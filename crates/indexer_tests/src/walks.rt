@@ -1,40 +1,26 @@
 //! Small trees, walked whole, stopped and with a fault.
 ghost use Rattle.std.specs.Prelude.{◌≤◌, IfSome};
 
-use firefly_outside::{MemTree, Tree};
+use crate::trees::{put_dir, put_file, tree_with};
+use firefly_outside::{MemTree, Text, Tree};
 use std::alloc::{AllocError, Global};
 use std::test::Fail;
 use walker::{WalkAnswer, Walked, close_walk};
 use word_index::Piece;
 
-// A tree with this directory alone. In a function of its own what is told of the tree isn't alive where more is added.
-fn tree_with(alloc: Global, root: &str) -> Result<MemTree, AllocError> {
-    let mut tree = MemTree::new(alloc);
-    tree.add_dir(root)?;
-    Ok(tree)
-}
-
-fn put_dir(tree: &mut MemTree, path: &str) -> Result<(), Fail> {
-    if tree.may_add(path)? {
-        tree.add_dir(path)?;
-    }
-    Ok(())
-}
-
-fn put_file(tree: &mut MemTree, path: &str, bytes: Vec<u8>) -> Result<(), Fail> {
-    if tree.may_add(path)? {
-        tree.add_file(path, bytes)?;
-    }
+// Adds a directory and three files.
+fn fill(alloc: Global, tree: &mut MemTree) -> Result<(), Fail> {
+    put_dir(tree, "p/d")?;
+    put_file(alloc, tree, "p/b", b"one two\n")?;
+    put_file(alloc, tree, "p/d/a", b"two\n")?;
+    put_file(alloc, tree, "p/d/c", b"")?;
     Ok(())
 }
 
 // Three files in two directories.
 fn small_tree(alloc: Global) -> Result<MemTree, Fail> {
     let mut tree = tree_with(alloc, "p")?;
-    put_dir(&mut tree, "p/d")?;
-    put_file(&mut tree, "p/b", b"one two\n".to_vec(alloc)?)?;
-    put_file(&mut tree, "p/d/a", b"two\n".to_vec(alloc)?)?;
-    put_file(&mut tree, "p/d/c", Vec::new(alloc))?;
+    fill(alloc, &mut tree)?;
     Ok(tree)
 }
 
@@ -70,22 +56,46 @@ fn calls(tree: &MemTree) -> (usize, usize) {
     (tree.listed().len(), tree.files_read().len())
 }
 
+// The number of files found, where the walk was stopped.
+fn stopped_at(answer: &WalkAnswer) -> Option<u64> {
+    match answer {
+        WalkAnswer::Stopped(many) => Some(*many),
+        _ => None,
+    }
+}
+
+// The path that failed, where one is answered.
+fn failed_at(answer: WalkAnswer) -> Option<Text> {
+    match answer {
+        WalkAnswer::ReadFault(path) => Some(path),
+        _ => None,
+    }
+}
+
+// What is compared stands beside no tree and no piece, which takes the proof far less.
 #[test]
 fn whole_tree_is_indexed(rt: HostRuntime) -> Result<(), Fail> {
     let mut tree = small_tree(rt.alloc())?;
-    let piece = whole(rt.alloc(), &mut tree, "p")?;
-    assert_eq!(rt; counts(&piece), (3, 2, 3));
-    assert_eq!(rt; calls(&tree), (2, 3));
+    let piece = whole(rt.alloc(), &mut tree, "p");
+    let calls = calls(&tree);
+    drop(tree);
+    let piece = piece?;
+    let counts = counts(&piece);
+    drop(piece);
+    assert_eq!(rt; counts, (3, 2, 3));
+    assert_eq!(rt; calls, (2, 3));
     Ok(())
 }
 
 #[test]
 fn walk_stops_at_one_file_too_many(rt: HostRuntime) -> Result<(), Fail> {
     let mut tree = small_tree(rt.alloc())?;
-    match index_of(rt.alloc(), &mut tree, "p", Some(2))? {
-        WalkAnswer::Stopped(many) => assert_eq!(rt; many, 3),
-        _ => assert!(rt; false, "no stop"),
-    }
+    let answer = index_of(rt.alloc(), &mut tree, "p", Some(2));
+    drop(tree);
+    let answer = answer?;
+    let stopped = stopped_at(&answer);
+    drop(answer);
+    assert_eq!(rt; stopped, Some(3));
     Ok(())
 }
 
@@ -93,9 +103,11 @@ fn walk_stops_at_one_file_too_many(rt: HostRuntime) -> Result<(), Fail> {
 fn fault_names_its_path(rt: HostRuntime) -> Result<(), Fail> {
     let mut tree = small_tree(rt.alloc())?;
     tree.fail_at("p/d/a")?;
-    match index_of(rt.alloc(), &mut tree, "p", None)? {
-        WalkAnswer::ReadFault(path) => assert_eq!(rt; path.as_str(), "p/d/a"),
-        _ => assert!(rt; false, "no fault"),
-    }
+    let answer = index_of(rt.alloc(), &mut tree, "p", None);
+    drop(tree);
+    let Some(path) = failed_at(answer?) else {
+        return Err(Fail::from("no fault"));
+    };
+    assert_eq!(rt; path.as_str(), "p/d/a");
     Ok(())
 }

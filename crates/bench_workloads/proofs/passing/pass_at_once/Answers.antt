@@ -17,12 +17,12 @@ at_once-requires-after_bounds g c κs within = λ n t at.
     (subst (λ l. HasBuffers l) (sym layout) (record { mutexes = lit≤ tt; conditions = lit≤ tt }), first_own c.in_ok-shared.shared (λ w t. []) n t (c.in_ok-shared.ensures.threads n t at))
 
 pub close_package-requires-clause-count : goal.close_package-requires-clause-count
-close_package-requires-clause-count g c κs = c.in_ok-threads.ensures.threads ∙ (c.in_ok-shared.ensures.count ∙ sym (ap (λ l. l.threads) c.in_ok-shared.ensures.package.0))
+close_package-requires-clause-count g c κs = c.in-Ok.ensures.threads ∙ (c.in_ok-shared.ensures.count ∙ sym (ap (λ l. l.threads) c.in_ok-shared.ensures.package.0))
 
 pub close_package-requires-clause-threads : goal.close_package-requires-clause-threads
 close_package-requires-clause-threads g c κs = λ n t at.
     let p = c.in_ok-shared.shared in
-    let back = c.in_ok-threads.ensures.each n t at in
+    let back = c.in-Ok.ensures.each n t at in
     let own : HasPassed p c.args.sides.first c.args.times back.was.number back.left t = (let goes = back.goes in search rules) in
     subst (λ k. IsDone p k t) (c.in_ok-shared.ensures.threads n back.was back.is_was).number (idle_done p back.was.number own.done.share t own.done.idle)
 
@@ -31,17 +31,17 @@ returns g c =
     let p = c.in_ok-shared.shared in
     let makers = c.args.sides.first in
     let times = c.args.times in
-    let threads = c.in_ok-threads.threads.items in
-    let sums = c.in_ok-threads.sums.items in
+    let threads = c.in-Ok.threads.items in
+    let sums = c.in-Ok.sums.items in
     let values = c.in_ok-closed.closed.values in
     let passed : (n : ℕ) (t : Passer) → get_elem? threads n ≡ some t → (left : ℕ) × (get_elem? sums n ≡ some left) × HasPassed p makers times n left t = λ n t at.
-    let back = c.in_ok-threads.ensures.each n t at in
+    let back = c.in-Ok.ensures.each n t at in
     let own : HasPassed p makers times back.was.number back.left t = (let goes = back.goes in search rules) in
     (back.left, back.is_left, subst (λ k. HasPassed p makers times k back.left t) (c.in_ok-shared.ensures.threads n back.was back.is_was).number own) in
     let was = c.in_ok-shared.ensures.count in
     let mutexes = ap (λ l. l.mutexes) c.in_ok-shared.ensures.package.0 in
-    let many = c.in_ok-threads.ensures.threads in
-    let counted = c.in_ok-threads.ensures.results in
+    let many = c.in-Ok.ensures.threads in
+    let counted = c.in-Ok.ensures.results in
     let all : length threads ≡ makers + c.args.sides.second = omega arith in
     let wide = c.in_ok-closed.ensures.values.0 in
     let two : length values ≡ 2 = omega arith in

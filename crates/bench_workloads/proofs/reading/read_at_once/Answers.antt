@@ -24,12 +24,12 @@ at_once-requires-after_bounds g c κs within = λ n t at.
     (subst (λ l. HasState l) (sym layout) (record { mutexes = lit≤ tt; conditions = lit≤ tt }), first_own c.in_ok-shared.shared (λ w t. []) n t (c.in_ok-shared.ensures.threads n t at))
 
 pub close_package-requires-clause-count : goal.close_package-requires-clause-count
-close_package-requires-clause-count g c κs = c.in_ok-threads.ensures.threads ∙ (c.in_ok-shared.ensures.count ∙ sym (ap (λ l. l.threads) c.in_ok-shared.ensures.package.0))
+close_package-requires-clause-count g c κs = c.in-Ok.ensures.threads ∙ (c.in_ok-shared.ensures.count ∙ sym (ap (λ l. l.threads) c.in_ok-shared.ensures.package.0))
 
 pub close_package-requires-clause-threads : goal.close_package-requires-clause-threads
 close_package-requires-clause-threads g c κs = λ n t at.
     let p = c.in_ok-shared.shared in
-    let back = c.in_ok-threads.ensures.each n t at in
+    let back = c.in-Ok.ensures.each n t at in
     let readers = c.args.sides.first in
     let own : HasCounted p readers c.args.times back.was.number back.left t = (let goes = back.goes in search rules) in
     subst (λ k. IsDone p k t) (c.in_ok-shared.ensures.threads n back.was back.is_was).number (idle_done p back.was.number (turns (role_by readers back.was.number) c.args.times) t own.idle)
@@ -39,17 +39,17 @@ returns g c =
     let p = c.in_ok-shared.shared in
     let readers = c.args.sides.first in
     let times = c.args.times in
-    let threads = c.in_ok-threads.threads.items in
-    let writes = c.in_ok-threads.writes.items in
+    let threads = c.in-Ok.threads.items in
+    let writes = c.in-Ok.writes.items in
     let values = c.in_ok-closed.closed.values in
     let played : (n : ℕ) (t : Player) → get_elem? threads n ≡ some t → (left : ℕ) × (get_elem? writes n ≡ some left) × HasCounted p readers times n left t = λ n t at.
-    let back = c.in_ok-threads.ensures.each n t at in
+    let back = c.in-Ok.ensures.each n t at in
     let own : HasCounted p readers times back.was.number back.left t = (let goes = back.goes in search rules) in
     (back.left, back.is_left, subst (λ k. HasCounted p readers times k back.left t) (c.in_ok-shared.ensures.threads n back.was back.is_was).number own) in
     let was = c.in_ok-shared.ensures.count in
     let mutexes = ap (λ l. l.mutexes) c.in_ok-shared.ensures.package.0 in
-    let many = c.in_ok-threads.ensures.threads in
-    let results = c.in_ok-threads.ensures.results in
+    let many = c.in-Ok.ensures.threads in
+    let results = c.in-Ok.ensures.results in
     let all : length threads ≡ readers + c.args.sides.second = omega arith in
     let wide = c.in_ok-closed.ensures.values.0 in
     let one : length values ≡ 1 = omega arith in

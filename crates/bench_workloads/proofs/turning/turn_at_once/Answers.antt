@@ -20,11 +20,11 @@ at_once-requires-after_bounds g c κs within = λ n t at.
     ((c.requires.0, ap (λ l. l.semaphores) c.in_ok-shared.ensures.package.0, omega arith, subst (λ k. HasCalled c.in_ok-shared.shared [] k k t) (sym number) d), search rules)
 
 pub close_package-requires-clause-count : goal.close_package-requires-clause-count
-close_package-requires-clause-count g c κs = c.in_ok-threads.ensures.threads ∙ (c.first_to_begin.ensures.count ∙ c.in_ok-shared.ensures.count ∙ sym (ap (λ l. l.threads) c.in_ok-shared.ensures.package.0))
+close_package-requires-clause-count g c κs = c.in-Ok.ensures.threads ∙ (c.first_to_begin.ensures.count ∙ c.in_ok-shared.ensures.count ∙ sym (ap (λ l. l.threads) c.in_ok-shared.ensures.package.0))
 
 pub close_package-requires-clause-threads : goal.close_package-requires-clause-threads
 close_package-requires-clause-threads g c κs = λ n t at.
-    let back = c.in_ok-threads.ensures.each n t at in
+    let back = c.in-Ok.ensures.each n t at in
     let number = (c.first_to_begin.ensures.called n back.was back.is_was).idle.number in
     let called = subst (λ k. HasCalled c.in_ok-shared.shared [] (k + 2 * c.args.times) k t) number back.goes.0 in
     idle_done c.in_ok-shared.shared n [] t called.idle
@@ -32,19 +32,19 @@ close_package-requires-clause-threads g c κs = λ n t at.
 pub returns-clause-count : goal.returns-clause-count
 returns-clause-count g c =
     let all = c.first_to_begin.ensures.count ∙ c.in_ok-shared.ensures.count in
-    (c.in_ok-threads.ensures.results ∙ all, ap length c.in_ok-closed.ensures.threads ∙ (c.in_ok-threads.ensures.threads ∙ all))
+    (c.in-Ok.ensures.results ∙ all, ap length c.in_ok-closed.ensures.threads ∙ (c.in-Ok.ensures.threads ∙ all))
 
 pub returns-clause-turns : goal.returns-clause-turns
 returns-clause-turns g c = λ n k at.
-    let low = (from_at c.in_ok-threads.turns.items n k at).0 in
-    let results = c.in_ok-threads.ensures.results in
-    let threads = c.in_ok-threads.ensures.threads in
-    let t = at_below c.in_ok-threads.threads.items n (omega arith) in
-    let back = c.in_ok-threads.ensures.each n t.0 t.1 in
+    let low = (from_at c.in-Ok.turns.items n k at).0 in
+    let results = c.in-Ok.ensures.results in
+    let threads = c.in-Ok.ensures.threads in
+    let t = at_below c.in-Ok.threads.items n (omega arith) in
+    let back = c.in-Ok.ensures.each n t.0 t.1 in
     some-injective k back.left (sym at ∙ back.is_left) ∙ back.goes.1
 
 pub returns-clause-each : goal.returns-clause-each
 returns-clause-each g c = λ n t at.
-    let back = c.in_ok-threads.ensures.each n t (ap (λ l. get_elem? l n) (sym c.in_ok-closed.ensures.threads) ∙ at) in
+    let back = c.in-Ok.ensures.each n t (ap (λ l. get_elem? l n) (sym c.in_ok-closed.ensures.threads) ∙ at) in
     let number = (c.first_to_begin.ensures.called n back.was back.is_was).idle.number in
     (subst (λ k. HasCalled c.in_ok-shared.shared [] (k + 2 * c.args.times) k t) number back.goes.0).made

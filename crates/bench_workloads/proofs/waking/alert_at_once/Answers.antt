@@ -22,11 +22,11 @@ at_once-requires-after_bounds g c κs within = λ n t at.
     (omega arith, omega arith, omega arith, first_own c.in_ok-shared.shared (λ w t. []) n t (c.in_ok-shared.ensures.threads n t at))
 
 pub close_package-requires-clause-count : goal.close_package-requires-clause-count
-close_package-requires-clause-count g c κs = c.in_ok-threads.ensures.threads ∙ (c.in_ok-shared.ensures.count ∙ sym (ap (λ l. l.threads) c.in_ok-shared.ensures.package.0))
+close_package-requires-clause-count g c κs = c.in-Ok.ensures.threads ∙ (c.in_ok-shared.ensures.count ∙ sym (ap (λ l. l.threads) c.in_ok-shared.ensures.package.0))
 
 pub close_package-requires-clause-threads : goal.close_package-requires-clause-threads
 close_package-requires-clause-threads g c κs = λ n t at.
-    let back = c.in_ok-threads.ensures.each n t at in
+    let back = c.in-Ok.ensures.each n t at in
     let own : HasWoken c.in_ok-shared.shared c.args.times back.was.number back.left t = (let goes = back.goes in search rules) in
     let woken = subst (λ k. HasWoken c.in_ok-shared.shared c.args.times k back.left t) (c.in_ok-shared.ensures.threads n back.was back.is_was).number own in
     idle_done c.in_ok-shared.shared n woken.turned.share t woken.turned.idle
@@ -35,11 +35,11 @@ pub returns : goal.returns
 returns g c =
     let p = c.in_ok-shared.shared in
     let times = c.args.times in
-    let threads = c.in_ok-threads.threads.items in
-    let counts = c.in_ok-threads.alerted.items in
+    let threads = c.in-Ok.threads.items in
+    let counts = c.in-Ok.alerted.items in
     let values = c.in_ok-closed.closed.values in
     let each : (n : ℕ) (t : Worker) → get_elem? threads n ≡ some t → (left : ℕ) × (get_elem? counts n ≡ some left) × HasWoken p times n left t = λ n t at.
-    let back = c.in_ok-threads.ensures.each n t at in
+    let back = c.in-Ok.ensures.each n t at in
     let own : HasWoken p times back.was.number back.left t = (let goes = back.goes in search rules) in
     (back.left, back.is_left, subst (λ k. HasWoken p times k back.left t) (c.in_ok-shared.ensures.threads n back.was back.is_was).number own) in
     let mutexes = ap (λ l. l.mutexes) c.in_ok-shared.ensures.package.0 in
@@ -47,8 +47,8 @@ returns g c =
     let one = only_one values (omega arith) in
     let kept = c.in_ok-closed.ensures.values.1 in
     let sum = same_total (λ t. t.share) times threads kept.shares (λ n t at. let a = (each n t at).2.turned in (a.share, a.idle.share, a.sum)) kept.each_share in
-    let back = c.in_ok-threads.ensures.threads in
-    let results = c.in_ok-threads.ensures.results in
+    let back = c.in-Ok.ensures.threads in
+    let results = c.in-Ok.ensures.results in
     let all = c.in_ok-shared.ensures.count in
     let count : length threads ≡ 2 = omega arith in
     let first = at_below threads 0 (omega arith) in
