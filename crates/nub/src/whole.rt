@@ -53,7 +53,11 @@ pub fn close_package<U: Uses>(
     let traced = p.traced();
     let threads = ManuallyDrop::new(threads);
     let last = Snapshot::of(&threads);
-    let Remains { values, stored } = nub_rule::close_package(alloc, p, ManuallyDrop::into_inner(threads));
+    let Remains { values, stored } = nub_rule::close_package(
+        alloc,
+        p,
+        ManuallyDrop::into_inner(threads),
+    );
     if !traced {
         return Ok(Closed {
             layout,
