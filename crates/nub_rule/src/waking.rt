@@ -5,23 +5,23 @@ ghost use Rattle.std.specs.Prelude.{◌≡◌};
 
 use crate::package::{Package, Thread};
 use crate::uses::Uses;
-use crossbeam_utils::atomic::AtomicCell;
 use crossbeam_utils::sync::Unparker;
 use larch_actions::{MutexId, ThreadId};
+use std::sync::atomic::{AtomicU64, Ordering};
 
 /// What others have of a thread, to wake it.
 #[derive(Drop)]
 pub(crate) struct Waker {
     unparker: Unparker,
     /// The number of the mutex of its wait, or of its last one.
-    mutex: AtomicCell<u32>,
+    mutex: AtomicU64,
 }
 
 impl Waker {
     pub(crate) fn new(unparker: Unparker) -> Waker {
         Waker {
             unparker,
-            mutex: AtomicCell::new(0),
+            mutex: AtomicU64::new(0),
         }
     }
 }
@@ -37,8 +37,8 @@ pub fn unpark<U: Uses>(p: &Package<U>, t: ThreadId) {
 pub fn note_mutex<U: Uses>(p: &Package<U>, me: &Thread<U>, m: MutexId) {
     if let Some(waker) = p.unparkers.get(me.number as usize) {
         // Most threads wait with one mutex, and a store takes the line from others.
-        if waker.mutex.load() != m.0 {
-            waker.mutex.store(m.0);
+        if waker.mutex.load(Ordering::Relaxed) != u64::from(m.0) {
+            waker.mutex.store(u64::from(m.0), Ordering::Relaxed);
         }
     }
 }
@@ -49,7 +49,9 @@ pub fn unpark_or_note<U: Uses>(p: &Package<U>, me: &mut Thread<U>, t: ThreadId)
     ensures { me.new ≡ me.old }
 {
     if let Some(waker) = p.unparkers.get(t.0 as usize) {
-        if me.has(MutexId(waker.mutex.load())) && !me.later.is_full() {
+        // (a mutex's number always fits)
+        let mutex = u32::try_from(waker.mutex.load(Ordering::Relaxed)).unwrap_or(u32::MAX);
+        if me.has(MutexId(mutex)) && !me.later.is_full() {
             me.later.push(t.0);
         } else {
             waker.unparker.unpark();
