@@ -20,7 +20,7 @@ mod verdict_line;
 
 pub use ending::{Ending, ends};
 pub use firefly_script::{Script, ScriptFault, read_script};
-pub use outside::system_trees;
+pub use outside::{system_trees, system_words};
 pub use script_run::run_script;
 pub use status::{Status, number};
 pub use top::firefly;

@@ -1,9 +1,13 @@
-//! The trees of the program: the system's directories and files, once for each thread that may read them.
+//! What the program has of the system: the words that it was called with, and its directories and files, once for each thread that may
+//! read them.
 ghost use Rattle.std.specs.Prelude.{◌≡◌, IfOk, length};
 ghost use Rattle.firefly.specs.Looks.{look_of, looks_of, Agree, NoneFailed};
 
+use crate::ending::Ending;
 use firefly_outside::{DirTree, Tree};
 use std::alloc::{AllocError, Global};
+use std::env::{self, Env};
+use std::io::ErrorKind;
 use std::rt::Files;
 
 /// How many trees a call needs: for 8 walkers, 8 parsers and the closing walk.
@@ -26,4 +30,25 @@ pub fn system_trees<R: Files + AllocGlobal + Clone + Drop + Send>(
         trees.push(Some(DirTree::new(rt.clone()?)))?;
     }
     Ok(trees)
+}
+
+/// The words after the program's name, or how the program ends without them. Nothing is said of which words they are.
+pub fn system_words<R: Env + AllocGlobal>(rt: &R) -> Result<Vec<String>, Ending> {
+    let args = match env::args(rt) {
+        Ok(args) => args,
+        Err(error) => {
+            return Err(match error.kind() {
+                ErrorKind::OutOfMemory => Ending::Memory,
+                // Words that can't be taken are no command.
+                _ => Ending::Usage,
+            });
+        }
+    };
+    let mut words = Vec::new(rt.alloc());
+    for word in args.skip(1) {
+        if words.push(word).is_err() {
+            return Err(Ending::Memory);
+        }
+    }
+    Ok(words)
 }
