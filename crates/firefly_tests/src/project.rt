@@ -52,27 +52,25 @@ twice 1
 "
 }
 
+// Adds all below the root. The tree is borrowed, so no early return lets it go.
+fn fill(alloc: Global, tree: &mut MemTree) -> Result<(), Fail> {
+    put_dir(tree, "proj/src")?;
+    put_dir(tree, "proj/doc")?;
+    put_file(alloc, tree, "proj/README", b"Firefly index\n")?;
+    put_file(alloc, tree, "proj/src/main.rs", main_file().as_bytes())?;
+    put_file(alloc, tree, "proj/src/run.rs", run_file().as_bytes())?;
+    put_file(
+        alloc,
+        tree,
+        "proj/doc/my notes.txt",
+        notes_file().as_bytes(),
+    )?;
+    put_file(alloc, tree, "proj/doc/logo.bin", logo_file())
+}
+
 /// A project of three directories and five files.
 pub fn project(alloc: Global) -> Result<MemTree, Fail> {
     let mut tree = tree_with(alloc, "proj")?;
-    put_dir(&mut tree, "proj/src")?;
-    put_dir(&mut tree, "proj/doc")?;
-    put_file(&mut tree, "proj/README", b"Firefly index\n".to_vec(alloc)?)?;
-    put_file(
-        &mut tree,
-        "proj/src/main.rs",
-        main_file().as_bytes().to_vec(alloc)?,
-    )?;
-    put_file(
-        &mut tree,
-        "proj/src/run.rs",
-        run_file().as_bytes().to_vec(alloc)?,
-    )?;
-    put_file(
-        &mut tree,
-        "proj/doc/my notes.txt",
-        notes_file().as_bytes().to_vec(alloc)?,
-    )?;
-    put_file(&mut tree, "proj/doc/logo.bin", logo_file().to_vec(alloc)?)?;
+    fill(alloc, &mut tree)?;
     Ok(tree)
 }

@@ -46,7 +46,9 @@ fn two_threads_of_a_script_meet(rt: HostRuntime) -> Result<(), Fail> {
     let alloc = rt.alloc();
     let script = script_of(alloc, adding(alloc, 2, 1000)?.as_str())?;
     let meeting = Meeting::new(0);
-    let (values, events) = run_with(&rt, alloc, &script, &meeting)?;
+    let ran = run_with(&rt, alloc, &script, &meeting);
+    drop(script);
+    let (values, events) = ran?;
     assert!(rt; meeting.was_kept());
     assert_eq!(rt; values.as_slice(), [2000].as_slice());
     assert_eq!(rt; events, Some(4000));
