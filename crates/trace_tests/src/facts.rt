@@ -1,9 +1,9 @@
 //! The state of the specification as lists of what holds, and what each action asks of it and does to it.
-use larch_actions::{Action, Broken, CondId, Event, MutexId, ThreadId, ThreadSet};
+use larch_actions::{Action, Broken, CondId, Event, MutexId, SemId, ThreadId, ThreadSet};
 use std::alloc::{AllocError, Global};
 
 /// A thread between the two parts of a wait.
-#[derive(Clone, Copy, PartialEq, Eq)]
+#[derive(Clone, Copy)]
 pub struct Wait {
     pub thread: u32,
     pub mutex: u32,
@@ -123,9 +123,18 @@ impl Facts {
         Ok(())
     }
 
+    fn hold(&mut self, t: u32, mutex: MutexId) -> Result<(), AllocError> {
+        self.held.push((mutex.0, t))?;
+        Ok(())
+    }
+
     fn end_wait(&mut self, t: u32, mutex: MutexId) -> Result<(), AllocError> {
         self.waits.retain(|w| w.thread != t);
-        self.held.push((mutex.0, t))?;
+        self.hold(t, mutex)
+    }
+
+    fn take(&mut self, sem: SemId) -> Result<(), AllocError> {
+        self.taken.push(sem.0)?;
         Ok(())
     }
 
@@ -149,10 +158,7 @@ impl Facts {
     pub fn act(&mut self, e: &Event) -> Result<(), AllocError> {
         let t = e.thread.0;
         match e.action {
-            Action::Acquire { mutex } => {
-                self.held.push((mutex.0, t))?;
-                Ok(())
-            }
+            Action::Acquire { mutex } => self.hold(t, mutex),
             Action::Release { mutex } => {
                 self.held.retain(|h| h.0 != mutex.0);
                 Ok(())
@@ -178,10 +184,7 @@ impl Facts {
             }
             Action::Signal { cond, left } => self.leave(cond, &left),
             Action::Broadcast { cond } => self.leave(cond, &ThreadSet::empty()),
-            Action::P { sem } | Action::AlertPReturn { sem } => {
-                self.taken.push(sem.0)?;
-                Ok(())
-            }
+            Action::P { sem } | Action::AlertPReturn { sem } => self.take(sem),
             Action::V { sem } => {
                 self.taken.retain(|s| *s != sem.0);
                 Ok(())

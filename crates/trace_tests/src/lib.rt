@@ -19,4 +19,8 @@ mod plain;
 #[cfg(test)]
 mod questions;
 #[cfg(test)]
+mod sources;
+#[cfg(test)]
 mod streams;
+#[cfg(test)]
+mod verdicts;

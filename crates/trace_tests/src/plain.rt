@@ -12,7 +12,7 @@ struct Named {
 }
 
 // Where a reading is: before the first line, before the layout line, among the events, or among the values from this mutex on.
-#[derive(Clone, Copy, PartialEq, Eq)]
+#[derive(Clone, Copy)]
 enum Stage {
     First,
     Second,
@@ -64,7 +64,7 @@ fn add_wait(
 fn add_waits(alloc: Global, actions: &mut Vec<Named>, m: u32, c: u32) -> Result<(), AllocError> {
     let mutex = MutexId(m);
     let cond = CondId(c);
-    for (word, after, action) in [
+    for (word, after, action) in &[
         ("enqueue", "", Action::Enqueue { mutex, cond }),
         ("resume", "", Action::Resume { mutex, cond }),
         ("alert-enqueue", "", Action::AlertEnqueue { mutex, cond }),
@@ -79,22 +79,32 @@ fn add_waits(alloc: Global, actions: &mut Vec<Named>, m: u32, c: u32) -> Result<
             Action::AlertRaise { mutex, cond },
         ),
     ] {
-        add_wait(alloc, actions, word, m, c, after, action)?;
+        add_wait(alloc, actions, word, m, c, after, *action)?;
     }
     Ok(())
 }
 
 fn add_semaphore(alloc: Global, actions: &mut Vec<Named>, s: u32) -> Result<(), AllocError> {
     let sem = SemId(s);
-    for (word, after, action) in [
+    for (word, after, action) in &[
         ("p s", "", Action::P { sem }),
         ("v s", "", Action::V { sem }),
         ("alert-p s", " returns", Action::AlertPReturn { sem }),
         ("alert-p s", " raises", Action::AlertPRaise { sem }),
     ] {
-        add_numbered(alloc, actions, word, s, after, action)?;
+        add_numbered(alloc, actions, word, s, after, *action)?;
     }
     Ok(())
+}
+
+fn add_test_alert(
+    alloc: Global,
+    actions: &mut Vec<Named>,
+    text: &str,
+    yes: bool,
+) -> Result<(), AllocError> {
+    let text = String::from_str(alloc, text)?;
+    add(actions, text, Action::TestAlert { yes })
 }
 
 // The signal that leaves the threads whose bits are set.
@@ -124,56 +134,59 @@ fn add_signal(
     )
 }
 
+// The actions of the mutexes, and those of their waits.
+fn add_mutexes(alloc: Global, actions: &mut Vec<Named>, layout: &Layout) -> Result<(), AllocError> {
+    for m in 0..layout.mutexes {
+        let mutex = MutexId(m);
+        let (acquire, release) = (Action::Acquire { mutex }, Action::Release { mutex });
+        add_numbered(alloc, actions, "acquire m", m, "", acquire)?;
+        add_numbered(alloc, actions, "release m", m, "", release)?;
+        for c in 0..layout.conditions {
+            add_waits(alloc, actions, m, c)?;
+        }
+    }
+    Ok(())
+}
+
+fn add_conditions(
+    alloc: Global,
+    actions: &mut Vec<Named>,
+    layout: &Layout,
+) -> Result<(), AllocError> {
+    for c in 0..layout.conditions {
+        let broadcast = Action::Broadcast { cond: CondId(c) };
+        add_numbered(alloc, actions, "broadcast c", c, "", broadcast)?;
+        for bits in 0..1 << layout.threads.min(10) {
+            add_signal(alloc, actions, c, layout.threads, bits)?;
+        }
+    }
+    Ok(())
+}
+
+fn add_threads(alloc: Global, actions: &mut Vec<Named>, layout: &Layout) -> Result<(), AllocError> {
+    for t in 0..layout.threads {
+        let alert = Action::Alert { who: ThreadId(t) };
+        add_numbered(alloc, actions, "alert t", t, "", alert)?;
+    }
+    Ok(())
+}
+
+// Adds all actions. The list is borrowed, so no early return lets it go.
+fn add_all(alloc: Global, actions: &mut Vec<Named>, layout: &Layout) -> Result<(), AllocError> {
+    add_mutexes(alloc, actions, layout)?;
+    add_conditions(alloc, actions, layout)?;
+    for s in 0..layout.semaphores {
+        add_semaphore(alloc, actions, s)?;
+    }
+    add_threads(alloc, actions, layout)?;
+    add_test_alert(alloc, actions, "test-alert yes", true)?;
+    add_test_alert(alloc, actions, "test-alert no", false)
+}
+
 // The actions of a layout of at most ten threads.
 fn actions_of(alloc: Global, layout: &Layout) -> Result<Vec<Named>, AllocError> {
     let mut actions = Vec::new(alloc);
-    for m in 0..layout.mutexes {
-        let mutex = MutexId(m);
-        add_numbered(
-            alloc,
-            &mut actions,
-            "acquire m",
-            m,
-            "",
-            Action::Acquire { mutex },
-        )?;
-        add_numbered(
-            alloc,
-            &mut actions,
-            "release m",
-            m,
-            "",
-            Action::Release { mutex },
-        )?;
-        for c in 0..layout.conditions {
-            add_waits(alloc, &mut actions, m, c)?;
-        }
-    }
-    for c in 0..layout.conditions {
-        let cond = CondId(c);
-        add_numbered(
-            alloc,
-            &mut actions,
-            "broadcast c",
-            c,
-            "",
-            Action::Broadcast { cond },
-        )?;
-        for bits in 0..1 << layout.threads.min(10) {
-            add_signal(alloc, &mut actions, c, layout.threads, bits)?;
-        }
-    }
-    for s in 0..layout.semaphores {
-        add_semaphore(alloc, &mut actions, s)?;
-    }
-    for t in 0..layout.threads {
-        let who = ThreadId(t);
-        add_numbered(alloc, &mut actions, "alert t", t, "", Action::Alert { who })?;
-    }
-    for (text, yes) in [("test-alert yes", true), ("test-alert no", false)] {
-        let text = String::from_str(alloc, text)?;
-        add(&mut actions, text, Action::TestAlert { yes })?;
-    }
+    add_all(alloc, &mut actions, layout)?;
     Ok(actions)
 }
 
@@ -362,15 +375,18 @@ impl Reading {
     }
 }
 
-/// The verdict on the whole input.
-pub fn plain_verdict(alloc: Global, bytes: &[u8]) -> Result<Verdict, AllocError> {
-    let mut reading = Reading::new(alloc);
-    let mut line = Vec::new(alloc);
+// The verdict on what is read here from its first line on. The reading and the line are borrowed, so no early return lets them go.
+fn verdict_by(
+    alloc: Global,
+    reading: &mut Reading,
+    line: &mut Vec<u8>,
+    bytes: &[u8],
+) -> Result<Verdict, AllocError> {
     let mut lines: u64 = 0;
     for b in bytes {
         if *b == b'\n' {
             lines = lines.saturating_add(1);
-            if let Some(verdict) = reading.line(alloc, &line, lines)? {
+            if let Some(verdict) = reading.line(alloc, line, lines)? {
                 return Ok(verdict);
             }
             line.clear();
@@ -379,4 +395,11 @@ pub fn plain_verdict(alloc: Global, bytes: &[u8]) -> Result<Verdict, AllocError>
         }
     }
     Ok(reading.end(!line.is_empty(), lines))
+}
+
+/// The verdict on the whole input.
+pub fn plain_verdict(alloc: Global, bytes: &[u8]) -> Result<Verdict, AllocError> {
+    let mut reading = Reading::new(alloc);
+    let mut line = Vec::new(alloc);
+    verdict_by(alloc, &mut reading, &mut line, bytes)
 }

@@ -1,36 +1,10 @@
 //! The source is asked until the bytes decide, and not once more.
-use firefly_outside::{Failed, MemSource, Source};
+use crate::verdicts::{asking_verdict, is_verdict, trace_of};
 use larch_actions::Broken;
 use std::alloc::Global;
 use std::process::Abort;
 use std::test::Fail;
-use trace_check::{Summary, Verdict, check};
-
-// Gives one byte a question, and counts the questions.
-#[derive(Drop)]
-struct OneByOne {
-    inner: MemSource,
-    asked: usize,
-}
-
-impl Source for OneByOne {
-    ghost use Rattle.std.specs.Prelude.{None};
-    ghost use Rattle.firefly_outside.specs.Memory.{source_faults};
-
-    ghost left = { λ s. None };
-
-    ghost faults = { λ s. source_faults s.inner };
-
-    fn next(&mut self, buf: &mut [u8]) -> Result<usize, Failed> {
-        self.asked = self.asked.saturating_add(1);
-        self.inner.next(&mut buf[..1])
-    }
-}
-
-// A text that begins a trace. A function without a clause keeps the bytes out of the proofs.
-fn head() -> &'static [u8] {
-    b"firefly-trace 1\nthreads 2 mutexes 1 conditions 0 semaphores 1\n"
-}
+use trace_check::{Summary, Verdict};
 
 // The last of these bytes behind the head decides: the source is asked for it, and fails if it is asked again.
 fn decided_by(
@@ -40,16 +14,13 @@ fn decided_by(
     budget: u32,
     verdict: Verdict,
 ) -> Result<(), Fail> {
-    let mut text = head().to_vec(alloc)?;
-    text.extend_from_slice(bytes)?;
+    let mut text = trace_of(alloc, bytes)?;
     let many = text.len();
     text.extend_from_slice(b"0 t0 acquire m0\nend 1\n")?;
-    let mut inner = MemSource::new(text);
-    inner.fail_after(many);
-    let mut input = OneByOne { inner, asked: 0 };
-    let found = check(&mut input, u64::from(budget));
-    assert_eq!(rt; found, verdict);
-    assert_eq!(rt; input.asked, many);
+    let (found, asked) = asking_verdict(alloc, &text, budget, Some(many))?;
+    drop(text);
+    is_verdict(rt, found, verdict);
+    assert_eq!(rt; asked, many);
     Ok(())
 }
 
@@ -98,20 +69,15 @@ fn one_byte_past_the_budget_is_the_last_that_is_asked_for(rt: HostRuntime) -> Re
 
 #[test]
 fn the_end_is_asked_for_once(rt: HostRuntime) -> Result<(), Fail> {
-    let mut text = head().to_vec(rt.alloc())?;
-    text.extend_from_slice(b"0 t0 p s0\nend 1\n")?;
-    let many = text.len();
-    let mut input = OneByOne {
-        inner: MemSource::new(text),
-        asked: 0,
-    };
+    let text = trace_of(rt.alloc(), b"0 t0 p s0\nend 1\n")?;
     let legal = Verdict::Legal(Summary {
         events: 1,
         held: 0,
         waiting: 0,
         alerted: 0,
     });
-    assert_eq!(rt; check(&mut input, 1_000), legal);
-    assert_eq!(rt; input.asked.saturating_sub(many), 1);
+    let (found, asked) = asking_verdict(rt.alloc(), &text, MANY, None)?;
+    is_verdict(&rt, found, legal);
+    assert_eq!(rt; asked.saturating_sub(text.len()), 1);
     Ok(())
 }
