@@ -19,10 +19,15 @@ pub struct Answer {
 }
 
 /// This is the answer.
-pub fn is_answer(rt: &impl Abort, found: &Answer, status: Status, out: &str, notes: &str) {
+pub fn is_answer(rt: &impl Abort, found: &Answer, status: Status, out: &[u8], notes: &str) {
     assert_eq!(rt; found.status, status);
-    assert_eq!(rt; found.out.as_slice(), out.as_bytes());
-    assert_eq!(rt; found.notes.as_slice(), notes.as_bytes());
+    is_written(rt, &found.out, out);
+    is_written(rt, &found.notes, notes.as_bytes());
+}
+
+// This was written.
+fn is_written(rt: &impl Abort, found: &[u8], expected: &[u8]) {
+    assert_eq!(rt; found, expected);
 }
 
 // Adds these words. The list is borrowed, so no early return lets it go.

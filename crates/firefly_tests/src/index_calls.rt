@@ -35,16 +35,30 @@ fn is_named<R: Threads + Wait + Sync + Abort>(
 ) -> Result<(), AllocError> {
     let found = index_failing(rt, alloc, tree, 0, &[path])?;
     let message = format!(in alloc; "firefly: {path} could not be read\n")?;
-    is_answer(rt, &found, Status::ReadFault, "", message.as_str());
+    is_answer(rt, &found, Status::ReadFault, b"", message.as_str());
+    Ok(())
+}
+
+// The same of each of these paths. The tree is borrowed, so no early return lets it go.
+fn are_named<R: Threads + Wait + Sync + Abort>(
+    rt: &R,
+    alloc: Global,
+    tree: &MemTree,
+    paths: &[&str],
+) -> Result<(), AllocError> {
+    for path in paths {
+        is_named(rt, alloc, tree, path)?;
+    }
     Ok(())
 }
 
 #[test]
 fn a_path_that_fails_is_named(rt: HostRuntime) -> Result<(), Fail> {
     let tree = project(rt.alloc())?;
-    for path in ["proj", "proj/doc", "proj/README", "proj/src/run.rs"] {
-        is_named(&rt, rt.alloc(), &tree, path)?;
-    }
+    let paths = ["proj", "proj/doc", "proj/README", "proj/src/run.rs"];
+    let named = are_named(&rt, rt.alloc(), &tree, &paths);
+    drop(tree);
+    named?;
     Ok(())
 }
 
@@ -69,7 +83,7 @@ fn the_workers_leave_nothing_to_the_closing_walk(rt: HostRuntime) -> Result<(), 
     let found = index_failing(&rt, rt.alloc(), &tree, 6, &project_paths());
     drop(tree);
     let found = found?;
-    is_answer(&rt, &found, Status::Done, project_index(), "");
+    is_answer(&rt, &found, Status::Done, project_index().as_bytes(), "");
     Ok(())
 }
 
