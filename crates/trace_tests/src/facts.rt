@@ -116,8 +116,17 @@ impl Facts {
         }
     }
 
+    fn release(&mut self, mutex: MutexId) {
+        self.held.retain(|h| h.0 != mutex.0);
+    }
+
+    // The thread is alerted no longer.
+    fn calm(&mut self, t: u32) {
+        self.alerted.retain(|a| *a != t);
+    }
+
     fn begin_wait(&mut self, wait: Wait) -> Result<(), AllocError> {
-        self.held.retain(|h| h.0 != wait.mutex);
+        self.release(MutexId(wait.mutex));
         self.members.push((wait.cond, wait.thread))?;
         self.waits.push(wait)?;
         Ok(())
@@ -149,7 +158,7 @@ impl Facts {
     }
 
     fn alert(&mut self, who: ThreadId) -> Result<(), AllocError> {
-        self.alerted.retain(|t| *t != who.0);
+        self.calm(who.0);
         self.alerted.push(who.0)?;
         Ok(())
     }
@@ -160,7 +169,7 @@ impl Facts {
         match e.action {
             Action::Acquire { mutex } => self.hold(t, mutex),
             Action::Release { mutex } => {
-                self.held.retain(|h| h.0 != mutex.0);
+                self.release(mutex);
                 Ok(())
             }
             Action::Enqueue { mutex, cond } => self.begin_wait(Wait {
@@ -179,7 +188,7 @@ impl Facts {
             Action::AlertReturn { mutex, .. } => self.end_wait(t, mutex),
             Action::AlertRaise { mutex, cond } => {
                 self.members.retain(|m| *m != (cond.0, t));
-                self.alerted.retain(|a| *a != t);
+                self.calm(t);
                 self.end_wait(t, mutex)
             }
             Action::Signal { cond, left } => self.leave(cond, &left),
@@ -191,7 +200,7 @@ impl Facts {
             }
             Action::Alert { who } => self.alert(who),
             Action::TestAlert { .. } | Action::AlertPRaise { .. } => {
-                self.alerted.retain(|a| *a != t);
+                self.calm(t);
                 Ok(())
             }
         }

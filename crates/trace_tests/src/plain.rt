@@ -107,6 +107,13 @@ fn add_test_alert(
     add(actions, text, Action::TestAlert { yes })
 }
 
+// Adds to the text, where there is memory for what is to be added. That isn't alive where the text is used further.
+fn push(text: &mut String, more: Result<String, AllocError>) -> Result<(), AllocError> {
+    let more = more?;
+    text.push_str(more.as_str())?;
+    Ok(())
+}
+
 // The signal that leaves the threads whose bits are set.
 fn add_signal(
     alloc: Global,
@@ -120,8 +127,7 @@ fn add_signal(
     for t in 0..threads.min(10) {
         if (bits >> t) & 1 == 1 {
             left.insert(ThreadId(t));
-            let name = format!(in alloc; " t{t}")?;
-            text.push_str(name.as_str())?;
+            push(&mut text, format!(in alloc; " t{t}"))?;
         }
     }
     add(
@@ -190,6 +196,18 @@ fn actions_of(alloc: Global, layout: &Layout) -> Result<Vec<Named>, AllocError> 
     Ok(actions)
 }
 
+// What comes behind this text at the front of the line. The text isn't alive where that is used.
+fn behind(line: &[u8], text: Result<String, AllocError>) -> Result<Option<&[u8]>, AllocError> {
+    let text = text?;
+    Ok(line.strip_prefix(text.as_bytes()))
+}
+
+// Whether this text is the whole line.
+fn is_line(line: &[u8], text: Result<String, AllocError>) -> Result<bool, AllocError> {
+    let text = text?;
+    Ok(line == text.as_bytes())
+}
+
 // The number in a range that stands, with this text behind it, at the front of the line, and what comes behind them.
 fn number_in<'a>(
     alloc: Global,
@@ -198,8 +216,7 @@ fn number_in<'a>(
     after: &str,
 ) -> Result<Option<(u32, &'a [u8])>, AllocError> {
     for n in least..65 {
-        let text = format!(in alloc; "{n}{after}")?;
-        if let Some(rest) = line.strip_prefix(text.as_bytes()) {
+        if let Some(rest) = behind(line, format!(in alloc; "{n}{after}"))? {
             return Ok(Some((n, rest)));
         }
     }
@@ -209,8 +226,7 @@ fn number_in<'a>(
 // The number that is the whole line.
 fn number_of(alloc: Global, line: &[u8]) -> Result<Option<u32>, AllocError> {
     for n in 0..65 {
-        let text = format!(in alloc; "{n}")?;
-        if line == text.as_bytes() {
+        if is_line(line, format!(in alloc; "{n}"))? {
             return Ok(Some(n));
         }
     }
@@ -271,18 +287,23 @@ impl Reading {
         }
     }
 
+    // The action with this text.
+    fn action_of(&self, text: &[u8]) -> Option<Action> {
+        for named in &self.actions {
+            if text == named.text.as_bytes() {
+                return Some(named.action);
+            }
+        }
+        None
+    }
+
     fn event_in(&self, alloc: Global, line: &[u8]) -> Result<Option<Event>, AllocError> {
         let place = self.place;
         for t in 0..self.layout.threads {
-            let front = format!(in alloc; "{place} t{t} ")?;
-            if let Some(rest) = line.strip_prefix(front.as_bytes()) {
-                for named in &self.actions {
-                    if rest == named.text.as_bytes() {
-                        return Ok(Some(Event {
-                            thread: ThreadId(t),
-                            action: named.action,
-                        }));
-                    }
+            if let Some(rest) = behind(line, format!(in alloc; "{place} t{t} "))? {
+                if let Some(action) = self.action_of(rest) {
+                    let thread = ThreadId(t);
+                    return Ok(Some(Event { thread, action }));
                 }
             }
         }
@@ -297,8 +318,7 @@ impl Reading {
         number: u64,
     ) -> Result<Option<Verdict>, AllocError> {
         let place = self.place;
-        let end = format!(in alloc; "end {place}")?;
-        if line == end.as_bytes() {
+        if is_line(line, format!(in alloc; "end {place}"))? {
             self.stage = Stage::Values(0);
             return Ok(None);
         }
@@ -321,8 +341,7 @@ impl Reading {
         least: u32,
     ) -> Result<Option<Verdict>, AllocError> {
         for m in least..self.layout.mutexes {
-            let front = format!(in alloc; "value m{m} ")?;
-            if let Some(digits) = line.strip_prefix(front.as_bytes()) {
+            if let Some(digits) = behind(line, format!(in alloc; "value m{m} "))? {
                 if is_value(digits) {
                     self.stage = Stage::Values(m.saturating_add(1));
                     return Ok(None);

@@ -1,10 +1,29 @@
 //! The source is asked until the bytes decide, and not once more.
 use crate::verdicts::{asking_verdict, is_verdict, trace_of};
 use larch_actions::Broken;
-use std::alloc::Global;
+use std::alloc::{AllocError, Global};
 use std::process::Abort;
 use std::test::Fail;
 use trace_check::{Summary, Verdict};
+
+// What the checker answers to these bytes behind the head, how often it asks for one, and how many there are with the head. Where it is
+// `cut`, more bytes come behind them, and the source fails before it gives these.
+fn asking(
+    alloc: Global,
+    bytes: &[u8],
+    budget: u32,
+    cut: bool,
+) -> Result<(Verdict, usize, usize), AllocError> {
+    let mut text = trace_of(alloc, bytes)?;
+    let many = text.len();
+    let mut given = None;
+    if cut {
+        text.extend_from_slice(b"0 t0 acquire m0\nend 1\n")?;
+        given = Some(many);
+    }
+    let (verdict, asked) = asking_verdict(alloc, &text, budget, given)?;
+    Ok((verdict, asked, many))
+}
 
 // The last of these bytes behind the head decides: the source is asked for it, and fails if it is asked again.
 fn decided_by(
@@ -14,11 +33,7 @@ fn decided_by(
     budget: u32,
     verdict: Verdict,
 ) -> Result<(), Fail> {
-    let mut text = trace_of(alloc, bytes)?;
-    let many = text.len();
-    text.extend_from_slice(b"0 t0 acquire m0\nend 1\n")?;
-    let (found, asked) = asking_verdict(alloc, &text, budget, Some(many))?;
-    drop(text);
+    let (found, asked, many) = asking(alloc, bytes, budget, true)?;
     is_verdict(rt, found, verdict);
     assert_eq!(rt; asked, many);
     Ok(())
@@ -69,15 +84,14 @@ fn one_byte_past_the_budget_is_the_last_that_is_asked_for(rt: HostRuntime) -> Re
 
 #[test]
 fn the_end_is_asked_for_once(rt: HostRuntime) -> Result<(), Fail> {
-    let text = trace_of(rt.alloc(), b"0 t0 p s0\nend 1\n")?;
     let legal = Verdict::Legal(Summary {
         events: 1,
         held: 0,
         waiting: 0,
         alerted: 0,
     });
-    let (found, asked) = asking_verdict(rt.alloc(), &text, MANY, None)?;
+    let (found, asked, many) = asking(rt.alloc(), b"0 t0 p s0\nend 1\n", MANY, false)?;
     is_verdict(&rt, found, legal);
-    assert_eq!(rt; asked.saturating_sub(text.len()), 1);
+    assert_eq!(rt; asked.saturating_sub(many), 1);
     Ok(())
 }
