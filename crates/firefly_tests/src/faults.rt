@@ -97,8 +97,17 @@ const UNREAD: &str = "firefly: input could not be read\n";
 
 const UNWRITTEN: &str = "firefly: output could not be written\n";
 
-fn is_verdict(rt: &impl Abort, found: Verdict, expected: Verdict) {
-    assert_eq!(rt; found, expected);
+// With this budget that is the verdict on the text.
+fn has_verdict(
+    rt: &impl Abort,
+    alloc: Global,
+    text: &str,
+    budget: u32,
+    verdict: Verdict,
+) -> Result<(), AllocError> {
+    let found = verdict_on(alloc, text, budget)?;
+    assert_eq!(rt; found, verdict);
+    Ok(())
 }
 
 #[test]
@@ -110,10 +119,8 @@ fn a_budget_of_all_bytes_is_enough_and_one_less_is_not(rt: HostRuntime) -> Resul
         waiting: 0,
         alerted: 0,
     };
-    let found = verdict_on(rt.alloc(), no_event(), 68)?;
-    is_verdict(&rt, found, Verdict::Legal(none));
-    let found = verdict_on(rt.alloc(), no_event(), 67)?;
-    is_verdict(&rt, found, Verdict::TooLong);
+    has_verdict(&rt, rt.alloc(), no_event(), 68, Verdict::Legal(none))?;
+    has_verdict(&rt, rt.alloc(), no_event(), 67, Verdict::TooLong)?;
     Ok(())
 }
 

@@ -1,8 +1,8 @@
 //! The numbers with which the program ends, and what it says beside them.
+use crate::answers::{Answer, is_answer};
 use firefly::{Ending, Status, ends, number};
 use firefly_outside::MemSink;
 use std::alloc::{AllocError, Global};
-use std::process::Abort;
 use std::test::Fail;
 
 // The statuses, each with its number.
@@ -80,24 +80,20 @@ fn endings() -> [(Ending<'static>, Status, &'static str); 9] {
     ]
 }
 
-// The ending has this status and this message.
-fn ends_so(
-    rt: &impl Abort,
-    alloc: Global,
-    ending: Ending,
-    status: Status,
-    message: &str,
-) -> Result<(), AllocError> {
+// What a call that ends so answers.
+fn ended(alloc: Global, ending: Ending) -> Result<Answer, AllocError> {
     let mut notes = MemSink::with_room(alloc, 200)?;
-    assert_eq!(rt; ends(&mut notes, ending), status);
-    assert_eq!(rt; notes.bytes(), message.as_bytes());
-    Ok(())
+    let status = ends(&mut notes, ending);
+    let notes = notes.bytes().to_vec(alloc)?;
+    let out = Vec::new(alloc);
+    Ok(Answer { status, out, notes })
 }
 
 #[test]
 fn each_ending_has_its_status_and_its_message(rt: HostRuntime) -> Result<(), Fail> {
     for (ending, status, message) in endings() {
-        ends_so(&rt, rt.alloc(), ending, status, message)?;
+        let found = ended(rt.alloc(), ending)?;
+        is_answer(&rt, &found, status, b"", message);
     }
     Ok(())
 }
