@@ -3,6 +3,7 @@ ghost use Rattle.std.specs.Prelude.{◌≡◌, ◌<◌};
 ghost use Rattle.larch_actions.specs.Layout.{IsNamed};
 ghost use Rattle.trace_tests.specs.Boards.{board};
 
+use crate::same::same;
 use larch_actions::{
     Action, Broken, CondId, Event, Layout, MutexId, SemId, State, ThreadId, ThreadSet, Totals,
 };
@@ -33,11 +34,6 @@ fn step(state: &mut State, thread: u32, action: Action) -> Result<(), Broken>
     })
 }
 
-// The steps were answered so, in their order. They are compared here, once for all tests.
-fn are(rt: &impl Abort, answers: &[Result<(), Broken>], expected: &[Result<(), Broken>]) {
-    assert_eq!(rt; answers, expected);
-}
-
 // So many are held, waited for and alerted.
 fn counts(rt: &impl Abort, state: &State, held: u64, waiting: u64, alerted: u64) {
     let totals = Totals {
@@ -45,7 +41,7 @@ fn counts(rt: &impl Abort, state: &State, held: u64, waiting: u64, alerted: u64)
         waiting,
         alerted,
     };
-    assert_eq!(rt; state.summary(), totals);
+    same(rt, &state.summary(), &totals);
 }
 
 #[test]
@@ -59,7 +55,7 @@ fn a_signalled_thread_takes_the_mutex_again(rt: HostRuntime) {
         step(&mut state, 0, Action::Release { mutex }),
         step(&mut state, 0, Action::Resume { mutex, cond }),
     ];
-    are(
+    same(
         &rt,
         &answers,
         &[Ok(()), Ok(()), Err(Broken::Order), Err(Broken::When)],
@@ -69,13 +65,13 @@ fn a_signalled_thread_takes_the_mutex_again(rt: HostRuntime) {
         step(&mut state, 1, Action::Signal { cond, left }),
         step(&mut state, 0, Action::Resume { mutex, cond }),
     ];
-    are(&rt, &answers, &[Ok(()), Ok(())]);
+    same(&rt, &answers, &[Ok(()), Ok(())]);
     counts(&rt, &state, 1, 0, 0);
     let answers = [
         step(&mut state, 1, Action::Release { mutex }),
         step(&mut state, 0, Action::Release { mutex }),
     ];
-    are(&rt, &answers, &[Err(Broken::Requires), Ok(())]);
+    same(&rt, &answers, &[Err(Broken::Requires), Ok(())]);
 }
 
 #[test]
@@ -90,14 +86,14 @@ fn an_alerted_thread_leaves_its_condition(rt: HostRuntime) {
         step(&mut state, 0, Action::AlertRaise { mutex, cond }),
         step(&mut state, 1, Action::Alert { who: ThreadId(0) }),
     ];
-    are(&rt, &answers, &[Ok(()), Ok(()), Err(Broken::When), Ok(())]);
+    same(&rt, &answers, &[Ok(()), Ok(()), Err(Broken::When), Ok(())]);
     counts(&rt, &state, 0, 1, 1);
     let answers = [
         step(&mut state, 1, Action::Signal { cond, left }),
         step(&mut state, 0, Action::AlertRaise { mutex, cond }),
         step(&mut state, 0, Action::TestAlert { yes: true }),
     ];
-    are(
+    same(
         &rt,
         &answers,
         &[Err(Broken::Ensures), Ok(()), Err(Broken::Ensures)],
@@ -115,7 +111,7 @@ fn a_semaphore_is_taken_once(rt: HostRuntime) {
         step(&mut state, 0, Action::V { sem }),
         step(&mut state, 1, Action::AlertPReturn { sem }),
     ];
-    are(
+    same(
         &rt,
         &answers,
         &[Ok(()), Err(Broken::When), Err(Broken::When), Ok(()), Ok(())],

@@ -1,5 +1,6 @@
 //! The checker over sources that stop, fail or give little at a time.
-use crate::verdicts::{asking_verdict, is_verdict, trace_of, verdict_on};
+use crate::same::same;
+use crate::verdicts::{asking_verdict, trace_of, verdict_on};
 use larch_actions::Broken;
 use std::alloc::Global;
 use std::process::Abort;
@@ -15,12 +16,10 @@ fn has_verdict(
     verdict: Verdict,
 ) -> Result<(), Fail> {
     let text = trace_of(alloc, lines)?;
-    is_verdict(
-        rt,
-        verdict_on(alloc, &text, u64::from(budget), None)?,
-        verdict,
-    );
-    is_verdict(rt, asking_verdict(alloc, &text, budget, None)?.0, verdict);
+    let at_once = verdict_on(alloc, &text, u64::from(budget), None)?;
+    let (one_by_one, _) = asking_verdict(alloc, &text, budget, None)?;
+    same(rt, &at_once, &verdict);
+    same(rt, &one_by_one, &verdict);
     Ok(())
 }
 

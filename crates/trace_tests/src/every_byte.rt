@@ -2,7 +2,8 @@
 ghost use Rattle.std.specs.Prelude.{◌<◌, length};
 
 use crate::plain::plain_verdict;
-use crate::verdicts::{is_verdict, verdict_on};
+use crate::same::same;
+use crate::verdicts::verdict_on;
 use std::alloc::{AllocError, Global};
 use std::process::Abort;
 use std::test::Fail;
@@ -61,7 +62,7 @@ const BYTES: &[u8] = b"0139 \ntmcsvaeld-\0\xff";
 // The checker and the definitions agree on this input.
 fn agree(rt: &impl Abort, alloc: Global, bytes: &[u8]) -> Result<(), Fail> {
     let found = verdict_on(alloc, bytes, 100_000, None)?;
-    is_verdict(rt, found, plain_verdict(alloc, bytes)?);
+    same(rt, &found, &plain_verdict(alloc, bytes)?);
     Ok(())
 }
 
@@ -115,7 +116,7 @@ fn each_removed_byte_has_the_verdict_of_the_definitions(rt: HostRuntime) -> Resu
 fn each_smaller_budget_is_too_long(rt: HostRuntime) -> Result<(), Fail> {
     for k in 0..whole().len() {
         let found = verdict_on(rt.alloc(), whole(), k as u64, None)?;
-        is_verdict(&rt, found, Verdict::TooLong);
+        same(&rt, &found, &Verdict::TooLong);
     }
     Ok(())
 }
@@ -124,7 +125,7 @@ fn each_smaller_budget_is_too_long(rt: HostRuntime) -> Result<(), Fail> {
 fn a_read_that_fails_before_the_end_is_a_read_fault(rt: HostRuntime) -> Result<(), Fail> {
     for given in 0..whole().len() {
         let found = verdict_on(rt.alloc(), whole(), 100_000, Some(given))?;
-        is_verdict(&rt, found, Verdict::ReadFault);
+        same(&rt, &found, &Verdict::ReadFault);
     }
     Ok(())
 }

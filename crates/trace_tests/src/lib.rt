@@ -19,6 +19,8 @@ mod plain;
 #[cfg(test)]
 mod questions;
 #[cfg(test)]
+mod same;
+#[cfg(test)]
 mod sources;
 #[cfg(test)]
 mod streams;

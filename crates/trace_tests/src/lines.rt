@@ -3,6 +3,7 @@ ghost use Rattle.std.specs.Prelude.{◌≡◌, ◌^◌, ◌-◌, ◌<◌};
 ghost use Rattle.trace_core.specs.declared.progress.Phase.TheVariants as phase;
 ghost use Rattle.trace_core.specs.Reader.{standing};
 
+use crate::same::same;
 use crate::sources::{OneByOne, source_of};
 use firefly_outside::{MemSink, Sink, SinkFault, Source};
 use larch_actions::{Action, CondId, Event, Layout, MutexId, SemId, ThreadId, ThreadSet};
@@ -81,15 +82,10 @@ fn slow_count_of(alloc: Global, text: &[u8]) -> Result<Result<u64, TextFault>, A
     Ok(count(&mut source, 10_000))
 }
 
-// So many events were read, or none because of this fault. What is compared is here, once for all tests.
-fn is_count(rt: &impl Abort, found: Result<u64, TextFault>, expected: Result<u64, TextFault>) {
-    assert_eq!(rt; found, expected);
-}
-
 #[test]
 fn each_kind_of_line_is_read(rt: HostRuntime) -> Result<(), Fail> {
-    is_count(&rt, count_of(rt.alloc(), EACH, 10_000, None)?, Ok(17));
-    is_count(&rt, slow_count_of(rt.alloc(), EACH)?, Ok(17));
+    same(&rt, &count_of(rt.alloc(), EACH, 10_000, None)?, &Ok(17));
+    same(&rt, &slow_count_of(rt.alloc(), EACH)?, &Ok(17));
     Ok(())
 }
 
@@ -124,7 +120,7 @@ fn count_behind_head(alloc: Global, lines: &[u8]) -> Result<Result<u64, TextFaul
 #[test]
 fn bad_lines_show(rt: HostRuntime) -> Result<(), Fail> {
     for (lines, fault) in bad_lines() {
-        is_count(&rt, count_behind_head(rt.alloc(), lines)?, Err(fault));
+        same(&rt, &count_behind_head(rt.alloc(), lines)?, &Err(fault));
     }
     Ok(())
 }
@@ -132,9 +128,9 @@ fn bad_lines_show(rt: HostRuntime) -> Result<(), Fail> {
 #[test]
 fn long_texts_and_failed_reads(rt: HostRuntime) -> Result<(), Fail> {
     let long = count_of(rt.alloc(), EACH, 100, None)?;
-    is_count(&rt, long, Err(TextFault::TooLong));
+    same(&rt, &long, &Err(TextFault::TooLong));
     let failing = count_of(rt.alloc(), EACH, 10_000, Some(100))?;
-    is_count(&rt, failing, Err(TextFault::Read));
+    same(&rt, &failing, &Err(TextFault::Read));
     Ok(())
 }
 
@@ -217,16 +213,11 @@ fn print_each<O: Sink>(out: &mut O) -> Result<(), SinkFault> {
     print_value(MutexId(1), 0, out)
 }
 
-// What was printed, and this is the text.
-fn is_text(rt: &impl Abort, found: &[u8], text: &[u8]) {
-    assert_eq!(rt; found, text);
-}
-
 #[test]
 fn each_kind_of_line_is_printed(rt: HostRuntime) -> Result<(), Fail> {
     let mut sink = MemSink::with_room(rt.alloc(), 2000)?;
     print_each(&mut sink)?;
-    is_text(&rt, sink.bytes(), EACH);
+    same(&rt, &sink.bytes(), &EACH);
     Ok(())
 }
 
@@ -256,8 +247,8 @@ fn is_printed(
     text: &[u8],
 ) -> Result<(), Fail> {
     let (put, bytes) = printed(alloc, room)?;
-    assert_eq!(rt; put, answer);
-    is_text(rt, &bytes, text);
+    same(rt, &put, &answer);
+    same(rt, &bytes.as_slice(), &text);
     Ok(())
 }
 

@@ -1,5 +1,6 @@
 //! The source is asked until the bytes decide, and not once more.
-use crate::verdicts::{asking_verdict, is_verdict, trace_of};
+use crate::same::same;
+use crate::verdicts::{asking_verdict, trace_of};
 use larch_actions::Broken;
 use std::alloc::{AllocError, Global};
 use std::process::Abort;
@@ -34,8 +35,8 @@ fn decided_by(
     verdict: Verdict,
 ) -> Result<(), Fail> {
     let (found, asked, many) = asking(alloc, bytes, budget, true)?;
-    is_verdict(rt, found, verdict);
-    assert_eq!(rt; asked, many);
+    same(rt, &found, &verdict);
+    same(rt, &asked, &many);
     Ok(())
 }
 
@@ -91,7 +92,7 @@ fn the_end_is_asked_for_once(rt: HostRuntime) -> Result<(), Fail> {
         alerted: 0,
     });
     let (found, asked, many) = asking(rt.alloc(), b"0 t0 p s0\nend 1\n", MANY, false)?;
-    is_verdict(&rt, found, legal);
-    assert_eq!(rt; asked.saturating_sub(many), 1);
+    same(&rt, &found, &legal);
+    same(&rt, &asked.saturating_sub(many), &1);
     Ok(())
 }

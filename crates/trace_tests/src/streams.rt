@@ -1,12 +1,12 @@
 //! Sources and sinks that end, fill up or fail in mid-stream.
 ghost use Rattle.std.specs.Prelude.{◌<◌, length};
 
+use crate::same::same;
 use crate::sources::source_of;
 use firefly_outside::{
     Failed, MemSink, ReaderSource, Sink, SinkFault, Source, WriterSink, put_all,
 };
 use std::io::{Error, ErrorKind, Read, Write};
-use std::process::Abort;
 use std::test::Fail;
 
 // Gives or takes one byte, and then fails.
@@ -61,19 +61,6 @@ fn holds(sink: &MemSink, bytes: &[u8]) -> bool {
     sink.bytes() == bytes
 }
 
-// These are the answers, in their order. They are compared here, once for all tests, and beside no source and no sink.
-fn are_answers(
-    rt: &impl Abort,
-    found: &[Result<usize, Failed>],
-    expected: &[Result<usize, Failed>],
-) {
-    assert_eq!(rt; found, expected);
-}
-
-fn are_put(rt: &impl Abort, found: &[Result<(), SinkFault>], expected: &[Result<(), SinkFault>]) {
-    assert_eq!(rt; found, expected);
-}
-
 #[test]
 fn source_gives_its_bytes_and_ends(rt: HostRuntime) -> Result<(), Fail> {
     let mut source = source_of(rt.alloc(), b"abc", None)?;
@@ -82,8 +69,8 @@ fn source_gives_its_bytes_and_ends(rt: HostRuntime) -> Result<(), Fail> {
     let bytes = buf;
     let (second, third) = (ask(&mut source, &mut buf), ask(&mut source, &mut buf));
     drop(source);
-    are_answers(&rt, &[first, second, third], &[Ok(2), Ok(1), Ok(0)]);
-    assert_eq!(rt; bytes, *b"ab");
+    same(&rt, &[first, second, third], &[Ok(2), Ok(1), Ok(0)]);
+    same(&rt, &bytes, b"ab");
     Ok(())
 }
 
@@ -97,7 +84,7 @@ fn source_fails_after_its_limit(rt: HostRuntime) -> Result<(), Fail> {
         ask(&mut source, &mut buf),
     ];
     drop(source);
-    are_answers(&rt, &answers, &[Ok(2), Err(Failed), Err(Failed)]);
+    same(&rt, &answers, &[Ok(2), Err(Failed), Err(Failed)]);
     Ok(())
 }
 
@@ -108,7 +95,7 @@ fn full_sink_keeps_what_fits(rt: HostRuntime) -> Result<(), Fail> {
     let is_full = holds(&sink, b"abcde");
     let third = put(&mut sink, b"");
     drop(sink);
-    are_put(
+    same(
         &rt,
         &[first, second, third],
         &[Ok(()), Err(SinkFault), Ok(())],
@@ -123,7 +110,7 @@ fn reader_that_fails_in_mid_stream(rt: HostRuntime) -> Result<(), Fail> {
     let mut buf = [0u8; 4];
     let answers = [ask(&mut source, &mut buf), ask(&mut source, &mut buf)];
     drop(source);
-    are_answers(&rt, &answers, &[Ok(1), Err(Failed)]);
+    same(&rt, &answers, &[Ok(1), Err(Failed)]);
     Ok(())
 }
 
@@ -132,7 +119,7 @@ fn writer_that_takes_nothing_fails(rt: HostRuntime) -> Result<(), Fail> {
     let mut sink = WriterSink::new(Flaky { calls: 0 });
     let (whole, piece) = (put(&mut sink, b"ab"), put_once(&mut sink, b"b"));
     drop(sink);
-    are_put(&rt, &[whole], &[Err(SinkFault)]);
-    are_answers(&rt, &[piece], &[Err(Failed)]);
+    same(&rt, &[whole], &[Err(SinkFault)]);
+    same(&rt, &[piece], &[Err(Failed)]);
     Ok(())
 }

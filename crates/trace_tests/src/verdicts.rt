@@ -3,7 +3,6 @@ ghost use Rattle.std.specs.Prelude.{◌^◌, ◌-◌, ◌<◌};
 
 use crate::sources::{OneByOne, source_of};
 use std::alloc::{AllocError, Global};
-use std::process::Abort;
 use trace_check::{Verdict, check};
 
 // A text that begins a trace. A function without a clause keeps the bytes out of the proofs.
@@ -41,9 +40,4 @@ pub fn asking_verdict(
     let mut source = OneByOne::new(source_of(alloc, text, given)?);
     let verdict = check(&mut source, u64::from(budget));
     Ok((verdict, source.asked()))
-}
-
-/// This is the verdict. What is compared is here, once for all tests.
-pub fn is_verdict(rt: &impl Abort, found: Verdict, expected: Verdict) {
-    assert_eq!(rt; found, expected);
 }
