@@ -19,18 +19,29 @@ pub struct Answer {
 }
 
 /// This is the answer.
-pub fn is_answer(rt: &impl Abort, found: &Answer, status: Status, out: &str, notes: &str) {
+pub fn is_answer(rt: &impl Abort, found: &Answer, status: Status, out: &[u8], notes: &str) {
     assert_eq!(rt; found.status, status);
-    assert_eq!(rt; found.out.as_slice(), out.as_bytes());
-    assert_eq!(rt; found.notes.as_slice(), notes.as_bytes());
+    is_written(rt, &found.out, out);
+    is_written(rt, &found.notes, notes.as_bytes());
 }
 
-/// The words as the program gets them.
-pub fn words_of(alloc: Global, words: &[&str]) -> Result<Vec<String>, AllocError> {
-    let mut all = Vec::new(alloc);
+// This was written.
+fn is_written(rt: &impl Abort, found: &[u8], expected: &[u8]) {
+    assert_eq!(rt; found, expected);
+}
+
+// Adds these words. The list is borrowed, so no early return lets it go.
+fn add_words(alloc: Global, all: &mut Vec<String>, words: &[&str]) -> Result<(), AllocError> {
     for word in words {
         all.push(String::from_str(alloc, word)?)?;
     }
+    Ok(())
+}
+
+// The words as the program gets them.
+fn words_of(alloc: Global, words: &[&str]) -> Result<Vec<String>, AllocError> {
+    let mut all = Vec::new(alloc);
+    add_words(alloc, &mut all, words)?;
     Ok(all)
 }
 
@@ -74,6 +85,18 @@ fn status_of<R: Threads + Wait + Sync, S: Tree>(
     firefly(rt, alloc, words, trees, input, out, notes)
 }
 
+// The status with what these sinks hold.
+fn answer_with(
+    alloc: Global,
+    status: Status,
+    out: &MemSink,
+    notes: &MemSink,
+) -> Result<Answer, AllocError> {
+    let out = out.bytes().to_vec(alloc)?;
+    let notes = notes.bytes().to_vec(alloc)?;
+    Ok(Answer { status, out, notes })
+}
+
 /// Calls the program on these trees.
 pub fn answer_of<R: Threads + Wait + Sync, S: Tree>(
     rt: &R,
@@ -90,9 +113,5 @@ pub fn answer_of<R: Threads + Wait + Sync, S: Tree>(
     let mut out = MemSink::with_room(alloc, room)?;
     let mut notes = MemSink::with_room(alloc, 200)?;
     let status = status_of(rt, alloc, &words, trees, input, &mut out, &mut notes);
-    Ok(Answer {
-        status,
-        out: out.bytes().to_vec(alloc)?,
-        notes: notes.bytes().to_vec(alloc)?,
-    })
+    answer_with(alloc, status, &out, &notes)
 }

@@ -6,6 +6,10 @@ use std::test::Fail;
 use std::thread::Threads;
 use thread_crew::{Call, Finished, NotRun, run_crew};
 
+fn all(results: &[bool]) -> bool {
+    results.iter().all(|met| *met)
+}
+
 // Runs three jobs, of which the first two meet, and answers whether they met and whether a start was refused.
 fn meet_in_crew<R: Threads + Wait>(
     rt: &R,
@@ -19,7 +23,7 @@ fn meet_in_crew<R: Threads + Wait>(
         jobs.push(Call { f: &f, job: me })?;
     }
     match run_crew(rt, alloc, jobs, starts, |refused: bool| refused) {
-        Ok(Finished { results, between }) => Ok((results.iter().all(|met| *met), between)),
+        Ok(Finished { results, between }) => Ok((all(&results), between)),
         Err(
             NotRun {
                 jobs: _,
@@ -45,20 +49,28 @@ fn a_refused_job_runs_on_the_caller_beside_the_started_one(rt: HostRuntime) -> R
     Ok(())
 }
 
-#[test]
-fn all_jobs_run_on_the_caller_where_none_is_started(rt: HostRuntime) -> Result<(), Fail> {
-    let alloc = rt.alloc();
+// Runs three jobs of which none is started, and answers their results and whether a start was refused.
+fn run_on_caller<R: Threads + Wait>(rt: &R, alloc: Global) -> Result<(Vec<u64>, bool), AllocError> {
     let f = |x: u64| x ^ 1;
     let mut jobs = Vec::new(alloc);
     for job in 0..3u64 {
         jobs.push(Call { f: &f, job })?;
     }
-    match run_crew(&rt, alloc, jobs, 0, |refused: bool| refused) {
-        Ok(Finished { results, between }) => {
-            assert_eq!(rt; results.as_slice(), [1, 0, 3].as_slice());
-            assert!(rt; between);
-        }
-        Err(_not_run) => assert!(rt; false, "memory"),
+    match run_crew(rt, alloc, jobs, 0, |refused: bool| refused) {
+        Ok(Finished { results, between }) => Ok((results, between)),
+        Err(
+            NotRun {
+                jobs: _,
+                between: _,
+            },
+        ) => Err(AllocError),
     }
+}
+
+#[test]
+fn all_jobs_run_on_the_caller_where_none_is_started(rt: HostRuntime) -> Result<(), Fail> {
+    let (results, refused) = run_on_caller(&rt, rt.alloc())?;
+    assert_eq!(rt; results.as_slice(), [1, 0, 3].as_slice());
+    assert!(rt; refused);
     Ok(())
 }

@@ -97,6 +97,19 @@ const UNREAD: &str = "firefly: input could not be read\n";
 
 const UNWRITTEN: &str = "firefly: output could not be written\n";
 
+// With this budget that is the verdict on the text.
+fn has_verdict(
+    rt: &impl Abort,
+    alloc: Global,
+    text: &str,
+    budget: u32,
+    verdict: Verdict,
+) -> Result<(), AllocError> {
+    let found = verdict_on(alloc, text, budget)?;
+    assert_eq!(rt; found, verdict);
+    Ok(())
+}
+
 #[test]
 fn a_budget_of_all_bytes_is_enough_and_one_less_is_not(rt: HostRuntime) -> Result<(), Fail> {
     assert_eq!(rt; no_event().len(), 68);
@@ -106,26 +119,32 @@ fn a_budget_of_all_bytes_is_enough_and_one_less_is_not(rt: HostRuntime) -> Resul
         waiting: 0,
         alerted: 0,
     };
-    assert_eq!(rt;
-        verdict_on(rt.alloc(), no_event(), 68)?,
-        Verdict::Legal(none)
-    );
-    assert_eq!(rt; verdict_on(rt.alloc(), no_event(), 67)?, Verdict::TooLong);
+    has_verdict(&rt, rt.alloc(), no_event(), 68, Verdict::Legal(none))?;
+    has_verdict(&rt, rt.alloc(), no_event(), 67, Verdict::TooLong)?;
+    Ok(())
+}
+
+// The failed read is reported, and nothing is printed.
+fn reports_read<R: Threads + Wait + Sync + Abort>(
+    rt: &R,
+    alloc: Global,
+    command: &str,
+    text: &str,
+    given: usize,
+) -> Result<(), AllocError> {
+    let found = failing(rt, alloc, command, text, given)?;
+    is_answer(rt, &found, Status::ReadFault, b"", UNREAD);
     Ok(())
 }
 
 #[test]
-fn a_failed_read_is_reported_and_nothing_is_printed(rt: HostRuntime) -> Result<(), Fail> {
-    let found = failing(&rt, rt.alloc(), "check", signalled(), 20)?;
-    is_answer(&rt, &found, Status::ReadFault, "", UNREAD);
-    Ok(())
+fn a_failed_read_is_reported_and_nothing_is_printed(rt: HostRuntime) -> Result<(), AllocError> {
+    reports_read(&rt, rt.alloc(), "check", signalled(), 20)
 }
 
 #[test]
-fn a_failed_read_of_a_script_is_reported(rt: HostRuntime) -> Result<(), Fail> {
-    let found = failing(&rt, rt.alloc(), "run", five_lines(), 60)?;
-    is_answer(&rt, &found, Status::ReadFault, "", UNREAD);
-    Ok(())
+fn a_failed_read_of_a_script_is_reported(rt: HostRuntime) -> Result<(), AllocError> {
+    reports_read(&rt, rt.alloc(), "run", five_lines(), 60)
 }
 
 #[test]
@@ -138,29 +157,34 @@ fn a_whole_bad_line_of_a_script_wins_over_a_failed_read(rt: HostRuntime) -> Resu
 #[test]
 fn a_full_sink_holds_the_front_of_the_line(rt: HostRuntime) -> Result<(), Fail> {
     let mut input = MemSource::new(no_event().as_bytes().to_vec(rt.alloc())?);
-    let found = run_program(&rt, rt.alloc(), &["check"], &mut input, 5)?;
-    is_answer(&rt, &found, Status::SinkFault, "legal", UNWRITTEN);
+    let found = run_program(&rt, rt.alloc(), &["check"], &mut input, 5);
+    drop(input);
+    let found = found?;
+    is_answer(&rt, &found, Status::SinkFault, b"legal", UNWRITTEN);
     Ok(())
 }
 
-// The answer is the front of the text, which has so many bytes.
-fn is_front(rt: &impl Abort, found: &Answer, text: &str, room: usize) {
-    assert_eq!(rt; found.status, Status::SinkFault);
-    assert_eq!(rt; found.out.len(), room);
-    assert!(rt; text.as_bytes().starts_with(found.out.as_slice()));
-    assert_eq!(rt; found.notes.as_slice(), UNWRITTEN.as_bytes());
+// With so much room the answer to the five lines is the front of this text that has so many bytes.
+fn is_cut<R: Threads + Wait + Sync + Abort>(
+    rt: &R,
+    alloc: Global,
+    text: &[u8],
+    room: usize,
+) -> Result<(), AllocError> {
+    let front = text.get(..room).unwrap_or(text);
+    let found = run(rt, alloc, five_lines(), room)?;
+    is_answer(rt, &found, Status::SinkFault, front, UNWRITTEN);
+    Ok(())
 }
 
 #[test]
 fn a_full_sink_holds_the_front_of_the_trace(rt: HostRuntime) -> Result<(), Fail> {
-    let whole = four_events();
+    let whole = four_events().as_bytes();
     for room in [0, 1, 16, 100, whole.len().saturating_sub(1)] {
-        let found = run(&rt, rt.alloc(), five_lines(), room)?;
-        is_front(&rt, &found, whole, room);
+        is_cut(&rt, rt.alloc(), whole, room)?;
     }
     let found = run(&rt, rt.alloc(), five_lines(), whole.len())?;
-    assert_eq!(rt; found.status, Status::Done);
-    assert_eq!(rt; found.out.as_slice(), whole.as_bytes());
+    is_answer(&rt, &found, Status::Done, whole, "");
     Ok(())
 }
 
@@ -168,7 +192,10 @@ fn a_full_sink_holds_the_front_of_the_trace(rt: HostRuntime) -> Result<(), Fail>
 fn a_full_sink_holds_the_front_of_the_index(rt: HostRuntime) -> Result<(), Fail> {
     let tree = project(rt.alloc())?;
     let mut input = MemSource::new(Vec::new(rt.alloc()));
-    let found = run_on(&rt, rt.alloc(), &["index", "proj"], &tree, &mut input, 10)?;
-    is_answer(&rt, &found, Status::SinkFault, "1 1\n  1 2 ", UNWRITTEN);
+    let found = run_on(&rt, rt.alloc(), &["index", "proj"], &tree, &mut input, 10);
+    drop(input);
+    drop(tree);
+    let found = found?;
+    is_answer(&rt, &found, Status::SinkFault, b"1 1\n  1 2 ", UNWRITTEN);
     Ok(())
 }

@@ -6,6 +6,7 @@ use firefly::Status;
 use firefly_outside::{MemSink, MemSource, MemTree, Tree};
 use index_print::print_index;
 use std::alloc::{AllocError, Global};
+use std::process::Abort;
 use std::sync::Wait;
 use std::test::Fail;
 use std::thread::Threads;
@@ -25,14 +26,39 @@ fn index_failing<R: Threads + Wait + Sync>(
     answer_of(rt, alloc, &["index", "proj"], &mut trees, &mut input, 1000)
 }
 
+// Where the tree fails at this path, it is named.
+fn is_named<R: Threads + Wait + Sync + Abort>(
+    rt: &R,
+    alloc: Global,
+    tree: &MemTree,
+    path: &str,
+) -> Result<(), AllocError> {
+    let found = index_failing(rt, alloc, tree, 0, &[path])?;
+    let message = format!(in alloc; "firefly: {path} could not be read\n")?;
+    is_answer(rt, &found, Status::ReadFault, b"", message.as_str());
+    Ok(())
+}
+
+// The same of each of these paths. The tree is borrowed, so no early return lets it go.
+fn are_named<R: Threads + Wait + Sync + Abort>(
+    rt: &R,
+    alloc: Global,
+    tree: &MemTree,
+    paths: &[&str],
+) -> Result<(), AllocError> {
+    for path in paths {
+        is_named(rt, alloc, tree, path)?;
+    }
+    Ok(())
+}
+
 #[test]
 fn a_path_that_fails_is_named(rt: HostRuntime) -> Result<(), Fail> {
     let tree = project(rt.alloc())?;
-    for path in ["proj", "proj/doc", "proj/README", "proj/src/run.rs"] {
-        let found = index_failing(&rt, rt.alloc(), &tree, 0, &[path])?;
-        let message = format!(in rt.alloc(); "firefly: {path} could not be read\n")?;
-        is_answer(&rt, &found, Status::ReadFault, "", message.as_str());
-    }
+    let paths = ["proj", "proj/doc", "proj/README", "proj/src/run.rs"];
+    let named = are_named(&rt, rt.alloc(), &tree, &paths);
+    drop(tree);
+    named?;
     Ok(())
 }
 
@@ -54,8 +80,10 @@ fn project_paths() -> [&'static str; 8] {
 #[test]
 fn the_workers_leave_nothing_to_the_closing_walk(rt: HostRuntime) -> Result<(), Fail> {
     let tree = project(rt.alloc())?;
-    let found = index_failing(&rt, rt.alloc(), &tree, 6, &project_paths())?;
-    is_answer(&rt, &found, Status::Done, project_index(), "");
+    let found = index_failing(&rt, rt.alloc(), &tree, 6, &project_paths());
+    drop(tree);
+    let found = found?;
+    is_answer(&rt, &found, Status::Done, project_index().as_bytes(), "");
     Ok(())
 }
 
@@ -103,9 +131,12 @@ fn calls(tree: &MemTree) -> (usize, usize) {
 #[test]
 fn a_walk_from_nothing_gives_the_index(rt: HostRuntime) -> Result<(), Fail> {
     let mut tree = project(rt.alloc())?;
-    let (has, files) = index_has(rt.alloc(), &mut tree, "proj", project_index())?;
+    let index = index_has(rt.alloc(), &mut tree, "proj", project_index());
+    let calls = calls(&tree);
+    drop(tree);
+    let (has, files) = index?;
     assert!(rt; has);
     assert_eq!(rt; files, 5);
-    assert_eq!(rt; calls(&tree), (3, 5));
+    assert_eq!(rt; calls, (3, 5));
     Ok(())
 }

@@ -10,8 +10,11 @@ fn a_million_directories_below_the_root_are_too_many(rt: HostRuntime) -> Result<
     let alloc = rt.alloc();
     let mut trees = crowded_trees(alloc, 1_000_000)?;
     let mut input = MemSource::new(Vec::new(alloc));
-    let found = answer_of(&rt, alloc, &["index", "big"], &mut trees, &mut input, 1000)?;
+    let found = answer_of(&rt, alloc, &["index", "big"], &mut trees, &mut input, 1000);
+    drop(input);
+    drop(trees);
+    let found = found?;
     let message = "firefly: 1000001 directories found, 1000000 allowed\n";
-    is_answer(&rt, &found, Status::TooMany, "", message);
+    is_answer(&rt, &found, Status::TooMany, b"", message);
     Ok(())
 }

@@ -6,20 +6,20 @@ use std::test::Fail;
 
 // The texts. A function without a clause keeps the bytes out of the proofs.
 
-fn main_file() -> &'static str {
-    "fn main() {\n    run(1);\n}\n"
-}
-
-fn run_file() -> &'static str {
-    "fn run(n) {}\r\n// run twice\r\nrun\r\n"
-}
-
-fn notes_file() -> &'static str {
-    "Index, INDEX\n\nindex_a\n"
-}
-
-fn logo_file() -> &'static [u8] {
-    &[0x00, 0xff, 0x0a, 0x41, 0x62, 0x80, 0x39]
+fn files() -> [(&'static str, &'static [u8]); 5] {
+    [
+        ("proj/README", b"Firefly index\n"),
+        ("proj/src/main.rs", b"fn main() {\n    run(1);\n}\n"),
+        (
+            "proj/src/run.rs",
+            b"fn run(n) {}\r\n// run twice\r\nrun\r\n",
+        ),
+        ("proj/doc/my notes.txt", b"Index, INDEX\n\nindex_a\n"),
+        (
+            "proj/doc/logo.bin",
+            &[0x00, 0xff, 0x0a, 0x41, 0x62, 0x80, 0x39],
+        ),
+    ]
 }
 
 /// The index of the project.
@@ -52,27 +52,19 @@ twice 1
 "
 }
 
+// Adds all below the root. The tree is borrowed, so no early return lets it go.
+fn fill(alloc: Global, tree: &mut MemTree) -> Result<(), Fail> {
+    put_dir(tree, "proj/src")?;
+    put_dir(tree, "proj/doc")?;
+    for (path, bytes) in &files() {
+        put_file(alloc, tree, path, bytes)?;
+    }
+    Ok(())
+}
+
 /// A project of three directories and five files.
 pub fn project(alloc: Global) -> Result<MemTree, Fail> {
     let mut tree = tree_with(alloc, "proj")?;
-    put_dir(&mut tree, "proj/src")?;
-    put_dir(&mut tree, "proj/doc")?;
-    put_file(&mut tree, "proj/README", b"Firefly index\n".to_vec(alloc)?)?;
-    put_file(
-        &mut tree,
-        "proj/src/main.rs",
-        main_file().as_bytes().to_vec(alloc)?,
-    )?;
-    put_file(
-        &mut tree,
-        "proj/src/run.rs",
-        run_file().as_bytes().to_vec(alloc)?,
-    )?;
-    put_file(
-        &mut tree,
-        "proj/doc/my notes.txt",
-        notes_file().as_bytes().to_vec(alloc)?,
-    )?;
-    put_file(&mut tree, "proj/doc/logo.bin", logo_file().to_vec(alloc)?)?;
+    fill(alloc, &mut tree)?;
     Ok(tree)
 }

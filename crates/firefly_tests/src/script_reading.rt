@@ -19,60 +19,67 @@ fn read(
     Ok(read_script(alloc, &mut source))
 }
 
+// The script of this text.
+fn script_of(alloc: Global, text: &str) -> Result<Script, Fail> {
+    match read(alloc, text, None)? {
+        Ok(script) => Ok(script),
+        Err(_) => Err(Fail::from("refused")),
+    }
+}
+
 // The script has these lines for 12 threads.
 fn has_lines(rt: &impl Abort, script: &Script, lines: &[Line]) {
     assert_eq!(rt; script.layout().threads, 12);
     assert_eq!(rt; script.lines(), lines);
 }
 
+fn line(thread: u32, operation: Operation) -> Line {
+    Line {
+        thread: ThreadId(thread),
+        operation,
+    }
+}
+
+// The lines of the text below.
+fn five_lines() -> [Line; 5] {
+    let (mutex, sem) = (MutexId(1), SemId(0));
+    let number = 1_000_000;
+    [
+        line(0, Operation::P { sem }),
+        line(11, Operation::Acquire { mutex }),
+        line(11, Operation::Add { mutex, number }),
+        line(11, Operation::Release { mutex }),
+        line(0, Operation::V { sem }),
+    ]
+}
+
 #[test]
 fn lines_are_read_in_order(rt: HostRuntime) -> Result<(), Fail> {
-    let (t0, t11, m1, s0) = (ThreadId(0), ThreadId(11), MutexId(1), SemId(0));
-    let lines = [
-        Line {
-            thread: t0,
-            operation: Operation::P { sem: s0 },
-        },
-        Line {
-            thread: t11,
-            operation: Operation::Acquire { mutex: m1 },
-        },
-        Line {
-            thread: t11,
-            operation: Operation::Add {
-                mutex: m1,
-                number: 1_000_000,
-            },
-        },
-        Line {
-            thread: t11,
-            operation: Operation::Release { mutex: m1 },
-        },
-        Line {
-            thread: t0,
-            operation: Operation::V { sem: s0 },
-        },
-    ];
     let text =
         "threads 12 mutexes 2 conditions 0 semaphores 1\nt0 p s0\nt11 acquire m1\nt11 add m1 1000000\nt11 release m1\nt0 v s0\n";
-    match read(rt.alloc(), text, None)? {
-        Ok(script) => has_lines(&rt, &script, &lines),
-        Err(_) => assert!(rt; false, "refused"),
-    }
+    let script = script_of(rt.alloc(), text)?;
+    has_lines(&rt, &script, &five_lines());
+    Ok(())
+}
+
+// The text is refused so, where so many of its bytes are given. The script isn't alive where that is compared.
+fn is_refused(
+    rt: &impl Abort,
+    alloc: Global,
+    text: &str,
+    given: usize,
+    fault: ScriptFault,
+) -> Result<(), AllocError> {
+    let found = read(alloc, text, Some(given))?.err();
+    assert_eq!(rt; found, Some(fault));
     Ok(())
 }
 
 #[test]
 fn a_whole_bad_line_wins_over_a_later_failed_read(rt: HostRuntime) -> Result<(), Fail> {
     let text = "threads 1 mutexes 1 conditions 0 semaphores 0\nt0 release m0\nt0 acquire m0\n";
-    assert_eq!(rt;
-        read(rt.alloc(), text, Some(60))?.err(),
-        Some(ScriptFault::BadLine(2))
-    );
-    assert_eq!(rt;
-        read(rt.alloc(), text, Some(59))?.err(),
-        Some(ScriptFault::Read)
-    );
+    is_refused(&rt, rt.alloc(), text, 60, ScriptFault::BadLine(2))?;
+    is_refused(&rt, rt.alloc(), text, 59, ScriptFault::Read)?;
     Ok(())
 }
 
@@ -95,11 +102,22 @@ fn read_second(alloc: Global, line: &str) -> Result<Option<Operation>, AllocErro
     }
 }
 
-#[test]
-fn waits_and_alerts_are_read(rt: HostRuntime) -> Result<(), Fail> {
-    let alloc = rt.alloc();
+// The line stands for this operation.
+fn is_read_as(
+    rt: &impl Abort,
+    alloc: Global,
+    line: &str,
+    operation: Operation,
+) -> Result<(), AllocError> {
+    let found = read_second(alloc, line)?;
+    assert_eq!(rt; found, Some(operation), "{line}");
+    Ok(())
+}
+
+// Operations of waits and alerts, each with its line.
+fn waits_and_alerts() -> [(&'static str, Operation); 9] {
     let (mutex, cond, sem, who) = (MutexId(1), CondId(11), SemId(0), ThreadId(2));
-    for (line, operation) in [
+    [
         ("wait m1 c11", Operation::Wait { mutex, cond }),
         ("alert-wait m1 c11", Operation::AlertWait { mutex, cond }),
         ("signal c11", Operation::Signal { cond }),
@@ -123,8 +141,13 @@ fn waits_and_alerts_are_read(rt: HostRuntime) -> Result<(), Fail> {
                 number: 0,
             },
         ),
-    ] {
-        assert_eq!(rt; read_second(alloc, line)?, Some(operation), "{line}");
+    ]
+}
+
+#[test]
+fn waits_and_alerts_are_read(rt: HostRuntime) -> Result<(), Fail> {
+    for (line, operation) in waits_and_alerts() {
+        is_read_as(&rt, rt.alloc(), line, operation)?;
     }
     Ok(())
 }

@@ -1,11 +1,13 @@
 //! The numbers with which the program ends, and what it says beside them.
+use crate::answers::{Answer, is_answer};
 use firefly::{Ending, Status, ends, number};
 use firefly_outside::MemSink;
+use std::alloc::{AllocError, Global};
 use std::test::Fail;
 
-#[test]
-fn each_status_has_its_number(rt: HostRuntime) -> Result<(), Fail> {
-    for (status, expected) in [
+// The statuses, each with its number.
+fn numbers() -> [(Status, u8); 10] {
+    [
         (Status::Done, 0),
         (Status::Usage, 1),
         (Status::ReadFault, 2),
@@ -16,19 +18,24 @@ fn each_status_has_its_number(rt: HostRuntime) -> Result<(), Fail> {
         (Status::BadText, 7),
         (Status::TooMany, 8),
         (Status::TooLong, 9),
-    ] {
+    ]
+}
+
+#[test]
+fn each_status_has_its_number(rt: HostRuntime) -> Result<(), Fail> {
+    for (status, expected) in numbers() {
         assert_eq!(rt; number(&status), expected);
     }
     Ok(())
 }
 
-#[test]
-fn each_ending_has_its_status_and_its_message(rt: HostRuntime) -> Result<(), Fail> {
+// The endings, each with its status and its message.
+fn endings() -> [(Ending<'static>, Status, &'static str); 9] {
     let stopped = Ending::Stopped {
         found: 5,
         allowed: 4,
     };
-    for (ending, status, message) in [
+    [
         (
             Ending::Usage,
             Status::Usage,
@@ -70,10 +77,23 @@ fn each_ending_has_its_status_and_its_message(rt: HostRuntime) -> Result<(), Fai
             Status::TooLong,
             "firefly: input too long\n",
         ),
-    ] {
-        let mut notes = MemSink::with_room(rt.alloc(), 200)?;
-        assert_eq!(rt; ends(&mut notes, ending), status);
-        assert_eq!(rt; notes.bytes(), message.as_bytes());
+    ]
+}
+
+// What a call that ends so answers.
+fn ended(alloc: Global, ending: Ending) -> Result<Answer, AllocError> {
+    let mut notes = MemSink::with_room(alloc, 200)?;
+    let status = ends(&mut notes, ending);
+    let notes = notes.bytes().to_vec(alloc)?;
+    let out = Vec::new(alloc);
+    Ok(Answer { status, out, notes })
+}
+
+#[test]
+fn each_ending_has_its_status_and_its_message(rt: HostRuntime) -> Result<(), Fail> {
+    for (ending, status, message) in endings() {
+        let found = ended(rt.alloc(), ending)?;
+        is_answer(&rt, &found, status, b"", message);
     }
     Ok(())
 }

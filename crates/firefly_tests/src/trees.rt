@@ -78,8 +78,9 @@ pub fn put_dir(tree: &mut MemTree, path: &str) -> Result<(), Fail> {
 }
 
 /// Adds a file.
-pub fn put_file(tree: &mut MemTree, path: &str, bytes: Vec<u8>) -> Result<(), Fail> {
+pub fn put_file(alloc: Global, tree: &mut MemTree, path: &str, bytes: &[u8]) -> Result<(), Fail> {
     if tree.may_add(path)? {
+        let bytes = bytes.to_vec(alloc)?;
         tree.add_file(path, bytes)?;
     }
     Ok(())

@@ -3,10 +3,11 @@ ghost use Rattle.std.specs.Prelude.{◌≡◌, ◌<◌};
 ghost use Rattle.larch_actions.specs.Layout.{IsNamed};
 ghost use Rattle.trace_tests.specs.Boards.{board};
 
+use crate::same::same;
 use larch_actions::{
     Action, Broken, CondId, Event, Layout, MutexId, SemId, State, ThreadId, ThreadSet, Totals,
 };
-use std::test::Fail;
+use std::process::Abort;
 
 // The first state of two threads, and one thing of each other kind.
 fn first() -> State
@@ -33,181 +34,86 @@ fn step(state: &mut State, thread: u32, action: Action) -> Result<(), Broken>
     })
 }
 
-// What is held, waited for and alerted, of which no clause is alive in the tests.
-fn totals(state: &State) -> Totals {
-    state.summary()
+// So many are held, waited for and alerted.
+fn counts(rt: &impl Abort, state: &State, held: u64, waiting: u64, alerted: u64) {
+    let totals = Totals {
+        held,
+        waiting,
+        alerted,
+    };
+    same(rt, &state.summary(), &totals);
 }
 
 #[test]
-fn a_signalled_thread_takes_the_mutex_again(rt: HostRuntime) -> Result<(), Fail> {
+fn a_signalled_thread_takes_the_mutex_again(rt: HostRuntime) {
+    let (mutex, cond) = (MutexId(0), CondId(0));
+    let left = ThreadSet::empty();
     let mut state = first();
-    assert_eq!(rt;
-        step(&mut state, 0, Action::Acquire { mutex: MutexId(0) }),
-        Ok(())
+    let answers = [
+        step(&mut state, 0, Action::Acquire { mutex }),
+        step(&mut state, 0, Action::Enqueue { mutex, cond }),
+        step(&mut state, 0, Action::Release { mutex }),
+        step(&mut state, 0, Action::Resume { mutex, cond }),
+    ];
+    same(
+        &rt,
+        &answers,
+        &[Ok(()), Ok(()), Err(Broken::Order), Err(Broken::When)],
     );
-    assert_eq!(rt;
-        step(
-            &mut state,
-            0,
-            Action::Enqueue {
-                mutex: MutexId(0),
-                cond: CondId(0)
-            }
-        ),
-        Ok(())
-    );
-    assert_eq!(rt;
-        step(&mut state, 0, Action::Release { mutex: MutexId(0) }),
-        Err(Broken::Order)
-    );
-    assert_eq!(rt;
-        step(
-            &mut state,
-            0,
-            Action::Resume {
-                mutex: MutexId(0),
-                cond: CondId(0)
-            }
-        ),
-        Err(Broken::When)
-    );
-    assert_eq!(rt;
-        totals(&state),
-        Totals {
-            held: 0,
-            waiting: 1,
-            alerted: 0
-        }
-    );
-    assert_eq!(rt;
-        step(
-            &mut state,
-            1,
-            Action::Signal {
-                cond: CondId(0),
-                left: ThreadSet::empty()
-            }
-        ),
-        Ok(())
-    );
-    assert_eq!(rt;
-        step(
-            &mut state,
-            0,
-            Action::Resume {
-                mutex: MutexId(0),
-                cond: CondId(0)
-            }
-        ),
-        Ok(())
-    );
-    assert_eq!(rt;
-        totals(&state),
-        Totals {
-            held: 1,
-            waiting: 0,
-            alerted: 0
-        }
-    );
-    assert_eq!(rt;
-        step(&mut state, 1, Action::Release { mutex: MutexId(0) }),
-        Err(Broken::Requires)
-    );
-    assert_eq!(rt;
-        step(&mut state, 0, Action::Release { mutex: MutexId(0) }),
-        Ok(())
-    );
-    Ok(())
+    counts(&rt, &state, 0, 1, 0);
+    let answers = [
+        step(&mut state, 1, Action::Signal { cond, left }),
+        step(&mut state, 0, Action::Resume { mutex, cond }),
+    ];
+    same(&rt, &answers, &[Ok(()), Ok(())]);
+    counts(&rt, &state, 1, 0, 0);
+    let answers = [
+        step(&mut state, 1, Action::Release { mutex }),
+        step(&mut state, 0, Action::Release { mutex }),
+    ];
+    same(&rt, &answers, &[Err(Broken::Requires), Ok(())]);
 }
 
 #[test]
-fn an_alerted_thread_leaves_its_condition(rt: HostRuntime) -> Result<(), Fail> {
+fn an_alerted_thread_leaves_its_condition(rt: HostRuntime) {
+    let (mutex, cond) = (MutexId(0), CondId(0));
     let mut state = first();
     let mut left = ThreadSet::empty();
     left.insert(ThreadId(0));
-    assert_eq!(rt;
-        step(&mut state, 0, Action::Acquire { mutex: MutexId(0) }),
-        Ok(())
-    );
-    assert_eq!(rt;
-        step(
-            &mut state,
-            0,
-            Action::AlertEnqueue {
-                mutex: MutexId(0),
-                cond: CondId(0)
-            }
-        ),
-        Ok(())
-    );
-    assert_eq!(rt;
-        step(
-            &mut state,
-            0,
-            Action::AlertRaise {
-                mutex: MutexId(0),
-                cond: CondId(0)
-            }
-        ),
-        Err(Broken::When)
-    );
-    assert_eq!(rt;
+    let answers = [
+        step(&mut state, 0, Action::Acquire { mutex }),
+        step(&mut state, 0, Action::AlertEnqueue { mutex, cond }),
+        step(&mut state, 0, Action::AlertRaise { mutex, cond }),
         step(&mut state, 1, Action::Alert { who: ThreadId(0) }),
-        Ok(())
-    );
-    assert_eq!(rt;
-        totals(&state),
-        Totals {
-            held: 0,
-            waiting: 1,
-            alerted: 1
-        }
-    );
-    assert_eq!(rt;
-        step(
-            &mut state,
-            1,
-            Action::Signal {
-                cond: CondId(0),
-                left
-            }
-        ),
-        Err(Broken::Ensures)
-    );
-    assert_eq!(rt;
-        step(
-            &mut state,
-            0,
-            Action::AlertRaise {
-                mutex: MutexId(0),
-                cond: CondId(0)
-            }
-        ),
-        Ok(())
-    );
-    assert_eq!(rt;
+    ];
+    same(&rt, &answers, &[Ok(()), Ok(()), Err(Broken::When), Ok(())]);
+    counts(&rt, &state, 0, 1, 1);
+    let answers = [
+        step(&mut state, 1, Action::Signal { cond, left }),
+        step(&mut state, 0, Action::AlertRaise { mutex, cond }),
         step(&mut state, 0, Action::TestAlert { yes: true }),
-        Err(Broken::Ensures)
+    ];
+    same(
+        &rt,
+        &answers,
+        &[Err(Broken::Ensures), Ok(()), Err(Broken::Ensures)],
     );
-    Ok(())
 }
 
 #[test]
-fn a_semaphore_is_taken_once(rt: HostRuntime) -> Result<(), Fail> {
+fn a_semaphore_is_taken_once(rt: HostRuntime) {
+    let sem = SemId(0);
     let mut state = first();
-    assert_eq!(rt; step(&mut state, 0, Action::P { sem: SemId(0) }), Ok(()));
-    assert_eq!(rt;
-        step(&mut state, 1, Action::AlertPReturn { sem: SemId(0) }),
-        Err(Broken::When)
+    let answers = [
+        step(&mut state, 0, Action::P { sem }),
+        step(&mut state, 1, Action::AlertPReturn { sem }),
+        step(&mut state, 1, Action::AlertPRaise { sem }),
+        step(&mut state, 0, Action::V { sem }),
+        step(&mut state, 1, Action::AlertPReturn { sem }),
+    ];
+    same(
+        &rt,
+        &answers,
+        &[Ok(()), Err(Broken::When), Err(Broken::When), Ok(()), Ok(())],
     );
-    assert_eq!(rt;
-        step(&mut state, 1, Action::AlertPRaise { sem: SemId(0) }),
-        Err(Broken::When)
-    );
-    assert_eq!(rt; step(&mut state, 0, Action::V { sem: SemId(0) }), Ok(()));
-    assert_eq!(rt;
-        step(&mut state, 1, Action::AlertPReturn { sem: SemId(0) }),
-        Ok(())
-    );
-    Ok(())
 }

@@ -1,51 +1,25 @@
 //! The checker over sources that stop, fail or give little at a time.
-use firefly_outside::{Failed, MemSource, Source};
+use crate::same::same;
+use crate::verdicts::{asking_verdict, trace_of, verdict_on};
 use larch_actions::Broken;
 use std::alloc::Global;
 use std::process::Abort;
 use std::test::Fail;
-use trace_check::{Summary, Verdict, check};
-
-// A text that begins a trace. A function without a clause keeps the bytes out of the proofs.
-fn head() -> &'static [u8] {
-    b"firefly-trace 1\nthreads 2 mutexes 1 conditions 0 semaphores 1\n"
-}
-
-// Gives one byte at a time.
-#[derive(Drop)]
-struct Slow {
-    inner: MemSource,
-}
-
-impl Source for Slow {
-    ghost use Rattle.std.specs.Prelude.{None};
-    ghost use Rattle.firefly_outside.specs.Memory.{source_faults};
-
-    ghost left = { λ s. None };
-
-    ghost faults = { λ s. source_faults s.inner };
-
-    fn next(&mut self, buf: &mut [u8]) -> Result<usize, Failed> {
-        self.inner.next(&mut buf[..1])
-    }
-}
+use trace_check::{Summary, Verdict};
 
 // This is the verdict on the head and these lines, read at once and byte by byte.
 fn has_verdict(
     rt: &impl Abort,
     alloc: Global,
-    text: &[u8],
+    lines: &[u8],
     budget: u32,
     verdict: Verdict,
 ) -> Result<(), Fail> {
-    let mut bytes = head().to_vec(alloc)?;
-    bytes.extend_from_slice(text)?;
-    let mut whole = MemSource::new(bytes.to_vec(alloc)?);
-    assert_eq!(rt; check(&mut whole, u64::from(budget)), verdict);
-    let mut slow = Slow {
-        inner: MemSource::new(bytes),
-    };
-    assert_eq!(rt; check(&mut slow, u64::from(budget)), verdict);
+    let text = trace_of(alloc, lines)?;
+    let at_once = verdict_on(alloc, &text, u64::from(budget), None)?;
+    let (one_by_one, _) = asking_verdict(alloc, &text, budget, None)?;
+    same(rt, &at_once, &verdict);
+    same(rt, &one_by_one, &verdict);
     Ok(())
 }
 

@@ -2,11 +2,12 @@
 ghost use Rattle.std.specs.Prelude.{◌<◌, length};
 
 use crate::plain::plain_verdict;
-use firefly_outside::MemSource;
-use std::alloc::Global;
+use crate::same::same;
+use crate::verdicts::verdict_on;
+use std::alloc::{AllocError, Global};
 use std::process::Abort;
 use std::test::Fail;
-use trace_check::{Verdict, check};
+use trace_check::Verdict;
 
 // A trace with each kind of line. A function without a clause keeps the bytes out of the proofs.
 fn whole() -> &'static [u8] {
@@ -60,10 +61,8 @@ const BYTES: &[u8] = b"0139 \ntmcsvaeld-\0\xff";
 
 // The checker and the definitions agree on this input.
 fn agree(rt: &impl Abort, alloc: Global, bytes: &[u8]) -> Result<(), Fail> {
-    let mut input = MemSource::new(bytes.to_vec(alloc)?);
-    let found = check(&mut input, 100_000);
-    let want = plain_verdict(alloc, bytes)?;
-    assert_eq!(rt; found, want);
+    let found = verdict_on(alloc, bytes, 100_000, None)?;
+    same(rt, &found, &plain_verdict(alloc, bytes)?);
     Ok(())
 }
 
@@ -76,14 +75,13 @@ fn each_prefix_has_the_verdict_of_the_definitions(rt: HostRuntime) -> Result<(),
     agree(&rt, rt.alloc(), bytes)
 }
 
-#[test]
-fn each_changed_byte_has_the_verdict_of_the_definitions(rt: HostRuntime) -> Result<(), Fail> {
-    let mut bytes = short().to_vec(rt.alloc())?;
+// They agree where one byte of these is another.
+fn agree_on_changes(rt: &impl Abort, alloc: Global, bytes: &mut [u8]) -> Result<(), Fail> {
     for k in 0..bytes.len() {
         let byte = bytes[k];
         for other in BYTES {
             bytes[k] = *other;
-            agree(&rt, rt.alloc(), &bytes)?;
+            agree(rt, alloc, bytes)?;
         }
         bytes[k] = byte;
     }
@@ -91,12 +89,24 @@ fn each_changed_byte_has_the_verdict_of_the_definitions(rt: HostRuntime) -> Resu
 }
 
 #[test]
+fn each_changed_byte_has_the_verdict_of_the_definitions(rt: HostRuntime) -> Result<(), Fail> {
+    let mut bytes = short().to_vec(rt.alloc())?;
+    agree_on_changes(&rt, rt.alloc(), &mut bytes)
+}
+
+// These bytes without the one at this place.
+fn without(alloc: Global, bytes: &[u8], k: usize) -> Result<Vec<u8>, AllocError> {
+    let mut others = bytes.to_vec(alloc)?;
+    if k < others.len() {
+        others.remove(k);
+    }
+    Ok(others)
+}
+
+#[test]
 fn each_removed_byte_has_the_verdict_of_the_definitions(rt: HostRuntime) -> Result<(), Fail> {
     for k in 0..whole().len() {
-        let mut bytes = whole().to_vec(rt.alloc())?;
-        if k < bytes.len() {
-            bytes.remove(k);
-        }
+        let bytes = without(rt.alloc(), whole(), k)?;
         agree(&rt, rt.alloc(), &bytes)?;
     }
     Ok(())
@@ -105,18 +115,17 @@ fn each_removed_byte_has_the_verdict_of_the_definitions(rt: HostRuntime) -> Resu
 #[test]
 fn each_smaller_budget_is_too_long(rt: HostRuntime) -> Result<(), Fail> {
     for k in 0..whole().len() {
-        let mut input = MemSource::new(whole().to_vec(rt.alloc())?);
-        assert_eq!(rt; check(&mut input, k as u64), Verdict::TooLong);
+        let found = verdict_on(rt.alloc(), whole(), k as u64, None)?;
+        same(&rt, &found, &Verdict::TooLong);
     }
     Ok(())
 }
 
 #[test]
 fn a_read_that_fails_before_the_end_is_a_read_fault(rt: HostRuntime) -> Result<(), Fail> {
-    for k in 0..whole().len() {
-        let mut input = MemSource::new(whole().to_vec(rt.alloc())?);
-        input.fail_after(k);
-        assert_eq!(rt; check(&mut input, 100_000), Verdict::ReadFault);
+    for given in 0..whole().len() {
+        let found = verdict_on(rt.alloc(), whole(), 100_000, Some(given))?;
+        same(&rt, &found, &Verdict::ReadFault);
     }
     Ok(())
 }

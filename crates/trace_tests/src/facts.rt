@@ -1,9 +1,9 @@
 //! The state of the specification as lists of what holds, and what each action asks of it and does to it.
-use larch_actions::{Action, Broken, CondId, Event, MutexId, ThreadId, ThreadSet};
+use larch_actions::{Action, Broken, CondId, Event, MutexId, SemId, ThreadId, ThreadSet};
 use std::alloc::{AllocError, Global};
 
 /// A thread between the two parts of a wait.
-#[derive(Clone, Copy, PartialEq, Eq)]
+#[derive(Clone, Copy)]
 pub struct Wait {
     pub thread: u32,
     pub mutex: u32,
@@ -116,16 +116,34 @@ impl Facts {
         }
     }
 
+    fn release(&mut self, mutex: MutexId) {
+        self.held.retain(|h| h.0 != mutex.0);
+    }
+
+    // The thread is alerted no longer.
+    fn calm(&mut self, t: u32) {
+        self.alerted.retain(|a| *a != t);
+    }
+
     fn begin_wait(&mut self, wait: Wait) -> Result<(), AllocError> {
-        self.held.retain(|h| h.0 != wait.mutex);
+        self.release(MutexId(wait.mutex));
         self.members.push((wait.cond, wait.thread))?;
         self.waits.push(wait)?;
         Ok(())
     }
 
+    fn hold(&mut self, t: u32, mutex: MutexId) -> Result<(), AllocError> {
+        self.held.push((mutex.0, t))?;
+        Ok(())
+    }
+
     fn end_wait(&mut self, t: u32, mutex: MutexId) -> Result<(), AllocError> {
         self.waits.retain(|w| w.thread != t);
-        self.held.push((mutex.0, t))?;
+        self.hold(t, mutex)
+    }
+
+    fn take(&mut self, sem: SemId) -> Result<(), AllocError> {
+        self.taken.push(sem.0)?;
         Ok(())
     }
 
@@ -140,7 +158,7 @@ impl Facts {
     }
 
     fn alert(&mut self, who: ThreadId) -> Result<(), AllocError> {
-        self.alerted.retain(|t| *t != who.0);
+        self.calm(who.0);
         self.alerted.push(who.0)?;
         Ok(())
     }
@@ -149,12 +167,9 @@ impl Facts {
     pub fn act(&mut self, e: &Event) -> Result<(), AllocError> {
         let t = e.thread.0;
         match e.action {
-            Action::Acquire { mutex } => {
-                self.held.push((mutex.0, t))?;
-                Ok(())
-            }
+            Action::Acquire { mutex } => self.hold(t, mutex),
             Action::Release { mutex } => {
-                self.held.retain(|h| h.0 != mutex.0);
+                self.release(mutex);
                 Ok(())
             }
             Action::Enqueue { mutex, cond } => self.begin_wait(Wait {
@@ -173,22 +188,19 @@ impl Facts {
             Action::AlertReturn { mutex, .. } => self.end_wait(t, mutex),
             Action::AlertRaise { mutex, cond } => {
                 self.members.retain(|m| *m != (cond.0, t));
-                self.alerted.retain(|a| *a != t);
+                self.calm(t);
                 self.end_wait(t, mutex)
             }
             Action::Signal { cond, left } => self.leave(cond, &left),
             Action::Broadcast { cond } => self.leave(cond, &ThreadSet::empty()),
-            Action::P { sem } | Action::AlertPReturn { sem } => {
-                self.taken.push(sem.0)?;
-                Ok(())
-            }
+            Action::P { sem } | Action::AlertPReturn { sem } => self.take(sem),
             Action::V { sem } => {
                 self.taken.retain(|s| *s != sem.0);
                 Ok(())
             }
             Action::Alert { who } => self.alert(who),
             Action::TestAlert { .. } | Action::AlertPRaise { .. } => {
-                self.alerted.retain(|a| *a != t);
+                self.calm(t);
                 Ok(())
             }
         }

@@ -19,4 +19,10 @@ mod plain;
 #[cfg(test)]
 mod questions;
 #[cfg(test)]
+mod same;
+#[cfg(test)]
+mod sources;
+#[cfg(test)]
 mod streams;
+#[cfg(test)]
+mod verdicts;

@@ -1,12 +1,14 @@
 //! Each kind of line, read and printed, and texts that are no traces.
-ghost use Rattle.std.specs.Prelude.{◌≡◌, ◌^◌, ◌-◌, ◌<◌, None};
+ghost use Rattle.std.specs.Prelude.{◌≡◌, ◌^◌, ◌-◌, ◌<◌};
 ghost use Rattle.trace_core.specs.declared.progress.Phase.TheVariants as phase;
-ghost use Rattle.firefly_outside.specs.Memory.{source_faults};
 ghost use Rattle.trace_core.specs.Reader.{standing};
 
-use firefly_outside::{Failed, MemSink, MemSource, SinkFault, Source};
+use crate::same::same;
+use crate::sources::{OneByOne, source_of};
+use firefly_outside::{MemSink, Sink, SinkFault, Source};
 use larch_actions::{Action, CondId, Event, Layout, MutexId, SemId, ThreadId, ThreadSet};
 use std::alloc::{AllocError, Global};
+use std::process::Abort;
 use std::test::Fail;
 use trace_core::laws::print_whole;
 use trace_core::{EventReader, TextFault, print_end, print_event, print_head, print_value};
@@ -37,22 +39,6 @@ value m0 18446744073709551615
 value m1 0
 ";
 
-// Gives one byte at a time.
-#[derive(Drop)]
-struct Slow {
-    inner: MemSource,
-}
-
-impl Source for Slow {
-    ghost left = { λ s. None };
-
-    ghost faults = { λ s. source_faults s.inner };
-
-    fn next(&mut self, buf: &mut [u8]) -> Result<usize, Failed> {
-        self.inner.next(&mut buf[..1])
-    }
-}
-
 // How many events the text has.
 fn count<I: Source>(input: &mut I, budget: u64) -> Result<u64, TextFault>
     requires { budget < 2 ^ 64 - 1 }
@@ -79,20 +65,33 @@ fn count_events<I: Source>(reader: &mut EventReader<I>) -> Result<u64, TextFault
     Ok(count)
 }
 
-#[test]
-fn each_kind_of_line_is_read(rt: HostRuntime) -> Result<(), Fail> {
-    let mut whole = MemSource::new(EACH.to_vec(rt.alloc())?);
-    assert_eq!(rt; count(&mut whole, 10_000), Ok(17));
-    let mut slow = Slow {
-        inner: MemSource::new(EACH.to_vec(rt.alloc())?),
-    };
-    assert_eq!(rt; count(&mut slow, 10_000), Ok(17));
-    Ok(())
+// The same of this text, of which the source gives so many bytes and then fails where a number stands.
+fn count_of(
+    alloc: Global,
+    text: &[u8],
+    budget: u32,
+    given: Option<usize>,
+) -> Result<Result<u64, TextFault>, AllocError> {
+    let mut source = source_of(alloc, text, given)?;
+    Ok(count(&mut source, u64::from(budget)))
+}
+
+// The same where the bytes come one by one.
+fn slow_count_of(alloc: Global, text: &[u8]) -> Result<Result<u64, TextFault>, AllocError> {
+    let mut source = OneByOne::new(source_of(alloc, text, None)?);
+    Ok(count(&mut source, 10_000))
 }
 
 #[test]
-fn bad_lines_show(rt: HostRuntime) -> Result<(), Fail> {
-    let cases: [(&[u8], TextFault); 12] = [
+fn each_kind_of_line_is_read(rt: HostRuntime) -> Result<(), Fail> {
+    same(&rt, &count_of(rt.alloc(), EACH, 10_000, None)?, &Ok(17));
+    same(&rt, &slow_count_of(rt.alloc(), EACH)?, &Ok(17));
+    Ok(())
+}
+
+// Lines that are bad behind the head, each with its fault.
+fn bad_lines() -> [(&'static [u8], TextFault); 12] {
+    [
         (b"00 t0 acquire m0\nend 1\n", TextFault::BadLine(3)),
         (b"0  t0 acquire m0\nend 1\n", TextFault::BadLine(3)),
         (b"0 t0 acquire m0 \nend 1\n", TextFault::BadLine(3)),
@@ -108,23 +107,30 @@ fn bad_lines_show(rt: HostRuntime) -> Result<(), Fail> {
         ),
         (b"end 0\nvalue m1 7\n\n", TextFault::BadLine(5)),
         (b"0 t0 acquire m0\n", TextFault::BadLine(4)),
-    ];
-    for (text, want) in cases {
-        let mut bytes = HEAD.to_vec(rt.alloc())?;
-        bytes.extend_from_slice(text)?;
-        let mut source = MemSource::new(bytes);
-        assert_eq!(rt; count(&mut source, 10_000), Err(want));
+    ]
+}
+
+// How many events a text of the head and these lines has.
+fn count_behind_head(alloc: Global, lines: &[u8]) -> Result<Result<u64, TextFault>, AllocError> {
+    let mut text = HEAD.to_vec(alloc)?;
+    text.extend_from_slice(lines)?;
+    count_of(alloc, &text, 10_000, None)
+}
+
+#[test]
+fn bad_lines_show(rt: HostRuntime) -> Result<(), Fail> {
+    for (lines, fault) in bad_lines() {
+        same(&rt, &count_behind_head(rt.alloc(), lines)?, &Err(fault));
     }
     Ok(())
 }
 
 #[test]
 fn long_texts_and_failed_reads(rt: HostRuntime) -> Result<(), Fail> {
-    let mut long = MemSource::new(EACH.to_vec(rt.alloc())?);
-    assert_eq!(rt; count(&mut long, 100), Err(TextFault::TooLong));
-    let mut failing = MemSource::new(EACH.to_vec(rt.alloc())?);
-    failing.fail_after(100);
-    assert_eq!(rt; count(&mut failing, 10_000), Err(TextFault::Read));
+    let long = count_of(rt.alloc(), EACH, 100, None)?;
+    same(&rt, &long, &Err(TextFault::TooLong));
+    let failing = count_of(rt.alloc(), EACH, 10_000, Some(100))?;
+    same(&rt, &failing, &Err(TextFault::Read));
     Ok(())
 }
 
@@ -181,29 +187,37 @@ fn others() -> [Event; 8] {
     ]
 }
 
-#[test]
-fn each_kind_of_line_is_printed(rt: HostRuntime) -> Result<(), Fail> {
-    let mut sink = MemSink::with_room(rt.alloc(), 2000)?;
+// Prints these events, of which the first has this place.
+fn print_events<O: Sink>(out: &mut O, first: u64, events: &[Event]) -> Result<(), SinkFault> {
+    let mut place = first;
+    for e in events {
+        print_event(place, e, out)?;
+        place = place.wrapping_add(1);
+    }
+    Ok(())
+}
+
+// Prints each kind of line.
+fn print_each<O: Sink>(out: &mut O) -> Result<(), SinkFault> {
     let layout = Layout {
         threads: 12,
         mutexes: 2,
         conditions: 1,
         semaphores: 1,
     };
-    print_head(&layout, &mut sink)?;
-    let mut place = 0u64;
-    for e in waits() {
-        print_event(place, &e, &mut sink)?;
-        place = place.wrapping_add(1);
-    }
-    for e in others() {
-        print_event(place, &e, &mut sink)?;
-        place = place.wrapping_add(1);
-    }
-    print_end(17, &mut sink)?;
-    print_value(MutexId(0), u64::MAX, &mut sink)?;
-    print_value(MutexId(1), 0, &mut sink)?;
-    assert_eq!(rt; sink.bytes(), EACH);
+    print_head(&layout, out)?;
+    print_events(out, 0, &waits())?;
+    print_events(out, 9, &others())?;
+    print_end(17, out)?;
+    print_value(MutexId(0), u64::MAX, out)?;
+    print_value(MutexId(1), 0, out)
+}
+
+#[test]
+fn each_kind_of_line_is_printed(rt: HostRuntime) -> Result<(), Fail> {
+    let mut sink = MemSink::with_room(rt.alloc(), 2000)?;
+    print_each(&mut sink)?;
+    same(&rt, &sink.bytes(), &EACH);
     Ok(())
 }
 
@@ -224,15 +238,25 @@ fn printed(alloc: Global, room: usize) -> Result<(Result<(), SinkFault>, Vec<u8>
     Ok((put, sink.bytes().to_vec(alloc)?))
 }
 
+// With so much room this is what printing answers, and this is what is there then.
+fn is_printed(
+    rt: &impl Abort,
+    alloc: Global,
+    room: usize,
+    answer: Result<(), SinkFault>,
+    text: &[u8],
+) -> Result<(), Fail> {
+    let (put, bytes) = printed(alloc, room)?;
+    same(rt, &put, &answer);
+    same(rt, &bytes.as_slice(), &text);
+    Ok(())
+}
+
 #[test]
 fn whole_text_is_printed(rt: HostRuntime) -> Result<(), Fail> {
     let text: &[u8] =
         b"firefly-trace 1\nthreads 1 mutexes 1 conditions 0 semaphores 0\n0 t0 acquire m0\nend 1\nvalue m0 5\n";
-    let (put, bytes) = printed(rt.alloc(), 100)?;
-    assert_eq!(rt; put, Ok(()));
-    assert_eq!(rt; bytes.as_slice(), text);
-    let (put, bytes) = printed(rt.alloc(), 20)?;
-    assert_eq!(rt; put, Err(SinkFault));
-    assert_eq!(rt; bytes.as_slice(), b"firefly-trace 1\nthre".as_slice());
-    Ok(())
+    is_printed(&rt, rt.alloc(), 100, Ok(()), text)?;
+    let front = b"firefly-trace 1\nthre";
+    is_printed(&rt, rt.alloc(), 20, Err(SinkFault), front)
 }

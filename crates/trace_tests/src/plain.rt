@@ -12,7 +12,7 @@ struct Named {
 }
 
 // Where a reading is: before the first line, before the layout line, among the events, or among the values from this mutex on.
-#[derive(Clone, Copy, PartialEq, Eq)]
+#[derive(Clone, Copy)]
 enum Stage {
     First,
     Second,
@@ -64,7 +64,7 @@ fn add_wait(
 fn add_waits(alloc: Global, actions: &mut Vec<Named>, m: u32, c: u32) -> Result<(), AllocError> {
     let mutex = MutexId(m);
     let cond = CondId(c);
-    for (word, after, action) in [
+    for (word, after, action) in &[
         ("enqueue", "", Action::Enqueue { mutex, cond }),
         ("resume", "", Action::Resume { mutex, cond }),
         ("alert-enqueue", "", Action::AlertEnqueue { mutex, cond }),
@@ -79,21 +79,38 @@ fn add_waits(alloc: Global, actions: &mut Vec<Named>, m: u32, c: u32) -> Result<
             Action::AlertRaise { mutex, cond },
         ),
     ] {
-        add_wait(alloc, actions, word, m, c, after, action)?;
+        add_wait(alloc, actions, word, m, c, after, *action)?;
     }
     Ok(())
 }
 
 fn add_semaphore(alloc: Global, actions: &mut Vec<Named>, s: u32) -> Result<(), AllocError> {
     let sem = SemId(s);
-    for (word, after, action) in [
+    for (word, after, action) in &[
         ("p s", "", Action::P { sem }),
         ("v s", "", Action::V { sem }),
         ("alert-p s", " returns", Action::AlertPReturn { sem }),
         ("alert-p s", " raises", Action::AlertPRaise { sem }),
     ] {
-        add_numbered(alloc, actions, word, s, after, action)?;
+        add_numbered(alloc, actions, word, s, after, *action)?;
     }
+    Ok(())
+}
+
+fn add_test_alert(
+    alloc: Global,
+    actions: &mut Vec<Named>,
+    text: &str,
+    yes: bool,
+) -> Result<(), AllocError> {
+    let text = String::from_str(alloc, text)?;
+    add(actions, text, Action::TestAlert { yes })
+}
+
+// Adds to the text, where there is memory for what is to be added. That isn't alive where the text is used further.
+fn push(text: &mut String, more: Result<String, AllocError>) -> Result<(), AllocError> {
+    let more = more?;
+    text.push_str(more.as_str())?;
     Ok(())
 }
 
@@ -110,8 +127,7 @@ fn add_signal(
     for t in 0..threads.min(10) {
         if (bits >> t) & 1 == 1 {
             left.insert(ThreadId(t));
-            let name = format!(in alloc; " t{t}")?;
-            text.push_str(name.as_str())?;
+            push(&mut text, format!(in alloc; " t{t}"))?;
         }
     }
     add(
@@ -124,57 +140,72 @@ fn add_signal(
     )
 }
 
+// The actions of the mutexes, and those of their waits.
+fn add_mutexes(alloc: Global, actions: &mut Vec<Named>, layout: &Layout) -> Result<(), AllocError> {
+    for m in 0..layout.mutexes {
+        let mutex = MutexId(m);
+        let (acquire, release) = (Action::Acquire { mutex }, Action::Release { mutex });
+        add_numbered(alloc, actions, "acquire m", m, "", acquire)?;
+        add_numbered(alloc, actions, "release m", m, "", release)?;
+        for c in 0..layout.conditions {
+            add_waits(alloc, actions, m, c)?;
+        }
+    }
+    Ok(())
+}
+
+fn add_conditions(
+    alloc: Global,
+    actions: &mut Vec<Named>,
+    layout: &Layout,
+) -> Result<(), AllocError> {
+    for c in 0..layout.conditions {
+        let broadcast = Action::Broadcast { cond: CondId(c) };
+        add_numbered(alloc, actions, "broadcast c", c, "", broadcast)?;
+        for bits in 0..1 << layout.threads.min(10) {
+            add_signal(alloc, actions, c, layout.threads, bits)?;
+        }
+    }
+    Ok(())
+}
+
+fn add_threads(alloc: Global, actions: &mut Vec<Named>, layout: &Layout) -> Result<(), AllocError> {
+    for t in 0..layout.threads {
+        let alert = Action::Alert { who: ThreadId(t) };
+        add_numbered(alloc, actions, "alert t", t, "", alert)?;
+    }
+    Ok(())
+}
+
+// Adds all actions. The list is borrowed, so no early return lets it go.
+fn add_all(alloc: Global, actions: &mut Vec<Named>, layout: &Layout) -> Result<(), AllocError> {
+    add_mutexes(alloc, actions, layout)?;
+    add_conditions(alloc, actions, layout)?;
+    for s in 0..layout.semaphores {
+        add_semaphore(alloc, actions, s)?;
+    }
+    add_threads(alloc, actions, layout)?;
+    add_test_alert(alloc, actions, "test-alert yes", true)?;
+    add_test_alert(alloc, actions, "test-alert no", false)
+}
+
 // The actions of a layout of at most ten threads.
 fn actions_of(alloc: Global, layout: &Layout) -> Result<Vec<Named>, AllocError> {
     let mut actions = Vec::new(alloc);
-    for m in 0..layout.mutexes {
-        let mutex = MutexId(m);
-        add_numbered(
-            alloc,
-            &mut actions,
-            "acquire m",
-            m,
-            "",
-            Action::Acquire { mutex },
-        )?;
-        add_numbered(
-            alloc,
-            &mut actions,
-            "release m",
-            m,
-            "",
-            Action::Release { mutex },
-        )?;
-        for c in 0..layout.conditions {
-            add_waits(alloc, &mut actions, m, c)?;
-        }
-    }
-    for c in 0..layout.conditions {
-        let cond = CondId(c);
-        add_numbered(
-            alloc,
-            &mut actions,
-            "broadcast c",
-            c,
-            "",
-            Action::Broadcast { cond },
-        )?;
-        for bits in 0..1 << layout.threads.min(10) {
-            add_signal(alloc, &mut actions, c, layout.threads, bits)?;
-        }
-    }
-    for s in 0..layout.semaphores {
-        add_semaphore(alloc, &mut actions, s)?;
-    }
-    for t in 0..layout.threads {
-        let who = ThreadId(t);
-        add_numbered(alloc, &mut actions, "alert t", t, "", Action::Alert { who })?;
-    }
-    for (text, yes) in [("test-alert yes", true), ("test-alert no", false)] {
-        let text = String::from_str(alloc, text)?;
-        add(&mut actions, text, Action::TestAlert { yes })?;
-    }
+    add_all(alloc, &mut actions, layout)?;
     Ok(actions)
+}
+
+// What comes behind this text at the front of the line. The text isn't alive where that is used.
+fn behind(line: &[u8], text: Result<String, AllocError>) -> Result<Option<&[u8]>, AllocError> {
+    let text = text?;
+    Ok(line.strip_prefix(text.as_bytes()))
+}
+
+// Whether this text is the whole line.
+fn is_line(line: &[u8], text: Result<String, AllocError>) -> Result<bool, AllocError> {
+    let text = text?;
+    Ok(line == text.as_bytes())
 }
 
 // The number in a range that stands, with this text behind it, at the front of the line, and what comes behind them.
@@ -185,8 +216,7 @@ fn number_in<'a>(
     after: &str,
 ) -> Result<Option<(u32, &'a [u8])>, AllocError> {
     for n in least..65 {
-        let text = format!(in alloc; "{n}{after}")?;
-        if let Some(rest) = line.strip_prefix(text.as_bytes()) {
+        if let Some(rest) = behind(line, format!(in alloc; "{n}{after}"))? {
             return Ok(Some((n, rest)));
         }
     }
@@ -196,8 +226,7 @@ fn number_in<'a>(
 // The number that is the whole line.
 fn number_of(alloc: Global, line: &[u8]) -> Result<Option<u32>, AllocError> {
     for n in 0..65 {
-        let text = format!(in alloc; "{n}")?;
-        if line == text.as_bytes() {
+        if is_line(line, format!(in alloc; "{n}"))? {
             return Ok(Some(n));
         }
     }
@@ -258,18 +287,23 @@ impl Reading {
         }
     }
 
+    // The action with this text.
+    fn action_of(&self, text: &[u8]) -> Option<Action> {
+        for named in &self.actions {
+            if text == named.text.as_bytes() {
+                return Some(named.action);
+            }
+        }
+        None
+    }
+
     fn event_in(&self, alloc: Global, line: &[u8]) -> Result<Option<Event>, AllocError> {
         let place = self.place;
         for t in 0..self.layout.threads {
-            let front = format!(in alloc; "{place} t{t} ")?;
-            if let Some(rest) = line.strip_prefix(front.as_bytes()) {
-                for named in &self.actions {
-                    if rest == named.text.as_bytes() {
-                        return Ok(Some(Event {
-                            thread: ThreadId(t),
-                            action: named.action,
-                        }));
-                    }
+            if let Some(rest) = behind(line, format!(in alloc; "{place} t{t} "))? {
+                if let Some(action) = self.action_of(rest) {
+                    let thread = ThreadId(t);
+                    return Ok(Some(Event { thread, action }));
                 }
             }
         }
@@ -284,8 +318,7 @@ impl Reading {
         number: u64,
     ) -> Result<Option<Verdict>, AllocError> {
         let place = self.place;
-        let end = format!(in alloc; "end {place}")?;
-        if line == end.as_bytes() {
+        if is_line(line, format!(in alloc; "end {place}"))? {
             self.stage = Stage::Values(0);
             return Ok(None);
         }
@@ -308,8 +341,7 @@ impl Reading {
         least: u32,
     ) -> Result<Option<Verdict>, AllocError> {
         for m in least..self.layout.mutexes {
-            let front = format!(in alloc; "value m{m} ")?;
-            if let Some(digits) = line.strip_prefix(front.as_bytes()) {
+            if let Some(digits) = behind(line, format!(in alloc; "value m{m} "))? {
                 if is_value(digits) {
                     self.stage = Stage::Values(m.saturating_add(1));
                     return Ok(None);
@@ -362,15 +394,18 @@ impl Reading {
     }
 }
 
-/// The verdict on the whole input.
-pub fn plain_verdict(alloc: Global, bytes: &[u8]) -> Result<Verdict, AllocError> {
-    let mut reading = Reading::new(alloc);
-    let mut line = Vec::new(alloc);
+// The verdict on what is read here from its first line on. The reading and the line are borrowed, so no early return lets them go.
+fn verdict_by(
+    alloc: Global,
+    reading: &mut Reading,
+    line: &mut Vec<u8>,
+    bytes: &[u8],
+) -> Result<Verdict, AllocError> {
     let mut lines: u64 = 0;
     for b in bytes {
         if *b == b'\n' {
             lines = lines.saturating_add(1);
-            if let Some(verdict) = reading.line(alloc, &line, lines)? {
+            if let Some(verdict) = reading.line(alloc, line, lines)? {
                 return Ok(verdict);
             }
             line.clear();
@@ -379,4 +414,11 @@ pub fn plain_verdict(alloc: Global, bytes: &[u8]) -> Result<Verdict, AllocError>
         }
     }
     Ok(reading.end(!line.is_empty(), lines))
+}
+
+/// The verdict on the whole input.
+pub fn plain_verdict(alloc: Global, bytes: &[u8]) -> Result<Verdict, AllocError> {
+    let mut reading = Reading::new(alloc);
+    let mut line = Vec::new(alloc);
+    verdict_by(alloc, &mut reading, &mut line, bytes)
 }

@@ -1,35 +1,29 @@
 //! The source is asked until the bytes decide, and not once more.
-use firefly_outside::{Failed, MemSource, Source};
+use crate::same::same;
+use crate::verdicts::{asking_verdict, trace_of};
 use larch_actions::Broken;
-use std::alloc::Global;
+use std::alloc::{AllocError, Global};
 use std::process::Abort;
 use std::test::Fail;
-use trace_check::{Summary, Verdict, check};
+use trace_check::{Summary, Verdict};
 
-// Gives one byte a question, and counts the questions.
-#[derive(Drop)]
-struct OneByOne {
-    inner: MemSource,
-    asked: usize,
-}
-
-impl Source for OneByOne {
-    ghost use Rattle.std.specs.Prelude.{None};
-    ghost use Rattle.firefly_outside.specs.Memory.{source_faults};
-
-    ghost left = { λ s. None };
-
-    ghost faults = { λ s. source_faults s.inner };
-
-    fn next(&mut self, buf: &mut [u8]) -> Result<usize, Failed> {
-        self.asked = self.asked.saturating_add(1);
-        self.inner.next(&mut buf[..1])
+// What the checker answers to these bytes behind the head, how often it asks for one, and how many there are with the head. Where it is
+// `cut`, more bytes come behind them, and the source fails before it gives these.
+fn asking(
+    alloc: Global,
+    bytes: &[u8],
+    budget: u32,
+    cut: bool,
+) -> Result<(Verdict, usize, usize), AllocError> {
+    let mut text = trace_of(alloc, bytes)?;
+    let many = text.len();
+    let mut given = None;
+    if cut {
+        text.extend_from_slice(b"0 t0 acquire m0\nend 1\n")?;
+        given = Some(many);
     }
-}
-
-// A text that begins a trace. A function without a clause keeps the bytes out of the proofs.
-fn head() -> &'static [u8] {
-    b"firefly-trace 1\nthreads 2 mutexes 1 conditions 0 semaphores 1\n"
+    let (verdict, asked) = asking_verdict(alloc, &text, budget, given)?;
+    Ok((verdict, asked, many))
 }
 
 // The last of these bytes behind the head decides: the source is asked for it, and fails if it is asked again.
@@ -40,16 +34,9 @@ fn decided_by(
     budget: u32,
     verdict: Verdict,
 ) -> Result<(), Fail> {
-    let mut text = head().to_vec(alloc)?;
-    text.extend_from_slice(bytes)?;
-    let many = text.len();
-    text.extend_from_slice(b"0 t0 acquire m0\nend 1\n")?;
-    let mut inner = MemSource::new(text);
-    inner.fail_after(many);
-    let mut input = OneByOne { inner, asked: 0 };
-    let found = check(&mut input, u64::from(budget));
-    assert_eq!(rt; found, verdict);
-    assert_eq!(rt; input.asked, many);
+    let (found, asked, many) = asking(alloc, bytes, budget, true)?;
+    same(rt, &found, &verdict);
+    same(rt, &asked, &many);
     Ok(())
 }
 
@@ -98,20 +85,14 @@ fn one_byte_past_the_budget_is_the_last_that_is_asked_for(rt: HostRuntime) -> Re
 
 #[test]
 fn the_end_is_asked_for_once(rt: HostRuntime) -> Result<(), Fail> {
-    let mut text = head().to_vec(rt.alloc())?;
-    text.extend_from_slice(b"0 t0 p s0\nend 1\n")?;
-    let many = text.len();
-    let mut input = OneByOne {
-        inner: MemSource::new(text),
-        asked: 0,
-    };
     let legal = Verdict::Legal(Summary {
         events: 1,
         held: 0,
         waiting: 0,
         alerted: 0,
     });
-    assert_eq!(rt; check(&mut input, 1_000), legal);
-    assert_eq!(rt; input.asked.saturating_sub(many), 1);
+    let (found, asked, many) = asking(rt.alloc(), b"0 t0 p s0\nend 1\n", MANY, false)?;
+    same(&rt, &found, &legal);
+    same(&rt, &asked.saturating_sub(many), &1);
     Ok(())
 }

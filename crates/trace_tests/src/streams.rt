@@ -1,8 +1,10 @@
 //! Sources and sinks that end, fill up or fail in mid-stream.
 ghost use Rattle.std.specs.Prelude.{◌<◌, length};
 
+use crate::same::same;
+use crate::sources::source_of;
 use firefly_outside::{
-    Failed, MemSink, MemSource, ReaderSource, Sink, SinkFault, Source, WriterSink, put_all,
+    Failed, MemSink, ReaderSource, Sink, SinkFault, Source, WriterSink, put_all,
 };
 use std::io::{Error, ErrorKind, Read, Write};
 use std::test::Fail;
@@ -49,35 +51,56 @@ fn put<S: Sink>(sink: &mut S, bytes: &[u8]) -> Result<(), SinkFault> {
     put_all(sink, bytes)
 }
 
+fn put_once<S: Sink>(sink: &mut S, piece: &[u8]) -> Result<usize, Failed>
+    requires { 0 < length piece.now }
+{
+    sink.put(piece)
+}
+
+fn holds(sink: &MemSink, bytes: &[u8]) -> bool {
+    sink.bytes() == bytes
+}
+
 #[test]
 fn source_gives_its_bytes_and_ends(rt: HostRuntime) -> Result<(), Fail> {
-    let mut source = MemSource::new(b"abc".to_vec(rt.alloc())?);
+    let mut source = source_of(rt.alloc(), b"abc", None)?;
     let mut buf = [0u8; 2];
-    assert_eq!(rt; ask(&mut source, &mut buf), Ok(2));
-    assert_eq!(rt; buf, *b"ab");
-    assert_eq!(rt; ask(&mut source, &mut buf), Ok(1));
-    assert_eq!(rt; ask(&mut source, &mut buf), Ok(0));
+    let first = ask(&mut source, &mut buf);
+    let bytes = buf;
+    let (second, third) = (ask(&mut source, &mut buf), ask(&mut source, &mut buf));
+    drop(source);
+    same(&rt, &[first, second, third], &[Ok(2), Ok(1), Ok(0)]);
+    same(&rt, &bytes, b"ab");
     Ok(())
 }
 
 #[test]
 fn source_fails_after_its_limit(rt: HostRuntime) -> Result<(), Fail> {
-    let mut source = MemSource::new(b"abc".to_vec(rt.alloc())?);
-    source.fail_after(2);
+    let mut source = source_of(rt.alloc(), b"abc", Some(2))?;
     let mut buf = [0u8; 8];
-    assert_eq!(rt; ask(&mut source, &mut buf), Ok(2));
-    assert_eq!(rt; ask(&mut source, &mut buf), Err(Failed));
-    assert_eq!(rt; ask(&mut source, &mut buf), Err(Failed));
+    let answers = [
+        ask(&mut source, &mut buf),
+        ask(&mut source, &mut buf),
+        ask(&mut source, &mut buf),
+    ];
+    drop(source);
+    same(&rt, &answers, &[Ok(2), Err(Failed), Err(Failed)]);
     Ok(())
 }
 
 #[test]
 fn full_sink_keeps_what_fits(rt: HostRuntime) -> Result<(), Fail> {
     let mut sink = MemSink::with_room(rt.alloc(), 5)?;
-    assert_eq!(rt; put(&mut sink, b"abc"), Ok(()));
-    assert_eq!(rt; put(&mut sink, b"def"), Err(SinkFault));
-    assert_eq!(rt; sink.bytes(), b"abcde".as_slice());
-    assert_eq!(rt; put(&mut sink, b""), Ok(()));
+    let (first, second) = (put(&mut sink, b"abc"), put(&mut sink, b"def"));
+    let is_full = holds(&sink, b"abcde");
+    let third = put(&mut sink, b"");
+    drop(sink);
+    same(
+        &rt,
+        &[first, second, third],
+        &[Ok(()), Err(SinkFault), Ok(())],
+    );
+    assert!(rt; is_full);
     Ok(())
 }
 
@@ -85,15 +108,18 @@ fn full_sink_keeps_what_fits(rt: HostRuntime) -> Result<(), Fail> {
 fn reader_that_fails_in_mid_stream(rt: HostRuntime) -> Result<(), Fail> {
     let mut source = ReaderSource::new(Flaky { calls: 0 });
     let mut buf = [0u8; 4];
-    assert_eq!(rt; ask(&mut source, &mut buf), Ok(1));
-    assert_eq!(rt; ask(&mut source, &mut buf), Err(Failed));
+    let answers = [ask(&mut source, &mut buf), ask(&mut source, &mut buf)];
+    drop(source);
+    same(&rt, &answers, &[Ok(1), Err(Failed)]);
     Ok(())
 }
 
 #[test]
 fn writer_that_takes_nothing_fails(rt: HostRuntime) -> Result<(), Fail> {
     let mut sink = WriterSink::new(Flaky { calls: 0 });
-    assert_eq!(rt; put(&mut sink, b"ab"), Err(SinkFault));
-    assert_eq!(rt; sink.put(b"b"), Err(Failed));
+    let (whole, piece) = (put(&mut sink, b"ab"), put_once(&mut sink, b"b"));
+    drop(sink);
+    same(&rt, &[whole], &[Err(SinkFault)]);
+    same(&rt, &[piece], &[Err(Failed)]);
     Ok(())
 }
