@@ -1,12 +1,14 @@
 -- The status of the one verdict that is just.
-use Rattle.std.proofs.Common.{◌≡◌, ◌≢◌, ◌⊎◌, inl, inr, List, ℕ, subst}
+use Rattle.std.proofs.Common.{◌≡◌, ◌≢◌, ◌⊎◌, inl, inr, List, ℕ, subst, sym}
+use Rattle.trace_check.specs.declared.checker.Summary.{Summary}
 use Rattle.trace_check.specs.declared.checker.Verdict.{Verdict}
 use Rattle.trace_check.specs.declared.checker.Verdict.TheVariants as verdict
 use Rattle.larch_actions.specs.declared.event.Broken.{Broken}
 use Rattle.firefly.specs.declared.status.Status.{Status}
-use Rattle.firefly.specs.declared.status.Status.TheVariants.{SinkFault}
-use Rattle.firefly.specs.Changes.{Change}
-use Rattle.firefly.specs.Check.{Prints, status_of}
+use Rattle.firefly.specs.declared.status.Status.TheVariants.{Done, SinkFault}
+use Rattle.firefly.specs.Changes.{Change, Gets}
+use Rattle.firefly.specs.Check.{CheckAnswers, Finds, Prints, status_of}
+use Rattle.firefly.specs.Texts.{legal_line}
 
 -- the status is that of the verdict, or the sink failed
 abbrev pub Fits : Status → Verdict → Type 0
@@ -19,7 +21,15 @@ pub printed : (line : List ℕ) (status : Status) (out notes : Change) (answer :
 printed line status out notes answer (inl h) = inl h.0
 printed line status out notes answer (inr h) = inr h.0
 
+-- the line of a verdict that is legal and just was printed
+pub legal_printed : (input out notes : Change) (s : Summary) (line : List ℕ) (answer : Status) → Finds input (verdict.Legal s) → line ≡ legal_line s → Prints line Done out notes answer → CheckAnswers input out notes answer
+legal_printed input out notes s line answer found is (inl h) = subst (λ (a : Status). CheckAnswers input out notes a) (sym h.0) (s, found, subst (Gets out) is h.1, h.2)
+legal_printed input out notes s line answer found is (inr h) = subst (λ (a : Status). CheckAnswers input out notes a) (sym h.0) (line, inl (s, found, is), h.1, h.2)
+
 -- these verdicts are not that the source failed
+pub legal_read : (s : Summary) → verdict.Legal s ≢ verdict.ReadFault
+legal_read s e = cc
+
 pub illegal_read : (place : ℕ) (why : Broken) → verdict.Illegal place why ≢ verdict.ReadFault
 illegal_read place why e = cc
 

@@ -1,12 +1,25 @@
-use Rattle.std.proofs.Common.{None, true, [], rules, sym, ap, ◌∙◌}
+use Rattle.std.proofs.Common.{ℕ, None, Some, true, [], sym, ap, ◌∙◌}
 use Rattle.larch_actions.specs.Sets.{without}
 use Rattle.nub_rule.specs.declared.view.Stage.TheVariants.{Tested}
 use Rattle.nub_rule.specs.Places.{cond_object}
+use Rattle.nub_rule.specs.Plays.{unread}
 use Rattle.nub.proofs.Without.{without_twice}
 use Rattle.event_count.proofs.blocking.block.Goals as goal
 
+pub push-requires-clause-may : goal.push-requires-clause-may
+push-requires-clause-may g c κs within =
+    let waits = c.requires.waits in
+    let same = c.if-compare_count-count.false in
+    let stood = c.compare_count.ensures.stands same in
+    (waits.0, ap (λ k. k.wait) stood ∙ (ap (λ k. k.wait) c.enter.ensures.inside ∙ waits.1), waits.2, waits.3 ∙ ap (λ (n : ℕ). Some n) (sym same ∙ (c.compare_count.ensures.count ∙ sym (ap (λ k. k.count) stood))))
+
 pub sleep-requires-clause-tested : goal.sleep-requires-clause-tested
 sleep-requires-clause-tested g c κs within = (record { at = cond_object c.args.c.0; stage = Tested }, ap (λ k. k.stand) c.leave-2.ensures ∙ ap (λ k. k.stand) (c.push.ensures.cond tt), tt)
+
+pub returns-then-compare_count-count-clause-out : goal.returns-then-compare_count-count-clause-out
+returns-then-compare_count-count-clause-out g c = λ out.
+    let moved = c.compare_count.ensures.moved c.if-compare_count-count.true in
+    ap (λ k. k.wait) c.leave.ensures ∙ (ap (λ k. k.wait) moved ∙ ap (λ k. unread k.wait) c.enter.ensures.inside)
 
 pub returns-clause-rest : goal.returns-clause-rest
 returns-clause-rest g c =
@@ -14,7 +27,7 @@ returns-clause-rest g c =
     let old = c.args.me.now in
     let new = c.withdraw.new.me in
     let out = c.requires.outside in
-    let stood = c.compare_count.ensures.stands (search rules) in
+    let stood = c.compare_count.ensures.stands c.if-compare_count-count.false in
     let asleep = c.sleep.ensures.alerted c.if-sleep.false in
     let count = new.count in
     let wait = new.wait in

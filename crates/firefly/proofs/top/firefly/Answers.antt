@@ -9,6 +9,9 @@ use Rattle.firefly.proofs.top.firefly.Goals as goal
 answered : (t u : Task) (e : Effects) (status : Status) → t ≡ u → Answers u e status → Answers t e status ⊎ (HasOptions t × WordsWant e status)
 answered t u e status is a = inl (subst (λ (x : Task). Answers x e status) (sym is) a)
 
+run_is_not_check : grammar.run ≡ grammar.check → ⊥
+run_is_not_check e = cc
+
 pub returns-in-Ok-Check-clause-kept : goal.returns-in-Ok-Check-clause-kept
 returns-in-Ok-Check-clause-kept g c = λ _. kept-same _ c.requires.agree
 
@@ -90,3 +93,19 @@ returns-in-Err-Usage-clause-answers g c = λ t said. absurd (c.in-Err-Usage.ensu
 
 pub returns-in-Err-Memory-clause-usage : goal.returns-in-Err-Memory-clause-usage
 returns-in-Err-Memory-clause-usage g c = λ none. inr (c.in-Err-Memory.ensures.begun (search rules), (c.ends-in-Err-Memory.ensures.status, refl, (refl, refl), (refl, refl), c.ends-in-Err-Memory.ensures.notes))
+
+pub returns-in-Ok-Check-clause-exact : goal.returns-in-Ok-Check-clause-exact
+returns-in-Ok-Check-clause-exact g c = λ said. c.run_check.ensures.exact
+
+pub returns-in-Ok-Run-clause-run_exact : goal.returns-in-Ok-Run-clause-run_exact
+returns-in-Ok-Run-clause-run_exact g c = λ said. c.run_input.ensures.exact
+
+pub returns-in-Ok-Check-clause-run_exact : goal.returns-in-Ok-Check-clause-run_exact
+returns-in-Ok-Check-clause-run_exact g c = λ said.
+    let k = rw c.in-Ok-Check.field-0-is at c.in-Ok-Check.ensures in
+    absurd (run_is_not_check (k.only grammar.run said))
+
+pub returns-in-Ok-Run-clause-exact : goal.returns-in-Ok-Run-clause-exact
+returns-in-Ok-Run-clause-exact g c = λ said.
+    let k = rw c.in-Ok-Run.field-0-is at c.in-Ok-Run.ensures in
+    absurd (run_is_not_check (sym (k.only grammar.check said)))

@@ -1,7 +1,27 @@
-use Rattle.std.proofs.Common.{◌≡◌, Some, None, rules, ◌∙◌, slice_set}
+use Rattle.std.proofs.Common.{◌≡◌, List, Some, None, rules, refl, sym, ap, subst, ◌∙◌, slice_set}
 use Rattle.std.proofs.lemmas.List.{set-set}
+use Rattle.std.proofs.lemmas.Option.{same_Some}
+use lib.ListN.{get_elem?}
 use Rattle.atomic_table.proofs.Lists.{set_again}
+use Rattle.readers_writers.specs.declared.role.Role.TheVariants.{Idle, Writing}
+use Rattle.readers_writers.specs.declared.role.Turn.{Turn}
+use Rattle.readers_writers.specs.Roles.{role_of}
+use Rattle.readers_writers.proofs.Going.{goes_by}
 use Rattle.readers_writers.proofs.calls.end_write.Goals as goal
+
+pub release-requires-clause-may : goal.release-requires-clause-may
+release-requires-clause-may g c κs within =
+    let m = c.args.at.now.mutex.0 in
+    let role = c.requires.role in
+    let got = c.acquire-state.ensures in
+    let told = c.broadcast.ensures in (
+      c.acquire-state.result,
+      ap (λ l. get_elem? l m) told.held ∙ got.holds,
+      λ w s world share.
+          let P : List Turn → Type 0 = λ u. role_of u m ≡ Writing in
+          let same = same_Some role.0 s (sym role.1 ∙ (sym got.share ∙ (sym told.share ∙ share))) in
+          goes_by m c.broadcast.new.me.number Writing Idle c.acquire-state.result _ s (subst P same role.2) refl,
+    )
 
 pub returns-clause-held : goal.returns-clause-held
 returns-clause-held g c =
