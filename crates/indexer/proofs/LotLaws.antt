@@ -24,6 +24,10 @@ pub if_ok_map : {T E : Type 0} (r : Result T E) (P Q : T → Type 0) → ((x : T
 if_ok_map (Ok x) P Q f h = f x h
 if_ok_map (Err e) P Q f h = tt
 
+pub if_ok_two : {T E : Type 0} (r : Result T E) (P Q R : T → Type 0) → ((x : T) → P x → Q x → R x) → IfOk r P → IfOk r Q → IfOk r R
+if_ok_two (Ok x) P Q R f h k = f x h k
+if_ok_two (Err e) P Q R f h k = tt
+
 pub on_ok : {T E : Type 0} (r : Result T E) (P : Type 0) → P → OnOk r P
 on_ok (Ok x) P h = h
 on_ok (Err e) P h = tt

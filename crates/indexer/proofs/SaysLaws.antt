@@ -6,6 +6,7 @@ use Rattle.std.proofs.lemmas.List.Elements.{All-append, All-nil}
 use Rattle.firefly_outside.specs.Trees.{Path, Told, Calls}
 use Rattle.firefly_outside.specs.Under.{IsUnder}
 use Rattle.firefly_outside.specs.declared.tree.Kind.{Kind}
+use Rattle.nub.specs.Ended.{Ended}
 use Rattle.nub_rule.specs.Items.{Each}
 use Rattle.walker.specs.Closing.{IsFaultUnder}
 use Rattle.walker.specs.Listings.{IsListingOf, IsToldBy}
@@ -14,12 +15,15 @@ use Rattle.walker.specs.declared.answer.WalkAnswer.TheVariants.{Done, Stopped, R
 use Rattle.indexer.specs.declared.findings.Fault.{Fault}
 use Rattle.indexer.specs.declared.findings.Findings.{Findings}
 use Rattle.indexer.specs.declared.findings.Visit.{Visit}
+use Rattle.indexer.specs.declared.plan.Plan.{Plan}
+use Rattle.indexer.specs.declared.value.IndexValue.{IndexValue}
 use Rattle.indexer.specs.Gathered.{Ends, EndsByWalk}
 use Rattle.indexer.specs.Jobs.{GivesTree, kind_at, tree_at}
 use Rattle.indexer.specs.Pieces.{path_of, kind_of}
 use Rattle.indexer.specs.Runs.{IsFoundBy}
-use Rattle.indexer.specs.Says.{AllTell, WalkSays}
+use Rattle.indexer.specs.Says.{AllTell, IndexSays, IsRunOf, WalkSays, answer_of}
 use Rattle.indexer.specs.Turns.{Worker, Run}
+use Rattle.indexer.specs.Work.{Share}
 use Rattle.indexer.specs.Walks.{IsVisit}
 use Rattle.indexer.proofs.RunLaws.{tree_of}
 use Rattle.indexer.proofs.WalkSteps.{told_on}
@@ -66,6 +70,15 @@ ends_say o weak root stop (Some fault) count then_count before now answer h = �
     (λ (e : (answer ≡ ReadFault (path_of fault)) × IfSome o (λ t. IsUnder t root (kind_of fault) (path_of fault))). subst (WalkSays o root stop) (sym e.0)
     (told_on o (λ t. IsUnder t root (kind_of fault) (path_of fault)) (λ t. (kind : Kind) × IsUnder t root kind (path_of fault)) (λ t u. (kind_of fault, u)) e.1))
     h.cases
+
+-- what the closing walk's answer says, the run's says
+pub index_says : (o : Option Told) (root : Path) (plan : Plan) (closed : Ended IndexValue Share (Prim.Unit {0})) (answer : WalkAnswer)
+    → WalkSays o root plan.stop_after answer → IsRunOf plan closed → IndexSays o root plan (answer_of answer closed)
+index_says o root plan closed (Done piece) says run = (says, run)
+index_says o root plan closed (Stopped many) says run = says
+index_says o root plan closed (ReadFault path) says run = says
+index_says o root plan closed (TooMany many) says run = says
+index_says o root plan closed Memory says run = tt
 
 pub if_each : (x : Option ℕ) (P : ℕ → Type 0) → ((n : ℕ) → x ≡ Some n → P n) → IfSome x P
 if_each None P h = tt

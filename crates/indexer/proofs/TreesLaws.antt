@@ -12,6 +12,7 @@ use Rattle.firefly_outside.specs.Causes.{Rose}
 use Rattle.firefly_outside.specs.Under.{IsUnder}
 use Rattle.firefly_outside.specs.declared.tree.Kind.{Kind}
 use Rattle.firefly_outside.specs.declared.tree.Kind.TheVariants.{File, Dir}
+use Rattle.nub.specs.Ended.{Ended}
 use Rattle.nub_rule.specs.Items.{Each}
 use Rattle.walker.specs.Closing.{HasRisen, IsFaultUnder}
 use Rattle.walker.specs.declared.answer.WalkAnswer.{WalkAnswer}
@@ -19,13 +20,15 @@ use Rattle.walker.specs.declared.answer.WalkAnswer.TheVariants.{Done, Stopped, R
 use Rattle.word_index.specs.Index.{Index}
 use Rattle.indexer.specs.declared.findings.Fault.{Fault}
 use Rattle.indexer.specs.declared.findings.Findings.{Findings}
+use Rattle.indexer.specs.declared.value.IndexValue.{IndexValue}
 use Rattle.indexer.specs.Gathered.{first_fault, Ends}
 use Rattle.indexer.specs.Jobs.{GivesTree, kind_at, tree_at}
 use Rattle.indexer.specs.Pieces.{path_of, kind_of}
 use Rattle.indexer.specs.Runs.{IsFoundBy}
-use Rattle.indexer.specs.Says.{AllTell, OnlyCalls, AreBack, IsUsedBy, AreUsed, IsCausedAt, FailsSince}
+use Rattle.indexer.specs.Says.{AllTell, OnlyCalls, AreBack, IsUsedBy, AreUsed, HasCause, IsCausedAt, FailsSince, TreesAfter, answer_of}
 use Rattle.indexer.specs.Turns.{Worker, Run, release_count}
 use Rattle.indexer.specs.Walks.{HasDone, FaultCounts, CalledOnly, MayFail, calls_with}
+use Rattle.indexer.specs.Work.{Share}
 use Rattle.indexer.proofs.RunLaws.{some_at}
 use Rattle.indexer.proofs.WalkSteps.{told_on, told_both}
 
@@ -137,7 +140,7 @@ module _ {S : Type 0} (tree : S → Option Told) (weak : S → List Path) (fault
       (above : (i : ℕ) (d : Option S) → n ≤ i → slice_index_or mid i d ≡ slice_index_or old i d)
       (others : (i : ℕ) (d : Option S) → (i ≡ n → ⊥) → slice_index_or new i d ≡ slice_index_or mid i d) where
     -- all trees are back
-    pub are_back : (answer : WalkAnswer) → Deciding tree weak faults calls root stop fault answer (slice_index_or mid n None) (slice_index_or new n None) → AreBack tree weak faults calls n old new
+    are_back : (answer : WalkAnswer) → Deciding tree weak faults calls root stop fault answer (slice_index_or mid n None) (slice_index_or new n None) → AreBack tree weak faults calls n old new
     are_back answer ends = record {
       workers = λ k s low e.
           let w = came_at walkers n threads findings old mid k s many found low e in
@@ -150,7 +153,7 @@ module _ {S : Type 0} (tree : S → Option Told) (weak : S → List Path) (fault
     }
 
     -- where the index is answered, no count rose, and only calls of its kind were made on each worker's tree
-    pub are_used : (piece : Index) → fault ≡ first_fault findings → (own : S) → slice_index_or old n None ≡ Some own
+    are_used : (piece : Index) → fault ≡ first_fault findings → (own : S) → slice_index_or old n None ≡ Some own
         → Deciding tree weak faults calls root stop fault (Done piece) (slice_index_or mid n None) (slice_index_or new n None) → AreUsed tree weak faults calls walkers n threads old new
     are_used piece is_fault own is_own ends =
         let whole = ends own (above n None (omega arith) ∙ is_own) in
@@ -263,7 +266,7 @@ module _ {S : Type 0} (tree : S → Option Told) (weak : S → List Path) (fault
         }
 
     -- a path that is answered was made to fail by a worker or by the closing walk
-    pub caused : (fault : Option Fault) (path : Path) → fault ≡ first_fault findings → Deciding tree weak faults calls root stop fault (ReadFault path) (slice_index_or mid n None) (slice_index_or new n None)
+    caused : (fault : Option Fault) (path : Path) → fault ≡ first_fault findings → Deciding tree weak faults calls root stop fault (ReadFault path) (slice_index_or mid n None) (slice_index_or new n None)
         → IsCausedAt tree weak faults calls root old new path
     caused None path is_fault ends =
         let h = ends own (above n None (omega arith) ∙ is_own) in
@@ -284,3 +287,28 @@ module _ {S : Type 0} (tree : S → Option Told) (weak : S → List Path) (fault
         (λ (e : (ReadFault path ≡ ReadFault (path_of fault)) × IfSome (tree own) (λ t. IsUnder t root (kind_of fault) (path_of fault))).
         subst (IsCausedAt tree weak faults calls root old new) (sym (same_fault path (path_of fault) e.0)) (caused_by fault is_fault e.1))
         h.4.cases
+
+-- of whatever the closing walk answered
+module _ {S : Type 0} (tree : S → Option Told) (weak : S → List Path) (faults : S → ℕ) (calls : S → Calls) (root : Path) (walkers n : ℕ) (closed : Ended IndexValue Share (Prim.Unit {0})) (findings : List Findings)
+    (old mid new : List (Option S)) (stop : Option ℕ) (fault : Option Fault) (is_fault : fault ≡ first_fault findings) (found : Each (IsFoundBy tree weak faults calls root walkers n closed.threads old mid) findings)
+    (own : S) (is_own : slice_index_or old n None ≡ Some own) (above : (i : ℕ) (d : Option S) → n ≤ i → slice_index_or mid i d ≡ slice_index_or old i d)
+    (others : (i : ℕ) (d : Option S) → (i ≡ n → ⊥) → slice_index_or new i d ≡ slice_index_or mid i d) where
+  abbrev Decides : WalkAnswer → Type 0
+  Decides answer = Deciding tree weak faults calls root stop fault answer (slice_index_or mid n None) (slice_index_or new n None)
+
+  back : n ≤ length findings → (answer : WalkAnswer) → Decides answer → AreBack tree weak faults calls n old new
+  back many = are_back tree weak faults calls root walkers n closed.threads findings old mid new stop fault many found above others
+
+  pub trees_after : n ≤ length findings → (answer : WalkAnswer) → Decides answer → TreesAfter tree weak faults calls walkers n old new (answer_of answer closed)
+  trees_after many (Done piece) ends = (back many (Done piece) ends, are_used tree weak faults calls root walkers n closed.threads findings old mid new stop fault many found above others piece is_fault own is_own ends)
+  trees_after many (Stopped m) ends = back many (Stopped m) ends
+  trees_after many (ReadFault path) ends = back many (ReadFault path) ends
+  trees_after many (TooMany m) ends = back many (TooMany m) ends
+  trees_after many Memory ends = tt
+
+  pub has_cause : (o : Option Told) → AllTell tree o old → (answer : WalkAnswer) → Decides answer → HasCause tree weak faults calls root old new (answer_of answer closed)
+  has_cause o tell (Done piece) ends = tt
+  has_cause o tell (Stopped m) ends = tt
+  has_cause o tell (ReadFault path) ends = caused tree weak faults calls root walkers n closed.threads findings old mid new o stop tell found own is_own above others fault path is_fault ends
+  has_cause o tell (TooMany m) ends = tt
+  has_cause o tell Memory ends = tt

@@ -44,6 +44,14 @@ pub record IsRunOf (plan : Plan) (c : Ended IndexValue Share (Prim.Unit {0})) : 
   pub untraced : plan.traced ≡ false → c.trace ≡ None
   pub traced : plan.traced ≡ true → (h : List Event) × (c.trace ≡ Some h) × IsWholeHistory (layout_of plan) c.threads h
 
+-- what a run answers where its closing walk answered this
+abbrev pub answer_of : WalkAnswer → Ended IndexValue Share (Prim.Unit {0}) → IndexAnswer
+answer_of (Done piece) closed = IndexDone piece closed
+answer_of (Stopped many) closed = IndexStopped many
+answer_of (ReadFault path) closed = IndexReadFault path
+answer_of (TooMany many) closed = IndexTooMany many
+answer_of Memory closed = IndexMemory
+
 -- the same of a run, and what Done says of its package
 abbrev pub IndexSays : Option Told → Path → Plan → IndexAnswer → Type 0
 IndexSays o root plan (IndexDone piece closed) = WalkSays o root plan.stop_after (Done piece) × IsRunOf plan closed

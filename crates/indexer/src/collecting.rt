@@ -19,11 +19,15 @@ fn note_visit(walked: &mut Walked, visit: Visit) -> Result<(), AllocError>
     let Visit { dir, listing } = visit;
     let path = dir.as_str();
     if !walked.unlisted(path) {
+        drop(listing);
         return Ok(());
     }
     match walked.note(path, listing) {
         Ok(()) => Ok(()),
-        Err(_) => Err(AllocError),
+        Err(back) => {
+            drop(back);
+            Err(AllocError)
+        }
     }
 }
 

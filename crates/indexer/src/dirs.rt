@@ -9,12 +9,10 @@ use firefly_outside::Text;
 /// What the list has for a walker.
 #[derive(Drop)]
 pub enum Turn {
-    /// A directory to be listed.
-    List(Text),
+    /// A directory to be listed, or none where there is nothing any more.
+    Now(Option<Text>),
     /// Nothing now, but directories are in work.
     Wait,
-    /// Nothing any more.
-    End,
 }
 
 /// The list behind mutex 0.
@@ -31,17 +29,17 @@ pub fn list_in(value: IndexValue) -> WaitingDirs
 /// Takes a directory, which is in work from now on.
 pub fn next_turn(list: &mut WaitingDirs) -> Turn {
     if list.shut {
-        return Turn::End;
+        return Turn::Now(None);
     }
     match list.waiting.pop() {
         Some(dir) => {
             // There are no more in work than walkers.
             list.in_work = list.in_work.saturating_add(1);
-            Turn::List(dir)
+            Turn::Now(Some(dir))
         }
         None => {
             if list.in_work == 0 {
-                Turn::End
+                Turn::Now(None)
             } else {
                 Turn::Wait
             }
@@ -54,15 +52,10 @@ const MOST_DIRS: u64 = 1_000_000;
 
 /// Ends the work on a directory, whose own are to be listed too, and counts what was found there. It answers whether the work may go on: no
 /// more was found than may be, and no memory wanted.
-pub fn put_found(list: &mut WaitingDirs, found: Vec<Text>, files: usize) -> bool {
+pub fn put_found(list: &mut WaitingDirs, mut found: Vec<Text>, files: usize) -> bool {
     list.in_work = list.in_work.saturating_sub(1);
     list.dirs = list.dirs.saturating_add(found.len() as u64);
     list.files = list.files.saturating_add(files as u64);
-    let mut room = true;
-    for dir in found {
-        if list.waiting.push(dir).is_err() {
-            room = false;
-        }
-    }
+    let room = list.waiting.append(&mut found).is_ok();
     room && list.dirs <= MOST_DIRS && list.files <= list.most_files
 }

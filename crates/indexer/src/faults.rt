@@ -3,9 +3,8 @@ ghost use Rattle.std.specs.Prelude.{◌≡◌, ◌↔◌, IsTrue, Contains};
 ghost use Rattle.walker.specs.Walk.{files_of};
 ghost use Rattle.indexer.specs.Gathered.{IsFoundFault, TellsFault};
 
-use crate::below::below;
 use crate::findings::Fault;
-use walker::{WalkAnswer, Walked};
+use walker::{WalkAnswer, Walked, below};
 
 // Whether a file was found at the path below the root.
 fn finds_name(walked: &Walked, name: &str) -> bool

@@ -5,7 +5,7 @@ ghost use Rattle.walker.specs.Listings.{IsListingOf, IsToldBy};
 ghost use Rattle.indexer.specs.Gathered.{Ends};
 ghost use Rattle.indexer.specs.Pieces.{IsFilesPiece};
 ghost use Rattle.indexer.specs.Plans.{IsPlan, layout_of};
-ghost use Rattle.indexer.specs.Says.{AllTell, HasCause, IndexSays, TreesAfter};
+ghost use Rattle.indexer.specs.Says.{AllTell, HasCause, IndexSays, TreesAfter, answer_of};
 
 use crate::answer::IndexAnswer;
 use crate::deciding::decided;
@@ -14,7 +14,9 @@ use crate::gathering::gathered;
 use crate::handing::put_at;
 use crate::plan::Plan;
 use crate::running::worked_run;
+use crate::uses::IndexUses;
 use firefly_outside::Tree;
+use nub::Closed;
 use package_crew::Gate;
 use std::alloc::Global;
 use std::sync::Wait;
@@ -50,6 +52,31 @@ fn decided_at<S: Tree>(
     answer
 }
 
+// What the run answers where its closing walk answered this. The closed package goes with an index alone.
+fn answered(answer: WalkAnswer, closed: Closed<IndexUses>) -> IndexAnswer
+    ensures { result ≡ answer_of answer closed }
+{
+    match answer {
+        WalkAnswer::Done(piece) => IndexAnswer::Done(piece, closed),
+        WalkAnswer::Stopped(many) => {
+            drop(closed);
+            IndexAnswer::Stopped(many)
+        }
+        WalkAnswer::ReadFault(path) => {
+            drop(closed);
+            IndexAnswer::ReadFault(path)
+        }
+        WalkAnswer::TooMany(many) => {
+            drop(closed);
+            IndexAnswer::TooMany(many)
+        }
+        WalkAnswer::Memory => {
+            drop(closed);
+            IndexAnswer::Memory
+        }
+    }
+}
+
 /// The index of all files under the root: walkers list the directories, parsers read the files and mergers put their pieces together, all
 /// at once, the walkers and the parsers each with a tree of its own. A closing walk on the next tree does what they left.
 ///
@@ -80,23 +107,6 @@ pub fn index<R: Threads + Wait + Sync, S: Tree, G: Gate>(
         return IndexAnswer::Memory;
     };
     let at = (plan.walkers + plan.parsers) as usize;
-    match decided_at(alloc, root, trees, at, found, plan.stop_after) {
-        WalkAnswer::Done(piece) => IndexAnswer::Done(piece, closed),
-        WalkAnswer::Stopped(many) => {
-            drop(closed);
-            IndexAnswer::Stopped(many)
-        }
-        WalkAnswer::ReadFault(path) => {
-            drop(closed);
-            IndexAnswer::ReadFault(path)
-        }
-        WalkAnswer::TooMany(many) => {
-            drop(closed);
-            IndexAnswer::TooMany(many)
-        }
-        WalkAnswer::Memory => {
-            drop(closed);
-            IndexAnswer::Memory
-        }
-    }
+    let answer = decided_at(alloc, root, trees, at, found, plan.stop_after);
+    answered(answer, closed)
 }

@@ -60,6 +60,5 @@ pub fn found_part(alloc: Global, walked: &Walked, pieces: Vec<Piece>) -> Result<
             drop(piece);
         }
     }
-    let part = joined(alloc, kept)?;
-    Ok(part)
+    joined(alloc, kept)
 }

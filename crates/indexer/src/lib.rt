@@ -11,7 +11,6 @@
 #![tactic(auto)]
 
 mod answer;
-mod below;
 mod buffers;
 mod collecting;
 mod crew;

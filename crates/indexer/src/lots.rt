@@ -4,10 +4,10 @@ ghost use Rattle.firefly_outside.specs.Trees.{Path, Told};
 ghost use Rattle.indexer.specs.Pieces.{IsFilesPiece};
 ghost use Rattle.indexer.specs.Lots.{AreRead, HoldsRead, IsRead};
 
-use crate::below::below;
 use firefly_outside::{FileBytes, Text};
 use std::alloc::{AllocError, Global};
 use std::mem;
+use walker::below;
 use word_index::{Batch, Piece};
 
 /// How many bytes of files are gathered before their pieces are made.

@@ -1,6 +1,5 @@
 //! The package of an index run.
-ghost use Rattle.std.specs.Prelude.{◌≡◌, ◌≤◌, ◌++◌, IfOk, OnOk, [], ◌∷◌, length};
-ghost use Rattle.bounded_buffer.specs.Rings.{fresh};
+ghost use Rattle.std.specs.Prelude.{◌≡◌, IfOk, [], length};
 ghost use Rattle.nub_rule.specs.Items.{Each};
 ghost use Rattle.nub.specs.Ended.{IsFirst};
 ghost use Rattle.indexer.specs.Opening.{IsOpening};
@@ -8,7 +7,7 @@ ghost use Rattle.indexer.specs.Plans.{IsPlan, layout_of};
 
 use crate::plan::{Plan, index_layout};
 use crate::uses::IndexUses;
-use crate::value::{IndexItem, IndexValue, WaitingDirs};
+use crate::value::{IndexValue, WaitingDirs};
 use bounded_buffer::Ring;
 use firefly_outside::Text;
 use nub::open_package;
@@ -37,25 +36,17 @@ fn first_dirs(alloc: Global, root: &str, plan: &Plan) -> Result<WaitingDirs, All
     })
 }
 
-// Puts an empty buffer behind the others.
-fn put_ring(values: &mut Vec<IndexValue>, alloc: Global, most: u32) -> Result<(), AllocError>
-    requires { (1 ≤ most) × (most ≤ 4096) }
-    ensures { OnOk result (values.new.items ≡ values.old.items ++ IndexValue.Ring (fresh most) ∷ []) }
-{
-    let ring: Ring<IndexItem> = Ring::new(alloc, most)?;
-    values.push(IndexValue::Ring(ring))?;
-    Ok(())
-}
-
 // The list with the root alone, and the two buffers.
 fn first_values(alloc: Global, root: &str, plan: &Plan) -> Result<Vec<IndexValue>, AllocError>
     ensures { IfOk result (λ vs. IsOpening vs.items) }
 {
+    let mut values = Vec::with_capacity(alloc, 3)?;
     let dirs = first_dirs(alloc, root, plan)?;
-    let mut values = Vec::new(alloc);
-    values.push(IndexValue::Dirs(dirs))?;
-    put_ring(&mut values, alloc, MOST_FILES)?;
-    put_ring(&mut values, alloc, MOST_PIECES)?;
+    values.push_reserved(IndexValue::Dirs(dirs));
+    let files = Ring::new(alloc, MOST_FILES)?;
+    values.push_reserved(IndexValue::Ring(files));
+    let pieces = Ring::new(alloc, MOST_PIECES)?;
+    values.push_reserved(IndexValue::Ring(pieces));
     Ok(values)
 }
 

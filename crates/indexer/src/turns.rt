@@ -75,13 +75,9 @@ pub fn next_dir<R: Wait>(rt: &R, p: &Package<IndexUses>, me: &mut Thread<IndexUs
     let mut list = take_list(rt, p, me);
     for _ in rt.forever() {
         match next_turn(&mut list) {
-            Turn::List(dir) => {
+            Turn::Now(dir) => {
                 give_list(rt, p, me, list);
-                return Some(dir);
-            }
-            Turn::End => {
-                give_list(rt, p, me, list);
-                return None;
+                return dir;
             }
             Turn::Wait => {
                 let (outcome, again) = wait_for_dirs(rt, p, me, list);

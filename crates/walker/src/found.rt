@@ -7,6 +7,7 @@ ghost use Rattle.firefly_outside.specs.Trees.{Path, child};
 ghost use Rattle.walker.specs.Walk.{pairs_of, marked};
 ghost use Rattle.walker.specs.Found.{IsBelow, AreBelow, AreNew};
 
+use crate::paths::below;
 use firefly_outside::Text;
 use indexmap::{IndexMap, IndexSet};
 use std::alloc::{AllocError, Global};
@@ -16,15 +17,12 @@ pub type Dirs = IndexMap<String, bool>;
 pub type Files = IndexSet<String>;
 
 // The path without the root and the slash behind it.
-fn below<'a>(root: &str, path: &'a str) -> &'a str
+fn name_below<'a>(root: &str, path: &'a str) -> &'a str
     requires { IsBelow root.now path.now }
     ensures { child root.now result.now ≡ path.now }
 {
-    match path.strip_prefix(root) {
-        Some(rest) => match rest.strip_prefix('/') {
-            Some(name) => name,
-            None => unreachable!(),
-        },
+    match below(root, path) {
+        Some(name) => name,
         None => unreachable!(),
     }
 }
@@ -36,7 +34,7 @@ pub fn names_below(alloc: Global, root: &str, files: &Vec<Text>) -> Result<Vec<S
 {
     let mut names = Vec::with_capacity(alloc, files.len())?;
     for file in files {
-        let name = String::from_str(alloc, below(root, file.as_str()))?;
+        let name = String::from_str(alloc, name_below(root, file.as_str()))?;
         names.push_reserved(name);
     }
     Ok(names)

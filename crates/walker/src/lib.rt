@@ -13,10 +13,12 @@ mod closing;
 mod found;
 mod listing;
 mod noting;
+mod paths;
 mod reading;
 mod walked;
 
 pub use answer::WalkAnswer;
 pub use closing::close_walk;
 pub use listing::{Listing, list_dir};
+pub use paths::below;
 pub use walked::Walked;

@@ -3,6 +3,7 @@ use Rattle.std.specs.Prelude.{All}
 use Rattle.std.specs.Vec.Iter.{into_iter_items}
 use Rattle.std.proofs.lemmas.List.Elements.{All-head, All-tail}
 use Rattle.indexer.specs.Pieces.{IsFilesPiece}
+use Rattle.indexer.proofs.LotLaws.{if_ok_two}
 use Rattle.indexer.proofs.PieceLaws.{all_more, covered_cases, part_of_walk}
 use Rattle.indexer.proofs.joining.found_part.Goals as goal
 
@@ -39,9 +40,9 @@ loop-piece-preserved c =
     }
 
 pub returns : goal.returns
-returns c = λ tree all.
+returns c = if_ok_two c.joined.result _ _ _ (λ p files covers tree all.
     let was = c.loop-piece.invariant in
     let gives = c.into_iter-piece-iterator.ensures.into_iter_gives.0 in
     let w = c.args.walked.now in
     let h = was.files tree w.root (subst (All (IsFilesPiece tree w.root)) (sym gives) all) in
-    part_of_walk tree w c.in_ok-part.part (c.in_ok-part.ensures.files tree w.root h.1) (λ path k. was.found path (c.in_ok-part.ensures.covers path k))
+    part_of_walk tree w p (files tree w.root h.1) (λ path k. was.found path (covers path k))) c.joined.ensures.files c.joined.ensures.covers

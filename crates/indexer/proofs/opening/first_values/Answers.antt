@@ -7,9 +7,10 @@ use Rattle.indexer.proofs.opening.first_values.Goals as goal
 pub returns : goal.returns
 returns c =
     let dirs = c.in_ok-dirs.dirs in
-    let one = c.in_ok-push.ensures.items ∙ ap (λ (l : List IndexValue). l ++ Dirs dirs ∷ []) c.new-values.ensures.items in
-    let two = c.in_ok-put_ring.ensures ∙ ap (λ (l : List IndexValue). l ++ Ring (fresh 256) ∷ []) one in
+    let one = c.push_reserved.ensures.items ∙ ap (λ (l : List IndexValue). l ++ Dirs dirs ∷ []) c.in_ok-values.ensures.items in
+    let two = c.push_reserved-2.ensures.items ∙ ap (λ (l : List IndexValue). l ++ Ring c.in_ok-files.files ∷ []) one in
+    let three = c.push_reserved-3.ensures.items ∙ ap (λ (l : List IndexValue). l ++ Ring c.in_ok-pieces.pieces ∷ []) two in
     record {
       dirs = dirs;
-      is = c.in_ok-put_ring-2.ensures ∙ ap (λ (l : List IndexValue). l ++ Ring (fresh 8) ∷ []) two;
+      is = three ∙ (ap (λ q. Dirs dirs ∷ Ring q ∷ Ring c.in_ok-pieces.pieces ∷ []) c.in_ok-files.ensures ∙ ap (λ q. Dirs dirs ∷ Ring (fresh 256) ∷ Ring q ∷ []) c.in_ok-pieces.ensures);
     }

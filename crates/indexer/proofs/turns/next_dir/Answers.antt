@@ -20,14 +20,8 @@ loop-preserved g c =
 pub give_list-requires-clause-has : goal.give_list-requires-clause-has
 give_list-requires-clause-has g c = let had = c.loop.invariant in (c.args.me.now, had.0, had.1)
 
-pub give_list-requires-in-End-clause-has : goal.give_list-requires-in-End-clause-has
-give_list-requires-in-End-clause-has g c = let had = c.loop.invariant in (c.args.me.now, had.0, had.1)
-
 pub wait_for_dirs-outcome-requires-clause-has : goal.wait_for_dirs-outcome-requires-clause-has
 wait_for_dirs-outcome-requires-clause-has g c = let had = c.loop.invariant in (c.args.me.now, had.0, had.1)
 
-pub returns-in-List : goal.returns-in-List
-returns-in-List g c = λ o root. let had = c.loop.invariant in (c.give_list.ensures c.args.me.now had.0 had.1 c.requires.between o root).0
-
-pub returns-in-End : goal.returns-in-End
-returns-in-End g c = λ o root. let had = c.loop.invariant in (c.give_list-in-End.ensures c.args.me.now had.0 had.1 c.requires.between o root).0
+pub returns-in-Now : goal.returns-in-Now
+returns-in-Now g c = λ o root. let had = c.loop.invariant in (c.give_list.ensures c.args.me.now had.0 had.1 c.requires.between o root).0

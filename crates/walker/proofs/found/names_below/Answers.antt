@@ -16,7 +16,7 @@ name_more path_of names more files k name file was pushed is at here =
 pub loop-file-preserved : goal.loop-file-preserved
 loop-file-preserved c = record {
   made = name_more (λ s. child c.args.root.now (string_bytes s)) c.loop-file.names.items c.push_reserved.new.self.items c.args.files.now.items c.loop-file.file-index c.in_ok-name.name c.file-item.result
-      c.loop-file.invariant.made c.push_reserved.ensures.items (ap (child c.args.root.now) c.in_ok-name.ensures.ok ∙ (c.below.ensures ∙ c.as_str.ensures)) (rw c.deref-file-items.ensures.value at c.file-item.is) (omega (arith, ap length c.deref-file-items.ensures.value));
+      c.loop-file.invariant.made c.push_reserved.ensures.items (ap (child c.args.root.now) c.in_ok-name.ensures.ok ∙ (c.name_below.ensures ∙ c.as_str.ensures)) (rw c.deref-file-items.ensures.value at c.file-item.is) (omega (arith, ap length c.deref-file-items.ensures.value));
   room = (let room = c.loop-file.invariant.room in let cap = c.push_reserved.ensures.capacity in omega arith);
 }
 
@@ -31,8 +31,8 @@ push_reserved-requires c =
     let all = c.args.files.now.ok.0 in
     omega arith
 
-pub below-requires : goal.below-requires
-below-requires c = subst (IsBelow c.args.root.now) (sym c.as_str.ensures)
+pub name_below-requires : goal.name_below-requires
+name_below-requires c = subst (IsBelow c.args.root.now) (sym c.as_str.ensures)
     (c.requires c.file-item.result (c.loop-file.file-index, omega (arith, ap length c.deref-file-items.ensures.value), sym (rw c.deref-file-items.ensures.value at c.file-item.is)))
 
 pub returns : goal.returns

@@ -2,7 +2,7 @@ use Rattle.std.proofs.Common.{◌≡◌, ◌≢◌, ◌∙◌, List, ℕ, ◌++�
 use Rattle.std.proofs.lemmas.List.{append_cancel_left}
 use Rattle.std.proofs.lemmas.Str.Pattern.{strip_prefix_char}
 use Rattle.firefly_outside.specs.Trees.{Path, child, slash}
-use Rattle.indexer.proofs.below.below.Goals as goal
+use Rattle.walker.proofs.paths.below.Goals as goal
 
 behind : (root path rest : Path) (r : Option (Bor (List ℕ))) → path ≡ root ++ rest → MatchOption r ((q : Path) → rest ≢ slash ∷ q) (λ x. rest ≡ slash ∷ x.now)
     → MatchOption r ((name : Path) → path ≢ child root name) (λ x. path ≡ child root x.now)
