@@ -2,6 +2,7 @@
 ghost use Rattle.std.specs.Prelude.{◌≤◌, length};
 ghost use Rattle.firefly.specs.Looks.{look_of, looks_of, Agree};
 
+use crate::same::same;
 use crate::trees::copies_of;
 use firefly::{Status, firefly};
 use firefly_outside::{MemSink, MemSource, MemTree, Tree};
@@ -20,14 +21,9 @@ pub struct Answer {
 
 /// This is the answer.
 pub fn is_answer(rt: &impl Abort, found: &Answer, status: Status, out: &[u8], notes: &str) {
-    assert_eq!(rt; found.status, status);
-    is_written(rt, &found.out, out);
-    is_written(rt, &found.notes, notes.as_bytes());
-}
-
-// This was written.
-fn is_written(rt: &impl Abort, found: &[u8], expected: &[u8]) {
-    assert_eq!(rt; found, expected);
+    same(rt, &found.status, &status);
+    same(rt, &found.out.as_slice(), &out);
+    same(rt, &found.notes.as_slice(), &notes.as_bytes());
 }
 
 // Adds these words. The list is borrowed, so no early return lets it go.

@@ -1,5 +1,6 @@
 //! Crews whose jobs wait for one another.
 use crate::meeting::Meeting;
+use crate::same::same;
 use std::alloc::{AllocError, Global};
 use std::sync::Wait;
 use std::test::Fail;
@@ -70,7 +71,7 @@ fn run_on_caller<R: Threads + Wait>(rt: &R, alloc: Global) -> Result<(Vec<u64>, 
 #[test]
 fn all_jobs_run_on_the_caller_where_none_is_started(rt: HostRuntime) -> Result<(), Fail> {
     let (results, refused) = run_on_caller(&rt, rt.alloc())?;
-    assert_eq!(rt; results.as_slice(), [1, 0, 3].as_slice());
+    same(&rt, &results.as_slice(), &[1, 0, 3].as_slice());
     assert!(rt; refused);
     Ok(())
 }

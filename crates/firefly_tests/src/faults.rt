@@ -1,6 +1,7 @@
 //! Inputs that fail or are past their budget, and sinks that are full.
 use crate::answers::{Answer, is_answer, run_on, run_program};
 use crate::project::project;
+use crate::same::same;
 use firefly::Status;
 use firefly_outside::MemSource;
 use std::alloc::{AllocError, Global};
@@ -106,13 +107,13 @@ fn has_verdict(
     verdict: Verdict,
 ) -> Result<(), AllocError> {
     let found = verdict_on(alloc, text, budget)?;
-    assert_eq!(rt; found, verdict);
+    same(rt, &found, &verdict);
     Ok(())
 }
 
 #[test]
 fn a_budget_of_all_bytes_is_enough_and_one_less_is_not(rt: HostRuntime) -> Result<(), Fail> {
-    assert_eq!(rt; no_event().len(), 68);
+    same(&rt, &no_event().len(), &68);
     let none = Summary {
         events: 0,
         held: 0,
@@ -150,7 +151,7 @@ fn a_failed_read_of_a_script_is_reported(rt: HostRuntime) -> Result<(), AllocErr
 #[test]
 fn a_whole_bad_line_of_a_script_wins_over_a_failed_read(rt: HostRuntime) -> Result<(), Fail> {
     let found = failing(&rt, rt.alloc(), "run", bad_second_line(), 60)?;
-    assert_eq!(rt; found.status, Status::BadText);
+    same(&rt, &found.status, &Status::BadText);
     Ok(())
 }
 

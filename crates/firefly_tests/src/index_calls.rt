@@ -1,6 +1,7 @@
 //! Calls of the command `index` on trees that fail, and the walk that it stands on.
 use crate::answers::{Answer, answer_of, is_answer};
 use crate::project::{project, project_index};
+use crate::same::same;
 use crate::trees::copies_failing_from;
 use firefly::Status;
 use firefly_outside::{MemSink, MemSource, MemTree, Tree};
@@ -136,7 +137,7 @@ fn a_walk_from_nothing_gives_the_index(rt: HostRuntime) -> Result<(), Fail> {
     drop(tree);
     let (has, files) = index?;
     assert!(rt; has);
-    assert_eq!(rt; files, 5);
-    assert_eq!(rt; calls, (3, 5));
+    same(&rt, &files, &5);
+    same(&rt, &calls, &(3, 5));
     Ok(())
 }

@@ -20,6 +20,8 @@ mod meeting;
 #[cfg(test)]
 mod project;
 #[cfg(test)]
+mod same;
+#[cfg(test)]
 mod script_meetings;
 #[cfg(test)]
 mod script_reading;

@@ -1,5 +1,6 @@
 //! A script whose threads wait for each other.
 use crate::meeting::Meeting;
+use crate::same::same;
 use firefly::{Script, read_script, run_script};
 use firefly_outside::MemSource;
 use std::alloc::{AllocError, Global};
@@ -62,7 +63,7 @@ fn two_threads_of_a_script_meet(rt: HostRuntime) -> Result<(), Fail> {
     let meeting = Meeting::new(0);
     let (values, events) = run_adding(&rt, rt.alloc(), &meeting)?;
     assert!(rt; meeting.was_kept());
-    assert_eq!(rt; values.as_slice(), [2000].as_slice());
-    assert_eq!(rt; events, Some(4000));
+    same(&rt, &values.as_slice(), &[2000].as_slice());
+    same(&rt, &events, &Some(4000));
     Ok(())
 }

@@ -1,4 +1,5 @@
 //! Scripts as they are read: each operation, and a read that fails.
+use crate::same::same;
 use firefly_outside::MemSource;
 use firefly_script::{Line, Operation, Script, ScriptFault, read_script};
 use larch_actions::{CondId, MutexId, SemId, ThreadId};
@@ -29,8 +30,8 @@ fn script_of(alloc: Global, text: &str) -> Result<Script, Fail> {
 
 // The script has these lines for 12 threads.
 fn has_lines(rt: &impl Abort, script: &Script, lines: &[Line]) {
-    assert_eq!(rt; script.layout().threads, 12);
-    assert_eq!(rt; script.lines(), lines);
+    same(rt, &script.layout().threads, &12);
+    same(rt, &script.lines(), &lines);
 }
 
 fn line(thread: u32, operation: Operation) -> Line {
@@ -71,7 +72,7 @@ fn is_refused(
     fault: ScriptFault,
 ) -> Result<(), AllocError> {
     let found = read(alloc, text, Some(given))?.err();
-    assert_eq!(rt; found, Some(fault));
+    same(rt, &found, &Some(fault));
     Ok(())
 }
 
@@ -100,18 +101,6 @@ fn read_second(alloc: Global, line: &str) -> Result<Option<Operation>, AllocErro
         Ok(script) => Ok(second(&script)),
         Err(_) => Ok(None),
     }
-}
-
-// The line stands for this operation.
-fn is_read_as(
-    rt: &impl Abort,
-    alloc: Global,
-    line: &str,
-    operation: Operation,
-) -> Result<(), AllocError> {
-    let found = read_second(alloc, line)?;
-    assert_eq!(rt; found, Some(operation), "{line}");
-    Ok(())
 }
 
 // Operations of waits and alerts, each with its line.
@@ -147,7 +136,7 @@ fn waits_and_alerts() -> [(&'static str, Operation); 9] {
 #[test]
 fn waits_and_alerts_are_read(rt: HostRuntime) -> Result<(), Fail> {
     for (line, operation) in waits_and_alerts() {
-        is_read_as(&rt, rt.alloc(), line, operation)?;
+        same(&rt, &read_second(rt.alloc(), line)?, &Some(operation));
     }
     Ok(())
 }

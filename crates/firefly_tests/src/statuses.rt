@@ -1,5 +1,6 @@
 //! The numbers with which the program ends, and what it says beside them.
 use crate::answers::{Answer, is_answer};
+use crate::same::same;
 use firefly::{Ending, Status, ends, number};
 use firefly_outside::MemSink;
 use std::alloc::{AllocError, Global};
@@ -24,7 +25,7 @@ fn numbers() -> [(Status, u8); 10] {
 #[test]
 fn each_status_has_its_number(rt: HostRuntime) -> Result<(), Fail> {
     for (status, expected) in numbers() {
-        assert_eq!(rt; number(&status), expected);
+        same(&rt, &number(&status), &expected);
     }
     Ok(())
 }
