@@ -1,11 +1,10 @@
 -- The trace of a run is accepted.
-use Rattle.std.proofs.Common.{◌≡◌, ◌≢◌, ℕ, zero, suc, ◌+◌, ◌-◌, ◌^◌, ◌<◌, ◌≤◌, List, length, refl, ap, sym, ◌∙◌, Bool, false, Some, None, arith}
+use Rattle.std.proofs.Common.{◌≡◌, ◌≢◌, ℕ, zero, suc, ◌≤◌, List, length, refl, ap, Bool, false, None, arith}
 use Rattle.larch_actions.specs.declared.event.Layout.{Layout}
 use Rattle.larch_actions.specs.declared.event.Event.{Event}
 use Rattle.larch_actions.specs.State as state
 use Rattle.trace_core.specs.Text.{MutexValue}
 use Rattle.trace_check.specs.declared.checker.Summary.{Summary}
-use Rattle.trace_check.specs.declared.checker.Verdict.{Verdict}
 use Rattle.trace_check.specs.declared.checker.Verdict.TheVariants.{Legal, ReadFault}
 use Rattle.trace_check.specs.Verdicts.{IsLegalText}
 use Rattle.trace_check.proofs.Unique.{one_verdict}

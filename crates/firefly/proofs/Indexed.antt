@@ -1,15 +1,12 @@
 -- What the commands `index` and `trace` answer, by what their run gave.
-use Rattle.std.proofs.Common.{◌≡◌, ◌≢◌, ◌⊎◌, inl, inr, ℕ, true, List, [], Option, Result, Ok, Err, refl, sym, subst}
-use Rattle.firefly_outside.specs.Trees.{Path}
-use Rattle.larch_actions.specs.declared.event.Event.{Event}
+use Rattle.std.proofs.Common.{◌≡◌, inl, inr, ℕ, List, Option, Result, Ok, Err, sym, subst}
 use Rattle.word_index.specs.Index.{Index}
 use Rattle.index_print.specs.Text.{index_text}
-use Rattle.indexer.specs.Plans.{layout_of}
 use Rattle.command_line.specs.Grammar.{Options}
 use Rattle.firefly.specs.Changes.{Change, IsStill}
 use Rattle.firefly.specs.Check.{Prints}
 use Rattle.firefly.specs.IndexCommand.{IndexAnswers}
-use Rattle.firefly.specs.IndexRun.{IsTheIndex, NoIndex, NoneRose, plan_of}
+use Rattle.firefly.specs.IndexRun.{IsTheIndex, NoIndex, NoneRose}
 use Rattle.firefly.specs.Looks.{Look}
 use Rattle.firefly.specs.TraceCommand.{IsIndexTrace, TraceAnswers}
 use Rattle.firefly.specs.declared.status.Status.{Status}

@@ -1,9 +1,9 @@
 -- The trees at their places, before a call and after it.
-use Rattle.std.proofs.Common.{◌≡◌, ◌⊎◌, inl, inr, ℕ, zero, suc, ◌<◌, List, [], ◌∷◌, length, Option, Some, None, refl, sym, ap, subst, ◌∙◌, arith}
+use Rattle.std.proofs.Common.{◌≡◌, inl, inr, ℕ, zero, suc, ◌<◌, List, [], ◌∷◌, length, Option, Some, None, refl, sym, ap, subst, ◌∙◌, arith}
 use Rattle.std.specs.Prelude.{slice_index_or}
 use Rattle.std.proofs.lemmas.Option.{same_Some}
 use Rattle.firefly_outside.specs.Trees.{Told}
-use Rattle.firefly.specs.Looks.{Look, look_at, looks_of, AllTell, Agree, IsSameTree, KeepTrees, Among, told_by}
+use Rattle.firefly.specs.Looks.{Look, look_at, looks_of, AllTell, IsSameTree, KeepTrees, Among, told_by}
 
 -- one of the trees, at its place
 pub among_at : (xs ys : List (Option Look)) → KeepTrees xs ys → (k : ℕ) (a b : Look) → slice_index_or xs k None ≡ Some a → slice_index_or ys k None ≡ Some b → Among xs ys a b

@@ -1,20 +1,21 @@
 -- The numbers of the mutexes, and the status for the bytes of an input.
-use Rattle.std.proofs.Common.{◌≡◌, ◌≢◌, ◌⊎◌, ℕ, zero, suc, ◌+◌, ◌<◌, ◌≤◌, List, [], ◌∷◌, length, get_or, refl, ap, sym, ◌∙◌, subst, inl, inr, Some, None, IfSome, Option, arith}
+use Rattle.std.proofs.Common.{◌≡◌, ◌≢◌, ◌⊎◌, ℕ, zero, suc, ◌+◌, ◌<◌, List, [], ◌∷◌, length, get_or, refl, ap, sym, ◌∙◌, subst, inl, inr, Some, IfSome, Option, arith}
 use Rattle.larch_actions.specs.declared.event.Event.{Event}
 use Rattle.larch_actions.specs.Actions.{IsClosed, by_thread}
 use Rattle.trace_core.specs.Text.{MutexValue, ReadsAs, trace_text}
 use Rattle.trace_core.specs.Whole.{numbered}
 use Rattle.larch_actions.specs.declared.event.Layout.{Layout}
 use Rattle.firefly_script.specs.declared.line.Line.{Line}
+use Rattle.firefly_script.specs.declared.script.ScriptFault.{ScriptFault}
 use Rattle.firefly_script.specs.declared.script.ScriptFault.TheVariants as script
 use Rattle.firefly_script.specs.Faults.{IsBadLine, IsTooLong}
 use Rattle.firefly_script.specs.Runs.{AreEventsOf, total}
 use Rattle.firefly_script.specs.Text as text
 use Rattle.firefly_script.proofs.Answered.{one_answer}
 use Rattle.firefly.specs.declared.status.Status.{Status}
-use Rattle.firefly.specs.declared.status.Status.TheVariants.{Done, ReadFault, SinkFault, Memory, BadText, TooLong}
-use Rattle.firefly.specs.Changes.{Change}
-use Rattle.firefly.specs.RunCommand.{totals_from, IsTraceOf, Runs, Refuses, Decides}
+use Rattle.firefly.specs.declared.status.Status.TheVariants.{Done, SinkFault, Memory, BadText, TooLong}
+use Rattle.firefly.specs.Changes.{Change, IsStill}
+use Rattle.firefly.specs.RunCommand.{totals_from, IsTraceOf, RunAnswers, Runs, Refuses, Decides, SaysFault}
 
 pub numbered_totals : (xs : List Line) (k n : ℕ) (vs : List ℕ) → length vs ≡ n → ((m : ℕ) → m < n → get_or vs m 0 ≡ total xs (k + m)) → numbered k vs ≡ totals_from k n xs
 numbered_totals xs k zero [] size each = refl
@@ -70,7 +71,7 @@ module _ (input out notes : Change) (l : Layout) (xs : List Line) (status : Stat
         too_long = λ long. absurd (one_answer.text_or_long bytes (l, xs, text, few) long);
       }
 
-pub bad_line_decides : (input : Change) (k : ℕ) → Refuses input (script.BadLine k) → Decides input BadText
+bad_line_decides : (input : Change) (k : ℕ) → Refuses input (script.BadLine k) → Decides input BadText
 bad_line_decides input k h bytes told read some =
     let b = known (λ i. IsBadLine i k × (IsTooLong i → ⊥)) input.old bytes told h in
     record {
@@ -79,7 +80,7 @@ bad_line_decides input k h bytes told read some =
       too_long = λ long. absurd (b.1 long);
     }
 
-pub too_long_decides : (input : Change) → Refuses input script.TooLong → Decides input TooLong
+too_long_decides : (input : Change) → Refuses input script.TooLong → Decides input TooLong
 too_long_decides input h bytes told read some =
     let t = known IsTooLong input.old bytes told h in
     record {
@@ -87,3 +88,16 @@ too_long_decides input h bytes told read some =
       bad_line = λ k bad long. absurd (long t);
       too_long = λ long. refl;
     }
+
+-- what is answered where no script was read
+pub refused_answers : (input out notes : Change) (fault : ScriptFault) (status : Status) → Refuses input fault → IsStill out → SaysFault fault notes status → RunAnswers input out notes status
+refused_answers input out notes (script.BadLine k) status why still said = subst (λ (s : Status). RunAnswers input out notes s) (sym said.0) (k, why, still, said.1)
+refused_answers input out notes script.TooLong status why still said = subst (λ (s : Status). RunAnswers input out notes s) (sym said.0) (why, still, said.1)
+refused_answers input out notes script.Read status why still said = subst (λ (s : Status). RunAnswers input out notes s) (sym said.0) (why, still, said.1)
+refused_answers input out notes script.Memory status why still said = subst (λ (s : Status). RunAnswers input out notes s) (sym said.0) (still, said.1)
+
+pub refused_decides : (input notes : Change) (fault : ScriptFault) (status : Status) → Refuses input fault → SaysFault fault notes status → Decides input status
+refused_decides input notes (script.BadLine k) status why said = subst (Decides input) (sym said.0) (bad_line_decides input k why)
+refused_decides input notes script.TooLong status why said = subst (Decides input) (sym said.0) (too_long_decides input why)
+refused_decides input notes script.Read status why said = λ bytes told read some. absurd (read said.0)
+refused_decides input notes script.Memory status why said = λ bytes told read some. absurd (some said.0)

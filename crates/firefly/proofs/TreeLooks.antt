@@ -1,5 +1,5 @@
 -- Trees before a call and after it.
-use Rattle.std.proofs.Common.{◌≡◌, ℕ, List, [], ◌∷◌, ◌++◌, refl, arith, Option, Some, None}
+use Rattle.std.proofs.Common.{◌≡◌, List, [], ◌∷◌, ◌++◌, refl, arith, Option, Some, None}
 use Rattle.firefly_outside.specs.Trees.{Told}
 use Rattle.firefly.specs.Looks.{Look, looks_of, AllTell, Agree, KeepTrees, NoneFailed}
 

@@ -1,7 +1,7 @@
 -- What an index run does to the trees, and why it may give no index.
 use Rattle.std.specs.Prelude.{◌≡◌, ℕ, suc, ◌+◌, ◌<◌, ◌≤◌, Bool, List, ◌++◌, length, nat_lt, if◌then◌else◌, slice_index_or, Option, Some, None, IfSome}
 use Rattle.firefly_outside.specs.Causes.{Rose}
-use Rattle.firefly_outside.specs.Trees.{Told, Path, Calls}
+use Rattle.firefly_outside.specs.Trees.{Path, Calls}
 use Rattle.firefly_outside.specs.Under.{AreMany}
 use Rattle.firefly_outside.specs.declared.tree.Kind.{Kind}
 use Rattle.firefly_outside.specs.declared.tree.Kind.TheVariants.{File, Dir}

@@ -43,6 +43,13 @@ pub record IsRunOf (input : Change) (bytes : List ℕ) : Type 0 where
 abbrev pub Refuses : Change → ScriptFault → Type 0
 Refuses input fault = HasReason input.old input.new input.before input.now fault
 
+-- the status and the message of each reason
+abbrev pub SaysFault : ScriptFault → Change → Status → Type 0
+SaysFault (script.BadLine k) notes status = (status ≡ BadText) × Notes notes (bad_line_message k)
+SaysFault script.TooLong notes status = (status ≡ TooLong) × Notes notes too_long_message
+SaysFault script.Read notes status = (status ≡ ReadFault) × Notes notes input_fault_message
+SaysFault script.Memory notes status = (status ≡ Memory) × Notes notes memory_message
+
 -- the run of a script ended and its trace was printed, or memory ran out
 abbrev pub Runs : Layout → List Line → Change → Change → Status → Type 0
 Runs l xs out notes answer =

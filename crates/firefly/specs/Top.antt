@@ -1,5 +1,5 @@
 -- What the top call answers.
-use Rattle.std.specs.Prelude.{◌≡◌, ◌⊎◌, List, Option}
+use Rattle.std.specs.Prelude.{◌≡◌, List, Option}
 use Rattle.command_line.specs.Grammar.{Task, check, run, index, trace, sample}
 use Rattle.firefly.specs.declared.status.Status.{Status}
 use Rattle.firefly.specs.declared.status.Status.TheVariants.{Usage, Memory}

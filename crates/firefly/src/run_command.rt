@@ -8,7 +8,7 @@ ghost use Rattle.trace_core.specs.Whole.{numbered};
 ghost use Rattle.firefly_script.specs.Text.{IsScript};
 ghost use Rattle.firefly.specs.Changes.{change_of};
 ghost use Rattle.firefly.specs.Check.{Prints};
-ghost use Rattle.firefly.specs.RunCommand.{RunAnswers, Runs, Decides};
+ghost use Rattle.firefly.specs.RunCommand.{RunAnswers, Runs, Decides, SaysFault};
 
 use crate::Status;
 use crate::ending::{Ending, ends};
@@ -43,6 +43,18 @@ fn run_read<R: Threads + Wait + Sync, O: Sink, N: Sink>(
     }
 }
 
+// Says why no script was read, and answers the status that goes with it.
+fn refused<N: Sink>(notes: &mut N, fault: ScriptFault) -> Status
+    ensures { SaysFault fault (change_of N.held N.faults notes.old notes.new) result }
+{
+    match fault {
+        ScriptFault::BadLine(line) => ends(notes, Ending::BadLine(line)),
+        ScriptFault::TooLong => ends(notes, Ending::TooLong),
+        ScriptFault::Read => ends(notes, Ending::InputFault),
+        ScriptFault::Memory => ends(notes, Ending::Memory),
+    }
+}
+
 /// Runs the script that the input is, and writes the trace of the run.
 pub fn run_input<R: Threads + Wait + Sync, I: Source, O: Sink, N: Sink>(
     rt: &R,
@@ -57,9 +69,6 @@ pub fn run_input<R: Threads + Wait + Sync, I: Source, O: Sink, N: Sink>(
 {
     match read_script(alloc, input) {
         Ok(script) => run_read(rt, alloc, &script, out, notes),
-        Err(ScriptFault::BadLine(line)) => ends(notes, Ending::BadLine(line)),
-        Err(ScriptFault::TooLong) => ends(notes, Ending::TooLong),
-        Err(ScriptFault::Read) => ends(notes, Ending::InputFault),
-        Err(ScriptFault::Memory) => ends(notes, Ending::Memory),
+        Err(fault) => refused(notes, fault),
     }
 }

@@ -1,4 +1,4 @@
-use Rattle.std.proofs.Common.{◌≡◌, List, ℕ, inr, refl, rules, subst}
+use Rattle.std.proofs.Common.{◌≡◌, List, ℕ, inr, rules, subst}
 use Rattle.firefly_outside.specs.Causes.{AppendsFront}
 use Rattle.firefly.proofs.check_command.print.Goals as goal
 

@@ -1,4 +1,4 @@
-use Rattle.std.proofs.Common.{refl, sym, subst, List, [], ℕ}
+use Rattle.std.proofs.Common.{refl, sym, subst, []}
 use Rattle.std.specs.List.{All}
 use Rattle.std.proofs.lemmas.List.Elements.{recursion_from_All}
 use Rattle.larch_actions.specs.declared.event.Layout.{Layout}
