@@ -4,6 +4,7 @@ ghost use Rattle.larch_actions.specs.Layout.{IsLawful};
 
 use crate::notes::Notes;
 use crate::run::{LARGEST, run, two_of_each};
+use crate::seen::has_numbers;
 use crate::steps::{Steps, counted, resumed_beside};
 use crate::waits::Waits;
 use larch_actions::ThreadSet;
@@ -15,12 +16,6 @@ use std::sync::atomic::Ordering;
 use std::test::Fail;
 use std::thread::Threads;
 use sum_uses::SumUses;
-
-/// Sees that these numbers are left behind the mutexes.
-fn has_values(rt: &impl Abort, closed: &Closed<SumUses>, expected: &[u64]) -> Result<(), Fail> {
-    assert_eq!(rt; closed.values(), expected);
-    Ok(())
-}
 
 /// Runs the task without a trace, and sees that it leaves these numbers behind the mutexes.
 fn leaves<R: Threads + Wait + Abort + Sync>(
@@ -35,40 +30,63 @@ fn leaves<R: Threads + Wait + Abort + Sync>(
     requires named { (2 ≤ layout.mutexes) × (2 ≤ layout.conditions) }
 {
     let closed = run(rt, alloc, layout, what, notes, false)?;
-    has_values(rt, &closed, values)
-}
-
-/// Sees that there is a trace of these events.
-fn has_events(rt: &impl Abort, closed: &Closed<SumUses>, expected: &[Event]) -> Result<(), Fail> {
-    let events = closed.trace().ok_or("no trace")?;
-    assert_eq!(rt; events, expected);
+    has_numbers(rt, closed.values(), values);
+    drop(closed);
     Ok(())
 }
 
-/// The steps of the condition in the trace.
-fn steps_in(closed: &Closed<SumUses>, cond: CondId) -> Result<Steps, Fail> {
-    let events = closed.trace().ok_or("no trace")?;
-    Ok(counted(events, cond).ok_or("a wait that nobody ended")?)
+/// Whether there is a trace of these events.
+fn has_events(closed: &Closed<SumUses>, expected: &[Event]) -> bool {
+    match closed.trace() {
+        Some(events) => events == expected,
+        None => false,
+    }
+}
+
+/// The steps of two conditions in the trace.
+fn steps_in(closed: &Closed<SumUses>, conds: (CondId, CondId)) -> Option<(Steps, Steps)> {
+    let events = closed.trace()?;
+    Some((counted(events, conds.0)?, counted(events, conds.1)?))
+}
+
+/// Runs the task with a trace, and sees that it leaves these numbers behind the mutexes. It gives the steps of two conditions.
+fn steps_of<R: Threads + Wait + Abort + Sync>(
+    rt: &R,
+    alloc: Global,
+    layout: Layout,
+    what: Waits,
+    values: &[u64],
+    conds: (CondId, CondId),
+) -> Result<(Steps, Steps), Fail>
+    requires lawful { IsLawful layout }
+    requires named { (2 ≤ layout.mutexes) × (2 ≤ layout.conditions) }
+{
+    let closed = run(rt, alloc, layout, what, &Notes::new(), true)?;
+    has_numbers(rt, closed.values(), values);
+    let steps = steps_in(&closed, conds);
+    drop(closed);
+    Ok(steps.ok_or("no trace, or a wait that nobody ended")?)
+}
+
+/// Sees that these are the steps of a condition.
+fn has_steps(rt: &impl Abort, found: Steps, expected: Steps) {
+    assert_eq!(rt; found, expected);
 }
 
 /// Sees that so many Signals and no Broadcast ended waits in the condition, and that whoever waited went on.
-fn has_turns(
-    rt: &impl Abort,
-    closed: &Closed<SumUses>,
-    cond: CondId,
-    signals: u64,
-) -> Result<(), Fail> {
-    let found = steps_in(closed, cond)?;
-    assert_eq!(rt; (found.signals, found.broadcasts), (signals, 0));
-    assert_eq!(rt; found.resumed, found.enqueued);
-    Ok(())
+fn has_turns(rt: &impl Abort, found: Steps, signals: u64) {
+    let expected = Steps {
+        enqueued: found.enqueued,
+        resumed: found.enqueued,
+        signals,
+        broadcasts: 0,
+    };
+    has_steps(rt, found, expected);
 }
 
 // A Signal and a Broadcast of an empty condition go on at once, and leave nobody.
 #[test]
 fn alone(rt: HostRuntime) -> Result<(), Fail> {
-    let (what, notes) = (Waits::Wakes, Notes::new());
-    let closed = run(&rt, rt.alloc(), two_of_each(1), what, &notes, true)?;
     let (thread, cond) = (ThreadId(0), CondId(0));
     let left = ThreadSet::empty();
     let signal = Event {
@@ -79,18 +97,27 @@ fn alone(rt: HostRuntime) -> Result<(), Fail> {
         thread,
         action: Action::Broadcast { cond },
     };
-    has_events(&rt, &closed, &[signal, broadcast])
+    let (what, notes) = (Waits::Wakes, Notes::new());
+    let closed = run(&rt, rt.alloc(), two_of_each(1), what, &notes, true)?;
+    let played = has_events(&closed, &[signal, broadcast]);
+    drop(closed);
+    assert!(rt; played);
+    Ok(())
 }
+
+// The conditions in which two threads take turns.
+const BOTH: (CondId, CondId) = (CondId(0), CondId(1));
 
 // Two threads take turns, untraced and traced: no wake is lost, and each who resumes was taken out.
 #[test]
 fn contended(rt: HostRuntime) -> Result<(), Fail> {
     let (what, notes) = (Waits::Turns(2000), Notes::new());
-    leaves(&rt, rt.alloc(), two_of_each(2), what, &notes, &[4000, 0])?;
-    let closed = run(&rt, rt.alloc(), two_of_each(2), what, &notes, true)?;
-    has_values(&rt, &closed, &[4000, 0])?;
-    has_turns(&rt, &closed, CondId(0), 2000)?;
-    has_turns(&rt, &closed, CondId(1), 2000)
+    let values = [4000, 0];
+    leaves(&rt, rt.alloc(), two_of_each(2), what, &notes, &values)?;
+    let (first, second) = steps_of(&rt, rt.alloc(), two_of_each(2), what, &values, BOTH)?;
+    has_turns(&rt, first, 2000);
+    has_turns(&rt, second, 2000);
+    Ok(())
 }
 
 // Two pairs take turns in conditions of their own: a Signal to one never wakes in place of one to the other.
@@ -100,50 +127,37 @@ fn two_objects_apart(rt: HostRuntime) -> Result<(), Fail> {
     leaves(&rt, rt.alloc(), two_of_each(4), what, &notes, &[4000, 4000])
 }
 
-/// Sees that the trace has these steps of the condition.
-fn has_steps(
-    rt: &impl Abort,
-    closed: &Closed<SumUses>,
-    cond: CondId,
-    expected: Steps,
-) -> Result<(), Fail> {
-    assert_eq!(rt; steps_in(closed, cond)?, expected);
-    Ok(())
-}
-
 // 16 threads are in one condition, and one Broadcast takes them all out: each resumes once.
 #[test]
 fn many_threads(rt: HostRuntime) -> Result<(), Fail> {
-    let (what, notes) = (Waits::Gather(16), Notes::new());
-    let closed = run(&rt, rt.alloc(), two_of_each(17), what, &notes, true)?;
-    has_values(&rt, &closed, &[17, 0])?;
+    let what = Waits::Gather(16);
+    let (steps, _) = steps_of(&rt, rt.alloc(), two_of_each(17), what, &[17, 0], BOTH)?;
     let expected = Steps {
         enqueued: 16,
         resumed: 16,
         signals: 0,
         broadcasts: 1,
     };
-    has_steps(&rt, &closed, CondId(0), expected)
+    has_steps(&rt, steps, expected);
+    Ok(())
 }
 
-/// Sees that each of 64 mutexes has this number behind it if it is one of the first 32, and 0 else.
-fn has_half(rt: &impl Abort, closed: &Closed<SumUses>, sum: u64) -> Result<(), Fail> {
-    let values = closed.values();
-    assert_eq!(rt; values.len(), 64);
-    for (m, value) in values.iter().enumerate() {
-        let expected = if m < 32 { sum } else { 0 };
-        assert_eq!(rt; *value, expected);
+/// This number for each of the first 32 mutexes of 64, and 0 for the others.
+fn half(sum: u64) -> [u64; 64] {
+    let mut values = [0; 64];
+    for value in &mut values[..32] {
+        *value = sum;
     }
-    Ok(())
+    values
 }
 
 // 32 pairs of threads, each in a mutex and a condition of its own.
 #[test]
 fn largest_layout(rt: HostRuntime) -> Result<(), Fail> {
-    let (what, notes) = (Waits::TurnsApart(10), Notes::new());
-    let closed = run(&rt, rt.alloc(), LARGEST, what, &notes, true)?;
-    has_half(&rt, &closed, 20)?;
-    has_turns(&rt, &closed, CondId(31), 20)
+    let (what, conds) = (Waits::TurnsApart(10), (CondId(0), CondId(31)));
+    let (_, last) = steps_of(&rt, rt.alloc(), LARGEST, what, &half(20), conds)?;
+    has_turns(&rt, last, 20);
+    Ok(())
 }
 
 // A Signal after the mutex was given back finds the other thread anywhere between its count and its sleep, and is never lost.
@@ -157,10 +171,7 @@ fn signal_before_the_push(rt: HostRuntime) -> Result<(), Fail> {
 fn pass_once<R: Threads + Wait + Abort + Sync>(rt: &R, alloc: Global) -> Result<(), Fail> {
     let (what, notes) = (Waits::Ring(5000), Notes::new());
     leaves(rt, alloc, two_of_each(4), what, &notes, &[20000, 0])?;
-    let taken = &notes.ring.taken[..];
-    assert_eq!(rt; taken[0].load(Ordering::SeqCst), 5000);
-    assert_eq!(rt; taken[1].load(Ordering::SeqCst), 5000);
-    assert_eq!(rt; notes.ring.wrong.load(Ordering::SeqCst), 0);
+    has_numbers(rt, &notes.ring.came(), &[5000, 5000, 0]);
     Ok(())
 }
 
@@ -181,19 +192,19 @@ fn goes_on<R: Threads + Wait + Abort + Sync>(
 ) -> Result<(), Fail> {
     let notes = Notes::new();
     leaves(rt, alloc, two_of_each(2), what, &notes, &[0, 0])?;
-    assert_eq!(rt; notes.gone_on.load(Ordering::SeqCst), 1000);
+    let gone_on = notes.gone_on.load(Ordering::SeqCst);
+    has_numbers(rt, &[gone_on], &[1000]);
     Ok(())
 }
 
-/// Sees that 1000 waits in condition 0 were ended by Signals, each beside a thread that held this mutex.
-fn is_resumed_beside(rt: &impl Abort, events: &[Event], kept: MutexId) -> Result<(), Fail> {
-    let found = counted(events, CondId(0)).ok_or("a wait that nobody ended")?;
-    assert_eq!(rt; (found.enqueued, found.signals), (1000, 1000));
-    assert_eq!(rt; resumed_beside(events, kept), 1000);
-    Ok(())
+/// How many waits in condition 0 there were and how many Signals ended them, and how many of these waits ended beside a thread that held this mutex.
+fn beside(closed: &Closed<SumUses>, kept: MutexId) -> Option<[u64; 3]> {
+    let events = closed.trace()?;
+    let found = counted(events, CondId(0))?;
+    Some([found.enqueued, found.signals, resumed_beside(events, kept)])
 }
 
-/// The same with a trace.
+/// The same with a trace: each wait was ended by a Signal, beside a thread that held this mutex.
 fn goes_on_traced<R: Threads + Wait + Abort + Sync>(
     rt: &R,
     alloc: Global,
@@ -201,7 +212,11 @@ fn goes_on_traced<R: Threads + Wait + Abort + Sync>(
     kept: MutexId,
 ) -> Result<(), Fail> {
     let closed = run(rt, alloc, two_of_each(2), what, &Notes::new(), true)?;
-    is_resumed_beside(rt, closed.trace().ok_or("no trace")?, kept)
+    let found = beside(&closed, kept);
+    drop(closed);
+    let found = found.ok_or("no trace, or a wait that nobody ended")?;
+    has_numbers(rt, &found, &[1000, 1000, 1000]);
+    Ok(())
 }
 
 // Who signals keeps another mutex than that of the wait, and gives it back only when the other thread has gone on. So that thread is woken at once:

@@ -23,6 +23,8 @@ mod roles;
 #[cfg(test)]
 mod run;
 #[cfg(test)]
+mod seen;
+#[cfg(test)]
 mod steps;
 #[cfg(test)]
 mod turns;

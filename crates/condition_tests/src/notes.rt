@@ -26,9 +26,9 @@ pub struct Ring {
     maker: AtomicU64,
     item: AtomicU64,
     /// How many items of each maker were taken, each in its turn.
-    pub taken: [AtomicU64; 2],
+    taken: [AtomicU64; 2],
     /// How many were taken out of turn, or twice.
-    pub wrong: AtomicU64,
+    wrong: AtomicU64,
 }
 
 impl Ring {
@@ -45,6 +45,16 @@ impl Ring {
     pub fn put(&self, maker: u64, item: u64) {
         self.maker.store(maker, Ordering::SeqCst);
         self.item.store(item, Ordering::SeqCst);
+    }
+
+    /// How many items of each of both makers were taken, each in its turn, and how many out of turn, or twice.
+    pub fn came(&self) -> [u64; 3] {
+        let [first, second] = &self.taken;
+        [
+            first.load(Ordering::SeqCst),
+            second.load(Ordering::SeqCst),
+            self.wrong.load(Ordering::SeqCst),
+        ]
     }
 
     /// Takes what is in the place, and counts it where it is the next one of its maker.

@@ -1,18 +1,27 @@
 //! Tests of readers and writers.
+use crate::seen::has_numbers;
 use crate::turns::{Pair, run_four, run_two};
-use readers_writers::RwState;
+use nub::Closed;
+use readers_writers::{RwState, RwUses};
+use std::process::Abort;
 use std::sync::atomic::{AtomicU64, Ordering};
 use std::test::Fail;
 
-// Two threads read at once; when both have ended one of them writes. At the end nobody reads or writes.
-#[test]
-fn two_threads(rt: HostRuntime) -> Result<(), Fail> {
-    let closed = run_two(&rt, rt.alloc())?;
+/// Sees that nobody reads or writes.
+fn is_free(rt: &impl Abort, closed: &Closed<RwUses>) {
     let free = RwState {
         readers: 0,
         writer: None,
     };
     assert_eq!(rt; closed.values(), [free].as_slice());
+}
+
+// Two threads read at once; when both have ended one of them writes. At the end nobody reads or writes.
+#[test]
+fn two_threads(rt: HostRuntime) -> Result<(), Fail> {
+    let closed = run_two(&rt, rt.alloc())?;
+    is_free(&rt, &closed);
+    drop(closed);
     Ok(())
 }
 
@@ -23,9 +32,13 @@ fn never_torn(rt: HostRuntime) -> Result<(), Fail> {
         first: AtomicU64::new(0),
         second: AtomicU64::new(0),
     };
-    let (_, torn) = run_four(&rt, rt.alloc(), 2000, &pair)?;
-    assert_eq!(rt; torn.as_slice(), [0, 0, 0, 0].as_slice());
-    assert_eq!(rt; pair.first.load(Ordering::SeqCst), 4000);
-    assert_eq!(rt; pair.second.load(Ordering::SeqCst), 4000);
+    let torn = run_four(&rt, rt.alloc(), 2000, &pair)?;
+    has_numbers(&rt, &torn, &[0, 0, 0, 0]);
+    drop(torn);
+    let last = [
+        pair.first.load(Ordering::SeqCst),
+        pair.second.load(Ordering::SeqCst),
+    ];
+    has_numbers(&rt, &last, &[4000, 4000]);
     Ok(())
 }

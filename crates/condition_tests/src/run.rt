@@ -56,7 +56,7 @@ pub fn run<R: Threads + Wait + Sync>(
 {
     let values = zeros(alloc, layout.mutexes)?;
     let (pkg, threads) = open_package::<SumUses>(alloc, layout, &(), values, traced)?;
-    let (threads, _) = at_once(
+    let Ok((threads, _)) = at_once(
         rt,
         alloc,
         threads,
@@ -64,6 +64,9 @@ pub fn run<R: Threads + Wait + Sync>(
             requires { IsLawful pkg.layout × (2 ≤ pkg.layout.mutexes) × (2 ≤ pkg.layout.conditions) × IsIdle pkg me.number [] me }
             ensures { IsDone pkg me.number result.0 }
         { (wait_and_wake(rt, &pkg, me, what, notes), ()) },
-    )?;
+    ) else {
+        drop(pkg);
+        return Err(AllocError);
+    };
     close_package(pkg, threads)
 }

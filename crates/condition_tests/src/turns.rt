@@ -104,7 +104,10 @@ pub fn run_two<R: Wait>(rt: &R, alloc: Global) -> Result<Closed<RwUses>, AllocEr
     let (pkg, threads) = open_state(alloc, 2)?;
     let (first, second) = both(threads);
     let (first, second) = read_both(rt, &pkg, first, second);
-    let threads = row(alloc, first, second)?;
+    let Ok(threads) = row(alloc, first, second) else {
+        drop(pkg);
+        return Err(AllocError);
+    };
     close_package(pkg, threads)
 }
 
@@ -115,12 +118,12 @@ fn write_often<R: Wait>(
     mut me: Thread<RwUses>,
     times: u32,
     pair: &Pair,
-) -> (Thread<RwUses>, u32)
+) -> (Thread<RwUses>, u64)
     requires named { HasState pkg.now.layout }
     requires acts { IsActing pkg.now me.number Idle me }
     ensures { IsDone pkg.now me.number result.0 }
 {
-    let mut torn: u32 = 0;
+    let mut torn: u64 = 0;
     for _i in 0..times {
         start_write(rt, pkg, &mut me);
         let was = pair.first.load(Ordering::Relaxed);
@@ -141,12 +144,12 @@ fn read_often<R: Wait>(
     mut me: Thread<RwUses>,
     times: u32,
     pair: &Pair,
-) -> (Thread<RwUses>, u32)
+) -> (Thread<RwUses>, u64)
     requires named { HasState pkg.now.layout }
     requires acts { IsActing pkg.now me.number Idle me }
     ensures { IsDone pkg.now me.number result.0 }
 {
-    let mut torn: u32 = 0;
+    let mut torn: u64 = 0;
     for _i in 0..times {
         start_read(rt, pkg, &mut me);
         let first = pair.first.load(Ordering::Relaxed);
@@ -165,7 +168,7 @@ fn write_or_read<R: Wait>(
     me: Thread<RwUses>,
     times: u32,
     pair: &Pair,
-) -> (Thread<RwUses>, u32)
+) -> (Thread<RwUses>, u64)
     requires named { HasState pkg.now.layout }
     requires acts { IsActing pkg.now me.number Idle me }
     ensures { IsDone pkg.now me.number result.0 }
@@ -177,22 +180,30 @@ fn write_or_read<R: Wait>(
     }
 }
 
-/// What a package leaves after four threads have written and read the pair so often, all at once, and how often each found it torn.
+/// How often each of four threads found the pair torn, of which two wrote it and two read it so often, all at once.
 pub fn run_four<R: Threads + Wait + Sync>(
     rt: &R,
     alloc: Global,
     times: u32,
     pair: &Pair,
-) -> Result<(Closed<RwUses>, Vec<u32>), AllocError> {
+) -> Result<Vec<u64>, AllocError> {
     let (pkg, threads) = open_state(alloc, 4)?;
-    let (threads, torn) = at_once(
+    let Ok((threads, torn)) = at_once(
         rt,
         alloc,
         threads,
-        &|me: Thread<RwUses>| -> (Thread<RwUses>, u32)
+        &|me: Thread<RwUses>| -> (Thread<RwUses>, u64)
             requires { HasState pkg.layout × IsActing pkg me.number Idle me }
             ensures { IsDone pkg me.number result.0 }
         { write_or_read(rt, &pkg, me, times, pair) },
-    )?;
-    Ok((close_package(pkg, threads)?, torn))
+    ) else {
+        drop(pkg);
+        return Err(AllocError);
+    };
+    let Ok(closed) = close_package(pkg, threads) else {
+        drop(torn);
+        return Err(AllocError);
+    };
+    drop(closed);
+    Ok(torn)
 }

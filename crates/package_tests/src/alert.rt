@@ -4,14 +4,13 @@ ghost use Rattle.nub.specs.Ended.{IsDone};
 ghost use Rattle.nub.specs.Idle.{IsIdle};
 
 use crate::alerting::{AlertTask, do_alerts};
-use crate::notes::Notes;
+use crate::notes::{Notes, has_numbers};
 use crate::traces::{event, has_events, has_length};
 use nub::{Action, Closed, Event, Layout, SemId, Thread, ThreadId, close_package, open_package};
 use package_crew::at_once;
 use std::alloc::{AllocError, Global};
 use std::process::Abort;
 use std::sync::Wait;
-use std::sync::atomic::Ordering;
 use std::test::Fail;
 use std::thread::Threads;
 use sum_uses::SumUses;
@@ -34,7 +33,7 @@ fn run<R: Threads + Wait + Sync>(
 ) -> Result<Closed<SumUses>, AllocError> {
     let values = Vec::new(alloc);
     let (pkg, threads) = open_package::<SumUses>(alloc, LAYOUT, &(), values, traced)?;
-    let (threads, _) = at_once(
+    let Ok((threads, _)) = at_once(
         rt,
         alloc,
         threads,
@@ -42,7 +41,10 @@ fn run<R: Threads + Wait + Sync>(
             requires { (5 ≤ pkg.layout.semaphores) × (3 ≤ pkg.layout.threads) × IsIdle pkg me.number [] me }
             ensures { IsDone pkg me.number result.0 }
         { (do_alerts(rt, &pkg, me, what, notes), ()) },
-    )?;
+    ) else {
+        drop(pkg);
+        return Err(AllocError);
+    };
     close_package(pkg, threads)
 }
 
@@ -61,8 +63,10 @@ fn raises<R: Threads + Wait + Abort + Sync>(
         &notes,
         events.is_some(),
     )?;
-    assert_eq!(rt; notes.first.load(Ordering::SeqCst), u64::from(times));
-    has_length(rt, &closed, events)
+    has_length(rt, &closed, events);
+    drop(closed);
+    has_numbers(rt, &notes.numbers()[..1], &[u64::from(times)]);
+    Ok(())
 }
 
 // A thread that waits for a semaphore which nobody frees raises each time that it is alerted.
@@ -80,9 +84,9 @@ fn ends_each_wait<R: Threads + Wait + Abort + Sync>(
     traced: bool,
 ) -> Result<(), Fail> {
     let notes = Notes::new();
-    run(rt, alloc, AlertTask::AtOnce(times), &notes, traced)?;
-    assert_eq!(rt; notes.first.load(Ordering::SeqCst), u64::from(times));
-    assert_eq!(rt; notes.second.load(Ordering::SeqCst), 0);
+    let closed = run(rt, alloc, AlertTask::AtOnce(times), &notes, traced)?;
+    drop(closed);
+    has_numbers(rt, &notes.numbers()[..2], &[u64::from(times), 0]);
     Ok(())
 }
 
@@ -103,7 +107,10 @@ fn plays<R: Threads + Wait + Abort + Sync>(
     expected: &[Event],
 ) -> Result<(), Fail> {
     let closed = run(rt, alloc, what, notes, true)?;
-    has_events(rt, &closed, expected)
+    let played = has_events(&closed, expected);
+    drop(closed);
+    assert!(rt; played);
+    Ok(())
 }
 
 // A thread that has alerted itself raises where the semaphore isn't available.
@@ -116,7 +123,7 @@ fn alerts_itself(rt: HostRuntime) -> Result<(), Fail> {
     let raised = event(0, Action::AlertPRaise { sem });
     let expected = [taken, alerted, raised];
     plays(&rt, rt.alloc(), AlertTask::Oneself, &notes, &expected)?;
-    assert_eq!(rt; notes.first.load(Ordering::SeqCst), 1);
+    has_numbers(&rt, &notes.numbers()[..1], &[1]);
     Ok(())
 }
 
@@ -129,8 +136,7 @@ fn two_alerts_are_one(rt: HostRuntime) -> Result<(), Fail> {
     let no = event(0, Action::TestAlert { yes: false });
     let expected = [alerted, alerted, yes, no];
     plays(&rt, rt.alloc(), AlertTask::Twice, &notes, &expected)?;
-    assert_eq!(rt; notes.first.load(Ordering::SeqCst), 1);
-    assert_eq!(rt; notes.second.load(Ordering::SeqCst), 0);
+    has_numbers(&rt, &notes.numbers()[..2], &[1, 0]);
     Ok(())
 }
 
@@ -138,8 +144,8 @@ fn two_alerts_are_one(rt: HostRuntime) -> Result<(), Fail> {
 #[test]
 fn alerted_at_rest(rt: HostRuntime) -> Result<(), Fail> {
     let notes = Notes::new();
-    run(&rt, rt.alloc(), AlertTask::AtRest, &notes, false)?;
-    assert_eq!(rt; notes.first.load(Ordering::SeqCst), 1);
-    assert_eq!(rt; notes.second.load(Ordering::SeqCst), 0);
+    let closed = run(&rt, rt.alloc(), AlertTask::AtRest, &notes, false)?;
+    drop(closed);
+    has_numbers(&rt, &notes.numbers()[..2], &[1, 0]);
     Ok(())
 }

@@ -1,14 +1,14 @@
 //! Waits in a condition that an alert may end.
 use crate::alerted::{Alerts, run_alerts};
-use crate::notes::Notes;
+use crate::notes::{Notes, has_numbers};
 use crate::traces::{event, has_events};
-use nub::{Action, CondId, Event, MutexId, ThreadId};
+use nub::{Action, Closed, CondId, Event, MutexId, ThreadId};
 use std::alloc::Global;
 use std::process::Abort;
 use std::sync::Wait;
-use std::sync::atomic::Ordering;
 use std::test::Fail;
 use std::thread::Threads;
+use sum_uses::SumUses;
 
 /// One thread alerts itself and waits, and the trace has these events.
 fn plays_alone<R: Threads + Wait + Abort + Sync>(
@@ -18,7 +18,10 @@ fn plays_alone<R: Threads + Wait + Abort + Sync>(
     expected: &[Event],
 ) -> Result<(), Fail> {
     let closed = run_alerts(rt, alloc, 1, Alerts::Alone, notes, true)?;
-    has_events(rt, &closed, expected)
+    let played = has_events(&closed, expected);
+    drop(closed);
+    assert!(rt; played);
+    Ok(())
 }
 
 // A thread that was alerted before it waits raises at once, holds the mutex then, and the alert is gone.
@@ -35,8 +38,7 @@ fn alone(rt: HostRuntime) -> Result<(), Fail> {
         event(0, Action::TestAlert { yes: false }),
     ];
     plays_alone(&rt, rt.alloc(), &notes, &expected)?;
-    assert_eq!(rt; notes.first.load(Ordering::SeqCst), 1);
-    assert_eq!(rt; notes.second.load(Ordering::SeqCst), 0);
+    has_numbers(&rt, &notes.numbers()[..2], &[1, 0]);
     Ok(())
 }
 
@@ -44,15 +46,16 @@ fn alone(rt: HostRuntime) -> Result<(), Fail> {
 #[test]
 fn alert_against_signal(rt: HostRuntime) -> Result<(), Fail> {
     let notes = Notes::new();
-    run_alerts(&rt, rt.alloc(), 3, Alerts::Race(100000), &notes, false)?;
-    assert_eq!(rt; notes.second.load(Ordering::SeqCst), 0);
+    let closed = run_alerts(&rt, rt.alloc(), 3, Alerts::Race(100000), &notes, false)?;
+    drop(closed);
+    has_numbers(&rt, &notes.numbers()[1..2], &[0]);
     Ok(())
 }
 
-/// How many waits that an alert may end have ended.
-fn ended(events: &[Event]) -> u32 {
-    let mut ended: u32 = 0;
-    for event in events {
+/// How many waits that an alert may end have ended, where there is a trace.
+fn ended(closed: &Closed<SumUses>) -> Option<u64> {
+    let mut ended: u64 = 0;
+    for event in closed.trace()? {
         if matches!(
             event.action,
             Action::AlertReturn { .. } | Action::AlertRaise { .. }
@@ -60,7 +63,7 @@ fn ended(events: &[Event]) -> u32 {
             ended = ended.wrapping_add(1);
         }
     }
-    ended
+    Some(ended)
 }
 
 /// How many waits have ended in the trace of so many races.
@@ -69,9 +72,11 @@ fn ended_in_races<R: Threads + Wait + Sync>(
     alloc: Global,
     races: u32,
     notes: &Notes,
-) -> Result<u32, Fail> {
+) -> Result<u64, Fail> {
     let closed = run_alerts(rt, alloc, 3, Alerts::Race(races), notes, true)?;
-    Ok(ended(closed.trace().ok_or("no trace")?))
+    let ended = ended(&closed);
+    drop(closed);
+    Ok(ended.ok_or("no trace")?)
 }
 
 // The same with a trace, which is legal as a whole: each wait ends by one of its two events.
@@ -79,7 +84,7 @@ fn ended_in_races<R: Threads + Wait + Sync>(
 fn alert_against_signal_traced(rt: HostRuntime) -> Result<(), Fail> {
     let notes = Notes::new();
     let ended = ended_in_races(&rt, rt.alloc(), 1000, &notes)?;
-    assert_eq!(rt; notes.second.load(Ordering::SeqCst), 0);
-    assert_eq!(rt; ended, 1000);
+    has_numbers(&rt, &[ended], &[1000]);
+    has_numbers(&rt, &notes.numbers()[1..2], &[0]);
     Ok(())
 }

@@ -196,7 +196,7 @@ pub fn run_alerts<R: Threads + Wait + Sync>(
     };
     let values = vec![in alloc; 0u64; 1]?;
     let (pkg, threads) = open_package::<SumUses>(alloc, layout, &(), values, traced)?;
-    let (threads, _) = at_once(
+    let Ok((threads, _)) = at_once(
         rt,
         alloc,
         threads,
@@ -205,6 +205,9 @@ pub fn run_alerts<R: Threads + Wait + Sync>(
                 × (1 ≤ pkg.layout.threads)) × IsIdle pkg me.number [] me }
             ensures { IsDone pkg me.number result.0 }
         { (work(rt, &pkg, me, what, notes), ()) },
-    )?;
+    ) else {
+        drop(pkg);
+        return Err(AllocError);
+    };
     close_package(pkg, threads)
 }

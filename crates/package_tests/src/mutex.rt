@@ -2,7 +2,7 @@
 ghost use Rattle.std.specs.Prelude.{◌≤◌};
 ghost use Rattle.larch_actions.specs.Layout.{IsLawful};
 
-use crate::notes::Notes;
+use crate::notes::{Notes, has_numbers};
 use crate::run::{LARGEST, run, two_of_each};
 use crate::traces::has_length;
 use crate::work::Task;
@@ -10,7 +10,6 @@ use nub::Layout;
 use std::alloc::Global;
 use std::process::Abort;
 use std::sync::Wait;
-use std::sync::atomic::Ordering;
 use std::test::Fail;
 use std::thread::Threads;
 
@@ -28,8 +27,10 @@ fn leaves<R: Threads + Wait + Abort + Sync>(
     requires named { (2 ≤ layout.mutexes) × (2 ≤ layout.semaphores) }
 {
     let closed = run(rt, alloc, layout, what, notes, events.is_some())?;
-    assert_eq!(rt; closed.values(), values);
-    has_length(rt, &closed, events)
+    has_numbers(rt, closed.values(), values);
+    has_length(rt, &closed, events);
+    drop(closed);
+    Ok(())
 }
 
 // A thread gets what it gave back.
@@ -37,9 +38,7 @@ fn leaves<R: Threads + Wait + Abort + Sync>(
 fn alone(rt: HostRuntime) -> Result<(), Fail> {
     let (task, notes) = (Task::TwoTurns, Notes::new());
     leaves(&rt, rt.alloc(), two_of_each(1), task, &notes, &[5, 0], None)?;
-    assert_eq!(rt; notes.first.load(Ordering::SeqCst), 0);
-    assert_eq!(rt; notes.second.load(Ordering::SeqCst), 5);
-    assert_eq!(rt; notes.third.load(Ordering::SeqCst), 1);
+    has_numbers(&rt, &notes.numbers(), &[0, 5, 1]);
     Ok(())
 }
 

@@ -2,7 +2,7 @@
 ghost use Rattle.std.specs.Prelude.{◌≤◌};
 ghost use Rattle.larch_actions.specs.Layout.{IsLawful};
 
-use crate::notes::Notes;
+use crate::notes::{Notes, has_numbers};
 use crate::run::{LARGEST, run, two_of_each};
 use crate::traces::{event, has_events, has_length};
 use crate::work::Task;
@@ -10,7 +10,6 @@ use nub::{Action, Layout, SemId};
 use std::alloc::Global;
 use std::process::Abort;
 use std::sync::Wait;
-use std::sync::atomic::Ordering;
 use std::test::Fail;
 use std::thread::Threads;
 
@@ -27,7 +26,9 @@ fn leaves<R: Threads + Wait + Abort + Sync>(
     requires named { (2 ≤ layout.mutexes) × (2 ≤ layout.semaphores) }
 {
     let closed = run(rt, alloc, layout, what, notes, events.is_some())?;
-    has_length(rt, &closed, events)
+    has_length(rt, &closed, events);
+    drop(closed);
+    Ok(())
 }
 
 // A semaphore is available at first and after a V.
@@ -38,7 +39,10 @@ fn alone(rt: HostRuntime) -> Result<(), Fail> {
     let sem = SemId(0);
     let taken = event(0, Action::P { sem });
     let freed = event(0, Action::V { sem });
-    has_events(&rt, &closed, &[taken, freed, taken, freed])
+    let played = has_events(&closed, &[taken, freed, taken, freed]);
+    drop(closed);
+    assert!(rt; played);
+    Ok(())
 }
 
 // Two threads take turns, untraced and traced: they never meet, and the trace has every event.
@@ -47,7 +51,7 @@ fn contended(rt: HostRuntime) -> Result<(), Fail> {
     let (task, notes) = (Task::TakeTurns(500), Notes::new());
     leaves(&rt, rt.alloc(), two_of_each(2), task, &notes, None)?;
     leaves(&rt, rt.alloc(), two_of_each(2), task, &notes, Some(2000))?;
-    assert_eq!(rt; notes.second.load(Ordering::SeqCst), 0);
+    has_numbers(&rt, &notes.numbers()[1..2], &[0]);
     Ok(())
 }
 
@@ -56,7 +60,7 @@ fn contended(rt: HostRuntime) -> Result<(), Fail> {
 fn two_objects_apart(rt: HostRuntime) -> Result<(), Fail> {
     let (task, notes) = (Task::PassBySem, Notes::new());
     leaves(&rt, rt.alloc(), two_of_each(2), task, &notes, None)?;
-    assert_eq!(rt; notes.third.load(Ordering::SeqCst), 1);
+    has_numbers(&rt, &notes.numbers()[2..], &[1]);
     Ok(())
 }
 
@@ -64,7 +68,7 @@ fn two_objects_apart(rt: HostRuntime) -> Result<(), Fail> {
 fn many_threads(rt: HostRuntime) -> Result<(), Fail> {
     let (task, notes) = (Task::TakeTurns(1000), Notes::new());
     leaves(&rt, rt.alloc(), two_of_each(8), task, &notes, None)?;
-    assert_eq!(rt; notes.second.load(Ordering::SeqCst), 0);
+    has_numbers(&rt, &notes.numbers()[1..2], &[0]);
     Ok(())
 }
 

@@ -27,6 +27,6 @@ at_once-requires-after_bounds g c κs within = λ n t at.
 
 pub close_package-requires-clause-threads : goal.close_package-requires-clause-threads
 close_package-requires-clause-threads g c κs = λ n t at.
-    let back = c.in_ok-threads.ensures.each n t at in
+    let back = c.in-Ok.ensures.each n t at in
     let own : IsDone c.in_ok-pkg.pkg back.was.number t = (let goes = back.goes in search rules) in
     subst (λ k. IsDone c.in_ok-pkg.pkg k t) (c.in_ok-pkg.ensures.threads n back.was back.is_was).number own

@@ -5,4 +5,4 @@ use Rattle.condition_tests.proofs.turns.run_two.Goals as goal
 pub close_package-requires-clause-threads : goal.close_package-requires-clause-threads
 close_package-requires-clause-threads g c κs =
     let done = c.read_both-first.ensures in
-    each_of_two (λ n t. IsDone c.in_ok-pkg.pkg n t) c.in_ok-threads.threads.items c.read_both-first.result.0 c.read_both-first.result.1 c.in_ok-threads.ensures done.0 done.1
+    each_of_two (λ n t. IsDone c.in_ok-pkg.pkg n t) c.in-Ok.threads.items c.read_both-first.result.0 c.read_both-first.result.1 c.in-Ok.ensures done.0 done.1
