@@ -9,7 +9,7 @@ use Rattle.firefly_outside.specs.declared.tree.Kind.{Kind}
 use Rattle.nub_rule.specs.Items.{Each}
 use Rattle.nub.proofs.Users.{from_at}
 use Rattle.package_crew.specs.Crews.{CameBack}
-use Rattle.indexer.specs.declared.findings.Findings.{Findings}
+use Rattle.index_findings.specs.declared.findings.Findings.{Findings}
 use Rattle.indexer.specs.declared.job.Job.{Job}
 use Rattle.indexer.specs.Jobs.{GivesTree, HasWorked, kind_at, tree_at}
 use Rattle.indexer.specs.Turns.{Worker, Run}

@@ -3,10 +3,8 @@ pub mod WalkSteps
 pub mod Placing
 pub mod CrewBack
 pub mod OpeningLaws
-pub mod PieceLaws
 pub mod LotLaws
 pub mod TakenLaws
-pub mod GatherLaws
 pub mod RunLaws
 pub mod SaysLaws
 pub mod TreesLaws

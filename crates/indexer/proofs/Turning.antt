@@ -25,7 +25,8 @@ use Rattle.indexer.specs.declared.value.IndexItem.{IndexItem}
 use Rattle.indexer.specs.declared.value.IndexItem.TheVariants.{File as FileItem, Piece as PieceItem}
 use Rattle.indexer.specs.declared.value.IndexValue.{IndexValue}
 use Rattle.indexer.specs.declared.value.IndexValue.TheVariants.{Dirs, Ring}
-use Rattle.indexer.specs.Pieces.{IsFilesPiece, IsPieceItem}
+use Rattle.index_findings.specs.Pieces.{IsFilesPiece}
+use Rattle.indexer.specs.Pieces.{IsPieceItem}
 use Rattle.indexer.specs.Work.{Share, IsBehind, MayChange}
 use Rattle.indexer.specs.Turns.{Worker, Run, releases, release_count, Passes, ComesBack, HasCalled, HasList, IsBetween}
 

@@ -9,25 +9,14 @@ use Rattle.firefly_outside.specs.declared.tree.Kind.TheVariants.{File, Dir}
 use Rattle.walker.specs.Listings.{IsListingOf, IsToldBy, with_listed}
 use Rattle.walker.specs.declared.listing.Listing.{Listing}
 use Rattle.word_index.specs.Index.{Index}
-use Rattle.indexer.specs.declared.findings.Fault.{Fault}
-use Rattle.indexer.specs.declared.findings.Visit.{Visit}
-use Rattle.indexer.specs.Pieces.{IsFilesPiece, path_of}
+use Rattle.index_findings.specs.declared.findings.Fault.{Fault}
+use Rattle.index_findings.specs.declared.findings.Visit.{Visit}
+use Rattle.index_findings.specs.Pieces.{IsFilesPiece}
+use Rattle.index_findings.specs.Faults.{path_of}
 use Rattle.indexer.specs.Turns.{Worker, Run, HasCalled}
 use Rattle.indexer.specs.Walks.{IsVisit, MayFail, calls_with, mutex_of, CalledOnly, HasDone}
+use Rattle.index_findings.proofs.ToldLaws.{told_on, told_both, told_all}
 use Rattle.indexer.proofs.Turning.{back_on, back_as, passes_none}
-
--- what is told of one thing is told of another
-pub told_on : (tree : Option Told) (P Q : Told → Type 0) → ((t : Told) → P t → Q t) → IfSome tree P → IfSome tree Q
-told_on None P Q f h = h
-told_on (Some t) P Q f h = f t h
-
-pub told_both : (tree : Option Told) (P Q S : Told → Type 0) → ((t : Told) → P t → Q t → S t) → IfSome tree P → IfSome tree Q → IfSome tree S
-told_both None P Q S f h k = h
-told_both (Some t) P Q S f h k = f t h k
-
-pub told_all : (tree : Option Told) (P : Told → Type 0) → ((t : Told) → P t) → IfSome tree P
-told_all None P f = tt
-told_all (Some t) P f = f t
 
 calls_of : List Path → List Path → List Path → Calls
 calls_of listed read failed = record { listed = listed; files_read = read; failed = failed }

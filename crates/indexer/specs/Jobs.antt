@@ -6,7 +6,7 @@ use Rattle.firefly_outside.specs.Trees.{Path, Told, Calls}
 use Rattle.firefly_outside.specs.declared.tree.Kind.{Kind}
 use Rattle.firefly_outside.specs.declared.tree.Kind.TheVariants.{File, Dir}
 use Rattle.nub_rule.specs.Items.{Each}
-use Rattle.indexer.specs.declared.findings.Findings.{Findings}
+use Rattle.index_findings.specs.declared.findings.Findings.{Findings}
 use Rattle.indexer.specs.declared.job.Job.{Job}
 use Rattle.indexer.specs.Turns.{Worker, Run, HasCalled}
 use Rattle.indexer.specs.Walks.{HasDone}

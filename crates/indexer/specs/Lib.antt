@@ -8,7 +8,6 @@ pub mod Walks
 pub mod Lots
 pub mod Jobs
 pub mod Opening
-pub mod Gathered
 pub mod Runs
 pub mod Says
 pub mod Taken

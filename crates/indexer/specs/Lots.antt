@@ -1,30 +1,14 @@
--- Files that were read, on the way to their pieces.
-use Rattle.std.specs.Prelude.{◌≡◌, ℕ, List, [], Option, None, IfSome, Contains, All}
-use Rattle.firefly_outside.specs.Trees.{Path, Told, Calls, IsFile}
-use Rattle.firefly_outside.specs.declared.tree.FileBytes.{FileBytes}
+-- What a parser has done with the files that it read.
+use Rattle.std.specs.Prelude.{◌≡◌, ℕ, List, [], Option, None, All}
+use Rattle.firefly_outside.specs.Trees.{Path, Told, Calls}
 use Rattle.firefly_outside.specs.declared.tree.Kind.TheVariants.{File as FileKind}
-use Rattle.walker.specs.TreeIndex.{IsFileAt}
-use Rattle.indexer.specs.declared.findings.Fault.{Fault}
-use Rattle.indexer.specs.declared.lots.ReadFile.{ReadFile}
-use Rattle.word_index.specs.Batch.{Held, HoldsFiles}
-use Rattle.word_index.specs.Index.{File, Index}
-use Rattle.indexer.specs.Pieces.{IsFilesPiece}
+use Rattle.word_index.specs.Index.{Index}
+use Rattle.index_findings.specs.declared.findings.Fault.{Fault}
+use Rattle.index_findings.specs.declared.lots.ReadFile.{ReadFile}
+use Rattle.index_findings.specs.Lots.{AreRead}
+use Rattle.index_findings.specs.Pieces.{IsFilesPiece}
 use Rattle.indexer.specs.Turns.{Worker, Run, HasCalled}
 use Rattle.indexer.specs.Walks.{HasDone}
-
--- the file was read so, where the tree tells
-abbrev pub IsRead : Option Told → Path → FileBytes → Type 0
-IsRead tree path file = IfSome tree (λ t. IsFile t path file)
-
--- so was each of these
-abbrev pub AreRead : Option Told → List ReadFile → Type 0
-AreRead tree files = All (λ r. IsRead tree r.path r.file) files
-
--- the batch holds files that the tree has so below the root
-pub record HoldsRead (tree : Option Told) (root : Path) (held : Held) : Type 0 where
-  pub files : List File
-  pub holds : HoldsFiles files held
-  pub told : IfSome tree (λ t. (f : File) → Contains files f → IsFileAt t root f)
 
 -- the worker has called, and gave pieces on or kept them with others
 pub record HasGiven (tree : Option Told) (root : Path) (p : Run) (m : ℕ) (old new : List Index) (a b : Worker) : Type 0 where

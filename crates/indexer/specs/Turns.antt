@@ -10,7 +10,8 @@ use Rattle.nub.specs.Idle.{IsIdle}
 use Rattle.nub.specs.Rest.{AtRest, IsSame}
 use Rattle.word_index.specs.Index.{Index}
 use Rattle.indexer.specs.declared.value.IndexValue.{IndexValue}
-use Rattle.indexer.specs.Pieces.{IsFilesPiece, IsPieceItem, AllPut, AllTaken}
+use Rattle.index_findings.specs.Pieces.{IsFilesPiece}
+use Rattle.indexer.specs.Pieces.{IsPieceItem, AllPut, AllTaken}
 use Rattle.indexer.specs.Work.{Share, IsBehind}
 
 abbrev pub Worker : Type 0

@@ -7,9 +7,9 @@ use Rattle.firefly_outside.specs.declared.tree.Kind.{Kind}
 use Rattle.firefly_outside.specs.declared.tree.Kind.TheVariants.{File, Dir}
 use Rattle.walker.specs.Listings.{IsListingOf, IsToldBy}
 use Rattle.word_index.specs.Index.{Index}
-use Rattle.indexer.specs.declared.findings.Fault.{Fault}
-use Rattle.indexer.specs.declared.findings.Visit.{Visit}
-use Rattle.indexer.specs.Pieces.{path_of, kind_of}
+use Rattle.index_findings.specs.declared.findings.Fault.{Fault}
+use Rattle.index_findings.specs.declared.findings.Visit.{Visit}
+use Rattle.index_findings.specs.Faults.{path_of, kind_of}
 use Rattle.indexer.specs.Turns.{Worker, Run, ComesBack, release_count}
 
 -- the listing is one of its directory, and where the tree tells, the tree's own

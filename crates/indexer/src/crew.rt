@@ -7,12 +7,12 @@ ghost use Rattle.indexer.specs.Jobs.{GivesTree, HasCrew};
 ghost use Rattle.indexer.specs.Turns.{HasCalled, HasLists, IsBetween};
 
 use crate::ending::shut_all;
-use crate::findings::Findings;
 use crate::handing::{jobs_of, put_back};
 use crate::job::Job;
 use crate::uses::IndexUses;
 use crate::work::work;
 use firefly_outside::Tree;
+use index_findings::Findings;
 use nub_rule::{Package, Thread};
 use package_crew::{Gate, at_once_beside};
 use std::alloc::{AllocError, Global};

@@ -2,20 +2,18 @@
 ghost use Rattle.std.specs.Prelude.{◌≡◌, ◌+◌, ◌≤◌, ◌<◌, ℕ, length, slice_index_or, All, IfSome, Option, Some, None};
 ghost use Rattle.firefly_outside.specs.Trees.{Told};
 ghost use Rattle.walker.specs.Listings.{IsListingOf, IsToldBy};
-ghost use Rattle.indexer.specs.Gathered.{Ends};
-ghost use Rattle.indexer.specs.Pieces.{IsFilesPiece};
+ghost use Rattle.index_findings.specs.Gathered.{Ends};
+ghost use Rattle.index_findings.specs.Pieces.{IsFilesPiece};
 ghost use Rattle.indexer.specs.Plans.{IsPlan, layout_of};
 ghost use Rattle.indexer.specs.Says.{AllTell, HasCause, IndexSays, TreesAfter, answer_of};
 
 use crate::answer::IndexAnswer;
-use crate::deciding::decided;
-use crate::findings::Findings;
-use crate::gathering::gathered;
 use crate::handing::put_at;
 use crate::plan::Plan;
 use crate::running::worked_run;
 use crate::uses::IndexUses;
 use firefly_outside::Tree;
+use index_findings::{Findings, decided, gathered};
 use nub::Closed;
 use package_crew::Gate;
 use std::alloc::Global;

@@ -12,22 +12,14 @@
 
 mod answer;
 mod buffers;
-mod collecting;
 mod crew;
-mod deciding;
 mod dirs;
 mod ending;
-mod faults;
 mod files;
-mod findings;
-mod gathering;
 mod handing;
 mod indexing;
 mod job;
-mod joining;
-mod lots;
 mod mergers;
-mod merging;
 mod opening;
 mod parsing;
 mod pieces;

@@ -4,11 +4,10 @@ ghost use Rattle.firefly_outside.specs.Trees.{Path, Told};
 ghost use Rattle.indexer.specs.Turns.{HasCalled, HasLists, IsBetween, Worker};
 
 use crate::ending::cancel;
-use crate::findings::Findings;
-use crate::merging::{keep, merge_rest};
 use crate::pieces::next_piece;
 use crate::uses::IndexUses;
 use alerts::test_alert;
+use index_findings::{Findings, keep, merge_rest};
 use nub_rule::{Package, Thread};
 use std::alloc::Global;
 use std::sync::Wait;

@@ -3,19 +3,19 @@ ghost use Rattle.std.specs.Prelude.{◌≡◌, ℕ, [], All, Option, Some, None}
 ghost use Rattle.firefly_outside.specs.Trees.{Calls, Path, Told};
 ghost use Rattle.firefly_outside.specs.declared.tree.Kind.TheVariants.{File};
 ghost use Rattle.indexer.specs.Jobs.{GivesTree};
-ghost use Rattle.indexer.specs.Lots.{AreRead, HasGiven, HasParsed, HasPassed};
-ghost use Rattle.indexer.specs.Pieces.{IsFilesPiece};
+ghost use Rattle.index_findings.specs.Lots.{AreRead};
+ghost use Rattle.indexer.specs.Lots.{HasGiven, HasParsed, HasPassed};
+ghost use Rattle.index_findings.specs.Pieces.{IsFilesPiece};
 ghost use Rattle.indexer.specs.Turns.{HasLists, IsBetween, Run, Worker};
 ghost use Rattle.indexer.specs.Walks.{HasDone, fault_of};
 
 use crate::ending::cancel;
 use crate::files::next_file;
-use crate::findings::{Fault, Findings};
-use crate::lots::{Lot, pieces_of};
 use crate::pieces::{put_piece, shut_pieces};
 use crate::turns::end_parser;
 use crate::uses::IndexUses;
 use firefly_outside::{Text, Tree, TreeError};
+use index_findings::{Fault, Findings, Lot, pieces_of};
 use nub_rule::{Package, Thread};
 use std::alloc::Global;
 use std::sync::Wait;

@@ -2,7 +2,7 @@
 ghost use Rattle.std.specs.Prelude.{◌≡◌, ℕ, [], Option, IfSome};
 ghost use Rattle.std.specs.Option.{option_to_list};
 ghost use Rattle.firefly_outside.specs.Trees.{Path, Told};
-ghost use Rattle.indexer.specs.Pieces.{IsFilesPiece};
+ghost use Rattle.index_findings.specs.Pieces.{IsFilesPiece};
 ghost use Rattle.indexer.specs.Taken.{piece_of};
 ghost use Rattle.indexer.specs.Turns.{HasCalled, HasLists, IsBetween};
 

@@ -4,11 +4,11 @@ ghost use Rattle.indexer.specs.Plans.{IsPlan};
 ghost use Rattle.indexer.specs.Runs.{HasRun};
 
 use crate::crew::run_workers;
-use crate::findings::Findings;
 use crate::opening::open_run;
 use crate::plan::Plan;
 use crate::uses::IndexUses;
 use firefly_outside::Tree;
+use index_findings::Findings;
 use nub::{Closed, close_package};
 use package_crew::Gate;
 use std::alloc::{AllocError, Global};

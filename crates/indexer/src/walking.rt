@@ -1,5 +1,5 @@
 //! The work of a walker.
-ghost use Rattle.std.specs.Prelude.{◌≡◌, ℕ, [], ◌∷◌, ◌++◌, OnOk, OnErr, Option, Some, None};
+ghost use Rattle.std.specs.Prelude.{◌≡◌, ℕ, [], Option, Some, None};
 ghost use Rattle.firefly_outside.specs.Trees.{Calls, Path, Told};
 ghost use Rattle.firefly_outside.specs.declared.tree.Kind.TheVariants.{Dir};
 ghost use Rattle.indexer.specs.Jobs.{GivesTree};
@@ -8,36 +8,15 @@ ghost use Rattle.indexer.specs.Walks.{HasDone, fault_of};
 
 use crate::ending::cancel;
 use crate::files::{put_files, shut_files};
-use crate::findings::{Fault, Findings, Visit};
 use crate::turns::{finish_dir, next_dir, shut_dirs};
 use crate::uses::IndexUses;
 use alerts::test_alert;
 use firefly_outside::{Text, Tree, TreeError};
+use index_findings::{Fault, Findings, Visit, keep_listing};
 use nub_rule::{Package, Thread};
-use std::alloc::{AllocError, Global};
+use std::alloc::Global;
 use std::sync::Wait;
-use walker::{Listing, list_dir};
-
-// The directories and files of a listing, anew.
-fn found_in(listing: &Listing) -> Result<(Vec<Text>, Vec<Text>), AllocError> {
-    let dirs = listing.dirs.clone()?;
-    let files = listing.files.clone()?;
-    Ok((dirs, files))
-}
-
-// Keeps a listing, and gives the directories and files found there.
-fn keep_listing(
-    visits: &mut Vec<Visit>,
-    dir: Text,
-    listing: Listing,
-) -> Result<(Vec<Text>, Vec<Text>), AllocError>
-    ensures ok { OnOk result (visits.new.items ≡ visits.old.items ++ (record { dir = dir; listing = listing }) ∷ []) }
-    ensures err { OnErr result (visits.new.items ≡ visits.old.items) }
-{
-    let found = found_in(&listing)?;
-    visits.push(Visit { dir, listing })?;
-    Ok(found)
-}
+use walker::list_dir;
 
 // Lists one directory, keeps its listing, and gives the directories and files found there. An error names the directory where it failed,
 // and none where memory wants.

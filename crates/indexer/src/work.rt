@@ -3,13 +3,13 @@ ghost use Rattle.std.specs.Prelude.{Some};
 ghost use Rattle.indexer.specs.Jobs.{GivesTree};
 ghost use Rattle.indexer.specs.Turns.{HasLists, IsBetween};
 
-use crate::findings::Findings;
 use crate::job::Job;
 use crate::mergers::merge_all;
 use crate::parsing::parse;
 use crate::uses::IndexUses;
 use crate::walking::walk;
 use firefly_outside::{Kind, Tree};
+use index_findings::Findings;
 use nub_rule::{Package, Thread};
 use package_crew::Gate;
 use std::alloc::Global;

@@ -1,7 +1,7 @@
 use denote.Exit.{unseen}
 use denote.Param.Send.{Quiet-if, sendable}
 use mir.Syntax.{of_param}
-use Rattle.indexer.proofs.LotLaws.{if_ok_map}
+use Rattle.index_findings.proofs.LotLaws.{if_ok_map}
 use Rattle.indexer.proofs.crew.run_jobs.Goals as goal
 
 pub at_once_beside-requires-clause-threads : goal.at_once_beside-requires-clause-threads

@@ -1,6 +1,6 @@
 use Rattle.std.proofs.Common.{None, ap, sym, subst, ◌∙◌}
 use Rattle.std.proofs.lemmas.Option.{same_Some}
-use Rattle.indexer.specs.Gathered.{Ends}
+use Rattle.index_findings.specs.Gathered.{Ends}
 use Rattle.indexer.proofs.indexing.decided_at.Goals as goal
 
 pub decided-answer-requires-clause-told : goal.decided-answer-requires-clause-told

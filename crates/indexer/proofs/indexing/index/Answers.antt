@@ -2,8 +2,8 @@ use Rattle.std.proofs.Common.{◌+◌, ◌≤◌, length, Option, None, sym, sub
 use Rattle.std.specs.Prelude.{All, IfSome, slice_index_or}
 use Rattle.firefly_outside.specs.Trees.{Told}
 use Rattle.walker.specs.Listings.{IsToldBy}
-use Rattle.indexer.specs.declared.findings.Visit.{Visit}
-use Rattle.indexer.specs.Pieces.{IsFilesPiece}
+use Rattle.index_findings.specs.declared.findings.Visit.{Visit}
+use Rattle.index_findings.specs.Pieces.{IsFilesPiece}
 use Rattle.indexer.specs.Says.{HasCause, IndexSays, TreesAfter}
 use Rattle.indexer.specs.Walks.{IsVisit}
 use Rattle.indexer.proofs.SaysLaws.{all_visits, visits_lawful, visits_told, if_each, index_says, end_says}

@@ -4,7 +4,7 @@ use Rattle.std.specs.Option.{option_to_list}
 use Rattle.std.proofs.lemmas.List.Elements.{All-cons, All-head, All-nil, All-tail}
 use Rattle.firefly_outside.specs.Trees.{Path, Told}
 use Rattle.word_index.specs.Index.{Index}
-use Rattle.indexer.specs.Pieces.{IsFilesPiece}
+use Rattle.index_findings.specs.Pieces.{IsFilesPiece}
 use Rattle.indexer.specs.Turns.{HasCalled, Run, Worker}
 use Rattle.indexer.proofs.Turning.{called_idle, called_on, called_as, still_between}
 use Rattle.indexer.proofs.mergers.merge_once.Goals as goal

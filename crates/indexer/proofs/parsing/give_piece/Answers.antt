@@ -1,6 +1,6 @@
 use Rattle.std.proofs.Common.{[], ◌∷◌, All, sym, subst}
 use Rattle.std.proofs.lemmas.List.Elements.{All-append, All-cons, All-nil}
-use Rattle.indexer.specs.Pieces.{IsFilesPiece}
+use Rattle.index_findings.specs.Pieces.{IsFilesPiece}
 use Rattle.indexer.proofs.Turning.{called_then, still_between}
 use Rattle.indexer.proofs.parsing.give_piece.Goals as goal
 

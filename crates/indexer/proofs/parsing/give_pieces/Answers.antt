@@ -1,7 +1,7 @@
 use Rattle.std.proofs.Common.{[], All, sym, subst}
 use Rattle.std.specs.Vec.Iter.{into_iter_items}
 use Rattle.std.proofs.lemmas.List.Elements.{All-head, All-tail}
-use Rattle.indexer.specs.Pieces.{IsFilesPiece}
+use Rattle.index_findings.specs.Pieces.{IsFilesPiece}
 use Rattle.indexer.proofs.LotLaws.{given_none, given_then}
 use Rattle.indexer.proofs.Turning.{still_between}
 use Rattle.indexer.proofs.parsing.give_pieces.Goals as goal

@@ -1,13 +1,13 @@
 use Rattle.std.proofs.Common.{[], None, Option, sym, subst}
 use Rattle.firefly_outside.specs.Trees.{Told}
-use Rattle.indexer.specs.Lots.{AreRead}
+use Rattle.index_findings.specs.Lots.{AreRead}
 use Rattle.indexer.proofs.LotLaws.{parsed_all, parsed_between, parsed_none, parsed_on}
 use Rattle.indexer.proofs.parsing.parse.Goals as goal
 
 pub loop-init : goal.loop-init
 loop-init g c =
     let S = g.S.Tree in
-    parsed_none S.tree S.may_fail S.faults S.calls c.args.root.now c.args.p.now c.args.tree.now c.new-lot.result.files.items c.new-kept.result.items c.args.me.now c.new-lot.ensures c.new-kept.ensures.items
+    parsed_none S.tree S.may_fail S.faults S.calls c.args.root.now c.args.p.now c.args.tree.now c.new-lot.result.files.items c.new-kept.result.items c.args.me.now c.new-lot.ensures.files c.new-kept.ensures.items
 
 pub parse_once-requires-clause-between : goal.parse_once-requires-clause-between
 parse_once-requires-clause-between g c κs within =

@@ -1,7 +1,7 @@
 use Rattle.std.proofs.Common.{sym, subst}
 use Rattle.std.proofs.lemmas.List.Elements.{All-nil}
-use Rattle.indexer.specs.declared.lots.ReadFile.{ReadFile}
-use Rattle.indexer.specs.Lots.{AreRead, IsRead}
+use Rattle.index_findings.specs.declared.lots.ReadFile.{ReadFile}
+use Rattle.index_findings.specs.Lots.{AreRead, IsRead}
 use Rattle.indexer.proofs.LotLaws.{given_called, given_none}
 use Rattle.indexer.proofs.parsing.pass_lot.Goals as goal
 

@@ -5,11 +5,12 @@ use Rattle.std.proofs.Common.{ℕ, List, Some}
 use Rattle.firefly_outside.specs.declared.tree.FileBytes.{FileBytes}
 use Rattle.firefly_outside.specs.declared.tree.Kind.TheVariants.{File}
 use Rattle.firefly_outside.specs.declared.tree.TreeError.{TreeError}
-use Rattle.indexer.specs.declared.findings.Fault.TheVariants.{File as FileFault}
+use Rattle.index_findings.specs.declared.findings.Fault.TheVariants.{File as FileFault}
 use Rattle.indexer.specs.Walks.{MayFail, calls_with}
-use Rattle.indexer.proofs.WalkSteps.{told_on, done_more, done_fault, calls_read}
-use Rattle.indexer.specs.Lots.{AreRead}
-use Rattle.indexer.proofs.LotLaws.{read_more}
+use Rattle.index_findings.proofs.ToldLaws.{told_on}
+use Rattle.indexer.proofs.WalkSteps.{done_more, done_fault, calls_read}
+use Rattle.index_findings.specs.Lots.{AreRead}
+use Rattle.index_findings.proofs.LotLaws.{read_more}
 use Rattle.indexer.proofs.parsing.read_one.Goals as goal
 
 pub returns-in-Err-Failed-clause-done : goal.returns-in-Err-Failed-clause-done
@@ -89,4 +90,4 @@ returns-in-Ok-add-clause-read g c = λ read.
     (told_on tree (λ t. IsFile t text c.in-Ok.file × (g.S.Tree.calls c.read.new.self ≡ record calls { files_read = calls.files_read ++ text ∷ [] })) (λ t. IsFile t text c.in-Ok.file) (λ t q. q.0) c.in-Ok.ensures.told) read
 
 pub returns-in-Err-clause-read : goal.returns-in-Err-clause-read
-returns-in-Err-clause-read g c = λ read. subst (AreRead (g.S.Tree.tree c.args.tree.now)) (sym c.in-Err.ensures.refused) read
+returns-in-Err-clause-read g c = λ read. subst (AreRead (g.S.Tree.tree c.args.tree.now)) (sym c.in-Err.ensures.refused.0) read

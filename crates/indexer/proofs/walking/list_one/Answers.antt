@@ -6,9 +6,10 @@ use Rattle.firefly_outside.specs.declared.tree.Kind.TheVariants.{Dir}
 use Rattle.firefly_outside.specs.declared.tree.TreeError.{TreeError}
 use Rattle.walker.specs.Listings.{IsToldBy, ListsDir, with_listed}
 use Rattle.walker.specs.declared.listing.Listing.{Listing}
-use Rattle.indexer.specs.declared.findings.Fault.TheVariants.{Dir as DirFault}
+use Rattle.index_findings.specs.declared.findings.Fault.TheVariants.{Dir as DirFault}
 use Rattle.indexer.specs.Walks.{IsVisit, MayFail, calls_with}
-use Rattle.indexer.proofs.WalkSteps.{told_on, calls_listed, done_more, done_fault, visits_more}
+use Rattle.index_findings.proofs.ToldLaws.{told_on}
+use Rattle.indexer.proofs.WalkSteps.{calls_listed, done_more, done_fault, visits_more}
 use Rattle.indexer.proofs.walking.list_one.Goals as goal
 
 pub returns-in-Ok-keep_listing : goal.returns-in-Ok-keep_listing

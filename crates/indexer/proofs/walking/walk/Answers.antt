@@ -1,7 +1,7 @@
 use Rattle.std.proofs.Common.{◌∙◌, [], List, None, refl, sym, subst}
 use Rattle.firefly_outside.specs.declared.tree.Kind.TheVariants.{Dir}
 use Rattle.word_index.specs.Index.{Index}
-use Rattle.indexer.specs.declared.findings.Visit.{Visit}
+use Rattle.index_findings.specs.declared.findings.Visit.{Visit}
 use Rattle.indexer.specs.Walks.{HasDone}
 use Rattle.indexer.proofs.Turning.{still_between}
 use Rattle.indexer.proofs.WalkSteps.{done_along, done_none}

@@ -1,0 +1,4 @@
+pub mod ToldLaws
+pub mod PieceLaws
+pub mod LotLaws
+pub mod GatherLaws

@@ -1,0 +1,8 @@
+use Rattle.index_findings.proofs.PieceLaws.{merged_on}
+use Rattle.index_findings.proofs.merging.merge_rest.Goals as goal
+
+pub loop-preserved : goal.loop-preserved
+loop-preserved c = merged_on c.args.kept.now.items c.loop.kept.items c.merge_last.new.kept.items c.loop.invariant c.merge_last.ensures.merged
+
+pub returns : goal.returns
+returns c = merged_on c.args.kept.now.items c.loop.kept.items c.merge_last.new.kept.items c.loop.invariant c.merge_last.ensures.merged

@@ -1,0 +1,4 @@
+pub mod Pieces
+pub mod Lots
+pub mod Faults
+pub mod Gathered

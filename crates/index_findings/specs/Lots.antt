@@ -1,0 +1,27 @@
+-- Files that were read, on the way to their pieces.
+use Rattle.std.specs.Prelude.{◌<◌, ◌≤◌, ◌⊎◌, Bool, List, Option, IfSome, IsTrue, Contains, All, vec_len}
+use Rattle.firefly_outside.specs.Trees.{Path, Told, IsFile}
+use Rattle.firefly_outside.specs.declared.tree.FileBytes.{FileBytes}
+use Rattle.walker.specs.TreeIndex.{IsFileAt}
+use Rattle.word_index.specs.Batch.{Held, HoldsFiles}
+use Rattle.word_index.specs.Index.{File}
+use Rattle.index_findings.specs.declared.lots.Lot.{Lot}
+use Rattle.index_findings.specs.declared.lots.ReadFile.{ReadFile}
+
+-- the file was read so, where the tree tells
+abbrev pub IsRead : Option Told → Path → FileBytes → Type 0
+IsRead tree path file = IfSome tree (λ t. IsFile t path file)
+
+-- so was each of these
+abbrev pub AreRead : Option Told → List ReadFile → Type 0
+AreRead tree files = All (λ r. IsRead tree r.path r.file) files
+
+-- pieces are to be made of the lot: it has files, and enough of them or of their bytes, or no more are to come
+abbrev pub IsDue : Lot → Bool → Type 0
+IsDue lot last = (0 < vec_len lot.files) × (IsTrue last ⊎ (512 ≤ vec_len lot.files) ⊎ (1048576 ≤ lot.bytes))
+
+-- the batch holds files that the tree has so below the root
+pub record HoldsRead (tree : Option Told) (root : Path) (held : Held) : Type 0 where
+  pub files : List File
+  pub holds : HoldsFiles files held
+  pub told : IfSome tree (λ t. (f : File) → Contains files f → IsFileAt t root f)

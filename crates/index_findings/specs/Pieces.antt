@@ -1,0 +1,30 @@
+-- Pieces of the index of a tree.
+use Rattle.std.specs.Prelude.{List, Option, IfSome, Contains, All, ◌↔◌}
+use Rattle.firefly_outside.specs.Trees.{Path, Told}
+use Rattle.walker.specs.TreeIndex.{IsFileAt}
+use Rattle.word_index.specs.Index.{File, Index, IsIndexOf}
+
+-- the piece is the index of files that the tree has so below the root
+pub record IsFilesPiece (tree : Option Told) (root : Path) (piece : Index) : Type 0 where
+  pub files : List File
+  pub index : IsIndexOf files piece
+  pub told : IfSome tree (λ t. (f : File) → Contains files f → IsFileAt t root f)
+
+-- one of the pieces covers the path
+pub record IsCovered (pieces : List Index) (path : Path) : Type 0 where
+  pub piece : Index
+  pub among : Contains pieces piece
+  pub covers : Contains piece.paths path
+
+-- what pieces become by being merged: they are of files such as those before were of, and cover the same paths
+pub record AreMergedFrom (old new : List Index) : Type 0 where
+  pub files : (tree : Option Told) (root : Path) → All (IsFilesPiece tree root) old → All (IsFilesPiece tree root) new
+  pub covers : (path : Path) → IsCovered new path ↔ IsCovered old path
+
+-- the piece is of files such as both are of
+abbrev pub JoinsFiles : Index → Index → Index → Type 0
+JoinsFiles a b both = (tree : Option Told) (root : Path) → IsFilesPiece tree root a → IsFilesPiece tree root b → IsFilesPiece tree root both
+
+-- each of these paths is covered by one of the pieces
+abbrev pub AreAllCovered : List Path → List Index → Type 0
+AreAllCovered paths pieces = (path : Path) → Contains paths path → IsCovered pieces path

@@ -1,0 +1,81 @@
+//! The answer of a run, after its workers have ended.
+ghost use Rattle.std.specs.Prelude.{◌≡◌, ◌≤◌, All, IfSome};
+ghost use Rattle.index_findings.specs.Gathered.{Ends, EndsByWalk};
+ghost use Rattle.index_findings.specs.Pieces.{IsFilesPiece};
+ghost use Rattle.walker.specs.Listings.{IsListingOf, IsToldBy};
+ghost use Rattle.walker.specs.Walk.{IsWalkOf};
+
+use crate::collecting::collected;
+use crate::faults::fault_answer;
+use crate::findings::Findings;
+use crate::joining::found_part;
+use firefly_outside::Tree;
+use std::alloc::Global;
+use walker::{WalkAnswer, Walked, close_walk};
+use word_index::Piece;
+
+/// The answer of the closing walk over what the workers listed and the pieces that they made; or the path that failed, where these
+/// listings show that it was found. Where they don't, the listing that names it was lost for want of memory.
+pub fn decided<S: Tree>(
+    alloc: Global,
+    root: &str,
+    tree: &mut S,
+    found: Findings,
+    stop_after: Option<u64>,
+) -> WalkAnswer
+    requires lawful { All (λ v. IsListingOf v.dir v.listing) found.visits.items }
+    requires told { IfSome (S.tree tree.old) (λ t. All (λ v. IsToldBy t v.dir v.listing) found.visits.items) }
+    requires pieces { All (IsFilesPiece (S.tree tree.old) root.now) found.pieces.items }
+    requires stop { IfSome stop_after (λ n. n ≤ 1000000000) }
+    ensures tree_stays { S.tree tree.new ≡ S.tree tree.old }
+    ensures weak_stays { S.may_fail tree.new ≡ S.may_fail tree.old }
+    ensures ends { Ends (S.tree tree.old) (S.may_fail tree.old) root.now stop_after found.fault (S.faults tree.old) (S.faults tree.new)
+        (S.calls tree.old) (S.calls tree.new) result }
+{
+    let Findings {
+        visits,
+        pieces,
+        fault,
+    } = found;
+    let Ok(walked) = collected(alloc, root, visits) else {
+        drop(pieces);
+        drop(fault);
+        return WalkAnswer::Memory;
+    };
+    match fault {
+        Some(fault) => {
+            drop(pieces);
+            let answer = fault_answer(&walked, fault);
+            drop(walked);
+            answer
+        }
+        None => closed(alloc, root, tree, walked, pieces, stop_after),
+    }
+}
+
+// The answer of the closing walk over this walk and these pieces.
+fn closed<S: Tree>(
+    alloc: Global,
+    root: &str,
+    tree: &mut S,
+    walked: Walked,
+    pieces: Vec<Piece>,
+    stop_after: Option<u64>,
+) -> WalkAnswer
+    requires root { walked.root ≡ root.now }
+    requires told { IfSome (S.tree tree.old) (IsWalkOf walked) }
+    requires pieces { All (IsFilesPiece (S.tree tree.old) root.now) pieces.items }
+    requires stop { IfSome stop_after (λ n. n ≤ 1000000000) }
+    ensures tree_stays { S.tree tree.new ≡ S.tree tree.old }
+    ensures weak_stays { S.may_fail tree.new ≡ S.may_fail tree.old }
+    ensures ends { EndsByWalk (S.tree tree.old) (S.may_fail tree.old) root.now stop_after (S.faults tree.old) (S.faults tree.new)
+        (S.calls tree.old) (S.calls tree.new) result }
+{
+    match found_part(alloc, &walked, pieces) {
+        Ok(piece) => close_walk(alloc, tree, root, walked, piece, stop_after),
+        Err(_) => {
+            drop(walked);
+            WalkAnswer::Memory
+        }
+    }
+}

@@ -1,0 +1,33 @@
+//! What each worker came by, put together.
+ghost use Rattle.std.specs.Prelude.{◌≡◌, IfOk};
+ghost use Rattle.std.specs.List.{flat_map};
+ghost use Rattle.index_findings.specs.Gathered.{first_fault};
+
+use crate::findings::Findings;
+use std::alloc::{AllocError, Global};
+
+/// All listings and all pieces, one worker's after the other's, and the first path that failed.
+pub fn gathered(alloc: Global, findings: Vec<Findings>) -> Result<Findings, AllocError>
+    ensures visits { IfOk result (λ r. r.visits.items ≡ flat_map (λ f. f.visits.items) findings.items) }
+    ensures pieces { IfOk result (λ r. r.pieces.items ≡ flat_map (λ f. f.pieces.items) findings.items) }
+    ensures fault { IfOk result (λ r. r.fault ≡ first_fault findings.items) }
+{
+    let mut visits = Vec::new(alloc);
+    let mut pieces = Vec::new(alloc);
+    let mut fault = None;
+    for found in findings {
+        let Findings {
+            visits: mut more,
+            pieces: mut made,
+            fault: failed,
+        } = found;
+        fault = fault.or(failed);
+        visits.append(&mut more)?;
+        pieces.append(&mut made)?;
+    }
+    Ok(Findings {
+        visits,
+        pieces,
+        fault,
+    })
+}
