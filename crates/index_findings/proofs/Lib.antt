@@ -1,4 +1,5 @@
 pub mod ToldLaws
 pub mod PieceLaws
 pub mod LotLaws
+pub mod CoverLaws
 pub mod GatherLaws

@@ -1,12 +1,13 @@
 -- Files that were read, on the way to their pieces.
-use Rattle.std.specs.Prelude.{◌<◌, ◌≤◌, ◌⊎◌, Bool, List, Option, IfSome, IsTrue, Contains, All, vec_len}
-use Rattle.firefly_outside.specs.Trees.{Path, Told, IsFile}
+use Rattle.std.specs.Prelude.{◌≡◌, ◌<◌, ◌≤◌, ◌⊎◌, Bool, List, Option, IfSome, IsTrue, Contains, All, vec_len}
+use Rattle.firefly_outside.specs.Trees.{Path, Told, IsFile, child}
 use Rattle.firefly_outside.specs.declared.tree.FileBytes.{FileBytes}
 use Rattle.walker.specs.TreeIndex.{IsFileAt}
 use Rattle.word_index.specs.Batch.{Held, HoldsFiles}
-use Rattle.word_index.specs.Index.{File}
+use Rattle.word_index.specs.Index.{File, Index}
 use Rattle.index_findings.specs.declared.lots.Lot.{Lot}
 use Rattle.index_findings.specs.declared.lots.ReadFile.{ReadFile}
+use Rattle.index_findings.specs.Pieces.{IsCovered}
 
 -- the file was read so, where the tree tells
 abbrev pub IsRead : Option Told → Path → FileBytes → Type 0
@@ -19,6 +20,16 @@ AreRead tree files = All (λ r. IsRead tree r.path r.file) files
 -- pieces are to be made of the lot: it has files, and enough of them or of their bytes, or no more are to come
 abbrev pub IsDue : Lot → Bool → Type 0
 IsDue lot last = (0 < vec_len lot.files) × (IsTrue last ⊎ (512 ≤ vec_len lot.files) ⊎ (1048576 ≤ lot.bytes))
+
+-- the file of one of these lies at this path below the root
+pub record IsReadAt (root : Path) (files : List ReadFile) (path : Path) : Type 0 where
+  pub read : ReadFile
+  pub among : Contains files read
+  pub is : read.path ≡ child root path
+
+-- one of the pieces covers the path, or a file of the batch has it
+abbrev pub IsHeldAt : List Index → Held → Path → Type 0
+IsHeldAt pieces held path = IsCovered pieces path ⊎ Contains held.paths path
 
 -- the batch holds files that the tree has so below the root
 pub record HoldsRead (tree : Option Told) (root : Path) (held : Held) : Type 0 where

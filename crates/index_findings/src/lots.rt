@@ -1,8 +1,10 @@
 //! Files that were read, on the way to their pieces.
-ghost use Rattle.std.specs.Prelude.{◌≡◌, ◌+◌, ◌-◌, ◌^◌, ◌++◌, ◌∷◌, ◌↔◌, [], min, vec_len, All, IfOk, OnOk, OnErr, IsTrue, Option};
-ghost use Rattle.firefly_outside.specs.Trees.{Path, Told};
-ghost use Rattle.index_findings.specs.Pieces.{IsFilesPiece};
-ghost use Rattle.index_findings.specs.Lots.{AreRead, HoldsRead, IsDue, IsRead};
+ghost use Rattle.std.specs.Prelude.{◌≡◌, ◌+◌, ◌-◌, ◌^◌, ◌++◌, ◌∷◌, ◌↔◌, ◌⊎◌, [], List, min, vec_len, All, IfOk, OnOk, OnErr, IsTrue, Option};
+ghost use Rattle.firefly_outside.specs.Trees.{Path, Told, child};
+ghost use Rattle.word_index.specs.Batch.{HoldsFiles};
+ghost use Rattle.word_index.specs.Index.{File};
+ghost use Rattle.index_findings.specs.Pieces.{IsCovered, IsFilesPiece};
+ghost use Rattle.index_findings.specs.Lots.{AreRead, HoldsRead, IsDue, IsHeldAt, IsRead, IsReadAt};
 
 use firefly_outside::{FileBytes, Text};
 use std::alloc::{AllocError, Global};
@@ -75,8 +77,10 @@ impl Lot {
 
 // The piece of a batch, behind the others.
 fn put_batch(pieces: &mut Vec<Piece>, batch: Batch) -> Result<(), AllocError>
-    ensures { OnOk result ((o : Option Told) (root : Path) → HoldsRead o root batch → All (IsFilesPiece o root) pieces.old.items
+    ensures pieces { OnOk result ((o : Option Told) (root : Path) → HoldsRead o root batch → All (IsFilesPiece o root) pieces.old.items
         → All (IsFilesPiece o root) pieces.new.items) }
+    ensures covers { OnOk result ((files : List File) → HoldsFiles files batch → (path : Path)
+        → IsCovered pieces.new.items path ↔ IsHeldAt pieces.old.items batch path) }
 {
     let piece = batch.into_piece()?;
     pieces.push(piece)?;
@@ -96,6 +100,8 @@ fn add_file(
         → All (IsFilesPiece o root.now) pieces.new.items) }
     ensures batch { IfOk result (λ b. (o : Option Told) → HoldsRead o root.now batch → IsRead o read.now.path read.now.file
         → HoldsRead o root.now b) }
+    ensures covers { IfOk result (λ b. (files : List File) → HoldsFiles files batch → (path : Path)
+        → IsHeldAt pieces.new.items b path ↔ (IsHeldAt pieces.old.items batch path ⊎ (read.now.path ≡ child root.now path))) }
 {
     let Some(name) = below(root, read.path.as_str()) else {
         return Ok(batch);
@@ -107,13 +113,14 @@ fn add_file(
     Batch::new(alloc).add(name, &read.file)
 }
 
-/// The pieces of these files, in the order of their paths.
+/// The pieces of these files, in the order of their paths: they cover the paths below the root of those that lie there.
 pub fn pieces_of(
     alloc: Global,
     root: &str,
     mut lot: Vec<ReadFile>,
 ) -> Result<Vec<Piece>, AllocError>
-    ensures { IfOk result (λ ps. (o : Option Told) → AreRead o lot.items → All (IsFilesPiece o root.now) ps.items) }
+    ensures files { IfOk result (λ ps. (o : Option Told) → AreRead o lot.items → All (IsFilesPiece o root.now) ps.items) }
+    ensures covers { IfOk result (λ ps. (path : Path) → IsCovered ps.items path ↔ IsReadAt root.now lot.items path) }
 {
     lot.sort_by(|a, b| a.path.cmp(&b.path))?;
     let mut pieces = Vec::new(alloc);

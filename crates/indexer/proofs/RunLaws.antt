@@ -14,10 +14,10 @@ use Rattle.nub.specs.Idle.{IsIdle}
 use Rattle.nub.proofs.Users.{from_at, idle_first, idle_done, share_of}
 use Rattle.word_index.specs.Index.{Index}
 use Rattle.index_findings.specs.declared.findings.Findings.{Findings}
+use Rattle.index_findings.specs.Pieces.{IsFilesPiece}
 use Rattle.indexer.specs.declared.value.IndexItem.{IndexItem}
 use Rattle.indexer.specs.declared.value.IndexValue.{IndexValue}
 use Rattle.indexer.specs.Jobs.{GivesTree, HasWorked, kind_at, tree_at}
-use Rattle.index_findings.specs.Pieces.{IsFilesPiece}
 use Rattle.indexer.specs.Pieces.{IsPieceItem, AllPut, AllTaken}
 use Rattle.indexer.specs.Runs.{IsFoundBy}
 use Rattle.indexer.specs.Says.{AllTell}

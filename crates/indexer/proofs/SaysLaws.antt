@@ -15,18 +15,18 @@ use Rattle.walker.specs.declared.answer.WalkAnswer.TheVariants.{Done, Stopped, R
 use Rattle.index_findings.specs.declared.findings.Fault.{Fault}
 use Rattle.index_findings.specs.declared.findings.Findings.{Findings}
 use Rattle.index_findings.specs.declared.findings.Visit.{Visit}
+use Rattle.index_findings.specs.Gathered.{Ends, EndsByWalk}
+use Rattle.index_findings.specs.Faults.{path_of, kind_of}
+use Rattle.index_findings.proofs.ToldLaws.{told_on}
 use Rattle.indexer.specs.declared.plan.Plan.{Plan}
 use Rattle.indexer.specs.declared.value.IndexValue.{IndexValue}
-use Rattle.index_findings.specs.Gathered.{Ends, EndsByWalk}
 use Rattle.indexer.specs.Jobs.{GivesTree, kind_at, tree_at}
-use Rattle.index_findings.specs.Faults.{path_of, kind_of}
 use Rattle.indexer.specs.Runs.{IsFoundBy}
 use Rattle.indexer.specs.Says.{AllTell, IndexSays, IsRunOf, WalkSays, answer_of}
 use Rattle.indexer.specs.Turns.{Worker, Run}
 use Rattle.indexer.specs.Work.{Share}
 use Rattle.indexer.specs.Walks.{IsVisit}
 use Rattle.indexer.proofs.RunLaws.{tree_of}
-use Rattle.index_findings.proofs.ToldLaws.{told_on}
 
 module _ {S : Type 0} (tree : S → Option Told) (weak : S → List Path) (faults : S → ℕ) (calls : S → Calls) (root : Path) where
   gives_visits : (p : Run) (kind : Kind) (a b : Worker) (f : Findings) (given got : Option S) (o : Option Told) → GivesTree tree weak faults calls root p kind a b f given got → ((s : S) → given ≡ Some s → tree s ≡ o)

@@ -20,17 +20,17 @@ use Rattle.walker.specs.declared.answer.WalkAnswer.TheVariants.{Done, Stopped, R
 use Rattle.word_index.specs.Index.{Index}
 use Rattle.index_findings.specs.declared.findings.Fault.{Fault}
 use Rattle.index_findings.specs.declared.findings.Findings.{Findings}
-use Rattle.indexer.specs.declared.value.IndexValue.{IndexValue}
 use Rattle.index_findings.specs.Gathered.{first_fault, Ends}
-use Rattle.indexer.specs.Jobs.{GivesTree, kind_at, tree_at}
 use Rattle.index_findings.specs.Faults.{path_of, kind_of}
+use Rattle.index_findings.proofs.ToldLaws.{told_on, told_both}
+use Rattle.indexer.specs.declared.value.IndexValue.{IndexValue}
+use Rattle.indexer.specs.Jobs.{GivesTree, kind_at, tree_at}
 use Rattle.indexer.specs.Runs.{IsFoundBy}
 use Rattle.indexer.specs.Says.{AllTell, OnlyCalls, AreBack, IsUsedBy, AreUsed, HasCause, IsCausedAt, FailsSince, TreesAfter, answer_of}
 use Rattle.indexer.specs.Turns.{Worker, Run, release_count}
 use Rattle.indexer.specs.Walks.{HasDone, FaultCounts, CalledOnly, MayFail, calls_with}
 use Rattle.indexer.specs.Work.{Share}
 use Rattle.indexer.proofs.RunLaws.{some_at}
-use Rattle.index_findings.proofs.ToldLaws.{told_on, told_both}
 
 fault_count : (a b : ℕ) (fault : Option Fault) → FaultCounts a b fault → a ≤ b
 fault_count a b None h = omega (arith, h)

@@ -21,11 +21,11 @@ use Rattle.nub.specs.Idle.{IsIdle}
 use Rattle.nub.specs.Rest.{AtRest, Adds, IsSame}
 use Rattle.nub.proofs.Users.{idle_again}
 use Rattle.word_index.specs.Index.{Index}
+use Rattle.index_findings.specs.Pieces.{IsFilesPiece}
 use Rattle.indexer.specs.declared.value.IndexItem.{IndexItem}
 use Rattle.indexer.specs.declared.value.IndexItem.TheVariants.{File as FileItem, Piece as PieceItem}
 use Rattle.indexer.specs.declared.value.IndexValue.{IndexValue}
 use Rattle.indexer.specs.declared.value.IndexValue.TheVariants.{Dirs, Ring}
-use Rattle.index_findings.specs.Pieces.{IsFilesPiece}
 use Rattle.indexer.specs.Pieces.{IsPieceItem}
 use Rattle.indexer.specs.Work.{Share, IsBehind, MayChange}
 use Rattle.indexer.specs.Turns.{Worker, Run, releases, release_count, Passes, ComesBack, HasCalled, HasList, IsBetween}

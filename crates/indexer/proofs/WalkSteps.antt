@@ -13,9 +13,9 @@ use Rattle.index_findings.specs.declared.findings.Fault.{Fault}
 use Rattle.index_findings.specs.declared.findings.Visit.{Visit}
 use Rattle.index_findings.specs.Pieces.{IsFilesPiece}
 use Rattle.index_findings.specs.Faults.{path_of}
+use Rattle.index_findings.proofs.ToldLaws.{told_on, told_both, told_all}
 use Rattle.indexer.specs.Turns.{Worker, Run, HasCalled}
 use Rattle.indexer.specs.Walks.{IsVisit, MayFail, calls_with, mutex_of, CalledOnly, HasDone}
-use Rattle.index_findings.proofs.ToldLaws.{told_on, told_both, told_all}
 use Rattle.indexer.proofs.Turning.{back_on, back_as, passes_none}
 
 calls_of : List Path → List Path → List Path → Calls

@@ -9,10 +9,10 @@ use Rattle.larch_actions.specs.declared.event.Event.{Event}
 use Rattle.nub.specs.Ended.{Ended, IsWhole}
 use Rattle.nub_rule.specs.Items.{Each}
 use Rattle.index_findings.specs.declared.findings.Findings.{Findings}
+use Rattle.index_findings.specs.Pieces.{IsFilesPiece}
 use Rattle.indexer.specs.declared.plan.Plan.{Plan}
 use Rattle.indexer.specs.declared.value.IndexValue.{IndexValue}
 use Rattle.indexer.specs.Jobs.{GivesTree, kind_at, tree_at}
-use Rattle.index_findings.specs.Pieces.{IsFilesPiece}
 use Rattle.indexer.specs.Plans.{layout_of}
 use Rattle.indexer.specs.Says.{AllTell}
 use Rattle.indexer.specs.Turns.{Worker, Run}

@@ -9,8 +9,8 @@ use Rattle.nub_rule.specs.Known.{Known, Shape, Holds}
 use Rattle.nub.specs.Idle.{IsIdle}
 use Rattle.nub.specs.Rest.{AtRest, IsSame}
 use Rattle.word_index.specs.Index.{Index}
-use Rattle.indexer.specs.declared.value.IndexValue.{IndexValue}
 use Rattle.index_findings.specs.Pieces.{IsFilesPiece}
+use Rattle.indexer.specs.declared.value.IndexValue.{IndexValue}
 use Rattle.indexer.specs.Pieces.{IsPieceItem, AllPut, AllTaken}
 use Rattle.indexer.specs.Work.{Share, IsBehind}
 

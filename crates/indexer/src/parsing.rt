@@ -2,10 +2,10 @@
 ghost use Rattle.std.specs.Prelude.{◌≡◌, ℕ, [], All, Option, Some, None};
 ghost use Rattle.firefly_outside.specs.Trees.{Calls, Path, Told};
 ghost use Rattle.firefly_outside.specs.declared.tree.Kind.TheVariants.{File};
-ghost use Rattle.indexer.specs.Jobs.{GivesTree};
 ghost use Rattle.index_findings.specs.Lots.{AreRead};
-ghost use Rattle.indexer.specs.Lots.{HasGiven, HasParsed, HasPassed};
 ghost use Rattle.index_findings.specs.Pieces.{IsFilesPiece};
+ghost use Rattle.indexer.specs.Jobs.{GivesTree};
+ghost use Rattle.indexer.specs.Lots.{HasGiven, HasParsed, HasPassed};
 ghost use Rattle.indexer.specs.Turns.{HasLists, IsBetween, Run, Worker};
 ghost use Rattle.indexer.specs.Walks.{HasDone, fault_of};
 

@@ -1,8 +1,8 @@
 use Rattle.std.proofs.Common.{All, ℕ, Option}
 use Rattle.std.specs.Vec.Iter.{into_iter_items}
 use Rattle.firefly_outside.specs.Trees.{Path, Told}
-use Rattle.indexer.specs.Lots.{HasGiven}
 use Rattle.index_findings.specs.Pieces.{IsFilesPiece}
+use Rattle.indexer.specs.Lots.{HasGiven}
 use Rattle.indexer.proofs.parsing.give_pieces.Given as goal
 
 abbrev pub invariant-loop-piece : goal.invariant-loop-piece

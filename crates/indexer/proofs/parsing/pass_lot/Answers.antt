@@ -8,12 +8,12 @@ use Rattle.indexer.proofs.parsing.pass_lot.Goals as goal
 pub give_pieces-requires-clause-pieces : goal.give_pieces-requires-clause-pieces
 give_pieces-requires-clause-pieces g c =
     let o = c.requires.read.0 in
-    (o, c.args.root.now, c.in-Ok.ensures o (subst (AreRead o) (sym c.taken.ensures.files) c.requires.read.1))
+    (o, c.args.root.now, c.in-Ok.ensures.files o (subst (AreRead o) (sym c.taken.ensures.files) c.requires.read.1))
 
 pub returns-in-Ok : goal.returns-in-Ok
 returns-in-Ok g c = λ o m read. record {
   read = subst (AreRead o) (sym c.taken.ensures.empty) (All-nil (λ (r : ReadFile). IsRead o r.path r.file));
-  given = c.give_pieces.ensures o c.args.root.now m (c.in-Ok.ensures o (subst (AreRead o) (sym c.taken.ensures.files) read));
+  given = c.give_pieces.ensures o c.args.root.now m (c.in-Ok.ensures.files o (subst (AreRead o) (sym c.taken.ensures.files) read));
 }
 
 pub returns-in-Err : goal.returns-in-Err

@@ -6,11 +6,11 @@ use Rattle.firefly_outside.specs.declared.tree.FileBytes.{FileBytes}
 use Rattle.firefly_outside.specs.declared.tree.Kind.TheVariants.{File}
 use Rattle.firefly_outside.specs.declared.tree.TreeError.{TreeError}
 use Rattle.index_findings.specs.declared.findings.Fault.TheVariants.{File as FileFault}
-use Rattle.indexer.specs.Walks.{MayFail, calls_with}
-use Rattle.index_findings.proofs.ToldLaws.{told_on}
-use Rattle.indexer.proofs.WalkSteps.{done_more, done_fault, calls_read}
 use Rattle.index_findings.specs.Lots.{AreRead}
+use Rattle.index_findings.proofs.ToldLaws.{told_on}
 use Rattle.index_findings.proofs.LotLaws.{read_more}
+use Rattle.indexer.specs.Walks.{MayFail, calls_with}
+use Rattle.indexer.proofs.WalkSteps.{done_more, done_fault, calls_read}
 use Rattle.indexer.proofs.parsing.read_one.Goals as goal
 
 pub returns-in-Err-Failed-clause-done : goal.returns-in-Err-Failed-clause-done

@@ -7,8 +7,8 @@ use Rattle.firefly_outside.specs.declared.tree.TreeError.{TreeError}
 use Rattle.walker.specs.Listings.{IsToldBy, ListsDir, with_listed}
 use Rattle.walker.specs.declared.listing.Listing.{Listing}
 use Rattle.index_findings.specs.declared.findings.Fault.TheVariants.{Dir as DirFault}
-use Rattle.indexer.specs.Walks.{IsVisit, MayFail, calls_with}
 use Rattle.index_findings.proofs.ToldLaws.{told_on}
+use Rattle.indexer.specs.Walks.{IsVisit, MayFail, calls_with}
 use Rattle.indexer.proofs.WalkSteps.{calls_listed, done_more, done_fault, visits_more}
 use Rattle.indexer.proofs.walking.list_one.Goals as goal
 
