@@ -1,10 +1,4 @@
-pub mod Statuses
-pub mod Changes
 pub mod Looks
-pub mod Texts
-pub mod Endings
-pub mod Traces
-pub mod Check
 pub mod IndexRun
 pub mod IndexCommand
 pub mod TraceCommand

@@ -1,11 +1,11 @@
 -- What the top call answers.
 use Rattle.std.specs.Prelude.{◌≡◌, List, Option}
 use Rattle.command_line.specs.Grammar.{Task, check, run, index, trace, sample}
-use Rattle.firefly.specs.declared.status.Status.{Status}
-use Rattle.firefly.specs.declared.status.Status.TheVariants.{Usage, Memory}
-use Rattle.firefly.specs.Changes.{Change, IsStill, Notes}
-use Rattle.firefly.specs.Texts.{usage_message, memory_message}
-use Rattle.firefly.specs.Check.{CheckAnswers}
+use Rattle.firefly_check.specs.declared.status.Status.{Status}
+use Rattle.firefly_check.specs.declared.status.Status.TheVariants.{Usage, Memory}
+use Rattle.firefly_check.specs.Changes.{Change, IsStill, Notes}
+use Rattle.firefly_check.specs.Texts.{usage_message, memory_message}
+use Rattle.firefly_check.specs.Check.{CheckAnswers}
 use Rattle.firefly.specs.RunCommand.{RunAnswers}
 use Rattle.firefly.specs.Looks.{Look}
 use Rattle.firefly.specs.IndexCommand.{IndexAnswers}

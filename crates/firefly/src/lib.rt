@@ -4,23 +4,17 @@
 //! failed, or nothing. Stands on the crates of the commands. It does not say what the objects handed in do.
 #![tactic(auto)]
 
-mod check_command;
-mod ending;
 mod index_command;
 mod index_run;
 pub mod laws;
-mod message;
 mod outside;
 mod print_trace;
 mod run_command;
-mod status;
 mod top;
 mod trace_command;
-mod verdict_line;
 
-pub use ending::{Ending, ends};
+pub use firefly_check::{Ending, Status, ends, number};
 pub use firefly_script::{Script, ScriptFault, read_script};
 pub use outside::{system_trees, system_words};
 pub use script_run::run_script;
-pub use status::{Status, number};
 pub use top::firefly;

@@ -6,13 +6,12 @@ ghost use Rattle.larch_actions.specs.Layout.{IsLawful, HasNames};
 ghost use Rattle.trace_core.specs.Text.{trace_text, ReadsAs};
 ghost use Rattle.trace_core.specs.Whole.{numbered};
 ghost use Rattle.firefly_script.specs.Text.{IsScript};
-ghost use Rattle.firefly.specs.Changes.{change_of};
-ghost use Rattle.firefly.specs.Check.{Prints};
+ghost use Rattle.firefly_check.specs.Changes.{change_of};
+ghost use Rattle.firefly_check.specs.Check.{Prints};
 ghost use Rattle.firefly.specs.RunCommand.{RunAnswers, Runs, Decides, SaysFault};
 
-use crate::Status;
-use crate::ending::{Ending, ends};
 use crate::print_trace::print_trace;
+use firefly_check::{Ending, Status, ends};
 use firefly_outside::{Sink, Source};
 use firefly_script::{Script, ScriptFault, read_script};
 use package_crew::NoGate;

@@ -3,19 +3,17 @@ ghost use Rattle.std.specs.Prelude.{◌≡◌, ◌≢◌, ◌⊎◌, ◌≤◌, 
 ghost use Rattle.std.specs.String.{string_bytes};
 ghost use Rattle.command_line.specs.Grammar.{BeginOptions, Task, Say, SayNothing, HasOptions};
 ghost use Rattle.command_line.specs.Grammar as grammar;
-ghost use Rattle.firefly.specs.Changes.{change_of};
-ghost use Rattle.firefly.specs.Check.{Found};
+ghost use Rattle.firefly_check.specs.Changes.{change_of};
+ghost use Rattle.firefly_check.specs.Check.{Found};
 ghost use Rattle.firefly.specs.RunCommand.{Decides};
 ghost use Rattle.firefly.specs.Looks.{look_of, looks_of, Agree, KeepTrees};
 ghost use Rattle.firefly.specs.Top.{Answers, UsageAnswers, WordsWant, effects_of};
 
-use crate::Status;
-use crate::check_command::run_check;
-use crate::ending::{Ending, ends};
 use crate::index_command::run_index;
 use crate::run_command::run_input;
 use crate::trace_command::run_trace;
 use command_line::{Command, WordsFault, read_words};
+use firefly_check::{Ending, Status, ends, run_check};
 use firefly_outside::{Sink, Source, Tree};
 use std::alloc::Global;
 use std::sync::Wait;

@@ -2,7 +2,7 @@ use Rattle.std.proofs.Common.{◌≡◌, ◌⊎◌, refl, sym, subst, inl, inr, 
 use Rattle.command_line.specs.Grammar as grammar
 use Rattle.command_line.specs.Grammar.{Task, HasOptions}
 use Rattle.firefly.specs.Top.{Effects, Answers, WordsWant}
-use Rattle.firefly.specs.declared.status.Status.{Status}
+use Rattle.firefly_check.specs.declared.status.Status.{Status}
 use Rattle.firefly.proofs.TreeLooks.{kept-same}
 use Rattle.firefly.proofs.top.firefly.Goals as goal
 

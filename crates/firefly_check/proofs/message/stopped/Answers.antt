@@ -1,6 +1,6 @@
 use Rattle.std.proofs.Common.{◌≡◌, ℕ, List, [], ◌++◌, ap, ◌∙◌}
 use Rattle.std.specs.Prelude.{codes, decimal}
-use Rattle.firefly.proofs.message.stopped.Goals as goal
+use Rattle.firefly_check.proofs.message.stopped.Goals as goal
 
 -- five texts, one after another
 five : (p q r s t none a b d e text n m : List ℕ) → none ≡ [] → a ≡ none ++ p → n ≡ q → b ≡ a ++ n → d ≡ b ++ r → m ≡ s → e ≡ d ++ m → text ≡ e ++ t → text ≡ p ++ q ++ r ++ s ++ t

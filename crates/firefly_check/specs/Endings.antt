@@ -1,10 +1,10 @@
 -- How a command ends that wrote no whole answer: its status and its message.
 use Rattle.std.specs.Prelude.{ℕ, List}
-use Rattle.firefly.specs.declared.ending.Ending.{Ending}
-use Rattle.firefly.specs.declared.ending.Ending.TheVariants as ending
-use Rattle.firefly.specs.declared.status.Status.{Status}
-use Rattle.firefly.specs.declared.status.Status.TheVariants.{Usage, ReadFault, SinkFault, Stopped, Memory, BadText, TooMany, TooLong}
-use Rattle.firefly.specs.Texts.{usage_message, input_fault_message, output_fault_message, bad_line_message, stopped_message, memory_message, too_many_message, unreadable_message, too_long_message}
+use Rattle.firefly_check.specs.declared.ending.Ending.{Ending}
+use Rattle.firefly_check.specs.declared.ending.Ending.TheVariants as ending
+use Rattle.firefly_check.specs.declared.status.Status.{Status}
+use Rattle.firefly_check.specs.declared.status.Status.TheVariants.{Usage, ReadFault, SinkFault, Stopped, Memory, BadText, TooMany, TooLong}
+use Rattle.firefly_check.specs.Texts.{usage_message, input_fault_message, output_fault_message, bad_line_message, stopped_message, memory_message, too_many_message, unreadable_message, too_long_message}
 
 abbrev pub status_of : Ending → Status
 status_of ending.Usage = Usage

@@ -1,8 +1,8 @@
 use Rattle.std.proofs.Common.{List, ℕ, subst}
-use Rattle.firefly.specs.Changes.{Notes, change_of}
-use Rattle.firefly.specs.Texts.{unreadable_message}
-use Rattle.firefly.proofs.Saying.{noted}
-use Rattle.firefly.proofs.message.say_unreadable.Goals as goal
+use Rattle.firefly_check.specs.Changes.{Notes, change_of}
+use Rattle.firefly_check.specs.Texts.{unreadable_message}
+use Rattle.firefly_check.proofs.Saying.{noted}
+use Rattle.firefly_check.proofs.message.say_unreadable.Goals as goal
 
 pub returns : goal.returns
 returns g c =

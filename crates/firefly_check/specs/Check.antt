@@ -5,10 +5,10 @@ use Rattle.trace_check.specs.declared.checker.Summary.{Summary}
 use Rattle.trace_check.specs.declared.checker.Verdict.{Verdict}
 use Rattle.trace_check.specs.declared.checker.Verdict.TheVariants as verdict
 use Rattle.trace_check.specs.Verdicts.{IsJust}
-use Rattle.firefly.specs.declared.status.Status.{Status}
-use Rattle.firefly.specs.declared.status.Status.TheVariants.{Done, Usage, ReadFault, SinkFault, Stopped, Memory, Illegal, BadText, TooMany, TooLong}
-use Rattle.firefly.specs.Changes.{Change, IsStill, Gets, GetsFront, Notes}
-use Rattle.firefly.specs.Texts.{legal_line, illegal_line, input_fault_message, output_fault_message, bad_line_message, too_long_message}
+use Rattle.firefly_check.specs.declared.status.Status.{Status}
+use Rattle.firefly_check.specs.declared.status.Status.TheVariants.{Done, Usage, ReadFault, SinkFault, Stopped, Memory, Illegal, BadText, TooMany, TooLong}
+use Rattle.firefly_check.specs.Changes.{Change, IsStill, Gets, GetsFront, Notes}
+use Rattle.firefly_check.specs.Texts.{legal_line, illegal_line, input_fault_message, output_fault_message, bad_line_message, too_long_message}
 
 -- how many bytes of an input are checked
 abbrev pub budget : ℕ

@@ -1,7 +1,7 @@
 //! How a command ends that wrote no whole answer.
 ghost use Rattle.std.specs.Prelude.{◌≡◌};
-ghost use Rattle.firefly.specs.Changes.{Notes, change_of};
-ghost use Rattle.firefly.specs.Endings.{message_of, status_of};
+ghost use Rattle.firefly_check.specs.Changes.{Notes, change_of};
+ghost use Rattle.firefly_check.specs.Endings.{message_of, status_of};
 
 use crate::Status;
 use crate::message::{

@@ -1,7 +1,7 @@
 -- The numbers of the statuses.
 use Rattle.std.specs.Prelude.{ℕ}
-use Rattle.firefly.specs.declared.status.Status.{Status}
-use Rattle.firefly.specs.declared.status.Status.TheVariants.{Done, Usage, ReadFault, SinkFault, Stopped, Memory, Illegal, BadText, TooMany, TooLong}
+use Rattle.firefly_check.specs.declared.status.Status.{Status}
+use Rattle.firefly_check.specs.declared.status.Status.TheVariants.{Done, Usage, ReadFault, SinkFault, Stopped, Memory, Illegal, BadText, TooMany, TooLong}
 
 abbrev pub number_of : Status → ℕ
 number_of Done = 0

@@ -1,7 +1,7 @@
 //! The messages, a line each.
 ghost use Rattle.std.specs.Prelude.{◌≡◌};
-ghost use Rattle.firefly.specs.Changes.{Notes, change_of};
-ghost use Rattle.firefly.specs.Texts.{bad_line_message, stopped_message, unreadable_message};
+ghost use Rattle.firefly_check.specs.Changes.{Notes, change_of};
+ghost use Rattle.firefly_check.specs.Texts.{bad_line_message, stopped_message, unreadable_message};
 
 use arrayvec::ArrayString;
 use firefly_outside::{Sink, put_all};

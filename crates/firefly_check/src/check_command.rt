@@ -1,7 +1,7 @@
 //! The command `check`.
 ghost use Rattle.std.specs.Prelude.{◌≡◌};
-ghost use Rattle.firefly.specs.Changes.{change_of};
-ghost use Rattle.firefly.specs.Check.{CheckAnswers, Prints, Found};
+ghost use Rattle.firefly_check.specs.Changes.{change_of};
+ghost use Rattle.firefly_check.specs.Check.{CheckAnswers, Prints, Found};
 
 use crate::Status;
 use crate::ending::{Ending, ends};

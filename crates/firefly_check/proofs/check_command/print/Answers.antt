@@ -1,6 +1,6 @@
 use Rattle.std.proofs.Common.{◌≡◌, List, ℕ, inr, rules, subst}
 use Rattle.firefly_outside.specs.Causes.{AppendsFront}
-use Rattle.firefly.proofs.check_command.print.Goals as goal
+use Rattle.firefly_check.proofs.check_command.print.Goals as goal
 
 pub returns-in-Err : goal.returns-in-Err
 returns-in-Err g c =

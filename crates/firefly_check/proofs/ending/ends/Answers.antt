@@ -1,8 +1,8 @@
 use Rattle.std.proofs.Common.{ℕ, subst}
-use Rattle.firefly.specs.Changes.{Notes, change_of}
-use Rattle.firefly.specs.Texts.{bad_line_message}
-use Rattle.firefly.proofs.Saying.{noted_ending, noted_stopped}
-use Rattle.firefly.proofs.ending.ends.Goals as goal
+use Rattle.firefly_check.specs.Changes.{Notes, change_of}
+use Rattle.firefly_check.specs.Texts.{bad_line_message}
+use Rattle.firefly_check.proofs.Saying.{noted_ending, noted_stopped}
+use Rattle.firefly_check.proofs.ending.ends.Goals as goal
 
 pub returns-in-Usage-clause-notes : goal.returns-in-Usage-clause-notes
 returns-in-Usage-clause-notes g c = noted_ending c.args.ending _ _ c.in-Usage.is c.say.ensures

@@ -4,11 +4,11 @@ use Rattle.trace_check.specs.declared.checker.Summary.{Summary}
 use Rattle.trace_check.specs.declared.checker.Verdict.{Verdict}
 use Rattle.trace_check.specs.declared.checker.Verdict.TheVariants as verdict
 use Rattle.larch_actions.specs.declared.event.Broken.{Broken}
-use Rattle.firefly.specs.declared.status.Status.{Status}
-use Rattle.firefly.specs.declared.status.Status.TheVariants.{Done, SinkFault}
-use Rattle.firefly.specs.Changes.{Change, Gets}
-use Rattle.firefly.specs.Check.{CheckAnswers, Finds, Prints, status_of}
-use Rattle.firefly.specs.Texts.{legal_line}
+use Rattle.firefly_check.specs.declared.status.Status.{Status}
+use Rattle.firefly_check.specs.declared.status.Status.TheVariants.{Done, SinkFault}
+use Rattle.firefly_check.specs.Changes.{Change, Gets}
+use Rattle.firefly_check.specs.Check.{CheckAnswers, Finds, Prints, status_of}
+use Rattle.firefly_check.specs.Texts.{legal_line}
 
 -- the status is that of the verdict, or the sink failed
 abbrev pub Fits : Status → Verdict → Type 0

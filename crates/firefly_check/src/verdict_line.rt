@@ -1,7 +1,7 @@
 //! The lines of the verdicts.
 ghost use Rattle.std.specs.Prelude.{◌≡◌, ◌≤◌, ◌+◌, ◌++◌, length, decimal};
 ghost use Rattle.arrayvec.specs.ArrayString.{array_string_len};
-ghost use Rattle.firefly.specs.Texts.{legal_line, illegal_line, clause_word};
+ghost use Rattle.firefly_check.specs.Texts.{legal_line, illegal_line, clause_word};
 
 use arrayvec::ArrayString;
 use itoa::Buffer;

@@ -1,8 +1,8 @@
 use Rattle.std.proofs.Common.{inl, ◌∙◌}
 use Rattle.trace_check.specs.declared.checker.Verdict.TheVariants as verdict
-use Rattle.firefly.specs.Changes.{change_of}
-use Rattle.firefly.proofs.Found.{found_by, legal_printed, printed, legal_read, illegal_read, bad_line_read, too_long_read}
-use Rattle.firefly.proofs.check_command.run_check.Goals as goal
+use Rattle.firefly_check.specs.Changes.{change_of}
+use Rattle.firefly_check.proofs.Found.{found_by, legal_printed, printed, legal_read, illegal_read, bad_line_read, too_long_read}
+use Rattle.firefly_check.proofs.check_command.run_check.Goals as goal
 
 pub returns-in-Legal-clause-answers : goal.returns-in-Legal-clause-answers
 returns-in-Legal-clause-answers g c =

@@ -1,6 +1,6 @@
 use Rattle.std.proofs.Common.{List, ℕ, subst, ◌∙◌}
-use Rattle.firefly.specs.Changes.{Notes, change_of}
-use Rattle.firefly.proofs.message.say_bad_line.Goals as goal
+use Rattle.firefly_check.specs.Changes.{Notes, change_of}
+use Rattle.firefly_check.proofs.message.say_bad_line.Goals as goal
 
 pub returns : goal.returns
 returns g c =

@@ -2,10 +2,10 @@
 use Rattle.std.proofs.Common.{inl, inr, ℕ, List, Option, Result, Ok, Err, OnOk, OnErr, ◌≡◌, sym, subst}
 use Rattle.std.specs.Io.KnownBytes.{Appends}
 use Rattle.firefly_outside.specs.Causes.{AppendsFront, HasCause}
-use Rattle.firefly.specs.Changes.{Change, Notes}
-use Rattle.firefly.specs.Endings.{message_of}
-use Rattle.firefly.specs.Texts.{stopped_message}
-use Rattle.firefly.specs.declared.ending.Ending.{Ending}
+use Rattle.firefly_check.specs.Changes.{Change, Notes}
+use Rattle.firefly_check.specs.Endings.{message_of}
+use Rattle.firefly_check.specs.Texts.{stopped_message}
+use Rattle.firefly_check.specs.declared.ending.Ending.{Ending}
 
 module _ {E : Type 0} where
   pub noted : (r : Result (Unit {0}) E) (old new : Option (List ℕ)) (before now : ℕ) (text : List ℕ) → OnOk r (Appends old new text) → OnErr r (AppendsFront old new text) → HasCause before now r
