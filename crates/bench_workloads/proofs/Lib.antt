@@ -2,6 +2,7 @@ mod Crewing
 mod Doing
 mod Inside
 mod Makers
+mod Partly
 mod Raises
 mod Roles
 mod Sums

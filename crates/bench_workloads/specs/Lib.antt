@@ -1,4 +1,5 @@
 pub mod Numbers
+pub mod Parts
 pub mod Passing
 pub mod Reading
 pub mod Waking

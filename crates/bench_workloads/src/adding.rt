@@ -5,8 +5,8 @@ ghost use Rattle.nub.specs.Ended.{IsFirst};
 ghost use Rattle.bench_workloads.specs.Workloads.{HasAdded, HasMade};
 
 use crate::numbers::Count;
-use nub::{Closed, Layout, MutexId, Package, Thread, close_package, open_package};
-use package_crew::at_once;
+use crate::parts::{Part, run_part};
+use nub::{Closed, Layout, MutexId, Package, Thread};
 use std::alloc::{AllocError, Global};
 use std::sync::Wait;
 use std::thread::Threads;
@@ -33,7 +33,7 @@ fn turned(own: u64, turns: u32) -> u64 {
 }
 
 /// Adds 1 under the mutex this many times, with so many turns on a number of its own after each.
-fn add_many<R: Wait>(
+pub fn add_many<R: Wait>(
     rt: &R,
     shared: &Package<SumUses>,
     mut me: Thread<SumUses>,
@@ -70,20 +70,6 @@ pub fn add_at_once<R: Threads + Wait + Sync>(
         conditions: 0,
         semaphores: 0,
     };
-    let values = vec![in alloc; 0u64]?;
-    let (shared, threads) = open_package::<SumUses>(alloc, layout, &(), values, false)?;
-    let Ok((threads, own)) = at_once(
-        rt,
-        alloc,
-        threads,
-        &|me: Thread<SumUses>| -> (Thread<SumUses>, u64)
-            requires { (0 < shared.layout.mutexes) × IsFirst shared (λ w t. []) me.number me }
-            ensures { HasAdded shared times me.number result.0 }
-        { add_many(rt, &shared, me, times, outside) },
-    ) else {
-        drop(shared);
-        return Err(AllocError);
-    };
-    let closed = close_package(shared, threads)?;
+    let (closed, own) = run_part(rt, alloc, layout, Part::Add { times, outside })?;
     Ok(Added { closed, own })
 }

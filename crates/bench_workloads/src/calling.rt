@@ -8,9 +8,9 @@ ghost use Rattle.nub.specs.Rest.{Adds};
 ghost use Rattle.sum_uses.specs.declared.added.Added.{Added};
 ghost use Rattle.bench_workloads.specs.Workloads.{HasCalled, HasMade};
 
+use crate::parts::{Part, run_part};
 use condition::{broadcast, signal};
-use nub::{Closed, CondId, Layout, Package, Thread, close_package, open_package};
-use package_crew::at_once;
+use nub::{Closed, CondId, Layout, Package, Thread};
 use std::alloc::{AllocError, Global};
 use std::sync::Wait;
 use std::thread::Threads;
@@ -34,7 +34,7 @@ fn call<R: Wait>(rt: &R, shared: &Package<SumUses>, me: &mut Thread<SumUses>, al
 }
 
 /// This many calls, one after the other.
-fn call_many<R: Wait>(
+pub fn call_many<R: Wait>(
     rt: &R,
     shared: &Package<SumUses>,
     mut me: Thread<SumUses>,
@@ -67,19 +67,6 @@ pub fn call_alone<R: Threads + Wait + Sync>(
         conditions: 1,
         semaphores: 0,
     };
-    let (shared, threads) = open_package::<SumUses>(alloc, layout, &(), Vec::new(alloc), false)?;
-    let Ok((threads, _)) = at_once(
-        rt,
-        alloc,
-        threads,
-        &|me: Thread<SumUses>| -> (Thread<SumUses>, ())
-            requires { (0 < shared.layout.conditions) × IsFirst shared (λ w t. []) me.number me }
-            ensures { HasCalled shared [] times me.number result.0 }
-        { (call_many(rt, &shared, me, all, times), ()) },
-    ) else {
-        drop(shared);
-        return Err(AllocError);
-    };
-    let closed = close_package(shared, threads)?;
+    let (closed, _) = run_part(rt, alloc, layout, Part::Call { all, times })?;
     Ok(closed)
 }

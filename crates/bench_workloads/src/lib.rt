@@ -8,6 +8,7 @@
 mod adding;
 mod calling;
 mod numbers;
+mod parts;
 mod passing;
 mod playing;
 mod reading;

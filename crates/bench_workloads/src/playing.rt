@@ -4,9 +4,9 @@ ghost use Rattle.nub.specs.Ended.{IsFirst};
 ghost use Rattle.bench_workloads.specs.Workloads.{HasTurned};
 
 use crate::numbers::Count;
+use crate::parts::{Part, run_part};
 use crate::rounds::{count_rounds, open_rounds};
-use nub::{Closed, CondId, Layout, MutexId, Package, Thread, close_package, open_package};
-use package_crew::at_once;
+use nub::{Closed, CondId, Layout, MutexId, Package, Thread};
 use std::alloc::{AllocError, Global};
 use std::sync::Wait;
 use std::thread::Threads;
@@ -58,7 +58,7 @@ fn alternate<R: Wait>(
 }
 
 /// Takes this many turns.
-fn take_turns<R: Wait>(
+pub fn take_turns<R: Wait>(
     rt: &R,
     shared: &Package<SumUses>,
     me: Thread<SumUses>,
@@ -100,21 +100,11 @@ pub fn play_at_once<R: Threads + Wait + Sync>(
         conditions: 2,
         semaphores: 0,
     };
-    let values = vec![in alloc; 0u64]?;
-    let count = threads;
-    let (shared, threads) = open_package::<SumUses>(alloc, layout, &(), values, false)?;
-    let Ok((threads, _)) = at_once(
-        rt,
-        alloc,
+    let part = Part::Turns {
+        what,
         threads,
-        &|me: Thread<SumUses>| -> (Thread<SumUses>, ())
-            requires { (0 < shared.layout.mutexes) × (1 < shared.layout.conditions) × IsFirst shared (λ w t. []) me.number me }
-            ensures { HasTurned shared times me.number result.0 }
-        { (take_turns(rt, &shared, me, what, count, times), ()) },
-    ) else {
-        drop(shared);
-        return Err(AllocError);
+        times,
     };
-    let closed = close_package(shared, threads)?;
+    let (closed, _) = run_part(rt, alloc, layout, part)?;
     Ok(closed)
 }

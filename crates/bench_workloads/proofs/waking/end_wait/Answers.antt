@@ -1,5 +1,5 @@
-use Rattle.std.proofs.Common.{◌≡◌, ◌+◌, ◌<◌, ◌≤◌, ℕ, arith, lit<, ap, ◌∙◌}
-use Rattle.bench_workloads.specs.Workloads.{HasTurned, IsInside}
+use Rattle.std.proofs.Common.{◌+◌, arith, lit<}
+use Rattle.bench_workloads.specs.Workloads.{HasTurned}
 use Rattle.bench_workloads.proofs.Inside.{again_inside, ended_inside, inside_grows, one_more_inside}
 use Rattle.bench_workloads.proofs.waking.end_wait.Goals as goal
 

@@ -1,4 +1,4 @@
-use Rattle.std.proofs.Common.{◌≡◌, ◌<◌, [], refl, arith, subst}
+use Rattle.std.proofs.Common.{◌≡◌, [], refl, arith, subst}
 use Rattle.nub.proofs.Users.{idle_first}
 use Rattle.bench_workloads.specs.Workloads.{HasTurned}
 use Rattle.bench_workloads.proofs.waking.end_waits.Goals as goal
