@@ -1,10 +1,6 @@
-//! Each prefix of a trace and each change of one byte, against the verdict read off the definitions.
-ghost use Rattle.std.specs.Prelude.{◌<◌, length};
-
-use crate::plain::plain_verdict;
+//! A trace with each budget that is less than its length, and with a read that fails behind each of its bytes.
 use crate::same::same;
 use crate::verdicts::verdict_on;
-use std::alloc::{AllocError, Global};
 use std::process::Abort;
 use std::test::Fail;
 use trace_check::Verdict;
@@ -40,76 +36,6 @@ end 23
 value m0 0
 value m1 18446744073709551615
 "
-}
-
-// A short trace. A function without a clause keeps the bytes out of the proofs.
-fn short() -> &'static [u8] {
-    b"firefly-trace 1
-threads 2 mutexes 1 conditions 1 semaphores 1
-0 t0 acquire m0
-1 t0 enqueue m0 c0
-2 t1 signal c0 left
-3 t0 resume m0 c0
-4 t1 alert-p s0 returns
-end 5
-value m0 17
-"
-}
-
-// What a byte is changed to.
-const BYTES: &[u8] = b"0139 \ntmcsvaeld-\0\xff";
-
-// The checker and the definitions agree on this input.
-fn agree(rt: &impl Abort, alloc: Global, bytes: &[u8]) -> Result<(), Fail> {
-    let found = verdict_on(alloc, bytes, 100_000, None)?;
-    same(rt, &found, &plain_verdict(alloc, bytes)?);
-    Ok(())
-}
-
-#[test]
-fn each_prefix_has_the_verdict_of_the_definitions(rt: HostRuntime) -> Result<(), Fail> {
-    let bytes = whole();
-    for k in 0..bytes.len() {
-        agree(&rt, rt.alloc(), &bytes[..k])?;
-    }
-    agree(&rt, rt.alloc(), bytes)
-}
-
-// They agree where one byte of these is another.
-fn agree_on_changes(rt: &impl Abort, alloc: Global, bytes: &mut [u8]) -> Result<(), Fail> {
-    for k in 0..bytes.len() {
-        let byte = bytes[k];
-        for other in BYTES {
-            bytes[k] = *other;
-            agree(rt, alloc, bytes)?;
-        }
-        bytes[k] = byte;
-    }
-    Ok(())
-}
-
-#[test]
-fn each_changed_byte_has_the_verdict_of_the_definitions(rt: HostRuntime) -> Result<(), Fail> {
-    let mut bytes = short().to_vec(rt.alloc())?;
-    agree_on_changes(&rt, rt.alloc(), &mut bytes)
-}
-
-// These bytes without the one at this place.
-fn without(alloc: Global, bytes: &[u8], k: usize) -> Result<Vec<u8>, AllocError> {
-    let mut others = bytes.to_vec(alloc)?;
-    if k < others.len() {
-        others.remove(k);
-    }
-    Ok(others)
-}
-
-#[test]
-fn each_removed_byte_has_the_verdict_of_the_definitions(rt: HostRuntime) -> Result<(), Fail> {
-    for k in 0..whole().len() {
-        let bytes = without(rt.alloc(), whole(), k)?;
-        agree(&rt, rt.alloc(), &bytes)?;
-    }
-    Ok(())
 }
 
 #[test]
