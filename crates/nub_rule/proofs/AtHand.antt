@@ -14,7 +14,7 @@ use Rattle.nub_rule.specs.declared.view.Part.{Part}
 use Rattle.nub_rule.specs.declared.view.View.{View}
 use Rattle.nub_rule.specs.Items.{line_of}
 use Rattle.nub_rule.specs.Parts.{Got}
-use Rattle.nub_rule.specs.Known.{Known, known_as, part_of, values_of, value_in, IsThread, Makes, PicksShare}
+use Rattle.nub_rule.specs.Known.{Known, changed, known_as, part_of, values_of, value_in, IsThread, Makes, PicksShare}
 use Rattle.nub_rule.specs.Places.{most_threads, queue_at, value_at}
 use Rattle.nub_rule.specs.Plays.{Sat, with_part, told, Grows}
 use Rattle.nub_rule.specs.Slots.{find, IsDistinct, Below, behind_first}
@@ -24,32 +24,6 @@ use Rattle.nub_rule.proofs.Seen.{fit_given, fit_moved, fit_still}
 use Rattle.nub_rule.proofs.Turns.{keys}
 
 module _ {T H W : Type 0} where
-  -- the thread as contracts see it, with this part and these values
-  abbrev pub changed : Known T H W → Part T H → List (Opt (Opt T)) → Known T H W
-  changed k p vs = record k {
-    seen = p.seen;
-    mine = p.mine;
-    places = p.places;
-    held = p.held;
-    share = p.share;
-    spin = p.spin;
-    queue = p.queue;
-    owed = p.owed;
-    left = p.left;
-    count = p.count;
-    wait = p.wait;
-    stand = p.stand;
-    failed = p.failed;
-    turns = p.turns;
-    cleared = p.cleared;
-    looked = p.looked;
-    pen = p.pen;
-    alerted = p.alerted;
-    calling = p.calling;
-    raised = p.raised;
-    values = vs;
-  }
-
   -- the thread, as contracts see it, after a step that changed the part by f and the values by h
   pub seen_as : (f : ℕ → Part T H → Part T H) (h : List (Opt (Opt T)) → List (Opt (Opt T))) (z z' : TableId) (n : ℕ) (es : List Entry) (lo : Bool) {nx : ℕ} (me me' : Sat T H W) (ds : List (ℕ × Slot T)) (a : Known T H W)
       → known_as z n me es lo nx ≡ a → z' ≡ z → me' ≡ (with_part me.0 (f n me.0.part), ds) → values_of ds ≡ h (values_of me.1) → known_as z' n me' es lo nx ≡ changed a (f a.number (part_of a)) (h a.values)
@@ -89,6 +63,18 @@ module _ {T H W : Type 0} where
     refill = λ zs. refilled o (Queue (line_of me.0.part.queue)) (Queue (line_of zs)) hand' me.1 front.1 at found keyed distinct below;
   }
 
+  -- what contracts see of a thread after the queue became zs, by a step that changed the part by f
+  pub requeued_seen : (f : ℕ → Part T H → Part T H) (zs : List ℕ) (s : Slot T) (z z' : TableId) (n : ℕ) (hand hand' : List ℕ) (me front me' : Sat T H W) (o : ℕ) {kept : List T} {room : ℕ} → IsThread z n hand me kept room → QueueAtHand me front hand' o → z' ≡ z → s ≡ Queue (line_of zs)
+      → me' ≡ (with_part front.0 (f front.0.number front.0.part), (queue_at o, s) ∷ rest front.1)
+      → (es : List Entry) (lo : Bool) (nx : ℕ) (a : Known T H W) → known_as z n me es lo nx ≡ a → known_as z' n me' es lo nx ≡ changed a (f a.number (part_of a)) a.values
+  requeued_seen f zs s z z' n hand hand' me front me' o i at ez is em es lo nx a v =
+      let ds : List (ℕ × Slot T) = (queue_at o, Queue (line_of zs)) ∷ rest front.1 in
+      let r = at.refill zs in
+      let far = at.far in
+      let number : front.0.number ≡ n = ap (λ v. v.number) at.same ∙ i.numbered in
+      let now : me' ≡ (with_part me.0 (f n me.0.part), ds) = em ∙ (λ j. (with_part (at.same j) (f (number j) (at.same j).part), (queue_at o, is j) ∷ rest front.1)) in
+      seen_as f (λ vs. vs) z z' n es lo me me' ds a v ez now (values-same me.1 ds (λ m. r.elsewhere (value_at m) (λ e. omega arith)))
+
   -- after the queue became zs, by a step that changed the part by f
   pub requeued : (f : ℕ → Part T H → Part T H) (zs : List ℕ) (s : Slot T) (z z' : TableId) (n : ℕ) (hand hand' : List ℕ) (me front me' : Sat T H W) (o : ℕ) {kept : List T} {room : ℕ} → IsThread z n hand me kept room → QueueAtHand me front hand' o → z' ≡ z → s ≡ Queue (line_of zs)
       → me' ≡ (with_part front.0 (f front.0.number front.0.part), (queue_at o, s) ∷ rest front.1) → (f n me.0.part).held ≡ me.0.part.held → (f n me.0.part).spin ≡ me.0.part.spin → (f n me.0.part).queue ≡ zs → ((f n me.0.part).stand ≡ None → length zs < most_threads)
@@ -101,7 +87,7 @@ module _ {T H W : Type 0} where
       let number : front.0.number ≡ n = ap (λ v. v.number) at.same ∙ i.numbered in
       let now : me' ≡ (with_part me.0 q, ds) = em ∙ (λ j. (with_part (at.same j) (f (number j) (at.same j).part), (queue_at o, is j) ∷ rest front.1)) in record {
         fits = fit_moved z z' n hand hand' me me' q ds ez now i r.keyed r.distinct r.below (ap length eh) (hands-queue me.0.part q me.1 ds o zs far r.here r.elsewhere at.spins es eq eh space i.hands);
-        sees = λ es lo nx a v. seen_as f (λ vs. vs) z z' n es lo me me' ds a v ez now (values-same me.1 ds (λ m. r.elsewhere (value_at m) (λ e. omega arith)));
+        sees = requeued_seen f zs s z z' n hand hand' me front me' o i at ez is em;
       }
 
   -- the value of the mutex m, with this in its slot, stands first in the hand

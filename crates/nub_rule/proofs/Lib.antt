@@ -31,6 +31,7 @@ pub mod Lessening
 pub mod Leaving
 pub mod Seen
 pub mod AtHand
+pub mod Requeueing
 pub mod Turns
 pub mod Having
 pub mod Room

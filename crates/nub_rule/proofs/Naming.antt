@@ -13,7 +13,7 @@ use Rattle.nub_rule.specs.Parts.{staged, turned}
 use Rattle.nub_rule.specs.Known.{Shape, shape_of}
 use Rattle.nub_rule.specs.Objects.{object_of, HasObject, IsGate}
 
-gate_below : (l : Layout) (at : Object) → IsLawful l → IsGate at → HasObject l at → object_of at < 128
+pub gate_below : (l : Layout) (at : Object) → IsLawful l → IsGate at → HasObject l at → object_of at < 128
 gate_below l (Mutex m) law gate has = let z = law.mutexes in omega arith
 gate_below l (Sem s) law gate has = let z = law.semaphores in omega arith
 gate_below l (Cond c) law gate has = absurd gate

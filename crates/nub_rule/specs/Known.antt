@@ -145,6 +145,32 @@ module _ {T H W : Type 0} where
     raised = k.raised;
   }
 
+  -- the thread as contracts see it, with this part and these values
+  abbrev pub changed : Known T H W → Part T H → List (Opt (Opt T)) → Known T H W
+  changed k p vs = record k {
+    seen = p.seen;
+    mine = p.mine;
+    places = p.places;
+    held = p.held;
+    share = p.share;
+    spin = p.spin;
+    queue = p.queue;
+    owed = p.owed;
+    left = p.left;
+    count = p.count;
+    wait = p.wait;
+    stand = p.stand;
+    failed = p.failed;
+    turns = p.turns;
+    cleared = p.cleared;
+    looked = p.looked;
+    pen = p.pen;
+    alerted = p.alerted;
+    calling = p.calling;
+    raised = p.raised;
+    values = vs;
+  }
+
   -- the thread a with the history that b has seen, b's own events and their places
   abbrev pub learnt : Known T H W → Known T H W → Known T H W
   learnt a b = record a { seen = b.seen; mine = b.mine; places = b.places }

@@ -7,6 +7,7 @@ pub mod Items
 pub mod Rule
 pub mod Plays
 pub mod Known
+pub mod Queued
 pub mod Ends
 pub mod PackageRule
 pub mod Stored

@@ -8,12 +8,12 @@ ghost use Rattle.nub_rule.specs.Parts.{IsClear, MayTell, alerted_stand, left_tur
 ghost use Rattle.nub_rule.specs.Places.{sem_object};
 ghost use Rattle.nub_rule.specs.Plays.{alert_event, alert_p_raise_event, alert_raise_event, less, test_alert_event};
 
-use crate::hand::bring;
-use crate::line::leave_line;
+use crate::object::Object;
 use crate::package::{Package, Thread};
-use crate::places::{SEMAPHORES, alert_word, sem_length_word};
+use crate::places::alert_word;
 use crate::plays::{LeaveSemQueue, OrAlert, ReadAlert, SwapAlert, SwapAlertInP, SwapAlertInRaise};
-use crate::stepping::{fetch_and, fetch_or, load, slot_mut, store, swap};
+use crate::queueing::leave;
+use crate::stepping::{fetch_and, fetch_or, load, swap};
 use crate::uses::Uses;
 use crate::waking::unpark;
 use larch_actions::{CondId, MutexId, SemId, ThreadId};
@@ -117,11 +117,5 @@ pub fn leave_sem_queue<U: Uses>(p: &Package<U>, me: &mut Thread<U>, s: SemId) ->
     } }
     ensures same { result ≡ false → me.new ≡ me.old }
 {
-    let o = SEMAPHORES + s.0 as usize;
-    bring(&mut me.hand, &mut me.seat, o as u16);
-    let Some(length) = leave_line(slot_mut(&mut me.seat, &p.table.shared, o), me.number) else {
-        return false;
-    };
-    store::<LeaveSemQueue, U>(&p.table, &mut me.seat, sem_length_word(s), length);
-    true
+    leave::<LeaveSemQueue, U>(p, me, Object::Sem(s))
 }

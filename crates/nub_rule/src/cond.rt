@@ -1,8 +1,6 @@
 //! The steps on a condition: its count, which is read to enter it and advanced to take threads out, and its queue.
-ghost use Rattle.std.specs.Prelude.{◌≡◌, ◌≢◌, ◌+◌, ◌<◌, ℕ, [], ◌∷◌, ◌++◌, length, None, Some, false, true};
+ghost use Rattle.std.specs.Prelude.{◌≡◌, ◌≢◌, ◌+◌, ◌<◌, [], None, Some, false, true};
 ghost use Rattle.larch_actions.specs.Sets.{mem, set_of};
-ghost use Rattle.nub_rule.specs.declared.rule.Slot.TheVariants.{Queue};
-ghost use Rattle.nub_rule.specs.declared.view.Stage.TheVariants.{Tested};
 ghost use Rattle.nub_rule.specs.declared.view.Wait.{Wait};
 ghost use Rattle.nub_rule.specs.Items.{Distinct, Small};
 ghost use Rattle.nub_rule.specs.Known.{Holds, Makes, StandsAs, learnt};
@@ -11,16 +9,18 @@ ghost use Rattle.nub_rule.specs.Places.{cond_object, most_threads};
 ghost use Rattle.nub_rule.specs.Plays.{begun_wait, behind, broadcast_action, enqueue_event, event, less, recounted, signal_action, unread};
 
 use crate::hand::bring;
-use crate::line::{leave_line, pop_line, push_line, set_behind};
+use crate::line::set_behind;
+use crate::object::Object;
 use crate::package::{Package, Thread};
-use crate::places::{CONDITIONS, VALUES, cond_length_word, count_word};
+use crate::places::{CONDITIONS, VALUES, count_word};
 use crate::plays::{
     AdvanceBroadcast, AdvanceSignal, CompareCount, KnowCount, LeaveCondQueue, LoadCount,
-    LoadCountAlertable, PopCond, PushCond,
+    LoadCountAlertable,
 };
-use crate::stepping::{fetch_add, load, slot_mut, store};
+use crate::queueing::leave;
+use crate::stepping::{fetch_add, load, slot_mut};
 use crate::uses::Uses;
-use larch_actions::{CondId, MutexId, ThreadId, ThreadSet};
+use larch_actions::{CondId, MutexId, ThreadSet};
 
 /// Reads the count of c, and with that enters the condition: the first part of a wait on m. The mutex is held by nobody from here on, though
 /// its bit is set still.
@@ -132,27 +132,6 @@ pub fn compare_count<U: Uses>(p: &Package<U>, me: &mut Thread<U>, c: CondId, cou
     load::<CompareCount, U>(&p.table, &mut me.seat, count_word(c))
 }
 
-/// Puts the thread last into the queue of c, where the count that it read stands. A condition has no bit that it would have to test again.
-pub fn push_cond<U: Uses>(p: &Package<U>, me: &mut Thread<U>, c: CondId)
-    requires of { me.old.table_id ≡ p.now.table_id }
-    requires named { c.0 < p.now.layout.conditions }
-    requires inside { me.old.spin ≡ Some (cond_object c.0) }
-    requires outside { me.old.stand ≡ None }
-    requires waits { (x : Wait) × (me.old.wait ≡ Some x) × (x.cond.0 ≡ c.0) × (x.member ≡ Some me.old.count) }
-    ensures { me.new ≡ record me.old {
-      queue = me.old.queue ++ me.old.number ∷ [];
-      left = me.old.left ++ me.old.number ∷ [];
-      stand = Some record { at = cond_object c.0; stage = Tested };
-      wait = unread me.old.wait;
-    } }
-{
-    let o = CONDITIONS + c.0 as usize;
-    bring(&mut me.hand, &mut me.seat, o as u16);
-    // The list is this thread's while it has the spin word. Others see the length word, so that is the step.
-    let length = push_line(slot_mut(&mut me.seat, &p.table.shared, o), me.number);
-    store::<PushCond, U>(&p.table, &mut me.seat, cond_length_word(c), length);
-}
-
 /// Takes the thread, which found its alert word set, out of the queue of c. It answers whether the thread was in it, and it is in the
 /// condition then as long as the count stands. Else another thread has popped it.
 pub fn leave_cond_queue<U: Uses>(p: &Package<U>, me: &mut Thread<U>, c: CondId) -> bool
@@ -170,31 +149,5 @@ pub fn leave_cond_queue<U: Uses>(p: &Package<U>, me: &mut Thread<U>, c: CondId) 
     } }
     ensures same { result ≡ false → me.new ≡ me.old }
 {
-    let o = CONDITIONS + c.0 as usize;
-    bring(&mut me.hand, &mut me.seat, o as u16);
-    let Some(length) = leave_line(slot_mut(&mut me.seat, &p.table.shared, o), me.number) else {
-        return false;
-    };
-    store::<LeaveCondQueue, U>(&p.table, &mut me.seat, cond_length_word(c), length);
-    true
-}
-
-/// Takes the first out of the queue of c, whom an advance has taken out of the condition. The thread owes it its ready word then.
-pub fn pop_cond<U: Uses>(p: &Package<U>, me: &mut Thread<U>, c: CondId) -> Option<ThreadId>
-    requires of { me.old.table_id ≡ p.now.table_id }
-    requires named { c.0 < p.now.layout.conditions }
-    requires inside { me.old.spin ≡ Some (cond_object c.0) }
-    requires outside { me.old.wait ≡ None }
-    requires taken { (t : ℕ) → mem t (behind me.old.queue) ≡ false → mem t me.old.left ≡ false }
-    ensures none { result ≡ None → me.old.queue ≡ [] }
-    ensures owes { result ≡ None → me.new.owed ≡ me.old.owed }
-    ensures first { (t : ThreadId) → result ≡ Some t → (me.old.queue ≡ t.0 ∷ behind me.old.queue)
-        × (me.new.owed ≡ me.old.owed ++ t.0 ∷ []) }
-    ensures out { me.new ≡ record me.old { queue = behind me.old.queue; owed = me.new.owed } }
-{
-    let o = CONDITIONS + c.0 as usize;
-    bring(&mut me.hand, &mut me.seat, o as u16);
-    let (first, length) = pop_line(slot_mut(&mut me.seat, &p.table.shared, o));
-    store::<PopCond, U>(&p.table, &mut me.seat, cond_length_word(c), length);
-    first
+    leave::<LeaveCondQueue, U>(p, me, Object::Cond(c))
 }

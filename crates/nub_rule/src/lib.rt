@@ -19,6 +19,7 @@ mod pen;
 mod places;
 mod plays;
 mod queue;
+mod queueing;
 mod ready;
 mod rule;
 mod sem;

@@ -1,6 +1,6 @@
 //! How many threads a package may have, and where its words and slots stand, under the names of specs/Places.antt.
 ghost use Rattle.std.specs.Prelude.{◌≡◌};
-ghost use Rattle.nub_rule.specs.Places.{alert_at, bit_at, count_at, length_at, sem_object, cond_object, ready_at};
+ghost use Rattle.nub_rule.specs.Places.{alert_at, bit_at, count_at, sem_object, cond_object, ready_at};
 
 use larch_actions::{CondId, MutexId, SemId};
 
@@ -53,22 +53,6 @@ pub fn count_word(c: CondId) -> usize
     ensures { result ≡ count_at (cond_object c.0) }
 {
     16 * (CONDITIONS + c.0 as usize) + 3
-}
-
-/// The length word of a condition's queue.
-#[inline]
-pub fn cond_length_word(c: CondId) -> usize
-    ensures { result ≡ length_at (cond_object c.0) }
-{
-    16 * (CONDITIONS + c.0 as usize) + 2
-}
-
-/// The length word of a semaphore's queue.
-#[inline]
-pub fn sem_length_word(s: SemId) -> usize
-    ensures { result ≡ length_at (sem_object s.0) }
-{
-    16 * (SEMAPHORES + s.0 as usize) + 2
 }
 
 /// The alert word of a thread.

@@ -1,21 +1,17 @@
 //! The steps on the queue of an object, under its spin word, and the look at its length.
-ghost use Rattle.std.specs.Prelude.{◌≡◌, ◌≢◌, ◌+◌, ◌<◌, ℕ, List, [], ◌∷◌, ◌++◌, length, Some, None, true, false};
+ghost use Rattle.std.specs.Prelude.{◌≡◌, ◌≢◌, ◌+◌, ◌<◌, [], ◌∷◌, ◌++◌, length, Some, None, true, false};
 ghost use Rattle.larch_actions.specs.Sets.{mem, without};
-ghost use Rattle.nub_rule.specs.declared.rule.Slot.TheVariants.{Queue};
 ghost use Rattle.nub_rule.specs.declared.view.Stage.TheVariants.{Pushed, Clear, Tested};
-ghost use Rattle.nub_rule.specs.Items.{line_of};
 ghost use Rattle.nub_rule.specs.Known.{StandsAs, MayPush, MayPop};
 ghost use Rattle.nub_rule.specs.Objects.{object_of, HasObject, IsGate, IsCond};
 ghost use Rattle.nub_rule.specs.Parts.{staged, IsUntested, IsClear};
 ghost use Rattle.nub_rule.specs.Plays.{behind, less, unread};
 
-use crate::cond::{pop_cond, push_cond};
-use crate::hand::bring;
-use crate::line::{leave_line, pop_line, push_line};
 use crate::object::Object;
 use crate::package::{Package, Thread};
-use crate::plays::{PopGate, PushGate, ReadLength, TakeOut, TestAgain};
-use crate::stepping::{load, slot_mut, store};
+use crate::plays::{PopCond, PopGate, PushCond, PushGate, ReadLength, TakeOut, TestAgain};
+use crate::queueing::{leave, pop, push};
+use crate::stepping::load;
 use crate::uses::Uses;
 use larch_actions::ThreadId;
 
@@ -56,28 +52,10 @@ pub fn push_queue<U: Uses>(p: &Package<U>, me: &mut Thread<U>, at: Object)
     } }
 {
     match at {
-        Object::Mutex(_) | Object::Sem(_) => push_gate(p, me, at),
-        Object::Cond(c) => push_cond(p, me, c),
+        Object::Mutex(_) | Object::Sem(_) => push::<PushGate, U>(p, me, at),
+        // A condition has no bit that would have to be tested again.
+        Object::Cond(_) => push::<PushCond, U>(p, me, at),
     }
-}
-
-fn push_gate<U: Uses>(p: &Package<U>, me: &mut Thread<U>, at: Object)
-    requires of { me.old.table_id ≡ p.now.table_id }
-    requires named { HasObject p.now.layout at }
-    requires gate { IsGate at }
-    requires inside { me.old.spin ≡ Some (object_of at) }
-    requires outside { me.old.stand ≡ None }
-    ensures { me.new ≡ record me.old {
-      queue = me.old.queue ++ me.old.number ∷ [];
-      left = me.old.left ++ me.old.number ∷ [];
-      stand = Some record { at = object_of at; stage = Pushed };
-    } }
-{
-    let o = at.number();
-    bring(&mut me.hand, &mut me.seat, o as u16);
-    // The list is this thread's while it has the spin word. Others see the length word, so that is the step.
-    let length = push_line(slot_mut(&mut me.seat, &p.table.shared, o), me.number);
-    store::<PushGate, U>(&p.table, &mut me.seat, at.length_word(), length);
 }
 
 /// Reads the bit again, after the push: a thread that found it set before may have pushed itself after the clearing's look at the queue.
@@ -108,13 +86,7 @@ pub fn take_out<U: Uses>(p: &Package<U>, me: &mut Thread<U>, at: Object) -> bool
     } }
     ensures same { result ≡ false → me.new ≡ me.old }
 {
-    let o = at.number();
-    bring(&mut me.hand, &mut me.seat, o as u16);
-    let Some(length) = leave_line(slot_mut(&mut me.seat, &p.table.shared, o), me.number) else {
-        return false;
-    };
-    store::<TakeOut, U>(&p.table, &mut me.seat, at.length_word(), length);
-    true
+    leave::<TakeOut, U>(p, me, at)
 }
 
 /// Takes the first out of the queue. The thread owes it its ready word then.
@@ -137,33 +109,9 @@ pub fn pop_queue<U: Uses>(p: &Package<U>, me: &mut Thread<U>, at: Object) -> Opt
     ensures cond { IsCond at → me.new ≡ record me.old { queue = behind me.old.queue; owed = me.new.owed } }
 {
     match at {
-        Object::Mutex(_) | Object::Sem(_) => pop_gate(p, me, at),
-        Object::Cond(c) => pop_cond(p, me, c),
+        Object::Mutex(_) | Object::Sem(_) => pop::<PopGate, U>(p, me, at),
+        Object::Cond(_) => pop::<PopCond, U>(p, me, at),
     }
-}
-
-fn pop_gate<U: Uses>(p: &Package<U>, me: &mut Thread<U>, at: Object) -> Option<ThreadId>
-    requires of { me.old.table_id ≡ p.now.table_id }
-    requires named { HasObject p.now.layout at }
-    requires gate { IsGate at }
-    requires inside { me.old.spin ≡ Some (object_of at) }
-    ensures none { result ≡ None → me.old.queue ≡ [] }
-    ensures owes { result ≡ None → me.new.owed ≡ me.old.owed }
-    ensures first { (t : ThreadId) → result ≡ Some t → (me.old.queue ≡ t.0 ∷ behind me.old.queue)
-        × (me.new.owed ≡ me.old.owed ++ t.0 ∷ []) }
-    ensures out { me.new ≡ record me.old {
-      queue = behind me.old.queue;
-      left = behind me.old.left;
-      owed = me.new.owed;
-      cleared = without (object_of at) me.old.cleared;
-      looked = without (object_of at) me.old.looked;
-    } }
-{
-    let o = at.number();
-    bring(&mut me.hand, &mut me.seat, o as u16);
-    let (first, length) = pop_line(slot_mut(&mut me.seat, &p.table.shared, o));
-    store::<PopGate, U>(&p.table, &mut me.seat, at.length_word(), length);
-    first
 }
 
 /// Looks at a bit. Not an atomic step of the rule: the view stays, and no clause speaks of the result.

@@ -215,11 +215,8 @@ fn table_of<U: Uses>(
 >
     requires opens { IsKept about.layout about.traced about.world.value U.begin U.holds
         (opening words.items slots.items (opening_view about.world.value U.begin)) }
-    ensures words { IfOk result (λ t. t.0.shared.table_id.words ≡ length words.items) }
-    ensures slots { IfOk result (λ t. t.0.shared.table_id.slots ≡ length slots.items) }
-    ensures of { IfOk result (λ t. t.1.table_id ≡ t.0.shared.table_id) }
-    ensures root { IfOk result (λ t. t.1.me ≡ (opening_view about.world.value U.begin, [])) }
-    ensures key { IfOk result (λ t. t.0.shared.key ≡ about) }
+    ensures { IfOk result (λ t. (t.0.shared.table_id.words ≡ length words.items) × (t.0.shared.table_id.slots ≡ length slots.items)
+        × (t.1.table_id ≡ t.0.shared.table_id) × (t.1.me ≡ (opening_view about.world.value U.begin, [])) × (t.0.shared.key ≡ about)) }
 {
     let Ok(made) = Table::new(alloc, words.as_slice(), slots, &about) else {
         return Err(AllocError);
