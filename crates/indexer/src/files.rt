@@ -72,7 +72,10 @@ fn path_in(taken: Result<(u64, IndexItem), TakeEnd>) -> Option<Text> {
     match taken {
         Ok((_, item)) => match item {
             IndexItem::File(path) => Some(path),
-            IndexItem::Piece(_) => None,
+            IndexItem::Piece(piece) => {
+                drop(piece);
+                None
+            }
         },
         Err(_) => None,
     }

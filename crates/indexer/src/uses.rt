@@ -5,22 +5,17 @@ ghost use Rattle.bounded_buffer.specs.Plain.{note, put_did, take_did};
 ghost use Rattle.indexer.specs.Work.{KeepsWork, FitsWork, MayChange, Share, ring_of};
 ghost use Rattle.indexer.specs.WorkLaws.{fits_work, keeps_work};
 
-use crate::value::{IndexItem, IndexValue};
-use bounded_buffer::Note;
+use crate::value::IndexValue;
 use nub_rule::{Change, Uses};
-use std::collections::LinkedList;
 use std::marker::Model;
-use std::mem::ManuallyDrop;
 
-/// All that a thread did at the buffers, the last first.
-pub struct IndexShare {
-    notes: ManuallyDrop<LinkedList<Note<IndexItem>>>,
-}
+/// All that a thread did at the buffers, the last first. Contracts alone see it, so no value of this type is made, and it has no field.
+pub struct IndexShare;
 
 impl Model for IndexShare {
     ghost Value = { Share };
 
-    ghost view = { λ s. s.notes.value };
+    ghost view = { λ s. [] };
 }
 
 /// The list of directories stands behind mutex 0 and a buffer behind each other mutex.
