@@ -19,24 +19,8 @@ use std::alloc::{AllocError, Global};
 use std::sync::Wait;
 use std::thread::Threads;
 
-// The caller's own part: where a worker couldn't be started, it shuts all, since that worker will be run here when the others have ended.
-fn wait_beside<R: Wait>(
-    rt: &R,
-    p: &Package<IndexUses>,
-    mut caller: Thread<IndexUses>,
-    refused: bool,
-) -> Thread<IndexUses>
-    requires layout { HasLists p.now.layout }
-    requires between { IsBetween p.now caller }
-    ensures { (o : Option Told) (root : Path) → HasCalled o root [] p.now 0 0 caller result }
-{
-    if refused {
-        shut_all(rt, p, &mut caller);
-    }
-    caller
-}
-
-// Lets each job be worked on, all at once.
+// Lets each job be worked on, all at once. Where a worker couldn't be started, the caller meanwhile shuts all, since that worker will be run
+// here when the others have ended.
 fn run_jobs<R: Threads + Wait + Sync, S: Tree, G: Gate>(
     rt: &R,
     alloc: Global,
@@ -69,7 +53,13 @@ fn run_jobs<R: Threads + Wait + Sync, S: Tree, G: Gate>(
         |refused: bool| -> Thread<IndexUses>
             requires { HasLists p.now.layout × IsBetween p.now caller }
             ensures { (o : Option Told) (q : Path) → HasCalled o q [] p.entry.now 0 0 caller result }
-        { wait_beside(rt, p, caller, refused) },
+        {
+            let mut caller = caller;
+            if refused {
+                shut_all(rt, p, &mut caller);
+            }
+            caller
+        },
     )
 }
 
@@ -96,7 +86,7 @@ pub fn run_workers<R: Threads + Wait + Sync, S: Tree, G: Gate>(
     ensures { IfOk result (λ r. HasCrew S.tree S.may_fail S.faults S.calls root.now p.now walkers with_tree threads.items trees.old
         trees.new r.0.items r.1.items) }
 {
-    let mut all = Vec::with_capacity(alloc, threads.len())?;
+    let room = Vec::with_capacity(alloc, threads.len())?;
     // The caller is thread 0.
     let caller = threads.remove(0);
     let Ok(jobs) = jobs_of(alloc, threads, trees, walkers as usize, with_tree) else {
@@ -104,6 +94,5 @@ pub fn run_workers<R: Threads + Wait + Sync, S: Tree, G: Gate>(
         return Err(AllocError);
     };
     let (jobs, findings, caller) = run_jobs(rt, alloc, p, caller, jobs, root, walkers, gate)?;
-    all.push_reserved(caller);
-    Ok((put_back(jobs, trees, with_tree, all), findings))
+    Ok((put_back(caller, jobs, trees, with_tree, room), findings))
 }

@@ -23,16 +23,6 @@ pub fn shut_all<R: Wait>(rt: &R, p: &Package<IndexUses>, me: &mut Thread<IndexUs
     shut_pieces(rt, p, me);
 }
 
-// Alerts each worker.
-fn alert_all<R: Wait>(rt: &R, p: &Package<IndexUses>, me: &mut Thread<IndexUses>)
-    requires between { IsBetween p.now me.old }
-    ensures { (o : Option Told) (root : Path) (m : ℕ) → HasCalled o root [] p.now m 0 me.old me.new }
-{
-    for t in 1..p.layout().threads {
-        alert(rt, p, me, ThreadId(t));
-    }
-}
-
 /// Lets all end soon: shuts the list of directories and both buffers, and alerts each worker. Who is alerted finds all shut, so that it
 /// waits for nothing more.
 pub fn cancel<R: Wait>(rt: &R, p: &Package<IndexUses>, me: &mut Thread<IndexUses>)
@@ -41,5 +31,7 @@ pub fn cancel<R: Wait>(rt: &R, p: &Package<IndexUses>, me: &mut Thread<IndexUses
     ensures { (o : Option Told) (root : Path) (m : ℕ) → HasCalled o root [] p.now m 0 me.old me.new }
 {
     shut_all(rt, p, me);
-    alert_all(rt, p, me);
+    for t in 1..p.layout().threads {
+        alert(rt, p, me, ThreadId(t));
+    }
 }

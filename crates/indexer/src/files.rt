@@ -6,7 +6,7 @@ ghost use Rattle.indexer.specs.Turns.{HasCalled, HasLists, IsBetween};
 use crate::uses::IndexUses;
 use crate::value::IndexItem;
 use alerts::test_alert;
-use bounded_buffer::{BufferAt, PutEnd, put, shut, take};
+use bounded_buffer::{BufferAt, PutEnd, TakeEnd, put, shut, take};
 use firefly_outside::Text;
 use larch_actions::{CondId, MutexId};
 use nub_rule::{Package, Thread};
@@ -67,26 +67,17 @@ pub fn put_files<R: Wait>(
     true
 }
 
-// Takes the path of a file, if the buffer gives one.
-fn take_file<R: Wait>(rt: &R, p: &Package<IndexUses>, me: &mut Thread<IndexUses>) -> Option<Text>
-    requires layout { HasLists p.now.layout }
-    requires between { IsBetween p.now me.old }
-    ensures { (o : Option Told) (root : Path) → HasCalled o root [] p.now 1 1 me.old me.new }
-{
-    match take(rt, p, me, &FILES) {
-        Ok((_, item)) => path_in(item),
+// The path of the file that was taken, if one was.
+fn path_in(taken: Result<(u64, IndexItem), TakeEnd>) -> Option<Text> {
+    match taken {
+        Ok((_, item)) => match item {
+            IndexItem::File(path) => Some(path),
+            IndexItem::Piece(piece) => {
+                drop(piece);
+                None
+            }
+        },
         Err(_) => None,
-    }
-}
-
-// The path of a file, if the item is one.
-fn path_in(item: IndexItem) -> Option<Text> {
-    match item {
-        IndexItem::File(path) => Some(path),
-        IndexItem::Piece(piece) => {
-            drop(piece);
-            None
-        }
     }
 }
 
@@ -102,7 +93,8 @@ pub fn next_file<R: Wait>(
     requires between { IsBetween p.now me.old }
     ensures { (o : Option Told) (root : Path) → HasCalled o root [] p.now 1 1 me.old me.new }
 {
-    let path = take_file(rt, p, me);
+    let taken = take(rt, p, me, &FILES);
+    let path = path_in(taken);
     if test_alert(rt, p, me) {
         return None;
     }

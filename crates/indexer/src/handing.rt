@@ -1,5 +1,5 @@
 //! Trees are handed to the workers, and come back.
-ghost use Rattle.std.specs.Prelude.{◌≡◌, ◌+◌, ◌≤◌, ◌<◌, ◌++◌, ℕ, List, length, map, vec_len, vec_capacity, slice_index_or, IfOk, OnErr, Option, None};
+ghost use Rattle.std.specs.Prelude.{◌≡◌, ◌+◌, ◌≤◌, ◌<◌, ◌∷◌, [], ℕ, List, length, map, vec_len, vec_capacity, slice_index_or, IfOk, OnErr, Option, None};
 ghost use Rattle.indexer.specs.Jobs.{AreJobs, kind_at, tree_at};
 ghost use Rattle.indexer.specs.declared.job.Job.{Job};
 
@@ -74,20 +74,23 @@ pub fn jobs_of<S: Drop>(
     Ok(jobs)
 }
 
-/// Puts the trees back, and the threads behind those that are given.
+/// Puts the trees back, and answers all threads, the caller's first, in the empty vector that is given.
 pub fn put_back<S: Drop>(
+    caller: Thread<IndexUses>,
     jobs: Vec<Job<S>>,
     trees: &mut [Option<S>],
     with_tree: usize,
     mut threads: Vec<Thread<IndexUses>>,
 ) -> Vec<Thread<IndexUses>>
     requires trees { with_tree ≤ length trees.old }
-    requires room { vec_len threads + vec_len jobs ≤ vec_capacity threads }
-    ensures threads { result.items ≡ threads.items ++ map (λ j. j.me) jobs.items }
+    requires empty { threads.items ≡ [] }
+    requires room { vec_len threads + vec_len jobs < vec_capacity threads }
+    ensures threads { result.items ≡ caller ∷ map (λ j. j.me) jobs.items }
     ensures trees { (k : ℕ) (d : Option S) (e : Job S) → k < with_tree → k < vec_len jobs
         → slice_index_or trees.new k d ≡ (slice_index_or jobs.items k e).tree }
     ensures others { (i : ℕ) (d : Option S) → with_tree ≤ i → slice_index_or trees.new i d ≡ slice_index_or trees.old i d }
 {
+    threads.push_reserved(caller);
     let mut k = 0;
     for job in jobs {
         let Job { me, kind: _, tree } = job;

@@ -2,16 +2,23 @@
 ghost use Rattle.std.specs.Prelude.{[], ◌∷◌};
 ghost use Rattle.bounded_buffer.specs.declared.did.Did.TheVariants.{Shut};
 ghost use Rattle.bounded_buffer.specs.Plain.{note, put_did, take_did};
-ghost use Rattle.indexer.specs.Work.{KeepsWork, FitsWork, MayChange, ring_of};
+ghost use Rattle.indexer.specs.Work.{KeepsWork, FitsWork, MayChange, Share, ring_of};
 ghost use Rattle.indexer.specs.WorkLaws.{fits_work, keeps_work};
 
-use crate::value::{IndexItem, IndexValue};
-use bounded_buffer::Note;
+use crate::value::IndexValue;
 use nub_rule::{Change, Uses};
-use std::collections::LinkedList;
+use std::marker::Model;
 
-/// The list of directories stands behind mutex 0 and a buffer behind each other mutex. A share is all that its thread did at the buffers,
-/// the last first.
+/// All that a thread did at the buffers, the last first. Contracts alone see it, so no value of this type is made, and it has no field.
+pub struct IndexShare;
+
+impl Model for IndexShare {
+    ghost Value = { Share };
+
+    ghost view = { λ s. [] };
+}
+
+/// The list of directories stands behind mutex 0 and a buffer behind each other mutex.
 pub struct IndexUses;
 
 impl Uses for IndexUses {
@@ -19,7 +26,7 @@ impl Uses for IndexUses {
 
     type World = ();
 
-    type Share = LinkedList<Note<IndexItem>>;
+    type Share = IndexShare;
 
     ghost begin = { λ w t. [] };
 

@@ -1,4 +1,4 @@
-use Rattle.std.proofs.Common.{List, [], ◌∷◌, ◌++◌, map, ap, sym, ◌∙◌, arith, suc}
+use Rattle.std.proofs.Common.{List, map, ap, sym, ◌∙◌, arith, suc}
 use Rattle.std.specs.Prelude.{remove}
 use Rattle.std.proofs.lemmas.List.{length-map}
 use lib.ListN.{get_elem?}
@@ -18,25 +18,14 @@ run_jobs-requires-clause-jobs g c κs within = λ n x at.
     c.requires.threads (suc n) x.me (behind_first c.args.threads.items n x.me
     (ap (λ (l : List Worker). get_elem? l n) (sym (c.in-Ok.ensures.made ∙ c.remove-caller.ensures.items)) ∙ to_map (λ (j : Job g.row.S.Denot). j.me) c.in-Ok.jobs.items n x at))
 
-pub push_reserved-requires : goal.push_reserved-requires
-push_reserved-requires g c =
-    let none = c.in_ok-all.ensures.len in
-    let room = c.in_ok-all.ensures.capacity in
-    let len = c.len.ensures in
-    let some = c.requires.caller in
-    let threads = c.args.threads.ok.0 in
-    omega arith
-
 pub put_back-requires-clause-room : goal.put_back-requires-clause-room
 put_back-requires-clause-room g c =
     let many = c.in_ok-jobs.ensures.jobs ∙ as_many c.in-Ok.jobs.items c.remove-caller.new.self.items c.in-Ok.ensures.made in
-    let room = c.in_ok-all.ensures.capacity in
-    let none = c.in_ok-all.ensures.len in
+    let room = c.in_ok-room.ensures.capacity in
+    let none = c.in_ok-room.ensures.len in
     let len = c.len.ensures in
     let less = c.remove-caller.ensures.len in
-    let push = c.push_reserved.ensures in
-    let long = push.len in
-    let cap = push.capacity in
+    let some = c.requires.caller in
     let jobs = c.in_ok-jobs.jobs.ok.0 in
     let threads = c.args.threads.ok.0 in
     let rest = c.remove-caller.new.self.ok.0 in
@@ -62,7 +51,7 @@ returns g c =
       last = caller;
       called = ran.caller;
       back = behind;
-      is_all = put.threads ∙ ap (λ (l : List Worker). l ++ behind) (c.push_reserved.ensures.items ∙ ap (λ (l : List Worker). l ++ caller ∷ []) c.in_ok-all.ensures.items);
+      is_all = put.threads;
       many = long ∙ ran.jobs ∙ as_many jobs (remove threads 0) others;
       found = ran.findings ∙ sym (long ∙ ran.jobs);
       worked = all_worked S.tree S.may_fail S.faults S.calls c.args.root.now c.args.p.now c.args.walkers c.args.with_tree (remove threads 0) findings c.args.trees.now c.put_back.new.trees jobs back.items

@@ -1,7 +1,8 @@
-use Rattle.std.proofs.Common.{List, ◌≡◌, ◌<◌, ◌∷◌, [], ◌++◌, map, length, get_or, ap, sym, subst, ◌∙◌, append_assoc, length-append, arith}
+use Rattle.std.proofs.Common.{List, ◌≡◌, ◌<◌, ◌∷◌, [], ◌++◌, map, length, get_or, refl, ap, sym, subst, ◌∙◌, append_assoc, append-nil, length-append, arith, below_none}
 use Rattle.std.specs.Vec.Iter.{into_iter_items}
 use Rattle.thread_crew.proofs.Zips.{all_yielded}
 use Rattle.indexer.specs.declared.job.Job.{Job}
+use Rattle.indexer.specs.Turns.{Worker}
 use Rattle.indexer.proofs.Placing.{placed, map_snoc}
 use Rattle.indexer.proofs.handing.put_back.Goals as goal
 
@@ -13,9 +14,9 @@ loop-job-preserved g c =
     let steps = c.in-Some.ensures.steps.0 in
     let gone = c.in-Some.ensures.steps.1 in
     let short = ap length steps in
-    let push = c.push_reserved.ensures in
+    let push = c.push_reserved-in-loop-job.ensures in
     let put = c.put_tree.ensures in
-    let front = c.args.threads.items in
+    let front = c.push_reserved.new.self.items in
     record {
       whole = append_assoc at.yielded (x ∷ []) _ ∙ rw (← steps) was.whole;
       left = (let left = was.left in omega arith);
@@ -30,7 +31,25 @@ loop-job-preserved g c =
     }
 
 pub push_reserved-requires : goal.push_reserved-requires
-push_reserved-requires g c =
+push_reserved-requires g c = let room = c.requires.room in omega arith
+
+pub loop-job-init : goal.loop-job-init
+loop-job-init g c =
+    let push = c.push_reserved.ensures in
+    let gives = c.into_iter-job-iterator.ensures.into_iter_gives in
+    let len = gives.1 in
+    record {
+      whole = refl;
+      left = (let all = ap length gives.0 in let ok = c.args.jobs.ok in let same = ok.0 in omega arith);
+      room = (let long = push.len in let cap = push.capacity in let room = c.requires.room in omega arith);
+      count = refl;
+      made = sym (append-nil c.push_reserved.new.self.items);
+      back = λ k d e h low. below_none (λ j. get_or c.args.trees.now j d ≡ e.tree) k low;
+      above = λ i d h. refl;
+    }
+
+pub push_reserved-requires-in-loop-job : goal.push_reserved-requires-in-loop-job
+push_reserved-requires-in-loop-job g c =
     let was = c.loop-job.invariant in
     let room = was.room in
     let left = was.left in
@@ -61,4 +80,5 @@ pub returns-clause-threads : goal.returns-clause-threads
 returns-clause-threads g c =
     let at = c.loop-job in
     let all = all_yielded at.yielded _ _ at.invariant.whole (sym at.invariant.left ∙ c.in-None.ensures.steps.0) ∙ c.into_iter-job-iterator.ensures.into_iter_gives.0 in
-    at.invariant.made ∙ ap (λ (l : List (Job g.row.S.Denot)). c.args.threads.items ++ map (λ j. j.me) l) all
+    let first = c.push_reserved.ensures.items ∙ ap (λ (l : List Worker). l ++ c.args.caller ∷ []) c.requires.empty in
+    at.invariant.made ∙ (ap (λ (l : List Worker). l ++ map (λ j. j.me) at.yielded) first ∙ ap (λ (l : List (Job g.row.S.Denot)). c.args.caller ∷ map (λ j. j.me) l) all)
