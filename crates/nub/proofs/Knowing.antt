@@ -1,6 +1,5 @@
 -- What the thread knows after the steps of a sleep, and after those that lead to an event, of plain variables.
 use Rattle.std.proofs.Common.{◌≡◌, ◌<◌, ◌≤◌, ℕ, true, None, Some, Option as Opt, ◌∷◌, ap, sym, subst, ◌∙◌}
-use Rattle.nub_rule.specs.declared.view.Pen.{Pen}
 use Rattle.nub_rule.specs.declared.view.Pen.TheVariants.{No, Taken, Read}
 use Rattle.nub_rule.specs.declared.view.Stage.{Stage}
 use Rattle.nub_rule.specs.declared.view.Stage.TheVariants.{Alerted, Asleep, Found}
@@ -28,7 +27,7 @@ module _ {T H W : Type 0} where
         let L : Known T H W → Known T H W = λ k. record k { stand = staged Asleep k.stand } in
         (s, Asleep, stood, tt, same ∙ (asleep ∙ ap L is))
 
-    found_stand : r ≡ record l { stand = staged Found l.stand } → r.stand ≡ Some (record s { stage = Found })
+    pub found_stand : r ≡ record l { stand = staged Found l.stand } → r.stand ≡ Some (record s { stage = Found })
     found_stand found = ap (λ k. k.stand) found ∙ ap (λ k. staged Found k.stand) is
 
     pub woken_at_gate : (z : Known T H W) → r ≡ record l { stand = staged Found l.stand }

@@ -1,10 +1,10 @@
 -- The lists of all threads have each place of the history once, and nothing else.
-use Rattle.std.proofs.Common.{map, ◌≡◌, ◌≢◌, Bool, ℕ, ◌+◌, ◌<◌, List, [], ◌∷◌, length, get_or, set, sym, ap, ◌∙◌, subst, refl, arith, cond, eqb, true, false, suc, zero, sum_by, ⊎_elim, length-set}
-use Rattle.std.specs.List.{All}
-use Rattle.std.proofs.lemmas.List.{get_or-map, length-map, get_or-set_same, get_or-set_other, same_lists}
+use Rattle.std.proofs.Common.{map, ◌≡◌, ◌≢◌, Bool, ℕ, ◌+◌, ◌<◌, ◌≤◌, List, [], ◌∷◌, length, get_or, set, sym, ap, ◌∙◌, subst, refl, arith, cond, eqb, true, false, suc, zero, sum_by, ⊎_elim, length-set}
+use Rattle.std.specs.List.{All, AllWithin}
+use Rattle.std.proofs.lemmas.List.{get_or-map, length-map, get_or-set_same, get_or-set_other, get_or_default, same_lists}
 use Rattle.std.proofs.lemmas.List.Sums.{sum_by-set, sum_by-cons}
 use Rattle.std.proofs.lemmas.List.Elements.{All-nil, All-cons, All-head, All-tail}
-use Rattle.std.proofs.lemmas.Bool.{cases_eq}
+use Rattle.std.proofs.lemmas.Bool.{cases_eq, cases_lt}
 use Rattle.std.proofs.lemmas.Bool.Decides.{nat_tests}
 use Rattle.larch_actions.specs.declared.event.Event.{Event}
 use Rattle.nub_rule.specs.declared.package.Entry.{Entry}
@@ -133,3 +133,24 @@ whole_lists h stored are whole =
 
 pub counted : (h : List Event) (stored : List Stored) → AreLists h (lists_of stored) → sum_by (λ s. length s.entries.items) stored ≡ length h
 counted h stored are = sym (sum_by-map (λ l. length l) (λ s. s.entries.items) stored) ∙ sum_stored h (lists_of stored) are
+
+-- an event at its place
+own-place : (h places : List Event) (x : Entry) → x.number < length places → IsOf h x → SameAt h (set places x.number x.event) x.number
+own-place h places x low of d = get_or-set_same places x.number x.event d low ∙ sym (of.1 d)
+
+pub keeps_place : (h places : List Event) (x : Entry) → x.number < length places → IsOf h x → (k : ℕ) → SameAt h places k → SameAt h (set places x.number x.event) k
+keeps_place h places x low of k same d = ⊎_elim
+    (λ (p : k ≡ x.number). let Q : ℕ → Type 0 = λ j. get_or (set places x.number x.event) j d ≡ get_or h j d in subst Q (sym p) (own-place h places x low of d))
+    (λ (p : k ≢ x.number). get_or-set_other places x.number k x.event d p ∙ same d)
+    (cases_eq k x.number)
+
+-- one more of the list is at its place
+pub fills_place : (h places : List Event) (list : List Entry) (n : ℕ) (x e : Entry) → n < length list → x ≡ get_or list n e → x.number < length places → IsOf h x
+    → AllWithin (λ y. SameAt h places y.number) list 0 n → AllWithin (λ y. SameAt h (set places x.number x.event) y.number) list 0 (n + 1)
+fills_place h places list n x e l is low of fills k d from below = ⊎_elim
+    (λ (p : k < n). keeps_place h places x low of (get_or list k d).number (fills k d from p))
+    (λ (p : n ≤ k).
+    let same : k ≡ n = omega arith in
+    let Q : Entry → Type 0 = λ y. SameAt h (set places x.number x.event) y.number in
+    subst Q (is ∙ (get_or_default list n e d l ∙ ap (λ (j : ℕ). get_or list j d) (sym same))) (own-place h places x low of))
+    (cases_lt k n)

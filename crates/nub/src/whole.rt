@@ -4,12 +4,13 @@ ghost use Rattle.larch_actions.specs.declared.event.Event.{Event};
 ghost use Rattle.larch_actions.specs.Layout.{IsLawful};
 ghost use Rattle.nub_rule.specs.Ends.{firsts};
 ghost use Rattle.nub_rule.specs.Items.{Each};
-ghost use Rattle.nub.specs.Ended.{IsFirst, IsDone, KeepsLocks, IsWhole};
+ghost use Rattle.nub.specs.Ended.{IsFirst, IsDone, KeepsLocks, IsWhole, trace_of};
+ghost use Rattle.nub.specs.History.{AreStored};
 
 use super::closed::Closed;
 use super::trace_order::in_order;
-use larch_actions::Layout;
-use nub_rule::{Package, Remains, Thread, Uses};
+use larch_actions::{Event, Layout};
+use nub_rule::{Package, Remains, Stored, Thread, Uses};
 use std::alloc::{AllocError, Global};
 use std::mem::ManuallyDrop;
 use std::snapshot::Snapshot;
@@ -58,19 +59,26 @@ pub fn close_package<U: Uses>(
         p,
         ManuallyDrop::into_inner(threads),
     );
-    if !traced {
-        return Ok(Closed {
-            layout,
-            values,
-            trace: None,
-            threads: last,
-        });
-    }
-    let events = in_order(alloc, stored.as_slice())?;
+    let told = history(alloc, traced, stored.as_slice());
+    drop(stored);
+    let trace = told?;
     Ok(Closed {
         layout,
         values,
-        trace: Some(events),
+        trace,
         threads: last,
     })
+}
+
+// The history that the threads have stored, where the run was traced.
+fn history(alloc: Global, traced: bool, stored: &[Stored]) -> Result<Option<Vec<Event>>, AllocError>
+    requires { traced ≡ true → (h : List Event) × AreStored h stored.now }
+    ensures untraced { traced ≡ false → (is_ok result ≡ true) × IfOk result (λ t. trace_of t ≡ None) }
+    ensures traced { traced ≡ true → (h : List Event) → AreStored h stored.now → IfOk result (λ t. trace_of t ≡ Some h) }
+{
+    if !traced {
+        return Ok(None);
+    }
+    let events = in_order(alloc, stored)?;
+    Ok(Some(events))
 }

@@ -1,5 +1,5 @@
 -- Waits within a line.
-use Rattle.std.proofs.Common.{◌≡◌, ℕ, zero, suc, ◌+◌, ◌-◌, ◌<◌, ◌≤◌, inl, inr, List, [], ◌∷◌, ◌++◌, append_assoc, append-nil, length, get_or, refl, ap, sym, subst, ◌∙◌, true, Some, arith}
+use Rattle.std.proofs.Common.{◌≡◌, ℕ, zero, suc, ◌+◌, ◌<◌, ◌≤◌, inl, inr, List, [], ◌∷◌, ◌++◌, append_assoc, append-nil, length, get_or, refl, ap, sym, subst, ◌∙◌, true, Some, arith}
 use mathlib.Core.Option.{some}
 use lib.ListN.{get_elem?, set}
 use Rattle.std.proofs.lemmas.List.{length-set}
@@ -21,7 +21,7 @@ use Rattle.firefly_script.specs.declared.line.Operation.TheVariants.{AlertWait, 
 use Rattle.firefly_script.specs.declared.table.Use.{Use}
 use Rattle.firefly_script.specs.declared.table.Use.TheVariants.{Needs}
 use Rattle.firefly_script.specs.Operations.{none_held, held_after, holding_with}
-use Rattle.firefly_script.specs.Runs.{IsRow, added_by, lines_of, returned, raised, times, total}
+use Rattle.firefly_script.specs.Runs.{IsRow, added_by, lines_of, returned, times, total}
 use Rattle.firefly_script.specs.Table.{use_of}
 use Rattle.script_run.specs.Playing.{Player, HasNumber, IsPlaying, HasMutex, alertable, given_up}
 use Rattle.script_run.proofs.Calls.{got, sums_small}
@@ -105,3 +105,10 @@ finished p t xs es numbers b x o m own is row uses none s =
     subst U (sym uses) (subst N (sym (none k)) (untouched h t 0 b.held numbers s.share (λ i. total (lines_of t xs) i) (omega arith) s.size s.held_size s.each k low))
     in
     played p t xs x numbers s.before es b s.share own (record { rest = s.rest; number = s.number; world = s.world; held_size = s.held_size }) s.size s.events (subst R (sym is) row) s.mine s.is_share (subst E (sym is) each)
+
+pub alerted≢returned : Alerted ≡ Returned → ⊥
+alerted≢returned e = cc
+
+-- a number that was as great as is awaited is not less while the numbers are the same
+pub still_less : (numbers old : List ℕ) (m n : ℕ) → numbers ≡ old → n ≤ get_or old m 0 → get_or numbers m 0 < n → ⊥
+still_less numbers old m n same enough less = let now : n ≤ get_or numbers m 0 = subst (λ (l : List ℕ). n ≤ get_or l m 0) (sym same) enough in omega arith

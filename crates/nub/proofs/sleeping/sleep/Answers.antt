@@ -1,10 +1,22 @@
-use Rattle.std.proofs.Common.{ap, sym, true≢false, ◌∙◌}
-use Rattle.nub.proofs.Knowing.{alerted_asleep, still_asleep, woken_at_cond, woken_at_gate}
+use Rattle.std.proofs.Common.{ap, refl, sym, true≢false, Option as Opt, ◌∙◌}
+use Rattle.nub_rule.specs.declared.view.Stage.TheVariants.{Found}
+use Rattle.nub_rule.specs.declared.view.Stand.{Stand}
+use Rattle.nub.proofs.Knowing.{alerted_asleep, found_stand, still_asleep, woken_at_cond, woken_at_gate}
 use Rattle.nub.proofs.sleeping.sleep.Goals.{else-alertable-via-then-alertable+else-read_alert-ne0, else-alertable-via-else-alertable}
 use Rattle.nub.proofs.sleeping.sleep.Goals as goal
 
+pub loop-init : goal.loop-init
+loop-init g c = let t = c.requires.tested in (t.0, t.0.stage, t.1, t.2, ap (λ (w : Opt Stand). record c.args.me.now { stand = w }) t.1)
+
 pub read_ready-requires-clause-tested : goal.read_ready-requires-clause-tested
 read_ready-requires-clause-tested g c κs within = let i = c.loop.invariant in (record i.0 { stage = i.1 }, ap (λ k. k.stand) i.4, i.3)
+
+pub clear_ready-requires-clause-ready : goal.clear_ready-requires-clause-ready
+clear_ready-requires-clause-ready g c κs within = let i = c.loop.invariant in
+    (record i.0 { stage = Found }, found_stand c.args.me.now c.loop.me c.read_ready.new.me i.0 i.1 i.2 i.4 (c.read_ready.ensures.found c.if-read_ready-ne0.true), tt)
+
+pub returns-then-read_ready-ne0-clause-plain : goal.returns-then-read_ready-ne0-clause-plain
+returns-then-read_ready-ne0-clause-plain g c = λ _. refl
 
 pub returns-then-read_ready-ne0-clause-at_gate : goal.returns-then-read_ready-ne0-clause-at_gate
 returns-then-read_ready-ne0-clause-at_gate g c = λ _. let i = c.loop.invariant in
@@ -16,6 +28,9 @@ returns-then-read_ready-ne0-clause-at_cond g c = λ _. let i = c.loop.invariant 
 
 pub returns-then-read_ready-ne0-clause-alerted : goal.returns-then-read_ready-ne0-clause-alerted
 returns-then-read_ready-ne0-clause-alerted g c = λ e. absurd (true≢false e)
+
+pub returns-then-read_alert-ne0-clause-plain : goal.returns-then-read_alert-ne0-clause-plain
+returns-then-read_alert-ne0-clause-plain g c = λ e. absurd (true≢false (sym c.if-alertable.true ∙ e))
 
 pub returns-then-read_alert-ne0-clause-at_gate : goal.returns-then-read_alert-ne0-clause-at_gate
 returns-then-read_alert-ne0-clause-at_gate g c = λ e. absurd (true≢false (sym e))

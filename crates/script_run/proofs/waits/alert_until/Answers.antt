@@ -1,9 +1,21 @@
-use Rattle.std.proofs.Common.{◌≡◌, ◌<◌, ◌≤◌, ◌++◌, append-nil, ℕ, suc, List, [], get_or, sym, ap, subst, ◌∙◌, arith}
+use Rattle.std.proofs.Common.{◌++◌, append-nil, ℕ, suc, List, [], sym, subst, ◌∙◌, refl}
 use Rattle.larch_actions.specs.declared.event.Event.{Event}
 use Rattle.firefly_script.specs.Runs.{times, returned, raised}
 use Rattle.script_run.specs.Playing.{IsPlaying, HasMutex}
-use Rattle.script_run.proofs.Waiting.{numbered, has_numbered, once_more}
+use Rattle.script_run.proofs.Waiting.{alerted≢returned, has_numbered, numbered, once_more, still_less}
 use Rattle.script_run.proofs.waits.alert_until.Goals as goal
+
+pub loop-init : goal.loop-init
+loop-init g c = record { same = refl; played = λ xs s has. (0, s); no_wait = λ le. (refl, refl) }
+
+pub alert_wait_once-requires-clause-playing : goal.alert_wait_once-requires-clause-playing
+alert_wait_once-requires-clause-playing g c =
+    let p = c.args.pkg.now in
+    let t = c.args.me.now.number in
+    let v = c.loop.invariant in
+    let q = c.requires.playing in
+    let r = v.played q.0 q.1 q.2 in
+    (q.0, times r.0 (returned t c.args.mutex c.args.cond), numbered p t c.loop.me.number q.0 _ _ _ (sym v.same) r.1, has_numbered p.layout t c.loop.me.number q.0 c.args.mutex.0 (sym v.same) q.2)
 
 pub loop-preserved : goal.loop-preserved
 loop-preserved g c =
@@ -21,7 +33,7 @@ loop-preserved g c =
     record {
       same = (step q.0 q.1 q.2).1.number ∙ v.same;
       played = λ xs s has. let r = step xs s has in (suc r.0, once_more (λ u. returned u m k) p t c.loop.me.number xs r.0 _ _ v.same r.1);
-      no_wait = λ le. let same = (v.no_wait le).0 in let here : get_or c.loop.numbers m.0 0 ≡ get_or c.args.numbers.now m.0 0 = ap (λ l. get_or l m.0 0) same in let less = c.if-numbers-mutex.false in absurd (omega arith);
+      no_wait = λ le. absurd (still_less c.loop.numbers c.args.numbers.now m.0 c.args.awaited (v.no_wait le).0 le c.if-numbers-mutex.false);
     }
 
 pub returns-then-numbers-mutex-clause-played : goal.returns-then-numbers-mutex-clause-played
@@ -42,3 +54,11 @@ returns-in-Alerted-clause-played g c xs s has =
     let last = c.in-Alerted.ensures xs (times r.0 (returned t m k)) (numbered p t c.loop.me.number xs _ _ _ (sym v.same) r.1) (has_numbered p.layout t c.loop.me.number xs m.0 (sym v.same) has) in
     let P : ℕ → Type 0 = λ u. IsPlaying p u xs (times r.0 (returned t m k) ++ raised u m k) c.alert_wait_once.new.numbers c.alert_wait_once.new.me in
     (r.0, subst P v.same last)
+
+pub returns-in-Alerted-clause-enough : goal.returns-in-Alerted-clause-enough
+returns-in-Alerted-clause-enough g c = λ e. absurd (alerted≢returned e)
+
+pub returns-in-Alerted-clause-no_wait : goal.returns-in-Alerted-clause-no_wait
+returns-in-Alerted-clause-no_wait g c = λ le.
+    let same = (c.loop.invariant.no_wait le).0 in
+    absurd (still_less c.loop.numbers c.args.numbers.now c.args.mutex.0 c.args.awaited same le c.if-numbers-mutex.false)
