@@ -30,14 +30,14 @@ impl<R: Files + AllocGlobal + Clone + Drop> DirTree<R> {
 }
 
 // Counts a failure, and not that memory ran out.
-fn noted<T>(faults: &mut u64, error: TreeError) -> Result<T, TreeError>
-    ensures same { result ≡ Err error }
+fn noted<T>(faults: &mut u64, answer: Result<T, TreeError>) -> Result<T, TreeError>
+    ensures same { result ≡ answer }
     ensures count { Counts faults.old faults.new result }
 {
-    if error == TreeError::Failed {
+    if let Err(TreeError::Failed) = answer {
         *faults = faults.saturating_add(1);
     }
-    Err(error)
+    answer
 }
 
 // Want of memory, or a failure.
@@ -200,16 +200,10 @@ impl<R: Files + AllocGlobal + Clone + Drop + Send> Tree for DirTree<R> {
     ghost faults = { λ t. t.faults };
 
     fn list(&mut self, alloc: Global, dir: &str) -> Result<Vec<Entry>, TreeError> {
-        match list_entries(&self.files, alloc, dir) {
-            Ok(entries) => Ok(entries),
-            Err(error) => noted(&mut self.faults, error),
-        }
+        noted(&mut self.faults, list_entries(&self.files, alloc, dir))
     }
 
     fn read(&mut self, alloc: Global, path: &str) -> Result<FileBytes, TreeError> {
-        match read_bytes(&self.files, alloc, path) {
-            Ok(file) => Ok(file),
-            Err(error) => noted(&mut self.faults, error),
-        }
+        noted(&mut self.faults, read_bytes(&self.files, alloc, path))
     }
 }

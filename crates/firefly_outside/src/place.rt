@@ -25,8 +25,14 @@ impl Clone for Place {
 
     fn clone(&self) -> Result<Place, AllocError> {
         match self {
-            Place::Dir(entries) => Ok(Place::Dir(entries.clone()?)),
-            Place::File(bytes) => Ok(Place::File(bytes.clone()?)),
+            Place::Dir(entries) => match entries.clone() {
+                Ok(entries) => Ok(Place::Dir(entries)),
+                Err(error) => Err(error),
+            },
+            Place::File(bytes) => match bytes.clone() {
+                Ok(bytes) => Ok(Place::File(bytes)),
+                Err(error) => Err(error),
+            },
         }
     }
 }
