@@ -99,9 +99,7 @@ impl Operation {
             } => [13, mutex.0 as u64, cond.0 as u64, number],
         }
     }
-}
 
-impl Operation {
     // Its word, and how many numbers stand behind it.
     fn word(&self) -> (&'static str, usize)
         ensures { result.1 ≤ 3 }
