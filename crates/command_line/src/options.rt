@@ -24,7 +24,10 @@ pub(crate) fn read_options<'a>(
     if !are_offered(words) {
         return Err(WordsFault::Usage);
     }
-    let matches = parse(alloc, words)?;
+    let matches = match parse(alloc, words) {
+        Ok(matches) => matches,
+        Err(fault) => return Err(fault),
+    };
     match options_in(&matches) {
         Some(options) => Ok(options),
         None => Err(WordsFault::Usage),
@@ -58,10 +61,14 @@ fn parse<'a>(alloc: Global, words: &'a [String]) -> Result<ArgMatches<'a>, Words
     };
     match command.try_get_matches_from(words) {
         Ok(matches) => Ok(matches),
-        Err(error) => match error.kind() {
-            ErrorKind::OutOfMemory => Err(WordsFault::Memory),
-            _ => Err(WordsFault::Usage),
-        },
+        Err(error) => {
+            let kind = error.kind();
+            drop(error);
+            match kind {
+                ErrorKind::OutOfMemory => Err(WordsFault::Memory),
+                _ => Err(WordsFault::Usage),
+            }
+        }
     }
 }
 
@@ -93,7 +100,10 @@ fn with_option<'a>(
 ) -> Result<clap::Command<'a>, AllocError>
     ensures { (a : App) → IfOk command.entry (λ c. app_of c ≡ a) → IfOk result (λ c. app_of c ≡ with_rule a (option_rule name.entry.now)) }
 {
-    command?.arg(option_named(alloc, name))
+    match command {
+        Ok(command) => command.arg(option_named(alloc, name)),
+        Err(error) => Err(error),
+    }
 }
 
 // DIR behind what there is, where there is a command.
@@ -103,7 +113,10 @@ fn with_dir<'a>(
 ) -> Result<clap::Command<'a>, AllocError>
     ensures { (a : App) → IfOk command.entry (λ c. app_of c ≡ a) → IfOk result (λ c. app_of c ≡ with_rule a directory_rule) }
 {
-    command?.arg(directory(alloc))
+    match command {
+        Ok(command) => command.arg(directory(alloc)),
+        Err(error) => Err(error),
+    }
 }
 
 fn option_named<'a>(alloc: Global, name: &'a str) -> Arg<'a>

@@ -8,3 +8,4 @@ pub mod Held
 pub mod Drafts
 pub mod Founds
 pub mod Runs
+pub mod Keys
