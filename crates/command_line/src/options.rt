@@ -61,14 +61,10 @@ fn parse<'a>(alloc: Global, words: &'a [String]) -> Result<ArgMatches<'a>, Words
     };
     match command.try_get_matches_from(words) {
         Ok(matches) => Ok(matches),
-        Err(error) => {
-            let kind = error.kind();
-            drop(error);
-            match kind {
-                ErrorKind::OutOfMemory => Err(WordsFault::Memory),
-                _ => Err(WordsFault::Usage),
-            }
-        }
+        Err(error) => match error.kind() {
+            ErrorKind::OutOfMemory => Err(WordsFault::Memory),
+            _ => Err(WordsFault::Usage),
+        },
     }
 }
 
