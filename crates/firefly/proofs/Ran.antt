@@ -36,6 +36,12 @@ under_names P k l es h vs ws el eh ev p =
     let V : List ℕ → Type 0 = λ z. P (trace_text k es (numbered 0 z)) in
     subst L el (subst E eh (subst V ev p))
 
+pub reads_names : (k l : Layout) (es h : List Event) (ns : List MutexValue) → k ≡ l → es ≡ h → ReadsAs (trace_text k es ns) k es ns → ReadsAs (trace_text l h ns) l h ns
+reads_names k l es h ns el eh p =
+    let L : Layout → Type 0 = λ z. ReadsAs (trace_text z h ns) z h ns in
+    let E : List Event → Type 0 = λ z. ReadsAs (trace_text k z ns) k z ns in
+    subst L el (subst E eh p)
+
 pub same_some : {A : Type 0} (o : Option A) (x y : A) → o ≡ Some x → o ≡ Some y → x ≡ y
 same_some o x y p q = cc
 

@@ -27,28 +27,27 @@ pub fn system_trees<R: Files + AllocGlobal + Clone + Drop + Send>(
 {
     let mut trees = Vec::new(alloc);
     for made in 0..TREES {
-        trees.push(Some(DirTree::new(rt.clone()?)))?;
+        let Ok(files) = rt.clone() else {
+            return Err(AllocError);
+        };
+        let Ok(()) = trees.push(Some(DirTree::new(files))) else {
+            return Err(AllocError);
+        };
     }
     Ok(trees)
 }
 
 /// The words after the program's name, or how the program ends without them. Nothing is said of which words they are.
 pub fn system_words<R: Env + AllocGlobal>(rt: &R) -> Result<Vec<String>, Ending> {
-    let args = match env::args(rt) {
-        Ok(args) => args,
-        Err(error) => {
-            return Err(match error.kind() {
-                ErrorKind::OutOfMemory => Ending::Memory,
-                // Words that can't be taken are no command.
-                _ => Ending::Usage,
-            });
-        }
-    };
-    let mut words = Vec::new(rt.alloc());
-    for word in args.skip(1) {
-        if words.push(word).is_err() {
-            return Err(Ending::Memory);
-        }
+    match env::args(rt) {
+        Ok(args) => match args.skip(1).collect(rt.alloc()) {
+            Ok(words) => Ok(words),
+            Err(_) => Err(Ending::Memory),
+        },
+        Err(error) => Err(match error.kind() {
+            ErrorKind::OutOfMemory => Ending::Memory,
+            // Words that can't be taken are no command.
+            _ => Ending::Usage,
+        }),
     }
-    Ok(words)
 }

@@ -1,13 +1,6 @@
 //! The command `run`.
-ghost use Rattle.std.specs.Prelude.{◌≡◌, ◌<◌, List, Some, length};
-ghost use Rattle.std.specs.List.{AllByRecursion};
-ghost use Rattle.larch_actions.specs.declared.event.Event.{Event};
-ghost use Rattle.larch_actions.specs.Layout.{IsLawful, HasNames};
-ghost use Rattle.trace_core.specs.Text.{trace_text, ReadsAs};
-ghost use Rattle.trace_core.specs.Whole.{numbered};
 ghost use Rattle.firefly_script.specs.Text.{IsScript};
 ghost use Rattle.firefly_check.specs.Changes.{change_of};
-ghost use Rattle.firefly_check.specs.Check.{Prints};
 ghost use Rattle.firefly.specs.RunCommand.{RunAnswers, Runs, Decides, SaysFault};
 
 use crate::print_trace::print_trace;

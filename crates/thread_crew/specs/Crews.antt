@@ -1,5 +1,5 @@
 -- What the workers of a crew do, by their jobs.
-use Rattle.std.specs.Prelude.{◌≡◌, ℕ, ◌<◌, Bool, true, false, List, [], length}
+use Rattle.std.specs.Prelude.{◌≡◌, ℕ, ◌<◌, ◌≤◌, Bool, true, false, List, [], length}
 use Rattle.thread_crew.specs.declared.task.Gives.{Gives}
 use Rattle.thread_crew.specs.declared.child.Child.{Child}
 use Rattle.thread_crew.specs.declared.child.Child.TheVariants.{Started, Held}
@@ -16,6 +16,11 @@ module _ {T X : Type 0} (gives : T → X → Type 0) where
   abbrev pub IsRunning : T → Running X (Gives T) → Type 0
   IsRunning job (Going h) = h.promise.task.value ≡ job
   IsRunning job (Done r) = gives job r
+
+-- a list that holds nothing yet, and has room for so many
+pub record HasRoom {A : Type 0} (many : ℕ) (items : List A) (capacity : ℕ) : Type 0 where
+  pub empty : items ≡ []
+  pub room : many ≤ capacity
 
 -- c follows from b: what goes with b goes with c
 abbrev pub Turns : {A B C : Type 0} → (A → B → Type 0) → (A → C → Type 0) → B → C → Type 0

@@ -1,7 +1,7 @@
 //! Starting the jobs of a crew, and joining them.
-ghost use Rattle.std.specs.Prelude.{◌≡◌, ◌≤◌, ◌+◌, [], List, vec_len, vec_capacity, IfOk, IfErr, length, Bool, true};
+ghost use Rattle.std.specs.Prelude.{◌≡◌, ◌≤◌, ◌+◌, [], List, vec_len, vec_capacity, IfOk, IfErr, IfSome, length, Bool, true};
 ghost use Rattle.std.specs.List.{AllZip, AllByRecursion};
-ghost use Rattle.thread_crew.specs.Crews.{IsChildOf, IsRunning, Told, Turns};
+ghost use Rattle.thread_crew.specs.Crews.{HasRoom, IsChildOf, IsRunning, Told, Turns};
 
 use crate::child::{Child, Running};
 use crate::outcome::{Finished, NotRun};
@@ -10,7 +10,7 @@ use std::alloc::Global;
 use std::snapshot::Snapshot;
 use std::sync::Wait;
 use std::thread;
-use std::thread::{Scope, Threads};
+use std::thread::{Promise, Scope, Threads};
 
 /// Runs a closure that could not be started.
 fn settle<T: Task<Output = X>, X: Drop, F: FnOnce() -> X + Drop>(
@@ -41,9 +41,8 @@ fn run_held<T: Task<Output = X>, X: Drop, F: FnOnce() -> X + Drop>(
     mut running: Vec<Running<X, Gives<T>>>,
 ) -> Vec<Running<X, Gives<T>>>
     requires ready { (jobs : List T) × AllZip (IsChildOf T.run_gives F.pre F.post) jobs children.items }
-    requires room { (running.items ≡ []) × (vec_len children ≤ vec_capacity running) }
-    ensures len { vec_len result ≡ vec_len children }
-    ensures turned { (jobs : List T) → AllZip (IsChildOf T.run_gives F.pre F.post) jobs children.items
+    requires room { HasRoom (vec_len children) running.items (vec_capacity running) }
+    ensures { (jobs : List T) → AllZip (IsChildOf T.run_gives F.pre F.post) jobs children.items
         → AllZip (IsRunning T.run_gives) jobs result.items }
 {
     for child in children {
@@ -58,7 +57,8 @@ fn join_all<R: Threads, T: Task<Output = X>, X: Drop>(
     running: Vec<Running<X, Gives<T>>>,
     mut results: Vec<X>,
 ) -> Vec<X>
-    requires room { (results.items ≡ []) × (vec_len running ≤ vec_capacity results) }
+    requires empty { results.items ≡ [] }
+    requires room { vec_len running ≤ vec_capacity results }
     ensures { (jobs : List T) → AllZip (IsRunning T.run_gives) jobs running.items → AllZip T.run_gives jobs result.items }
 {
     for one in running {
@@ -103,6 +103,34 @@ fn start_or_hold<
     }
 }
 
+/// The lists that are filled once the jobs were started.
+#[derive(Drop)]
+struct Later<X, P: Promise<X>> {
+    running: Vec<Running<X, P>>,
+    results: Vec<X>,
+}
+
+/// The lists of a crew, each with room for all jobs. `None` where there is no memory.
+fn lists_for<T: Task<Output = X>, X: Drop, F: FnOnce() -> X + Drop>(
+    alloc: Global,
+    len: usize,
+) -> Option<(Vec<Child<X, Gives<T>, F>>, Later<X, Gives<T>>)>
+    ensures { IfSome result (λ r. HasRoom len r.0.items (vec_capacity r.0)
+        × HasRoom len r.1.running.items (vec_capacity r.1.running)
+        × HasRoom len r.1.results.items (vec_capacity r.1.results)) }
+{
+    let Ok(children) = Vec::with_capacity(alloc, len) else {
+        return None;
+    };
+    let Ok(running) = Vec::with_capacity(alloc, len) else {
+        return None;
+    };
+    let Ok(results) = Vec::with_capacity(alloc, len) else {
+        return None;
+    };
+    Some((children, Later { running, results }))
+}
+
 /// Calls `between`, runs here what could not be started, and joins all.
 fn finish<
     R: Threads,
@@ -114,19 +142,19 @@ fn finish<
 >(
     rt: &R,
     children: Vec<Child<X, Gives<T>, F>>,
-    running: Vec<Running<X, Gives<T>>>,
-    results: Vec<X>,
+    later: Later<X, Gives<T>>,
     between: M,
     some_held: bool,
 ) -> Finished<X, Y>
     requires ready { (jobs : List T) × AllZip (IsChildOf T.run_gives F.pre F.post) jobs children.items }
-    requires running { (running.items ≡ []) × (vec_len children ≤ vec_capacity running) }
-    requires results { (results.items ≡ []) × (vec_len children ≤ vec_capacity results) }
+    requires running { HasRoom (vec_len children) later.running.items (vec_capacity later.running) }
+    requires results { HasRoom (vec_len children) later.results.items (vec_capacity later.results) }
     requires between { M.pre between some_held }
     ensures results { (jobs : List T) → AllZip (IsChildOf T.run_gives F.pre F.post) jobs children.items
         → AllZip T.run_gives jobs result.results.items }
     ensures between { M.post between some_held result.between }
 {
+    let Later { running, results } = later;
     let between = between(some_held);
     let results = join_all(rt, run_held(children, running), results);
     Finished { results, between }
@@ -147,20 +175,14 @@ fn in_scope<
     alloc: Global,
     jobs: Vec<T>,
     starts: usize,
-    running: Vec<Running<X, Gives<T>>>,
-    results: Vec<X>,
     between: M,
 ) -> Result<Finished<X, Y>, NotRun<T, M>>
-    requires runs { AllByRecursion T.can_run jobs.items }
-    requires running { (running.items ≡ []) × (vec_len jobs ≤ vec_capacity running) }
-    requires results { (results.items ≡ []) × (vec_len jobs ≤ vec_capacity results) }
-    requires between { (refused : Bool) → M.pre between refused }
-    ensures done { IfOk result (λ r. AllZip T.run_gives jobs.items r.results.items) }
-    ensures between { IfOk result (λ r. (refused : Bool) × Told starts jobs.items refused × M.post between refused r.between) }
-    ensures jobs_back { IfErr result (λ back. back.jobs ≡ jobs) }
-    ensures between_back { IfErr result (λ back. back.between ≡ between) }
+    requires { AllByRecursion T.can_run jobs.items × ((refused : Bool) → M.pre between refused) }
+    ensures { IfOk result (λ r. AllZip T.run_gives jobs.items r.results.items)
+        × IfOk result (λ r. (refused : Bool) × Told starts jobs.items refused × M.post between refused r.between)
+        × IfErr result (λ back. back.jobs ≡ jobs) × IfErr result (λ back. back.between ≡ between) }
 {
-    let Ok(mut children) = Vec::with_capacity(alloc, jobs.len()) else {
+    let Some((mut children, later)) = lists_for(alloc, jobs.len()) else {
         return Err(NotRun { jobs, between });
     };
     let mut some_held = false;
@@ -175,7 +197,7 @@ fn in_scope<
         let child = start_or_hold(scope, promise, work, children.len(), starts, &mut some_held);
         children.push_reserved(child);
     }
-    Ok(finish(rt, children, running, results, between, some_held))
+    Ok(finish(rt, children, later, between, some_held))
 }
 
 /// Runs each job in a thread of its own, where it is below `starts` and a thread can be made, and else here once the others were started.
@@ -203,23 +225,14 @@ pub fn run_crew<
     ensures jobs_back { IfErr result (λ back. back.jobs ≡ jobs) }
     ensures between_back { IfErr result (λ back. back.between ≡ between) }
 {
-    let Ok(running) = Vec::with_capacity(alloc, jobs.len()) else {
-        return Err(NotRun { jobs, between });
-    };
-    let Ok(results) = Vec::with_capacity(alloc, jobs.len()) else {
-        return Err(NotRun { jobs, between });
-    };
     thread::scope(
         thread::scope_env(),
         rt,
         |scope| -> Result<Finished<X, Y>, NotRun<T, M>>
-            requires { AllByRecursion T.can_run jobs.items
-                × ((running.items ≡ []) × (vec_len jobs ≤ vec_capacity running))
-                × ((results.items ≡ []) × (vec_len jobs ≤ vec_capacity results))
-                × ((refused : Bool) → M.pre between refused) }
-            ensures { IfOk result (λ r. AllZip T.run_gives jobs.items r.results.items
-                × ((refused : Bool) × Told starts jobs.items refused × M.post between refused r.between))
-                × IfErr result (λ back. (back.jobs ≡ jobs) × (back.between ≡ between)) }
-        { in_scope(scope, rt, alloc, jobs, starts, running, results, between) },
+            requires { AllByRecursion T.can_run jobs.items × ((refused : Bool) → M.pre between refused) }
+            ensures { IfOk result (λ r. AllZip T.run_gives jobs.items r.results.items)
+                × IfOk result (λ r. (refused : Bool) × Told starts jobs.items refused × M.post between refused r.between)
+                × IfErr result (λ back. back.jobs ≡ jobs) × IfErr result (λ back. back.between ≡ between) }
+        { in_scope(scope, rt, alloc, jobs, starts, between) },
     )
 }

@@ -1,4 +1,5 @@
 use Rattle.std.proofs.Common.{arith}
+use Rattle.thread_crew.proofs.Zips.{zip_length}
 use Rattle.thread_crew.proofs.crews.finish.Goals as goal
 
 pub between-between-requires : goal.between-between-requires
@@ -10,11 +11,19 @@ run_held-requires-clause-ready g c = c.requires.ready
 pub run_held-requires-clause-room : goal.run_held-requires-clause-room
 run_held-requires-clause-room g c = c.requires.running
 
-pub join_all-results-requires : goal.join_all-results-requires
-join_all-results-requires g c = let len = c.run_held.ensures.len in let r = c.requires.results in record { room = (r.0, omega arith) }
+pub join_all-results-requires-clause-empty : goal.join_all-results-requires-clause-empty
+join_all-results-requires-clause-empty g c = c.requires.results.empty
+
+pub join_all-results-requires-clause-room : goal.join_all-results-requires-clause-room
+join_all-results-requires-clause-room g c =
+    let jobs = c.requires.ready.0 in
+    let given = c.requires.ready.1 in
+    let held = zip_length _ jobs _ given in
+    let ran = zip_length _ jobs _ (c.run_held.ensures jobs given) in
+    omega (arith, c.requires.results.room, held, ran, c.args.children.ok.0, c.run_held.result.ok.0)
 
 pub returns-clause-results : goal.returns-clause-results
-returns-clause-results g c = λ jobs given. c.join_all-results.ensures jobs (c.run_held.ensures.turned jobs given)
+returns-clause-results g c = λ jobs given. c.join_all-results.ensures jobs (c.run_held.ensures jobs given)
 
 pub returns-clause-between : goal.returns-clause-between
 returns-clause-between g c = c.between-between.ensures

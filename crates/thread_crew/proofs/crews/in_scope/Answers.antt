@@ -1,7 +1,9 @@
-use Rattle.std.proofs.Common.{◌≡◌, ◌∷◌, [], Bool, true, false, length, refl, ap, sym, subst, ◌∙◌, append_assoc, arith}
+use Rattle.std.proofs.Common.{◌≡◌, ◌<◌, ◌∷◌, [], Bool, true, false, length, refl, ap, sym, subst, ◌∙◌, append_assoc}
 use Rattle.std.specs.Vec.Iter.{into_iter_items}
 use Rattle.std.specs.List.{AllZip, AllByRecursion}
+use Rattle.std.proofs.lemmas.Bool.{false≢true}
 use Rattle.thread_crew.specs.Crews.{IsChildOf}
+use Rattle.thread_crew.proofs.Counts.{all_taken, at_most_before, count_first, fits, has_place, is_some, none_below, not_none, one_left, room_first, room_still, same_count}
 use Rattle.thread_crew.proofs.Zips.{zip_push, all_yielded}
 use Rattle.thread_crew.proofs.crews.in_scope.Goals as goal
 
@@ -12,19 +14,19 @@ false_else false f = refl
 pub loop-job-preserved : goal.loop-job-preserved
 loop-job-preserved g c =
     let at = c.loop-job in
-    let x = c.in-Some.job in
-    let steps : into_iter_items at.job-iterator ≡ x ∷ into_iter_items c.next.new.self = c.in-Some.ensures.steps.0 in
-    let gone = c.in-Some.ensures.steps.1 in
+    let x = c.in-Some-job.job in
+    let steps : into_iter_items at.job-iterator ≡ x ∷ into_iter_items c.next.new.self = c.in-Some-job.ensures.steps.0 in
+    let gone = c.in-Some-job.ensures.steps.1 in
     let was = at.invariant in
-    let short = ap length steps in
+    let took = c.push_reserved.ensures.len in
     let runs : AllByRecursion g.T.Task.can_run (x ∷ into_iter_items c.next.new.self) = (let h = was.runs in rw steps at h) in
     record {
       whole = append_assoc at.yielded (x ∷ []) _ ∙ rw (← steps) was.whole;
-      left = (let left = was.left in omega arith);
-      room = (let room = was.room in let cap = c.push_reserved.ensures.capacity in let len = c.push_reserved.ensures.len in omega arith);
-      count = (let count = was.count in let len = c.push_reserved.ensures.len in omega arith);
-      told = λ h. let len = c.push_reserved.ensures.len in c.start_or_hold-child.ensures.told (omega arith);
-      none = λ h. let len = c.push_reserved.ensures.len in omega arith;
+      left = one_left x _ _ _ _ steps gone was.left;
+      room = room_still _ _ _ _ took gone _ _ c.push_reserved.ensures.capacity was.room;
+      count = same_count _ _ _ _ took gone _ was.count;
+      told = λ h. c.start_or_hold-child.ensures.told (at_most_before _ _ _ _ c.len-in-loop-job.ensures took h);
+      none = λ h. is_some _ _ took;
       runs = runs.1;
       given = rw c.push_reserved.ensures.items (zip_push (IsChildOf g.T.Task.run_gives (λ f. g.T.Task.can_run f.0) (λ f r. g.T.Task.run_gives f.0 r)) at.yielded _ x _ was.given
           (let k = c.start_or_hold-child.ensures.child in rw c.of.ensures at k));
@@ -32,7 +34,7 @@ loop-job-preserved g c =
 
 pub start_or_hold-child-requires-clause-runs : goal.start_or_hold-child-requires-clause-runs
 start_or_hold-child-requires-clause-runs g c κs within =
-    let runs : AllByRecursion g.T.Task.can_run (c.in-Some.job ∷ into_iter_items c.next.new.self) = (let steps = c.in-Some.ensures.steps.0 in let h = c.loop-job.invariant.runs in rw steps at h) in
+    let runs : AllByRecursion g.T.Task.can_run (c.in-Some-job.job ∷ into_iter_items c.next.new.self) = (let steps = c.in-Some-job.ensures.steps.0 in let h = c.loop-job.invariant.runs in rw steps at h) in
     runs.0
 
 pub start_or_hold-child-requires-clause-gives : goal.start_or_hold-child-requires-clause-gives
@@ -43,43 +45,55 @@ finish-requires-clause-ready g c = (c.loop-job.yielded, c.loop-job.invariant.giv
 
 pub finish-requires-clause-running : goal.finish-requires-clause-running
 finish-requires-clause-running g c =
-    let count = c.loop-job.invariant.count in let none = c.in-None.ensures.steps in
-    let gives = c.into_iter-job-iterator.ensures.into_iter_gives in let r = c.requires.running in
-    (r.0, omega arith)
+    let taken = all_taken _ _ _ _ c.loop-job.invariant.count c.in-None.ensures.steps.0 c.into_iter-job-iterator.ensures.into_iter_gives.1 in
+    let r = c.in-Some.ensures.1 in
+    record { empty = r.empty; room = fits _ _ _ _ taken c.len.ensures r.room }
 
 pub finish-requires-clause-results : goal.finish-requires-clause-results
 finish-requires-clause-results g c =
-    let count = c.loop-job.invariant.count in let none = c.in-None.ensures.steps in
-    let gives = c.into_iter-job-iterator.ensures.into_iter_gives in let r = c.requires.results in
-    (r.0, omega arith)
+    let taken = all_taken _ _ _ _ c.loop-job.invariant.count c.in-None.ensures.steps.0 c.into_iter-job-iterator.ensures.into_iter_gives.1 in
+    let r = c.in-Some.ensures.2 in
+    record { empty = r.empty; room = fits _ _ _ _ taken c.len.ensures r.room }
 
 pub finish-requires-clause-between : goal.finish-requires-clause-between
-finish-requires-clause-between g c = c.requires.between c.loop-job.some_held
+finish-requires-clause-between g c = c.requires.1 c.loop-job.some_held
 
-pub returns-clause-done : goal.returns-clause-done
-returns-clause-done g c =
+pub returns : goal.returns
+returns g c =
     let at = c.loop-job in
     let all = all_yielded at.yielded _ _ at.invariant.whole (sym at.invariant.left ∙ c.in-None.ensures.steps.0) ∙ c.into_iter-job-iterator.ensures.into_iter_gives.0 in
-    c.finish.ensures.results c.args.jobs.items (subst (λ l. AllZip (IsChildOf g.T.Task.run_gives (λ f. g.T.Task.can_run f.0) (λ f r. g.T.Task.run_gives f.0 r)) l at.children.items) all at.invariant.given)
-
-pub returns-clause-between : goal.returns-clause-between
-returns-clause-between g c =
-    let at = c.loop-job in
-    let count = at.invariant.count in
-    let none = c.in-None.ensures.steps in
-    let gives = c.into_iter-job-iterator.ensures.into_iter_gives in (
-      at.some_held,
+    let many = all_taken _ _ _ _ at.invariant.count c.in-None.ensures.steps.0 c.into_iter-job-iterator.ensures.into_iter_gives.1 ∙ c.args.jobs.ok.0 in (
+      c.finish.ensures.results c.args.jobs.items (subst (λ l. AllZip (IsChildOf g.T.Task.run_gives (λ f. g.T.Task.can_run f.0) (λ f r. g.T.Task.run_gives f.0 r)) l at.children.items) all at.invariant.given),
       (
-        λ h. at.invariant.told (omega arith),
-        λ e. false_else at.some_held (λ t. let low = at.invariant.none t in let short = ap length e in omega arith),
+        at.some_held,
+        (
+          λ h. at.invariant.told (subst (λ n. c.args.starts < n) (sym many) h),
+          λ e. false_else at.some_held (λ t. not_none _ _ many e (at.invariant.none t)),
+        ),
+        c.finish.ensures.between,
       ),
-      c.finish.ensures.between,
+      tt,
+      tt,
     )
 
+pub returns-in_default : goal.returns-in_default
+returns-in_default g c = (tt, tt, refl, refl)
+
 pub push_reserved-requires : goal.push_reserved-requires
-push_reserved-requires g c =
-    let was = c.loop-job.invariant in
-    let room = was.room in
-    let left = was.left in
-    let short = ap length c.in-Some.ensures.steps.0 in
-    omega arith
+push_reserved-requires g c = has_place _ _ _ _ c.in-Some-job.ensures.steps.1 c.loop-job.invariant.room
+
+pub loop-job-init : goal.loop-job-init
+loop-job-init g c =
+    let gives = c.into_iter-job-iterator.ensures.into_iter_gives in
+    let room = c.in-Some.ensures.0 in
+    let empty = c.in-Some.children.ok.0 ∙ ap length room.empty in
+    record {
+      whole = refl;
+      left = gives.1 ∙ c.args.jobs.ok.0 ∙ sym (ap length gives.0);
+      room = room_first _ _ empty _ _ _ gives.1 c.len.ensures room.room;
+      count = count_first _ _ empty;
+      told = λ h. absurd (none_below _ _ empty h);
+      none = λ e. absurd (false≢true e);
+      runs = subst (λ l. AllByRecursion g.T.Task.can_run l) (sym gives.0) c.requires.0;
+      given = subst (λ l. AllZip (IsChildOf g.T.Task.run_gives (λ f. g.T.Task.can_run f.0) (λ f r. g.T.Task.run_gives f.0 r)) [] l) (sym room.empty) tt;
+    }

@@ -1,7 +1,8 @@
-use Rattle.std.proofs.Common.{◌≡◌, ◌∷◌, [], length, ap, subst, ◌∙◌, append_assoc, arith, sym}
+use Rattle.std.proofs.Common.{◌≡◌, ◌∷◌, [], length, refl, ap, subst, ◌∙◌, append_assoc, sym}
 use Rattle.std.specs.Vec.Iter.{into_iter_items}
 use Rattle.std.specs.List.{AllZip}
 use Rattle.thread_crew.specs.Crews.{IsRunning, Turns}
+use Rattle.thread_crew.proofs.Counts.{has_place, one_left, room_first, room_still}
 use Rattle.thread_crew.proofs.Zips.{zip_push, zip_turn, all_yielded}
 use Rattle.thread_crew.proofs.crews.join_all.Goals as goal
 
@@ -12,11 +13,10 @@ loop-one-preserved g c =
     let steps : into_iter_items at.one-iterator ≡ x ∷ into_iter_items c.next.new.self = c.in-Some.ensures.steps.0 in
     let gone = c.in-Some.ensures.steps.1 in
     let was = at.invariant in
-    let short = ap length steps in
     record {
       whole = append_assoc at.yielded (x ∷ []) _ ∙ rw (← steps) was.whole;
-      left = (let left = was.left in omega arith);
-      room = (let room = was.room in let cap = c.push_reserved.ensures.capacity in let len = c.push_reserved.ensures.len in omega arith);
+      left = one_left x _ _ _ _ steps gone was.left;
+      room = room_still _ _ _ _ c.push_reserved.ensures.len gone _ _ c.push_reserved.ensures.capacity was.room;
       turned = rw c.push_reserved.ensures.items (zip_push (Turns (IsRunning g.T.Task.run_gives) g.T.Task.run_gives) at.yielded _ x _ was.turned c.result_of.ensures);
     }
 
@@ -27,9 +27,15 @@ returns g c jobs given =
     zip_turn (IsRunning g.T.Task.run_gives) g.T.Task.run_gives jobs _ _ given (subst (λ l. AllZip (Turns (IsRunning g.T.Task.run_gives) g.T.Task.run_gives) l at.results.items) all at.invariant.turned)
 
 pub push_reserved-requires : goal.push_reserved-requires
-push_reserved-requires g c =
-    let was = c.loop-one.invariant in
-    let room = was.room in
-    let left = was.left in
-    let short = ap length c.in-Some.ensures.steps.0 in
-    omega arith
+push_reserved-requires g c = has_place _ _ _ _ c.in-Some.ensures.steps.1 c.loop-one.invariant.room
+
+pub loop-one-init : goal.loop-one-init
+loop-one-init g c =
+    let gives = c.into_iter-one-iterator.ensures.into_iter_gives in
+    let empty = c.args.results.ok.0 ∙ ap length c.requires.empty in
+    record {
+      whole = refl;
+      left = gives.1 ∙ c.args.running.ok.0 ∙ sym (ap length gives.0);
+      room = room_first _ _ empty _ _ _ gives.1 refl c.requires.room;
+      turned = subst (λ l. AllZip (Turns (IsRunning g.T.Task.run_gives) g.T.Task.run_gives) [] l) (sym c.requires.empty) tt;
+    }

@@ -1,7 +1,8 @@
-use Rattle.std.proofs.Common.{◌≡◌, ◌∷◌, [], List, length, refl, ap, subst, ◌∙◌, append_assoc, arith, sym}
+use Rattle.std.proofs.Common.{◌≡◌, ◌∷◌, [], List, length, refl, ap, subst, ◌∙◌, append_assoc, sym}
 use Rattle.std.specs.Vec.Iter.{into_iter_items}
 use Rattle.std.specs.List.{AllZip}
 use Rattle.thread_crew.specs.Crews.{IsChildOf, IsRunning, Turns}
+use Rattle.thread_crew.proofs.Counts.{has_place, one_left, room_first, room_still}
 use Rattle.thread_crew.proofs.Zips.{zip_push, zip_turn, zip_first, all_yielded}
 use Rattle.thread_crew.proofs.crews.run_held.Goals as goal
 
@@ -19,40 +20,32 @@ loop-child-preserved g c =
     let steps : into_iter_items at.child-iterator ≡ x ∷ into_iter_items c.next.new.self = c.in-Some.ensures.steps.0 in
     let gone = c.in-Some.ensures.steps.1 in
     let was = at.invariant in
-    let short = ap length steps in
     record {
       whole = append_assoc at.yielded (x ∷ []) _ ∙ rw (← steps) was.whole;
-      left = (let left = was.left in omega arith);
-      room = (let room = was.room in let cap = c.push_reserved.ensures.capacity in let len = c.push_reserved.ensures.len in omega arith);
-      count = (let count = was.count in let len = c.push_reserved.ensures.len in omega arith);
+      left = one_left x _ _ _ _ steps gone was.left;
+      room = room_still _ _ _ _ c.push_reserved.ensures.len gone _ _ c.push_reserved.ensures.capacity was.room;
       ready = (let first = zip_first (IsChildOf g.T.Task.run_gives (goal.F-pre g) (goal.F-post g)) was.ready.0 x _ (let h = was.ready.1 in rw steps at h) in (first.1, first.3));
       turned = rw c.push_reserved.ensures.items (zip_push (Turns (IsChildOf g.T.Task.run_gives (goal.F-pre g) (goal.F-post g)) (IsRunning g.T.Task.run_gives)) at.yielded _ x _ was.turned c.settle.ensures);
     }
 
-pub returns-clause-turned : goal.returns-clause-turned
-returns-clause-turned g c jobs given =
+pub returns : goal.returns
+returns g c jobs given =
     let at = c.loop-child in
     let all = all_yielded at.yielded _ _ at.invariant.whole (sym at.invariant.left ∙ c.in-None.ensures.steps.0) ∙ c.into_iter-child-iterator.ensures.into_iter_gives.0 in
     zip_turn (IsChildOf g.T.Task.run_gives (goal.F-pre g) (goal.F-post g)) (IsRunning g.T.Task.run_gives) jobs _ _ given (subst (λ l. AllZip (Turns (IsChildOf g.T.Task.run_gives (goal.F-pre g) (goal.F-post g)) (IsRunning g.T.Task.run_gives)) l at.running.items) all at.invariant.turned)
 
 pub push_reserved-requires : goal.push_reserved-requires
-push_reserved-requires g c =
-    let was = c.loop-child.invariant in
-    let room = was.room in
-    let left = was.left in
-    let short = ap length c.in-Some.ensures.steps.0 in
-    omega arith
+push_reserved-requires g c = has_place _ _ _ _ c.in-Some.ensures.steps.1 c.loop-child.invariant.room
 
 pub loop-child-init : goal.loop-child-init
 loop-child-init g c =
     let gives = c.into_iter-child-iterator.ensures.into_iter_gives in
     let room = c.requires.room in
-    let none = ap length room.0 in
+    let empty = c.args.running.ok.0 ∙ ap length room.empty in
     record {
       whole = refl;
       left = gives.1 ∙ c.args.children.ok.0 ∙ sym (ap length gives.0);
-      room = omega (arith, c.args.running.ok.0, none, room.1, gives.1);
-      count = omega (arith, c.args.running.ok.0, none);
+      room = room_first _ _ empty _ _ _ gives.1 refl room.room;
       ready = subst (λ l. (jobs : List _) × AllZip (IsChildOf g.T.Task.run_gives (goal.F-pre g) (goal.F-post g)) jobs l) (sym gives.0) c.requires.ready;
-      turned = subst (λ l. AllZip (Turns (IsChildOf g.T.Task.run_gives (goal.F-pre g) (goal.F-post g)) (IsRunning g.T.Task.run_gives)) [] l) (sym room.0) tt;
+      turned = subst (λ l. AllZip (Turns (IsChildOf g.T.Task.run_gives (goal.F-pre g) (goal.F-post g)) (IsRunning g.T.Task.run_gives)) [] l) (sym room.empty) tt;
     }

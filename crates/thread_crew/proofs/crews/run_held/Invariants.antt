@@ -10,7 +10,6 @@ invariant-loop-child g l =
       whole : l.yielded ++ into_iter_items l.child-iterator ≡ into_iter_items l.initial.child-iterator;
       left : into_iter_len l.child-iterator ≡ length (into_iter_items l.child-iterator);
       room : vec_len l.running + into_iter_len l.child-iterator ≤ vec_capacity l.running;
-      count : vec_len l.running + into_iter_len l.child-iterator ≡ into_iter_len l.initial.child-iterator;
       ready : (jobs : List _) × AllZip (IsChildOf g.T.Task.run_gives (goal.F-pre g) (goal.F-post g)) jobs (into_iter_items l.child-iterator);
       turned : AllZip (Turns (IsChildOf g.T.Task.run_gives (goal.F-pre g) (goal.F-post g)) (IsRunning g.T.Task.run_gives)) l.yielded l.running.items;
     }
