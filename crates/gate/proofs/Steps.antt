@@ -102,11 +102,29 @@ module _ {T H W : Type 0} where
   freed_on after (Sem s') o s z held values share freed = (held ∙ freed.0, values ∙ freed.1, share ∙ freed.2)
   freed_on after (Cond c) o s z held values share freed = freed
 
+  outside_by : (o l : Known T H W) → l.spin ≡ o.spin → l.queue ≡ o.queue → l.owed ≡ o.owed → l.left ≡ o.left → l.stand ≡ o.stand → l.pen ≡ o.pen → IsOutside o → IsOutside l
+  outside_by o l spin queue owed left stand pen outside = record {
+    spin = spin ∙ outside.spin;
+    queue = queue ∙ outside.queue;
+    owed = owed ∙ outside.owed;
+    left = left ∙ outside.left;
+    stand = stand ∙ outside.stand;
+    pen = pen ∙ outside.pen;
+  }
+
   -- the thread o is l after tries that failed
   abbrev pub Tries : Known T H W → Known T H W → Type 0
   Tries o l = l ≡ record o { count = l.count; failed = l.failed; turns = l.turns; next = l.next }
 
+  pub outside_trying : (o l : Known T H W) → Tries o l → IsOutside o → IsOutside l
+  outside_trying o l same = outside_by o l (ap (λ k. k.spin) same) (ap (λ k. k.queue) same) (ap (λ k. k.owed) same) (ap (λ k. k.left) same) (ap (λ k. k.stand) same) (ap (λ k. k.pen) same)
+
   module _ (o l t : Known T H W) (same : Tries o l) where
+    pub lost_again : (f u : List ℕ) → t ≡ record l { failed = f; turns = u; next = t.next } → Tries o t
+    lost_again f u lost =
+        let F : Known T H W → Known T H W = λ k. record k { count = t.count; failed = t.failed; turns = t.turns; next = t.next } in
+        ap F lost ∙ ap F same
+
     pub goes_on : (s : Known T H W) (f g u : List ℕ) → t ≡ record l { failed = f; turns = u; next = t.next } → s ≡ record t { count = s.count; failed = g; turns = s.turns }
         → s ≡ record o { count = s.count; failed = s.failed; turns = s.turns; next = s.next }
     goes_on s f g u lost stood =
@@ -131,7 +149,15 @@ module _ {T H W : Type 0} where
   abbrev pub TriesQuietly : Known T H W → Known T H W → Type 0
   TriesQuietly o l = l ≡ record o { count = l.count; failed = l.failed; turns = l.turns }
 
+  pub outside_quietly : (o l : Known T H W) → TriesQuietly o l → IsOutside o → IsOutside l
+  outside_quietly o l same = outside_by o l (ap (λ k. k.spin) same) (ap (λ k. k.queue) same) (ap (λ k. k.owed) same) (ap (λ k. k.left) same) (ap (λ k. k.stand) same) (ap (λ k. k.pen) same)
+
   module _ (o l t : Known T H W) (same : TriesQuietly o l) where
+    pub lost_quietly : (f u : List ℕ) → t ≡ record l { failed = f; turns = u } → TriesQuietly o t
+    lost_quietly f u lost =
+        let F : Known T H W → Known T H W = λ k. record k { count = t.count; failed = t.failed; turns = t.turns } in
+        ap F lost ∙ ap F same
+
     pub goes_on_quietly : (s : Known T H W) (f g u : List ℕ) → t ≡ record l { failed = f; turns = u } → s ≡ record t { count = s.count; failed = g; turns = s.turns }
         → s ≡ record o { count = s.count; failed = s.failed; turns = s.turns }
     goes_on_quietly s f g u lost stood =
@@ -319,14 +345,9 @@ module _ {T H W : Type 0} where
 
   module _ (traced : Bool) (after : W → ℕ → ℕ → T → T → H → H) (at : Object) (o k : Known T H W) (cleared : Clears traced after at o k) where
     pub still_outside : IsOutside o → IsOutside k
-    still_outside outside = record {
-      spin = ap (λ x. x.spin) cleared.rest ∙ outside.spin;
-      queue = ap (λ x. x.queue) cleared.rest ∙ outside.queue;
-      owed = ap (λ x. x.owed) cleared.rest ∙ outside.owed;
-      left = ap (λ x. x.left) cleared.rest ∙ outside.left;
-      stand = ap (λ x. x.stand) cleared.rest ∙ outside.stand;
-      pen = ap (λ x. x.pen) cleared.rest ∙ outside.pen;
-    }
+    still_outside =
+        let rest = cleared.rest in
+        outside_by o k (ap (λ x. x.spin) rest) (ap (λ x. x.queue) rest) (ap (λ x. x.owed) rest) (ap (λ x. x.left) rest) (ap (λ x. x.stand) rest) (ap (λ x. x.pen) rest)
 
     pub must_look : mem (object_of at) k.cleared ≡ true
     must_look = ap (λ x. mem (object_of at) x.cleared) cleared.rest ∙ mem_own (object_of at) o.cleared
@@ -353,14 +374,7 @@ module _ {T H W : Type 0} where
   -- the bit of m was cleared for no event as b, and then the thread has looked, as z
   module _ (m : ℕ) (o b z : Known T H W) (h : List (Opt T)) (v : List (Opt (Opt T))) (gone : b ≡ record o { held = h; share = b.share; wait = opened o.wait; cleared = m ∷ o.cleared; values = v }) where
     pub still_outside_quietly : IsOutside o → IsOutside b
-    still_outside_quietly outside = record {
-      spin = ap (λ x. x.spin) gone ∙ outside.spin;
-      queue = ap (λ x. x.queue) gone ∙ outside.queue;
-      owed = ap (λ x. x.owed) gone ∙ outside.owed;
-      left = ap (λ x. x.left) gone ∙ outside.left;
-      stand = ap (λ x. x.stand) gone ∙ outside.stand;
-      pen = ap (λ x. x.pen) gone ∙ outside.pen;
-    }
+    still_outside_quietly = outside_by o b (ap (λ x. x.spin) gone) (ap (λ x. x.queue) gone) (ap (λ x. x.owed) gone) (ap (λ x. x.left) gone) (ap (λ x. x.stand) gone) (ap (λ x. x.pen) gone)
 
     pub must_look_quietly : mem m b.cleared ≡ true
     must_look_quietly = ap (λ x. mem m x.cleared) gone ∙ mem_own m o.cleared
@@ -396,14 +410,9 @@ module _ {T H W : Type 0} where
     has_read = read-at (eqb length 0) refl
 
     pub outside_then : IsOutside k → IsOutside r
-    outside_then outside = record {
-      spin = ap (λ x. x.spin) has_read ∙ outside.spin;
-      queue = ap (λ x. x.queue) has_read ∙ outside.queue;
-      owed = ap (λ x. x.owed) has_read ∙ outside.owed;
-      left = ap (λ x. x.left) has_read ∙ outside.left;
-      stand = ap (λ x. x.stand) has_read ∙ outside.stand;
-      pen = ap (λ x. x.pen) has_read ∙ outside.pen;
-    }
+    outside_then =
+        let is = has_read in
+        outside_by k r (ap (λ x. x.spin) is) (ap (λ x. x.queue) is) (ap (λ x. x.owed) is) (ap (λ x. x.left) is) (ap (λ x. x.stand) is) (ap (λ x. x.pen) is)
 
     pub has_seen : length ≢ 0 → mem n r.looked ≡ true
     has_seen more = ap (λ x. mem n x.looked) (seen more has) ∙ mem_own n k.looked

@@ -3,7 +3,7 @@ use mathlib.Core.Bool.{not}
 use Rattle.nub_rule.specs.Known.{Makes}
 use Rattle.nub.specs.Rest.{HasStored, IsOutside}
 use Rattle.gate.specs.Gates.{MayFree}
-use Rattle.gate.proofs.Steps.{Clears, clears_untraced, freed_quietly, may_close, must_look, no_event, own_event, rest_of_none, rest_of_some, still_outside, waits_not, woke_event, woke_freed, woke_rest, woke_stored}
+use Rattle.gate.proofs.Steps.{Clears, clears_untraced, freed_quietly, may_close, no_event, own_event, rest_of_none, rest_of_some, still_outside, woke_event, woke_freed, woke_rest, woke_stored}
 use Rattle.gate.proofs.freeing.free.Goals.{then-traced, else-traced}
 use Rattle.gate.proofs.freeing.free.Goals as goal
 
