@@ -454,6 +454,19 @@ module _ {T H W : Type 0} where
         ∙ ap (λ v. E o.spin o.queue o.owed v None) (sym outside.left)
         ∙ ap (E o.spin o.queue o.owed o.left) (sym outside.stand)
 
+    -- it pushed itself as q, tested the bit as t, and stays in the queue
+    pub stays_queued : (q t : Known T H W) (a d : List ℕ) (s w : Opt Stand) → q ≡ record i { queue = a; left = d; stand = s } → t ≡ record q { stand = w } → z ≡ record t { spin = None; queue = []; left = [] }
+        → z ≡ record o { count = z.count; failed = without n o.failed; stand = z.stand }
+    stays_queued q t a d s w pushed tested leaves =
+        let G : Known T H W → Known T H W = λ k. record k { count = z.count; stand = z.stand } in
+        let F : Known T H W → Known T H W = λ k. record k { spin = None; queue = []; left = []; count = z.count; stand = z.stand } in
+        let E : Opt ℕ → List ℕ → List ℕ → List ℕ → Known T H W = λ p x y v. record o { spin = p; queue = x; owed = y; left = v; count = z.count; stand = z.stand; failed = without n o.failed } in
+        ap G leaves ∙ ap F tested ∙ ap F pushed ∙ ap F entered
+        ∙ ap (λ p. E p [] [] []) (sym outside.spin)
+        ∙ ap (λ x. E o.spin x [] []) (sym outside.queue)
+        ∙ ap (λ y. E o.spin o.queue y []) (sym outside.owed)
+        ∙ ap (E o.spin o.queue o.owed) (sym outside.left)
+
     -- it popped one as q, and woke it as w, so that it owes nobody
     pub woke_one : (q w : Known T H W) (a d y : List ℕ) → q ≡ record i { queue = a; left = d; owed = q.owed; cleared = without n i.cleared; looked = without n i.looked } → w ≡ record q { owed = y } → y ≡ []
         → z ≡ record w { spin = None; queue = []; left = [] } → z ≡ record o { count = z.count; failed = without n o.failed; cleared = without n o.cleared; looked = without n o.looked }
