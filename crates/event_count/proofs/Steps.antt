@@ -3,9 +3,39 @@ use Rattle.std.proofs.Common.{◌≡◌, ℕ, Option as Opt, None, Some, List, [
 use Rattle.larch_actions.specs.Sets.{without}
 use Rattle.nub_rule.specs.declared.view.Pen.{Pen}
 use Rattle.nub_rule.specs.declared.view.Pen.TheVariants.{No}
+use Rattle.nub_rule.specs.declared.view.Wait.{Wait}
 use Rattle.nub_rule.specs.Known.{Known, learnt, recorded}
 
 module _ {T H W : Type 0} where
+  -- the thread o has the spin word of n as i, and is z when it has given it back
+  module _ (n : ℕ) (o i b z : Known T H W) (outside : (o.spin ≡ None) × (o.queue ≡ []) × (o.owed ≡ []) × (o.left ≡ []))
+      (entered : i ≡ record o { spin = Some n; queue = i.queue; owed = []; left = i.queue; count = i.count; failed = without n o.failed })
+      (leaves : z ≡ record b { spin = None; queue = []; left = [] }) where
+    -- between, as b, its wait has changed
+    pub left_at_once : (w : Opt Wait) → b ≡ record i { wait = w } → z ≡ record o { count = z.count; failed = without n o.failed; wait = z.wait; alerted = z.alerted }
+    left_at_once w moved =
+        let G : Known T H W → Known T H W = λ k. record k { count = z.count; wait = z.wait; alerted = z.alerted } in
+        let F : Known T H W → Known T H W = λ k. record k { spin = None; queue = []; left = []; count = z.count; wait = z.wait; alerted = z.alerted } in
+        let E : Opt ℕ → List ℕ → List ℕ → List ℕ → Known T H W = λ p x y v. record o { spin = p; queue = x; owed = y; left = v; count = z.count; failed = without n o.failed; wait = z.wait; alerted = z.alerted } in
+        ap G leaves ∙ ap F moved ∙ ap F entered
+        ∙ ap (λ p. E p [] [] []) (sym outside.0)
+        ∙ ap (λ x. E o.spin x [] []) (sym outside.1)
+        ∙ ap (λ y. E o.spin o.queue y []) (sym outside.2)
+        ∙ ap (E o.spin o.queue o.owed) (sym outside.3)
+
+    -- between, as b, it has left the queue
+    pub left_queue : (a d : List ℕ) (w : Opt Wait) → b ≡ record i { queue = a; left = d; stand = None; wait = w } → z ≡ record o { count = z.count; stand = None; failed = without n o.failed; wait = z.wait }
+    left_queue a d w out =
+        let G : Known T H W → Known T H W = λ k. record k { count = z.count; wait = z.wait } in
+        let F : Known T H W → Known T H W = λ k. record k { spin = None; queue = []; left = []; count = z.count; stand = None; wait = z.wait } in
+        let L : Known T H W → Known T H W = λ k. record k { spin = None; queue = []; left = []; count = z.count; wait = z.wait } in
+        let E : Opt ℕ → List ℕ → List ℕ → List ℕ → Known T H W = λ p x y v. record o { spin = p; queue = x; owed = y; left = v; count = z.count; stand = None; failed = without n o.failed; wait = z.wait } in
+        ap G leaves ∙ ap L out ∙ ap F entered
+        ∙ ap (λ p. E p [] [] []) (sym outside.0)
+        ∙ ap (λ x. E o.spin x [] []) (sym outside.1)
+        ∙ ap (λ y. E o.spin o.queue y []) (sym outside.2)
+        ∙ ap (E o.spin o.queue o.owed) (sym outside.3)
+
   -- the thread o has the spin word of n as i, has read its number as b, has advanced the count as a, and has told that as e
   module _ (n : ℕ) (o i b a e : Known T H W) (l : List ℕ) (m : ℕ) (p : Pen)
       (below : i ≡ record o { spin = Some n; queue = i.queue; left = i.queue; count = i.count; failed = without n o.failed })
