@@ -57,10 +57,6 @@ pub rest_of_some : (e : Opt Event) (A B : Type 0) → is_some e ≡ true → B �
 rest_of_some None A B test b = absurd (true≢false (sym test))
 rest_of_some (Some x) A B test b = b
 
-pub waits_not : (e : Opt Event) (at : Object) (t : ℕ) (wait : Opt Wait) → is_some e ≡ true → MayClear at t wait e → wait ≡ None
-waits_not None at t wait test may = absurd (true≢false (sym test))
-waits_not (Some x) at t wait test may = may.0
-
 module _ {T H W : Type 0} where
   -- an event that s made is made by o where s is o in all that the event hangs on
   pub makes_from : (e : Event) (o s z : Known T H W) → s.number ≡ o.number → s.seen ≡ o.seen → s.mine ≡ o.mine → s.places ≡ o.places → s.pen ≡ o.pen → Makes e s z → Makes e o z
@@ -298,8 +294,8 @@ module _ {T H W : Type 0} where
   pub tries_mutex : (fits : W → ℕ → T → ℕ → H → Type 0) (at : Object) (m : MutexId) (e : Event) (found : ℕ) (o z : Known T H W) → at ≡ Mutex m
       → (found ≢ 0 → z ≡ record o { failed = m.0 ∷ o.failed; turns = without m.0 o.turns }) → (found ≡ 0 → Makes e o z)
       → (found ≡ 0 → (x : T) × Holds z m.0 x × IsIn z m.0 x
-          × (z ≡ record (learnt o z) { held = slice_set o.held m.0 (Some x); wait = None; failed = without m.0 o.failed; turns = without m.0 o.turns; pen = made o.pen; values = slice_set o.values m.0 (Some (Some x)) })
-          × ((w : W) (h : H) → o.world ≡ Some w → o.share ≡ Some h → fits w m.0 x o.number h))
+      × (z ≡ record (learnt o z) { held = slice_set o.held m.0 (Some x); wait = None; failed = without m.0 o.failed; turns = without m.0 o.turns; pen = made o.pen; values = slice_set o.values m.0 (Some (Some x)) })
+      × ((w : W) (h : H) → o.world ≡ Some w → o.share ≡ Some h → fits w m.0 x o.number h))
       → TriesOnce fits at e found o z
   tries_mutex fits at m e found o z is lost event won =
       let G : Known T H W → Known T H W = λ k. record k { held = z.held; values = z.values } in
@@ -349,9 +345,6 @@ module _ {T H W : Type 0} where
         let rest = cleared.rest in
         outside_by o k (ap (λ x. x.spin) rest) (ap (λ x. x.queue) rest) (ap (λ x. x.owed) rest) (ap (λ x. x.left) rest) (ap (λ x. x.stand) rest) (ap (λ x. x.pen) rest)
 
-    pub must_look : mem (object_of at) k.cleared ≡ true
-    must_look = ap (λ x. mem (object_of at) x.cleared) cleared.rest ∙ mem_own (object_of at) o.cleared
-
     -- then it has looked, as z
     module _ (z : Known T H W) (woke : z ≡ record k { count = z.count; failed = z.failed; cleared = without (object_of at) k.cleared; looked = without (object_of at) k.looked }) where
       pub woke_event : Makes (clears at o.number) o z
@@ -396,7 +389,7 @@ module _ {T H W : Type 0} where
   freed_quietly after at m o z is rest share =
       let G : Known T H W → Known T H W = λ x. record x { held = z.held; values = z.values } in
       let P : Object → Type 0 = λ a. (z ≡ record o { held = z.held; share = z.share; count = z.count; wait = opened o.wait; failed = z.failed; cleared = without (object_of a) o.cleared; looked = without (object_of a) o.looked; values = z.values })
-          × IsFreed after a o z in
+      × IsFreed after a o z in
       subst P (sym is) (ap G rest, (ap (λ x. x.held) rest, ap (λ x. x.values) rest, share))
 
   -- the thread k, which has cleared the bit, has read a length of the queue as r
