@@ -20,8 +20,7 @@ sleep-requires-clause-tested g c κs within = (record { at = cond_object c.args.
 
 pub withdraw-requires-clause-alerted : goal.withdraw-requires-clause-alerted
 withdraw-requires-clause-alerted g c κs within =
-    let asleep = c.sleep.ensures.alerted c.if-sleep.false in
-    (
+    let asleep = c.sleep.ensures.alerted c.if-sleep.false in (
       record { at = cond_object c.args.c.0; stage = Alerted },
       ap (λ k. k.stand) asleep ∙ (ap (λ k. staged Alerted k.stand) c.leave-2.ensures ∙ ap (λ k. staged Alerted k.stand) (c.push.ensures.cond tt)),
       (refl, tt),
@@ -31,8 +30,7 @@ pub withdraw-requires-clause-waits : goal.withdraw-requires-clause-waits
 withdraw-requires-clause-waits g c κs within =
     let waits = c.requires.waits in
     let stood = c.compare_count.ensures.stands c.if-compare_count-count.false in
-    let asleep = c.sleep.ensures.alerted c.if-sleep.false in
-    (
+    let asleep = c.sleep.ensures.alerted c.if-sleep.false in (
       record waits.0 { member = None },
       ap (λ k. k.wait) asleep ∙ (ap (λ k. k.wait) c.leave-2.ensures ∙ (ap (λ k. k.wait) (c.push.ensures.cond tt) ∙ (ap (λ k. unread k.wait) stood ∙ (ap (λ k. unread k.wait) c.enter.ensures.inside ∙ ap unread waits.1)))),
       waits.2,
