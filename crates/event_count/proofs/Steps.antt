@@ -1,11 +1,69 @@
 -- What the thread knows after some steps, of plain variables.
-use Rattle.std.proofs.Common.{◌≡◌, ℕ, Option as Opt, None, Some, List, [], ap, sym, ◌∙◌}
+use Rattle.std.proofs.Common.{◌≡◌, ℕ, Option as Opt, None, Some, List, [], ◌∷◌, ◌++◌, length, ap, ap₂, sym, subst, ◌∙◌}
+use Rattle.larch_actions.specs.declared.event.Event.{Event}
+use Rattle.larch_actions.specs.Actions.{IsLegal, by_thread}
 use Rattle.larch_actions.specs.Sets.{without}
 use Rattle.nub_rule.specs.declared.view.Pen.{Pen}
-use Rattle.nub_rule.specs.declared.view.Pen.TheVariants.{No}
-use Rattle.nub_rule.specs.Known.{Known, learnt, recorded}
+use Rattle.nub_rule.specs.declared.view.Pen.TheVariants.{No, Read}
+use Rattle.nub_rule.specs.declared.view.Wait.{Wait}
+use Rattle.nub_rule.specs.Known.{Known, Makes, learnt, recorded}
+
+no_read : (q : Pen) (k : ℕ) → q ≡ No → q ≡ Read k → ⊥
+no_read q k is not = cc
 
 module _ {T H W : Type 0} where
+  -- the thread o has read its number as b, has begun its wait as u, and has given the pen back as z
+  module _ (o b u z : Known T H W) (pen : o.pen ≡ No) (began : b ≡ record o { pen = b.pen; next = b.next }) (told : z ≡ record u { pen = No; entries = z.entries; lost = z.lost }) where
+    pub made_traced : (e : Event) → Makes e b u → Makes e o z
+    made_traced e at =
+        let far = ap (λ k. k.seen ++ at.0) began in (
+          at.0,
+          record {
+            legal = subst IsLegal (ap (λ l. l ++ e ∷ []) far) at.1.legal;
+            own = ap₂ (λ n l. by_thread n l) (sym (ap (λ k. k.number) began)) (sym (ap (λ l. l ++ e ∷ []) far)) ∙ (at.1.own ∙ ap (λ k. k.mine ++ e ∷ []) began);
+            number = λ k p. absurd (no_read o.pen k pen p);
+          },
+          ap (λ k. k.seen) told ∙ (at.2 ∙ ap (λ l. l ++ e ∷ []) far),
+          ap (λ k. k.mine) told ∙ (at.3 ∙ ap (λ k. k.mine ++ e ∷ []) began),
+          ap (λ k. k.places) told ∙ (at.4 ∙ ap₂ (λ l m. l ++ length m ∷ []) (ap (λ k. k.places) began) far),
+        )
+
+    pub begun_traced : (w : Opt Wait) (q : Pen) → u ≡ record (learnt b u) { wait = w; pen = q } → z ≡ record (recorded o z) { wait = w }
+    begun_traced w q begun =
+        let G : Known T H W → Known T H W = λ k. record k { seen = z.seen; mine = z.mine; places = z.places; next = z.next } in
+        let F : Known T H W → Known T H W = λ k. record k { seen = z.seen; mine = z.mine; places = z.places; next = z.next; pen = No; entries = z.entries; lost = z.lost } in
+        let E : Known T H W → Pen → Known T H W = λ k p. record (recorded k z) { wait = w; pen = p } in
+        ap G told ∙ ap F begun ∙ ap (λ k. E k No) began ∙ ap (E o) (sym pen)
+
+  -- the thread o has the spin word of n as i, and is z when it has given it back
+  module _ (n : ℕ) (o i b z : Known T H W) (outside : (o.spin ≡ None) × (o.queue ≡ []) × (o.owed ≡ []) × (o.left ≡ []))
+      (entered : i ≡ record o { spin = Some n; queue = i.queue; owed = []; left = i.queue; count = i.count; failed = without n o.failed })
+      (leaves : z ≡ record b { spin = None; queue = []; left = [] }) where
+    -- between, as b, its wait has changed
+    pub left_at_once : (w : Opt Wait) → b ≡ record i { wait = w } → z ≡ record o { count = z.count; failed = without n o.failed; wait = z.wait; alerted = z.alerted }
+    left_at_once w moved =
+        let G : Known T H W → Known T H W = λ k. record k { count = z.count; wait = z.wait; alerted = z.alerted } in
+        let F : Known T H W → Known T H W = λ k. record k { spin = None; queue = []; left = []; count = z.count; wait = z.wait; alerted = z.alerted } in
+        let E : Opt ℕ → List ℕ → List ℕ → List ℕ → Known T H W = λ p x y v. record o { spin = p; queue = x; owed = y; left = v; count = z.count; failed = without n o.failed; wait = z.wait; alerted = z.alerted } in
+        ap G leaves ∙ ap F moved ∙ ap F entered
+        ∙ ap (λ p. E p [] [] []) (sym outside.0)
+        ∙ ap (λ x. E o.spin x [] []) (sym outside.1)
+        ∙ ap (λ y. E o.spin o.queue y []) (sym outside.2)
+        ∙ ap (E o.spin o.queue o.owed) (sym outside.3)
+
+    -- between, as b, it has left the queue
+    pub left_queue : (a d : List ℕ) (w : Opt Wait) → b ≡ record i { queue = a; left = d; stand = None; wait = w } → z ≡ record o { count = z.count; stand = None; failed = without n o.failed; wait = z.wait }
+    left_queue a d w out =
+        let G : Known T H W → Known T H W = λ k. record k { count = z.count; wait = z.wait } in
+        let F : Known T H W → Known T H W = λ k. record k { spin = None; queue = []; left = []; count = z.count; stand = None; wait = z.wait } in
+        let L : Known T H W → Known T H W = λ k. record k { spin = None; queue = []; left = []; count = z.count; wait = z.wait } in
+        let E : Opt ℕ → List ℕ → List ℕ → List ℕ → Known T H W = λ p x y v. record o { spin = p; queue = x; owed = y; left = v; count = z.count; stand = None; failed = without n o.failed; wait = z.wait } in
+        ap G leaves ∙ ap L out ∙ ap F entered
+        ∙ ap (λ p. E p [] [] []) (sym outside.0)
+        ∙ ap (λ x. E o.spin x [] []) (sym outside.1)
+        ∙ ap (λ y. E o.spin o.queue y []) (sym outside.2)
+        ∙ ap (E o.spin o.queue o.owed) (sym outside.3)
+
   -- the thread o has the spin word of n as i, has read its number as b, has advanced the count as a, and has told that as e
   module _ (n : ℕ) (o i b a e : Known T H W) (l : List ℕ) (m : ℕ) (p : Pen)
       (below : i ≡ record o { spin = Some n; queue = i.queue; left = i.queue; count = i.count; failed = without n o.failed })

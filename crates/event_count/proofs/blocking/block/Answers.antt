@@ -1,9 +1,11 @@
-use Rattle.std.proofs.Common.{ℕ, None, Some, true, [], sym, ap, ◌∙◌}
+use Rattle.std.proofs.Common.{ℕ, None, Some, true, true≢false, [], refl, sym, ap, ◌∙◌}
 use Rattle.larch_actions.specs.Sets.{without}
-use Rattle.nub_rule.specs.declared.view.Stage.TheVariants.{Tested}
+use Rattle.nub_rule.specs.declared.view.Stage.TheVariants.{Alerted, Tested}
+use Rattle.nub_rule.specs.Parts.{staged}
 use Rattle.nub_rule.specs.Places.{cond_object}
 use Rattle.nub_rule.specs.Plays.{unread}
 use Rattle.nub.proofs.Without.{without_twice}
+use Rattle.event_count.proofs.Steps.{left_at_once}
 use Rattle.event_count.proofs.blocking.block.Goals as goal
 
 pub push-requires-clause-may : goal.push-requires-clause-may
@@ -16,10 +18,38 @@ push-requires-clause-may g c κs within =
 pub sleep-requires-clause-tested : goal.sleep-requires-clause-tested
 sleep-requires-clause-tested g c κs within = (record { at = cond_object c.args.c.0; stage = Tested }, ap (λ k. k.stand) c.leave-2.ensures ∙ ap (λ k. k.stand) (c.push.ensures.cond tt), tt)
 
-pub returns-then-compare_count-count-clause-out : goal.returns-then-compare_count-count-clause-out
-returns-then-compare_count-count-clause-out g c = λ out.
+pub withdraw-requires-clause-alerted : goal.withdraw-requires-clause-alerted
+withdraw-requires-clause-alerted g c κs within =
+    let asleep = c.sleep.ensures.alerted c.if-sleep.false in (
+      record { at = cond_object c.args.c.0; stage = Alerted },
+      ap (λ k. k.stand) asleep ∙ (ap (λ k. staged Alerted k.stand) c.leave-2.ensures ∙ ap (λ k. staged Alerted k.stand) (c.push.ensures.cond tt)),
+      (refl, tt),
+    )
+
+pub withdraw-requires-clause-waits : goal.withdraw-requires-clause-waits
+withdraw-requires-clause-waits g c κs within =
+    let waits = c.requires.waits in
+    let stood = c.compare_count.ensures.stands c.if-compare_count-count.false in
+    let asleep = c.sleep.ensures.alerted c.if-sleep.false in (
+      record waits.0 { member = None },
+      ap (λ k. k.wait) asleep ∙ (ap (λ k. k.wait) c.leave-2.ensures ∙ (ap (λ k. k.wait) (c.push.ensures.cond tt) ∙ (ap (λ k. unread k.wait) stood ∙ (ap (λ k. unread k.wait) c.enter.ensures.inside ∙ ap unread waits.1)))),
+      waits.2,
+    )
+
+pub returns-then-compare_count-count : goal.returns-then-compare_count-count
+returns-then-compare_count-count g c =
+    let out = c.requires.outside in
     let moved = c.compare_count.ensures.moved c.if-compare_count-count.true in
-    ap (λ k. k.wait) c.leave.ensures ∙ (ap (λ k. k.wait) moved ∙ ap (λ k. unread k.wait) c.enter.ensures.inside)
+    let inside = c.enter.ensures.inside in
+    let leaves = c.leave.ensures in
+    record {
+      plain = λ not. refl;
+      rest = left_at_once (cond_object c.args.c.0) c.args.me.now c.enter.new.me c.compare_count.new.me c.leave.new.me (out.spin, out.queue, out.owed, out.left) inside leaves _ moved;
+      out = λ is. ap (λ k. k.wait) leaves ∙ (ap (λ k. k.wait) moved ∙ ap (λ k. unread k.wait) inside);
+      left = λ is. absurd (true≢false is);
+      alerted = λ is. absurd (true≢false is);
+      same = λ not. ap (λ k. k.alerted) leaves ∙ (ap (λ k. k.alerted) moved ∙ ap (λ k. k.alerted) inside);
+    }
 
 pub returns-clause-rest : goal.returns-clause-rest
 returns-clause-rest g c =

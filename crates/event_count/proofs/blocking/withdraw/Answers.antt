@@ -1,0 +1,15 @@
+use Rattle.std.proofs.Common.{ap, ◌∙◌}
+use Rattle.nub_rule.specs.Places.{cond_object}
+use Rattle.event_count.proofs.Steps.{left_queue}
+use Rattle.event_count.proofs.blocking.withdraw.Goals as goal
+
+pub remove-there-requires-clause-may : goal.remove-there-requires-clause-may
+remove-there-requires-clause-may g c κs within =
+    let stands = c.requires.alerted in
+    let waits = c.requires.waits in
+    let inside = c.enter.ensures.inside in
+    ((stands.0, ap (λ k. k.stand) inside ∙ stands.1, stands.2), waits.0, ap (λ k. k.wait) inside ∙ waits.1, waits.2)
+
+pub returns-else-not-there-clause-rest : goal.returns-else-not-there-clause-rest
+returns-else-not-there-clause-rest g c =
+    left_queue (cond_object c.args.c.0) c.args.me.now c.enter.new.me c.remove-there.new.me c.leave.new.me c.requires.outside c.enter.ensures.inside c.leave.ensures _ _ _ (c.remove-there.ensures.out c.if-not-there.false)
