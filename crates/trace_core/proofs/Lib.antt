@@ -9,6 +9,7 @@ pub mod Members
 pub mod ActionKinds
 pub mod Letters
 pub mod Quick
+pub mod Ways
 pub mod Pieces
 pub mod ActionLaws
 pub mod LineLaws
