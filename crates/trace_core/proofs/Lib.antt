@@ -15,6 +15,7 @@ pub mod ActionLaws
 pub mod LineLaws
 pub mod Texts
 pub mod Told
+pub mod Filled
 pub mod Short
 pub mod Shown
 pub mod Outcomes
