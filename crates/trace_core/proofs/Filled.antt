@@ -1,7 +1,7 @@
 -- What one more piece from a source does.
-use Rattle.std.proofs.Common.{◌≡◌, ℕ, zero, suc, ◌+◌, ◌-◌, ◌<◌, ◌≤◌, List, [], ◌∷◌, ◌++◌, length, length-append, append-nil, append_assoc, refl, None, Some, Ok, ap, sym, ◌∙◌, true, arith, rules, tests}
+use Rattle.std.proofs.Common.{◌≡◌, ℕ, zero, suc, ◌+◌, ◌-◌, ◌≤◌, List, [], ◌∷◌, ◌++◌, length, length-append, append-nil, append_assoc, refl, None, Some, Ok, ap, sym, ◌∙◌, true, arith, rules, tests}
 use Rattle.std.specs.Prelude.{nat_lt}
-use Rattle.std.specs.Io.KnownBytes.{Consumes, Keeps, IsAtEnd, prepend_known}
+use Rattle.std.specs.Io.KnownBytes.{Consumes, Keeps, prepend_known}
 use Rattle.std.specs.declared.option.Option.{Option}
 use Rattle.firefly_outside.specs.Window.{Takes}
 use Rattle.trace_core.specs.declared.intake.Intake.{Intake}

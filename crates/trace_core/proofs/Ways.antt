@@ -5,11 +5,13 @@ use Rattle.std.specs.declared.result.Result.{Result}
 use Rattle.larch_actions.specs.declared.event.Layout.{Layout}
 use Rattle.larch_actions.specs.declared.event.Action.{Action}
 use Rattle.larch_actions.specs.declared.event.Action.TheVariants as action
+use Rattle.larch_actions.specs.declared.thread_set.ThreadSet.{ThreadSet}
 use Rattle.trace_core.specs.declared.line.Stop.{Stop}
 use Rattle.trace_core.specs.declared.line.Stop.TheVariants.{More, Dead}
 use Rattle.trace_core.specs.declared.line.Line.TheVariants as line
 use Rattle.trace_core.specs.Reading.{Reader, ◌>>=◌, or_else, word_at, number_at, after_word, both, as_value, either}
-use Rattle.trace_core.specs.Lines.{named_at, wait_at, acquire_at, alert_at, alert_enqueue_at, alert_resume_at, alert_p_at, a_at, layout_of, counts_at}
+use Rattle.trace_core.specs.Names.{names_at, set_from}
+use Rattle.trace_core.specs.Lines.{named_at, wait_at, acquire_at, alert_at, alert_enqueue_at, alert_resume_at, alert_p_at, a_at, signal_at, layout_of, counts_at}
 
 first_ok : {X : Type 0} (read read' : Reader X) (bytes : List ℕ) (x : X × List ℕ) → read bytes ≡ Ok x → either read read' bytes ≡ Ok x
 first_ok read read' bytes x e = ap (λ r. or_else r (read' bytes)) e
@@ -127,3 +129,29 @@ counts_ok bytes rest more end t l e f g = counts_from bytes rest more t e f ∙ 
 pub counts_stop : (bytes rest more : List ℕ) (t : ℕ) (s : Stop) → word_at (codes "threads ") bytes ≡ Ok rest → number_at 1 65 32 rest ≡ Ok (t, more) → as_value (λ p. layout_of (t, p)) last_names more ≡ Err s
     → as_value line.Counts counts_at bytes ≡ Err s
 counts_stop bytes rest more t s e f g = counts_from bytes rest more t e f ∙ value_stops line.Counts (as_value (λ p. layout_of (t, p)) last_names) more s g
+
+abbrev signal_of : ℕ × List ℕ → Action
+signal_of p = action.Signal (record { 0 = p.0 }) (set_from p.1)
+
+abbrev named_with : ℕ → Result (List ℕ × List ℕ) Stop → Result ((ℕ × List ℕ) × List ℕ) Stop
+named_with c r = r >>= λ y. Ok ((c, y.0), y.1)
+
+signal_set : (c : ℕ) (r : Result (List ℕ × List ℕ) Stop) → as_value signal_of (λ _. named_with c r) [] ≡ as_value (action.Signal (record { 0 = c })) (as_value set_from (λ _. r)) []
+signal_set c (Ok x) = refl
+signal_set c (Err s) = refl
+
+signal_from : (l : Layout) (bytes rest more : List ℕ) (c : ℕ) → named_at (codes "signal c") l.conditions 32 bytes ≡ Ok (c, rest) → word_at (codes "left") rest ≡ Ok more
+    → signal_at l bytes ≡ as_value (action.Signal (record { 0 = c })) (as_value set_from (names_at l.threads)) more
+signal_from l bytes rest more c e f =
+    let h : signal_at l bytes ≡ as_value signal_of (λ _. named_with c (after_word (codes "left") (names_at l.threads) rest)) [] =
+    ap (λ (r : Result (ℕ × List ℕ) Stop). as_value signal_of (λ _. r >>= λ x. named_with x.0 (after_word (codes "left") (names_at l.threads) x.1)) []) e
+    in
+    h ∙ ap (λ (r : Result (List ℕ) Stop). as_value signal_of (λ _. named_with c (r >>= names_at l.threads)) []) f ∙ signal_set c (names_at l.threads more)
+
+pub signal_ok : (l : Layout) (bytes rest more end : List ℕ) (c : ℕ) (left : ThreadSet) → named_at (codes "signal c") l.conditions 32 bytes ≡ Ok (c, rest) → word_at (codes "left") rest ≡ Ok more
+    → as_value set_from (names_at l.threads) more ≡ Ok (left, end) → signal_at l bytes ≡ Ok (action.Signal (record { 0 = c }) left, end)
+signal_ok l bytes rest more end c left e f g = signal_from l bytes rest more c e f ∙ value_ok (action.Signal (record { 0 = c })) (as_value set_from (names_at l.threads)) more (left, end) g
+
+pub signal_stop : (l : Layout) (bytes rest more : List ℕ) (c : ℕ) (s : Stop) → named_at (codes "signal c") l.conditions 32 bytes ≡ Ok (c, rest) → word_at (codes "left") rest ≡ Ok more
+    → as_value set_from (names_at l.threads) more ≡ Err s → signal_at l bytes ≡ Err s
+signal_stop l bytes rest more c s e f g = signal_from l bytes rest more c e f ∙ value_stops (action.Signal (record { 0 = c })) (as_value set_from (names_at l.threads)) more s g
