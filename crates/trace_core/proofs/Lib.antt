@@ -9,11 +9,13 @@ pub mod Members
 pub mod ActionKinds
 pub mod Letters
 pub mod Quick
+pub mod Ways
 pub mod Pieces
 pub mod ActionLaws
 pub mod LineLaws
 pub mod Texts
 pub mod Told
+pub mod Filled
 pub mod Short
 pub mod Shown
 pub mod Outcomes
