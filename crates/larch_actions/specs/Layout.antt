@@ -35,7 +35,3 @@ IsNamed l (AlertPRaise s) = s.0 < l.semaphores
 -- each name in the event is below the count of its kind
 abbrev pub HasNames : Layout → Event → Type 0
 HasNames l e = (e.thread.0 < l.threads) × IsNamed l e.action
-
--- the largest lawful layout
-abbrev pub largest : Layout
-largest = record { threads = 64; mutexes = 64; conditions = 64; semaphores = 64 }

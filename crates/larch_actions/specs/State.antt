@@ -4,16 +4,13 @@ use Rattle.std.specs.declared.option.Option.{Option}
 use mathlib.Core.Option.{none, some, Option as Optional}
 use Rattle.larch_actions.specs.declared.event.Layout.{Layout}
 use Rattle.larch_actions.specs.declared.event.Event.{Event}
-use Rattle.larch_actions.specs.declared.event.Action.{Action}
-use Rattle.larch_actions.specs.declared.event.Action.TheVariants.{Resume, AlertReturn, AlertRaise}
 use Rattle.larch_actions.specs.declared.event.ThreadId.{ThreadId}
 use Rattle.larch_actions.specs.declared.event.Broken.{Broken}
-use Rattle.larch_actions.specs.declared.event.Broken.TheVariants as broken
 use Rattle.larch_actions.specs.declared.event.Pending.{Pending}
 use Rattle.larch_actions.specs.declared.event.Pending.TheVariants.{Nothing, Waiting, AlertWaiting}
 use Rattle.larch_actions.specs.declared.thread_set.ThreadSet.{ThreadSet}
 use Rattle.larch_actions.specs.Sets.{in_set}
-use Rattle.larch_actions.specs.Actions.{Spec, Acts, Fails, MeetsRequires, MeetsWhen, MeetsChoice, acted}
+use Rattle.larch_actions.specs.Actions.{Spec, Acts, Fails}
 
 -- what is kept of each mutex, condition, semaphore and thread
 pub record Moment : Type 0 where
@@ -49,29 +46,6 @@ spec_of m = record {
 abbrev pub Answers : {X : Type 0} → Moment → Moment → Event → Result X Broken → Type 0
 Answers old new e result =
     MatchResult result (λ _. Acts (spec_of old) e (spec_of new) × (new.layout ≡ old.layout)) (λ why. Fails (spec_of old) e why × (new ≡ old))
-
--- what a thread has begun where the action keeps the order
-abbrev pub begun_before : Action → Pending
-begun_before (Resume m c) = Waiting m c
-begun_before (AlertReturn m c) = AlertWaiting m c
-begun_before (AlertRaise m c) = AlertWaiting m c
-begun_before _ = Nothing
-
--- the first of REQUIRES, WHEN and ENSURES that an action by t fails that keeps the order
-abbrev pub FailsNext : ℕ → Spec → Action → Broken → Type 0
-FailsNext t old a broken.Order = ⊥
-FailsNext t old a broken.Requires = ¬ MeetsRequires t old a
-FailsNext t old a broken.When = MeetsRequires t old a × ¬ MeetsWhen t old a
-FailsNext t old a broken.Ensures = MeetsRequires t old a × MeetsWhen t old a × ¬ MeetsChoice t old a
-
--- REQUIRES, WHEN and ENSURES are met, as far as the event carries a choice
-abbrev pub MeetsRow : ℕ → Spec → Action → Type 0
-MeetsRow t old a = MeetsRequires t old a × MeetsWhen t old a × MeetsChoice t old a
-
--- the action by t, which keeps the order, was done, or it fails this clause first and the state is as before
-abbrev pub Does : {X : Type 0} → Moment → Moment → ℕ → Action → Result X Broken → Type 0
-Does old new t a result =
-    MatchResult result (λ _. (MeetsRow t (spec_of old) a × (spec_of new ≡ acted t (spec_of old) a)) × (new.layout ≡ old.layout)) (λ why. FailsNext t (spec_of old) a why × (new ≡ old))
 
 -- how many of the numbers below n pass the test
 abbrev pub count_below : (ℕ → Bool) → ℕ → ℕ

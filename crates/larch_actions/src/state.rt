@@ -1,10 +1,10 @@
 //! The state of the specification, and the step of each action on it.
 ghost use Rattle.std.specs.Prelude.{◌≡◌, ◌<◌, ◌↔◌, IsTrue, OnOk, OnErr, IfErr, true, false};
 ghost use mathlib.Core.Option.{none, some};
-ghost use Rattle.larch_actions.specs.Layout.{IsLawful, HasNames, largest};
+ghost use Rattle.larch_actions.specs.Layout.{IsLawful, HasNames};
 ghost use Rattle.larch_actions.specs.Sets.{in_set};
 ghost use Rattle.larch_actions.specs.Actions.{at_first, Acts, Fails, put, without_member};
-ghost use Rattle.larch_actions.specs.State.{Moment, spec_of, Answers, begun_before, held, waiting, alerted};
+ghost use Rattle.larch_actions.specs.State.{Moment, spec_of, holder_of, Answers, held, waiting, alerted};
 
 mod parts;
 mod steps;
@@ -75,28 +75,25 @@ impl State {
         ensures same { OnErr result (self.new ≡ self.old) }
         ensures layout { self.new.layout ≡ self.old.layout }
     {
-        // This brings the invariant of the state, that its layout is lawful, into the proof.
-        let _ = &self.layout;
         self.act(e)
     }
 
     // The same, said by one clause for all actions.
     #[inline(always)]
     fn act(&mut self, e: &Event) -> Result<(), Broken>
-        requires { HasNames largest e.now }
+        requires { HasNames self.old.layout e.now }
         ensures { Answers self.old self.new e.now result }
     {
+        // This brings the invariant of the state, that its layout is lawful, into the proof.
+        let _ = &self.layout;
         let t = e.thread;
-        if !self.has_begun(t, begun_for(e.action)) {
-            return Err(Broken::Order);
-        }
         match e.action {
             Action::Acquire { mutex } => self.acquire(t, mutex),
             Action::Release { mutex } => self.release(t, mutex),
             Action::Enqueue { mutex, cond } => self.enqueue(t, mutex, cond),
             Action::Resume { mutex, cond } => self.resume(t, mutex, cond),
             Action::AlertEnqueue { mutex, cond } => self.alert_enqueue(t, mutex, cond),
-            Action::AlertReturn { mutex, cond } => self.resume(t, mutex, cond),
+            Action::AlertReturn { mutex, cond } => self.alert_return(t, mutex, cond),
             Action::AlertRaise { mutex, cond } => self.alert_raise(t, mutex, cond),
             Action::Signal { cond, left } => self.signal(t, cond, left),
             Action::Broadcast { cond } => self.broadcast(t, cond),
@@ -104,7 +101,7 @@ impl State {
             Action::V { sem } => self.v(t, sem),
             Action::Alert { who } => self.alert(t, who),
             Action::TestAlert { yes } => self.test_alert(t, yes),
-            Action::AlertPReturn { sem } => self.p(t, sem),
+            Action::AlertPReturn { sem } => self.alert_p_return(t, sem),
             Action::AlertPRaise { sem } => self.alert_p_raise(t, sem),
         }
     }
@@ -156,19 +153,5 @@ impl State {
             }
         }
         count
-    }
-}
-
-// What a thread has begun where the action keeps the order.
-#[inline(always)]
-fn begun_for(action: Action) -> Pending
-    ensures { result ≡ begun_before action }
-{
-    match action {
-        Action::Resume { mutex, cond } => Pending::Waiting { mutex, cond },
-        Action::AlertReturn { mutex, cond } | Action::AlertRaise { mutex, cond } => {
-            Pending::AlertWaiting { mutex, cond }
-        }
-        _ => Pending::Nothing,
     }
 }

@@ -1,9 +1,8 @@
-//! The step of each action that keeps the order: the first clause that fails, or the change.
+//! The step of each action: the first clause that fails, or the change.
 ghost use Rattle.std.specs.Prelude.{◌≡◌, ◌<◌, true};
 ghost use mathlib.Core.Option.{none, some};
-ghost use Rattle.larch_actions.specs.Layout.{largest, HasNames};
 ghost use Rattle.larch_actions.specs.Actions.{put, without_member};
-ghost use Rattle.larch_actions.specs.State.{spec_of, Does};
+ghost use Rattle.larch_actions.specs.State.{spec_of, Answers};
 ghost use Rattle.larch_actions.specs.declared.event.Action.{Action};
 ghost use Rattle.larch_actions.specs.declared.event.Pending.TheVariants.{Nothing};
 
@@ -62,9 +61,13 @@ impl State {
     }
 
     pub(super) fn acquire(&mut self, t: ThreadId, mutex: MutexId) -> Result<(), Broken>
-        requires { HasNames largest (record { thread = t; action = Action.Acquire mutex }) }
-        ensures { Does self.old self.new t.0 (Action.Acquire mutex) result }
+        requires thread { t.0 < 64 }
+        requires mutex { mutex.0 < 64 }
+        ensures { Answers self.old self.new (record { thread = t; action = Action.Acquire mutex }) result }
     {
+        if !self.has_begun(t, Pending::Nothing) {
+            return Err(Broken::Order);
+        }
         if !self.is_free(mutex) {
             return Err(Broken::When);
         }
@@ -73,9 +76,13 @@ impl State {
     }
 
     pub(super) fn release(&mut self, t: ThreadId, mutex: MutexId) -> Result<(), Broken>
-        requires { HasNames largest (record { thread = t; action = Action.Release mutex }) }
-        ensures { Does self.old self.new t.0 (Action.Release mutex) result }
+        requires thread { t.0 < 64 }
+        requires mutex { mutex.0 < 64 }
+        ensures { Answers self.old self.new (record { thread = t; action = Action.Release mutex }) result }
     {
+        if !self.has_begun(t, Pending::Nothing) {
+            return Err(Broken::Order);
+        }
         if !self.is_holder(t, mutex) {
             return Err(Broken::Requires);
         }
@@ -89,9 +96,15 @@ impl State {
         mutex: MutexId,
         cond: CondId,
     ) -> Result<(), Broken>
-        requires { HasNames largest (record { thread = t; action = Action.Enqueue mutex cond }) }
-        ensures { Does self.old self.new t.0 (Action.Enqueue mutex cond) result }
+        requires thread { t.0 < 64 }
+        requires mutex { mutex.0 < 64 }
+        requires cond { cond.0 < 64 }
+        ensures { Answers self.old self.new
+            (record { thread = t; action = Action.Enqueue mutex cond }) result }
     {
+        if !self.has_begun(t, Pending::Nothing) {
+            return Err(Broken::Order);
+        }
         if !self.is_holder(t, mutex) {
             return Err(Broken::Requires);
         }
@@ -99,11 +112,16 @@ impl State {
         Ok(())
     }
 
-    // A wait's second part, and that of an alertable wait that returns, which has the same row.
     pub(super) fn resume(&mut self, t: ThreadId, mutex: MutexId, cond: CondId) -> Result<(), Broken>
-        requires { HasNames largest (record { thread = t; action = Action.Resume mutex cond }) }
-        ensures { Does self.old self.new t.0 (Action.Resume mutex cond) result }
+        requires thread { t.0 < 64 }
+        requires mutex { mutex.0 < 64 }
+        requires cond { cond.0 < 64 }
+        ensures { Answers self.old self.new
+            (record { thread = t; action = Action.Resume mutex cond }) result }
     {
+        if !self.has_begun(t, Pending::Waiting { mutex, cond }) {
+            return Err(Broken::Order);
+        }
         if !self.is_free(mutex) || self.members_of(cond).has(t) {
             return Err(Broken::When);
         }
@@ -117,13 +135,41 @@ impl State {
         mutex: MutexId,
         cond: CondId,
     ) -> Result<(), Broken>
-        requires { HasNames largest (record { thread = t; action = Action.AlertEnqueue mutex cond }) }
-        ensures { Does self.old self.new t.0 (Action.AlertEnqueue mutex cond) result }
+        requires thread { t.0 < 64 }
+        requires mutex { mutex.0 < 64 }
+        requires cond { cond.0 < 64 }
+        ensures { Answers self.old self.new
+            (record { thread = t; action = Action.AlertEnqueue mutex cond }) result }
     {
+        if !self.has_begun(t, Pending::Nothing) {
+            return Err(Broken::Order);
+        }
         if !self.is_holder(t, mutex) {
             return Err(Broken::Requires);
         }
         self.begin_wait(t, mutex, cond, Pending::AlertWaiting { mutex, cond });
+        Ok(())
+    }
+
+    pub(super) fn alert_return(
+        &mut self,
+        t: ThreadId,
+        mutex: MutexId,
+        cond: CondId,
+    ) -> Result<(), Broken>
+        requires thread { t.0 < 64 }
+        requires mutex { mutex.0 < 64 }
+        requires cond { cond.0 < 64 }
+        ensures { Answers self.old self.new
+            (record { thread = t; action = Action.AlertReturn mutex cond }) result }
+    {
+        if !self.has_begun(t, Pending::AlertWaiting { mutex, cond }) {
+            return Err(Broken::Order);
+        }
+        if !self.is_free(mutex) || self.members_of(cond).has(t) {
+            return Err(Broken::When);
+        }
+        self.end_wait(t, mutex);
         Ok(())
     }
 
@@ -133,9 +179,15 @@ impl State {
         mutex: MutexId,
         cond: CondId,
     ) -> Result<(), Broken>
-        requires { HasNames largest (record { thread = t; action = Action.AlertRaise mutex cond }) }
-        ensures { Does self.old self.new t.0 (Action.AlertRaise mutex cond) result }
+        requires thread { t.0 < 64 }
+        requires mutex { mutex.0 < 64 }
+        requires cond { cond.0 < 64 }
+        ensures { Answers self.old self.new
+            (record { thread = t; action = Action.AlertRaise mutex cond }) result }
     {
+        if !self.has_begun(t, Pending::AlertWaiting { mutex, cond }) {
+            return Err(Broken::Order);
+        }
         if !self.is_free(mutex) || !self.is_alerted(t) {
             return Err(Broken::When);
         }
@@ -151,9 +203,13 @@ impl State {
         cond: CondId,
         left: ThreadSet,
     ) -> Result<(), Broken>
-        requires { HasNames largest (record { thread = t; action = Action.Signal cond left }) }
-        ensures { Does self.old self.new t.0 (Action.Signal cond left) result }
+        requires thread { t.0 < 64 }
+        requires cond { cond.0 < 64 }
+        ensures { Answers self.old self.new (record { thread = t; action = Action.Signal cond left }) result }
     {
+        if !self.has_begun(t, Pending::Nothing) {
+            return Err(Broken::Order);
+        }
         if !self.members_of(cond).may_leave(&left) {
             return Err(Broken::Ensures);
         }
@@ -162,18 +218,25 @@ impl State {
     }
 
     pub(super) fn broadcast(&mut self, t: ThreadId, cond: CondId) -> Result<(), Broken>
-        requires { HasNames largest (record { thread = t; action = Action.Broadcast cond }) }
-        ensures { Does self.old self.new t.0 (Action.Broadcast cond) result }
+        requires thread { t.0 < 64 }
+        requires cond { cond.0 < 64 }
+        ensures { Answers self.old self.new (record { thread = t; action = Action.Broadcast cond }) result }
     {
+        if !self.has_begun(t, Pending::Nothing) {
+            return Err(Broken::Order);
+        }
         self.set_members(cond, ThreadSet::empty());
         Ok(())
     }
 
-    // P, and an alertable one that returns, which has the same row.
     pub(super) fn p(&mut self, t: ThreadId, sem: SemId) -> Result<(), Broken>
-        requires { HasNames largest (record { thread = t; action = Action.P sem }) }
-        ensures { Does self.old self.new t.0 (Action.P sem) result }
+        requires thread { t.0 < 64 }
+        requires sem { sem.0 < 64 }
+        ensures { Answers self.old self.new (record { thread = t; action = Action.P sem }) result }
     {
+        if !self.has_begun(t, Pending::Nothing) {
+            return Err(Broken::Order);
+        }
         if !self.is_available(sem) {
             return Err(Broken::When);
         }
@@ -182,25 +245,36 @@ impl State {
     }
 
     pub(super) fn v(&mut self, t: ThreadId, sem: SemId) -> Result<(), Broken>
-        requires { HasNames largest (record { thread = t; action = Action.V sem }) }
-        ensures { Does self.old self.new t.0 (Action.V sem) result }
+        requires thread { t.0 < 64 }
+        requires sem { sem.0 < 64 }
+        ensures { Answers self.old self.new (record { thread = t; action = Action.V sem }) result }
     {
+        if !self.has_begun(t, Pending::Nothing) {
+            return Err(Broken::Order);
+        }
         self.set_available(sem, true);
         Ok(())
     }
 
     pub(super) fn alert(&mut self, t: ThreadId, who: ThreadId) -> Result<(), Broken>
-        requires { HasNames largest (record { thread = t; action = Action.Alert who }) }
-        ensures { Does self.old self.new t.0 (Action.Alert who) result }
+        requires thread { t.0 < 64 }
+        requires who { who.0 < 64 }
+        ensures { Answers self.old self.new (record { thread = t; action = Action.Alert who }) result }
     {
+        if !self.has_begun(t, Pending::Nothing) {
+            return Err(Broken::Order);
+        }
         self.set_alert(who);
         Ok(())
     }
 
     pub(super) fn test_alert(&mut self, t: ThreadId, yes: bool) -> Result<(), Broken>
-        requires { HasNames largest (record { thread = t; action = Action.TestAlert yes }) }
-        ensures { Does self.old self.new t.0 (Action.TestAlert yes) result }
+        requires { t.0 < 64 }
+        ensures { Answers self.old self.new (record { thread = t; action = Action.TestAlert yes }) result }
     {
+        if !self.has_begun(t, Pending::Nothing) {
+            return Err(Broken::Order);
+        }
         if yes != self.is_alerted(t) {
             return Err(Broken::Ensures);
         }
@@ -208,10 +282,29 @@ impl State {
         Ok(())
     }
 
-    pub(super) fn alert_p_raise(&mut self, t: ThreadId, sem: SemId) -> Result<(), Broken>
-        requires { HasNames largest (record { thread = t; action = Action.AlertPRaise sem }) }
-        ensures { Does self.old self.new t.0 (Action.AlertPRaise sem) result }
+    pub(super) fn alert_p_return(&mut self, t: ThreadId, sem: SemId) -> Result<(), Broken>
+        requires thread { t.0 < 64 }
+        requires sem { sem.0 < 64 }
+        ensures { Answers self.old self.new (record { thread = t; action = Action.AlertPReturn sem }) result }
     {
+        if !self.has_begun(t, Pending::Nothing) {
+            return Err(Broken::Order);
+        }
+        if !self.is_available(sem) {
+            return Err(Broken::When);
+        }
+        self.set_available(sem, false);
+        Ok(())
+    }
+
+    pub(super) fn alert_p_raise(&mut self, t: ThreadId, sem: SemId) -> Result<(), Broken>
+        requires thread { t.0 < 64 }
+        requires sem { sem.0 < 64 }
+        ensures { Answers self.old self.new (record { thread = t; action = Action.AlertPRaise sem }) result }
+    {
+        if !self.has_begun(t, Pending::Nothing) {
+            return Err(Broken::Order);
+        }
         if !self.is_alerted(t) {
             return Err(Broken::When);
         }

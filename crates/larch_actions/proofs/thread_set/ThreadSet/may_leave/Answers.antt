@@ -1,6 +1,5 @@
 use Rattle.std.proofs.Common.{rules}
-use Rattle.std.proofs.lemmas.Bool.{eqb-true}
-use Rattle.larch_actions.proofs.Sets.{leaves-none, leaves-there, leaves-other, leaves-sub}
+use Rattle.larch_actions.proofs.Sets.{leaves-there, leaves-other, leaves-sub}
 use Rattle.larch_actions.proofs.thread_set.ThreadSet.may_leave.Goals as goal
 
 pub returns-then-left-self-clause-sound : goal.returns-then-left-self-clause-sound
@@ -11,9 +10,3 @@ returns-then-left-self-clause-complete c = λ may. leaves-other c.args.self.now 
 
 pub returns-else-left-self-clause-complete : goal.returns-else-left-self-clause-complete
 returns-else-left-self-clause-complete c = λ may. leaves-sub c.args.self.now c.args.left.now (search rules) may
-
-pub returns-else-left-self-clause-sound : goal.returns-else-left-self-clause-sound
-returns-else-left-self-clause-sound c = λ may. absurd (c.if-left-self.false (eqb-true _ _ may))
-
-pub returns-then-left-eq0-clause-sound : goal.returns-then-left-eq0-clause-sound
-returns-then-left-eq0-clause-sound c = λ may. leaves-none c.args.self.now c.args.left.now c.if-left-eq0.true
