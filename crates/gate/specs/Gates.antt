@@ -1,15 +1,12 @@
 -- The events of the lock bits, and what taking and clearing them changes.
-use Rattle.std.specs.Prelude.{◌≡◌, ℕ, Option as Opt, Some, None, [], true, slice_set}
+use Rattle.std.specs.Prelude.{◌≡◌, ℕ, Option as Opt, Some, None, slice_set}
 use Rattle.larch_actions.specs.declared.event.Event.{Event}
-use Rattle.larch_actions.specs.Sets.{mem}
 use Rattle.nub_rule.specs.declared.object.Object.{Object}
 use Rattle.nub_rule.specs.declared.object.Object.TheVariants.{Mutex, Sem, Cond}
 use Rattle.nub_rule.specs.declared.view.Wait.{Wait}
 use Rattle.nub_rule.specs.declared.view.WaitBit.TheVariants.{Closing}
-use Rattle.nub_rule.specs.Known.{Known, Shape, Holds, IsIn, MayGive, PicksShare}
-use Rattle.nub_rule.specs.Objects.{object_of, HasObject, IsGate}
+use Rattle.nub_rule.specs.Known.{Known, Holds, IsIn, MayGive, PicksShare}
 use Rattle.nub_rule.specs.Plays.{MayTake, MayTakeSem, release_event, v_event}
-use Rattle.nub.specs.Rest.{IsOutside}
 
 -- the thread of this number, in this wait, may make the event e by taking the bit
 abbrev pub MayMake : Object → ℕ → Opt Wait → Event → Type 0
@@ -52,12 +49,3 @@ module _ {T H W : Type 0} where
   IsFreed after (Mutex m) a b = (b.held ≡ slice_set a.held m.0 None) × (b.values ≡ slice_set a.values m.0 None) × PicksShare after m.0 a b
   IsFreed after (Sem s) a b = (b.held ≡ a.held) × (b.values ≡ a.values) × (b.share ≡ a.share)
   IsFreed after (Cond c) a b = ⊥
-
-  -- the thread has tried the bit in vain, and may queue itself
-  pub record MayQueue (p : Shape W) (at : Object) (k : Known T H W) : Type 0 where
-    pub of : k.table_id ≡ p.table_id
-    pub gate : IsGate at
-    pub named : HasObject p.layout at
-    pub outside : IsOutside k
-    pub looked : k.cleared ≡ []
-    pub tried : mem (object_of at) k.failed ≡ true

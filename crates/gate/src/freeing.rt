@@ -71,24 +71,6 @@ pub fn free<U: Uses, C: Change<U>, R: Wait>(
     } else {
         clear_gate::<U, C>(p, me, at);
     }
-    look_and_wake(rt, p, me, at);
-}
-
-/// After the bit was cleared: makes one queued thread ready if the queue isn't empty, and unparks those that can go on now.
-#[inline(always)]
-fn look_and_wake<U: Uses, R: Wait>(rt: &R, p: &Package<U>, me: &mut Thread<U>, at: Object)
-    requires of { me.old.table_id ≡ p.now.table_id }
-    requires gate { IsGate at }
-    requires named { HasObject p.now.layout at }
-    requires outside { IsOutside me.old }
-    requires cleared { mem (object_of at) me.old.cleared ≡ true }
-    ensures { me.new ≡ record me.old {
-      count = me.new.count;
-      failed = me.new.failed;
-      cleared = without (object_of at) me.old.cleared;
-      looked = without (object_of at) me.old.looked;
-    } }
-{
     // Asked before the length is read, so that one branch on both is left.
     let owes = lets_go_on(me, at);
     // The length is read after the clearing: a thread that pushed itself before the clearing is seen here, one that pushes later finds the
@@ -134,7 +116,10 @@ fn free_in_wait<U: Uses, C: Change<U>, R: Wait>(
     ensures share { PicksShare C.after m.0 me.old me.new }
 {
     clear_bit_in_wait::<U, C>(p, me, m);
-    look_and_wake(rt, p, me, Object::Mutex(m));
+    let length = read_length(p, me, Object::Mutex(m));
+    if length != 0 || owes_unparking(me) {
+        wake_after(rt, p, me, Object::Mutex(m), length);
+    }
 }
 
 /// Makes the event by clearing the bit, with the pen. The event is built here: passing 16 bytes through a cold call would make the

@@ -1,7 +1,7 @@
 //! Taking the bit.
 ghost use Rattle.std.specs.Prelude.{◌≡◌, ◌≢◌, ◌<◌, ℕ, [], ◌∷◌, Some, None, true, false};
-ghost use Rattle.larch_actions.specs.Sets.{without};
-ghost use Rattle.gate.specs.Gates.{MayMake, MayQueue, IsTaken};
+ghost use Rattle.larch_actions.specs.Sets.{mem, without};
+ghost use Rattle.gate.specs.Gates.{MayMake, IsTaken};
 ghost use Rattle.nub_rule.specs.declared.object.Object.TheVariants.{Mutex};
 ghost use Rattle.nub_rule.specs.declared.view.Wait.{Wait as Waiting};
 ghost use Rattle.nub_rule.specs.declared.view.WaitBit.TheVariants.{Open};
@@ -243,7 +243,12 @@ fn look_briefly<U: Uses>(p: &Package<U>, at: Object)
 #[cold]
 #[inline(never)]
 fn stand_in_line<U: Uses, R: Wait>(rt: &R, p: &Package<U>, me: &mut Thread<U>, at: Object)
-    requires { MayQueue p.now at me.old }
+    requires of { me.old.table_id ≡ p.now.table_id }
+    requires gate { IsGate at }
+    requires named { HasObject p.now.layout at }
+    requires outside { IsOutside me.old }
+    requires looked { me.old.cleared ≡ [] }
+    requires tried { mem (object_of at) me.old.failed ≡ true }
     ensures rest { me.new ≡ record me.old { count = me.new.count; failed = without (object_of at) me.old.failed; turns = me.new.turns } }
     ensures turns { without (object_of at) me.new.turns ≡ without (object_of at) me.old.turns }
 {

@@ -6,7 +6,7 @@ use Rattle.nub_rule.specs.declared.view.Stage.TheVariants.{Pushed, Clear, Tested
 use Rattle.nub_rule.specs.Parts.{left_turns, staged}
 use Rattle.nub.proofs.Without.{mem_last, without_own, after_sleep}
 use Rattle.nub_rule.proofs.Gating.{leave-gate, left-gate, push-gate}
-use Rattle.gate.proofs.Steps.{left_queue, stays_queued}
+use Rattle.gate.proofs.Steps.{left_queue}
 use Rattle.gate.proofs.taking.stand_in_line.Goals as goal
 
 pub push-requires-clause-may : goal.push-requires-clause-may
@@ -40,14 +40,8 @@ returns-then-test_again-eq0 g c =
 pub returns-else-test_again-eq0 : goal.returns-else-test_again-eq0
 returns-else-test_again-eq0 g c =
     let o = object_of c.args.at in
-    let old = c.args.me.now in
     let s : Stand = record { at = o; stage = Tested } in
     let lv = c.leave-else-test_again-eq0.new.me in
-    let pushed = c.push.ensures.gate c.requires.gate in
-    let tested = c.test_again.ensures.tested c.if-test_again-eq0.false in
-    let leaves = c.leave-else-test_again-eq0.ensures in
-    let stands : lv.stand ≡ Some s = ap (λ k. k.stand) leaves ∙ (ap (λ k. k.stand) tested ∙ ap (λ k. staged Tested k.stand) pushed) in
-    let stays = stays_queued o old c.enter.new.me lv c.requires.outside c.enter.ensures.inside c.push.new.me c.test_again.new.me _ _ _ _ pushed tested leaves in
-    let slept = c.sleep.ensures.plain refl in
-    let after = after_sleep old lv c.sleep.new.me o (without o old.failed) c.requires.outside.stand stays (λ l. c.sleep.ensures.at_gate slept s stands l) (λ l. c.sleep.ensures.at_cond slept s stands l) in
+    let stands : lv.stand ≡ Some s = search rules in
+    let after = after_sleep c.args.me.now lv c.sleep.new.me o (without o c.args.me.now.failed) c.requires.outside.stand (search rules) (λ l. c.sleep.ensures.at_gate (c.sleep.ensures.plain refl) s stands l) (λ l. c.sleep.ensures.at_cond (c.sleep.ensures.plain refl) s stands l) in
     record { rest = after.0; turns = after.1 }

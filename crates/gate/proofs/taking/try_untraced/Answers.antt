@@ -6,19 +6,25 @@ use Rattle.nub_rule.specs.Parts.{made}
 use Rattle.gate.proofs.Steps.{lost_once, more_from_test, won_once, zero_from_test}
 use Rattle.gate.proofs.taking.try_untraced.Goals as goal
 
-pub returns : goal.returns
-returns g c =
+pub returns-clause-lost : goal.returns-clause-lost
+returns-clause-lost g c = λ test.
     let o = object_of c.args.at in
     let old = c.args.me.now in
-    let new = c.try_gate.new.me in
-    let did = c.try_gate.ensures in
-    let found = c.try_gate.result in
+    lost_once old c.try_gate.new.me (o ∷ old.failed) (without o old.turns) (c.try_gate.ensures.lost (more_from_test c.try_gate.result test))
+
+pub returns-clause-turns : goal.returns-clause-turns
+returns-clause-turns g c = λ test.
+    ap (λ k. without (object_of c.args.at) k.turns) (c.try_gate.ensures.lost (more_from_test c.try_gate.result test)) ∙ without_twice (object_of c.args.at) c.args.me.now.turns
+
+pub returns-clause-event : goal.returns-clause-event
+returns-clause-event g c = λ test. c.try_gate.ensures.event (zero_from_test c.try_gate.result test)
+
+pub returns-clause-won : goal.returns-clause-won
+returns-clause-won g c = λ test.
+    let o = object_of c.args.at in
+    let old = c.args.me.now in
     let pen = c.requires.outside.pen in
-    record {
-      untraced = λ test. sym c.traced.ensures ∙ c.if-traced.false;
-      lost = λ test. lost_once old new (o ∷ old.failed) (without o old.turns) (did.lost (more_from_test found test));
-      turns = λ test. ap (λ k. without o k.turns) (did.lost (more_from_test found test)) ∙ without_twice o old.turns;
-      event = λ test. did.event (zero_from_test found test);
-      won = λ test. won_once old new (without o old.failed) (without o old.turns) (made old.pen) (ap made pen ∙ sym pen) (did.won (zero_from_test found test));
-      taken = λ test. did.taken (zero_from_test found test);
-    }
+    won_once old c.try_gate.new.me (without o old.failed) (without o old.turns) (made old.pen) (ap made pen ∙ sym pen) (c.try_gate.ensures.won (zero_from_test c.try_gate.result test))
+
+pub returns-clause-taken : goal.returns-clause-taken
+returns-clause-taken g c = λ test. c.try_gate.ensures.taken (zero_from_test c.try_gate.result test)
