@@ -16,4 +16,5 @@ mod trace_command;
 pub use firefly_check::{Ending, Status, ends, number};
 pub use firefly_script::{Script, ScriptFault, read_script};
 pub use outside::{system_trees, system_words};
+pub use script_run::run_script;
 pub use top::firefly;
