@@ -1,17 +1,19 @@
 -- Layouts, names and which of them are lawful.
-use Rattle.std.specs.Prelude.{◌≡◌, ℕ, ◌<◌, ◌≤◌, true, List, [], ◌∷◌, ◌++◌, codes, decimal}
+use Rattle.std.specs.Prelude.{◌≡◌, ℕ, ◌<◌, ◌≤◌, true, List, ◌++◌, codes, decimal}
 use Rattle.larch_actions.specs.declared.event.Layout.{Layout}
 use Rattle.larch_actions.specs.declared.event.Event.{Event}
 use Rattle.larch_actions.specs.declared.event.Action.{Action}
 use Rattle.larch_actions.specs.declared.kind.Kind.{Kind}
 use Rattle.larch_actions.specs.declared.kind.Kind.TheVariants.{Mutex, Condition, Semaphore, Thread}
 use Rattle.larch_actions.specs.declared.rows.Numbers.{Numbers}
+use Rattle.larch_actions.specs.declared.rows.Kinds.{Kinds}
+use Rattle.larch_actions.specs.declared.rows.Kinds.TheVariants as kinds
 use Rattle.larch_actions.specs.declared.rows.Endings.{Endings}
 use Rattle.larch_actions.specs.declared.rows.Endings.TheVariants.{Threads}
 use Rattle.larch_actions.specs.declared.rows.Ending.{Ending}
 use Rattle.larch_actions.specs.declared.rows.Row.{Row}
 use Rattle.larch_actions.specs.Sets.{in_set}
-use Rattle.larch_actions.specs.Rows.{kinds_of, endings_of, row_of, later, left_by}
+use Rattle.larch_actions.specs.Rows.{kinds_of, endings_of, row_of, left_by}
 
 -- how many threads a layout has at most, and how many things of another kind
 abbrev pub most_threads : ℕ
@@ -46,14 +48,14 @@ letter Condition = 99
 letter Semaphore = 115
 letter Thread = 116
 
--- each number is below the count of its kind
-abbrev pub AreBelow : Layout → List Kind → Numbers → Type 0
-AreBelow l [] x = Unit {0}
-AreBelow l (k ∷ []) x = x.first < count_of l k
-AreBelow l (k ∷ ks) x = (x.first < count_of l k) × AreBelow l ks (later x)
+-- each number that stands for a name is below the count of its kind
+abbrev pub AreBelow : Layout → Kinds → Numbers → Type 0
+AreBelow l kinds.Nothing x = Unit {0}
+AreBelow l (kinds.One k) x = x.first < count_of l k
+AreBelow l (kinds.Two k j) x = (x.first < count_of l k) × (x.second < count_of l j)
 
 -- so is each of the threads that are left, where some may be
-abbrev pub FitsIn : Layout → List Kind → Numbers → Endings → Ending → Type 0
+abbrev pub FitsIn : Layout → Kinds → Numbers → Endings → Ending → Type 0
 FitsIn l ks x Threads e = AreBelow l ks x × ((t : ℕ) → in_set (left_by e) t ≡ true → t < l.threads)
 FitsIn l ks x _ e = AreBelow l ks x
 

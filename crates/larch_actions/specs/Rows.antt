@@ -4,9 +4,10 @@ use Rattle.larch_actions.specs.declared.event.Action.{Action}
 use Rattle.larch_actions.specs.declared.event.Action.TheVariants.{Acquire, Release, Enqueue, Resume, AlertEnqueue, AlertReturn, AlertRaise, Signal, Broadcast, P, V, Alert, TestAlert, AlertPReturn, AlertPRaise}
 use Rattle.larch_actions.specs.declared.rows.Word.{Word}
 use Rattle.larch_actions.specs.declared.rows.Word.TheVariants as word
-use Rattle.larch_actions.specs.declared.kind.Kind.{Kind}
 use Rattle.larch_actions.specs.declared.kind.Kind.TheVariants.{Mutex, Condition, Semaphore, Thread}
 use Rattle.larch_actions.specs.declared.rows.Numbers.{Numbers}
+use Rattle.larch_actions.specs.declared.rows.Kinds.{Kinds}
+use Rattle.larch_actions.specs.declared.rows.Kinds.TheVariants as kinds
 use Rattle.larch_actions.specs.declared.rows.Endings.{Endings}
 use Rattle.larch_actions.specs.declared.rows.Endings.TheVariants as endings
 use Rattle.larch_actions.specs.declared.rows.Ending.{Ending}
@@ -14,6 +15,11 @@ use Rattle.larch_actions.specs.declared.rows.Ending.TheVariants.{Nothing, Return
 use Rattle.larch_actions.specs.declared.rows.Row.{Row}
 use Rattle.larch_actions.specs.declared.thread_set.ThreadSet.{ThreadSet}
 use Rattle.larch_actions.specs.Sets.{set_of}
+
+-- all words
+abbrev pub words : List Word
+words =
+    word.Acquire ∷ word.Release ∷ word.P ∷ word.V ∷ word.Enqueue ∷ word.Resume ∷ word.Signal ∷ word.Broadcast ∷ word.Alert ∷ word.TestAlert ∷ word.AlertEnqueue ∷ word.AlertResume ∷ word.AlertP ∷ []
 
 -- a word as it is spelt
 abbrev pub word_text : Word → List ℕ
@@ -32,20 +38,20 @@ word_text word.AlertResume = codes "alert-resume"
 word_text word.AlertP = codes "alert-p"
 
 -- what the names behind it are
-abbrev pub kinds_of : Word → List Kind
-kinds_of word.Acquire = Mutex ∷ []
-kinds_of word.Release = Mutex ∷ []
-kinds_of word.P = Semaphore ∷ []
-kinds_of word.V = Semaphore ∷ []
-kinds_of word.Enqueue = Mutex ∷ Condition ∷ []
-kinds_of word.Resume = Mutex ∷ Condition ∷ []
-kinds_of word.Signal = Condition ∷ []
-kinds_of word.Broadcast = Condition ∷ []
-kinds_of word.Alert = Thread ∷ []
-kinds_of word.TestAlert = []
-kinds_of word.AlertEnqueue = Mutex ∷ Condition ∷ []
-kinds_of word.AlertResume = Mutex ∷ Condition ∷ []
-kinds_of word.AlertP = Semaphore ∷ []
+abbrev pub kinds_of : Word → Kinds
+kinds_of word.Acquire = kinds.One Mutex
+kinds_of word.Release = kinds.One Mutex
+kinds_of word.P = kinds.One Semaphore
+kinds_of word.V = kinds.One Semaphore
+kinds_of word.Enqueue = kinds.Two Mutex Condition
+kinds_of word.Resume = kinds.Two Mutex Condition
+kinds_of word.Signal = kinds.One Condition
+kinds_of word.Broadcast = kinds.One Condition
+kinds_of word.Alert = kinds.One Thread
+kinds_of word.TestAlert = kinds.Nothing
+kinds_of word.AlertEnqueue = kinds.Two Mutex Condition
+kinds_of word.AlertResume = kinds.Two Mutex Condition
+kinds_of word.AlertP = kinds.One Semaphore
 
 -- which endings it may have
 abbrev pub endings_of : Word → Endings
@@ -122,14 +128,11 @@ made word.AlertP x e = if is_raised e then AlertPRaise (record { 0 = x.first }) 
 abbrev pub action_of : Row → Action
 action_of r = made r.word r.numbers r.ending
 
--- the numbers behind the first
-abbrev pub later : Numbers → Numbers
-later x = one x.second
-
 -- of two numbers those that stand for no name are 0
-abbrev pub AreFor : List Kind → Numbers → Type 0
-AreFor [] x = x ≡ none
-AreFor (k ∷ ks) x = AreFor ks (later x)
+abbrev pub AreFor : Kinds → Numbers → Type 0
+AreFor kinds.Nothing x = x ≡ none
+AreFor (kinds.One k) x = x.second ≡ 0
+AreFor (kinds.Two k j) x = Unit {0}
 
 -- the ending is of that sort
 abbrev pub IsEnding : Endings → Ending → Type 0

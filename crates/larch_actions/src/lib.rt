@@ -16,6 +16,6 @@ pub use event::{
     ThreadId,
 };
 pub use kind::Kind;
-pub use rows::{Ending, Endings, Numbers, Row, Word};
+pub use rows::{Ending, Endings, Kinds, Numbers, Row, WORDS, Word};
 pub use state::{State, Totals};
 pub use thread_set::ThreadSet;

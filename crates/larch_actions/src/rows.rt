@@ -1,7 +1,7 @@
 //! The table of actions: for each its word, the names behind the word, and its ending.
 //!
-//! A further action is a variant of `Action` and of `Word`, a row in each function here and in specs/Rows.antt, and what it asks and does
-//! in specs/Actions.antt. Which names are lawful, texts, their printing and their reading follow from the rows.
+//! A further action is a variant of `Action` and of `Word`, a row in each function here, in specs/Rows.antt and proofs/Table.antt, and what it
+//! asks and does in specs/Actions.antt. Which names are lawful, texts, their printing and their reading follow from the rows.
 ghost use Rattle.std.specs.Prelude.{◌≡◌, ◌≤◌, length, if◌then◌else◌};
 ghost use Rattle.larch_actions.specs.Rows.{word_text, kinds_of, endings_of, row, none, one, two, answer_of, row_of, is_raised, is_yes, left_by, action_of, IsRow};
 
@@ -30,6 +30,14 @@ pub enum Word {
 pub struct Numbers {
     pub first: u32,
     pub second: u32,
+}
+
+/// What the names behind a word are.
+#[derive(Clone, Copy)]
+pub enum Kinds {
+    Nothing,
+    One(Kind),
+    Two(Kind, Kind),
 }
 
 /// Which endings may stand behind the names.
@@ -63,6 +71,23 @@ pub struct Row {
     pub ending: Ending,
 }
 
+/// All words.
+pub const WORDS: [Word; 13] = [
+    Word::Acquire,
+    Word::Release,
+    Word::P,
+    Word::V,
+    Word::Enqueue,
+    Word::Resume,
+    Word::Signal,
+    Word::Broadcast,
+    Word::Alert,
+    Word::TestAlert,
+    Word::AlertEnqueue,
+    Word::AlertResume,
+    Word::AlertP,
+];
+
 impl Word {
     /// The word as it is spelt.
     #[inline(always)]
@@ -89,24 +114,23 @@ impl Word {
 
     /// What the names behind it are.
     #[inline(always)]
-    pub fn kinds(self) -> &'static [Kind]
-        ensures kinds { result.now ≡ kinds_of self }
-        ensures few { length result.now ≤ 2 }
+    pub fn kinds(self) -> Kinds
+        ensures { result ≡ kinds_of self }
     {
         match self {
-            Word::Acquire => &[Kind::Mutex],
-            Word::Release => &[Kind::Mutex],
-            Word::P => &[Kind::Semaphore],
-            Word::V => &[Kind::Semaphore],
-            Word::Enqueue => &[Kind::Mutex, Kind::Condition],
-            Word::Resume => &[Kind::Mutex, Kind::Condition],
-            Word::Signal => &[Kind::Condition],
-            Word::Broadcast => &[Kind::Condition],
-            Word::Alert => &[Kind::Thread],
-            Word::TestAlert => &[],
-            Word::AlertEnqueue => &[Kind::Mutex, Kind::Condition],
-            Word::AlertResume => &[Kind::Mutex, Kind::Condition],
-            Word::AlertP => &[Kind::Semaphore],
+            Word::Acquire => Kinds::One(Kind::Mutex),
+            Word::Release => Kinds::One(Kind::Mutex),
+            Word::P => Kinds::One(Kind::Semaphore),
+            Word::V => Kinds::One(Kind::Semaphore),
+            Word::Enqueue => Kinds::Two(Kind::Mutex, Kind::Condition),
+            Word::Resume => Kinds::Two(Kind::Mutex, Kind::Condition),
+            Word::Signal => Kinds::One(Kind::Condition),
+            Word::Broadcast => Kinds::One(Kind::Condition),
+            Word::Alert => Kinds::One(Kind::Thread),
+            Word::TestAlert => Kinds::Nothing,
+            Word::AlertEnqueue => Kinds::Two(Kind::Mutex, Kind::Condition),
+            Word::AlertResume => Kinds::Two(Kind::Mutex, Kind::Condition),
+            Word::AlertP => Kinds::One(Kind::Semaphore),
         }
     }
 
