@@ -4,9 +4,8 @@ use Rattle.std.proofs.lemmas.Fmt.{decimal_injective}
 use Rattle.std.proofs.lemmas.List.{append_cancel_left}
 use Rattle.std.specs.Prelude.{codes, decimal}
 use Rattle.larch_actions.specs.declared.event.Layout.{Layout}
-use Rattle.larch_actions.specs.Layout.{IsLawful}
+use Rattle.larch_actions.specs.Layout.{IsLawful, layout_text, most_objects, most_threads}
 use Rattle.firefly_script.specs.Parsing.{IsField}
-use Rattle.firefly_script.specs.Text.{layout_text}
 use Rattle.firefly_script.proofs.Pieces.{cut_same, lacks_decimal}
 
 -- a number before a space is determined, and so is what stands behind it
@@ -15,8 +14,8 @@ number_same n m y z fn fm e =
     let c = cut_same 32 (decimal n) (decimal m) y z (lacks_decimal 32 n (omega arith) fn) (lacks_decimal 32 m (omega arith) fm) e in
     (decimal_injective n m fn fm c.0, c.1)
 
-pub field_is : (word bytes y z : List ℕ) (n m : ℕ) → IsField bytes word n y → m ≤ 64 → bytes ≡ word ++ (decimal m ++ 32 ∷ z) → (n ≡ m) × (y ≡ z)
-field_is word bytes y z n m f le e =
+pub field_is : (most : ℕ) (word bytes y z : List ℕ) (n m : ℕ) → most < 2 ^ 64 → IsField most bytes word n y → m ≤ most → bytes ≡ word ++ (decimal m ++ 32 ∷ z) → (n ≡ m) × (y ≡ z)
+field_is most word bytes y z n m few f le e =
     number_same n m y z (omega (arith, f.within)) (omega arith) (append_cancel_left word _ _ (sym f.text ∙ e))
 
 abbrev pub semaphores_tail : Layout → List ℕ
@@ -29,17 +28,17 @@ abbrev pub mutexes_tail : Layout → List ℕ
 mutexes_tail l = codes "mutexes " ++ (decimal l.mutexes ++ 32 ∷ conditions_tail l)
 
 module _ (l : Layout) (ok : IsLawful l) (bytes : List ℕ) where
-  pub behind_threads : (n : ℕ) (y : List ℕ) → IsField bytes (codes "threads ") n y → bytes ≡ layout_text l → (n ≡ l.threads) × (y ≡ mutexes_tail l)
-  behind_threads n y f e = field_is (codes "threads ") bytes y (mutexes_tail l) n l.threads f ok.threads e
+  pub behind_threads : (n : ℕ) (y : List ℕ) → IsField most_threads bytes (codes "threads ") n y → bytes ≡ layout_text l → (n ≡ l.threads) × (y ≡ mutexes_tail l)
+  behind_threads n y f e = field_is most_threads (codes "threads ") bytes y (mutexes_tail l) n l.threads (omega arith) f ok.threads e
 
-  pub behind_mutexes : (n : ℕ) (y : List ℕ) → IsField bytes (codes "mutexes ") n y → bytes ≡ mutexes_tail l → (n ≡ l.mutexes) × (y ≡ conditions_tail l)
-  behind_mutexes n y f e = field_is (codes "mutexes ") bytes y (conditions_tail l) n l.mutexes f ok.mutexes e
+  pub behind_mutexes : (n : ℕ) (y : List ℕ) → IsField most_objects bytes (codes "mutexes ") n y → bytes ≡ mutexes_tail l → (n ≡ l.mutexes) × (y ≡ conditions_tail l)
+  behind_mutexes n y f e = field_is most_objects (codes "mutexes ") bytes y (conditions_tail l) n l.mutexes (omega arith) f ok.mutexes e
 
-  pub behind_conditions : (n : ℕ) (y : List ℕ) → IsField bytes (codes "conditions ") n y → bytes ≡ conditions_tail l → (n ≡ l.conditions) × (y ≡ semaphores_tail l)
-  behind_conditions n y f e = field_is (codes "conditions ") bytes y (semaphores_tail l) n l.conditions f ok.conditions e
+  pub behind_conditions : (n : ℕ) (y : List ℕ) → IsField most_objects bytes (codes "conditions ") n y → bytes ≡ conditions_tail l → (n ≡ l.conditions) × (y ≡ semaphores_tail l)
+  behind_conditions n y f e = field_is most_objects (codes "conditions ") bytes y (semaphores_tail l) n l.conditions (omega arith) f ok.conditions e
 
 -- three fields and the last number are the text of the layout
-pub layout_of_fields : (l : Layout) (bytes b1 b2 b3 b4 : List ℕ) → IsField bytes (codes "threads ") l.threads b1 → IsField b1 (codes "mutexes ") l.mutexes b2 → IsField b2 (codes "conditions ") l.conditions b3
+pub layout_of_fields : (l : Layout) (bytes b1 b2 b3 b4 : List ℕ) → IsField most_threads bytes (codes "threads ") l.threads b1 → IsField most_objects b1 (codes "mutexes ") l.mutexes b2 → IsField most_objects b2 (codes "conditions ") l.conditions b3
     → b3 ≡ codes "semaphores " ++ b4 → b4 ≡ decimal l.semaphores → bytes ≡ layout_text l
 layout_of_fields l bytes b1 b2 b3 b4 f1 f2 f3 e4 e5 =
     let e3 : b3 ≡ semaphores_tail l = e4 ∙ ap (λ b. codes "semaphores " ++ b) e5 in

@@ -3,13 +3,13 @@ use Rattle.std.proofs.Common.{◌≡◌, ℕ, ◌+◌, ◌^◌, ◌<◌, List, [
 use Rattle.std.proofs.lemmas.Bool.{ne_eqb}
 use Rattle.std.specs.Prelude.{codes, decimal}
 use Rattle.larch_actions.specs.declared.event.Layout.{Layout}
-use Rattle.larch_actions.specs.Layout.{IsLawful}
+use Rattle.larch_actions.specs.Layout.{IsLawful, layout_text}
 use Rattle.firefly_script.specs.declared.line.Line.{Line}
 use Rattle.firefly_script.specs.declared.line.Operation.{Operation}
 use Rattle.firefly_script.specs.Faults.{Lacks, newlines}
 use Rattle.firefly_script.specs.Operations.{Holding, IsNamed, holding_after, MayCome, MayFollow}
 use Rattle.firefly_script.specs.Table.{word_text, kinds_of, word_of, numbers_of, operands_text}
-use Rattle.firefly_script.specs.Text.{layout_text, operation_text, line_text, lines_text, script_text}
+use Rattle.firefly_script.specs.Text.{operation_text, line_text, lines_text, script_text}
 use Rattle.firefly_script.proofs.Injective.{line_same, layout_same}
 use Rattle.firefly_script.proofs.Operands.{operands_flat}
 use Rattle.firefly_script.proofs.Pieces.{cut_same, lacks_append, lacks_decimal, is_lacking, lacks_from}

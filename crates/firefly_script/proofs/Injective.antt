@@ -3,14 +3,14 @@ use Rattle.std.proofs.Common.{◌≡◌, refl, ap, sym, subst, ◌∙◌, arith}
 use Rattle.std.proofs.lemmas.Fmt.{decimal_injective}
 use Rattle.std.specs.Prelude.{codes}
 use Rattle.larch_actions.specs.declared.event.Layout.{Layout}
-use Rattle.larch_actions.specs.Layout.{IsLawful}
+use Rattle.larch_actions.specs.Layout.{IsLawful, layout_text}
 use Rattle.firefly_script.specs.declared.line.Line.{Line}
 use Rattle.firefly_script.specs.declared.line.Operation.{Operation}
 use Rattle.firefly_script.specs.declared.table.Word.{Word}
 use Rattle.firefly_script.specs.Operations.{IsNamed}
 use Rattle.firefly_script.specs.Parsing.{IsLineOf}
 use Rattle.firefly_script.specs.Table.{word_of, kinds_of, numbers_of, made, AreWithin, operands_text}
-use Rattle.firefly_script.specs.Text.{layout_text, operation_text, line_text}
+use Rattle.firefly_script.specs.Text.{operation_text, line_text}
 use Rattle.firefly_script.proofs.Fields.{behind_threads, behind_mutexes, behind_conditions, mutexes_tail, conditions_tail, semaphores_tail, number_same}
 use Rattle.firefly_script.proofs.Operands.{part_same, operands_behind, operands_same}
 use Rattle.firefly_script.proofs.Rows.{fits, word_same, built}

@@ -1,12 +1,12 @@
 -- A line that may stand in a script is short.
 use Rattle.std.proofs.Common.{ℕ, ◌<◌, ◌≤◌, List, length, length-append, ap, arith}
 use Rattle.larch_actions.specs.declared.event.Layout.{Layout}
-use Rattle.larch_actions.specs.Layout.{IsLawful}
+use Rattle.larch_actions.specs.Layout.{IsLawful, layout_text}
 use Rattle.firefly_script.specs.declared.line.Line.{Line}
 use Rattle.firefly_script.specs.Operations.{IsNamed}
 use Rattle.firefly_script.specs.Drafts.{NoneIs, NoLayoutIs}
 use Rattle.firefly_script.specs.Table.{word_of, kinds_of, numbers_of}
-use Rattle.firefly_script.specs.Text.{layout_text, line_text}
+use Rattle.firefly_script.specs.Text.{line_text}
 use Rattle.firefly_script.proofs.Operands.{operands_short}
 use Rattle.firefly_script.proofs.Pieces.{decimal_short}
 use Rattle.firefly_script.proofs.Rows.{fits}

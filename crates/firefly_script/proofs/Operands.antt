@@ -5,30 +5,25 @@ use Rattle.std.proofs.lemmas.List.{append_cancel_left, take_all}
 use Rattle.std.specs.Prelude.{decimal}
 use Rattle.larch_actions.specs.declared.event.Layout.{Layout}
 use Rattle.larch_actions.specs.Layout.{IsLawful}
-use Rattle.firefly_script.specs.declared.table.Kind.{Kind}
-use Rattle.firefly_script.specs.declared.table.Kind.TheVariants.{Mutex, Condition, Semaphore, Thread, Amount, Count}
+use Rattle.larch_actions.proofs.Names.{few_of, letter_high}
+use Rattle.firefly_script.specs.declared.table.Operand.{Operand}
+use Rattle.firefly_script.specs.declared.table.Operand.TheVariants.{Name, Amount, Count}
 use Rattle.firefly_script.specs.Faults.{Lacks}
 use Rattle.firefly_script.specs.Parsing.{IsBehind, AreParted, Are}
-use Rattle.firefly_script.specs.Table.{letter, IsWithin, AreWithin, IsSmall, AreSmall, operand_text, operands_text}
+use Rattle.firefly_script.specs.Table.{front_text, IsWithin, AreWithin, IsSmall, AreSmall, operand_text, operands_text}
 use Rattle.firefly_script.proofs.Pieces.{lacks_append, lacks_decimal, decimal_short}
 
-letter_lacks : (c : ℕ) (k : Kind) → c < 48 → Lacks c (letter k)
-letter_lacks c Mutex low = (λ e. omega arith, tt)
-letter_lacks c Condition low = (λ e. omega arith, tt)
-letter_lacks c Semaphore low = (λ e. omega arith, tt)
-letter_lacks c Thread low = (λ e. omega arith, tt)
-letter_lacks c Amount low = tt
-letter_lacks c Count low = tt
+front_lacks : (c : ℕ) (k : Operand) → c < 48 → Lacks c (front_text k)
+front_lacks c (Name k) low = (λ e. omega (arith, letter_high k), tt)
+front_lacks c Amount low = tt
+front_lacks c Count low = tt
 
-letter_short : (k : Kind) → length (letter k) ≤ 1
-letter_short Mutex = omega arith
-letter_short Condition = omega arith
-letter_short Semaphore = omega arith
-letter_short Thread = omega arith
-letter_short Amount = omega arith
-letter_short Count = omega arith
+front_short : (k : Operand) → length (front_text k) ≤ 1
+front_short (Name k) = omega arith
+front_short Amount = omega arith
+front_short Count = omega arith
 
-pub operands_behind : (ks : List Kind) (ns : List ℕ) → IsBehind (operands_text ks ns)
+pub operands_behind : (ks : List Operand) (ns : List ℕ) → IsBehind (operands_text ks ns)
 operands_behind [] ns = tt
 operands_behind (k ∷ ks) [] = tt
 operands_behind (k ∷ ks) (n ∷ ns) = refl
@@ -47,39 +42,33 @@ part_same (x ∷ xs) (y ∷ ys) a b p q f g e =
     (let same = ih.0 in cc, ih.1)
 
 -- of three numbers at most two are taken
-take_two : (ks : List Kind) (a b e : ℕ) → length ks ≤ 2 → take (length ks) (a ∷ b ∷ e ∷ []) ≡ take (length ks) (a ∷ b ∷ [])
+take_two : (ks : List Operand) (a b e : ℕ) → length ks ≤ 2 → take (length ks) (a ∷ b ∷ e ∷ []) ≡ take (length ks) (a ∷ b ∷ [])
 take_two [] a b e few = refl
 take_two (i ∷ []) a b e few = refl
 take_two (i ∷ j ∷ []) a b e few = refl
 take_two (i ∷ j ∷ k ∷ ks) a b e few = absurd (omega arith)
 
 module _ (l : Layout) (ok : IsLawful l) where
-  within_fits : (k : Kind) (n : ℕ) → IsWithin l k n → n < 2 ^ 64
-  within_fits Mutex n h = omega (arith, ok.mutexes)
-  within_fits Condition n h = omega (arith, ok.conditions)
-  within_fits Semaphore n h = omega (arith, ok.semaphores)
-  within_fits Thread n h = omega (arith, ok.threads)
+  within_fits : (k : Operand) (n : ℕ) → IsWithin l k n → n < 2 ^ 64
+  within_fits (Name k) n h = omega (arith, few_of l ok k)
   within_fits Amount n h = omega arith
   within_fits Count n h = omega arith
 
-  within_small : (k : Kind) (n : ℕ) → IsWithin l k n → IsSmall k n
-  within_small Mutex n h = omega (arith, ok.mutexes)
-  within_small Condition n h = omega (arith, ok.conditions)
-  within_small Semaphore n h = omega (arith, ok.semaphores)
-  within_small Thread n h = omega (arith, ok.threads)
+  within_small : (k : Operand) (n : ℕ) → IsWithin l k n → IsSmall k n
+  within_small (Name k) n h = omega (arith, few_of l ok k)
   within_small Amount n h = h
   within_small Count n h = h
 
   -- the first numbers are as small as what stands behind a word has to be
-  pub first_small : (ks : List Kind) (ns : List ℕ) → AreWithin l ks (take (length ks) ns) → AreSmall ks ns
+  pub first_small : (ks : List Operand) (ns : List ℕ) → AreWithin l ks (take (length ks) ns) → AreSmall ks ns
   first_small [] ns h = tt
   first_small (k ∷ ks) [] h = tt
   first_small (k ∷ ks) (n ∷ ns) h = (within_small k n h.0, first_small ks ns h.1)
 
-  pub operand_lacks : (c : ℕ) (k : Kind) (n : ℕ) → c < 48 → IsWithin l k n → Lacks c (operand_text k n)
-  operand_lacks c k n low h = lacks_append c (letter k) (decimal n) (letter_lacks c k low) (lacks_decimal c n low (within_fits k n h))
+  pub operand_lacks : (c : ℕ) (k : Operand) (n : ℕ) → c < 48 → IsWithin l k n → Lacks c (operand_text k n)
+  operand_lacks c k n low h = lacks_append c (front_text k) (decimal n) (front_lacks c k low) (lacks_decimal c n low (within_fits k n h))
 
-  pub operands_flat : (ks : List Kind) (ns : List ℕ) → AreWithin l ks ns → Lacks 10 (operands_text ks ns)
+  pub operands_flat : (ks : List Operand) (ns : List ℕ) → AreWithin l ks ns → Lacks 10 (operands_text ks ns)
   operands_flat [] ns h = tt
   operands_flat (k ∷ ks) [] h = tt
   operands_flat (k ∷ ks) (n ∷ ns) h = (
@@ -87,19 +76,19 @@ module _ (l : Layout) (ok : IsLawful l) where
     lacks_append 10 (operand_text k n) (operands_text ks ns) (operand_lacks 10 k n (omega arith) h.0) (operands_flat ks ns h.1),
   )
 
-  pub operands_short : (ks : List Kind) (ns : List ℕ) → AreWithin l ks ns → length (operands_text ks ns) ≤ 22 * length ks
+  pub operands_short : (ks : List Operand) (ns : List ℕ) → AreWithin l ks ns → length (operands_text ks ns) ≤ 22 * length ks
   operands_short [] ns h = omega arith
   operands_short (k ∷ ks) [] h = omega arith
   operands_short (k ∷ ks) (n ∷ ns) h =
-      let a = letter_short k in
+      let a = front_short k in
       let b = decimal_short n (within_fits k n h.0) in
       let ih = operands_short ks ns h.1 in
       simp length-append (omega arith)
 
-  operand_same : (k : Kind) (n m : ℕ) → IsWithin l k n → IsWithin l k m → operand_text k n ≡ operand_text k m → n ≡ m
-  operand_same k n m p q e = decimal_injective n m (within_fits k n p) (within_fits k m q) (append_cancel_left (letter k) _ _ e)
+  operand_same : (k : Operand) (n m : ℕ) → IsWithin l k n → IsWithin l k m → operand_text k n ≡ operand_text k m → n ≡ m
+  operand_same k n m p q e = decimal_injective n m (within_fits k n p) (within_fits k m q) (append_cancel_left (front_text k) _ _ e)
 
-  pub operands_same : (ks : List Kind) (ns ms : List ℕ) → AreWithin l ks ns → AreWithin l ks ms → operands_text ks ns ≡ operands_text ks ms → ns ≡ ms
+  pub operands_same : (ks : List Operand) (ns ms : List ℕ) → AreWithin l ks ns → AreWithin l ks ms → operands_text ks ns ≡ operands_text ks ms → ns ≡ ms
   operands_same [] [] [] p q e = refl
   operands_same [] [] (m ∷ ms) p q e = absurd q
   operands_same [] (n ∷ ns) ms p q e = absurd p
@@ -113,7 +102,7 @@ module _ (l : Layout) (ok : IsLawful l) where
       cc
 
   -- where these numbers stand behind a space each, the first stands before the next space, and the others from there on
-  pub parts_of : (ks : List Kind) (d : Kind) (bytes front behind ns : List ℕ) → 1 ≤ length ks → AreParted (take (length bytes - 1) (drop 1 bytes)) front behind → Are l ks bytes ns
+  pub parts_of : (ks : List Operand) (d : Operand) (bytes front behind ns : List ℕ) → 1 ≤ length ks → AreParted (take (length bytes - 1) (drop 1 bytes)) front behind → Are l ks bytes ns
       → (m : ℕ) × (ms : List ℕ) × IsWithin l (get_or ks 0 d) m × (front ≡ operand_text (get_or ks 0 d) m) × Are l (take (length ks - 1) (drop 1 ks)) behind ms
   parts_of [] d bytes front behind ns some p a = absurd (omega arith)
   parts_of (k ∷ ks) d bytes front behind [] some p a = absurd a.0
@@ -124,18 +113,18 @@ module _ (l : Layout) (ok : IsLawful l) where
       let rest : take (length (c ∷ bytes) - 1) bytes ≡ bytes = take_all _ bytes (omega arith) in
       let kinds : take (length (k ∷ ks) - 1) ks ≡ ks = take_all _ ks (omega arith) in
       let same = part_same front (operand_text k n) behind (operands_text ks ns) p.bare (operand_lacks 32 k n (omega arith) a.0.0) p.from_space (operands_behind ks ns) (sym p.text ∙ rest ∙ tail) in
-      let P : List Kind → Type 0 = λ q. Are l q behind ns in
+      let P : List Operand → Type 0 = λ q. Are l q behind ns in
       (n, ns, a.0.0, same.0, subst P (sym kinds) (a.0.1, same.1))
 
   -- a number before these others: what stands there is all of them
-  pub one_more : (ks : List Kind) (d : Kind) (bytes front behind : List ℕ) (n a b e : ℕ) → 1 ≤ length ks → length ks ≤ 3 → 1 ≤ length bytes → get_or bytes 0 0 ≡ 32 → AreParted (take (length bytes - 1) (drop 1 bytes)) front behind
+  pub one_more : (ks : List Operand) (d : Operand) (bytes front behind : List ℕ) (n a b e : ℕ) → 1 ≤ length ks → length ks ≤ 3 → 1 ≤ length bytes → get_or bytes 0 0 ≡ 32 → AreParted (take (length bytes - 1) (drop 1 bytes)) front behind
       → IsWithin l (get_or ks 0 d) n → front ≡ operand_text (get_or ks 0 d) n → Are l (take (length ks - 1) (drop 1 ks)) behind (take (length (take (length ks - 1) (drop 1 ks))) (a ∷ b ∷ e ∷ [])) → Are l ks bytes (take (length ks) (n ∷ a ∷ b ∷ []))
   one_more [] d bytes front behind n a b e some few any is p within same others = absurd (omega arith)
   one_more (k ∷ ks) d [] front behind n a b e some few any is p within same others = absurd (omega arith)
   one_more (k ∷ ks) d (c ∷ bytes) front behind n a b e some few any is p within same others =
       let rest : take (length (c ∷ bytes) - 1) bytes ≡ bytes = take_all _ bytes (omega arith) in
       let kinds : take (length (k ∷ ks) - 1) ks ≡ ks = take_all _ ks (omega arith) in
-      let P : List Kind → Type 0 = λ q. Are l q behind (take (length q) (a ∷ b ∷ e ∷ [])) in
+      let P : List Operand → Type 0 = λ q. Are l q behind (take (length q) (a ∷ b ∷ e ∷ [])) in
       let o = subst P kinds others in
       let short = take_two ks a b e (omega arith) in
       let Q : List ℕ → Type 0 = λ ns. Are l ks behind ns in

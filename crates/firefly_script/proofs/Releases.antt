@@ -2,12 +2,12 @@
 use Rattle.std.proofs.Common.{◌≡◌, ℕ, zero, suc, ◌+◌, ◌*◌, ◌/◌, ◌%◌, ◌<◌, ◌≤◌, ◌⊎◌, inl, inr, List, [], ◌∷◌, ◌++◌, refl, ap, sym, subst, ◌∙◌, append_assoc, Bool, true, false, cond, arith}
 use Rattle.std.proofs.lemmas.Bool.Decides.{eqb_tells}
 use Rattle.larch_actions.specs.declared.event.Layout.{Layout}
-use Rattle.larch_actions.specs.Layout.{IsLawful}
+use Rattle.larch_actions.specs.Layout.{IsLawful, layout_text}
 use Rattle.firefly_script.specs.declared.line.Line.{Line}
 use Rattle.firefly_script.specs.declared.line.Operation.TheVariants.{Release}
 use Rattle.firefly_script.specs.Faults.{Begins}
 use Rattle.firefly_script.specs.Operations.{Holding, held_if, held_after, none_held, MayFollow, AllFree}
-use Rattle.firefly_script.specs.Text.{layout_text, lines_text, script_text}
+use Rattle.firefly_script.specs.Text.{lines_text, script_text}
 use Rattle.firefly_script.proofs.Follow.{held_append, follow_append}
 use Rattle.firefly_script.proofs.Fronts.{lines_append}
 use Rattle.firefly_script.proofs.Tables.{IsWithin, held_within, none_within, within_if}

@@ -3,7 +3,7 @@ use Rattle.std.proofs.Common.{◌≡◌, ℕ, ◌+◌, ◌<◌, ◌≤◌, ◌�
 use Rattle.std.proofs.lemmas.Bool.Decides.{eqb_tells}
 use Rattle.std.specs.Io.KnownBytes.{Consumes}
 use Rattle.larch_actions.specs.declared.event.Layout.{Layout}
-use Rattle.larch_actions.specs.Layout.{IsLawful}
+use Rattle.larch_actions.specs.Layout.{IsLawful, layout_text}
 use Rattle.firefly_outside.specs.Causes.{Rose}
 use Rattle.firefly_script.specs.declared.line.Line.{Line}
 use Rattle.firefly_script.specs.declared.script.ScriptFault.{ScriptFault}
@@ -11,7 +11,7 @@ use Rattle.firefly_script.specs.declared.script.ScriptFault.TheVariants.{Memory,
 use Rattle.firefly_script.specs.Drafts.{NoneIs, NoLayoutIs, FirstIsNone, HeadFault, LineFault, LaterFault}
 use Rattle.firefly_script.specs.Faults.{Begins, Lacks, newlines, IsGoodFront, IsBadLine, IsTooLong, IsUndecided, HasReason}
 use Rattle.firefly_script.specs.Operations.{none_held, held_after, MayFollow, AllFree}
-use Rattle.firefly_script.specs.Text.{layout_text, line_text, lines_text, script_text, IsScriptText, IsScript, ReadsAs}
+use Rattle.firefly_script.specs.Text.{line_text, lines_text, script_text, IsScriptText, IsScript, ReadsAs}
 use Rattle.firefly_script.proofs.Firsts.{consumes_trans}
 use Rattle.firefly_script.proofs.Follow.{follow_split, held_append}
 use Rattle.firefly_script.proofs.Fronts.{script_behind, layout_flat, line_flat, newlines_append, newlines_script, script_end}

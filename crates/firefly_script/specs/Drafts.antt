@@ -3,7 +3,7 @@ use Rattle.std.specs.Prelude.{◌≡◌, ℕ, ◌+◌, ◌<◌, ◌≤◌, List,
 use Rattle.std.specs.Io.KnownBytes.{Consumes, IsAtEnd}
 use Rattle.std.specs.declared.option.Option.{Option}
 use Rattle.larch_actions.specs.declared.event.Layout.{Layout}
-use Rattle.larch_actions.specs.Layout.{IsLawful}
+use Rattle.larch_actions.specs.Layout.{IsLawful, layout_text}
 use Rattle.firefly_outside.specs.Causes.{Rose}
 use Rattle.firefly_script.specs.declared.line.Line.{Line}
 use Rattle.firefly_script.specs.declared.draft.Draft.{Draft}
@@ -12,7 +12,7 @@ use Rattle.firefly_script.specs.declared.script.ScriptFault.TheVariants.{Memory,
 use Rattle.firefly_script.specs.Operations.{none_held, held_after, MayCome, MayFollow, AllFree}
 use Rattle.firefly_script.specs.Faults.{Lacks}
 use Rattle.firefly_script.specs.Held.{Shows}
-use Rattle.firefly_script.specs.Text.{layout_text, line_text, lines_text}
+use Rattle.firefly_script.specs.Text.{line_text, lines_text}
 
 -- the lines may come one after another, and the table shows what is held after them
 pub record IsDraft (d : Draft) : Type 0 where

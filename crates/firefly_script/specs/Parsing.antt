@@ -2,7 +2,7 @@
 use Rattle.std.specs.Prelude.{◌≡◌, ℕ, ◌<◌, ◌≤◌, List, [], ◌∷◌, ◌++◌, decimal, length, take, Option, MatchOption}
 use Rattle.larch_actions.specs.declared.event.Layout.{Layout}
 use Rattle.firefly_script.specs.declared.line.Line.{Line}
-use Rattle.firefly_script.specs.declared.table.Kind.{Kind}
+use Rattle.firefly_script.specs.declared.table.Operand.{Operand}
 use Rattle.firefly_script.specs.declared.table.Numbers.{Numbers}
 use Rattle.firefly_script.specs.Faults.{Lacks}
 use Rattle.firefly_script.specs.Operations.{IsNamed}
@@ -25,18 +25,18 @@ pub record AreParted (bytes front behind : List ℕ) : Type 0 where
   pub text : bytes ≡ front ++ behind
 
 -- these numbers stand behind a word, and no others
-abbrev pub Are : Layout → List Kind → List ℕ → List ℕ → Type 0
+abbrev pub Are : Layout → List Operand → List ℕ → List ℕ → Type 0
 Are l ks bytes ns = AreWithin l ks ns × (bytes ≡ operands_text ks ns)
 
-abbrev pub NoneAre : Layout → List Kind → List ℕ → Type 0
+abbrev pub NoneAre : Layout → List Operand → List ℕ → Type 0
 NoneAre l ks bytes = (ns : List ℕ) → Are l ks bytes ns → ⊥
 
-abbrev pub first_of : List Kind → Numbers → List ℕ
+abbrev pub first_of : List Operand → Numbers → List ℕ
 first_of ks x = take (length ks) (listed x)
 
 -- the word, the number and a space stand before the bytes y, and no others
-pub record IsField (bytes word : List ℕ) (n : ℕ) (y : List ℕ) : Type 0 where
-  pub within : n ≤ 64
+pub record IsField (most : ℕ) (bytes word : List ℕ) (n : ℕ) (y : List ℕ) : Type 0 where
+  pub within : n ≤ most
   pub text : bytes ≡ word ++ (decimal n ++ 32 ∷ y)
 
 -- its names are lawful

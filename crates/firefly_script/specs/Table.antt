@@ -1,12 +1,14 @@
 -- The table of operations: for each its word, what stands behind the word, and what it does with a mutex.
-use Rattle.std.specs.Prelude.{ℕ, ◌<◌, ◌≤◌, List, [], ◌∷◌, ◌++◌, codes, decimal, slice_index}
+use Rattle.std.specs.Prelude.{ℕ, ◌^◌, ◌<◌, ◌≤◌, List, [], ◌∷◌, ◌++◌, codes, decimal, slice_index}
 use Rattle.larch_actions.specs.declared.event.Layout.{Layout}
 use Rattle.firefly_script.specs.declared.line.Operation.{Operation}
 use Rattle.firefly_script.specs.declared.line.Operation.TheVariants.{Acquire, Release, Wait, AlertWait, Signal, Broadcast, P, V, Alert, TestAlert, AlertP, Add, Until, AlertUntil}
 use Rattle.firefly_script.specs.declared.table.Word.{Word}
 use Rattle.firefly_script.specs.declared.table.Word.TheVariants as word
-use Rattle.firefly_script.specs.declared.table.Kind.{Kind}
-use Rattle.firefly_script.specs.declared.table.Kind.TheVariants.{Mutex, Condition, Semaphore, Thread, Amount, Count}
+use Rattle.larch_actions.specs.declared.kind.Kind.TheVariants.{Mutex, Condition, Semaphore, Thread}
+use Rattle.larch_actions.specs.Layout.{count_of, letter}
+use Rattle.firefly_script.specs.declared.table.Operand.{Operand}
+use Rattle.firefly_script.specs.declared.table.Operand.TheVariants.{Name, Amount, Count}
 use Rattle.firefly_script.specs.declared.table.Numbers.{Numbers}
 use Rattle.firefly_script.specs.declared.table.Use.{Use}
 use Rattle.firefly_script.specs.declared.table.Use.TheVariants.{Takes, Gives, Needs, Nothing}
@@ -29,21 +31,21 @@ word_text word.Until = codes "until"
 word_text word.AlertUntil = codes "alert-until"
 
 -- what stands behind it
-abbrev pub kinds_of : Word → List Kind
-kinds_of word.Acquire = Mutex ∷ []
-kinds_of word.Release = Mutex ∷ []
-kinds_of word.Wait = Mutex ∷ Condition ∷ []
-kinds_of word.AlertWait = Mutex ∷ Condition ∷ []
-kinds_of word.Signal = Condition ∷ []
-kinds_of word.Broadcast = Condition ∷ []
-kinds_of word.P = Semaphore ∷ []
-kinds_of word.V = Semaphore ∷ []
-kinds_of word.Alert = Thread ∷ []
+abbrev pub kinds_of : Word → List Operand
+kinds_of word.Acquire = Name Mutex ∷ []
+kinds_of word.Release = Name Mutex ∷ []
+kinds_of word.Wait = Name Mutex ∷ Name Condition ∷ []
+kinds_of word.AlertWait = Name Mutex ∷ Name Condition ∷ []
+kinds_of word.Signal = Name Condition ∷ []
+kinds_of word.Broadcast = Name Condition ∷ []
+kinds_of word.P = Name Semaphore ∷ []
+kinds_of word.V = Name Semaphore ∷ []
+kinds_of word.Alert = Name Thread ∷ []
 kinds_of word.TestAlert = []
-kinds_of word.AlertP = Semaphore ∷ []
-kinds_of word.Add = Mutex ∷ Amount ∷ []
-kinds_of word.Until = Mutex ∷ Condition ∷ Count ∷ []
-kinds_of word.AlertUntil = Mutex ∷ Condition ∷ Count ∷ []
+kinds_of word.AlertP = Name Semaphore ∷ []
+kinds_of word.Add = Name Mutex ∷ Amount ∷ []
+kinds_of word.Until = Name Mutex ∷ Name Condition ∷ Count ∷ []
+kinds_of word.AlertUntil = Name Mutex ∷ Name Condition ∷ Count ∷ []
 
 -- the operation with these numbers
 abbrev pub made : Word → List ℕ → Operation
@@ -113,34 +115,28 @@ use_of (Until m c n) = Needs m
 use_of (AlertUntil m c n) = Needs m
 
 -- the letter of a name; a number has none
-abbrev pub letter : Kind → List ℕ
-letter Mutex = codes "m"
-letter Condition = codes "c"
-letter Semaphore = codes "s"
-letter Thread = codes "t"
-letter Amount = []
-letter Count = []
+abbrev pub front_text : Operand → List ℕ
+front_text (Name k) = letter k ∷ []
+front_text Amount = []
+front_text Count = []
 
 -- a name is below the count of its kind, and a number not too large
-abbrev pub IsWithin : Layout → Kind → ℕ → Type 0
-IsWithin l Mutex n = n < l.mutexes
-IsWithin l Condition n = n < l.conditions
-IsWithin l Semaphore n = n < l.semaphores
-IsWithin l Thread n = n < l.threads
+abbrev pub IsWithin : Layout → Operand → ℕ → Type 0
+IsWithin l (Name k) n = n < count_of l k
 IsWithin l Amount n = n ≤ 1000000
 IsWithin l Count n = n ≤ 18446744073709551615
 
-abbrev pub AreWithin : Layout → List Kind → List ℕ → Type 0
+abbrev pub AreWithin : Layout → List Operand → List ℕ → Type 0
 AreWithin l [] [] = Unit {0}
 AreWithin l [] (n ∷ ns) = ⊥
 AreWithin l (k ∷ ks) [] = ⊥
 AreWithin l (k ∷ ks) (n ∷ ns) = IsWithin l k n × AreWithin l ks ns
 
-abbrev pub operand_text : Kind → ℕ → List ℕ
-operand_text k n = letter k ++ decimal n
+abbrev pub operand_text : Operand → ℕ → List ℕ
+operand_text k n = front_text k ++ decimal n
 
 -- each behind a space
-abbrev pub operands_text : List Kind → List ℕ → List ℕ
+abbrev pub operands_text : List Operand → List ℕ → List ℕ
 operands_text [] ns = []
 operands_text (k ∷ ks) [] = []
 operands_text (k ∷ ks) (n ∷ ns) = 32 ∷ (operand_text k n ++ operands_text ks ns)
@@ -149,15 +145,12 @@ abbrev pub listed : Numbers → List ℕ
 listed x = x.first ∷ x.second ∷ x.third ∷ []
 
 -- a name fits 32 bits
-abbrev pub IsSmall : Kind → ℕ → Type 0
-IsSmall Mutex n = n < 64
-IsSmall Condition n = n < 64
-IsSmall Semaphore n = n < 64
-IsSmall Thread n = n < 64
+abbrev pub IsSmall : Operand → ℕ → Type 0
+IsSmall (Name k) n = n < 2 ^ 32
 IsSmall Amount n = n ≤ 1000000
 IsSmall Count n = n ≤ 18446744073709551615
 
-abbrev pub AreSmall : List Kind → List ℕ → Type 0
+abbrev pub AreSmall : List Operand → List ℕ → Type 0
 AreSmall [] ns = Unit {0}
 AreSmall (k ∷ ks) [] = Unit {0}
 AreSmall (k ∷ ks) (n ∷ ns) = IsSmall k n × AreSmall ks ns

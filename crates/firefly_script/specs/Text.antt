@@ -1,16 +1,11 @@
 -- Script texts.
 use Rattle.std.specs.Prelude.{◌≡◌, ℕ, List, [], ◌∷◌, ◌++◌, codes, decimal}
 use Rattle.larch_actions.specs.declared.event.Layout.{Layout}
-use Rattle.larch_actions.specs.Layout.{IsLawful}
+use Rattle.larch_actions.specs.Layout.{IsLawful, layout_text}
 use Rattle.firefly_script.specs.declared.line.Operation.{Operation}
 use Rattle.firefly_script.specs.declared.line.Line.{Line}
 use Rattle.firefly_script.specs.Operations.{MayFollow, none_held, held_after, AllFree}
 use Rattle.firefly_script.specs.Table.{word_text, kinds_of, word_of, numbers_of, operands_text}
-
--- the layout line, without its newline
-abbrev pub layout_text : Layout → List ℕ
-layout_text l =
-    codes "threads " ++ (decimal l.threads ++ (codes " mutexes " ++ (decimal l.mutexes ++ (codes " conditions " ++ (decimal l.conditions ++ (codes " semaphores " ++ decimal l.semaphores))))))
 
 -- the word, and what stands behind it
 abbrev pub operation_text : Operation → List ℕ

@@ -1,16 +1,16 @@
 //! What stands in the bytes of one line.
 ghost use Rattle.std.specs.Prelude.{◌≡◌, ◌<◌, ◌≤◌, ◌++◌, ◌∷◌, List, ℕ, codes, decimal, length, MatchOption};
-ghost use Rattle.larch_actions.specs.Layout.{IsLawful};
+ghost use Rattle.larch_actions.specs.Layout.{IsLawful, layout_text};
 ghost use Rattle.firefly_script.specs.Faults.{Lacks};
 ghost use Rattle.firefly_script.specs.Operations.{IsNamed};
 ghost use Rattle.firefly_script.specs.Table.{IsWithin, operand_text};
-ghost use Rattle.firefly_script.specs.Text.{layout_text, line_text, operation_text};
+ghost use Rattle.firefly_script.specs.Text.{line_text, operation_text};
 ghost use Rattle.firefly_script.specs.Parsing.{Parses, IsField, AreParted, Are, NoneAre, first_of, IsLineOf};
 
 use crate::line::{Line, Operation};
-use crate::table::{Kind, Numbers, kinds, known_word, make};
+use crate::table::{Numbers, Operand, kinds, known_word, make};
 use itoa::Buffer;
-use larch_actions::{Layout, ThreadId};
+use larch_actions::{Layout, MOST_OBJECTS, MOST_THREADS, ThreadId};
 use memchr::memchr;
 use std::str;
 
@@ -76,21 +76,21 @@ fn parted(bytes: &[u8]) -> (&[u8], &[u8])
 }
 
 // What stands behind a word: a name or a number.
-fn operand(bytes: &[u8], kind: Kind, layout: &Layout) -> Option<u64>
-    ensures { Parses (IsWithin layout.now kind) (operand_text kind) bytes.now result }
+fn operand(bytes: &[u8], what: Operand, layout: &Layout) -> Option<u64>
+    ensures { Parses (IsWithin layout.now what) (operand_text what) bytes.now result }
 {
-    match kind {
-        Kind::Mutex => Some(u64::from(name(bytes, b'm', layout.mutexes)?)),
-        Kind::Condition => Some(u64::from(name(bytes, b'c', layout.conditions)?)),
-        Kind::Semaphore => Some(u64::from(name(bytes, b's', layout.semaphores)?)),
-        Kind::Thread => Some(u64::from(name(bytes, b't', layout.threads)?)),
-        Kind::Amount => number(bytes, MOST_ADDED),
-        Kind::Count => number(bytes, MOST_AWAITED),
+    match what {
+        Operand::Name(kind) => {
+            let count = layout.count(kind);
+            Some(u64::from(name(bytes, kind.letter(), count)?))
+        }
+        Operand::Amount => number(bytes, MOST_ADDED),
+        Operand::Count => number(bytes, MOST_AWAITED),
     }
 }
 
 // All that stands behind a word, each behind a space.
-fn operands(bytes: &[u8], kinds: &[Kind], layout: &Layout) -> Option<Numbers>
+fn operands(bytes: &[u8], kinds: &[Operand], layout: &Layout) -> Option<Numbers>
     requires lawful { IsLawful layout.now }
     requires few { length kinds.now ≤ 3 }
     ensures { MatchOption result (NoneAre layout.now kinds.now bytes.now) (λ x. Are layout.now kinds.now bytes.now (first_of kinds.now x)) }
@@ -155,10 +155,10 @@ pub fn line(bytes: &[u8], layout: &Layout) -> Option<Line>
     Some(Line { thread, operation })
 }
 
-// A number of at most 64 between the word and a space, and the bytes behind the space.
-fn field<'b>(bytes: &'b [u8], word: &[u8]) -> Option<(u32, &'b [u8])>
-    ensures { MatchOption result ((n : ℕ) (y : List ℕ) → n ≤ 64 → bytes.now ≡ word.now ++ (decimal n ++ 32 ∷ y)
-        → ⊥) (λ x. IsField bytes.now word.now x.0 x.1.now) }
+// A number of at most `most` between the word and a space, and the bytes behind the space.
+fn field<'b>(bytes: &'b [u8], word: &[u8], most: u32) -> Option<(u32, &'b [u8])>
+    ensures { MatchOption result ((n : ℕ) (y : List ℕ) → n ≤ most → bytes.now ≡ word.now ++ (decimal n ++ 32 ∷ y)
+        → ⊥) (λ x. IsField most bytes.now word.now x.0 x.1.now) }
 {
     let Some(behind) = bytes.strip_prefix(word) else {
         return None;
@@ -166,7 +166,7 @@ fn field<'b>(bytes: &'b [u8], word: &[u8]) -> Option<(u32, &'b [u8])>
     let Some((digits, behind)) = cut(behind, b' ') else {
         return None;
     };
-    let Some(number) = number(digits, 64) else {
+    let Some(number) = number(digits, u64::from(most)) else {
         return None;
     };
     Some((number as u32, behind))
@@ -176,27 +176,21 @@ fn field<'b>(bytes: &'b [u8], word: &[u8]) -> Option<(u32, &'b [u8])>
 pub fn layout(bytes: &[u8]) -> Option<Layout>
     ensures { Parses IsLawful layout_text bytes.now result }
 {
-    let Some((threads, behind)) = field(bytes, b"threads ") else {
+    let Some((threads, behind)) = field(bytes, b"threads ", MOST_THREADS) else {
         return None;
     };
-    let Some((mutexes, behind)) = field(behind, b"mutexes ") else {
+    let Some((mutexes, behind)) = field(behind, b"mutexes ", MOST_OBJECTS) else {
         return None;
     };
-    let Some((conditions, behind)) = field(behind, b"conditions ") else {
+    let Some((conditions, behind)) = field(behind, b"conditions ", MOST_OBJECTS) else {
         return None;
     };
     let Some(digits) = behind.strip_prefix(b"semaphores ") else {
         return None;
     };
-    let Some(semaphores) = number(digits, 64) else {
+    let Some(semaphores) = number(digits, u64::from(MOST_OBJECTS)) else {
         return None;
     };
-    let semaphores = semaphores as u32;
-    let layout = Layout {
-        threads,
-        mutexes,
-        conditions,
-        semaphores,
-    };
+    let layout = Layout::of(threads, mutexes, conditions, semaphores as u32);
     if layout.lawful() { Some(layout) } else { None }
 }

@@ -1,10 +1,10 @@
 //! Reading scripts.
 ghost use Rattle.std.specs.Prelude.{◌≡◌, ◌+◌, ◌<◌, ◌≤◌, ◌++◌, ◌∷◌, [], List, ℕ, Ok, true, false, length, take, drop, Some, IfSome, IfOk, IfErr, OnOk, OnErr, MatchResult};
 ghost use Rattle.std.specs.Io.KnownBytes.{Consumes, IsAtEnd, prepend_known};
-ghost use Rattle.larch_actions.specs.Layout.{IsLawful};
+ghost use Rattle.larch_actions.specs.Layout.{IsLawful, layout_text};
 ghost use Rattle.firefly_script.specs.declared.line.Line.{Line};
 ghost use Rattle.firefly_script.specs.Operations.{MayFollow, none_held, held_after, AllFree};
-ghost use Rattle.firefly_script.specs.Text.{layout_text, line_text, lines_text, IsScript, ReadsAs};
+ghost use Rattle.firefly_script.specs.Text.{line_text, lines_text, IsScript, ReadsAs};
 ghost use Rattle.firefly_script.specs.Faults.{HasReason};
 ghost use Rattle.firefly_script.specs.Drafts.{IsDraft, Takes, HeadFault, TakeFault, EndFault, LineFault, LaterFault, IsDone, IsFinished};
 

@@ -7,7 +7,7 @@ ghost use Rattle.firefly_script.specs.Parsing.{Parses};
 ghost use Rattle.firefly_script.specs.Table.{word_text, kinds_of, made, use_of, listed, AreSmall};
 
 use crate::line::Operation;
-use larch_actions::{CondId, MutexId, SemId, ThreadId};
+use larch_actions::{CondId, Kind, MutexId, SemId, ThreadId};
 
 /// The first word of an operation.
 #[derive(Clone, Copy)]
@@ -30,11 +30,9 @@ pub enum Word {
 
 /// What may stand behind a word.
 #[derive(Clone, Copy)]
-pub enum Kind {
-    Mutex,
-    Condition,
-    Semaphore,
-    Thread,
+pub enum Operand {
+    /// A name.
+    Name(Kind),
     /// A number that may be added.
     Amount,
     /// A number that may be waited for.
@@ -108,24 +106,32 @@ pub fn known_word(bytes: &[u8]) -> Option<Word>
 }
 
 /// What stands behind the word.
-pub fn kinds(word: Word) -> &'static [Kind]
+pub fn kinds(word: Word) -> &'static [Operand]
     ensures { result.now ≡ kinds_of word }
 {
     match word {
-        Word::Acquire => &[Kind::Mutex],
-        Word::Release => &[Kind::Mutex],
-        Word::Wait => &[Kind::Mutex, Kind::Condition],
-        Word::AlertWait => &[Kind::Mutex, Kind::Condition],
-        Word::Signal => &[Kind::Condition],
-        Word::Broadcast => &[Kind::Condition],
-        Word::P => &[Kind::Semaphore],
-        Word::V => &[Kind::Semaphore],
-        Word::Alert => &[Kind::Thread],
+        Word::Acquire => &[Operand::Name(Kind::Mutex)],
+        Word::Release => &[Operand::Name(Kind::Mutex)],
+        Word::Wait => &[Operand::Name(Kind::Mutex), Operand::Name(Kind::Condition)],
+        Word::AlertWait => &[Operand::Name(Kind::Mutex), Operand::Name(Kind::Condition)],
+        Word::Signal => &[Operand::Name(Kind::Condition)],
+        Word::Broadcast => &[Operand::Name(Kind::Condition)],
+        Word::P => &[Operand::Name(Kind::Semaphore)],
+        Word::V => &[Operand::Name(Kind::Semaphore)],
+        Word::Alert => &[Operand::Name(Kind::Thread)],
         Word::TestAlert => &[],
-        Word::AlertP => &[Kind::Semaphore],
-        Word::Add => &[Kind::Mutex, Kind::Amount],
-        Word::Until => &[Kind::Mutex, Kind::Condition, Kind::Count],
-        Word::AlertUntil => &[Kind::Mutex, Kind::Condition, Kind::Count],
+        Word::AlertP => &[Operand::Name(Kind::Semaphore)],
+        Word::Add => &[Operand::Name(Kind::Mutex), Operand::Amount],
+        Word::Until => &[
+            Operand::Name(Kind::Mutex),
+            Operand::Name(Kind::Condition),
+            Operand::Count,
+        ],
+        Word::AlertUntil => &[
+            Operand::Name(Kind::Mutex),
+            Operand::Name(Kind::Condition),
+            Operand::Count,
+        ],
     }
 }
 

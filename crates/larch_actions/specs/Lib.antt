@@ -1,4 +1,5 @@
-pub mod Layout
 pub mod Sets
+pub mod Rows
+pub mod Layout
 pub mod Actions
 pub mod State

@@ -1,7 +1,13 @@
 //! Layouts, names, actions and events.
-ghost use Rattle.std.specs.Prelude.{◌↔◌, IsTrue};
+ghost use Rattle.std.specs.Prelude.{◌≡◌, ◌↔◌, IsTrue};
 
-use crate::ThreadSet;
+use crate::{Kind, ThreadSet};
+
+/// How many threads a lawful layout has at most.
+pub const MOST_THREADS: u32 = 64;
+
+/// How many mutexes, conditions or semaphores it has at most.
+pub const MOST_OBJECTS: u32 = 64;
 
 /// How many threads, mutexes, conditions and semaphores there are. A lawful layout has 1 to 64 threads and 0 to 64 of each
 /// other kind.
@@ -14,17 +20,43 @@ pub struct Layout {
 }
 
 impl Layout {
-    ghost use Rattle.larch_actions.specs.Layout.{IsLawful};
+    ghost use Rattle.larch_actions.specs.Layout.{IsLawful, count_of, layout_of};
+
+    /// The layout with these counts.
+    #[inline(always)]
+    pub fn of(threads: u32, mutexes: u32, conditions: u32, semaphores: u32) -> Layout
+        ensures { result ≡ layout_of threads mutexes conditions semaphores }
+    {
+        Layout {
+            threads,
+            mutexes,
+            conditions,
+            semaphores,
+        }
+    }
 
     /// Whether the counts are within their limits.
     pub fn lawful(&self) -> bool
         ensures { IsTrue result ↔ IsLawful self.now }
     {
         self.threads >= 1
-            && self.threads <= 64
-            && self.mutexes <= 64
-            && self.conditions <= 64
-            && self.semaphores <= 64
+            && self.threads <= MOST_THREADS
+            && self.mutexes <= MOST_OBJECTS
+            && self.conditions <= MOST_OBJECTS
+            && self.semaphores <= MOST_OBJECTS
+    }
+
+    /// How many things of the kind there are.
+    #[inline(always)]
+    pub fn count(&self, kind: Kind) -> u32
+        ensures { result ≡ count_of self.now kind }
+    {
+        match kind {
+            Kind::Mutex => self.mutexes,
+            Kind::Condition => self.conditions,
+            Kind::Semaphore => self.semaphores,
+            Kind::Thread => self.threads,
+        }
     }
 }
 

@@ -12,6 +12,7 @@ pub struct ThreadSet {
 impl ThreadSet {
     ghost use Rattle.larch_actions.specs.Sets.{in_set, set_of};
     ghost use Rattle.larch_actions.specs.Actions.{MayLeave};
+    ghost use Rattle.larch_actions.specs.Layout.{most_threads};
 
     /// The set of no thread.
     pub fn empty() -> ThreadSet
@@ -23,7 +24,7 @@ impl ThreadSet {
 
     /// Adds a thread.
     pub fn insert(&mut self, t: ThreadId)
-        requires { t.0 < 64 }
+        requires { t.0 < most_threads }
         ensures list { (xs : List ℕ) → self.old ≡ set_of xs → self.new ≡ set_of (t.0 ∷ xs) }
         ensures members { (k : ℕ) → in_set self.new k ≡ cond (eqb t.0 k) true (in_set self.old k) }
     {
@@ -32,7 +33,7 @@ impl ThreadSet {
 
     /// Takes a thread out.
     pub fn remove(&mut self, t: ThreadId)
-        requires { t.0 < 64 }
+        requires { t.0 < most_threads }
         ensures members { (k : ℕ) → in_set self.new k ≡ cond (eqb t.0 k) false (in_set self.old k) }
     {
         let bits = self.bits;
@@ -41,7 +42,7 @@ impl ThreadSet {
 
     /// Whether the thread is in the set.
     pub fn has(&self, t: ThreadId) -> bool
-        requires { t.0 < 64 }
+        requires { t.0 < most_threads }
         ensures { result ≡ in_set self.now t.0 }
     {
         (self.bits >> t.0) & 1 == 1

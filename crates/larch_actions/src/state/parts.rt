@@ -1,6 +1,7 @@
 //! One part of the state at a time: what it says, and how it changes.
 ghost use Rattle.std.specs.Prelude.{◌≡◌, ◌<◌, ◌↔◌, IsTrue, true, false};
 ghost use mathlib.Core.Option.{none, some};
+ghost use Rattle.larch_actions.specs.Layout.{most_objects, most_threads};
 ghost use Rattle.larch_actions.specs.Sets.{in_set};
 ghost use Rattle.larch_actions.specs.Actions.{put};
 ghost use Rattle.larch_actions.specs.State.{spec_of, holder_of};
@@ -10,42 +11,42 @@ use crate::{CondId, MutexId, Pending, SemId, ThreadId, ThreadSet};
 
 impl State {
     pub(super) fn has_begun(&self, t: ThreadId, what: Pending) -> bool
-        requires { t.0 < 64 }
+        requires { t.0 < most_threads }
         ensures { IsTrue result ↔ ((spec_of self.now).pending t.0 ≡ what) }
     {
         is_same(self.pending[t.0 as usize], what)
     }
 
     pub(super) fn is_free(&self, mutex: MutexId) -> bool
-        requires { mutex.0 < 64 }
+        requires { mutex.0 < most_objects }
         ensures { IsTrue result ↔ ((spec_of self.now).holder mutex.0 ≡ none) }
     {
         is_nobody(self.holders[mutex.0 as usize])
     }
 
     pub(super) fn is_holder(&self, t: ThreadId, mutex: MutexId) -> bool
-        requires { mutex.0 < 64 }
+        requires { mutex.0 < most_objects }
         ensures { IsTrue result ↔ ((spec_of self.now).holder mutex.0 ≡ some t.0) }
     {
         is_thread(self.holders[mutex.0 as usize], t)
     }
 
     pub(super) fn members_of(&self, cond: CondId) -> ThreadSet
-        requires { cond.0 < 64 }
+        requires { cond.0 < most_objects }
         ensures { in_set result ≡ (spec_of self.now).members cond.0 }
     {
         self.members[cond.0 as usize]
     }
 
     pub(super) fn is_available(&self, sem: SemId) -> bool
-        requires { sem.0 < 64 }
+        requires { sem.0 < most_objects }
         ensures { result ≡ (spec_of self.now).avail sem.0 }
     {
         self.available[sem.0 as usize]
     }
 
     pub(super) fn is_alerted(&self, t: ThreadId) -> bool
-        requires { t.0 < 64 }
+        requires { t.0 < most_threads }
         ensures { result ≡ (spec_of self.now).alerts t.0 }
     {
         self.alerts.has(t)
@@ -54,7 +55,7 @@ impl State {
     // Changes of one part of the state.
 
     pub(super) fn set_holder(&mut self, mutex: MutexId, holder: Option<ThreadId>)
-        requires { mutex.0 < 64 }
+        requires { mutex.0 < most_objects }
         ensures layout { self.new.layout ≡ self.old.layout }
         ensures spec { spec_of self.new ≡
             record (spec_of self.old) {
@@ -65,7 +66,7 @@ impl State {
     }
 
     pub(super) fn set_members(&mut self, cond: CondId, members: ThreadSet)
-        requires { cond.0 < 64 }
+        requires { cond.0 < most_objects }
         ensures layout { self.new.layout ≡ self.old.layout }
         ensures spec { spec_of self.new ≡
             record (spec_of self.old) {
@@ -76,7 +77,7 @@ impl State {
     }
 
     pub(super) fn set_available(&mut self, sem: SemId, available: bool)
-        requires { sem.0 < 64 }
+        requires { sem.0 < most_objects }
         ensures layout { self.new.layout ≡ self.old.layout }
         ensures spec { spec_of self.new ≡
             record (spec_of self.old) {
@@ -87,7 +88,7 @@ impl State {
     }
 
     pub(super) fn set_alert(&mut self, t: ThreadId)
-        requires { t.0 < 64 }
+        requires { t.0 < most_threads }
         ensures layout { self.new.layout ≡ self.old.layout }
         ensures spec { spec_of self.new ≡
             record (spec_of self.old) {
@@ -98,7 +99,7 @@ impl State {
     }
 
     pub(super) fn clear_alert(&mut self, t: ThreadId)
-        requires { t.0 < 64 }
+        requires { t.0 < most_threads }
         ensures layout { self.new.layout ≡ self.old.layout }
         ensures spec { spec_of self.new ≡
             record (spec_of self.old) {
@@ -109,7 +110,7 @@ impl State {
     }
 
     pub(super) fn set_pending(&mut self, t: ThreadId, what: Pending)
-        requires { t.0 < 64 }
+        requires { t.0 < most_threads }
         ensures layout { self.new.layout ≡ self.old.layout }
         ensures spec { spec_of self.new ≡
             record (spec_of self.old) {

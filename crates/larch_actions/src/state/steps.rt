@@ -1,7 +1,11 @@
 //! The step of each action: the first clause that fails, or the change.
+//!
+//! Here the actions stand one by one and not by their rows: each step of its own takes twelve instructions less of each event that is
+//! checked, of some 140, than one that looks first at what an action asks.
 ghost use Rattle.std.specs.Prelude.{◌≡◌, ◌<◌, true};
 ghost use mathlib.Core.Option.{none, some};
 ghost use Rattle.larch_actions.specs.Actions.{put, without_member};
+ghost use Rattle.larch_actions.specs.Layout.{most_objects, most_threads};
 ghost use Rattle.larch_actions.specs.State.{spec_of, Answers};
 ghost use Rattle.larch_actions.specs.declared.event.Action.{Action};
 ghost use Rattle.larch_actions.specs.declared.event.Pending.TheVariants.{Nothing};
@@ -12,9 +16,9 @@ use crate::{Broken, CondId, MutexId, Pending, SemId, ThreadId, ThreadSet};
 impl State {
     // The first part of a wait: the thread gives the mutex back and goes into the condition.
     fn begin_wait(&mut self, t: ThreadId, mutex: MutexId, cond: CondId, what: Pending)
-        requires thread { t.0 < 64 }
-        requires mutex { mutex.0 < 64 }
-        requires cond { cond.0 < 64 }
+        requires thread { t.0 < most_threads }
+        requires mutex { mutex.0 < most_objects }
+        requires cond { cond.0 < most_objects }
         ensures layout { self.new.layout ≡ self.old.layout }
         ensures spec { spec_of self.new ≡
             record (spec_of self.old) {
@@ -32,8 +36,8 @@ impl State {
 
     // The second part of a wait, as far as all have it: the thread has the mutex again.
     fn end_wait(&mut self, t: ThreadId, mutex: MutexId)
-        requires thread { t.0 < 64 }
-        requires mutex { mutex.0 < 64 }
+        requires thread { t.0 < most_threads }
+        requires mutex { mutex.0 < most_objects }
         ensures layout { self.new.layout ≡ self.old.layout }
         ensures spec { spec_of self.new ≡
             record (spec_of self.old) {
@@ -47,8 +51,8 @@ impl State {
 
     // A thread leaves a condition by itself.
     fn leave_condition(&mut self, t: ThreadId, cond: CondId)
-        requires thread { t.0 < 64 }
-        requires cond { cond.0 < 64 }
+        requires thread { t.0 < most_threads }
+        requires cond { cond.0 < most_objects }
         ensures layout { self.new.layout ≡ self.old.layout }
         ensures spec { spec_of self.new ≡
             record (spec_of self.old) {
@@ -61,8 +65,8 @@ impl State {
     }
 
     pub(super) fn acquire(&mut self, t: ThreadId, mutex: MutexId) -> Result<(), Broken>
-        requires thread { t.0 < 64 }
-        requires mutex { mutex.0 < 64 }
+        requires thread { t.0 < most_threads }
+        requires mutex { mutex.0 < most_objects }
         ensures { Answers self.old self.new (record { thread = t; action = Action.Acquire mutex }) result }
     {
         if !self.has_begun(t, Pending::Nothing) {
@@ -76,8 +80,8 @@ impl State {
     }
 
     pub(super) fn release(&mut self, t: ThreadId, mutex: MutexId) -> Result<(), Broken>
-        requires thread { t.0 < 64 }
-        requires mutex { mutex.0 < 64 }
+        requires thread { t.0 < most_threads }
+        requires mutex { mutex.0 < most_objects }
         ensures { Answers self.old self.new (record { thread = t; action = Action.Release mutex }) result }
     {
         if !self.has_begun(t, Pending::Nothing) {
@@ -96,9 +100,9 @@ impl State {
         mutex: MutexId,
         cond: CondId,
     ) -> Result<(), Broken>
-        requires thread { t.0 < 64 }
-        requires mutex { mutex.0 < 64 }
-        requires cond { cond.0 < 64 }
+        requires thread { t.0 < most_threads }
+        requires mutex { mutex.0 < most_objects }
+        requires cond { cond.0 < most_objects }
         ensures { Answers self.old self.new
             (record { thread = t; action = Action.Enqueue mutex cond }) result }
     {
@@ -113,9 +117,9 @@ impl State {
     }
 
     pub(super) fn resume(&mut self, t: ThreadId, mutex: MutexId, cond: CondId) -> Result<(), Broken>
-        requires thread { t.0 < 64 }
-        requires mutex { mutex.0 < 64 }
-        requires cond { cond.0 < 64 }
+        requires thread { t.0 < most_threads }
+        requires mutex { mutex.0 < most_objects }
+        requires cond { cond.0 < most_objects }
         ensures { Answers self.old self.new
             (record { thread = t; action = Action.Resume mutex cond }) result }
     {
@@ -135,9 +139,9 @@ impl State {
         mutex: MutexId,
         cond: CondId,
     ) -> Result<(), Broken>
-        requires thread { t.0 < 64 }
-        requires mutex { mutex.0 < 64 }
-        requires cond { cond.0 < 64 }
+        requires thread { t.0 < most_threads }
+        requires mutex { mutex.0 < most_objects }
+        requires cond { cond.0 < most_objects }
         ensures { Answers self.old self.new
             (record { thread = t; action = Action.AlertEnqueue mutex cond }) result }
     {
@@ -157,9 +161,9 @@ impl State {
         mutex: MutexId,
         cond: CondId,
     ) -> Result<(), Broken>
-        requires thread { t.0 < 64 }
-        requires mutex { mutex.0 < 64 }
-        requires cond { cond.0 < 64 }
+        requires thread { t.0 < most_threads }
+        requires mutex { mutex.0 < most_objects }
+        requires cond { cond.0 < most_objects }
         ensures { Answers self.old self.new
             (record { thread = t; action = Action.AlertReturn mutex cond }) result }
     {
@@ -179,9 +183,9 @@ impl State {
         mutex: MutexId,
         cond: CondId,
     ) -> Result<(), Broken>
-        requires thread { t.0 < 64 }
-        requires mutex { mutex.0 < 64 }
-        requires cond { cond.0 < 64 }
+        requires thread { t.0 < most_threads }
+        requires mutex { mutex.0 < most_objects }
+        requires cond { cond.0 < most_objects }
         ensures { Answers self.old self.new
             (record { thread = t; action = Action.AlertRaise mutex cond }) result }
     {
@@ -203,8 +207,8 @@ impl State {
         cond: CondId,
         left: ThreadSet,
     ) -> Result<(), Broken>
-        requires thread { t.0 < 64 }
-        requires cond { cond.0 < 64 }
+        requires thread { t.0 < most_threads }
+        requires cond { cond.0 < most_objects }
         ensures { Answers self.old self.new (record { thread = t; action = Action.Signal cond left }) result }
     {
         if !self.has_begun(t, Pending::Nothing) {
@@ -218,8 +222,8 @@ impl State {
     }
 
     pub(super) fn broadcast(&mut self, t: ThreadId, cond: CondId) -> Result<(), Broken>
-        requires thread { t.0 < 64 }
-        requires cond { cond.0 < 64 }
+        requires thread { t.0 < most_threads }
+        requires cond { cond.0 < most_objects }
         ensures { Answers self.old self.new (record { thread = t; action = Action.Broadcast cond }) result }
     {
         if !self.has_begun(t, Pending::Nothing) {
@@ -230,8 +234,8 @@ impl State {
     }
 
     pub(super) fn p(&mut self, t: ThreadId, sem: SemId) -> Result<(), Broken>
-        requires thread { t.0 < 64 }
-        requires sem { sem.0 < 64 }
+        requires thread { t.0 < most_threads }
+        requires sem { sem.0 < most_objects }
         ensures { Answers self.old self.new (record { thread = t; action = Action.P sem }) result }
     {
         if !self.has_begun(t, Pending::Nothing) {
@@ -245,8 +249,8 @@ impl State {
     }
 
     pub(super) fn v(&mut self, t: ThreadId, sem: SemId) -> Result<(), Broken>
-        requires thread { t.0 < 64 }
-        requires sem { sem.0 < 64 }
+        requires thread { t.0 < most_threads }
+        requires sem { sem.0 < most_objects }
         ensures { Answers self.old self.new (record { thread = t; action = Action.V sem }) result }
     {
         if !self.has_begun(t, Pending::Nothing) {
@@ -257,8 +261,8 @@ impl State {
     }
 
     pub(super) fn alert(&mut self, t: ThreadId, who: ThreadId) -> Result<(), Broken>
-        requires thread { t.0 < 64 }
-        requires who { who.0 < 64 }
+        requires thread { t.0 < most_threads }
+        requires who { who.0 < most_threads }
         ensures { Answers self.old self.new (record { thread = t; action = Action.Alert who }) result }
     {
         if !self.has_begun(t, Pending::Nothing) {
@@ -269,7 +273,7 @@ impl State {
     }
 
     pub(super) fn test_alert(&mut self, t: ThreadId, yes: bool) -> Result<(), Broken>
-        requires { t.0 < 64 }
+        requires { t.0 < most_threads }
         ensures { Answers self.old self.new (record { thread = t; action = Action.TestAlert yes }) result }
     {
         if !self.has_begun(t, Pending::Nothing) {
@@ -283,8 +287,8 @@ impl State {
     }
 
     pub(super) fn alert_p_return(&mut self, t: ThreadId, sem: SemId) -> Result<(), Broken>
-        requires thread { t.0 < 64 }
-        requires sem { sem.0 < 64 }
+        requires thread { t.0 < most_threads }
+        requires sem { sem.0 < most_objects }
         ensures { Answers self.old self.new (record { thread = t; action = Action.AlertPReturn sem }) result }
     {
         if !self.has_begun(t, Pending::Nothing) {
@@ -298,8 +302,8 @@ impl State {
     }
 
     pub(super) fn alert_p_raise(&mut self, t: ThreadId, sem: SemId) -> Result<(), Broken>
-        requires thread { t.0 < 64 }
-        requires sem { sem.0 < 64 }
+        requires thread { t.0 < most_threads }
+        requires sem { sem.0 < most_objects }
         ensures { Answers self.old self.new (record { thread = t; action = Action.AlertPRaise sem }) result }
     {
         if !self.has_begun(t, Pending::Nothing) {

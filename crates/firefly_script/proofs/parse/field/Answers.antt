@@ -27,7 +27,7 @@ returns-in_default-number c n y le e =
     let behind = append_cancel_left c.args.word.now c.in-Some.behind.now (decimal n ++ 32 ∷ y) (sym is ∙ e) in
     let f = c.in-Some-cut.ensures in
     let same = cut_same 32 c.in-Some-cut.digits.now (decimal n) c.in-Some-cut.behind.now y f.0 (lacks_decimal 32 n (omega arith) (omega arith)) (sym f.1 ∙ behind) in
-    c.in_default-number.ensures n le same.0
+    c.in_default-number.ensures n (omega arith) same.0
 
 pub returns : goal.returns
 returns c =
@@ -35,6 +35,6 @@ returns c =
     let is = at_some _ _ _ c.in-Some.behind c.in-Some.is s in
     let f = c.in-Some-cut.ensures in
     record {
-      within = c.in-Some-number.ensures.0;
+      within = omega (arith, c.in-Some-number.ensures.0);
       text = is ∙ ap (λ b. c.args.word.now ++ b) (f.1 ∙ ap (λ d. d ++ 32 ∷ c.in-Some-cut.behind.now) c.in-Some-number.ensures.1);
     }

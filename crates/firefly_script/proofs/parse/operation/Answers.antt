@@ -1,6 +1,6 @@
 use Rattle.std.proofs.Common.{◌≡◌, ◌≤◌, List, length, sym, subst}
 use Rattle.firefly_script.specs.declared.line.Operation.{Operation}
-use Rattle.firefly_script.specs.declared.table.Kind.{Kind}
+use Rattle.firefly_script.specs.declared.table.Operand.{Operand}
 use Rattle.firefly_script.specs.Operations.{IsNamed}
 use Rattle.firefly_script.specs.Parsing.{Are, first_of}
 use Rattle.firefly_script.specs.Table.{word_of}
@@ -18,13 +18,13 @@ operands-requires-clause-few c = subst (λ ks. length ks ≤ 3) (sym c.kinds.ens
 pub make-requires : goal.make-requires
 make-requires c =
     let l = c.args.layout.now in
-    let P : List Kind → Type 0 = λ ks. Are l ks c.parted.result.1.now (first_of ks c.in-Some-operands.numbers) in
+    let P : List Operand → Type 0 = λ ks. Are l ks c.parted.result.1.now (first_of ks c.in-Some-operands.numbers) in
     record { small = first_small l c.requires _ _ (subst P c.kinds.ensures c.in-Some-operands.ensures).0 }
 
 pub returns : goal.returns
 returns c =
     let l = c.args.layout.now in
     let bytes = c.args.bytes.now in
-    let P : List Kind → Type 0 = λ ks. Are l ks c.parted.result.1.now (first_of ks c.in-Some-operands.numbers) in
+    let P : List Operand → Type 0 = λ ks. Are l ks c.parted.result.1.now (first_of ks c.in-Some-operands.numbers) in
     let Q : Operation → Type 0 = λ o. IsNamed l o × (bytes ≡ operation_text o) in
     subst Q (sym c.make.ensures) (made_of l c.in-Some.word c.in-Some-operands.numbers bytes _ _ c.parted.ensures c.in-Some.ensures.1 (subst P c.kinds.ensures c.in-Some-operands.ensures))

@@ -1,6 +1,6 @@
 use Rattle.std.proofs.Common.{take, refl, ap, sym, ◌∙◌}
 use Rattle.firefly_script.specs.Drafts.{NoLayoutIs}
-use Rattle.firefly_script.specs.Text.{layout_text}
+use Rattle.larch_actions.specs.Layout.{layout_text}
 use Rattle.firefly_script.proofs.Firsts.{whole_none, long_none, open_none, line_consumed}
 use Rattle.firefly_script.proofs.Lengths.{no_layout_long}
 use Rattle.firefly_script.proofs.read.head.Goals as goal

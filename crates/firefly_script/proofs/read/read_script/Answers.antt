@@ -2,11 +2,11 @@ use Rattle.std.proofs.Common.{◌≡◌, ◌∷◌, ◌++◌, [], List, ℕ, Opt
 use Rattle.std.specs.Io.KnownBytes.{Consumes, prepend_known}
 use Rattle.std.proofs.Common.{IfSome}
 use Rattle.larch_actions.specs.declared.event.Layout.{Layout}
-use Rattle.larch_actions.specs.Layout.{IsLawful}
+use Rattle.larch_actions.specs.Layout.{IsLawful, layout_text}
 use Rattle.firefly_script.specs.declared.line.Line.{Line}
 use Rattle.firefly_script.specs.Operations.{MayFollow, AllFree, none_held, held_after}
 use Rattle.firefly_script.specs.Drafts.{HeadFault, LaterFault}
-use Rattle.firefly_script.specs.Text.{layout_text, lines_text}
+use Rattle.firefly_script.specs.Text.{lines_text}
 use Rattle.firefly_script.proofs.Kept.{prepend_nothing}
 use Rattle.firefly_script.proofs.Verdicts.{head_reason, later_reason, whole_text}
 use Rattle.firefly_script.proofs.read.read_script.Goals as goal
