@@ -1,19 +1,7 @@
 //! A tree of as many files as are wanted, from a number.
 ghost use Rattle.std.specs.Prelude.{◌≡◌, ◌≤◌, ◌<◌, ◌+◌, ◌%◌, ◌++◌, [], map, IfOk, OnOk};
 ghost use Rattle.std.specs.List.{range_with_len};
-ghost use Rattle.firefly_outside.specs.Samples.{
-  word_number,
-  sample_word,
-  sample_line,
-  line_count,
-  sample_bytes,
-  sample_root,
-  dir_path,
-  file_path,
-  dir_count,
-  HasSamples,
-  IsSampleTree,
-};
+ghost use Rattle.firefly_outside.specs.Samples.{sample_word, sample_line, sample_bytes, dir_count, HasSamples, IsSampleTree};
 ghost use Rattle.firefly_outside.specs.Seen.{tree_of, weak_of, calls_of, faults_of, no_calls, IsEqualBut};
 
 use crate::{MemTree, Text};

@@ -1,6 +1,5 @@
-use Rattle.std.proofs.Common.{◌≡◌, ◌++◌, ◌+◌, ◌*◌, ◌%◌}
+use Rattle.std.proofs.Common.{◌≡◌, ◌++◌}
 use Rattle.std.specs.List.{range_with_len, flat_map}
-use Rattle.firefly_outside.specs.Samples.{word_number}
 use Rattle.firefly_outside.proofs.SampleLines.{spaced_word}
 use Rattle.firefly_outside.proofs.samples.push_line.Given as goal
 
