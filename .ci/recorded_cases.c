@@ -7,6 +7,7 @@
 #include <stdio.h>
 #include <stdlib.h>
 #include <string.h>
+#include <sys/mman.h>
 #include <sys/wait.h>
 #include <threads.h>
 #include <time.h>
@@ -178,6 +179,30 @@ static void left_running(void) {
 static void killed(void) {
     busy();
     kill(getpid(), SIGKILL);
+}
+
+/* Tells how many unlocks a process had completed that was killed. */
+static void *counted_body(void *of) {
+    for (volatile long *done = of;; (*done)++) {
+        pthread_mutex_lock(&m);
+        number++;
+        pthread_mutex_unlock(&m);
+    }
+    return of;
+}
+static void counted(void) {
+    long *done = mmap(NULL, 4096, PROT_READ | PROT_WRITE, MAP_SHARED | MAP_ANONYMOUS, -1, 0), all = 0;
+    pid_t child = fork();
+    if (child == 0) {
+        pthread_t t;
+        for (int i = 0; i < 4; i++) pthread_create(&t, NULL, counted_body, done + 8 * i);
+        pause();
+    }
+    nap(20000);
+    kill(child, SIGKILL);
+    waitpid(child, NULL, 0);
+    for (int i = 0; i < 4; i++) all += done[8 * i];
+    printf("completed: %ld\n", all);
 }
 
 /* ---- a fork by a thread that has mutexes, which both processes give back ---- */
@@ -434,7 +459,7 @@ static void set_anew(void) {
 
 static const struct { const char *name; void (*f)(void); } cases[] = {
     { "recursive", recursive }, { "trylock", trylock }, { "timed", timed }, { "semaphores", semaphores }, { "cancelled", cancelled },
-    { "quick_end", quick_end }, { "killed", killed }, { "left_running", left_running }, { "busy", busy }, { "forks", forks }, { "hundred", hundred }, { "conditions", conditions },
+    { "quick_end", quick_end }, { "killed", killed }, { "left_running", left_running }, { "counted", counted }, { "busy", busy }, { "forks", forks }, { "hundred", hundred }, { "conditions", conditions },
     { "many_threads", many_threads }, { "many_waiting", many_waiting }, { "handler", handler }, { "destroyed", destroyed }, { "storm", storm },
     { "robust", robust }, { "refused", refused }, { "c11_threads", c11_threads }, { "stranger", stranger }, { "unheld", unheld },
     { "set_anew", set_anew },

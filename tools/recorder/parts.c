@@ -1,7 +1,8 @@
-/* Writes the trace texts. A name is used again once its object is used no more and at rest. Where more objects are in use at once than a trace has
- * names for, there are several parts, each of some mutexes with their conditions, or of some semaphores: an event changes and reads only its own
- * mutex, condition and semaphore and its own thread's wait, and alerts come here in pairs of an alert and the raise by it, so the whole keeps the
- * table exactly where each part does. Of a mutex with too many conditions each part has some; a wait in another one is a release and an acquire. */
+/* Writes the trace texts. Each object has a name of its own as long as there are enough; then a name is used again once its object is used no more
+ * and at rest. Where more objects are in use at once than a trace has names for, there are several parts, each of some mutexes with their
+ * conditions, or of some semaphores: an event changes and reads only its own mutex, condition and semaphore and its own thread's wait, and alerts
+ * come here in pairs of an alert and the raise by it, so the whole keeps the table exactly where each part does. Of a mutex with too many conditions
+ * each part has some; a wait in another one is a release and an acquire. */
 #include "convert.h"
 #include <stdio.h>
 #include <stdlib.h>
@@ -30,6 +31,14 @@ static int root(struct parts *s, int k) {
     return k;
 }
 
+/* A name for an object: one that none had, as long as there are some, else one that is free again. NAMES: there is none. */
+static int free_name(const struct part *p, const struct object *o) {
+    int fresh = 0, again = 0;
+    while (fresh < NAMES && p->free_from[o->kind][fresh] != 0) fresh++;
+    while (again < NAMES && p->free_from[o->kind][again] > o->first) again++;
+    return fresh < NAMES ? fresh : again;
+}
+
 /* Puts those of these objects into a part that are not in it; where one finds no name, none. */
 static bool put_into(struct parts *s, int part, const int *objects, int64_t n) {
     struct part *p = &s->parts.at[part], now = *p;
@@ -37,9 +46,9 @@ static bool put_into(struct parts *s, int part, const int *objects, int64_t n) {
     bool good = true;
     for (int64_t i = 0; i < n && good; i++) {
         const struct object *o = &s->f->objects.at[objects[i]];
-        names[i] = name_in(s, objects[i], part) < 0 ? 0 : NAMES + 1;
-        if (names[i]) continue;
-        while (names[i] < NAMES && now.free_from[o->kind][names[i]] > o->first) names[i]++;
+        names[i] = NAMES;
+        if (name_in(s, objects[i], part) >= 0) continue;
+        names[i] = free_name(&now, o);
         good = names[i] < NAMES;
         if (good) now.free_from[o->kind][names[i]] = o->at_rest ? o->last + 1 : INT64_MAX;
     }

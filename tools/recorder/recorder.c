@@ -16,6 +16,7 @@
 #include <string.h>
 #include <sys/mman.h>
 #include <sys/resource.h>
+#include <sys/stat.h>
 #include <threads.h>
 #include <unistd.h>
 
@@ -55,6 +56,8 @@ static _Atomic uint64_t end_of_file;
 static _Atomic uint32_t threads;
 static char prefix[4000], path[4096], own_name[64];
 static pthread_key_t key;
+static int kept = -1; /* a descriptor of the file, for who gives up the right to open it; as long as it is that file's (kept_is) */
+static struct stat kept_is;
 
 /* From now on records may be missing. */
 static void stop(const char *why) {
@@ -64,15 +67,22 @@ static void stop(const char *why) {
     atomic_store(&stopped, 1);
 }
 
-/* The next bytes of the file, for sure on the disk, and mapped; NULL: there are none. The file is opened anew, since programs close what they don't
- * know. */
+/* The file, opened anew, since programs close what they don't know, or as it is kept. */
+static int open_file(void) {
+    struct stat is;
+    int fd = open(path, O_RDWR | O_CLOEXEC);
+    if (fd < 0 && kept >= 0 && fstat(kept, &is) == 0 && is.st_dev == kept_is.st_dev && is.st_ino == kept_is.st_ino) fd = fcntl(kept, F_DUPFD_CLOEXEC, 0);
+    return fd;
+}
+
+/* The next bytes of the file, for sure on the disk, and mapped; NULL: there are none. */
 static void *reserve(uint64_t size, const char **why) {
     struct rlimit most;
     uint64_t at = atomic_fetch_add(&end_of_file, size);
     *why = "the limit of a file's size is reached";
     if (getrlimit(RLIMIT_FSIZE, &most) || (most.rlim_cur != RLIM_INFINITY && at + size > most.rlim_cur)) return NULL;
     *why = "the record file can't be opened again";
-    int fd = open(path, O_RDWR | O_CLOEXEC);
+    int fd = open_file();
     if (fd < 0) return NULL;
     *why = "the disk is full";
     void *found = posix_fallocate(fd, (off_t)at, (off_t)size) ? MAP_FAILED : mmap(NULL, size, PROT_READ | PROT_WRITE, MAP_SHARED, fd, (off_t)at);
@@ -181,7 +191,9 @@ static void put_maps(void) {
 static void begin_file(const char *forked_from, uint64_t fork_number) {
     const char *why;
     int fd = -1, k = 0;
+    struct stat is;
     head = NULL;
+    if (kept >= 0 && fstat(kept, &is) == 0 && is.st_dev == kept_is.st_dev && is.st_ino == kept_is.st_ino) close(kept); /* of who forked this process */
     while (*prefix && fd < 0 && k++ < 1000) {
         snprintf(own_name, sizeof own_name, "%d.%d", (int)getpid(), k);
         snprintf(path, sizeof path, "%s.%s", prefix, own_name);
@@ -189,6 +201,7 @@ static void begin_file(const char *forked_from, uint64_t fork_number) {
         if (fd < 0 && errno != EEXIST) return;
     }
     if (fd < 0) return;
+    kept = fstat(fd, &kept_is) ? -1 : fcntl(fd, F_DUPFD_CLOEXEC, 700);
     close(fd);
     atomic_store(&end_of_file, 0);
     atomic_store(&stopped, 0);
