@@ -85,11 +85,11 @@ fn list_entries<R: Files + AllocGlobal + Clone + Drop>(
 ) -> Result<Vec<Entry>, TreeError>
     ensures { IfOk result (λ v. AreEntries v.items) }
 {
-    match fs::symlink_metadata(files, bare(dir)) {
-        Ok(metadata) if metadata.is_dir() => {}
+    let looked = match fs::symlink_metadata(files, bare(dir)) {
+        Ok(metadata) if metadata.is_dir() => metadata,
         Ok(_) => return Err(TreeError::Failed),
         Err(error) => return Err(error_of(error)),
-    }
+    };
     let entries = match fs::read_dir(files, dir) {
         Ok(entries) => entries,
         Err(error) => return Err(error_of(error)),
@@ -110,7 +110,17 @@ fn list_entries<R: Files + AllocGlobal + Clone + Drop>(
             Err(error) => return Err(error),
         }
     }
-    entries_of(alloc, names)
+    // A directory that is removed meanwhile seems to end there, so it has to be in its place still.
+    match fs::symlink_metadata(files, bare(dir)) {
+        Ok(listed) if is_same_dir(&looked, &listed) => entries_of(alloc, names),
+        Ok(_) => Err(TreeError::Failed),
+        Err(error) => Err(error_of(error)),
+    }
+}
+
+// Whether both are of one directory.
+fn is_same_dir(looked: &Metadata, listed: &Metadata) -> bool {
+    listed.is_dir() && looked.dev() == listed.dev() && looked.ino() == listed.ino()
 }
 
 // Whether both are of one file.
