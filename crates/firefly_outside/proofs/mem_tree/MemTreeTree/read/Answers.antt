@@ -1,4 +1,4 @@
-use Rattle.std.proofs.Common.{◌≡◌, ◌∙◌, sym, ap, Some, List, ◌++◌, ◌∷◌, [], subst, inl, inr, ℕ, rules}
+use Rattle.std.proofs.Common.{◌≡◌, ◌∙◌, sym, ap, Some, List, ◌++◌, ◌∷◌, [], subst, inl, inr, rules}
 use Rattle.std.specs.Option.{option_map}
 use Rattle.firefly_outside.specs.Trees.{Bytes, Path, Calls}
 use Rattle.firefly_outside.specs.MemTrees.{node_of}
