@@ -14,7 +14,7 @@ ghost use Rattle.condition.specs.Waits.{resume_event};
 use event_count::{advance, block, read_count};
 use gate::{free, take};
 use larch_actions::{Action, CondId, Event, MutexId, ThreadId};
-use nub_rule::{Change, Object, Package, Thread, Uses, put_value, take_value};
+use nub_rule::{Change, Object, Package, Thread, Uses, lower_waits, put_value, take_value};
 use std::sync::Wait;
 
 /// Takes some thread out of the condition, if there is one, and wakes it.
@@ -83,6 +83,8 @@ pub fn wait<U: Uses, C: Change<U>, R: Wait>(
     let count = read_count(rt, p, me, m, c, false);
     free::<U, C, R>(rt, p, me, Object::Mutex(m), None);
     block(rt, p, me, c, count, false);
+    // The thread has left the condition: a Signal that finds nobody's wait begun from here on misses nobody.
+    lower_waits(p, me, c);
     let e = Event {
         thread: ThreadId(me.number()),
         action: Action::Resume { mutex: m, cond: c },

@@ -7,9 +7,12 @@ ghost use Rattle.nub_rule.specs.Places.{cond_object, most_threads};
 ghost use Rattle.nub_rule.specs.Plays.{behind, broadcast_action, event, signal_action};
 ghost use Rattle.nub.specs.Rest.{HasStored, IsOutside};
 
-use larch_actions::{Action, CondId, Event, ThreadId};
+use larch_actions::{Action, CondId, Event, ThreadId, ThreadSet};
 use nub::{begin_event, end_event, enter, leave, pop, wake_from_condition};
-use nub_rule::{Object, Package, Thread, Uses, Why, advance_broadcast, advance_signal, know_count};
+use nub_rule::{
+    Object, Package, Thread, Uses, Why, advance_broadcast, advance_signal, know_count,
+    read_waits_broadcast, read_waits_signal,
+};
 use std::sync::Wait;
 
 /// Takes the spin word of c, where the count can be advanced. Should it ever have come to its last number, then this waits for ever.
@@ -17,7 +20,7 @@ fn enter_below<U: Uses, R: Wait>(rt: &R, p: &Package<U>, me: &mut Thread<U>, c: 
     requires of { me.old.table_id ≡ p.now.table_id }
     requires named { c.0 < p.now.layout.conditions }
     requires outside { IsOutside me.old }
-    requires no_wait { me.old.wait ≡ None }
+    requires calling { me.old.calling ≡ Some c.0 }
     ensures inside { me.new ≡ record me.old {
       spin = Some (cond_object c.0);
       queue = me.new.queue;
@@ -43,9 +46,14 @@ fn advance_one<U: Uses, R: Wait>(rt: &R, p: &Package<U>, me: &mut Thread<U>, c: 
     requires named { c.0 < p.now.layout.conditions }
     requires outside { IsOutside me.old }
     requires no_wait { me.old.wait ≡ None }
+    requires calling { me.old.calling ≡ Some c.0 }
     requires stored { HasStored p.now.traced me.old }
     ensures event { (left : List ℕ) × Makes (event me.old.number (signal_action c.0 left)) me.old me.new }
-    ensures rest { me.new ≡ record (recorded me.old me.new) { count = me.new.count; failed = without (cond_object c.0) me.old.failed } }
+    ensures rest { me.new ≡ record (recorded me.old me.new) {
+      count = me.new.count;
+      failed = without (cond_object c.0) me.old.failed;
+      calling = None;
+    } }
     ensures stored { HasStored p.now.traced me.new }
 {
     let at = Object::Cond(c);
@@ -73,9 +81,14 @@ fn advance_all<U: Uses, R: Wait>(rt: &R, p: &Package<U>, me: &mut Thread<U>, c: 
     requires named { c.0 < p.now.layout.conditions }
     requires outside { IsOutside me.old }
     requires no_wait { me.old.wait ≡ None }
+    requires calling { me.old.calling ≡ Some c.0 }
     requires stored { HasStored p.now.traced me.old }
     ensures event { Makes (event me.old.number (broadcast_action c.0 [])) me.old me.new }
-    ensures rest { me.new ≡ record (recorded me.old me.new) { count = me.new.count; failed = without (cond_object c.0) me.old.failed } }
+    ensures rest { me.new ≡ record (recorded me.old me.new) {
+      count = me.new.count;
+      failed = without (cond_object c.0) me.old.failed;
+      calling = None;
+    } }
     ensures stored { HasStored p.now.traced me.new }
 {
     enter_below(rt, p, me, c);
@@ -106,21 +119,126 @@ fn wake_all<U: Uses>(p: &Package<U>, me: &mut Thread<U>, c: CondId)
     }
 }
 
-/// Makes a Broadcast where `all` is true, and else a Signal, which leaves some of the condition.
-pub fn advance<U: Uses, R: Wait>(rt: &R, p: &Package<U>, me: &mut Thread<U>, c: CondId, all: bool)
+/// Reads the begun waits of c in a Signal, and answers whether there are any. Where there are none, that is the Signal, and there is nobody to
+/// wake: who begins to wait raises them before it reads the count. In a traced package it may wait for the pen.
+#[inline]
+fn finds_wait_to_signal<U: Uses, R: Wait>(
+    rt: &R,
+    p: &Package<U>,
+    me: &mut Thread<U>,
+    c: CondId,
+) -> bool
     requires of { me.old.table_id ≡ p.now.table_id }
     requires named { c.0 < p.now.layout.conditions }
     requires outside { IsOutside me.old }
     requires no_wait { me.old.wait ≡ None }
     requires stored { HasStored p.now.traced me.old }
+    ensures event { result ≡ false → Makes (event me.old.number (signal_action c.0 [])) me.old me.new }
+    ensures quiet { result ≡ false → me.new ≡ recorded me.old me.new }
+    ensures calls { result ≡ true → me.new ≡ record me.old { calling = Some c.0; next = me.new.next } }
+    ensures stored { HasStored p.now.traced me.new }
+{
+    let e = Event {
+        thread: ThreadId(me.number()),
+        action: Action::Signal {
+            cond: c,
+            left: ThreadSet::empty(),
+        },
+    };
+    begin_event(rt, p, me);
+    if read_waits_signal(p, me, c) == 0 {
+        end_event(p, me, Some(e));
+        return false;
+    }
+    // The pen goes back before the spin word is taken: nobody may wait with it.
+    end_event(p, me, None);
+    true
+}
+
+/// The same in a Broadcast.
+#[inline]
+fn finds_wait_to_end<U: Uses, R: Wait>(
+    rt: &R,
+    p: &Package<U>,
+    me: &mut Thread<U>,
+    c: CondId,
+) -> bool
+    requires of { me.old.table_id ≡ p.now.table_id }
+    requires named { c.0 < p.now.layout.conditions }
+    requires outside { IsOutside me.old }
+    requires no_wait { me.old.wait ≡ None }
+    requires stored { HasStored p.now.traced me.old }
+    ensures event { result ≡ false → Makes (event me.old.number (broadcast_action c.0 [])) me.old me.new }
+    ensures quiet { result ≡ false → me.new ≡ recorded me.old me.new }
+    ensures calls { result ≡ true → me.new ≡ record me.old { calling = Some c.0; next = me.new.next } }
+    ensures stored { HasStored p.now.traced me.new }
+{
+    let e = Event {
+        thread: ThreadId(me.number()),
+        action: Action::Broadcast { cond: c },
+    };
+    begin_event(rt, p, me);
+    if read_waits_broadcast(p, me, c) == 0 {
+        end_event(p, me, Some(e));
+        return false;
+    }
+    end_event(p, me, None);
+    true
+}
+
+/// Makes a Signal, which leaves some of the condition. Where nobody has begun to wait, that takes one look.
+#[inline]
+fn make_signal<U: Uses, R: Wait>(rt: &R, p: &Package<U>, me: &mut Thread<U>, c: CondId)
+    requires of { me.old.table_id ≡ p.now.table_id }
+    requires named { c.0 < p.now.layout.conditions }
+    requires outside { IsOutside me.old }
+    requires no_wait { me.old.wait ≡ None }
+    requires calling { me.old.calling ≡ None }
+    requires stored { HasStored p.now.traced me.old }
+    ensures event { (left : List ℕ) × Makes (event me.old.number (signal_action c.0 left)) me.old me.new }
+    ensures rest { me.new ≡ record (recorded me.old me.new) { count = me.new.count; failed = me.new.failed } }
+    ensures stored { HasStored p.now.traced me.new }
+{
+    if finds_wait_to_signal(rt, p, me, c) {
+        advance_one(rt, p, me, c);
+    }
+}
+
+/// Makes a Broadcast. Where nobody has begun to wait, that takes one look.
+#[inline]
+fn make_broadcast<U: Uses, R: Wait>(rt: &R, p: &Package<U>, me: &mut Thread<U>, c: CondId)
+    requires of { me.old.table_id ≡ p.now.table_id }
+    requires named { c.0 < p.now.layout.conditions }
+    requires outside { IsOutside me.old }
+    requires no_wait { me.old.wait ≡ None }
+    requires calling { me.old.calling ≡ None }
+    requires stored { HasStored p.now.traced me.old }
+    ensures event { Makes (event me.old.number (broadcast_action c.0 [])) me.old me.new }
+    ensures rest { me.new ≡ record (recorded me.old me.new) { count = me.new.count; failed = me.new.failed } }
+    ensures stored { HasStored p.now.traced me.new }
+{
+    if finds_wait_to_end(rt, p, me, c) {
+        advance_all(rt, p, me, c);
+    }
+}
+
+/// Makes a Broadcast where `all` is true, and else a Signal, which leaves some of the condition.
+#[inline]
+pub fn advance<U: Uses, R: Wait>(rt: &R, p: &Package<U>, me: &mut Thread<U>, c: CondId, all: bool)
+    requires of { me.old.table_id ≡ p.now.table_id }
+    requires named { c.0 < p.now.layout.conditions }
+    requires outside { IsOutside me.old }
+    requires no_wait { me.old.wait ≡ None }
+    requires calling { me.old.calling ≡ None }
+    requires stored { HasStored p.now.traced me.old }
     ensures all { all ≡ true → Makes (event me.old.number (broadcast_action c.0 [])) me.old me.new }
     ensures one { all ≡ false → (left : List ℕ) × Makes (event me.old.number (signal_action c.0 left)) me.old me.new }
-    ensures rest { me.new ≡ record (recorded me.old me.new) { count = me.new.count; failed = without (cond_object c.0) me.old.failed } }
+    ensures rest { me.new ≡ record (recorded me.old me.new) { count = me.new.count; failed = me.new.failed } }
     ensures stored { HasStored p.now.traced me.new }
 {
     if all {
-        advance_all(rt, p, me, c);
+        make_broadcast(rt, p, me, c);
     } else {
-        advance_one(rt, p, me, c);
+        make_signal(rt, p, me, c);
     }
 }

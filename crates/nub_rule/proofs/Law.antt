@@ -30,9 +30,10 @@ use Rattle.atomic_table.specs.Table.{State}
 use Rattle.nub_rule.specs.Items.{Each, Marks, Says, PenFits, Core, line_of}
 use Rattle.nub_rule.specs.Parts.{Has, counts_in, is_at, is_open, open_on, stands_at, waits_on}
 use Rattle.nub_rule.specs.Places.{alert_at, bit_at, cond_object, count_at, number_at, pen_at, ready_at, sem_object, spin_at}
-use Rattle.nub_rule.specs.PackageRule.{AnyView, HasBitInWait, IsFlagOf, IsKnown, SaysHolds, OwesAt, Owes, History, Meaning, MutexBits, SpinWords, QueuedThreads, ReadyWords, NoWakeLost, IsReady, CountsRead, ValuesAndShares, Numbering, PackageRule, AreViews}
+use Rattle.nub_rule.specs.PackageRule.{AnyView, HasBitInWait, IsFlagOf, IsKnown, SaysHolds, OwesAt, Owes, History, Meaning, MutexBits, SpinWords, QueuedThreads, ReadyWords, NoWakeLost, IsReady, CountsRead, BegunWaits, HasTakenAt, ValuesAndShares, Numbering, PackageRule, AreViews}
 use Rattle.nub_rule.proofs.Each.{at_below, put-at, put-else, same_at}
 use Rattle.nub_rule.proofs.Owing.{bound-nowhere, bound-asleep}
+use Rattle.nub_rule.proofs.Beginning.{counts-some}
 use Rattle.nub_rule.proofs.Standing.{both_ways, distinct-apart, distinct-behind, eqb_is, false_true, mem-append, mem-behind, not_true, stand_none, stand_same, stand_some}
 
 -- who has something is nobody or somebody
@@ -261,7 +262,11 @@ module _ {T H W : Type 0} (l : Layout) (traced : Bool) (w : W) (holds : W → Li
     found = λ n p at. (c.lines.stands n p at).found;
   }
 
-  no_wake_lost : NoWakeLost words all c.queue
+  -- who is left in a condition is in it
+  left-member : (d n : ℕ) → mem n (c.shows.conditions.left d) ≡ true → c.spec.members d n ≡ true
+  left-member d n there = c.shows.conditions.member d n ∙ ap (λ b. cond b true (c.shows.conditions.counting d n)) there
+
+  no_wake_lost : NoWakeLost words all c.queue c.spec
   no_wake_lost = record {
     looks = c.owes.looks;
     at_rest = λ n p at out none_left none_cleared o. bound-nowhere o (c.queue o) n p out none_left none_cleared;
@@ -271,6 +276,14 @@ module _ {T H W : Type 0} (l : Layout) (traced : Bool) (w : W) (holds : W → Li
         (λ free. inr (c.owes.looks s.at low free (λ none_there. false_true (sym (ap (mem n) none_there) ∙ queued))))
         (λ set_there. inl set_there))))
         (λ (r : IsReady words n ⊎ AnyView (λ q. OwesAt s.at q n) all). ⊎_elim (λ (one : IsReady words n). inl one) (λ (owed : AnyView (λ q. OwesAt s.at q n) all). inr (inl owed)) r)
+        (ready_words.kept n p at s is);
+    waits_in = λ n p at d s low is there out. let o : ℕ = cond_object d in ⊎_elim
+        (λ (queued : mem n (c.queue s.at) ≡ true).
+        let here : mem n (c.queue o) ≡ true = (λ i. mem n (c.queue (sym there i))) ∙ queued in
+        let gone : mem n (c.shows.conditions.left d) ≡ false = not_true (mem n (c.shows.conditions.left d)) (λ l. false_true (sym out ∙ left-member d n l)) in inr (inr (whose (c.spinner o)
+        (λ free. both_ways (mem n (c.queue o)) here (ap (mem n) (sym (c.shows.conditions.whole d free)) ∙ gone))
+        (λ k own. let v = spins-at o k own in (k, v.0, v.1, (v.2, ap (mem n) v.3 ∙ here, ap (mem n) ((c.shows.conditions.knows k v.0 v.1).inside d own).0 ∙ gone))))))
+        (λ (r : IsReady words n ⊎ AnyView (λ q. OwesAt s.at q n) all). ⊎_elim (λ (one : IsReady words n). inl one) (λ (owed : AnyView (λ q. OwesAt s.at q n) all). inr (inl (subst (λ (z : ℕ). AnyView (λ q. OwesAt z q n) all) there owed))) r)
         (ready_words.kept n p at s is);
   }
 
@@ -285,6 +298,20 @@ module _ {T H W : Type 0} (l : Layout) (traced : Bool) (w : W) (holds : W → Li
         (λ (lo : k ≤ get_or words (count_at (cond_object v.cond.0)) 0). lo)
         (cases_lt (get_or words (count_at (cond_object v.cond.0)) 0) k);
     known = λ n p at d low spins. ((c.shows.conditions.knows n p at).inside d ((c.spins.spinning n p at (cond_object d)).0 spins).0).1 ∙ sym (c.shows.conditions.counted d low);
+  }
+
+  begun_waits : BegunWaits words all c.spec
+  begun_waits = record {
+    word = c.begun.counted;
+    covers = λ d n low is. let o : ℕ = cond_object d in ⊎_elim
+        (λ (there : mem n (c.shows.conditions.left d) ≡ true).
+        let inside : mem n (c.queue o) ≡ true = either (mem n (c.queue o)) (λ e. e) (λ off. both_ways (mem n (c.shows.conditions.left d)) there (c.shows.conditions.queued d n off)) in
+        let lined = mem-behind n (c.owed o) (c.queue o) inside in
+        let v = at_below all n (c.lines.people o n lined) in
+        let st = stand_some v.0.stand o (in-line o n v.0 v.1 lined).0 in (v.0, v.1, (c.begun.covered n v.0 v.1).stander st.0 d st.1 st.2))
+        (λ (t : (p : Part T H) × (get_elem? all n ≡ some p) × (counts_in p.wait d (get_or words (count_at (cond_object d)) 0) ≡ true)).
+        let u = counts-some t.0.wait d (get_or words (count_at (cond_object d)) 0) t.2 in (t.0, t.1, (c.begun.covered n t.0 t.1).member u.0 (get_or words (count_at (cond_object d)) 0) u.1 u.3 ∙ ap (λ (z : ℕ). Some z) u.2))
+        ((members d n low).0 is);
   }
 
   values_and_shares : ValuesAndShares l.mutexes (holds w) homes all c.values c.shares
@@ -326,6 +353,7 @@ module _ {T H W : Type 0} (l : Layout) (traced : Bool) (w : W) (holds : W → Li
     no_wake_lost = no_wake_lost;
     alert_seen = c.alert_seen;
     counts_read = counts_read;
+    begun_waits = begun_waits;
     values_and_shares = values_and_shares;
     numbering = numbering;
   }
