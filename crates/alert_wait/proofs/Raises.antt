@@ -163,11 +163,10 @@ module _ {T H W : Type 0} where
           let last : z ≡ G l = cases b (λ e. ⊎_elim (λ low. ap G (at_gate e low)) (λ high. ap G (at_cond e high)) (cases_lt n 128)) (λ e. ap G (alerted e)) in
           last ∙ ap G leaves ∙ ap K tests ∙ ap K pushed ∙ outside_again z.stand z.turns z.alerted
 
-  -- the thread o has the mutex again for no event as q, and raised as z
-  pub ended_alerted : (o q z : Known T H W) (w : Opt Wait) → q ≡ record o { held = q.held; count = q.count; wait = w; failed = q.failed; turns = q.turns; values = q.values }
-      → z ≡ record (recorded q z) { wait = None; alerted = false }
-      → z ≡ record (recorded o z) { held = z.held; count = z.count; wait = None; failed = z.failed; turns = z.turns; alerted = z.alerted; values = z.values }
-  ended_alerted o q z w quiet raised =
-      let G : Known T H W → Known T H W = λ k. record k { held = z.held; count = z.count; failed = z.failed; turns = z.turns; alerted = z.alerted; values = z.values } in
+  -- the thread o has lowered the begun waits as l, and has the mutex again as z
+  pub ended_returned : (o l z : Known T H W) → l ≡ record o { raised = None } → z ≡ record (recorded l z) { held = z.held; count = z.count; wait = None; failed = z.failed; turns = z.turns; values = z.values }
+      → z ≡ record (recorded o z) { held = z.held; count = z.count; wait = None; failed = z.failed; turns = z.turns; alerted = z.alerted; raised = None; values = z.values }
+  ended_returned o l z lowered ended =
+      let G : Known T H W → Known T H W = λ k. record k { alerted = z.alerted } in
       let F : Known T H W → Known T H W = λ k. record (recorded k z) { held = z.held; count = z.count; wait = None; failed = z.failed; turns = z.turns; alerted = z.alerted; values = z.values } in
-      ap G raised ∙ ap F quiet
+      ap G ended ∙ ap F lowered

@@ -22,9 +22,10 @@ module _ {T H W : Type 0} where
   -- the thread o puts the value y in as a, begins the wait as b, frees the mutex as f, blocks as k, has the mutex again as e with the value x, and takes that out as z
   pub record Waited (m : ℕ) (x y : T) (o a b f k e z : Known T H W) : Type 0 where
     pub wait : Opt Wait
+    pub raised : Opt ℕ
     pub failed : List ℕ
     pub put : a ≡ record o { values = slice_set o.values m (Some (Some y)) }
-    pub begun : b ≡ record (recorded a b) { wait = wait }
+    pub begun : b ≡ record (recorded a b) { wait = wait; raised = raised }
     pub freed : f ≡ record b {
       held = f.held;
       share = f.share;
@@ -45,6 +46,7 @@ module _ {T H W : Type 0} where
       failed = e.failed;
       turns = e.turns;
       alerted = e.alerted;
+      raised = None;
       values = e.values;
     }
     pub turns : e.turns ≡ without m k.turns
@@ -53,8 +55,8 @@ module _ {T H W : Type 0} where
     pub out : z ≡ record e { values = slice_set e.values m (Some None) }
 
   -- what no part of the wait changes
-  abbrev still : Known T H W → ℕ × Opt W × Opt ℕ × List ℕ × List ℕ × List ℕ × Opt Stand × Pen × Opt ℕ × Opt ℕ
-  still k = (k.number, k.world, k.spin, k.queue, k.owed, k.left, k.stand, k.pen, k.raised, k.calling)
+  abbrev still : Known T H W → ℕ × Opt W × Opt ℕ × List ℕ × List ℕ × List ℕ × Opt Stand × Pen × Opt ℕ
+  still k = (k.number, k.world, k.spin, k.queue, k.owed, k.left, k.stand, k.pen, k.calling)
 
   module _ (m : ℕ) (x y : T) (o a b f k e z : Known T H W) (s : Waited m x y o a b f k e z) where
     stays : still z ≡ still o
@@ -86,8 +88,8 @@ module _ {T H W : Type 0} where
         pen = ap (λ s. s.7) stays ∙ rest.outside.pen;
       };
       wait = ap (λ k. k.wait) s.out ∙ ap (λ k. k.wait) s.ended;
-      raised = ap (λ s. s.8) stays ∙ rest.raised;
-      calling = ap (λ s. s.9) stays ∙ rest.calling;
+      raised = ap (λ k. k.raised) s.out ∙ ap (λ k. k.raised) s.ended;
+      calling = ap (λ s. s.8) stays ∙ rest.calling;
       turns = ap (λ k. k.turns) s.out ∙ (s.turns ∙ (ap (λ k. without m k.turns) s.blocked ∙ (ap (λ k. without m k.turns) s.freed ∙ (ap (λ k. without m k.turns) s.begun ∙ (ap (λ k. without m k.turns) s.put ∙ ap (without m) rest.turns)))));
       cleared = ap (λ k. k.cleared) s.out ∙ (ap (λ k. k.cleared) s.ended ∙ (ap (λ k. k.cleared) s.blocked ∙ (ap (λ k. k.cleared) s.freed ∙ (ap (λ k. without m k.cleared) s.begun ∙ (ap (λ k. without m k.cleared) s.put ∙ ap (without m) rest.cleared)))));
       looked = ap (λ k. k.looked) s.out ∙ (ap (λ k. k.looked) s.ended ∙ (ap (λ k. k.looked) s.blocked ∙ (ap (λ k. k.looked) s.freed ∙ (ap (λ k. without m k.looked) s.begun ∙ (ap (λ k. without m k.looked) s.put ∙ ap (without m) rest.looked)))));

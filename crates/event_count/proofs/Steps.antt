@@ -12,6 +12,14 @@ no_read : (q : Pen) (k : ℕ) → q ≡ No → q ≡ Read k → ⊥
 no_read q k is not = cc
 
 module _ {T H W : Type 0} where
+  -- the thread o has raised the begun waits of c as r, and has begun its wait as z
+  module _ (o r z : Known T H W) (c : ℕ) (raises : r ≡ record o { raised = Some c }) where
+    pub made_raised : (e : Event) → Makes e r z → Makes e o z
+    made_raised e u = let v = subst (λ k. Makes e k z) raises u in (v.0, record { legal = v.1.legal; own = v.1.own; number = v.1.number }, v.2, v.3, v.4)
+
+    pub begun_raised : (w : Opt Wait) → z ≡ record (recorded r z) { wait = w } → z ≡ record (recorded o z) { wait = w; raised = Some c }
+    begun_raised w begun = begun ∙ ap (λ k. record (recorded k z) { wait = w }) raises
+
   -- the thread o has read its number as b, has begun its wait as u, and has given the pen back as z
   module _ (o b u z : Known T H W) (pen : o.pen ≡ No) (began : b ≡ record o { pen = b.pen; next = b.next }) (told : z ≡ record u { pen = No; entries = z.entries; lost = z.lost }) where
     pub made_traced : (e : Event) → Makes e b u → Makes e o z
@@ -67,21 +75,22 @@ module _ {T H W : Type 0} where
   -- the thread o has the spin word of n as i, has read its number as b, has advanced the count as a, and has told that as e
   module _ (n : ℕ) (o i b a e : Known T H W) (l : List ℕ) (m : ℕ) (p : Pen)
       (below : i ≡ record o { spin = Some n; queue = i.queue; left = i.queue; count = i.count; failed = without n o.failed })
-      (began : b ≡ record i { pen = b.pen; next = b.next }) (advances : a ≡ record (learnt b a) { left = l; count = m; pen = p })
+      (began : b ≡ record i { pen = b.pen; next = b.next }) (advances : a ≡ record (learnt b a) { left = l; count = m; calling = None; pen = p })
       (told : e ≡ record a { pen = No; entries = e.entries; lost = e.lost }) where
     pub owes_as_before : e.owed ≡ o.owed
     owes_as_before = ap (λ k. k.owed) told ∙ (ap (λ k. k.owed) advances ∙ (ap (λ k. k.owed) began ∙ ap (λ k. k.owed) below))
 
     module _ (z : Known T H W) (spin : o.spin ≡ None) (queue : o.queue ≡ []) (left : o.left ≡ []) (pen : o.pen ≡ No) where
       -- it has left, with what it owes then
-      advanced : (d : List ℕ) → z ≡ record e { spin = None; queue = []; left = []; owed = d } → d ≡ o.owed → z ≡ record (recorded o z) { count = z.count; failed = without n o.failed }
+      advanced : (d : List ℕ) → z ≡ record e { spin = None; queue = []; left = []; owed = d } → d ≡ o.owed → z ≡ record (recorded o z) { count = z.count; failed = without n o.failed; calling = None }
       advanced d last owed =
           let G : Known T H W → Known T H W = λ k. record k { seen = z.seen; mine = z.mine; places = z.places; count = z.count; entries = z.entries; lost = z.lost; next = z.next } in
           let F : Known T H W → Known T H W =
           λ k. record k { spin = None; queue = []; left = []; owed = d; seen = z.seen; mine = z.mine; places = z.places; count = z.count; entries = z.entries; lost = z.lost; next = z.next } in
           let K : Known T H W → Known T H W = λ k. record (F k) { pen = No } in
-          let E : Opt ℕ → List ℕ → List ℕ → List ℕ → Pen → Known T H W = λ s q f u r. record (recorded o z) { spin = s; queue = q; left = f; owed = u; pen = r; count = z.count; failed = without n o.failed } in
-          ap G last ∙ ap F told ∙ ap K advances ∙ ap K began ∙ ap K below
+          let D : Known T H W → Known T H W = λ k. record (K k) { calling = None } in
+          let E : Opt ℕ → List ℕ → List ℕ → List ℕ → Pen → Known T H W = λ s q f u r. record (recorded o z) { spin = s; queue = q; left = f; owed = u; pen = r; count = z.count; failed = without n o.failed; calling = None } in
+          ap G last ∙ ap F told ∙ ap K advances ∙ ap D began ∙ ap D below
           ∙ ap (λ s. E s [] [] d No) (sym spin)
           ∙ ap (λ q. E o.spin q [] d No) (sym queue)
           ∙ ap (λ f. E o.spin o.queue f d No) (sym left)
@@ -90,20 +99,20 @@ module _ {T H W : Type 0} where
 
       -- it popped one as q, woke it as w, and left
       pub advanced_one : (q w : Known T H W) (x y : List ℕ) → q ≡ record e { queue = x; owed = q.owed } → w ≡ record q { owed = y } → z ≡ record w { spin = None; queue = []; left = [] } → w.owed ≡ [] → o.owed ≡ []
-          → z ≡ record (recorded o z) { count = z.count; failed = without n o.failed }
+          → z ≡ record (recorded o z) { count = z.count; failed = without n o.failed; calling = None }
       advanced_one q w x y popped wakes leaves gone none =
           let L : Known T H W → Known T H W = λ k. record k { spin = None; queue = []; left = []; owed = w.owed } in
           advanced w.owed (leaves ∙ ap L wakes ∙ ap L popped) (gone ∙ sym none)
 
       -- it found nobody to pop, as q, and left
       pub advanced_none : (q : Known T H W) (x : List ℕ) → q ≡ record e { queue = x; owed = q.owed } → q.owed ≡ e.owed → z ≡ record q { spin = None; queue = []; left = [] }
-          → z ≡ record (recorded o z) { count = z.count; failed = without n o.failed }
+          → z ≡ record (recorded o z) { count = z.count; failed = without n o.failed; calling = None }
       advanced_none q x popped owes leaves =
           let L : Known T H W → Known T H W = λ k. record k { spin = None; queue = []; left = []; owed = q.owed } in
           advanced q.owed (leaves ∙ ap L popped) (owes ∙ owes_as_before)
 
       -- it popped and woke all as w, and left
-      pub advanced_all : (w : Known T H W) → w ≡ record e { queue = [] } → z ≡ record w { spin = None; queue = []; left = [] } → z ≡ record (recorded o z) { count = z.count; failed = without n o.failed }
+      pub advanced_all : (w : Known T H W) → w ≡ record e { queue = [] } → z ≡ record w { spin = None; queue = []; left = [] } → z ≡ record (recorded o z) { count = z.count; failed = without n o.failed; calling = None }
       advanced_all w woken leaves =
           let L : Known T H W → Known T H W = λ k. record k { spin = None; queue = []; left = [] } in
           advanced e.owed (leaves ∙ ap L woken) owes_as_before

@@ -11,7 +11,8 @@ ghost use Rattle.nub.specs.Rest.{HasStored, IsOutside};
 use larch_actions::{Action, CondId, Event, MutexId, ThreadId};
 use nub::{begin_event, end_event, enter, leave, push, remove, sleep};
 use nub_rule::{
-    Object, Package, Thread, Uses, Why, compare_count, load_count, load_count_alertable, note_mutex,
+    Object, Package, Thread, Uses, Why, compare_count, load_count, load_count_alertable,
+    note_mutex, raise_waits,
 };
 use std::sync::Wait;
 
@@ -30,6 +31,36 @@ pub fn read_count<U: Uses, R: Wait>(
     requires has { (x : U.Value) × Holds me.old m.0 x }
     requires outside { IsOutside me.old }
     requires no_wait { me.old.wait ≡ None }
+    requires lowered { me.old.raised ≡ None }
+    requires stored { HasStored p.now.traced me.old }
+    ensures event { Makes (enqueue_event alertable me.old.number m.0 c.0) me.old me.new }
+    ensures begun { me.new ≡ record (recorded me.old me.new) {
+      wait = Some (begun_wait alertable m.0 c.0 result);
+      raised = Some c.0;
+    } }
+    ensures stored { HasStored p.now.traced me.new }
+{
+    // Before the count is read, by which the thread enters the condition: a Signal or Broadcast that finds none raised finds nobody in it.
+    // Raised after, a look between the two would miss this thread.
+    raise_waits(p, me, c);
+    read_raised(rt, p, me, m, c, alertable)
+}
+
+/// Reads the count of c, and with that begins a wait on m, where the thread has raised the begun waits of c.
+fn read_raised<U: Uses, R: Wait>(
+    rt: &R,
+    p: &Package<U>,
+    me: &mut Thread<U>,
+    m: MutexId,
+    c: CondId,
+    alertable: bool,
+) -> u64
+    requires of { me.old.table_id ≡ p.now.table_id }
+    requires named { (m.0 < p.now.layout.mutexes) × (c.0 < p.now.layout.conditions) }
+    requires has { (x : U.Value) × Holds me.old m.0 x }
+    requires outside { IsOutside me.old }
+    requires no_wait { me.old.wait ≡ None }
+    requires raised { me.old.raised ≡ Some c.0 }
     requires stored { HasStored p.now.traced me.old }
     ensures event { Makes (enqueue_event alertable me.old.number m.0 c.0) me.old me.new }
     ensures begun { me.new ≡ record (recorded me.old me.new) { wait = Some (begun_wait alertable m.0 c.0 result) } }
@@ -75,6 +106,7 @@ fn begin_wait<U: Uses>(
     requires has { (x : U.Value) × Holds me.old m.0 x }
     requires no_wait { me.old.wait ≡ None }
     requires even { me.old.left ≡ me.old.queue }
+    requires raised { me.old.raised ≡ Some c.0 }
     requires pen { MayTell p.now.traced me.old.pen }
     ensures event { Makes (enqueue_event alertable me.old.number m.0 c.0) me.old me.new }
     ensures begun { me.new ≡ record (learnt me.old me.new) { wait = Some (begun_wait alertable m.0 c.0 result); pen = made me.old.pen } }
@@ -140,6 +172,7 @@ fn withdraw<U: Uses, R: Wait>(rt: &R, p: &Package<U>, me: &mut Thread<U>, c: Con
     requires outside { (me.old.spin ≡ None) × (me.old.queue ≡ []) × (me.old.owed ≡ []) × (me.old.left ≡ []) }
     requires looked { me.old.cleared ≡ [] }
     requires alerted { StandsAs (λ s. (s.at ≡ cond_object c.0) × IsAlerted s.stage) me.old }
+    requires seen { me.old.alerted ≡ true }
     requires waits { (x : Waiting) × (me.old.wait ≡ Some x) × (x.cond.0 ≡ c.0) }
     ensures rest { me.new ≡ record me.old {
       count = me.new.count;

@@ -4,6 +4,7 @@ ghost use Rattle.nub_rule.specs.declared.view.Stand.{Stand};
 ghost use Rattle.nub_rule.specs.declared.view.Stage.TheVariants.{Alerted};
 ghost use Rattle.nub_rule.specs.Known.{StandsAs};
 ghost use Rattle.nub_rule.specs.Parts.{HasTested, staged};
+ghost use Rattle.nub.specs.Hearing.{HearsAlerts};
 
 use nub_rule::{Package, Thread, Uses, clear_ready, park, read_alert, read_ready};
 use std::sync::Wait;
@@ -14,12 +15,14 @@ const YIELDS: u32 = 8;
 
 /// Sleeps until the ready word is found set, and clears it; it answers true then. Where `alertable` is true it also ends where the thread's
 /// alert word is found set, and answers false: the thread stands in the queue still, unless another thread popped it meanwhile. It may wait
-/// for ever: only a thread that pops this one sets its ready word, and only an alert of it its alert word.
+/// for ever: only a thread that pops this one sets its ready word, and only an alert of it its alert word. In the condition of an alertable
+/// wait a thread sleeps alertably, as long as it hasn't found its alert word set.
 pub fn sleep<U: Uses, R: Wait>(rt: &R, p: &Package<U>, me: &mut Thread<U>, alertable: bool) -> bool
     requires of { me.old.table_id ≡ p.now.table_id }
     requires outside { me.old.spin ≡ None }
     requires tested { StandsAs (λ s. HasTested s.stage) me.old }
     requires looked { me.old.cleared ≡ [] }
+    requires heard { HearsAlerts alertable me.old }
     ensures plain { alertable ≡ false → result ≡ true }
     ensures at_gate { result ≡ true → (s : Stand) → me.old.stand ≡ Some s → s.at < 128 → me.new ≡ record me.old {
       stand = None;

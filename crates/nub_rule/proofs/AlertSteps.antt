@@ -31,8 +31,9 @@ use Rattle.nub_rule.specs.Rule.{IsKept}
 use Rattle.nub_rule.proofs.Each.{each-set, put-here, put-else}
 use Rattle.nub_rule.proofs.Members.{member_steps}
 use Rattle.nub_rule.proofs.Frames.{other, ready-stay}
-use Rattle.nub_rule.proofs.Standing.{distinct-behind, less-without, lines-leave, lines-same, lines-stage, mem-behind, without-absent, without-append}
+use Rattle.nub_rule.proofs.Standing.{some_none, distinct-behind, less-without, lines-leave, lines-same, lines-stage, mem-behind, without-absent, without-append}
 use Rattle.nub_rule.proofs.Beside.{idle, still}
+use Rattle.nub_rule.proofs.Beginning.{waits-stay, begun-frame, begun-same, counted-stands}
 use Rattle.nub_rule.proofs.Owing.{owes-frame, owes-leave, owes-leave-tested, owes-stage}
 use Rattle.nub_rule.proofs.QueueSteps.{absent-before, length-gates, requeues}
 use Rattle.nub_rule.proofs.Showing.{shows-alert}
@@ -133,6 +134,7 @@ module _ {T H W : Type 0} (l : Layout) (traced : Bool) (w : W) (begin : W → �
       (subst (λ (z : ℕ). Says z b) (sym now) says) refl refl refl refl c.shows)
       (λ z. seen (after z) refl now)
       (λ z. owes-frame c.queue words (set words i x) all n p (after z) at (λ k lo. other words i (bit_at k) x (λ y. omega arith)) refl refl refl c.owes)
+      (λ z. begun-same words (set words i x) all n p (after z) at (waits-stay words i x (λ k lo y. omega arith)) refl refl refl c.begun)
 
   or_alert_at : (slots id t : ℕ) (me : Me (Slot T) (View T H W)) → t < 64 → t < l.threads → me.0.kind ≡ Member → me.0.part.wait ≡ None → MayTell traced me.0.part.pen
       → Allows (IsKept l traced w begin holds) slots id me (alert_at t) (λ x. bit_or x 1) (or_alert_tells (step slots (alert_at t) 1 0 none) me)
@@ -198,11 +200,13 @@ module _ {T H W : Type 0} (l : Layout) (traced : Bool) (w : W) (begin : W → �
       (lines-same (λ o. c.owed o ++ c.queue o) (λ o. c.owed o ++ c.queue o) words words all n p q at c.sizes.few (λ t lo. refl) (λ o. refl) (sym stood) c.lines)
       (alert-seen-own words 0 all n p q at one c.alert_seen)
       (owes-frame c.queue words words all n p q at (λ k lo. refl) (sym stood) refl refl c.owes)
+      (begun-same words words all n p q at (λ k lo. refl) refl refl (sym stood) c.begun)
   sees-alert n i p words homes all at (Some s) stood c one = let g = alerted_stage s.stage in let r : Stand = record s { stage = g } in let q : Part T H = record p { alerted = true; stand = Some r } in
       still l traced w holds words homes all i n p q at record { seen = refl; mine = refl; places = refl; held = refl; share = refl } refl refl refl refl refl refl refl c
       (lines-stage (λ o. c.owed o ++ c.queue o) (λ o. c.owed o ++ c.queue o) words words all n p q at c.sizes.few s r (λ t lo. refl) (λ o. refl) stood refl refl (λ f. (c.lines.stands n p at).found s stood (found-before s.stage f)) c.lines)
       (alert-seen-own words 0 all n p q at one c.alert_seen)
       (owes-stage c.queue words words all n p q at s r (λ k lo. refl) stood refl refl (λ u _. untested-still s.stage u) (λ a. absurd (awake-then s.stage a)) refl refl c.owes)
+      (begun-frame words words all n p q at (λ k lo. refl) refl (λ h. counted-stands p q refl h refl (λ u d is on. (s, stood, (let z : Some r ≡ Some u = is in let y : r ≡ u = cc in λ j. (y j).at)))) c.begun)
 
   read_alert_at : (slots id : ℕ) (me : Me (Slot T) (View T H W)) → me.0.number < most_threads → me.0.kind ≡ Member → Allows (IsKept l traced w begin holds) slots id me (alert_at me.0.number) (λ x. x) (read_alert_tells (step slots (alert_at me.0.number) 0 0 none) me)
   read_alert_at slots id me low kind = let v = me.0 in let n = v.number in let p = v.part in let i = alert_at n in let q : Part T H = record p { alerted = true; stand = alerted_stand p.stand } in
@@ -248,7 +252,9 @@ module _ {T H W : Type 0} (l : Layout) (traced : Bool) (w : W) (begin : W → �
         tt,
         requeues l traced w begin holds n o p q ys (c.owed o) words homes all at low here record { seen = refl; mine = refl; places = refl; held = refl; share = refl } refl refl mine.2 (λ e. ap (less n) e) refl refl refl c
             (lines-leave line line' words words' all n p q at c.sizes.few o (ready-stay words (length_at o) (length ys) (λ k up z. omega arith)) is (λ k ne i. put-else c.owed o k (c.owed o) ne i ++ put-else c.queue o k ys ne i) (mem-behind n (c.owed o) (c.queue o) queued) refl c.lines)
-            owes,
+            owes
+            refl
+            (λ h. counted-stands p q refl h refl (λ u d is on. absurd (some_none q.stand u refl is))),
         (refl, refl),
       )))
 

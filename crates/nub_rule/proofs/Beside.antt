@@ -9,6 +9,7 @@ use Rattle.nub_rule.specs.declared.rule.Slot.{Slot}
 use Rattle.nub_rule.specs.declared.view.Part.{Part}
 use Rattle.nub_rule.specs.Items.{Spins, Lines, Shows, Pens, AlertSeen, Core}
 use Rattle.nub_rule.specs.Owed.{WakeOwed}
+use Rattle.nub_rule.specs.Begun.{BegunWaits}
 use Rattle.nub_rule.specs.Places.{value_at}
 use Rattle.nub_rule.proofs.Frames.{SameBits, sizes-frame, told-frame, owned-frame, spins-frame, shows-frame, pens-frame}
 
@@ -24,8 +25,8 @@ module _ {T H W : Type 0} (l : Layout) (traced : Bool) (w : W) (holds : W → Li
   module _ (words words' : List ℕ) (homes homes' : List (Option (Slot T))) (all : List (Part T H)) (n : ℕ) (p q : Part T H) (at : get_elem? all n ≡ some p) where
     pub beside : length words' ≡ length words → length homes' ≡ length homes → SameBits words words' → ((m : ℕ) → get_elem? homes' (value_at m) ≡ get_elem? homes (value_at m)) → Alike p q
         → (spinner' : ℕ → Option ℕ) (writer' : Option ℕ) (queue' owed' : ℕ → List ℕ) (c : Core l traced w holds words homes all) → Spins spinner' queue' owed' words' homes' (set all n q) → Lines (λ o. owed' o ++ queue' o) words' (set all n q)
-        → Shows words' spinner' queue' c.owner c.spec (set all n q) → Pens traced (length c.log) words' writer' (set all n q) → AlertSeen words' (set all n q) → WakeOwed queue' words' (set all n q) → Core l traced w holds words' homes' (set all n q)
-    beside ew eh ws hs a spinner' writer' queue' owed' c spins lines shows pens seen owes = record {
+        → Shows words' spinner' queue' c.owner c.spec (set all n q) → Pens traced (length c.log) words' writer' (set all n q) → AlertSeen words' (set all n q) → WakeOwed queue' words' (set all n q) → BegunWaits words' (set all n q) → Core l traced w holds words' homes' (set all n q)
+    beside ew eh ws hs a spinner' writer' queue' owed' c spins lines shows pens seen owes begun = record {
       log = c.log;
       spec = c.spec;
       owner = c.owner;
@@ -45,6 +46,7 @@ module _ {T H W : Type 0} (l : Layout) (traced : Bool) (w : W) (holds : W → Li
       pens = pens;
       alert_seen = seen;
       owes = owes;
+      begun = begun;
     }
 
   -- nothing has changed
@@ -53,12 +55,13 @@ module _ {T H W : Type 0} (l : Layout) (traced : Bool) (w : W) (holds : W → Li
 
   -- a step that changes no word, and of the view only where the thread stands, what it remembers of gates and whether it saw an alert
   pub still : (words : List ℕ) (homes : List (Option (Slot T))) (all : List (Part T H)) (i n : ℕ) (p q : Part T H) → get_elem? all n ≡ some p → Alike p q → q.spin ≡ p.spin → q.queue ≡ p.queue → q.owed ≡ p.owed → q.left ≡ p.left → q.count ≡ p.count → q.wait ≡ p.wait → q.pen ≡ p.pen
-      → (c : Core l traced w holds words homes all) → Lines (λ o. c.owed o ++ c.queue o) words (set all n q) → AlertSeen words (set all n q) → WakeOwed c.queue words (set all n q) → Core l traced w holds (set words i (get_or words i 0)) homes (set all n q)
-  still words homes all i n p q at a es eq eo el ec ew ep c lines seen owes = subst (λ (z : List ℕ). Core l traced w holds z homes (set all n q)) (sym (set-get_or words i 0))
+      → (c : Core l traced w holds words homes all) → Lines (λ o. c.owed o ++ c.queue o) words (set all n q) → AlertSeen words (set all n q) → WakeOwed c.queue words (set all n q) → BegunWaits words (set all n q) → Core l traced w holds (set words i (get_or words i 0)) homes (set all n q)
+  still words homes all i n p q at a es eq eo el ec ew ep c lines seen owes begun = subst (λ (z : List ℕ). Core l traced w holds z homes (set all n q)) (sym (set-get_or words i 0))
       (beside words words homes homes all n p q at refl refl (λ m lo. refl) (λ m. refl) a c.spinner c.writer c.queue c.owed c
       (spins-frame all n p q at c.spinner c.queue c.owed words words homes homes (λ o lo. (refl, refl)) (λ o lo. refl) es eq eo c.spins)
       lines
       (shows-frame all n p q at c.spinner c.queue c.owner c.spec words words (record { counts = λ k lo. refl; sems = λ k lo. refl; alerts = λ k lo. refl }) ew el eq ec c.shows)
       (pens-frame all n p q at traced (length c.log) c.writer words words (refl, refl) ep c.pens)
       seen
-      owes)
+      owes
+      begun)

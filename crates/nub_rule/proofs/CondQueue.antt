@@ -24,11 +24,12 @@ use Rattle.nub_rule.specs.Rule.{IsKept}
 use Rattle.nub_rule.proofs.Each.{each-set, put-here, put-else}
 use Rattle.nub_rule.proofs.Members.{member_steps}
 use Rattle.nub_rule.proofs.Frames.{SameShown, ready-stay, spins-frame, lines-frame, semaphores-frame, alerts-frame, pens-frame, alert-seen-frame}
-use Rattle.nub_rule.proofs.Standing.{mem-behind, distinct-behind, without-append, without-absent, less-without, lines-push, lines-leave, lines-same}
+use Rattle.nub_rule.proofs.Standing.{some_none, mem-behind, distinct-behind, without-append, without-absent, less-without, lines-push, lines-leave, lines-same}
 use Rattle.nub_rule.proofs.Spinning.{only_here}
 use Rattle.nub_rule.proofs.Showing.{pendings-put}
 use Rattle.nub_rule.proofs.Conditioning.{conditions-compare, conditions-push, conditions-leave, conditions-pop}
 use Rattle.nub_rule.proofs.Owing.{owes-frame, owes-beside, owes-queued, owes-unqueued}
+use Rattle.nub_rule.proofs.Beginning.{begun-frame, counted-same, counted-unread, counted-pushed, counted-left}
 use Rattle.nub_rule.proofs.Beside.{beside, idle}
 use Rattle.nub_rule.proofs.QueueSteps.{absent-before, requeues_by, length-shown, length-gates, popped-line}
 
@@ -91,7 +92,8 @@ module _ {T H W : Type 0} (l : Layout) (traced : Bool) (w : W) (begin : W → �
             (conditions-compare words words k.spinner k.queue k.spec.members all n p q at s c j x (record x { member = None }) (λ m lo. refl) low before on stood (λ e. miss (read ∙ sym e)) (ap unread before) refl refl refl refl))
             (pens-frame all n p q at traced (length k.log) k.writer words words (refl, refl) refl k.pens)
             (alert-seen-frame all n p q at words words k.sizes.few (λ m lo. refl) refl k.alert_seen)
-            (owes-frame k.queue words words all n p q at (λ m lo. refl) refl refl refl k.owes)),
+            (owes-frame k.queue words words all n p q at (λ m lo. refl) refl refl refl k.owes)
+            (begun-frame words words all n p q at (λ m lo. refl) refl (λ h. counted-unread p q refl h refl refl) k.begun)),
         (known, (λ hit. absurd (miss hit)), (λ _. refl), refl),
       )))
 
@@ -123,7 +125,9 @@ module _ {T H W : Type 0} (l : Layout) (traced : Bool) (w : W) (begin : W → �
             (lines-push line line' words words' all n p q at k.sizes.few o st (ready-stay words (length_at o) (length ys) (λ j up z. omega arith)) is (λ j ne i. put-else k.owed o j (k.owed o) ne i ++ put-else k.queue o j ys ne i) out refl refl (λ f. f) k.lines)
             (shows-wait words words' k.spinner k.queue k.owner k.spec all n p q at ws (put k.queue o ys) (λ m. (ap (λ z. waits_on (unread z) m) before ∙ sym (ap (λ z. waits_on z m) before), ap (λ z. open_on (unread z) m) before ∙ sym (ap (λ z. open_on z m) before))) (ap (λ z. pending_of (unread z)) before ∙ sym (ap pending_of before)) k.shows
             (conditions-push words words' k.spinner k.queue k.spec.members all n p q at k.shows.conditions c me_wait x' ys ws.counts mine.0 (only_here k.spinner k.queue k.owed words homes all n p q at k.spins o here) before on stood (ap unread before) refl refl refl refl now))
-            (owes-queued k.queue (put k.queue o ys) words words' all n p q at o (length-gates o far words (length ys)) (omega arith) (λ j ne. put-else k.queue o j ys ne) out st refl (λ f. f) refl refl k.owes),
+            (owes-queued k.queue (put k.queue o ys) words words' all n p q at o (length-gates o far words (length ys)) (omega arith) (λ j ne. put-else k.queue o j ys ne) out st refl (λ f. f) refl refl k.owes)
+            refl
+            (λ h. counted-pushed p q refl h c me_wait p.count st before on stood refl refl refl),
         (refl, refl),
       )))
 
@@ -155,7 +159,9 @@ module _ {T H W : Type 0} (l : Layout) (traced : Bool) (w : W) (begin : W → �
         requeues_by l traced w begin holds n o p q ys zs words homes all at far here record { seen = refl; mine = refl; places = refl; held = refl; share = refl } refl refl refl refl refl k
             (lines-same line line' words words' all n p q at k.sizes.few (ready-stay words (length_at o) (length ys) (λ j up z. omega arith)) same refl k.lines)
             (shows-wait words words' k.spinner k.queue k.owner k.spec all n p q at ws (put k.queue o ys) (λ m. (refl, refl)) refl k.shows (conditions-pop words words' k.spinner k.queue k.spec.members all n p q at k.shows.conditions c ys ws.counts mine.0 out refl refl refl taken))
-            (owes-beside k.queue (put k.queue o ys) words words' all n p q at (length-gates o far words (length ys)) (λ j lo. put-else k.queue o j ys (λ z. omega arith)) refl refl refl k.owes),
+            (owes-beside k.queue (put k.queue o ys) words words' all n p q at (length-gates o far words (length ys)) (λ j lo. put-else k.queue o j ys (λ z. omega arith)) refl refl refl k.owes)
+            refl
+            (λ h. counted-same p q refl h refl refl),
         (refl, refl),
       )))
 
@@ -193,7 +199,9 @@ module _ {T H W : Type 0} (l : Layout) (traced : Bool) (w : W) (begin : W → �
             (lines-leave line line' words words' all n p q at k.sizes.few o (ready-stay words (length_at o) (length ys) (λ j up z. omega arith)) is (λ j ne i. put-else k.owed o j (k.owed o) ne i ++ put-else k.queue o j ys ne i) lined refl k.lines)
             (shows-wait words words' k.spinner k.queue k.owner k.spec all n p q at ws (put k.queue o ys) (λ m. (ap (λ z. waits_on (recounted p.count z) m) before ∙ sym (ap (λ z. waits_on z m) before), ap (λ z. open_on (recounted p.count z) m) before ∙ sym (ap (λ z. open_on z m) before))) (ap (λ z. pending_of (recounted p.count z)) before ∙ sym (ap pending_of before)) k.shows
             (conditions-leave words words' k.spinner k.queue k.spec.members all n p q at k.shows.conditions c me_wait x' ys ws.counts mine.0 (only_here k.spinner k.queue k.owed words homes all n p q at k.spins o here) before on (ap (recounted p.count) before) on refl refl refl refl mine.1 distinct queued now))
-            (owes-unqueued k.queue (put k.queue o ys) words words' all n p q at o (length-gates o far words (length ys)) (omega arith) (λ j ne. put-else k.queue o j ys ne) ((k.lines.stands n p at).lined o lined).0 refl refl refl k.owes),
+            (owes-unqueued k.queue (put k.queue o ys) words words' all n p q at o (length-gates o far words (length ys)) (omega arith) (λ j ne. put-else k.queue o j ys ne) ((k.lines.stands n p at).lined o lined).0 refl refl refl k.owes)
+            refl
+            (λ h. counted-left p q refl h c me_wait p.count ((k.lines.stands n p at).lined o lined).0 on (ap (recounted p.count) before) refl),
         (refl, refl),
       )))
 

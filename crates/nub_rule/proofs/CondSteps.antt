@@ -21,7 +21,7 @@ use Rattle.nub_rule.specs.declared.view.Wait.{Wait}
 use Rattle.nub_rule.specs.declared.view.Kind.TheVariants.{Member}
 use Rattle.nub_rule.specs.Items.{Core, Holders, Shows, Distinct}
 use Rattle.nub_rule.specs.Parts.{Got, MayTell, pending_of, waits_on, open_on}
-use Rattle.nub_rule.specs.Places.{bit_at, count_at, alert_at, value_at, sem_object, cond_object}
+use Rattle.nub_rule.specs.Places.{bit_at, count_at, alert_at, value_at, waits_at, sem_object, cond_object}
 use Rattle.nub_rule.specs.Plays.{Becomes, Grows, told, with_part, behind, event, begun_wait, enqueue_event, signal_action, broadcast_action, load_count_tells, know_count_tells, advance_tells}
 use Rattle.nub_rule.specs.Rule.{IsKept}
 use Rattle.nub_rule.proofs.Each.{each-set, put-here, put-else}
@@ -30,6 +30,7 @@ use Rattle.nub_rule.proofs.Frames.{SameShown, other, pendings-frame, holders-fra
 use Rattle.nub_rule.proofs.Standing.{distinct-behind, mem-behind}
 use Rattle.nub_rule.proofs.Beside.{idle}
 use Rattle.nub_rule.proofs.Owing.{owes-frame}
+use Rattle.nub_rule.proofs.Beginning.{waits-stay, begun-frame, begun-same, counted-begun}
 use Rattle.nub_rule.proofs.Spinning.{only_here}
 use Rattle.nub_rule.proofs.Showing.{pendings-put}
 use Rattle.nub_rule.proofs.Conditioning.{conditions-enter, conditions-advance}
@@ -102,9 +103,9 @@ module _ {T H W : Type 0} (l : Layout) (traced : Bool) (w : W) (begin : W → �
   abbrev after_load : Bool → ℕ → ℕ → ℕ → ℕ → Part T H → List Event → Part T H
   after_load alertable n m c r p z = record (told p z (enqueue_event alertable n m c)) { wait = Some (begun_wait alertable m c r) }
 
-  loads_at : (alertable : Bool) (n m c : ℕ) (p : Part T H) (cs : List (ℕ × Slot T)) (x : T) → c < 64 → (m < l.mutexes) × (c < l.conditions) → Got p m x → p.wait ≡ None → p.left ≡ p.queue → MayTell traced p.pen
+  loads_at : (alertable : Bool) (n m c : ℕ) (p : Part T H) (cs : List (ℕ × Slot T)) (x : T) → c < 64 → (m < l.mutexes) × (c < l.conditions) → Got p m x → p.wait ≡ None → p.left ≡ p.queue → p.raised ≡ Some c → MayTell traced p.pen
       → Steps l traced w begin holds n (count_at (cond_object c)) (λ x. x) p cs (λ r q ds. Learns (enqueue_event alertable n m c) n p (after_load alertable n m c r p) q × (ds ≡ cs))
-  loads_at alertable n m c p cs x low named got out even may words homes all k at small =
+  loads_at alertable n m c p cs x low named got out even raised may words homes all k at small =
       let i : ℕ = count_at (cond_object c) in
       let r : ℕ = get_or words i 0 in
       let words' : List ℕ = set words i r in
@@ -120,7 +121,8 @@ module _ {T H W : Type 0} (l : Layout) (traced : Bool) (w : W) (begin : W → �
       (enters alertable n m c r k.spec free held)
       (λ z. shows-enter words words' k.spinner k.queue k.owner k.spec all n p (after_load alertable n m c r p z) at m c r b low (record { counts = λ j lo. stay (count_at (cond_object j)); sems = λ j lo. stay (bit_at (sem_object j)); alerts = λ j lo. stay (alert_at j) }) refl own refl (λ _. refl) refl refl out refl refl refl refl even k.shows)
       (λ z. alert-seen-frame all n p (after_load alertable n m c r p z) at words words' k.sizes.few (λ j lo. stay (alert_at j)) refl k.alert_seen)
-      (λ z. owes-frame k.queue words words' all n p (after_load alertable n m c r p z) at (λ j lo. stay (bit_at j)) refl refl refl k.owes) in
+      (λ z. owes-frame k.queue words words' all n p (after_load alertable n m c r p z) at (λ j lo. stay (bit_at j)) refl refl refl k.owes)
+      (λ z. begun-frame words words' all n p (after_load alertable n m c r p z) at (λ j lo. stay (waits_at (cond_object j))) refl (λ h. counted-begun p (after_load alertable n m c r p z) refl h c b raised out refl refl refl) k.begun) in
       (done.0, keeps, tt, done.1, (done.2, refl))
     where
       by_whom : (alertable : Bool) (n m c : ℕ) → (enqueue_event alertable n m c).thread.0 ≡ n
@@ -130,21 +132,21 @@ module _ {T H W : Type 0} (l : Layout) (traced : Bool) (w : W) (begin : W → �
       named_so true n m c h = h
       named_so false n m c h = h
 
-  load_count_at : (alertable : Bool) (slots id m c : ℕ) (s : Slot T) (me : Me (Slot T) (View T H W)) (x : T) → c < 64 → (m < l.mutexes) × (c < l.conditions) → me.0.kind ≡ Member → me.1 ≡ (value_at m, s) ∷ rest me.1 → Got me.0.part m x → me.0.part.wait ≡ None → me.0.part.left ≡ me.0.part.queue → MayTell traced me.0.part.pen
+  load_count_at : (alertable : Bool) (slots id m c : ℕ) (s : Slot T) (me : Me (Slot T) (View T H W)) (x : T) → c < 64 → (m < l.mutexes) × (c < l.conditions) → me.0.kind ≡ Member → me.1 ≡ (value_at m, s) ∷ rest me.1 → Got me.0.part m x → me.0.part.wait ≡ None → me.0.part.left ≡ me.0.part.queue → me.0.part.raised ≡ Some c → MayTell traced me.0.part.pen
       → Allows (IsKept l traced w begin holds) slots id me (count_at (cond_object c)) (λ x. x) (load_count_tells alertable (step slots (count_at (cond_object c)) 0 0 none) me)
-  load_count_at alertable slots id m c s me x low named kind first got out even may = let v = me.0 in let n = v.number in let p = v.part in let i : ℕ = count_at (cond_object c) in
+  load_count_at alertable slots id m c s me x low named kind first got out even raised may = let v = me.0 in let n = v.number in let p = v.part in let i : ℕ = count_at (cond_object c) in
       member_steps l traced w begin holds slots id i (λ x. x) v me.1 (λ r q ds. Learns (enqueue_event alertable n m c) n p (after_load alertable n m c r p) q × (ds ≡ me.1)) (load_count_tells alertable (step slots i 0 0 none) me) kind
       (λ r q ds world t m' c' s' is first'.
       let em : m ≡ m' = let z = key_of me.1 (value_at m) (value_at m') s s' first first' in omega arith in
       let ec : c ≡ c' = omega arith in
       subst (λ (z : ℕ × ℕ). (between : List Event) × Grows n p between (enqueue_event alertable n z.0 z.1) × Becomes me (after_load alertable n z.0 z.1 r p (p.seen ++ between)) (with_part v q, ds)) (λ j. (em j, ec j))
       (t.0.0, t.0.1, λ j. (with_part v (t.0.2 j), t.1 j)))
-      (loads_at alertable n m c p me.1 x low named got out even may)
+      (loads_at alertable n m c p me.1 x low named got out even raised may)
 
   -- the same at a word that is this place
-  pub load_count_keeps : (alertable : Bool) (slots id m c : ℕ) (s : Slot T) (me : Me (Slot T) (View T H W)) (x : T) (i : ℕ) → i ≡ count_at (cond_object c) → c < 64 → (m < l.mutexes) × (c < l.conditions) → me.0.kind ≡ Member → me.1 ≡ (value_at m, s) ∷ rest me.1 → Got me.0.part m x → me.0.part.wait ≡ None → me.0.part.left ≡ me.0.part.queue → MayTell traced me.0.part.pen
+  pub load_count_keeps : (alertable : Bool) (slots id m c : ℕ) (s : Slot T) (me : Me (Slot T) (View T H W)) (x : T) (i : ℕ) → i ≡ count_at (cond_object c) → c < 64 → (m < l.mutexes) × (c < l.conditions) → me.0.kind ≡ Member → me.1 ≡ (value_at m, s) ∷ rest me.1 → Got me.0.part m x → me.0.part.wait ≡ None → me.0.part.left ≡ me.0.part.queue → me.0.part.raised ≡ Some c → MayTell traced me.0.part.pen
       → Allows (IsKept l traced w begin holds) slots id me i (λ x. x) (load_count_tells alertable (step slots i 0 0 none) me)
-  load_count_keeps alertable slots id m c s me x i word low named kind first got out even may = subst (λ (i : ℕ). Allows (IsKept l traced w begin holds) slots id me i (λ x. x) (load_count_tells alertable (step slots i 0 0 none) me)) (sym word) (load_count_at alertable slots id m c s me x low named kind first got out even may)
+  load_count_keeps alertable slots id m c s me x i word low named kind first got out even raised may = subst (λ (i : ℕ). Allows (IsKept l traced w begin holds) slots id me i (λ x. x) (load_count_tells alertable (step slots i 0 0 none) me)) (sym word) (load_count_at alertable slots id m c s me x low named kind first got out even raised may)
 
   know_count_at : (slots id c : ℕ) (me : Me (Slot T) (View T H W)) → c < 64 → me.0.kind ≡ Member → me.0.part.spin ≡ Some (cond_object c) → Allows (IsKept l traced w begin holds) slots id me (count_at (cond_object c)) (λ x. x) (know_count_tells (step slots (count_at (cond_object c)) 0 0 none) me)
   know_count_at slots id c me low kind here = let v = me.0 in let n = v.number in let p = v.part in let i : ℕ = count_at (cond_object c) in
@@ -161,7 +163,7 @@ module _ {T H W : Type 0} (l : Layout) (traced : Bool) (w : W) (begin : W → �
   advances_at : (n c : ℕ) (e : Event) (ys : List ℕ) (f : ℕ → Bool) (p : Part T H) (cs : List (ℕ × Slot T)) → c < 64 → p.spin ≡ Some (cond_object c) → p.wait ≡ None → p.count < 18446744073709551615 → MayTell traced p.pen → e.thread.0 ≡ n
       → ((t : ℕ) → f t ≡ mem t ys) → ((t : ℕ) → mem t p.left ≡ false → mem t ys ≡ false)
       → ((words : List ℕ) (homes : List (Option (Slot T))) (all : List (Part T H)) (k : Core l traced w holds words homes all) → get_elem? all n ≡ some p → IsNamed l e.action × Acts k.spec e (record k.spec { members = put k.spec.members c f }))
-      → Steps l traced w begin holds n (count_at (cond_object c)) (λ x. (x + 1) % 2 ^ 64) p cs (λ r q ds. (r ≡ p.count) × Distinct p.queue × Learns e n p (λ z. record (told p z e) { left = ys; count = p.count + 1 }) q × (ds ≡ cs))
+      → Steps l traced w begin holds n (count_at (cond_object c)) (λ x. (x + 1) % 2 ^ 64) p cs (λ r q ds. (r ≡ p.count) × Distinct p.queue × Learns e n p (λ z. record (told p z e) { left = ys; count = p.count + 1; calling = None }) q × (ds ≡ cs))
   advances_at n c e ys f p cs low here out more may by is less acts words homes all k at small =
       let i : ℕ = count_at (cond_object c) in
       let r : ℕ = get_or words i 0 in
@@ -172,7 +174,7 @@ module _ {T H W : Type 0} (l : Layout) (traced : Bool) (w : W) (begin : W → �
       let known : p.count ≡ r = ((s.knows n p at).inside c spins.0).1 ∙ sym (s.counted c low) in
       let up : v ≡ r + 1 = omega arith in
       let wide = k.sizes.words_wide in
-      let after : List Event → Part T H = λ z. record (told p z e) { left = ys; count = p.count + 1 } in
+      let after : List Event → Part T H = λ z. record (told p z e) { left = ys; count = p.count + 1; calling = None } in
       let done = marks l traced w holds e n i v p after words homes all k (record k.spec { members = put k.spec.members c f }) at by (acts words homes all k at).0 may (count-aside c low)
       (λ z. record { seen = refl; mine = refl; places = refl; held = refl; share = refl; spin = refl; queue = refl; owed = refl; stand = refl; pen = refl })
       (acts words homes all k at).1
@@ -185,7 +187,8 @@ module _ {T H W : Type 0} (l : Layout) (traced : Bool) (w : W) (begin : W → �
             spins.0 (only_here k.spinner k.queue k.owed words homes all n p (after z) at k.spins (cond_object c) here) out refl refl refl is less;
       })
       (λ z. alert-seen-stays all n p (after z) at words i v k.sizes.few (λ j lo z. omega arith) refl k.alert_seen)
-      (λ z. owes-frame k.queue words words' all n p (after z) at (λ j lo. other words i (bit_at j) v (λ z. omega arith)) refl refl refl k.owes) in
+      (λ z. owes-frame k.queue words words' all n p (after z) at (λ j lo. other words i (bit_at j) v (λ z. omega arith)) refl refl refl k.owes)
+      (λ z. begun-same words words' all n p (after z) at (waits-stay words i v (λ j lo y. omega arith)) refl refl refl k.begun) in
       (done.0, keeps, tt, done.1, (sym known, subst Distinct (sym spins.1) (distinct-behind (k.owed (cond_object c)) (k.queue (cond_object c)) (k.lines.distinct (cond_object c))), done.2, refl))
 
   advance_at : (leave : List ℕ → List ℕ) (action : ℕ → List ℕ → Action) (f : ℕ → Bool) (slots id c : ℕ) (me : Me (Slot T) (View T H W)) → c < 64 → me.0.kind ≡ Member → me.0.part.spin ≡ Some (cond_object c) → me.0.part.wait ≡ None → me.0.part.count < 18446744073709551615 → MayTell traced me.0.part.pen
@@ -193,11 +196,11 @@ module _ {T H W : Type 0} (l : Layout) (traced : Bool) (w : W) (begin : W → �
       → ((words : List ℕ) (homes : List (Option (Slot T))) (all : List (Part T H)) (k : Core l traced w holds words homes all) → get_elem? all me.0.number ≡ some me.0.part → IsNamed l (action c (leave me.0.part.queue)) × Acts k.spec (event me.0.number (action c (leave me.0.part.queue))) (record k.spec { members = put k.spec.members c f }))
       → (i : ℕ) → i ≡ count_at (cond_object c) → Allows (IsKept l traced w begin holds) slots id me i (λ x. (x + 1) % 2 ^ 64) (advance_tells leave action (step slots i 1 0 none) me)
   advance_at leave action f slots id c me low kind here out more may is less acts i word = let v = me.0 in let n = v.number in let p = v.part in let o : ℕ = count_at (cond_object c) in let ys : List ℕ = leave p.queue in
-      let At : ℕ → Part T H → List (ℕ × Slot T) → Type 0 = λ r q ds. (r ≡ p.count) × Distinct p.queue × Learns (event n (action c ys)) n p (λ z. record (told p z (event n (action c ys))) { left = ys; count = p.count + 1 }) q × (ds ≡ me.1) in
+      let At : ℕ → Part T H → List (ℕ × Slot T) → Type 0 = λ r q ds. (r ≡ p.count) × Distinct p.queue × Learns (event n (action c ys)) n p (λ z. record (told p z (event n (action c ys))) { left = ys; count = p.count + 1; calling = None }) q × (ds ≡ me.1) in
       subst (λ (i : ℕ). Allows (IsKept l traced w begin holds) slots id me i (λ x. (x + 1) % 2 ^ 64) (advance_tells leave action (step slots i 1 0 none) me)) (sym word)
       (member_steps l traced w begin holds slots id o (λ x. (x + 1) % 2 ^ 64) v me.1 At (advance_tells leave action (step slots o 1 0 none) me) kind
       (λ r q ds world t c' is'. let ec : c ≡ c' = omega arith in
-      subst (λ (z : ℕ). (r ≡ p.count) × Distinct p.queue × (between : List Event) × Grows n p between (event n (action z ys)) × Becomes me (record (told p (p.seen ++ between) (event n (action z ys))) { left = ys; count = p.count + 1 }) (with_part v q, ds)) ec
+      subst (λ (z : ℕ). (r ≡ p.count) × Distinct p.queue × (between : List Event) × Grows n p between (event n (action z ys)) × Becomes me (record (told p (p.seen ++ between) (event n (action z ys))) { left = ys; count = p.count + 1; calling = None }) (with_part v q, ds)) ec
       (t.0, t.1, t.2.0, t.2.1, λ j. (with_part v (t.2.2 j), t.3 j)))
       (advances_at n c (event n (action c ys)) ys f p me.1 low here out more may refl is less acts))
 

@@ -22,13 +22,15 @@ use Rattle.nub_rule.specs.declared.view.Kind.TheVariants.{Collector}
 use Rattle.nub_rule.specs.Items.{line_of, no_line, Knows, Spinning, Each, Chronicle, Standing, Stands, Current, Wide, Shared, PenFits}
 use Rattle.nub_rule.specs.Parts.{Got, Lacks, fresh, pending_of, waits_on, open_on}
 use Rattle.nub_rule.specs.Owed.{SleepsSound}
-use Rattle.nub_rule.specs.Places.{most_threads, value_at, word_count, bit_at, spin_at, length_at, count_at, alert_at, ready_at, pen_at, number_at, sem_object, cond_object}
+use Rattle.nub_rule.specs.Begun.{IsCounted}
+use Rattle.nub_rule.specs.Places.{most_threads, value_at, word_count, bit_at, spin_at, length_at, count_at, waits_at, alert_at, ready_at, pen_at, number_at, sem_object, cond_object}
 use Rattle.nub_rule.specs.Rule.{opening_view, member_view, FitsAs, IsKept}
 use Rattle.atomic_table.specs.Seated.{TableId}
 use Rattle.nub_rule.specs.Known.{Hands, IsThread}
 use Rattle.nub_rule.specs.Plays.{Sat}
 use Rattle.nub_rule.specs.Slots.{find, Below}
 use Rattle.nub_rule.proofs.Turns.{find-here}
+use Rattle.nub_rule.proofs.Beginning.{raisers-none}
 use Rattle.nub_rule.specs.Ends.{firsts, opening_slots, Settles, Leaves}
 use Rattle.nub_rule.proofs.Each.{at_within, at_below, same_at, at_middle, same_elements, at_firsts}
 
@@ -110,6 +112,7 @@ module _ {T H W : Type 0} (l : Layout) (traced : Bool) (w : W) (begin : W → �
         seated = omega arith;
         fits = λ id v at. let o = only_first (opening_view {T = T} w begin) v id at in subst₂ (λ (a : ℕ) (b : View T H W). FitsAs l.threads 0 w begin all (λ _. 0) a b b.kind) (sym o.0) o.1
             record { world = refl; first = refl; next = refl; unborn = λ n lo hi. (refl, at_firsts (λ n. fresh {T = T} (Some (begin w n))) 0 l.threads n hi ∙ ap (λ (z : ℕ). some (fresh {T = T} (Some (begin w z)))) (zero-add n)) };
+        placed = λ n lo. (opening_view {T = T} w begin, refl, omega arith);
         core = record {
           log = [];
           spec = at_first;
@@ -197,6 +200,10 @@ module _ {T H W : Type 0} (l : Layout) (traced : Bool) (w : W) (begin : W → �
           owes = record {
             looks = λ o low free queued. absurd (queued refl);
             sound = each-firsts (λ n p. SleepsSound p) (λ n. fresh (Some (begin w n))) l.threads (λ i low s is asleep. absurd (none_some s is));
+          };
+          begun = record {
+            counted = λ c low. zeros (waits_at (cond_object c)) ∙ sym (raisers-none c all (each-firsts (λ n p. p.raised ≢ Some c) (λ n. fresh (Some (begin w n))) l.threads (λ i low is. none_some c is)));
+            covered = each-firsts (λ n p. IsCounted p) (λ n. fresh (Some (begin w n))) l.threads (λ i low. record { member = λ x k is stood. absurd (none_some x is); stander = λ s c is there. absurd (none_some s is) });
           };
         };
       }

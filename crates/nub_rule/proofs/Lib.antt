@@ -27,6 +27,8 @@ pub mod Handling
 pub mod Naming
 pub mod Gating
 pub mod Owing
+pub mod Beginning
+pub mod BegunSteps
 pub mod Lessening
 pub mod Leaving
 pub mod Seen

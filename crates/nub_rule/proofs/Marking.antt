@@ -11,6 +11,7 @@ use Rattle.nub_rule.specs.declared.rule.Slot.{Slot}
 use Rattle.nub_rule.specs.declared.view.Part.{Part}
 use Rattle.nub_rule.specs.Items.{Shows, Pens, AlertSeen, Core}
 use Rattle.nub_rule.specs.Owed.{WakeOwed}
+use Rattle.nub_rule.specs.Begun.{BegunWaits}
 use Rattle.nub_rule.specs.Parts.{made, MayTell}
 use Rattle.nub_rule.specs.Places.{most_threads, bit_at, spin_at, length_at, ready_at, pen_at, number_at}
 use Rattle.nub_rule.specs.Plays.{Grows}
@@ -53,8 +54,8 @@ module _ {T H W : Type 0} (l : Layout) (traced : Bool) (w : W) (holds : W → Li
 
   pub marks : (e : Event) (n i x : ℕ) (p : Part T H) (after : List Event → Part T H) (words : List ℕ) (homes : List (Option (Slot T))) (all : List (Part T H)) (c : Core l traced w holds words homes all) (spec' : Spec) → get_elem? all n ≡ some p → e.thread.0 ≡ n → IsNamed l e.action → MayTell traced p.pen → Aside i
       → ((z : List Event) → IsTold p (after z) z e) → Acts c.spec e spec' → ((z : List Event) → Shows (set words i x) c.spinner c.queue c.owner spec' (set all n (after z)))
-      → ((z : List Event) → AlertSeen (set words i x) (set all n (after z))) → ((z : List Event) → WakeOwed c.queue (set words i x) (set all n (after z))) → Marked e n i x p after words homes all
-  marks e n i x p after words homes all c spec' at by named may aside tells acts shows saw owes =
+      → ((z : List Event) → AlertSeen (set words i x) (set all n (after z))) → ((z : List Event) → WakeOwed c.queue (set words i x) (set all n (after z))) → ((z : List Event) → BegunWaits (set words i x) (set all n (after z))) → Marked e n i x p after words homes all
+  marks e n i x p after words homes all c spec' at by named may aside tells acts shows saw owes begun =
       let seen = (c.told.each n p at).begins in
       let z : List Event = p.seen ++ seen.0 in
       let q : Part T H = after z in
@@ -87,6 +88,7 @@ module _ {T H W : Type 0} (l : Layout) (traced : Bool) (w : W) (holds : W → Li
           pens = subst (λ (y : ℕ). Pens traced y words' c.writer (set all n q)) (sym more) (pens-event traced (length c.log) words c.writer all n p q at words' pen.0 pen.1 may t.pen c.pens);
           alert_seen = saw z;
           owes = owes z;
+          begun = begun z;
         },
         (
           seen.0,

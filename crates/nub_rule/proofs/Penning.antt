@@ -21,6 +21,7 @@ use Rattle.nub_rule.specs.Rule.{IsKept}
 use Rattle.nub_rule.proofs.Each.{at_within, each-set}
 use Rattle.nub_rule.proofs.Members.{member_steps}
 use Rattle.nub_rule.proofs.Frames.{other, spins-frame, lines-frame, shows-frame, bits-stay, ready-stay, spins-stay, shown-stay, alert-seen-stays}
+use Rattle.nub_rule.proofs.Beginning.{waits-stay, begun-same}
 use Rattle.nub_rule.proofs.Owing.{owes-frame}
 use Rattle.nub_rule.proofs.Spinning.{taken-by}
 use Rattle.nub_rule.proofs.Beside.{Alike, beside, idle}
@@ -160,6 +161,7 @@ module _ {T H W : Type 0} (l : Layout) (traced : Bool) (w : W) (begin : W → �
       pens
       (alert-seen-stays all n p q at words i y c.sizes.few (λ k up z. omega arith) refl c.alert_seen)
       (owes-frame c.queue words (set words i y) all n p q at (λ k up. other words i (bit_at k) y (λ z. omega arith)) refl refl refl c.owes)
+      (begun-same words (set words i y) all n p q at (waits-stay words i y (λ j up z. omega arith)) refl refl refl c.begun)
 
   pub take_pen_keeps : (slots id : ℕ) (me : Me (Slot T) (View T H W)) → traced ≡ true → me.0.kind ≡ Member → me.0.part.pen ≡ No → Allows (IsKept l traced w begin holds) slots id me pen_at (λ x. either (eqb x 0) 1 x) (take_pen_tells (step slots pen_at 0 1 none) me)
   take_pen_keeps slots id me traces kind out = let v = me.0 in let n = v.number in let p = v.part in let q : Part T H = record p { pen = Taken } in member_steps l traced w begin holds slots id pen_at (λ x. either (eqb x 0) 1 x) v me.1

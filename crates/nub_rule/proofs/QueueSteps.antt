@@ -23,10 +23,12 @@ use Rattle.nub_rule.proofs.Each.{put-here, put-else, at_below}
 use Rattle.nub_rule.proofs.Members.{member_steps}
 use Rattle.nub_rule.specs.Parts.{stands_at}
 use Rattle.nub_rule.specs.Owed.{WakeOwed}
+use Rattle.nub_rule.specs.Begun.{IsCounted}
 use Rattle.nub_rule.proofs.Frames.{SameShown, other, pens-frame, bits-stay, ready-stay, shown-stay, pen-stay, alert-seen-stays, alert-seen-frame}
-use Rattle.nub_rule.proofs.Standing.{both_ways, not_true, mem-behind, distinct-apart, distinct-behind, without-append, without-absent, less-without, lines-push, lines-leave, lines-same}
+use Rattle.nub_rule.proofs.Standing.{some_none, both_ways, not_true, mem-behind, distinct-apart, distinct-behind, without-append, without-absent, less-without, lines-push, lines-leave, lines-same}
 use Rattle.nub_rule.proofs.Showing.{shows-gate}
 use Rattle.nub_rule.proofs.Spinning.{only_here, spins-change}
+use Rattle.nub_rule.proofs.Beginning.{waits-stay, begun-frame, begun-same, counted-same, counted-stands, same-stand}
 use Rattle.nub_rule.proofs.Owing.{SameGates, owes-frame, owes-empty, owes-push, owes-leave, owes-pop}
 use Rattle.nub_rule.proofs.Beside.{Alike, beside, still}
 
@@ -61,8 +63,8 @@ module _ {T H W : Type 0} (l : Layout) (traced : Bool) (w : W) (begin : W → �
   -- the thread n, which has the spin word of o, changes the queue to ys and those that it owes to zs
   pub requeues_by : (n o : ℕ) (p q : Part T H) (ys zs : List ℕ) (words : List ℕ) (homes : List (Option (Slot T))) (all : List (Part T H)) → get_elem? all n ≡ some p → o < 192 → p.spin ≡ Some o → Alike l traced w holds p q → q.spin ≡ p.spin → q.queue ≡ ys → q.owed ≡ zs
       → q.pen ≡ p.pen → q.alerted ≡ p.alerted → (c : Core l traced w holds words homes all) → Lines (λ i. put c.owed o zs i ++ put c.queue o ys i) (set words (length_at o) (length ys)) (set all n q)
-      → Shows (set words (length_at o) (length ys)) c.spinner (put c.queue o ys) c.owner c.spec (set all n q) → WakeOwed (put c.queue o ys) (set words (length_at o) (length ys)) (set all n q) → Core l traced w holds (set words (length_at o) (length ys)) homes (set all n q)
-  requeues_by n o p q ys zs words homes all at far here a es eq eo ep ea c lines shows owes =
+      → Shows (set words (length_at o) (length ys)) c.spinner (put c.queue o ys) c.owner c.spec (set all n q) → WakeOwed (put c.queue o ys) (set words (length_at o) (length ys)) (set all n q) → q.raised ≡ p.raised → (IsCounted p → IsCounted q) → Core l traced w holds (set words (length_at o) (length ys)) homes (set all n q)
+  requeues_by n o p q ys zs words homes all at far here a es eq eo ep ea c lines shows owes er counted =
       let s = c.spins in let words' : List ℕ = set words (length_at o) (length ys) in let wide = c.sizes.words_wide in
       beside l traced w holds words words' homes homes all n p q at (length-set words (length_at o) (length ys)) refl (bits-stay words (length_at o) (length ys) (λ k up z. omega arith)) (λ m. refl) a c.spinner c.writer (put c.queue o ys) (put c.owed o zs) c
       (spins-change c.spinner c.queue c.owed words homes all n p q at s o ys zs (put c.queue o ys) (put c.owed o zs) words' far here es eq eo (put-here c.queue o ys) (λ k ne. put-else c.queue o k ys ne) (put-here c.owed o zs) (λ k ne. put-else c.owed o k zs ne)
@@ -72,6 +74,7 @@ module _ {T H W : Type 0} (l : Layout) (traced : Bool) (w : W) (begin : W → �
       (pens-frame all n p q at traced (length c.log) c.writer words words' (pen-stay words (length_at o) (length ys) (λ z. omega arith) (λ z. omega arith)) ep c.pens)
       (alert-seen-stays all n p q at words (length_at o) (length ys) c.sizes.few (λ k up z. omega arith) ea c.alert_seen)
       owes
+      (begun-frame words words' all n p q at (waits-stay words (length_at o) (length ys) (λ j lo y. omega arith)) er counted c.begun)
 
   -- the words that the meaning reads stay
   pub length-shown : (o : ℕ) → o < 192 → (words : List ℕ) (x : ℕ) → SameShown words (set words (length_at o) x)
@@ -80,11 +83,13 @@ module _ {T H W : Type 0} (l : Layout) (traced : Bool) (w : W) (begin : W → �
   -- the same at a gate
   pub requeues : (n o : ℕ) (p q : Part T H) (ys zs : List ℕ) (words : List ℕ) (homes : List (Option (Slot T))) (all : List (Part T H)) → get_elem? all n ≡ some p → o < 128 → p.spin ≡ Some o → Alike l traced w holds p q → q.spin ≡ p.spin → q.queue ≡ ys → q.owed ≡ zs → (p.left ≡ p.queue → q.left ≡ q.queue)
       → q.wait ≡ p.wait → q.pen ≡ p.pen → q.alerted ≡ p.alerted → (c : Core l traced w holds words homes all) → Lines (λ i. put c.owed o zs i ++ put c.queue o ys i) (set words (length_at o) (length ys)) (set all n q) → WakeOwed (put c.queue o ys) (set words (length_at o) (length ys)) (set all n q)
-      → Core l traced w holds (set words (length_at o) (length ys)) homes (set all n q)
-  requeues n o p q ys zs words homes all at low here a es eq eo el ew ep ea c lines owes = let far : o < 192 = omega arith in
+      → q.raised ≡ p.raised → (IsCounted p → IsCounted q) → Core l traced w holds (set words (length_at o) (length ys)) homes (set all n q)
+  requeues n o p q ys zs words homes all at low here a es eq eo el ew ep ea c lines owes er counted = let far : o < 192 = omega arith in
       requeues_by n o p q ys zs words homes all at far here a es eq eo ep ea c lines
       (shows-gate words (set words (length_at o) (length ys)) (length-shown o far words (length ys)) c.spinner c.queue c.owner c.spec all n p q at o ys low ew el (only_here c.spinner c.queue c.owed words homes all n p q at c.spins o here) c.shows)
       owes
+      er
+      counted
 
   -- a step that changes what the view remembers of gates alone
   notes : (n i : ℕ) (p : Part T H) (failed turns cleared looked : List ℕ) (words : List ℕ) (homes : List (Option (Slot T))) (all : List (Part T H)) → get_elem? all n ≡ some p → (c : Core l traced w holds words homes all) → WakeOwed c.queue words (set all n (record p { failed = failed; turns = turns; cleared = cleared; looked = looked }))
@@ -94,6 +99,7 @@ module _ {T H W : Type 0} (l : Layout) (traced : Bool) (w : W) (begin : W → �
       (lines-same (λ o. c.owed o ++ c.queue o) (λ o. c.owed o ++ c.queue o) words words all n p q at c.sizes.few (λ t lo. refl) (λ o. refl) refl c.lines)
       (alert-seen-frame all n p q at words words c.sizes.few (λ k lo. refl) refl c.alert_seen)
       owes
+      (begun-same words words all n p q at (λ k lo. refl) refl refl refl c.begun)
 
   read_length_at : (slots id o : ℕ) (me : Me (Slot T) (View T H W)) → o < 192 → me.0.kind ≡ Member → Allows (IsKept l traced w begin holds) slots id me (length_at o) (λ x. x) (read_length_tells (step slots (length_at o) 0 0 none) me)
   read_length_at slots id o me far kind = let v = me.0 in let n = v.number in let p = v.part in let i = length_at o in
@@ -129,7 +135,9 @@ module _ {T H W : Type 0} (l : Layout) (traced : Bool) (w : W) (begin : W → �
         tt,
         requeues n o p q ys (c.owed o) words homes all at low here record { seen = refl; mine = refl; places = refl; held = refl; share = refl } refl refl mine.2 (λ e. ap (λ z. z ++ n ∷ []) e) refl refl refl c
             (lines-push line line' words words' all n p q at c.sizes.few o st (ready-stay words (length_at o) (length ys) (λ k up z. omega arith)) is (λ k ne i. put-else c.owed o k (c.owed o) ne i ++ put-else c.queue o k ys ne i) out refl refl (λ f. f) c.lines)
-            (owes-push c.queue (put c.queue o ys) words words' all n p q at o st (length-gates o far words (length ys)) (put-here c.queue o ys ∙ ap (λ z. z ++ n ∷ []) mine.1) (λ k ne. put-else c.queue o k ys ne) out refl refl tt (λ f. f) refl refl c.owes),
+            (owes-push c.queue (put c.queue o ys) words words' all n p q at o st (length-gates o far words (length ys)) (put-here c.queue o ys ∙ ap (λ z. z ++ n ∷ []) mine.1) (λ k ne. put-else c.queue o k ys ne) out refl refl tt (λ f. f) refl refl c.owes)
+            refl
+            (λ h. counted-stands p q refl h refl (λ u d is on. let z : o ≡ u.at = (λ j. (same-stand q.stand st u refl is j).at) in absurd (omega arith))),
         (refl, refl),
       )))
 
@@ -160,7 +168,9 @@ module _ {T H W : Type 0} (l : Layout) (traced : Bool) (w : W) (begin : W → �
         tt,
         requeues n o p q ys (c.owed o) words homes all at low here record { seen = refl; mine = refl; places = refl; held = refl; share = refl } refl refl mine.2 (λ e. ap (less n) e) refl refl refl c
             (lines-leave line line' words words' all n p q at c.sizes.few o (ready-stay words (length_at o) (length ys) (λ k up z. omega arith)) is (λ k ne i. put-else c.owed o k (c.owed o) ne i ++ put-else c.queue o k ys ne i) (mem-behind n (c.owed o) (c.queue o) queued) refl c.lines)
-            (owes-leave c.queue (put c.queue o ys) words words' all n p q at o (length-gates o far words (length ys)) (λ k ne. put-else c.queue o k ys ne) ((c.lines.stands n p at).lined o (mem-behind n (c.owed o) (c.queue o) queued)).0 refl refl refl c.owes),
+            (owes-leave c.queue (put c.queue o ys) words words' all n p q at o (length-gates o far words (length ys)) (λ k ne. put-else c.queue o k ys ne) ((c.lines.stands n p at).lined o (mem-behind n (c.owed o) (c.queue o) queued)).0 refl refl refl c.owes)
+            refl
+            (λ h. counted-stands p q refl h refl (λ u d is on. absurd (some_none q.stand u refl is))),
         (refl, refl),
       )))
 
@@ -191,7 +201,9 @@ module _ {T H W : Type 0} (l : Layout) (traced : Bool) (w : W) (begin : W → �
         requeues n o p q ys zs words homes all at low here record { seen = refl; mine = refl; places = refl; held = refl; share = refl } refl refl refl (λ e. ap behind e) refl refl refl c
             (lines-same line line' words words' all n p q at c.sizes.few (ready-stay words (length_at o) (length ys) (λ k up z. omega arith)) same refl c.lines)
             (owes-pop c.queue (put c.queue o ys) words words' all n p q at o (length-gates o far words (length ys))
-            (first_stands all (c.owed o) (c.queue o) words line (put c.queue o ys o) o c.lines refl (put-here c.queue o ys ∙ ap behind mine.1)) (λ e. put-here c.queue o ys ∙ (ap behind mine.1 ∙ ap behind e)) (λ k ne. put-else c.queue o k ys ne) refl refl refl c.owes),
+            (first_stands all (c.owed o) (c.queue o) words line (put c.queue o ys o) o c.lines refl (put-here c.queue o ys ∙ ap behind mine.1)) (λ e. put-here c.queue o ys ∙ (ap behind mine.1 ∙ ap behind e)) (λ k ne. put-else c.queue o k ys ne) refl refl refl c.owes)
+            refl
+            (λ h. counted-same p q refl h refl refl),
         (refl, refl),
       )))
 

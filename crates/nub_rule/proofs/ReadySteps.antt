@@ -25,9 +25,10 @@ use Rattle.nub_rule.specs.Rule.{IsKept}
 use Rattle.nub_rule.proofs.Each.{at_below, put-here, put-else}
 use Rattle.nub_rule.proofs.Members.{member_steps}
 use Rattle.nub_rule.proofs.Frames.{other, spins-frame, shows-frame, pens-frame, bits-stay, spins-stay, shown-stay, pen-stay, alert-seen-stays, alert-seen-frame}
-use Rattle.nub_rule.proofs.Standing.{false_true, mem-append, distinct-apart, without-append, without-absent, lines-ready, lines-unready, lines-stage}
+use Rattle.nub_rule.proofs.Standing.{some_none, false_true, mem-append, distinct-apart, without-append, without-absent, lines-ready, lines-unready, lines-stage}
 use Rattle.nub_rule.proofs.Spinning.{spins-change}
 use Rattle.nub_rule.proofs.Beside.{beside, still}
+use Rattle.nub_rule.proofs.Beginning.{waits-stay, begun-frame, begun-same, counted-stands}
 use Rattle.nub_rule.proofs.Owing.{owes-frame, owes-stage, owes-unready, tested-not}
 
 -- whom a thread owes, it owes inside
@@ -67,7 +68,8 @@ module _ {T H W : Type 0} (l : Layout) (traced : Bool) (w : W) (begin : W → �
             (shows-frame all n p q at c.spinner c.queue c.owner c.spec words words' (shown-stay words (ready_at t) 1 (λ k up z. omega arith) (λ k up z. omega arith) (λ k up z. omega arith)) refl refl refl refl c.shows)
             (pens-frame all n p q at traced (length c.log) c.writer words words' (pen-stay words (ready_at t) 1 (λ z. omega arith) (λ z. omega arith)) refl c.pens)
             (alert-seen-stays all n p q at words (ready_at t) 1 c.sizes.few (λ k up z. omega arith) refl c.alert_seen)
-            (owes-frame c.queue words words' all n p q at (λ k lo. other words (ready_at t) (bit_at k) 1 (λ z. omega arith)) refl refl refl c.owes),
+            (owes-frame c.queue words words' all n p q at (λ k lo. other words (ready_at t) (bit_at k) 1 (λ z. omega arith)) refl refl refl c.owes)
+            (begun-same words words' all n p q at (waits-stay words (ready_at t) 1 (λ j lo y. omega arith)) refl refl refl c.begun),
         (zero, refl, refl),
       ))
 
@@ -79,6 +81,7 @@ module _ {T H W : Type 0} (l : Layout) (traced : Bool) (w : W) (begin : W → �
       (lines-stage (λ o. c.owed o ++ c.queue o) (λ o. c.owed o ++ c.queue o) words words all n p q at c.sizes.few s (record s { stage = g }) (λ t lo. refl) (λ o. refl) stood (ap (staged g) stood) refl found c.lines)
       (alert-seen-frame all n p q at words words c.sizes.few (λ k lo. refl) refl c.alert_seen)
       (owes-stage c.queue words words all n p q at s (record s { stage = g }) (λ k lo. refl) stood (ap (staged g) stood) refl untested asleep refl refl c.owes)
+      (begun-frame words words all n p q at (λ k lo. refl) refl (λ h. counted-stands p q refl h refl (λ u d is on. (s, stood, (let z : Some (record s { stage = g }) ≡ Some u = sym (ap (staged g) stood) ∙ is in let y : record s { stage = g } ≡ u = cc in λ j. (y j).at)))) c.begun)
 
   -- the bit is read after a push
   pub test_again_keeps : (slots id i : ℕ) (me : Me (Slot T) (View T H W)) (s : Stand) (a b : Stage) → me.0.kind ≡ Member → me.0.part.stand ≡ Some s → i ≡ bit_at s.at → IsUntested a → (IsFound a → ⊥) → (IsFound b → ⊥) → (IsAsleep a → ⊥) → (IsAsleep b → ⊥)
@@ -119,7 +122,8 @@ module _ {T H W : Type 0} (l : Layout) (traced : Bool) (w : W) (begin : W → �
             (shows-frame all n p q at c.spinner c.queue c.owner c.spec words words' (shown-stay words (ready_at n) 0 (λ k up z. omega arith) (λ k up z. omega arith) (λ k up z. omega arith)) refl refl refl refl c.shows)
             (pens-frame all n p q at traced (length c.log) c.writer words words' (pen-stay words (ready_at n) 0 (λ z. omega arith) (λ z. omega arith)) refl c.pens)
             (alert-seen-stays all n p q at words i 0 c.sizes.few (λ k up z. omega arith) refl c.alert_seen)
-            (owes-unready c.queue words words' all n p q at s (λ k lo. other words i (bit_at k) 0 (λ z. omega arith)) stood refl refl refl c.owes),
+            (owes-unready c.queue words words' all n p q at s (λ k lo. other words i (bit_at k) 0 (λ z. omega arith)) stood refl refl refl c.owes)
+            (begun-frame words words' all n p q at (waits-stay words i 0 (λ j lo y. omega arith)) refl (λ h. counted-stands p q refl h refl (λ u d is on. absurd (some_none q.stand u refl is))) c.begun),
         (one, refl, refl),
       ))
 

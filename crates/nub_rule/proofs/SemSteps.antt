@@ -29,6 +29,7 @@ use Rattle.nub_rule.proofs.Frames.{other, alert-seen-stays, alert-seen-frame}
 use Rattle.nub_rule.proofs.Standing.{lines-same}
 use Rattle.nub_rule.proofs.Beside.{still}
 use Rattle.nub_rule.specs.Owed.{WakeOwed}
+use Rattle.nub_rule.proofs.Beginning.{waits-stay, begun-same}
 use Rattle.nub_rule.proofs.Owing.{owes-try, owes-clear}
 use Rattle.nub_rule.proofs.Showing.{shows-sem}
 use Rattle.nub_rule.proofs.Marking.{Learns, Marked, marks}
@@ -73,6 +74,7 @@ module _ {T H W : Type 0} (l : Layout) (traced : Bool) (w : W) (begin : W → �
       (subst (λ (z : ℕ). Says z (cond b false true)) (sym (get_or-set_same words i x 0 (omega arith))) says) refl refl refl refl c.shows)
       (λ z. alert-seen-stays all n p (record (told p z e) { failed = failed; turns = turns; cleared = cleared }) at words i x c.sizes.few (λ k up y. omega arith) refl c.alert_seen)
       (λ z. owes (record (told p z e) { failed = failed; turns = turns; cleared = cleared }) refl refl refl)
+      (λ z. begun-same words (set words i x) all n p (record (told p z e) { failed = failed; turns = turns; cleared = cleared }) at (waits-stay words i x (λ j lo y. omega arith)) refl refl refl c.begun)
 
   p-named : (alertable : Bool) (s : ℕ) → s < l.semaphores → IsNamed l (p_action alertable s)
   p-named true s low = low
@@ -104,7 +106,8 @@ module _ {T H W : Type 0} (l : Layout) (traced : Bool) (w : W) (begin : W → �
             (still l traced w holds words homes all (bit_at o) n p q at record { seen = refl; mine = refl; places = refl; held = refl; share = refl } refl refl refl refl refl refl refl c
             (lines-same (λ k. c.owed k ++ c.queue k) (λ k. c.owed k ++ c.queue k) words words all n p q at c.sizes.few (λ t lo. refl) (λ k. refl) refl c.lines)
             (alert-seen-frame all n p q at words words c.sizes.few (λ k lo. refl) refl c.alert_seen)
-            (owes-try c.queue words words all n p q at o (λ k lo ne. refl) miss refl refl refl c.owes)),
+            (owes-try c.queue words words all n p q at o (λ k lo ne. refl) miss refl refl refl c.owes)
+            (begun-same words words all n p q at (λ j lo. refl) refl refl refl c.begun)),
         inr (miss, refl, refl),
       )))
 

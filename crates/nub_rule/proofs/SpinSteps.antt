@@ -27,6 +27,7 @@ use Rattle.nub_rule.proofs.Counting.{room_to_push, small_of}
 use Rattle.nub_rule.proofs.Showing.{shows-spin, shows-unspin}
 use Rattle.nub_rule.proofs.Spinning.{only_here, taken-by, spins-take, spins-give}
 use Rattle.nub_rule.proofs.Beside.{beside, idle}
+use Rattle.nub_rule.proofs.Beginning.{waits-stay, begun-same}
 use Rattle.nub_rule.proofs.Owing.{owes-frame}
 
 pub nobody-by : (x : ℕ) (owner : Option ℕ) → Marks x owner → x ≡ 0 → owner ≡ none
@@ -64,7 +65,8 @@ module _ {T H W : Type 0} (l : Layout) (traced : Bool) (w : W) (begin : W → �
             (shows-spin words words' (shown-stay words (spin_at o) 1 (λ k up z. omega arith) (λ k up z. omega arith) (λ k up z. omega arith)) c.spinner c.queue c.owner c.spec all n p q at o refl refl refl free (λ k is. no_object k (sym idle_there ∙ (s.spinning n p at k).1 is)) c.shows refl)
             (pens-frame all n p q at traced (length c.log) c.writer words words' (pen-stay words (spin_at o) 1 (λ z. omega arith) (λ z. omega arith)) refl c.pens)
             (alert-seen-stays all n p q at words (spin_at o) 1 c.sizes.few (λ k up z. omega arith) refl c.alert_seen)
-            (owes-frame c.queue words words' all n p q at (λ k lo. other words (spin_at o) (bit_at k) 1 (λ z. omega arith)) refl refl refl c.owes)),
+            (owes-frame c.queue words words' all n p q at (λ k lo. other words (spin_at o) (bit_at k) 1 (λ z. omega arith)) refl refl refl c.owes)
+            (begun-same words words' all n p q at (waits-stay words (spin_at o) 1 (λ j lo z. omega arith)) refl refl refl c.begun)),
         inl (
           hit,
           (
@@ -119,7 +121,8 @@ module _ {T H W : Type 0} (l : Layout) (traced : Bool) (w : W) (begin : W → �
             (shows-unspin words words' (shown-stay words (spin_at o) 0 (λ k up z. omega arith) (λ k up z. omega arith) (λ k up z. omega arith)) c.spinner c.queue c.owner c.spec all n p q at o refl refl mine.0 (only_here c.spinner c.queue c.owed words homes all n p q at s o here) (even ∙ mine.1) c.shows)
             (pens-frame all n p q at traced (length c.log) c.writer words words' (pen-stay words (spin_at o) 0 (λ z. omega arith) (λ z. omega arith)) refl c.pens)
             (alert-seen-stays all n p q at words (spin_at o) 0 c.sizes.few (λ k up z. omega arith) refl c.alert_seen)
-            (owes-frame c.queue words words' all n p q at (λ k lo. other words (spin_at o) (bit_at k) 0 (λ z. omega arith)) refl refl refl c.owes)),
+            (owes-frame c.queue words words' all n p q at (λ k lo. other words (spin_at o) (bit_at k) 0 (λ z. omega arith)) refl refl refl c.owes)
+            (begun-same words words' all n p q at (waits-stay words (spin_at o) 0 (λ j lo z. omega arith)) refl refl refl c.begun)),
         (one-by (get_or words (spin_at o) 0) n (c.spinner o) (s.spin o low) mine.0, refl, refl),
       ))
 

@@ -29,6 +29,7 @@ use Rattle.nub_rule.proofs.Members.{Steps, member_steps}
 use Rattle.nub_rule.proofs.Frames.{SameShown, other, sizes-frame, told-frame, spins-frame, lines-frame, semaphores-frame, alerts-frame, pens-frame, ready-stay, spins-stay, shown-stay, pen-stay, alert-seen-stays}
 use Rattle.nub_rule.proofs.SpinSteps.{nobody-by, one-by}
 use Rattle.nub_rule.proofs.Owing.{owes-clear}
+use Rattle.nub_rule.proofs.Beginning.{waits-stay, begun-frame, counted-rebit}
 use Rattle.nub_rule.proofs.Owning.{lacking, owned-give}
 use Rattle.nub_rule.proofs.Showing.{pendings-put}
 use Rattle.nub_rule.proofs.Conditioning.{conditions-wait}
@@ -113,6 +114,7 @@ module _ {T H W : Type 0} (l : Layout) (traced : Bool) (w : W) (begin : W → �
             pens = pens-frame all n p q at traced (length c.log) c.writer words words' (pen-stay words (bit_at m) 0 (λ z. omega arith) (λ z. omega arith)) refl c.pens;
             alert_seen = alert-seen-stays all n p q at words (bit_at m) 0 c.sizes.few (λ k up z. omega arith) refl c.alert_seen;
             owes = owes-clear c.queue words words' all n p q at m (λ k lo ne. other words (bit_at m) (bit_at k) 0 (λ z. ne (omega arith))) apart refl refl refl c.owes;
+            begun = begun-frame words words' all n p q at (waits-stay words (bit_at m) 0 (λ j lo y. omega arith)) refl (λ h. counted-rebit p q refl h b Open before (ap opened before) refl) c.begun;
           },
           (one-by (get_or words (bit_at m) 0) n (c.owner m) (o.bits m inside) own, (s, mine.1, refl, refl)),
         )
@@ -166,7 +168,7 @@ module _ {T H W : Type 0} (l : Layout) (traced : Bool) (w : W) (begin : W → �
           q,
           takes (value_at m) (Value (Some x)),
           o.at_home m inside x found.1 free,
-          bit_taken l traced w begin holds n m p q x words homes all at inside c hit found.1 record { held = refl; share = refl; spin = refl; queue = refl; owed = refl; stand = refl; alerted = refl; cleared = refl; turns = refl } c.log c.spec c.run
+          bit_taken l traced w begin holds n m p q x words homes all at inside c hit found.1 record { held = refl; share = refl; spin = refl; queue = refl; owed = refl; stand = refl; alerted = refl; cleared = refl; turns = refl; raised = refl; counted = λ h. counted-rebit p q refl h b Quiet before (ap quieted before) refl } c.log c.spec c.run
               (told-frame all n p q at l c.log refl refl refl c.told)
               (shows-rebit words words' c.spinner c.queue c.owner c.spec all n p q at m b Quiet (some n) (λ j is. some-injective j n (sym is)) (λ _. refl) (c.shows.holders.free m free) (shown-stay words (bit_at m) 1 (λ k up z. omega arith) (λ k up z. omega arith) (λ k up z. omega arith)) before (ap quieted before) on refl refl refl c.shows)
               (pens-frame all n p q at traced (length c.log) c.writer words words' (pen-stay words (bit_at m) 1 (λ z. omega arith) (λ z. omega arith)) refl c.pens),

@@ -18,6 +18,7 @@ use Rattle.nub_rule.specs.declared.view.Pen.{Pen}
 use Rattle.nub_rule.specs.declared.view.Pen.TheVariants.{No, Taken, Read, Made, Written}
 use Rattle.nub_rule.specs.Places.{most_threads, bit_at, spin_at, length_at, count_at, alert_at, ready_at, pen_at, number_at, word_count, queue_at, value_at, sem_object, cond_object}
 use Rattle.nub_rule.specs.Owed.{WakeOwed}
+use Rattle.nub_rule.specs.Begun.{BegunWaits}
 use Rattle.nub_rule.specs.Parts.{Got, Has, stands_at, IsFound, waits_on, open_on, counts_in, pending_of}
 use Rattle.arrayvec.specs.ArrayVec.{ArrayVec}
 
@@ -226,3 +227,4 @@ module _ {T H : Type 0} where
     pub pens : Pens traced (length log) words writer all
     pub alert_seen : AlertSeen words all
     pub owes : WakeOwed queue words all
+    pub begun : BegunWaits words all

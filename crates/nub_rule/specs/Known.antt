@@ -25,7 +25,7 @@ use Rattle.nub_rule.specs.declared.view.Pen.{Pen}
 use Rattle.nub_rule.specs.declared.view.View.{View}
 use Rattle.nub_rule.specs.declared.view.Kind.TheVariants.{Member}
 use Rattle.nub_rule.specs.Items.{line_of}
-use Rattle.nub_rule.specs.Objects.{object_of, IsGate, IsCond}
+use Rattle.nub_rule.specs.Objects.{object_of, IsGate}
 use Rattle.nub_rule.specs.Parts.{Got, IsAlerted, IsClear, Lacks, left_turns}
 use Rattle.nub_rule.specs.Places.{most_threads, value_at, queue_at, sem_object, cond_object, word_count}
 use Rattle.nub_rule.specs.Plays.{Sat, Grows, behind, less, recounted}
@@ -212,10 +212,15 @@ module _ {T H W : Type 0} where
   abbrev pub StandsAs : (Stand → Type 0) → Known T H W → Type 0
   StandsAs P k = (s : Stand) × (k.stand ≡ Some s) × P s
 
+  -- a Signal or Broadcast of the condition is under way: it found that a wait there was begun
+  abbrev pub IsCalling : Object → Known T H W → Type 0
+  IsCalling (Cond c) k = k.calling ≡ Some c.0
+  IsCalling _ k = ⊥
+
   -- the reason in the view for which a thread takes the spin word of the object
   abbrev pub HasReason : Object → Known T H W → Why → Type 0
   HasReason at k TryFailed = mem (object_of at) k.failed ≡ true
-  HasReason at k QueueSeen = (IsGate at × (mem (object_of at) k.looked ≡ true)) ⊎ (IsCond at × (k.wait ≡ None))
+  HasReason at k QueueSeen = (IsGate at × (mem (object_of at) k.looked ≡ true)) ⊎ IsCalling at k
   HasReason at k Block = HasCounted at k
   HasReason at k Leaving = StandsAs (λ s. (s.at ≡ object_of at) × IsAlerted s.stage) k
 

@@ -3,6 +3,7 @@ pub mod Objects
 pub mod Slots
 pub mod Parts
 pub mod Owed
+pub mod Begun
 pub mod Items
 pub mod Rule
 pub mod Plays

@@ -20,10 +20,11 @@ use Rattle.nub_rule.specs.declared.view.View.{View}
 use Rattle.nub_rule.specs.declared.view.Wait.{Wait}
 use Rattle.nub_rule.specs.declared.view.WaitBit.TheVariants.{Closing, Quiet}
 use Rattle.nub_rule.specs.Items.{Each, Distinct, line_of, places_from}
+use Rattle.nub_rule.specs.Begun.{raisers}
 use Rattle.nub_rule.specs.Owed.{HasTurn, IsAsleep, MustLook, SomebodyMustLook}
 use Rattle.nub_rule.specs.Parts.{Got, Has, IsFound, counts_in, fresh, pending_of, waits_on}
-use Rattle.nub_rule.specs.Places.{alert_at, bit_at, cond_object, count_at, length_at, most_threads, number_at, pen_at, queue_at, ready_at, sem_object, spin_at, value_at}
-use Rattle.nub_rule.specs.Rule.{IsKept}
+use Rattle.nub_rule.specs.Places.{alert_at, bit_at, cond_object, count_at, length_at, most_threads, number_at, pen_at, queue_at, ready_at, sem_object, spin_at, value_at, waits_at}
+use Rattle.nub_rule.specs.Rule.{IsKept, IsWith}
 
 -- the count of the condition c, and whether the thread n is ready
 abbrev pub count_now : List ℕ → ℕ → ℕ
@@ -71,6 +72,10 @@ module _ {T H : Type 0} where
 
   abbrev pub Owes : Part T H → ℕ → Type 0
   Owes p t = (o : ℕ) × OwesAt o p t
+
+  -- the view has the spin word of the condition c, and by an advance has taken the thread t out of c, which is in the queue there still
+  abbrev pub HasTakenAt : ℕ → Part T H → ℕ → Type 0
+  HasTakenAt c p t = (p.spin ≡ Some (cond_object c)) × (mem t p.queue ≡ true) × (mem t p.left ≡ false)
 
   -- the list is what the holder of the object's spin word has in its view, or where nobody has that word the queue at home
   abbrev pub IsKnown : (Part T H → List ℕ) → List (Option (Slot T)) → List (Part T H) → ℕ → List ℕ → Type 0
@@ -120,9 +125,11 @@ module _ {T H : Type 0} where
     pub length_word : (o : ℕ) → o < 192 → slice_index words (length_at o) ≡ length (queue o)
 
   -- QUEUED THREADS: a thread in the queue of an object is in a call that waits there: it pushed itself, and since then neither took itself out nor
-  -- cleared its ready word. A thread that stands nowhere, as one at rest, is in no queue, has ready word 0, and nobody owes it that
+  -- cleared its ready word. One in the queue of a condition is in a wait there. A thread that stands nowhere, as one at rest, is in no queue, has ready
+  -- word 0, and nobody owes it that
   pub record QueuedThreads (words : List ℕ) (views : List (Part T H)) (queue : ℕ → List ℕ) : Type 0 where
     pub waits : Each (λ n p. (o : ℕ) → mem n (queue o) ≡ true → (s : Stand) × (p.stand ≡ Some s) × (s.at ≡ o)) views
+    pub waits_in : Each (λ n p. (c : ℕ) → mem n (queue (cond_object c)) ≡ true → (w : Wait) × (p.wait ≡ Some w) × (w.cond.0 ≡ c)) views
     pub elsewhere : Each (λ n p. p.stand ≡ None → IsInNone queue n × (slice_index words (ready_at n) ≡ 0) × NoView (λ q. Owes q n) views) views
 
   -- READY WORDS: a ready word is 0 or 1
@@ -138,10 +145,10 @@ module _ {T H : Type 0} where
     -- who read its own ready word as 1 and hasn't cleared it finds 1
     pub found : Each (λ n p. (s : Stand) → p.stand ≡ Some s → IsFound s.stage → IsReady words n) views
 
-  -- WAKE OWED, at the gates, which are the mutexes and semaphores. Where the bit is 0 and the queue isn't empty, at least one thread is bound to look:
+  -- NO WAKE LOST. First the gates, which are the mutexes and semaphores. Where the bit is 0 and the queue isn't empty, at least one thread is bound to look:
   -- it has cleared the bit and hasn't looked at the queue since, or it left the queue and hasn't tried the bit since, or it stands in the queue and
   -- since its push hasn't found the bit set
-  pub record NoWakeLost (words : List ℕ) (views : List (Part T H)) (queue : ℕ → List ℕ) : Type 0 where
+  pub record NoWakeLost (words : List ℕ) (views : List (Part T H)) (queue : ℕ → List ℕ) (state : Spec) : Type 0 where
     pub looks : (o : ℕ) → o < 128 → slice_index words (bit_at o) ≡ 0 → queue o ≢ [] → SomebodyMustLook o (queue o) views
     -- a thread at rest is bound nowhere, and one that sleeps only by having left a queue
     pub at_rest : Each (λ n p. p.stand ≡ None → p.turns ≡ [] → p.cleared ≡ [] → (o : ℕ) → ¬ MustLook o (queue o) n p) views
@@ -149,6 +156,10 @@ module _ {T H : Type 0} where
     -- so whoever stands at a gate is ready, or the holder of its spin word owes it its ready word, or the bit is set, or somebody is bound to look
     pub waits : Each (λ n p. (s : Stand) → p.stand ≡ Some s → s.at < 128
         → IsReady words n ⊎ (AnyView (λ q. OwesAt s.at q n) views ⊎ ((slice_index words (bit_at s.at) ≢ 0) ⊎ SomebodyMustLook s.at (queue s.at) views))) views
+    -- Then the conditions: whoever stands at one and isn't in it is ready, or the holder of its spin word owes it its ready word, or has taken it by an
+    -- advance
+    pub waits_in : Each (λ n p. (c : ℕ) (s : Stand) → c < 64 → p.stand ≡ Some s → s.at ≡ cond_object c → state.members c n ≡ false
+        → IsReady words n ⊎ (AnyView (λ q. OwesAt (cond_object c) q n) views ⊎ AnyView (λ q. HasTakenAt c q n) views)) views
 
   -- ALERT SEEN: a view that saw its own alert word set, and hasn't swapped it since, finds it set
   abbrev pub AlertSeen : List ℕ → List (Part T H) → Type 0
@@ -158,6 +169,13 @@ module _ {T H : Type 0} where
   pub record CountsRead (words : List ℕ) (views : List (Part T H)) : Type 0 where
     pub risen : Each (λ n p. (w : Wait) (k : ℕ) → p.wait ≡ Some w → w.member ≡ Some k → w.cond.0 < 64 → k ≤ count_now words w.cond.0) views
     pub known : Each (λ n p. (c : ℕ) → c < 64 → p.spin ≡ Some (cond_object c) → p.count ≡ count_now words c) views
+
+  -- BEGUN WAITS: the word of a condition counts the views that have raised its begun waits and haven't lowered them, so it is 0 exactly where none has.
+  -- Each thread in the condition is one of these
+  pub record BegunWaits (words : List ℕ) (views : List (Part T H)) (state : Spec) : Type 0 where
+    pub word : (c : ℕ) → c < 64 → slice_index words (waits_at (cond_object c)) ≡ raisers c views
+    pub none_begun : (c : ℕ) → c < 64 → (slice_index words (waits_at (cond_object c)) ≡ 0) ↔ NoView (λ p. p.raised ≡ Some c) views
+    pub covers : (c n : ℕ) → c < 64 → state.members c n ≡ true → ViewIs views n (λ p. p.raised ≡ Some c)
 
   -- VALUES AND SHARES: the lock invariant holds of the values last released and all shares. The value got with a mutex is the one last released;
   -- of a mutex that nobody has it is at home
@@ -199,20 +217,23 @@ module _ {T H : Type 0} where
     pub spin_words : SpinWords words homes views queue
     pub queued_threads : QueuedThreads words views queue
     pub ready_words : ReadyWords words views queue
-    pub no_wake_lost : NoWakeLost words views queue
+    pub no_wake_lost : NoWakeLost words views queue state
     pub alert_seen : AlertSeen words views
     pub counts_read : CountsRead words views
+    pub begun_waits : BegunWaits words views state
     pub values_and_shares : ValuesAndShares l.mutexes holds homes views values shares
     pub numbering : Numbering traced log words views
 
 module _ {T H W : Type 0} where
   -- the views of the threads, by their numbers: those of the seats of threads, those that have come back to a collector, and new ones for the threads
-  -- that the first seat has yet to give out
+  -- that the first seat has yet to give out. Each thread is with one seat, and with no other
   pub record AreViews (threads : ℕ) (w : W) (begin : W → ℕ → H) (seats : List (View T H W)) (views : List (Part T H)) : Type 0 where
     pub count : length views ≡ threads
     pub seated : (id : ℕ) (v : View T H W) → get_elem? seats id ≡ some v → v.kind ≡ Member → get_elem? views v.number ≡ some v.part
     pub back : (id : ℕ) (v : View T H W) → get_elem? seats id ≡ some v → v.kind ≡ Collector → Each (λ n p. get_elem? views n ≡ some p) v.back
     pub to_come : (id : ℕ) (v : View T H W) → get_elem? seats id ≡ some v → v.kind ≡ Root → (n : ℕ) → v.next ≤ n → n < threads → get_elem? views n ≡ some (fresh (Some (begin w n)))
+    pub each : (n : ℕ) → n < threads → (id : ℕ) × (v : View T H W) × (get_elem? seats id ≡ some v) × IsWith v v.kind n
+    pub once : (n i j : ℕ) (v u : View T H W) → n < threads → get_elem? seats i ≡ some v → get_elem? seats j ≡ some u → IsWith v v.kind n → IsWith u u.kind n → i ≡ j
 
   -- whatever state meets the invariant, the rule holds of its words, its slots at home and the views of its threads
   abbrev pub RuleHolds : (W → ℕ → H) → (W → List T → List H → Type 0) → Type 0

@@ -28,6 +28,10 @@ length_at o = 16 * o + 2
 abbrev pub count_at : ℕ → ℕ
 count_at o = 16 * o + 3
 
+-- the begun waits of a condition
+abbrev pub waits_at : ℕ → ℕ
+waits_at o = 16 * o + 4
+
 -- the pen, and the number of the next event
 abbrev pub pen_at : ℕ
 pen_at = 3072

@@ -19,7 +19,7 @@ use Rattle.nub_rule.specs.declared.view.Wait.{Wait}
 use Rattle.nub_rule.specs.declared.view.WaitBit.TheVariants.{Closing, Open, Quiet}
 use Rattle.nub_rule.specs.Items.{Distinct, Small, line_of}
 use Rattle.nub_rule.specs.Parts.{Got, Lacks, alerted_stand, left_turns, made, stands_at, staged, turned}
-use Rattle.nub_rule.specs.Places.{most_threads, value_at, spin_at, length_at, queue_at, alert_at, bit_at, count_at, ready_at, sem_object, cond_object}
+use Rattle.nub_rule.specs.Places.{most_threads, value_at, spin_at, length_at, queue_at, alert_at, bit_at, count_at, ready_at, waits_at, sem_object, cond_object}
 
 abbrev pub Sat : Type 0 → Type 0 → Type 0 → Type 0
 Sat T H W = Me (Slot T) (View T H W)
@@ -266,7 +266,20 @@ module _ {T H W : Type 0} where
   -- the count was advanced under the spin word, by an event with this action, and of the queue these were left in the condition
   abbrev pub advance_tells : (List ℕ → List ℕ) → (ℕ → List ℕ → Action) → Step (Slot T) → Sat T H W → ℕ → Sat T H W → Type 0
   advance_tells leave action st me r me' = let v = me.0 in let p = v.part in (c : ℕ) → st.word ≡ count_at (cond_object c) → let ys = leave p.queue in let e = event v.number (action c ys) in
-      (r ≡ p.count) × Distinct p.queue × (between : List Event) × Grows v.number p between e × Becomes me (record (told p (p.seen ++ between) e) { left = ys; count = p.count + 1 }) me'
+      (r ≡ p.count) × Distinct p.queue × (between : List Event) × Grows v.number p between e × Becomes me (record (told p (p.seen ++ between) e) { left = ys; count = p.count + 1; calling = None }) me'
+
+  -- the begun waits of the condition c were raised
+  abbrev pub raise_waits_tells : Step (Slot T) → Sat T H W → ℕ → Sat T H W → Type 0
+  raise_waits_tells st me r me' = (c : ℕ) → st.word ≡ waits_at (cond_object c) → Becomes me (record me.0.part { raised = Some c }) me'
+
+  -- and lowered
+  abbrev pub lower_waits_tells : Step (Slot T) → Sat T H W → ℕ → Sat T H W → Type 0
+  lower_waits_tells st me r me' = Becomes me (record me.0.part { raised = None }) me'
+
+  -- the begun waits of the condition c were read: if there are none, that is the event, which leaves nobody, and else a Signal or Broadcast is under way
+  abbrev pub read_waits_tells : (ℕ → List ℕ → Action) → Step (Slot T) → Sat T H W → ℕ → Sat T H W → Type 0
+  read_waits_tells action st me r me' = let v = me.0 in let p = v.part in (c : ℕ) → st.word ≡ waits_at (cond_object c) → let e = event v.number (action c []) in
+      (r ≡ 0 → (between : List Event) × Grows v.number p between e × Becomes me (told p (p.seen ++ between) e) me') × (r ≢ 0 → Becomes me (record p { calling = Some c }) me')
 
   -- the own alert word was read
   abbrev pub read_alert_tells : Step (Slot T) → Sat T H W → ℕ → Sat T H W → Type 0

@@ -31,6 +31,7 @@ pub fn load_count<U: Uses>(p: &Package<U>, me: &mut Thread<U>, m: MutexId, c: Co
     requires has { (x : U.Value) × Holds me.old m.0 x }
     requires outside { me.old.wait ≡ None }
     requires even { me.old.left ≡ me.old.queue }
+    requires raised { me.old.raised ≡ Some c.0 }
     requires pen { MayTell p.now.traced me.old.pen }
     ensures event { Makes (enqueue_event false me.old.number m.0 c.0) me.old me.new }
     ensures begun { me.new ≡ record (learnt me.old me.new) { wait = Some (begun_wait false m.0 c.0 result); pen = made me.old.pen } }
@@ -53,6 +54,7 @@ pub fn load_count_alertable<U: Uses>(
     requires has { (x : U.Value) × Holds me.old m.0 x }
     requires outside { me.old.wait ≡ None }
     requires even { me.old.left ≡ me.old.queue }
+    requires raised { me.old.raised ≡ Some c.0 }
     requires pen { MayTell p.now.traced me.old.pen }
     ensures event { Makes (enqueue_event true me.old.number m.0 c.0) me.old me.new }
     ensures begun { me.new ≡ record (learnt me.old me.new) { wait = Some (begun_wait true m.0 c.0 result); pen = made me.old.pen } }
@@ -92,6 +94,7 @@ pub fn advance_signal<U: Uses>(p: &Package<U>, me: &mut Thread<U>, c: CondId) ->
     ensures advanced { me.new ≡ record (learnt me.old me.new) {
       left = behind me.old.queue;
       count = me.old.count + 1;
+      calling = None;
       pen = made me.old.pen;
     } }
 {
@@ -112,7 +115,7 @@ pub fn advance_broadcast<U: Uses>(p: &Package<U>, me: &mut Thread<U>, c: CondId)
     requires pen { MayTell p.now.traced me.old.pen }
     ensures count { result ≡ me.old.count }
     ensures event { Makes (event me.old.number (broadcast_action c.0 [])) me.old me.new }
-    ensures advanced { me.new ≡ record (learnt me.old me.new) { left = []; count = me.old.count + 1; pen = made me.old.pen } }
+    ensures advanced { me.new ≡ record (learnt me.old me.new) { left = []; count = me.old.count + 1; calling = None; pen = made me.old.pen } }
 {
     fetch_add::<AdvanceBroadcast, U>(&p.table, &mut me.seat, count_word(c), 1)
 }

@@ -7,6 +7,7 @@
 #![tactic(auto)]
 
 mod alert;
+mod begun;
 mod cell;
 mod cond;
 mod hand;
@@ -33,6 +34,7 @@ mod whole;
 pub use alert::{
     leave_sem_queue, or_alert, read_alert, swap_alert, swap_alert_in_p, swap_alert_in_raise,
 };
+pub use begun::{lower_waits, raise_waits, read_waits_broadcast, read_waits_signal};
 pub use cond::{
     advance_broadcast, advance_signal, compare_count, know_count, leave_cond_queue, load_count,
     load_count_alertable,

@@ -1,6 +1,6 @@
 //! How many threads a package may have, and where its words and slots stand, under the names of specs/Places.antt.
 ghost use Rattle.std.specs.Prelude.{◌≡◌};
-ghost use Rattle.nub_rule.specs.Places.{alert_at, bit_at, count_at, sem_object, cond_object, ready_at};
+ghost use Rattle.nub_rule.specs.Places.{alert_at, bit_at, count_at, sem_object, cond_object, ready_at, waits_at};
 
 use larch_actions::{CondId, MutexId, SemId};
 
@@ -53,6 +53,14 @@ pub fn count_word(c: CondId) -> usize
     ensures { result ≡ count_at (cond_object c.0) }
 {
     16 * (CONDITIONS + c.0 as usize) + 3
+}
+
+/// The begun waits of a condition.
+#[inline]
+pub fn waits_word(c: CondId) -> usize
+    ensures { result ≡ waits_at (cond_object c.0) }
+{
+    16 * (CONDITIONS + c.0 as usize) + 4
 }
 
 /// The alert word of a thread.

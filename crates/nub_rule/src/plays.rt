@@ -289,6 +289,42 @@ impl<T, H, W> Play<Slot<T>, View<T, H, W>> for WriteNumber {
     ghost then = { write_number_tells };
 }
 
+/// Raises the begun waits of a condition.
+pub struct RaiseWaits;
+
+impl<T, H, W> Play<Slot<T>, View<T, H, W>> for RaiseWaits {
+    ghost use Rattle.nub_rule.specs.Plays.{raise_waits_tells};
+
+    ghost then = { raise_waits_tells };
+}
+
+/// Lowers the begun waits of a condition.
+pub struct LowerWaits;
+
+impl<T, H, W> Play<Slot<T>, View<T, H, W>> for LowerWaits {
+    ghost use Rattle.nub_rule.specs.Plays.{lower_waits_tells};
+
+    ghost then = { lower_waits_tells };
+}
+
+/// Reads the begun waits of a condition in a Signal.
+pub struct ReadWaitsSignal;
+
+impl<T, H, W> Play<Slot<T>, View<T, H, W>> for ReadWaitsSignal {
+    ghost use Rattle.nub_rule.specs.Plays.{read_waits_tells, signal_action};
+
+    ghost then = { read_waits_tells signal_action };
+}
+
+/// Reads the begun waits of a condition in a Broadcast.
+pub struct ReadWaitsBroadcast;
+
+impl<T, H, W> Play<Slot<T>, View<T, H, W>> for ReadWaitsBroadcast {
+    ghost use Rattle.nub_rule.specs.Plays.{broadcast_action, read_waits_tells};
+
+    ghost then = { read_waits_tells broadcast_action };
+}
+
 /// Gives the pen back.
 pub struct GivePen;
 

@@ -1,6 +1,6 @@
 //! The steps of the table on one word, and the slot at hand, as functions of the package's own table: so a condition of a kind of step is told
 //! clause by clause.
-ghost use Rattle.std.specs.Prelude.{◌≡◌, ◌<◌, ◌+◌, ◌%◌, ◌^◌, ◌==◌, ◌∷◌, bit_and, bit_or};
+ghost use Rattle.std.specs.Prelude.{◌≡◌, ◌<◌, ◌+◌, ◌-◌, ◌%◌, ◌^◌, ◌==◌, ◌∷◌, bit_and, bit_or};
 ghost use mathlib.Core.Option.{none};
 ghost use prog.Atomic.{either};
 ghost use types.Logic.{sem};
@@ -113,6 +113,31 @@ pub(crate) fn fetch_add<M: Play<Slot<U::Value>, View<U::Value, U::Share, U::Worl
         × M.then (step table.now.shared.table_id.slots word k 0 none) seat.old.me result seat.new.me }
 {
     table.shared.fetch_add::<M>(seat, word, k)
+}
+
+/// Takes from a word, modulo 2^64, and gives what stood there.
+#[inline(always)]
+pub(crate) fn fetch_sub<M: Play<Slot<U::Value>, View<U::Value, U::Share, U::World>>, U: Uses>(
+    table: &Table<
+        Slot<U::Value>,
+        View<U::Value, U::Share, U::World>,
+        About<U::World>,
+        Kept<U>,
+        Global,
+    >,
+    seat: &mut Seat<Slot<U::Value>, View<U::Value, U::Share, U::World>>,
+    word: usize,
+    k: u64,
+) -> u64
+    requires of { seat.old.table_id ≡ table.now.shared.table_id }
+    requires inside { word < table.now.shared.table_id.words }
+    requires allowed { Allows (IsKept table.now.shared.key.layout table.now.shared.key.traced table.now.shared.key.world.value U.begin U.holds)
+        table.now.shared.table_id.slots seat.old.id seat.old.me word (λ n. (n + (2 ^ 64 - k)) % 2 ^ 64)
+        (M.then (step table.now.shared.table_id.slots word k 0 none) seat.old.me) }
+    ensures { (seat.new.table_id ≡ seat.old.table_id) × (seat.new.id ≡ seat.old.id)
+        × M.then (step table.now.shared.table_id.slots word k 0 none) seat.old.me result seat.new.me }
+{
+    table.shared.fetch_sub::<M>(seat, word, k)
 }
 
 /// Keeps these bits of a word, and gives what stood there.

@@ -35,6 +35,9 @@ free-requires-clause-may g c κs within =
 pub block-returns-requires-clause-waits : goal.block-returns-requires-clause-waits
 block-returns-requires-clause-waits g c κs within = (record (begun_wait true c.args.m.0 c.args.c.0 c.read_count-count.result) { bit = Open }, ap (λ k. k.wait) c.free.ensures.rest ∙ ap opened (ap (λ k. k.wait) c.read_count-count.ensures.begun), refl, refl, refl)
 
+pub end_wait-outcome-requires-clause-raised : goal.end_wait-outcome-requires-clause-raised
+end_wait-outcome-requires-clause-raised g c κs within = ap (λ k. k.raised) c.block-returns.ensures.rest ∙ (ap (λ k. k.raised) c.free.ensures.rest ∙ ap (λ k. k.raised) c.read_count-count.ensures.begun)
+
 pub put_value-requires-clause-out : goal.put_value-requires-clause-out
 put_value-requires-clause-out g c κs within = c.requires.rest.taken c.args.m.0 c.requires.may.0 c.requires.may.1
 
@@ -43,6 +46,7 @@ returns-clause-rest g c =
     let taken = c.end_wait-outcome.ensures.taken in
     let steps : Waited c.args.m.0 taken.0 c.args.value c.args.me.now c.put_value.new.me c.read_count-count.new.me c.free.new.me c.block-returns.new.me c.end_wait-outcome.new.me c.take_value.new.me = record {
       wait = Some (begun_wait true c.args.m.0 c.args.c.0 c.read_count-count.result);
+      raised = Some c.args.c.0;
       failed = without (cond_object c.args.c.0) c.free.new.me.failed;
       put = c.put_value.ensures.value;
       begun = c.read_count-count.ensures.begun;
@@ -63,6 +67,7 @@ returns-clause-same g c =
     let taken = c.end_wait-outcome.ensures.taken in
     let steps : Waited c.args.m.0 taken.0 c.args.value c.args.me.now c.put_value.new.me c.read_count-count.new.me c.free.new.me c.block-returns.new.me c.end_wait-outcome.new.me c.take_value.new.me = record {
       wait = Some (begun_wait true c.args.m.0 c.args.c.0 c.read_count-count.result);
+      raised = Some c.args.c.0;
       failed = without (cond_object c.args.c.0) c.free.new.me.failed;
       put = c.put_value.ensures.value;
       begun = c.read_count-count.ensures.begun;
@@ -83,6 +88,7 @@ returns-clause-event g c =
     let taken = c.end_wait-outcome.ensures.taken in
     let steps : Waited c.args.m.0 taken.0 c.args.value c.args.me.now c.put_value.new.me c.read_count-count.new.me c.free.new.me c.block-returns.new.me c.end_wait-outcome.new.me c.take_value.new.me = record {
       wait = Some (begun_wait true c.args.m.0 c.args.c.0 c.read_count-count.result);
+      raised = Some c.args.c.0;
       failed = without (cond_object c.args.c.0) c.free.new.me.failed;
       put = c.put_value.ensures.value;
       begun = c.read_count-count.ensures.begun;

@@ -1,4 +1,4 @@
-use Rattle.std.proofs.Common.{Bool, rules, arith, ◌≡◌, ◌<◌, ◌+◌, ◌∙◌, [], ℕ, ap, sym, subst, refl}
+use Rattle.std.proofs.Common.{Bool, rules, arith, ◌≡◌, ◌<◌, ◌+◌, ◌∙◌, [], ℕ, ap, sym, subst, refl, None}
 use Rattle.nub_rule.specs.declared.view.Pen.{Pen}
 use Rattle.nub_rule.specs.Known.{known_as}
 use Rattle.nub_rule.specs.Parts.{made, MayTell}
@@ -18,14 +18,14 @@ fetch_add-requires-clause-allowed g c κs within = let near = cond_low _ _ _ _ c
 
 pub invariant_of-me : goal.invariant_of-me
 invariant_of-me g c = let u = c.fetch_add.ensures.2 c.args.c.0 c.count_word.ensures in
-    told_fits (λ n. event n (broadcast_action c.args.c.0 [])) (λ q. record q { left = []; count = q.count + 1 }) _ _ c.me.inside.number c.me.inside.hand c.me.inside.seat.me c.fetch_add.new.seat.me (u.2, u.3, u.4) c.fetch_add.ensures.0 c.me.invariant (λ q. refl) (λ q. refl) (λ q. refl) (λ q. refl) (λ q. refl)
+    told_fits (λ n. event n (broadcast_action c.args.c.0 [])) (λ q. record q { left = []; count = q.count + 1; calling = None }) _ _ c.me.inside.number c.me.inside.hand c.me.inside.seat.me c.fetch_add.new.seat.me (u.2, u.3, u.4) c.fetch_add.ensures.0 c.me.invariant (λ q. refl) (λ q. refl) (λ q. refl) (λ q. refl) (λ q. refl)
 
 pub returns-clause-count : goal.returns-clause-count
 returns-clause-count g c = (c.fetch_add.ensures.2 c.args.c.0 c.count_word.ensures).0 ∙ ap (λ k. k.count) c.me.view_is
 
 pub returns-clause-event : goal.returns-clause-event
 returns-clause-event g c = let u = c.fetch_add.ensures.2 c.args.c.0 c.count_word.ensures in
-    told_event (λ n. event n (broadcast_action c.args.c.0 [])) (λ q. record q { left = []; count = q.count + 1 }) _ _ c.me.inside.number _ _ c.me.inside.seat.me c.fetch_add.new.seat.me c.args.me.now (u.2, u.3, u.4) c.me.view_is c.fetch_add.ensures.0 c.me.invariant.numbered (λ q. refl) (λ q. refl) (λ q. refl)
+    told_event (λ n. event n (broadcast_action c.args.c.0 [])) (λ q. record q { left = []; count = q.count + 1; calling = None }) _ _ c.me.inside.number _ _ c.me.inside.seat.me c.fetch_add.new.seat.me c.args.me.now (u.2, u.3, u.4) c.me.view_is c.fetch_add.ensures.0 c.me.invariant.numbered (λ q. refl) (λ q. refl) (λ q. refl)
 
 pub returns-clause-advanced : goal.returns-clause-advanced
-returns-clause-advanced g c = as_known (λ z m a. let k = known_as z c.me.inside.number m c.me.inside.entries.items c.me.inside.lost c.me.inside.next in k ≡ record a { seen = k.seen; mine = k.mine; places = k.places; left = []; count = a.count + 1; pen = made a.pen }) _ _ _ _ _ c.me.inside.seat.me _ _ _ c.me.view_is c.fetch_add.ensures.0 (c.fetch_add.ensures.2 c.args.c.0 c.count_word.ensures).4 refl
+returns-clause-advanced g c = as_known (λ z m a. let k = known_as z c.me.inside.number m c.me.inside.entries.items c.me.inside.lost c.me.inside.next in k ≡ record a { seen = k.seen; mine = k.mine; places = k.places; left = []; count = a.count + 1; calling = None; pen = made a.pen }) _ _ _ _ _ c.me.inside.seat.me _ _ _ c.me.view_is c.fetch_add.ensures.0 (c.fetch_add.ensures.2 c.args.c.0 c.count_word.ensures).4 refl

@@ -1,0 +1,66 @@
+//! The steps on the begun waits of a condition. Who begins to wait raises them before it reads the count, by which it enters the condition, and
+//! lowers them once it has left: so a Signal or Broadcast that finds none finds nobody.
+ghost use Rattle.std.specs.Prelude.{◌≡◌, ◌≢◌, ◌<◌, ℕ, [], Some, None};
+ghost use Rattle.nub_rule.specs.declared.view.Wait.{Wait};
+ghost use Rattle.nub_rule.specs.Known.{Makes, learnt};
+ghost use Rattle.nub_rule.specs.Parts.{MayTell, made};
+ghost use Rattle.nub_rule.specs.Plays.{broadcast_action, event, signal_action};
+
+use crate::package::{Package, Thread};
+use crate::places::waits_word;
+use crate::plays::{LowerWaits, RaiseWaits, ReadWaitsBroadcast, ReadWaitsSignal};
+use crate::stepping::{fetch_add, fetch_sub, load};
+use crate::uses::Uses;
+use larch_actions::CondId;
+
+/// Raises the begun waits of c, before its count is read.
+#[inline]
+pub fn raise_waits<U: Uses>(p: &Package<U>, me: &mut Thread<U>, c: CondId) -> u64
+    requires of { me.old.table_id ≡ p.now.table_id }
+    requires named { c.0 < p.now.layout.conditions }
+    requires none { me.old.raised ≡ None }
+    ensures { me.new ≡ record me.old { raised = Some c.0 } }
+{
+    fetch_add::<RaiseWaits, U>(&p.table, &mut me.seat, waits_word(c), 1)
+}
+
+/// Lowers the begun waits of c, which the thread has raised, once it is in no condition and stands nowhere.
+#[inline]
+pub fn lower_waits<U: Uses>(p: &Package<U>, me: &mut Thread<U>, c: CondId) -> u64
+    requires of { me.old.table_id ≡ p.now.table_id }
+    requires named { c.0 < p.now.layout.conditions }
+    requires raised { me.old.raised ≡ Some c.0 }
+    requires out { (x : Wait) → me.old.wait ≡ Some x → x.member ≡ None }
+    requires outside { me.old.stand ≡ None }
+    ensures { me.new ≡ record me.old { raised = None } }
+{
+    fetch_sub::<LowerWaits, U>(&p.table, &mut me.seat, waits_word(c), 1)
+}
+
+/// Reads the begun waits of c in a Signal. Where there are none, that is its event, and it leaves nobody. Else the Signal is under way.
+#[inline]
+pub fn read_waits_signal<U: Uses>(p: &Package<U>, me: &mut Thread<U>, c: CondId) -> u64
+    requires of { me.old.table_id ≡ p.now.table_id }
+    requires named { c.0 < p.now.layout.conditions }
+    requires outside { me.old.wait ≡ None }
+    requires pen { MayTell p.now.traced me.old.pen }
+    ensures event { result ≡ 0 → Makes (event me.old.number (signal_action c.0 [])) me.old me.new }
+    ensures quiet { result ≡ 0 → me.new ≡ record (learnt me.old me.new) { pen = made me.old.pen } }
+    ensures calls { result ≢ 0 → me.new ≡ record me.old { calling = Some c.0 } }
+{
+    load::<ReadWaitsSignal, U>(&p.table, &mut me.seat, waits_word(c))
+}
+
+/// Reads the begun waits of c in a Broadcast. Where there are none, that is its event. Else the Broadcast is under way.
+#[inline]
+pub fn read_waits_broadcast<U: Uses>(p: &Package<U>, me: &mut Thread<U>, c: CondId) -> u64
+    requires of { me.old.table_id ≡ p.now.table_id }
+    requires named { c.0 < p.now.layout.conditions }
+    requires outside { me.old.wait ≡ None }
+    requires pen { MayTell p.now.traced me.old.pen }
+    ensures event { result ≡ 0 → Makes (event me.old.number (broadcast_action c.0 [])) me.old me.new }
+    ensures quiet { result ≡ 0 → me.new ≡ record (learnt me.old me.new) { pen = made me.old.pen } }
+    ensures calls { result ≢ 0 → me.new ≡ record me.old { calling = Some c.0 } }
+{
+    load::<ReadWaitsBroadcast, U>(&p.table, &mut me.seat, waits_word(c))
+}
