@@ -8,4 +8,3 @@ pub mod Held
 pub mod Drafts
 pub mod Founds
 pub mod Runs
-pub mod Keys

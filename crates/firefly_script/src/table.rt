@@ -1,7 +1,6 @@
 //! The table of operations: for each its word, what stands behind the word, and what it does with a mutex.
 //!
-//! A further operation is a row in each function here, in `key` and `word` of an operation, in specs/Table.antt and in specs/Keys.antt.
-//! Texts and their reading follow from the rows.
+//! A further operation is a row in each function here and in specs/Table.antt. Texts and their reading follow from the rows.
 ghost use Rattle.std.specs.Prelude.{◌≡◌, ◌<◌, ◌^◌, ◌↔◌, IsTrue};
 ghost use Rattle.firefly_script.specs.Parsing.{Parses};
 ghost use Rattle.firefly_script.specs.Table.{word_text, kinds_of, made, use_of, listed, AreSmall};
