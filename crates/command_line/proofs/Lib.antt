@@ -1,4 +1,3 @@
-pub mod Numbers
 pub mod Levels
 pub mod Parts
 pub mod Said

@@ -1,19 +1,28 @@
 -- The words that say options are those that `clap` takes and whose rows hold the options.
-use Rattle.std.proofs.Common.{◌≡◌, ◌∙◌, ◌<◌, ◌≤◌, ◌^◌, Bool, true, false, cond, ℕ, zero, suc, List, [], ◌∷◌, ◌++◌, Option, Some, None, ap, ap₂, sym, refl, is_some, arith, length, map, subst}
+use Rattle.std.proofs.Common.{◌≡◌, ◌≢◌, ◌∙◌, get_or, ◌<◌, ◌≤◌, ◌^◌, Bool, true, false, cond, ℕ, zero, suc, List, [], ◌∷◌, ◌++◌, Option, Some, None, ap, ap₂, sym, refl, is_some, arith, length, map, subst}
 use Rattle.std.specs.Prelude.{All, codes, decimal, option_to_list}
 use Rattle.std.specs.List.{AllByRecursion, cons_option, filter_map, flat_map}
 use Rattle.std.proofs.lemmas.Bool.{false≢true}
+use Rattle.std.proofs.lemmas.Fmt.{decimal_nonempty}
 use Rattle.clap.specs.Walk.{Row, first_of}
 use Rattle.clap.specs.Simple.{matches_of}
 use Rattle.clap.specs.Takes.{is_given}
 use Rattle.clap.specs.Faults.{fault_of}
 use Rattle.command_line.specs.Grammar.{IsDirectory, IsOnceOr, IsPart, Options, Part, SayOptions, Setting, Text, apart, directory, is_same, joined, least_of, mergers, most_of, name_of, numbers_of, parsers, path_of, setting, spelling, stop_after, walkers}
 use Rattle.command_line.specs.Reading.{HoldOptions, IsNumberOr, IsOffered, IsStop, index_app}
-use Rattle.command_line.proofs.Numbers.{IsDirectory-decimal}
+use Rattle.decimal_numbers.proofs.Numbers.{no-hyphen}
 use Rattle.command_line.proofs.Shape.{Key, dir, id_of, set}
 use Rattle.command_line.proofs.Parts.{IsRaw, Raw, accepts, option_with, path, raw_row, raw_words}
 use Rattle.command_line.proofs.Levels.{fault_of-passes, matches-is}
 use Rattle.command_line.proofs.Texts.{first_of-raws, first_text, is_given-raws, once-chain, placed, texts_of}
+
+-- a number is no option
+IsDirectory-decimal : (n : ℕ) → n < 2 ^ 64 → IsDirectory (decimal n)
+IsDirectory-decimal n fits = go (decimal n) (decimal_nonempty n fits) (no-hyphen n fits)
+  where
+    go : (text : Text) → 0 < length text → get_or text 0 0 ≢ 45 → IsDirectory text
+    go [] some ne = absurd (omega arith)
+    go (c ∷ rest) some ne = ne
 
 -- ---- the parts as the walk sees them
 

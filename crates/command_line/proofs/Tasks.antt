@@ -1,5 +1,5 @@
 -- Words say one task.
-use Rattle.std.proofs.Common.{◌≡◌, ◌∙◌, ◌≤◌, ◌⊎◌, inl, inr, ℕ, Option, Some, None, IfSome, List, [], ◌∷◌, ap, ap₂, arith, codes, refl, subst, sym}
+use Rattle.std.proofs.Common.{◌≡◌, ◌∙◌, ◌+◌, ◌*◌, ◌≤◌, ◌⊎◌, inl, inr, ℕ, Option, Some, None, IfSome, List, [], ◌∷◌, ap, ap₂, arith, codes, refl, subst, sym}
 use Rattle.std.specs.Prelude.{decimal}
 use Rattle.std.specs.List.{AllByRecursion, filter_map}
 use Rattle.std.proofs.lemmas.Fmt.{decimal_injective}
@@ -16,60 +16,40 @@ same_with word words o p g h =
     let rest : g.0 ≡ h.0 = let both : word ∷ g.0 ≡ word ∷ h.0 = sym g.1 ∙ h.1 in cc in
     same_options h.0 o p (subst (λ (ws : List Text). SayOptions ws o) rest g.2) h.2
 
--- ---- the first letter tells the tasks apart
+-- ---- the first two letters tell the tasks apart
 
-abbrev letter : List Text → ℕ
-letter [] = 0
-letter ([] ∷ words) = 0
-letter ((c ∷ rest) ∷ words) = c
+abbrev start : List Text → ℕ
+start ((a ∷ b ∷ rest) ∷ words) = 256 * a + b
+start _ = 0
 
-abbrev letter_of : Task → ℕ
-letter_of check = 99
-letter_of run = 114
-letter_of (index o) = 105
-letter_of (trace o) = 116
-letter_of (sample seed files) = 115
+abbrev start_of : Task → ℕ
+start_of check = start (codes "check" ∷ [])
+start_of run = start (codes "run" ∷ [])
+start_of (index o) = start (codes "index" ∷ [])
+start_of (trace o) = start (codes "trace" ∷ [])
+start_of (sample seed files) = start (codes "sample" ∷ [])
 
-said_letter : (words : List Text) (t : Task) → Say words t → letter words ≡ letter_of t
-said_letter words check h = ap letter h
-said_letter words run h = ap letter h
-said_letter words (index o) h = ap letter h.1
-said_letter words (trace o) h = ap letter h.1
-said_letter words (sample seed files) h = ap letter h.0
+said_start : (words : List Text) (t : Task) → Say words t → start words ≡ start_of t
+said_start words check h = ap start h
+said_start words run h = ap start h
+said_start words (index o) h = ap start h.1
+said_start words (trace o) h = ap start h.1
+said_start words (sample seed files) h = ap start h.0
 
-letters : (words : List Text) (t u : Task) → Say words t → Say words u → letter_of t ≡ letter_of u
-letters words t u g h = sym (said_letter words t g) ∙ said_letter words u h
+starts : (words : List Text) (t u : Task) → Say words t → Say words u → start_of t ≡ start_of u
+starts words t u g h = sym (said_start words t g) ∙ said_start words u h
 
 pub say-same : (words : List Text) (t u : Task) → Say words t → Say words u → t ≡ u
 say-same words check check g h = refl
-say-same words check run g h = absurd (omega (arith, letters words check run g h))
-say-same words check (index p) g h = absurd (omega (arith, letters words check (index p) g h))
-say-same words check (trace p) g h = absurd (omega (arith, letters words check (trace p) g h))
-say-same words check (sample b m) g h = absurd (omega (arith, letters words check (sample b m) g h))
-say-same words run check g h = absurd (omega (arith, letters words run check g h))
 say-same words run run g h = refl
-say-same words run (index p) g h = absurd (omega (arith, letters words run (index p) g h))
-say-same words run (trace p) g h = absurd (omega (arith, letters words run (trace p) g h))
-say-same words run (sample b m) g h = absurd (omega (arith, letters words run (sample b m) g h))
-say-same words (index o) check g h = absurd (omega (arith, letters words (index o) check g h))
-say-same words (index o) run g h = absurd (omega (arith, letters words (index o) run g h))
 say-same words (index o) (index p) g h = ap index (same_with (codes "index") words o p g h)
-say-same words (index o) (trace p) g h = absurd (omega (arith, letters words (index o) (trace p) g h))
-say-same words (index o) (sample b m) g h = absurd (omega (arith, letters words (index o) (sample b m) g h))
-say-same words (trace o) check g h = absurd (omega (arith, letters words (trace o) check g h))
-say-same words (trace o) run g h = absurd (omega (arith, letters words (trace o) run g h))
-say-same words (trace o) (index p) g h = absurd (omega (arith, letters words (trace o) (index p) g h))
 say-same words (trace o) (trace p) g h = ap trace (same_with (codes "trace") words o p g h)
-say-same words (trace o) (sample b m) g h = absurd (omega (arith, letters words (trace o) (sample b m) g h))
-say-same words (sample a n) check g h = absurd (omega (arith, letters words (sample a n) check g h))
-say-same words (sample a n) run g h = absurd (omega (arith, letters words (sample a n) run g h))
-say-same words (sample a n) (index p) g h = absurd (omega (arith, letters words (sample a n) (index p) g h))
-say-same words (sample a n) (trace p) g h = absurd (omega (arith, letters words (sample a n) (trace p) g h))
 say-same words (sample a n) (sample b m) g h =
     let e = sym g.0 ∙ h.0 in
     let seeds : decimal a ≡ decimal b = cc in
     let files : decimal n ≡ decimal m = cc in
     ap₂ sample (decimal_injective a b g.1 h.1 seeds) (decimal_injective n m (omega (arith, g.3)) (omega (arith, h.3)) files)
+say-same words t u g h = absurd (omega (arith, starts words t u g h))
 
 -- ---- where the words after `index` or `trace` say no options, the words say no task
 
@@ -83,17 +63,11 @@ after word rest none o h =
 
 pub no_index : (rest : List Text) → SayNone rest → (t : Task) → Say (codes "index" ∷ rest) t → ⊥
 no_index rest none (index o) h = after (codes "index") rest none o h
-no_index rest none check h = absurd (omega (arith, said_letter (codes "index" ∷ rest) check h))
-no_index rest none run h = absurd (omega (arith, said_letter (codes "index" ∷ rest) run h))
-no_index rest none (trace o) h = absurd (omega (arith, said_letter (codes "index" ∷ rest) (trace o) h))
-no_index rest none (sample a n) h = absurd (omega (arith, said_letter (codes "index" ∷ rest) (sample a n) h))
+no_index rest none t h = absurd (omega (arith, said_start (codes "index" ∷ rest) t h))
 
 pub no_trace : (rest : List Text) → SayNone rest → (t : Task) → Say (codes "trace" ∷ rest) t → ⊥
 no_trace rest none (trace o) h = after (codes "trace") rest none o h
-no_trace rest none check h = absurd (omega (arith, said_letter (codes "trace" ∷ rest) check h))
-no_trace rest none run h = absurd (omega (arith, said_letter (codes "trace" ∷ rest) run h))
-no_trace rest none (index o) h = absurd (omega (arith, said_letter (codes "trace" ∷ rest) (index o) h))
-no_trace rest none (sample a n) h = absurd (omega (arith, said_letter (codes "trace" ∷ rest) (sample a n) h))
+no_trace rest none t h = absurd (omega (arith, said_start (codes "trace" ∷ rest) t h))
 
 -- ---- what words say is in range
 
@@ -131,12 +105,10 @@ task_in_range words (sample seed files) s = (s.2, s.3)
 
 -- ---- what words say has options where options may follow the first word
 
-begun_letter : (words : List Text) → BeginOptions words → (letter words ≡ 105) ⊎ (letter words ≡ 116)
-begun_letter words b = elim b.1 [ inl is ↦ inl (ap letter is) | inr is ↦ inr (ap letter is) ]
+begun_start : (words : List Text) → BeginOptions words → (start words ≡ start (codes "index" ∷ [])) ⊎ (start words ≡ start (codes "trace" ∷ []))
+begun_start words b = elim b.1 [ inl is ↦ inl (ap start is) | inr is ↦ inr (ap start is) ]
 
 pub begun_options : (words : List Text) (t : Task) → BeginOptions words → Say words t → HasOptions t
 begun_options words (index o) b s = tt
 begun_options words (trace o) b s = tt
-begun_options words check b s = elim (begun_letter words b) [ inl e ↦ absurd (omega (arith, e, said_letter words check s)) | inr e ↦ absurd (omega (arith, e, said_letter words check s)) ]
-begun_options words run b s = elim (begun_letter words b) [ inl e ↦ absurd (omega (arith, e, said_letter words run s)) | inr e ↦ absurd (omega (arith, e, said_letter words run s)) ]
-begun_options words (sample a n) b s = elim (begun_letter words b) [ inl e ↦ absurd (omega (arith, e, said_letter words (sample a n) s)) | inr e ↦ absurd (omega (arith, e, said_letter words (sample a n) s)) ]
+begun_options words t b s = elim (begun_start words b) [ inl e ↦ absurd (omega (arith, e, said_start words t s)) | inr e ↦ absurd (omega (arith, e, said_start words t s)) ]

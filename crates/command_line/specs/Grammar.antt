@@ -6,12 +6,6 @@ use Rattle.std.specs.List.{filter_map, flat_map}
 abbrev pub Text : Type 0
 Text = List ℕ
 
--- ---- numbers
-
--- the text is n, which is at least `least` and at most `most`, in decimal
-abbrev pub IsNumber : ℕ → ℕ → Text → ℕ → Type 0
-IsNumber least most text n = (text ≡ decimal n) × (least ≤ n) × (n ≤ most)
-
 -- ---- what stands after `index` or `trace`
 
 -- an option

@@ -1,9 +1,10 @@
 -- What `clap` is asked, and what its answer holds.
-use Rattle.std.specs.Prelude.{◌≡◌, ◌≢◌, ◌<◌, ℕ, true, List, [], ◌∷◌, Option, Some, None, codes, length, slice_index}
+use Rattle.std.specs.Prelude.{◌≡◌, ◌≢◌, ℕ, true, List, [], ◌∷◌, Option, Some, None, codes}
 use Rattle.clap.specs.Words.{App, Row, Rule, first_of, new_app, new_rule, with_rule}
 use Rattle.clap.specs.Simple.{on_top}
 use Rattle.clap.specs.declared.builder.action.ArgAction.TheVariants.{Set}
-use Rattle.command_line.specs.Grammar.{IsNumber, Options, Text}
+use Rattle.decimal_numbers.specs.Numbers.{IsNumber}
+use Rattle.command_line.specs.Grammar.{Options, Text}
 
 -- ---- the command: four options and DIR, each with one value
 
@@ -47,8 +48,3 @@ pub record HoldOptions (rows : List Row) (o : Options) : Type 0 where
   pub parsers : IsNumberOr 4 (first_of (codes "parsers") rows) o.parsers
   pub mergers : IsNumberOr 2 (first_of (codes "mergers") rows) o.mergers
   pub stop_after : IsStop (first_of (codes "stop-after") rows) o.stop_after
-
--- the text doesn't begin with `+` (43) or, where more follows, with `0` (48)
-abbrev pub IsPlain : Text → Type 0
-IsPlain text = (0 < length text) × (slice_index text 0 ≢ 43)
-    × (slice_index text 0 ≡ 48 → length text ≡ 1)

@@ -4,8 +4,8 @@ ghost use Rattle.std.specs.String.{string_bytes};
 ghost use Rattle.command_line.specs.Grammar.{BeginOptions, HasOptions, IsInRange, Say, SayNothing, Task};
 ghost use Rattle.command_line.specs.Tasks.{task_of};
 
-use crate::number::read_number;
 use crate::options::read_options;
+use decimal_numbers::read_number;
 use std::alloc::Global;
 
 /// What follows `index` or `trace`. The directory is lent by the words.

@@ -7,9 +7,9 @@ ghost use Rattle.command_line.specs.Reading.{HoldOptions, IsNumberOr, IsOffered,
 ghost use Rattle.command_line.specs.Tasks.{options_of};
 
 use crate::command::{IndexOptions, WordsFault};
-use crate::number::read_number;
 use clap::error::ErrorKind;
 use clap::{Arg, ArgAction, ArgMatches};
+use decimal_numbers::read_number;
 use std::alloc::{AllocError, Global};
 
 /// The options that the words after `index` or `trace` say.

@@ -1,5 +1,5 @@
 -- The trace of a run is accepted.
-use Rattle.firefly_check.proofs.Accepted.{closed_accepted}
+use Rattle.check_command.proofs.Accepted.{closed_accepted}
 use Rattle.firefly.specs.Laws.{AcceptsRuns, AcceptsIndexRuns}
 
 pub accepts_runs : AcceptsRuns

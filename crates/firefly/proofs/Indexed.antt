@@ -3,14 +3,14 @@ use Rattle.std.proofs.Common.{◌≡◌, inl, inr, ℕ, List, Option, Result, Ok
 use Rattle.word_index.specs.Index.{Index}
 use Rattle.index_print.specs.Text.{index_text}
 use Rattle.command_line.specs.Grammar.{Options}
-use Rattle.firefly_check.specs.Changes.{Change, IsStill}
-use Rattle.firefly_check.specs.Check.{Prints}
+use Rattle.command_endings.specs.Changes.{Change, IsStill}
+use Rattle.command_endings.specs.Printing.{Prints}
 use Rattle.firefly.specs.IndexCommand.{IndexAnswers}
 use Rattle.firefly.specs.IndexRun.{IsTheIndex, NoIndex, NoneRose}
 use Rattle.firefly.specs.Looks.{Look}
 use Rattle.firefly.specs.TraceCommand.{IsIndexTrace, TraceAnswers}
-use Rattle.firefly_check.specs.declared.status.Status.{Status}
-use Rattle.firefly_check.specs.declared.status.Status.TheVariants.{Done, Usage, ReadFault, SinkFault, Stopped, Memory, Illegal, BadText, TooMany, TooLong}
+use Rattle.command_endings.specs.declared.status.Status.{Status}
+use Rattle.command_endings.specs.declared.status.Status.TheVariants.{Done, Usage, ReadFault, SinkFault, Stopped, Memory, Illegal, BadText, TooMany, TooLong}
 
 module _ {A : Type 0} where
   pub no_error : {x : A} {s : Status} → (let r : Result A Status = Ok x in r) ≡ Err s → ⊥

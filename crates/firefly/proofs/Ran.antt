@@ -12,9 +12,9 @@ use Rattle.firefly_script.specs.Faults.{IsBadLine, IsTooLong}
 use Rattle.firefly_script.specs.Runs.{AreEventsOf, total}
 use Rattle.firefly_script.specs.Text as text
 use Rattle.firefly_script.proofs.Answered.{one_answer}
-use Rattle.firefly_check.specs.declared.status.Status.{Status}
-use Rattle.firefly_check.specs.declared.status.Status.TheVariants.{Done, SinkFault, Memory, BadText, TooLong}
-use Rattle.firefly_check.specs.Changes.{Change, IsStill}
+use Rattle.command_endings.specs.declared.status.Status.{Status}
+use Rattle.command_endings.specs.declared.status.Status.TheVariants.{Done, SinkFault, Memory, BadText, TooLong}
+use Rattle.command_endings.specs.Changes.{Change, IsStill}
 use Rattle.firefly.specs.RunCommand.{totals_from, IsTraceOf, RunAnswers, Runs, Refuses, Decides, SaysFault}
 
 pub numbered_totals : (xs : List Line) (k n : ℕ) (vs : List ℕ) → length vs ≡ n → ((m : ℕ) → m < n → get_or vs m 0 ≡ total xs (k + m)) → numbered k vs ≡ totals_from k n xs

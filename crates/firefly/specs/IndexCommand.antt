@@ -3,12 +3,12 @@ use Rattle.std.specs.Prelude.{List, Option}
 use Rattle.word_index.specs.Index.{Index}
 use Rattle.index_print.specs.Text.{index_text}
 use Rattle.command_line.specs.Grammar.{Options}
-use Rattle.firefly_check.specs.declared.status.Status.{Status}
-use Rattle.firefly_check.specs.declared.status.Status.TheVariants.{Done, Usage, ReadFault, SinkFault, Stopped, Memory, Illegal, BadText, TooMany, TooLong}
-use Rattle.firefly_check.specs.Changes.{Change, IsStill, Gets, GetsFront, Notes}
+use Rattle.command_endings.specs.declared.status.Status.{Status}
+use Rattle.command_endings.specs.declared.status.Status.TheVariants.{Done, Usage, ReadFault, SinkFault, Stopped, Memory, Illegal, BadText, TooMany, TooLong}
+use Rattle.command_endings.specs.Changes.{Change, IsStill, Gets, GetsFront, Notes}
 use Rattle.firefly.specs.IndexRun.{IsTheIndex, NoIndex, NoneRose}
 use Rattle.firefly.specs.Looks.{Look}
-use Rattle.firefly_check.specs.Texts.{output_fault_message}
+use Rattle.command_endings.specs.Messages.{output_fault_message}
 
 -- each status by its cause
 abbrev pub IndexAnswers : Options → List (Option Look) → List (Option Look) → Change → Change → Status → Type 0

@@ -13,11 +13,11 @@ use Rattle.indexer.specs.declared.plan.Plan.{Plan}
 use Rattle.indexer.specs.Says.{FailsSince}
 use Rattle.indexer.specs.Turns.{release_count}
 use Rattle.command_line.specs.Grammar.{Options}
-use Rattle.firefly_check.specs.declared.status.Status.{Status}
-use Rattle.firefly_check.specs.declared.status.Status.TheVariants.{Done, Usage, ReadFault, SinkFault, Stopped, Memory, Illegal, BadText, TooMany, TooLong}
-use Rattle.firefly_check.specs.Changes.{Change, Notes}
+use Rattle.command_endings.specs.declared.status.Status.{Status}
+use Rattle.command_endings.specs.declared.status.Status.TheVariants.{Done, Usage, ReadFault, SinkFault, Stopped, Memory, Illegal, BadText, TooMany, TooLong}
+use Rattle.command_endings.specs.Changes.{Change, Notes}
 use Rattle.firefly.specs.Looks.{Look, told_by, Among}
-use Rattle.firefly_check.specs.Texts.{stopped_message, memory_message, too_many_message, unreadable_message}
+use Rattle.command_endings.specs.Messages.{stopped_message, memory_message, too_many_message, unreadable_message}
 
 -- the plan that the options say
 abbrev pub plan_of : Options → Bool → Plan

@@ -3,7 +3,7 @@ use Rattle.std.specs.Prelude.{ℕ, List}
 use Rattle.std.specs.declared.option.Option.{Option}
 use Rattle.larch_actions.specs.declared.event.Layout.{Layout}
 use Rattle.command_line.specs.Grammar.{Options}
-use Rattle.firefly_check.specs.Accepted.{IsAccepted}
+use Rattle.check_command.specs.Accepted.{IsAccepted}
 use Rattle.firefly_script.specs.declared.line.Line.{Line}
 use Rattle.firefly.specs.Looks.{Look}
 use Rattle.firefly.specs.RunCommand.{IsTraceOf}

@@ -11,12 +11,12 @@ use Rattle.firefly_script.specs.declared.script.ScriptFault.TheVariants as scrip
 use Rattle.firefly_script.specs.Faults.{HasReason, IsBadLine, IsTooLong, IsShortText}
 use Rattle.firefly_script.specs.Runs.{AreEventsOf, total}
 use Rattle.firefly_script.specs.Text as text
-use Rattle.firefly_check.specs.declared.status.Status.{Status}
-use Rattle.firefly_check.specs.declared.status.Status.TheVariants.{Done, Usage, ReadFault, SinkFault, Stopped, Memory, Illegal, BadText, TooMany, TooLong}
-use Rattle.firefly_check.specs.Changes.{Change, IsStill, Gets, GetsFront, Notes}
-use Rattle.firefly_check.specs.Check.{Prints}
-use Rattle.firefly_check.specs.Traces.{IsClosedTrace}
-use Rattle.firefly_check.specs.Texts.{input_fault_message, output_fault_message, bad_line_message, memory_message, too_long_message}
+use Rattle.command_endings.specs.declared.status.Status.{Status}
+use Rattle.command_endings.specs.declared.status.Status.TheVariants.{Done, Usage, ReadFault, SinkFault, Stopped, Memory, Illegal, BadText, TooMany, TooLong}
+use Rattle.command_endings.specs.Changes.{Change, IsStill, Gets, GetsFront, Notes}
+use Rattle.command_endings.specs.Printing.{Prints}
+use Rattle.check_command.specs.Traces.{IsClosedTrace}
+use Rattle.command_endings.specs.Messages.{input_fault_message, output_fault_message, bad_line_message, memory_message, too_long_message}
 
 -- n mutexes from k on, each with the sum of all that the lines add under it
 abbrev pub totals_from : ℕ → ℕ → List Line → List MutexValue

@@ -1,12 +1,13 @@
 -- What the top call answers.
 use Rattle.std.specs.Prelude.{◌≡◌, List, Option}
 use Rattle.command_line.specs.Grammar.{Task, check, run, index, trace, sample}
-use Rattle.firefly_check.specs.declared.status.Status.{Status}
-use Rattle.firefly_check.specs.declared.status.Status.TheVariants.{Usage, Memory}
-use Rattle.firefly_check.specs.Changes.{Change, IsStill, Notes}
-use Rattle.firefly_check.specs.Texts.{usage_message, memory_message}
-use Rattle.firefly_check.specs.Check.{CheckAnswers}
-use Rattle.firefly.specs.RunCommand.{RunAnswers}
+use Rattle.command_endings.specs.declared.status.Status.{Status}
+use Rattle.command_endings.specs.declared.status.Status.TheVariants.{Usage, Memory}
+use Rattle.command_endings.specs.Changes.{Change, IsStill, Notes}
+use Rattle.command_endings.specs.Messages.{usage_message, memory_message}
+use Rattle.check_command.specs.Check.{CheckAnswers}
+use Rattle.check_command.specs.VerdictEndings.{Found, TellsFault}
+use Rattle.firefly.specs.RunCommand.{RunAnswers, Decides}
 use Rattle.firefly.specs.Looks.{Look}
 use Rattle.firefly.specs.IndexCommand.{IndexAnswers}
 use Rattle.firefly.specs.TraceCommand.{TraceAnswers}
@@ -32,8 +33,8 @@ WordsWant e status = (status ≡ Memory) × (e.new_trees ≡ e.trees) × IsStill
 
 -- the answers to each command
 abbrev pub Answers : Task → Effects → Status → Type 0
-Answers check e status = CheckAnswers e.input e.out e.notes status × (e.new_trees ≡ e.trees)
-Answers run e status = RunAnswers e.input e.out e.notes status × (e.new_trees ≡ e.trees)
+Answers check e status = CheckAnswers e.input e.out e.notes status × Found e.input status × TellsFault e.input status × (e.new_trees ≡ e.trees)
+Answers run e status = RunAnswers e.input e.out e.notes status × Decides e.input status × (e.new_trees ≡ e.trees)
 Answers (index o) e status = IndexAnswers o e.trees e.new_trees e.out e.notes status × IsStill e.input
 Answers (trace o) e status = TraceAnswers o e.trees e.new_trees e.out e.notes status × IsStill e.input
 Answers (sample seed files) e status = UsageAnswers e status

@@ -4,13 +4,13 @@ use Rattle.larch_actions.specs.declared.event.Event.{Event}
 use Rattle.word_index.specs.Index.{Index}
 use Rattle.indexer.specs.Plans.{layout_of}
 use Rattle.command_line.specs.Grammar.{Options}
-use Rattle.firefly_check.specs.declared.status.Status.{Status}
-use Rattle.firefly_check.specs.declared.status.Status.TheVariants.{Done, Usage, ReadFault, SinkFault, Stopped, Memory, Illegal, BadText, TooMany, TooLong}
-use Rattle.firefly_check.specs.Changes.{Change, IsStill, Gets, GetsFront, Notes}
+use Rattle.command_endings.specs.declared.status.Status.{Status}
+use Rattle.command_endings.specs.declared.status.Status.TheVariants.{Done, Usage, ReadFault, SinkFault, Stopped, Memory, Illegal, BadText, TooMany, TooLong}
+use Rattle.command_endings.specs.Changes.{Change, IsStill, Gets, GetsFront, Notes}
 use Rattle.firefly.specs.IndexRun.{IsTheIndex, NoIndex, NoneRose, ShowsWork, plan_of}
 use Rattle.firefly.specs.Looks.{Look}
-use Rattle.firefly_check.specs.Texts.{output_fault_message}
-use Rattle.firefly_check.specs.Traces.{IsClosedTrace}
+use Rattle.command_endings.specs.Messages.{output_fault_message}
+use Rattle.check_command.specs.Traces.{IsClosedTrace}
 
 -- The trace of a run that made the index: a legal and closed list of events of the plan's layout, without values, in which the work of
 -- the walkers and parsers is to be seen. No tree's count rose.

@@ -3,14 +3,14 @@ ghost use Rattle.std.specs.Prelude.{◌≡◌, ◌≢◌, ◌≤◌, length};
 ghost use Rattle.command_line.specs.Grammar.{AreInRange};
 ghost use Rattle.command_line.specs.Tasks.{options_of};
 ghost use Rattle.index_print.specs.Text.{index_text};
-ghost use Rattle.firefly_check.specs.Changes.{change_of};
-ghost use Rattle.firefly_check.specs.Check.{Prints};
+ghost use Rattle.command_endings.specs.Changes.{change_of};
+ghost use Rattle.command_endings.specs.Printing.{Prints};
 ghost use Rattle.firefly.specs.IndexCommand.{IndexAnswers};
 ghost use Rattle.firefly.specs.Looks.{Agree, KeepTrees, look_of, looks_of};
 
 use crate::index_run::index_by;
+use command_endings::{Ending, Status, ends};
 use command_line::IndexOptions;
-use firefly_check::{Ending, Status, ends};
 use firefly_outside::{Sink, Tree};
 use index_print::print_index;
 use std::alloc::Global;

@@ -5,12 +5,12 @@ ghost use Rattle.command_line.specs.Grammar.{AreInRange};
 ghost use Rattle.command_line.specs.Tasks.{options_of};
 ghost use Rattle.indexer.specs.Plans.{IsPlan};
 ghost use Rattle.indexer.specs.Says.{IsRunOf};
-ghost use Rattle.firefly_check.specs.Changes.{change_of};
+ghost use Rattle.command_endings.specs.Changes.{change_of};
 ghost use Rattle.firefly.specs.IndexRun.{IsTheIndex, NoIndex, NoneRose, ShowsWork, plan_of};
 ghost use Rattle.firefly.specs.Looks.{Agree, KeepTrees, look_of, looks_of};
 
+use command_endings::{Ending, Status, ends};
 use command_line::IndexOptions;
-use firefly_check::{Ending, Status, ends};
 use firefly_outside::{Sink, Tree};
 use indexer::{IndexAnswer, IndexUses, NoGate, Plan, index};
 use nub::Closed;

@@ -13,7 +13,7 @@ mod run_command;
 mod top;
 mod trace_command;
 
-pub use firefly_check::{Ending, Status, ends, number};
+pub use command_endings::{Ending, Status, ends, number};
 pub use firefly_script::{Script, ScriptFault, read_script};
 pub use outside::{system_trees, system_words};
 pub use script_run::run_script;

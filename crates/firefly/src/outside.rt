@@ -3,7 +3,7 @@
 ghost use Rattle.std.specs.Prelude.{◌≡◌, IfOk, length};
 ghost use Rattle.firefly.specs.Looks.{look_of, looks_of, Agree, NoneFailed};
 
-use firefly_check::Ending;
+use command_endings::Ending;
 use firefly_outside::{DirTree, Tree};
 use std::alloc::{AllocError, Global};
 use std::env::{self, Env};

@@ -5,10 +5,10 @@ ghost use Rattle.larch_actions.specs.declared.event.Event.{Event};
 ghost use Rattle.larch_actions.specs.Layout.{IsLawful, HasNames};
 ghost use Rattle.trace_core.specs.Text.{trace_text, ReadsAs};
 ghost use Rattle.trace_core.specs.Whole.{numbered};
-ghost use Rattle.firefly_check.specs.Changes.{change_of};
-ghost use Rattle.firefly_check.specs.Check.{Prints};
+ghost use Rattle.command_endings.specs.Changes.{change_of};
+ghost use Rattle.command_endings.specs.Printing.{Prints};
 
-use firefly_check::{Ending, Status, ends};
+use command_endings::{Ending, Status, ends};
 use firefly_outside::Sink;
 use nub::Closed;
 use nub_rule::Uses;

@@ -1,10 +1,10 @@
 //! The command `run`.
 ghost use Rattle.firefly_script.specs.Text.{IsScript};
-ghost use Rattle.firefly_check.specs.Changes.{change_of};
+ghost use Rattle.command_endings.specs.Changes.{change_of};
 ghost use Rattle.firefly.specs.RunCommand.{RunAnswers, Runs, Decides, SaysFault};
 
 use crate::print_trace::print_trace;
-use firefly_check::{Ending, Status, ends};
+use command_endings::{Ending, Status, ends};
 use firefly_outside::{Sink, Source};
 use firefly_script::{Script, ScriptFault, read_script};
 use package_crew::NoGate;

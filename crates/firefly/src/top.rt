@@ -2,18 +2,16 @@
 ghost use Rattle.std.specs.Prelude.{◌≡◌, ◌≢◌, ◌⊎◌, ◌≤◌, length, map};
 ghost use Rattle.std.specs.String.{string_bytes};
 ghost use Rattle.command_line.specs.Grammar.{BeginOptions, Task, Say, SayNothing, HasOptions};
-ghost use Rattle.command_line.specs.Grammar as grammar;
-ghost use Rattle.firefly_check.specs.Changes.{change_of};
-ghost use Rattle.firefly_check.specs.Check.{Found};
-ghost use Rattle.firefly.specs.RunCommand.{Decides};
+ghost use Rattle.command_endings.specs.Changes.{change_of};
 ghost use Rattle.firefly.specs.Looks.{look_of, looks_of, Agree, KeepTrees};
 ghost use Rattle.firefly.specs.Top.{Answers, UsageAnswers, WordsWant, effects_of};
 
 use crate::index_command::run_index;
 use crate::run_command::run_input;
 use crate::trace_command::run_trace;
+use check_command::run_check;
+use command_endings::{Ending, Status, ends};
 use command_line::{Command, WordsFault, read_words};
-use firefly_check::{Ending, Status, ends, run_check};
 use firefly_outside::{Sink, Source, Tree};
 use std::alloc::Global;
 use std::sync::Wait;
@@ -36,15 +34,11 @@ pub fn firefly<R: Threads + Wait + Sync, S: Tree, I: Source, O: Sink, N: Sink>(
         (looks_of (look_of S.tree S.may_fail S.calls S.faults) trees.new) (change_of I.left I.faults input.old input.new)
         (change_of O.held O.faults out.old out.new) (change_of N.held N.faults notes.old notes.new) in
         SayNothing (map string_bytes words.now) → UsageAnswers e result ⊎ (BeginOptions (map string_bytes words.now) × WordsWant e result) }
-    // A command.
+    // A command: what it answers, each status by its cause, and exactly where what it read decides.
     ensures answers { let e = effects_of (looks_of (look_of S.tree S.may_fail S.calls S.faults) trees.old)
         (looks_of (look_of S.tree S.may_fail S.calls S.faults) trees.new) (change_of I.left I.faults input.old input.new)
         (change_of O.held O.faults out.old out.new) (change_of N.held N.faults notes.old notes.new) in
         (t : Task) → Say (map string_bytes words.now) t → Answers t e result ⊎ (HasOptions t × WordsWant e result) }
-    // The verdict of `check` is the only one that is just.
-    ensures exact { Say (map string_bytes words.now) grammar.check → Found (change_of I.left I.faults input.old input.new) result }
-    // The bytes of a script decide whether `run` runs it.
-    ensures run_exact { Say (map string_bytes words.now) grammar.run → Decides (change_of I.left I.faults input.old input.new) result }
     // Each tree is in its place. Where memory runs out, some may be gone.
     ensures kept { result ≢ Status.Memory → KeepTrees (looks_of (look_of S.tree S.may_fail S.calls S.faults) trees.old)
         (looks_of (look_of S.tree S.may_fail S.calls S.faults) trees.new) }

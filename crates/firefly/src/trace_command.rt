@@ -2,14 +2,14 @@
 ghost use Rattle.std.specs.Prelude.{◌≡◌, ◌≢◌, ◌≤◌, length};
 ghost use Rattle.command_line.specs.Grammar.{AreInRange};
 ghost use Rattle.command_line.specs.Tasks.{options_of};
-ghost use Rattle.firefly_check.specs.Changes.{change_of};
+ghost use Rattle.command_endings.specs.Changes.{change_of};
 ghost use Rattle.firefly.specs.Looks.{Agree, KeepTrees, look_of, looks_of};
 ghost use Rattle.firefly.specs.TraceCommand.{TraceAnswers};
 
 use crate::index_run::index_by;
 use crate::print_trace::print_trace;
+use command_endings::Status;
 use command_line::IndexOptions;
-use firefly_check::Status;
 use firefly_outside::{Sink, Tree};
 use std::alloc::Global;
 use std::sync::Wait;

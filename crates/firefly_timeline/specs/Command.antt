@@ -1,65 +1,24 @@
 -- What the program answers.
-use Rattle.std.specs.Prelude.{◌≡◌, ◌⊎◌, ℕ, List, ◌++◌, codes, decimal}
-use Rattle.std.specs.Io.KnownBytes.{Appends}
-use Rattle.std.specs.declared.option.Option.{Option}
-use Rattle.firefly_outside.specs.Causes.{Rose, AppendsFront}
+use Rattle.std.specs.Prelude.{◌≡◌, ◌≢◌}
 use Rattle.trace_check.specs.declared.checker.Verdict.{Verdict}
-use Rattle.trace_check.specs.declared.checker.Verdict.TheVariants as verdict
-use Rattle.trace_check.specs.Verdicts.{IsJust}
 use Rattle.trace_picture.specs.declared.view.View.{View}
 use Rattle.trace_picture.specs.Drawn.{IsDrawn, IsCutOff}
-use Rattle.firefly_timeline.specs.declared.command.Status.{Status}
-use Rattle.firefly_timeline.specs.declared.command.Status.TheVariants.{Done, Usage, ReadFault, SinkFault, Memory, Illegal, BadText, TooLong}
-
--- the numbers of the statuses, as of `check`
-abbrev pub number_of : Status → ℕ
-number_of Done = 0
-number_of Usage = 1
-number_of ReadFault = 2
-number_of SinkFault = 3
-number_of Memory = 5
-number_of Illegal = 6
-number_of BadText = 7
-number_of TooLong = 9
-
--- how many bytes of an input are read
-abbrev pub budget : ℕ
-budget = 1099511627776
-
-abbrev pub status_of : Verdict → Status
-status_of (verdict.Legal s) = Done
-status_of (verdict.Illegal place why) = Illegal
-status_of (verdict.BadLine k) = BadText
-status_of verdict.TooLong = TooLong
-status_of verdict.ReadFault = ReadFault
-
--- the notes got this message, or where their count rose a proper prefix of it
-abbrev pub Notes : Option (List ℕ) → Option (List ℕ) → ℕ → ℕ → List ℕ → Type 0
-Notes told told' before now message = Appends told told' message ⊎ (Rose before now × AppendsFront told told' message)
-
--- what the notes get for a verdict: nothing where the picture shows it
-abbrev pub NotesFor : Option (List ℕ) → Option (List ℕ) → ℕ → ℕ → Verdict → Type 0
-NotesFor told told' before now (verdict.Legal s) = (told' ≡ told) × (now ≡ before)
-NotesFor told told' before now (verdict.Illegal place why) = (told' ≡ told) × (now ≡ before)
-NotesFor told told' before now (verdict.BadLine k) = Notes told told' before now (codes "firefly: bad line " ++ decimal k ++ codes "\n")
-NotesFor told told' before now verdict.TooLong = Notes told told' before now (codes "firefly: input too long\n")
-NotesFor told told' before now verdict.ReadFault = Notes told told' before now (codes "firefly: input could not be read\n")
-
--- the bytes that an object tells, and its count of faults, before a call and after it
-pub record Change : Type 0 where
-  pub old : Option (List ℕ)
-  pub new : Option (List ℕ)
-  pub before : ℕ
-  pub now : ℕ
-
-abbrev pub change_of : {X : Type 0} → (X → Option (List ℕ)) → (X → ℕ) → X → X → Change
-change_of told faults old new = record { old = told old; new = told new; before = faults old; now = faults new }
+use Rattle.firefly_outside.specs.Causes.{Rose}
+use Rattle.command_endings.specs.declared.status.Status.{Status}
+use Rattle.command_endings.specs.declared.status.Status.TheVariants.{SinkFault, ReadFault}
+use Rattle.command_endings.specs.Changes.{Change, Notes}
+use Rattle.command_endings.specs.Messages.{output_fault_message}
+use Rattle.check_command.specs.VerdictEndings.{budget, Finds, NotesFor, status_of}
 
 -- the verdict is just, the picture is drawn, and the status and the notes are the verdict's
 abbrev pub Shows : View → Change → Change → Change → Status → Type 0
-Shows v input out notes status =
-    (found : Verdict) × IsJust budget input.old input.new input.before input.now found × IsDrawn budget v input.old out.old out.new found × NotesFor notes.old notes.new notes.before notes.now found × (status ≡ status_of found)
+Shows v input out notes status = (found : Verdict) × Finds input found × IsDrawn budget v input.old out.old out.new found × NotesFor notes found × (status ≡ status_of found)
 
 -- the output failed, and got a front of a picture
 abbrev pub Fails : View → Change → Change → Change → Status → Type 0
-Fails v input out notes status = (status ≡ SinkFault) × Rose out.before out.now × IsCutOff budget v input.old out.old out.new × Notes notes.old notes.new notes.before notes.now (codes "firefly: output could not be written\n")
+Fails v input out notes status = (status ≡ SinkFault) × Rose out.before out.now × IsCutOff budget v input.old out.old out.new × Notes notes output_fault_message
+
+-- A failed read is told, unless the output failed too. One can fail only where no verdict is due yet, so from the byte that decides on
+-- nothing is read.
+abbrev pub TellsFault : Change → Status → Type 0
+TellsFault input status = status ≢ ReadFault → status ≢ SinkFault → input.now ≡ input.before

@@ -4,7 +4,8 @@
 mod command;
 mod words;
 
-use command::{Status, number, say, timeline};
+use command::timeline;
+use command_endings::{Ending, Status, ends, number, say};
 use firefly_outside::{ReaderSource, WriterSink};
 use std::alloc::AllocError;
 use std::env;
@@ -30,8 +31,7 @@ fn take_words(rt: &HostRuntime) -> Result<Vec<String>, AllocError> {
 fn main(rt: HostRuntime) -> ExitCode {
     let mut notes = WriterSink::new(rt.stderr());
     let Ok(words) = take_words(&rt) else {
-        say(&mut notes, b"firefly: out of memory\n");
-        return ExitCode::from(number(&Status::Memory));
+        return ExitCode::from(number(&ends(&mut notes, Ending::Memory)));
     };
     let mut input = ReaderSource::new(rt.stdin());
     let mut out = WriterSink::new(rt.stdout());
@@ -40,7 +40,7 @@ fn main(rt: HostRuntime) -> ExitCode {
         None => {
             say(
                 &mut notes,
-                b"usage: timeline [--from EVENT] [--to EVENT] < TRACE > PICTURE.svg\n",
+                "usage: timeline [--from EVENT] [--to EVENT] < TRACE > PICTURE.svg\n",
             );
             Status::Usage
         }

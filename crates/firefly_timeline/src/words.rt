@@ -5,7 +5,7 @@ ghost use Rattle.trace_picture.specs.declared.view.View.{View};
 ghost use Rattle.firefly_timeline.specs.Words.{AsksFor, IsPair};
 ghost use Rattle.firefly_timeline.specs.Words as asked;
 
-use command_line::read_number;
+use decimal_numbers::read_number;
 use std::string::String;
 use trace_picture::View;
 

@@ -1,21 +1,8 @@
 -- The index text.
-use Rattle.std.specs.Prelude.{ℕ, List, [], ◌∷◌, ◌++◌, length, decimal, codes, ◌==◌, ◌&&◌, not, Bool, if◌then◌else◌}
+use Rattle.std.specs.Prelude.{ℕ, List, ◌++◌, length, decimal, codes}
 use Rattle.std.specs.List.{flat_map}
+use Rattle.text_output.specs.Paths.{newline, escaped}
 use Rattle.word_index.specs.Index.{Hit, Row, Index}
-
-abbrev pub newline : List ℕ
-newline = 10 ∷ []
-
--- a backslash is written twice, and a newline as a backslash and `n`
-abbrev pub escaped_byte : ℕ → List ℕ
-escaped_byte b = if b == 92 then 92 ∷ 92 ∷ [] else (if b == 10 then 92 ∷ 110 ∷ [] else b ∷ [])
-
--- neither of the two
-abbrev pub is_plain_byte : ℕ → Bool
-is_plain_byte b = not (b == 92) && not (b == 10)
-
-abbrev pub escaped : List ℕ → List ℕ
-escaped path = flat_map escaped_byte path
 
 -- a word and the number of files that have it
 abbrev pub word_line : Row → List ℕ

@@ -4,12 +4,12 @@ ghost use Rattle.std.specs.List.{flat_map};
 ghost use Rattle.std.specs.Io.KnownBytes.{Appends};
 ghost use Rattle.firefly_outside.specs.Causes.{HasCause, AppendsFront};
 ghost use Rattle.word_index.specs.Index.{row_at, hit_at};
-ghost use Rattle.index_print.specs.Sent.{Puts};
-ghost use Rattle.index_print.specs.Text.{word_line, hit_line, row_text, skipped_line, index_text, escaped};
+ghost use Rattle.text_output.specs.Sent.{Puts};
+ghost use Rattle.index_print.specs.Text.{word_line, hit_line, row_text, skipped_line, index_text};
 
 use crate::front::{ROOM, write_front};
-use crate::lines::{Held, flush, put, put_path, put_path_line, put_with_number};
 use firefly_outside::{Sink, SinkFault};
+use text_output::{Held, flush, put, put_path_line, put_with_number};
 use word_index::Piece;
 
 // Puts the line of a word.
@@ -121,23 +121,5 @@ pub fn print_index<O: Sink>(piece: &Piece, out: &mut O) -> Result<(), SinkFault>
     let mut held = Held::new();
     put_rows(&mut held, piece, out)?;
     put_all_skipped(&mut held, piece, out)?;
-    flush(&mut held, out)
-}
-
-/// Writes a path as it stands in an index text, between two texts.
-pub fn print_path<O: Sink>(
-    before: &[u8],
-    path: &[u8],
-    after: &[u8],
-    out: &mut O,
-) -> Result<(), SinkFault>
-    ensures ok { OnOk result (Appends (O.held out.old) (O.held out.new) (before.now ++ escaped path.now ++ after.now)) }
-    ensures err { OnErr result (AppendsFront (O.held out.old) (O.held out.new) (before.now ++ escaped path.now ++ after.now)) }
-    ensures cause { HasCause (O.faults out.old) (O.faults out.new) result }
-{
-    let mut held = Held::new();
-    put(&mut held, before, out)?;
-    put_path(&mut held, path, out)?;
-    put(&mut held, after, out)?;
     flush(&mut held, out)
 }

@@ -140,6 +140,8 @@ pub fn draw_trace<I: Source, O: Sink>(
     ensures drawn { IfOk result (λ v. IsDrawn budget view.now (I.left input.old) (O.held out.old) (O.held out.new) v) }
     ensures cut_off { OnErr result (IsCutOff budget view.now (I.left input.old) (O.held out.old) (O.held out.new)) }
     ensures cause { HasCause (O.faults out.old) (O.faults out.new) result }
+    // A read that fails is told, and can fail only where no verdict is due yet. So from the byte that decides on nothing is asked.
+    ensures told { IfOk result (λ v. v ≢ verdict.ReadFault → I.faults input.new ≡ I.faults input.old) }
     ensures later { I.faults input.old ≤ I.faults input.new }
 {
     let mut buf = [0; 131072];
@@ -163,6 +165,7 @@ fn draw_by<I: Source, O: Sink>(
     ensures drawn { IfOk result (λ v. IsDrawn budget view.now (I.left input.old) (O.held out.old) (O.held out.new) v) }
     ensures cut_off { OnErr result (IsCutOff budget view.now (I.left input.old) (O.held out.old) (O.held out.new)) }
     ensures cause { HasCause (O.faults out.old) (O.faults out.new) result }
+    ensures told { IfOk result (λ v. v ≢ verdict.ReadFault → I.faults input.new ≡ I.faults input.old) }
     ensures later { I.faults input.old ≤ I.faults input.new }
 {
     let mut reader = EventReader::new(input, budget);
@@ -189,6 +192,7 @@ fn draw_all<I: Source, O: Sink>(
         (O.held out.old) (O.held out.new)) }
     ensures cause { HasCause (O.faults out.old) (O.faults out.new) result }
     ensures same_input { (input_of reader.new).ghost_name ≡ (input_of reader.old).ghost_name }
+    ensures told { IfOk result (λ v. v ≢ verdict.ReadFault → I.faults (input_of reader.new).now ≡ I.faults (input_of reader.old).now) }
     ensures later { I.faults (input_of reader.old).now ≤ I.faults (input_of reader.new).now }
 {
     let layout = match reader.head() {

@@ -1,10 +1,10 @@
 use Rattle.std.proofs.Common.{refl, subst}
 use Rattle.command_line.specs.Tasks.{options_of}
 use Rattle.index_print.specs.Text.{index_text}
-use Rattle.firefly_check.specs.Changes.{change_of}
-use Rattle.firefly_check.specs.Check.{Prints}
+use Rattle.command_endings.specs.Changes.{change_of}
+use Rattle.command_endings.specs.Printing.{Prints}
 use Rattle.firefly.specs.Looks.{look_of, looks_of}
-use Rattle.firefly_check.specs.declared.status.Status.TheVariants.{Done}
+use Rattle.command_endings.specs.declared.status.Status.TheVariants.{Done}
 use Rattle.firefly.proofs.Indexed.{index_printed, no_error, no_index, same_error}
 use Rattle.firefly.proofs.index_command.run_index.Goals as goal
 

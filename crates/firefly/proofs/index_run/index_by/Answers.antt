@@ -8,11 +8,11 @@ use Rattle.command_line.specs.Tasks.{options_of}
 use Rattle.indexer.specs.declared.answer.IndexAnswer.TheVariants as index
 use Rattle.indexer.specs.declared.plan.Plan.{Plan}
 use Rattle.indexer.specs.Says as says
-use Rattle.firefly_check.specs.Changes.{Notes, change_of}
+use Rattle.command_endings.specs.Changes.{Notes, change_of}
 use Rattle.firefly.specs.IndexRun.{NoIndex}
 use Rattle.firefly.specs.Looks.{look_of, looks_of}
-use Rattle.firefly_check.specs.Texts.{stopped_message, unreadable_message}
-use Rattle.firefly_check.specs.declared.status.Status.{Status}
+use Rattle.command_endings.specs.Messages.{stopped_message, unreadable_message}
+use Rattle.command_endings.specs.declared.status.Status.{Status}
 use Rattle.firefly.proofs.Places.{all_tell, first_tells, keeps, looks_many, there}
 use Rattle.firefly.proofs.IndexRuns.{all_back, all_still, failed_at, no_rise, shows_work}
 use Rattle.firefly.proofs.index_run.index_by.Goals as goal

@@ -1,5 +1,5 @@
 use Rattle.std.proofs.Common.{refl}
-use Rattle.firefly_check.specs.Changes.{change_of}
+use Rattle.command_endings.specs.Changes.{change_of}
 use Rattle.firefly.proofs.Ran.{ran_decides, refused_answers, refused_decides}
 use Rattle.firefly.proofs.run_command.run_input.Goals as goal
 

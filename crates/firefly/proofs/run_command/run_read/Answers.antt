@@ -1,9 +1,9 @@
 use Rattle.std.proofs.Common.{inl, inr, refl, subst, List, ℕ}
 use Rattle.trace_core.specs.Text.{ReadsAs, trace_text}
 use Rattle.trace_core.specs.Whole.{numbered}
-use Rattle.firefly_check.specs.Changes.{change_of}
-use Rattle.firefly_check.specs.Check.{Prints}
-use Rattle.firefly_check.specs.declared.status.Status.TheVariants.{Done}
+use Rattle.command_endings.specs.Changes.{change_of}
+use Rattle.command_endings.specs.Printing.{Prints}
+use Rattle.command_endings.specs.declared.status.Status.TheVariants.{Done}
 use Rattle.firefly.proofs.Ran.{is_trace}
 use Rattle.firefly.proofs.run_command.run_read.Goals as goal
 

@@ -1,42 +1,18 @@
-use Rattle.std.proofs.Common.{◌≡◌, ℕ, ◌⊎◌, refl, sym, subst, inl, inr, rules}
-use Rattle.command_line.specs.Grammar as grammar
-use Rattle.command_line.specs.Grammar.{HasOptions, Options, Task}
+use Rattle.std.proofs.Common.{◌≡◌, ◌⊎◌, refl, sym, subst, inl, inr, rules}
+use Rattle.command_line.specs.Grammar.{HasOptions, Task}
 use Rattle.firefly.specs.Top.{Effects, Answers, WordsWant}
-use Rattle.firefly_check.specs.declared.status.Status.{Status}
+use Rattle.command_endings.specs.declared.status.Status.{Status}
 use Rattle.firefly.proofs.TreeLooks.{kept-same}
 use Rattle.firefly.proofs.top.firefly.Goals as goal
 
 answered : (t u : Task) (e : Effects) (status : Status) → t ≡ u → Answers u e status → Answers t e status ⊎ (HasOptions t × WordsWant e status)
 answered t u e status is a = inl (subst (λ (x : Task). Answers x e status) (sym is) a)
 
-run_is_not_check : grammar.run ≡ grammar.check → ⊥
-run_is_not_check e = cc
-
-check_is_not_index : (o : Options) → grammar.check ≡ grammar.index o → ⊥
-check_is_not_index o e = cc
-
-check_is_not_trace : (o : Options) → grammar.check ≡ grammar.trace o → ⊥
-check_is_not_trace o e = cc
-
-check_is_not_sample : (seed files : ℕ) → grammar.check ≡ grammar.sample seed files → ⊥
-check_is_not_sample seed files e = cc
-
-run_is_not_index : (o : Options) → grammar.run ≡ grammar.index o → ⊥
-run_is_not_index o e = cc
-
-run_is_not_trace : (o : Options) → grammar.run ≡ grammar.trace o → ⊥
-run_is_not_trace o e = cc
-
-run_is_not_sample : (seed files : ℕ) → grammar.run ≡ grammar.sample seed files → ⊥
-run_is_not_sample seed files e = cc
-
 pub returns-in-Ok-Check : goal.returns-in-Ok-Check
 returns-in-Ok-Check g c =
     record {
       usage = λ none. absurd (none _ c.in-Ok-Check.ensures.said);
-      answers = λ t says. let k = rw c.in-Ok-Check.field-0-is at c.in-Ok-Check.ensures in answered t _ _ _ (k.only t says) (c.run_check.ensures.answers, refl);
-      exact = λ says. c.run_check.ensures.exact;
-      run_exact = λ says. let k = rw c.in-Ok-Check.field-0-is at c.in-Ok-Check.ensures in absurd (run_is_not_check (k.only grammar.run says));
+      answers = λ t says. let k = rw c.in-Ok-Check.field-0-is at c.in-Ok-Check.ensures in answered t _ _ _ (k.only t says) (c.run_check.ensures.answers, c.run_check.ensures.exact, c.run_check.ensures.told, refl);
       kept = λ _. kept-same _ c.requires.agree;
     }
 
@@ -44,9 +20,7 @@ pub returns-in-Ok-Run : goal.returns-in-Ok-Run
 returns-in-Ok-Run g c =
     record {
       usage = λ none. absurd (none _ c.in-Ok-Run.ensures.said);
-      answers = λ t says. let k = rw c.in-Ok-Run.field-0-is at c.in-Ok-Run.ensures in answered t _ _ _ (k.only t says) (c.run_input.ensures.answers, refl);
-      exact = λ says. let k = rw c.in-Ok-Run.field-0-is at c.in-Ok-Run.ensures in absurd (run_is_not_check (sym (k.only grammar.check says)));
-      run_exact = λ says. c.run_input.ensures.exact;
+      answers = λ t says. let k = rw c.in-Ok-Run.field-0-is at c.in-Ok-Run.ensures in answered t _ _ _ (k.only t says) (c.run_input.ensures.answers, c.run_input.ensures.exact, refl);
       kept = λ _. kept-same _ c.requires.agree;
     }
 
@@ -55,8 +29,6 @@ returns-in-Ok-Index g c =
     record {
       usage = λ none. absurd (none _ c.in-Ok-Index.ensures.said);
       answers = λ t says. let k = rw c.in-Ok-Index.field-0-is at c.in-Ok-Index.ensures in answered t _ _ _ (k.only t says) (c.run_index.ensures.answers, (refl, refl));
-      exact = λ says. let k = rw c.in-Ok-Index.field-0-is at c.in-Ok-Index.ensures in absurd (check_is_not_index _ (k.only grammar.check says));
-      run_exact = λ says. let k = rw c.in-Ok-Index.field-0-is at c.in-Ok-Index.ensures in absurd (run_is_not_index _ (k.only grammar.run says));
       kept = c.run_index.ensures.kept;
     }
 
@@ -65,8 +37,6 @@ returns-in-Ok-Trace g c =
     record {
       usage = λ none. absurd (none _ c.in-Ok-Trace.ensures.said);
       answers = λ t says. let k = rw c.in-Ok-Trace.field-0-is at c.in-Ok-Trace.ensures in answered t _ _ _ (k.only t says) (c.run_trace.ensures.answers, (refl, refl));
-      exact = λ says. let k = rw c.in-Ok-Trace.field-0-is at c.in-Ok-Trace.ensures in absurd (check_is_not_trace _ (k.only grammar.check says));
-      run_exact = λ says. let k = rw c.in-Ok-Trace.field-0-is at c.in-Ok-Trace.ensures in absurd (run_is_not_trace _ (k.only grammar.run says));
       kept = c.run_trace.ensures.kept;
     }
 
@@ -75,8 +45,6 @@ returns-in-Ok-Sample g c =
     record {
       usage = λ none. absurd (none _ c.in-Ok-Sample.ensures.said);
       answers = λ t says. let k = rw c.in-Ok-Sample.field-0-is at c.in-Ok-Sample.ensures in answered t _ _ _ (k.only t says) (c.ends.ensures.status, refl, (refl, refl), (refl, refl), c.ends.ensures.notes);
-      exact = λ says. let k = rw c.in-Ok-Sample.field-0-is at c.in-Ok-Sample.ensures in absurd (check_is_not_sample _ _ (k.only grammar.check says));
-      run_exact = λ says. let k = rw c.in-Ok-Sample.field-0-is at c.in-Ok-Sample.ensures in absurd (run_is_not_sample _ _ (k.only grammar.run says));
       kept = λ _. kept-same _ c.requires.agree;
     }
 
@@ -86,8 +54,6 @@ returns-in-Err-Usage g c =
     record {
       usage = λ silent. inl (c.ends-in-Err-Usage.ensures.status, refl, (refl, refl), (refl, refl), c.ends-in-Err-Usage.ensures.notes);
       answers = λ t says. absurd (none t says);
-      exact = λ says. absurd (none grammar.check says);
-      run_exact = λ says. absurd (none grammar.run says);
       kept = λ _. kept-same _ c.requires.agree;
     }
 
@@ -97,8 +63,6 @@ returns-in-Err-Memory g c =
     record {
       usage = λ none. inr (c.in-Err-Memory.ensures.begun (search rules), (c.ends-in-Err-Memory.ensures.status, refl, (refl, refl), (refl, refl), c.ends-in-Err-Memory.ensures.notes));
       answers = λ t says. inr (memory t says, (c.ends-in-Err-Memory.ensures.status, refl, (refl, refl), (refl, refl), c.ends-in-Err-Memory.ensures.notes));
-      exact = λ says. absurd (memory grammar.check says);
-      run_exact = λ says. absurd (memory grammar.run says);
       kept = λ _. kept-same _ c.requires.agree;
     }
 

@@ -5,10 +5,10 @@ use Rattle.larch_actions.specs.declared.event.Layout.{Layout}
 use Rattle.larch_actions.specs.Layout.{HasNames}
 use Rattle.trace_core.specs.Text.{ReadsAs, trace_text}
 use Rattle.command_line.specs.Tasks.{options_of}
-use Rattle.firefly_check.specs.Changes.{change_of}
-use Rattle.firefly_check.specs.Check.{Prints}
+use Rattle.command_endings.specs.Changes.{change_of}
+use Rattle.command_endings.specs.Printing.{Prints}
 use Rattle.firefly.specs.Looks.{look_of, looks_of}
-use Rattle.firefly_check.specs.declared.status.Status.TheVariants.{Done}
+use Rattle.command_endings.specs.declared.status.Status.TheVariants.{Done}
 use Rattle.firefly.proofs.Indexed.{no_error, no_trace, same_error, trace_printed}
 use Rattle.firefly.proofs.trace_command.run_trace.Goals as goal
 

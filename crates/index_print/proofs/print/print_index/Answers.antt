@@ -1,8 +1,8 @@
 use Rattle.std.proofs.Common.{[], arith}
 use Rattle.std.specs.List.{flat_map}
 use Rattle.index_print.specs.Text.{row_text, skipped_line, index_text}
-use Rattle.index_print.proofs.Fronts.{sends_then, fails_then, fails_first}
-use Rattle.index_print.proofs.Pieces.{on_err_if, on_err_then, on_ok_then, flushed_front, flushed_whole, cause_on, cause_then}
+use Rattle.text_output.proofs.Fronts.{sends_then, fails_then, fails_first}
+use Rattle.text_output.proofs.Pieces.{on_err_if, on_err_then, on_ok_then, flushed_front, flushed_whole, cause_on, cause_then}
 use Rattle.index_print.proofs.print.print_index.Goals as goal
 
 pub returns-in_err-put_all_skipped-clause-err : goal.returns-in_err-put_all_skipped-clause-err

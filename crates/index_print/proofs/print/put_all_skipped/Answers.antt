@@ -1,6 +1,6 @@
 use Rattle.std.proofs.Common.{◌<◌, [], length, arith}
 use Rattle.index_print.specs.Text.{skipped_line}
-use Rattle.index_print.proofs.Pieces.{puts_failed, sends_more, fails_more}
+use Rattle.text_output.proofs.Pieces.{puts_failed, sends_more, fails_more}
 use Rattle.index_print.proofs.print.put_all_skipped.Goals as goal
 
 pub returns-in_err-put_skipped-clause-text : goal.returns-in_err-put_skipped-clause-text

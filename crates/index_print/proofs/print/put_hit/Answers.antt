@@ -1,6 +1,7 @@
 use Rattle.std.proofs.Common.{◌++◌, append_assoc}
-use Rattle.index_print.specs.Text.{newline, escaped, hit_front}
-use Rattle.index_print.proofs.Pieces.{puts_then, puts_failed, front_of_two}
+use Rattle.text_output.specs.Paths.{newline, escaped}
+use Rattle.index_print.specs.Text.{hit_front}
+use Rattle.text_output.proofs.Pieces.{puts_then, puts_failed, front_of_two}
 use Rattle.index_print.proofs.Written.{all_of}
 use Rattle.index_print.proofs.print.put_hit.Goals as goal
 

@@ -1,7 +1,7 @@
 use Rattle.std.proofs.Common.{◌<◌, [], length, arith}
 use Rattle.word_index.specs.Index.{row_at}
 use Rattle.index_print.specs.Text.{hit_line}
-use Rattle.index_print.proofs.Pieces.{puts_failed, sends_more, fails_more}
+use Rattle.text_output.proofs.Pieces.{puts_failed, sends_more, fails_more}
 use Rattle.index_print.proofs.print.put_hits.Goals as goal
 
 pub returns-in_err-put_hit-clause-text : goal.returns-in_err-put_hit-clause-text

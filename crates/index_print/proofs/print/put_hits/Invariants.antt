@@ -1,7 +1,7 @@
 use Rattle.std.proofs.Common.{◌≤◌, take}
 use Rattle.std.specs.List.{flat_map}
 use Rattle.word_index.specs.Index.{row_at}
-use Rattle.index_print.specs.Sent.{Sends}
+use Rattle.text_output.specs.Sent.{Sends}
 use Rattle.index_print.specs.Text.{hit_line}
 use Rattle.index_print.proofs.print.put_hits.Given as goal
 

@@ -1,4 +1,4 @@
-use Rattle.index_print.proofs.Pieces.{puts_then, puts_failed, front_of_two}
+use Rattle.text_output.proofs.Pieces.{puts_then, puts_failed, front_of_two}
 use Rattle.index_print.proofs.print.put_row.Goals as goal
 
 pub returns-in_err-put_word-clause-text : goal.returns-in_err-put_word-clause-text

@@ -1,6 +1,6 @@
 use Rattle.std.proofs.Common.{◌<◌, [], length, arith}
 use Rattle.index_print.specs.Text.{row_text}
-use Rattle.index_print.proofs.Pieces.{puts_failed, sends_more, fails_more}
+use Rattle.text_output.proofs.Pieces.{puts_failed, sends_more, fails_more}
 use Rattle.index_print.proofs.print.put_rows.Goals as goal
 
 pub returns-in_err-put_row-clause-text : goal.returns-in_err-put_row-clause-text

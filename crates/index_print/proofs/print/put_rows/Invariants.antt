@@ -1,6 +1,6 @@
 use Rattle.std.proofs.Common.{◌≤◌, take}
 use Rattle.std.specs.List.{flat_map}
-use Rattle.index_print.specs.Sent.{Sends}
+use Rattle.text_output.specs.Sent.{Sends}
 use Rattle.index_print.specs.Text.{row_text}
 use Rattle.index_print.proofs.print.put_rows.Given as goal
 

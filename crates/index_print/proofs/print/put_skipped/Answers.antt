@@ -1,6 +1,6 @@
 use Rattle.std.proofs.Common.{codes, append_assoc}
-use Rattle.index_print.specs.Text.{newline, escaped}
-use Rattle.index_print.proofs.Pieces.{puts_then, puts_failed, front_of_two}
+use Rattle.text_output.specs.Paths.{newline, escaped}
+use Rattle.text_output.proofs.Pieces.{puts_then, puts_failed, front_of_two}
 use Rattle.index_print.proofs.print.put_skipped.Goals as goal
 
 pub returns-in_err-put-clause-text : goal.returns-in_err-put-clause-text

@@ -1,8 +1,12 @@
-use Rattle.std.proofs.Common.{◌++◌, codes, decimal}
-use Rattle.index_print.specs.Text.{newline}
-use Rattle.index_print.proofs.Fronts.{sends_then, fails_then}
-use Rattle.index_print.proofs.Pieces.{puts_then, puts_failed, front_of_two, front_of_three, regrouped_word}
+use Rattle.std.proofs.Common.{◌≡◌, ℕ, List, ◌++◌, ap, append_assoc, codes, decimal}
+use Rattle.text_output.specs.Paths.{newline}
+use Rattle.text_output.proofs.Fronts.{sends_then, fails_then}
+use Rattle.text_output.proofs.Pieces.{puts_then, puts_failed, front_of_two, front_of_three}
 use Rattle.index_print.proofs.print.put_word.Goals as goal
+
+-- the same bytes, as the calls put them
+regrouped_word : (w b n e : List ℕ) → w ++ b ++ n ++ e ≡ (w ++ (b ++ n)) ++ e
+regrouped_word w b n e = ap (λ l. l ++ e) (append_assoc w b n)
 
 pub returns-in_err-put-clause-text : goal.returns-in_err-put-clause-text
 returns-in_err-put-clause-text g c =

@@ -40,6 +40,7 @@ loop-free-init g c =
       laid = sym c.in-Ok.ensures.head.layout;
       within = omega (arith, c.add_head-at.ensures.near, c.requires.large, c.add_head-at.auto.buf);
       same_input = c.head.ensures.same_input;
+      unfailed = c.in-Ok.ensures.unfailed;
       later = c.head.ensures.later;
       sunk = omega arith;
     }
@@ -69,6 +70,7 @@ loop-free-preserved g c =
       laid = i.laid ∙ sym taken.layout;
       within = omega (arith, c.add_step-at.ensures.near, c.in-Ok-make_room.ensures.room, c.add_step-at.auto.buf);
       same_input = c.next_event.ensures.same_input ∙ i.same_input;
+      unfailed = c.in-Ok-Some.ensures.unfailed ∙ i.unfailed;
       later = omega (arith, c.next_event.ensures.later, i.later);
       sunk = omega (arith, i.sunk, c.make_room.ensures.cause.later);
     }

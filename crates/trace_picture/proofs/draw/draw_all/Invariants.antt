@@ -12,6 +12,7 @@ invariant-loop-free g l =
       laid : l.layout ≡ l.reader.progress.layout;
       within : l.at ≤ length l.buf;
       same_input : l.reader.input.ghost_name ≡ l.fn.reader.input.ghost_name;
+      unfailed : g.I.Source.faults l.reader.input.now ≡ g.I.Source.faults l.fn.reader.input.now;
       later : g.I.Source.faults l.fn.reader.input.now ≤ g.I.Source.faults l.reader.input.now;
       sunk : g.O.Sink.faults l.fn.out ≤ g.O.Sink.faults l.out;
     }

@@ -1,0 +1,5 @@
+pub mod Lines
+pub mod VerdictEndings
+pub mod Check
+pub mod Traces
+pub mod Accepted

@@ -1,0 +1,15 @@
+//! The command `check`, and how a command ends by what the check of its trace found.
+//!
+//! Promises: each status of `check` comes exactly by its cause, with what standard output and standard error got, and from the byte that
+//! decides on nothing more is read. What a trace of a whole run is, and that it is accepted, is said here too (specs/Traces.antt,
+//! specs/Accepted.antt). Stands on the checker of `trace_check` and the statuses and messages of `command_endings`. It takes no memory,
+//! and it knows no thread, script or index.
+#![tactic(auto)]
+
+mod command;
+mod verdict_ending;
+mod verdict_line;
+
+pub use command::run_check;
+pub use verdict_ending::{CHECK_BUDGET, ends_by};
+pub use verdict_line::{Line, illegal, legal};

@@ -1,0 +1,5 @@
+pub mod Statuses
+pub mod Changes
+pub mod Messages
+pub mod Endings
+pub mod Printing

@@ -1,9 +1,0 @@
-use Rattle.std.proofs.Common.{◌≡◌, List, ℕ, inr, rules, subst}
-use Rattle.firefly_outside.specs.Causes.{AppendsFront}
-use Rattle.firefly_check.proofs.check_command.print.Goals as goal
-
-pub returns-in-Err : goal.returns-in-Err
-returns-in-Err g c =
-    let same : c.as_bytes.result.now ≡ c.args.line.now = search rules in
-    let front = subst (λ (x : List ℕ). AppendsFront (g.O.Sink.held c.args.out.now) (g.O.Sink.held c.put_all.new.out) x) same c.in-Err.ensures.err in
-    inr (c.ends.ensures.status, (c.in-Err.ensures.cause.failed, front), c.ends.ensures.notes)

@@ -1,7 +1,0 @@
-use Rattle.std.proofs.Common.{List, ℕ, subst, ◌∙◌}
-use Rattle.firefly_check.specs.Changes.{Notes, change_of}
-use Rattle.firefly_check.proofs.message.say_stopped.Goals as goal
-
-pub returns : goal.returns
-returns g c =
-    subst (λ (x : List ℕ). Notes (change_of g.N.Sink.held g.N.Sink.faults c.args.notes.now c.say.new.notes) x) (c.as_str.ensures.value ∙ c.stopped.ensures) c.say.ensures

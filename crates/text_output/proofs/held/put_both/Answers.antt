@@ -1,0 +1,20 @@
+use Rattle.std.proofs.Common.{arith}
+use Rattle.text_output.proofs.Fronts.{front_of_more}
+use Rattle.text_output.proofs.Pieces.{puts_behind, puts_failed, cause_on, cause_then}
+use Rattle.text_output.proofs.held.put_both.Goals as goal
+
+pub returns-clause-text : goal.returns-clause-text
+returns-clause-text g c =
+    puts_behind c.put_all.result (g.O.Sink.held c.args.out.now) _ _ c.args.held.now.items c.args.piece.now _ c.in_ok-flush.ensures.empty c.in_ok-flush.ensures.ok c.put_all.ensures.ok c.put_all.ensures.err
+
+pub returns-in_err-flush-clause-cause : goal.returns-in_err-flush-clause-cause
+returns-in_err-flush-clause-cause g c = cause_on c.from_residual.result (omega arith) c.in_err-flush.ensures.cause
+
+pub returns-clause-cause : goal.returns-clause-cause
+returns-clause-cause g c = cause_then c.put_all.result c.in_ok-flush.ensures.cause.later c.put_all.ensures.cause
+
+pub returns-in_err-flush-clause-text : goal.returns-in_err-flush-clause-text
+returns-in_err-flush-clause-text g c =
+    let told = g.O.Sink.held c.args.out.now in
+    let held = c.args.held.now.items in
+    puts_failed c.from_residual.result told _ held _ c.args.piece.now c.from_residual.ensures.0 (front_of_more told _ held c.args.piece.now c.in_err-flush.ensures.err)

@@ -1,0 +1,15 @@
+//! Text on its way to a sink, gathered in a buffer.
+//!
+//! Promises: what is sent and what is still held are, one behind the other, what was put, in order. After a fault of the sink it got a
+//! proper prefix of that. A path is put as it stands on a line: a backslash twice, and a newline as a backslash and `n`.
+//! Stands on `firefly_outside`, `arrayvec` and `itoa`. It takes no memory: the buffer has 16 KiB on the stack. It does not know what
+//! the text says.
+#![tactic(auto)]
+
+mod held;
+mod line;
+mod paths;
+
+pub use held::{Held, flush, put, put_with_number};
+pub use line::push_with_number;
+pub use paths::{print_path, put_path, put_path_line};
