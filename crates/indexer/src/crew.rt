@@ -19,8 +19,8 @@ use std::alloc::{AllocError, Global};
 use std::sync::Wait;
 use std::thread::Threads;
 
-// Lets each job be worked on, all at once. Where a worker couldn't be started, the caller meanwhile shuts all, since that worker will be run
-// here when the others have ended.
+// Lets each job be worked on, all at once, at most the first `starts` in threads. Where a worker wasn't started, the caller meanwhile shuts
+// all, since that worker will be run here when the others have ended.
 fn run_jobs<R: Threads + Wait + Sync, S: Tree, G: Gate>(
     rt: &R,
     alloc: Global,
@@ -29,6 +29,7 @@ fn run_jobs<R: Threads + Wait + Sync, S: Tree, G: Gate>(
     jobs: Vec<Job<S>>,
     root: &str,
     walkers: u32,
+    starts: u32,
     gate: &G,
 ) -> Result<(Vec<Job<S>>, Vec<Findings>, Thread<IndexUses>), AllocError>
     requires layout { HasLists p.now.layout }
@@ -45,6 +46,7 @@ fn run_jobs<R: Threads + Wait + Sync, S: Tree, G: Gate>(
         rt,
         alloc,
         jobs,
+        starts as usize,
         &move |job: Job<S>| -> (Job<S>, Findings)
             requires { HasLists p.now.layout × IsBetween p.now job.me }
             ensures { GivesTree S.tree S.may_fail S.faults S.calls root.entry.now p.entry.now job.kind job.me result.0.me result.1
@@ -66,8 +68,8 @@ fn run_jobs<R: Threads + Wait + Sync, S: Tree, G: Gate>(
 /// Lets the workers work, all at once, each with a thread of those behind the first, which is the caller's; the first of them have a tree
 /// each, and of these the first are walkers. It answers the threads, and what each worker came by, in the order of the threads.
 ///
-/// Where a worker can't be started, the list and both buffers are shut, and it is run here once all others were started; what no worker
-/// does then is for the closing walk. It blocks until each has ended. On `Err` there was no memory; the trees may be lost then.
+/// At most the first `starts` workers are started. Where one isn't or can't be, the list and both buffers are shut, and it is run here
+/// once all others were started; what no worker does then is for the closing walk. It blocks until each has ended. On `Err` there was no memory; the trees may be lost then.
 pub fn run_workers<R: Threads + Wait + Sync, S: Tree, G: Gate>(
     rt: &R,
     alloc: Global,
@@ -77,6 +79,7 @@ pub fn run_workers<R: Threads + Wait + Sync, S: Tree, G: Gate>(
     trees: &mut [Option<S>],
     walkers: u32,
     with_tree: usize,
+    starts: u32,
     gate: &G,
 ) -> Result<(Vec<Thread<IndexUses>>, Vec<Findings>), AllocError>
     requires layout { HasLists p.now.layout }
@@ -93,6 +96,6 @@ pub fn run_workers<R: Threads + Wait + Sync, S: Tree, G: Gate>(
         drop(caller);
         return Err(AllocError);
     };
-    let (jobs, findings, caller) = run_jobs(rt, alloc, p, caller, jobs, root, walkers, gate)?;
+    let (jobs, findings, caller) = run_jobs(rt, alloc, p, caller, jobs, root, walkers, starts, gate)?;
     Ok((put_back(caller, jobs, trees, with_tree, room), findings))
 }

@@ -75,6 +75,9 @@ fn answered(answer: WalkAnswer, closed: Closed<IndexUses>) -> IndexAnswer
     }
 }
 
+/// The most workers that a plan has.
+const MOST_WORKERS: u32 = 24;
+
 /// The index of all files under the root: walkers list the directories, parsers read the files and mergers put their pieces together, all
 /// at once, the walkers and the parsers each with a tree of its own. A closing walk on the next tree does what they left.
 ///
@@ -97,7 +100,30 @@ pub fn index<R: Threads + Wait + Sync, S: Tree, G: Gate>(
     ensures trees { TreesAfter S.tree S.may_fail S.faults S.calls plan.now.walkers
         (plan.now.walkers + plan.now.parsers) trees.old trees.new result }
 {
-    let Ok((closed, findings)) = worked_run(rt, alloc, root, plan, trees, gate) else {
+    index_with(rt, alloc, root, plan, trees, gate, MOST_WORKERS)
+}
+
+/// The index of all files under the root, as `index` makes it, where at most the first `starts` workers, in order of thread number, are
+/// started; each other is taken as one that the system refused to start.
+pub fn index_with<R: Threads + Wait + Sync, S: Tree, G: Gate>(
+    rt: &R,
+    alloc: Global,
+    root: &str,
+    plan: &Plan,
+    trees: &mut [Option<S>],
+    gate: &G,
+    starts: u32,
+) -> IndexAnswer
+    requires plan { IsPlan plan.now }
+    requires trees { plan.now.walkers + plan.now.parsers < length trees.old }
+    requires there { (k : ℕ) → k ≤ plan.now.walkers + plan.now.parsers → (s : S) × (slice_index_or trees.old k None ≡ Some s) }
+    requires tell { (o : Option Told) × AllTell S.tree o trees.old }
+    ensures says { (o : Option Told) → AllTell S.tree o trees.old → IndexSays o root.now plan.now result }
+    ensures cause { HasCause S.tree S.may_fail S.faults S.calls root.now trees.old trees.new result }
+    ensures trees { TreesAfter S.tree S.may_fail S.faults S.calls plan.now.walkers
+        (plan.now.walkers + plan.now.parsers) trees.old trees.new result }
+{
+    let Ok((closed, findings)) = worked_run(rt, alloc, root, plan, trees, gate, starts) else {
         return IndexAnswer::Memory;
     };
     let Ok(found) = gathered(alloc, findings) else {

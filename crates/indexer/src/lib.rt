@@ -32,7 +32,7 @@ mod walking;
 mod work;
 
 pub use answer::IndexAnswer;
-pub use indexing::index;
+pub use indexing::{index, index_with};
 pub use package_crew::{Gate, NoGate};
 pub use plan::{Plan, index_layout};
 pub use uses::{DidPut, DidShut, DidTake, IndexUses};

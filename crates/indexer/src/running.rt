@@ -15,8 +15,8 @@ use std::alloc::{AllocError, Global};
 use std::sync::Wait;
 use std::thread::Threads;
 
-/// Lets the workers list and read what is under the root, in a package that is closed when all have ended, and answers what each worker
-/// came by.
+/// Lets the workers, of which at most the first `starts` are started, list and read what is under the root, in a package that is closed
+/// when all have ended, and answers what each worker came by.
 ///
 /// It blocks until all have ended. On `Err` there was no memory; the trees may be lost then.
 pub fn worked_run<R: Threads + Wait + Sync, S: Tree, G: Gate>(
@@ -26,6 +26,7 @@ pub fn worked_run<R: Threads + Wait + Sync, S: Tree, G: Gate>(
     plan: &Plan,
     trees: &mut [Option<S>],
     gate: &G,
+    starts: u32,
 ) -> Result<(Closed<IndexUses>, Vec<Findings>), AllocError>
     requires plan { IsPlan plan.now }
     requires trees { plan.now.walkers + plan.now.parsers ≤ length trees.old }
@@ -42,6 +43,7 @@ pub fn worked_run<R: Threads + Wait + Sync, S: Tree, G: Gate>(
         trees,
         plan.walkers,
         with_tree,
+        starts,
         gate,
     ) else {
         drop(p);

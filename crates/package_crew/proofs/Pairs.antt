@@ -1,9 +1,11 @@
 -- Jobs, what they gave, and the two halves of that.
-use Rattle.std.proofs.Common.{◌≡◌, ℕ, zero, suc, List, [], ◌∷◌, map, length, refl, sym, ap, subst, arith}
+use Rattle.std.proofs.Common.{◌≡◌, ℕ, ◌<◌, ◌∙◌, zero, suc, Bool, List, [], ◌∷◌, map, length, refl, sym, ap, subst, arith}
+use Rattle.std.proofs.lemmas.List.{length-map}
 use Rattle.std.specs.List.{AllZip, AllByRecursion}
 use mathlib.Core.Option.{some, some-injective, some-ne-none}
 use lib.ListN.{get_elem?}
 use Rattle.nub_rule.specs.Items.{Each}
+use Rattle.thread_crew.specs.Crews.{Told}
 use Rattle.package_crew.specs.Crews.{CameBack}
 
 -- each job may be done
@@ -29,3 +31,8 @@ came_back {T} {J} {X} R f (x ∷ xs) (y ∷ ys) z zero t e =
 came_back R f (x ∷ xs) (y ∷ ys) z (suc n) t e =
     let b = came_back R f xs ys z.1 n t e in
     record { was = b.was; is_was = b.is_was; left = b.left; is_left = b.is_left; goes = b.goes }
+
+-- what is told of as many jobs as there are threads is told of the threads
+pub told_alike : {T J : Type 0} (f : T → J) (starts : ℕ) (refused : Bool) (xs : List T) (js : List J) → js ≡ map f xs → Told starts js refused → Told starts xs refused
+told_alike f starts refused xs js e told =
+    (λ h. told.0 (subst (λ n. starts < n) (sym (ap length e ∙ length-map xs f)) h), λ none. told.1 (e ∙ ap (map f) none))

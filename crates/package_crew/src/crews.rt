@@ -2,6 +2,7 @@
 ghost use Rattle.std.specs.Prelude.{◌≡◌, ◌≤◌, [], map, length, IfOk, vec_len, vec_capacity, Bool};
 ghost use Rattle.nub_rule.specs.Items.{Each};
 ghost use Rattle.package_crew.specs.Crews.{CameBack};
+ghost use Rattle.thread_crew.specs.Crews.{Told};
 
 use std::alloc::{AllocError, Global};
 use std::sync::Wait;
@@ -57,12 +58,14 @@ pub fn at_once<T: Send + Drop, X: Send + Drop, R: Threads + Wait, F: Fn(T) -> (T
     ensures results { IfOk result (λ r. length r.1.items ≡ length threads.items) }
     ensures each { IfOk result (λ r. Each (λ n t. CameBack (λ was left. F.post f.now was (t, left)) threads.items r.1.items n) r.0.items) }
 {
-    let (threads, results, ()) = at_once_beside(rt, alloc, threads, f, |_refused: bool| {})?;
+    let starts = threads.len();
+    let (threads, results, ()) = at_once_beside(rt, alloc, threads, starts, f, |_refused: bool| {})?;
     Ok((threads, results))
 }
 
-/// The same, and meanwhile the caller does a part of its own: `between` is called once all were started that can be, and told whether one
-/// wasn't. It also answers what that gave.
+/// The same, where at most the first `starts` threads are started, and meanwhile the caller does a part of its own: `between` is called
+/// once all were started that can be, and told whether one wasn't: true where there are more threads than `starts`, and false where there
+/// is none. What isn't started is run here, as what the system refuses to start is. It also answers what `between` gave.
 pub fn at_once_beside<
     T: Send + Drop,
     X: Send + Drop,
@@ -74,6 +77,7 @@ pub fn at_once_beside<
     rt: &R,
     alloc: Global,
     threads: Vec<T>,
+    starts: usize,
     f: &F,
     between: M,
 ) -> Result<(Vec<T>, Vec<X>, Y), AllocError>
@@ -82,13 +86,13 @@ pub fn at_once_beside<
     ensures threads { IfOk result (λ r. length r.0.items ≡ length threads.items) }
     ensures results { IfOk result (λ r. length r.1.items ≡ length threads.items) }
     ensures each { IfOk result (λ r. Each (λ n t. CameBack (λ was left. F.post f.now was (t, left)) threads.items r.1.items n) r.0.items) }
-    ensures between { IfOk result (λ r. (refused : Bool) × M.post between refused r.2) }
+    ensures between { IfOk result (λ r. (refused : Bool) × Told starts threads.items refused × M.post between refused r.2) }
 {
     let count = threads.len();
     let back = Vec::with_capacity(alloc, count)?;
     let left = Vec::with_capacity(alloc, count)?;
     let jobs = calls(alloc, threads, f)?;
-    let Ok(finished) = run_crew(rt, alloc, jobs, count, between) else {
+    let Ok(finished) = run_crew(rt, alloc, jobs, starts, between) else {
         return Err(AllocError);
     };
     let (threads, results) = parted(finished.results, back, left);

@@ -15,4 +15,4 @@ at_once_beside-requires-clause-threads g c κs within = λ n x at. (
 )
 
 pub returns-clause-caller : goal.returns-clause-caller
-returns-clause-caller g c = if_ok_map c.at_once_beside.result _ _ (λ x h. h.1) c.at_once_beside.ensures.between
+returns-clause-caller g c = if_ok_map c.at_once_beside.result _ _ (λ x h. h.2) c.at_once_beside.ensures.between

@@ -1,7 +1,7 @@
 use Rattle.std.proofs.Common.{length, map, arith, ap, sym, ◌∙◌}
 use Rattle.std.proofs.lemmas.List.{length-map}
 use Rattle.thread_crew.proofs.Zips.{zip_length}
-use Rattle.package_crew.proofs.Pairs.{all_jobs, as_many, came_back}
+use Rattle.package_crew.proofs.Pairs.{all_jobs, as_many, came_back, told_alike}
 use Rattle.package_crew.proofs.crews.at_once_beside.Goals as goal
 
 pub run_crew-requires-clause-jobs : goal.run_crew-requires-clause-jobs
@@ -36,3 +36,8 @@ pub returns-clause-each : goal.returns-clause-each
 returns-clause-each g c =
     let z = rw c.in_ok-jobs.ensures at c.in-Ok.ensures.done in
     rw (c.parted-threads.ensures.firsts, c.parted-threads.ensures.seconds) (came_back _ _ c.args.threads.items c.in-Ok.finished.results.items z)
+
+pub returns-clause-between : goal.returns-clause-between
+returns-clause-between g c =
+    let b = c.in-Ok.ensures.between in
+    (b.0, told_alike _ c.args.starts b.0 c.args.threads.items c.in_ok-jobs.jobs.items c.in_ok-jobs.ensures b.1, b.2)

@@ -8,7 +8,7 @@ use Rattle.indexer.specs.Says.{HasCause, IndexSays, TreesAfter}
 use Rattle.indexer.specs.Walks.{IsVisit}
 use Rattle.indexer.proofs.SaysLaws.{all_visits, visits_lawful, visits_told, if_each, index_says, end_says}
 use Rattle.indexer.proofs.TreesLaws.{has_cause, trees_after}
-use Rattle.indexer.proofs.indexing.index.Goals as goal
+use Rattle.indexer.proofs.indexing.index_with.Goals as goal
 
 pub decided_at-answer-requires-clause-lawful : goal.decided_at-answer-requires-clause-lawful
 decided_at-answer-requires-clause-lawful g c κs within =
