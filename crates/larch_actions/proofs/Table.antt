@@ -1,5 +1,6 @@
 -- An action is its row, and a row its action.
-use Rattle.std.proofs.Common.{◌≡◌, ◌⊎◌, ℕ, ◌<◌, inl, inr, get_or, length, refl, true, false, sym, ◌∙◌, arith}
+use Rattle.std.proofs.Common.{◌≡◌, ◌⊎◌, ℕ, ◌<◌, ◌≤◌, Bool, List, [], ◌∷◌, inl, inr, get_or, length, refl, true, false, sym, ◌∙◌, arith}
+use Rattle.std.specs.Prelude.{nat_lt, ◌&&◌}
 use Rattle.larch_actions.specs.declared.event.Action.{Action}
 use Rattle.larch_actions.specs.declared.event.Action.TheVariants.{Acquire, Release, Enqueue, Resume, AlertEnqueue, AlertReturn, AlertRaise, Signal, Broadcast, P, V, Alert, TestAlert, AlertPReturn, AlertPRaise}
 use Rattle.larch_actions.specs.declared.rows.Word.{Word}
@@ -9,7 +10,7 @@ use Rattle.larch_actions.specs.declared.rows.Endings.TheVariants as endings
 use Rattle.larch_actions.specs.declared.rows.Ending.{Ending}
 use Rattle.larch_actions.specs.declared.rows.Ending.TheVariants.{Nothing, Returns, Raises, Yes, No, Left}
 use Rattle.larch_actions.specs.declared.rows.Row.{Row}
-use Rattle.larch_actions.specs.Rows.{words, kinds_of, endings_of, none, one, row, row_of, made, action_of, AreFor, IsEnding, IsRow}
+use Rattle.larch_actions.specs.Rows.{words, word_text, kinds_of, endings_of, none, one, row, row_of, made, action_of, AreFor, IsEnding, IsRow}
 
 pub action_back : (a : Action) → action_of (row_of a) ≡ a
 action_back (Acquire m) = refl
@@ -128,3 +129,27 @@ is_there word.TestAlert = (refl, omega arith)
 is_there word.AlertEnqueue = (refl, omega arith)
 is_there word.AlertResume = (refl, omega arith)
 is_there word.AlertP = (refl, omega arith)
+
+-- none of the bytes is a space or a newline, by a test that computes
+abbrev pub is_plain : List ℕ → Bool
+is_plain [] = true
+is_plain (c ∷ cs) = nat_lt 44 c && is_plain cs
+
+-- a word is short and plain
+abbrev pub IsPlain : Word → Type 0
+IsPlain w = (length (word_text w) ≤ 16) × (is_plain (word_text w) ≡ true)
+
+pub each_plain : (w : Word) → IsPlain w
+each_plain word.Acquire = (omega arith, refl)
+each_plain word.Release = (omega arith, refl)
+each_plain word.P = (omega arith, refl)
+each_plain word.V = (omega arith, refl)
+each_plain word.Enqueue = (omega arith, refl)
+each_plain word.Resume = (omega arith, refl)
+each_plain word.Signal = (omega arith, refl)
+each_plain word.Broadcast = (omega arith, refl)
+each_plain word.Alert = (omega arith, refl)
+each_plain word.TestAlert = (omega arith, refl)
+each_plain word.AlertEnqueue = (omega arith, refl)
+each_plain word.AlertResume = (omega arith, refl)
+each_plain word.AlertP = (omega arith, refl)

@@ -1,8 +1,14 @@
 -- What several pieces add one after another.
-use Rattle.std.proofs.Common.{◌≡◌, ℕ, List, ◌++◌, ap, sym, ◌∙◌, append_assoc}
+use Rattle.std.proofs.Common.{◌≡◌, ℕ, List, ◌++◌, refl, ap, sym, ◌∙◌, append_assoc}
 use Rattle.std.specs.Prelude.{codes, decimal}
 use Rattle.larch_actions.specs.declared.event.Layout.{Layout}
-use Rattle.trace_core.specs.Text.{layout_line, wait_text, newline}
+use Rattle.larch_actions.specs.declared.kind.Kind.{Kind}
+use Rattle.larch_actions.specs.declared.rows.Numbers.{Numbers}
+use Rattle.larch_actions.specs.declared.rows.Kinds.{Kinds}
+use Rattle.larch_actions.specs.declared.rows.Kinds.TheVariants as kinds
+use Rattle.larch_actions.specs.declared.rows.Ending.{Ending}
+use Rattle.larch_actions.specs.declared.rows.Ending.TheVariants.{Nothing, Returns, Raises, Yes, No, Left}
+use Rattle.trace_core.specs.Text.{layout_line, with_name, with_names, with_ending, newline}
 
 pub added_two : (old mid new p q : List ℕ) → mid ≡ old ++ p → new ≡ mid ++ q → new ≡ old ++ (p ++ q)
 added_two old mid new p q e f = f ∙ ap (λ l. l ++ q) e ∙ append_assoc old p q
@@ -17,9 +23,26 @@ added_pair old mid new p q r e f = added_two old mid new p (q ++ r) e f ∙ ap (
 pub added_four : (old a b c new p q r s : List ℕ) → a ≡ old ++ p → b ≡ a ++ q → c ≡ b ++ r → new ≡ c ++ s → new ≡ old ++ (p ++ q ++ r ++ s)
 added_four old a b c new p q r s e f g h = added_two old c new (p ++ q ++ r) s (added_three old a b c p q r e f g) h
 
-pub added_wait : (word : List ℕ) (m k : ℕ) (old a b new : List ℕ) → a ≡ old ++ word → b ≡ a ++ (codes " m" ++ decimal m) → new ≡ b ++ (codes " c" ++ decimal k) → new ≡ old ++ wait_text word m k
-added_wait word m k old a b new e f g =
-    added_pair old b new (word ++ codes " m" ++ decimal m) (codes " c") (decimal k) (added_pair old a b word (codes " m") (decimal m) e f) g
+-- a text with its names and its ending, behind another text
+name_behind : (old front : List ℕ) (k : Kind) (n : ℕ) → with_name (old ++ front) k n ≡ old ++ with_name front k n
+name_behind old front k n = simp append_assoc
+
+names_behind : (old front : List ℕ) (ks : Kinds) (x : Numbers) → with_names (old ++ front) ks x ≡ old ++ with_names front ks x
+names_behind old front kinds.Nothing x = refl
+names_behind old front (kinds.One k) x = name_behind old front k x.first
+names_behind old front (kinds.Two k j) x = ap (λ l. with_name l j x.second) (name_behind old front k x.first) ∙ name_behind old (with_name front k x.first) j x.second
+
+ending_behind : (old front : List ℕ) (e : Ending) → with_ending (old ++ front) e ≡ old ++ with_ending front e
+ending_behind old front Nothing = refl
+ending_behind old front Returns = append_assoc old front (codes " returns")
+ending_behind old front Raises = append_assoc old front (codes " raises")
+ending_behind old front Yes = append_assoc old front (codes " yes")
+ending_behind old front No = append_assoc old front (codes " no")
+ending_behind old front (Left left) = simp append_assoc
+
+pub added_row : (old word a b new : List ℕ) (ks : Kinds) (x : Numbers) (e : Ending) → a ≡ old ++ word → b ≡ with_names a ks x → new ≡ with_ending b e → new ≡ old ++ with_ending (with_names word ks x) e
+added_row old word a b new ks x e f g h =
+    h ∙ ap (λ l. with_ending l e) (g ∙ ap (λ l. with_names l ks x) f ∙ names_behind old word ks x) ∙ ending_behind old (with_names word ks x) e
 
 -- five pieces, of which the second has two parts
 pub added_five : (old a b c d new p q r s t u : List ℕ) → a ≡ old ++ p → b ≡ a ++ (q ++ r) → c ≡ b ++ s → d ≡ c ++ t → new ≡ d ++ u → new ≡ old ++ (p ++ q ++ r ++ s ++ t ++ u)

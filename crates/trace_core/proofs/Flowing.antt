@@ -1,5 +1,5 @@
 -- A text that is put piece by piece: some was sent, some is held back, and the rest is to come.
-use Rattle.std.proofs.Common.{◌≡◌, ℕ, ◌+◌, ◌<◌, ◌≤◌, List, [], ◌++◌, length, length-append, take, drop, get_or, refl, ap, sym, subst, ◌∙◌, append_assoc, append-nil, Some, None, Ok, Err, Result, OnErr, arith}
+use Rattle.std.proofs.Common.{◌≡◌, ℕ, ◌+◌, ◌<◌, ◌≤◌, List, [], ◌++◌, length, length-append, take, drop, get_or, refl, ap, sym, subst, ◌∙◌, append_assoc, append-nil, Some, None, Ok, Err, Result, arith}
 use Rattle.std.proofs.lemmas.List.{drop_all, drop_more, take-append-le}
 use Rattle.std.proofs.KnownBytes.{Appends-trans}
 use Rattle.std.proofs.Math.Seq.{take-append-add}

@@ -6,12 +6,12 @@ pub mod RisingSets
 pub mod Choices
 pub mod Tails
 pub mod Members
-pub mod ActionKinds
-pub mod Letters
+pub mod RowTexts
 pub mod Quick
 pub mod Ways
 pub mod Pieces
-pub mod ActionLaws
+pub mod RowLaws
+pub mod RowWays
 pub mod LineLaws
 pub mod Texts
 pub mod Told

@@ -13,12 +13,12 @@ use Rattle.trace_core.specs.declared.line.Expect.{Expect}
 use Rattle.trace_core.specs.declared.line.Expect.TheVariants as expect
 use Rattle.trace_core.specs.Names.{IsStopped}
 use Rattle.trace_core.specs.Text.{first_line, layout_line, event_line, value_line, newline}
-use Rattle.trace_core.specs.Lines.{action_at, event_of, event_at, end_at, event_or_end_at, layout_of, counts_at, head_at, value_of, value_at, line_at, line_text, IsPossible, IsAllowed}
+use Rattle.trace_core.specs.Lines.{action_at, event_of, event_at, end_at, event_or_end_at, layout_from, counts_at, head_at, value_of, value_at, line_at, line_text, IsPossible, IsAllowed}
 use Rattle.trace_core.proofs.CodeLaws.{AreApart, same_code, lawful_code, word_code, nothing_code, then_code, as_code, or_code}
 use Rattle.trace_core.proofs.Numbers.{number_code}
 use Rattle.trace_core.proofs.NumbersFrom.{number_from_code, only_space, space_stops}
-use Rattle.trace_core.proofs.ActionKinds.{text}
-use Rattle.trace_core.proofs.ActionLaws.{action_code}
+use Rattle.trace_core.proofs.RowTexts.{text}
+use Rattle.trace_core.proofs.RowLaws.{action_code}
 
 event_text : (n : ℕ) (e : Event) → event_line n e ≡ decimal n ++ (codes " t" ++ ((decimal e.thread.0 ++ 32 ∷ []) ++ text e.action))
 event_text n e = simp append_assoc
@@ -151,8 +151,8 @@ counts_code =
     let c = word_code (then_code spaced (λ _ n. Between 0 n) (λ _ n. codes "semaphores " ++ (decimal n ++ 10 ∷ [])) _ (λ _ _. s) (λ _ _. (0, zero))) (codes "conditions ") ((0, 0), (zero, zero)) in
     let m = word_code (then_code spaced (λ _ p. Lawful2 p) (λ _ p. text2 p) _ (λ _ _. c) (λ _ _. ((0, 0), (zero, zero)))) (codes "mutexes ") ((0, (0, 0)), (zero, (zero, zero))) in
     let t = word_code (then_code (number_code 1 65 32 (omega arith) (omega arith) (omega arith) (omega arith)) (λ _ p. Lawful3 p) (λ _ p. text3 p) _ (λ _ _. m) (λ _ _. ((0, (0, 0)), (zero, (zero, zero))))) (codes "threads ") ((1, (0, (0, 0))), ((omega arith, omega arith), (zero, (zero, zero)))) in
-    as_code t layout_of IsLawful layout_line
-    (λ p h. (record { some = h.0.0; threads = omega (arith, h.0.1); mutexes = omega (arith, h.1.0.1); conditions = omega (arith, h.1.1.0.1); semaphores = omega (arith, h.1.1.1.1) }, counts_text (layout_of p)))
+    as_code t layout_from IsLawful layout_line
+    (λ p h. (record { some = h.0.0; threads = omega (arith, h.0.1); mutexes = omega (arith, h.1.0.1); conditions = omega (arith, h.1.1.0.1); semaphores = omega (arith, h.1.1.1.1) }, counts_text (layout_from p)))
     (λ l h. ((l.threads, (l.mutexes, (l.conditions, l.semaphores))), ((h.some, omega (arith, h.threads)), ((omega arith, omega (arith, h.mutexes)), ((omega arith, omega (arith, h.conditions)), (omega arith, omega (arith, h.semaphores))))), refl))
 
 head_code : IsCode IsHead (line_text expect.Head) head_at

@@ -1,34 +1,9 @@
--- Reading names and single words is exact.
-use Rattle.std.proofs.Common.{◌≡◌, ℕ, ◌<◌, ◌≤◌, ◌⊎◌, inl, inr, List, [], ◌∷◌, ◌++◌, refl, sym, append-nil, Bool, true, false, arith, rules, tests}
-use Rattle.std.specs.Prelude.{codes, decimal, nat_lt}
+-- Reading one word or the other is exact.
+use Rattle.std.proofs.Common.{◌≡◌, ℕ, ◌⊎◌, inl, inr, List, [], ◌++◌, refl, sym, append-nil, Bool, true, false}
 use Rattle.trace_core.specs.Codes.{IsCode}
-use Rattle.trace_core.specs.Lines.{named_at, wait_at, flag_at}
-use Rattle.trace_core.proofs.CodeLaws.{AreApart, same_code, lawful_code, word_code, only_code, nothing_code, then_code, or_code}
+use Rattle.trace_core.specs.Lines.{flag_at}
+use Rattle.trace_core.proofs.CodeLaws.{AreApart, same_code, lawful_code, word_code, nothing_code, or_code}
 use Rattle.trace_core.proofs.Choices.{differ, differ-apart}
-use Rattle.trace_core.proofs.Numbers.{number_code}
-
-pub named_code : (word : List ℕ) (bound stop : ℕ) → bound ≤ 64 → stop < 48 → IsCode (λ m. m < bound) (λ m. word ++ (decimal m ++ stop ∷ [])) (named_at word bound stop)
-named_code word bound stop small apart =
-    only_code (nat_lt 0 bound) _ _ _
-    (λ some.
-    let h : 0 < bound = search (rules, tests) in
-    word_code (same_code (number_code 0 bound stop (omega arith) h (omega arith) apart) (λ m. m < bound) (λ m. decimal m ++ stop ∷ []) (λ m. refl) (λ m l. l.1) (λ m l. (omega arith, l))) word (0, h))
-    (λ none m l. let h : bound ≤ 0 = search (rules, tests) in absurd (omega arith))
-
--- the names of a mutex and a condition behind the word
-abbrev pub named_text : List ℕ → ℕ → ℕ × ℕ → List ℕ
-named_text word stop p = (word ++ (decimal p.0 ++ 32 ∷ [])) ++ (codes "c" ++ (decimal p.1 ++ stop ∷ []))
-
-abbrev pub AreNamed : ℕ → ℕ → ℕ × ℕ → Type 0
-AreNamed mutexes conditions p = (p.0 < mutexes) × (p.1 < conditions)
-
-pub wait_code : (word : List ℕ) (mutexes conditions stop : ℕ) → mutexes ≤ 64 → conditions ≤ 64 → stop < 48 → IsCode (AreNamed mutexes conditions) (named_text word stop) (wait_at word mutexes conditions stop)
-wait_code word mutexes conditions stop small small' apart =
-    only_code (nat_lt 0 conditions) _ _ _
-    (λ some.
-    let h : 0 < conditions = search (rules, tests) in
-    then_code (named_code word mutexes 32 small (omega arith)) (λ _ c. c < conditions) (λ _ c. codes "c" ++ (decimal c ++ stop ∷ [])) (λ _. named_at (codes "c") conditions stop) (λ _ _. named_code (codes "c") conditions stop small' apart) (λ _ _. (0, h)))
-    (λ none p l. let h : conditions ≤ 0 = search (rules, tests) in absurd (omega (arith, l.1)))
 
 -- the word that tells the flag
 abbrev pub flag_text : List ℕ → List ℕ → Bool → List ℕ

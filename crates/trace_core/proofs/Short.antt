@@ -1,21 +1,33 @@
 -- A line is shorter than a window.
-use Rattle.std.proofs.Common.{◌≡◌, ℕ, ◌+◌, ◌-◌, ◌*◌, ◌^◌, ◌<◌, ◌≤◌, List, [], ◌∷◌, length, length-append, ap, true, false, Err, arith}
+use Rattle.std.proofs.Common.{◌≡◌, ℕ, ◌+◌, ◌-◌, ◌*◌, ◌^◌, ◌<◌, ◌≤◌, List, [], ◌∷◌, length, length-append, ap, Err, arith}
 use Rattle.std.proofs.lemmas.Fmt.{length-decimal-le}
-use Rattle.std.specs.Prelude.{codes, decimal}
+use Rattle.std.specs.Prelude.{decimal}
 use Rattle.larch_actions.specs.declared.event.Layout.{Layout}
 use Rattle.larch_actions.specs.declared.event.Action.{Action}
-use Rattle.larch_actions.specs.declared.event.Action.TheVariants.{Acquire, Release, Enqueue, Resume, AlertEnqueue, AlertReturn, AlertRaise, Signal, Broadcast, P, V, Alert, TestAlert, AlertPReturn, AlertPRaise}
-use Rattle.larch_actions.specs.Layout.{IsLawful, IsNamed}
+use Rattle.larch_actions.specs.declared.kind.Kind.{Kind}
+use Rattle.larch_actions.specs.declared.rows.Numbers.{Numbers}
+use Rattle.larch_actions.specs.declared.rows.Kinds.{Kinds}
+use Rattle.larch_actions.specs.declared.rows.Kinds.TheVariants as kinds
+use Rattle.larch_actions.specs.declared.rows.Endings.{Endings}
+use Rattle.larch_actions.specs.declared.rows.Endings.TheVariants as endings
+use Rattle.larch_actions.specs.declared.rows.Ending.{Ending}
+use Rattle.larch_actions.specs.declared.rows.Ending.TheVariants.{Nothing, Returns, Raises, Yes, No, Left}
+use Rattle.larch_actions.specs.Layout.{IsLawful, IsNamed, AreBelow}
+use Rattle.larch_actions.specs.Rows.{word_text, kinds_of, endings_of, row_of}
+use Rattle.larch_actions.proofs.Names.{few_of}
+use Rattle.larch_actions.proofs.Table.{each_plain}
 use Rattle.trace_core.specs.declared.line.Stop.TheVariants.{More}
 use Rattle.trace_core.specs.declared.line.Line.{Line}
 use Rattle.trace_core.specs.declared.line.Line.TheVariants as line
 use Rattle.trace_core.specs.declared.line.Expect.{Expect}
 use Rattle.trace_core.specs.declared.line.Expect.TheVariants as expect
 use Rattle.trace_core.specs.Names.{IsRising}
-use Rattle.trace_core.specs.Text.{action_text, names_text, wait_text, members}
+use Rattle.trace_core.specs.Text.{action_text, names_text, with_name, with_names, with_ending, members}
 use Rattle.trace_core.specs.Lines.{line_at, line_text, IsPossible, IsAllowed}
 use Rattle.trace_core.proofs.LineLaws.{line_code}
 use Rattle.trace_core.proofs.Members.{rising-members}
+use Rattle.trace_core.proofs.RowTexts.{neither}
+use Rattle.trace_core.proofs.RowLaws.{EndsIn, named_parts}
 
 decimal_short : (n : ℕ) → n < 2 ^ 64 → length (decimal n) ≤ 20
 decimal_short n fits = length-decimal-le 20 n (omega arith) (omega arith) fits
@@ -25,30 +37,37 @@ names_short least bound [] small h = omega arith
 names_short least bound (t ∷ ts) small h =
     simp length-append (omega (arith, decimal_short t (omega (arith, h.1)), names_short (t + 1) bound ts small h.2, h.0, h.1))
 
-wait_short : (word : List ℕ) (m c : ℕ) → length word ≤ 20 → m < 64 → c < 64 → length (wait_text word m c) ≤ 70
-wait_short word m c w p q = simp length-append (omega (arith, w, decimal_short m (omega arith), decimal_short c (omega arith)))
+name_short : (front : List ℕ) (k : Kind) (n : ℕ) → n < 64 → length (with_name front k n) ≤ length front + 22
+name_short front k n low = simp length-append (omega (arith, decimal_short n (omega arith)))
+
+with_short : (l : Layout) → IsLawful l → (front : List ℕ) (ks : Kinds) (x : Numbers) → AreBelow l ks x → length (with_names front ks x) ≤ length front + 44
+with_short l ok front kinds.Nothing x h = omega arith
+with_short l ok front (kinds.One k) x h = omega (arith, name_short front k x.first (omega (arith, h, few_of l ok k)))
+with_short l ok front (kinds.Two k j) x h =
+    omega (arith, name_short front k x.first (omega (arith, h.0, few_of l ok k)), name_short (with_name front k x.first) j x.second (omega (arith, h.1, few_of l ok j)))
+
+left_short : (l : Layout) → IsLawful l → (front : List ℕ) (e : Ending) → EndsIn l endings.Threads e → length (with_ending front e) ≤ length front + 1420
+left_short l ok front (Left left) h =
+    simp length-append (omega (arith, names_short 0 l.threads (members left) ok.threads (rising-members left l.threads h.1), ok.threads))
+left_short l ok front _ h = let k = h.0.1 in absurd (cc)
+
+ending_short : (l : Layout) → IsLawful l → (es : Endings) (front : List ℕ) (e : Ending) → EndsIn l es e → length (with_ending front e) ≤ length front + 1420
+ending_short l ok endings.Threads front e h = left_short l ok front e h
+ending_short l ok _ front Nothing h = omega arith
+ending_short l ok _ front Returns h = simp length-append (omega arith)
+ending_short l ok _ front Raises h = simp length-append (omega arith)
+ending_short l ok _ front Yes h = simp length-append (omega arith)
+ending_short l ok _ front No h = simp length-append (omega arith)
+ending_short l ok endings.Nothing front (Left left) h = absurd (cc)
+ending_short l ok endings.Outcome front (Left left) h = neither _ Returns Raises (λ k. absurd (cc)) (λ k. absurd (cc)) h
+ending_short l ok endings.Answer front (Left left) h = neither _ Yes No (λ k. absurd (cc)) (λ k. absurd (cc)) h
 
 action_short : (l : Layout) (a : Action) → IsLawful l → IsNamed l a → length (action_text a) ≤ 1500
-action_short l (Acquire m) ok h = simp length-append (omega (arith, decimal_short m.0 (omega (arith, ok.mutexes))))
-action_short l (Release m) ok h = simp length-append (omega (arith, decimal_short m.0 (omega (arith, ok.mutexes))))
-action_short l (Enqueue m c) ok h = omega (arith, wait_short (codes "enqueue") m.0 c.0 (omega arith) (omega (arith, ok.mutexes, h.0)) (omega (arith, ok.conditions, h.1)))
-action_short l (Resume m c) ok h = omega (arith, wait_short (codes "resume") m.0 c.0 (omega arith) (omega (arith, ok.mutexes, h.0)) (omega (arith, ok.conditions, h.1)))
-action_short l (AlertEnqueue m c) ok h = omega (arith, wait_short (codes "alert-enqueue") m.0 c.0 (omega arith) (omega (arith, ok.mutexes, h.0)) (omega (arith, ok.conditions, h.1)))
-action_short l (AlertReturn m c) ok h =
-    omega (arith, length-append (wait_text (codes "alert-resume") m.0 c.0) (codes " returns"), wait_short (codes "alert-resume") m.0 c.0 (omega arith) (omega (arith, ok.mutexes, h.0)) (omega (arith, ok.conditions, h.1)))
-action_short l (AlertRaise m c) ok h =
-    omega (arith, length-append (wait_text (codes "alert-resume") m.0 c.0) (codes " raises"), wait_short (codes "alert-resume") m.0 c.0 (omega arith) (omega (arith, ok.mutexes, h.0)) (omega (arith, ok.conditions, h.1)))
-action_short l (Signal c left) ok h =
-    let names = names_short 0 l.threads (members left) ok.threads (rising-members left l.threads h.1) in
-    simp length-append (omega (arith, decimal_short c.0 (omega (arith, ok.conditions, h.0)), names, ok.threads))
-action_short l (Broadcast c) ok h = simp length-append (omega (arith, decimal_short c.0 (omega (arith, ok.conditions))))
-action_short l (P s) ok h = simp length-append (omega (arith, decimal_short s.0 (omega (arith, ok.semaphores))))
-action_short l (V s) ok h = simp length-append (omega (arith, decimal_short s.0 (omega (arith, ok.semaphores))))
-action_short l (Alert t) ok h = simp length-append (omega (arith, decimal_short t.0 (omega (arith, ok.threads))))
-action_short l (TestAlert true) ok h = omega arith
-action_short l (TestAlert false) ok h = omega arith
-action_short l (AlertPReturn s) ok h = simp length-append (omega (arith, decimal_short s.0 (omega (arith, ok.semaphores))))
-action_short l (AlertPRaise s) ok h = simp length-append (omega (arith, decimal_short s.0 (omega (arith, ok.semaphores))))
+action_short l a ok h =
+    let r = row_of a in
+    let parts = named_parts l a h in
+    let front = with_names (word_text r.word) (kinds_of r.word) r.numbers in
+    omega (arith, ending_short l ok (endings_of r.word) front r.ending parts.1, with_short l ok (word_text r.word) (kinds_of r.word) r.numbers parts.0, (each_plain r.word).0)
 
 line_short : (x : Expect) → IsPossible x → (y : Line) → IsAllowed x y → length (line_text x y) ≤ 2000
 line_short expect.Head ok line.Head h = omega arith

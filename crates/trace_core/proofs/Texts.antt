@@ -1,23 +1,36 @@
 -- The rest of a trace text is a line, and the rest behind it.
-use Rattle.std.proofs.Common.{◌≡◌, ℕ, ◌+◌, ◌%◌, ◌^◌, ◌<◌, ◌≤◌, inl, inr, List, [], ◌∷◌, ◌++◌, refl, ap, sym, ◌∙◌, append_assoc, append-nil, Bool, true, false, arith}
+use Rattle.std.proofs.Common.{◌≡◌, ℕ, ◌+◌, ◌%◌, ◌^◌, ◌<◌, ◌≤◌, inl, inr, List, [], ◌∷◌, ◌++◌, refl, ap, sym, ◌∙◌, append_assoc, append-nil, Bool, true, false, arith, rules, tests}
 use Rattle.std.proofs.lemmas.Bool.{eqb-false}
 use Rattle.std.proofs.lemmas.Fmt.{decimal_by_steps}
-use Rattle.std.specs.Prelude.{codes, decimal, if◌then◌else◌, ◌==◌}
+use Rattle.std.specs.Prelude.{codes, decimal, nat_lt, if◌then◌else◌, ◌==◌}
 use Rattle.larch_actions.specs.declared.event.Layout.{Layout}
 use Rattle.larch_actions.specs.declared.event.Event.{Event}
 use Rattle.larch_actions.specs.declared.event.Action.{Action}
-use Rattle.larch_actions.specs.declared.event.Action.TheVariants.{Acquire, Release, Enqueue, Resume, AlertEnqueue, AlertReturn, AlertRaise, Signal, Broadcast, P, V, Alert, TestAlert, AlertPReturn, AlertPRaise}
-use Rattle.larch_actions.specs.Layout.{IsLawful, IsNamed, HasNames}
+use Rattle.larch_actions.specs.declared.kind.Kind.{Kind}
+use Rattle.larch_actions.specs.declared.rows.Numbers.{Numbers}
+use Rattle.larch_actions.specs.declared.rows.Kinds.{Kinds}
+use Rattle.larch_actions.specs.declared.rows.Kinds.TheVariants as kinds
+use Rattle.larch_actions.specs.declared.rows.Endings.{Endings}
+use Rattle.larch_actions.specs.declared.rows.Endings.TheVariants as endings
+use Rattle.larch_actions.specs.declared.rows.Ending.{Ending}
+use Rattle.larch_actions.specs.declared.rows.Ending.TheVariants.{Nothing, Returns, Raises, Yes, No, Left}
+use Rattle.larch_actions.specs.Layout.{IsLawful, IsNamed, HasNames, AreBelow, letter, layout_of, layout_text}
+use Rattle.larch_actions.specs.Rows.{word_text, kinds_of, endings_of, row_of}
+use Rattle.larch_actions.proofs.Names.{few_of, letter_high}
+use Rattle.larch_actions.proofs.Table.{is_plain, each_plain}
 use Rattle.trace_core.specs.declared.line.Line.{Line}
 use Rattle.trace_core.specs.declared.line.Line.TheVariants as line
 use Rattle.trace_core.specs.declared.line.Expect.{Expect}
 use Rattle.trace_core.specs.declared.line.Expect.TheVariants as expect
 use Rattle.trace_core.specs.Names.{IsRising}
-use Rattle.trace_core.specs.Text.{action_text, names_text, wait_text, members, first_line, layout_line, event_line, end_line, value_line, values_text, rest_text, IsRest, IsLaid, IsTrace}
+use Rattle.trace_core.specs.Text.{action_text, names_text, with_name, with_names, with_ending, members, first_line, layout_line, event_line, end_line, value_line, values_text, rest_text, IsRest, IsLaid, IsTrace}
 use Rattle.trace_core.specs.Lines.{line_text, IsPossible, IsAllowed, IsSomeValues, IsTextFrom, IsTextBehind}
 use Rattle.trace_core.proofs.Words.{chosen}
 use Rattle.trace_core.proofs.Grammar.{IsFlat, IsFlat-append, IsLine, Unfolds}
+use Rattle.trace_core.proofs.Choices.{both_true}
 use Rattle.trace_core.proofs.Members.{rising-members}
+use Rattle.trace_core.proofs.RowTexts.{neither}
+use Rattle.trace_core.proofs.RowLaws.{EndsIn, named_parts}
 
 abbrev is_flat : List ℕ → Bool
 is_flat [] = true
@@ -44,35 +57,48 @@ flat_named front word n p w fits =
 flat_word : (front word : List ℕ) → IsFlat front → is_flat word ≡ true → IsFlat (front ++ word)
 flat_word front word p w = IsFlat-append front word p (flat_from word w)
 
-flat_wait : (word : List ℕ) (m c : ℕ) → is_flat word ≡ true → m < 2 ^ 64 → c < 2 ^ 64 → IsFlat (wait_text word m c)
-flat_wait word m c w p q = flat_named (word ++ codes " m" ++ decimal m) (codes " c") c (flat_named word (codes " m") m (flat_from word w) refl p) refl q
+flat_plain : (bytes : List ℕ) → is_plain bytes ≡ true → IsFlat bytes
+flat_plain [] e = tt
+flat_plain (c ∷ bytes) e =
+    let b = both_true (nat_lt 44 c) (is_plain bytes) e in
+    (λ k. let low : 44 < c = search (rules, tests, b.0) in omega arith, flat_plain bytes b.1)
+
+flat_name : (front : List ℕ) (k : Kind) (n : ℕ) → IsFlat front → n < 2 ^ 64 → IsFlat (with_name front k n)
+flat_name front k n p fits =
+    IsFlat-append (front ++ 32 ∷ letter k ∷ []) (decimal n) (IsFlat-append front (32 ∷ letter k ∷ []) p (λ e. omega arith, (λ e. omega (arith, letter_high k), tt))) (flat_decimal n fits)
+
+flat_with : (l : Layout) → IsLawful l → (front : List ℕ) (ks : Kinds) (x : Numbers) → IsFlat front → AreBelow l ks x → IsFlat (with_names front ks x)
+flat_with l ok front kinds.Nothing x p h = p
+flat_with l ok front (kinds.One k) x p h = flat_name front k x.first p (omega (arith, h, few_of l ok k))
+flat_with l ok front (kinds.Two k j) x p h =
+    flat_name (with_name front k x.first) j x.second (flat_name front k x.first p (omega (arith, h.0, few_of l ok k))) (omega (arith, h.1, few_of l ok j))
 
 flat_names : (least bound : ℕ) (ts : List ℕ) → bound ≤ 64 → IsRising least bound ts → IsFlat (names_text ts)
 flat_names least bound [] small h = tt
 flat_names least bound (t ∷ ts) small h = IsFlat-append (codes " t" ++ decimal t) (names_text ts) (flat_named [] (codes " t") t tt refl (omega (arith, h.1))) (flat_names (t + 1) bound ts small h.2)
 
+flat_left : (l : Layout) → IsLawful l → (front : List ℕ) (e : Ending) → IsFlat front → EndsIn l endings.Threads e → IsFlat (with_ending front e)
+flat_left l ok front (Left left) p h =
+    IsFlat-append (front ++ codes " left") (names_text (members left)) (flat_word front (codes " left") p refl) (flat_names 0 l.threads (members left) ok.threads (rising-members left l.threads h.1))
+flat_left l ok front _ p h = let k = h.0.1 in absurd (cc)
+
+flat_ending : (l : Layout) → IsLawful l → (es : Endings) (front : List ℕ) (e : Ending) → IsFlat front → EndsIn l es e → IsFlat (with_ending front e)
+flat_ending l ok endings.Threads front e p h = flat_left l ok front e p h
+flat_ending l ok _ front Nothing p h = p
+flat_ending l ok _ front Returns p h = flat_word front (codes " returns") p refl
+flat_ending l ok _ front Raises p h = flat_word front (codes " raises") p refl
+flat_ending l ok _ front Yes p h = flat_word front (codes " yes") p refl
+flat_ending l ok _ front No p h = flat_word front (codes " no") p refl
+flat_ending l ok endings.Nothing front (Left left) p h = absurd (cc)
+flat_ending l ok endings.Outcome front (Left left) p h = neither _ Returns Raises (λ k. absurd (cc)) (λ k. absurd (cc)) h
+flat_ending l ok endings.Answer front (Left left) p h = neither _ Yes No (λ k. absurd (cc)) (λ k. absurd (cc)) h
+
 flat_action : (l : Layout) (a : Action) → IsLawful l → IsNamed l a → IsFlat (action_text a)
-flat_action l (Acquire m) ok h = flat_named [] (codes "acquire m") m.0 tt refl (omega (arith, ok.mutexes))
-flat_action l (Release m) ok h = flat_named [] (codes "release m") m.0 tt refl (omega (arith, ok.mutexes))
-flat_action l (Enqueue m c) ok h = flat_wait (codes "enqueue") m.0 c.0 refl (omega (arith, ok.mutexes, h.0)) (omega (arith, ok.conditions, h.1))
-flat_action l (Resume m c) ok h = flat_wait (codes "resume") m.0 c.0 refl (omega (arith, ok.mutexes, h.0)) (omega (arith, ok.conditions, h.1))
-flat_action l (AlertEnqueue m c) ok h = flat_wait (codes "alert-enqueue") m.0 c.0 refl (omega (arith, ok.mutexes, h.0)) (omega (arith, ok.conditions, h.1))
-flat_action l (AlertReturn m c) ok h =
-    flat_word (wait_text (codes "alert-resume") m.0 c.0) (codes " returns") (flat_wait (codes "alert-resume") m.0 c.0 refl (omega (arith, ok.mutexes, h.0)) (omega (arith, ok.conditions, h.1))) refl
-flat_action l (AlertRaise m c) ok h =
-    flat_word (wait_text (codes "alert-resume") m.0 c.0) (codes " raises") (flat_wait (codes "alert-resume") m.0 c.0 refl (omega (arith, ok.mutexes, h.0)) (omega (arith, ok.conditions, h.1))) refl
-flat_action l (Signal c left) ok h =
-    IsFlat-append (codes "signal c" ++ decimal c.0 ++ codes " left") (names_text (members left))
-    (flat_word (codes "signal c" ++ decimal c.0) (codes " left") (flat_named [] (codes "signal c") c.0 tt refl (omega (arith, ok.conditions, h.0))) refl)
-    (flat_names 0 l.threads (members left) ok.threads (rising-members left l.threads h.1))
-flat_action l (Broadcast c) ok h = flat_named [] (codes "broadcast c") c.0 tt refl (omega (arith, ok.conditions))
-flat_action l (P s) ok h = flat_named [] (codes "p s") s.0 tt refl (omega (arith, ok.semaphores))
-flat_action l (V s) ok h = flat_named [] (codes "v s") s.0 tt refl (omega (arith, ok.semaphores))
-flat_action l (Alert t) ok h = flat_named [] (codes "alert t") t.0 tt refl (omega (arith, ok.threads))
-flat_action l (TestAlert true) ok h = flat_from (codes "test-alert yes") refl
-flat_action l (TestAlert false) ok h = flat_from (codes "test-alert no") refl
-flat_action l (AlertPReturn s) ok h = flat_word (codes "alert-p s" ++ decimal s.0) (codes " returns") (flat_named [] (codes "alert-p s") s.0 tt refl (omega (arith, ok.semaphores))) refl
-flat_action l (AlertPRaise s) ok h = flat_word (codes "alert-p s" ++ decimal s.0) (codes " raises") (flat_named [] (codes "alert-p s") s.0 tt refl (omega (arith, ok.semaphores))) refl
+flat_action l a ok h =
+    let r = row_of a in
+    let parts = named_parts l a h in
+    let word = flat_plain (word_text r.word) (each_plain r.word).1 in
+    flat_ending l ok (endings_of r.word) (with_names (word_text r.word) (kinds_of r.word) r.numbers) r.ending (flat_with l ok (word_text r.word) (kinds_of r.word) r.numbers word parts.0) parts.1
 
 event_is_line : (l : Layout) (n : ℕ) (e : Event) → IsLawful l → n < 2 ^ 64 → HasNames l e → IsLine (event_line n e)
 event_is_line l n e ok fits h = (
@@ -86,15 +112,16 @@ event_is_line l n e ok fits h = (
 end_is_line : (n : ℕ) → n < 2 ^ 64 → IsLine (end_line n)
 end_is_line n fits = (codes "end " ++ decimal n, flat_named [] (codes "end ") n tt refl fits, refl)
 
+-- a word that has no newline, a number, and what is behind them
+flat_count : (word : List ℕ) (n : ℕ) (rest : List ℕ) → is_flat word ≡ true → n < 2 ^ 64 → IsFlat rest → IsFlat (word ++ (decimal n ++ rest))
+flat_count word n rest w fits p = IsFlat-append word (decimal n ++ rest) (flat_from word w) (IsFlat-append (decimal n) rest (flat_decimal n fits) p)
+
 counts_is_line : (l : Layout) → IsLawful l → IsLine (layout_line l)
 counts_is_line l ok =
-    let t = flat_named [] (codes "threads ") l.threads tt refl (omega (arith, ok.threads)) in
-    let m = flat_named (codes "threads " ++ decimal l.threads) (codes " mutexes ") l.mutexes t refl (omega (arith, ok.mutexes)) in
-    let c = flat_named (codes "threads " ++ decimal l.threads ++ codes " mutexes " ++ decimal l.mutexes) (codes " conditions ") l.conditions m refl (omega (arith, ok.conditions)) in (
-      codes "threads " ++ decimal l.threads ++ codes " mutexes " ++ decimal l.mutexes ++ codes " conditions " ++ decimal l.conditions ++ codes " semaphores " ++ decimal l.semaphores,
-      flat_named (codes "threads " ++ decimal l.threads ++ codes " mutexes " ++ decimal l.mutexes ++ codes " conditions " ++ decimal l.conditions) (codes " semaphores ") l.semaphores c refl (omega (arith, ok.semaphores)),
-      refl,
-    )
+    let s = IsFlat-append (codes " semaphores ") (decimal l.semaphores) (flat_from (codes " semaphores ") refl) (flat_decimal l.semaphores (omega (arith, ok.semaphores))) in
+    let c = flat_count (codes " conditions ") l.conditions (codes " semaphores " ++ decimal l.semaphores) refl (omega (arith, ok.conditions)) s in
+    let m = flat_count (codes " mutexes ") l.mutexes (codes " conditions " ++ (decimal l.conditions ++ (codes " semaphores " ++ decimal l.semaphores))) refl (omega (arith, ok.mutexes)) c in
+    (layout_text l, flat_count (codes "threads ") l.threads (codes " mutexes " ++ (decimal l.mutexes ++ (codes " conditions " ++ (decimal l.conditions ++ (codes " semaphores " ++ decimal l.semaphores))))) refl (omega (arith, ok.threads)) m, refl)
 
 value_is_line : (k v : ℕ) → k < 64 → v < 2 ^ 64 → IsLine (value_line (record { mutex = k; value = v }))
 value_is_line k v low fits = (
@@ -146,7 +173,7 @@ values_close l least (line.Value k v) rest h r = (record { mutex = k; value = v 
 values_close l least _ rest h r = absurd h
 
 one_thread : Layout
-one_thread = record { threads = 1; mutexes = 0; conditions = 0; semaphores = 0 }
+one_thread = layout_of 1 0 0 0
 
 one_thread_is : IsLawful one_thread
 unfolding one_thread

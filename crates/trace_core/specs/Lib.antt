@@ -3,7 +3,6 @@ pub mod Prefixes
 pub mod Codes
 pub mod Reading
 pub mod Names
-pub mod Choices
 pub mod Lines
 pub mod Held
 pub mod Spelled

@@ -1,17 +1,26 @@
 -- Reading the lines of a trace text.
-use Rattle.std.specs.Prelude.{◌≡◌, ℕ, ◌+◌, ◌^◌, ◌<◌, ◌≤◌, nat_lt, ◌==◌, Bool, true, false, List, [], ◌∷◌, ◌++◌, if◌then◌else◌, codes, decimal, Ok, Err, Result}
+use Rattle.std.specs.Prelude.{◌≡◌, ℕ, ◌+◌, ◌^◌, ◌<◌, ◌≤◌, nat_lt, ◌&&◌, Bool, true, false, List, [], ◌∷◌, ◌++◌, if◌then◌else◌, codes, decimal, Ok, Err, Result}
 use Rattle.larch_actions.specs.declared.event.Layout.{Layout}
 use Rattle.larch_actions.specs.declared.event.Event.{Event}
 use Rattle.larch_actions.specs.declared.event.Action.{Action}
-use Rattle.larch_actions.specs.declared.event.Action.TheVariants as action
-use Rattle.larch_actions.specs.Layout.{IsLawful, HasNames}
+use Rattle.larch_actions.specs.declared.kind.Kind.{Kind}
+use Rattle.larch_actions.specs.declared.rows.Word.{Word}
+use Rattle.larch_actions.specs.declared.rows.Numbers.{Numbers}
+use Rattle.larch_actions.specs.declared.rows.Kinds.{Kinds}
+use Rattle.larch_actions.specs.declared.rows.Kinds.TheVariants as kinds
+use Rattle.larch_actions.specs.declared.rows.Endings.{Endings}
+use Rattle.larch_actions.specs.declared.rows.Endings.TheVariants as endings
+use Rattle.larch_actions.specs.declared.rows.Ending.{Ending}
+use Rattle.larch_actions.specs.declared.rows.Ending.TheVariants as ending
+use Rattle.larch_actions.specs.Rows.{words, word_text, kinds_of, endings_of, none, one, two, answer_of, made}
+use Rattle.larch_actions.specs.Layout.{IsLawful, HasNames, count_of, letter, layout_of, most_objects, most_threads}
 use Rattle.trace_core.specs.declared.line.Line.{Line}
 use Rattle.trace_core.specs.declared.line.Line.TheVariants as line
 use Rattle.trace_core.specs.declared.line.Expect.{Expect}
 use Rattle.trace_core.specs.declared.line.Expect.TheVariants as expect
 use Rattle.std.specs.declared.result.Result.{Result}
 use Rattle.trace_core.specs.declared.line.Stop.{Stop}
-use Rattle.trace_core.specs.declared.line.Stop.TheVariants.{More, Dead}
+use Rattle.trace_core.specs.declared.line.Stop.TheVariants.{Dead}
 use Rattle.trace_core.specs.Reading.{Reader, ◌>>=◌, word_at, after_word, both, as_value, either, only_if, number_at}
 use Rattle.trace_core.specs.Names.{number_from, names_at, set_from}
 use Rattle.trace_core.specs.Text.{first_line, layout_line, event_line, end_line, value_line, IsRest, IsLaid, IsTrace, IsValues, MutexValue, AreValues, values_text}
@@ -24,82 +33,58 @@ place_at n bytes = word_at (decimal n) bytes >>= word_at (codes " t")
 abbrev pub named_at : List ℕ → ℕ → ℕ → Reader ℕ
 named_at word bound stop = only_if (nat_lt 0 bound) (after_word word (number_at 0 bound stop))
 
--- a word, and the names of a mutex and a condition
-abbrev pub wait_at : List ℕ → ℕ → ℕ → ℕ → Reader (ℕ × ℕ)
-wait_at word mutexes conditions stop = only_if (nat_lt 0 conditions) (both (named_at word mutexes 32) (λ _. named_at (codes "c") conditions stop))
-
 -- one word or the other
 abbrev pub flag_at : List ℕ → List ℕ → Reader Bool
 flag_at one other = either (after_word one (λ rest. Ok (true, rest))) (after_word other (λ rest. Ok (false, rest)))
 
-abbrev pub ending_at : Reader Bool
-ending_at = flag_at (codes "returns" ++ 10 ∷ []) (codes "raises" ++ 10 ∷ [])
+-- the byte behind the last name, or behind a word with none: a newline where nothing may follow
+abbrev pub stop_of : Endings → ℕ
+stop_of endings.Nothing = 10
+stop_of _ = 32
 
-abbrev pub resumed : (ℕ × ℕ) × Bool → Action
-resumed p = if p.1 then action.AlertReturn (record { 0 = p.0.0 }) (record { 0 = p.0.1 }) else action.AlertRaise (record { 0 = p.0.0 }) (record { 0 = p.0.1 })
+-- the byte behind a word
+abbrev pub gap_of : Kinds → Endings → ℕ
+gap_of kinds.Nothing es = stop_of es
+gap_of _ es = 32
 
-abbrev pub taken : ℕ × Bool → Action
-taken p = if p.1 then action.AlertPReturn (record { 0 = p.0 }) else action.AlertPRaise (record { 0 = p.0 })
+abbrev pub outcome_of : Bool → Ending
+outcome_of returns = if returns then ending.Returns else ending.Raises
 
-abbrev pub acquire_at : Layout → Reader Action
-acquire_at l = as_value (λ m. action.Acquire (record { 0 = m })) (named_at (codes "acquire m") l.mutexes 10)
+-- what stands behind the names
+abbrev pub ending_at : Layout → Endings → Reader Ending
+ending_at l endings.Nothing = λ rest. Ok (ending.Nothing, rest)
+ending_at l endings.Outcome = as_value outcome_of (flag_at (codes "returns" ++ 10 ∷ []) (codes "raises" ++ 10 ∷ []))
+ending_at l endings.Answer = as_value answer_of (flag_at (codes "yes" ++ 10 ∷ []) (codes "no" ++ 10 ∷ []))
+ending_at l endings.Threads = as_value ending.Left (after_word (codes "left") (as_value set_from (names_at l.threads)))
 
-abbrev pub release_at : Layout → Reader Action
-release_at l = as_value (λ m. action.Release (record { 0 = m })) (named_at (codes "release m") l.mutexes 10)
+-- a name up to the byte that stops it
+abbrev pub name_at : Layout → Kind → ℕ → Reader ℕ
+name_at l k stop = after_word (letter k ∷ []) (number_at 0 (count_of l k) stop)
 
-abbrev pub p_at : Layout → Reader Action
-p_at l = as_value (λ s. action.P (record { 0 = s })) (named_at (codes "p s") l.semaphores 10)
+-- the names and the ending
+abbrev pub behind_at : Layout → Kinds → Endings → Reader (Numbers × Ending)
+behind_at l kinds.Nothing es = as_value (λ e. (none, e)) (ending_at l es)
+behind_at l (kinds.One k) es = as_value (λ p. (one p.0, p.1)) (both (name_at l k (stop_of es)) (λ _. ending_at l es))
+behind_at l (kinds.Two k j) es = as_value (λ p. (two p.0 p.1.0, p.1.1)) (both (name_at l k 32) (λ _. both (name_at l j (stop_of es)) (λ _. ending_at l es)))
 
-abbrev pub v_at : Layout → Reader Action
-v_at l = as_value (λ s. action.V (record { 0 = s })) (named_at (codes "v s") l.semaphores 10)
+-- there are things of each kind
+abbrev pub are_some : Layout → Kinds → Bool
+are_some l kinds.Nothing = true
+are_some l (kinds.One k) = nat_lt 0 (count_of l k)
+are_some l (kinds.Two k j) = nat_lt 0 (count_of l k) && nat_lt 0 (count_of l j)
 
-abbrev pub enqueue_at : Layout → Reader Action
-enqueue_at l = as_value (λ p. action.Enqueue (record { 0 = p.0 }) (record { 0 = p.1 })) (wait_at (codes "enqueue m") l.mutexes l.conditions 10)
+-- an action with this word up to the end of its line
+abbrev pub row_at : Layout → Word → Reader Action
+row_at l w =
+    as_value (λ p. made w p.0 p.1) (only_if (are_some l (kinds_of w)) (after_word (word_text w) (after_word (gap_of (kinds_of w) (endings_of w) ∷ []) (behind_at l (kinds_of w) (endings_of w)))))
 
-abbrev pub resume_at : Layout → Reader Action
-resume_at l = as_value (λ p. action.Resume (record { 0 = p.0 }) (record { 0 = p.1 })) (wait_at (codes "resume m") l.mutexes l.conditions 10)
+-- an action with one of these words
+abbrev pub rows_at : Layout → List Word → Reader Action
+rows_at l [] = λ bytes. Err Dead
+rows_at l (w ∷ ws) = either (row_at l w) (rows_at l ws)
 
-abbrev pub signal_at : Layout → Reader Action
-signal_at l = as_value (λ p. action.Signal (record { 0 = p.0 }) (set_from p.1)) (both (named_at (codes "signal c") l.conditions 32) (λ _. after_word (codes "left") (names_at l.threads)))
-
-abbrev pub broadcast_at : Layout → Reader Action
-broadcast_at l = as_value (λ c. action.Broadcast (record { 0 = c })) (named_at (codes "broadcast c") l.conditions 10)
-
-abbrev pub alert_at : Layout → Reader Action
-alert_at l = as_value (λ t. action.Alert (record { 0 = t })) (named_at (codes "alert t") l.threads 10)
-
-abbrev pub test_alert_at : Reader Action
-test_alert_at = as_value action.TestAlert (after_word (codes "test-alert ") (flag_at (codes "yes" ++ 10 ∷ []) (codes "no" ++ 10 ∷ [])))
-
-abbrev pub alert_enqueue_at : Layout → Reader Action
-alert_enqueue_at l = as_value (λ p. action.AlertEnqueue (record { 0 = p.0 }) (record { 0 = p.1 })) (wait_at (codes "alert-enqueue m") l.mutexes l.conditions 10)
-
-abbrev pub alert_resume_at : Layout → Reader Action
-alert_resume_at l = as_value resumed (both (wait_at (codes "alert-resume m") l.mutexes l.conditions 32) (λ _. ending_at))
-
-abbrev pub alert_p_at : Layout → Reader Action
-alert_p_at l = as_value taken (both (named_at (codes "alert-p s") l.semaphores 32) (λ _. ending_at))
-
--- the actions that begin with a, and with r
-abbrev pub a_at : Layout → Reader Action
-a_at l = either (acquire_at l) (either (alert_at l) (either (alert_enqueue_at l) (either (alert_resume_at l) (alert_p_at l))))
-
-abbrev pub r_at : Layout → Reader Action
-r_at l = either (release_at l) (resume_at l)
-
--- an action up to the end of its line, told by its first letter
 abbrev pub action_at : Layout → Reader Action
-action_at l [] = Err More
-action_at l (c ∷ bytes) =
-    if c == 97 then a_at l (c ∷ bytes)
-    else if c == 114 then r_at l (c ∷ bytes)
-    else if c == 112 then p_at l (c ∷ bytes)
-    else if c == 118 then v_at l (c ∷ bytes)
-    else if c == 101 then enqueue_at l (c ∷ bytes)
-    else if c == 115 then signal_at l (c ∷ bytes)
-    else if c == 98 then broadcast_at l (c ∷ bytes)
-    else if c == 116 then test_alert_at (c ∷ bytes)
-    else Err Dead
+action_at l = rows_at l words
 
 abbrev pub event_of : ℕ × Action → Event
 event_of p = record { thread = record { 0 = p.0 }; action = p.1 }
@@ -113,20 +98,20 @@ end_at n = after_word (codes "end ") (after_word (decimal n) (after_word (10 ∷
 abbrev pub event_or_end_at : Layout → ℕ → Reader Line
 event_or_end_at l n = either (as_value line.Event (event_at l n)) (end_at n)
 
-abbrev pub layout_of : ℕ × (ℕ × (ℕ × ℕ)) → Layout
-layout_of p = record { threads = p.0; mutexes = p.1.0; conditions = p.1.1.0; semaphores = p.1.1.1 }
+abbrev pub layout_from : ℕ × (ℕ × (ℕ × ℕ)) → Layout
+layout_from p = layout_of p.0 p.1.0 p.1.1.0 p.1.1.1
 
 abbrev pub counts_at : Reader Layout
 counts_at =
-    as_value layout_of
+    as_value layout_from
     (after_word (codes "threads ")
-    (both (number_at 1 65 32) (λ _.
+    (both (number_at 1 (most_threads + 1) 32) (λ _.
     after_word (codes "mutexes ")
-    (both (number_at 0 65 32) (λ _.
+    (both (number_at 0 (most_objects + 1) 32) (λ _.
     after_word (codes "conditions ")
-    (both (number_at 0 65 32) (λ _.
+    (both (number_at 0 (most_objects + 1) 32) (λ _.
     after_word (codes "semaphores ")
-    (number_at 0 65 10))))))))
+    (number_at 0 (most_objects + 1) 10))))))))
 
 abbrev pub head_at : Reader Line
 head_at = after_word first_line (λ rest. Ok (line.Head, rest))

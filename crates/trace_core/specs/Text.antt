@@ -1,12 +1,19 @@
 -- Trace texts.
-use Rattle.std.specs.Prelude.{◌≡◌, ℕ, zero, suc, ◌+◌, ◌^◌, ◌<◌, ◌≤◌, true, false, List, [], ◌∷◌, ◌++◌, if◌then◌else◌, length, codes, decimal}
+use Rattle.std.specs.Prelude.{◌≡◌, ℕ, zero, suc, ◌+◌, ◌^◌, ◌<◌, ◌≤◌, List, [], ◌∷◌, ◌++◌, if◌then◌else◌, length, codes, decimal}
 use Rattle.std.specs.List.{AllByRecursion}
 use Rattle.larch_actions.specs.declared.event.Layout.{Layout}
 use Rattle.larch_actions.specs.declared.event.Event.{Event}
 use Rattle.larch_actions.specs.declared.event.Action.{Action}
-use Rattle.larch_actions.specs.declared.event.Action.TheVariants.{Acquire, Release, Enqueue, Resume, AlertEnqueue, AlertReturn, AlertRaise, Signal, Broadcast, P, V, Alert, TestAlert, AlertPReturn, AlertPRaise}
+use Rattle.larch_actions.specs.declared.kind.Kind.{Kind}
+use Rattle.larch_actions.specs.declared.rows.Numbers.{Numbers}
+use Rattle.larch_actions.specs.declared.rows.Kinds.{Kinds}
+use Rattle.larch_actions.specs.declared.rows.Kinds.TheVariants as kinds
+use Rattle.larch_actions.specs.declared.rows.Ending.{Ending}
+use Rattle.larch_actions.specs.declared.rows.Ending.TheVariants.{Nothing, Returns, Raises, Yes, No, Left}
+use Rattle.larch_actions.specs.declared.rows.Row.{Row}
+use Rattle.larch_actions.specs.Rows.{word_text, kinds_of, row_of}
 use Rattle.larch_actions.specs.declared.thread_set.ThreadSet.{ThreadSet}
-use Rattle.larch_actions.specs.Layout.{IsLawful, HasNames}
+use Rattle.larch_actions.specs.Layout.{IsLawful, HasNames, layout_text, letter}
 use Rattle.larch_actions.specs.Sets.{in_set}
 
 abbrev pub newline : List ℕ
@@ -16,8 +23,7 @@ abbrev pub first_line : List ℕ
 first_line = codes "firefly-trace 1" ++ newline
 
 abbrev pub layout_line : Layout → List ℕ
-layout_line l =
-    codes "threads " ++ decimal l.threads ++ codes " mutexes " ++ decimal l.mutexes ++ codes " conditions " ++ decimal l.conditions ++ codes " semaphores " ++ decimal l.semaphores ++ newline
+layout_line l = layout_text l ++ newline
 
 -- which of n threads from t on are in the set
 unfoldable pub members_from : ThreadSet → ℕ → ℕ → List ℕ
@@ -33,27 +39,31 @@ abbrev pub names_text : List ℕ → List ℕ
 names_text [] = []
 names_text (t ∷ ts) = codes " t" ++ decimal t ++ names_text ts
 
--- a word, and the names of a mutex and a condition
-abbrev pub wait_text : List ℕ → ℕ → ℕ → List ℕ
-wait_text word m c = word ++ codes " m" ++ decimal m ++ codes " c" ++ decimal c
+-- the text, and behind it a name
+abbrev pub with_name : List ℕ → Kind → ℕ → List ℕ
+with_name front k n = front ++ (32 ∷ letter k ∷ []) ++ decimal n
+
+-- the text, and behind it the names
+abbrev pub with_names : List ℕ → Kinds → Numbers → List ℕ
+with_names front kinds.Nothing x = front
+with_names front (kinds.One k) x = with_name front k x.first
+with_names front (kinds.Two k j) x = with_name (with_name front k x.first) j x.second
+
+-- the text, and behind it the ending
+abbrev pub with_ending : List ℕ → Ending → List ℕ
+with_ending front Nothing = front
+with_ending front Returns = front ++ codes " returns"
+with_ending front Raises = front ++ codes " raises"
+with_ending front Yes = front ++ codes " yes"
+with_ending front No = front ++ codes " no"
+with_ending front (Left left) = front ++ codes " left" ++ names_text (members left)
+
+-- the word, the names behind it and the ending
+abbrev pub row_text : Row → List ℕ
+row_text r = with_ending (with_names (word_text r.word) (kinds_of r.word) r.numbers) r.ending
 
 abbrev pub action_text : Action → List ℕ
-action_text (Acquire m) = codes "acquire m" ++ decimal m.0
-action_text (Release m) = codes "release m" ++ decimal m.0
-action_text (Enqueue m c) = wait_text (codes "enqueue") m.0 c.0
-action_text (Resume m c) = wait_text (codes "resume") m.0 c.0
-action_text (AlertEnqueue m c) = wait_text (codes "alert-enqueue") m.0 c.0
-action_text (AlertReturn m c) = wait_text (codes "alert-resume") m.0 c.0 ++ codes " returns"
-action_text (AlertRaise m c) = wait_text (codes "alert-resume") m.0 c.0 ++ codes " raises"
-action_text (Signal c left) = codes "signal c" ++ decimal c.0 ++ codes " left" ++ names_text (members left)
-action_text (Broadcast c) = codes "broadcast c" ++ decimal c.0
-action_text (P s) = codes "p s" ++ decimal s.0
-action_text (V s) = codes "v s" ++ decimal s.0
-action_text (Alert t) = codes "alert t" ++ decimal t.0
-action_text (TestAlert true) = codes "test-alert yes"
-action_text (TestAlert false) = codes "test-alert no"
-action_text (AlertPReturn s) = codes "alert-p s" ++ decimal s.0 ++ codes " returns"
-action_text (AlertPRaise s) = codes "alert-p s" ++ decimal s.0 ++ codes " raises"
+action_text a = row_text (row_of a)
 
 -- the line of the event at this place
 abbrev pub event_line : ℕ → Event → List ℕ

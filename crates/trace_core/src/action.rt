@@ -1,195 +1,217 @@
-//! Reading actions up to the end of their lines.
-ghost use Rattle.std.specs.Prelude.{◌≡◌, ◌≤◌, codes};
+//! Reading actions up to the end of their lines, by their rows. The usual lines are read another way (held/action.rt).
+ghost use Rattle.std.specs.Prelude.{◌≡◌, ◌<◌};
 ghost use Rattle.larch_actions.specs.Layout.{IsLawful};
 ghost use Rattle.trace_core.specs.Reading.{Gives};
-ghost use Rattle.trace_core.specs.Lines.{wait_at, p_at, v_at, enqueue_at, broadcast_at, signal_at, test_alert_at, alert_resume_at, alert_p_at, a_at, r_at, action_at};
+ghost use Rattle.trace_core.specs.Lines.{stop_of, gap_of, are_some, ending_at, name_at, behind_at, row_at, action_at};
 
 use crate::line::Stop;
 use crate::names::names;
-use crate::token::{flag, named, word};
-use larch_actions::{Action, CondId, Layout, MutexId, SemId, ThreadId};
+use crate::token::{flag, number, word};
+use larch_actions::{Action, Ending, Endings, Kind, Kinds, Layout, Numbers, Row, WORDS, Word};
 
-// The names of a mutex and a condition, and the bytes behind them.
-struct Names<'b> {
-    mutex: MutexId,
-    cond: CondId,
+// The numbers of the names behind a word, the ending, and the bytes behind it.
+#[derive(Clone, Copy)]
+struct Parts<'b> {
+    numbers: Numbers,
+    ending: Ending,
     rest: &'b [u8],
 }
 
-// Reads a word, and the names of a mutex and a condition up to the byte that stops them.
-fn wait<'b>(bytes: &'b [u8], before: &[u8], layout: &Layout, stop: u8) -> Result<Names<'b>, Stop>
-    requires { IsLawful layout.now }
-    ensures { Gives (λ x. ((x.mutex.0, x.cond.0), x.rest.now)) result
-        (wait_at before.now layout.now.mutexes layout.now.conditions stop bytes.now) }
+// The byte behind the last name, or behind a word with none.
+fn stop(endings: Endings) -> u8
+    ensures { result ≡ stop_of endings }
 {
-    if layout.conditions == 0 {
-        return Err(Stop::Dead);
+    match endings {
+        Endings::Nothing => b'\n',
+        _ => b' ',
     }
-    let (m, rest) = match named(bytes, before, layout.mutexes, b' ') {
+}
+
+// The byte behind a word.
+fn gap(kinds: Kinds, endings: Endings) -> u8
+    ensures { result ≡ gap_of kinds endings }
+{
+    match kinds {
+        Kinds::Nothing => stop(endings),
+        _ => b' ',
+    }
+}
+
+// Whether there are things of each kind.
+fn are_some(layout: &Layout, kinds: Kinds) -> bool
+    ensures { result ≡ are_some layout.now kinds }
+{
+    match kinds {
+        Kinds::Nothing => true,
+        Kinds::One(kind) => layout.count(kind) > 0,
+        Kinds::Two(kind, other) => layout.count(kind) > 0 && layout.count(other) > 0,
+    }
+}
+
+// Reads the threads that are left.
+fn left<'b>(bytes: &'b [u8], layout: &Layout) -> Result<(Ending, &'b [u8]), Stop>
+    requires { IsLawful layout.now }
+    ensures { Gives (λ x. (x.0, x.1.now)) result (ending_at layout.now Endings.Threads bytes.now) }
+{
+    let rest = match word(bytes, b"left") {
+        Ok(rest) => rest,
+        Err(stop) => return Err(stop),
+    };
+    match names(rest, layout.threads) {
+        Ok((left, rest)) => Ok((Ending::Left(left), rest)),
+        Err(stop) => Err(stop),
+    }
+}
+
+// Reads what stands behind the names.
+fn ending<'b>(
+    bytes: &'b [u8],
+    layout: &Layout,
+    endings: Endings,
+) -> Result<(Ending, &'b [u8]), Stop>
+    requires { IsLawful layout.now }
+    ensures { Gives (λ x. (x.0, x.1.now)) result (ending_at layout.now endings bytes.now) }
+{
+    match endings {
+        Endings::Nothing => Ok((Ending::Nothing, bytes)),
+        Endings::Outcome => match flag(bytes, b"returns\n", b"raises\n") {
+            Ok((true, rest)) => Ok((Ending::Returns, rest)),
+            Ok((false, rest)) => Ok((Ending::Raises, rest)),
+            Err(stop) => Err(stop),
+        },
+        Endings::Answer => match flag(bytes, b"yes\n", b"no\n") {
+            Ok((true, rest)) => Ok((Ending::Yes, rest)),
+            Ok((false, rest)) => Ok((Ending::No, rest)),
+            Err(stop) => Err(stop),
+        },
+        Endings::Threads => left(bytes, layout),
+    }
+}
+
+// Reads a name up to the byte that stops it.
+fn name<'b>(bytes: &'b [u8], layout: &Layout, kind: Kind, stop: u8) -> Result<(u32, &'b [u8]), Stop>
+    requires { IsLawful layout.now }
+    ensures { Gives (λ x. (x.0, x.1.now)) result (name_at layout.now kind stop bytes.now) }
+{
+    match word(bytes, &[kind.letter()]) {
+        Ok(rest) => number(rest, 0, layout.count(kind), stop),
+        Err(stop) => Err(stop),
+    }
+}
+
+// Reads one name and the ending.
+fn behind_one<'b>(
+    bytes: &'b [u8],
+    layout: &Layout,
+    kind: Kind,
+    endings: Endings,
+) -> Result<Parts<'b>, Stop>
+    requires { IsLawful layout.now }
+    ensures { Gives (λ x. ((x.numbers, x.ending), x.rest.now)) result (behind_at layout.now (Kinds.One kind) endings bytes.now) }
+{
+    let (first, rest) = match name(bytes, layout, kind, stop(endings)) {
         Ok(read) => read,
         Err(stop) => return Err(stop),
     };
-    match named(rest, b"c", layout.conditions, stop) {
-        Ok((c, rest)) => Ok(Names {
-            mutex: MutexId(m),
-            cond: CondId(c),
+    let numbers = Numbers { first, second: 0 };
+    match ending(rest, layout, endings) {
+        Ok((ending, rest)) => Ok(Parts {
+            numbers,
+            ending,
             rest,
         }),
         Err(stop) => Err(stop),
     }
 }
 
-// Reads a signal, with the threads that stay.
-fn signal<'b>(bytes: &'b [u8], layout: &Layout) -> Result<(Action, &'b [u8]), Stop>
+// Reads two names and the ending.
+fn behind_two<'b>(
+    bytes: &'b [u8],
+    layout: &Layout,
+    kinds: (Kind, Kind),
+    endings: Endings,
+) -> Result<Parts<'b>, Stop>
     requires { IsLawful layout.now }
-    ensures { Gives (λ x. (x.0, x.1.now)) result (signal_at layout.now bytes.now) }
+    ensures { Gives (λ x. ((x.numbers, x.ending), x.rest.now)) result
+        (behind_at layout.now (Kinds.Two kinds.0 kinds.1) endings bytes.now) }
 {
-    let (c, rest) = match named(bytes, b"signal c", layout.conditions, b' ') {
+    let (first, rest) = match name(bytes, layout, kinds.0, b' ') {
         Ok(read) => read,
         Err(stop) => return Err(stop),
     };
-    let rest = match word(rest, b"left") {
+    match behind_one(rest, layout, kinds.1, endings) {
+        Ok(more) => Ok(Parts {
+            numbers: Numbers {
+                first,
+                second: more.numbers.first,
+            },
+            ending: more.ending,
+            rest: more.rest,
+        }),
+        Err(stop) => Err(stop),
+    }
+}
+
+// Reads the names and the ending.
+fn behind<'b>(
+    bytes: &'b [u8],
+    layout: &Layout,
+    kinds: Kinds,
+    endings: Endings,
+) -> Result<Parts<'b>, Stop>
+    requires { IsLawful layout.now }
+    ensures { Gives (λ x. ((x.numbers, x.ending), x.rest.now)) result (behind_at layout.now kinds endings bytes.now) }
+{
+    match kinds {
+        Kinds::Nothing => match ending(bytes, layout, endings) {
+            Ok((ending, rest)) => Ok(Parts {
+                numbers: Numbers {
+                    first: 0,
+                    second: 0,
+                },
+                ending,
+                rest,
+            }),
+            Err(stop) => Err(stop),
+        },
+        Kinds::One(kind) => behind_one(bytes, layout, kind, endings),
+        Kinds::Two(kind, other) => behind_two(bytes, layout, (kind, other), endings),
+    }
+}
+
+// Reads an action with this word.
+fn row<'b>(bytes: &'b [u8], layout: &Layout, first: Word) -> Result<(Action, &'b [u8]), Stop>
+    requires { IsLawful layout.now }
+    ensures { Gives (λ x. (x.0, x.1.now)) result (row_at layout.now first bytes.now) }
+{
+    let kinds = first.kinds();
+    let endings = first.endings();
+    if !are_some(layout, kinds) {
+        return Err(Stop::Dead);
+    }
+    let rest = match word(bytes, first.text()) {
         Ok(rest) => rest,
         Err(stop) => return Err(stop),
     };
-    let cond = CondId(c);
-    match names(rest, layout.threads) {
-        Ok((left, rest)) => Ok((Action::Signal { cond, left }, rest)),
-        Err(stop) => Err(stop),
-    }
-}
-
-// Reads a test of the own alert.
-fn test_alert(bytes: &[u8]) -> Result<(Action, &[u8]), Stop>
-    ensures { Gives (λ x. (x.0, x.1.now)) result (test_alert_at bytes.now) }
-{
-    let rest = match word(bytes, b"test-alert ") {
+    let rest = match word(rest, &[gap(kinds, endings)]) {
         Ok(rest) => rest,
         Err(stop) => return Err(stop),
     };
-    match flag(rest, b"yes\n", b"no\n") {
-        Ok((yes, rest)) => Ok((Action::TestAlert { yes }, rest)),
-        Err(stop) => Err(stop),
-    }
-}
-
-// Reads the end of an alertable wait.
-fn alert_resume<'b>(bytes: &'b [u8], layout: &Layout) -> Result<(Action, &'b [u8]), Stop>
-    requires { IsLawful layout.now }
-    ensures { Gives (λ x. (x.0, x.1.now)) result (alert_resume_at layout.now bytes.now) }
-{
-    let Names { mutex, cond, rest } = match wait(bytes, b"alert-resume m", layout, b' ') {
-        Ok(names) => names,
-        Err(stop) => return Err(stop),
-    };
-    match flag(rest, b"returns\n", b"raises\n") {
-        Ok((true, rest)) => Ok((Action::AlertReturn { mutex, cond }, rest)),
-        Ok((false, rest)) => Ok((Action::AlertRaise { mutex, cond }, rest)),
-        Err(stop) => Err(stop),
-    }
-}
-
-// Reads an alertable P.
-fn alert_p<'b>(bytes: &'b [u8], layout: &Layout) -> Result<(Action, &'b [u8]), Stop>
-    requires { IsLawful layout.now }
-    ensures { Gives (λ x. (x.0, x.1.now)) result (alert_p_at layout.now bytes.now) }
-{
-    let (s, rest) = match named(bytes, b"alert-p s", layout.semaphores, b' ') {
-        Ok(read) => read,
-        Err(stop) => return Err(stop),
-    };
-    let sem = SemId(s);
-    match flag(rest, b"returns\n", b"raises\n") {
-        Ok((true, rest)) => Ok((Action::AlertPReturn { sem }, rest)),
-        Ok((false, rest)) => Ok((Action::AlertPRaise { sem }, rest)),
-        Err(stop) => Err(stop),
-    }
-}
-
-// Reads an action that begins with a.
-fn a<'b>(bytes: &'b [u8], layout: &Layout) -> Result<(Action, &'b [u8]), Stop>
-    requires { IsLawful layout.now }
-    ensures { Gives (λ x. (x.0, x.1.now)) result (a_at layout.now bytes.now) }
-{
-    match named(bytes, b"acquire m", layout.mutexes, b'\n') {
-        Err(Stop::Dead) => {}
-        Err(Stop::More) => return Err(Stop::More),
-        Ok((m, rest)) => return Ok((Action::Acquire { mutex: MutexId(m) }, rest)),
-    }
-    match named(bytes, b"alert t", layout.threads, b'\n') {
-        Err(Stop::Dead) => {}
-        Err(Stop::More) => return Err(Stop::More),
-        Ok((t, rest)) => return Ok((Action::Alert { who: ThreadId(t) }, rest)),
-    }
-    match wait(bytes, b"alert-enqueue m", layout, b'\n') {
-        Err(Stop::Dead) => {}
-        Err(Stop::More) => return Err(Stop::More),
-        Ok(Names { mutex, cond, rest }) => return Ok((Action::AlertEnqueue { mutex, cond }, rest)),
-    }
-    match alert_resume(bytes, layout) {
-        Err(Stop::Dead) => {}
-        Err(Stop::More) => return Err(Stop::More),
-        Ok((action, rest)) => return Ok((action, rest)),
-    }
-    alert_p(bytes, layout)
-}
-
-// Reads an action that begins with r.
-fn r<'b>(bytes: &'b [u8], layout: &Layout) -> Result<(Action, &'b [u8]), Stop>
-    requires { IsLawful layout.now }
-    ensures { Gives (λ x. (x.0, x.1.now)) result (r_at layout.now bytes.now) }
-{
-    match named(bytes, b"release m", layout.mutexes, b'\n') {
-        Err(Stop::Dead) => {}
-        Err(Stop::More) => return Err(Stop::More),
-        Ok((m, rest)) => return Ok((Action::Release { mutex: MutexId(m) }, rest)),
-    }
-    match wait(bytes, b"resume m", layout, b'\n') {
-        Ok(Names { mutex, cond, rest }) => Ok((Action::Resume { mutex, cond }, rest)),
-        Err(stop) => Err(stop),
-    }
-}
-
-// Reads a P.
-fn p<'b>(bytes: &'b [u8], layout: &Layout) -> Result<(Action, &'b [u8]), Stop>
-    requires { IsLawful layout.now }
-    ensures { Gives (λ x. (x.0, x.1.now)) result (p_at layout.now bytes.now) }
-{
-    match named(bytes, b"p s", layout.semaphores, b'\n') {
-        Ok((s, rest)) => Ok((Action::P { sem: SemId(s) }, rest)),
-        Err(stop) => Err(stop),
-    }
-}
-
-// Reads a V.
-fn v<'b>(bytes: &'b [u8], layout: &Layout) -> Result<(Action, &'b [u8]), Stop>
-    requires { IsLawful layout.now }
-    ensures { Gives (λ x. (x.0, x.1.now)) result (v_at layout.now bytes.now) }
-{
-    match named(bytes, b"v s", layout.semaphores, b'\n') {
-        Ok((s, rest)) => Ok((Action::V { sem: SemId(s) }, rest)),
-        Err(stop) => Err(stop),
-    }
-}
-
-// Reads the beginning of a wait.
-fn enqueue<'b>(bytes: &'b [u8], layout: &Layout) -> Result<(Action, &'b [u8]), Stop>
-    requires { IsLawful layout.now }
-    ensures { Gives (λ x. (x.0, x.1.now)) result (enqueue_at layout.now bytes.now) }
-{
-    match wait(bytes, b"enqueue m", layout, b'\n') {
-        Ok(Names { mutex, cond, rest }) => Ok((Action::Enqueue { mutex, cond }, rest)),
-        Err(stop) => Err(stop),
-    }
-}
-
-// Reads a broadcast.
-fn broadcast<'b>(bytes: &'b [u8], layout: &Layout) -> Result<(Action, &'b [u8]), Stop>
-    requires { IsLawful layout.now }
-    ensures { Gives (λ x. (x.0, x.1.now)) result (broadcast_at layout.now bytes.now) }
-{
-    match named(bytes, b"broadcast c", layout.conditions, b'\n') {
-        Ok((c, rest)) => Ok((Action::Broadcast { cond: CondId(c) }, rest)),
+    match behind(rest, layout, kinds, endings) {
+        Ok(
+            Parts {
+                numbers,
+                ending,
+                rest,
+            },
+        ) => {
+            let row = Row {
+                word: first,
+                numbers,
+                ending,
+            };
+            Ok((row.action(), rest))
+        }
         Err(stop) => Err(stop),
     }
 }
@@ -199,33 +221,12 @@ pub fn action<'b>(bytes: &'b [u8], layout: &Layout) -> Result<(Action, &'b [u8])
     requires { IsLawful layout.now }
     ensures { Gives (λ x. (x.0, x.1.now)) result (action_at layout.now bytes.now) }
 {
-    if bytes.is_empty() {
-        return Err(Stop::More);
-    }
-    let first = bytes[0];
-    if first == b'a' {
-        return a(bytes, layout);
-    }
-    if first == b'r' {
-        return r(bytes, layout);
-    }
-    if first == b'p' {
-        return p(bytes, layout);
-    }
-    if first == b'v' {
-        return v(bytes, layout);
-    }
-    if first == b'e' {
-        return enqueue(bytes, layout);
-    }
-    if first == b's' {
-        return signal(bytes, layout);
-    }
-    if first == b'b' {
-        return broadcast(bytes, layout);
-    }
-    if first == b't' {
-        return test_alert(bytes);
+    for word in &WORDS {
+        match row(bytes, layout, *word) {
+            Err(Stop::Dead) => {}
+            Err(Stop::More) => return Err(Stop::More),
+            Ok(read) => return Ok(read),
+        }
     }
     Err(Stop::Dead)
 }

@@ -1,11 +1,12 @@
 //! Lines of a trace text, written into a buffer behind its first `at` bytes. Each call says where it ended.
 ghost use Rattle.std.specs.Prelude.{◌≡◌, ◌+◌, ◌≤◌, ◌++◌, length, take, codes, decimal};
-ghost use Rattle.larch_actions.specs.declared.event.Action.TheVariants.{TestAlert};
-ghost use Rattle.trace_core.specs.Text.{newline, first_line, layout_line, members, names_text, wait_text, action_text, event_line, end_line, value_line};
+ghost use Rattle.trace_core.specs.Text.{newline, first_line, layout_line, members, names_text, with_name, with_names, with_ending, action_text, event_line, end_line, value_line};
 
 use crate::digits::add_short_number;
 use itoa::Buffer;
-use larch_actions::{Action, CondId, Event, Layout, MutexId, SemId, ThreadId, ThreadSet};
+use larch_actions::{
+    Action, Ending, Event, Kind, Kinds, Layout, MOST_THREADS, MutexId, Numbers, ThreadId, ThreadSet,
+};
 
 /// Adds the piece.
 pub fn add(buf: &mut [u8], at: usize, piece: &[u8]) -> usize
@@ -64,7 +65,7 @@ fn add_names(buf: &mut [u8], at: usize, left: &ThreadSet) -> usize
     ensures near { result ≤ at + 256 }
 {
     let mut last = at;
-    for t in 0..64 {
+    for t in 0..MOST_THREADS {
         if left.has(ThreadId(t)) {
             last = add_named(buf, last, b" t", t);
         }
@@ -72,91 +73,71 @@ fn add_names(buf: &mut [u8], at: usize, left: &ThreadSet) -> usize
     last
 }
 
-// Adds a word and the names of a mutex and a condition.
-fn add_wait(buf: &mut [u8], at: usize, word: &[u8], mutex: MutexId, cond: CondId) -> usize
-    requires word { length word.now ≤ 20 }
-    requires room { at + 100 ≤ length buf.old }
-    ensures text { take result buf.new ≡ take at buf.old ++ wait_text word.now mutex.0 cond.0 }
-    ensures near { result ≤ at + 64 }
+// Adds a name behind a space.
+#[inline(always)]
+fn add_name(buf: &mut [u8], at: usize, kind: Kind, n: u32) -> usize
+    requires { at + 22 ≤ length buf.old }
+    ensures text { take result buf.new ≡ with_name (take at buf.old) kind n }
+    ensures near { result ≤ at + 22 }
 {
-    let at = add(buf, at, word);
-    let at = add_named(buf, at, b" m", mutex.0);
-    add_named(buf, at, b" c", cond.0)
+    let at = add(buf, at, &[b' ', kind.letter()]);
+    add_number(buf, at, u64::from(n))
 }
 
-// Adds a test of the own alert, with its answer.
-fn add_answer(buf: &mut [u8], at: usize, yes: bool) -> usize
-    requires { at + 20 ≤ length buf.old }
-    ensures text { take result buf.new ≡ take at buf.old ++ action_text (TestAlert yes) }
-    ensures near { result ≤ at + 20 }
+// Adds the names of a row.
+#[inline(always)]
+fn add_row_names(buf: &mut [u8], at: usize, kinds: Kinds, numbers: &Numbers) -> usize
+    requires { at + 44 ≤ length buf.old }
+    ensures text { take result buf.new ≡ with_names (take at buf.old) kinds numbers.now }
+    ensures near { result ≤ at + 44 }
 {
-    if yes {
-        add(buf, at, b"test-alert yes")
-    } else {
-        add(buf, at, b"test-alert no")
+    match kinds {
+        Kinds::Nothing => at,
+        Kinds::One(kind) => add_name(buf, at, kind, numbers.first),
+        Kinds::Two(kind, other) => {
+            let at = add_name(buf, at, kind, numbers.first);
+            add_name(buf, at, other, numbers.second)
+        }
     }
 }
 
-// Adds the end of an alertable wait, with how it ended.
-#[inline(always)]
-fn add_resumed(buf: &mut [u8], at: usize, mutex: MutexId, cond: CondId, ending: &[u8]) -> usize
-    requires ending { length ending.now ≤ 20 }
-    requires room { at + 100 ≤ length buf.old }
-    ensures text { take result buf.new ≡ take at buf.old ++ (wait_text (codes "alert-resume") mutex.0 cond.0 ++ ending.now) }
-    ensures near { result ≤ at + 100 }
+// Adds the threads that are left.
+fn add_left(buf: &mut [u8], at: usize, left: &ThreadSet) -> usize
+    requires { at + 305 ≤ length buf.old }
+    ensures text { take result buf.new ≡ with_ending (take at buf.old) (Ending.Left left.now) }
+    ensures near { result ≤ at + 261 }
 {
-    let at = add_wait(buf, at, b"alert-resume", mutex, cond);
-    add(buf, at, ending)
-}
-
-// Adds an alertable P, with how it ended.
-#[inline(always)]
-fn add_taken(buf: &mut [u8], at: usize, sem: SemId, ending: &[u8]) -> usize
-    requires ending { length ending.now ≤ 20 }
-    requires room { at + 100 ≤ length buf.old }
-    ensures text { take result buf.new ≡ take at buf.old ++ (codes "alert-p s" ++ decimal sem.0 ++ ending.now) }
-    ensures near { result ≤ at + 100 }
-{
-    let at = add_named(buf, at, b"alert-p s", sem.0);
-    add(buf, at, ending)
-}
-
-// Adds a signal, with the threads that stay.
-#[inline(always)]
-fn add_signal(buf: &mut [u8], at: usize, cond: CondId, left: &ThreadSet) -> usize
-    requires { at + 360 ≤ length buf.old }
-    ensures text { take result buf.new ≡ take at buf.old ++ (codes "signal c" ++ decimal cond.0 ++ codes " left"
-        ++ names_text (members left.now)) }
-    ensures near { result ≤ at + 310 }
-{
-    let at = add_named(buf, at, b"signal c", cond.0);
     let at = add(buf, at, b" left");
     add_names(buf, at, left)
 }
 
-// Adds the action.
-fn add_action(buf: &mut [u8], at: usize, action: &Action) -> usize
-    requires { at + 360 ≤ length buf.old }
-    ensures text { take result buf.new ≡ take at buf.old ++ action_text action.now }
-    ensures near { result ≤ at + 310 }
+// Adds the ending of a row.
+#[inline(always)]
+fn add_ending(buf: &mut [u8], at: usize, ending: &Ending) -> usize
+    requires { at + 305 ≤ length buf.old }
+    ensures text { take result buf.new ≡ with_ending (take at buf.old) ending.now }
+    ensures near { result ≤ at + 261 }
 {
-    match *action {
-        Action::Acquire { mutex } => add_named(buf, at, b"acquire m", mutex.0),
-        Action::Release { mutex } => add_named(buf, at, b"release m", mutex.0),
-        Action::Enqueue { mutex, cond } => add_wait(buf, at, b"enqueue", mutex, cond),
-        Action::Resume { mutex, cond } => add_wait(buf, at, b"resume", mutex, cond),
-        Action::AlertEnqueue { mutex, cond } => add_wait(buf, at, b"alert-enqueue", mutex, cond),
-        Action::AlertReturn { mutex, cond } => add_resumed(buf, at, mutex, cond, b" returns"),
-        Action::AlertRaise { mutex, cond } => add_resumed(buf, at, mutex, cond, b" raises"),
-        Action::Signal { cond, ref left } => add_signal(buf, at, cond, left),
-        Action::Broadcast { cond } => add_named(buf, at, b"broadcast c", cond.0),
-        Action::P { sem } => add_named(buf, at, b"p s", sem.0),
-        Action::V { sem } => add_named(buf, at, b"v s", sem.0),
-        Action::Alert { who } => add_named(buf, at, b"alert t", who.0),
-        Action::TestAlert { yes } => add_answer(buf, at, yes),
-        Action::AlertPReturn { sem } => add_taken(buf, at, sem, b" returns"),
-        Action::AlertPRaise { sem } => add_taken(buf, at, sem, b" raises"),
+    match ending {
+        Ending::Nothing => at,
+        Ending::Returns => add(buf, at, b" returns"),
+        Ending::Raises => add(buf, at, b" raises"),
+        Ending::Yes => add(buf, at, b" yes"),
+        Ending::No => add(buf, at, b" no"),
+        Ending::Left(left) => add_left(buf, at, left),
     }
+}
+
+// Adds the action by its row.
+fn add_action(buf: &mut [u8], at: usize, action: &Action) -> usize
+    requires { at + 366 ≤ length buf.old }
+    ensures text { take result buf.new ≡ take at buf.old ++ action_text action.now }
+    ensures near { result ≤ at + 321 }
+{
+    let row = action.row();
+    let at = add(buf, at, row.word.text());
+    let at = add_row_names(buf, at, row.word.kinds(), &row.numbers);
+    add_ending(buf, at, &row.ending)
 }
 
 /// Adds the line of the event in this place, with its newline.

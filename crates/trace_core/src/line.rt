@@ -1,14 +1,14 @@
 //! The lines of a trace text.
-ghost use Rattle.std.specs.Prelude.{◌≡◌, ◌≤◌, ◌<◌, length, codes};
-ghost use Rattle.larch_actions.specs.Layout.{IsLawful};
+ghost use Rattle.std.specs.Prelude.{◌≡◌, ◌+◌, ◌≤◌, ◌<◌, length, codes};
+ghost use Rattle.larch_actions.specs.Layout.{IsLawful, most_objects};
 ghost use Rattle.trace_core.specs.Reading.{Gives, both, as_value};
-ghost use Rattle.trace_core.specs.Lines.{IsPossible, named_at, event_at, end_at, event_or_end_at, head_at, layout_of, counts_at, value_at, line_at};
+ghost use Rattle.trace_core.specs.Lines.{IsPossible, named_at, event_at, end_at, event_or_end_at, head_at, layout_from, counts_at, value_at, line_at};
 
 use crate::action::action;
 use crate::names::number_from;
 use crate::token::{last_number, named, number, place_and_t, word};
 use itoa::Buffer;
-use larch_actions::{Event, Layout, ThreadId};
+use larch_actions::{Event, Layout, MOST_OBJECTS, MOST_THREADS, ThreadId};
 
 /// Why nothing was read: the bytes are only a front of what could be read, or no front of it.
 #[derive(Clone, Copy)]
@@ -100,30 +100,24 @@ fn head(bytes: &[u8]) -> Result<(Line, &[u8]), Stop>
 
 // Reads the counts behind that of the threads, up to the end of the layout line.
 fn last_counts(bytes: &[u8], threads: u32) -> Result<(Layout, &[u8]), Stop>
-    ensures { Gives (λ x. (x.0, x.1.now)) result (as_value (λ p. layout_of (threads, p)) (both (named_at (codes "mutexes ") 65 32) (λ _.
-        both (named_at (codes "conditions ") 65 32) (λ _. named_at (codes "semaphores ") 65 10))) bytes.now) }
+    ensures { Gives (λ x. (x.0, x.1.now)) result (as_value (λ p. layout_from (threads, p))
+        (both (named_at (codes "mutexes ") (most_objects + 1) 32) (λ _. both (named_at (codes "conditions ") (most_objects + 1) 32)
+        (λ _. named_at (codes "semaphores ") (most_objects + 1) 10))) bytes.now) }
 {
-    let (mutexes, rest) = match named(bytes, b"mutexes ", 65, b' ') {
+    let (mutexes, rest) = match named(bytes, b"mutexes ", MOST_OBJECTS + 1, b' ') {
         Ok(read) => read,
         Err(stop) => return Err(stop),
     };
-    let (conditions, rest) = match named(rest, b"conditions ", 65, b' ') {
+    let (conditions, rest) = match named(rest, b"conditions ", MOST_OBJECTS + 1, b' ') {
         Ok(read) => read,
         Err(stop) => return Err(stop),
     };
-    let (semaphores, rest) = match named(rest, b"semaphores ", 65, b'\n') {
+    let (semaphores, rest) = match named(rest, b"semaphores ", MOST_OBJECTS + 1, b'\n') {
         Ok(read) => read,
         Err(stop) => return Err(stop),
     };
-    Ok((
-        Layout {
-            threads,
-            mutexes,
-            conditions,
-            semaphores,
-        },
-        rest,
-    ))
+    let layout = Layout::of(threads, mutexes, conditions, semaphores);
+    Ok((layout, rest))
 }
 
 // Reads the layout line.
@@ -134,7 +128,7 @@ fn counts(bytes: &[u8]) -> Result<(Line, &[u8]), Stop>
         Ok(rest) => rest,
         Err(stop) => return Err(stop),
     };
-    let (threads, rest) = match number(rest, 1, 65, b' ') {
+    let (threads, rest) = match number(rest, 1, MOST_THREADS + 1, b' ') {
         Ok(read) => read,
         Err(stop) => return Err(stop),
     };

@@ -33,12 +33,7 @@ impl<'a, I: Source> EventReader<'a, I> {
             progress: Progress {
                 intake: Intake::new(budget),
                 // Replaced by the text's own when its head is read.
-                layout: Layout {
-                    threads: 1,
-                    mutexes: 0,
-                    conditions: 0,
-                    semaphores: 0,
-                },
+                layout: Layout::of(1, 0, 0, 0),
                 place: Place::first(),
                 phase: Phase::Head,
             },

@@ -1,4 +1,5 @@
-//! Actions up to the end of their lines.
+//! Actions up to the end of their lines, each by its own words and not by its row: so an event of a usual line takes some 140 instructions,
+//! and some 400 where it is read by the row (action.rt). What isn't read here is read there, so a further action needs nothing here.
 ghost use Rattle.std.specs.Prelude.{◌≡◌, ◌≤◌, ◌<◌, ◌+◌, length, IfSome};
 ghost use Rattle.trace_core.specs.Held.{IsActionAt};
 

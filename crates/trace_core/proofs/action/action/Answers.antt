@@ -1,26 +1,22 @@
-use Rattle.trace_core.proofs.Quick.{a_first, r_first, p_first, v_first, e_first, s_first, b_first, t_first}
+use Rattle.std.proofs.Common.{◌≡◌, sym, ◌∙◌, ap, drop, arith}
+use Rattle.larch_actions.specs.Rows.{words}
+use Rattle.trace_core.specs.Lines.{rows_at}
+use Rattle.trace_core.proofs.RowWays.{none_here, more_here, found_here}
 use Rattle.trace_core.proofs.action.action.Goals as goal
 
-pub returns-then-first-eq97 : goal.returns-then-first-eq97
-returns-then-first-eq97 c = rw (a_first c.args.layout.now c.args.bytes.now c.if-first-eq97.true) c.a.ensures
+pub returns-in-Err-More : goal.returns-in-Err-More
+returns-in-Err-More c =
+    sym c.loop-word.invariant ∙ more_here c.args.layout.now words c.loop-word.word-index _ c.args.bytes.now (omega arith) (rw c.in-Err-More.field-0-is at c.in-Err-More.ensures)
 
-pub returns-then-first-eq114 : goal.returns-then-first-eq114
-returns-then-first-eq114 c = rw (r_first c.args.layout.now c.args.bytes.now c.if-first-eq114.true) c.r.ensures
+pub returns-in-Ok : goal.returns-in-Ok
+returns-in-Ok c =
+    sym c.loop-word.invariant ∙ found_here c.args.layout.now words c.loop-word.word-index _ c.args.bytes.now (c.in-Ok.read.0, c.in-Ok.read.1.now) (omega arith) c.in-Ok.ensures
 
-pub returns-then-first-eq112 : goal.returns-then-first-eq112
-returns-then-first-eq112 c = rw (p_first c.args.layout.now c.args.bytes.now c.if-first-eq112.true) c.p.ensures
+pub loop-word-preserved : goal.loop-word-preserved
+loop-word-preserved c =
+    sym (none_here c.args.layout.now words c.loop-word.word-index _ c.args.bytes.now (omega arith) (rw c.in-Err-Dead.field-0-is at c.in-Err-Dead.ensures)) ∙ c.loop-word.invariant
 
-pub returns-then-first-eq118 : goal.returns-then-first-eq118
-returns-then-first-eq118 c = rw (v_first c.args.layout.now c.args.bytes.now c.if-first-eq118.true) c.v.ensures
-
-pub returns-then-first-eq101 : goal.returns-then-first-eq101
-returns-then-first-eq101 c = rw (e_first c.args.layout.now c.args.bytes.now c.if-first-eq101.true) c.enqueue.ensures
-
-pub returns-then-first-eq115 : goal.returns-then-first-eq115
-returns-then-first-eq115 c = rw (s_first c.args.layout.now c.args.bytes.now c.if-first-eq115.true) c.signal.ensures
-
-pub returns-then-first-eq98 : goal.returns-then-first-eq98
-returns-then-first-eq98 c = rw (b_first c.args.layout.now c.args.bytes.now c.if-first-eq98.true) c.broadcast.ensures
-
-pub returns-then-first-eq116 : goal.returns-then-first-eq116
-returns-then-first-eq116 c = rw (t_first c.args.layout.now c.args.bytes.now c.if-first-eq116.true) c.test_alert.ensures
+pub returns : goal.returns
+returns c =
+    let end : c.loop-word.word-index ≡ 13 = omega arith in
+    sym c.loop-word.invariant ∙ ap (λ n. rows_at c.args.layout.now (drop n words) c.args.bytes.now) end
