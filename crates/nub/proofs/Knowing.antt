@@ -27,6 +27,9 @@ module _ {T H W : Type 0} where
         let L : Known T H W → Known T H W = λ k. record k { stand = staged Asleep k.stand } in
         (s, Asleep, stood, tt, same ∙ (asleep ∙ ap L is))
 
+    pub asleep_stand : (z : Known T H W) → r ≡ record l { stand = staged Asleep l.stand } → z ≡ r → z.stand ≡ Some (record s { stage = Asleep })
+    asleep_stand z asleep same = ap (λ k. k.stand) same ∙ (ap (λ k. k.stand) asleep ∙ ap (λ k. staged Asleep k.stand) is)
+
     pub found_stand : r ≡ record l { stand = staged Found l.stand } → r.stand ≡ Some (record s { stage = Found })
     found_stand found = ap (λ k. k.stand) found ∙ ap (λ k. staged Found k.stand) is
 

@@ -4,6 +4,7 @@ ghost use Rattle.larch_actions.specs.Sets.{mem, without};
 ghost use Rattle.nub_rule.specs.declared.view.Stand.{Stand};
 ghost use Rattle.nub_rule.specs.declared.view.Stage.TheVariants.{Asleep, Found};
 ghost use Rattle.nub_rule.specs.Known.{StandsAs};
+ghost use Rattle.nub_rule.specs.Owed.{IsAsleep};
 ghost use Rattle.nub_rule.specs.Places.{most_threads};
 ghost use Rattle.nub_rule.specs.Parts.{staged, HasTested, IsFound};
 
@@ -56,6 +57,8 @@ pub fn clear_ready<U: Uses>(p: &Package<U>, me: &mut Thread<U>) -> u64
 
 /// Sleeps until another thread unparks this one, or for no reason; it returns at once where an unparking came before. Not an atomic step of
 /// the rule: the view stays, and no clause speaks of the result.
-pub fn park<U: Uses, R: Wait>(rt: &R, me: &Thread<U>) {
+pub fn park<U: Uses, R: Wait>(rt: &R, me: &Thread<U>)
+    requires asleep { StandsAs (λ s. IsAsleep s.stage) me.now }
+{
     me.parker.park(rt);
 }
