@@ -11,10 +11,10 @@ ghost use Rattle.nub_rule.specs.Plays.{opened};
 ghost use Rattle.nub.specs.Rest.{HasStored, IsOutside};
 
 use larch_actions::{Action, Event, MutexId, ThreadId};
-use nub::{begin_event, end_event, enter, leave, pop, wake};
+use nub::{begin_event, end_event, enter, leave, pop};
 use nub_rule::{
     Change, Object, Package, Thread, Uses, Why, clear_bit, clear_bit_in_wait, clear_sem,
-    owes_unparking, read_length, unpark_noted,
+    owes_unparking, read_length, set_ready, unpark, unpark_noted,
 };
 use std::sync::Wait;
 
@@ -243,10 +243,12 @@ fn wake_one<U: Uses, R: Wait>(rt: &R, p: &Package<U>, me: &mut Thread<U>, at: Ob
     enter(rt, p, me, at, Why::QueueSeen);
     match pop(p, me, at) {
         Some(t) => {
-            // Woken inside: as long as this thread owes t its ready word it keeps the spin word, so whoever is in a line or owed can be
+            // Made ready inside: as long as this thread owes t its ready word it keeps the spin word, so whoever is in a line or owed can be
             // told by the spin words alone, and no thread leaves the Nub owing anybody.
-            wake(p, me, t);
+            set_ready(p, me, t);
             leave(rt, p, me, at);
+            // Unparked outside: t may take the processor at once, and would find the spin word taken.
+            unpark(p, t);
         }
         // Those that were seen have left by themselves, or another thread has popped them.
         None => leave(rt, p, me, at),

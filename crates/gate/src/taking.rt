@@ -13,14 +13,14 @@ ghost use Rattle.nub.specs.Rest.{HasStored, IsOutside};
 
 use crossbeam_utils::Backoff;
 use larch_actions::{Event, MutexId};
-use nub::{begin_event, end_event, enter, leave, push, remove, sleep};
+use nub::{Look, begin_event, end_event, enter, is_patient, learn, leave, push, remove, sleep};
 use nub_rule::{
     Object, Package, Thread, Uses, Why, peek_bit, take_bit_quiet, test_again, try_bit, try_p,
 };
 use std::sync::Wait;
 
-// How often a thread looks at a bit before it goes on: first it only pauses between two looks, then it yields its processor.
-const LOOKS: u32 = 16;
+// How often a thread pauses and looks at a bit before it queues.
+const LOOKS: u32 = 24;
 
 /// Makes the event by taking the bit, after any number of sleeps. It may wait: it goes on when it has taken the bit, which another thread
 /// must have cleared. Nothing says that it ever does.
@@ -179,14 +179,23 @@ fn take_slowly<U: Uses, R: Wait>(rt: &R, p: &Package<U>, me: &mut Thread<U>, at:
     ensures taken { IsTaken U.fits at me.old me.new }
     ensures stored { HasStored p.now.traced me.new }
 {
+    let mut left = looks_of(me);
+    let mut slept = false;
+    let backoff = Backoff::new();
     for _ in rt.forever() {
         // Most bits are clear again within a few looks, and a look writes nothing: so the holder's cache line is not taken from it.
-        look_briefly(p, at);
+        left = look_and_learn(p, me, at, left, slept, &backoff);
         if try_take(rt, p, me, at, e) {
             return;
         }
-        // After a sleep, too, the bit is tried anew: whoever woke this thread has not kept the bit for it.
-        stand_in_line(rt, p, me, at);
+        // Another was faster where looks are left. Then the thread goes on looking.
+        if left == 0 {
+            // After a sleep, too, the bit is tried anew: whoever woke this thread has not kept the bit for it.
+            stand_in_line(rt, p, me, at);
+            slept = true;
+            left = looks_of(me);
+            backoff.reset();
+        }
     }
     unreachable!()
 }
@@ -213,7 +222,7 @@ pub fn take_quiet<U: Uses, R: Wait>(rt: &R, p: &Package<U>, me: &mut Thread<U>, 
 {
     let at = Object::Mutex(m);
     for _ in rt.forever() {
-        look_briefly(p, at);
+        look_briefly(p, at, LOOKS, &Backoff::new());
         // The pen isn't wanted: the try makes no event, also where it wins.
         if take_bit_quiet(p, me, m) == 0 {
             return;
@@ -223,19 +232,42 @@ pub fn take_quiet<U: Uses, R: Wait>(rt: &R, p: &Package<U>, me: &mut Thread<U>, 
     unreachable!()
 }
 
-/// Waits a short while for the bit to be clear. Not an atomic step of the rule: the view stays.
+/// How often the thread looks before it queues.
+fn looks_of<U: Uses>(me: &Thread<U>) -> u32 {
+    if is_patient(me, Look::Bit) { LOOKS } else { 0 }
+}
+
+/// Looks briefly, and before the thread has slept learns whether the bit came clear meanwhile: whoever woke it has cleared it.
 #[cold]
 #[inline(never)]
-fn look_briefly<U: Uses>(p: &Package<U>, at: Object)
+fn look_and_learn<U: Uses>(
+    p: &Package<U>,
+    me: &mut Thread<U>,
+    at: Object,
+    looks: u32,
+    slept: bool,
+    backoff: &Backoff,
+) -> u32
+    requires { HasObject p.now.layout at }
+    ensures { me.new ≡ me.old }
+{
+    let left = look_briefly(p, at, looks, backoff);
+    learn(me, Look::Bit, if slept { None } else { Some(left > 0) });
+    left
+}
+
+/// Waits a short while for the bit to be clear, with at most so many pauses, and answers how many are left, 0 where it stayed set. Not an
+/// atomic step of the rule: the view stays.
+fn look_briefly<U: Uses>(p: &Package<U>, at: Object, looks: u32, backoff: &Backoff) -> u32
     requires { HasObject p.now.layout at }
 {
-    let backoff = Backoff::new();
-    for _ in 0..LOOKS {
-        if peek_bit(p, at) == 0 || backoff.is_completed() {
-            return;
+    for i in 0..looks {
+        backoff.spin();
+        if peek_bit(p, at) == 0 {
+            return looks - 1 - i;
         }
-        backoff.snooze();
     }
+    0
 }
 
 /// Queues the thread, tests the bit again, and sleeps if it is still set. It may wait: it goes on when it has left the queue, by itself or

@@ -7,6 +7,7 @@
 
 mod closed;
 pub mod laws;
+mod patience;
 mod pen;
 mod queue;
 mod sleeping;
@@ -17,8 +18,9 @@ mod whole;
 pub use closed::Closed;
 pub use larch_actions::{Action, CondId, Event, Layout, MutexId, SemId, ThreadId};
 pub use nub_rule::{Change, NoChange, Package, Thread, Uses};
+pub use patience::{Look, is_patient, learn};
 pub use pen::{begin_event, end_event};
-pub use queue::{pop, push, remove, wake, wake_from_condition};
+pub use queue::{pop, push, remove, wake_from_condition};
 pub use sleeping::sleep;
 pub use spin::{enter, leave};
 pub use whole::{close_package, open_package};

@@ -10,8 +10,8 @@ ghost use Rattle.nub_rule.specs.Plays.{behind, unread};
 
 use larch_actions::ThreadId;
 use nub_rule::{
-    Object, Package, Thread, Uses, leave_cond_queue, leave_sem_queue, pop_queue, push_queue,
-    set_ready, take_out, unpark, unpark_or_note,
+    Object, Package, Thread, Uses, leave_cond_queue, leave_sem_queue, note_woken, pop_queue,
+    push_queue, set_ready, take_out,
 };
 
 /// Puts the thread last into the queue.
@@ -76,26 +76,15 @@ pub fn pop<U: Uses>(p: &Package<U>, me: &mut Thread<U>, at: Object) -> Option<Th
     pop_queue(p, me, at)
 }
 
-/// Makes a thread ready that was popped, and unparks it. It never waits.
-pub fn wake<U: Uses>(p: &Package<U>, me: &mut Thread<U>, t: ThreadId)
-    requires of { me.old.table_id ≡ p.now.table_id }
-    requires owed { mem t.0 me.old.owed ≡ true }
-    requires named { t.0 < most_threads }
-    ensures { me.new ≡ record me.old { owed = without t.0 me.old.owed } }
-{
-    // First the word, then the unparking: a thread that wakes up reads the word, and would park again if it weren't set yet.
-    set_ready(p, me, t);
-    unpark(p, t);
-}
-
-/// Makes a thread ready that was popped from the queue of a condition. It never waits. Where this thread has the mutex of that wait, the other
-/// is unparked when this thread gives it back: before, it would find the mutex taken, and sleep once more. Else it is unparked at once.
+/// Makes a thread ready that was popped from the queue of a condition. It never waits. The other is unparked once this thread has left the
+/// Nub, and where this thread has the mutex of that wait once it gives it back: before, it would find the spin word or the mutex taken.
 pub fn wake_from_condition<U: Uses>(p: &Package<U>, me: &mut Thread<U>, woken: ThreadId)
     requires of { me.old.table_id ≡ p.now.table_id }
     requires owed { mem woken.0 me.old.owed ≡ true }
     requires named { woken.0 < most_threads }
     ensures { me.new ≡ record me.old { owed = without woken.0 me.old.owed } }
 {
+    // First the word, then the unparking: a thread that wakes up reads the word, and would park again if it weren't set yet.
     set_ready(p, me, woken);
-    unpark_or_note(p, me, woken);
+    note_woken(p, me, woken);
 }

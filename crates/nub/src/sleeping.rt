@@ -6,12 +6,13 @@ ghost use Rattle.nub_rule.specs.Known.{StandsAs};
 ghost use Rattle.nub_rule.specs.Parts.{HasTested, staged};
 ghost use Rattle.nub.specs.Hearing.{HearsAlerts};
 
+use super::patience::{Look, is_patient, learn};
+use crossbeam_utils::Backoff;
 use nub_rule::{Package, Thread, Uses, clear_ready, park, read_alert, read_ready};
 use std::sync::Wait;
-use std::thread::yield_now;
 
-// How often a thread gives its processor up before it parks.
-const YIELDS: u32 = 8;
+// How often a thread pauses and looks before it parks.
+const LOOKS: u32 = 14;
 
 /// Sleeps until the ready word is found set, and clears it; it answers true then. Where `alertable` is true it also ends where the thread's
 /// alert word is found set, and answers false: the thread stands in the queue still, unless another thread popped it meanwhile. It may wait
@@ -31,26 +32,45 @@ pub fn sleep<U: Uses, R: Wait>(rt: &R, p: &Package<U>, me: &mut Thread<U>, alert
     ensures at_cond { result ≡ true → (s : Stand) → me.old.stand ≡ Some s → 128 ≤ s.at → me.new ≡ record me.old { stand = None } }
     ensures alerted { result ≡ false → me.new ≡ record me.old { alerted = true; stand = staged Alerted me.old.stand } }
 {
-    let mut yields = 0;
+    let looks = if is_patient(me, Look::Ready) {
+        LOOKS
+    } else {
+        0
+    };
+    let mut left = looks;
+    let mut parked = false;
+    let backoff = Backoff::new();
     for _ in rt.forever() {
         // The ready word decides, not the parking: a thread may be unparked for nothing, or before it parks, which makes its next park
         // return at once. So the word is read before each park, and no wake that comes between the two is lost.
         if read_ready(p, me) != 0 {
             // Cleared by its own thread alone, and only when found set: nobody sets it twice for one push.
             clear_ready(p, me);
+            learn(me, Look::Ready, lesson(looks, left, parked));
             return true;
         }
         // Read before each park too, and set before the unparking that an alert does: so no alert is slept through.
         if alertable && read_alert(p, me) != 0 {
             return false;
         }
-        // Mostly the wake comes soon, and to give the processor up costs less than to park and to be unparked.
-        if yields < YIELDS {
-            yields += 1;
-            yield_now();
+        if left > 0 {
+            left -= 1;
+            backoff.spin();
         } else {
             park(rt, me);
+            parked = true;
         }
     }
     unreachable!()
+}
+
+/// What a thread learns of a sleep that it began with so many looks, of which so many are left.
+fn lesson(looks: u32, left: u32, parked: bool) -> Option<bool> {
+    if parked {
+        Some(false)
+    } else if left < looks {
+        Some(true)
+    } else {
+        None
+    }
 }

@@ -8,7 +8,9 @@ ghost use Rattle.nub_rule.specs.Places.{most_threads};
 ghost use Rattle.nub_rule.specs.Known.{HasReason};
 
 use crossbeam_utils::Backoff;
-use nub_rule::{Object, Package, Thread, Uses, Why, give_spin, take_spin};
+use nub_rule::{
+    Object, Package, Thread, Uses, Why, give_spin, owes_unparking, take_spin, unpark_noted,
+};
 use std::sync::Wait;
 
 /// Takes the spin word of the object, for this reason. It spins while another thread has the word, and never sleeps: who has a spin word
@@ -41,7 +43,8 @@ pub fn enter<U: Uses, R: Wait>(rt: &R, p: &Package<U>, me: &mut Thread<U>, at: O
     unreachable!()
 }
 
-/// Gives the spin word of the object back. It never waits.
+/// Gives the spin word of the object back, and unparks whom this thread has woken, unless it has the mutex that such a thread needs to go on.
+/// It never waits. An unparked thread may take the processor at once, so that is done here, where it finds the spin word free.
 pub fn leave<U: Uses, R: Wait>(rt: &R, p: &Package<U>, me: &mut Thread<U>, at: Object)
     requires of { me.old.table_id ≡ p.now.table_id }
     requires named { HasObject p.now.layout at }
@@ -52,4 +55,7 @@ pub fn leave<U: Uses, R: Wait>(rt: &R, p: &Package<U>, me: &mut Thread<U>, at: O
 {
     let _ = rt;
     give_spin(p, me, at);
+    if owes_unparking(me) {
+        unpark_noted(p, me);
+    }
 }

@@ -71,6 +71,8 @@ pub struct Thread<U: Uses> {
     pub(crate) parker: Parker,
     /// Those that are to be unparked when it gives a mutex back.
     pub(crate) later: Line,
+    /// A number that the Nub keeps: how often looking before a sleep was in time of late.
+    pub(crate) patience: u64,
     /// With the first thread, room for the values of all mutexes.
     pub(crate) room: Vec<U::Value>,
 }
@@ -113,6 +115,20 @@ impl<U: Uses> Thread<U> {
         ensures { result ≡ self.now.number }
     {
         self.number
+    }
+
+    /// A number that the Nub keeps with the thread, at first 0. No clause speaks of it.
+    #[inline]
+    pub fn patience(&self) -> u64 {
+        self.patience
+    }
+
+    /// Writes the number that the Nub keeps with the thread.
+    #[inline]
+    pub fn set_patience(&mut self, patience: u64)
+        ensures { self.new ≡ self.old }
+    {
+        self.patience = patience;
     }
 
     /// Takes room for so many further events, so that storing these wants no memory.

@@ -1,9 +1,10 @@
-//! Unparking who was made ready: at once, or when the mutex is given back without which it can't go on.
+//! Unparking who was made ready: outside the Nub, and once the mutex is given back without which it can't go on.
 //!
 //! Nothing here is an atomic step of the rule, and no clause speaks of it: who is unparked reads its ready word, which decides.
 ghost use Rattle.std.specs.Prelude.{◌≡◌};
 
 use crate::package::{Package, Thread};
+use crate::rule::Line;
 use crate::uses::Uses;
 use crossbeam_utils::sync::Unparker;
 use larch_actions::{MutexId, ThreadId};
@@ -43,19 +44,26 @@ pub fn note_mutex<U: Uses>(p: &Package<U>, me: &Thread<U>, m: MutexId) {
     }
 }
 
-/// Unparks the thread t, which was taken out of a condition. Where this thread has the mutex of that wait, t couldn't go on yet: then it is
-/// noted, to be unparked when this thread gives the mutex back.
-pub fn unpark_or_note<U: Uses>(p: &Package<U>, me: &mut Thread<U>, t: ThreadId)
+/// Notes the thread t, which was taken out of a condition, to be unparked by `unpark_noted`. Where the list is full it is unparked at once.
+pub fn note_woken<U: Uses>(p: &Package<U>, me: &mut Thread<U>, t: ThreadId)
     ensures { me.new ≡ me.old }
 {
-    if let Some(waker) = p.unparkers.get(t.0 as usize) {
-        // (a mutex's number always fits)
-        let mutex = u32::try_from(waker.mutex.load(Ordering::Relaxed)).unwrap_or(u32::MAX);
-        if me.has(MutexId(mutex)) && !me.later.is_full() {
-            me.later.push(t.0);
-        } else {
-            waker.unparker.unpark();
+    if me.later.is_full() {
+        unpark(p, t);
+    } else {
+        me.later.push(t.0);
+    }
+}
+
+/// Whether this thread has the mutex without which t, taken out of a condition, can't go on.
+fn has_mutex_of<U: Uses>(p: &Package<U>, me: &Thread<U>, t: ThreadId) -> bool {
+    match p.unparkers.get(t.0 as usize) {
+        Some(waker) => {
+            // (a mutex's number always fits)
+            let mutex = u32::try_from(waker.mutex.load(Ordering::Relaxed)).unwrap_or(u32::MAX);
+            me.has(MutexId(mutex))
         }
+        None => false,
     }
 }
 
@@ -65,12 +73,18 @@ pub fn owes_unparking<U: Uses>(me: &Thread<U>) -> bool {
     !me.later.is_empty()
 }
 
-/// Unparks those that are noted, after a mutex was given back.
+/// Unparks each that is noted, unless this thread has the mutex of its wait: before that is given back it couldn't go on.
 pub fn unpark_noted<U: Uses>(p: &Package<U>, me: &mut Thread<U>)
     ensures { me.new ≡ me.old }
 {
+    let mut kept = Line::new();
     for i in 0..me.later.len() {
-        unpark(p, ThreadId(me.later[i]));
+        let t = ThreadId(me.later[i]);
+        if has_mutex_of(p, me, t) && !kept.is_full() {
+            kept.push(t.0);
+        } else {
+            unpark(p, t);
+        }
     }
-    me.later.clear();
+    me.later = kept;
 }

@@ -120,6 +120,7 @@ fn cut<U: Uses>(
         next: 0,
         parker,
         later: Line::new(),
+        patience: 0,
         room: own,
     }
 }
@@ -334,6 +335,7 @@ fn gather_all<U: Uses>(
             next: _,
             parker: _,
             later: _,
+            patience: _,
             room: kept,
         } = thread;
         take_back(shared, &mut seat, own);

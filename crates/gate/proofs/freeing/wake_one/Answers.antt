@@ -14,15 +14,15 @@ enter-requires-clause-reason g c κs within = inl (c.requires.gate, c.requires.l
 pub pop-requires-clause-may : goal.pop-requires-clause-may
 pop-requires-clause-may g c κs within = pop-gate c.args.at c.enter.new.me c.requires.gate
 
-pub wake-requires-clause-owed : goal.wake-requires-clause-owed
-wake-requires-clause-owed g c κs within =
+pub set_ready-requires-clause-owed : goal.set_ready-requires-clause-owed
+set_ready-requires-clause-owed g c κs within =
     let t = c.in-Some.t.0 in
     let first = c.pop.ensures.first c.in-Some.t c.in-Some.is in
     let owed : c.pop.new.me.owed ≡ t ∷ [] = first.1 ∙ ap (λ k. k.owed ++ t ∷ []) c.enter.ensures.inside in
     subst (λ (l : List ℕ). mem t l ≡ true) (sym owed) (mem_own t [])
 
-pub wake-requires-clause-named : goal.wake-requires-clause-named
-wake-requires-clause-named g c κs within =
+pub set_ready-requires-clause-named : goal.set_ready-requires-clause-named
+set_ready-requires-clause-named g c κs within =
     let first = c.pop.ensures.first c.in-Some.t c.in-Some.is in
     first_small most_threads c.in-Some.t.0 (behind c.enter.new.me.queue) c.enter.new.me.queue first.0 c.enter.ensures.small
 
@@ -31,14 +31,14 @@ leave-requires-clause-owes_none g c κs within =
     let t = c.in-Some.t.0 in
     let first = c.pop.ensures.first c.in-Some.t c.in-Some.is in
     let owed : c.pop.new.me.owed ≡ t ∷ [] = first.1 ∙ ap (λ k. k.owed ++ t ∷ []) c.enter.ensures.inside in
-    ap (λ k. k.owed) c.wake.ensures ∙ less_owed t c.pop.new.me.owed owed
+    ap (λ k. k.owed) c.set_ready.ensures.owes ∙ less_owed t c.pop.new.me.owed owed
 
 pub returns-in-Some : goal.returns-in-Some
 returns-in-Some g c =
     let t = c.in-Some.t.0 in
     let first = c.pop.ensures.first c.in-Some.t c.in-Some.is in
     let owed : c.pop.new.me.owed ≡ t ∷ [] = first.1 ∙ ap (λ k. k.owed ++ t ∷ []) c.enter.ensures.inside in
-    woke_one (object_of c.args.at) c.args.me.now c.enter.new.me c.leave.new.me c.requires.outside c.enter.ensures.inside c.pop.new.me c.wake.new.me _ _ _ (c.pop.ensures.gate c.requires.gate) c.wake.ensures (less_owed t c.pop.new.me.owed owed) c.leave.ensures
+    woke_one (object_of c.args.at) c.args.me.now c.enter.new.me c.leave.new.me c.requires.outside c.enter.ensures.inside c.pop.new.me c.set_ready.new.me _ _ _ (c.pop.ensures.gate c.requires.gate) c.set_ready.ensures.owes (less_owed t c.pop.new.me.owed owed) c.leave.ensures
 
 pub returns-in-None : goal.returns-in-None
 returns-in-None g c =

@@ -19,12 +19,12 @@ pub returns-then-read_ready-ne0-clause-plain : goal.returns-then-read_ready-ne0-
 returns-then-read_ready-ne0-clause-plain g c = λ _. refl
 
 pub returns-then-read_ready-ne0-clause-at_gate : goal.returns-then-read_ready-ne0-clause-at_gate
-returns-then-read_ready-ne0-clause-at_gate g c = λ _. let i = c.loop.invariant in
-    woken_at_gate c.args.me.now c.loop.me c.read_ready.new.me i.0 i.1 i.2 i.4 c.clear_ready.new.me (c.read_ready.ensures.found c.if-read_ready-ne0.true) c.clear_ready.ensures.at_gate
+returns-then-read_ready-ne0-clause-at_gate g c = λ _. let i = c.loop.invariant in λ s stood low. c.learn.ensures
+    ∙ woken_at_gate c.args.me.now c.loop.me c.read_ready.new.me i.0 i.1 i.2 i.4 c.clear_ready.new.me (c.read_ready.ensures.found c.if-read_ready-ne0.true) c.clear_ready.ensures.at_gate s stood low
 
 pub returns-then-read_ready-ne0-clause-at_cond : goal.returns-then-read_ready-ne0-clause-at_cond
-returns-then-read_ready-ne0-clause-at_cond g c = λ _. let i = c.loop.invariant in
-    woken_at_cond c.args.me.now c.loop.me c.read_ready.new.me i.0 i.1 i.2 i.4 c.clear_ready.new.me (c.read_ready.ensures.found c.if-read_ready-ne0.true) c.clear_ready.ensures.at_cond
+returns-then-read_ready-ne0-clause-at_cond g c = λ _. let i = c.loop.invariant in λ s stood low. c.learn.ensures
+    ∙ woken_at_cond c.args.me.now c.loop.me c.read_ready.new.me i.0 i.1 i.2 i.4 c.clear_ready.new.me (c.read_ready.ensures.found c.if-read_ready-ne0.true) c.clear_ready.ensures.at_cond s stood low
 
 pub returns-then-read_ready-ne0-clause-alerted : goal.returns-then-read_ready-ne0-clause-alerted
 returns-then-read_ready-ne0-clause-alerted g c = λ e. absurd (true≢false e)
@@ -52,8 +52,8 @@ park-requires-clause-asleep g c κs within = let i = c.loop.invariant in (
   tt,
 )
 
-pub loop-preserved-then-yields-lt-YIELDS : goal.loop-preserved-then-yields-lt-YIELDS
-loop-preserved-then-yields-lt-YIELDS g c = let i = c.loop.invariant in
+pub loop-preserved-then-left-gt0 : goal.loop-preserved-then-left-gt0
+loop-preserved-then-left-gt0 g c = let i = c.loop.invariant in
     still_asleep c.args.me.now c.loop.me c.read_ready.new.me i.0 i.1 i.2 i.4 c.else-alertable.me (c.read_ready.ensures.asleep c.if-read_ready-ne0.false) (elim c.else-alertable.branch [
       | else-alertable-via-then-alertable+else-read_alert-ne0 w ↦ w.me-is ∙ w.read_alert.ensures.none w.if-read_alert-ne0.false
       | else-alertable-via-else-alertable w ↦ w.me-is

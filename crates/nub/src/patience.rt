@@ -1,0 +1,72 @@
+//! Whether a thread looks at a word for a while before it sleeps.
+//!
+//! That pays only where another processor meanwhile does what the thread waits for. No call tells whether one does, so a thread goes by
+//! how its own looks of late ended: where few were in time it sleeps at once, and tries a look now and then.
+ghost use Rattle.std.specs.Prelude.{◌≡◌, ◌<◌};
+
+use nub_rule::{Thread, Uses};
+
+/// What a thread looks at.
+#[derive(Clone, Copy)]
+pub enum Look {
+    /// The bit of a mutex or semaphore.
+    Bit,
+    /// The own ready word.
+    Ready,
+}
+
+// With so many misses more than hits (a hit counts double) it looks no longer,
+const MOST_MISSES: u64 = 8;
+
+// but at the last of so many waits.
+const LAST: u64 = 135;
+
+// A tally is below this.
+const TALLIES: u64 = 256;
+
+/// Whether the thread is to look for a while.
+pub fn is_patient<U: Uses>(me: &Thread<U>, look: Look) -> bool {
+    let tally = tally_of(me.patience(), look);
+    tally < MOST_MISSES || tally == LAST
+}
+
+/// Learns whether what the thread waited for came while it looked: Some(true) where it did, Some(false) where the thread slept, and None where
+/// that tells nothing.
+pub fn learn<U: Uses>(me: &mut Thread<U>, look: Look, in_time: Option<bool>)
+    ensures { me.new ≡ me.old }
+{
+    let Some(in_time) = in_time else {
+        return;
+    };
+    let (bit, ready) = (
+        tally_of(me.patience(), Look::Bit),
+        tally_of(me.patience(), Look::Ready),
+    );
+    let (bit, ready) = match look {
+        Look::Bit => (after(bit, in_time), ready),
+        Look::Ready => (bit, after(ready, in_time)),
+    };
+    me.set_patience(bit + TALLIES * ready);
+}
+
+fn tally_of(patience: u64, look: Look) -> u64
+    ensures { result < 256 }
+{
+    match look {
+        Look::Bit => patience % TALLIES,
+        Look::Ready => patience / TALLIES % TALLIES,
+    }
+}
+
+fn after(tally: u64, in_time: bool) -> u64
+    requires { tally < 256 }
+    ensures { result < 256 }
+{
+    if in_time {
+        tally.min(MOST_MISSES).saturating_sub(2)
+    } else if tally < LAST {
+        tally + 1
+    } else {
+        MOST_MISSES
+    }
+}
