@@ -15,7 +15,9 @@ use event_count::{block, read_count};
 use gate::{free, take, take_quiet};
 use larch_actions::{Action, CondId, Event, MutexId, ThreadId};
 use nub::{begin_event, end_event};
-use nub_rule::{Change, Object, Package, Thread, Uses, lower_waits, put_value, swap_alert_in_raise, take_value};
+use nub_rule::{
+    Change, Object, Package, Thread, Uses, lower_waits, put_value, swap_alert_in_raise, take_value,
+};
 use std::sync::Wait;
 
 /// Gives the mutex back with this value and waits in the condition, in one step for all others, until a Signal or Broadcast takes the thread
@@ -88,6 +90,7 @@ fn end_wait<U: Uses, R: Wait>(
     ensures stored { HasStored p.now.traced me.new }
 {
     if returns {
+        // The thread has left the condition: a Signal or Broadcast that finds no begun wait from here on misses nobody.
         lower_waits(p, me, c);
         let e = Event {
             thread: ThreadId(me.number()),
@@ -100,6 +103,7 @@ fn end_wait<U: Uses, R: Wait>(
         // between the two ends this wait, and one that comes later stays.
         take_quiet(rt, p, me, m);
         raise(rt, p, me, m, c);
+        // Only now: until the raise the thread is in the condition as long as the count stands.
         lower_waits(p, me, c);
         Outcome::Alerted
     }

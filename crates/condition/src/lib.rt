@@ -5,10 +5,13 @@
 #![tactic(auto)]
 
 ghost use Rattle.std.specs.Prelude.{◌≡◌, ◌<◌, ◌∷◌, List, ℕ, [], slice_set, Some, None, false};
+ghost use Rattle.larch_actions.specs.Sets.{without};
+ghost use Rattle.nub_rule.specs.declared.view.Wait.{Wait as Waiting};
 ghost use Rattle.nub_rule.specs.Known.{Holds};
-ghost use Rattle.nub_rule.specs.Plays.{broadcast_action, enqueue_event, event, signal_action};
+ghost use Rattle.nub_rule.specs.Places.{cond_object};
+ghost use Rattle.nub_rule.specs.Plays.{broadcast_action, enqueue_event, event, signal_action, unread};
 ghost use Rattle.nub.specs.Idle.{IsIdle};
-ghost use Rattle.nub.specs.Rest.{AtRest, Adds, IsSame};
+ghost use Rattle.nub.specs.Rest.{AtRest, Adds, IsOutside, IsSame};
 ghost use Rattle.condition.specs.Waits.{resume_event};
 
 use event_count::{advance, block, read_count};
@@ -21,7 +24,7 @@ use std::sync::Wait;
 ///
 /// It doesn't block. In the package itself it may wait for a moment: for the spin word of the condition, and in a traced package for its
 /// turn to number the event.
-#[inline]
+#[inline(always)]
 pub fn signal<U: Uses, R: Wait>(rt: &R, p: &Package<U>, me: &mut Thread<U>, c: CondId)
     requires rest { AtRest p.now me.old }
     requires named { c.0 < p.now.layout.conditions }
@@ -38,7 +41,7 @@ pub fn signal<U: Uses, R: Wait>(rt: &R, p: &Package<U>, me: &mut Thread<U>, c: C
 /// Takes all threads out of the condition, and wakes them.
 ///
 /// It doesn't block, as `signal` doesn't.
-#[inline]
+#[inline(always)]
 pub fn broadcast<U: Uses, R: Wait>(rt: &R, p: &Package<U>, me: &mut Thread<U>, c: CondId)
     requires rest { AtRest p.now me.old }
     requires named { c.0 < p.now.layout.conditions }
@@ -82,13 +85,38 @@ pub fn wait<U: Uses, C: Change<U>, R: Wait>(
     // The count is read before the bit is cleared: a Signal between the two, under the mutex or not, takes this thread out.
     let count = read_count(rt, p, me, m, c, false);
     free::<U, C, R>(rt, p, me, Object::Mutex(m), None);
-    block(rt, p, me, c, count, false);
-    // The thread has left the condition: a Signal that finds nobody's wait begun from here on misses nobody.
-    lower_waits(p, me, c);
+    block_and_lower(rt, p, me, c, count);
     let e = Event {
         thread: ThreadId(me.number()),
         action: Action::Resume { mutex: m, cond: c },
     };
     take(rt, p, me, Object::Mutex(m), e);
     take_value(p, me, m)
+}
+
+/// Blocks until the thread has left the condition c, and lowers its begun waits then.
+fn block_and_lower<U: Uses, R: Wait>(
+    rt: &R,
+    p: &Package<U>,
+    me: &mut Thread<U>,
+    c: CondId,
+    count: u64,
+)
+    requires of { me.old.table_id ≡ p.now.table_id }
+    requires named { c.0 < p.now.layout.conditions }
+    requires outside { IsOutside me.old }
+    requires looked { me.old.cleared ≡ [] }
+    requires waits { (x : Waiting) × (me.old.wait ≡ Some x) × (x.cond.0 ≡ c.0) × (x.member ≡ Some count) × (x.alertable ≡ false) }
+    requires raised { me.old.raised ≡ Some c.0 }
+    ensures { me.new ≡ record me.old {
+      count = me.new.count;
+      failed = without (cond_object c.0) me.old.failed;
+      wait = unread me.old.wait;
+      raised = None;
+    } }
+{
+    block(rt, p, me, c, count, false);
+    // Only now: a Signal or Broadcast that finds no begun wait from here on misses nobody. Lowered before, a thread that reads the count or
+    // stands in the queue would be in the condition unseen.
+    lower_waits(p, me, c);
 }

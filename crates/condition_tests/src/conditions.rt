@@ -127,14 +127,15 @@ fn two_objects_apart(rt: HostRuntime) -> Result<(), Fail> {
     leaves(&rt, rt.alloc(), two_of_each(4), what, &notes, &[4000, 4000])
 }
 
-// 16 threads are in one condition, and one Broadcast takes them all out: each resumes once.
+// 63 threads are in one condition, as many as can be, and one Broadcast with their mutex takes them all out: each resumes once, so the list of
+// those to be unparked when the mutex is given back has room for all.
 #[test]
 fn many_threads(rt: HostRuntime) -> Result<(), Fail> {
-    let what = Waits::Gather(16);
-    let (steps, _) = steps_of(&rt, rt.alloc(), two_of_each(17), what, &[17, 0], BOTH)?;
+    let what = Waits::Gather(63);
+    let (steps, _) = steps_of(&rt, rt.alloc(), two_of_each(64), what, &[64, 0], BOTH)?;
     let expected = Steps {
-        enqueued: 16,
-        resumed: 16,
+        enqueued: 63,
+        resumed: 63,
         signals: 0,
         broadcasts: 1,
     };

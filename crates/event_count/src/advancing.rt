@@ -1,8 +1,10 @@
-//! Signal and Broadcast: the count is advanced, and who was taken out of the condition is woken.
+//! Signal and Broadcast. Where nobody has begun to wait, a look is all. Else the count is advanced, and who was taken out of the condition is woken.
 ghost use Rattle.std.specs.Prelude.{◌≡◌, ◌<◌, List, ℕ, [], Some, None, true, false};
 ghost use Rattle.larch_actions.specs.Sets.{without};
 ghost use Rattle.nub_rule.specs.Items.{Small};
-ghost use Rattle.nub_rule.specs.Known.{Makes, recorded};
+ghost use Rattle.event_count.specs.Quiet.{quiet_action};
+ghost use Rattle.nub_rule.specs.Known.{Makes, learnt, recorded};
+ghost use Rattle.nub_rule.specs.Parts.{MayTell, made};
 ghost use Rattle.nub_rule.specs.Places.{cond_object, most_threads};
 ghost use Rattle.nub_rule.specs.Plays.{behind, broadcast_action, event, signal_action};
 ghost use Rattle.nub.specs.Rest.{HasStored, IsOutside};
@@ -119,111 +121,136 @@ fn wake_all<U: Uses>(p: &Package<U>, me: &mut Thread<U>, c: CondId)
     }
 }
 
-/// Reads the begun waits of c in a Signal, and answers whether there are any. Where there are none, that is the Signal, and there is nobody to
-/// wake: who begins to wait raises them before it reads the count. In a traced package it may wait for the pen.
-#[inline]
-fn finds_wait_to_signal<U: Uses, R: Wait>(
+/// Looks whether anybody has begun to wait in c. Where nobody has, this is the Broadcast, if `all` is true, and else the Signal, and it leaves
+/// nobody of the condition.
+#[inline(always)]
+fn looks<U: Uses>(p: &Package<U>, me: &mut Thread<U>, c: CondId, all: bool) -> bool
+    requires of { me.old.table_id ≡ p.now.table_id }
+    requires named { c.0 < p.now.layout.conditions }
+    requires no_wait { me.old.wait ≡ None }
+    requires pen { MayTell p.now.traced me.old.pen }
+    ensures event { result ≡ false → Makes (event me.old.number (quiet_action all c.0)) me.old me.new }
+    ensures quiet { result ≡ false → me.new ≡ record (learnt me.old me.new) { pen = made me.old.pen } }
+    ensures calls { result ≡ true → me.new ≡ record me.old { calling = Some c.0 } }
+{
+    // Who begins to wait raises the begun waits before it reads the count, and lowers them only out of the condition: found as 0, they say
+    // that nobody is in it. The length of the queue doesn't: who has read the count and isn't queued yet is in the condition too.
+    if all {
+        read_waits_broadcast(p, me, c) != 0
+    } else {
+        read_waits_signal(p, me, c) != 0
+    }
+}
+
+/// The Broadcast or the Signal of c that leaves nobody, by the thread of this number.
+fn quiet_event(number: u32, cond: CondId, all: bool) -> Event
+    ensures { result ≡ event number (quiet_action all cond.0) }
+{
+    let thread = ThreadId(number);
+    if all {
+        Event {
+            thread,
+            action: Action::Broadcast { cond },
+        }
+    } else {
+        Event {
+            thread,
+            action: Action::Signal {
+                cond,
+                left: ThreadSet::empty(),
+            },
+        }
+    }
+}
+
+/// Looks in a traced package, with the pen, for which it may wait. The event is built here, so that an untraced package has nothing of it.
+#[cold]
+#[inline(never)]
+fn looks_traced<U: Uses, R: Wait>(
     rt: &R,
     p: &Package<U>,
     me: &mut Thread<U>,
     c: CondId,
+    all: bool,
 ) -> bool
     requires of { me.old.table_id ≡ p.now.table_id }
     requires named { c.0 < p.now.layout.conditions }
     requires outside { IsOutside me.old }
     requires no_wait { me.old.wait ≡ None }
     requires stored { HasStored p.now.traced me.old }
-    ensures event { result ≡ false → Makes (event me.old.number (signal_action c.0 [])) me.old me.new }
+    ensures event { result ≡ false → Makes (event me.old.number (quiet_action all c.0)) me.old me.new }
     ensures quiet { result ≡ false → me.new ≡ recorded me.old me.new }
     ensures calls { result ≡ true → me.new ≡ record me.old { calling = Some c.0; next = me.new.next } }
     ensures stored { HasStored p.now.traced me.new }
 {
-    let e = Event {
-        thread: ThreadId(me.number()),
-        action: Action::Signal {
-            cond: c,
-            left: ThreadSet::empty(),
-        },
-    };
+    // The pen is taken before the look is known to be the event, since its number must be read by then.
     begin_event(rt, p, me);
-    if read_waits_signal(p, me, c) == 0 {
-        end_event(p, me, Some(e));
-        return false;
+    if looks(p, me, c, all) {
+        // It goes back before the spin word is taken: nobody may wait with it.
+        end_event(p, me, None);
+        return true;
     }
-    // The pen goes back before the spin word is taken: nobody may wait with it.
-    end_event(p, me, None);
-    true
+    let e = quiet_event(me.number(), c, all);
+    end_event(p, me, Some(e));
+    false
 }
 
-/// The same in a Broadcast.
-#[inline]
-fn finds_wait_to_end<U: Uses, R: Wait>(
+/// Looks whether anybody has begun to wait in c, in a traced package with the pen. Where nobody has, that was the event.
+#[inline(always)]
+fn finds_wait<U: Uses, R: Wait>(
     rt: &R,
     p: &Package<U>,
     me: &mut Thread<U>,
     c: CondId,
+    all: bool,
 ) -> bool
     requires of { me.old.table_id ≡ p.now.table_id }
     requires named { c.0 < p.now.layout.conditions }
     requires outside { IsOutside me.old }
     requires no_wait { me.old.wait ≡ None }
     requires stored { HasStored p.now.traced me.old }
-    ensures event { result ≡ false → Makes (event me.old.number (broadcast_action c.0 [])) me.old me.new }
+    ensures all { result ≡ false → all ≡ true → Makes (event me.old.number (broadcast_action c.0 [])) me.old me.new }
+    ensures one { result ≡ false → all ≡ false → (left : List ℕ) × Makes (event me.old.number (signal_action c.0 left)) me.old me.new }
     ensures quiet { result ≡ false → me.new ≡ recorded me.old me.new }
     ensures calls { result ≡ true → me.new ≡ record me.old { calling = Some c.0; next = me.new.next } }
     ensures stored { HasStored p.now.traced me.new }
 {
-    let e = Event {
-        thread: ThreadId(me.number()),
-        action: Action::Broadcast { cond: c },
-    };
-    begin_event(rt, p, me);
-    if read_waits_broadcast(p, me, c) == 0 {
-        end_event(p, me, Some(e));
-        return false;
+    if p.traced() {
+        looks_traced(rt, p, me, c, all)
+    } else {
+        looks(p, me, c, all)
     }
-    end_event(p, me, None);
-    true
 }
 
-/// Makes a Signal, which leaves some of the condition. Where nobody has begun to wait, that takes one look.
-#[inline]
-fn make_signal<U: Uses, R: Wait>(rt: &R, p: &Package<U>, me: &mut Thread<U>, c: CondId)
+/// Advances the count of c, where somebody was found to have begun to wait there.
+#[cold]
+#[inline(never)]
+fn advance_count<U: Uses, R: Wait>(rt: &R, p: &Package<U>, me: &mut Thread<U>, c: CondId, all: bool)
     requires of { me.old.table_id ≡ p.now.table_id }
     requires named { c.0 < p.now.layout.conditions }
     requires outside { IsOutside me.old }
     requires no_wait { me.old.wait ≡ None }
-    requires calling { me.old.calling ≡ None }
+    requires calling { me.old.calling ≡ Some c.0 }
     requires stored { HasStored p.now.traced me.old }
-    ensures event { (left : List ℕ) × Makes (event me.old.number (signal_action c.0 left)) me.old me.new }
-    ensures rest { me.new ≡ record (recorded me.old me.new) { count = me.new.count; failed = me.new.failed } }
+    ensures all { all ≡ true → Makes (event me.old.number (broadcast_action c.0 [])) me.old me.new }
+    ensures one { all ≡ false → (left : List ℕ) × Makes (event me.old.number (signal_action c.0 left)) me.old me.new }
+    ensures rest { me.new ≡ record (recorded me.old me.new) {
+      count = me.new.count;
+      failed = without (cond_object c.0) me.old.failed;
+      calling = None;
+    } }
     ensures stored { HasStored p.now.traced me.new }
 {
-    if finds_wait_to_signal(rt, p, me, c) {
+    if all {
+        advance_all(rt, p, me, c);
+    } else {
         advance_one(rt, p, me, c);
     }
 }
 
-/// Makes a Broadcast. Where nobody has begun to wait, that takes one look.
-#[inline]
-fn make_broadcast<U: Uses, R: Wait>(rt: &R, p: &Package<U>, me: &mut Thread<U>, c: CondId)
-    requires of { me.old.table_id ≡ p.now.table_id }
-    requires named { c.0 < p.now.layout.conditions }
-    requires outside { IsOutside me.old }
-    requires no_wait { me.old.wait ≡ None }
-    requires calling { me.old.calling ≡ None }
-    requires stored { HasStored p.now.traced me.old }
-    ensures event { Makes (event me.old.number (broadcast_action c.0 [])) me.old me.new }
-    ensures rest { me.new ≡ record (recorded me.old me.new) { count = me.new.count; failed = me.new.failed } }
-    ensures stored { HasStored p.now.traced me.new }
-{
-    if finds_wait_to_end(rt, p, me, c) {
-        advance_all(rt, p, me, c);
-    }
-}
-
-/// Makes a Broadcast where `all` is true, and else a Signal, which leaves some of the condition.
-#[inline]
+/// Makes a Broadcast where `all` is true, and else a Signal, which leaves some of the condition. Where nobody has begun to wait, that takes one
+/// look, and in an untraced package no lock.
+#[inline(always)]
 pub fn advance<U: Uses, R: Wait>(rt: &R, p: &Package<U>, me: &mut Thread<U>, c: CondId, all: bool)
     requires of { me.old.table_id ≡ p.now.table_id }
     requires named { c.0 < p.now.layout.conditions }
@@ -236,9 +263,7 @@ pub fn advance<U: Uses, R: Wait>(rt: &R, p: &Package<U>, me: &mut Thread<U>, c: 
     ensures rest { me.new ≡ record (recorded me.old me.new) { count = me.new.count; failed = me.new.failed } }
     ensures stored { HasStored p.now.traced me.new }
 {
-    if all {
-        make_broadcast(rt, p, me, c);
-    } else {
-        make_signal(rt, p, me, c);
+    if finds_wait(rt, p, me, c, all) {
+        advance_count(rt, p, me, c, all);
     }
 }

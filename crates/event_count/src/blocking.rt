@@ -11,8 +11,8 @@ ghost use Rattle.nub.specs.Rest.{HasStored, IsOutside};
 use larch_actions::{Action, CondId, Event, MutexId, ThreadId};
 use nub::{begin_event, end_event, enter, leave, push, remove, sleep};
 use nub_rule::{
-    Object, Package, Thread, Uses, Why, compare_count, load_count, load_count_alertable, note_mutex,
-    raise_waits,
+    Object, Package, Thread, Uses, Why, compare_count, load_count, load_count_alertable,
+    note_mutex, raise_waits,
 };
 use std::sync::Wait;
 
@@ -40,12 +40,13 @@ pub fn read_count<U: Uses, R: Wait>(
     } }
     ensures stored { HasStored p.now.traced me.new }
 {
-    // Before the count is read: a Signal or Broadcast that finds none raised finds nobody in the condition.
+    // Before the count is read, by which the thread enters the condition: a Signal or Broadcast that finds none raised finds nobody in it.
+    // Raised after, a look between the two would miss this thread.
     raise_waits(p, me, c);
     read_raised(rt, p, me, m, c, alertable)
 }
 
-/// The same, where the begun waits of c are raised.
+/// Reads the count of c, and with that begins a wait on m, where the thread has raised the begun waits of c.
 fn read_raised<U: Uses, R: Wait>(
     rt: &R,
     p: &Package<U>,
@@ -171,6 +172,7 @@ fn withdraw<U: Uses, R: Wait>(rt: &R, p: &Package<U>, me: &mut Thread<U>, c: Con
     requires outside { (me.old.spin ≡ None) × (me.old.queue ≡ []) × (me.old.owed ≡ []) × (me.old.left ≡ []) }
     requires looked { me.old.cleared ≡ [] }
     requires alerted { StandsAs (λ s. (s.at ≡ cond_object c.0) × IsAlerted s.stage) me.old }
+    requires seen { me.old.alerted ≡ true }
     requires waits { (x : Waiting) × (me.old.wait ≡ Some x) × (x.cond.0 ≡ c.0) }
     ensures rest { me.new ≡ record me.old {
       count = me.new.count;

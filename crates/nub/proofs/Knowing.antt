@@ -1,16 +1,28 @@
 -- What the thread knows after the steps of a sleep, and after those that lead to an event, of plain variables.
-use Rattle.std.proofs.Common.{◌≡◌, ◌<◌, ◌≤◌, ℕ, true, None, Some, Option as Opt, ◌∷◌, ap, sym, subst, ◌∙◌}
+use Rattle.std.proofs.Common.{Bool, ◌≡◌, ◌<◌, ◌≤◌, ◌+◌, ℕ, true, None, Some, Option as Opt, ◌∷◌, ap, sym, subst, ◌∙◌, inl, inr, arith}
 use Rattle.nub_rule.specs.declared.view.Pen.TheVariants.{No, Taken, Read}
 use Rattle.nub_rule.specs.declared.view.Stage.{Stage}
 use Rattle.nub_rule.specs.declared.view.Stage.TheVariants.{Alerted, Asleep, Found}
 use Rattle.nub_rule.specs.declared.view.Stand.{Stand}
 use Rattle.nub_rule.specs.Known.{Known}
 use Rattle.nub_rule.specs.Parts.{HasTested, alerted_stand, staged}
+use Rattle.nub.specs.Hearing.{HearsAlerts}
 
 some_stand : (s t : Stand) → Some s ≡ Some t → s ≡ t
 some_stand s t is = cc
 
 module _ {T H W : Type 0} where
+  -- at a gate no wait ends by an alert
+  pub hears_at_gate : (k : Known T H W) (alertable : Bool) (s : Stand) → k.stand ≡ Some s → s.at < 128 → HearsAlerts alertable k
+  hears_at_gate k alertable s stood low = λ x t waits of_alerts stands here. let z : s.at ≡ t.at = ap (λ (u : Stand). u.at) (some_stand s t (sym stood ∙ stands)) in absurd (omega arith)
+
+  -- the sleep may end by an alert, or the thread has found its alert word set
+  pub hears_anyway : (k : Known T H W) (alertable : Bool) → alertable ≡ true → HearsAlerts alertable k
+  hears_anyway k alertable is = λ x s waits of_alerts stands here. inl is
+
+  pub has_heard : (k : Known T H W) (alertable : Bool) → k.alerted ≡ true → HearsAlerts alertable k
+  has_heard k alertable seen = λ x s waits of_alerts stands here. inr seen
+
   -- the thread o stands as s, at this stage as l, and has read its ready word as r
   module _ (o l r : Known T H W) (s : Stand) (stage : Stage) (stood : o.stand ≡ Some s) (is : l ≡ record o { stand = Some (record s { stage = stage }) }) where
     pub alerted_asleep : (z : Known T H W) → r ≡ record l { stand = staged Asleep l.stand } → z ≡ record r { alerted = true; stand = alerted_stand r.stand }

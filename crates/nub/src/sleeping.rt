@@ -4,23 +4,26 @@ ghost use Rattle.nub_rule.specs.declared.view.Stand.{Stand};
 ghost use Rattle.nub_rule.specs.declared.view.Stage.TheVariants.{Alerted};
 ghost use Rattle.nub_rule.specs.Known.{StandsAs};
 ghost use Rattle.nub_rule.specs.Parts.{HasTested, staged};
+ghost use Rattle.nub.specs.Hearing.{HearsAlerts};
 
 use super::patience::{Look, is_patient, learn};
 use crossbeam_utils::Backoff;
 use nub_rule::{Package, Thread, Uses, clear_ready, park, read_alert, read_ready};
 use std::sync::Wait;
 
-// How often a thread pauses and looks before it parks.
-const LOOKS: u32 = 14;
+// How often a thread looks before it parks, after 1, 2, 4 and up to 64 pauses: 447 in all, which take no longer than a park with its wake.
+const LOOKS: u32 = 12;
 
 /// Sleeps until the ready word is found set, and clears it; it answers true then. Where `alertable` is true it also ends where the thread's
 /// alert word is found set, and answers false: the thread stands in the queue still, unless another thread popped it meanwhile. It may wait
-/// for ever: only a thread that pops this one sets its ready word, and only an alert of it its alert word.
+/// for ever: only a thread that pops this one sets its ready word, and only an alert of it its alert word. In the condition of an alertable
+/// wait a thread sleeps alertably, as long as it hasn't found its alert word set.
 pub fn sleep<U: Uses, R: Wait>(rt: &R, p: &Package<U>, me: &mut Thread<U>, alertable: bool) -> bool
     requires of { me.old.table_id ≡ p.now.table_id }
     requires outside { me.old.spin ≡ None }
     requires tested { StandsAs (λ s. HasTested s.stage) me.old }
     requires looked { me.old.cleared ≡ [] }
+    requires heard { HearsAlerts alertable me.old }
     ensures plain { alertable ≡ false → result ≡ true }
     ensures at_gate { result ≡ true → (s : Stand) → me.old.stand ≡ Some s → s.at < 128 → me.new ≡ record me.old {
       stand = None;

@@ -35,6 +35,10 @@ raise-one (Some d) c = dite (ℕ_discrete d c)
 raise-here : (o : Opt ℕ) (c d : ℕ) → o ≡ Some d → d ≡ c → raise_of o c ≡ 1
 raise-here o c d is e = ap (λ z. raise_of z c) is ∙ ap (λ b. cond b 1 0) (eq-eqb d c e)
 
+raise-other : (o : Opt ℕ) (c : ℕ) → o ≢ Some c → raise_of o c ≡ 0
+raise-other None c ne = refl
+raise-other (Some d) c ne = ap (λ b. cond b 1 0) (ne_eqb d c (λ e. ne (ap (λ (z : ℕ). Some z) e)))
+
 raise-else : (o : Opt ℕ) (c d : ℕ) → o ≡ Some d → c ≢ d → raise_of o c ≡ 0
 raise-else o c d is ne = ap (λ z. raise_of z c) is ∙ ap (λ b. cond b 1 0) (ne_eqb d c (λ e. ne (sym e)))
 
@@ -79,52 +83,60 @@ module _ {T H : Type 0} where
   raisers-some c (x ∷ xs) zero p at is = let e : raise_of x.raised c ≡ 1 = ap (λ (z : Part T H). raise_of z.raised c) (some-injective x p at) ∙ raise-here p.raised c c is refl in omega arith
   raisers-some c (x ∷ xs) (suc n) p at is = let r = raisers-some c xs n p at is in omega arith
 
-  -- nobody has raised any
-  pub raisers-none : (c : ℕ) (all : List (Part T H)) → Each (λ n p. p.raised ≡ None) all → raisers c all ≡ 0
+  -- nobody has raised it
+  pub raisers-none : (c : ℕ) (all : List (Part T H)) → Each (λ n p. p.raised ≢ Some c) all → raisers c all ≡ 0
   raisers-none c [] h = refl
-  raisers-none c (x ∷ xs) h = let a : raise_of x.raised c ≡ 0 = ap (λ o. raise_of o c) (h 0 x refl) in let b = raisers-none c xs (λ i p at. h (suc i) p at) in omega arith
+  raisers-none c (x ∷ xs) h = let a = raise-other x.raised c (h 0 x refl) in let b = raisers-none c xs (λ i p at. h (suc i) p at) in omega arith
 
   module _ (p q : Part T H) (raised : q.raised ≡ p.raised) (h : IsCounted p) where
     -- where the thread stands, and its wait, stay
     pub counted-same : q.wait ≡ p.wait → q.stand ≡ p.stand → IsCounted q
     counted-same ew es = record {
       member = λ w k is stood. raised ∙ h.member w k (sym ew ∙ is) stood;
-      stander = λ s c is there. raised ∙ h.stander s c (sym es ∙ is) there;
+      stander = λ s c is there. let r = h.stander s c (sym es ∙ is) there in (raised ∙ r.0, r.1, ew ∙ r.2, r.3);
     }
 
-    -- its wait is over, or it is in the condition by no count any more
-    pub counted-unread : ((w : Wait) (k : ℕ) → q.wait ≡ Some w → w.member ≡ Some k → ⊥) → q.stand ≡ p.stand → IsCounted q
-    counted-unread out es = record {
-      member = λ w k is stood. absurd (out w k is stood);
-      stander = λ s c is there. raised ∙ h.stander s c (sym es ∙ is) there;
+    -- its wait is over, and it stands nowhere
+    pub counted-over : q.wait ≡ None → q.stand ≡ None → IsCounted q
+    counted-over over nowhere = record {
+      member = λ w k is stood. absurd (some_none q.wait w over is);
+      stander = λ s c is there. absurd (some_none q.stand s nowhere is);
+    }
+
+    -- it is in the condition by no count any more
+    pub counted-unread : q.wait ≡ unread p.wait → q.stand ≡ p.stand → IsCounted q
+    counted-unread ew es = record {
+      member = λ w k is stood. absurd (some_none w.member k (unread-none p.wait w (sym ew ∙ is)) stood);
+      stander = λ s c is there. let r = h.stander s c (sym es ∙ is) there in (raised ∙ r.0, record r.1 { member = None }, ew ∙ ap unread r.2, r.3);
     }
 
     -- the bit of its mutex was cleared, or taken again, in its wait
     pub counted-rebit : (w : Wait) (b : WaitBit) → p.wait ≡ Some w → q.wait ≡ Some (record w { bit = b }) → q.stand ≡ p.stand → IsCounted q
     counted-rebit w b before after es = record {
       member = λ x k is stood. let e : record w { bit = b } ≡ x = same-wait q.wait (record w { bit = b }) x after is in raised ∙ (h.member w k before ((λ i. (e i).member) ∙ stood) ∙ λ i. Some (e i).cond.0);
-      stander = λ s c is there. raised ∙ h.stander s c (sym es ∙ is) there;
+      stander = λ s c is there. let r = h.stander s c (sym es ∙ is) there in let e : w ≡ r.1 = same-wait p.wait w r.1 before r.2 in (raised ∙ r.0, record w { bit = b }, after, (λ i. (e i).cond.0) ∙ r.3);
     }
 
     -- it has raised the begun waits of the condition in which it begins to wait
-    pub counted-begun : (c : ℕ) (w : Wait) → p.raised ≡ Some c → q.wait ≡ Some w → w.cond.0 ≡ c → q.stand ≡ p.stand → IsCounted q
-    counted-begun c w was now on es = record {
+    pub counted-begun : (c : ℕ) (w : Wait) → p.raised ≡ Some c → p.wait ≡ None → q.wait ≡ Some w → w.cond.0 ≡ c → q.stand ≡ p.stand → IsCounted q
+    counted-begun c w was out now on es = record {
       member = λ x k is stood. let e : w ≡ x = same-wait q.wait w x now is in raised ∙ (was ∙ λ i. Some ((sym on ∙ λ j. (e j).cond.0) i));
-      stander = λ s d is there. raised ∙ h.stander s d (sym es ∙ is) there;
+      stander = λ s d is there. let r = h.stander s d (sym es ∙ is) there in absurd (some_none p.wait r.1 out r.2);
     }
 
     -- it was in the condition by its count, and stands there now
-    pub counted-pushed : (c : ℕ) (w : Wait) (k : ℕ) (st : Stand) → p.wait ≡ Some w → w.cond.0 ≡ c → w.member ≡ Some k → ((x : Wait) (j : ℕ) → q.wait ≡ Some x → x.member ≡ Some j → ⊥) → q.stand ≡ Some st → st.at ≡ cond_object c → IsCounted q
-    counted-pushed c w k st before on stood out now there = record {
-      member = λ x j is s. absurd (out x j is s);
-      stander = λ s d is here. let z : st.at ≡ s.at = (λ i. (same-stand q.stand st s now is i).at) in let e : c ≡ d = omega arith in raised ∙ (h.member w k before stood ∙ λ i. Some ((on ∙ e) i));
+    pub counted-pushed : (c : ℕ) (w : Wait) (k : ℕ) (st : Stand) → p.wait ≡ Some w → w.cond.0 ≡ c → w.member ≡ Some k → q.wait ≡ unread p.wait → q.stand ≡ Some st → st.at ≡ cond_object c → IsCounted q
+    counted-pushed c w k st before on stood ew now there = record {
+      member = λ x j is s. absurd (some_none x.member j (unread-none p.wait x (sym ew ∙ is)) s);
+      stander = λ s d is here. let z : st.at ≡ s.at = (λ i. (same-stand q.stand st s now is i).at) in let e : c ≡ d = omega arith in
+          (raised ∙ (h.member w k before stood ∙ λ i. Some ((on ∙ e) i)), record w { member = None }, ew ∙ ap unread before, on ∙ e);
     }
 
     -- it stood in the condition, and is in it by a count now
     pub counted-left : (c : ℕ) (w : Wait) (k : ℕ) → stands_at p.stand (cond_object c) ≡ true → w.cond.0 ≡ c → q.wait ≡ Some (record w { member = Some k }) → q.stand ≡ None → IsCounted q
     counted-left c w k there on now nowhere = record {
       member = λ x j is s. let e : record w { member = Some k } ≡ x = same-wait q.wait (record w { member = Some k }) x now is in let st = stand_some p.stand (cond_object c) there in
-          raised ∙ (h.stander st.0 c st.1 st.2 ∙ λ i. Some ((sym on ∙ λ j. (e j).cond.0) i));
+          raised ∙ ((h.stander st.0 c st.1 st.2).0 ∙ λ i. Some ((sym on ∙ λ j. (e j).cond.0) i));
       stander = λ s d is _. absurd (some_none q.stand s nowhere is);
     }
 
@@ -132,7 +144,7 @@ module _ {T H : Type 0} where
     pub counted-stands : q.wait ≡ p.wait → ((s : Stand) (c : ℕ) → q.stand ≡ Some s → s.at ≡ cond_object c → (r : Stand) × (p.stand ≡ Some r) × (r.at ≡ s.at)) → IsCounted q
     counted-stands ew moved = record {
       member = λ w k is stood. raised ∙ h.member w k (sym ew ∙ is) stood;
-      stander = λ s c is there. let r = moved s c is there in raised ∙ h.stander r.0 c r.1 (r.2 ∙ there);
+      stander = λ s c is there. let r = moved s c is there in let o = h.stander r.0 c r.1 (r.2 ∙ there) in (raised ∙ o.0, o.1, ew ∙ o.2, o.3);
     }
 
   module _ (words words' : List ℕ) (all : List (Part T H)) (n : ℕ) (p q : Part T H) (at : get_elem? all n ≡ some p) where
@@ -158,7 +170,7 @@ module _ {T H : Type 0} where
               (λ ne. ws j low ne ∙ (h.counted j low ∙ (let s = raisers-set j all n p q at in let a = before j in let b = raise-else q.raised j c now ne in omega arith)));
           covered = each-set (λ _ r. IsCounted r) (λ _ r. IsCounted r) all n q record {
             member = λ w k is stood. absurd (some_none p.raised w.cond.0 none_before (own.member w k (sym ew ∙ is) stood));
-            stander = λ s d is there. absurd (some_none p.raised d none_before (own.stander s d (sym es ∙ is) there));
+            stander = λ s d is there. absurd (some_none p.raised d none_before (own.stander s d (sym es ∙ is) there).0);
           } (λ k r ne at' f. f) h.covered;
         }
 

@@ -146,7 +146,7 @@ module _ {T H W : Type 0} (l : Layout) (traced : Bool) (w : W) (begin : W → �
         let lined = mem-behind t (k.owed o) (k.queue o) there in
         let v = at_below all t (k.lines.people o t lined) in
         let st = stand_some v.0.stand o ((k.lines.stands t v.0 v.1).lined o lined).0 in
-        nobody-raised t v.0 v.1 ((k.begun.covered t v.0 v.1).stander st.0 c st.1 st.2)))
+        nobody-raised t v.0 v.1 ((k.begun.covered t v.0 v.1).stander st.0 c st.1 st.2).0))
 
     nobody-counts : (j : ℕ) (r : Part T H) → get_elem? all j ≡ some r → (i : ℕ) → counts_in r.wait c i ≡ false
     nobody-counts j r at i = not_true (counts_in r.wait c i) (λ is. let u = counts-some r.wait c i is in nobody-raised j r at ((k.begun.covered j r at).member u.0 i u.1 u.3 ∙ ap (λ (z : ℕ). Some z) u.2))

@@ -39,7 +39,7 @@ use Rattle.nub_rule.proofs.SpinSteps.{nobody-by, one-by}
 use Rattle.nub_rule.proofs.Penning.{either_way, pens-event, numbered-by}
 use Rattle.nub_rule.proofs.Beside.{still}
 use Rattle.nub_rule.proofs.Owing.{owes-try, owes-clear}
-use Rattle.nub_rule.proofs.Beginning.{waits-stay, begun-frame, begun-same, counted-unread}
+use Rattle.nub_rule.proofs.Beginning.{waits-stay, begun-frame, begun-same, counted-over}
 use Rattle.nub_rule.proofs.Handling.{same_slot}
 use Rattle.nub_rule.proofs.Owning.{lacking, owned-take, owned-give}
 use Rattle.nub_rule.proofs.Showing.{shows-wins, shows-clears}
@@ -184,9 +184,9 @@ module _ {T H W : Type 0} (l : Layout) (traced : Bool) (w : W) (begin : W → �
 
   module _ (fits : W → ℕ → T → ℕ → H → Type 0)
       (law : (values : List T) (shares : List H) → holds w values shares → (m : ℕ) (x : T) → get_elem? values m ≡ some x → (t : ℕ) (s : H) → get_elem? shares t ≡ some s → fits w m x t s) where
-    tries_at : (e : Event) (n m : ℕ) (p : Part T H) (cs : List (ℕ × Slot T)) → m < l.mutexes → e.thread.0 ≡ n → MayTell traced p.pen → Taking e m n p → Naming e n p
+    tries_at : (e : Event) (n m : ℕ) (p : Part T H) (cs : List (ℕ × Slot T)) → m < l.mutexes → e.thread.0 ≡ n → p.stand ≡ None → MayTell traced p.pen → Taking e m n p → Naming e n p
         → Steps l traced w begin holds n (bit_at m) (λ x. either (eqb x 0) 1 x) p cs (λ r q ds. ((r ≡ 0) × Wins fits e m n p cs q ds) ⊎ ((r ≢ 0) × (q ≡ record p { failed = m ∷ p.failed; turns = without m p.turns }) × (ds ≡ cs)))
-    tries_at e n m p cs inside by may taking naming words homes all c at small = let r : ℕ = get_or words (bit_at m) 0 in let lawful = c.sizes.lawful in let ws = c.sizes.words_wide in let hs = c.sizes.homes_wide in
+    tries_at e n m p cs inside by apart may taking naming words homes all c at small = let r : ℕ = get_or words (bit_at m) 0 in let lawful = c.sizes.lawful in let ws = c.sizes.words_wide in let hs = c.sizes.homes_wide in
         let far : m < 192 = omega arith in let near : m < 64 = omega arith in dite (ℕ_discrete r 0)
         (λ hit.
         let o = c.owned in
@@ -209,7 +209,7 @@ module _ {T H W : Type 0} (l : Layout) (traced : Bool) (w : W) (begin : W → �
           q,
           takes (value_at m) (Value (Some x)),
           o.at_home m inside x found.1 free,
-          bit_taken n m p q x words homes all at inside c hit found.1 record { held = refl; share = refl; spin = refl; queue = refl; owed = refl; stand = refl; alerted = refl; cleared = refl; turns = refl; raised = refl; counted = λ h. counted-unread p q refl h (λ v j is _. absurd (some_none q.wait v refl is)) refl } (c.log ++ e ∷ []) spec' run told'
+          bit_taken n m p q x words homes all at inside c hit found.1 record { held = refl; share = refl; spin = refl; queue = refl; owed = refl; stand = refl; alerted = refl; cleared = refl; turns = refl; raised = refl; counted = λ h. counted-over p q refl h refl apart } (c.log ++ e ∷ []) spec' run told'
               (shows-wins words words' (shown-stay words (bit_at m) 1 (λ k up z. omega arith) (λ k up z. omega arith) (λ k up z. omega arith)) c.spinner c.queue c.owner c.spec all n p q at m take.0 refl refl refl take.4 take.5 take.2 take.3 c.shows)
               (subst (λ (z : ℕ). Pens traced z words' c.writer (set all n q)) (sym more) (pens-event traced (length c.log) words c.writer all n p q at words' (pen-stay words (bit_at m) 1 (λ z. omega arith) (λ z. omega arith)).0 (pen-stay words (bit_at m) 1 (λ z. omega arith) (λ z. omega arith)).1 may refl c.pens)),
           inl (
@@ -242,7 +242,7 @@ module _ {T H W : Type 0} (l : Layout) (traced : Bool) (w : W) (begin : W → �
           λ miss. absurd (miss u.0),
         ))
         (λ (u : (r ≢ 0) × (q ≡ record p { failed = m ∷ p.failed; turns = without m p.turns }) × (ds ≡ me.1)). ((λ hit. absurd (u.0 hit)), λ _ i. (with_part v (u.1 i), u.2 i))) t))
-        (tries_at ev n m p me.1 inside refl pen (taking m n p e apart may) (λ words homes all c at. taken-named l traced w holds words homes all c n p at m inside p.wait refl))
+        (tries_at ev n m p me.1 inside refl apart pen (taking m n p e apart may) (λ words homes all c at. taken-named l traced w holds words homes all c n p at m inside p.wait refl))
 
     -- the same at a word that is this place
     pub try_bit_keeps : (slots id m : ℕ) (e : Event) (me : Me (Slot T) (View T H W)) (i : ℕ) → i ≡ bit_at m → m < l.mutexes → me.0.kind ≡ Member → me.0.part.stand ≡ None → MayTake me.0.number m me.0.part.wait e → MayTell traced me.0.part.pen

@@ -29,7 +29,7 @@ use Rattle.nub_rule.proofs.Spinning.{only_here}
 use Rattle.nub_rule.proofs.Showing.{pendings-put}
 use Rattle.nub_rule.proofs.Conditioning.{conditions-compare, conditions-push, conditions-leave, conditions-pop}
 use Rattle.nub_rule.proofs.Owing.{owes-frame, owes-beside, owes-queued, owes-unqueued}
-use Rattle.nub_rule.proofs.Beginning.{begun-frame, counted-same, counted-unread, counted-pushed, counted-left, unread-none}
+use Rattle.nub_rule.proofs.Beginning.{begun-frame, counted-same, counted-unread, counted-pushed, counted-left}
 use Rattle.nub_rule.proofs.Beside.{beside, idle}
 use Rattle.nub_rule.proofs.QueueSteps.{absent-before, requeues_by, length-shown, length-gates, popped-line}
 
@@ -93,7 +93,7 @@ module _ {T H W : Type 0} (l : Layout) (traced : Bool) (w : W) (begin : W → �
             (pens-frame all n p q at traced (length k.log) k.writer words words (refl, refl) refl k.pens)
             (alert-seen-frame all n p q at words words k.sizes.few (λ m lo. refl) refl k.alert_seen)
             (owes-frame k.queue words words all n p q at (λ m lo. refl) refl refl refl k.owes)
-            (begun-frame words words all n p q at (λ m lo. refl) refl (λ h. counted-unread p q refl h (λ v j is stood'. some_none v.member j (unread-none p.wait v is) stood') refl) k.begun)),
+            (begun-frame words words all n p q at (λ m lo. refl) refl (λ h. counted-unread p q refl h refl refl) k.begun)),
         (known, (λ hit. absurd (miss hit)), (λ _. refl), refl),
       )))
 
@@ -127,7 +127,7 @@ module _ {T H W : Type 0} (l : Layout) (traced : Bool) (w : W) (begin : W → �
             (conditions-push words words' k.spinner k.queue k.spec.members all n p q at k.shows.conditions c me_wait x' ys ws.counts mine.0 (only_here k.spinner k.queue k.owed words homes all n p q at k.spins o here) before on stood (ap unread before) refl refl refl refl now))
             (owes-queued k.queue (put k.queue o ys) words words' all n p q at o (length-gates o far words (length ys)) (omega arith) (λ j ne. put-else k.queue o j ys ne) out st refl (λ f. f) refl refl k.owes)
             refl
-            (λ h. counted-pushed p q refl h c me_wait p.count st before on stood (λ v j is stood'. some_none v.member j (unread-none p.wait v is) stood') refl refl),
+            (λ h. counted-pushed p q refl h c me_wait p.count st before on stood refl refl refl),
         (refl, refl),
       )))
 

@@ -122,7 +122,7 @@ module _ {T H W : Type 0} (l : Layout) (traced : Bool) (w : W) (begin : W → �
       (λ z. shows-enter words words' k.spinner k.queue k.owner k.spec all n p (after_load alertable n m c r p z) at m c r b low (record { counts = λ j lo. stay (count_at (cond_object j)); sems = λ j lo. stay (bit_at (sem_object j)); alerts = λ j lo. stay (alert_at j) }) refl own refl (λ _. refl) refl refl out refl refl refl refl even k.shows)
       (λ z. alert-seen-frame all n p (after_load alertable n m c r p z) at words words' k.sizes.few (λ j lo. stay (alert_at j)) refl k.alert_seen)
       (λ z. owes-frame k.queue words words' all n p (after_load alertable n m c r p z) at (λ j lo. stay (bit_at j)) refl refl refl k.owes)
-      (λ z. begun-frame words words' all n p (after_load alertable n m c r p z) at (λ j lo. stay (waits_at (cond_object j))) refl (λ h. counted-begun p (after_load alertable n m c r p z) refl h c b raised refl refl refl) k.begun) in
+      (λ z. begun-frame words words' all n p (after_load alertable n m c r p z) at (λ j lo. stay (waits_at (cond_object j))) refl (λ h. counted-begun p (after_load alertable n m c r p z) refl h c b raised out refl refl refl) k.begun) in
       (done.0, keeps, tt, done.1, (done.2, refl))
     where
       by_whom : (alertable : Bool) (n m c : ℕ) → (enqueue_event alertable n m c).thread.0 ≡ n

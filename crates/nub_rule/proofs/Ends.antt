@@ -112,6 +112,7 @@ module _ {T H W : Type 0} (l : Layout) (traced : Bool) (w : W) (begin : W → �
         seated = omega arith;
         fits = λ id v at. let o = only_first (opening_view {T = T} w begin) v id at in subst₂ (λ (a : ℕ) (b : View T H W). FitsAs l.threads 0 w begin all (λ _. 0) a b b.kind) (sym o.0) o.1
             record { world = refl; first = refl; next = refl; unborn = λ n lo hi. (refl, at_firsts (λ n. fresh {T = T} (Some (begin w n))) 0 l.threads n hi ∙ ap (λ (z : ℕ). some (fresh {T = T} (Some (begin w z)))) (zero-add n)) };
+        placed = λ n lo. (opening_view {T = T} w begin, refl, omega arith);
         core = record {
           log = [];
           spec = at_first;
@@ -201,7 +202,7 @@ module _ {T H W : Type 0} (l : Layout) (traced : Bool) (w : W) (begin : W → �
             sound = each-firsts (λ n p. SleepsSound p) (λ n. fresh (Some (begin w n))) l.threads (λ i low s is asleep. absurd (none_some s is));
           };
           begun = record {
-            counted = λ c low. zeros (waits_at (cond_object c)) ∙ sym (raisers-none c all (each-firsts (λ n p. p.raised ≡ None) (λ n. fresh (Some (begin w n))) l.threads (λ i low. refl)));
+            counted = λ c low. zeros (waits_at (cond_object c)) ∙ sym (raisers-none c all (each-firsts (λ n p. p.raised ≢ Some c) (λ n. fresh (Some (begin w n))) l.threads (λ i low is. none_some c is)));
             covered = each-firsts (λ n p. IsCounted p) (λ n. fresh (Some (begin w n))) l.threads (λ i low. record { member = λ x k is stood. absurd (none_some x is); stander = λ s c is there. absurd (none_some s is) });
           };
         };

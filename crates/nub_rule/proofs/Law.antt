@@ -24,8 +24,8 @@ use Rattle.nub_rule.specs.declared.view.WaitBit.{WaitBit}
 use Rattle.nub_rule.specs.declared.view.WaitBit.TheVariants.{Closing, Open, Quiet}
 use Rattle.nub_rule.specs.declared.view.View.{View}
 use Rattle.nub_rule.specs.declared.view.Kind.{Kind}
-use Rattle.nub_rule.specs.declared.view.Kind.TheVariants.{Root, Member, Collector}
-use Rattle.nub_rule.specs.Rule.{FitsAs, IsKept}
+use Rattle.nub_rule.specs.declared.view.Kind.TheVariants.{Root, Member, Collector, Spent}
+use Rattle.nub_rule.specs.Rule.{FitsAs, IsKept, IsWith}
 use Rattle.atomic_table.specs.Table.{State}
 use Rattle.nub_rule.specs.Items.{Each, Marks, Says, PenFits, Core, line_of}
 use Rattle.nub_rule.specs.Parts.{Has, counts_in, is_at, is_open, open_on, stands_at, waits_on}
@@ -33,7 +33,7 @@ use Rattle.nub_rule.specs.Places.{alert_at, bit_at, cond_object, count_at, numbe
 use Rattle.nub_rule.specs.PackageRule.{AnyView, HasBitInWait, IsFlagOf, IsKnown, SaysHolds, OwesAt, Owes, History, Meaning, MutexBits, SpinWords, QueuedThreads, ReadyWords, NoWakeLost, IsReady, CountsRead, BegunWaits, HasTakenAt, ValuesAndShares, Numbering, PackageRule, AreViews}
 use Rattle.nub_rule.proofs.Each.{at_below, put-at, put-else, same_at}
 use Rattle.nub_rule.proofs.Owing.{bound-nowhere, bound-asleep}
-use Rattle.nub_rule.proofs.Beginning.{counts-some}
+use Rattle.nub_rule.proofs.Beginning.{counts-some, raisers-none, raisers-some}
 use Rattle.nub_rule.proofs.Standing.{both_ways, distinct-apart, distinct-behind, eqb_is, false_true, mem-append, mem-behind, not_true, stand_none, stand_same, stand_some}
 
 -- who has something is nobody or somebody
@@ -221,6 +221,7 @@ module _ {T H W : Type 0} (l : Layout) (traced : Bool) (w : W) (holds : W → Li
   queued_threads : QueuedThreads words all c.queue
   queued_threads = record {
     waits = λ n p at o there. stand_some p.stand o (queued o n p at there).0;
+    waits_in = λ n p at d there. let st = stand_some p.stand (cond_object d) (queued (cond_object d) n p at there).0 in let w = (c.begun.covered n p at).stander st.0 d st.1 st.2 in (w.1, w.2, w.3);
     elsewhere = λ n p at out. (
       (λ o. not_true (mem n (c.queue o)) (λ there. stand_none p.stand o out (queued o n p at there).0)),
       ⊎_elim (λ (z : get_or words (ready_at n) 0 ≡ 0). z) (λ (z : get_or words (ready_at n) 0 ≡ 1). let u = (c.lines.stands n p at).ready z in absurd (stand_none p.stand u.0.at out (ap (λ s. stands_at s u.0.at) u.1 ∙ eq-eqb u.0.at u.0.at refl))) (c.lines.stands n p at).flag,
@@ -303,12 +304,16 @@ module _ {T H W : Type 0} (l : Layout) (traced : Bool) (w : W) (holds : W → Li
   begun_waits : BegunWaits words all c.spec
   begun_waits = record {
     word = c.begun.counted;
+    none_begun = λ d low. (
+      (λ zero n p at is. let a = raisers-some d all n p at is in let b = c.begun.counted d low in absurd (omega arith)),
+      (λ none. c.begun.counted d low ∙ raisers-none d all none),
+    );
     covers = λ d n low is. let o : ℕ = cond_object d in ⊎_elim
         (λ (there : mem n (c.shows.conditions.left d) ≡ true).
         let inside : mem n (c.queue o) ≡ true = either (mem n (c.queue o)) (λ e. e) (λ off. both_ways (mem n (c.shows.conditions.left d)) there (c.shows.conditions.queued d n off)) in
         let lined = mem-behind n (c.owed o) (c.queue o) inside in
         let v = at_below all n (c.lines.people o n lined) in
-        let st = stand_some v.0.stand o (in-line o n v.0 v.1 lined).0 in (v.0, v.1, (c.begun.covered n v.0 v.1).stander st.0 d st.1 st.2))
+        let st = stand_some v.0.stand o (in-line o n v.0 v.1 lined).0 in (v.0, v.1, ((c.begun.covered n v.0 v.1).stander st.0 d st.1 st.2).0))
         (λ (t : (p : Part T H) × (get_elem? all n ≡ some p) × (counts_in p.wait d (get_or words (count_at (cond_object d)) 0) ≡ true)).
         let u = counts-some t.0.wait d (get_or words (count_at (cond_object d)) 0) t.2 in (t.0, t.1, (c.begun.covered n t.0 t.1).member u.0 (get_or words (count_at (cond_object d)) 0) u.1 u.3 ∙ ap (λ (z : ℕ). Some z) u.2))
         ((members d n low).0 is);
@@ -362,10 +367,19 @@ module _ {T H W : Type 0} (l : Layout) (traced : Bool) (w : W) (begin : W → �
   fits-as : (id : ℕ) (v : View T H W) (kind : Kind) → get_elem? s.views id ≡ some v → v.kind ≡ kind → FitsAs l.threads k.given w begin k.all k.seat_of id v kind
   fits-as id v kind at is = subst (FitsAs l.threads k.given w begin k.all k.seat_of id v) is (k.fits id v at)
 
+  -- a thread is with the seat that it is said to have
+  seat-by : (id : ℕ) (v : View T H W) (kind : Kind) (n : ℕ) → n < l.threads → FitsAs l.threads k.given w begin k.all k.seat_of id v kind → IsWith v kind n → id ≡ k.seat_of n
+  seat-by id v Root n lo f h = f.first ∙ sym (f.unborn n (subst (λ (z : ℕ). z ≤ n) f.next h) lo).0
+  seat-by id v Member n lo f h = sym f.sits ∙ ap k.seat_of h
+  seat-by id v Collector n lo f h = let o = at_below v.back n h in sym (f.came_back n o.0 o.1).0
+  seat-by id v Spent n lo f h = absurd h
+
   pub are-views : AreViews l.threads w begin s.views k.all
   are-views = record {
     count = k.core.sizes.count;
     seated = λ id v at is. (fits-as id v Member at is).own;
     back = λ id v at is n p there. ((fits-as id v Collector at is).came_back n p there).1;
+    each = λ n lo. let o = k.placed n lo in (k.seat_of n, o.0, o.1, o.2);
+    once = λ n i j v u lo at there here too. seat-by i v v.kind n lo (k.fits i v at) here ∙ sym (seat-by j u u.kind n lo (k.fits j u there) too);
     to_come = λ id v at is n lo hi. let r = fits-as id v Root at is in (r.unborn n (subst (λ (z : ℕ). z ≤ n) r.next lo) hi).1;
   }

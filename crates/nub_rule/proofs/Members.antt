@@ -1,10 +1,12 @@
 -- A step by the seat of a thread keeps the rule where it keeps the items.
-use Rattle.std.proofs.Common.{Bool, ◌≡◌, ◌≢◌, ℕ, ◌<◌, List, get_or, set, sym, ap, ◌∙◌, subst, ⊎_elim, arith, length-set, Some}
+use Rattle.std.proofs.Common.{Bool, ◌≡◌, ◌≢◌, ℕ, ◌<◌, List, ◌++◌, get_or, set, sym, ap, ◌∙◌, subst, ⊎_elim, arith, length-set, Some}
+use mathlib.Core.Logic.{dite}
 use mathlib.Core.Option.{Option, some}
+use native.Mathlib.Decide.{ℕ_discrete}
 use lib.ListN.{get_elem?}
 use Rattle.larch_actions.specs.declared.event.Layout.{Layout}
 use Rattle.atomic_table.specs.Table.{Me, Act, Valid, Allows, carried_after, homes_after}
-use Rattle.atomic_table.proofs.Lists.{at_set, set_else, set_here}
+use Rattle.atomic_table.proofs.Lists.{at_longer, at_set, set_else, set_here}
 use Rattle.nub_rule.specs.declared.rule.Slot.{Slot}
 use Rattle.nub_rule.specs.declared.view.Part.{Part}
 use Rattle.nub_rule.specs.declared.view.View.{View}
@@ -12,8 +14,27 @@ use Rattle.nub_rule.specs.declared.view.Kind.{Kind}
 use Rattle.nub_rule.specs.declared.view.Kind.TheVariants.{Root, Member, Collector, Spent}
 use Rattle.nub_rule.specs.Items.{Core}
 use Rattle.nub_rule.specs.Plays.{with_part}
-use Rattle.nub_rule.specs.Rule.{FitsAs, SeatFits, IsKept}
-use Rattle.nub_rule.proofs.Each.{at_within}
+use Rattle.nub_rule.specs.Rule.{FitsAs, SeatFits, IsKept, IsWith}
+use Rattle.nub_rule.proofs.Each.{at_within, same_at}
+
+module _ {T H W : Type 0} where
+  -- the thread n is with the seat id
+  abbrev pub Placed : List (View T H W) → ℕ → ℕ → Type 0
+  Placed views id n = (v : View T H W) × (get_elem? views id ≡ some v) × IsWith v v.kind n
+
+  -- it is still, whatever is put behind the views
+  pub placed-longer : (views more : List (View T H W)) (id n : ℕ) → Placed views id n → Placed (views ++ more) id n
+  placed-longer views more id n o = (o.0, at_longer views more id o.0 o.1, o.2)
+
+  -- and after the view of a seat has changed, with which it still is if it was
+  pub placed-set : (views : List (View T H W)) (id k n : ℕ) (v u : View T H W) (a b : Kind) → get_elem? views id ≡ some v → v.kind ≡ a → u.kind ≡ b → (IsWith v a n → IsWith u b n) → Placed views k n → Placed (set views id u) k n
+  placed-set views id k n v u a b at was now stays o = dite (ℕ_discrete k id)
+      (λ e. let same : o.0 ≡ v = same_at views id o.0 v ((λ i. get_elem? views (sym e i)) ∙ o.1) at in (
+        u,
+        (λ i. get_elem? (set views id u) (e i)) ∙ set_here views id u (at_within views id v at),
+        subst (λ (z : Kind). IsWith u z n) (sym now) (stays (subst (λ (z : Kind). IsWith v z n) was (subst (λ (z : View T H W). IsWith z z.kind n) same o.2))),
+      ))
+      (λ ne. (o.0, set_else views id k u ne ∙ o.1, o.2))
 
 module _ {T H W : Type 0} (threads given : ℕ) (w : W) (begin : W → ℕ → H) (all : List (Part T H)) (seat_of : ℕ → ℕ) where
   -- another seat fits still after the part of a thread has changed
@@ -24,7 +45,7 @@ module _ {T H W : Type 0} (threads given : ℕ) (w : W) (begin : W → ℕ → H
   others_fit n q own id up sits ne v Member f =
       record { world = f.world; later = f.later; given_out = f.given_out; sits = f.sits; own = set_else all n v.number q (λ e. let t = ap seat_of e in let u = f.sits in ne (omega arith)) ∙ f.own }
   others_fit n q own id up sits ne v Collector f =
-      let apart : (k : ℕ) → seat_of k ≡ 0 → k ≢ n = λ k z e. let t = ap seat_of e in omega arith in
+      let apart : (k : ℕ) → seat_of k ≡ id → k ≢ n = λ k z e. ne (sym z ∙ (ap seat_of e ∙ sits)) in
       record { world = f.world; few = f.few; came_back = λ k p at. let r = f.came_back k p at in (r.0, set_else all n k q (apart k r.0) ∙ r.1) }
   others_fit n q own id up sits ne v Spent f = tt
 
@@ -55,6 +76,7 @@ module _ {T H W : Type 0} (l : Layout) (traced : Bool) (w : W) (begin : W → �
               (subst (FitsAs l.threads r.given w begin (set r.all v.number q) r.seat_of id (with_part v q)) (sym kind) record { world = own.world; later = own.later; given_out = own.given_out; sits = own.sits; own = set_here r.all v.number q (at_within r.all v.number v.part own.own) }))
               (λ (h : (j ≢ id) × (get_elem? s.views j ≡ some u)). let o = r.fits j u h.1 in others_fit l.threads r.given w begin r.all r.seat_of v.number q id j own.later own.sits h.0 u u.kind o)
               (at_set s.views id j (with_part v q) u e);
+          placed = λ n lo. placed-set s.views id (r.seat_of n) n v (with_part v q) Member Member at kind kind (λ is. is) (r.placed n lo);
           core = t.3;
         },
         tells _ q _ own.world t.4,

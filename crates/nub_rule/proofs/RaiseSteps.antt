@@ -20,7 +20,7 @@ use Rattle.nub_rule.proofs.Each.{put-here, put-else}
 use Rattle.nub_rule.proofs.Members.{Steps, member_steps}
 use Rattle.nub_rule.proofs.Frames.{other, semaphores-frame}
 use Rattle.nub_rule.proofs.Standing.{some_none, not_true, stand_none, mem-behind}
-use Rattle.nub_rule.proofs.Beginning.{waits-stay, begun-frame, counted-unread}
+use Rattle.nub_rule.proofs.Beginning.{waits-stay, begun-frame, counted-over}
 use Rattle.nub_rule.proofs.Owing.{owes-frame}
 use Rattle.nub_rule.proofs.Showing.{holders-take, pendings-put, alerts-set}
 use Rattle.nub_rule.proofs.Conditioning.{conditions-out}
@@ -63,7 +63,7 @@ module _ {T H W : Type 0} (l : Layout) (traced : Bool) (w : W) (begin : W → �
       })
       (λ z. alert-seen-clear words 0 all n p (raised n x p z) at refl k.alert_seen)
       (λ z. owes-frame k.queue words words' all n p (raised n x p z) at (λ j lo. other words i (bit_at j) 0 (λ f. omega arith)) refl refl refl k.owes)
-      (λ z. begun-frame words words' all n p (raised n x p z) at (waits-stay words i 0 (λ j lo f. omega arith)) refl (λ h. counted-unread p (raised n x p z) refl h (λ v j is _. some_none (raised n x p z).wait v refl is) refl) k.begun) in
+      (λ z. begun-frame words words' all n p (raised n x p z) at (waits-stay words i 0 (λ j lo f. omega arith)) refl (λ h. counted-over p (raised n x p z) refl h refl apart) k.begun) in
       (done.0, keeps, tt, done.1, (one, done.2, refl))
 
   pub swap_alert_in_raise_keeps : (slots id m c : ℕ) (me : Me (Slot T) (View T H W)) (i : ℕ) (x : Wait) (y : T) → i ≡ alert_at me.0.number → me.0.number < most_threads → me.0.kind ≡ Member → (m < l.mutexes) × (c < l.conditions) → me.0.part.wait ≡ Some x → x.mutex.0 ≡ m → x.cond.0 ≡ c → x.alertable ≡ true

@@ -1,29 +1,32 @@
 -- Giving out the seats of the threads at the start, and taking them back at the end.
-use Rattle.std.proofs.Common.{Bool, ◌≡◌, ◌≢◌, ℕ, ◌+◌, ◌<◌, List, [], ◌∷◌, length, set, refl, sym, ap, ◌∙◌, subst, subst₂, ⊎_elim, arith, length-set, length-append}
+use Rattle.std.proofs.Common.{Bool, ◌≡◌, ◌≢◌, ℕ, ◌+◌, ◌<◌, List, [], ◌∷◌, ◌++◌, ◌≤◌, length, set, refl, sym, ap, ◌∙◌, subst, subst₂, ⊎_elim, arith, length-set, length-append}
+use mathlib.Core.Logic.{dite}
 use mathlib.Core.Option.{some, some-ne-none}
+use native.Mathlib.Decide.{ℕ_discrete}
 use lib.ListN.{get_elem?}
 use Rattle.larch_actions.specs.declared.event.Layout.{Layout}
 use Rattle.atomic_table.specs.Table.{Splits, Joins, Enters}
-use Rattle.atomic_table.proofs.Lists.{at_set, set_else}
+use Rattle.atomic_table.proofs.Lists.{at_last, at_set, set_else, set_here}
 use Rattle.nub_rule.specs.declared.view.Part.{Part}
 use Rattle.nub_rule.specs.declared.view.View.{View}
 use Rattle.nub_rule.specs.declared.view.Kind.{Kind}
 use Rattle.nub_rule.specs.declared.view.Kind.TheVariants.{Root, Member, Collector, Spent}
 use Rattle.larch_actions.specs.Actions.{put}
 use Rattle.nub_rule.specs.Parts.{fresh}
-use Rattle.nub_rule.specs.Rule.{begun, left_view, member_view, collector_view, both_views, spent_view, FitsAs, IsKept}
-use Rattle.nub_rule.proofs.Each.{put-here, put-else, at_new, at_within}
+use Rattle.nub_rule.specs.Rule.{begun, left_view, member_view, collector_view, both_views, spent_view, FitsAs, IsKept, IsWith}
+use Rattle.nub_rule.proofs.Each.{put-here, put-else, put-at, at_new, at_within}
+use Rattle.nub_rule.proofs.Members.{Placed, placed-longer, placed-set}
 
 module _ {T H W : Type 0} (threads given : ℕ) (w : W) (begin : W → ℕ → H) (all : List (Part T H)) (seat_of : ℕ → ℕ) where
-  -- a seat fits still after the thread n, that another seat had, has gone back
-  back_fit : (n own id : ℕ) → seat_of n ≡ own → 0 < own → id ≢ own → (v : View T H W) (k : Kind) → FitsAs threads given w begin all seat_of id v k → FitsAs threads given w begin all (put seat_of n 0) id v k
-  back_fit n own id sits up ne v Root f =
-      record { world = f.world; first = f.first; next = f.next; unborn = λ k lo hi. let r = f.unborn k lo hi in (put-else seat_of n k 0 (λ e. let t = ap seat_of e in let u = r.0 in absurd (omega arith)) ∙ r.0, r.1) }
-  back_fit n own id sits up ne v Member f =
-      record { world = f.world; later = f.later; given_out = f.given_out; sits = put-else seat_of n v.number 0 (λ e. ne (sym f.sits ∙ (ap seat_of e ∙ sits))) ∙ f.sits; own = f.own }
-  back_fit n own id sits up ne v Collector f =
-      record { world = f.world; few = f.few; came_back = λ k p at. let r = f.came_back k p at in (put-else seat_of n k 0 (λ e. let t = ap seat_of e in let u = r.0 in absurd (omega arith)) ∙ r.0, r.1) }
-  back_fit n own id sits up ne v Spent f = tt
+  -- a seat fits still after the thread n, that another seat had, has gone back to the seat x
+  back_fit : (n own x id : ℕ) → seat_of n ≡ own → 0 < own → id ≢ own → (v : View T H W) (k : Kind) → FitsAs threads given w begin all seat_of id v k → FitsAs threads given w begin all (put seat_of n x) id v k
+  back_fit n own x id sits up ne v Root f =
+      record { world = f.world; first = f.first; next = f.next; unborn = λ k lo hi. let r = f.unborn k lo hi in (put-else seat_of n k x (λ e. let t = ap seat_of e in let u = r.0 in absurd (omega arith)) ∙ r.0, r.1) }
+  back_fit n own x id sits up ne v Member f =
+      record { world = f.world; later = f.later; given_out = f.given_out; sits = put-else seat_of n v.number x (λ e. ne (sym f.sits ∙ (ap seat_of e ∙ sits))) ∙ f.sits; own = f.own }
+  back_fit n own x id sits up ne v Collector f =
+      record { world = f.world; few = f.few; came_back = λ k p at. let r = f.came_back k p at in (put-else seat_of n k x (λ e. ne (sym r.0 ∙ (ap seat_of e ∙ sits))) ∙ r.0, r.1) }
+  back_fit n own x id sits up ne v Spent f = tt
 
   -- a seat but the root's fits still after the thread that was to be given next has gone to the seat x
   given_fit : (x id : ℕ) → seat_of given ≡ 0 → id ≢ 0 → (v : View T H W) (k : Kind) → FitsAs threads given w begin all seat_of id v k → FitsAs threads (given + 1) w begin all (put seat_of given x) id v k
@@ -74,6 +77,11 @@ module _ {T H W : Type 0} (l : Layout) (traced : Bool) (w : W) (begin : W → �
               own = ap (get_elem? r.all) next ∙ (first.1 ∙ (λ i. some (fresh {T = T} (begun begin (sym next i) (sym root.world i)))));
             })
             (at_new (set s.views id (left_view v)) (member_view begin v) u j e);
+        placed = λ n lo. dite (ℕ_discrete n r.given)
+            (λ e. (member_view begin v, at_last (set s.views id (left_view v)) (member_view begin v) (seats n) (there ∙ sym (put-at r.seat_of r.given x n e)), next ∙ sym e))
+            (λ ne. subst (λ (z : ℕ). Placed (set s.views id (left_view v) ++ member_view begin v ∷ []) z n) (sym (put-else r.seat_of r.given n x ne))
+            (placed-longer (set s.views id (left_view v)) (member_view begin v ∷ []) (r.seat_of n) n
+            (placed-set s.views id (r.seat_of n) n v (left_view v) Root Root at kind kind (λ (h : v.next ≤ n). omega arith) (r.placed n lo))));
         core = r.core;
       }
 
@@ -84,9 +92,9 @@ module _ {T H W : Type 0} (l : Layout) (traced : Bool) (w : W) (begin : W → �
       let c : FitsAs l.threads r.given w begin r.all r.seat_of id v Collector = subst (FitsAs l.threads r.given w begin r.all r.seat_of id v) kind (r.fits id v at) in
       let m : FitsAs l.threads r.given w begin r.all r.seat_of other u Member = subst (FitsAs l.threads r.given w begin r.all r.seat_of other u) member (r.fits other u mine) in
       let n : ℕ = u.number in
-      let seats = put r.seat_of n 0 in
+      let seats = put r.seat_of n id in
       let fits = FitsAs l.threads r.given w begin r.all seats in
-      let back = back_fit l.threads r.given w begin r.all r.seat_of n other in
+      let back = back_fit l.threads r.given w begin r.all r.seat_of n other id in
       let long = length-append v.back (u.part ∷ []) in
       record {
         all = r.all;
@@ -101,13 +109,22 @@ module _ {T H W : Type 0} (l : Layout) (traced : Bool) (w : W) (begin : W → �
               world = c.world;
               few = let low = m.given_out in omega arith;
               came_back = λ k p f. ⊎_elim
-                  (λ (g : get_elem? v.back k ≡ some p). let o = c.came_back k p g in (put-else r.seat_of n k 0 (λ z. let y = at_within v.back k p g in absurd (omega arith)) ∙ o.0, o.1))
-                  (λ (g : (k ≡ length v.back) × (u.part ≡ p)). let here : k ≡ n = g.0 ∙ sym order in (ap (put r.seat_of n 0) here ∙ put-here r.seat_of n 0, ap (get_elem? r.all) here ∙ (m.own ∙ ap some g.1)))
+                  (λ (g : get_elem? v.back k ≡ some p). let o = c.came_back k p g in (put-else r.seat_of n k id (λ z. let y = at_within v.back k p g in absurd (omega arith)) ∙ o.0, o.1))
+                  (λ (g : (k ≡ length v.back) × (u.part ≡ p)). let here : k ≡ n = g.0 ∙ sym order in (ap (put r.seat_of n id) here ∙ put-here r.seat_of n id, ap (get_elem? r.all) here ∙ (m.own ∙ ap some g.1)))
                   (at_new v.back u.part p k f);
             }))
             (λ (i : (j ≢ id) × (get_elem? s.views j ≡ some x)). back j m.sits m.later h.0 x x.kind (r.fits j x i.1))
             (at_set s.views id j (both_views v u) x h.1))
             (at_set views other j spent_view x e);
+        placed = λ k lo. dite (ℕ_discrete k n)
+            (λ e. (
+              both_views v u,
+              (λ i. get_elem? (set views other spent_view) (put-at r.seat_of n id k e i)) ∙ (set_else views other id spent_view (λ z. apart (sym z)) ∙ set_here s.views id (both_views v u) (at_within s.views id v at)),
+              subst (λ (z : Kind). IsWith (both_views v u) z k) (sym kind) (let y : k < length (v.back ++ u.part ∷ []) = omega arith in y),
+            ))
+            (λ ne. subst (λ (z : ℕ). Placed (set views other spent_view) z k) (sym (put-else r.seat_of n k id ne))
+            (placed-set views other (r.seat_of k) k u spent_view Member Spent there member refl (λ (is : u.number ≡ k). ne (sym is))
+            (placed-set s.views id (r.seat_of k) k v (both_views v u) Collector Collector at kind kind (λ (h : k < length v.back). let y : k < length (v.back ++ u.part ∷ []) = omega arith in y) (r.placed k lo))));
         core = r.core;
       }
 
@@ -122,6 +139,7 @@ module _ {T H W : Type 0} (l : Layout) (traced : Bool) (w : W) (begin : W → �
       fits = λ j u e. ⊎_elim (λ (h : get_elem? s.views j ≡ some u). r.fits j u h)
           (λ (h : (j ≡ length s.views) × (collector_view w ≡ u)). subst (λ (b : View T H W). FitsAs l.threads r.given w begin r.all r.seat_of j b b.kind) h.1 record { world = refl; few = omega arith; came_back = λ n p f. absurd (some-ne-none p (sym f)) })
           (at_new s.views (collector_view w) u j e);
+      placed = λ n lo. placed-longer s.views (collector_view w ∷ []) (r.seat_of n) n (r.placed n lo);
       core = r.core;
     },
     refl,

@@ -24,7 +24,7 @@ use Rattle.nub_rule.specs.Begun.{raisers}
 use Rattle.nub_rule.specs.Owed.{HasTurn, IsAsleep, MustLook, SomebodyMustLook}
 use Rattle.nub_rule.specs.Parts.{Got, Has, IsFound, counts_in, fresh, pending_of, waits_on}
 use Rattle.nub_rule.specs.Places.{alert_at, bit_at, cond_object, count_at, length_at, most_threads, number_at, pen_at, queue_at, ready_at, sem_object, spin_at, value_at, waits_at}
-use Rattle.nub_rule.specs.Rule.{IsKept}
+use Rattle.nub_rule.specs.Rule.{IsKept, IsWith}
 
 -- the count of the condition c, and whether the thread n is ready
 abbrev pub count_now : List ℕ → ℕ → ℕ
@@ -125,9 +125,11 @@ module _ {T H : Type 0} where
     pub length_word : (o : ℕ) → o < 192 → slice_index words (length_at o) ≡ length (queue o)
 
   -- QUEUED THREADS: a thread in the queue of an object is in a call that waits there: it pushed itself, and since then neither took itself out nor
-  -- cleared its ready word. A thread that stands nowhere, as one at rest, is in no queue, has ready word 0, and nobody owes it that
+  -- cleared its ready word. One in the queue of a condition is in a wait there. A thread that stands nowhere, as one at rest, is in no queue, has ready
+  -- word 0, and nobody owes it that
   pub record QueuedThreads (words : List ℕ) (views : List (Part T H)) (queue : ℕ → List ℕ) : Type 0 where
     pub waits : Each (λ n p. (o : ℕ) → mem n (queue o) ≡ true → (s : Stand) × (p.stand ≡ Some s) × (s.at ≡ o)) views
+    pub waits_in : Each (λ n p. (c : ℕ) → mem n (queue (cond_object c)) ≡ true → (w : Wait) × (p.wait ≡ Some w) × (w.cond.0 ≡ c)) views
     pub elsewhere : Each (λ n p. p.stand ≡ None → IsInNone queue n × (slice_index words (ready_at n) ≡ 0) × NoView (λ q. Owes q n) views) views
 
   -- READY WORDS: a ready word is 0 or 1
@@ -143,7 +145,7 @@ module _ {T H : Type 0} where
     -- who read its own ready word as 1 and hasn't cleared it finds 1
     pub found : Each (λ n p. (s : Stand) → p.stand ≡ Some s → IsFound s.stage → IsReady words n) views
 
-  -- WAKE OWED, at the gates, which are the mutexes and semaphores. Where the bit is 0 and the queue isn't empty, at least one thread is bound to look:
+  -- NO WAKE LOST. First the gates, which are the mutexes and semaphores. Where the bit is 0 and the queue isn't empty, at least one thread is bound to look:
   -- it has cleared the bit and hasn't looked at the queue since, or it left the queue and hasn't tried the bit since, or it stands in the queue and
   -- since its push hasn't found the bit set
   pub record NoWakeLost (words : List ℕ) (views : List (Part T H)) (queue : ℕ → List ℕ) (state : Spec) : Type 0 where
@@ -154,7 +156,8 @@ module _ {T H : Type 0} where
     -- so whoever stands at a gate is ready, or the holder of its spin word owes it its ready word, or the bit is set, or somebody is bound to look
     pub waits : Each (λ n p. (s : Stand) → p.stand ≡ Some s → s.at < 128
         → IsReady words n ⊎ (AnyView (λ q. OwesAt s.at q n) views ⊎ ((slice_index words (bit_at s.at) ≢ 0) ⊎ SomebodyMustLook s.at (queue s.at) views))) views
-    -- and whoever stands at a condition and isn't in it is ready, or the holder of the condition's spin word owes it its ready word, or has taken it by an advance
+    -- Then the conditions: whoever stands at one and isn't in it is ready, or the holder of its spin word owes it its ready word, or has taken it by an
+    -- advance
     pub waits_in : Each (λ n p. (c : ℕ) (s : Stand) → c < 64 → p.stand ≡ Some s → s.at ≡ cond_object c → state.members c n ≡ false
         → IsReady words n ⊎ (AnyView (λ q. OwesAt (cond_object c) q n) views ⊎ AnyView (λ q. HasTakenAt c q n) views)) views
 
@@ -167,9 +170,11 @@ module _ {T H : Type 0} where
     pub risen : Each (λ n p. (w : Wait) (k : ℕ) → p.wait ≡ Some w → w.member ≡ Some k → w.cond.0 < 64 → k ≤ count_now words w.cond.0) views
     pub known : Each (λ n p. (c : ℕ) → c < 64 → p.spin ≡ Some (cond_object c) → p.count ≡ count_now words c) views
 
-  -- BEGUN WAITS: the word of a condition counts the views that have raised its begun waits and haven't lowered them, and each thread in the condition is one of these
+  -- BEGUN WAITS: the word of a condition counts the views that have raised its begun waits and haven't lowered them, so it is 0 exactly where none has.
+  -- Each thread in the condition is one of these
   pub record BegunWaits (words : List ℕ) (views : List (Part T H)) (state : Spec) : Type 0 where
     pub word : (c : ℕ) → c < 64 → slice_index words (waits_at (cond_object c)) ≡ raisers c views
+    pub none_begun : (c : ℕ) → c < 64 → (slice_index words (waits_at (cond_object c)) ≡ 0) ↔ NoView (λ p. p.raised ≡ Some c) views
     pub covers : (c n : ℕ) → c < 64 → state.members c n ≡ true → ViewIs views n (λ p. p.raised ≡ Some c)
 
   -- VALUES AND SHARES: the lock invariant holds of the values last released and all shares. The value got with a mutex is the one last released;
@@ -221,12 +226,14 @@ module _ {T H : Type 0} where
 
 module _ {T H W : Type 0} where
   -- the views of the threads, by their numbers: those of the seats of threads, those that have come back to a collector, and new ones for the threads
-  -- that the first seat has yet to give out
+  -- that the first seat has yet to give out. Each thread is with one seat, and with no other
   pub record AreViews (threads : ℕ) (w : W) (begin : W → ℕ → H) (seats : List (View T H W)) (views : List (Part T H)) : Type 0 where
     pub count : length views ≡ threads
     pub seated : (id : ℕ) (v : View T H W) → get_elem? seats id ≡ some v → v.kind ≡ Member → get_elem? views v.number ≡ some v.part
     pub back : (id : ℕ) (v : View T H W) → get_elem? seats id ≡ some v → v.kind ≡ Collector → Each (λ n p. get_elem? views n ≡ some p) v.back
     pub to_come : (id : ℕ) (v : View T H W) → get_elem? seats id ≡ some v → v.kind ≡ Root → (n : ℕ) → v.next ≤ n → n < threads → get_elem? views n ≡ some (fresh (Some (begin w n)))
+    pub each : (n : ℕ) → n < threads → (id : ℕ) × (v : View T H W) × (get_elem? seats id ≡ some v) × IsWith v v.kind n
+    pub once : (n i j : ℕ) (v u : View T H W) → n < threads → get_elem? seats i ≡ some v → get_elem? seats j ≡ some u → IsWith v v.kind n → IsWith u u.kind n → i ≡ j
 
   -- whatever state meets the invariant, the rule holds of its words, its slots at home and the views of its threads
   abbrev pub RuleHolds : (W → ℕ → H) → (W → List T → List H → Type 0) → Type 0

@@ -19,7 +19,7 @@ begun begin n None = None
 
 module _ {T H W : Type 0} where
   module _ (threads given : ℕ) (w : W) (begin : W → ℕ → H) (all : List (Part T H)) (seat_of : ℕ → ℕ) (id : ℕ) where
-    -- the seat id is the first, which gives the numbers out. A thread that was not given out yet, or came back, has the seat 0
+    -- the seat id is the first, which gives the numbers out. A thread that was not given out yet has the seat 0
     pub record IsRoot (v : View T H W) : Type 0 where
       pub world : v.world ≡ Some w
       pub first : id ≡ 0
@@ -34,11 +34,11 @@ module _ {T H W : Type 0} where
       pub sits : seat_of v.number ≡ id
       pub own : get_elem? all v.number ≡ some v.part
 
-    -- it takes the threads back, in order of their numbers
+    -- it takes the threads back, in order of their numbers, and has them then
     pub record IsCollector (v : View T H W) : Type 0 where
       pub world : v.world ≡ Some w
       pub few : length v.back ≤ given
-      pub came_back : (n : ℕ) (p : Part T H) → get_elem? v.back n ≡ some p → (seat_of n ≡ 0) × (get_elem? all n ≡ some p)
+      pub came_back : (n : ℕ) (p : Part T H) → get_elem? v.back n ≡ some p → (seat_of n ≡ id) × (get_elem? all n ≡ some p)
 
     -- what the seat id is for
     abbrev pub FitsAs : View T H W → Kind → Type 0
@@ -49,6 +49,13 @@ module _ {T H W : Type 0} where
 
     abbrev pub SeatFits : View T H W → Type 0
     SeatFits v = FitsAs v v.kind
+
+  -- the thread n is with the seat of this view: it is its own, came back to it, or is to be given out by it
+  abbrev pub IsWith : View T H W → Kind → ℕ → Type 0
+  IsWith v Root n = v.next ≤ n
+  IsWith v Member n = v.number ≡ n
+  IsWith v Collector n = n < length v.back
+  IsWith v Spent n = ⊥
 
   abbrev pub opening_view : W → (W → ℕ → H) → View T H W
   opening_view w begin = record { world = Some w; kind = Root; number = 0; part = fresh (Some (begin w 0)); next = 0; back = [] }
@@ -81,4 +88,5 @@ module _ {T H W : Type 0} where
     pub given : ℕ
     pub seated : 0 < length s.views
     pub fits : (id : ℕ) (v : View T H W) → get_elem? s.views id ≡ some v → SeatFits l.threads given w begin all seat_of id v
+    pub placed : (n : ℕ) → n < l.threads → (v : View T H W) × (get_elem? s.views (seat_of n) ≡ some v) × IsWith v v.kind n
     pub core : Core l traced w holds s.words s.homes all

@@ -1,4 +1,5 @@
-//! The steps on the begun waits of a condition: who begins to wait raises them first, so a Signal or Broadcast that finds none finds nobody.
+//! The steps on the begun waits of a condition. Who begins to wait raises them before it reads the count, by which it enters the condition, and
+//! lowers them once it has left: so a Signal or Broadcast that finds none finds nobody.
 ghost use Rattle.std.specs.Prelude.{◌≡◌, ◌≢◌, ◌<◌, ℕ, [], Some, None};
 ghost use Rattle.nub_rule.specs.declared.view.Wait.{Wait};
 ghost use Rattle.nub_rule.specs.Known.{Makes, learnt};
@@ -13,6 +14,7 @@ use crate::uses::Uses;
 use larch_actions::CondId;
 
 /// Raises the begun waits of c, before its count is read.
+#[inline]
 pub fn raise_waits<U: Uses>(p: &Package<U>, me: &mut Thread<U>, c: CondId) -> u64
     requires of { me.old.table_id ≡ p.now.table_id }
     requires named { c.0 < p.now.layout.conditions }
@@ -23,6 +25,7 @@ pub fn raise_waits<U: Uses>(p: &Package<U>, me: &mut Thread<U>, c: CondId) -> u6
 }
 
 /// Lowers the begun waits of c, which the thread has raised, once it is in no condition and stands nowhere.
+#[inline]
 pub fn lower_waits<U: Uses>(p: &Package<U>, me: &mut Thread<U>, c: CondId) -> u64
     requires of { me.old.table_id ≡ p.now.table_id }
     requires named { c.0 < p.now.layout.conditions }
@@ -35,6 +38,7 @@ pub fn lower_waits<U: Uses>(p: &Package<U>, me: &mut Thread<U>, c: CondId) -> u6
 }
 
 /// Reads the begun waits of c in a Signal. Where there are none, that is its event, and it leaves nobody. Else the Signal is under way.
+#[inline]
 pub fn read_waits_signal<U: Uses>(p: &Package<U>, me: &mut Thread<U>, c: CondId) -> u64
     requires of { me.old.table_id ≡ p.now.table_id }
     requires named { c.0 < p.now.layout.conditions }
@@ -48,6 +52,7 @@ pub fn read_waits_signal<U: Uses>(p: &Package<U>, me: &mut Thread<U>, c: CondId)
 }
 
 /// Reads the begun waits of c in a Broadcast. Where there are none, that is its event. Else the Broadcast is under way.
+#[inline]
 pub fn read_waits_broadcast<U: Uses>(p: &Package<U>, me: &mut Thread<U>, c: CondId) -> u64
     requires of { me.old.table_id ≡ p.now.table_id }
     requires named { c.0 < p.now.layout.conditions }

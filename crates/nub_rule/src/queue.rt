@@ -66,6 +66,7 @@ pub fn test_again<U: Uses>(p: &Package<U>, me: &mut Thread<U>, at: Object) -> u6
     requires untested { StandsAs (λ s. (s.at ≡ object_of at) × IsUntested s.stage) me.old }
     ensures clear { result ≡ 0 → me.new ≡ record me.old { stand = staged Clear me.old.stand } }
     ensures tested { result ≢ 0 → me.new ≡ record me.old { stand = staged Tested me.old.stand } }
+    ensures low { IsGate at → object_of at < 128 }
 {
     load::<TestAgain, U>(&p.table, &mut me.seat, at.bit_word())
 }

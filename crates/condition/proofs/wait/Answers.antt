@@ -2,7 +2,6 @@ use Rattle.std.proofs.Common.{◌≡◌, ℕ, Some, None, false, rules, refl, in
 use Rattle.std.proofs.lemmas.List.{set-set}
 use mathlib.Core.Option.{some}
 use lib.ListN.{get_elem?}
-use Rattle.nub_rule.specs.declared.view.Wait.{Wait}
 use Rattle.nub_rule.specs.declared.view.WaitBit.TheVariants.{Open}
 use Rattle.nub_rule.specs.Plays.{begun_wait, opened, unread}
 use Rattle.nub.specs.Rest.{HasStored}
@@ -32,24 +31,17 @@ free-requires-clause-may g c κs within =
           (c.requires.may.2 w s (sym (ap (λ k. k.world) begun ∙ ap (λ k. k.world) put) ∙ world) (sym (ap (λ k. k.share) begun ∙ ap (λ k. k.share) put) ∙ share)),
     )
 
-pub block-requires-clause-waits : goal.block-requires-clause-waits
-block-requires-clause-waits g c κs within = (record (begun_wait false c.args.m.0 c.args.c.0 c.read_count-count.result) { bit = Open }, ap (λ k. k.wait) c.free.ensures.rest ∙ ap opened (ap (λ k. k.wait) c.read_count-count.ensures.begun), refl, refl, refl)
+pub block_and_lower-requires-clause-waits : goal.block_and_lower-requires-clause-waits
+block_and_lower-requires-clause-waits g c κs within = (record (begun_wait false c.args.m.0 c.args.c.0 c.read_count-count.result) { bit = Open }, ap (λ k. k.wait) c.free.ensures.rest ∙ ap opened (ap (λ k. k.wait) c.read_count-count.ensures.begun), refl, refl, refl)
 
 pub take-requires-clause-may : goal.take-requires-clause-may
 take-requires-clause-may g c κs within =
     let w = record (begun_wait false c.args.m.0 c.args.c.0 c.read_count-count.result) { bit = Open } in
-    let wait = ap (λ k. k.wait) c.lower_waits.ensures ∙ c.block.ensures.out (c.block.ensures.plain refl) ∙ (ap (λ k. unread k.wait) c.free.ensures.rest ∙ ap (λ z. unread (opened z)) (ap (λ k. k.wait) c.read_count-count.ensures.begun)) in
+    let wait = ap (λ k. k.wait) c.block_and_lower.ensures ∙ (ap (λ k. unread k.wait) c.free.ensures.rest ∙ ap (λ z. unread (opened z)) (ap (λ k. k.wait) c.read_count-count.ensures.begun)) in
     inr (record w { member = None }, wait, refl, refl, λ j. resume_event (c.number.ensures j) c.args.m.0 c.args.c.0)
 
-none_read : (w x : Opt Wait) (y : Wait) → x ≡ unread w → x ≡ Some y → y.member ≡ None
-none_read None x y e is = absurd (let z : None ≡ Some y = sym e ∙ is in cc)
-none_read (Some w) x y e is = let z : record w { member = None } ≡ y = (let f : Some (record w { member = None }) ≡ Some y = sym e ∙ is in cc) in λ j. (sym z j).member
-
-pub lower_waits-requires-clause-raised : goal.lower_waits-requires-clause-raised
-lower_waits-requires-clause-raised g c κs within = ap (λ k. k.raised) c.block.ensures.rest ∙ (ap (λ k. k.raised) c.free.ensures.rest ∙ ap (λ k. k.raised) c.read_count-count.ensures.begun)
-
-pub lower_waits-requires-clause-out : goal.lower_waits-requires-clause-out
-lower_waits-requires-clause-out g c κs within = λ x is. none_read c.free.new.me.wait c.block.new.me.wait x (c.block.ensures.out (c.block.ensures.plain refl)) is
+pub block_and_lower-requires-clause-raised : goal.block_and_lower-requires-clause-raised
+block_and_lower-requires-clause-raised g c κs within = ap (λ k. k.raised) c.free.ensures.rest ∙ ap (λ k. k.raised) c.read_count-count.ensures.begun
 
 pub returns-clause-rest : goal.returns-clause-rest
 returns-clause-rest g c =
@@ -62,11 +54,10 @@ returns-clause-rest g c =
     let put = c.put_value.ensures.value in
     let begun = c.read_count-count.ensures.begun in
     let freed = c.free.ensures.rest in
-    let blocked = c.block.ensures.rest in
-    let lowered = c.lower_waits.ensures in
+    let blocked = c.block_and_lower.ensures in
     let out = c.take_value.ensures.out in
-    let held = ap (λ k. k.held) lowered ∙ ap (λ k. k.held) blocked ∙ (c.free.ensures.freed.0 ∙ ap (λ k. slice_set k.held m None) begun ∙ ap (λ k. slice_set k.held m None) put) in
-    let values = ap (λ k. k.values) lowered ∙ ap (λ k. k.values) blocked ∙ (c.free.ensures.freed.1 ∙ ap (λ k. slice_set k.values m None) begun ∙ ap (λ k. slice_set k.values m None) put) in
+    let held = ap (λ k. k.held) blocked ∙ (c.free.ensures.freed.0 ∙ ap (λ k. slice_set k.held m None) begun ∙ ap (λ k. slice_set k.held m None) put) in
+    let values = ap (λ k. k.values) blocked ∙ (c.free.ensures.freed.1 ∙ ap (λ k. slice_set k.values m None) begun ∙ ap (λ k. slice_set k.values m None) put) in
     record {
       of = search rules;
       outside = record { spin = search rules; queue = search rules; owed = search rules; left = search rules; stand = search rules; pen = search rules };
@@ -89,5 +80,5 @@ returns-clause-held g c =
     let m = c.args.m.0 in
     let taken = c.take.ensures.taken in
     let x = taken.0 in
-    let held = ap (λ k. k.held) c.lower_waits.ensures ∙ ap (λ k. k.held) c.block.ensures.rest ∙ (c.free.ensures.freed.0 ∙ ap (λ k. slice_set k.held m None) c.read_count-count.ensures.begun ∙ ap (λ k. slice_set k.held m None) c.put_value.ensures.value) in
+    let held = ap (λ k. k.held) c.block_and_lower.ensures ∙ (c.free.ensures.freed.0 ∙ ap (λ k. slice_set k.held m None) c.read_count-count.ensures.begun ∙ ap (λ k. slice_set k.held m None) c.put_value.ensures.value) in
     ap (λ k. k.held) c.take_value.ensures.out ∙ (taken.1 ∙ (ap (λ h. slice_set h m (Some x)) held ∙ (set-set old.held m None (Some x) ∙ ap (λ z. slice_set old.held m (Some z)) (same_value x c.take_value.result (sym taken.4 ∙ c.take_value.ensures.value)))))

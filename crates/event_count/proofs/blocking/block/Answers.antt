@@ -1,5 +1,6 @@
-use Rattle.std.proofs.Common.{ℕ, None, Some, true, true≢false, [], refl, sym, ap, ◌∙◌}
+use Rattle.std.proofs.Common.{ℕ, None, Some, true, true≢false, [], ◌≡◌, inl, refl, sym, ap, ◌∙◌}
 use Rattle.larch_actions.specs.Sets.{without}
+use Rattle.nub_rule.specs.declared.view.Wait.{Wait}
 use Rattle.nub_rule.specs.declared.view.Stage.TheVariants.{Alerted, Tested}
 use Rattle.nub_rule.specs.Parts.{staged}
 use Rattle.nub_rule.specs.Places.{cond_object}
@@ -7,6 +8,9 @@ use Rattle.nub_rule.specs.Plays.{unread}
 use Rattle.nub.proofs.Without.{without_twice}
 use Rattle.event_count.proofs.Steps.{left_at_once}
 use Rattle.event_count.proofs.blocking.block.Goals as goal
+
+same_wait : (w x : Wait) → Some w ≡ Some x → w ≡ x
+same_wait w x is = cc
 
 pub push-requires-clause-may : goal.push-requires-clause-may
 push-requires-clause-may g c κs within =
@@ -17,6 +21,16 @@ push-requires-clause-may g c κs within =
 
 pub sleep-requires-clause-tested : goal.sleep-requires-clause-tested
 sleep-requires-clause-tested g c κs within = (record { at = cond_object c.args.c.0; stage = Tested }, ap (λ k. k.stand) c.leave-2.ensures ∙ ap (λ k. k.stand) (c.push.ensures.cond tt), tt)
+
+pub sleep-requires-clause-heard : goal.sleep-requires-clause-heard
+sleep-requires-clause-heard g c κs within =
+    let waits = c.requires.waits in
+    let stood = c.compare_count.ensures.stands c.if-compare_count-count.false in
+    let wait = ap (λ k. k.wait) c.leave-2.ensures ∙ (ap (λ k. k.wait) (c.push.ensures.cond tt) ∙ (ap (λ k. unread k.wait) stood ∙ (ap (λ k. unread k.wait) c.enter.ensures.inside ∙ ap unread waits.1))) in
+    λ x s is of_alerts stands here. inl (sym waits.4 ∙ (ap (λ (w : Wait). w.alertable) (same_wait (record waits.0 { member = None }) x (sym wait ∙ is)) ∙ of_alerts))
+
+pub withdraw-requires-clause-seen : goal.withdraw-requires-clause-seen
+withdraw-requires-clause-seen g c κs within = ap (λ k. k.alerted) (c.sleep.ensures.alerted c.if-sleep.false)
 
 pub withdraw-requires-clause-alerted : goal.withdraw-requires-clause-alerted
 withdraw-requires-clause-alerted g c κs within =

@@ -1,9 +1,10 @@
-use Rattle.std.proofs.Common.{◌≡◌, true, Some, refl, rules, ap, ◌∙◌}
+use Rattle.std.proofs.Common.{◌≡◌, false, true, Some, refl, rules, ap, ◌∙◌}
 use Rattle.larch_actions.specs.Sets.{mem, without}
 use Rattle.nub_rule.specs.Objects.{object_of}
 use Rattle.nub_rule.specs.declared.view.Stand.{Stand}
 use Rattle.nub_rule.specs.declared.view.Stage.TheVariants.{Pushed, Clear, Tested}
 use Rattle.nub_rule.specs.Parts.{left_turns, staged}
+use Rattle.nub.proofs.Knowing.{hears_at_gate}
 use Rattle.nub.proofs.Without.{mem_last, without_own, after_sleep}
 use Rattle.nub_rule.proofs.Gating.{leave-gate, left-gate, push-gate}
 use Rattle.gate.proofs.Steps.{left_queue}
@@ -23,6 +24,9 @@ remove-requires-clause-may g c κs within =
 
 pub sleep-requires-clause-tested : goal.sleep-requires-clause-tested
 sleep-requires-clause-tested g c κs within = (record { at = object_of c.args.at; stage = Tested }, search rules, tt)
+
+pub sleep-requires-clause-heard : goal.sleep-requires-clause-heard
+sleep-requires-clause-heard g c κs within = hears_at_gate c.leave-else-test_again-eq0.new.me false (record { at = object_of c.args.at; stage = Tested }) (search rules) (c.test_again.ensures.low c.requires.gate)
 
 pub returns-then-test_again-eq0 : goal.returns-then-test_again-eq0
 returns-then-test_again-eq0 g c =

@@ -4,7 +4,7 @@ use native.Mathlib.Decide.{ℕ_discrete}
 use Rattle.nub_rule.specs.declared.view.Stage.TheVariants.{Clear, Tested}
 use Rattle.nub_rule.specs.Parts.{staged}
 use Rattle.nub_rule.specs.Places.{bit_at}
-use Rattle.nub_rule.proofs.Naming.{object_low, staged_none}
+use Rattle.nub_rule.proofs.Naming.{gate_low, object_low, staged_none}
 use Rattle.nub_rule.proofs.Handling.{hands-same}
 use Rattle.nub_rule.proofs.AtHand.{noted}
 use Rattle.nub_rule.proofs.Seen.{fit_still}
@@ -24,6 +24,9 @@ invariant_of-me g c = let i = c.me.invariant in let h = i.hands in let t = c.req
 
 pub returns-clause-clear : goal.returns-clause-clear
 returns-clause-clear g c = λ hit. let t = c.requires.untested in let stood = ap (λ k. k.stand) c.me.view_is ∙ t.1 in let word = c.bit_word.ensures ∙ ap bit_at (sym t.2.0) in let u = c.load.ensures.2 t.0 stood word in noted (λ _ p. record p { stand = staged Clear p.stand }) _ _ _ _ _ c.me.inside.seat.me _ _ c.me.view_is c.load.ensures.0 (u.0 hit)
+
+pub returns-clause-low : goal.returns-clause-low
+returns-clause-low g c = λ gate. gate_low _ _ _ _ c.p.view_is c.p.invariant.laid_out c.p.invariant.lawful c.args.at gate c.requires.named
 
 pub returns-clause-tested : goal.returns-clause-tested
 returns-clause-tested g c = λ miss. let t = c.requires.untested in let stood = ap (λ k. k.stand) c.me.view_is ∙ t.1 in let word = c.bit_word.ensures ∙ ap bit_at (sym t.2.0) in let u = c.load.ensures.2 t.0 stood word in noted (λ _ p. record p { stand = staged Tested p.stand }) _ _ _ _ _ c.me.inside.seat.me _ _ c.me.view_is c.load.ensures.0 (u.1 miss)
