@@ -1,5 +1,5 @@
 -- What the thread knows after the steps of a sleep, and after those that lead to an event, of plain variables.
-use Rattle.std.proofs.Common.{Bool, ◌≡◌, ◌<◌, ◌≤◌, ◌+◌, ℕ, true, None, Some, Option as Opt, ◌∷◌, ap, sym, subst, ◌∙◌, inl, inr, arith}
+use Rattle.std.proofs.Common.{Bool, ◌≡◌, ◌<◌, ◌≤◌, ℕ, true, None, Some, Option as Opt, ◌∷◌, ap, sym, subst, ◌∙◌, inl, inr, arith}
 use Rattle.nub_rule.specs.declared.view.Pen.TheVariants.{No, Taken, Read}
 use Rattle.nub_rule.specs.declared.view.Stage.{Stage}
 use Rattle.nub_rule.specs.declared.view.Stage.TheVariants.{Alerted, Asleep, Found}

@@ -1,10 +1,9 @@
 -- What a user of a package needs: threads between two calls, and what each has in a closed package.
-use Rattle.std.proofs.Common.{◌≡◌, ℕ, ◌<◌, List, [], ◌∷◌, length, get_or, map, zero, suc, Some, None, Option as Opt, arith, sym, ap, subst, ◌∙◌, refl}
+use Rattle.std.proofs.Common.{◌≡◌, ℕ, ◌<◌, List, [], ◌∷◌, length, get_or, map, zero, suc, Some, arith, sym, ap, subst, ◌∙◌, refl}
 use mathlib.Core.Option.{some, some-injective, some-ne-none}
 use lib.ListN.{get_elem?}
-use Rattle.std.proofs.lemmas.Option.{same_Some}
 use Rattle.nub_rule.specs.Known.{Known, Shape}
-use Rattle.nub.specs.Ended.{IsFirst, IsDone, KeepsLocks}
+use Rattle.nub.specs.Ended.{IsFirst, IsDone}
 use Rattle.nub.specs.Idle.{IsIdle}
 use Rattle.nub.specs.Rest.{AtRest, IsSame}
 

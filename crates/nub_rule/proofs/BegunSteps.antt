@@ -1,5 +1,5 @@
 -- The steps on the begun waits of a condition keep the rule.
-use Rattle.std.proofs.Common.{Bool, true, false, cond, eqb, ◌≡◌, ◌≢◌, ◌^◌, ◌%◌, ℕ, ◌+◌, ◌-◌, ◌<◌, ◌≤◌, ◌⊎◌, List, [], ◌∷◌, ◌++◌, length, get_or, set, refl, sym, ap, ◌∙◌, subst, inl, inr, ⊎_elim, arith, get_or-set_same, length-set, Some, None}
+use Rattle.std.proofs.Common.{Bool, true, false, cond, ◌≡◌, ◌≢◌, ◌^◌, ◌%◌, ℕ, ◌+◌, ◌-◌, ◌<◌, ◌⊎◌, List, [], ◌++◌, length, get_or, set, refl, sym, ap, ◌∙◌, subst, inl, inr, ⊎_elim, arith, get_or-set_same, length-set, Some, None}
 use Rattle.std.specs.Prelude.{Option as Opt}
 use mathlib.Core.Logic.{dite}
 use mathlib.Core.Option.{Option, some, none}
@@ -9,28 +9,26 @@ use lib.Seq.{set-get_or}
 use Rattle.larch_actions.specs.declared.event.Event.{Event}
 use Rattle.larch_actions.specs.declared.event.Action.{Action}
 use Rattle.larch_actions.specs.declared.event.Layout.{Layout}
-use Rattle.larch_actions.specs.declared.event.Pending.TheVariants.{Nothing}
-use Rattle.larch_actions.specs.Actions.{Spec, Acts, put}
+use Rattle.larch_actions.specs.Actions.{Acts, put}
 use Rattle.larch_actions.specs.Layout.{IsNamed}
 use Rattle.larch_actions.specs.Sets.{mem, in_set, set_of}
 use Rattle.larch_actions.proofs.Sets.{in_set-of}
 use Rattle.atomic_table.specs.Table.{Me, step, Allows, keeps}
 use Rattle.nub_rule.specs.declared.rule.Slot.{Slot}
 use Rattle.nub_rule.specs.declared.view.Part.{Part}
-use Rattle.nub_rule.specs.declared.view.Stand.{Stand}
 use Rattle.nub_rule.specs.declared.view.Wait.{Wait}
 use Rattle.nub_rule.specs.declared.view.View.{View}
 use Rattle.nub_rule.specs.declared.view.Kind.TheVariants.{Member}
-use Rattle.nub_rule.specs.Begun.{BegunWaits, raisers}
-use Rattle.nub_rule.specs.Items.{Core, Conditions, Knows, Shows}
-use Rattle.nub_rule.specs.Parts.{MayTell, counts_in, is_at, pending_of}
+use Rattle.nub_rule.specs.Begun.{BegunWaits}
+use Rattle.nub_rule.specs.Items.{Core, Conditions, Knows}
+use Rattle.nub_rule.specs.Parts.{MayTell, counts_in, pending_of}
 use Rattle.nub_rule.specs.Places.{bit_at, count_at, alert_at, waits_at, sem_object, cond_object}
 use Rattle.nub_rule.specs.Plays.{Becomes, Grows, told, with_part, event, signal_action, broadcast_action, raise_waits_tells, lower_waits_tells, read_waits_tells}
 use Rattle.nub_rule.specs.Rule.{IsKept}
 use Rattle.nub_rule.proofs.Each.{each-set, at_below, put-at, put-else}
 use Rattle.nub_rule.proofs.Members.{member_steps}
 use Rattle.nub_rule.proofs.Frames.{SameCounts, other, bits-stay, spins-stay, ready-stay, shown-stay, pen-stay, spins-frame, lines-frame, shows-frame, pens-frame, holders-frame, pendings-frame, semaphores-frame, alerts-frame, alert-seen-frame, alert-seen-stays}
-use Rattle.nub_rule.proofs.Standing.{some_none, not_true, false_true, both_ways, eqb_is, mem-behind, stand_some}
+use Rattle.nub_rule.proofs.Standing.{some_none, not_true, both_ways, mem-behind, stand_some}
 use Rattle.nub_rule.proofs.Beside.{beside}
 use Rattle.nub_rule.proofs.Owing.{owes-frame}
 use Rattle.nub_rule.proofs.Beginning.{raisers-few, raisers-some, begun-same, begun-raise, begun-lower, counts-some}

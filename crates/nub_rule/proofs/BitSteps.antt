@@ -34,7 +34,7 @@ use Rattle.nub_rule.proofs.Each.{at_within, at_below, put-here, put-else}
 use Rattle.nub_rule.proofs.Members.{Steps, member_steps}
 use Rattle.nub_rule.proofs.Runs.{leads-snoc}
 use Rattle.nub_rule.proofs.Frames.{other, sizes-frame, told-event, spins-frame, lines-frame, ready-stay, spins-stay, shown-stay, pen-stay, alert-seen-stays, alert-seen-frame}
-use Rattle.nub_rule.proofs.Standing.{some_none, not_true, stand_none, mem-behind, lines-same}
+use Rattle.nub_rule.proofs.Standing.{not_true, stand_none, mem-behind, lines-same}
 use Rattle.nub_rule.proofs.SpinSteps.{nobody-by, one-by}
 use Rattle.nub_rule.proofs.Penning.{either_way, pens-event, numbered-by}
 use Rattle.nub_rule.proofs.Beside.{still}

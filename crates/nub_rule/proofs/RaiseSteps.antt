@@ -19,7 +19,7 @@ use Rattle.nub_rule.specs.Rule.{IsKept}
 use Rattle.nub_rule.proofs.Each.{put-here, put-else}
 use Rattle.nub_rule.proofs.Members.{Steps, member_steps}
 use Rattle.nub_rule.proofs.Frames.{other, semaphores-frame}
-use Rattle.nub_rule.proofs.Standing.{some_none, not_true, stand_none, mem-behind}
+use Rattle.nub_rule.proofs.Standing.{not_true, stand_none, mem-behind}
 use Rattle.nub_rule.proofs.Beginning.{waits-stay, begun-frame, counted-over}
 use Rattle.nub_rule.proofs.Owing.{owes-frame}
 use Rattle.nub_rule.proofs.Showing.{holders-take, pendings-put, alerts-set}

@@ -1,4 +1,4 @@
-use Rattle.std.proofs.Common.{ℕ, ◌<◌, subst, sym, rules, arith, ◌∙◌, ap, refl, true}
+use Rattle.std.proofs.Common.{ℕ, ◌<◌, subst, sym, arith, ◌∙◌, ap, refl, true}
 use mathlib.Core.Logic.{dite}
 use native.Mathlib.Decide.{ℕ_discrete}
 use Rattle.nub_rule.specs.Parts.{alerted_stand}

@@ -1,4 +1,4 @@
-use Rattle.std.proofs.Common.{Bool, eqb, false, rules, arith, ◌≡◌, ◌<◌, ◌∙◌, ℕ, ap, sym, subst, refl}
+use Rattle.std.proofs.Common.{Bool, eqb, false, arith, ◌≡◌, ◌<◌, ◌∙◌, ℕ, ap, sym, subst, refl}
 use Rattle.nub_rule.specs.declared.view.Pen.{Pen}
 use Rattle.nub_rule.specs.Known.{known_as}
 use Rattle.nub_rule.specs.Parts.{made, MayTell}

@@ -1,4 +1,4 @@
-use Rattle.std.proofs.Common.{rules, arith, ◌∙◌, ap, sym, refl, None}
+use Rattle.std.proofs.Common.{arith, ◌∙◌, ap, sym, refl, None}
 use Rattle.nub_rule.proofs.Naming.{cond_low}
 use Rattle.nub_rule.proofs.AtHand.{noted, fit_noted}
 use Rattle.nub_rule.proofs.BegunSteps.{lower_waits_keeps}

@@ -1,4 +1,4 @@
-use Rattle.std.proofs.Common.{Bool, rules, arith, ◌≡◌, ◌∙◌, [], ℕ, ap, sym, subst, refl, Some}
+use Rattle.std.proofs.Common.{Bool, rules, arith, ◌≡◌, ◌∙◌, [], ap, sym, subst, refl, Some}
 use mathlib.Core.Logic.{dite}
 use native.Mathlib.Decide.{ℕ_discrete}
 use Rattle.nub_rule.specs.declared.view.Pen.{Pen}

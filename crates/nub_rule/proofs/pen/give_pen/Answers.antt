@@ -1,4 +1,4 @@
-use Rattle.std.proofs.Common.{rules, ◌≡◌, refl}
+use Rattle.std.proofs.Common.{rules, refl}
 use Rattle.nub_rule.specs.declared.view.Pen.TheVariants.{No}
 use Rattle.nub_rule.proofs.AtHand.{noted, fit_noted}
 use Rattle.nub_rule.proofs.Penning.{give_pen_keeps}

@@ -1,4 +1,4 @@
-use Rattle.std.proofs.Common.{rules, arith, ◌∙◌, ◌∷◌, ℕ, ap, refl}
+use Rattle.std.proofs.Common.{arith, ◌∙◌, ◌∷◌, ℕ, ap, refl}
 use mathlib.Core.Logic.{dite}
 use native.Mathlib.Decide.{ℕ_discrete}
 use Rattle.larch_actions.specs.Sets.{mem, without}

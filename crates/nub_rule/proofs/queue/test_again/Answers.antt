@@ -1,4 +1,4 @@
-use Rattle.std.proofs.Common.{rules, arith, ◌∙◌, ap, sym, refl}
+use Rattle.std.proofs.Common.{arith, ◌∙◌, ap, sym, refl}
 use mathlib.Core.Logic.{dite}
 use native.Mathlib.Decide.{ℕ_discrete}
 use Rattle.nub_rule.specs.declared.view.Stage.TheVariants.{Clear, Tested}

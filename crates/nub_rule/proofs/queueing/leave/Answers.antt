@@ -1,4 +1,4 @@
-use Rattle.std.proofs.Common.{arith, ◌∙◌, ℕ, ap, sym, subst, length, refl, Some}
+use Rattle.std.proofs.Common.{arith, ◌∙◌, ℕ, ap, sym, subst, refl, Some}
 use Rattle.nub_rule.specs.declared.rule.Slot.TheVariants.{Queue}
 use Rattle.nub_rule.specs.Items.{line_of}
 use Rattle.larch_actions.specs.Layout.{IsLawful}
@@ -6,7 +6,7 @@ use Rattle.nub_rule.specs.Places.{length_at}
 use Rattle.larch_actions.specs.Sets.{mem}
 use Rattle.nub_rule.proofs.Standing.{false_true}
 use Rattle.nub_rule.proofs.Handling.{same_slot}
-use Rattle.nub_rule.proofs.AtHand.{QueueAtHand, queue_at_hand, After, requeued, requeued_seen}
+use Rattle.nub_rule.proofs.AtHand.{QueueAtHand, queue_at_hand, requeued, requeued_seen}
 use Rattle.nub_rule.proofs.Requeueing.{leave_shown, may_write, written}
 use Rattle.nub_rule.proofs.queueing.leave.Given.{Over}
 use Rattle.nub_rule.proofs.queueing.leave.Goals.{After-bring}

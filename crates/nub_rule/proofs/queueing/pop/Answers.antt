@@ -1,4 +1,4 @@
-use Rattle.std.proofs.Common.{arith, ◌≡◌, ◌∙◌, ◌∷◌, ℕ, List, ap, sym, subst, length, Some}
+use Rattle.std.proofs.Common.{arith, ◌≡◌, ◌∙◌, ◌∷◌, ℕ, List, ap, sym, subst, Some}
 use Rattle.nub_rule.specs.declared.rule.Slot.TheVariants.{Queue}
 use Rattle.nub_rule.specs.Items.{line_of}
 use Rattle.larch_actions.specs.Layout.{IsLawful}
@@ -6,7 +6,7 @@ use Rattle.nub_rule.specs.Places.{length_at}
 use Rattle.nub_rule.specs.Plays.{behind}
 use Rattle.nub_rule.proofs.Lessening.{length-behind}
 use Rattle.nub_rule.proofs.Handling.{same_slot}
-use Rattle.nub_rule.proofs.AtHand.{QueueAtHand, queue_at_hand, After, requeued_seen}
+use Rattle.nub_rule.proofs.AtHand.{QueueAtHand, queue_at_hand, requeued_seen}
 use Rattle.nub_rule.proofs.Requeueing.{pop_shown, may_write, written}
 use Rattle.nub_rule.proofs.queueing.pop.Given.{Over}
 use Rattle.nub_rule.proofs.queueing.pop.Goals.{After-bring}

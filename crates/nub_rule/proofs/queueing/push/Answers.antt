@@ -4,7 +4,7 @@ use Rattle.nub_rule.specs.Items.{line_of}
 use Rattle.larch_actions.specs.Layout.{IsLawful}
 use Rattle.nub_rule.specs.Places.{length_at}
 use Rattle.nub_rule.proofs.Handling.{same_slot}
-use Rattle.nub_rule.proofs.AtHand.{QueueAtHand, queue_at_hand, After, requeued_seen}
+use Rattle.nub_rule.proofs.AtHand.{QueueAtHand, queue_at_hand, requeued_seen}
 use Rattle.nub_rule.proofs.Requeueing.{push_shown, may_write, written}
 use Rattle.nub_rule.proofs.queueing.push.Given.{Over}
 use Rattle.nub_rule.proofs.queueing.push.Goals.{After-bring}

@@ -1,4 +1,4 @@
-use Rattle.std.proofs.Common.{ℕ, ◌<◌, subst, sym, rules, arith, ◌≡◌, ◌∙◌, ap, refl, None}
+use Rattle.std.proofs.Common.{ℕ, ◌<◌, subst, sym, arith, ◌≡◌, ◌∙◌, ap, refl, None}
 use Rattle.nub_rule.specs.Parts.{turned}
 use Rattle.nub_rule.specs.Places.{ready_at, most_threads}
 use Rattle.nub_rule.proofs.Naming.{some_or_none}

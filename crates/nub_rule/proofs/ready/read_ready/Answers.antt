@@ -1,4 +1,4 @@
-use Rattle.std.proofs.Common.{sym, rules, arith, ◌≡◌, ◌∙◌, ap, refl, None}
+use Rattle.std.proofs.Common.{sym, arith, ◌≡◌, ◌∙◌, ap, refl, None}
 use mathlib.Core.Logic.{dite}
 use native.Mathlib.Decide.{ℕ_discrete}
 use Rattle.nub_rule.specs.declared.view.Stage.TheVariants.{Asleep, Found}

@@ -1,4 +1,4 @@
-use Rattle.std.proofs.Common.{rules, arith, ◌∙◌, ap, refl}
+use Rattle.std.proofs.Common.{arith, ◌∙◌, ap, refl}
 use Rattle.larch_actions.specs.Sets.{mem, without}
 use Rattle.nub_rule.proofs.Handling.{hands-same}
 use Rattle.nub_rule.proofs.AtHand.{noted}
