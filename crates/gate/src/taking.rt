@@ -19,8 +19,8 @@ use nub_rule::{
 };
 use std::sync::Wait;
 
-// How often a thread pauses and looks at a bit before it queues.
-const LOOKS: u32 = 24;
+// How often a thread looks at a bit before it queues, after 1, 2, 4 and up to 64 pauses: 703 in all, which take about as long as a park with its wake.
+const LOOKS: u32 = 16;
 
 /// Makes the event by taking the bit, after any number of sleeps. It may wait: it goes on when it has taken the bit, which another thread
 /// must have cleared. Nothing says that it ever does.

@@ -66,6 +66,7 @@ fn begin_traced<U: Uses, R: Wait>(rt: &R, p: &Package<U>, me: &mut Thread<U>)
             // No number is left for an event. The pen goes back, since nobody may wait with it.
             give_pen(p, me);
         }
+        // First pauses, then the processor is given up: the holder may be waiting for it.
         backoff.snooze();
     }
     unreachable!()

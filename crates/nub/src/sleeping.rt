@@ -11,8 +11,8 @@ use crossbeam_utils::Backoff;
 use nub_rule::{Package, Thread, Uses, clear_ready, park, read_alert, read_ready};
 use std::sync::Wait;
 
-// How often a thread pauses and looks before it parks.
-const LOOKS: u32 = 14;
+// How often a thread looks before it parks, after 1, 2, 4 and up to 64 pauses: 447 in all, which take no longer than a park with its wake.
+const LOOKS: u32 = 12;
 
 /// Sleeps until the ready word is found set, and clears it; it answers true then. Where `alertable` is true it also ends where the thread's
 /// alert word is found set, and answers false: the thread stands in the queue still, unless another thread popped it meanwhile. It may wait
