@@ -56,9 +56,10 @@ pub fn clear_ready<U: Uses>(p: &Package<U>, me: &mut Thread<U>) -> u64
 }
 
 /// Sleeps until another thread unparks this one, or for no reason; it returns at once where an unparking came before. Not an atomic step of
-/// the rule: the view stays, and no clause speaks of the result. A thread parks only where it stands in a queue or was taken out of it, and has
-/// found its ready word clear since: so it owes no look to a gate that it has cleared.
+/// the rule: the view stays, and no clause speaks of the result. A thread parks only with no spin word, where it stands in a queue or was taken
+/// out of it, and has found its ready word clear since: so it owes no look to a gate that it has cleared.
 pub fn park<U: Uses, R: Wait>(rt: &R, me: &Thread<U>)
+    requires outside { me.now.spin ≡ None }
     requires asleep { StandsAs (λ s. IsAsleep s.stage) me.now }
 {
     me.parker.park(rt);
