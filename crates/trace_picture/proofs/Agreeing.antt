@@ -14,7 +14,8 @@ use Rattle.larch_actions.specs.Sets.{in_set, set_of}
 use Rattle.trace_picture.specs.declared.history.Origin.{Origin}
 use Rattle.trace_picture.specs.declared.causes.Cause.{Cause}
 use Rattle.trace_picture.specs.declared.causes.Cause.TheVariants.{Never, Awaited, By}
-use Rattle.trace_picture.specs.Causes.{taken, opened, come, stand_move, open_move, alert_move, moved}
+use Rattle.trace_picture.specs.Causes.{taken, opened, come, moved}
+use Rattle.trace_picture.specs.Marks.{marks_of}
 
 -- a thread with this cause stands in the condition c
 abbrev pub stands_in : ℕ → Cause → Bool
@@ -67,7 +68,7 @@ fits_taken c stays o p (Awaited k) h = cond_both (eqb k c && not stays) (By o) (
     came (Waiting m d) h = inr (o, refl)
     came (AlertWaiting m d) h = inr (o, refl)
 
-pub fits_after : (t : ℕ) (a : Action) (o : Origin) (f : ℕ → Cause) (s : Spec) → ((x : ℕ) → Fits (s.pending x) (f x)) → (x : ℕ) → Fits ((acted t s a).pending x) (moved (stand_move t a) o f x)
+pub fits_after : (t : ℕ) (a : Action) (o : Origin) (f : ℕ → Cause) (s : Spec) → ((x : ℕ) → Fits (s.pending x) (f x)) → (x : ℕ) → Fits ((acted t s a).pending x) (moved (marks_of t a).stand o f x)
 fits_after t (Acquire m) o f s h x = h x
 fits_after t (Release m) o f s h x = h x
 fits_after t (Enqueue m c) o f s h x = both_put Fits s.pending f t (Waiting m c) (Awaited c.0) x (λ e. inl refl) (h x)
@@ -164,7 +165,7 @@ module _ (t : ℕ) (o : Origin) (f : ℕ → Cause) (s : Spec) (fits : (x : ℕ)
       (λ same. cond_both (eqb c d) false (s.members c x) (λ v. v ≡ false) (λ e. refl) (λ ne. h c x ∙ apart c d (f x) (on same) ne))
       (other d)
 
-  pub members_after : (a : Action) → KeepsOrder (s.pending t) a → MeetsWhen t s a → MeetsChoice t s a → (acted t s a).members c x ≡ stands_in c (moved (stand_move t a) o f x)
+  pub members_after : (a : Action) → KeepsOrder (s.pending t) a → MeetsWhen t s a → MeetsChoice t s a → (acted t s a).members c x ≡ stands_in c (moved (marks_of t a).stand o f x)
   members_after (Acquire m) order ready choice = h c x
   members_after (Release m) order ready choice = h c x
   members_after (Enqueue m d) order ready choice = begins d.0 order
@@ -189,7 +190,7 @@ open_now o Never = refl
 open_now o (Awaited k) = refl
 open_now o (By p) = refl
 
-pub avail_after : (t : ℕ) (a : Action) (o : Origin) (f : ℕ → Cause) (s : Spec) → ((n : ℕ) → s.avail n ≡ not (is_awaited (f n))) → (n : ℕ) → (acted t s a).avail n ≡ not (is_awaited (moved (open_move a) o f n))
+pub avail_after : (t : ℕ) (a : Action) (o : Origin) (f : ℕ → Cause) (s : Spec) → ((n : ℕ) → s.avail n ≡ not (is_awaited (f n))) → (n : ℕ) → (acted t s a).avail n ≡ not (is_awaited (moved (marks_of t a).avail o f n))
 avail_after t (Acquire m) o f s h n = h n
 avail_after t (Release m) o f s h n = h n
 avail_after t (Enqueue m c) o f s h n = h n
@@ -211,7 +212,7 @@ come_now o Never = refl
 come_now o (Awaited k) = refl
 come_now o (By p) = refl
 
-pub alerts_after : (t : ℕ) (a : Action) (o : Origin) (f : ℕ → Cause) (s : Spec) → ((x : ℕ) → s.alerts x ≡ is_come (f x)) → (x : ℕ) → (acted t s a).alerts x ≡ is_come (moved (alert_move t a) o f x)
+pub alerts_after : (t : ℕ) (a : Action) (o : Origin) (f : ℕ → Cause) (s : Spec) → ((x : ℕ) → s.alerts x ≡ is_come (f x)) → (x : ℕ) → (acted t s a).alerts x ≡ is_come (moved (marks_of t a).alert o f x)
 alerts_after t (Acquire m) o f s h x = h x
 alerts_after t (Release m) o f s h x = h x
 alerts_after t (Enqueue m c) o f s h x = h x

@@ -13,8 +13,9 @@ use Rattle.trace_picture.specs.declared.history.Origin.{Origin}
 use Rattle.trace_picture.specs.declared.causes.Cause.{Cause}
 use Rattle.trace_picture.specs.declared.causes.Cause.TheVariants.{Never, Awaited, By}
 use Rattle.trace_picture.specs.History.{origin_of}
-use Rattle.trace_picture.specs.Causes.{taken, opened, come, stand_move, open_move, alert_move, moved}
-use Rattle.trace_picture.specs.Kept.{Kept, nothing_kept, kept_after, kept_since, behind, waker_of, came, let_on_by}
+use Rattle.trace_picture.specs.Causes.{taken, opened, come, moved}
+use Rattle.trace_picture.specs.Marks.{marks_of}
+use Rattle.trace_picture.specs.Kept.{Kept, nothing_kept, kept_after, kept_since, behind, came, let_on_by}
 use Rattle.trace_picture.specs.Laws.{awaited_by, HoldsAlong, IsMadeBy, ArrowsAreCauses}
 use Rattle.trace_picture.proofs.Agreeing.{stands_in, is_awaited, is_come, Fits, IsOn, fits_after, members_after, avail_after, alerts_after}
 use Rattle.trace_picture.proofs.Drawing.{behind-push, length-behind}
@@ -108,7 +109,7 @@ abbrev IsFrom : Cause → Origin → Origin → Type 0
 IsFrom x p o = (x ≡ By p) ⊎ ((p ≡ o) × (is_awaited x ≡ true))
 
 -- who was taken out was so before, or is so by this event, and waits on as before
-stand_from : (t : ℕ) (a : Action) (o : Origin) (f : ℕ → Cause) (s : Spec) (x : ℕ) (p : Origin) → moved (stand_move t a) o f x ≡ By p → ((acted t s a).pending x ≡ s.pending x) × IsFrom (f x) p o
+stand_from : (t : ℕ) (a : Action) (o : Origin) (f : ℕ → Cause) (s : Spec) (x : ℕ) (p : Origin) → moved (marks_of t a).stand o f x ≡ By p → ((acted t s a).pending x ≡ s.pending x) × IsFrom (f x) p o
 stand_from t (Acquire m) o f s x p h = (refl, inl h)
 stand_from t (Release m) o f s x p h = (refl, inl h)
 stand_from t (Enqueue m c) o f s x p h = let q = quiet (eqb x t) (Awaited c.0) (f x) (Waiting m c) (s.pending x) p (not_awaited c.0 p) h in (q.0, inl q.1)
@@ -131,29 +132,29 @@ changed_from R true y x p h r e = h e refl
 changed_from R false y x p h r e = r e
 
 module _ (o : Origin) (f : ℕ → Cause) (x : ℕ) (p : Origin) where
-  open_from : (a : Action) → moved (open_move a) o f x ≡ By p → IsFrom (f x) p o
-  open_from (Acquire m) h = inl h
-  open_from (Release m) h = inl h
-  open_from (Enqueue m c) h = inl h
-  open_from (Resume m c) h = inl h
-  open_from (AlertEnqueue m c) h = inl h
-  open_from (AlertReturn m c) h = inl h
-  open_from (AlertRaise m c) h = inl h
-  open_from (Signal c left) h = inl h
-  open_from (Broadcast c) h = inl h
-  open_from (P n) h = changed_from (λ y. IsFrom y p o) (eqb x n.0) (Awaited n.0) (f x) p (λ e b. absurd (not_awaited n.0 p e)) (λ e. inl e) h
-  open_from (V n) h = changed_from (λ y. IsFrom y p o) (eqb x n.0) (opened o (f n.0)) (f x) p
+  open_from : (t : ℕ) (a : Action) → moved (marks_of t a).avail o f x ≡ By p → IsFrom (f x) p o
+  open_from t (Acquire m) h = inl h
+  open_from t (Release m) h = inl h
+  open_from t (Enqueue m c) h = inl h
+  open_from t (Resume m c) h = inl h
+  open_from t (AlertEnqueue m c) h = inl h
+  open_from t (AlertReturn m c) h = inl h
+  open_from t (AlertRaise m c) h = inl h
+  open_from t (Signal c left) h = inl h
+  open_from t (Broadcast c) h = inl h
+  open_from t (P n) h = changed_from (λ y. IsFrom y p o) (eqb x n.0) (Awaited n.0) (f x) p (λ e b. absurd (not_awaited n.0 p e)) (λ e. inl e) h
+  open_from t (V n) h = changed_from (λ y. IsFrom y p o) (eqb x n.0) (opened o (f n.0)) (f x) p
       (λ e b. let same = eqb-true x n.0 b in opened_from o (f x) p (ap (λ i. opened o (f i)) same ∙ e))
       (λ e. inl e) h
-  open_from (Alert who) h = inl h
-  open_from (TestAlert b) h = inl h
-  open_from (AlertPReturn n) h = changed_from (λ y. IsFrom y p o) (eqb x n.0) (Awaited n.0) (f x) p (λ e b. absurd (not_awaited n.0 p e)) (λ e. inl e) h
-  open_from (AlertPRaise n) h = inl h
+  open_from t (Alert who) h = inl h
+  open_from t (TestAlert b) h = inl h
+  open_from t (AlertPReturn n) h = changed_from (λ y. IsFrom y p o) (eqb x n.0) (Awaited n.0) (f x) p (λ e b. absurd (not_awaited n.0 p e)) (λ e. inl e) h
+  open_from t (AlertPRaise n) h = inl h
 
   abbrev IsAlertFrom : Cause → Type 0
   IsAlertFrom y = (y ≡ By p) ⊎ ((p ≡ o) × (is_come y ≡ false))
 
-  alert_from : (t : ℕ) (a : Action) → moved (alert_move t a) o f x ≡ By p → IsAlertFrom (f x)
+  alert_from : (t : ℕ) (a : Action) → moved (marks_of t a).alert o f x ≡ By p → IsAlertFrom (f x)
   alert_from t (Acquire m) h = inl h
   alert_from t (Release m) h = inl h
   alert_from t (Enqueue m c) h = inl h
@@ -224,7 +225,7 @@ module _ (k : Kept) (es : List Event) (s : Spec) (e : Event) (r : IsRun es s) (m
       was (inr (same, aw)) w = inr (same, ap not (told.stands c x ∙ waits_there c (s.pending x) (k.stands x) (told.fits x) w aw))
 
   opener : (n : ℕ) (p : Origin) → later.opens n ≡ By p → IsMadeBy (λ z. z.avail n) (es ++ e ∷ []) next p
-  opener n p h = made (λ z. z.avail n) es s e next (may, refl) (opens n ∙ ap (λ y. not (is_awaited y)) h) p r (was (open_from o k.opens n p a h))
+  opener n p h = made (λ z. z.avail n) es s e next (may, refl) (opens n ∙ ap (λ y. not (is_awaited y)) h) p r (was (open_from o k.opens n p t a h))
     where
       was : IsFrom (k.opens n) p o → (IsMadeBy (λ z. z.avail n) es s p) ⊎ ((p ≡ o) × (s.avail n ≡ false))
       was (inl h) = inl (told.opener n p h)
@@ -277,7 +278,7 @@ module _ (k : Kept) (es : List Event) (s : Spec) (told : IsTold k es s) (t : ℕ
   no_cause : (a : Action) → None ≡ Some o → IsMadeBy (awaited_by t a) es s o
   no_cause a h = absurd (let bad : None ≡ Some o = h in cc)
 
-  by_action : (a : Action) → KeepsOrder (s.pending t) a → let_on_by k (waker_of t a) ≡ Some o → IsMadeBy (awaited_by t a) es s o
+  by_action : (a : Action) → KeepsOrder (s.pending t) a → let_on_by k (marks_of t a).waker ≡ Some o → IsMadeBy (awaited_by t a) es s o
   by_action (Acquire m) order h = no_cause (Acquire m) h
   by_action (Release m) order h = no_cause (Release m) h
   by_action (Enqueue m c) order h = no_cause (Enqueue m c) h

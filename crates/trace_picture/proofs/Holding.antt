@@ -11,7 +11,8 @@ use Rattle.larch_actions.specs.Actions.{Spec, acted, Leads, at_first}
 use Rattle.trace_picture.specs.declared.history.Origin.{Origin}
 use Rattle.trace_picture.specs.declared.history.Turn.{Turn}
 use Rattle.trace_picture.specs.declared.history.Turn.TheVariants.{Begins, Ends, Stays}
-use Rattle.trace_picture.specs.History.{mutex_turn, changed, origin_of}
+use Rattle.trace_picture.specs.History.{changed, origin_of}
+use Rattle.trace_picture.specs.Marks.{marks, marks_of}
 use Rattle.trace_picture.specs.Kept.{kept_since, behind}
 use Rattle.trace_picture.specs.Laws.{IsSince, BarsAreHolds}
 
@@ -28,7 +29,7 @@ over : (b : Bool) (x : Option Origin) (h : Optional ℕ) → Agrees x h → Agre
 over true x h a = refl
 over false x h a = a
 
-agrees_after : (o : Origin) (f : ℕ → Option Origin) (s : Spec) (a : Action) (m : ℕ) → Agrees (f m) (s.holder m) → Agrees (changed (mutex_turn a) o f m) ((acted o.thread.0 s a).holder m)
+agrees_after : (o : Origin) (f : ℕ → Option Origin) (s : Spec) (a : Action) (m : ℕ) → Agrees (f m) (s.holder m) → Agrees (changed (marks_of o.thread.0 a).mutex o f m) ((acted o.thread.0 s a).holder m)
 agrees_after o f s (Acquire k) m h = begun (eqb m k.0) o (f m) (s.holder m) h
 agrees_after o f s (Release k) m h = over (eqb m k.0) (f m) (s.holder m) h
 agrees_after o f s (Enqueue k c) m h = over (eqb m k.0) (f m) (s.holder m) h
@@ -56,7 +57,7 @@ abbrev Since : ℕ → List Event → Option Origin → Type 0
 Since m past None = Unit {0}
 Since m past (Some o) = IsSince m o past
 
-kept_on : (m : ℕ) (o : Origin) (e : Event) (past : List Event) → mutex_turn e.action ≢ Begins m → mutex_turn e.action ≢ Ends m → IsSince m o past → IsSince m o (e ∷ past)
+kept_on : (m : ℕ) (o : Origin) (e : Event) (past : List Event) → (marks e).mutex ≢ Begins m → (marks e).mutex ≢ Ends m → IsSince m o past → IsSince m o (e ∷ past)
 kept_on m o e past a b h = record {
   later = e ∷ h.later;
   taking = h.taking;
@@ -68,14 +69,14 @@ kept_on m o e past a b h = record {
   kept = ((a, b), h.kept);
 }
 
-taken_now : (m : ℕ) (e : Event) (past : List Event) → mutex_turn e.action ≡ Begins m → IsSince m (origin_of (length past) e) (e ∷ past)
+taken_now : (m : ℕ) (e : Event) (past : List Event) → (marks e).mutex ≡ Begins m → IsSince m (origin_of (length past) e) (e ∷ past)
 taken_now m e past t = record { later = []; taking = e; earlier = past; split = refl; place = refl; by = refl; takes = t; kept = tt }
 
-stays : (m : ℕ) (e : Event) (past : List Event) (x : Option Origin) → mutex_turn e.action ≢ Begins m → mutex_turn e.action ≢ Ends m → Since m past x → Since m (e ∷ past) x
+stays : (m : ℕ) (e : Event) (past : List Event) (x : Option Origin) → (marks e).mutex ≢ Begins m → (marks e).mutex ≢ Ends m → Since m past x → Since m (e ∷ past) x
 stays m e past None a b h = tt
 stays m e past (Some o) a b h = kept_on m o e past a b h
 
-since_begins : (m k : ℕ) (e : Event) (past : List Event) (x : Option Origin) → mutex_turn e.action ≡ Begins k → Since m past x → Since m (e ∷ past) (cond (eqb m k) (Some (origin_of (length past) e)) x)
+since_begins : (m k : ℕ) (e : Event) (past : List Event) (x : Option Origin) → (marks e).mutex ≡ Begins k → Since m past x → Since m (e ∷ past) (cond (eqb m k) (Some (origin_of (length past) e)) x)
 since_begins m k e past x t h = dite (ℕ_discrete m k)
     (λ same. subst (λ b. Since m (e ∷ past) (cond b (Some (origin_of (length past) e)) x)) (sym (eq-eqb m k same)) (taken_now m e past (t ∙ ap Begins (sym same))))
     (λ ne. subst (λ b. Since m (e ∷ past) (cond b (Some (origin_of (length past) e)) x)) (sym (ne_eqb m k ne)) (stays m e past x (λ u. ne (begins_same m k (sym u ∙ t))) (λ u. let bad : Ends m ≡ Begins k = sym u ∙ t in cc) h))
@@ -83,7 +84,7 @@ since_begins m k e past x t h = dite (ℕ_discrete m k)
     begins_same : (m k : ℕ) → Begins m ≡ Begins k → m ≡ k
     begins_same m k u = cc
 
-since_ends : (m k : ℕ) (e : Event) (past : List Event) (x : Option Origin) → mutex_turn e.action ≡ Ends k → Since m past x → Since m (e ∷ past) (cond (eqb m k) None x)
+since_ends : (m k : ℕ) (e : Event) (past : List Event) (x : Option Origin) → (marks e).mutex ≡ Ends k → Since m past x → Since m (e ∷ past) (cond (eqb m k) None x)
 since_ends m k e past x t h = dite (ℕ_discrete m k)
     (λ same. subst (λ b. Since m (e ∷ past) (cond b None x)) (sym (eq-eqb m k same)) tt)
     (λ ne. subst (λ b. Since m (e ∷ past) (cond b None x)) (sym (ne_eqb m k ne)) (stays m e past x (λ u. let bad : Begins m ≡ Ends k = sym u ∙ t in cc) (λ u. ne (ends_same m k (sym u ∙ t))) h))
@@ -91,14 +92,14 @@ since_ends m k e past x t h = dite (ℕ_discrete m k)
     ends_same : (m k : ℕ) → Ends m ≡ Ends k → m ≡ k
     ends_same m k u = cc
 
-since_turn : (m : ℕ) (e : Event) (past : List Event) (t : Turn) → mutex_turn e.action ≡ t → Since m past ((kept_since past).held m) → Since m (e ∷ past) (changed t (origin_of (length past) e) ((kept_since past).held) m)
+since_turn : (m : ℕ) (e : Event) (past : List Event) (t : Turn) → (marks e).mutex ≡ t → Since m past ((kept_since past).held m) → Since m (e ∷ past) (changed t (origin_of (length past) e) ((kept_since past).held) m)
 since_turn m e past (Begins k) t h = since_begins m k e past ((kept_since past).held m) t h
 since_turn m e past (Ends k) t h = since_ends m k e past ((kept_since past).held m) t h
 since_turn m e past Stays t h = stays m e past ((kept_since past).held m) (λ u. let bad : Begins m ≡ Stays = sym u ∙ t in cc) (λ u. let bad : Ends m ≡ Stays = sym u ∙ t in cc) h
 
 since_past : (m : ℕ) (past : List Event) → Since m past ((kept_since past).held m)
 since_past m [] = tt
-since_past m (e ∷ past) = since_turn m e past (mutex_turn e.action) refl (since_past m past)
+since_past m (e ∷ past) = since_turn m e past (marks e).mutex refl (since_past m past)
 
 both : (m : ℕ) (past : List Event) (x : Option Origin) (h : Optional ℕ) → Agrees x h → Since m past x → MatchOption x (h ≡ none) (λ o. (h ≡ some o.thread.0) × IsSince m o past)
 both m past None h a s = a

@@ -8,8 +8,8 @@ use Rattle.trace_picture.specs.declared.history.Origin.{Origin}
 use Rattle.trace_picture.specs.declared.history.Turn.{Turn}
 use Rattle.trace_picture.specs.declared.history.Turn.TheVariants.{Begins, Ends, Stays}
 use Rattle.trace_picture.specs.declared.view.View.{View}
-use Rattle.trace_picture.specs.History.{mutex_turn, wait_turn}
-use Rattle.trace_picture.specs.Kept.{Kept, kept_after, waker_of, let_on_by}
+use Rattle.trace_picture.specs.Marks.{marks}
+use Rattle.trace_picture.specs.Kept.{Kept, kept_after, let_on_by}
 use Rattle.trace_picture.specs.Places.{in_view, column, is_open, band_top}
 use Rattle.trace_picture.specs.Shapes.{with_number, each_below, mark_text, failed_text, bar_text, wait_text, row_text, number_text}
 use Rattle.trace_picture.specs.Arrows.{arrow_if}
@@ -55,11 +55,11 @@ closing_after l v k n = if is_open v (n + 1) then [] else closing l k (band_star
 
 -- the bars that the event n ends
 abbrev pub bars_ended : View → Kept → ℕ → Event → List ℕ
-bars_ended v k n e = bar_ended (band_start v n) n k.held (mutex_turn e.action) ++ wait_ended (band_start v n) n k.waits (wait_turn e.thread.0 e.action)
+bars_ended v k n e = bar_ended (band_start v n) n k.held (marks e).mutex ++ wait_ended (band_start v n) n k.waits (marks e).wait
 
 -- the arrow to the event n, where another thread let its thread go on
 abbrev pub arrow_to : View → Kept → ℕ → Event → List ℕ
-arrow_to v k n e = arrow_if (band_start v n) n e.thread.0 (let_on_by k (waker_of e.thread.0 e.action))
+arrow_to v k n e = arrow_if (band_start v n) n e.thread.0 (let_on_by k (marks e).waker)
 
 -- the event n: its mark, the bars that it ends, and the arrow to it
 unfoldable pub event_shapes : View → Kept → ℕ → Event → List ℕ

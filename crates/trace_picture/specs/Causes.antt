@@ -1,9 +1,7 @@
 -- Which event let a thread go on: the one that took it out of its condition, that made its semaphore available, or that alerted it.
-use Rattle.std.specs.Prelude.{ℕ, ◌<◌, ◌==◌, ◌&&◌, not, Bool, if◌then◌else◌, []}
-use Rattle.larch_actions.specs.declared.event.Action.{Action}
-use Rattle.larch_actions.specs.declared.event.Action.TheVariants.{Enqueue, Resume, AlertEnqueue, AlertReturn, AlertRaise, Signal, Broadcast, P, V, Alert, TestAlert, AlertPReturn, AlertPRaise}
+use Rattle.std.specs.Prelude.{ℕ, ◌<◌, ◌==◌, ◌&&◌, not, Bool, if◌then◌else◌}
 use Rattle.larch_actions.specs.Actions.{put}
-use Rattle.larch_actions.specs.Sets.{in_set, set_of}
+use Rattle.larch_actions.specs.Sets.{in_set}
 use Rattle.larch_actions.specs.State.{shown_at}
 use Rattle.trace_picture.specs.declared.history.Origin.{Origin}
 use Rattle.trace_picture.specs.declared.causes.Cause.{Cause}
@@ -29,32 +27,6 @@ abbrev pub come : Origin → Cause → Cause
 come o Never = By o
 come o (Awaited k) = By o
 come o (By p) = By p
-
--- what an action of the thread t does to those who stand in conditions
-abbrev pub stand_move : ℕ → Action → Move
-stand_move t (Enqueue m c) = Awaits t c.0
-stand_move t (AlertEnqueue m c) = Awaits t c.0
-stand_move t (Resume m c) = Ends t
-stand_move t (AlertReturn m c) = Ends t
-stand_move t (AlertRaise m c) = Ends t
-stand_move t (Signal c left) = Frees c.0 left
-stand_move t (Broadcast c) = Frees c.0 (set_of [])
-stand_move t _ = Stays
-
--- what it does to semaphores
-abbrev pub open_move : Action → Move
-open_move (P s) = Awaits s.0 s.0
-open_move (AlertPReturn s) = Awaits s.0 s.0
-open_move (V s) = Opens s.0
-open_move _ = Stays
-
--- what it does to alerts
-abbrev pub alert_move : ℕ → Action → Move
-alert_move t (Alert who) = Comes who.0
-alert_move t (TestAlert answer) = Ends t
-alert_move t (AlertRaise m c) = Ends t
-alert_move t (AlertPRaise s) = Ends t
-alert_move t _ = Stays
 
 -- the name in a move is below 64
 abbrev pub IsSmall : Move → Type 0

@@ -2,34 +2,12 @@
 use Rattle.std.specs.Prelude.{ℕ, ◌<◌, Some, None}
 use Rattle.std.specs.declared.option.Option.{Option}
 use Rattle.larch_actions.specs.declared.event.Event.{Event}
-use Rattle.larch_actions.specs.declared.event.Action.{Action}
-use Rattle.larch_actions.specs.declared.event.Action.TheVariants.{Acquire, Release, Enqueue, Resume, AlertEnqueue, AlertReturn, AlertRaise}
 use Rattle.larch_actions.specs.Actions.{put}
 use Rattle.larch_actions.specs.State.{shown_at}
 use Rattle.trace_picture.specs.declared.history.Origin.{Origin}
 use Rattle.trace_picture.specs.declared.history.Turn.{Turn}
 use Rattle.trace_picture.specs.declared.history.Turn.TheVariants.{Begins, Ends, Stays}
 use Rattle.trace_picture.specs.declared.history.Table.{Table}
-
--- which mutex an action takes, or gives back
-abbrev pub mutex_turn : Action → Turn
-mutex_turn (Acquire m) = Begins m.0
-mutex_turn (Release m) = Ends m.0
-mutex_turn (Enqueue m c) = Ends m.0
-mutex_turn (Resume m c) = Begins m.0
-mutex_turn (AlertEnqueue m c) = Ends m.0
-mutex_turn (AlertReturn m c) = Begins m.0
-mutex_turn (AlertRaise m c) = Begins m.0
-mutex_turn _ = Stays
-
--- whether an action of the thread t begins a wait, or ends it
-abbrev pub wait_turn : ℕ → Action → Turn
-wait_turn t (Enqueue m c) = Begins t
-wait_turn t (AlertEnqueue m c) = Begins t
-wait_turn t (Resume m c) = Ends t
-wait_turn t (AlertReturn m c) = Ends t
-wait_turn t (AlertRaise m c) = Ends t
-wait_turn t _ = Stays
 
 -- the name in a turn is below 64
 abbrev pub IsWithin : Turn → Type 0

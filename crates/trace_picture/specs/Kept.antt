@@ -2,16 +2,15 @@
 use Rattle.std.specs.Prelude.{ℕ, ◌<◌, List, [], ◌∷◌, length, Some, None}
 use Rattle.std.specs.declared.option.Option.{Option}
 use Rattle.larch_actions.specs.declared.event.Event.{Event}
-use Rattle.larch_actions.specs.declared.event.Action.{Action}
-use Rattle.larch_actions.specs.declared.event.Action.TheVariants.{Resume, AlertReturn, AlertRaise, P, TestAlert, AlertPReturn, AlertPRaise}
 use Rattle.trace_picture.specs.declared.history.Origin.{Origin}
 use Rattle.trace_picture.specs.declared.causes.Cause.{Cause}
 use Rattle.trace_picture.specs.declared.causes.Cause.TheVariants.{Never, Awaited, By}
 use Rattle.trace_picture.specs.declared.board.Board.{Board}
 use Rattle.trace_picture.specs.declared.board.Waker.{Waker}
 use Rattle.trace_picture.specs.declared.board.Waker.TheVariants.{Condition, Semaphore, Alarm, Nobody}
-use Rattle.trace_picture.specs.History.{mutex_turn, wait_turn, changed, origin_of, entry_of, IsWithin}
-use Rattle.trace_picture.specs.Causes.{stand_move, open_move, alert_move, moved, cause_of, IsSmall}
+use Rattle.trace_picture.specs.Marks.{marks}
+use Rattle.trace_picture.specs.History.{changed, origin_of, entry_of, IsWithin}
+use Rattle.trace_picture.specs.Causes.{moved, cause_of, IsSmall}
 
 pub record Kept : Type 0 where
   -- since which event each mutex is held
@@ -31,11 +30,11 @@ nothing_kept = record { held = λ (k : ℕ). None; waits = λ (k : ℕ). None; s
 -- what is kept after the event at the place n
 abbrev pub kept_after : ℕ → Event → Kept → Kept
 kept_after n e k = record {
-  held = changed (mutex_turn e.action) (origin_of n e) k.held;
-  waits = changed (wait_turn e.thread.0 e.action) (origin_of n e) k.waits;
-  stands = moved (stand_move e.thread.0 e.action) (origin_of n e) k.stands;
-  opens = moved (open_move e.action) (origin_of n e) k.opens;
-  alerts = moved (alert_move e.thread.0 e.action) (origin_of n e) k.alerts;
+  held = changed (marks e).mutex (origin_of n e) k.held;
+  waits = changed (marks e).wait (origin_of n e) k.waits;
+  stands = moved (marks e).stand (origin_of n e) k.stands;
+  opens = moved (marks e).avail (origin_of n e) k.opens;
+  alerts = moved (marks e).alert (origin_of n e) k.alerts;
 }
 
 -- what is kept after these events
@@ -48,17 +47,6 @@ abbrev pub behind : List Event → List Event → List Event
 behind past [] = past
 behind past (e ∷ es) = behind (e ∷ past) es
 
--- what an action of the thread t goes on by
-abbrev pub waker_of : ℕ → Action → Waker
-waker_of t (Resume m c) = Condition t
-waker_of t (AlertReturn m c) = Condition t
-waker_of t (AlertRaise m c) = Alarm t
-waker_of t (P s) = Semaphore s.0
-waker_of t (AlertPReturn s) = Semaphore s.0
-waker_of t (AlertPRaise s) = Alarm t
-waker_of t (TestAlert answer) = Alarm t
-waker_of t _ = Nobody
-
 abbrev pub IsNear : Waker → Type 0
 IsNear (Condition t) = t < 64
 IsNear (Semaphore s) = s < 64
@@ -68,12 +56,12 @@ IsNear Nobody = Unit {0}
 -- each thing that an event takes, gives back, awaits or lets go on has a number below 64
 pub record IsNoted (e : Event) : Type 0 where
   pub thread : e.thread.0 < 64
-  pub held : IsWithin (mutex_turn e.action)
-  pub waits : IsWithin (wait_turn e.thread.0 e.action)
-  pub stands : IsSmall (stand_move e.thread.0 e.action)
-  pub opens : IsSmall (open_move e.action)
-  pub alerts : IsSmall (alert_move e.thread.0 e.action)
-  pub waker : IsNear (waker_of e.thread.0 e.action)
+  pub held : IsWithin (marks e).mutex
+  pub waits : IsWithin (marks e).wait
+  pub stands : IsSmall (marks e).stand
+  pub opens : IsSmall (marks e).avail
+  pub alerts : IsSmall (marks e).alert
+  pub waker : IsNear (marks e).waker
 
 -- the event that a cause is
 abbrev pub came : Cause → Option Origin

@@ -8,8 +8,9 @@ use Rattle.larch_actions.specs.declared.event.Action.TheVariants.{Resume, AlertR
 use Rattle.larch_actions.specs.Actions.{Spec, IsRun, Leads, Acts, MayAct, acted}
 use Rattle.trace_picture.specs.declared.history.Origin.{Origin}
 use Rattle.trace_picture.specs.declared.history.Turn.TheVariants.{Begins, Ends}
-use Rattle.trace_picture.specs.History.{mutex_turn, origin_of}
-use Rattle.trace_picture.specs.Kept.{kept_since, behind, waker_of, let_on_by}
+use Rattle.trace_picture.specs.Marks.{marks}
+use Rattle.trace_picture.specs.History.{origin_of}
+use Rattle.trace_picture.specs.Kept.{kept_since, behind, let_on_by}
 
 -- the events from which a bar goes: the event at this place took the mutex, and no later one took it or gave it back
 pub record IsSince (m : ℕ) (o : Origin) (past : List Event) : Type 0 where
@@ -19,8 +20,8 @@ pub record IsSince (m : ℕ) (o : Origin) (past : List Event) : Type 0 where
   pub split : past ≡ later ++ taking ∷ earlier
   pub place : o.place ≡ length earlier
   pub by : taking.thread ≡ o.thread
-  pub takes : mutex_turn taking.action ≡ Begins m
-  pub kept : AllByRecursion (λ e. (mutex_turn e.action ≢ Begins m) × (mutex_turn e.action ≢ Ends m)) later
+  pub takes : (marks taking).mutex ≡ Begins m
+  pub kept : AllByRecursion (λ e. ((marks e).mutex ≢ Begins m) × ((marks e).mutex ≢ Ends m)) later
 
 -- After each run the state has a mutex held by a thread exactly where the picture has a bar of it under way in that thread's row,
 -- and this bar goes from the event that took the mutex, since when no event took it or gave it back.
@@ -63,5 +64,5 @@ pub record IsMadeBy (test : Spec → Bool) (es : List Event) (s : Spec) (o : Ori
 -- event waits for, which has held since.
 abbrev pub ArrowsAreCauses : Type 0
 ArrowsAreCauses =
-    (es : List Event) (s : Spec) → IsRun es s → (e : Event) → MayAct s e → (o : Origin) → let_on_by (kept_since (behind [] es)) (waker_of e.thread.0 e.action) ≡ Some o
+    (es : List Event) (s : Spec) → IsRun es s → (e : Event) → MayAct s e → (o : Origin) → let_on_by (kept_since (behind [] es)) (marks e).waker ≡ Some o
     → IsMadeBy (awaited_by e.thread.0 e.action) es s o

@@ -1,3 +1,4 @@
+pub mod Marks
 pub mod History
 pub mod Causes
 pub mod Kept

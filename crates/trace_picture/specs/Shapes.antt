@@ -1,13 +1,12 @@
 -- The texts of marks, bars, rows and legends.
-use Rattle.std.specs.Prelude.{ℕ, zero, suc, ◌+◌, ◌-◌, ◌*◌, ◌/◌, ◌%◌, ◌==◌, Bool, if◌then◌else◌, List, [], ◌++◌, codes, decimal}
+use Rattle.std.specs.Prelude.{ℕ, zero, suc, ◌+◌, ◌-◌, ◌*◌, ◌/◌, ◌%◌, ◌==◌, Bool, if◌then◌else◌, List, [], ◌∷◌, ◌++◌, codes, decimal}
 use Rattle.larch_actions.specs.declared.event.Event.{Event}
-use Rattle.larch_actions.specs.declared.event.Action.{Action}
-use Rattle.larch_actions.specs.declared.event.Action.TheVariants.{Acquire, Release, Enqueue, Resume, AlertEnqueue, AlertReturn, AlertRaise, Signal, Broadcast, P, V, Alert, TestAlert, AlertPReturn, AlertPRaise}
 use Rattle.larch_actions.specs.declared.event.Broken.{Broken}
 use Rattle.larch_actions.specs.declared.event.Broken.TheVariants as broken
 use Rattle.trace_core.specs.Text.{action_text}
 use Rattle.trace_picture.specs.declared.history.Origin.{Origin}
 use Rattle.trace_picture.specs.declared.view.View.{View}
+use Rattle.trace_picture.specs.Marks.{marks}
 use Rattle.trace_picture.specs.Places.{column, column_x, row_y, bar_from}
 
 -- words and a number
@@ -22,24 +21,6 @@ each_below f (suc n) = each_below f n ++ f n
 -- the line of the event in a trace text, without its newline
 unfoldable pub line_of : ℕ → Event → List ℕ
 line_of n e = decimal n ++ codes " t" ++ decimal e.thread.0 ++ codes " " ++ action_text e.action
-
--- which mark an action has
-abbrev pub letter_of : Action → List ℕ
-letter_of (Acquire m) = codes "A"
-letter_of (Release m) = codes "R"
-letter_of (Enqueue m c) = codes "W"
-letter_of (Resume m c) = codes "C"
-letter_of (AlertEnqueue m c) = codes "w"
-letter_of (AlertReturn m c) = codes "c"
-letter_of (AlertRaise m c) = codes "x"
-letter_of (Signal c left) = codes "S"
-letter_of (Broadcast c) = codes "B"
-letter_of (P s) = codes "P"
-letter_of (V s) = codes "V"
-letter_of (Alert t) = codes "L"
-letter_of (TestAlert answer) = codes "T"
-letter_of (AlertPReturn s) = codes "p"
-letter_of (AlertPRaise s) = codes "y"
 
 abbrev pub clause_word : Broken → List ℕ
 clause_word broken.Order = codes "order"
@@ -58,7 +39,7 @@ box_text x y width = place_text x y ++ with_number (codes "' width='") width
 -- the mark of an event: its letter, and its line as the title
 unfoldable pub mark_text : View → ℕ → Event → List ℕ
 mark_text v n e =
-    (codes "<use href='#" ++ letter_of e.action) ++ place_text (column_x (column v n)) (row_y e.thread.0) ++ (codes "'><title>" ++ line_of n e) ++ codes "</title></use>\n"
+    (codes "<use href='#" ++ (marks e).letter ∷ []) ++ place_text (column_x (column v n)) (row_y e.thread.0) ++ (codes "'><title>" ++ line_of n e) ++ codes "</title></use>\n"
 
 -- the mark of an event that fails, with its line and what it fails
 unfoldable pub failed_text : View → ℕ → Event → Broken → List ℕ

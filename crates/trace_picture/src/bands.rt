@@ -8,8 +8,9 @@ ghost use Rattle.trace_picture.specs.Shapes.{with_number, each_below, row_text, 
 ghost use Rattle.trace_picture.specs.Bands.{opening, bar_if, wait_if, closing, bar_ended, wait_ended, closing_after, bars_ended, arrow_to, event_shapes, step_text, failing_text};
 
 use crate::arrows::add_arrow_if;
-use crate::board::{Board, waker_for};
-use crate::history::{Origin, Table, Turn, turn_of_mutex, turn_of_wait};
+use crate::board::Board;
+use crate::history::{Origin, Table, Turn};
+use crate::marks::marks_of;
 use crate::shapes::{add_bar, add_failed, add_label, add_mark, add_row, add_wait_bar};
 use crate::tags::add_with_number;
 use crate::view::{View, column_of, is_band_open, is_in_view};
@@ -246,10 +247,9 @@ fn add_bars_ended(
     ensures near { result ≤ at + 700 }
 {
     let start = place - column_of(view, place);
-    let held = turn_of_mutex(&e.action);
-    let waits = turn_of_wait(e.thread, &e.action);
-    let at = add_bar_ended(buf, at, start, place, &board.held, held);
-    add_wait_ended(buf, at, start, place, &board.waits, waits)
+    let marks = marks_of(e.thread, &e.action);
+    let at = add_bar_ended(buf, at, start, place, &board.held, marks.mutex);
+    add_wait_ended(buf, at, start, place, &board.waits, marks.wait)
 }
 
 // Adds the arrow to the event, where another thread let its thread go on.
@@ -268,7 +268,8 @@ fn add_arrow_to(
     ensures near { result ≤ at + 350 }
 {
     let start = place - column_of(view, place);
-    let by = board.waker(waker_for(e.thread, &e.action));
+    let marks = marks_of(e.thread, &e.action);
+    let by = board.waker(marks.waker);
     add_arrow_if(buf, at, start, place, e.thread, by)
 }
 

@@ -1,10 +1,11 @@
 //! What is kept of the events before.
 ghost use Rattle.std.specs.Prelude.{◌≡◌};
-ghost use Rattle.trace_picture.specs.Kept.{nothing_kept, kept_after, kept_of, waker_of, came, let_on_by, IsNoted, IsNear};
+ghost use Rattle.trace_picture.specs.Kept.{nothing_kept, kept_after, kept_of, came, let_on_by, IsNoted, IsNear};
 
-use crate::causes::{Cause, Causes, move_of_alert, move_of_open, move_of_stand};
-use crate::history::{Origin, Table, turn_of_mutex, turn_of_wait};
-use larch_actions::{Action, Event, ThreadId};
+use crate::causes::{Cause, Causes};
+use crate::history::{Origin, Table};
+use crate::marks::marks_of;
+use larch_actions::Event;
 
 /// Since which event each mutex is held and each thread waits, and which event lets each thread go on.
 #[derive(Drop)]
@@ -23,29 +24,6 @@ pub enum Waker {
     Semaphore(u32),
     Alarm(u32),
     Nobody,
-}
-
-/// What the action goes on by.
-pub fn waker_for(t: ThreadId, action: &Action) -> Waker
-    ensures { result ≡ waker_of t.0 action.now }
-{
-    match action {
-        Action::Resume { .. } => Waker::Condition(t.0),
-        Action::AlertReturn { .. } => Waker::Condition(t.0),
-        Action::AlertRaise { .. } => Waker::Alarm(t.0),
-        Action::P { sem } => Waker::Semaphore(sem.0),
-        Action::AlertPReturn { sem } => Waker::Semaphore(sem.0),
-        Action::AlertPRaise { .. } => Waker::Alarm(t.0),
-        Action::TestAlert { .. } => Waker::Alarm(t.0),
-        Action::Acquire { .. } => Waker::Nobody,
-        Action::Release { .. } => Waker::Nobody,
-        Action::Enqueue { .. } => Waker::Nobody,
-        Action::AlertEnqueue { .. } => Waker::Nobody,
-        Action::Signal { .. } => Waker::Nobody,
-        Action::Broadcast { .. } => Waker::Nobody,
-        Action::V { .. } => Waker::Nobody,
-        Action::Alert { .. } => Waker::Nobody,
-    }
 }
 
 // The event that the cause is.
@@ -100,10 +78,11 @@ impl Board {
             thread: e.thread,
             place,
         };
-        self.held.note(turn_of_mutex(&e.action), by);
-        self.waits.note(turn_of_wait(e.thread, &e.action), by);
-        self.stands.note(move_of_stand(e.thread, &e.action), by);
-        self.opens.note(move_of_open(&e.action), by);
-        self.alerts.note(move_of_alert(e.thread, &e.action), by);
+        let marks = marks_of(e.thread, &e.action);
+        self.held.note(marks.mutex, by);
+        self.waits.note(marks.wait, by);
+        self.stands.note(marks.stand, by);
+        self.opens.note(marks.avail, by);
+        self.alerts.note(marks.alert, by);
     }
 }

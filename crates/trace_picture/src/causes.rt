@@ -3,10 +3,10 @@ ghost use Rattle.std.specs.Prelude.{◌≡◌, ◌<◌, ℕ};
 ghost use Rattle.larch_actions.specs.Actions.{put};
 ghost use Rattle.larch_actions.specs.Sets.{in_set};
 ghost use Rattle.trace_picture.specs.declared.causes.Cause.TheVariants.{Never};
-ghost use Rattle.trace_picture.specs.Causes.{taken, opened, come, stand_move, open_move, alert_move, moved, cause_of, IsSmall};
+ghost use Rattle.trace_picture.specs.Causes.{taken, opened, come, moved, cause_of, IsSmall};
 
 use crate::history::Origin;
-use larch_actions::{Action, ThreadId, ThreadSet};
+use larch_actions::{ThreadId, ThreadSet};
 
 /// How it stands with something that may let a thread go on.
 #[derive(Clone, Copy)]
@@ -33,75 +33,6 @@ pub enum Move {
     /// It comes, unless it came before.
     Comes(u32),
     Stays,
-}
-
-/// What the action does to those who stand in conditions.
-pub fn move_of_stand(t: ThreadId, action: &Action) -> Move
-    ensures { result ≡ stand_move t.0 action.now }
-{
-    match action {
-        Action::Enqueue { cond, .. } => Move::Awaits(t.0, cond.0),
-        Action::AlertEnqueue { cond, .. } => Move::Awaits(t.0, cond.0),
-        Action::Resume { .. } => Move::Ends(t.0),
-        Action::AlertReturn { .. } => Move::Ends(t.0),
-        Action::AlertRaise { .. } => Move::Ends(t.0),
-        Action::Signal { cond, left } => Move::Frees(cond.0, *left),
-        Action::Broadcast { cond } => Move::Frees(cond.0, ThreadSet::empty()),
-        Action::Acquire { .. } => Move::Stays,
-        Action::Release { .. } => Move::Stays,
-        Action::P { .. } => Move::Stays,
-        Action::V { .. } => Move::Stays,
-        Action::Alert { .. } => Move::Stays,
-        Action::TestAlert { .. } => Move::Stays,
-        Action::AlertPReturn { .. } => Move::Stays,
-        Action::AlertPRaise { .. } => Move::Stays,
-    }
-}
-
-/// What the action does to semaphores.
-pub fn move_of_open(action: &Action) -> Move
-    ensures { result ≡ open_move action.now }
-{
-    match action {
-        Action::P { sem } => Move::Awaits(sem.0, sem.0),
-        Action::AlertPReturn { sem } => Move::Awaits(sem.0, sem.0),
-        Action::V { sem } => Move::Opens(sem.0),
-        Action::Acquire { .. } => Move::Stays,
-        Action::Release { .. } => Move::Stays,
-        Action::Enqueue { .. } => Move::Stays,
-        Action::Resume { .. } => Move::Stays,
-        Action::AlertEnqueue { .. } => Move::Stays,
-        Action::AlertReturn { .. } => Move::Stays,
-        Action::AlertRaise { .. } => Move::Stays,
-        Action::Signal { .. } => Move::Stays,
-        Action::Broadcast { .. } => Move::Stays,
-        Action::Alert { .. } => Move::Stays,
-        Action::TestAlert { .. } => Move::Stays,
-        Action::AlertPRaise { .. } => Move::Stays,
-    }
-}
-
-/// What the action does to alerts.
-pub fn move_of_alert(t: ThreadId, action: &Action) -> Move
-    ensures { result ≡ alert_move t.0 action.now }
-{
-    match action {
-        Action::Alert { who } => Move::Comes(who.0),
-        Action::TestAlert { .. } => Move::Ends(t.0),
-        Action::AlertRaise { .. } => Move::Ends(t.0),
-        Action::AlertPRaise { .. } => Move::Ends(t.0),
-        Action::Acquire { .. } => Move::Stays,
-        Action::Release { .. } => Move::Stays,
-        Action::Enqueue { .. } => Move::Stays,
-        Action::Resume { .. } => Move::Stays,
-        Action::AlertEnqueue { .. } => Move::Stays,
-        Action::AlertReturn { .. } => Move::Stays,
-        Action::Signal { .. } => Move::Stays,
-        Action::Broadcast { .. } => Move::Stays,
-        Action::P { .. } => Move::Stays,
-        Action::V { .. } => Move::Stays,
-        Action::AlertPReturn { .. } => Move::Stays,
-    }
 }
 
 // What the event makes of a cause that it makes come, where it is awaited.

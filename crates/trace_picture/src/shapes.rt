@@ -1,12 +1,14 @@
 //! Marks, bars, rows and the legend, written into a buffer behind its first `at` bytes. Each call says where it ended.
-ghost use Rattle.std.specs.Prelude.{◌≡◌, ◌+◌, ◌<◌, ◌≤◌, ◌^◌, ◌++◌, length, take, codes};
+ghost use Rattle.std.specs.Prelude.{◌≡◌, ◌+◌, ◌<◌, ◌≤◌, ◌^◌, ◌++◌, ◌∷◌, [], length, take, codes};
+ghost use Rattle.trace_picture.specs.Marks.{marks};
 ghost use Rattle.trace_picture.specs.Places.{bar_from, column, column_x, row_y};
-ghost use Rattle.trace_picture.specs.Shapes.{with_number, line_of, place_text, letter_of, clause_word, mark_text, failed_text, end_words, span_text, bar_text, wait_text, row_text, number_text, swatch_text};
+ghost use Rattle.trace_picture.specs.Shapes.{with_number, line_of, place_text, clause_word, mark_text, failed_text, end_words, span_text, bar_text, wait_text, row_text, number_text, swatch_text};
 
 use crate::history::Origin;
+use crate::marks::marks_of;
 use crate::tags::{add_box, add_line, add_place, add_with_number};
 use crate::view::{View, column_of};
-use larch_actions::{Action, Broken, Event};
+use larch_actions::{Broken, Event};
 use trace_core::add;
 
 /// The left edge of a column.
@@ -25,30 +27,6 @@ pub fn y_of(thread: u32) -> u64
     18 + 24 * u64::from(thread)
 }
 
-// Which mark the action has.
-fn letter(action: &Action) -> &'static [u8]
-    ensures letter { result.now ≡ letter_of action.now }
-    ensures one { length result.now ≡ 1 }
-{
-    match action {
-        Action::Acquire { .. } => b"A",
-        Action::Release { .. } => b"R",
-        Action::Enqueue { .. } => b"W",
-        Action::Resume { .. } => b"C",
-        Action::AlertEnqueue { .. } => b"w",
-        Action::AlertReturn { .. } => b"c",
-        Action::AlertRaise { .. } => b"x",
-        Action::Signal { .. } => b"S",
-        Action::Broadcast { .. } => b"B",
-        Action::P { .. } => b"P",
-        Action::V { .. } => b"V",
-        Action::Alert { .. } => b"L",
-        Action::TestAlert { .. } => b"T",
-        Action::AlertPReturn { .. } => b"p",
-        Action::AlertPRaise { .. } => b"y",
-    }
-}
-
 /// The word of a clause.
 pub fn word_of(why: Broken) -> &'static [u8]
     ensures word { result.now ≡ clause_word why }
@@ -63,13 +41,14 @@ pub fn word_of(why: Broken) -> &'static [u8]
 }
 
 // Adds the start of a mark.
-fn add_use(buf: &mut [u8], at: usize, action: &Action) -> usize
+fn add_use(buf: &mut [u8], at: usize, e: &Event) -> usize
     requires { at + 20 ≤ length buf.old }
-    ensures text { take result buf.new ≡ take at buf.old ++ (codes "<use href='#" ++ letter_of action.now) }
+    ensures text { take result buf.new ≡ take at buf.old ++ (codes "<use href='#" ++ (marks e.now).letter ∷ []) }
     ensures near { result ≤ at + 20 }
 {
     let at = add(buf, at, b"<use href='#");
-    add(buf, at, letter(action))
+    let marks = marks_of(e.thread, &e.action);
+    add(buf, at, &[marks.letter])
 }
 
 // Adds the line of an event as a title.
@@ -98,7 +77,7 @@ pub fn add_mark(buf: &mut [u8], at: usize, view: &View, place: u64, e: &Event) -
     ensures text { take result buf.new ≡ take at buf.old ++ mark_text view.now place e.now }
     ensures near { result ≤ at + 600 }
 {
-    let at = add_use(buf, at, &e.action);
+    let at = add_use(buf, at, e);
     let at = add_mark_place(buf, at, view, place, e);
     let at = add_title(buf, at, place, e);
     add(buf, at, b"</title></use>\n")

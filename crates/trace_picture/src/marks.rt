@@ -1,0 +1,153 @@
+//! The table of actions as the picture sees them: which mark each has, and what it does to what is kept of the events before.
+//!
+//! A further action is a row here and in specs/Marks.antt.
+ghost use Rattle.std.specs.Prelude.{◌≡◌};
+ghost use Rattle.trace_picture.specs.Marks.{plain, begun, ended, raised, semaphore_taken, heard, marks_of};
+
+use crate::board::Waker;
+use crate::causes::Move;
+use crate::history::Turn;
+use larch_actions::{Action, CondId, MutexId, SemId, ThreadId, ThreadSet};
+
+/// What an action shows and does.
+#[derive(Clone, Copy)]
+pub struct Marks {
+    /// Which mark it has.
+    pub letter: u8,
+    /// Which mutex it takes or gives back.
+    pub mutex: Turn,
+    /// Whether it begins or ends a wait of its thread.
+    pub wait: Turn,
+    /// What it does to those who stand in conditions.
+    pub stand: Move,
+    /// What it does to semaphores.
+    pub avail: Move,
+    /// What it does to alerts.
+    pub alert: Move,
+    /// What it goes on by.
+    pub waker: Waker,
+}
+
+// A mark, and nothing done.
+#[inline(always)]
+fn plain(letter: u8) -> Marks
+    ensures { result ≡ plain letter }
+{
+    Marks {
+        letter,
+        mutex: Turn::Stays,
+        wait: Turn::Stays,
+        stand: Move::Stays,
+        avail: Move::Stays,
+        alert: Move::Stays,
+        waker: Waker::Nobody,
+    }
+}
+
+// The first part of a wait.
+#[inline(always)]
+fn begun(letter: u8, t: ThreadId, held: MutexId, cond: CondId) -> Marks
+    ensures { result ≡ begun letter t.0 held.0 cond.0 }
+{
+    Marks {
+        mutex: Turn::Ends(held.0),
+        wait: Turn::Begins(t.0),
+        stand: Move::Awaits(t.0, cond.0),
+        ..plain(letter)
+    }
+}
+
+// The second part of a wait that returns.
+#[inline(always)]
+fn ended(letter: u8, t: ThreadId, mutex: MutexId) -> Marks
+    ensures { result ≡ ended letter t.0 mutex.0 }
+{
+    Marks {
+        mutex: Turn::Begins(mutex.0),
+        wait: Turn::Ends(t.0),
+        stand: Move::Ends(t.0),
+        waker: Waker::Condition(t.0),
+        ..plain(letter)
+    }
+}
+
+// The second part of a wait that raises.
+#[inline(always)]
+fn raised(letter: u8, t: ThreadId, mutex: MutexId) -> Marks
+    ensures { result ≡ raised letter t.0 mutex.0 }
+{
+    Marks {
+        mutex: Turn::Begins(mutex.0),
+        wait: Turn::Ends(t.0),
+        stand: Move::Ends(t.0),
+        alert: Move::Ends(t.0),
+        waker: Waker::Alarm(t.0),
+        ..plain(letter)
+    }
+}
+
+// A semaphore is taken.
+#[inline(always)]
+fn taken(letter: u8, sem: SemId) -> Marks
+    ensures { result ≡ semaphore_taken letter sem.0 }
+{
+    Marks {
+        avail: Move::Awaits(sem.0, sem.0),
+        waker: Waker::Semaphore(sem.0),
+        ..plain(letter)
+    }
+}
+
+// The own alert is taken.
+#[inline(always)]
+fn heard(letter: u8, t: ThreadId) -> Marks
+    ensures { result ≡ heard letter t.0 }
+{
+    Marks {
+        alert: Move::Ends(t.0),
+        waker: Waker::Alarm(t.0),
+        ..plain(letter)
+    }
+}
+
+/// What an action by the thread shows and does.
+#[inline(always)]
+pub fn marks_of(t: ThreadId, action: &Action) -> Marks
+    ensures { result ≡ marks_of t.0 action.now }
+{
+    match *action {
+        Action::Acquire { mutex } => Marks {
+            mutex: Turn::Begins(mutex.0),
+            ..plain(b'A')
+        },
+        Action::Release { mutex } => Marks {
+            mutex: Turn::Ends(mutex.0),
+            ..plain(b'R')
+        },
+        Action::Enqueue { mutex, cond } => begun(b'W', t, mutex, cond),
+        Action::Resume { mutex, cond: _ } => ended(b'C', t, mutex),
+        Action::AlertEnqueue { mutex, cond } => begun(b'w', t, mutex, cond),
+        Action::AlertReturn { mutex, cond: _ } => ended(b'c', t, mutex),
+        Action::AlertRaise { mutex, cond: _ } => raised(b'x', t, mutex),
+        Action::Signal { cond, left } => Marks {
+            stand: Move::Frees(cond.0, left),
+            ..plain(b'S')
+        },
+        Action::Broadcast { cond } => Marks {
+            stand: Move::Frees(cond.0, ThreadSet::empty()),
+            ..plain(b'B')
+        },
+        Action::P { sem } => taken(b'P', sem),
+        Action::V { sem } => Marks {
+            avail: Move::Opens(sem.0),
+            ..plain(b'V')
+        },
+        Action::Alert { who } => Marks {
+            alert: Move::Comes(who.0),
+            ..plain(b'L')
+        },
+        Action::TestAlert { yes: _ } => heard(b'T', t),
+        Action::AlertPReturn { sem } => taken(b'p', sem),
+        Action::AlertPRaise { sem: _ } => heard(b'y', t),
+    }
+}
