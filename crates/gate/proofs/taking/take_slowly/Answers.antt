@@ -1,4 +1,4 @@
-use Rattle.std.proofs.Common.{◌≡◌, ap, refl, subst, sym, ◌∷◌, ◌∙◌}
+use Rattle.std.proofs.Common.{ap, refl, subst, sym, ◌∷◌, ◌∙◌}
 use Rattle.larch_actions.specs.Sets.{without}
 use Rattle.nub_rule.specs.Objects.{object_of}
 use Rattle.nub.proofs.Without.{without_twice}
