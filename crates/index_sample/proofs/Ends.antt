@@ -1,6 +1,6 @@
 -- A run over copies of the sample tree ends with an index, or for want of memory.
 use Rattle.std.proofs.Common.{◌≡◌, ◌≢◌, ◌∙◌, ℕ, ◌+◌, ◌/◌, ◌<◌, ◌≤◌, List, [], sym, ap, subst, refl, arith, ⊎_elim, Contains, length}
-use Rattle.std.specs.Prelude.{Option, Some, None}
+use Rattle.std.specs.Prelude.{Option, Some, None, Result, Ok, Err, IfOk}
 use Rattle.firefly_outside.specs.Trees.{Path, Told}
 use Rattle.firefly_outside.specs.Samples.{sample_root, dir_count, IsSampleTree}
 use Rattle.firefly_outside.specs.Seen.{tree_of, weak_of, calls_of, faults_of}
@@ -23,7 +23,7 @@ use Rattle.index_sample.proofs.SampleWalk.{sample_there, few_dirs}
 none_contained : (p : Path) → Contains [] p → ⊥
 none_contained p among = omega (arith, among.1)
 
-no_stop : (n : ℕ) → None ≡ Some n → ⊥
+pub no_stop : (n : ℕ) → None ≡ Some n → ⊥
 no_stop n e = cc
 
 -- no path of a sound sample tree can fail
@@ -59,3 +59,8 @@ summary_of seed files plan trees a (Stopped many) says sums counted = absurd cou
 summary_of seed files plan trees a (ReadFault path) says sums counted = absurd counted
 summary_of seed files plan trees a (TooMany many) says sums counted = absurd counted
 summary_of seed files plan trees a Memory says sums counted = absurd counted
+
+-- what follows of a value that is answered
+pub IfOk-then : {X E : Type 0} {P Q : X → Type 0} (r : Result X E) → ((x : X) → P x → Q x) → IfOk r P → IfOk r Q
+IfOk-then (Ok x) next h = next x h
+IfOk-then (Err e) next h = tt

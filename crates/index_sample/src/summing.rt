@@ -60,7 +60,7 @@ pub fn index_summary<R: Threads + Wait + Sync>(
         traced: false,
     };
     let mut trees = five_trees(alloc, seed, files)?;
-    let answer = index(rt, alloc, "sample", &plan, &mut trees, &NoGate);
+    let answer = index(rt, alloc, "sample", &plan, trees.as_mut_slice(), &NoGate);
     drop(trees);
     summed(answer, files)
 }

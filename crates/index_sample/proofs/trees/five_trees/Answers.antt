@@ -16,9 +16,9 @@ loop-copied-preserved c = record {
 pub returns : goal.returns
 returns c =
     let last : c.loop-copied.copied ≡ 4 = omega (arith, c.loop-copied-test.false, c.loop-copied.auto.copied-end) in record {
-  tree = tree_of c.in_ok-first.first;
-  is_sample = c.in_ok-first.ensures.tree;
-  many = ap length c.in_ok-push-2.ensures.items ∙ length_push c.loop-copied.trees.items _ ∙ ap (λ n. n + 1) (c.loop-copied.invariant.many ∙ last);
-  each = subst (All (HoldsTree (tree_of c.in_ok-first.first))) (sym c.in_ok-push-2.ensures.items)
-      (tree_more (tree_of c.in_ok-first.first) c.loop-copied.trees.items c.in_ok-first.first c.loop-copied.invariant.each refl c.in_ok-first.ensures.weak);
-}
+      tree = tree_of c.in_ok-first.first;
+      is_sample = c.in_ok-first.ensures.tree;
+      many = ap length c.in_ok-push-2.ensures.items ∙ length_push c.loop-copied.trees.items _ ∙ ap (λ n. n + 1) (c.loop-copied.invariant.many ∙ last);
+      each = subst (All (HoldsTree (tree_of c.in_ok-first.first))) (sym c.in_ok-push-2.ensures.items)
+          (tree_more (tree_of c.in_ok-first.first) c.loop-copied.trees.items c.in_ok-first.first c.loop-copied.invariant.each refl c.in_ok-first.ensures.weak);
+    }
