@@ -16,6 +16,8 @@ mod pieces;
 #[cfg(test)]
 mod runs;
 #[cfg(test)]
+mod samples;
+#[cfg(test)]
 mod starts;
 #[cfg(test)]
 mod traces;
