@@ -1,0 +1,12 @@
+pub mod Numbers
+pub mod Members
+pub mod Rings
+pub mod Words
+pub mod Walks
+pub mod Linked
+pub mod Events
+pub mod Keeping
+pub mod Tables
+pub mod Peeling
+pub mod Legal
+pub mod Reading
