@@ -8,7 +8,7 @@ use firefly_outside::{Sink, put_all};
 use text_output::{print_path, push_with_number};
 
 pub const USAGE: &str =
-    "usage: firefly check | run | index DIR [options] | trace DIR [options] | sample SEED FILES\n";
+    "usage: firefly check | run | index DIR [options] | trace DIR [options] | sample SEED FILES | order\n";
 
 pub const INPUT_FAULT: &str = "firefly: input could not be read\n";
 

@@ -3,7 +3,7 @@ use Rattle.std.proofs.Common.{◌≡◌, ◌∙◌, ◌+◌, ◌*◌, ◌≤◌,
 use Rattle.std.specs.Prelude.{decimal}
 use Rattle.std.specs.List.{AllByRecursion, filter_map}
 use Rattle.std.proofs.lemmas.Fmt.{decimal_injective}
-use Rattle.command_line.specs.Grammar.{AreInRange, BeginOptions, HasOptions, IsDirectory, IsInRange, IsPart, Options, Part, Say, SayOptions, SayWith, Task, Text, directory, path_of, setting, check, index, run, sample, trace}
+use Rattle.command_line.specs.Grammar.{AreInRange, BeginOptions, HasOptions, IsDirectory, IsInRange, IsPart, Options, Part, Say, SayOptions, SayWith, Task, Text, directory, path_of, setting, check, index, order, run, sample, trace}
 use Rattle.command_line.specs.Reading.{IsNumberOr, IsStop}
 use Rattle.command_line.proofs.Said.{by_recursion, said-taken}
 use Rattle.command_line.proofs.Taken.{held-same}
@@ -28,6 +28,7 @@ start_of run = start (codes "run" ∷ [])
 start_of (index o) = start (codes "index" ∷ [])
 start_of (trace o) = start (codes "trace" ∷ [])
 start_of (sample seed files) = start (codes "sample" ∷ [])
+start_of order = start (codes "order" ∷ [])
 
 said_start : (words : List Text) (t : Task) → Say words t → start words ≡ start_of t
 said_start words check h = ap start h
@@ -35,6 +36,7 @@ said_start words run h = ap start h
 said_start words (index o) h = ap start h.1
 said_start words (trace o) h = ap start h.1
 said_start words (sample seed files) h = ap start h.0
+said_start words order h = ap start h
 
 starts : (words : List Text) (t u : Task) → Say words t → Say words u → start_of t ≡ start_of u
 starts words t u g h = sym (said_start words t g) ∙ said_start words u h
@@ -49,6 +51,7 @@ say-same words (sample a n) (sample b m) g h =
     let seeds : decimal a ≡ decimal b = cc in
     let files : decimal n ≡ decimal m = cc in
     ap₂ sample (decimal_injective a b g.1 h.1 seeds) (decimal_injective n m (omega (arith, g.3)) (omega (arith, h.3)) files)
+say-same words order order g h = refl
 say-same words t u g h = absurd (omega (arith, starts words t u g h))
 
 -- ---- where the words after `index` or `trace` say no options, the words say no task
@@ -102,6 +105,7 @@ task_in_range words run s = tt
 task_in_range words (index o) s = options_in_range s.0 o s.2
 task_in_range words (trace o) s = options_in_range s.0 o s.2
 task_in_range words (sample seed files) s = (s.2, s.3)
+task_in_range words order s = tt
 
 -- ---- what words say has options where options may follow the first word
 

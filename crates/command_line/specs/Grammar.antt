@@ -115,6 +115,7 @@ pub data Task : Type 0 where
   index : Options → Task
   trace : Options → Task
   sample : ℕ → ℕ → Task
+  order : Task
 
 -- the words are this one and then such as say the options
 abbrev pub SayWith : Text → List Text → Options → Type 0
@@ -128,6 +129,7 @@ Say words (index o) = SayWith (codes "index") words o
 Say words (trace o) = SayWith (codes "trace") words o
 Say words (sample seed files) = (words ≡ codes "sample" ∷ decimal seed ∷ decimal files ∷ [])
     × (seed < 2 ^ 64) × (1 ≤ files) × (files ≤ 20000)
+Say words order = words ≡ codes "order" ∷ []
 
 -- the words are not in the grammar
 abbrev pub SayNothing : List Text → Type 0

@@ -1,5 +1,5 @@
 -- What the words and the answer of `read_words` are in the grammar's terms.
-use Rattle.command_line.specs.Grammar.{Options, Task, check, index, run, sample, trace}
+use Rattle.command_line.specs.Grammar.{Options, Task, check, index, order, run, sample, trace}
 use Rattle.command_line.specs.declared.command.Command.{Command}
 use Rattle.command_line.specs.declared.command.Command.TheVariants as command
 use Rattle.command_line.specs.declared.command.IndexOptions.{IndexOptions}
@@ -19,3 +19,4 @@ task_of command.Run = run
 task_of (command.Index o) = index (options_of o)
 task_of (command.Trace o) = trace (options_of o)
 task_of (command.Sample seed files) = sample seed files
+task_of command.Order = order

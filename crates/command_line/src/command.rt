@@ -26,6 +26,7 @@ pub enum Command<'a> {
     Index(IndexOptions<'a>),
     Trace(IndexOptions<'a>),
     Sample { seed: u64, files: u32 },
+    Order,
 }
 
 /// Why words were not read: they say no command, or memory ran out.
@@ -67,6 +68,7 @@ fn read_command<'a>(alloc: Global, words: &'a [String]) -> Result<Command<'a>, W
         "index" => Ok(Command::Index(read_options(alloc, rest)?)),
         "trace" => Ok(Command::Trace(read_options(alloc, rest)?)),
         "sample" => read_sample(rest),
+        "order" => alone(rest, Command::Order),
         _ => Err(WordsFault::Usage),
     }
 }

@@ -10,11 +10,13 @@ pub mod laws;
 mod outside;
 mod print_trace;
 mod run_command;
+mod sample_command;
 mod top;
 mod trace_command;
 
 pub use command_endings::{Ending, Status, ends, number};
 pub use firefly_script::{Script, ScriptFault, read_script};
+pub use index_sample::{SampleSums, index_summary};
 pub use outside::{system_trees, system_words};
 pub use script_run::run_script;
 pub use top::firefly;

@@ -8,11 +8,13 @@ ghost use Rattle.firefly.specs.Top.{Answers, UsageAnswers, WordsWant, effects_of
 
 use crate::index_command::run_index;
 use crate::run_command::run_input;
+use crate::sample_command::run_sample;
 use crate::trace_command::run_trace;
 use check_command::run_check;
 use command_endings::{Ending, Status, ends};
 use command_line::{Command, WordsFault, read_words};
 use firefly_outside::{Sink, Source, Tree};
+use order_command::run_order;
 use std::alloc::Global;
 use std::sync::Wait;
 use std::thread::Threads;
@@ -48,7 +50,8 @@ pub fn firefly<R: Threads + Wait + Sync, S: Tree, I: Source, O: Sink, N: Sink>(
         Ok(Command::Index(options)) => run_index(rt, alloc, &options, trees, out, notes),
         Ok(Command::Run) => run_input(rt, alloc, input, out, notes),
         Ok(Command::Trace(options)) => run_trace(rt, alloc, &options, trees, out, notes),
-        Ok(Command::Sample { .. }) => ends(notes, Ending::Usage),
+        Ok(Command::Sample { seed, files }) => run_sample(rt, alloc, seed, files, out, notes),
+        Ok(Command::Order) => run_order(input, out, notes),
         Err(WordsFault::Usage) => ends(notes, Ending::Usage),
         Err(WordsFault::Memory) => ends(notes, Ending::Memory),
     }

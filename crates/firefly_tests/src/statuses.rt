@@ -40,7 +40,7 @@ fn endings() -> [(Ending<'static>, Status, &'static str); 9] {
         (
             Ending::Usage,
             Status::Usage,
-            "usage: firefly check | run | index DIR [options] | trace DIR [options] | sample SEED FILES\n",
+            "usage: firefly check | run | index DIR [options] | trace DIR [options] | sample SEED FILES | order\n",
         ),
         (
             Ending::InputFault,

@@ -57,7 +57,8 @@ impl Cycle {
 
     /// How many there are.
     pub fn len(&self) -> usize
-        ensures { result ≡ length self.now }
+        ensures count { result ≡ length self.now }
+        ensures few { result ≤ 64 }
     {
         self.len
     }

@@ -44,7 +44,15 @@ pub returns-in-Ok-Sample : goal.returns-in-Ok-Sample
 returns-in-Ok-Sample g c =
     record {
       usage = λ none. absurd (none _ c.in-Ok-Sample.ensures.said);
-      answers = λ t says. let k = rw c.in-Ok-Sample.field-0-is at c.in-Ok-Sample.ensures in answered t _ _ _ (k.only t says) (c.ends.ensures.status, refl, (refl, refl), (refl, refl), c.ends.ensures.notes);
+      answers = λ t says. let k = rw c.in-Ok-Sample.field-0-is at c.in-Ok-Sample.ensures in answered t _ _ _ (k.only t says) (c.run_sample.ensures, (refl, refl), refl);
+      kept = λ _. kept-same _ c.requires.agree;
+    }
+
+pub returns-in-Ok-Order : goal.returns-in-Ok-Order
+returns-in-Ok-Order g c =
+    record {
+      usage = λ none. absurd (none _ c.in-Ok-Order.ensures.said);
+      answers = λ t says. let k = rw c.in-Ok-Order.field-0-is at c.in-Ok-Order.ensures in answered t _ _ _ (k.only t says) (c.run_order.ensures.answers, c.run_order.ensures.exact, c.run_order.ensures.told, refl);
       kept = λ _. kept-same _ c.requires.agree;
     }
 
@@ -52,7 +60,7 @@ pub returns-in-Err-Usage : goal.returns-in-Err-Usage
 returns-in-Err-Usage g c =
     let none = c.in-Err-Usage.ensures.usage (search rules) in
     record {
-      usage = λ silent. inl (c.ends-in-Err-Usage.ensures.status, refl, (refl, refl), (refl, refl), c.ends-in-Err-Usage.ensures.notes);
+      usage = λ silent. inl (c.ends.ensures.status, refl, (refl, refl), (refl, refl), c.ends.ensures.notes);
       answers = λ t says. absurd (none t says);
       kept = λ _. kept-same _ c.requires.agree;
     }
@@ -68,6 +76,12 @@ returns-in-Err-Memory g c =
 
 pub run_index-requires-clause-range : goal.run_index-requires-clause-range
 run_index-requires-clause-range g c κs within = (let k = rw c.in-Ok-Index.field-0-is at c.in-Ok-Index.ensures in k.in_range)
+
+pub run_sample-requires-clause-some : goal.run_sample-requires-clause-some
+run_sample-requires-clause-some g c κs within = (let k = rw c.in-Ok-Sample.field-0-is at c.in-Ok-Sample.ensures in k.in_range.0)
+
+pub run_sample-requires-clause-few : goal.run_sample-requires-clause-few
+run_sample-requires-clause-few g c κs within = (let k = rw c.in-Ok-Sample.field-0-is at c.in-Ok-Sample.ensures in k.in_range.1)
 
 pub run_trace-requires-clause-range : goal.run_trace-requires-clause-range
 run_trace-requires-clause-range g c κs within = (let k = rw c.in-Ok-Trace.field-0-is at c.in-Ok-Trace.ensures in k.in_range)
