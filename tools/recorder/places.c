@@ -59,11 +59,9 @@ static const char *symbol(const char *file, size_t size, uint64_t offset, uint64
     return found;
 }
 
-/* `is_call`: the address is the one behind a call, else a function's own. */
-void name_place(const char *maps, uint64_t address, bool is_call, char *text, size_t size) {
+static void look_up(const char *maps, uint64_t address, char *text, size_t size) {
     struct module m;
     struct stat info;
-    if (address && is_call) address--;
     if (!maps || !module_at(maps, address, &m)) {
         snprintf(text, size, address ? "0x%llx" : "a place that is not known", (unsigned long long)address);
         return;
@@ -80,4 +78,16 @@ void name_place(const char *maps, uint64_t address, bool is_call, char *text, si
         }
     }
     if (fd >= 0) close(fd);
+}
+
+/* `is_call`: the address is the one behind a call, else a function's own. The names of some addresses are kept. */
+void name_place(const char *maps, uint64_t address, bool is_call, char *text, size_t size) {
+    static struct { const char *maps; uint64_t address; char text[600]; } kept[256];
+    if (address && is_call) address--;
+    size_t i = address % 256;
+    if (!kept[i].text[0] || kept[i].address != address || kept[i].maps != maps) {
+        kept[i].maps = maps, kept[i].address = address;
+        look_up(maps, address, kept[i].text, sizeof kept[i].text);
+    }
+    snprintf(text, size, "%s", kept[i].text);
 }

@@ -39,7 +39,7 @@ static void *real[HOW_MANY];
 #define REAL(name) ((__typeof__(&name))real[R_##name])
 #define FROM __builtin_return_address(0)
 
-#define SMALLEST 16384ull /* of a thread's first chunk, in bytes; each later one is 4 times as large, up to LARGEST */
+#define SMALLEST 4096ull /* of a thread's first chunk, in bytes; each later one is 4 times as large, up to LARGEST */
 #define LARGEST 1048576ull
 #define LANES 3 /* a call, one of a signal handler in the midst of its recording, and one in the midst of that */
 

@@ -56,20 +56,20 @@ module _ (test : Spec → Bool) (es : List Event) (s : Spec) (e : Event) (u : Sp
   made o r (inr (same, was)) = subst (IsMadeBy test (es ++ e ∷ []) u) (sym same) (made_new r was)
 
 -- the condition on which a thread waits
-abbrev IsWaitOn : ℕ → Pending → Type 0
+abbrev pub IsWaitOn : ℕ → Pending → Type 0
 IsWaitOn c Nothing = ⊥
 IsWaitOn c (Waiting m d) = c ≡ d.0
 IsWaitOn c (AlertWaiting m d) = c ≡ d.0
 
 -- what is kept tells of the state, and of each cause that came which event it was
-record IsTold (k : Kept) (es : List Event) (s : Spec) : Type 0 where
-  stands : (c x : ℕ) → s.members c x ≡ stands_in c (k.stands x)
-  fits : (x : ℕ) → Fits (s.pending x) (k.stands x)
-  opens : (n : ℕ) → s.avail n ≡ not (is_awaited (k.opens n))
-  alerts : (x : ℕ) → s.alerts x ≡ is_come (k.alerts x)
-  out : (x : ℕ) (o : Origin) → k.stands x ≡ By o → (c : ℕ) → IsWaitOn c (s.pending x) → IsMadeBy (λ z. not (z.members c x)) es s o
-  opener : (n : ℕ) (o : Origin) → k.opens n ≡ By o → IsMadeBy (λ z. z.avail n) es s o
-  alerted : (x : ℕ) (o : Origin) → k.alerts x ≡ By o → IsMadeBy (λ z. z.alerts x) es s o
+pub record IsTold (k : Kept) (es : List Event) (s : Spec) : Type 0 where
+  pub stands : (c x : ℕ) → s.members c x ≡ stands_in c (k.stands x)
+  pub fits : (x : ℕ) → Fits (s.pending x) (k.stands x)
+  pub opens : (n : ℕ) → s.avail n ≡ not (is_awaited (k.opens n))
+  pub alerts : (x : ℕ) → s.alerts x ≡ is_come (k.alerts x)
+  pub out : (x : ℕ) (o : Origin) → k.stands x ≡ By o → (c : ℕ) → IsWaitOn c (s.pending x) → IsMadeBy (λ z. not (z.members c x)) es s o
+  pub opener : (n : ℕ) (o : Origin) → k.opens n ≡ By o → IsMadeBy (λ z. z.avail n) es s o
+  pub alerted : (x : ℕ) (o : Origin) → k.alerts x ≡ By o → IsMadeBy (λ z. z.alerts x) es s o
 
 by_same : (o p : Origin) → By o ≡ By p → p ≡ o
 by_same o p e = cc
@@ -266,7 +266,7 @@ told_from done s r told (e ∷ es) u l =
     let rest : Leads n es u = subst (λ v. Leads v es u) l.1.1 l.2 in
     subst (λ x. IsTold (kept_since (behind [] x)) x u) (append_assoc done (e ∷ []) es) (told_from (done ++ e ∷ []) n (leads_push done at_first s e n r (l.1.0, refl)) after es u rest)
 
-told_run : (es : List Event) (s : Spec) → IsRun es s → IsTold (kept_since (behind [] es)) es s
+pub told_run : (es : List Event) (s : Spec) → IsRun es s → IsTold (kept_since (behind [] es)) es s
 told_run es s r = told_from [] at_first refl told_first es s r
 
 came_by : (x : Cause) (o : Origin) → came x ≡ Some o → x ≡ By o

@@ -8,16 +8,16 @@
 
 mod arrows;
 mod bands;
-mod board;
-mod causes;
+pub mod board;
+pub mod causes;
 mod draw;
 mod endings;
 mod head;
-mod history;
+pub mod history;
 pub mod laws;
 mod marks;
-mod shapes;
-mod tags;
+pub mod shapes;
+pub mod tags;
 mod view;
 
 pub use draw::draw_trace;

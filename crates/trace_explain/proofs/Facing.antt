@@ -1,0 +1,72 @@
+-- What is kept of the events is so in the state.
+use Rattle.std.proofs.Common.{◌≡◌, ◌≢◌, ℕ, not, [], refl, ◌∙◌, inl, inr, eq-eqb}
+use Rattle.larch_actions.specs.declared.event.Pending.{Pending}
+use Rattle.larch_actions.specs.declared.event.Pending.TheVariants.{Nothing, Waiting, AlertWaiting}
+use Rattle.larch_actions.specs.Actions.{Spec}
+use Rattle.trace_picture.specs.declared.history.Origin.{Origin}
+use Rattle.trace_picture.specs.declared.causes.Cause.{Cause}
+use Rattle.trace_picture.specs.declared.causes.Cause.TheVariants.{Never, Awaited, By}
+use Rattle.trace_picture.specs.Kept.{kept_since, behind}
+use Rattle.trace_picture.proofs.Agreeing.{Fits, stands_in, is_awaited, is_come}
+use Rattle.trace_picture.proofs.Causing.{told_run, IsWaitOn as IsOnWait}
+use Rattle.trace_picture.proofs.Holding.{bars_are_holds}
+use Rattle.trace_explain.specs.Laws.{WaitsSo, IsWaitOn, is_named, OpenSo, AlertedSo, FactsAreSo}
+
+-- who stands in a condition or was taken out has begun a wait
+begun : (p : Pending) (x : Cause) → Fits p x → x ≢ Never → p ≢ Nothing
+begun Nothing x f ne e = ne f
+begun (Waiting m c) x f ne e = let bad : Waiting m c ≡ Nothing = e in cc
+begun (AlertWaiting m c) x f ne e = let bad : AlertWaiting m c ≡ Nothing = e in cc
+
+none_begun : (p : Pending) → Fits p Never → p ≡ Nothing
+none_begun Nothing f = refl
+none_begun (Waiting m c) (inl e) = let bad : Never ≡ Awaited c.0 = e in cc
+none_begun (Waiting m c) (inr (o, e)) = let bad : Never ≡ By o = e in cc
+none_begun (AlertWaiting m c) (inl e) = let bad : Never ≡ Awaited c.0 = e in cc
+none_begun (AlertWaiting m c) (inr (o, e)) = let bad : Never ≡ By o = e in cc
+
+awaited_not_never : (c : ℕ) → Awaited c ≢ Never
+awaited_not_never c e = cc
+
+by_not_never : (o : Origin) → By o ≢ Never
+by_not_never o e = cc
+
+waits_so : (s : Spec) (t : ℕ) (x : Cause) → Fits (s.pending t) x → ((c : ℕ) → s.members c t ≡ stands_in c x) → WaitsSo s t x
+waits_so s t Never f h = none_begun (s.pending t) f
+waits_so s t (Awaited c) f h = (begun (s.pending t) (Awaited c) f (awaited_not_never c), h c ∙ eq-eqb c c refl)
+waits_so s t (By o) f h = (begun (s.pending t) (By o) f (by_not_never o), h)
+
+named_so : (c : ℕ) (x : Cause) → stands_in c x ≡ is_named c x
+named_so c Never = refl
+named_so c (Awaited d) = refl
+named_so c (By o) = refl
+
+open_so : (s : Spec) (n : ℕ) (x : Cause) → s.avail n ≡ not (is_awaited x) → OpenSo s n x
+open_so s n Never h = h
+open_so s n (Awaited k) h = h
+open_so s n (By o) h = h
+
+alerted_so : (s : Spec) (t : ℕ) (x : Cause) → s.alerts t ≡ is_come x → AlertedSo s t x
+alerted_so s t Never h = h
+alerted_so s t (Awaited k) h = h
+alerted_so s t (By o) h = h
+
+wait_on : (c : ℕ) (p : Pending) → IsWaitOn c p → IsOnWait c p
+wait_on c Nothing h = h
+wait_on c (Waiting m d) h = h
+wait_on c (AlertWaiting m d) h = h
+
+pub facts_are_so : FactsAreSo
+facts_are_so = λ es s r.
+    let k = kept_since (behind [] es) in
+    let told = told_run es s r in
+    record {
+      held = bars_are_holds es s r;
+      waits = λ t. waits_so s t (k.stands t) (told.fits t) (λ c. told.stands c t);
+      stands = λ c t. told.stands c t ∙ named_so c (k.stands t);
+      opens = λ n. open_so s n (k.opens n) (told.opens n);
+      alerts = λ t. alerted_so s t (k.alerts t) (told.alerts t);
+      taken_out_by = λ t c o is on. told.out t o is c (wait_on c (s.pending t) on);
+      opened_by = told.opener;
+      alerted_by = told.alerted;
+    }

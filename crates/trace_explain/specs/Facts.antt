@@ -1,0 +1,79 @@
+-- What is said of the state before an event.
+use Rattle.std.specs.Prelude.{ℕ, ◌==◌, if◌then◌else◌, List, [], ◌++◌, codes, Some, None}
+use Rattle.std.specs.declared.option.Option.{Option}
+use Rattle.larch_actions.specs.declared.event.Event.{Event}
+use Rattle.trace_picture.specs.declared.history.Origin.{Origin}
+use Rattle.trace_picture.specs.declared.history.Turn.{Turn}
+use Rattle.trace_picture.specs.declared.history.Turn.TheVariants as turn
+use Rattle.trace_picture.specs.declared.causes.Cause.{Cause}
+use Rattle.trace_picture.specs.declared.causes.Cause.TheVariants.{Never, Awaited, By}
+use Rattle.trace_picture.specs.declared.causes.Move.{Move}
+use Rattle.trace_picture.specs.declared.causes.Move.TheVariants as move
+use Rattle.trace_picture.specs.declared.board.Waker.{Waker}
+use Rattle.trace_picture.specs.declared.board.Waker.TheVariants as waker
+use Rattle.trace_picture.specs.History.{mutex_turn}
+use Rattle.trace_picture.specs.Causes.{stand_move, open_move}
+use Rattle.trace_picture.specs.Kept.{Kept, waker_of}
+use Rattle.trace_picture.specs.Shapes.{with_number, each_below}
+use Rattle.trace_explain.specs.Sentences.{plain, since, standing}
+
+-- the thread's wait: in which condition it stands, or who took it out
+abbrev pub wait_text : ℕ → Cause → List ℕ
+wait_text t Never = plain (codes "t") t (codes " is in no wait")
+wait_text t (Awaited c) = standing t c
+wait_text t (By o) = since (codes "t") t (codes " was taken out by t") o
+
+-- who has a mutex
+abbrev pub held_text : ℕ → Option Origin → List ℕ
+held_text m None = plain (codes "m") m (codes " is held by nobody")
+held_text m (Some o) = since (codes "m") m (codes " is held by t") o
+
+-- whether a semaphore is available, and who made it so
+abbrev pub open_text : ℕ → Cause → List ℕ
+open_text s Never = plain (codes "s") s (codes " is available")
+open_text s (Awaited k) = plain (codes "s") s (codes " is not available")
+open_text s (By o) = since (codes "s") s (codes " is available by t") o
+
+-- whether a thread is alerted, and by whom
+abbrev pub alert_text : ℕ → Cause → List ℕ
+alert_text t Never = plain (codes "t") t (codes " is not alerted")
+alert_text t (Awaited k) = plain (codes "t") t (codes " is not alerted")
+alert_text t (By o) = since (codes "t") t (codes " is alerted by t") o
+
+-- the name of a thread that stands in the condition
+abbrev pub stander : ℕ → ℕ → Cause → List ℕ
+stander c t Never = []
+stander c t (Awaited d) = if d == c then with_number (codes " t") t else []
+stander c t (By o) = []
+
+-- all that stand in the condition
+unfoldable pub standers : Kept → ℕ → List ℕ
+standers k c = with_number (codes "in c") c ++ codes ":" ++ each_below (λ t. stander c t (k.stands t)) 64 ++ codes "\n"
+
+-- the mutex that the action takes or gives back
+abbrev pub mutex_fact : Kept → Turn → List ℕ
+mutex_fact k (turn.Begins m) = held_text m (k.held m)
+mutex_fact k (turn.Ends m) = held_text m (k.held m)
+mutex_fact k turn.Stays = []
+
+-- the condition that the action lets threads out of
+abbrev pub stand_fact : Kept → Move → List ℕ
+stand_fact k (move.Frees c left) = standers k c
+stand_fact k _ = []
+
+-- the semaphore of the action
+abbrev pub open_fact : Kept → Move → List ℕ
+open_fact k (move.Awaits s c) = open_text s (k.opens s)
+open_fact k (move.Opens s) = open_text s (k.opens s)
+open_fact k _ = []
+
+-- the alert that the action goes on by
+abbrev pub alert_fact : Kept → Waker → List ℕ
+alert_fact k (waker.Alarm t) = alert_text t (k.alerts t)
+alert_fact k _ = []
+
+-- all that the order and the action's row speak of
+unfoldable pub facts : Kept → Event → List ℕ
+facts k e =
+    wait_text e.thread.0 (k.stands e.thread.0) ++ mutex_fact k (mutex_turn e.action) ++ stand_fact k (stand_move e.thread.0 e.action) ++ open_fact k (open_move e.action)
+    ++ alert_fact k (waker_of e.thread.0 e.action)

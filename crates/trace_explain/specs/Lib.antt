@@ -1,0 +1,6 @@
+pub mod Rules
+pub mod Sentences
+pub mod Facts
+pub mod Words
+pub mod Told
+pub mod Laws

@@ -1,0 +1,66 @@
+//! The explanation of a verdict.
+ghost use Rattle.std.specs.Prelude.{◌≡◌, ◌≢◌, ◌-◌, ◌<◌, ◌≤◌, ◌^◌, List, ℕ, Some, IfOk, OnErr};
+ghost use Rattle.firefly_outside.specs.Causes.{HasCause};
+ghost use Rattle.trace_core.specs.declared.progress.Phase.TheVariants as phase;
+ghost use Rattle.trace_core.specs.Reader.{standing, input_of};
+ghost use Rattle.trace_check.specs.declared.checker.Verdict.{Verdict};
+ghost use Rattle.trace_check.specs.declared.checker.Verdict.TheVariants as verdict;
+ghost use Rattle.trace_check.specs.Verdicts.{IsJust};
+ghost use Rattle.trace_explain.specs.Told.{GotText, GotFront};
+
+use crate::find::find_all;
+use crate::tell::tell;
+use firefly_outside::{Sink, SinkFault, Source};
+use trace_check::Verdict;
+use trace_core::EventReader;
+use trace_picture::board::Board;
+
+/// Checks at most `budget` bytes of the input, and writes why the verdict is as it is: of a legal trace its counts, of an illegal one the event,
+/// the rule that it fails and the state before it, of a bad line what may stand there, and else nothing.
+pub fn explain<I: Source, O: Sink>(
+    input: &mut I,
+    budget: u64,
+    out: &mut O,
+) -> Result<Verdict, SinkFault>
+    requires { budget < 2 ^ 64 - 1 }
+    // The verdict is just, and where no read failed no other is.
+    ensures just { IfOk result (λ v. IsJust budget (I.left input.old) (I.left input.new) (I.faults input.old) (I.faults input.new) v) }
+    ensures exact { IfOk result (λ v. (bytes : List ℕ) (other : Verdict) → I.left input.old ≡ Some bytes → v ≢ verdict.ReadFault
+        → other ≢ verdict.ReadFault
+        → IsJust budget (I.left input.old) (I.left input.new) (I.faults input.old) (I.faults input.new) other → v ≡ other) }
+    // The sink got the text that explains it, or a front of such a text where it failed.
+    ensures ok { IfOk result (λ v. GotText budget (I.left input.old) (O.held out.old) (O.held out.new) v) }
+    ensures err { OnErr result (GotFront budget (I.left input.old) (I.left input.new) (I.faults input.old) (I.faults input.new)
+        (O.held out.old) (O.held out.new)) }
+    ensures cause { HasCause (O.faults out.old) (O.faults out.new) result }
+    // From the byte that decides on nothing more is read.
+    ensures told { IfOk result (λ v. v ≢ verdict.ReadFault → I.faults input.new ≡ I.faults input.old) }
+    ensures later { I.faults input.old ≤ I.faults input.new }
+{
+    let mut reader = EventReader::new(input, budget);
+    explain_all(&mut reader, out)
+}
+
+// Checks what a new reader gives, and writes why.
+fn explain_all<I: Source, O: Sink>(
+    reader: &mut EventReader<I>,
+    out: &mut O,
+) -> Result<Verdict, SinkFault>
+    requires phase { (standing I.left reader.old).phase ≡ phase.Head }
+    requires lines { (standing I.left reader.old).lines ≡ 0 }
+    requires fits { (standing I.left reader.old).room < 2 ^ 64 - 1 }
+    ensures just { IfOk result (λ v. IsJust (standing I.left reader.old).room (standing I.left reader.old).rest
+        (I.left (input_of reader.new).now) (I.faults (input_of reader.old).now) (I.faults (input_of reader.new).now) v) }
+    ensures ok { IfOk result (λ v. GotText (standing I.left reader.old).room (standing I.left reader.old).rest (O.held out.old) (O.held out.new) v) }
+    ensures err { OnErr result (GotFront (standing I.left reader.old).room (standing I.left reader.old).rest
+        (I.left (input_of reader.new).now) (I.faults (input_of reader.old).now) (I.faults (input_of reader.new).now)
+        (O.held out.old) (O.held out.new)) }
+    ensures cause { HasCause (O.faults out.old) (O.faults out.new) result }
+    ensures same_input { (input_of reader.new).ghost_name ≡ (input_of reader.old).ghost_name }
+    ensures told { IfOk result (λ v. v ≢ verdict.ReadFault → I.faults (input_of reader.new).now ≡ I.faults (input_of reader.old).now) }
+    ensures later { I.faults (input_of reader.old).now ≤ I.faults (input_of reader.new).now }
+{
+    let mut board = Board::new();
+    let found = find_all(reader, &mut board);
+    tell(&found, &board, out)
+}

@@ -1,0 +1,188 @@
+//! What is said of the state before an event, written into a buffer behind its first `at` bytes. Each call says where it ended.
+ghost use Rattle.std.specs.Prelude.{◌≡◌, ◌+◌, ◌*◌, ◌<◌, ◌≤◌, ◌++◌, length, take};
+ghost use Rattle.trace_picture.specs.Causes.{cause_of, IsSmall};
+ghost use Rattle.trace_picture.specs.History.{IsWithin};
+ghost use Rattle.trace_picture.specs.Kept.{kept_of, IsNear, IsNoted};
+ghost use Rattle.trace_picture.specs.Shapes.{each_below};
+ghost use Rattle.trace_explain.specs.Facts.{wait_text, held_text, open_text, alert_text, stander, standers, mutex_fact, stand_fact, open_fact, alert_fact, facts};
+
+use crate::sentences::{add_plain, add_since, add_standing};
+use larch_actions::Event;
+use trace_core::add;
+use trace_picture::board::{Board, Waker, waker_for};
+use trace_picture::causes::{Cause, Causes, Move, move_of_open, move_of_stand};
+use trace_picture::history::{Origin, Turn, turn_of_mutex};
+use trace_picture::tags::add_with_number;
+
+// Adds how it stands with the thread's wait.
+fn add_wait(buf: &mut [u8], at: usize, t: u32, cause: Cause) -> usize
+    requires room { at + 160 ≤ length buf.old }
+    ensures text { take result buf.new ≡ take at buf.old ++ wait_text t cause }
+    ensures near { result ≤ at + 160 }
+{
+    match cause {
+        Cause::Never => add_plain(buf, at, b"t", t, b" is in no wait"),
+        Cause::Awaited(c) => add_standing(buf, at, t, c),
+        Cause::By(o) => add_since(buf, at, b"t", t, b" was taken out by t", &o),
+    }
+}
+
+// Adds who has a mutex.
+fn add_held(buf: &mut [u8], at: usize, m: u32, since: Option<Origin>) -> usize
+    requires room { at + 160 ≤ length buf.old }
+    ensures text { take result buf.new ≡ take at buf.old ++ held_text m since }
+    ensures near { result ≤ at + 160 }
+{
+    match since {
+        Some(o) => add_since(buf, at, b"m", m, b" is held by t", &o),
+        None => add_plain(buf, at, b"m", m, b" is held by nobody"),
+    }
+}
+
+// Adds whether a semaphore is available.
+fn add_open(buf: &mut [u8], at: usize, s: u32, cause: Cause) -> usize
+    requires room { at + 160 ≤ length buf.old }
+    ensures text { take result buf.new ≡ take at buf.old ++ open_text s cause }
+    ensures near { result ≤ at + 160 }
+{
+    match cause {
+        Cause::Never => add_plain(buf, at, b"s", s, b" is available"),
+        Cause::Awaited(_) => add_plain(buf, at, b"s", s, b" is not available"),
+        Cause::By(o) => add_since(buf, at, b"s", s, b" is available by t", &o),
+    }
+}
+
+// Adds whether a thread is alerted.
+fn add_alert(buf: &mut [u8], at: usize, t: u32, cause: Cause) -> usize
+    requires room { at + 160 ≤ length buf.old }
+    ensures text { take result buf.new ≡ take at buf.old ++ alert_text t cause }
+    ensures near { result ≤ at + 160 }
+{
+    match cause {
+        Cause::Never => add_plain(buf, at, b"t", t, b" is not alerted"),
+        Cause::Awaited(_) => add_plain(buf, at, b"t", t, b" is not alerted"),
+        Cause::By(o) => add_since(buf, at, b"t", t, b" is alerted by t", &o),
+    }
+}
+
+// Adds the thread where it stands in the condition.
+fn add_stander(buf: &mut [u8], at: usize, c: u32, t: u32, cause: Cause) -> usize
+    requires room { at + 40 ≤ length buf.old }
+    ensures text { take result buf.new ≡ take at buf.old ++ stander c t cause }
+    ensures near { result ≤ at + 40 }
+{
+    match cause {
+        Cause::Never => at,
+        Cause::Awaited(d) => {
+            if d == c {
+                add_with_number(buf, at, b" t", u64::from(t))
+            } else {
+                at
+            }
+        }
+        Cause::By(_) => at,
+    }
+}
+
+// Adds the threads that stand in the condition.
+fn add_each_stander(buf: &mut [u8], at: usize, c: u32, stands: &Causes) -> usize
+    requires room { at + 40 * 64 ≤ length buf.old }
+    ensures text { take result buf.new ≡ take at buf.old ++ each_below (λ t. stander c t (cause_of stands.now t)) 64 }
+    ensures near { result ≤ at + 40 * 64 }
+{
+    let mut last = at;
+    for t in 0..64 {
+        last = add_stander(buf, last, c, t, stands.at(t));
+    }
+    last
+}
+
+// Adds who stands in the condition, as a line.
+#[tactic(auto, unfolding(crate::specs::Facts::standers))]
+fn add_standers(buf: &mut [u8], at: usize, c: u32, board: &Board) -> usize
+    requires room { at + 3000 ≤ length buf.old }
+    ensures text { take result buf.new ≡ take at buf.old ++ standers (kept_of board.now) c }
+    ensures near { result ≤ at + 3000 }
+{
+    let at = add_with_number(buf, at, b"in c", u64::from(c));
+    let at = add(buf, at, b":");
+    let at = add_each_stander(buf, at, c, &board.stands);
+    add(buf, at, b"\n")
+}
+
+// Adds who has the mutex that is taken or given back.
+fn add_mutex_fact(buf: &mut [u8], at: usize, board: &Board, turn: Turn) -> usize
+    requires within { IsWithin turn }
+    requires room { at + 160 ≤ length buf.old }
+    ensures text { take result buf.new ≡ take at buf.old ++ mutex_fact (kept_of board.now) turn }
+    ensures near { result ≤ at + 160 }
+{
+    match turn {
+        Turn::Begins(m) => add_held(buf, at, m, board.held.at(m)),
+        Turn::Ends(m) => add_held(buf, at, m, board.held.at(m)),
+        Turn::Stays => at,
+    }
+}
+
+// Adds who stands in the condition that threads are let out of.
+fn add_stand_fact(buf: &mut [u8], at: usize, board: &Board, change: Move) -> usize
+    requires room { at + 3000 ≤ length buf.old }
+    ensures text { take result buf.new ≡ take at buf.old ++ stand_fact (kept_of board.now) change }
+    ensures near { result ≤ at + 3000 }
+{
+    match change {
+        Move::Frees(c, _) => add_standers(buf, at, c, board),
+        Move::Awaits(_, _) => at,
+        Move::Ends(_) => at,
+        Move::Opens(_) => at,
+        Move::Comes(_) => at,
+        Move::Stays => at,
+    }
+}
+
+// Adds how it stands with the semaphore.
+fn add_open_fact(buf: &mut [u8], at: usize, board: &Board, change: Move) -> usize
+    requires small { IsSmall change }
+    requires room { at + 160 ≤ length buf.old }
+    ensures text { take result buf.new ≡ take at buf.old ++ open_fact (kept_of board.now) change }
+    ensures near { result ≤ at + 160 }
+{
+    match change {
+        Move::Awaits(s, _) => add_open(buf, at, s, board.opens.at(s)),
+        Move::Opens(s) => add_open(buf, at, s, board.opens.at(s)),
+        Move::Frees(_, _) => at,
+        Move::Ends(_) => at,
+        Move::Comes(_) => at,
+        Move::Stays => at,
+    }
+}
+
+// Adds how it stands with the alert that the action goes on by.
+fn add_alert_fact(buf: &mut [u8], at: usize, board: &Board, waker: Waker) -> usize
+    requires near { IsNear waker }
+    requires room { at + 160 ≤ length buf.old }
+    ensures text { take result buf.new ≡ take at buf.old ++ alert_fact (kept_of board.now) waker }
+    ensures near { result ≤ at + 160 }
+{
+    match waker {
+        Waker::Alarm(t) => add_alert(buf, at, t, board.alerts.at(t)),
+        Waker::Condition(_) => at,
+        Waker::Semaphore(_) => at,
+        Waker::Nobody => at,
+    }
+}
+
+/// Adds all that the order and the action's row speak of.
+#[tactic(auto, unfolding(crate::specs::Facts::facts))]
+pub fn add_facts(buf: &mut [u8], at: usize, board: &Board, e: &Event) -> usize
+    requires noted { IsNoted e.now }
+    requires room { at + 4000 ≤ length buf.old }
+    ensures text { take result buf.new ≡ take at buf.old ++ facts (kept_of board.now) e.now }
+    ensures near { result ≤ at + 4000 }
+{
+    let at = add_wait(buf, at, e.thread.0, board.stands.at(e.thread.0));
+    let at = add_mutex_fact(buf, at, board, turn_of_mutex(&e.action));
+    let at = add_stand_fact(buf, at, board, move_of_stand(e.thread, &e.action));
+    let at = add_open_fact(buf, at, board, move_of_open(&e.action));
+    add_alert_fact(buf, at, board, waker_for(e.thread, &e.action))
+}

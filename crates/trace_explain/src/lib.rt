@@ -1,0 +1,16 @@
+//! Why a trace is refused: the event that fails, its row of the table, and what the state before it was.
+//!
+//! Promises: `explain` checks a trace as `trace_check` does, and the sink gets exactly the text that specs/Words.antt defines for the verdict.
+//! What that text says of mutexes, conditions, semaphores and alerts is so in the state before the event (laws).
+//! Stands on the reader of trace_core, the state of larch_actions, and what trace_picture keeps of the events. It takes no memory.
+#![tactic(auto)]
+
+mod explanation;
+mod facts;
+mod find;
+pub mod laws;
+mod rules;
+mod sentences;
+mod tell;
+
+pub use explanation::explain;

@@ -1,0 +1,177 @@
+//! The text for what a check finds, written into a buffer behind its first `at` bytes. Each call says where it ended.
+ghost use Rattle.std.specs.Prelude.{◌≡◌, ◌+◌, ◌≤◌, ◌++◌, length, take, [], OnOk, OnErr, IfOk};
+ghost use Rattle.std.specs.Io.KnownBytes.{Appends};
+ghost use Rattle.firefly_outside.specs.Causes.{HasCause, AppendsFront};
+ghost use Rattle.trace_picture.specs.Kept.{kept_of, IsNoted};
+ghost use Rattle.trace_explain.specs.Words.{legal_text, failed_text, illegal_text, later_text, expected, bad_text, text_of, verdict_of};
+ghost use Rattle.trace_explain.specs.Told.{HasNoted};
+
+use crate::facts::add_facts;
+use crate::find::Found;
+use crate::rules::rule;
+use firefly_outside::{Sink, SinkFault, put_all};
+use larch_actions::{Broken, Event};
+use trace_check::{Summary, Verdict};
+use trace_core::add;
+use trace_picture::board::Board;
+use trace_picture::shapes::word_of;
+use trace_picture::tags::{add_line, add_with_number};
+
+// Adds the counts of a legal trace.
+#[tactic(auto, unfolding(crate::specs::Words::legal_text))]
+fn add_legal(buf: &mut [u8], at: usize, s: &Summary) -> usize
+    requires room { at + 200 ≤ length buf.old }
+    ensures text { take result buf.new ≡ take at buf.old ++ legal_text s.now }
+    ensures near { result ≤ at + 200 }
+{
+    let at = add_with_number(buf, at, b"legal ", s.events);
+    let at = add_with_number(buf, at, b" held ", s.held);
+    let at = add_with_number(buf, at, b" waiting ", s.waiting);
+    let at = add_with_number(buf, at, b" alerted ", s.alerted);
+    add(buf, at, b"\n")
+}
+
+// Adds which clause an event fails, and its line.
+#[tactic(auto, unfolding(crate::specs::Words::failed_text))]
+fn add_failed(buf: &mut [u8], at: usize, place: u64, e: &Event, why: Broken) -> usize
+    requires room { at + 500 ≤ length buf.old }
+    ensures text { take result buf.new ≡ take at buf.old ++ failed_text place e.now why }
+    ensures near { result ≤ at + 500 }
+{
+    let at = add_with_number(buf, at, b"illegal ", place);
+    let at = add(buf, at, b" ");
+    let at = add(buf, at, word_of(why));
+    let at = add(buf, at, b"\nevent: ");
+    add_line(buf, at, place, e)
+}
+
+// Adds what an event fails, and the state before it.
+#[tactic(auto, unfolding(crate::specs::Words::illegal_text))]
+fn add_illegal(
+    buf: &mut [u8],
+    at: usize,
+    board: &Board,
+    place: u64,
+    e: &Event,
+    why: Broken,
+) -> usize
+    requires noted { IsNoted e.now }
+    requires room { at + 5000 ≤ length buf.old }
+    ensures text { take result buf.new ≡ take at buf.old ++ illegal_text (kept_of board.now) place e.now why }
+    ensures near { result ≤ at + 5000 }
+{
+    let at = add_failed(buf, at, place, e, why);
+    let at = add(buf, at, b"\nrule: ");
+    let at = add(buf, at, rule(why, &e.action));
+    let at = add(buf, at, b"\n");
+    add_facts(buf, at, board, e)
+}
+
+// Adds what may stand on the line of an event.
+fn add_later(buf: &mut [u8], at: usize, n: u64) -> usize
+    requires room { at + 400 ≤ length buf.old }
+    ensures text { take result buf.new ≡ take at buf.old ++ later_text n }
+    ensures near { result ≤ at + 400 }
+{
+    let at = add_with_number(buf, at, b": here stands event ", n);
+    add(
+        buf,
+        at,
+        b", as its number, the name of a thread, an action and names below the layout's counts; or `end` and that number; or, behind such a line, `value`, a mutex above those before it and a number\n",
+    )
+}
+
+// Adds what may stand on a line.
+fn add_expected(buf: &mut [u8], at: usize, line: u64) -> usize
+    requires room { at + 400 ≤ length buf.old }
+    ensures text { take result buf.new ≡ take at buf.old ++ expected line }
+    ensures near { result ≤ at + 400 }
+{
+    if line == 1 {
+        return add(buf, at, b": the first line is `firefly-trace 1`\n");
+    }
+    if line == 2 {
+        return add(
+            buf,
+            at,
+            b": the second line is `threads T mutexes M conditions C semaphores S`, T from 1 to 64, the others from 0 to 64\n",
+        );
+    }
+    add_later(buf, at, line.saturating_sub(3))
+}
+
+// Adds which line is bad, and what may stand there.
+#[tactic(auto, unfolding(crate::specs::Words::bad_text))]
+fn add_bad(buf: &mut [u8], at: usize, line: u64) -> usize
+    requires room { at + 500 ≤ length buf.old }
+    ensures text { take result buf.new ≡ take at buf.old ++ bad_text line }
+    ensures near { result ≤ at + 500 }
+{
+    let at = add_with_number(buf, at, b"bad line ", line);
+    add_expected(buf, at, line)
+}
+
+// Adds the text for what was found.
+fn add_found(buf: &mut [u8], at: usize, board: &Board, found: &Found) -> usize
+    requires noted { HasNoted found.now }
+    requires room { at + 5000 ≤ length buf.old }
+    ensures text { take result buf.new ≡ take at buf.old ++ text_of (kept_of board.now) found.now }
+    ensures near { result ≤ at + 5000 }
+{
+    match found {
+        Found::Legal(summary) => add_legal(buf, at, summary),
+        Found::Illegal { place, event, why } => add_illegal(buf, at, board, *place, event, *why),
+        Found::BadLine(line) => add_bad(buf, at, *line),
+        Found::TooLong => at,
+        Found::ReadFault => at,
+    }
+}
+
+// The verdict of what was found.
+fn verdict(found: &Found) -> Verdict
+    ensures { result ≡ verdict_of found.now }
+{
+    match found {
+        Found::Legal(summary) => Verdict::Legal(*summary),
+        Found::Illegal { place, why, .. } => Verdict::Illegal {
+            place: *place,
+            why: *why,
+        },
+        Found::BadLine(line) => Verdict::BadLine(*line),
+        Found::TooLong => Verdict::TooLong,
+        Found::ReadFault => Verdict::ReadFault,
+    }
+}
+
+// Sends the text by way of the buffer.
+fn tell_by<O: Sink>(
+    buf: &mut [u8],
+    found: &Found,
+    board: &Board,
+    out: &mut O,
+) -> Result<Verdict, SinkFault>
+    requires noted { HasNoted found.now }
+    requires large { 5000 ≤ length buf.old }
+    ensures verdict { IfOk result (λ v. v ≡ verdict_of found.now) }
+    ensures ok { OnOk result (Appends (O.held out.old) (O.held out.new) (text_of (kept_of board.now) found.now)) }
+    ensures err { OnErr result (AppendsFront (O.held out.old) (O.held out.new) (text_of (kept_of board.now) found.now)) }
+    ensures cause { HasCause (O.faults out.old) (O.faults out.new) result }
+{
+    let end = add_found(buf, 0, board, found);
+    match put_all(out, &buf[..end]) {
+        Ok(()) => Ok(verdict(found)),
+        Err(fault) => Err(fault),
+    }
+}
+
+/// Sends the text for what was found, and gives the verdict.
+pub fn tell<O: Sink>(found: &Found, board: &Board, out: &mut O) -> Result<Verdict, SinkFault>
+    requires { HasNoted found.now }
+    ensures verdict { IfOk result (λ v. v ≡ verdict_of found.now) }
+    ensures ok { OnOk result (Appends (O.held out.old) (O.held out.new) (text_of (kept_of board.now) found.now)) }
+    ensures err { OnErr result (AppendsFront (O.held out.old) (O.held out.new) (text_of (kept_of board.now) found.now)) }
+    ensures cause { HasCause (O.faults out.old) (O.faults out.new) result }
+{
+    let mut buf = [0; 8192];
+    tell_by(&mut buf, found, board, out)
+}
