@@ -15,6 +15,7 @@ mod endings;
 mod head;
 mod history;
 pub mod laws;
+mod legend;
 mod marks;
 mod shapes;
 mod tags;
