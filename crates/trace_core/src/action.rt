@@ -1,7 +1,8 @@
 //! Reading actions up to the end of their lines, by their rows. The usual lines are read another way (held/action.rt).
-ghost use Rattle.std.specs.Prelude.{◌≡◌, ◌<◌};
+ghost use Rattle.std.specs.Prelude.{◌≡◌, ◌<◌, true, Err};
+ghost use Rattle.larch_actions.specs.Rows.{word_text};
 ghost use Rattle.larch_actions.specs.Layout.{IsLawful};
-ghost use Rattle.trace_core.specs.Reading.{Gives};
+ghost use Rattle.trace_core.specs.Reading.{Gives, word_at};
 ghost use Rattle.trace_core.specs.Lines.{stop_of, gap_of, are_some, ending_at, name_at, behind_at, row_at, action_at};
 
 use crate::line::Stop;
@@ -179,11 +180,25 @@ fn behind<'b>(
     }
 }
 
+// Whether the first byte shows that another word stands there.
+#[inline(always)]
+fn is_other(bytes: &[u8], word: Word) -> bool
+    ensures { result ≡ true → word_at (word_text word) bytes.now ≡ Err Stop.Dead }
+{
+    match (bytes, word.text()) {
+        ([found, ..], [first, ..]) => found != first,
+        _ => false,
+    }
+}
+
 // Reads an action with this word.
 fn row<'b>(bytes: &'b [u8], layout: &Layout, first: Word) -> Result<(Action, &'b [u8]), Stop>
     requires { IsLawful layout.now }
     ensures { Gives (λ x. (x.0, x.1.now)) result (row_at layout.now first bytes.now) }
 {
+    if is_other(bytes, first) {
+        return Err(Stop::Dead);
+    }
     let kinds = first.kinds();
     let endings = first.endings();
     if !are_some(layout, kinds) {

@@ -1,9 +1,11 @@
+pub mod Looks
 pub mod Marks
 pub mod History
 pub mod Causes
 pub mod Kept
 pub mod Places
 pub mod Shapes
+pub mod Legend
 pub mod Arrows
 pub mod Bands
 pub mod Picture

@@ -7,6 +7,7 @@ use Rattle.trace_picture.specs.declared.view.View.{View}
 use Rattle.trace_picture.specs.Kept.{Kept, kept_since, behind}
 use Rattle.trace_picture.specs.Places.{is_open, height_of}
 use Rattle.trace_picture.specs.Shapes.{with_number, each_below, line_of, clause_word, swatch_text}
+use Rattle.trace_picture.specs.Legend.{entry_at}
 use Rattle.trace_picture.specs.Bands.{step_text, failing_text, closing, band_start}
 
 unfoldable pub style_text : List ℕ
@@ -15,18 +16,15 @@ style_text = codes "<svg xmlns='http://www.w3.org/2000/svg' width='1252' font-fa
 unfoldable pub pattern_text : List ℕ
 pattern_text = codes ".b{fill:#bfe0f5;stroke:#222}.v{fill:#f5b8a0;stroke:#222}.f{fill:#222}.f+.i{fill:#fff}.o,.k,.g,.b,.v{stroke-width:.7}.a{fill:none;stroke:#a02c6b;stroke-width:1.2;marker-end:url(#a)}\n</style>\n" ++ codes "<defs><pattern id='h' width='5' height='5' patternUnits='userSpaceOnUse' patternTransform='rotate(45)'><rect width='5' height='5' fill='#fff'/><rect width='2' height='5' fill='#777'/></pattern>\n" ++ codes "<marker id='a' viewBox='0 0 6 6' refX='6' refY='3' markerWidth='6' markerHeight='6' orient='auto'><path d='M0 0L6 3L0 6z' fill='#a02c6b'/></marker></defs>\n" ++ codes "<rect width='100%' height='100%' fill='#fff'/>\n"
 
-unfoldable pub marks_text : List ℕ
-marks_text = codes "<g transform='translate(44 6)'><g id='A'><rect class='o' width='11' height='11' rx='2'/><text class='i' x='5.5' y='9'>A</text></g><text x='16' y='9'>acquire</text></g>\n" ++ codes "<g transform='translate(244 6)'><g id='R'><rect class='o' width='11' height='11' rx='2'/><text class='i' x='5.5' y='9'>R</text></g><text x='16' y='9'>release</text></g>\n" ++ codes "<g transform='translate(444 6)'><g id='W'><rect class='k' width='11' height='11' rx='2'/><text class='i' x='5.5' y='9'>W</text></g><text x='16' y='9'>enqueue</text></g>\n" ++ codes "<g transform='translate(644 6)'><g id='C'><rect class='k' width='11' height='11' rx='2'/><text class='i' x='5.5' y='9'>C</text></g><text x='16' y='9'>resume</text></g>\n" ++ codes "<g transform='translate(844 6)'><g id='S'><rect class='g' width='11' height='11' rx='2'/><text class='i' x='5.5' y='9'>S</text></g><text x='16' y='9'>signal</text></g>\n" ++ codes "<g transform='translate(1044 6)'><g id='B'><rect class='g' width='11' height='11' rx='2'/><text class='i' x='5.5' y='9'>B</text></g><text x='16' y='9'>broadcast</text></g>\n"
-
-unfoldable pub more_marks_text : List ℕ
-more_marks_text = codes "<g transform='translate(44 22)'><g id='P'><rect class='b' width='11' height='11' rx='2'/><text class='i' x='5.5' y='9'>P</text></g><text x='16' y='9'>p</text></g>\n" ++ codes "<g transform='translate(244 22)'><g id='V'><rect class='b' width='11' height='11' rx='2'/><text class='i' x='5.5' y='9'>V</text></g><text x='16' y='9'>v</text></g>\n" ++ codes "<g transform='translate(444 22)'><g id='L'><rect class='v' width='11' height='11' rx='2'/><text class='i' x='5.5' y='9'>!</text></g><text x='16' y='9'>alert</text></g>\n" ++ codes "<g transform='translate(644 22)'><g id='T'><rect class='v' width='11' height='11' rx='2'/><text class='i' x='5.5' y='9'>?</text></g><text x='16' y='9'>test-alert</text></g>\n" ++ codes "<g transform='translate(844 22)'><g id='w'><rect class='k' width='11' height='11' rx='2'/><text class='i' x='5.5' y='9'>w</text></g><text x='16' y='9'>alert-enqueue</text></g>\n" ++ codes "<g transform='translate(1044 22)'><g id='c'><rect class='k' width='11' height='11' rx='2'/><text class='i' x='5.5' y='9'>c</text></g><text x='16' y='9'>alert-resume returns</text></g>\n"
-
-unfoldable pub last_marks_text : List ℕ
-last_marks_text = codes "<g transform='translate(44 38)'><g id='x'><rect class='v' width='11' height='11' rx='2'/><text class='i' x='5.5' y='9'>x</text></g><text x='16' y='9'>alert-resume raises</text></g>\n" ++ codes "<g transform='translate(244 38)'><g id='p'><rect class='b' width='11' height='11' rx='2'/><text class='i' x='5.5' y='9'>p</text></g><text x='16' y='9'>alert-p returns</text></g>\n" ++ codes "<g transform='translate(444 38)'><g id='y'><rect class='v' width='11' height='11' rx='2'/><text class='i' x='5.5' y='9'>y</text></g><text x='16' y='9'>alert-p raises</text></g>\n" ++ codes "<g transform='translate(644 38)'><g id='F'><rect class='f' width='11' height='11' rx='2'/><text class='i' x='5.5' y='9'>#</text></g><text x='16' y='9'>event that fails</text></g>\n" ++ codes "<rect class='h' x='844' y='39' width='22' height='9'/><text x='871' y='47'>waits</text><text x='914' y='47'>coloured: holds a mutex</text>\n" ++ codes "<path class='a' d='M1044 43H1066'/><text x='1071' y='47'>lets another thread go on</text>\n"
+-- what is no mark: a wait, a bar and an arrow
+unfoldable pub other_words : List ℕ
+other_words =
+    codes "<rect class='h' x='844' y='39' width='22' height='9'/><text x='871' y='47'>waits</text><text x='914' y='47'>coloured: holds a mutex</text>\n"
+    ++ codes "<path class='a' d='M1044 43H1066'/><text x='1071' y='47'>lets another thread go on</text>\n"
 
 -- the first tag, the colours, what each mark and each colour means
 unfoldable pub head_text : Layout → List ℕ
-head_text l = style_text ++ pattern_text ++ (marks_text ++ more_marks_text ++ last_marks_text) ++ each_below swatch_text l.mutexes
+head_text l = style_text ++ pattern_text ++ (each_below entry_at 16 ++ other_words) ++ each_below swatch_text l.mutexes
 
 -- what events add behind this past, in order
 unfoldable pub steps_text : Layout → View → List Event → List Event → List ℕ

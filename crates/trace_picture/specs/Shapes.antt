@@ -6,6 +6,7 @@ use Rattle.larch_actions.specs.declared.event.Broken.TheVariants as broken
 use Rattle.trace_core.specs.Text.{action_text}
 use Rattle.trace_picture.specs.declared.history.Origin.{Origin}
 use Rattle.trace_picture.specs.declared.view.View.{View}
+use Rattle.trace_picture.specs.Looks.{look_of}
 use Rattle.trace_picture.specs.Marks.{marks}
 use Rattle.trace_picture.specs.Places.{column, column_x, row_y, bar_from}
 
@@ -39,7 +40,7 @@ box_text x y width = place_text x y ++ with_number (codes "' width='") width
 -- the mark of an event: its letter, and its line as the title
 unfoldable pub mark_text : View → ℕ → Event → List ℕ
 mark_text v n e =
-    (codes "<use href='#" ++ (marks e).letter ∷ []) ++ place_text (column_x (column v n)) (row_y e.thread.0) ++ (codes "'><title>" ++ line_of n e) ++ codes "</title></use>\n"
+    (codes "<use href='#" ++ (look_of (marks e).mark).letter ∷ []) ++ place_text (column_x (column v n)) (row_y e.thread.0) ++ (codes "'><title>" ++ line_of n e) ++ codes "</title></use>\n"
 
 -- the mark of an event that fails, with its line and what it fails
 unfoldable pub failed_text : View → ℕ → Event → Broken → List ℕ

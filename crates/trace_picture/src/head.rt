@@ -2,8 +2,10 @@
 ghost use Rattle.std.specs.Prelude.{◌≡◌, ◌+◌, ◌*◌, ◌≤◌, ◌++◌, length, take, codes};
 ghost use Rattle.larch_actions.specs.Layout.{IsLawful};
 ghost use Rattle.trace_picture.specs.Shapes.{each_below, swatch_text};
-ghost use Rattle.trace_picture.specs.Picture.{style_text, pattern_text, marks_text, more_marks_text, last_marks_text, head_text};
+ghost use Rattle.trace_picture.specs.Legend.{entry_at};
+ghost use Rattle.trace_picture.specs.Picture.{style_text, pattern_text, other_words, head_text};
 
+use crate::legend::add_entries;
 use crate::shapes::add_swatch;
 use larch_actions::Layout;
 use trace_core::add;
@@ -62,111 +64,13 @@ fn add_pattern(buf: &mut [u8], at: usize) -> usize
     add(buf, at, b"<rect width='100%' height='100%' fill='#fff'/>\n")
 }
 
-// Adds the first marks of the legend.
-#[tactic(auto, unfolding(crate::specs::Picture::marks_text))]
-fn add_marks(buf: &mut [u8], at: usize) -> usize
-    requires { at + 2000 ≤ length buf.old }
-    ensures text { take result buf.new ≡ take at buf.old ++ marks_text }
-    ensures near { result ≤ at + 2000 }
+// Adds what is no mark: a wait, a bar and an arrow.
+#[tactic(auto, unfolding(crate::specs::Picture::other_words))]
+fn add_other_words(buf: &mut [u8], at: usize) -> usize
+    requires { at + 500 ≤ length buf.old }
+    ensures text { take result buf.new ≡ take at buf.old ++ other_words }
+    ensures near { result ≤ at + 500 }
 {
-    let at = add(
-        buf,
-        at,
-        b"<g transform='translate(44 6)'><g id='A'><rect class='o' width='11' height='11' rx='2'/><text class='i' x='5.5' y='9'>A</text></g><text x='16' y='9'>acquire</text></g>\n",
-    );
-    let at = add(
-        buf,
-        at,
-        b"<g transform='translate(244 6)'><g id='R'><rect class='o' width='11' height='11' rx='2'/><text class='i' x='5.5' y='9'>R</text></g><text x='16' y='9'>release</text></g>\n",
-    );
-    let at = add(
-        buf,
-        at,
-        b"<g transform='translate(444 6)'><g id='W'><rect class='k' width='11' height='11' rx='2'/><text class='i' x='5.5' y='9'>W</text></g><text x='16' y='9'>enqueue</text></g>\n",
-    );
-    let at = add(
-        buf,
-        at,
-        b"<g transform='translate(644 6)'><g id='C'><rect class='k' width='11' height='11' rx='2'/><text class='i' x='5.5' y='9'>C</text></g><text x='16' y='9'>resume</text></g>\n",
-    );
-    let at = add(
-        buf,
-        at,
-        b"<g transform='translate(844 6)'><g id='S'><rect class='g' width='11' height='11' rx='2'/><text class='i' x='5.5' y='9'>S</text></g><text x='16' y='9'>signal</text></g>\n",
-    );
-    add(
-        buf,
-        at,
-        b"<g transform='translate(1044 6)'><g id='B'><rect class='g' width='11' height='11' rx='2'/><text class='i' x='5.5' y='9'>B</text></g><text x='16' y='9'>broadcast</text></g>\n",
-    )
-}
-
-// Adds more marks of the legend.
-#[tactic(auto, unfolding(crate::specs::Picture::more_marks_text))]
-fn add_more_marks(buf: &mut [u8], at: usize) -> usize
-    requires { at + 2000 ≤ length buf.old }
-    ensures text { take result buf.new ≡ take at buf.old ++ more_marks_text }
-    ensures near { result ≤ at + 2000 }
-{
-    let at = add(
-        buf,
-        at,
-        b"<g transform='translate(44 22)'><g id='P'><rect class='b' width='11' height='11' rx='2'/><text class='i' x='5.5' y='9'>P</text></g><text x='16' y='9'>p</text></g>\n",
-    );
-    let at = add(
-        buf,
-        at,
-        b"<g transform='translate(244 22)'><g id='V'><rect class='b' width='11' height='11' rx='2'/><text class='i' x='5.5' y='9'>V</text></g><text x='16' y='9'>v</text></g>\n",
-    );
-    let at = add(
-        buf,
-        at,
-        b"<g transform='translate(444 22)'><g id='L'><rect class='v' width='11' height='11' rx='2'/><text class='i' x='5.5' y='9'>!</text></g><text x='16' y='9'>alert</text></g>\n",
-    );
-    let at = add(
-        buf,
-        at,
-        b"<g transform='translate(644 22)'><g id='T'><rect class='v' width='11' height='11' rx='2'/><text class='i' x='5.5' y='9'>?</text></g><text x='16' y='9'>test-alert</text></g>\n",
-    );
-    let at = add(
-        buf,
-        at,
-        b"<g transform='translate(844 22)'><g id='w'><rect class='k' width='11' height='11' rx='2'/><text class='i' x='5.5' y='9'>w</text></g><text x='16' y='9'>alert-enqueue</text></g>\n",
-    );
-    add(
-        buf,
-        at,
-        b"<g transform='translate(1044 22)'><g id='c'><rect class='k' width='11' height='11' rx='2'/><text class='i' x='5.5' y='9'>c</text></g><text x='16' y='9'>alert-resume returns</text></g>\n",
-    )
-}
-
-// Adds the last marks of the legend.
-#[tactic(auto, unfolding(crate::specs::Picture::last_marks_text))]
-fn add_last_marks(buf: &mut [u8], at: usize) -> usize
-    requires { at + 2000 ≤ length buf.old }
-    ensures text { take result buf.new ≡ take at buf.old ++ last_marks_text }
-    ensures near { result ≤ at + 2000 }
-{
-    let at = add(
-        buf,
-        at,
-        b"<g transform='translate(44 38)'><g id='x'><rect class='v' width='11' height='11' rx='2'/><text class='i' x='5.5' y='9'>x</text></g><text x='16' y='9'>alert-resume raises</text></g>\n",
-    );
-    let at = add(
-        buf,
-        at,
-        b"<g transform='translate(244 38)'><g id='p'><rect class='b' width='11' height='11' rx='2'/><text class='i' x='5.5' y='9'>p</text></g><text x='16' y='9'>alert-p returns</text></g>\n",
-    );
-    let at = add(
-        buf,
-        at,
-        b"<g transform='translate(444 38)'><g id='y'><rect class='v' width='11' height='11' rx='2'/><text class='i' x='5.5' y='9'>y</text></g><text x='16' y='9'>alert-p raises</text></g>\n",
-    );
-    let at = add(
-        buf,
-        at,
-        b"<g transform='translate(644 38)'><g id='F'><rect class='f' width='11' height='11' rx='2'/><text class='i' x='5.5' y='9'>#</text></g><text x='16' y='9'>event that fails</text></g>\n",
-    );
     let at = add(
         buf,
         at,
@@ -192,15 +96,14 @@ fn add_swatches(buf: &mut [u8], at: usize, mutexes: u32) -> usize
     last
 }
 
-// Adds the marks of the legend.
-fn add_all_marks(buf: &mut [u8], at: usize) -> usize
+// Adds the legend.
+fn add_legend(buf: &mut [u8], at: usize) -> usize
     requires { at + 6000 ≤ length buf.old }
-    ensures text { take result buf.new ≡ take at buf.old ++ (marks_text ++ more_marks_text ++ last_marks_text) }
+    ensures text { take result buf.new ≡ take at buf.old ++ (each_below entry_at 16 ++ other_words) }
     ensures near { result ≤ at + 6000 }
 {
-    let at = add_marks(buf, at);
-    let at = add_more_marks(buf, at);
-    add_last_marks(buf, at)
+    let at = add_entries(buf, at);
+    add_other_words(buf, at)
 }
 
 /// Adds the head.
@@ -213,6 +116,6 @@ pub fn add_head(buf: &mut [u8], at: usize, layout: &Layout) -> usize
 {
     let at = add_style(buf, at);
     let at = add_pattern(buf, at);
-    let at = add_all_marks(buf, at);
+    let at = add_legend(buf, at);
     add_swatches(buf, at, layout.mutexes)
 }

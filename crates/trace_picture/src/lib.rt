@@ -15,6 +15,7 @@ mod endings;
 mod head;
 pub mod history;
 pub mod laws;
+mod legend;
 mod marks;
 pub mod shapes;
 pub mod tags;

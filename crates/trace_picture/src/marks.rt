@@ -7,13 +7,14 @@ ghost use Rattle.trace_picture.specs.Marks.{plain, begun, ended, raised, semapho
 use crate::board::Waker;
 use crate::causes::Move;
 use crate::history::Turn;
+use crate::legend::Mark;
 use larch_actions::{Action, CondId, MutexId, SemId, ThreadId, ThreadSet};
 
 /// What an action shows and does.
 #[derive(Clone, Copy)]
 pub struct Marks {
     /// Which mark it has.
-    pub letter: u8,
+    pub mark: Mark,
     /// Which mutex it takes or gives back.
     pub mutex: Turn,
     /// Whether it begins or ends a wait of its thread.
@@ -30,11 +31,11 @@ pub struct Marks {
 
 // A mark, and nothing done.
 #[inline(always)]
-fn plain(letter: u8) -> Marks
-    ensures { result ≡ plain letter }
+fn plain(mark: Mark) -> Marks
+    ensures { result ≡ plain mark }
 {
     Marks {
-        letter,
+        mark,
         mutex: Turn::Stays,
         wait: Turn::Stays,
         stand: Move::Stays,
@@ -46,35 +47,35 @@ fn plain(letter: u8) -> Marks
 
 // The first part of a wait.
 #[inline(always)]
-fn begun(letter: u8, t: ThreadId, held: MutexId, cond: CondId) -> Marks
-    ensures { result ≡ begun letter t.0 held.0 cond.0 }
+fn begun(mark: Mark, t: ThreadId, held: MutexId, cond: CondId) -> Marks
+    ensures { result ≡ begun mark t.0 held.0 cond.0 }
 {
     Marks {
         mutex: Turn::Ends(held.0),
         wait: Turn::Begins(t.0),
         stand: Move::Awaits(t.0, cond.0),
-        ..plain(letter)
+        ..plain(mark)
     }
 }
 
 // The second part of a wait that returns.
 #[inline(always)]
-fn ended(letter: u8, t: ThreadId, mutex: MutexId) -> Marks
-    ensures { result ≡ ended letter t.0 mutex.0 }
+fn ended(mark: Mark, t: ThreadId, mutex: MutexId) -> Marks
+    ensures { result ≡ ended mark t.0 mutex.0 }
 {
     Marks {
         mutex: Turn::Begins(mutex.0),
         wait: Turn::Ends(t.0),
         stand: Move::Ends(t.0),
         waker: Waker::Condition(t.0),
-        ..plain(letter)
+        ..plain(mark)
     }
 }
 
 // The second part of a wait that raises.
 #[inline(always)]
-fn raised(letter: u8, t: ThreadId, mutex: MutexId) -> Marks
-    ensures { result ≡ raised letter t.0 mutex.0 }
+fn raised(mark: Mark, t: ThreadId, mutex: MutexId) -> Marks
+    ensures { result ≡ raised mark t.0 mutex.0 }
 {
     Marks {
         mutex: Turn::Begins(mutex.0),
@@ -82,31 +83,31 @@ fn raised(letter: u8, t: ThreadId, mutex: MutexId) -> Marks
         stand: Move::Ends(t.0),
         alert: Move::Ends(t.0),
         waker: Waker::Alarm(t.0),
-        ..plain(letter)
+        ..plain(mark)
     }
 }
 
 // A semaphore is taken.
 #[inline(always)]
-fn taken(letter: u8, sem: SemId) -> Marks
-    ensures { result ≡ semaphore_taken letter sem.0 }
+fn taken(mark: Mark, sem: SemId) -> Marks
+    ensures { result ≡ semaphore_taken mark sem.0 }
 {
     Marks {
         avail: Move::Awaits(sem.0, sem.0),
         waker: Waker::Semaphore(sem.0),
-        ..plain(letter)
+        ..plain(mark)
     }
 }
 
 // The own alert is taken.
 #[inline(always)]
-fn heard(letter: u8, t: ThreadId) -> Marks
-    ensures { result ≡ heard letter t.0 }
+fn heard(mark: Mark, t: ThreadId) -> Marks
+    ensures { result ≡ heard mark t.0 }
 {
     Marks {
         alert: Move::Ends(t.0),
         waker: Waker::Alarm(t.0),
-        ..plain(letter)
+        ..plain(mark)
     }
 }
 
@@ -118,36 +119,36 @@ pub fn marks_of(t: ThreadId, action: &Action) -> Marks
     match *action {
         Action::Acquire { mutex } => Marks {
             mutex: Turn::Begins(mutex.0),
-            ..plain(b'A')
+            ..plain(Mark::Acquire)
         },
         Action::Release { mutex } => Marks {
             mutex: Turn::Ends(mutex.0),
-            ..plain(b'R')
+            ..plain(Mark::Release)
         },
-        Action::Enqueue { mutex, cond } => begun(b'W', t, mutex, cond),
-        Action::Resume { mutex, cond: _ } => ended(b'C', t, mutex),
-        Action::AlertEnqueue { mutex, cond } => begun(b'w', t, mutex, cond),
-        Action::AlertReturn { mutex, cond: _ } => ended(b'c', t, mutex),
-        Action::AlertRaise { mutex, cond: _ } => raised(b'x', t, mutex),
+        Action::Enqueue { mutex, cond } => begun(Mark::Enqueue, t, mutex, cond),
+        Action::Resume { mutex, cond: _ } => ended(Mark::Resume, t, mutex),
+        Action::AlertEnqueue { mutex, cond } => begun(Mark::AlertEnqueue, t, mutex, cond),
+        Action::AlertReturn { mutex, cond: _ } => ended(Mark::AlertReturn, t, mutex),
+        Action::AlertRaise { mutex, cond: _ } => raised(Mark::AlertRaise, t, mutex),
         Action::Signal { cond, left } => Marks {
             stand: Move::Frees(cond.0, left),
-            ..plain(b'S')
+            ..plain(Mark::Signal)
         },
         Action::Broadcast { cond } => Marks {
             stand: Move::Frees(cond.0, ThreadSet::empty()),
-            ..plain(b'B')
+            ..plain(Mark::Broadcast)
         },
-        Action::P { sem } => taken(b'P', sem),
+        Action::P { sem } => taken(Mark::P, sem),
         Action::V { sem } => Marks {
             avail: Move::Opens(sem.0),
-            ..plain(b'V')
+            ..plain(Mark::V)
         },
         Action::Alert { who } => Marks {
             alert: Move::Comes(who.0),
-            ..plain(b'L')
+            ..plain(Mark::Alert)
         },
-        Action::TestAlert { yes: _ } => heard(b'T', t),
-        Action::AlertPReturn { sem } => taken(b'p', sem),
-        Action::AlertPRaise { sem: _ } => heard(b'y', t),
+        Action::TestAlert { yes: _ } => heard(Mark::TestAlert, t),
+        Action::AlertPReturn { sem } => taken(Mark::AlertPReturn, sem),
+        Action::AlertPRaise { sem: _ } => heard(Mark::AlertPRaise, t),
     }
 }

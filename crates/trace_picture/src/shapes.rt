@@ -1,5 +1,6 @@
 //! Marks, bars, rows and the legend, written into a buffer behind its first `at` bytes. Each call says where it ended.
 ghost use Rattle.std.specs.Prelude.{◌≡◌, ◌+◌, ◌<◌, ◌≤◌, ◌^◌, ◌++◌, ◌∷◌, [], length, take, codes};
+ghost use Rattle.trace_picture.specs.Looks.{look_of};
 ghost use Rattle.trace_picture.specs.Marks.{marks};
 ghost use Rattle.trace_picture.specs.Places.{bar_from, column, column_x, row_y};
 ghost use Rattle.trace_picture.specs.Shapes.{with_number, line_of, place_text, clause_word, mark_text, failed_text, end_words, span_text, bar_text, wait_text, row_text, number_text, swatch_text};
@@ -43,12 +44,13 @@ pub fn word_of(why: Broken) -> &'static [u8]
 // Adds the start of a mark.
 fn add_use(buf: &mut [u8], at: usize, e: &Event) -> usize
     requires { at + 20 ≤ length buf.old }
-    ensures text { take result buf.new ≡ take at buf.old ++ (codes "<use href='#" ++ (marks e.now).letter ∷ []) }
+    ensures text { take result buf.new ≡ take at buf.old ++ (codes "<use href='#" ++ (look_of (marks e.now).mark).letter ∷ []) }
     ensures near { result ≤ at + 20 }
 {
     let at = add(buf, at, b"<use href='#");
     let marks = marks_of(e.thread, &e.action);
-    add(buf, at, &[marks.letter])
+    let look = marks.mark.look();
+    add(buf, at, &[look.letter])
 }
 
 // Adds the line of an event as a title.

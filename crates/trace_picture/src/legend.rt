@@ -1,0 +1,203 @@
+//! The marks of events, and the legend that says what each means.
+//!
+//! A further mark is a variant and a row in each function here and in specs/Looks.antt.
+ghost use Rattle.std.specs.Prelude.{◌≡◌, ◌+◌, ◌*◌, ◌<◌, ◌≤◌, ◌∷◌, [], ◌++◌, length, take, codes};
+ghost use Rattle.trace_picture.specs.Shapes.{each_below};
+ghost use Rattle.trace_picture.specs.Looks.{look, look_of, words_of};
+ghost use Rattle.trace_picture.specs.Legend.{place_in_legend, shape_text, words_text, entry_text, entry_at};
+
+use crate::tags::add_with_number;
+use trace_core::add;
+
+/// The mark of an event.
+#[derive(Clone, Copy)]
+pub enum Mark {
+    Acquire,
+    Release,
+    Enqueue,
+    Resume,
+    Signal,
+    Broadcast,
+    P,
+    V,
+    Alert,
+    TestAlert,
+    AlertEnqueue,
+    AlertReturn,
+    AlertRaise,
+    AlertPReturn,
+    AlertPRaise,
+    /// Of an event that fails.
+    Failed,
+}
+
+/// How a mark is called, its class, and how it is shown.
+#[derive(Clone, Copy)]
+pub struct Look {
+    pub letter: u8,
+    pub class: u8,
+    pub shown: u8,
+}
+
+// All marks, in the order of the legend.
+const MARKS: [Mark; 16] = [
+    Mark::Acquire,
+    Mark::Release,
+    Mark::Enqueue,
+    Mark::Resume,
+    Mark::Signal,
+    Mark::Broadcast,
+    Mark::P,
+    Mark::V,
+    Mark::Alert,
+    Mark::TestAlert,
+    Mark::AlertEnqueue,
+    Mark::AlertReturn,
+    Mark::AlertRaise,
+    Mark::AlertPReturn,
+    Mark::AlertPRaise,
+    Mark::Failed,
+];
+
+#[inline(always)]
+fn looks(letter: u8, class: u8, shown: u8) -> Look
+    ensures { result ≡ look letter class shown }
+{
+    Look {
+        letter,
+        class,
+        shown,
+    }
+}
+
+impl Mark {
+    /// How it looks.
+    #[inline(always)]
+    pub fn look(self) -> Look
+        ensures { result ≡ look_of self }
+    {
+        match self {
+            Mark::Acquire => looks(b'A', b'o', b'A'),
+            Mark::Release => looks(b'R', b'o', b'R'),
+            Mark::Enqueue => looks(b'W', b'k', b'W'),
+            Mark::Resume => looks(b'C', b'k', b'C'),
+            Mark::Signal => looks(b'S', b'g', b'S'),
+            Mark::Broadcast => looks(b'B', b'g', b'B'),
+            Mark::P => looks(b'P', b'b', b'P'),
+            Mark::V => looks(b'V', b'b', b'V'),
+            Mark::Alert => looks(b'L', b'v', b'!'),
+            Mark::TestAlert => looks(b'T', b'v', b'?'),
+            Mark::AlertEnqueue => looks(b'w', b'k', b'w'),
+            Mark::AlertReturn => looks(b'c', b'k', b'c'),
+            Mark::AlertRaise => looks(b'x', b'v', b'x'),
+            Mark::AlertPReturn => looks(b'p', b'b', b'p'),
+            Mark::AlertPRaise => looks(b'y', b'v', b'y'),
+            Mark::Failed => looks(b'F', b'f', b'#'),
+        }
+    }
+
+    // What it is the mark of.
+    fn words(self) -> &'static [u8]
+        ensures words { result.now ≡ words_of self }
+        ensures short { length result.now ≤ 20 }
+    {
+        match self {
+            Mark::Acquire => b"acquire",
+            Mark::Release => b"release",
+            Mark::Enqueue => b"enqueue",
+            Mark::Resume => b"resume",
+            Mark::Signal => b"signal",
+            Mark::Broadcast => b"broadcast",
+            Mark::P => b"p",
+            Mark::V => b"v",
+            Mark::Alert => b"alert",
+            Mark::TestAlert => b"test-alert",
+            Mark::AlertEnqueue => b"alert-enqueue",
+            Mark::AlertReturn => b"alert-resume returns",
+            Mark::AlertRaise => b"alert-resume raises",
+            Mark::AlertPReturn => b"alert-p returns",
+            Mark::AlertPRaise => b"alert-p raises",
+            Mark::Failed => b"event that fails",
+        }
+    }
+}
+
+// Adds where the entry at this place of the legend stands.
+#[tactic(auto, unfolding(crate::specs::Legend::place_in_legend))]
+fn add_place_in_legend(buf: &mut [u8], at: usize, place: u64) -> usize
+    requires few { place < 16 }
+    requires room { at + 100 ≤ length buf.old }
+    ensures text { take result buf.new ≡ take at buf.old ++ place_in_legend place }
+    ensures near { result ≤ at + 100 }
+{
+    let at = add_with_number(buf, at, b"<g transform='translate(", 44 + 200 * (place % 6));
+    let at = add_with_number(buf, at, b" ", 6 + 16 * (place / 6));
+    add(buf, at, b")'>")
+}
+
+// Adds a text and a byte.
+fn add_with_byte(buf: &mut [u8], at: usize, text: &[u8], byte: u8) -> usize
+    requires { at + length text.now + 1 ≤ length buf.old }
+    ensures text { take result buf.new ≡ take at buf.old ++ (text.now ++ byte ∷ []) }
+    ensures near { result ≤ at + length text.now + 1 }
+{
+    let at = add(buf, at, text);
+    add(buf, at, &[byte])
+}
+
+// Adds a mark as it is drawn.
+#[tactic(auto, unfolding(crate::specs::Legend::shape_text))]
+fn add_shape(buf: &mut [u8], at: usize, look: &Look) -> usize
+    requires { at + 120 ≤ length buf.old }
+    ensures text { take result buf.new ≡ take at buf.old ++ shape_text look.now }
+    ensures near { result ≤ at + 120 }
+{
+    let at = add_with_byte(buf, at, b"<g id='", look.letter);
+    let at = add_with_byte(buf, at, b"'><rect class='", look.class);
+    let at = add_with_byte(
+        buf,
+        at,
+        b"' width='11' height='11' rx='2'/><text class='i' x='5.5' y='9'>",
+        look.shown,
+    );
+    add(buf, at, b"</text></g>")
+}
+
+// Adds what the mark is the mark of.
+#[tactic(auto, unfolding(crate::specs::Legend::words_text))]
+fn add_words(buf: &mut [u8], at: usize, mark: Mark) -> usize
+    requires { at + 60 ≤ length buf.old }
+    ensures text { take result buf.new ≡ take at buf.old ++ words_text mark }
+    ensures near { result ≤ at + 60 }
+{
+    let at = add(buf, at, b"<text x='16' y='9'>");
+    let at = add(buf, at, mark.words());
+    add(buf, at, b"</text></g>\n")
+}
+
+// Adds the entry of the mark at this place of the legend.
+#[tactic(auto, unfolding(crate::specs::Legend::entry_text))]
+fn add_entry(buf: &mut [u8], at: usize, place: u64, mark: Mark) -> usize
+    requires few { place < 16 }
+    requires room { at + 280 ≤ length buf.old }
+    ensures text { take result buf.new ≡ take at buf.old ++ entry_text place mark }
+    ensures near { result ≤ at + 280 }
+{
+    let at = add_place_in_legend(buf, at, place);
+    let at = add_shape(buf, at, &mark.look());
+    add_words(buf, at, mark)
+}
+
+/// Adds the entries of all marks.
+pub fn add_entries(buf: &mut [u8], at: usize) -> usize
+    requires { at + 4480 ≤ length buf.old }
+    ensures text { take result buf.new ≡ take at buf.old ++ each_below entry_at 16 }
+    ensures near { result ≤ at + 4480 }
+{
+    let mut last = at;
+    for place in 0..16 {
+        let mark = MARKS[place as usize];
+        last = add_entry(buf, last, place, mark);
+    }
+    last
+}
