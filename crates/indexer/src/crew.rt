@@ -96,6 +96,8 @@ pub fn run_workers<R: Threads + Wait + Sync, S: Tree, G: Gate>(
         drop(caller);
         return Err(AllocError);
     };
-    let (jobs, findings, caller) = run_jobs(rt, alloc, p, caller, jobs, root, walkers, starts, gate)?;
+    let (jobs, findings, caller) = run_jobs(
+        rt, alloc, p, caller, jobs, root, walkers, starts, gate,
+    )?;
     Ok((put_back(caller, jobs, trees, with_tree, room), findings))
 }

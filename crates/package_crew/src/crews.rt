@@ -59,7 +59,14 @@ pub fn at_once<T: Send + Drop, X: Send + Drop, R: Threads + Wait, F: Fn(T) -> (T
     ensures each { IfOk result (λ r. Each (λ n t. CameBack (λ was left. F.post f.now was (t, left)) threads.items r.1.items n) r.0.items) }
 {
     let starts = threads.len();
-    let (threads, results, ()) = at_once_beside(rt, alloc, threads, starts, f, |_refused: bool| {})?;
+    let (threads, results, ()) = at_once_beside(
+        rt,
+        alloc,
+        threads,
+        starts,
+        f,
+        |_refused: bool| {},
+    )?;
     Ok((threads, results))
 }
 

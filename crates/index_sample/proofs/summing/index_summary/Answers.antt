@@ -46,5 +46,5 @@ returns g c =
     let a = subst (AreSamples c.args.seed c.args.files) (sym c.as_mut_slice.ensures.value) c.in_ok-trees.ensures in
     IfOk-then c.summed.result
     (summary_of c.args.seed c.args.files the_plan c.as_mut_slice.result.now a c.index-answer.result
-      (c.index-answer.ensures.says (Some a.tree) (λ k s e. ap (λ (t : Told). Some t) (tree_at a.tree c.as_mut_slice.result.now a.each k s e).0)))
+    (c.index-answer.ensures.says (Some a.tree) (λ k s e. ap (λ (t : Told). Some t) (tree_at a.tree c.as_mut_slice.result.now a.each k s e).0)))
     c.summed.ensures
