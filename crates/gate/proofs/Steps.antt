@@ -12,7 +12,7 @@ use Rattle.nub_rule.specs.declared.view.Pen.{Pen}
 use Rattle.nub_rule.specs.declared.view.Pen.TheVariants.{No, Read}
 use Rattle.nub_rule.specs.declared.view.Stand.{Stand}
 use Rattle.nub_rule.specs.declared.view.Wait.{Wait}
-use Rattle.nub_rule.specs.Known.{Holds, IsIn, Known, Makes, learnt, recorded}
+use Rattle.nub_rule.specs.Known.{Known, Makes, learnt, recorded}
 use Rattle.nub.specs.Rest.{IsOutside}
 use Rattle.gate.specs.Gates.{IsTaken}
 
