@@ -1,4 +1,5 @@
-//! Signal and Broadcast. Where nobody has begun to wait, a look is all. Else the count is advanced, and who was taken out of the condition is woken.
+//! Signal and Broadcast. Where nobody has begun to wait, a look is all. Else the count is advanced, and who was taken out of the condition is
+//! woken.
 ghost use Rattle.std.specs.Prelude.{◌≡◌, ◌<◌, List, ℕ, [], Some, None, true, false};
 ghost use Rattle.larch_actions.specs.Sets.{without};
 ghost use Rattle.nub_rule.specs.Items.{Small};

@@ -1,4 +1,3 @@
-use Rattle.std.proofs.Common.{◌≡◌}
 use Rattle.nub_rule.specs.Parts.{left_turns}
 use Rattle.nub_rule.specs.Places.{sem_object}
 use Rattle.nub_rule.specs.Plays.{less}

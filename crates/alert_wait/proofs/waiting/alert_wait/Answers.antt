@@ -8,7 +8,7 @@ use Rattle.nub_rule.specs.Places.{cond_object}
 use Rattle.nub_rule.specs.Plays.{begun_wait, enqueue_event, opened}
 use Rattle.std.specs.Prelude.{Option as Opt}
 use Rattle.alert_wait.specs.Outcomes.{wait_end}
-use Rattle.alert_wait.proofs.Waits.{Waited, adds, held_then, rests, same}
+use Rattle.alert_wait.proofs.Waits.{Waited, adds, rests, same}
 use Rattle.alert_wait.proofs.waiting.alert_wait.Goals as goal
 
 same_value : {T : Type 0} (x y : T) → (let a : Opt (Opt T) = Some (Some x) in some a) ≡ some (Some (Some y)) → x ≡ y
