@@ -3,7 +3,8 @@
 //!
 //! Promises: `draw_trace` checks the trace as `trace_check` does, and the sink gets exactly the picture that specs/Picture.antt defines.
 //! Stands on the reader and the printer of trace_core and the state of larch_actions. It takes no memory, and keeps of the events
-//! only since when each mutex is held and each thread waits, and which let each thread go on. How the picture looks is no promise.
+//! only since when each mutex is held and each thread waits, and which let each thread go on (`board`, on which explanations stand too).
+//! How the picture looks is no promise.
 #![tactic(auto)]
 
 mod arrows;
