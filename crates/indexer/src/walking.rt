@@ -8,7 +8,7 @@ ghost use Rattle.indexer.specs.Walks.{HasDone, fault_of};
 
 use crate::ending::cancel;
 use crate::files::{put_files, shut_files};
-use crate::turns::{finish_dir, next_dir, put_dirs, shut_dirs};
+use crate::turns::{finish_dir, next_dir, shut_dirs};
 use crate::uses::IndexUses;
 use alerts::test_alert;
 use firefly_outside::{Text, Tree, TreeError};
@@ -42,9 +42,8 @@ fn list_one<S: Tree>(
     }
 }
 
-// Puts what was found in a directory where others take it, and ends the work on the directory. The directories come first, and with them all
-// is counted: where more was found than may be none of the files is put, and all workers are to end. It answers whether the thread is to go
-// on: it is unless that came or it was alerted.
+// Puts what was found in a directory where others take it, and ends the work on the directory. It answers whether the thread is to go on:
+// it is unless it was alerted, or more was found than may be; then all workers are to end.
 fn give_found<R: Wait>(
     rt: &R,
     p: &Package<IndexUses>,
@@ -57,14 +56,13 @@ fn give_found<R: Wait>(
     ensures { (o : Option Told) (root : Path) (m : ℕ) → HasCalled o root [] p.now m 0 me.old me.new }
 {
     let many = files.len();
-    if !put_dirs(rt, p, me, dirs, many) {
-        cancel(rt, p, me);
-        return false;
-    }
     if !put_files(rt, p, me, files) {
         return false;
     }
-    finish_dir(rt, p, me);
+    if !finish_dir(rt, p, me, dirs, many) {
+        cancel(rt, p, me);
+        return false;
+    }
     !test_alert(rt, p, me)
 }
 

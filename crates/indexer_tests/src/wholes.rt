@@ -51,8 +51,6 @@ fn a_run_stops_at_one_file_too_many(rt: HostRuntime) -> Result<(), Fail> {
         let plan = stopping_plan(most);
         let seen = seen_of(&rt, rt.alloc(), &tree, &plan, &[], &NoGate, "")?;
         assert_eq!(rt; seen.stop, Some(most + 1));
-        // What a listing has too much is counted before a file of it is put for a parser.
-        assert!(rt; most > 0 || seen.reads == 0);
     }
     Ok(())
 }
