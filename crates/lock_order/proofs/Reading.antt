@@ -1,5 +1,5 @@
 -- What holds between two events of the search for the lock order.
-use Rattle.std.proofs.Common.{◌≡◌, ℕ, ◌+◌, ◌-◌, ◌^◌, ◌<◌, ◌≤◌, List, [], ◌∷◌, ◌++◌, length, refl, sym, subst, Some, None, arith, Bool, true, ◌≢◌}
+use Rattle.std.proofs.Common.{◌≡◌, ℕ, ◌+◌, ◌-◌, ◌^◌, ◌<◌, ◌≤◌, List, [], ◌∷◌, ◌++◌, length, refl, sym, subst, Some, None, arith, Bool, true}
 use Rattle.std.specs.declared.option.Option.{Option}
 use mathlib.Core.Option.{some, some-injective, some-ne-none}
 use Rattle.larch_actions.specs.declared.event.Layout.{Layout}
