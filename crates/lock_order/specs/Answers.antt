@@ -4,8 +4,6 @@ use Rattle.std.specs.declared.option.Option.{Option}
 use Rattle.larch_actions.specs.declared.event.Layout.{Layout}
 use Rattle.larch_actions.specs.declared.event.Event.{Event}
 use Rattle.larch_actions.specs.Actions.{IsLegal}
-use Rattle.trace_core.specs.declared.intake.TextFault.{TextFault}
-use Rattle.trace_core.specs.declared.intake.TextFault.TheVariants as fault
 use Rattle.trace_core.specs.Text.{MutexValue, ReadsAs}
 use Rattle.trace_check.specs.declared.checker.Verdict.TheVariants as verdict
 use Rattle.trace_check.specs.Verdicts.{IsJust}
@@ -13,12 +11,6 @@ use Rattle.lock_order.specs.declared.answer.Cycle.{Cycle}
 use Rattle.lock_order.specs.declared.answer.OrderAnswer.{OrderAnswer}
 use Rattle.lock_order.specs.declared.answer.OrderAnswer.TheVariants.{NoCycle, Found, Illegal, BadLine, TooLong, ReadFault}
 use Rattle.lock_order.specs.Order.{HasCycle, TellsCycle}
-
--- the answer on a text that can't be read
-abbrev pub refusal : TextFault → OrderAnswer
-refusal (fault.BadLine k) = BadLine k
-refusal fault.TooLong = TooLong
-refusal fault.Read = ReadFault
 
 -- The whole input is a trace text within the budget, and its events are legal.
 pub record IsLegalTrace (budget : ℕ) (bytes : List ℕ) (events : List Event) : Type 0 where

@@ -1,6 +1,7 @@
 -- What is kept of the events so far.
-use Rattle.std.specs.Prelude.{◌≡◌, ℕ, ◌+◌, ◌*◌, ◌<◌, ◌≤◌, ◌||◌, Bool, true, false, cond, eqb, List, length}
+use Rattle.std.specs.Prelude.{◌≡◌, ℕ, ◌+◌, ◌*◌, ◌<◌, ◌≤◌, ◌||◌, Bool, true, false, cond, eqb, List, length, IfSome}
 use mathlib.Core.Option.{Option, none, some}
+use Rattle.std.specs.declared.option.Option.{Option as Known}
 use Rattle.larch_actions.specs.declared.event.Event.{Event}
 use Rattle.larch_actions.specs.declared.event.Action.{Action}
 use Rattle.larch_actions.specs.declared.event.Action.TheVariants.{Release, Enqueue, AlertEnqueue}
@@ -11,6 +12,9 @@ use Rattle.lock_order.specs.declared.nestings.First.{First}
 use Rattle.lock_order.specs.declared.nestings.Nestings.{Nestings}
 use Rattle.lock_order.specs.Sets.{in_mutexes}
 use Rattle.lock_order.specs.Order.{got, Nests, HasCycle, TellsCycle}
+use Rattle.trace_check.specs.declared.checker.Verdict.{Verdict}
+use Rattle.trace_check.specs.declared.checker.Verdict.TheVariants.{Legal}
+use Rattle.lock_order.specs.Answers.{IsLegalTrace}
 use Rattle.lock_order.specs.declared.answer.OrderAnswer.{OrderAnswer}
 use Rattle.lock_order.specs.declared.answer.OrderAnswer.TheVariants.{NoCycle, Found}
 
@@ -91,3 +95,8 @@ abbrev pub IsOrderOf : List Event → OrderAnswer → Type 0
 IsOrderOf es (NoCycle count) = (count ≡ length es) × ¬ HasCycle es
 IsOrderOf es (Found cycle) = TellsCycle es cycle
 IsOrderOf es _ = ⊥
+
+-- of a legal trace it is kept what its events nest
+abbrev pub IsNoted : ℕ → Known (List ℕ) → Verdict → Nestings → Type 0
+IsNoted budget left (Legal s) k = (es : List Event) × (now : Spec) × IsKept es now k × (s.events ≡ length es) × IfSome left (λ bytes. IsLegalTrace budget bytes es)
+IsNoted budget left _ k = Unit {0}

@@ -13,4 +13,4 @@ mod nestings;
 mod order;
 
 pub use answer::{Cycle, Nested, OrderAnswer};
-pub use order::lock_order;
+pub use order::{check, lock_order};

@@ -1,64 +1,11 @@
-use Rattle.std.proofs.Common.{◌∙◌, refl, sym, arith}
-use Rattle.trace_check.proofs.UnderWay.{head_fault, fault_on, fails_on, few}
-use Rattle.trace_check.proofs.Fronts.{event_line_some}
-use Rattle.lock_order.proofs.Reading.{noting_starts, noting_goes, noting_ends, refused_just, has_place}
+use Rattle.std.proofs.Common.{refl}
+use Rattle.lock_order.proofs.Reading.{order_just}
 use Rattle.lock_order.proofs.order.order_all.Goals as goal
 
-pub loop-event-init : goal.loop-event-init
-loop-event-init g c = record {
-  noting = noting_starts _ _ _ _ _ _ c.in-Ok.layout c.new-state.result c.new-nestings.result refl refl c.requires.lines c.in-Ok.ensures.head c.head.ensures.later c.new-state.ensures.layout c.new-state.ensures.first c.new-nestings.ensures;
-  same_input = c.head.ensures.same_input;
-  unfailed = c.in-Ok.ensures.unfailed;
-  later = c.head.ensures.later;
-}
-
-pub note-requires : goal.note-requires
-note-requires g c =
-    let u = c.loop-event.invariant.noting.under_way in
-    let taken = rw c.in-Ok-Some.field-0-is at (c.in-Ok-Some.ensures.event u.phase) in
-    has_place _ _ u.lawful taken.names
-
-pub returns-in-Err-apply-clause-just : goal.returns-in-Err-apply-clause-just
-returns-in-Err-apply-clause-just g c =
-    let u = c.loop-event.invariant.noting.under_way in
-    let taken = rw c.in-Ok-Some.field-0-is at (c.in-Ok-Some.ensures.event u.phase) in
-    fails_on _ _ _ _ _ _ _ _ c.in-Ok-Some.event c.in-Err-apply.why u taken c.in-Err-apply.ensures.refused
-
-pub loop-event-smaller : goal.loop-event-smaller
-loop-event-smaller g c =
-    let u = c.loop-event.invariant.noting.under_way in
-    let taken = rw c.in-Ok-Some.field-0-is at (c.in-Ok-Some.ensures.event u.phase) in
-    omega (arith, taken.passes.room, event_line_some c.loop-event.reader.progress.place c.in-Ok-Some.event)
-
-pub loop-event-preserved : goal.loop-event-preserved
-loop-event-preserved g c =
-    let n = c.loop-event.invariant.noting in
-    let taken = rw c.in-Ok-Some.field-0-is at (c.in-Ok-Some.ensures.event n.under_way.phase) in
-    record {
-      noting = noting_goes _ _ _ _ _ _ _ _ _ _ c.in-Ok-Some.event _ _ c.requires.fits n taken c.in-Ok-apply.ensures.ok c.apply.ensures.layout c.next_event.ensures.later c.note.ensures;
-      same_input = c.next_event.ensures.same_input ∙ c.loop-event.invariant.same_input;
-      unfailed = c.in-Ok-Some.ensures.unfailed ∙ c.loop-event.invariant.unfailed;
-      later = omega (arith, c.next_event.ensures.later, c.loop-event.invariant.later);
-    }
-
 pub order_of-requires : goal.order_of-requires
-order_of-requires g c = c.loop-event.invariant.noting.kept.low
+order_of-requires g c = let n = c.in-Legal.ensures.noted refl in n.2.low
 
-pub returns-in-Ok-None-clause-just : goal.returns-in-Ok-None-clause-just
-returns-in-Ok-None-clause-just g c =
-    let n = c.loop-event.invariant.noting in
-    let taken = rw c.in-Ok-None.field-0-is at (c.in-Ok-None.ensures.end n.under_way.phase) in
-    noting_ends _ _ _ _ _ _ _ _ _ _ _ _ c.requires.fits n taken (c.order_of.ensures n.under_way.events _ (sym n.under_way.counted) n.kept)
-
-pub returns-in-Err-clause-just : goal.returns-in-Err-clause-just
-returns-in-Err-clause-just g c =
-    rw c.refused.ensures (refused_just _ _ _ _ _ c.in-Err.fault (head_fault _ _ _ _ _ c.in-Err.fault (rw c.requires.lines at c.in-Err.ensures.fault.reason) c.in-Err.ensures.fault.lacks))
-
-pub returns-in-Err-next_event-clause-just : goal.returns-in-Err-next_event-clause-just
-returns-in-Err-next_event-clause-just g c =
-    let u = c.loop-event.invariant.noting.under_way in
-    let h = c.in-Err-next_event.ensures in
-    rw c.refused-in-Err-next_event.ensures (refused_just _ _ _ _ _ c.in-Err-next_event.fault (fault_on _ _ _ _ _ _ _ _ _ _ c.in-Err-next_event.fault c.requires.fits u (h.fault u.phase)))
-
-pub overflow_add-events : goal.overflow_add-events
-overflow_add-events g c = omega (arith, few _ _ _ _ _ _ _ c.loop-event.invariant.noting.under_way, c.requires.fits)
+pub returns-in-Legal-clause-just : goal.returns-in-Legal-clause-just
+returns-in-Legal-clause-just g c =
+    let n = c.in-Legal.ensures.noted refl in
+    order_just _ _ _ _ _ c.in-Legal.summary _ c.order_of.result n (c.order_of.ensures n.0 n.1 n.3 n.2)

@@ -1,13 +1,13 @@
 use Rattle.std.proofs.Common.{◌≡◌, ◌≤◌}
 use Rattle.trace_core.specs.Reader.{standing}
 use Rattle.lock_order.proofs.Reading.{IsNoting}
-use Rattle.lock_order.proofs.order.order_all.Given as goal
+use Rattle.lock_order.proofs.order.read_all.Given as goal
 
 abbrev pub invariant-loop-event : goal.invariant-loop-event
 invariant-loop-event g l =
     let first = standing g.I.Source.left l.fn.reader in
     record {
-      noting : IsNoting first.room first.rest (g.I.Source.faults l.fn.reader.input.now) (standing g.I.Source.left l.reader) (g.I.Source.faults l.reader.input.now) l.state l.events l.nestings;
+      reading : IsNoting first.room first.rest (g.I.Source.faults l.fn.reader.input.now) (standing g.I.Source.left l.reader) (g.I.Source.faults l.reader.input.now) l.state l.events l.noting l.nestings;
       same_input : l.reader.input.ghost_name ≡ l.fn.reader.input.ghost_name;
       unfailed : g.I.Source.faults l.reader.input.now ≡ g.I.Source.faults l.fn.reader.input.now;
       later : g.I.Source.faults l.fn.reader.input.now ≤ g.I.Source.faults l.reader.input.now;
