@@ -2,7 +2,7 @@
 //!
 //! Promises: each status of `check` comes exactly by its cause, with what standard output and standard error got, and from the byte that
 //! decides on nothing more is read. What a trace of a whole run is, and that it is accepted, is said here too (specs/Traces.antt,
-//! specs/Accepted.antt). Stands on the checker of `trace_check` and the statuses and messages of `command_endings`. It takes no memory,
+//! specs/Accepted.antt). Stands on the check of `lock_order`, which keeps the contract of `trace_check`, and on `command_endings`. It takes no memory,
 //! and it knows no thread, script or index.
 #![tactic(auto)]
 
