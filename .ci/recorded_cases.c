@@ -457,12 +457,12 @@ static void set_anew(void) {
     pthread_mutex_unlock(&m);
 }
 
+#define CASE(f) { #f, f }
 static const struct { const char *name; void (*f)(void); } cases[] = {
-    { "recursive", recursive }, { "trylock", trylock }, { "timed", timed }, { "semaphores", semaphores }, { "cancelled", cancelled },
-    { "quick_end", quick_end }, { "killed", killed }, { "left_running", left_running }, { "counted", counted }, { "busy", busy }, { "forks", forks }, { "hundred", hundred }, { "conditions", conditions },
-    { "many_threads", many_threads }, { "many_waiting", many_waiting }, { "handler", handler }, { "destroyed", destroyed }, { "storm", storm },
-    { "robust", robust }, { "refused", refused }, { "c11_threads", c11_threads }, { "stranger", stranger }, { "unheld", unheld },
-    { "set_anew", set_anew },
+    CASE(recursive), CASE(trylock), CASE(timed), CASE(semaphores), CASE(cancelled), CASE(quick_end),
+    CASE(killed), CASE(left_running), CASE(counted), CASE(busy), CASE(forks), CASE(hundred), CASE(conditions),
+    CASE(many_threads), CASE(many_waiting), CASE(handler), CASE(destroyed), CASE(storm), CASE(robust),
+    CASE(refused), CASE(c11_threads), CASE(stranger), CASE(unheld), CASE(set_anew),
 };
 
 int main(int argc, char **argv) {

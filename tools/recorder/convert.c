@@ -1,5 +1,6 @@
-/* convert PREFIX NAME OUT: makes trace texts and legends of the record file PREFIX.NAME: OUT.trace, OUT.legend, and OUT.partK of further parts. Says on
- * standard error what it found. Status 0, or 2: no call was recorded; 3: a trace ends early; 4: the system stands for what nothing explains; 1: else. */
+/* convert PREFIX NAME OUT: makes trace texts and legends of the record file PREFIX.NAME: OUT.trace, OUT.legend, and OUT.partK of further parts.
+ * Says on standard error what it found. Status 0, or 2: no call was recorded; 3: a trace ends early; 4: the system stands for what nothing
+ * explains; 1: else. */
 #include "convert.h"
 #include <stdio.h>
 #include <string.h>
@@ -24,8 +25,10 @@ static void say_more(const struct process *p, const struct found *f) {
     SAY(p->left_out[LEFT_RWLOCK], "calls that take read-write locks, left out: %lld\n", N(p->left_out[LEFT_RWLOCK]));
     SAY(p->left_out[LEFT_BARRIER], "waits at barriers, left out: %lld\n", N(p->left_out[LEFT_BARRIER]));
     SAY(p->left_out[LEFT_SPIN], "calls that take spin locks, left out: %lld\n", N(p->left_out[LEFT_SPIN]));
-    SAY(f->unexplained, "UNEXPLAINED: %lld waits returned that no recorded signal can have ended; a signal by the system stands for each\n", N(f->unexplained));
-    SAY(f->renewed, "UNEXPLAINED: %lld times a mutex was got that a thread had: its memory was set anew, or it doesn't exclude; it has a new name\n", N(f->renewed));
+    SAY(f->unexplained, "UNEXPLAINED: %lld waits returned that no recorded signal can have ended; a signal by the system stands for each\n",
+        N(f->unexplained));
+    SAY(f->renewed, "UNEXPLAINED: %lld times a mutex was got that a thread had: its memory was set anew, or it doesn't exclude; it has a new name\n",
+        N(f->renewed));
     SAY(f->ends_early != NULL, "ENDS EARLY: %s\n", f->ends_early);
 }
 

@@ -285,12 +285,13 @@ static bool print_legend(const struct text *x, const char *path) {
     for (int64_t i = 0; i < x->uses.n; i++) {
         const struct use *u = &x->uses.at[i];
         const struct object *o = &x->s->f->objects.at[u->object];
-        static const char *const what[] = { "mutex", "condition", "unit of semaphore", "thread" };
+        static const char *const what[] = { "mutex", "condition", "unit of semaphore" };
         name_place(x->p->maps, o->from, u->kind != THREAD, place, sizeof place);
         fprintf(out, "%c%d %lld %lld ", "mcst"[u->kind], u->name, (long long)u->first, (long long)u->last);
         if (u->object == x->s->f->system) fprintf(out, "the system: the clock, and what was not recorded\n");
-        else if (u->kind == THREAD) fprintf(out, "%s, %s %s\n", what[THREAD], o->made ? "begun with" : "which", o->made ? place : "began the process, or whose beginning was not recorded");
-        else fprintf(out, "%s 0x%llx, %s %s\n", what[u->kind], (unsigned long long)o->address, o->made ? "made in" : "first used in", place);
+        else if (u->kind == THREAD && o->made) fprintf(out, "thread, begun with %s\n", place);
+        else if (u->kind == THREAD) fprintf(out, "thread, which began the process, or whose beginning was not recorded\n");
+        else fprintf(out, "%s 0x%llx, %s in %s\n", what[u->kind], (unsigned long long)o->address, o->made ? "made" : "first used", place);
     }
     bool good = !ferror(out);
     return fclose(out) == 0 && good;
@@ -311,7 +312,8 @@ static bool write_part(const struct process *p, struct parts *s, int part, const
     x.out = fopen(path, "w");
     if (!x.out) return false;
     int named = x.names + (x.system >= 0);
-    fprintf(x.out, "firefly-trace 1\nthreads %d mutexes %d conditions %d semaphores %d\n", named ? named : 1, x.most[MUTEX], x.most[CONDITION], x.most[SEMAPHORE]);
+    fprintf(x.out, "firefly-trace 1\nthreads %d mutexes %d conditions %d semaphores %d\n", named ? named : 1, x.most[MUTEX],
+            x.most[CONDITION], x.most[SEMAPHORE]);
     print_events(&x);
     bool good = !ferror(x.out);
     good = fclose(x.out) == 0 && good;

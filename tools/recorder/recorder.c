@@ -67,11 +67,15 @@ static void stop(const char *why) {
     atomic_store(&stopped, 1);
 }
 
+static int is_kept(void) {
+    struct stat is;
+    return kept >= 0 && fstat(kept, &is) == 0 && is.st_dev == kept_is.st_dev && is.st_ino == kept_is.st_ino;
+}
+
 /* The file, opened anew, since programs close what they don't know, or as it is kept. */
 static int open_file(void) {
-    struct stat is;
     int fd = open(path, O_RDWR | O_CLOEXEC);
-    if (fd < 0 && kept >= 0 && fstat(kept, &is) == 0 && is.st_dev == kept_is.st_dev && is.st_ino == kept_is.st_ino) fd = fcntl(kept, F_DUPFD_CLOEXEC, 0);
+    if (fd < 0 && is_kept()) fd = fcntl(kept, F_DUPFD_CLOEXEC, 0);
     return fd;
 }
 
@@ -191,9 +195,8 @@ static void put_maps(void) {
 static void begin_file(const char *forked_from, uint64_t fork_number) {
     const char *why;
     int fd = -1, k = 0;
-    struct stat is;
     head = NULL;
-    if (kept >= 0 && fstat(kept, &is) == 0 && is.st_dev == kept_is.st_dev && is.st_ino == kept_is.st_ino) close(kept); /* of who forked this process */
+    if (is_kept()) close(kept); /* of who forked this process */
     while (*prefix && fd < 0 && k++ < 1000) {
         snprintf(own_name, sizeof own_name, "%d.%d", (int)getpid(), k);
         snprintf(path, sizeof path, "%s.%s", prefix, own_name);
