@@ -1,2 +1,4 @@
+pub mod Trees
+pub mod Sums
 pub mod Summary
 pub mod Text

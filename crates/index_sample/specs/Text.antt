@@ -2,9 +2,7 @@
 use Rattle.std.specs.Prelude.{ℕ, List, ◌++◌, decimal, codes}
 use Rattle.index_sample.specs.declared.summary.SampleSums.{SampleSums}
 
-abbrev pub sum_line : List ℕ → ℕ → List ℕ
-sum_line name number = name ++ codes " " ++ decimal number ++ codes "\n"
-
+-- a line each for the files, the directories, the words, the entries and the occurrences
 abbrev pub summary_text : SampleSums → List ℕ
-summary_text sums =
-    sum_line (codes "files") sums.files ++ sum_line (codes "dirs") sums.dirs ++ sum_line (codes "words") sums.words ++ sum_line (codes "entries") sums.entries ++ sum_line (codes "occurrences") sums.occurrences
+summary_text s =
+    codes "files " ++ decimal s.files ++ codes "\ndirs " ++ decimal s.dirs ++ codes "\nwords " ++ decimal s.words ++ codes "\nentries " ++ decimal s.entries ++ codes "\noccurrences " ++ decimal s.occurrences ++ codes "\n"

@@ -7,6 +7,7 @@
 
 mod summary;
 mod summing;
+mod trees;
 
 pub use summary::{SampleSums, print_summary};
 pub use summing::index_summary;

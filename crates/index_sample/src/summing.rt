@@ -1,44 +1,43 @@
 //! The index of the sample tree.
 ghost use Rattle.std.specs.Prelude.{◌≤◌, IfOk};
 ghost use Rattle.index_sample.specs.Summary.{IsSummary};
+ghost use Rattle.index_sample.specs.Sums.{Sums, IsDoneOrMemory, SumsAnswer};
 
 use crate::SampleSums;
-use firefly_outside::{MemTree, sample_tree};
+use crate::trees::five_trees;
 use indexer::{IndexAnswer, NoGate, Plan, index};
 use std::alloc::{AllocError, Global};
 use std::sync::Wait;
 use std::thread::Threads;
 use word_index::Piece;
 
-// Two walkers, two parsers and one merger, untraced and with no stop.
-const PLAN: Plan = Plan {
-    walkers: 2,
-    parsers: 2,
-    mergers: 1,
-    stop_after: None,
-    traced: false,
-};
-
-// The sample tree for each of the workers that take one, and for the closing walk.
-fn five_trees(alloc: Global, seed: u64, files: u32) -> Result<[Option<MemTree>; 5], AllocError> {
-    let first = sample_tree(alloc, seed, files)?;
-    Ok([
-        Some(first.fork(alloc)?),
-        Some(first.fork(alloc)?),
-        Some(first.fork(alloc)?),
-        Some(first.fork(alloc)?),
-        Some(first),
-    ])
-}
-
 // The sums of the index of so many files.
-fn sums_of(piece: &Piece, files: u32) -> SampleSums {
+fn sums_of(piece: &Piece, files: u32) -> SampleSums
+    ensures { Sums files piece.now result }
+{
     SampleSums {
         files: piece.files(),
         dirs: 1 + (files as u64 + 99) / 100,
         words: piece.words(),
         entries: piece.entries(),
         occurrences: piece.occurrences(),
+    }
+}
+
+// The sums of an index that was answered, or want of memory.
+fn summed(answer: IndexAnswer, files: u32) -> Result<SampleSums, AllocError>
+    requires { IsDoneOrMemory answer }
+    ensures { IfOk result (SumsAnswer files answer) }
+{
+    match answer {
+        IndexAnswer::Done(piece, closed) => {
+            let sums = sums_of(&piece, files);
+            drop(piece);
+            drop(closed);
+            Ok(sums)
+        }
+        IndexAnswer::Memory => Err(AllocError),
+        _ => unreachable!(),
     }
 }
 
@@ -53,10 +52,15 @@ pub fn index_summary<R: Threads + Wait + Sync>(
     requires few { files ≤ 20000 }
     ensures { IfOk result (IsSummary seed files) }
 {
+    let plan = Plan {
+        walkers: 2,
+        parsers: 2,
+        mergers: 1,
+        stop_after: None,
+        traced: false,
+    };
     let mut trees = five_trees(alloc, seed, files)?;
-    match index(rt, alloc, "sample", &PLAN, &mut trees, &NoGate) {
-        IndexAnswer::Done(piece, _closed) => Ok(sums_of(&piece, files)),
-        IndexAnswer::Memory => Err(AllocError),
-        _ => unreachable!(),
-    }
+    let answer = index(rt, alloc, "sample", &plan, trees.as_mut_slice(), &NoGate);
+    drop(trees);
+    summed(answer, files)
 }

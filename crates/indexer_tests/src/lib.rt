@@ -16,6 +16,8 @@ mod pieces;
 #[cfg(test)]
 mod runs;
 #[cfg(test)]
+mod samples;
+#[cfg(test)]
 mod traces;
 #[cfg(test)]
 mod tree_calls;

@@ -61,7 +61,7 @@ found_if_reached t w walk whole kind p (by_entry k q dir es e under here among c
     seen_found t w walk kind p (record { dir = dir; entries = es; listed = listed; here = here; named = record { entry = e; among = among; called = sym called; is = is } })
 
 -- distinct paths among those of a list are at most as many
-few_paths : (ps qs : List Path) → Distinct ps → ((p : Path) → Contains ps p → Contains qs p) → length ps ≤ length qs
+pub few_paths : (ps qs : List Path) → Distinct ps → ((p : Path) → Contains ps p → Contains qs p) → length ps ≤ length qs
 few_paths ps qs apart among = length-le_from_is_member nat_list_eq_equiv ps qs (IsDistinct-from_AllPairs decides ps apart)
     (λ p h. (is_member-Decides decides qs p).1 (among p ((is_member-Decides decides ps p).0 h)))
   where

@@ -1,0 +1,3 @@
+pub mod SampleWalk
+pub mod Placed
+pub mod Ends
