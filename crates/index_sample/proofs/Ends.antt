@@ -29,8 +29,8 @@ no_stop n e = cc
 -- no path of a sound sample tree can fail
 pub no_fault : (seed files : ℕ) (t : Told) → IsSampleTree seed files t → (weak : List Path) (path : Path) → weak ≡ [] → IsFaultUnder t sample_root weak path → ⊥
 no_fault seed files t is weak path sound fault = ⊎_elim
-    (λ among. none_contained path (subst (λ (l : List Path). Contains l path) sound among))
-    (λ missing. missing (sample_there seed (dir_count files) files t is fault.kind path fault.under))
+    (λ (among : Contains weak path). none_contained path (subst (λ (l : List Path). Contains l path) sound among))
+    (λ (missing : ¬ IsThere t fault.kind path). missing (sample_there seed (dir_count files) files t is fault.kind path fault.under))
     fault.may
 
 pub not_too_many : (seed files : ℕ) (t : Told) → files ≤ 20000 → IsSampleTree seed files t → (many : ℕ) → many ≡ most_dirs + 1 → AreMany t sample_root Dir many → ⊥

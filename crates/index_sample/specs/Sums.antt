@@ -8,11 +8,11 @@ use Rattle.index_sample.specs.declared.summary.SampleSums.{SampleSums}
 
 -- the files, words, entries and occurrences of the index, and the directories of so many sample files, with the root
 pub record Sums (files : ℕ) (index : Index) (sums : SampleSums) : Type 0 where
-  pub files : sums.files ≡ length index.paths
-  pub dirs : sums.dirs ≡ 1 + dir_count files
-  pub words : sums.words ≡ length index.rows
-  pub entries : sums.entries ≡ length (entries index)
-  pub occurrences : sums.occurrences ≡ occurrences index
+  pub count_files : sums.files ≡ length index.paths
+  pub count_dirs : sums.dirs ≡ 1 + dir_count files
+  pub count_words : sums.words ≡ length index.rows
+  pub count_entries : sums.entries ≡ length (entries index)
+  pub count_all : sums.occurrences ≡ occurrences index
 
 -- the answer of a run that neither stopped nor failed
 abbrev pub IsDoneOrMemory : IndexAnswer → Type 0
