@@ -10,7 +10,7 @@ use Rattle.index_sample.proofs.Ends.{no_stop, ends_so, summary_of, IfOk-then}
 use Rattle.index_sample.proofs.summing.index_summary.Goals as goal
 
 -- two walkers, two parsers and one merger
-the_plan : Plan
+abbrev the_plan : Plan
 the_plan = record { walkers = 2; parsers = 2; mergers = 1; stop_after = None; traced = false }
 
 pub index-answer-requires-clause-plan : goal.index-answer-requires-clause-plan
@@ -35,7 +35,7 @@ index-answer-requires-clause-tell g c κs within =
     (Some a.tree, λ k s e. ap (λ (t : Told). Some t) (tree_at a.tree c.as_mut_slice.result.now a.each k s e).0)
 
 pub summed-requires : goal.summed-requires
-summed-requires g c κs within =
+summed-requires g c =
     let a = subst (AreSamples c.args.seed c.args.files) (sym c.as_mut_slice.ensures.value) c.in_ok-trees.ensures in
     ends_so c.args.seed c.args.files the_plan c.as_mut_slice.result.now c.index-answer.new.trees refl c.requires.few a c.index-answer.result
     (c.index-answer.ensures.says (Some a.tree) (λ k s e. ap (λ (t : Told). Some t) (tree_at a.tree c.as_mut_slice.result.now a.each k s e).0))
