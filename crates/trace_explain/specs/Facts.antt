@@ -11,9 +11,8 @@ use Rattle.trace_picture.specs.declared.causes.Move.{Move}
 use Rattle.trace_picture.specs.declared.causes.Move.TheVariants as move
 use Rattle.trace_picture.specs.declared.board.Waker.{Waker}
 use Rattle.trace_picture.specs.declared.board.Waker.TheVariants as waker
-use Rattle.trace_picture.specs.History.{mutex_turn}
-use Rattle.trace_picture.specs.Causes.{stand_move, open_move}
-use Rattle.trace_picture.specs.Kept.{Kept, waker_of}
+use Rattle.trace_picture.specs.Marks.{marks_of}
+use Rattle.trace_picture.specs.Kept.{Kept}
 use Rattle.trace_picture.specs.Shapes.{with_number, each_below}
 use Rattle.trace_explain.specs.Sentences.{plain, since, standing}
 
@@ -75,5 +74,5 @@ alert_fact k _ = []
 -- all that the order and the action's row speak of
 unfoldable pub facts : Kept → Event → List ℕ
 facts k e =
-    wait_text e.thread.0 (k.stands e.thread.0) ++ mutex_fact k (mutex_turn e.action) ++ stand_fact k (stand_move e.thread.0 e.action) ++ open_fact k (open_move e.action)
-    ++ alert_fact k (waker_of e.thread.0 e.action)
+    wait_text e.thread.0 (k.stands e.thread.0) ++ mutex_fact k (marks_of e.thread.0 e.action).mutex ++ stand_fact k (marks_of e.thread.0 e.action).stand
+    ++ open_fact k (marks_of e.thread.0 e.action).avail ++ alert_fact k (marks_of e.thread.0 e.action).waker

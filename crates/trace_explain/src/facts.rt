@@ -9,9 +9,10 @@ ghost use Rattle.trace_explain.specs.Facts.{wait_text, held_text, open_text, ale
 use crate::sentences::{add_plain, add_since, add_standing};
 use larch_actions::Event;
 use trace_core::add;
-use trace_picture::board::{Board, Waker, waker_for};
-use trace_picture::causes::{Cause, Causes, Move, move_of_open, move_of_stand};
-use trace_picture::history::{Origin, Turn, turn_of_mutex};
+use trace_picture::board::{Board, Waker};
+use trace_picture::causes::{Cause, Causes, Move};
+use trace_picture::history::{Origin, Turn};
+use trace_picture::marks::marks_of;
 use trace_picture::tags::add_with_number;
 
 // Adds how it stands with the thread's wait.
@@ -181,8 +182,9 @@ pub fn add_facts(buf: &mut [u8], at: usize, board: &Board, e: &Event) -> usize
     ensures near { result ≤ at + 4000 }
 {
     let at = add_wait(buf, at, e.thread.0, board.stands.at(e.thread.0));
-    let at = add_mutex_fact(buf, at, board, turn_of_mutex(&e.action));
-    let at = add_stand_fact(buf, at, board, move_of_stand(e.thread, &e.action));
-    let at = add_open_fact(buf, at, board, move_of_open(&e.action));
-    add_alert_fact(buf, at, board, waker_for(e.thread, &e.action))
+    let marks = marks_of(e.thread, &e.action);
+    let at = add_mutex_fact(buf, at, board, marks.mutex);
+    let at = add_stand_fact(buf, at, board, marks.stand);
+    let at = add_open_fact(buf, at, board, marks.avail);
+    add_alert_fact(buf, at, board, marks.waker)
 }

@@ -17,7 +17,7 @@ mod head;
 pub mod history;
 pub mod laws;
 mod legend;
-mod marks;
+pub mod marks;
 pub mod shapes;
 pub mod tags;
 mod view;
