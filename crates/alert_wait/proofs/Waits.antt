@@ -10,13 +10,8 @@ use Rattle.nub_rule.specs.declared.view.Wait.{Wait}
 use Rattle.nub_rule.specs.Known.{IsOut, Known, Makes, Shape, recorded}
 use Rattle.nub_rule.specs.Plays.{opened}
 use Rattle.nub.specs.Rest.{Adds, AtRest, HasStored, IsSame}
+use Rattle.nub.proofs.Adding.{begins_on, grown}
 use Rattle.nub.proofs.Without.{still_out}
-
-begins_on : (x y z : List Event) → StartsWith y x → StartsWith z y → StartsWith z x
-begins_on x y z a b = (a.0 ++ b.0, b.1 ∙ ap (λ l. l ++ b.0) a.1 ∙ append_assoc x a.0 b.0)
-
-grown : (x y z : List Event) (e : Event) → z ≡ (x ++ y) ++ e ∷ [] → StartsWith z x
-grown x y z e is = (y ++ e ∷ [], is ∙ append_assoc x y (e ∷ []))
 
 module _ {T H W : Type 0} where
   -- the thread o puts the value y in as a, begins the wait as b, frees the mutex as f, blocks as k, has the mutex again as e with the value x, and takes that out as z
@@ -116,13 +111,3 @@ module _ {T H W : Type 0} where
           ends = (k.seen ++ second.0, seen);
           own = ap (λ n. by_thread n z.seen) (ap (λ k. k.number) s.out ∙ ap (λ k. k.number) s.ended) ∙ (ap (by_thread k.number) seen ∙ (second.1.own ∙ sym mine));
         }
-
-  -- what one event adds
-  pub adds_one : (e : Event) (a b : Known T H W) → Makes e a b → b.number ≡ a.number → Adds [] e a b
-  adds_one e a b made number = record {
-    mine = made.3 ∙ ap (λ l. l ++ e ∷ []) (sym (append-nil a.mine));
-    legal = subst IsLegal (sym made.2) made.1.legal;
-    grows = grown a.seen made.0 b.seen e made.2;
-    ends = (a.seen ++ made.0, made.2);
-    own = ap (λ n. by_thread n b.seen) number ∙ (ap (by_thread a.number) made.2 ∙ (made.1.own ∙ sym made.3));
-  }

@@ -7,7 +7,7 @@ use Rattle.larch_actions.specs.declared.event.Event.{Event}
 use Rattle.atomic_table.proofs.Lists.{set_again}
 use Rattle.nub_rule.specs.Known.{Known, Shape, Holds}
 use Rattle.nub_rule.specs.Plays.{acquire_event, release_event, enqueue_event}
-use Rattle.nub.specs.Rest.{AtRest, Adds, IsSame}
+use Rattle.nub.specs.Rest.{AtRest, Added, Adds, IsSame}
 use Rattle.alert_wait.specs.declared.outcome.Outcome.{Outcome}
 use Rattle.alert_wait.specs.declared.outcome.Outcome.TheVariants.{Returned}
 use Rattle.alert_wait.specs.Outcomes.{wait_end}
@@ -15,16 +15,13 @@ use Rattle.bounded_buffer.specs.declared.did.Did.{Did}
 use Rattle.bounded_buffer.specs.Calls.{waits, entered, raise, signals, Looked, Ran}
 use Rattle.bounded_buffer.specs.Parts.{Used, did}
 use Rattle.bounded_buffer.specs.Rings.{Held}
-use Rattle.bounded_buffer.specs.Waiting.{Added, IsIn, HasWaited, HasGiven}
-use Rattle.bounded_buffer.proofs.Adding.{added, added_on, adds_on}
+use Rattle.bounded_buffer.specs.Waiting.{IsIn, HasWaited, HasGiven}
+use Rattle.nub.proofs.Adding.{added, added_on, adds_on}
+use Rattle.nub.proofs.Users.{same_on}
 
 waits-more : (t m c k : ℕ) → waits t m c k ++ enqueue_event true t m c ∷ wait_end Returned t m c ∷ [] ≡ waits t m c (suc k)
 waits-more t m c zero = refl
 waits-more t m c (suc k) = ap (λ l. enqueue_event true t m c ∷ wait_end Returned t m c ∷ l) (waits-more t m c k)
-
-module _ {W V H : Type 0} where
-  pub same_on : (a b c : Known V H W) → IsSame a b → IsSame b c → IsSame a c
-  same_on a b c x y = record { number = y.number ∙ x.number; world = y.world ∙ x.world }
 
 module _ {W V H T : Type 0} (part : H → ℕ → Used T) (alike : H → H → Type 0) (fit : W → ℕ → V → ℕ → H → Type 0) where
   pub held_back : (p : Shape W) (m : ℕ) (more : ℕ → Used T → Used T) (es : List Event) (k : ℕ) (s : H) (x : V) (a b e : Known V H W)

@@ -1,10 +1,9 @@
 -- A thread in a call at a buffer, which has the mutex; and one that gives it back.
 use Rattle.std.specs.Prelude.{◌≡◌, ◌≢◌, ℕ, true, List, [], ◌∷◌, ◌++◌, slice_set, Option as Opt, Some, None}
 use Rattle.larch_actions.specs.declared.event.Event.{Event}
-use Rattle.larch_actions.specs.Actions.{StartsWith}
 use Rattle.nub_rule.specs.Known.{Known, Shape, Holds}
 use Rattle.nub_rule.specs.Plays.{release_event, enqueue_event}
-use Rattle.nub.specs.Rest.{AtRest, Adds, IsSame}
+use Rattle.nub.specs.Rest.{Added, AtRest, Adds, IsSame}
 use Rattle.alert_wait.specs.declared.outcome.Outcome.{Outcome}
 use Rattle.alert_wait.specs.Outcomes.{wait_end}
 use Rattle.bounded_buffer.specs.declared.at.BufferAt.{BufferAt}
@@ -13,12 +12,6 @@ use Rattle.bounded_buffer.specs.At.{IsNamed}
 use Rattle.bounded_buffer.specs.Calls.{signals, did_last, Looked}
 use Rattle.bounded_buffer.specs.Parts.{Used, did}
 use Rattle.bounded_buffer.specs.Rings.{Held}
-
-module _ {W V H : Type 0} where
-  -- these own events were added, and the history that was seen grew
-  pub record Added (es : List Event) (a b : Known V H W) : Type 0 where
-    pub mine : b.mine ≡ a.mine ++ es
-    pub grows : StartsWith b.seen a.seen
 
 module _ {T : Type 0} where
   abbrev pub signals_last : ℕ → ℕ → List ℕ → Opt (Did T) → List Event

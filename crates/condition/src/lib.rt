@@ -14,7 +14,7 @@ ghost use Rattle.nub.specs.Idle.{IsIdle};
 ghost use Rattle.nub.specs.Rest.{AtRest, Adds, IsOutside, IsSame};
 ghost use Rattle.condition.specs.Waits.{resume_event};
 
-use event_count::{advance, block, read_count};
+use event_count::{advance_quietly, advance_slowly, block, read_count};
 use gate::{free, take};
 use larch_actions::{Action, CondId, Event, MutexId, ThreadId};
 use nub_rule::{Change, Object, Package, Thread, Uses, lower_waits, put_value, take_value};
@@ -35,7 +35,9 @@ pub fn signal<U: Uses, R: Wait>(rt: &R, p: &Package<U>, me: &mut Thread<U>, c: C
     ensures share { me.new.share ≡ me.old.share }
     ensures idle { (n : ℕ) (s : U.Share) → IsIdle p.now n s me.old → IsIdle p.now n s me.new }
 {
-    advance(rt, p, me, c, false);
+    if !advance_quietly(p, me, c, false) {
+        advance_slowly(rt, p, me, c, false);
+    }
 }
 
 /// Takes all threads out of the condition, and wakes them.
@@ -52,7 +54,9 @@ pub fn broadcast<U: Uses, R: Wait>(rt: &R, p: &Package<U>, me: &mut Thread<U>, c
     ensures share { me.new.share ≡ me.old.share }
     ensures idle { (n : ℕ) (s : U.Share) → IsIdle p.now n s me.old → IsIdle p.now n s me.new }
 {
-    advance(rt, p, me, c, true);
+    if !advance_quietly(p, me, c, true) {
+        advance_slowly(rt, p, me, c, true);
+    }
 }
 
 /// Gives the mutex back with this value and waits in the condition, in one step for all others, until a Signal or Broadcast takes the thread

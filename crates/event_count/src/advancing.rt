@@ -164,9 +164,7 @@ fn quiet_event(number: u32, cond: CondId, all: bool) -> Event
     }
 }
 
-/// Looks in a traced package, with the pen, for which it may wait. The event is built here, so that an untraced package has nothing of it.
-#[cold]
-#[inline(never)]
+/// Looks in a traced package, with the pen, for which it may wait.
 fn looks_traced<U: Uses, R: Wait>(
     rt: &R,
     p: &Package<U>,
@@ -196,36 +194,7 @@ fn looks_traced<U: Uses, R: Wait>(
     false
 }
 
-/// Looks whether anybody has begun to wait in c, in a traced package with the pen. Where nobody has, that was the event.
-#[inline(always)]
-fn finds_wait<U: Uses, R: Wait>(
-    rt: &R,
-    p: &Package<U>,
-    me: &mut Thread<U>,
-    c: CondId,
-    all: bool,
-) -> bool
-    requires of { me.old.table_id ≡ p.now.table_id }
-    requires named { c.0 < p.now.layout.conditions }
-    requires outside { IsOutside me.old }
-    requires no_wait { me.old.wait ≡ None }
-    requires stored { HasStored p.now.traced me.old }
-    ensures all { result ≡ false → all ≡ true → Makes (event me.old.number (broadcast_action c.0 [])) me.old me.new }
-    ensures one { result ≡ false → all ≡ false → (left : List ℕ) × Makes (event me.old.number (signal_action c.0 left)) me.old me.new }
-    ensures quiet { result ≡ false → me.new ≡ recorded me.old me.new }
-    ensures calls { result ≡ true → me.new ≡ record me.old { calling = Some c.0; next = me.new.next } }
-    ensures stored { HasStored p.now.traced me.new }
-{
-    if p.traced() {
-        looks_traced(rt, p, me, c, all)
-    } else {
-        looks(p, me, c, all)
-    }
-}
-
 /// Advances the count of c, where somebody was found to have begun to wait there.
-#[cold]
-#[inline(never)]
 fn advance_count<U: Uses, R: Wait>(rt: &R, p: &Package<U>, me: &mut Thread<U>, c: CondId, all: bool)
     requires of { me.old.table_id ≡ p.now.table_id }
     requires named { c.0 < p.now.layout.conditions }
@@ -249,22 +218,53 @@ fn advance_count<U: Uses, R: Wait>(rt: &R, p: &Package<U>, me: &mut Thread<U>, c
     }
 }
 
-/// Makes a Broadcast where `all` is true, and else a Signal, which leaves some of the condition. Where nobody has begun to wait, that takes one
-/// look, and in an untraced package no lock.
+/// Makes the Broadcast of c, if `all` is true, and else the Signal, where one look is all that it takes: in an untraced package, where nobody
+/// has begun to wait. It answers whether it was made; else `advance_slowly` is to make it. Nothing in it may wait, so that a loop of signals
+/// asks for nothing behind it.
 #[inline(always)]
-pub fn advance<U: Uses, R: Wait>(rt: &R, p: &Package<U>, me: &mut Thread<U>, c: CondId, all: bool)
+pub fn advance_quietly<U: Uses>(p: &Package<U>, me: &mut Thread<U>, c: CondId, all: bool) -> bool
     requires of { me.old.table_id ≡ p.now.table_id }
     requires named { c.0 < p.now.layout.conditions }
     requires outside { IsOutside me.old }
     requires no_wait { me.old.wait ≡ None }
-    requires calling { me.old.calling ≡ None }
+    requires stored { HasStored p.now.traced me.old }
+    ensures event { result ≡ true → Makes (event me.old.number (quiet_action all c.0)) me.old me.new }
+    ensures quiet { result ≡ true → me.new ≡ recorded me.old me.new }
+    ensures stored { HasStored p.now.traced me.new }
+    ensures found { result ≡ false → p.now.traced ≡ false → me.new ≡ record me.old { calling = Some c.0 } }
+    ensures traced { result ≡ false → p.now.traced ≡ true → me.new ≡ me.old }
+{
+    !p.traced() && !looks(p, me, c, all)
+}
+
+/// Makes the Broadcast or the Signal that `advance_quietly` has not made. In a traced package it looks first, with the pen.
+#[cold]
+#[inline(never)]
+pub fn advance_slowly<U: Uses, R: Wait>(
+    rt: &R,
+    p: &Package<U>,
+    me: &mut Thread<U>,
+    c: CondId,
+    all: bool,
+)
+    requires of { me.old.table_id ≡ p.now.table_id }
+    requires named { c.0 < p.now.layout.conditions }
+    requires outside { IsOutside me.old }
+    requires no_wait { me.old.wait ≡ None }
+    requires found { p.now.traced ≡ false → me.old.calling ≡ Some c.0 }
+    requires traced { p.now.traced ≡ true → me.old.calling ≡ None }
     requires stored { HasStored p.now.traced me.old }
     ensures all { all ≡ true → Makes (event me.old.number (broadcast_action c.0 [])) me.old me.new }
     ensures one { all ≡ false → (left : List ℕ) × Makes (event me.old.number (signal_action c.0 left)) me.old me.new }
-    ensures rest { me.new ≡ record (recorded me.old me.new) { count = me.new.count; failed = me.new.failed } }
+    ensures rest { me.new ≡ record (recorded me.old me.new) {
+      count = me.new.count;
+      failed = me.new.failed;
+      calling = None;
+    } }
     ensures stored { HasStored p.now.traced me.new }
 {
-    if finds_wait(rt, p, me, c, all) {
-        advance_count(rt, p, me, c, all);
+    if p.traced() && !looks_traced(rt, p, me, c, all) {
+        return;
     }
+    advance_count(rt, p, me, c, all);
 }

@@ -7,5 +7,5 @@
 mod advancing;
 mod blocking;
 
-pub use advancing::advance;
+pub use advancing::{advance_quietly, advance_slowly};
 pub use blocking::{block, read_count};

@@ -47,6 +47,11 @@ module _ {T H W : Type 0} where
       let tail : map (λ t. t.share) threads ≡ map (λ s. Some s) shares = cc in
       share_of threads shares tail n t at
 
+module _ {T H W : Type 0} where
+  -- a thread that is the same again
+  pub same_on : (a b c : Known T H W) → IsSame a b → IsSame b c → IsSame a c
+  same_on a b c x y = record { number = y.number ∙ x.number; world = y.world ∙ x.world }
+
 -- what stands at a place is read there
 pub from_at : {A : Type 0} (xs : List A) (n : ℕ) (t : A) → get_elem? xs n ≡ some t → (n < length xs) × (t ≡ get_or xs n t)
 from_at [] n t e = absurd (some-ne-none t (sym e))

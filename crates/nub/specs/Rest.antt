@@ -45,6 +45,11 @@ module _ {T H W : Type 0} where
     pub ends : (before : List Event) × (b.seen ≡ before ++ e ∷ [])
     pub own : by_thread b.number b.seen ≡ b.mine
 
+  -- these own events were added, and the history that was seen grew
+  pub record Added (es : List Event) (a b : Known T H W) : Type 0 where
+    pub mine : b.mine ≡ a.mine ++ es
+    pub grows : StartsWith b.seen a.seen
+
   -- the thread is the same, in the same world
   pub record IsSame (a b : Known T H W) : Type 0 where
     pub number : b.number ≡ a.number

@@ -1,8 +1,9 @@
 //! Reading and writing.
-ghost use Rattle.std.specs.Prelude.{◌≡◌, List, ◌∷◌, None, Some};
+ghost use Rattle.std.specs.Prelude.{◌≡◌, ◌≤◌, ℕ, List, ◌∷◌, None, Some};
 ghost use mathlib.Core.Option.{some};
 ghost use lib.ListN.{get_elem?};
 ghost use Rattle.nub.specs.Rest.{AtRest, IsSame};
+ghost use Rattle.readers_writers.specs.Calls.{Enters, LeavesAndWakes, LeavesReaders};
 ghost use Rattle.readers_writers.specs.declared.role.Role.TheVariants.{Idle, Reading, Writing};
 ghost use Rattle.readers_writers.specs.declared.role.Turn.{Turn};
 ghost use Rattle.readers_writers.specs.Roles.{IsNamed, role_of, turn};
@@ -25,6 +26,7 @@ pub fn begin_read<R: Wait>(rt: &R, p: &Package<RwUses>, me: &mut Thread<RwUses>,
     requires role { (s : List Turn) × (me.old.share ≡ Some s) × (role_of s at.now.mutex.0 ≡ Idle) }
     ensures rest { AtRest p.now me.new }
     ensures same { IsSame me.old me.new }
+    ensures ran { Enters me.old.number at.now.mutex.0 at.now.changed.0 me.old me.new }
     ensures held { me.new.held ≡ me.old.held }
     ensures role { (s : List Turn) → me.old.share ≡ Some s → me.new.share ≡ Some (turn at.now.mutex.0 Reading ∷ s) }
 {
@@ -51,11 +53,13 @@ pub fn end_read<R: Wait>(rt: &R, p: &Package<RwUses>, me: &mut Thread<RwUses>, a
     requires role { (s : List Turn) × (me.old.share ≡ Some s) × (role_of s at.now.mutex.0 ≡ Reading) }
     ensures rest { AtRest p.now me.new }
     ensures same { IsSame me.old me.new }
+    ensures ran { (n : ℕ) × (1 ≤ n) × (n ≤ 64) × LeavesReaders n me.old.number at.now.mutex.0 at.now.changed.0 me.old me.new }
     ensures held { me.new.held ≡ me.old.held }
     ensures role { (s : List Turn) → me.old.share ≡ Some s → me.new.share ≡ Some (turn at.now.mutex.0 Idle ∷ s) }
 {
     let mut state = acquire(rt, p, me, at.mutex);
     state.readers -= 1;
+    // Before the mutex is given back: whoever is woken is unparked once it has been, and finds it free.
     if state.readers == 0 {
         broadcast(rt, p, me, at.changed);
     }
@@ -73,6 +77,7 @@ pub fn begin_write<R: Wait>(rt: &R, p: &Package<RwUses>, me: &mut Thread<RwUses>
     requires role { (s : List Turn) × (me.old.share ≡ Some s) × (role_of s at.now.mutex.0 ≡ Idle) }
     ensures rest { AtRest p.now me.new }
     ensures same { IsSame me.old me.new }
+    ensures ran { Enters me.old.number at.now.mutex.0 at.now.changed.0 me.old me.new }
     ensures held { me.new.held ≡ me.old.held }
     ensures role { (s : List Turn) → me.old.share ≡ Some s → me.new.share ≡ Some (turn at.now.mutex.0 Writing ∷ s) }
 {
@@ -99,11 +104,13 @@ pub fn end_write<R: Wait>(rt: &R, p: &Package<RwUses>, me: &mut Thread<RwUses>, 
     requires role { (s : List Turn) × (me.old.share ≡ Some s) × (role_of s at.now.mutex.0 ≡ Writing) }
     ensures rest { AtRest p.now me.new }
     ensures same { IsSame me.old me.new }
+    ensures ran { LeavesAndWakes me.old.number at.now.mutex.0 at.now.changed.0 me.old me.new }
     ensures held { me.new.held ≡ me.old.held }
     ensures role { (s : List Turn) → me.old.share ≡ Some s → me.new.share ≡ Some (turn at.now.mutex.0 Idle ∷ s) }
 {
     let mut state = acquire(rt, p, me, at.mutex);
     state.writer = None;
+    // Before the mutex is given back, as above.
     broadcast(rt, p, me, at.changed);
     release::<RwUses, Idles, R>(rt, p, me, at.mutex, state);
 }

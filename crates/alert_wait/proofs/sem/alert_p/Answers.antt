@@ -1,6 +1,6 @@
 use Rattle.std.proofs.Common.{ap}
 use Rattle.alert_wait.specs.Outcomes.{p_end}
-use Rattle.alert_wait.proofs.Waits.{adds_one}
+use Rattle.nub.proofs.Adding.{adds_one}
 use Rattle.alert_wait.proofs.sem.alert_p.Goals as goal
 
 pub returns-clause-event : goal.returns-clause-event

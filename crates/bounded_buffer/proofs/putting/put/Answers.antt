@@ -9,7 +9,8 @@ use Rattle.bounded_buffer.specs.Parts.{Used, more_full, did}
 use Rattle.bounded_buffer.specs.Rings.{put_count}
 use Rattle.bounded_buffer.specs.Waiting.{IsIn}
 use Rattle.bounded_buffer.specs.declared.did.Did.TheVariants.{Put, SawShut, WaitedFull}
-use Rattle.bounded_buffer.proofs.Ending.{same_on, held_back, entering, waiting, waited, ran_some, ran_none}
+use Rattle.nub.proofs.Users.{same_on}
+use Rattle.bounded_buffer.proofs.Ending.{held_back, entering, waiting, waited, ran_some, ran_none}
 use Rattle.bounded_buffer.proofs.putting.put.Goals as goal
 
 none-more : {T : Type 0} (u : Used T) → u ≡ more_full 0 u

@@ -5,8 +5,8 @@ use Rattle.nub_rule.specs.Plays.{event, signal_action, release_event}
 use Rattle.nub.specs.Rest.{Adds}
 use Rattle.bounded_buffer.specs.declared.did.Did.TheVariants.{Put}
 use Rattle.bounded_buffer.specs.Rings.{Does}
-use Rattle.bounded_buffer.proofs.Adding.{added, adds_on}
-use Rattle.bounded_buffer.proofs.Ending.{same_on}
+use Rattle.nub.proofs.Adding.{added, adds_on}
+use Rattle.nub.proofs.Users.{same_on}
 use Rattle.bounded_buffer.proofs.putting.put_last.Goals as goal
 
 pub release-requires-2-clause-may : goal.release-requires-2-clause-may

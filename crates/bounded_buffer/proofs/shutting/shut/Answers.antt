@@ -5,7 +5,7 @@ use lib.ListN.{get_elem?}
 use Rattle.atomic_table.proofs.Lists.{set_again}
 use Rattle.nub_rule.specs.Plays.{acquire_event, event, broadcast_action, release_event}
 use Rattle.nub.specs.Rest.{Adds}
-use Rattle.bounded_buffer.proofs.Adding.{added, added_on, adds_on}
+use Rattle.nub.proofs.Adding.{added, added_on, adds_on}
 use Rattle.bounded_buffer.proofs.shutting.shut.Goals as goal
 
 pub ring_of-ring-requires-after_bounds : goal.ring_of-ring-requires-after_bounds

@@ -8,7 +8,8 @@ use Rattle.bounded_buffer.specs.Calls.{Ran, entered}
 use Rattle.bounded_buffer.specs.Parts.{Used, more_empty, did}
 use Rattle.bounded_buffer.specs.Waiting.{IsIn}
 use Rattle.bounded_buffer.specs.declared.did.Did.TheVariants.{Took, SawEnd, WaitedEmpty}
-use Rattle.bounded_buffer.proofs.Ending.{same_on, held_back, entering, waiting, waited, ran_some, ran_none}
+use Rattle.nub.proofs.Users.{same_on}
+use Rattle.bounded_buffer.proofs.Ending.{held_back, entering, waiting, waited, ran_some, ran_none}
 use Rattle.bounded_buffer.proofs.taking.take.Goals as goal
 
 none-more : {T : Type 0} (u : Used T) → u ≡ more_empty 0 u

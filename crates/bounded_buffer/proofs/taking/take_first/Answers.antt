@@ -5,7 +5,7 @@ use Rattle.nub_rule.specs.Plays.{event, signal_action, release_event}
 use Rattle.nub.specs.Rest.{Adds}
 use Rattle.bounded_buffer.specs.declared.did.Did.TheVariants.{Took}
 use Rattle.bounded_buffer.specs.Rings.{Does}
-use Rattle.bounded_buffer.proofs.Adding.{added, adds_on}
+use Rattle.nub.proofs.Adding.{added, adds_on}
 use Rattle.bounded_buffer.proofs.taking.take_first.Goals as goal
 
 pub release-requires-clause-may : goal.release-requires-clause-may

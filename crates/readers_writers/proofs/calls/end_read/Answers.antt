@@ -9,7 +9,7 @@ use Rattle.readers_writers.specs.declared.role.Role.TheVariants.{Idle, Reading}
 use Rattle.readers_writers.specs.declared.role.Turn.{Turn}
 use Rattle.readers_writers.specs.declared.state.RwState.{RwState}
 use Rattle.readers_writers.specs.Roles.{Allowed, role_of, turn}
-use Rattle.readers_writers.proofs.Going.{goes_by}
+use Rattle.readers_writers.proofs.Going.{goes_by, left_after, woke_after}
 use Rattle.readers_writers.proofs.calls.end_read.Goals.{then-state-eq0, else-state-eq0}
 use Rattle.readers_writers.proofs.calls.end_read.Goals as goal
 
@@ -35,6 +35,33 @@ release-requires-clause-may g c κs within =
       | then-state-eq0 w ↦ may_end m c.acquire-state.new.me c.if-state-eq0.me c.acquire-state.result _ role.0 (got.share ∙ role.1) role.2 got.holds (omega (arith, one.0)) refl (ap (λ k. k.held) w.me-is ∙ w.broadcast.ensures.held) (ap (λ k. k.share) w.me-is ∙ w.broadcast.ensures.share)
       | else-state-eq0 w ↦ may_end m c.acquire-state.new.me c.if-state-eq0.me c.acquire-state.result _ role.0 (got.share ∙ role.1) role.2 got.holds (omega (arith, one.0)) refl (ap (λ k. k.held) w.me-is) (ap (λ k. k.share) w.me-is)
     ]
+
+pub returns-clause-ran : goal.returns-clause-ran
+returns-clause-ran g c =
+    let m = c.args.at.now.mutex.0 in
+    let o = c.args.at.now.changed.0 in
+    let a = c.args.me.now in
+    let b = c.acquire-state.new.me in
+    let d = c.if-state-eq0.me in
+    let e = c.release.new.me in
+    let role = c.requires.role in
+    let got = c.acquire-state.ensures in
+    let known = got.fits c.args.p.now.world role.0 c.requires.world role.1 in
+    let one = known.reads role.2 in (
+      c.acquire-state.result.readers,
+      one.0,
+      known.few,
+      elim c.if-state-eq0.branch [
+        | then-state-eq0 w ↦ (
+          λ is. woke_after m o a b w.broadcast.new.me d e got.same w.broadcast.ensures.same w.me-is got.event w.broadcast.ensures.event c.release.ensures.event,
+          λ more. absurd (more (omega (arith, one.0, w.if-state-eq0.true))),
+        )
+        | else-state-eq0 w ↦ (
+          λ is. absurd (w.if-state-eq0.false (omega (arith, is))),
+          λ more. left_after m a b d e got.same w.me-is got.event c.release.ensures.event,
+        )
+      ],
+    )
 
 pub returns-clause-held : goal.returns-clause-held
 returns-clause-held g c =

@@ -1,13 +1,15 @@
 -- What calls add, one after the other.
-use Rattle.std.proofs.Common.{List, [], ◌∷◌, ◌++◌, ap, ◌∙◌, append_assoc}
+use Rattle.std.proofs.Common.{◌≡◌, List, [], ◌∷◌, ◌++◌, ap, subst, sym, ◌∙◌, append_assoc, append-nil}
 use Rattle.larch_actions.specs.declared.event.Event.{Event}
-use Rattle.larch_actions.specs.Actions.{StartsWith}
-use Rattle.nub_rule.specs.Known.{Known}
-use Rattle.nub.specs.Rest.{Adds}
-use Rattle.bounded_buffer.specs.Waiting.{Added}
+use Rattle.larch_actions.specs.Actions.{IsLegal, StartsWith, by_thread}
+use Rattle.nub_rule.specs.Known.{Known, Makes}
+use Rattle.nub.specs.Rest.{Added, Adds}
 
-begins_on : (x y z : List Event) → StartsWith y x → StartsWith z y → StartsWith z x
+pub begins_on : (x y z : List Event) → StartsWith y x → StartsWith z y → StartsWith z x
 begins_on x y z a b = (a.0 ++ b.0, b.1 ∙ ap (λ l. l ++ b.0) a.1 ∙ append_assoc x a.0 b.0)
+
+pub grown : (x y z : List Event) (e : Event) → z ≡ (x ++ y) ++ e ∷ [] → StartsWith z x
+grown x y z e is = (y ++ e ∷ [], is ∙ append_assoc x y (e ∷ []))
 
 module _ {W V H : Type 0} where
   pub added : (es : List Event) (e : Event) (a b : Known V H W) → Adds es e a b → Added (es ++ e ∷ []) a b
@@ -23,4 +25,14 @@ module _ {W V H : Type 0} where
     grows = begins_on a.seen b.seen c.seen h.grows k.grows;
     ends = k.ends;
     own = k.own;
+  }
+
+  -- what one event adds
+  pub adds_one : (e : Event) (a b : Known V H W) → Makes e a b → b.number ≡ a.number → Adds [] e a b
+  adds_one e a b made number = record {
+    mine = made.3 ∙ ap (λ l. l ++ e ∷ []) (sym (append-nil a.mine));
+    legal = subst IsLegal (sym made.2) made.1.legal;
+    grows = grown a.seen made.0 b.seen e made.2;
+    ends = (a.seen ++ made.0, made.2);
+    own = ap (λ n. by_thread n b.seen) number ∙ (ap (by_thread a.number) made.2 ∙ (made.1.own ∙ sym made.3));
   }
