@@ -50,10 +50,9 @@ pub fn next_turn(list: &mut WaitingDirs) -> Turn {
 /// The most directories of a tree that is indexed.
 const MOST_DIRS: u64 = 1_000_000;
 
-/// Ends the work on a directory, whose own are to be listed too, and counts what was found there. It answers whether the work may go on: no
-/// more was found than may be, and no memory wanted.
+/// Puts the directories found in one into the list, and counts them and the files found there. It answers whether the work may go on: no more
+/// was found than may be, and no memory wanted.
 pub fn put_found(list: &mut WaitingDirs, mut found: Vec<Text>, files: usize) -> bool {
-    list.in_work = list.in_work.saturating_sub(1);
     list.dirs = list.dirs.saturating_add(found.len() as u64);
     list.files = list.files.saturating_add(files as u64);
     let room = list.waiting.append(&mut found).is_ok();

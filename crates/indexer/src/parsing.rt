@@ -29,7 +29,8 @@ fn read_one<S: Tree>(
     lot: &mut Lot,
 ) -> Result<(), Option<Fault>>
     ensures read { AreRead (S.tree tree.old) lot.old.files.items → AreRead (S.tree tree.old) lot.new.files.items }
-    ensures done { (S.tree tree.new ≡ S.tree tree.old) × (S.may_fail tree.new ≡ S.may_fail tree.old) × ((root : Path) (count : ℕ) (before : Calls) (p : Run) (a b : Worker)
+    ensures done { (S.tree tree.new ≡ S.tree tree.old) × (S.may_fail tree.new ≡ S.may_fail tree.old)
+        × ((root : Path) (count : ℕ) (before : Calls) (p : Run) (a b : Worker)
         → HasDone File (S.tree tree.old) root (S.may_fail tree.old) count (S.faults tree.old) before (S.calls tree.old) p 1 a b [] [] None
         → HasDone File (S.tree tree.old) root (S.may_fail tree.old) count (S.faults tree.new) before (S.calls tree.new) p 0 a b [] []
         (fault_of result)) }

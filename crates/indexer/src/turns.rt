@@ -92,9 +92,9 @@ pub fn next_dir<R: Wait>(rt: &R, p: &Package<IndexUses>, me: &mut Thread<IndexUs
     unreachable!()
 }
 
-/// Ends the work on a directory: puts the directories found there into the list, and counts them and the files found there. It answers
-/// whether the work may go on: no more was found than may be, and no memory wanted.
-pub fn finish_dir<R: Wait>(
+/// Puts the directories found in one that is in work into the list, and counts them and the files found there. It answers whether the work may
+/// go on: no more was found than may be, and no memory wanted.
+pub fn put_dirs<R: Wait>(
     rt: &R,
     p: &Package<IndexUses>,
     me: &mut Thread<IndexUses>,
@@ -108,9 +108,22 @@ pub fn finish_dir<R: Wait>(
     let mut list = take_list(rt, p, me);
     let within = put_found(&mut list, found, files);
     give_list(rt, p, me, list);
-    // There may be something to take, or nothing left to wait for.
+    // There may be something to take.
     broadcast(rt, p, me, MORE_DIRS);
     within
+}
+
+/// Ends the work on a directory.
+pub fn finish_dir<R: Wait>(rt: &R, p: &Package<IndexUses>, me: &mut Thread<IndexUses>)
+    requires layout { HasLists p.now.layout }
+    requires between { IsBetween p.now me.old }
+    ensures { (o : Option Told) (root : Path) (m : ℕ) → HasCalled o root [] p.now m 0 me.old me.new }
+{
+    let mut list = take_list(rt, p, me);
+    list.in_work = list.in_work.saturating_sub(1);
+    give_list(rt, p, me, list);
+    // There may be nothing left to wait for.
+    broadcast(rt, p, me, MORE_DIRS);
 }
 
 /// Notes that a parser has ended, and answers whether it was the last.

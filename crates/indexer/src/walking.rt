@@ -8,7 +8,7 @@ ghost use Rattle.indexer.specs.Walks.{HasDone, fault_of};
 
 use crate::ending::cancel;
 use crate::files::{put_files, shut_files};
-use crate::turns::{finish_dir, next_dir, shut_dirs};
+use crate::turns::{finish_dir, next_dir, put_dirs, shut_dirs};
 use crate::uses::IndexUses;
 use alerts::test_alert;
 use firefly_outside::{Text, Tree, TreeError};
@@ -26,7 +26,8 @@ fn list_one<S: Tree>(
     dir: Text,
     visits: &mut Vec<Visit>,
 ) -> Result<(Vec<Text>, Vec<Text>), Option<Fault>>
-    ensures { (S.tree tree.new ≡ S.tree tree.old) × (S.may_fail tree.new ≡ S.may_fail tree.old) × ((root : Path) (count : ℕ) (before : Calls) (p : Run) (a b : Worker)
+    ensures { (S.tree tree.new ≡ S.tree tree.old) × (S.may_fail tree.new ≡ S.may_fail tree.old)
+        × ((root : Path) (count : ℕ) (before : Calls) (p : Run) (a b : Worker)
         → HasDone Dir (S.tree tree.old) root (S.may_fail tree.old) count (S.faults tree.old) before
         (S.calls tree.old) p 1 a b visits.old.items [] None
         → HasDone Dir (S.tree tree.old) root (S.may_fail tree.old) count (S.faults tree.new) before
@@ -55,14 +56,16 @@ fn give_found<R: Wait>(
     requires between { IsBetween p.now me.old }
     ensures { (o : Option Told) (root : Path) (m : ℕ) → HasCalled o root [] p.now m 0 me.old me.new }
 {
-    let many = files.len();
-    if !put_files(rt, p, me, files) {
-        return false;
-    }
-    if !finish_dir(rt, p, me, dirs, many) {
+    // Counted before a file goes through the buffer: where more was found than may be, none of these is read.
+    if !put_dirs(rt, p, me, dirs, files.len()) {
         cancel(rt, p, me);
         return false;
     }
+    // The directory stays in work until its files are put: the walker that finds none in work shuts their buffer.
+    if !put_files(rt, p, me, files) {
+        return false;
+    }
+    finish_dir(rt, p, me);
     !test_alert(rt, p, me)
 }
 
@@ -88,7 +91,8 @@ fn walk_once<R: Wait, S: Tree>(
 ) -> Result<(), Option<Fault>>
     requires layout { HasLists p.now.layout }
     requires between { IsBetween p.now me.old }
-    ensures { (S.tree tree.new ≡ S.tree tree.old) × (S.may_fail tree.new ≡ S.may_fail tree.old) × ((root : Path) (count : ℕ) (before : Calls) (a : Worker)
+    ensures { (S.tree tree.new ≡ S.tree tree.old) × (S.may_fail tree.new ≡ S.may_fail tree.old)
+        × ((root : Path) (count : ℕ) (before : Calls) (a : Worker)
         → HasDone Dir (S.tree tree.old) root (S.may_fail tree.old) count (S.faults tree.old) before
         (S.calls tree.old) p.now 0 a me.old visits.old.items [] None
         → HasDone Dir (S.tree tree.old) root (S.may_fail tree.old) count (S.faults tree.new) before
