@@ -9,6 +9,7 @@ ghost use Rattle.word_index.specs.Batch.{IsShort};
 ghost use Rattle.word_index.specs.declared.rows.Place.{Place};
 
 use crate::joining::number_of;
+use crate::keyed::Keyed;
 use crate::links::{Link, next_link};
 use crate::rows::Place;
 use crate::strings::Strings;
@@ -20,7 +21,7 @@ use std::alloc::AllocError;
 const LONGEST_WORD: usize = 64;
 
 /// The words of files, each with the link of its place in the file that was counted last.
-pub type Words<'a> = IndexMap<&'a [u8], Link>;
+pub type Words<'a> = IndexMap<&'a [u8], Link, Keyed>;
 
 // Counts one occurrence in the file of this number. Where memory fails, nothing is said of the counts.
 fn add<'a>(

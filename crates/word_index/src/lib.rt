@@ -12,6 +12,7 @@ mod batch;
 mod blocks;
 mod count;
 mod joining;
+mod keyed;
 pub mod laws;
 mod links;
 mod merging;

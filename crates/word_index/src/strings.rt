@@ -83,6 +83,11 @@ impl Strings {
         self.text.len()
     }
 
+    /// The bytes of all, one behind the other.
+    pub fn text(&self) -> &[u8] {
+        self.text.as_slice()
+    }
+
     #[inline(always)]
     pub fn get(&self, at: usize) -> &[u8]
         requires { at < length self.now }

@@ -8,6 +8,7 @@ ghost use Rattle.word_index.specs.Batch.{IsShort, IsTableOf};
 ghost use Rattle.word_index.specs.declared.rows.Place.{Place};
 
 use crate::count::{Words, count_files};
+use crate::keyed::Keyed;
 use crate::links::Link;
 use crate::rows::Rows;
 use crate::strings::Strings;
@@ -115,7 +116,8 @@ pub fn table_of(alloc: Global, lows: &Strings) -> Result<Table, AllocError>
     requires { All IsShort lows.now }
     ensures { IfOk result (λ t. IsTableOf lows.now t.words t.places) }
 {
-    let mut words = Words::with_capacity(alloc, first_room(lows.bytes()))?;
+    let hasher = Keyed::by(lows.text());
+    let mut words = Words::with_capacity_and_hasher(alloc, first_room(lows.bytes()), hasher)?;
     let mut links = Vec::new(alloc);
     counted(alloc, &mut words, &mut links, lows)
 }
