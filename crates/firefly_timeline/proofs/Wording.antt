@@ -1,8 +1,8 @@
 -- What four words ask for.
 use Rattle.std.proofs.Common.{◌≡◌, inl, inr, ℕ, List, [], ◌∷◌, ◌++◌, length, get_or, sym, arith, Option, Some, None}
-use Rattle.std.specs.Prelude.{IfSome}
+use Rattle.std.specs.Prelude.{IfSome, IfNone}
 use Rattle.trace_picture.specs.declared.view.View.{View}
-use Rattle.firefly_timeline.specs.Words.{AsksFor, IsPair, view_between}
+use Rattle.firefly_timeline.specs.Words.{AsksFor, AsksOrdered, IsPair, Wants, view_between}
 
 -- four words of which two say the first bound and two the second ask for what lies between
 abbrev IsUp : List ℕ → List ℕ → List ℕ → List ℕ → View → Type 0
@@ -32,3 +32,15 @@ four_items (x ∷ y ∷ []) a b c d e p q r s = absurd (omega (arith, e))
 four_items (x ∷ y ∷ z ∷ []) a b c d e p q r s = absurd (omega (arith, e))
 four_items (x ∷ y ∷ z ∷ w ∷ []) a b c d e p q r s = λ i. sym p i ∷ sym q i ∷ sym r i ∷ sym s i ∷ []
 four_items (x ∷ y ∷ z ∷ w ∷ v ∷ xs) a b c d e p q r s = absurd (omega (arith, e))
+
+-- what is found, or not, behind the first word is so of all of them
+pub wants_some : (words : List (List ℕ)) (r : Option View) → IfSome r (AsksOrdered words) → IfSome r (Wants words)
+wants_some words None h = tt
+wants_some words (Some v) h = inr h
+
+pub wants_none : (words : List (List ℕ)) (r : Option View) → ((v : View) → AsksFor words v → ⊥) → IfNone r ((v : View) → AsksOrdered words v → ⊥) → IfNone r ((v : View) → Wants words v → ⊥)
+wants_none words (Some v) never h = tt
+wants_none words None never h = λ v w. elim w [
+  | inl a ↦ never v a
+  | inr b ↦ h v b
+]

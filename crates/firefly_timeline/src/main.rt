@@ -11,7 +11,7 @@ use std::alloc::AllocError;
 use std::env;
 use std::io::ErrorKind;
 use std::process::ExitCode;
-use words::read_view;
+use words::read_words;
 
 // The words after the program's name. Words that can't be taken are none of the command line's.
 fn take_words(rt: &HostRuntime) -> Result<Vec<String>, AllocError> {
@@ -35,12 +35,12 @@ fn main(rt: HostRuntime) -> ExitCode {
     };
     let mut input = ReaderSource::new(rt.stdin());
     let mut out = WriterSink::new(rt.stdout());
-    let status = match read_view(&words) {
+    let status = match read_words(&words) {
         Some(view) => timeline(&view, &mut input, &mut out, &mut notes),
         None => {
             say(
                 &mut notes,
-                "usage: timeline [--from EVENT] [--to EVENT] < TRACE > PICTURE.svg\n",
+                "usage: timeline [--order] [--from EVENT] [--to EVENT] < TRACE > PICTURE.svg\n",
             );
             Status::Usage
         }

@@ -2,7 +2,7 @@
 ghost use Rattle.std.specs.Prelude.{◌≡◌, ◌^◌, ◌<◌, ℕ, [], ◌∷◌, decimal, map, Some, IfSome, IfNone};
 ghost use Rattle.std.specs.String.{string_bytes};
 ghost use Rattle.trace_picture.specs.declared.view.View.{View};
-ghost use Rattle.firefly_timeline.specs.Words.{AsksFor, IsPair};
+ghost use Rattle.firefly_timeline.specs.Words.{AsksFor, AsksOrdered, IsPair, Wants};
 ghost use Rattle.firefly_timeline.specs.Words as asked;
 
 use decimal_numbers::read_number;
@@ -18,10 +18,12 @@ fn view_between(from: Option<u64>, to: Option<u64>) -> View
         Some(to) => View {
             first,
             end: to.saturating_add(1),
+            ordered: false,
         },
         None => View {
             first,
             end: u64::MAX,
+            ordered: false,
         },
     }
 }
@@ -78,9 +80,9 @@ fn read_two(name: &str, number: &str, other: &str, last: &str) -> Option<View>
     read_up(other, last, name, number)
 }
 
-/// The part of the trace that the words ask for: all of it, from an event on, up to an event, or both. There is none where they ask for
+// The part of the trace that the words ask for: all of it, from an event on, up to an event, or both. There is none where they ask for
 /// nothing of this kind.
-pub fn read_view(said: &[String]) -> Option<View>
+fn read_view(said: &[String]) -> Option<View>
     ensures found { IfSome result (AsksFor (map string_bytes said.now)) }
     ensures none { IfNone result ((v : View) → AsksFor (map string_bytes said.now) v → ⊥) }
 {
@@ -96,5 +98,37 @@ pub fn read_view(said: &[String]) -> Option<View>
             )
         }
         _ => None,
+    }
+}
+
+// The part that the words ask for behind the word for the lock order.
+fn read_ordered(word: &str, rest: &[String]) -> Option<View>
+    ensures found { IfSome result (AsksOrdered (word.now ∷ map string_bytes rest.now)) }
+    ensures none { IfNone result ((v : View) → AsksOrdered (word.now ∷ map string_bytes rest.now) v → ⊥) }
+{
+    if word != "--order" {
+        return None;
+    }
+    match read_view(rest) {
+        Some(view) => Some(View {
+            first: view.first,
+            end: view.end,
+            ordered: true,
+        }),
+        None => None,
+    }
+}
+
+/// The part of the trace that the words ask for, and whether with the lock order. There is none where they ask for nothing of this kind.
+pub fn read_words(said: &[String]) -> Option<View>
+    ensures found { IfSome result (Wants (map string_bytes said.now)) }
+    ensures none { IfNone result ((v : View) → Wants (map string_bytes said.now) v → ⊥) }
+{
+    if let Some(view) = read_view(said) {
+        return Some(view);
+    }
+    match said.split_first() {
+        Some((word, rest)) => read_ordered(word.as_str(), rest),
+        None => None,
     }
 }

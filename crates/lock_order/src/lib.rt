@@ -13,4 +13,6 @@ mod nestings;
 mod order;
 
 pub use answer::{Cycle, Nested, OrderAnswer};
+pub use cycle::cycle_in;
+pub use nestings::Nestings;
 pub use order::{check, lock_order};

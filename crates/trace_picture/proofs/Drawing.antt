@@ -1,5 +1,5 @@
 -- What holds between two events of a drawing.
-use Rattle.std.proofs.Common.{◌≡◌, ℕ, ◌+◌, ◌-◌, ◌^◌, ◌<◌, ◌≤◌, inl, inr, List, [], ◌∷◌, ◌++◌, length, take, refl, ap, sym, subst, ◌∙◌, append_assoc, append-nil, Some, None, IfSome, arith}
+use Rattle.std.proofs.Common.{◌≡◌, ℕ, Bool, ◌+◌, ◌-◌, ◌^◌, ◌<◌, ◌≤◌, inl, inr, List, [], ◌∷◌, ◌++◌, length, take, refl, ap, sym, subst, ◌∙◌, append_assoc, append-nil, Some, None, IfSome, arith}
 use Rattle.std.specs.Prelude.{codes}
 use Rattle.std.specs.Io.KnownBytes.{Appends, Consumes}
 use Rattle.std.specs.declared.option.Option.{Option}
@@ -24,7 +24,8 @@ use Rattle.trace_picture.specs.declared.view.View.{View}
 use Rattle.trace_picture.specs.Kept.{Kept, nothing_kept, kept_after, kept_since, behind}
 use Rattle.trace_picture.specs.Shapes.{with_number}
 use Rattle.trace_picture.specs.Bands.{step_text, failing_text}
-use Rattle.trace_picture.specs.Picture.{head_text, steps_text, front_picture, closing_if, last_closing, end_text, failed_note, picture, failed_picture, cut_picture}
+use Rattle.trace_picture.specs.Picture.{head_text, steps_text, front_picture, closing_if, last_closing, end_text, failed_note, failed_picture, cut_picture}
+use Rattle.trace_picture.specs.Rings.{IsEnding}
 use Rattle.trace_picture.specs.Drawn.{IsFrontText, GotCut, IsDrawn, IsAPicture, IsCutOff}
 
 pub behind-push : (past es : List Event) (e : Event) → behind past (es ++ e ∷ []) ≡ e ∷ behind past es
@@ -44,13 +45,13 @@ steps-push l v past (x ∷ es) e =
     ap (λ t. first ++ t) (steps-push l v (x ∷ past) es e)
     ∙ sym (append_assoc first (steps_text l v (x ∷ past) es) (step_text l v (kept_since (behind (x ∷ past) es)) (length (behind (x ∷ past) es)) e))
 
-front-push : (l : Layout) (v : View) (es : List Event) (e : Event) → front_picture l v (es ++ e ∷ []) ≡ front_picture l v es ++ step_text l v (kept_since (behind [] es)) (length (behind [] es)) e
+pub front-push : (l : Layout) (v : View) (es : List Event) (e : Event) → front_picture l v (es ++ e ∷ []) ≡ front_picture l v es ++ step_text l v (kept_since (behind [] es)) (length (behind [] es)) e
 unfolding front_picture
 front-push l v es e =
     ap (λ t. head_text l ++ t) (steps-push l v [] es e)
     ∙ sym (append_assoc (head_text l) (steps_text l v [] es) (step_text l v (kept_since (behind [] es)) (length (behind [] es)) e))
 
-front-none : (l : Layout) (v : View) → front_picture l v [] ≡ head_text l
+pub front-none : (l : Layout) (v : View) → front_picture l v [] ≡ head_text l
 unfolding front_picture steps_text
 front-none l v = append-nil (head_text l)
 
@@ -61,7 +62,7 @@ pub record IsDrawing (budget : ℕ) (left₀ : Option (List ℕ)) (before : ℕ)
   pub kept_is : k ≡ kept_since (behind [] under_way.events)
 
 -- more was put behind what is held back
-pending_text : (first now : Option (List ℕ)) (kept kept' all text : List ℕ) → Pending first now kept all [] → kept' ≡ kept ++ text → Pending first now kept' (all ++ text) []
+pub pending_text : (first now : Option (List ℕ)) (kept kept' all text : List ℕ) → Pending first now kept all [] → kept' ≡ kept ++ text → Pending first now kept' (all ++ text) []
 pending_text first now kept kept' all text p e =
     (p.0, p.1, ap (λ x. x ++ text) (p.2 ∙ append-nil (p.0 ++ kept)) ∙ append_assoc p.0 kept text ∙ ap (λ x. p.0 ++ x) (sym e) ∙ sym (append-nil (p.0 ++ kept')))
 
@@ -69,11 +70,11 @@ pending_text first now kept kept' all text p e =
 pending_sent : (first now later : Option (List ℕ)) (kept all : List ℕ) → Pending first now kept all [] → Appends now later kept → Appends first later all
 pending_sent first now later kept all p a = subst (Appends first later) (sym (p.2 ∙ append-nil (p.0 ++ kept))) (Appends-trans first now later p.0 kept p.1 a)
 
-nothing_sent : (h : Option (List ℕ)) → Appends h h []
+pub nothing_sent : (h : Option (List ℕ)) → Appends h h []
 nothing_sent None = tt
 nothing_sent (Some xs) = sym (append-nil xs)
 
-pub drawing_starts : (budget : ℕ) (left₀ : Option (List ℕ)) (before now : ℕ) (p p' : Standing) (l : Layout) (m : Moment) (v : View) (told : Option (List ℕ)) (kept : List ℕ) (k : Kept)
+unfoldable pub drawing_starts : (budget : ℕ) (left₀ : Option (List ℕ)) (before now : ℕ) (p p' : Standing) (l : Layout) (m : Moment) (v : View) (told : Option (List ℕ)) (kept : List ℕ) (k : Kept)
     → p.rest ≡ left₀ → p.room ≡ budget → p.lines ≡ 0 → TakesHead p p' l → before ≤ now → m.layout ≡ l → spec_of m ≡ at_first → kept ≡ [] ++ head_text l → k ≡ nothing_kept
     → IsDrawing budget left₀ before p' now m 0 v told told kept k
 unfolding starts_on
@@ -91,17 +92,17 @@ module _ (budget : ℕ) (left₀ : Option (List ℕ)) (before now : ℕ) (p : St
   drawing_few = few budget left₀ before p now m count d.under_way
 
   -- some of what is held back was sent
-  pub drawing_room : (told' : Option (List ℕ)) (kept' : List ℕ) → Flows told told' kept kept' [] → IsDrawing budget left₀ before p now m count v told₀ told' kept' k
+  unfoldable pub drawing_room : (told' : Option (List ℕ)) (kept' : List ℕ) → Flows told told' kept kept' [] → IsDrawing budget left₀ before p now m count v told₀ told' kept' k
   drawing_room told' kept' f = record {
     under_way = d.under_way;
     flows = pending_flow told₀ told told' kept kept' (front_picture p.layout v d.under_way.events) [] d.flows f;
     kept_is = d.kept_is;
   }
 
-  counted : length (behind [] d.under_way.events) ≡ count
+  pub counted : length (behind [] d.under_way.events) ≡ count
   counted = omega (arith, length-behind [] d.under_way.events, d.under_way.counted)
 
-  pub drawing_steps : (now' : ℕ) (p' : Standing) (m' : Moment) (e : Event) (kept' : List ℕ) (k' : Kept) (l : Layout) → l ≡ p.layout → budget < 2 ^ 64 - 1 → TakesEvent p p' e → Acts (spec_of m) e (spec_of m') → m'.layout ≡ m.layout → now ≤ now'
+  unfoldable pub drawing_steps : (now' : ℕ) (p' : Standing) (m' : Moment) (e : Event) (kept' : List ℕ) (k' : Kept) (l : Layout) → l ≡ p.layout → budget < 2 ^ 64 - 1 → TakesEvent p p' e → Acts (spec_of m) e (spec_of m') → m'.layout ≡ m.layout → now ≤ now'
       → kept' ≡ kept ++ step_text l v k count e → k' ≡ kept_after count e k
       → IsDrawing budget left₀ before p' now' m' (count + 1) v told₀ told kept' k'
   unfolding step_on
@@ -142,6 +143,18 @@ module _ (budget : ℕ) (left₀ : Option (List ℕ)) (before now : ℕ) (p : St
       let n = sym d.under_way.counted in
       λ i. closing_if p.layout v (d.kept_is i) (n i) ++ end_text p.layout v (n i) (with_number words (n i))
 
+  -- the end that the counts say is that of the events
+  pub legal_end : (on : Bool) (l : Layout) (end : List ℕ) → l ≡ p.layout → IsEnding on l v k count d.under_way.events end
+      → IsEnding on p.layout v (kept_since (behind [] d.under_way.events)) (length d.under_way.events) d.under_way.events end
+  legal_end on l end same_l h =
+      let es = d.under_way.events in
+      let laid = subst (λ x. IsEnding on x v k count es end) same_l h in
+      let held = subst (λ x. IsEnding on p.layout v x count es end) d.kept_is laid in
+      subst (λ x. IsEnding on p.layout v (kept_since (behind [] es)) x es end) (sym d.under_way.counted) held
+
+  pub legal_pending : (end : List ℕ) → Pending told₀ told (kept ++ end) (front_picture p.layout v d.under_way.events ++ end) []
+  legal_pending end = pending_text told₀ told kept (kept ++ end) (front_picture p.layout v d.under_way.events) end d.flows refl
+
   fails_same : (e : Event) (why : Broken) → failing_text p.layout v k count e why ++ end_text p.layout v (count + 1) (failed_note count e why)
       ≡ failing_text p.layout v (kept_since (behind [] d.under_way.events)) (length d.under_way.events) e why ++ end_text p.layout v (length d.under_way.events + 1) (failed_note (length d.under_way.events) e why)
   fails_same e why =
@@ -149,12 +162,6 @@ module _ (budget : ℕ) (left₀ : Option (List ℕ)) (before now : ℕ) (p : St
       λ i. failing_text p.layout v (d.kept_is i) (n i) e why ++ end_text p.layout v (n i + 1) (failed_note (n i) e why)
 
   module _ (end : List ℕ) (told' : Option (List ℕ)) where
-    pub legal_pending : end ≡ kept ++ (closing_if p.layout v k count ++ end_text p.layout v count (with_number (codes "legal, events: ") count)) → Pending told₀ told end (picture p.layout v d.under_way.events) []
-    unfolding picture
-    legal_pending text =
-        let es = d.under_way.events in
-        pending_text told₀ told kept end (front_picture p.layout v es) (last_closing p.layout v es ++ end_text p.layout v (length es) (with_number (codes "legal, events: ") (length es))) d.flows (text ∙ ap (λ x. kept ++ x) (ends_same (codes "legal, events: ")))
-
     pub cut_pending : end ≡ kept ++ (closing_if p.layout v k count ++ end_text p.layout v count (with_number (codes "the input can't be read further, events: ") count)) → Pending told₀ told end (cut_picture p.layout v d.under_way.events) []
     unfolding cut_picture
     cut_pending text =
@@ -215,11 +222,13 @@ module _ (budget : ℕ) (left₀ : Option (List ℕ)) (before now : ℕ) (p : St
       let front = pending_fault told₀ told told' end (cut_picture p.layout v es) [] (cut_pending budget left₀ before now p m count v told₀ told kept k d end told' (subst (λ x. end ≡ kept ++ (closing_if x v k count ++ end_text x v count (with_number (codes "the input can't be read further, events: ") count))) same_l text)) f in
       if_some left₀ _ (cut_by budget left₀ before now p m count v told₀ told kept k d end told' (cut_picture p.layout v es) (inr (inl refl)) front)
 
-  pub legal_cut : end ≡ kept ++ (closing_if l v k count ++ end_text l v count (with_number (codes "legal, events: ") count)) → AppendsFront told told' end → IsCutOff budget v left₀ told₀ told'
-  legal_cut text f =
+  pub legal_cut : (tail : List ℕ) → IsEnding v.ordered l v k count d.under_way.events tail → AppendsFront told told' (kept ++ tail) → IsCutOff budget v left₀ told₀ told'
+  legal_cut tail h f =
       let es = d.under_way.events in
-      let front = pending_fault told₀ told told' end (picture p.layout v es) [] (legal_pending budget left₀ before now p m count v told₀ told kept k d end told' (subst (λ x. end ≡ kept ++ (closing_if x v k count ++ end_text x v count (with_number (codes "legal, events: ") count))) same_l text)) f in
-      if_some left₀ _ (cut_by budget left₀ before now p m count v told₀ told kept k d end told' (picture p.layout v es) (inl refl) front)
+      let all = front_picture p.layout v es ++ tail in
+      let front = pending_fault told₀ told told' (kept ++ tail) all [] (legal_pending budget left₀ before now p m count v told₀ told kept k d tail) f in
+      let tail_is = legal_end budget left₀ before now p m count v told₀ told kept k d v.ordered l tail same_l h in
+      if_some left₀ _ (cut_by budget left₀ before now p m count v told₀ told kept k d end told' all (inl (tail, tail_is, refl)) front)
 
   pub failed_cut : (e : Event) (why : Broken) → end ≡ kept ++ (failing_text l v k count e why ++ end_text l v (count + 1) (failed_note count e why)) → AppendsFront told told' end → IsCutOff budget v left₀ told₀ told'
   failed_cut e why text f =
@@ -229,12 +238,14 @@ module _ (budget : ℕ) (left₀ : Option (List ℕ)) (before now : ℕ) (p : St
 
 pub legal_got : (budget : ℕ) (left₀ : Option (List ℕ)) (before now : ℕ) (p p' : Standing) (m : Moment) (count : ℕ) (v : View) (told₀ told : Option (List ℕ)) (kept : List ℕ) (k : Kept) (d : IsDrawing budget left₀ before p now m count v told₀ told kept k) (end : List ℕ) (told' : Option (List ℕ)) (l : Layout) (s : Summary) → l ≡ p.layout
     → budget < 2 ^ 64 - 1 → TakesEnd p p' → s.events ≡ count → s.held ≡ held m.layout (spec_of m) → s.waiting ≡ waiting m.layout (spec_of m) → s.alerted ≡ alerted m.layout (spec_of m)
-    → end ≡ kept ++ (closing_if l v k count ++ end_text l v count (with_number (codes "legal, events: ") count)) → Appends told told' end → IsDrawn budget v left₀ told₀ told' (verdict.Legal s)
+    → IsEnding v.ordered l v k count d.under_way.events end → Appends told told' (kept ++ end) → IsDrawn budget v left₀ told₀ told' (verdict.Legal s)
 unfolding ends_on
-legal_got budget None before now p p' m count v told₀ told kept k d end told' l s same_l fits t a b c e text sent = tt
-legal_got budget (Some bytes) before now p p' m count v told₀ told kept k d end told' l s same_l fits t a b c e text sent = (
+legal_got budget None before now p p' m count v told₀ told kept k d end told' l s same_l fits t a b c e h sent = tt
+legal_got budget (Some bytes) before now p p' m count v told₀ told kept k d end told' l s same_l fits t a b c e h sent = (
   ends_on budget (Some bytes) before now p p' m count s fits d.under_way t a b c e,
-  pending_sent told₀ told told' end (picture p.layout v d.under_way.events) (legal_pending budget (Some bytes) before now p m count v told₀ told kept k d end told' (subst (λ x. end ≡ kept ++ (closing_if x v k count ++ end_text x v count (with_number (codes "legal, events: ") count))) same_l text)) sent,
+  front_picture p.layout v d.under_way.events ++ end,
+  (end, legal_end budget (Some bytes) before now p m count v told₀ told kept k d v.ordered l end same_l h, refl),
+  pending_sent told₀ told told' (kept ++ end) (front_picture p.layout v d.under_way.events ++ end) (legal_pending budget (Some bytes) before now p m count v told₀ told kept k d end) sent,
 )
 
 pub failed_got : (budget : ℕ) (left₀ : Option (List ℕ)) (before now : ℕ) (p p' : Standing) (m : Moment) (count : ℕ) (v : View) (told₀ told : Option (List ℕ)) (kept : List ℕ) (k : Kept) (d : IsDrawing budget left₀ before p now m count v told₀ told kept k) (end : List ℕ) (told' : Option (List ℕ)) (l : Layout) (e : Event) (why : Broken) → l ≡ p.layout

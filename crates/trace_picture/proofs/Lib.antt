@@ -7,3 +7,4 @@ pub mod Exact
 pub mod Freeing
 pub mod Holding
 pub mod Noting
+pub mod Ringing

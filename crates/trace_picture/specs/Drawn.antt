@@ -13,7 +13,8 @@ use Rattle.trace_check.specs.declared.checker.Verdict.{Verdict}
 use Rattle.trace_check.specs.declared.checker.Verdict.TheVariants.{Legal, Illegal, BadLine, TooLong, ReadFault}
 use Rattle.trace_check.specs.Verdicts.{front_text, IsLegalText, IsIllegalText}
 use Rattle.trace_picture.specs.declared.view.View.{View}
-use Rattle.trace_picture.specs.Picture.{picture, failed_picture, cut_picture}
+use Rattle.trace_picture.specs.Picture.{failed_picture, cut_picture}
+use Rattle.trace_picture.specs.Rings.{IsLegalPicture}
 
 -- The input begins with the head and the lines of these events, which are a run, within the budget.
 pub record IsFrontText (budget : ℕ) (bytes : List ℕ) : Type 0 where
@@ -33,7 +34,7 @@ GotCut budget v bytes told told' = Appends told told' [] ⊎ ((w : IsFrontText b
 
 -- the sink got the picture that this verdict asks for
 abbrev pub Got : ℕ → View → List ℕ → Option (List ℕ) → Option (List ℕ) → Verdict → Type 0
-Got budget v bytes told told' (Legal s) = (w : IsLegalText budget bytes s) × Appends told told' (picture w.layout v w.events)
+Got budget v bytes told told' (Legal s) = (w : IsLegalText budget bytes s) × (text : List ℕ) × IsLegalPicture w.layout v w.events text × Appends told told' text
 Got budget v bytes told told' (Illegal place why) = (w : IsIllegalText budget bytes place why) × Appends told told' (failed_picture w.layout v w.events w.event why)
 Got budget v bytes told told' (BadLine k) = GotCut budget v bytes told told'
 Got budget v bytes told told' TooLong = GotCut budget v bytes told told'
@@ -44,7 +45,7 @@ IsDrawn budget v left told told' verdict = IfSome left (λ bytes. Got budget v b
 
 -- the text is one of the pictures of these events
 abbrev pub IsAPicture : Layout → View → List Event → List ℕ → Type 0
-IsAPicture l v es text = (text ≡ picture l v es) ⊎ (text ≡ cut_picture l v es) ⊎ ((e : Event) × (why : Broken) × (text ≡ failed_picture l v es e why))
+IsAPicture l v es text = IsLegalPicture l v es text ⊎ (text ≡ cut_picture l v es) ⊎ ((e : Event) × (why : Broken) × (text ≡ failed_picture l v es e why))
 
 -- the sink failed, and got a proper front of a picture of events at the front of the input
 abbrev pub IsCutOff : ℕ → View → Option (List ℕ) → Option (List ℕ) → Option (List ℕ) → Type 0

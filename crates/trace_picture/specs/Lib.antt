@@ -9,5 +9,6 @@ pub mod Legend
 pub mod Arrows
 pub mod Bands
 pub mod Picture
+pub mod Rings
 pub mod Drawn
 pub mod Laws

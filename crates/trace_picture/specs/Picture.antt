@@ -65,10 +65,6 @@ legal_words = codes "legal, events: "
 abbrev pub cut_words : List ℕ
 cut_words = codes "the input can't be read further, events: "
 
--- the whole picture of a legal trace
-unfoldable pub picture : Layout → View → List Event → List ℕ
-picture l v es = front_picture l v es ++ (last_closing l v es ++ end_text l v (length es) (with_number (codes "legal, events: ") (length es)))
-
 -- the picture of a trace up to the event that fails
 unfoldable pub failed_picture : Layout → View → List Event → Event → Broken → List ℕ
 failed_picture l v es e why =

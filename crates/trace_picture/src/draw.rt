@@ -9,17 +9,21 @@ ghost use Rattle.trace_check.specs.declared.checker.Verdict.{Verdict};
 ghost use Rattle.trace_check.specs.declared.checker.Verdict.TheVariants as verdict;
 ghost use Rattle.trace_check.specs.Verdicts.{IsJust, refusal};
 ghost use Rattle.larch_actions.specs.Layout.{IsLawful};
+ghost use Rattle.larch_actions.specs.Actions.{at_first};
+ghost use Rattle.lock_order.specs.Kept.{IsKept};
 ghost use Rattle.trace_picture.specs.Kept.{kept_of};
-ghost use Rattle.trace_picture.specs.Picture.{ending, legal_words, cut_words};
+ghost use Rattle.trace_picture.specs.Picture.{ending, cut_words};
 ghost use Rattle.trace_picture.specs.Drawn.{IsDrawn, IsCutOff};
 
 use crate::bands::add_step;
 use crate::board::Board;
 use crate::endings::{end_failed, end_with};
 use crate::head::add_head;
+use crate::rings::{end_legal, note_if};
 use crate::view::View;
 use firefly_outside::{Sink, SinkFault, Source, put_all};
 use larch_actions::{Layout, State, Totals};
+use lock_order::Nestings;
 use trace_check::{Summary, Verdict};
 use trace_core::{EventReader, TextFault};
 
@@ -69,28 +73,6 @@ fn make_room<O: Sink>(buf: &[u8], at: usize, out: &mut O) -> Result<usize, SinkF
     }
 }
 
-// Ends the picture of a legal trace.
-fn end_legal<O: Sink>(
-    buf: &mut [u8],
-    at: usize,
-    layout: &Layout,
-    view: &View,
-    board: &Board,
-    count: u64,
-    out: &mut O,
-) -> Result<(), SinkFault>
-    requires lawful { IsLawful layout.now }
-    requires few { count < 2 ^ 42 }
-    requires room { at + 60000 ≤ length buf.old }
-    ensures ok { OnOk result (Appends (O.held out.old) (O.held out.new)
-        (take at buf.old ++ ending layout.now view.now (kept_of board.now) count legal_words)) }
-    ensures err { OnErr result (AppendsFront (O.held out.old) (O.held out.new)
-        (take at buf.old ++ ending layout.now view.now (kept_of board.now) count legal_words)) }
-    ensures cause { HasCause (O.faults out.old) (O.faults out.new) result }
-{
-    end_with(buf, at, layout, view, board, count, b"legal, events: ", out)
-}
-
 // Ends the picture of an input that can't be read further.
 fn end_cut<O: Sink>(
     buf: &mut [u8],
@@ -123,7 +105,8 @@ fn end_cut<O: Sink>(
 }
 
 /// Checks at most `budget` bytes of the input, and draws the events on the way. The picture ends with the trace, at the first event
-/// that fails, or where the input can't be read further; nothing is drawn where its head can't be read.
+/// that fails, or where the input can't be read further; nothing is drawn where its head can't be read. Where the lock order is wanted, the
+/// picture of a legal trace has a ring around each event that takes a step of a cycle, or says that there is no cycle.
 pub fn draw_trace<I: Source, O: Sink>(
     input: &mut I,
     budget: u64,
@@ -169,13 +152,15 @@ fn draw_by<I: Source, O: Sink>(
     ensures later { I.faults input.old ≤ I.faults input.new }
 {
     let mut reader = EventReader::new(input, budget);
-    draw_all(&mut reader, view, buf, out)
+    let mut nestings = Nestings::new();
+    draw_all(&mut reader, view, &mut nestings, buf, out)
 }
 
 // Draws what a new reader gives.
 fn draw_all<I: Source, O: Sink>(
     reader: &mut EventReader<I>,
     view: &View,
+    nestings: &mut Nestings,
     buf: &mut [u8],
     out: &mut O,
 ) -> Result<Verdict, SinkFault>
@@ -183,6 +168,7 @@ fn draw_all<I: Source, O: Sink>(
     requires lines { (standing I.left reader.old).lines ≡ 0 }
     requires large { 100000 ≤ length buf.old }
     requires fits { (standing I.left reader.old).room ≤ 2 ^ 40 }
+    requires empty { IsKept [] at_first nestings.old }
     ensures just { IfOk result (λ v. IsJust (standing I.left reader.old).room (standing I.left reader.old).rest (I.left
         (input_of reader.new).now)
         (I.faults (input_of reader.old).now) (I.faults (input_of reader.new).now) v) }
@@ -211,6 +197,7 @@ fn draw_all<I: Source, O: Sink>(
         match reader.next_event() {
             Ok(Some(event)) => match state.apply(&event) {
                 Ok(()) => {
+                    note_if(nestings, view.ordered, &event, place);
                     at = add_step(buf, free, &layout, view, &mut board, place, &event);
                     place += 1;
                 }
@@ -225,7 +212,7 @@ fn draw_all<I: Source, O: Sink>(
             },
             Ok(None) => {
                 let totals = state.summary();
-                return match end_legal(buf, free, &layout, view, &board, place, out) {
+                return match end_legal(buf, free, &layout, view, &board, nestings, place, out) {
                     Ok(()) => Ok(legal(place, &totals)),
                     Err(fault) => Err(fault),
                 };

@@ -87,9 +87,9 @@ pub fn add_last_tags(buf: &mut [u8], at: usize, layout: &Layout, view: &View, co
     add(buf, at, b"px}</style>\n</svg>\n")
 }
 
-// Adds words and a count as the last line, and what follows it.
+/// Adds words and a count as the last line, and what follows it.
 #[tactic(auto, unfolding(crate::specs::Picture::end_text))]
-fn add_end(
+pub fn add_end(
     buf: &mut [u8],
     at: usize,
     layout: &Layout,

@@ -2,7 +2,7 @@
 //! an arrow from the event that let a thread go on.
 //!
 //! Promises: `draw_trace` checks the trace as `trace_check` does, and the sink gets exactly the picture that specs/Picture.antt defines.
-//! Stands on the reader and the printer of trace_core and the state of larch_actions. It takes no memory, and keeps of the events
+//! Stands on the reader and the printer of trace_core, the state of larch_actions and the lock order. It takes no memory, and keeps of the events
 //! only since when each mutex is held and each thread waits, and which let each thread go on (`board`, on which explanations stand too).
 //! How the picture looks is no promise.
 #![tactic(auto)]
@@ -18,6 +18,7 @@ pub mod history;
 pub mod laws;
 mod legend;
 pub mod marks;
+mod rings;
 pub mod shapes;
 pub mod tags;
 mod view;

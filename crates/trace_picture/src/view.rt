@@ -2,11 +2,12 @@
 ghost use Rattle.std.specs.Prelude.{◌≡◌, ◌<◌, ◌≤◌, ◌+◌, ◌-◌, ◌^◌, ◌↔◌, IsTrue, true, false};
 ghost use Rattle.trace_picture.specs.Places.{in_view, column, is_open, bands, shown};
 
-/// The part of a trace that is drawn: the events from `first` on and before `end`.
+/// What of a trace is drawn: the events from `first` on and before `end`, and whether a cycle of its lock order is ringed.
 #[derive(Clone, Copy, Debug, PartialEq, Eq)]
 pub struct View {
     pub first: u64,
     pub end: u64,
+    pub ordered: bool,
 }
 
 /// Whether the event is drawn.

@@ -7,7 +7,10 @@ use Rattle.trace_check.proofs.Fronts.{event_line_some}
 use Rattle.trace_core.specs.Reader.{standing}
 use Rattle.trace_picture.specs.Kept.{kept_of}
 use Rattle.trace_picture.specs.Picture.{head_text}
-use Rattle.trace_picture.proofs.Drawing.{drawing_starts, drawing_few, drawing_room, drawing_steps, headless_drawn, room_cut, refused_got, refused_cut, legal_got, legal_cut, failed_got, failed_cut, take_none}
+use Rattle.larch_actions.specs.State.{spec_of}
+use Rattle.lock_order.proofs.Reading.{has_place}
+use Rattle.trace_picture.proofs.Ringing.{ringing_starts, ringing_room, ringing_steps}
+use Rattle.trace_picture.proofs.Drawing.{drawing_few, drawing_room, headless_drawn, room_cut, refused_got, refused_cut, legal_got, legal_cut, failed_got, failed_cut, take_none}
 use Rattle.trace_picture.proofs.draw.draw_all.Goals as goal
 
 -- a fault since a later count is one since the earlier
@@ -36,7 +39,7 @@ pub loop-free-init : goal.loop-free-init
 loop-free-init g c =
     let text : take c.add_head-at.result c.add_head-at.new.buf ≡ [] ++ head_text c.in-Ok.layout = c.add_head-at.ensures.text ∙ ap (λ x. x ++ head_text c.in-Ok.layout) (take_none c.args.buf.now) in
     record {
-      drawing = drawing_starts _ _ _ _ _ _ c.in-Ok.layout c.new-state.result c.args.view.now (g.O.Sink.held c.args.out.now) (take c.add_head-at.result c.add_head-at.new.buf) (kept_of c.new-board.result) refl refl c.requires.lines c.in-Ok.ensures.head c.head.ensures.later c.new-state.ensures.layout c.new-state.ensures.first text c.new-board.ensures;
+      ringing = ringing_starts _ _ _ _ _ _ c.in-Ok.layout c.new-state.result c.args.view.now (g.O.Sink.held c.args.out.now) (take c.add_head-at.result c.add_head-at.new.buf) (kept_of c.new-board.result) c.args.view.now.ordered c.args.nestings.now refl refl c.requires.lines c.in-Ok.ensures.head c.head.ensures.later c.new-state.ensures.layout c.new-state.ensures.first text c.new-board.ensures c.requires.empty;
       laid = sym c.in-Ok.ensures.head.layout;
       within = omega (arith, c.add_head-at.ensures.near, c.requires.large, c.add_head-at.auto.buf);
       same_input = c.head.ensures.same_input;
@@ -47,26 +50,26 @@ loop-free-init g c =
 
 pub returns-in-Err-make_room-clause-cut_off : goal.returns-in-Err-make_room-clause-cut_off
 returns-in-Err-make_room-clause-cut_off g c =
-    room_cut _ _ _ _ _ _ _ _ _ _ _ _ c.loop-free.invariant.drawing [] (g.O.Sink.held c.make_room.new.out) c.in-Ok.layout c.loop-free.invariant.laid c.in-Err-make_room.ensures.err
+    room_cut _ _ _ _ _ _ _ _ _ _ _ _ c.loop-free.invariant.ringing.drawing [] (g.O.Sink.held c.make_room.new.out) c.in-Ok.layout c.loop-free.invariant.laid c.in-Err-make_room.ensures.err
 
 pub add_step-at-requires-clause-few : goal.add_step-at-requires-clause-few
-add_step-at-requires-clause-few g c = omega (arith, drawing_few _ _ _ _ _ _ _ _ _ _ _ _ c.loop-free.invariant.drawing, c.requires.fits)
+add_step-at-requires-clause-few g c = omega (arith, drawing_few _ _ _ _ _ _ _ _ _ _ _ _ c.loop-free.invariant.ringing.drawing, c.requires.fits)
 
 pub loop-free-smaller : goal.loop-free-smaller
 loop-free-smaller g c =
-    let u = c.loop-free.invariant.drawing.under_way in
+    let u = c.loop-free.invariant.ringing.drawing.under_way in
     let taken = rw c.in-Ok-Some.field-0-is at (c.in-Ok-Some.ensures.event u.phase) in
     omega (arith, taken.passes.room, event_line_some c.loop-free.reader.progress.place c.in-Ok-Some.event)
 
 pub loop-free-preserved : goal.loop-free-preserved
 loop-free-preserved g c =
     let i = c.loop-free.invariant in
-    let u = i.drawing.under_way in
+    let u = i.ringing.drawing.under_way in
     let fits : (standing g.I.Source.left c.args.reader.now).room < 2 ^ 64 - 1 = omega (arith, c.requires.fits) in
     let taken = rw c.in-Ok-Some.field-0-is at (c.in-Ok-Some.ensures.event u.phase) in
-    let d = drawing_room _ _ _ _ _ _ _ _ _ _ _ _ i.drawing (g.O.Sink.held c.make_room.new.out) (take c.in-Ok-make_room.free c.loop-free.buf) c.in-Ok-make_room.ensures.ok in
+    let d = ringing_room _ _ _ _ _ _ _ _ _ _ _ _ _ _ i.ringing (g.O.Sink.held c.make_room.new.out) (take c.in-Ok-make_room.free c.loop-free.buf) c.in-Ok-make_room.ensures.ok in
     record {
-      drawing = drawing_steps _ _ _ _ _ _ _ _ _ _ _ _ d _ _ c.apply.new.self c.in-Ok-Some.event (take c.add_step-at.result c.add_step-at.new.buf) (kept_of c.add_step-at.new.board) c.in-Ok.layout i.laid fits taken c.in-Ok-apply.ensures.ok c.apply.ensures.layout c.next_event.ensures.later c.add_step-at.ensures.text c.add_step-at.ensures.kept;
+      ringing = ringing_steps _ _ _ _ _ _ _ _ _ _ _ _ _ _ d _ _ c.apply.new.self c.in-Ok-Some.event (take c.add_step-at.result c.add_step-at.new.buf) (kept_of c.add_step-at.new.board) c.note_if.new.nestings c.in-Ok.layout i.laid fits taken c.in-Ok-apply.ensures.ok c.apply.ensures.layout c.next_event.ensures.later c.add_step-at.ensures.text c.add_step-at.ensures.kept c.note_if.ensures;
       laid = i.laid ∙ sym taken.layout;
       within = omega (arith, c.add_step-at.ensures.near, c.in-Ok-make_room.ensures.room, c.add_step-at.auto.buf);
       same_input = c.next_event.ensures.same_input ∙ i.same_input;
@@ -76,38 +79,38 @@ loop-free-preserved g c =
     }
 
 pub end_failed-requires-clause-few : goal.end_failed-requires-clause-few
-end_failed-requires-clause-few g c = omega (arith, drawing_few _ _ _ _ _ _ _ _ _ _ _ _ c.loop-free.invariant.drawing, c.requires.fits)
+end_failed-requires-clause-few g c = omega (arith, drawing_few _ _ _ _ _ _ _ _ _ _ _ _ c.loop-free.invariant.ringing.drawing, c.requires.fits)
 
 pub end_legal-requires-clause-few : goal.end_legal-requires-clause-few
-end_legal-requires-clause-few g c = omega (arith, drawing_few _ _ _ _ _ _ _ _ _ _ _ _ c.loop-free.invariant.drawing, c.requires.fits)
+end_legal-requires-clause-few g c = omega (arith, drawing_few _ _ _ _ _ _ _ _ _ _ _ _ c.loop-free.invariant.ringing.drawing, c.requires.fits)
 
 pub end_cut-requires-clause-few : goal.end_cut-requires-clause-few
-end_cut-requires-clause-few g c = omega (arith, drawing_few _ _ _ _ _ _ _ _ _ _ _ _ c.loop-free.invariant.drawing, c.requires.fits)
+end_cut-requires-clause-few g c = omega (arith, drawing_few _ _ _ _ _ _ _ _ _ _ _ _ c.loop-free.invariant.ringing.drawing, c.requires.fits)
 
 pub returns-in-Ok-end_failed-clause-just : goal.returns-in-Ok-end_failed-clause-just
 returns-in-Ok-end_failed-clause-just g c =
-    let u = c.loop-free.invariant.drawing.under_way in
+    let u = c.loop-free.invariant.ringing.drawing.under_way in
     let taken = rw c.in-Ok-Some.field-0-is at (c.in-Ok-Some.ensures.event u.phase) in
     fails_on _ _ _ _ _ _ _ _ c.in-Ok-Some.event c.in-Err-apply.why u taken c.in-Err-apply.ensures.refused
 
 pub returns-in-Ok-end_failed-clause-drawn : goal.returns-in-Ok-end_failed-clause-drawn
 returns-in-Ok-end_failed-clause-drawn g c =
     let i = c.loop-free.invariant in
-    let d = drawing_room _ _ _ _ _ _ _ _ _ _ _ _ i.drawing (g.O.Sink.held c.make_room.new.out) (take c.in-Ok-make_room.free c.loop-free.buf) c.in-Ok-make_room.ensures.ok in
-    let u = c.loop-free.invariant.drawing.under_way in
+    let d = drawing_room _ _ _ _ _ _ _ _ _ _ _ _ i.ringing.drawing (g.O.Sink.held c.make_room.new.out) (take c.in-Ok-make_room.free c.loop-free.buf) c.in-Ok-make_room.ensures.ok in
+    let u = c.loop-free.invariant.ringing.drawing.under_way in
     let taken = rw c.in-Ok-Some.field-0-is at (c.in-Ok-Some.ensures.event u.phase) in
     failed_got _ _ _ _ _ _ _ _ _ _ _ _ _ d _ (g.O.Sink.held c.end_failed.new.out) c.in-Ok.layout c.in-Ok-Some.event c.in-Err-apply.why i.laid taken c.in-Err-apply.ensures.refused refl c.in-Ok-end_failed.ensures.ok
 
 pub returns-in-Err-end_failed-clause-cut_off : goal.returns-in-Err-end_failed-clause-cut_off
 returns-in-Err-end_failed-clause-cut_off g c =
     let i = c.loop-free.invariant in
-    let d = drawing_room _ _ _ _ _ _ _ _ _ _ _ _ i.drawing (g.O.Sink.held c.make_room.new.out) (take c.in-Ok-make_room.free c.loop-free.buf) c.in-Ok-make_room.ensures.ok in
+    let d = drawing_room _ _ _ _ _ _ _ _ _ _ _ _ i.ringing.drawing (g.O.Sink.held c.make_room.new.out) (take c.in-Ok-make_room.free c.loop-free.buf) c.in-Ok-make_room.ensures.ok in
     failed_cut _ _ _ _ _ _ _ _ _ _ _ _ d _ (g.O.Sink.held c.end_failed.new.out) c.in-Ok.layout i.laid c.in-Ok-Some.event c.in-Err-apply.why refl c.in-Err-end_failed.ensures.err
 
 pub returns-in-Ok-end_legal-clause-just : goal.returns-in-Ok-end_legal-clause-just
 returns-in-Ok-end_legal-clause-just g c =
     let fits : (standing g.I.Source.left c.args.reader.now).room < 2 ^ 64 - 1 = omega (arith, c.requires.fits) in
-    let u = c.loop-free.invariant.drawing.under_way in
+    let u = c.loop-free.invariant.ringing.drawing.under_way in
     let taken = rw c.in-Ok-None.field-0-is at (c.in-Ok-None.ensures.end u.phase) in
     let sums = c.summary-totals.ensures in
     let s : Summary = record { events = c.loop-free.place; held = c.summary-totals.result.held; waiting = c.summary-totals.result.waiting; alerted = c.summary-totals.result.alerted } in
@@ -116,36 +119,38 @@ returns-in-Ok-end_legal-clause-just g c =
 pub returns-in-Ok-end_legal-clause-drawn : goal.returns-in-Ok-end_legal-clause-drawn
 returns-in-Ok-end_legal-clause-drawn g c =
     let i = c.loop-free.invariant in
-    let d = drawing_room _ _ _ _ _ _ _ _ _ _ _ _ i.drawing (g.O.Sink.held c.make_room.new.out) (take c.in-Ok-make_room.free c.loop-free.buf) c.in-Ok-make_room.ensures.ok in
+    let r = ringing_room _ _ _ _ _ _ _ _ _ _ _ _ _ _ i.ringing (g.O.Sink.held c.make_room.new.out) (take c.in-Ok-make_room.free c.loop-free.buf) c.in-Ok-make_room.ensures.ok in
     let fits : (standing g.I.Source.left c.args.reader.now).room < 2 ^ 64 - 1 = omega (arith, c.requires.fits) in
-    let u = c.loop-free.invariant.drawing.under_way in
+    let u = c.loop-free.invariant.ringing.drawing.under_way in
     let taken = rw c.in-Ok-None.field-0-is at (c.in-Ok-None.ensures.end u.phase) in
     let sums = c.summary-totals.ensures in
     let s : Summary = record { events = c.loop-free.place; held = c.summary-totals.result.held; waiting = c.summary-totals.result.waiting; alerted = c.summary-totals.result.alerted } in
-    rw c.legal.ensures (legal_got _ _ _ _ _ _ _ _ _ _ _ _ _ d _ (g.O.Sink.held c.end_legal.new.out) c.in-Ok.layout s i.laid fits taken refl sums.held sums.waiting sums.alerted refl c.in-Ok-end_legal.ensures.ok)
+    let b = c.in-Ok-end_legal.ensures.ended r.drawing.under_way.events (spec_of c.loop-free.state) r.noted in
+    rw c.legal.ensures (legal_got _ _ _ _ _ _ _ _ _ _ _ _ _ r.drawing b.0 (g.O.Sink.held c.end_legal.new.out) c.in-Ok.layout s i.laid fits taken refl sums.held sums.waiting sums.alerted b.1 b.2.0)
 
 pub returns-in-Err-end_legal-clause-cut_off : goal.returns-in-Err-end_legal-clause-cut_off
 returns-in-Err-end_legal-clause-cut_off g c =
     let i = c.loop-free.invariant in
-    let d = drawing_room _ _ _ _ _ _ _ _ _ _ _ _ i.drawing (g.O.Sink.held c.make_room.new.out) (take c.in-Ok-make_room.free c.loop-free.buf) c.in-Ok-make_room.ensures.ok in
-    legal_cut _ _ _ _ _ _ _ _ _ _ _ _ d _ (g.O.Sink.held c.end_legal.new.out) c.in-Ok.layout i.laid refl c.in-Err-end_legal.ensures.err
+    let r = ringing_room _ _ _ _ _ _ _ _ _ _ _ _ _ _ i.ringing (g.O.Sink.held c.make_room.new.out) (take c.in-Ok-make_room.free c.loop-free.buf) c.in-Ok-make_room.ensures.ok in
+    let b = c.in-Err-end_legal.ensures.ended r.drawing.under_way.events (spec_of c.loop-free.state) r.noted in
+    legal_cut _ _ _ _ _ _ _ _ _ _ _ _ r.drawing [] (g.O.Sink.held c.end_legal.new.out) c.in-Ok.layout i.laid b.0 b.1 b.2.1
 
 pub returns-in-Ok-end_cut-clause-just : goal.returns-in-Ok-end_cut-clause-just
 returns-in-Ok-end_cut-clause-just g c =
     let fits : (standing g.I.Source.left c.args.reader.now).room < 2 ^ 64 - 1 = omega (arith, c.requires.fits) in
-    let u = c.loop-free.invariant.drawing.under_way in
+    let u = c.loop-free.invariant.ringing.drawing.under_way in
     rw c.refused-in-Ok-end_cut.ensures (fault_on _ _ _ _ _ _ _ _ _ _ c.in-Err-next_event.broken fits u (c.in-Err-next_event.ensures.fault u.phase))
 
 pub returns-in-Ok-end_cut-clause-drawn : goal.returns-in-Ok-end_cut-clause-drawn
 returns-in-Ok-end_cut-clause-drawn g c =
     let i = c.loop-free.invariant in
-    let d = drawing_room _ _ _ _ _ _ _ _ _ _ _ _ i.drawing (g.O.Sink.held c.make_room.new.out) (take c.in-Ok-make_room.free c.loop-free.buf) c.in-Ok-make_room.ensures.ok in
+    let d = drawing_room _ _ _ _ _ _ _ _ _ _ _ _ i.ringing.drawing (g.O.Sink.held c.make_room.new.out) (take c.in-Ok-make_room.free c.loop-free.buf) c.in-Ok-make_room.ensures.ok in
     rw c.refused-in-Ok-end_cut.ensures (refused_got _ _ _ _ _ _ _ _ _ _ _ _ d _ (g.O.Sink.held c.end_cut.new.out) c.in-Ok.layout i.laid c.in-Err-next_event.broken refl c.in-Ok-end_cut.ensures.ok)
 
 pub returns-in-Err-end_cut-clause-cut_off : goal.returns-in-Err-end_cut-clause-cut_off
 returns-in-Err-end_cut-clause-cut_off g c =
     let i = c.loop-free.invariant in
-    let d = drawing_room _ _ _ _ _ _ _ _ _ _ _ _ i.drawing (g.O.Sink.held c.make_room.new.out) (take c.in-Ok-make_room.free c.loop-free.buf) c.in-Ok-make_room.ensures.ok in
+    let d = drawing_room _ _ _ _ _ _ _ _ _ _ _ _ i.ringing.drawing (g.O.Sink.held c.make_room.new.out) (take c.in-Ok-make_room.free c.loop-free.buf) c.in-Ok-make_room.ensures.ok in
     refused_cut _ _ _ _ _ _ _ _ _ _ _ _ d _ (g.O.Sink.held c.end_cut.new.out) c.in-Ok.layout i.laid refl c.in-Err-end_cut.ensures.err
 
 pub returns-in-Err-make_room-clause-cause : goal.returns-in-Err-make_room-clause-cause
@@ -229,6 +234,17 @@ end_failed-requires-clause-lawful g c = c.in-Ok.ensures.head.lawful
 pub end_failed-requires-clause-room : goal.end_failed-requires-clause-room
 end_failed-requires-clause-room g c = omega (arith, c.in-Ok-make_room.ensures.room)
 
+pub end_legal-requires-clause-noted : goal.end_legal-requires-clause-noted
+end_legal-requires-clause-noted g c = λ wanted.
+    let r = c.loop-free.invariant.ringing in
+    (r.drawing.under_way.events, spec_of c.loop-free.state, r.noted wanted, sym r.drawing.under_way.counted)
+
+pub note_if-requires : goal.note_if-requires
+note_if-requires g c =
+    let u = c.loop-free.invariant.ringing.drawing.under_way in
+    let taken = rw c.in-Ok-Some.field-0-is at (c.in-Ok-Some.ensures.event u.phase) in
+    has_place _ _ u.lawful taken.names
+
 pub end_legal-requires-clause-lawful : goal.end_legal-requires-clause-lawful
 end_legal-requires-clause-lawful g c = c.in-Ok.ensures.head.lawful
 
@@ -244,14 +260,14 @@ end_cut-requires-clause-room g c = omega (arith, c.in-Ok-make_room.ensures.room)
 pub add_step-at-requires-clause-named : goal.add_step-at-requires-clause-named
 add_step-at-requires-clause-named g c =
     let i = c.loop-free.invariant in
-    let taken = rw c.in-Ok-Some.field-0-is at (c.in-Ok-Some.ensures.event i.drawing.under_way.phase) in
+    let taken = rw c.in-Ok-Some.field-0-is at (c.in-Ok-Some.ensures.event i.ringing.drawing.under_way.phase) in
     subst (λ l. HasNames l c.in-Ok-Some.event) (sym i.laid) taken.names
 
 pub apply-requires : goal.apply-requires
 apply-requires g c =
-    let u = c.loop-free.invariant.drawing.under_way in
+    let u = c.loop-free.invariant.ringing.drawing.under_way in
     let taken = rw c.in-Ok-Some.field-0-is at (c.in-Ok-Some.ensures.event u.phase) in
     subst (λ l. HasNames l c.in-Ok-Some.event) (sym u.layout) taken.names
 
 pub overflow_add-place : goal.overflow_add-place
-overflow_add-place g c = omega (arith, drawing_few _ _ _ _ _ _ _ _ _ _ _ _ c.loop-free.invariant.drawing, c.requires.fits)
+overflow_add-place g c = omega (arith, drawing_few _ _ _ _ _ _ _ _ _ _ _ _ c.loop-free.invariant.ringing.drawing, c.requires.fits)

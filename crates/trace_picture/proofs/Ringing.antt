@@ -1,0 +1,93 @@
+-- What holds between two events of a drawing where it is kept what the events nest.
+use Rattle.std.proofs.Common.{◌≡◌, ℕ, zero, suc, ◌+◌, ◌-◌, ◌^◌, ◌<◌, ◌≤◌, Bool, true, List, [], ◌∷◌, ◌++◌, length, length-append, take, get_or, ap, sym, subst, ◌∙◌, append-nil, arith}
+use Rattle.std.specs.Prelude.{codes}
+use Rattle.std.specs.List.{AllByRecursion, flat_map}
+use Rattle.std.specs.declared.option.Option.{Option}
+use Rattle.std.proofs.lemmas.List.{take_more}
+use Rattle.std.proofs.lemmas.List.Concat.{flat_map-append}
+use Rattle.larch_actions.specs.declared.event.Layout.{Layout}
+use Rattle.larch_actions.specs.declared.event.Event.{Event}
+use Rattle.larch_actions.specs.Actions.{Spec, Acts, at_first}
+use Rattle.larch_actions.specs.State.{Moment, spec_of}
+use Rattle.trace_core.specs.Standing.{Standing}
+use Rattle.trace_core.specs.Steps.{TakesHead, TakesEvent}
+use Rattle.trace_core.specs.Whole.{Flows}
+use Rattle.trace_check.proofs.UnderWay.{starts_on, step_on}
+use Rattle.lock_order.specs.declared.answer.Nested.{Nested}
+use Rattle.lock_order.specs.declared.nestings.Nestings.{Nestings}
+use Rattle.lock_order.specs.Order.{IsFirst, TellsCycle}
+use Rattle.lock_order.specs.Kept.{IsKept}
+use Rattle.trace_picture.specs.declared.view.View.{View}
+use Rattle.trace_picture.specs.Kept.{Kept, nothing_kept, kept_after}
+use Rattle.trace_picture.specs.Picture.{head_text}
+use Rattle.trace_picture.specs.Bands.{step_text}
+use Rattle.trace_picture.specs.Shapes.{with_number}
+use Rattle.trace_picture.specs.Rings.{ring_x, ring_y, ring_text}
+use Rattle.trace_picture.proofs.Added.{added_five}
+use Rattle.trace_picture.proofs.Drawing.{IsDrawing, drawing_starts, drawing_room, drawing_steps}
+
+-- so far these events were read and drawn, and where that is wanted it is kept what they nest
+pub record IsRinging (budget : ℕ) (left₀ : Option (List ℕ)) (before : ℕ) (st : Standing) (now : ℕ) (m : Moment) (count : ℕ) (v : View) (told₀ told : Option (List ℕ)) (kept : List ℕ) (k : Kept) (on : Bool) (n : Nestings) : Type 0 where
+  pub drawing : IsDrawing budget left₀ before st now m count v told₀ told kept k
+  pub noted : on ≡ true → IsKept drawing.under_way.events (spec_of m) n
+
+pub ringing_starts : (budget : ℕ) (left₀ : Option (List ℕ)) (before now : ℕ) (p p' : Standing) (l : Layout) (m : Moment) (v : View) (told : Option (List ℕ)) (kept : List ℕ) (k : Kept) (on : Bool) (n : Nestings)
+    → p.rest ≡ left₀ → p.room ≡ budget → p.lines ≡ 0 → TakesHead p p' l → before ≤ now → m.layout ≡ l → spec_of m ≡ at_first → kept ≡ [] ++ head_text l → k ≡ nothing_kept → IsKept [] at_first n
+    → IsRinging budget left₀ before p' now m 0 v told told kept k on n
+unfolding starts_on drawing_starts
+ringing_starts budget left₀ before now p p' l m v told kept k on n rest room lines t le laid first text none empty = record {
+  drawing = drawing_starts budget left₀ before now p p' l m v told kept k rest room lines t le laid first text none;
+  noted = λ wanted. subst (λ (z : Spec). IsKept [] z n) (sym first) empty;
+}
+
+module _ (budget : ℕ) (left₀ : Option (List ℕ)) (before now : ℕ) (p : Standing) (m : Moment) (count : ℕ) (v : View) (told₀ told : Option (List ℕ)) (kept : List ℕ) (k : Kept) (on : Bool) (n : Nestings)
+    (r : IsRinging budget left₀ before p now m count v told₀ told kept k on n) where
+  pub ringing_room : (told' : Option (List ℕ)) (kept' : List ℕ) → Flows told told' kept kept' [] → IsRinging budget left₀ before p now m count v told₀ told' kept' k on n
+  unfolding drawing_room
+  ringing_room told' kept' f = record {
+    drawing = drawing_room budget left₀ before now p m count v told₀ told kept k r.drawing told' kept' f;
+    noted = r.noted;
+  }
+
+  pub ringing_steps : (now' : ℕ) (p' : Standing) (m' : Moment) (e : Event) (kept' : List ℕ) (k' : Kept) (n' : Nestings) (l : Layout) → l ≡ p.layout → budget < 2 ^ 64 - 1 → TakesEvent p p' e → Acts (spec_of m) e (spec_of m') → m'.layout ≡ m.layout → now ≤ now'
+      → kept' ≡ kept ++ step_text l v k count e → k' ≡ kept_after count e k
+      → (on ≡ true → (es : List Event) (s s' : Spec) → count ≡ length es → Acts s e s' → IsKept es s n → IsKept (es ++ e ∷ []) s' n')
+      → IsRinging budget left₀ before p' now' m' (count + 1) v told₀ told kept' k' on n'
+  unfolding step_on drawing_steps
+  ringing_steps now' p' m' e kept' k' n' l same_l fits t a same le text turns notes = record {
+    drawing = drawing_steps budget left₀ before now p m count v told₀ told kept k r.drawing now' p' m' e kept' k' l same_l fits t a same le text turns;
+    noted = λ wanted. notes wanted r.drawing.under_way.events (spec_of m) (spec_of m') (sym r.drawing.under_way.counted) a (r.noted wanted);
+  }
+
+-- the event of a nesting is one of the list
+first_near : (es : List Event) (n : Nested) → IsFirst es n → n.place < length es
+first_near es n f = omega (arith, f.nests.counted, ap length f.nests.split, length-append f.nests.before (f.nests.event ∷ f.nests.after))
+
+all_near : (es : List Event) (bound : ℕ) → length es ≤ bound → (ns : List Nested) → AllByRecursion (IsFirst es) ns → AllByRecursion (λ (n : Nested). n.place < bound) ns
+all_near es bound le [] h = tt
+all_near es bound le (n ∷ ns) h = (omega (arith, first_near es n h.0), all_near es bound le ns h.1)
+
+-- the events of a cycle are below the bound that their count is below
+pub cycle_near : (es : List Event) (bound count : ℕ) (ns : List Nested) → TellsCycle es ns → count ≡ length es → count < bound → AllByRecursion (λ (n : Nested). n.place < bound) ns
+cycle_near es bound count ns c counted few = all_near es bound (omega arith) ns c.firsts
+
+-- one of them all
+pub one_near : (bound : ℕ) (ns : List Nested) (k : ℕ) (n : Nested) → k < length ns → n ≡ get_or ns k n → AllByRecursion (λ (n : Nested). n.place < bound) ns → n.place < bound
+one_near bound [] k n lt is h = absurd (omega arith)
+one_near bound (x ∷ ns) zero n lt is h = subst (λ (y : Nested). y.place < bound) (sym is) h.0
+one_near bound (x ∷ ns) (suc k) n lt is h = one_near bound ns k n (omega arith) is h.1
+
+-- one more text
+pub texts_more : (f : Nested → List ℕ) (ns : List Nested) (k : ℕ) (n : Nested) → k < length ns → n ≡ get_or ns k n → flat_map f (take k ns) ++ f n ≡ flat_map f (take (k + 1) ns)
+texts_more f ns k n lt is =
+    ap (λ l. flat_map f (take k ns) ++ l) (sym (append-nil (f n))) ∙ sym (flat_map-append f (take k ns) (n ∷ []))
+    ∙ ap (λ x. flat_map f (take k ns ++ x ∷ [])) is ∙ ap (flat_map f) (sym (take_more ns k n lt))
+
+-- the pieces of a ring
+pub added_ring : (l : Layout) (v : View) (n : Nested) (x y m k : ℕ) (old a b c d e : List ℕ) → x ≡ ring_x v n → y ≡ ring_y l v n → m ≡ n.outer.0 → k ≡ n.inner.0
+    → a ≡ old ++ with_number (codes "<circle class='c' r='8' cx='") x → b ≡ a ++ with_number (codes ".5' cy='") y → c ≡ b ++ with_number (codes ".5' fill='none' stroke='#c00' stroke-width='2'><title>m") m
+    → d ≡ c ++ with_number (codes " then m") k → e ≡ d ++ codes "</title></circle>\n" → e ≡ old ++ ring_text l v n
+unfolding ring_text
+added_ring l v n x y m k old a b c d e ex ey em ek one two three four five =
+    added_five old a b c _ _ _ _ _ one two three d e four five
+    ∙ (λ i. old ++ (with_number (codes "<circle class='c' r='8' cx='") (ex i) ++ with_number (codes ".5' cy='") (ey i) ++ with_number (codes ".5' fill='none' stroke='#c00' stroke-width='2'><title>m") (em i) ++ with_number (codes " then m") (ek i) ++ codes "</title></circle>\n"))

@@ -1,0 +1,6 @@
+use Rattle.std.proofs.Common.{[]}
+use Rattle.trace_picture.proofs.Added.{added_three}
+use Rattle.trace_picture.proofs.rings.add_ringed_ending.Goals as goal
+
+pub returns-clause-text : goal.returns-clause-text
+returns-clause-text c = added_three _ _ _ _ _ _ _ [] [] c.add_last_closing-at.ensures.text c.add_rings-at.ensures.text c.add_end.ensures.text

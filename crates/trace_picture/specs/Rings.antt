@@ -1,0 +1,71 @@
+-- The rings around the events of a cycle of the lock order, and how the picture of a legal trace ends.
+use Rattle.std.specs.Prelude.{◌≡◌, ◌⊎◌, ℕ, ◌+◌, ◌-◌, ◌/◌, if◌then◌else◌, Bool, true, false, List, [], ◌++◌, length, codes, Result, OnOk, OnErr}
+use Rattle.std.specs.List.{flat_map}
+use Rattle.std.specs.Io.KnownBytes.{Appends}
+use Rattle.std.specs.declared.option.Option.{Option}
+use Rattle.firefly_outside.specs.Causes.{AppendsFront}
+use Rattle.larch_actions.specs.declared.event.Layout.{Layout}
+use Rattle.larch_actions.specs.declared.event.Event.{Event}
+use Rattle.larch_actions.specs.Actions.{Spec}
+use Rattle.lock_order.specs.declared.answer.Nested.{Nested}
+use Rattle.lock_order.specs.declared.nestings.Nestings.{Nestings}
+use Rattle.lock_order.specs.Order.{HasCycle, TellsCycle}
+use Rattle.lock_order.specs.Kept.{IsKept}
+use Rattle.trace_picture.specs.declared.view.View.{View}
+use Rattle.trace_picture.specs.Kept.{Kept, kept_since, behind}
+use Rattle.trace_picture.specs.Places.{in_view, column, column_x, row_y, band_top}
+use Rattle.trace_picture.specs.Shapes.{with_number}
+use Rattle.trace_picture.specs.Picture.{closing_if, end_text, ending, legal_words, front_picture}
+
+-- the middle of the mark of the event by which the inner mutex was got while the outer one was held, but for the half point that the text adds
+abbrev pub ring_x : View → Nested → ℕ
+ring_x v n = column_x (column v n.place) + 5
+
+abbrev pub ring_y : Layout → View → Nested → ℕ
+ring_y l v n = band_top l ((n.place - v.first) / 100) + row_y n.thread.0 + 5
+
+-- a ring around this mark, with the two mutexes as its title
+unfoldable pub ring_text : Layout → View → Nested → List ℕ
+ring_text l v n =
+    with_number (codes "<circle class='c' r='8' cx='") (ring_x v n) ++ with_number (codes ".5' cy='") (ring_y l v n)
+    ++ with_number (codes ".5' fill='none' stroke='#c00' stroke-width='2'><title>m") n.outer.0 ++ with_number (codes " then m") n.inner.0 ++ codes "</title></circle>\n"
+
+-- the ring, where the event is drawn
+abbrev pub ring_if : Layout → View → Nested → List ℕ
+ring_if l v n = if in_view v n.place then ring_text l v n else []
+
+abbrev pub rings_text : Layout → View → List Nested → List ℕ
+rings_text l v ns = flat_map (ring_if l v) ns
+
+abbrev pub ringed_words : List ℕ
+ringed_words = codes "legal, a lock-order cycle is ringed, events: "
+
+abbrev pub no_cycle_words : List ℕ
+no_cycle_words = codes "legal, no lock-order cycle, events: "
+
+-- the end of the picture of n events, with rings around the events of this cycle
+abbrev pub ringed_ending : Layout → View → Kept → ℕ → List Nested → List ℕ
+ringed_ending l v k n ns = closing_if l v k n ++ rings_text l v ns ++ end_text l v n (with_number ringed_words n)
+
+-- A cycle of the events is ringed, or they have none and this is said.
+abbrev pub ShowsOrdered : Layout → View → Kept → ℕ → List Event → List ℕ → Type 0
+ShowsOrdered l v k n es text =
+    ((ns : List Nested) × TellsCycle es ns × (text ≡ ringed_ending l v k n ns)) ⊎ ((¬ HasCycle es) × (text ≡ ending l v k n no_cycle_words))
+
+-- the end of the picture of n legal events, where the lock order is wanted or not
+abbrev pub IsEnding : Bool → Layout → View → Kept → ℕ → List Event → List ℕ → Type 0
+IsEnding false l v k n es text = text ≡ ending l v k n legal_words
+IsEnding true l v k n es text = ShowsOrdered l v k n es text
+
+-- the whole picture of a legal trace
+abbrev pub IsLegalPicture : Layout → View → List Event → List ℕ → Type 0
+IsLegalPicture l v es text =
+    (end : List ℕ) × IsEnding v.ordered l v (kept_since (behind [] es)) (length es) es end × (text ≡ front_picture l v es ++ end)
+
+-- it is kept what n events nest
+abbrev pub AreNoted : Nestings → ℕ → Type 0
+AreNoted k n = (es : List Event) × (now : Spec) × IsKept es now k × (n ≡ length es)
+
+-- the sink got this text, or a front of it where it failed
+abbrev pub Sends : {T E : Type 0} → Result T E → Option (List ℕ) → Option (List ℕ) → List ℕ → Type 0
+Sends r told told' text = OnOk r (Appends told told' text) × OnErr r (AppendsFront told told' text)

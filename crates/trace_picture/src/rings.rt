@@ -1,0 +1,214 @@
+//! Rings around the events of a cycle of the lock order, and how the picture of a legal trace ends.
+ghost use Rattle.std.specs.Prelude.{◌≡◌, ◌+◌, ◌*◌, ◌<◌, ◌≤◌, ◌^◌, ◌++◌, ◌∷◌, [], length, take, codes, ℕ, List, true, OnOk, OnErr};
+ghost use Rattle.std.specs.List.{AllByRecursion};
+ghost use Rattle.std.specs.Io.KnownBytes.{Appends};
+ghost use Rattle.firefly_outside.specs.Causes.{HasCause, AppendsFront};
+ghost use Rattle.larch_actions.specs.declared.event.Event.{Event};
+ghost use Rattle.larch_actions.specs.Layout.{IsLawful};
+ghost use Rattle.larch_actions.specs.Actions.{Spec, Acts};
+ghost use Rattle.lock_order.specs.declared.answer.Nested.{Nested};
+ghost use Rattle.lock_order.specs.Kept.{HasPlace, IsKept};
+ghost use Rattle.trace_picture.specs.Kept.{kept_of};
+ghost use Rattle.trace_picture.specs.Rings.{ring_y, ring_text, ring_if, rings_text, ringed_ending, ShowsOrdered, IsEnding, AreNoted, Sends};
+
+use crate::bands::top_of;
+use crate::board::Board;
+use crate::endings::{add_end, add_last_closing, end_with};
+use crate::shapes::{x_of, y_of};
+use crate::tags::add_with_number;
+use crate::view::{View, column_of, is_in_view};
+use firefly_outside::{Sink, SinkFault, put_all};
+use larch_actions::{Event, Layout};
+use lock_order::{Cycle, Nested, Nestings, cycle_in};
+use trace_core::add;
+
+/// Notes what the event nests, where the lock order is wanted.
+#[inline(always)]
+pub fn note_if(nestings: &mut Nestings, ordered: bool, e: &Event, place: u64)
+    requires { HasPlace e.now }
+    ensures { ordered ≡ true → (es : List Event) (now next : Spec) → place ≡ length es → Acts now e.now next
+        → IsKept es now nestings.old → IsKept (es ++ e.now ∷ []) next nestings.new }
+{
+    if ordered {
+        nestings.note(e, place);
+    }
+}
+
+// How high the middle of a ring is.
+fn middle_of(layout: &Layout, view: &View, nested: &Nested) -> u64
+    requires lawful { IsLawful layout.now }
+    requires few { nested.now.place < 2 ^ 42 }
+    ensures { result ≡ ring_y layout.now view.now nested.now }
+{
+    let band = nested.place.saturating_sub(view.first) / 100;
+    top_of(layout, band) + y_of(nested.thread.0) + 5
+}
+
+// Adds a ring.
+fn add_ring(buf: &mut [u8], at: usize, layout: &Layout, view: &View, nested: &Nested) -> usize
+    requires lawful { IsLawful layout.now }
+    requires few { nested.now.place < 2 ^ 42 }
+    requires room { at + 220 ≤ length buf.old }
+    ensures text { take result buf.new ≡ take at buf.old ++ ring_text layout.now view.now nested.now }
+    ensures near { result ≤ at + 220 }
+{
+    let x = x_of(column_of(view, nested.place)) + 5;
+    let y = middle_of(layout, view, nested);
+    let at = add_with_number(buf, at, b"<circle class='c' r='8' cx='", x);
+    let at = add_with_number(buf, at, b".5' cy='", y);
+    let at = add_with_number(
+        buf,
+        at,
+        b".5' fill='none' stroke='#c00' stroke-width='2'><title>m",
+        u64::from(nested.outer.0),
+    );
+    let at = add_with_number(buf, at, b" then m", u64::from(nested.inner.0));
+    add(buf, at, b"</title></circle>\n")
+}
+
+// Adds the ring, where its event is drawn.
+fn add_ring_if(buf: &mut [u8], at: usize, layout: &Layout, view: &View, nested: &Nested) -> usize
+    requires lawful { IsLawful layout.now }
+    requires few { nested.now.place < 2 ^ 42 }
+    requires room { at + 220 ≤ length buf.old }
+    ensures text { take result buf.new ≡ take at buf.old ++ ring_if layout.now view.now nested.now }
+    ensures near { result ≤ at + 220 }
+{
+    if is_in_view(view, nested.place) {
+        add_ring(buf, at, layout, view, nested)
+    } else {
+        at
+    }
+}
+
+// Adds the rings of a cycle.
+fn add_rings(buf: &mut [u8], at: usize, layout: &Layout, view: &View, cycle: &Cycle) -> usize
+    requires lawful { IsLawful layout.now }
+    requires few { AllByRecursion (λ (n : Nested). n.place < 2 ^ 42) cycle.now }
+    requires room { at + 220 * 64 ≤ length buf.old }
+    ensures text { take result buf.new ≡ take at buf.old ++ rings_text layout.now view.now cycle.now }
+    ensures near { result ≤ at + 220 * 64 }
+{
+    let mut last = at;
+    for k in 0..cycle.len() {
+        let nested = cycle.at(k);
+        last = add_ring_if(buf, last, layout, view, &nested);
+    }
+    last
+}
+
+// Adds the end of a picture in which a cycle is ringed.
+fn add_ringed_ending(
+    buf: &mut [u8],
+    at: usize,
+    layout: &Layout,
+    view: &View,
+    board: &Board,
+    cycle: &Cycle,
+    count: u64,
+) -> usize
+    requires lawful { IsLawful layout.now }
+    requires few { count < 2 ^ 42 }
+    requires places { AllByRecursion (λ (n : Nested). n.place < 2 ^ 42) cycle.now }
+    requires room { at + 60000 ≤ length buf.old }
+    ensures text { take result buf.new ≡ take at buf.old ++ ringed_ending layout.now view.now (kept_of board.now) count cycle.now }
+    ensures near { result ≤ at + 60000 }
+{
+    let at = add_last_closing(buf, at, layout, view, board, count);
+    let at = add_rings(buf, at, layout, view, cycle);
+    add_end(
+        buf,
+        at,
+        layout,
+        view,
+        count,
+        b"legal, a lock-order cycle is ringed, events: ",
+    )
+}
+
+// Sends what the buffer holds, and the end of a picture in which a cycle is ringed.
+fn end_ringed<O: Sink>(
+    buf: &mut [u8],
+    at: usize,
+    layout: &Layout,
+    view: &View,
+    board: &Board,
+    cycle: &Cycle,
+    count: u64,
+    out: &mut O,
+) -> Result<(), SinkFault>
+    requires lawful { IsLawful layout.now }
+    requires few { count < 2 ^ 42 }
+    requires places { AllByRecursion (λ (n : Nested). n.place < 2 ^ 42) cycle.now }
+    requires room { at + 60000 ≤ length buf.old }
+    ensures ok { OnOk result (Appends (O.held out.old) (O.held out.new)
+        (take at buf.old ++ ringed_ending layout.now view.now (kept_of board.now) count cycle.now)) }
+    ensures err { OnErr result (AppendsFront (O.held out.old) (O.held out.new)
+        (take at buf.old ++ ringed_ending layout.now view.now (kept_of board.now) count cycle.now)) }
+    ensures cause { HasCause (O.faults out.old) (O.faults out.new) result }
+{
+    let end = add_ringed_ending(buf, at, layout, view, board, cycle, count);
+    put_all(out, &buf[..end])
+}
+
+// Ends the picture of a legal trace whose lock order is wanted.
+fn end_ordered<O: Sink>(
+    buf: &mut [u8],
+    at: usize,
+    layout: &Layout,
+    view: &View,
+    board: &Board,
+    nestings: &Nestings,
+    count: u64,
+    out: &mut O,
+) -> Result<(), SinkFault>
+    requires lawful { IsLawful layout.now }
+    requires few { count < 2 ^ 42 }
+    requires noted { AreNoted nestings.now count }
+    requires room { at + 60000 ≤ length buf.old }
+    ensures ended { (es : List Event) (now : Spec) → IsKept es now nestings.now
+        → (end : List ℕ) × ShowsOrdered layout.now view.now (kept_of board.now) count es end
+        × Sends result (O.held out.old) (O.held out.new) (take at buf.old ++ end) }
+    ensures cause { HasCause (O.faults out.old) (O.faults out.new) result }
+{
+    match cycle_in(nestings) {
+        Some(cycle) => end_ringed(buf, at, layout, view, board, &cycle, count, out),
+        None => end_with(
+            buf,
+            at,
+            layout,
+            view,
+            board,
+            count,
+            b"legal, no lock-order cycle, events: ",
+            out,
+        ),
+    }
+}
+
+/// Ends the picture of a legal trace.
+pub fn end_legal<O: Sink>(
+    buf: &mut [u8],
+    at: usize,
+    layout: &Layout,
+    view: &View,
+    board: &Board,
+    nestings: &Nestings,
+    count: u64,
+    out: &mut O,
+) -> Result<(), SinkFault>
+    requires lawful { IsLawful layout.now }
+    requires few { count < 2 ^ 42 }
+    requires noted { view.now.ordered ≡ true → AreNoted nestings.now count }
+    requires room { at + 60000 ≤ length buf.old }
+    ensures ended { (es : List Event) (now : Spec) → (view.now.ordered ≡ true → IsKept es now nestings.now)
+        → (end : List ℕ) × IsEnding view.now.ordered layout.now view.now (kept_of board.now) count es end
+        × Sends result (O.held out.old) (O.held out.new) (take at buf.old ++ end) }
+    ensures cause { HasCause (O.faults out.old) (O.faults out.new) result }
+{
+    if view.ordered {
+        end_ordered(buf, at, layout, view, board, nestings, count, out)
+    } else {
+        end_with(buf, at, layout, view, board, count, b"legal, events: ", out)
+    }
+}
