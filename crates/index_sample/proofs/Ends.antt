@@ -3,9 +3,7 @@ use Rattle.std.proofs.Common.{◌≡◌, ◌≢◌, ◌∙◌, ℕ, ◌+◌, ◌
 use Rattle.std.specs.Prelude.{Option, Some, None, Result, Ok, Err, IfOk}
 use Rattle.firefly_outside.specs.Trees.{Path, Told}
 use Rattle.firefly_outside.specs.Samples.{sample_root, dir_count, IsSampleTree}
-use Rattle.firefly_outside.specs.Seen.{tree_of, weak_of, calls_of, faults_of}
 use Rattle.firefly_outside.specs.Under.{IsThere, AreMany}
-use Rattle.firefly_outside.specs.declared.mem_tree.MemTree.{MemTree}
 use Rattle.firefly_outside.specs.declared.tree.Kind.TheVariants.{Dir}
 use Rattle.walker.specs.Closing.{IsFaultUnder, most_dirs}
 use Rattle.walker.specs.TreeIndex.{IsTreeIndex}
@@ -13,6 +11,8 @@ use Rattle.indexer.specs.Says.{IndexSays, HasCause, IsCausedAt}
 use Rattle.indexer.specs.declared.answer.IndexAnswer.{IndexAnswer}
 use Rattle.indexer.specs.declared.answer.IndexAnswer.TheVariants.{Done, Stopped, ReadFault, TooMany, Memory}
 use Rattle.indexer.specs.declared.plan.Plan.{Plan}
+use Rattle.sample_trees.specs.Shown.{tree_of, calls_of, faults_of}
+use Rattle.sample_trees.specs.declared.sample_tree.SampleTree.{SampleTree}
 use Rattle.index_sample.specs.Sums.{Sums, IsDoneOrMemory, SumsAnswer}
 use Rattle.index_sample.specs.Summary.{IsSummary}
 use Rattle.index_sample.specs.Trees.{HoldsTree, AreSamples}
@@ -26,10 +26,10 @@ none_contained p among = omega (arith, among.1)
 pub no_stop : (n : ℕ) → None ≡ Some n → ⊥
 no_stop n e = cc
 
--- no path of a sound sample tree can fail
-pub no_fault : (seed files : ℕ) (t : Told) → IsSampleTree seed files t → (weak : List Path) (path : Path) → weak ≡ [] → IsFaultUnder t sample_root weak path → ⊥
-no_fault seed files t is weak path sound fault = ⊎_elim
-    (λ (among : Contains weak path). none_contained path (subst (λ (l : List Path). Contains l path) sound among))
+-- no path of a sample tree can fail
+pub no_fault : (seed files : ℕ) (t : Told) → IsSampleTree seed files t → (path : Path) → IsFaultUnder t sample_root [] path → ⊥
+no_fault seed files t is path fault = ⊎_elim
+    (λ (among : Contains [] path). none_contained path among)
     (λ (missing : ¬ IsThere t fault.kind path). missing (sample_there seed (dir_count files) files t is fault.kind path fault.under))
     fault.may
 
@@ -37,21 +37,21 @@ pub not_too_many : (seed files : ℕ) (t : Told) → files ≤ 20000 → IsSampl
 not_too_many seed files t few is many enough are = few_dirs seed (dir_count files) files t is many (omega (arith, few, enough)) are
 
 -- the fault of one of the copies
-fault_of : (seed files : ℕ) (trees new : List (Option MemTree)) → (a : AreSamples seed files trees) → (path : Path)
-    → IsCausedAt (λ m. Some (tree_of m)) weak_of faults_of calls_of sample_root trees new path → ⊥
+fault_of : (seed files : ℕ) (trees new : List (Option SampleTree)) → (a : AreSamples seed files trees) → (path : Path)
+    → IsCausedAt (λ m. Some (tree_of m)) (λ _. []) faults_of calls_of sample_root trees new path → ⊥
 fault_of seed files trees new a path cause =
     let at = tree_at a.tree trees a.each cause.place cause.s cause.was in
-    no_fault seed files a.tree a.is_sample (weak_of cause.s) path at.1 (subst (λ (t : Told). IsFaultUnder t sample_root (weak_of cause.s) path) at.0 cause.told.0)
+    no_fault seed files a.tree a.is_sample path (subst (λ (t : Told). IsFaultUnder t sample_root [] path) at cause.told.0)
 
-pub ends_so : (seed files : ℕ) (plan : Plan) (trees new : List (Option MemTree)) → plan.stop_after ≡ None → files ≤ 20000 → (a : AreSamples seed files trees) → (answer : IndexAnswer)
-    → IndexSays (Some a.tree) sample_root plan answer → HasCause (λ m. Some (tree_of m)) weak_of faults_of calls_of sample_root trees new answer → IsDoneOrMemory answer
+pub ends_so : (seed files : ℕ) (plan : Plan) (trees new : List (Option SampleTree)) → plan.stop_after ≡ None → files ≤ 20000 → (a : AreSamples seed files trees) → (answer : IndexAnswer)
+    → IndexSays (Some a.tree) sample_root plan answer → HasCause (λ m. Some (tree_of m)) (λ _. []) faults_of calls_of sample_root trees new answer → IsDoneOrMemory answer
 ends_so seed files plan trees new none few a (Done piece closed) says cause = tt
 ends_so seed files plan trees new none few a (Stopped many) says cause = no_stop says.0.0 (sym none ∙ says.0.1)
 ends_so seed files plan trees new none few a (ReadFault path) says cause = fault_of seed files trees new a path cause
 ends_so seed files plan trees new none few a (TooMany many) says cause = not_too_many seed files a.tree few a.is_sample many says.0 says.1
 ends_so seed files plan trees new none few a Memory says cause = tt
 
-pub summary_of : (seed files : ℕ) (plan : Plan) (trees : List (Option MemTree)) → (a : AreSamples seed files trees) → (answer : IndexAnswer)
+pub summary_of : (seed files : ℕ) (plan : Plan) (trees : List (Option SampleTree)) → (a : AreSamples seed files trees) → (answer : IndexAnswer)
     → IndexSays (Some a.tree) sample_root plan answer → (sums : SampleSums) → SumsAnswer files answer sums → IsSummary seed files sums
 summary_of seed files plan trees a (Done piece closed) says sums counted =
     record { tree = a.tree; is_sample = a.is_sample; index = piece; is_index = says.0.index; counted = counted }

@@ -3,24 +3,24 @@ use Rattle.std.proofs.Common.{◌≡◌, ◌∙◌, ◌<◌, ℕ, zero, suc, Lis
 use Rattle.std.specs.Prelude.{All, slice_index_or}
 use Rattle.std.proofs.lemmas.List.Elements.{All-head, All-push, All-tail}
 use Rattle.std.proofs.lemmas.Option.{same_Some}
-use Rattle.firefly_outside.specs.Seen.{tree_of, weak_of}
 use Rattle.firefly_outside.specs.Trees.{Told}
-use Rattle.firefly_outside.specs.declared.mem_tree.MemTree.{MemTree}
+use Rattle.sample_trees.specs.Shown.{tree_of}
+use Rattle.sample_trees.specs.declared.sample_tree.SampleTree.{SampleTree}
 use Rattle.index_sample.specs.Trees.{HoldsTree}
 
 -- a tree is at each place
-pub tree_there : (t : Told) (trees : List (Option MemTree)) → All (HoldsTree t) trees → (k : ℕ) → k < length trees → (s : MemTree) × (slice_index_or trees k None ≡ Some s)
+pub tree_there : (t : Told) (trees : List (Option SampleTree)) → All (HoldsTree t) trees → (k : ℕ) → k < length trees → (s : SampleTree) × (slice_index_or trees k None ≡ Some s)
 tree_there t trees all k within = let h = all k None within in (h.tree, h.is)
 
--- it is this one, and no path of it is to fail
-pub tree_at : (t : Told) (trees : List (Option MemTree)) → All (HoldsTree t) trees → (k : ℕ) (s : MemTree) → slice_index_or trees k None ≡ Some s → (tree_of s ≡ t) × (weak_of s ≡ [])
+-- it is this one
+pub tree_at : (t : Told) (trees : List (Option SampleTree)) → All (HoldsTree t) trees → (k : ℕ) (s : SampleTree) → slice_index_or trees k None ≡ Some s → tree_of s ≡ t
 tree_at t [] all k s e = absurd (cc)
 tree_at t (x ∷ xs) all zero s e =
     let h = All-head (HoldsTree t) x xs all in
     let same : s ≡ h.tree = same_Some s h.tree (sym e ∙ h.is) in
-    (ap tree_of same ∙ h.told, ap weak_of same ∙ h.sound)
+    ap tree_of same ∙ h.told
 tree_at t (x ∷ xs) all (suc k) s e = tree_at t xs (All-tail (HoldsTree t) x xs all) k s e
 
 -- one copy more
-pub tree_more : (t : Told) (trees : List (Option MemTree)) (s : MemTree) → All (HoldsTree t) trees → tree_of s ≡ t → weak_of s ≡ [] → All (HoldsTree t) (trees ++ Some s ∷ [])
-tree_more t trees s all told sound = All-push (HoldsTree t) trees (Some s) all (record { tree = s; is = refl; told = told; sound = sound })
+pub tree_more : (t : Told) (trees : List (Option SampleTree)) (s : SampleTree) → All (HoldsTree t) trees → tree_of s ≡ t → All (HoldsTree t) (trees ++ Some s ∷ [])
+tree_more t trees s all told = All-push (HoldsTree t) trees (Some s) all (record { tree = s; is = refl; told = told })

@@ -2,16 +2,19 @@
 ghost use Rattle.std.specs.Prelude.{◌≤◌, IfOk};
 ghost use Rattle.index_sample.specs.Trees.{AreSamples};
 
-use firefly_outside::{MemTree, sample_tree};
+use sample_trees::SampleTree;
 use std::alloc::{AllocError, Global};
 
 /// The sample tree for two walkers, two parsers and the closing walk.
-pub fn five_trees(alloc: Global, seed: u64, files: u32) -> Result<Vec<Option<MemTree>>, AllocError>
-    requires some { 1 ≤ files }
-    requires few { files ≤ 20000 }
+pub fn five_trees(
+    alloc: Global,
+    seed: u64,
+    files: u32,
+) -> Result<Vec<Option<SampleTree>>, AllocError>
+    requires { files ≤ 20000 }
     ensures { IfOk result (λ v. AreSamples seed files v.items) }
 {
-    let first = sample_tree(alloc, seed, files)?;
+    let first = SampleTree::new(alloc, seed, files)?;
     let mut trees = Vec::new(alloc);
     for copied in 0..4u32 {
         trees.push(Some(first.fork(alloc)?))?;

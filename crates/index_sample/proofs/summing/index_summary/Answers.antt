@@ -32,13 +32,13 @@ index-answer-requires-clause-there g c κs within = λ k low.
 pub index-answer-requires-clause-tell : goal.index-answer-requires-clause-tell
 index-answer-requires-clause-tell g c κs within =
     let a = subst (AreSamples c.args.seed c.args.files) (sym c.as_mut_slice.ensures.value) c.in_ok-trees.ensures in
-    (Some a.tree, λ k s e. ap (λ (t : Told). Some t) (tree_at a.tree c.as_mut_slice.result.now a.each k s e).0)
+    (Some a.tree, λ k s e. ap (λ (t : Told). Some t) (tree_at a.tree c.as_mut_slice.result.now a.each k s e))
 
 pub summed-requires : goal.summed-requires
 summed-requires g c =
     let a = subst (AreSamples c.args.seed c.args.files) (sym c.as_mut_slice.ensures.value) c.in_ok-trees.ensures in
     ends_so c.args.seed c.args.files the_plan c.as_mut_slice.result.now c.index-answer.new.trees refl c.requires.few a c.index-answer.result
-    (c.index-answer.ensures.says (Some a.tree) (λ k s e. ap (λ (t : Told). Some t) (tree_at a.tree c.as_mut_slice.result.now a.each k s e).0))
+    (c.index-answer.ensures.says (Some a.tree) (λ k s e. ap (λ (t : Told). Some t) (tree_at a.tree c.as_mut_slice.result.now a.each k s e)))
     c.index-answer.ensures.cause
 
 pub returns : goal.returns
@@ -46,5 +46,5 @@ returns g c =
     let a = subst (AreSamples c.args.seed c.args.files) (sym c.as_mut_slice.ensures.value) c.in_ok-trees.ensures in
     IfOk-then c.summed.result
     (summary_of c.args.seed c.args.files the_plan c.as_mut_slice.result.now a c.index-answer.result
-    (c.index-answer.ensures.says (Some a.tree) (λ k s e. ap (λ (t : Told). Some t) (tree_at a.tree c.as_mut_slice.result.now a.each k s e).0)))
+    (c.index-answer.ensures.says (Some a.tree) (λ k s e. ap (λ (t : Told). Some t) (tree_at a.tree c.as_mut_slice.result.now a.each k s e))))
     c.summed.ensures

@@ -1,0 +1,5 @@
+pub mod LineLemmas
+pub mod PathNumbers
+pub mod EntryLemmas
+pub mod ToldLemmas
+pub mod Failing
