@@ -3,7 +3,8 @@
 
 mod command;
 
-use command::{Status, explain_input, number, say};
+use command::explain_input;
+use command_endings::{Status, number, say};
 use firefly_outside::{ReaderSource, WriterSink};
 use std::env;
 use std::process::ExitCode;
@@ -21,7 +22,7 @@ fn main(rt: HostRuntime) -> ExitCode {
     let mut input = ReaderSource::new(rt.stdin());
     let mut out = WriterSink::new(rt.stdout());
     let status = if has_words(&rt) {
-        say(&mut notes, b"usage: explain < TRACE\n");
+        say(&mut notes, "usage: explain < TRACE\n");
         Status::Usage
     } else {
         explain_input(&mut input, &mut out, &mut notes)
