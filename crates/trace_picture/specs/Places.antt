@@ -1,5 +1,5 @@
 -- Where things stand in the picture: a hundred events a band, a row a thread, in points from the upper left.
-use Rattle.std.specs.Prelude.{ℕ, ◌+◌, ◌-◌, ◌*◌, ◌/◌, ◌%◌, ◌==◌, ◌&&◌, not, nat_lt, nat_le, Bool, min, max}
+use Rattle.std.specs.Prelude.{ℕ, ◌+◌, ◌-◌, ◌*◌, ◌/◌, ◌%◌, ◌==◌, ◌&&◌, not, nat_lt, nat_le, Bool, min, max, if◌then◌else◌}
 use Rattle.larch_actions.specs.declared.event.Layout.{Layout}
 use Rattle.trace_picture.specs.declared.history.Origin.{Origin}
 use Rattle.trace_picture.specs.declared.view.View.{View}
@@ -47,3 +47,18 @@ row_y t = 18 + 24 * t
 -- the first column of a bar in the band that begins at the event `start`, where the bar ends before the event `to`
 abbrev pub bar_from : ℕ → Origin → ℕ → ℕ
 bar_from start o to = min (max o.place start) to
+
+-- A bar leaves a gap where what it shows begins and where that ends, so two side by side are seen apart. Where it comes from the band before, or
+-- goes on in the next, there is none.
+abbrev pub gap_before : ℕ → Origin → ℕ
+gap_before start o = if nat_le start o.place then 2 else 0
+
+abbrev pub gap_after : Bool → ℕ
+gap_after ended = if ended then 2 else 0
+
+-- the left edge of a bar, and its width
+abbrev pub bar_x : ℕ → Origin → ℕ → ℕ
+bar_x start o to = column_x (bar_from start o to - start) + gap_before start o
+
+abbrev pub bar_width : ℕ → Origin → Bool → ℕ → ℕ
+bar_width start o ended to = 12 * (to - bar_from start o to) - (gap_before start o + gap_after ended)

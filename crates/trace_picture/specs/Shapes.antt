@@ -8,7 +8,7 @@ use Rattle.trace_picture.specs.declared.history.Origin.{Origin}
 use Rattle.trace_picture.specs.declared.view.View.{View}
 use Rattle.trace_picture.specs.Looks.{look_of}
 use Rattle.trace_picture.specs.Marks.{marks}
-use Rattle.trace_picture.specs.Places.{column, column_x, row_y, bar_from}
+use Rattle.trace_picture.specs.Places.{column, column_x, row_y, bar_x, bar_width}
 
 -- words and a number
 abbrev pub with_number : List ℕ → ℕ → List ℕ
@@ -58,14 +58,12 @@ span_text o ended to = with_number (codes " t") o.thread.0 ++ with_number (codes
 -- a mutex that is held up to the event before `to`, as far as the band that begins at `start` shows it
 unfoldable pub bar_text : ℕ → ℕ → Origin → Bool → ℕ → List ℕ
 bar_text start m o ended to =
-    let from = bar_from start o to in
-    with_number (codes "<rect class='m") (m % 7) ++ box_text (column_x (from - start)) (13 + row_y o.thread.0 + 3 * (m % 3)) (12 * (to - from)) ++ with_number (codes "' height='3'><title>m") m ++ codes " held by" ++ span_text o ended to
+    with_number (codes "<rect class='m") (m % 7) ++ box_text (bar_x start o to) (13 + row_y o.thread.0 + 3 * (m % 3)) (bar_width start o ended to) ++ with_number (codes "' height='3'><title>m") m ++ codes " held by" ++ span_text o ended to
 
 -- a wait, likewise
 unfoldable pub wait_text : ℕ → Origin → Bool → ℕ → List ℕ
 wait_text start o ended to =
-    let from = bar_from start o to in
-    codes "<rect class='h" ++ box_text (column_x (from - start)) (13 + row_y o.thread.0) (12 * (to - from)) ++ codes "' height='9'><title>wait of" ++ span_text o ended to
+    codes "<rect class='h" ++ box_text (bar_x start o to) (13 + row_y o.thread.0) (bar_width start o ended to) ++ codes "' height='9'><title>wait of" ++ span_text o ended to
 
 -- the row of a thread, with its name
 unfoldable pub row_text : ℕ → List ℕ

@@ -2,7 +2,7 @@
 ghost use Rattle.std.specs.Prelude.{◌≡◌, ◌+◌, ◌<◌, ◌≤◌, ◌^◌, ◌++◌, ◌∷◌, [], length, take, codes};
 ghost use Rattle.trace_picture.specs.Looks.{look_of};
 ghost use Rattle.trace_picture.specs.Marks.{marks};
-ghost use Rattle.trace_picture.specs.Places.{bar_from, column, column_x, row_y};
+ghost use Rattle.trace_picture.specs.Places.{bar_from, bar_width, bar_x, column, column_x, gap_before, row_y};
 ghost use Rattle.trace_picture.specs.Shapes.{with_number, line_of, place_text, clause_word, mark_text, failed_text, end_words, span_text, bar_text, wait_text, row_text, number_text, swatch_text};
 
 use crate::history::Origin;
@@ -151,6 +151,30 @@ fn from_of(start: u64, o: &Origin, to: u64) -> u64
     o.place.max(start).min(to)
 }
 
+// The gap before a bar, where what it shows begins in this band.
+fn gap_of(start: u64, o: &Origin) -> u64
+    ensures { result ≡ gap_before start o.now }
+{
+    if start <= o.place { 2 } else { 0 }
+}
+
+// The left edge of a bar.
+fn left_of(start: u64, o: &Origin, to: u64) -> u64
+    requires { to < 2 ^ 42 }
+    ensures { result ≡ bar_x start o.now to }
+{
+    x_of(from_of(start, o, to).saturating_sub(start)) + gap_of(start, o)
+}
+
+// The width of a bar.
+fn width_of(start: u64, o: &Origin, ended: bool, to: u64) -> u64
+    requires { to < 2 ^ 42 }
+    ensures { result ≡ bar_width start o.now ended to }
+{
+    let after = if ended { 2 } else { 0 };
+    (12 * (to - from_of(start, o, to))).saturating_sub(gap_of(start, o) + after)
+}
+
 /// Adds the bar of a mutex in the band that begins at the event `start`, up to the event before `to`.
 #[tactic(auto, unfolding(crate::specs::Shapes::bar_text))]
 pub fn add_bar(
@@ -168,16 +192,11 @@ pub fn add_bar(
     ensures near { result ≤ at + 350 }
 {
     let m = u64::from(mutex);
-    let from = from_of(start, o, to);
+    let x = left_of(start, o, to);
     let y = 13 + y_of(o.thread.0) + 3 * (m % 3);
+    let width = width_of(start, o, ended, to);
     let at = add_with_number(buf, at, b"<rect class='m", m % 7);
-    let at = add_box(
-        buf,
-        at,
-        x_of(from.saturating_sub(start)),
-        y,
-        12 * (to - from),
-    );
+    let at = add_box(buf, at, x, y, width);
     let at = add_with_number(buf, at, b"' height='3'><title>m", m);
     let at = add(buf, at, b" held by");
     add_span(buf, at, o, ended, to)
@@ -198,15 +217,10 @@ pub fn add_wait_bar(
     ensures text { take result buf.new ≡ take at buf.old ++ wait_text start o.now ended to }
     ensures near { result ≤ at + 350 }
 {
-    let from = from_of(start, o, to);
+    let x = left_of(start, o, to);
+    let width = width_of(start, o, ended, to);
     let at = add(buf, at, b"<rect class='h");
-    let at = add_box(
-        buf,
-        at,
-        x_of(from.saturating_sub(start)),
-        13 + y_of(o.thread.0),
-        12 * (to - from),
-    );
+    let at = add_box(buf, at, x, 13 + y_of(o.thread.0), width);
     let at = add(buf, at, b"' height='9'><title>wait of");
     add_span(buf, at, o, ended, to)
 }
