@@ -4,3 +4,4 @@ pub mod Places
 pub mod IndexRuns
 pub mod Indexed
 pub mod Ran
+pub mod OneIndex

@@ -1,9 +1,12 @@
 -- What the commands make of one another's texts.
-use Rattle.std.specs.Prelude.{ℕ, List}
+use Rattle.std.specs.Prelude.{◌≡◌, ℕ, List}
 use Rattle.std.specs.declared.option.Option.{Option}
 use Rattle.larch_actions.specs.declared.event.Layout.{Layout}
 use Rattle.command_line.specs.Grammar.{Options}
 use Rattle.check_command.specs.Accepted.{IsAccepted}
+use Rattle.firefly_outside.specs.Trees.{Path, Told}
+use Rattle.word_index.specs.Index.{Index}
+use Rattle.walker.specs.TreeIndex.{IsTreeIndex}
 use Rattle.firefly_script.specs.declared.line.Line.{Line}
 use Rattle.firefly.specs.Looks.{Look}
 use Rattle.firefly.specs.RunCommand.{IsTraceOf}
@@ -16,3 +19,7 @@ AcceptsRuns = (l : Layout) (xs : List Line) (bytes : List ℕ) → IsTraceOf l x
 -- and so is that of an index run
 abbrev pub AcceptsIndexRuns : Type 0
 AcceptsIndexRuns = (o : Options) (old new : List (Option Look)) (bytes : List ℕ) → IsIndexTrace o old new bytes → IsAccepted bytes
+
+-- two indexes of the files under a root of a tree are the same
+abbrev pub IsOneIndex : Type 0
+IsOneIndex = (t : Told) (root : Path) (a b : Index) → IsTreeIndex t root a → IsTreeIndex t root b → a ≡ b

@@ -1,5 +1,5 @@
 //! Laws of the commands.
-ghost use Rattle.firefly.specs.Laws.{AcceptsRuns, AcceptsIndexRuns};
+ghost use Rattle.firefly.specs.Laws.{AcceptsRuns, AcceptsIndexRuns, IsOneIndex};
 
 /// What `run` writes, `check` accepts.
 pub fn check_accepts_runs()
@@ -9,4 +9,9 @@ pub fn check_accepts_runs()
 /// What `trace` writes, `check` accepts.
 pub fn check_accepts_index_runs()
     ensures { AcceptsIndexRuns }
+{}
+
+/// A tree has one index: `index` and `trace` by threads, in every schedule, and the walk of one thread answer the same.
+pub fn one_index_of_a_tree()
+    ensures { IsOneIndex }
 {}
