@@ -1,15 +1,18 @@
 //! The lines of the index text.
-ghost use Rattle.std.specs.Prelude.{◌≡◌, ◌<◌, ◌++◌, [], length, OnOk, OnErr, IsOk, slice_index_or};
+ghost use Rattle.std.specs.Prelude.{◌≡◌, ◌<◌, ◌++◌, ◌↔◌, [], length, OnOk, OnErr, IsOk, IsTrue, slice_index_or};
 ghost use Rattle.std.specs.List.{flat_map};
 ghost use Rattle.std.specs.Io.KnownBytes.{Appends};
 ghost use Rattle.firefly_outside.specs.Causes.{HasCause, AppendsFront};
 ghost use Rattle.word_index.specs.Index.{row_at, hit_at};
 ghost use Rattle.text_output.specs.Sent.{Puts};
+ghost use Rattle.index_print.specs.Plain.{ArePlain};
 ghost use Rattle.index_print.specs.Text.{word_line, hit_line, row_text, skipped_line, index_text};
 
 use crate::front::{ROOM, write_front};
 use firefly_outside::{Sink, SinkFault};
-use text_output::{Held, flush, put, put_path_line, put_with_number};
+use text_output::{
+    Held, flush, is_plain, put, put_known_path_line, put_path_line, put_with_number,
+};
 use word_index::Piece;
 
 // Puts the line of a word.
@@ -34,10 +37,12 @@ fn put_hit<O: Sink>(
     piece: &Piece,
     at: usize,
     number: usize,
+    are_plain: bool,
     out: &mut O,
 ) -> Result<(), SinkFault>
     requires row { at < length piece.now.rows }
     requires hit { number < length (row_at piece.now at).hits }
+    requires plain { IsTrue are_plain → ArePlain piece.now.paths }
     ensures text { Puts (O.held out.old) held.old.items (hit_line (hit_at (row_at piece.now at) number)) result
         (O.held out.new) held.new.items }
     ensures cause { HasCause (O.faults out.old) (O.faults out.new) result }
@@ -46,7 +51,7 @@ fn put_hit<O: Sink>(
     let mut text = [0; ROOM];
     let start = write_front(&mut text, found.count as u64, found.line as u64);
     put(held, &text[start..], out)?;
-    put_path_line(held, found.path, out)
+    put_known_path_line(held, found.path, are_plain, out)
 }
 
 // Puts the lines of the files that have a word.
@@ -54,27 +59,36 @@ fn put_hits<O: Sink>(
     held: &mut Held,
     piece: &Piece,
     at: usize,
+    are_plain: bool,
     out: &mut O,
 ) -> Result<(), SinkFault>
-    requires { at < length piece.now.rows }
+    requires row { at < length piece.now.rows }
+    requires plain { IsTrue are_plain → ArePlain piece.now.paths }
     ensures text { Puts (O.held out.old) held.old.items (flat_map hit_line (row_at piece.now at).hits) result
         (O.held out.new) held.new.items }
     ensures cause { HasCause (O.faults out.old) (O.faults out.new) result }
 {
     for number in 0..piece.hits(at) {
-        put_hit(held, piece, at, number, out)?;
+        put_hit(held, piece, at, number, are_plain, out)?;
     }
     Ok(())
 }
 
 // Puts the line of a word and those of the files that have it.
-fn put_row<O: Sink>(held: &mut Held, piece: &Piece, at: usize, out: &mut O) -> Result<(), SinkFault>
-    requires { at < length piece.now.rows }
+fn put_row<O: Sink>(
+    held: &mut Held,
+    piece: &Piece,
+    at: usize,
+    are_plain: bool,
+    out: &mut O,
+) -> Result<(), SinkFault>
+    requires row { at < length piece.now.rows }
+    requires plain { IsTrue are_plain → ArePlain piece.now.paths }
     ensures text { Puts (O.held out.old) held.old.items (row_text (row_at piece.now at)) result (O.held out.new) held.new.items }
     ensures cause { HasCause (O.faults out.old) (O.faults out.new) result }
 {
     put_word(held, piece, at, out)?;
-    put_hits(held, piece, at, out)
+    put_hits(held, piece, at, are_plain, out)
 }
 
 // Puts the line of a skipped file.
@@ -86,13 +100,26 @@ fn put_skipped<O: Sink>(held: &mut Held, path: &[u8], out: &mut O) -> Result<(),
     put_path_line(held, path, out)
 }
 
+// Whether each byte of all paths stands for itself on a line: looked at once, and not on each line.
+fn are_all_plain(piece: &Piece) -> bool
+    ensures { IsTrue result ↔ ArePlain piece.now.paths }
+{
+    for at in 0..piece.files() as usize {
+        if !is_plain(piece.path(at)) {
+            return false;
+        }
+    }
+    true
+}
+
 // Puts all rows.
 fn put_rows<O: Sink>(held: &mut Held, piece: &Piece, out: &mut O) -> Result<(), SinkFault>
     ensures text { Puts (O.held out.old) held.old.items (flat_map row_text piece.now.rows) result (O.held out.new) held.new.items }
     ensures cause { HasCause (O.faults out.old) (O.faults out.new) result }
 {
+    let are_plain = are_all_plain(piece);
     for at in 0..piece.rows() {
-        put_row(held, piece, at, out)?;
+        put_row(held, piece, at, are_plain, out)?;
     }
     Ok(())
 }

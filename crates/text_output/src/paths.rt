@@ -1,5 +1,5 @@
 //! Paths as they stand on a line.
-ghost use Rattle.std.specs.Prelude.{◌≡◌, ◌++◌, OnOk, OnErr};
+ghost use Rattle.std.specs.Prelude.{◌≡◌, ◌++◌, IsTrue, OnOk, OnErr, true};
 ghost use Rattle.std.specs.List.{list_all};
 ghost use Rattle.std.specs.Io.KnownBytes.{Appends};
 ghost use Rattle.firefly_outside.specs.Causes.{HasCause, AppendsFront};
@@ -9,8 +9,8 @@ ghost use Rattle.text_output.specs.Sent.{Puts};
 use crate::held::{Held, flush, put};
 use firefly_outside::{Sink, SinkFault};
 
-// Whether each byte of the path stands for itself on a line.
-fn is_plain(path: &[u8]) -> bool
+/// Whether each byte of the path stands for itself on a line.
+pub fn is_plain(path: &[u8]) -> bool
     ensures { result ≡ list_all is_plain_byte path.now }
 {
     path.iter().all(|byte| *byte != b'\\' && *byte != b'\n')
@@ -59,6 +59,25 @@ pub fn put_path_line<O: Sink>(held: &mut Held, path: &[u8], out: &mut O) -> Resu
 {
     put_path(held, path, out)?;
     put(held, b"\n", out)
+}
+
+/// Puts a path as it stands on a line, and ends the line. The bytes of a path that is known to be plain aren't looked at.
+pub fn put_known_path_line<O: Sink>(
+    held: &mut Held,
+    path: &[u8],
+    is_known_plain: bool,
+    out: &mut O,
+) -> Result<(), SinkFault>
+    requires known { IsTrue is_known_plain → list_all is_plain_byte path.now ≡ true }
+    ensures text { Puts (O.held out.old) held.old.items (escaped path.now ++ newline) result (O.held out.new) held.new.items }
+    ensures cause { HasCause (O.faults out.old) (O.faults out.new) result }
+{
+    if is_known_plain {
+        put(held, path, out)?;
+        put(held, b"\n", out)
+    } else {
+        put_path_line(held, path, out)
+    }
 }
 
 /// Writes a path as it stands on a line, between two texts.

@@ -147,6 +147,7 @@ impl Piece {
         requires row { at < length self.now.rows }
         requires hit { number < length (row_at self.now at).hits }
         ensures path { result.path.now ≡ (hit_at (row_at self.now at) number).path }
+        ensures among { Contains self.now.paths result.path.now }
         ensures count { result.count ≡ (hit_at (row_at self.now at) number).count }
         ensures line { result.line ≡ (hit_at (row_at self.now at) number).line }
     {

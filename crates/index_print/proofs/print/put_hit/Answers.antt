@@ -24,4 +24,4 @@ returns-clause-text g c =
     let front = hit_front f.count f.line in
     let last = escaped f.path.now ++ newline in
     rw (← c.hit-found.ensures.path, ← c.hit-found.ensures.count, ← c.hit-found.ensures.line) (rw (append_assoc front (escaped f.path.now) newline)
-    (puts_then c.put_path_line.result told _ _ held _ _ front last (rw (c.write_front-start.ensures.written, all_of front c.write_front-start.result c.write_front-start.ensures.size) at c.in_ok-put.ensures.text) c.put_path_line.ensures.text))
+    (puts_then c.put_known_path_line.result told _ _ held _ _ front last (rw (c.write_front-start.ensures.written, all_of front c.write_front-start.result c.write_front-start.ensures.size) at c.in_ok-put.ensures.text) c.put_known_path_line.ensures.text))

@@ -1,4 +1,5 @@
 use Rattle.std.proofs.Common.{◌≡◌, ◌<◌, length, sym, ap, ◌∙◌, arith, get_or, []}
+use Rattle.std.proofs.lemmas.List.Elements.{Contains-get_or}
 use Rattle.word_index.specs.Index.{Hit}
 use Rattle.word_index.specs.Merged.{nowhere}
 use Rattle.word_index.proofs.Rowed.{row_inside, place_inside, path_inside, hit_view}
@@ -55,3 +56,12 @@ returns-clause-line c =
     let below = rw (← c.self.view_is) at c.requires.hit in
     let is = hit_view p.paths p.skipped p.words p.places c.self.invariant c.args.at here c.args.number below in
     rw (← c.self.view_is) (ap (λ ps. (get_or ps c.args.number nowhere).line) c.get.ensures ∙ sym (ap (λ (h : Hit). h.line) is))
+
+pub returns-clause-among : goal.returns-clause-among
+returns-clause-among c =
+    let p = c.self.inside in
+    let here = rw (← c.self.view_is) at c.requires.row in
+    let below = rw (← c.self.view_is) at c.requires.hit in
+    let place = (get_or c.get.result.now c.args.number nowhere).path in
+    let within : place < length p.paths = rw c.get.ensures (path_inside p.paths p.skipped p.words p.places c.self.invariant c.args.at here c.args.number below) in
+    rw (← c.self.view_is, c.get-2.ensures) (Contains-get_or p.paths place [] within)
