@@ -1,0 +1,19 @@
+pub mod Orders
+pub mod Tokens
+pub mod Escaping
+pub mod Utf8
+pub mod WordCode
+pub mod PathCode
+pub mod LineCodes
+pub mod States
+pub mod Loops
+pub mod Bytes
+pub mod Keyed
+pub mod LineReads
+pub mod Taken
+pub mod Ordered
+pub mod Wholes
+mod Due
+pub mod FileWords
+pub mod ReadBack
+pub mod OneReading

@@ -1,0 +1,12 @@
+use Rattle.std.proofs.Common.{arith}
+use Rattle.index_reading.proofs.Taken.{hits_begin, hits_next, hits_stop}
+use Rattle.index_reading.proofs.parse.take_hits.Goals as goal
+
+pub loop-left-init : goal.loop-left-init
+loop-left-init c = hits_begin c.args.bytes.now c.args.many c.args.lines c.args.draft.now c.requires.none
+
+pub loop-left-preserved : goal.loop-left-preserved
+loop-left-preserved c = hits_next c.loop-left.invariant c.take_hit.new.draft c.in-Ok.after c.in-Ok.ensures (omega arith)
+
+pub returns-in-Err : goal.returns-in-Err
+returns-in-Err c = rw c.halt_at.ensures (hits_stop c.loop-left.invariant c.args.word.now c.take_hit.new.draft c.take_hit.new.draft c.in-Err.stop c.in-Err.ensures (omega arith))

@@ -1,0 +1,130 @@
+-- Reading the lines of an index text.
+use Rattle.std.specs.Prelude.{ℕ, ◌^◌, nat_lt, nat_le, Bool, true, false, not, ◌&&◌, ◌||◌, ◌==◌, List, [], ◌∷◌, ◌++◌, length, drop, if◌then◌else◌, codes, Option, Some, None, Ok, Err}
+use Rattle.std.specs.List.{list_any}
+use Rattle.std.specs.Option.{option_map, unwrap_or}
+use Rattle.std.specs.Ordering.{nat_cmp, is_lt}
+use Rattle.std.specs.Cmp.Lexicographic.{slice_cmp}
+use Rattle.std.specs.Str.{is_utf8}
+use Rattle.trace_core.specs.declared.line.Stop.TheVariants.{More, Dead}
+use Rattle.trace_core.specs.Reading.{Reader, after_word, both, as_value, either, number_at}
+use Rattle.word_index.specs.Index.{Hit}
+use Rattle.index_reading.specs.Texts.{is_key_byte}
+
+module _ (ok : ℕ → Bool) (good grow : List ℕ → Bool) (stop : ℕ) where
+  -- bytes that pass the test up to the one that stops them, where they are good together; ended before it, they may grow to such
+  abbrev pub token_from : List ℕ → Reader (List ℕ)
+  token_from w [] = if grow w then Err More else Err Dead
+  token_from w (c ∷ bytes) =
+      if ok c then token_from (w ++ c ∷ []) bytes
+      else if (c == stop) && good w then Ok (w, bytes)
+      else Err Dead
+
+-- above the last one, if there is one
+abbrev pub is_above : Option (List ℕ) → List ℕ → Bool
+is_above None text = true
+is_above (Some last) text = is_lt (slice_cmp nat_cmp last text)
+
+-- the one begins the other
+abbrev pub is_front : List ℕ → List ℕ → Bool
+is_front [] ys = true
+is_front (x ∷ xs) [] = false
+is_front (x ∷ xs) (y ∷ ys) = (x == y) && is_front xs ys
+
+abbrev pub is_good_word : Option (List ℕ) → List ℕ → Bool
+is_good_word last word = nat_lt 0 (length word) && nat_le (length word) 64 && is_above last word
+
+-- a word above the last one begins so: it is above already, or begins the last one, which may grow or have a greater byte later on
+abbrev pub may_be_word : Option (List ℕ) → List ℕ → Bool
+may_be_word None word = nat_le (length word) 64
+may_be_word (Some last) word = nat_le (length word) 64
+    && (is_lt (slice_cmp nat_cmp last word) || (is_front word last && (nat_lt (length last) 64 || list_any (λ b. nat_lt b 122) (drop (length word) last))))
+
+-- a word above the last one, and the space behind it
+abbrev pub key_at : Option (List ℕ) → Reader (List ℕ)
+key_at last = token_from is_key_byte (is_good_word last) (may_be_word last) 32 []
+
+abbrev pub put : ℕ → Option (List ℕ) → Option (List ℕ)
+put b rest = option_map (λ bytes. b ∷ bytes) rest
+
+-- what the bytes of a path on a line stand for; after a backslash that is the last byte it is what the end says
+abbrev pub unescaped : Option (List ℕ) → Bool → List ℕ → Option (List ℕ)
+unescaped end false [] = Some []
+unescaped end true [] = end
+unescaped end false (b ∷ bytes) = if b == 92 then unescaped end true bytes else put b (unescaped end false bytes)
+unescaped end true (b ∷ bytes) =
+    if b == 92 then put 92 (unescaped end false bytes)
+    else if b == 110 then put 10 (unescaped end false bytes)
+    else None
+
+-- the bytes of the path, or of its front
+abbrev pub path_of : List ℕ → Option (List ℕ)
+path_of bytes = unescaped None false bytes
+
+abbrev pub front_of : List ℕ → Option (List ℕ)
+front_of bytes = unescaped (Some (92 ∷ [])) false bytes
+
+abbrev pub is_path : Option (List ℕ) → Option (List ℕ) → Bool
+is_path last None = false
+is_path last (Some path) = nat_lt 0 (length path) && is_utf8 path && is_above last path
+
+-- the last path begins with it
+abbrev pub begins_last : Option (List ℕ) → List ℕ → Bool
+begins_last None front = false
+begins_last (Some last) front = is_front front last
+
+-- a path above the last one begins so: the last one does, or these bytes end the character within which it ends
+abbrev pub may_be_path : Option (List ℕ) → List ℕ → Bool
+may_be_path last front = begins_last last front
+    || is_path last (Some front)
+    || is_path last (Some (front ++ 97 ∷ []))
+    || is_path last (Some (front ++ 128 ∷ []))
+    || is_path last (Some (front ++ 128 ∷ 128 ∷ []))
+    || is_path last (Some (front ++ 128 ∷ 128 ∷ 128 ∷ []))
+    || is_path last (Some (front ++ 160 ∷ 128 ∷ []))
+    || is_path last (Some (front ++ 144 ∷ 128 ∷ 128 ∷ []))
+
+abbrev pub is_path_front : Option (List ℕ) → Option (List ℕ) → Bool
+is_path_front last None = false
+is_path_front last (Some front) = may_be_path last front
+
+abbrev pub is_no_newline : ℕ → Bool
+is_no_newline b = not (b == 10)
+
+-- the path itself
+abbrev pub plain : List ℕ → List ℕ
+plain bytes = unwrap_or (path_of bytes) []
+
+-- a path above the last one, and the end of its line
+abbrev pub path_at : Option (List ℕ) → Reader (List ℕ)
+path_at last = as_value plain (token_from is_no_newline (λ bytes. is_path last (path_of bytes)) (λ bytes. is_path_front last (front_of bytes)) 10 [])
+
+abbrev pub figure_at : ℕ → Reader ℕ
+figure_at stop = number_at 1 (2 ^ 64) stop
+
+abbrev pub hit_from : (ℕ × ℕ) × List ℕ → Hit
+hit_from p = record { path = p.1; count = p.0.0; line = p.0.1 }
+
+-- the numbers of the line of a file
+abbrev pub hit_front_at : Reader (ℕ × ℕ)
+hit_front_at = after_word (codes "  ") (both (figure_at 32) (λ _. figure_at 32))
+
+-- the line of a file with a path above the last one
+abbrev pub hit_at : Option (List ℕ) → Reader Hit
+hit_at last = as_value hit_from (both hit_front_at (λ _. path_at last))
+
+abbrev pub skipped_at : Option (List ℕ) → Reader (List ℕ)
+skipped_at last = after_word (codes "skipped: ") (path_at last)
+
+-- the line of a word with its number of files, or the first skipped path
+pub data Heading : Type 0 where
+  word : List ℕ → ℕ → Heading
+  skipped : List ℕ → Heading
+
+abbrev pub key_line_at : Option (List ℕ) → Reader (List ℕ × ℕ)
+key_line_at last = both (key_at last) (λ _. figure_at 10)
+
+abbrev pub word_heading_at : Option (List ℕ) → Reader Heading
+word_heading_at last = as_value (λ p. word p.0 p.1) (key_line_at last)
+
+abbrev pub heading_at : Option (List ℕ) → Reader Heading
+heading_at last = either (word_heading_at last) (as_value skipped (skipped_at None))

@@ -1,0 +1,14 @@
+//! Laws of index texts.
+ghost use Rattle.index_reading.specs.Laws.{IndexTextsAreRead, TextsReadAsOne};
+
+/// The text of an index of files is an index text, and reads as the rows and skipped paths of that index.
+///
+/// The paths of the files are UTF-8 and not empty, and the files and the bytes of each are fewer than 2 to the power of 64.
+pub fn an_index_text_is_read()
+    ensures { IndexTextsAreRead }
+{}
+
+/// A text reads as one index: rows and skipped paths that it reads as are the only ones.
+pub fn a_text_reads_as_one()
+    ensures { TextsReadAsOne }
+{}

@@ -1,0 +1,6 @@
+pub mod Columns
+pub mod Drafts
+pub mod Files
+pub mod Named
+pub mod Ranks
+pub mod RowPaths

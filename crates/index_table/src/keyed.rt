@@ -1,0 +1,30 @@
+//! How a map hashes the paths of a text: by a key that all its bytes make, so that no text can be written down whose paths collide.
+use std::hash::{BuildHasher, DefaultHasher, FoldHasher, Hasher};
+
+/// Makes a hasher that has taken in the key.
+#[derive(Clone, Copy)]
+pub struct Keyed {
+    keyed: FoldHasher,
+}
+
+impl Keyed {
+    /// Hashes by the key that these bytes make.
+    pub fn by(texts: &[u8]) -> Keyed {
+        let mut digest = DefaultHasher::new();
+        digest.write(texts);
+        let mut keyed = FoldHasher::default();
+        keyed.write_u64(digest.finish());
+        Keyed { keyed }
+    }
+}
+
+impl BuildHasher for Keyed {
+    type Hasher = FoldHasher;
+
+    ghost build_hasher = { λ k. k.keyed };
+
+    #[inline(always)]
+    fn build_hasher(&self) -> FoldHasher {
+        self.keyed
+    }
+}
