@@ -1,0 +1,4 @@
+pub mod Marked
+pub mod Stacked
+pub mod Picked
+pub mod Placed

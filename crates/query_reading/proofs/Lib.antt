@@ -1,0 +1,5 @@
+pub mod Pendings
+pub mod Postfixes
+pub mod Driven
+pub mod Sound
+pub mod Answered
