@@ -1,0 +1,115 @@
+-- A thread that takes a mutex and gives it back, and one at the bar.
+use Rattle.std.proofs.Common.{◌≡◌, ℕ, ◌+◌, ◌≤◌, false, zero, suc, List, [], ◌∷◌, ◌++◌, Some, None, slice_set, arith, sym, subst, ap, ◌∙◌, refl, inl, ⊎_elim}
+use Rattle.std.proofs.lemmas.List.{append-nil, set-set}
+use Rattle.std.proofs.lemmas.Option.{same_Some}
+use mathlib.Core.Option.{some}
+use lib.ListN.{get_elem?}
+use Rattle.atomic_table.proofs.Lists.{set_again}
+use Rattle.larch_actions.specs.declared.event.Event.{Event}
+use Rattle.nub_rule.specs.Plays.{acquire_event, release_event, enqueue_event, event, broadcast_action}
+use Rattle.nub_rule.specs.Known.{Shape, Holds}
+use Rattle.nub.specs.Rest.{AtRest, Added, Adds, IsSame}
+use Rattle.barrier_once.specs.declared.cell.RoundAt.{RoundAt}
+use Rattle.nub.proofs.Adding.{added, added_on, adds_on}
+use Rattle.condition.specs.Waits.{resume_event}
+use Rattle.barrier_once.specs.declared.cell.Cell.{Cell}
+use Rattle.barrier_once.specs.declared.share.RoundShare.{RoundShare}
+use Rattle.barrier_once.specs.declared.share.RoundWorld.{RoundWorld}
+use Rattle.barrier_once.specs.Calls.{Arrived, HasLeft, IsAtBar, IsOver, IsPlaced, IsStay, RoundThread, Visited, waits}
+use Rattle.barrier_once.specs.Cells.{round_of}
+use Rattle.barrier_once.specs.Rounds.{IsKnown, KnowsBar, MayArrive, arrived_share, passed_share}
+use Rattle.barrier_once.specs.declared.cell.Cell.TheVariants.{Bar}
+
+-- what is true of the world and of the share of a thread is true of whatever these are said to be
+pub of_own : (P : RoundWorld → RoundShare → Type 0) (b : RoundThread) (w : RoundWorld) (s : RoundShare) → b.world ≡ Some w → b.share ≡ Some s → P w s
+    → (v : RoundWorld) (u : RoundShare) → b.world ≡ Some v → b.share ≡ Some u → P v u
+of_own P b w s world share h v u world' share' = subst (λ k. P k u) (same_Some w v (sym world ∙ world')) (subst (P w) (same_Some s u (sym share ∙ share')) h)
+
+-- a mutex that was taken and given back
+pub held_back : (a b e : RoundThread) (m : ℕ) (x : Cell) → get_elem? a.held m ≡ some None → b.held ≡ slice_set a.held m (Some x) → e.held ≡ slice_set b.held m None → e.held ≡ a.held
+held_back a b e m x lacks took gave = gave ∙ (ap (λ h. slice_set h m None) took ∙ (set-set a.held m (Some x) None ∙ set_again a.held m None lacks))
+
+-- the thread took the mutex, did something, and gave it back
+pub came_back : (m : ℕ) (es : List Event) (a b e : RoundThread) → IsSame a b → Adds [] (acquire_event a.number m) a b → Adds es (release_event b.number m) b e → Adds (acquire_event a.number m ∷ es) (release_event a.number m) a e
+came_back m es a b e same took gave =
+    let t = a.number in
+    adds_on (acquire_event t m ∷ []) es (release_event t m) a b e (added [] (acquire_event t m) a b took) (subst (λ n. Adds es (release_event n m) b e) same.number gave)
+
+pub visited : (m : ℕ) (a b e : RoundThread) → IsSame a b → Adds [] (acquire_event a.number m) a b → Adds [] (release_event b.number m) b e → Visited a.number m a e
+visited m a b e same took gave = came_back m [] a b e same took gave
+
+pub waits_more : (t m c k : ℕ) → waits t m c k ++ enqueue_event false t m c ∷ resume_event t m c ∷ [] ≡ waits t m c (suc k)
+waits_more t m c zero = refl
+waits_more t m c (suc k) = ap (λ l. enqueue_event false t m c ∷ resume_event t m c ∷ l) (waits_more t m c k)
+
+-- one wait, and one wait more
+pub waited : (m c : ℕ) (a b : RoundThread) → Adds (enqueue_event false a.number m c ∷ []) (resume_event a.number m c) a b → Added (waits a.number m c 1) a b
+waited m c a b h = added (enqueue_event false a.number m c ∷ []) (resume_event a.number m c) a b h
+
+pub waited_on : (m c k : ℕ) (a b e : RoundThread) → IsSame a b → Added (waits a.number m c k) a b
+    → Adds (enqueue_event false b.number m c ∷ []) (resume_event b.number m c) b e → Added (waits a.number m c (suc k)) a e
+waited_on m c k a b e same was again =
+    let t = a.number in
+    let once = added (enqueue_event false t m c ∷ []) (resume_event t m c) b e (subst (λ n. Adds (enqueue_event false n m c ∷ []) (resume_event n m c) b e) same.number again) in
+    subst (λ l. Added l a e) (waits_more t m c k) (added_on (waits t m c k) (enqueue_event false t m c ∷ resume_event t m c ∷ []) a b e was once)
+
+-- after its waits the thread gave the mutex back
+pub gave_after : (m c k : ℕ) (a b e : RoundThread) → IsSame a b → Added (waits a.number m c k) a b → Adds [] (release_event b.number m) b e → Adds (waits a.number m c k) (release_event a.number m) a e
+gave_after m c k a b e same was gave =
+    let t = a.number in
+    subst (λ l. Adds l (release_event t m) a e) (append-nil (waits t m c k)) (adds_on (waits t m c k) [] (release_event t m) a b e was (subst (λ n. Adds [] (release_event n m) b e) same.number gave))
+
+-- the thread woke all others and gave the mutex back
+pub woke_after : (m c : ℕ) (a b e : RoundThread) → IsSame a b → Adds [] (event a.number (broadcast_action c [])) a b → Adds [] (release_event b.number m) b e
+    → Adds (event a.number (broadcast_action c []) ∷ []) (release_event a.number m) a e
+woke_after m c a b e same told gave =
+    let t = a.number in
+    let wake = event t (broadcast_action c []) in
+    adds_on (wake ∷ []) [] (release_event t m) a b e (added [] wake a b told) (subst (λ n. Adds [] (release_event n m) b e) same.number gave)
+
+-- a thread at the bar that has left as often as it has arrived is in the bar's round
+pub at_round : (w : RoundWorld) (t : ℕ) (x : Cell) (s : RoundShare) → KnowsBar w x s → MayArrive t s → s.arrivals ≡ round_of x
+at_round w t x s knows may =
+    let left = knows.left in
+    let same = may.left in
+    ⊎_elim (λ (e : s.arrivals ≡ round_of x). e) (λ (e : s.arrivals ≡ round_of x + 1). absurd (omega arith)) knows.arrivals
+
+-- the last to arrive knows the next round
+pub last_over : (w : RoundWorld) (t : ℕ) (x : Cell) (s : RoundShare) → KnowsBar w x s → MayArrive t s → IsOver w (s.arrivals + 1) (passed_share s)
+last_over w t x s knows may =
+    let round = at_round w t x s knows may in
+    let few = may.few in
+    let left = may.left in
+    let below = knows.below in (
+      Bar (round_of x + 1) 0,
+      record { is = refl; arrivals = inl (omega arith); few = omega arith; left = omega arith; below = omega arith; parties = knows.parties },
+      omega arith,
+    )
+
+-- whoever leaves knows a later round
+pub wait_over : (w : RoundWorld) (t : ℕ) (x : Cell) (s : RoundShare) → KnowsBar w x (arrived_share s) → MayArrive t s → s.arrivals + 1 ≤ round_of x → IsOver w (s.arrivals + 1) (passed_share s)
+wait_over w t x s knows may over =
+    let left = may.left in
+    (x, record { is = knows.is; arrivals = knows.arrivals; few = knows.few; left = omega arith; below = knows.below; parties = knows.parties }, over)
+
+-- the thread took the bar, at which it may arrive
+pub at_bar : (p : Shape RoundWorld) (at : RoundAt) (x : Cell) (s : RoundShare) (a b : RoundThread) → IsPlaced p at → a.world ≡ Some p.world → a.share ≡ Some s → MayArrive a.number s
+    → AtRest p b → IsSame a b → Holds b at.bar.0 x → b.share ≡ a.share → ((w : RoundWorld) (u : RoundShare) → a.world ≡ Some w → a.share ≡ Some u → IsKnown w at.bar.0 x a.number u) → IsAtBar p at x s b
+at_bar p at x s a b placed world share may rest same holds kept fits = record {
+  placed = placed;
+  rest = rest;
+  world = same.world ∙ world;
+  share = kept ∙ share;
+  holds = holds;
+  may = subst (λ n. MayArrive n s) (sym same.number) may;
+  knows = (fits p.world s world share).bar (ap (λ l. l.bar.0) placed.world);
+}
+
+-- the thread took the bar and has left it
+pub arrived_at : (p : Shape RoundWorld) (at : RoundAt) (s : RoundShare) (a b e : RoundThread) → IsSame a b → Adds [] (acquire_event a.number at.bar.0) a b → HasLeft p at s b e → Arrived a.number at.bar.0 at.cond.0 a e
+arrived_at p at s a b e same took left =
+    let ran = left.ran in (
+      ran.0,
+      subst (λ n. IsStay n at.bar.0 at.cond.0 ran.0) same.number ran.1,
+      came_back at.bar.0 ran.0 a b e same took ran.2,
+    )

@@ -1,0 +1,83 @@
+-- The events of a call, and a thread at the bar.
+use Rattle.std.specs.Prelude.{◌≡◌, ◌⊎◌, ℕ, ◌+◌, ◌<◌, ◌≤◌, false, zero, suc, List, [], ◌∷◌, slice_set, Some, None}
+use Rattle.larch_actions.specs.declared.event.Event.{Event}
+use Rattle.nub_rule.specs.Known.{Known, Shape, Holds}
+use Rattle.nub_rule.specs.Plays.{acquire_event, release_event, enqueue_event, event, broadcast_action}
+use Rattle.nub.specs.Rest.{AtRest, Added, Adds, IsSame}
+use Rattle.condition.specs.Waits.{resume_event}
+use Rattle.barrier_once.specs.declared.cell.Cell.{Cell}
+use Rattle.barrier_once.specs.declared.cell.RoundAt.{RoundAt}
+use Rattle.barrier_once.specs.declared.share.RoundShare.{RoundShare}
+use Rattle.barrier_once.specs.declared.share.RoundWorld.{RoundWorld}
+use Rattle.barrier_once.specs.Cells.{once_of, round_of}
+use Rattle.barrier_once.specs.Rounds.{KnowsBar, KnowsOnce, MayArrive, arrived_share, passed_share}
+
+abbrev pub RoundThread : Type 0
+RoundThread = Known Cell RoundShare RoundWorld
+
+-- the cells are those of the world, with names of the layout, and the parties are all threads
+pub record IsPlaced (p : Shape RoundWorld) (at : RoundAt) : Type 0 where
+  pub world : at ≡ p.world.at
+  pub parties : p.layout.threads ≡ p.world.parties
+  pub bar : at.bar.0 < p.layout.mutexes
+  pub cond : at.cond.0 < p.layout.conditions
+  pub sum : at.sum.0 < p.layout.mutexes
+  pub once : at.once.0 < p.layout.mutexes
+
+-- k waits of the thread t on the mutex m in the condition c
+abbrev pub waits : ℕ → ℕ → ℕ → ℕ → List Event
+waits t m c zero = []
+waits t m c (suc k) = enqueue_event false t m c ∷ resume_event t m c ∷ waits t m c k
+
+-- what the thread t does at the bar between its acquire and its release: as the last it wakes all others, and else it waits, once or oftener
+abbrev pub IsStay : ℕ → ℕ → ℕ → List Event → Type 0
+IsStay t m c es = (es ≡ event t (broadcast_action c []) ∷ []) ⊎ ((k : ℕ) × (es ≡ waits t m c (suc k)))
+
+-- the thread t took m, stayed at the bar, and gave m back
+abbrev pub Arrived : ℕ → ℕ → ℕ → RoundThread → RoundThread → Type 0
+Arrived t m c a b = (es : List Event) × IsStay t m c es × Adds (acquire_event t m ∷ es) (release_event t m) a b
+
+-- the thread t took m and gave it back
+abbrev pub Visited : ℕ → ℕ → RoundThread → RoundThread → Type 0
+Visited t m a b = Adds (acquire_event t m ∷ []) (release_event t m) a b
+
+-- the thread has the bar x, at which it may arrive
+pub record IsAtBar (p : Shape RoundWorld) (at : RoundAt) (x : Cell) (s : RoundShare) (b : RoundThread) : Type 0 where
+  pub placed : IsPlaced p at
+  pub rest : AtRest p b
+  pub world : b.world ≡ Some p.world
+  pub share : b.share ≡ Some s
+  pub holds : Holds b at.bar.0 x
+  pub may : MayArrive b.number s
+  pub knows : KnowsBar p.world x s
+
+-- a bar that this share fits has a round of at least so many
+abbrev pub IsOver : RoundWorld → ℕ → RoundShare → Type 0
+IsOver w least s = (x : Cell) × KnowsBar w x s × (least ≤ round_of x)
+
+-- the thread, which had the bar in a with the share s, has left it in b
+pub record HasLeft (p : Shape RoundWorld) (at : RoundAt) (s : RoundShare) (a b : RoundThread) : Type 0 where
+  pub rest : AtRest p b
+  pub same : IsSame a b
+  pub ran : (es : List Event) × IsStay a.number at.bar.0 at.cond.0 es × Adds es (release_event a.number at.bar.0) a b
+  pub held : b.held ≡ slice_set a.held at.bar.0 None
+  pub share : b.share ≡ Some (passed_share s)
+  pub round : IsOver p.world (s.arrivals + 1) (passed_share s)
+
+-- since a the thread has arrived and waited, k times and once more; it has the bar x
+pub record IsWaiting (p : Shape RoundWorld) (at : RoundAt) (s : RoundShare) (k : ℕ) (x : Cell) (a b : RoundThread) : Type 0 where
+  pub rest : AtRest p b
+  pub same : IsSame a b
+  pub events : Added (waits a.number at.bar.0 at.cond.0 (suc k)) a b
+  pub held : b.held ≡ slice_set a.held at.bar.0 (Some x)
+  pub holds : Holds b at.bar.0 x
+  pub share : b.share ≡ Some (arrived_share s)
+  pub knows : KnowsBar p.world x (arrived_share s)
+
+-- the value answered was found in a once cell that this share fits, or the cell was empty and f answers it; it is 1 to the greatest value
+pub record Found (w : RoundWorld) (answers : ℕ → Type 0) (s : RoundShare) (value : ℕ) : Type 0 where
+  pub cell : Cell
+  pub knows : KnowsOnce w cell s
+  pub empty : once_of cell ≡ None → answers value
+  pub full : (v : ℕ) → once_of cell ≡ Some v → value ≡ v
+  pub within : (1 ≤ value) × (value ≤ w.most)

@@ -1,0 +1,18 @@
+//! A cyclic barrier, a sum and a once cell.
+//!
+//! Promises: all threads of a package arrive at the barrier equally often, but for one round; whoever leaves it after its arrival k,
+//! counted from 0, knows that every thread had arrived k + 1 times. So what all have added before they arrived is the same for each
+//! that asks between two arrivals, and every thread agrees on one value of the once cell. Stands on mutexes and a condition of the
+//! package. Nothing is said of waiting: not that a thread ever leaves the barrier.
+#![tactic(auto)]
+
+mod calls;
+mod cell;
+pub mod laws;
+mod round_uses;
+mod share;
+
+pub use calls::{add_own, agree, arrive, total};
+pub use cell::{Cell, RoundAt};
+pub use round_uses::{AddsOwn, Agrees, Arrives, Leaves, Passes, RoundUses};
+pub use share::{RoundShare, RoundWorld};

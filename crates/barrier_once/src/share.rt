@@ -1,0 +1,18 @@
+//! What stays the same while the package lives, and what each thread has done.
+use crate::cell::RoundAt;
+
+/// How many parties there are, which are all threads of the package, the greatest value for the once cell, and where the cells are.
+#[derive(Clone, Copy)]
+pub struct RoundWorld {
+    pub parties: u32,
+    pub most: u64,
+    pub at: RoundAt,
+}
+
+/// How often a thread has arrived at the barrier and left it, what it has added to the sum, and the value that it has agreed on.
+pub struct RoundShare {
+    pub arrivals: u64,
+    pub left: u64,
+    pub added: u64,
+    pub agreed: Option<u64>,
+}
