@@ -1,0 +1,11 @@
+pub mod Ending
+pub mod Lists
+pub mod Members
+pub mod Moving
+pub mod Numbering
+pub mod Placing
+pub mod Calling
+pub mod Crewing
+pub mod Settling
+pub mod SharedOut
+pub mod Turning

@@ -1,0 +1,9 @@
+use Rattle.std.proofs.Common.{◌≡◌, ◌≤◌, vec_capacity, replicate, None}
+use Rattle.job_pool.proofs.opening.rooms_for.Given as goal
+
+abbrev pub invariant-loop-made : goal.invariant-loop-made
+invariant-loop-made g l =
+    record {
+      none : l.row.items ≡ replicate l.made None;
+      wide : l.many ≤ vec_capacity l.row;
+    }

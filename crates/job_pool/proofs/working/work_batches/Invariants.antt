@@ -1,0 +1,12 @@
+use Rattle.std.proofs.Common.{◌≡◌, ◌≤◌, vec_len, vec_capacity}
+use Rattle.job_pool.specs.Slots.{MayBeWorked}
+use Rattle.job_pool.proofs.Turning.{SoFar}
+use Rattle.job_pool.proofs.working.work_batches.Given as goal
+
+abbrev pub invariant-loop-turn : goal.invariant-loop-turn
+invariant-loop-turn g l =
+    record {
+      done : SoFar (MayBeWorked g.J.Job.state g.J.Job.gives g.J.Job.next) l.p l.initial.me l.me l.list.items;
+      few : vec_len l.list ≡ l.turn;
+      wide : l.fn.room ≤ vec_capacity l.list;
+    }

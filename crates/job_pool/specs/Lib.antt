@@ -1,0 +1,5 @@
+pub mod Crews
+pub mod Jobs
+pub mod Pieces
+pub mod Slots
+pub mod Working

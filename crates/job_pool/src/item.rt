@@ -1,0 +1,16 @@
+//! What goes through the buffer.
+use bounded_buffer::PlainBuffers;
+use nub_rule::Thread;
+
+/// A piece of work under its place.
+#[derive(Drop)]
+pub struct Item<T> {
+    pub place: u64,
+    pub piece: T,
+}
+
+/// The use of the package: a buffer of pieces.
+pub type Pieces<T> = PlainBuffers<Item<T>>;
+
+/// The thread of a worker, and what it has worked on.
+pub type Worked<T> = (Thread<Pieces<T>>, Vec<Item<T>>);

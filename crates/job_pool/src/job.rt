@@ -1,0 +1,44 @@
+//! What a job is.
+ghost use Rattle.std.specs.Prelude.{◌≡◌, List, ℕ};
+
+/// What one call of a job gives: a number, or that the pool is to stop.
+#[derive(Clone, Copy, Debug, PartialEq, Eq)]
+pub enum Work {
+    Value(u64),
+    Stop,
+}
+
+/// Something to be done once.
+pub trait Job: Send + Drop {
+    ghost use Rattle.job_pool.specs.declared.job.Work.{Work};
+
+    /// What it is, as contracts see it.
+    ghost state: { Self → List ℕ };
+
+    /// What a call gives.
+    ghost gives: { Self → Work };
+
+    /// Its state after a call.
+    ghost next: { Self → List ℕ };
+
+    /// Does it.
+    fn work(&mut self) -> Work
+        ensures gives { result ≡ gives self.old }
+        ensures next { state self.new ≡ next self.old };
+}
+
+/// A job of any kind in a box.
+#[derive(Drop)]
+pub struct BoxJob(pub Box<dyn Job + Send>);
+
+impl Job for BoxJob {
+    ghost state = { λ b. (Job-box b.0).state b.0.value };
+
+    ghost gives = { λ b. (Job-box b.0).gives b.0.value };
+
+    ghost next = { λ b. (Job-box b.0).next b.0.value };
+
+    fn work(&mut self) -> Work {
+        self.0.work()
+    }
+}

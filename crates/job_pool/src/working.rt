@@ -1,0 +1,43 @@
+//! What a worker does.
+ghost use Rattle.std.specs.Prelude.{◌≡◌};
+ghost use Rattle.job_pool.specs.Crews.{IsReady};
+ghost use Rattle.job_pool.specs.Slots.{MayBeWorked};
+ghost use Rattle.job_pool.specs.Working.{HasWorked};
+
+use crate::batch::{Batch, work_on};
+use crate::calls::{is_stopped, stop_others, take_next};
+use crate::item::{Pieces, Worked};
+use crate::job::Job;
+use nub_rule::Package;
+use std::sync::Wait;
+
+/// Takes batches and works on them until none are left, a job gives Stop, or the thread is alerted. Where a job gives Stop, all other
+/// threads are alerted.
+pub fn work_batches<J: Job, R: Wait>(
+    rt: &R,
+    p: &Package<Pieces<Batch<J>>>,
+    room: usize,
+    worker: Worked<Batch<J>>,
+) -> Worked<Batch<J>>
+    requires { IsReady p.now room worker }
+    ensures { HasWorked (MayBeWorked J.state J.gives J.next) p.now worker.0.number result.1.items result.0 }
+{
+    let (mut me, mut list) = worker;
+    for turn in 0..room {
+        if is_stopped(rt, p, &mut me) {
+            return (me, list);
+        }
+        match take_next(rt, p, &mut me) {
+            Ok(mut item) => {
+                let stop = work_on(&mut item.piece);
+                list.push_reserved(item);
+                if stop {
+                    stop_others(rt, p, &mut me);
+                    return (me, list);
+                }
+            }
+            Err(_) => return (me, list),
+        }
+    }
+    (me, list)
+}
