@@ -8,3 +8,4 @@ pub mod Freeing
 pub mod Holding
 pub mod Noting
 pub mod Ringing
+pub mod Seeing

@@ -1,7 +1,9 @@
--- The arrow from the event that let a thread go on to the event by which it went on.
+-- The arrow from the event that let a thread go on to the event by which it went on, and the line from the event that gave a mutex back to the next that took it.
 use Rattle.std.specs.Prelude.{ℕ, ◌+◌, ◌-◌, ◌==◌, nat_lt, nat_le, if◌then◌else◌, List, [], ◌++◌, codes, min, Some, None}
 use Rattle.std.specs.declared.option.Option.{Option}
 use Rattle.trace_picture.specs.declared.history.Origin.{Origin}
+use Rattle.trace_picture.specs.declared.history.Turn.{Turn}
+use Rattle.trace_picture.specs.declared.history.Turn.TheVariants.{Begins, Ends, Stays}
 use Rattle.trace_picture.specs.Places.{column_x, row_y}
 use Rattle.trace_picture.specs.Shapes.{with_number}
 
@@ -37,3 +39,20 @@ arrow_text start n t o = bow_text (bow_x start n o) (bow_y start t o) (column_x 
 abbrev pub arrow_if : ℕ → ℕ → ℕ → Option Origin → List ℕ
 arrow_if start n t None = []
 arrow_if start n t (Some o) = if o.thread.0 == t then [] else arrow_text start n t o
+
+-- the line to the event n of the thread t, by which it takes the mutex m, from the event o that gave it back
+unfoldable pub line_text : ℕ → ℕ → ℕ → ℕ → Origin → List ℕ
+line_text start n t m o =
+    (point_text (codes "<path class='l' d='M") (bow_x start n o) (bow_y start t o) ++ point_text (codes "L") (column_x (n - start) - 1) (row_y t + 8)) ++ origin_text o
+    ++ (with_number (codes " hands on m") m ++ with_number (codes " to t") t) ++ codes "</title></path>\n"
+
+-- the line, where another thread gave the mutex back
+abbrev pub line_if : ℕ → ℕ → ℕ → ℕ → Option Origin → List ℕ
+line_if start n t m None = []
+line_if start n t m (Some o) = if o.thread.0 == t then [] else line_text start n t m o
+
+-- the line, where the event takes a mutex
+abbrev pub handed : ℕ → ℕ → ℕ → (ℕ → Option Origin) → Turn → List ℕ
+handed start n t given (Begins m) = line_if start n t m (given m)
+handed start n t given (Ends m) = []
+handed start n t given Stays = []

@@ -7,12 +7,14 @@ use Rattle.larch_actions.specs.declared.event.Broken.{Broken}
 use Rattle.trace_picture.specs.declared.history.Origin.{Origin}
 use Rattle.trace_picture.specs.declared.history.Turn.{Turn}
 use Rattle.trace_picture.specs.declared.history.Turn.TheVariants.{Begins, Ends, Stays}
+use Rattle.trace_picture.specs.declared.rows.Row.{Row}
 use Rattle.trace_picture.specs.declared.view.View.{View}
 use Rattle.trace_picture.specs.Marks.{marks}
 use Rattle.trace_picture.specs.Kept.{Kept, kept_after, let_on_by}
+use Rattle.trace_picture.specs.Rows.{lane_in}
 use Rattle.trace_picture.specs.Places.{in_view, column, is_open, band_top}
-use Rattle.trace_picture.specs.Shapes.{with_number, each_below, mark_text, failed_text, bar_text, wait_text, row_text, number_text}
-use Rattle.trace_picture.specs.Arrows.{arrow_if}
+use Rattle.trace_picture.specs.Shapes.{with_number, each_below, mark_text, object_if, failed_text, bar_text, wait_text, row_text, number_text}
+use Rattle.trace_picture.specs.Arrows.{arrow_if, handed}
 
 -- the first event of the band in which the event n stands
 abbrev pub band_start : View → ℕ → ℕ
@@ -24,9 +26,9 @@ opening l v n =
     if column v n == 0 then (with_number (codes "<g transform='translate(0 ") (band_top l ((n - v.first) / 100)) ++ codes ")'>\n") ++ each_below row_text l.threads else []
 
 -- the bar of a mutex in the band that begins at `start`, where it is held
-abbrev pub bar_if : ℕ → Bool → ℕ → ℕ → Option Origin → List ℕ
-bar_if start ended to m None = []
-bar_if start ended to m (Some o) = bar_text start m o ended to
+abbrev pub bar_if : ℕ → Bool → ℕ → (ℕ → Row) → ℕ → Option Origin → List ℕ
+bar_if start ended to rows m None = []
+bar_if start ended to rows m (Some o) = bar_text start m (lane_in (rows o.thread.0) m) o ended to
 
 -- the bar of a wait, where a thread waits
 abbrev pub wait_if : ℕ → Bool → ℕ → Option Origin → List ℕ
@@ -36,13 +38,13 @@ wait_if start ended to (Some o) = wait_text start o ended to
 -- the end of the band that begins at `start`, before the event `to`: the bars that go on
 unfoldable pub closing : Layout → Kept → ℕ → ℕ → List ℕ
 closing l k start to =
-    each_below (λ m. bar_if start false to m (k.held m)) l.mutexes ++ each_below (λ t. wait_if start false to (k.waits t)) l.threads ++ codes "</g>\n"
+    each_below (λ m. bar_if start false to k.rows m (k.held m)) l.mutexes ++ each_below (λ t. wait_if start false to (k.waits t)) l.threads ++ codes "</g>\n"
 
 -- the bar that ends with the event n
-abbrev pub bar_ended : ℕ → ℕ → (ℕ → Option Origin) → Turn → List ℕ
-bar_ended start n held (Begins k) = []
-bar_ended start n held (Ends k) = bar_if start true (n + 1) k (held k)
-bar_ended start n held Stays = []
+abbrev pub bar_ended : ℕ → ℕ → (ℕ → Row) → (ℕ → Option Origin) → Turn → List ℕ
+bar_ended start n rows held (Begins k) = []
+bar_ended start n rows held (Ends k) = bar_if start true (n + 1) rows k (held k)
+bar_ended start n rows held Stays = []
 
 abbrev pub wait_ended : ℕ → ℕ → (ℕ → Option Origin) → Turn → List ℕ
 wait_ended start n waits (Begins k) = []
@@ -55,15 +57,16 @@ closing_after l v k n = if is_open v (n + 1) then [] else closing l k (band_star
 
 -- the bars that the event n ends
 abbrev pub bars_ended : View → Kept → ℕ → Event → List ℕ
-bars_ended v k n e = bar_ended (band_start v n) n k.held (marks e).mutex ++ wait_ended (band_start v n) n k.waits (marks e).wait
+bars_ended v k n e = bar_ended (band_start v n) n k.rows k.held (marks e).mutex ++ wait_ended (band_start v n) n k.waits (marks e).wait
 
--- the arrow to the event n, where another thread let its thread go on
+-- the arrow to the event n, where another thread let its thread go on, and the line, where another thread handed a mutex on
 abbrev pub arrow_to : View → Kept → ℕ → Event → List ℕ
-arrow_to v k n e = arrow_if (band_start v n) n e.thread.0 (let_on_by k (marks e).waker)
+arrow_to v k n e =
+    arrow_if (band_start v n) n e.thread.0 (let_on_by k (marks e).waker) ++ handed (band_start v n) n e.thread.0 k.given (marks e).mutex
 
--- the event n: its mark, the bars that it ends, and the arrow to it
+-- the event n: its mark and the number of its object, the bars that it ends, and the arrow to it
 unfoldable pub event_shapes : View → Kept → ℕ → Event → List ℕ
-event_shapes v k n e = number_text v n ++ mark_text v n e ++ bars_ended v k n e ++ arrow_to v k n e
+event_shapes v k n e = number_text v n ++ mark_text v n e ++ object_if v n e (marks e).wait ++ bars_ended v k n e ++ arrow_to v k n e
 
 -- all that the event n adds, where it is drawn
 unfoldable pub step_text : Layout → View → Kept → ℕ → Event → List ℕ

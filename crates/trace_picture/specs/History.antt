@@ -8,6 +8,7 @@ use Rattle.trace_picture.specs.declared.history.Origin.{Origin}
 use Rattle.trace_picture.specs.declared.history.Turn.{Turn}
 use Rattle.trace_picture.specs.declared.history.Turn.TheVariants.{Begins, Ends, Stays}
 use Rattle.trace_picture.specs.declared.history.Table.{Table}
+use Rattle.trace_picture.specs.Marks.{marks}
 
 -- the name in a turn is below 64
 abbrev pub IsWithin : Turn → Type 0
@@ -21,9 +22,15 @@ changed (Begins k) o f = put f k (Some o)
 changed (Ends k) o f = put f k None
 changed Stays o f = f
 
+-- what is taken where the other isn't
+abbrev pub turned_about : Turn → Turn
+turned_about (Begins k) = Ends k
+turned_about (Ends k) = Begins k
+turned_about Stays = Stays
+
 -- the event as the one since which something is so
 abbrev pub origin_of : ℕ → Event → Origin
-origin_of n e = record { thread = e.thread; place = n }
+origin_of n e = record { thread = e.thread; object = (marks e).object; place = n }
 
 -- what a table says
 abbrev pub entry_of : Table → ℕ → Option Origin

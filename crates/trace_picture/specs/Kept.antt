@@ -5,12 +5,14 @@ use Rattle.larch_actions.specs.declared.event.Event.{Event}
 use Rattle.trace_picture.specs.declared.history.Origin.{Origin}
 use Rattle.trace_picture.specs.declared.causes.Cause.{Cause}
 use Rattle.trace_picture.specs.declared.causes.Cause.TheVariants.{Never, Awaited, By}
+use Rattle.trace_picture.specs.declared.rows.Row.{Row}
 use Rattle.trace_picture.specs.declared.board.Board.{Board}
 use Rattle.trace_picture.specs.declared.board.Waker.{Waker}
 use Rattle.trace_picture.specs.declared.board.Waker.TheVariants.{Condition, Semaphore, Alarm, Nobody}
 use Rattle.trace_picture.specs.Marks.{marks}
-use Rattle.trace_picture.specs.History.{changed, origin_of, entry_of, IsWithin}
+use Rattle.trace_picture.specs.History.{changed, turned_about, origin_of, entry_of, IsWithin}
 use Rattle.trace_picture.specs.Causes.{moved, cause_of, IsSmall}
+use Rattle.trace_picture.specs.Rows.{empty_row, turned, row_of}
 
 pub record Kept : Type 0 where
   -- since which event each mutex is held
@@ -23,9 +25,13 @@ pub record Kept : Type 0 where
   pub opens : ℕ → Cause
   -- which event alerted each thread
   pub alerts : ℕ → Cause
+  -- which mutex has each lane of each thread's row
+  pub rows : ℕ → Row
+  -- which event gave each mutex back, where it isn't held
+  pub given : ℕ → Option Origin
 
 abbrev pub nothing_kept : Kept
-nothing_kept = record { held = λ (k : ℕ). None; waits = λ (k : ℕ). None; stands = λ (k : ℕ). Never; opens = λ (k : ℕ). Never; alerts = λ (k : ℕ). Never }
+nothing_kept = record { held = λ (k : ℕ). None; waits = λ (k : ℕ). None; stands = λ (k : ℕ). Never; opens = λ (k : ℕ). Never; alerts = λ (k : ℕ). Never; rows = λ (k : ℕ). empty_row; given = λ (k : ℕ). None }
 
 -- what is kept after the event at the place n
 abbrev pub kept_after : ℕ → Event → Kept → Kept
@@ -35,6 +41,8 @@ kept_after n e k = record {
   stands = moved (marks e).stand (origin_of n e) k.stands;
   opens = moved (marks e).avail (origin_of n e) k.opens;
   alerts = moved (marks e).alert (origin_of n e) k.alerts;
+  rows = turned (marks e).mutex e.thread.0 k.rows;
+  given = changed (turned_about (marks e).mutex) (origin_of n e) k.given;
 }
 
 -- what is kept after these events
@@ -78,4 +86,4 @@ let_on_by k Nobody = None
 
 -- what the tables say
 abbrev pub kept_of : Board → Kept
-kept_of b = record { held = entry_of b.held; waits = entry_of b.waits; stands = cause_of b.stands; opens = cause_of b.opens; alerts = cause_of b.alerts }
+kept_of b = record { held = entry_of b.held; waits = entry_of b.waits; stands = cause_of b.stands; opens = cause_of b.opens; alerts = cause_of b.alerts; rows = row_of b.rows; given = entry_of b.given }

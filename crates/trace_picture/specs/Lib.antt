@@ -2,6 +2,7 @@ pub mod Looks
 pub mod Marks
 pub mod History
 pub mod Causes
+pub mod Rows
 pub mod Kept
 pub mod Places
 pub mod Shapes
@@ -12,3 +13,4 @@ pub mod Picture
 pub mod Rings
 pub mod Drawn
 pub mod Laws
+pub mod Seen

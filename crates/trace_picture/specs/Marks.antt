@@ -11,45 +11,45 @@ use Rattle.trace_picture.specs.declared.legend.Mark.{Mark}
 use Rattle.trace_picture.specs.declared.legend.Mark.TheVariants as mark
 use Rattle.trace_picture.specs.declared.marks.Marks.{Marks}
 
--- a mark, and nothing done
-abbrev pub plain : Mark → Marks
-plain k = record { mark = k; mutex = turn.Stays; wait = turn.Stays; stand = Stays; avail = Stays; alert = Stays; waker = Nobody }
+-- a mark of the object of this number, and nothing done
+abbrev pub plain : Mark → ℕ → Marks
+plain k n = record { mark = k; object = n; mutex = turn.Stays; wait = turn.Stays; stand = Stays; avail = Stays; alert = Stays; waker = Nobody }
 
 -- the first part of a wait, and the second that returns or raises
 abbrev pub begun : Mark → ℕ → ℕ → ℕ → Marks
-begun k t m c = record (plain k) { mutex = turn.Ends m; wait = turn.Begins t; stand = Awaits t c }
+begun k t m c = record (plain k c) { mutex = turn.Ends m; wait = turn.Begins t; stand = Awaits t c }
 
-abbrev pub ended : Mark → ℕ → ℕ → Marks
-ended k t m = record (plain k) { mutex = turn.Begins m; wait = turn.Ends t; stand = Ends t; waker = Condition t }
+abbrev pub ended : Mark → ℕ → ℕ → ℕ → Marks
+ended k t m c = record (plain k c) { mutex = turn.Begins m; wait = turn.Ends t; stand = Ends t; waker = Condition t }
 
-abbrev pub raised : Mark → ℕ → ℕ → Marks
-raised k t m = record (plain k) { mutex = turn.Begins m; wait = turn.Ends t; stand = Ends t; alert = Ends t; waker = Alarm t }
+abbrev pub raised : Mark → ℕ → ℕ → ℕ → Marks
+raised k t m c = record (plain k c) { mutex = turn.Begins m; wait = turn.Ends t; stand = Ends t; alert = Ends t; waker = Alarm t }
 
 -- a semaphore is taken, and the own alert
 abbrev pub semaphore_taken : Mark → ℕ → Marks
-semaphore_taken k s = record (plain k) { avail = Awaits s s; waker = Semaphore s }
+semaphore_taken k s = record (plain k s) { avail = Awaits s s; waker = Semaphore s }
 
-abbrev pub heard : Mark → ℕ → Marks
-heard k t = record (plain k) { alert = Ends t; waker = Alarm t }
+abbrev pub heard : Mark → ℕ → ℕ → Marks
+heard k t n = record (plain k n) { alert = Ends t; waker = Alarm t }
 
--- what an action of the thread t shows; which mutex it takes or gives back; whether it begins or ends a wait; what it does to those who stand
+-- what an action of the thread t shows, and of which object; which mutex it takes or gives back; whether it begins or ends a wait; what it does to those who stand
 -- in conditions, to semaphores and to alerts; and what it goes on by
 abbrev pub marks_of : ℕ → Action → Marks
-marks_of t (Acquire m) = record (plain mark.Acquire) { mutex = turn.Begins m.0 }
-marks_of t (Release m) = record (plain mark.Release) { mutex = turn.Ends m.0 }
+marks_of t (Acquire m) = record (plain mark.Acquire m.0) { mutex = turn.Begins m.0 }
+marks_of t (Release m) = record (plain mark.Release m.0) { mutex = turn.Ends m.0 }
 marks_of t (Enqueue m c) = begun mark.Enqueue t m.0 c.0
-marks_of t (Resume m c) = ended mark.Resume t m.0
+marks_of t (Resume m c) = ended mark.Resume t m.0 c.0
 marks_of t (AlertEnqueue m c) = begun mark.AlertEnqueue t m.0 c.0
-marks_of t (AlertReturn m c) = ended mark.AlertReturn t m.0
-marks_of t (AlertRaise m c) = raised mark.AlertRaise t m.0
-marks_of t (Signal c left) = record (plain mark.Signal) { stand = Frees c.0 left }
-marks_of t (Broadcast c) = record (plain mark.Broadcast) { stand = Frees c.0 (set_of []) }
+marks_of t (AlertReturn m c) = ended mark.AlertReturn t m.0 c.0
+marks_of t (AlertRaise m c) = raised mark.AlertRaise t m.0 c.0
+marks_of t (Signal c left) = record (plain mark.Signal c.0) { stand = Frees c.0 left }
+marks_of t (Broadcast c) = record (plain mark.Broadcast c.0) { stand = Frees c.0 (set_of []) }
 marks_of t (P s) = semaphore_taken mark.P s.0
-marks_of t (V s) = record (plain mark.V) { avail = Opens s.0 }
-marks_of t (Alert who) = record (plain mark.Alert) { alert = Comes who.0 }
-marks_of t (TestAlert answer) = heard mark.TestAlert t
+marks_of t (V s) = record (plain mark.V s.0) { avail = Opens s.0 }
+marks_of t (Alert who) = record (plain mark.Alert who.0) { alert = Comes who.0 }
+marks_of t (TestAlert answer) = heard mark.TestAlert t t
 marks_of t (AlertPReturn s) = semaphore_taken mark.AlertPReturn s.0
-marks_of t (AlertPRaise s) = heard mark.AlertPRaise t
+marks_of t (AlertPRaise s) = heard mark.AlertPRaise t s.0
 
 -- what an event shows and does
 abbrev pub marks : Event → Marks

@@ -26,11 +26,11 @@ bands v n = (shown v n + 99) / 100
 
 -- how high a band is
 abbrev pub band_height : Layout → ℕ
-band_height l = 24 * l.threads + 30
+band_height l = 34 * l.threads + 30
 
 -- the upper edge of the band at this number
 abbrev pub band_top : Layout → ℕ → ℕ
-band_top l k = 100 + k * band_height l
+band_top l k = 116 + k * band_height l
 
 -- how high the picture of n events is, but for its last line
 abbrev pub height_of : Layout → View → ℕ → ℕ
@@ -42,7 +42,11 @@ column_x c = 44 + 12 * c
 
 -- the upper edge of the row of a thread, in its band
 abbrev pub row_y : ℕ → ℕ
-row_y t = 18 + 24 * t
+row_y t = 18 + 34 * t
+
+-- the upper edge of a lane of bars in a row
+abbrev pub lane_y : ℕ → ℕ → ℕ
+lane_y t lane = 19 + row_y t + 3 * lane
 
 -- the first column of a bar in the band that begins at the event `start`, where the bar ends before the event `to`
 abbrev pub bar_from : ℕ → Origin → ℕ → ℕ

@@ -1,14 +1,16 @@
 -- The texts of marks, bars, rows and legends.
-use Rattle.std.specs.Prelude.{ℕ, zero, suc, ◌+◌, ◌-◌, ◌*◌, ◌/◌, ◌%◌, ◌==◌, Bool, if◌then◌else◌, List, [], ◌∷◌, ◌++◌, codes, decimal}
+use Rattle.std.specs.Prelude.{ℕ, zero, suc, ◌+◌, ◌-◌, ◌*◌, ◌/◌, ◌%◌, ◌==◌, nat_lt, Bool, if◌then◌else◌, List, [], ◌∷◌, ◌++◌, codes, decimal}
 use Rattle.larch_actions.specs.declared.event.Event.{Event}
 use Rattle.larch_actions.specs.declared.event.Broken.{Broken}
 use Rattle.larch_actions.specs.declared.event.Broken.TheVariants as broken
 use Rattle.trace_core.specs.Text.{action_text}
 use Rattle.trace_picture.specs.declared.history.Origin.{Origin}
+use Rattle.trace_picture.specs.declared.history.Turn.{Turn}
+use Rattle.trace_picture.specs.declared.history.Turn.TheVariants.{Begins, Ends, Stays}
 use Rattle.trace_picture.specs.declared.view.View.{View}
 use Rattle.trace_picture.specs.Looks.{look_of}
 use Rattle.trace_picture.specs.Marks.{marks}
-use Rattle.trace_picture.specs.Places.{column, column_x, row_y, bar_x, bar_width}
+use Rattle.trace_picture.specs.Places.{column, column_x, row_y, lane_y, bar_x, bar_width}
 
 -- words and a number
 abbrev pub with_number : List ℕ → ℕ → List ℕ
@@ -42,6 +44,17 @@ unfoldable pub mark_text : View → ℕ → Event → List ℕ
 mark_text v n e =
     (codes "<use href='#" ++ (look_of (marks e).mark).letter ∷ []) ++ place_text (column_x (column v n)) (row_y e.thread.0) ++ (codes "'><title>" ++ line_of n e) ++ codes "</title></use>\n"
 
+-- the number of an event's object, below its mark
+unfoldable pub object_text : View → ℕ → Event → List ℕ
+object_text v n e =
+    codes "<text class='s" ++ place_text (column_x (column v n) + 5) (row_y e.thread.0 + 18) ++ with_number (codes "'>") (marks e).object ++ codes "</text>\n"
+
+-- the same, but for the two ends of a wait, whose bar has the number
+abbrev pub object_if : View → ℕ → Event → Turn → List ℕ
+object_if v n e (Begins k) = []
+object_if v n e (Ends k) = []
+object_if v n e Stays = object_text v n e
+
 -- the mark of an event that fails, with its line and what it fails
 unfoldable pub failed_text : View → ℕ → Event → Broken → List ℕ
 failed_text v n e why =
@@ -55,26 +68,43 @@ end_words ended to = if ended then with_number (codes " to event ") (to - 1) els
 unfoldable pub span_text : Origin → Bool → ℕ → List ℕ
 span_text o ended to = with_number (codes " t") o.thread.0 ++ with_number (codes " from event ") o.place ++ end_words ended to ++ codes "</title></rect>\n"
 
--- a mutex that is held up to the event before `to`, as far as the band that begins at `start` shows it
-unfoldable pub bar_text : ℕ → ℕ → Origin → Bool → ℕ → List ℕ
-bar_text start m o ended to =
-    with_number (codes "<rect class='m") (m % 7) ++ box_text (bar_x start o to) (13 + row_y o.thread.0 + 3 * (m % 3)) (bar_width start o ended to) ++ with_number (codes "' height='3'><title>m") m ++ codes " held by" ++ span_text o ended to
+-- a mutex that is held up to the event before `to`, as far as the band that begins at `start` shows it, in this lane
+unfoldable pub bar_text : ℕ → ℕ → ℕ → Origin → Bool → ℕ → List ℕ
+bar_text start m lane o ended to =
+    with_number (codes "<rect class='m") m ++ box_text (bar_x start o to) (lane_y o.thread.0 lane) (bar_width start o ended to) ++ with_number (codes "' height='3'><title>m") m ++ codes " held by" ++ span_text o ended to
 
--- a wait, likewise
+-- the number of the condition of a wait, in its bar
+unfoldable pub wait_name : ℕ → Origin → ℕ → List ℕ
+wait_name start o to = codes "<text class='d" ++ place_text (bar_x start o to + 2) (row_y o.thread.0 + 18) ++ with_number (codes "'>c") o.object ++ codes "</text>\n"
+
+-- a wait, likewise, between the marks and the bars
 unfoldable pub wait_text : ℕ → Origin → Bool → ℕ → List ℕ
 wait_text start o ended to =
-    codes "<rect class='h" ++ box_text (bar_x start o to) (13 + row_y o.thread.0) (bar_width start o ended to) ++ codes "' height='9'><title>wait of" ++ span_text o ended to
+    codes "<rect class='h" ++ box_text (bar_x start o to) (row_y o.thread.0 + 12) (bar_width start o ended to) ++ with_number (codes "' height='7'><title>wait on c") o.object ++ codes " of" ++ span_text o ended to ++ wait_name start o to
 
 -- the row of a thread, with its name
 unfoldable pub row_text : ℕ → List ℕ
-row_text t = with_number (codes "<rect class='r' x='40' width='1208' height='22' y='") (row_y t) ++ with_number (codes "'/><text x='6' y='") (15 + row_y t) ++ with_number (codes "'>t") t ++ codes "</text>\n"
+row_text t = with_number (codes "<rect class='r' x='40' width='1208' height='32' y='") (row_y t) ++ with_number (codes "'/><text x='6' y='") (20 + row_y t) ++ with_number (codes "'>t") t ++ codes "</text>\n"
 
 -- the number of each tenth event above its column
 unfoldable pub number_text : View → ℕ → List ℕ
 number_text v n =
     if column v n % 10 == 0 then with_number (codes "<text class='n' y='12' x='") (column_x (column v n)) ++ with_number (codes "'>") n ++ codes "</text>\n" else []
 
--- the colour of a mutex, in the legend
+-- the stripes over the colour of a mutex past the seventh: the first seven have none, and each further seven have others
+unfoldable pub stripes_text : ℕ → List ℕ
+stripes_text m =
+    (with_number (codes "<pattern width='8' height='8' patternUnits='userSpaceOnUse' id='m") m ++ with_number (codes "'><rect width='8' height='8' class='m") (m % 7))
+    ++ with_number (codes "'/><use href='#q") (m / 7) ++ with_number (codes "'/></pattern>\n<style>.m") m ++ with_number (codes "{fill:url(#m") m ++ codes ")}</style>\n"
+
+abbrev pub stripes_if : ℕ → List ℕ
+stripes_if m = if nat_lt m 7 then [] else stripes_text m
+
+-- the colour and the stripes of a mutex, in the legend
 unfoldable pub swatch_text : ℕ → List ℕ
 swatch_text m =
-    with_number (codes "<rect width='11' height='11' class='m") (m % 7) ++ place_text (44 + 43 * (m % 28)) (56 + 14 * (m / 28)) ++ (with_number (codes "'/><text x='") (58 + 43 * (m % 28)) ++ with_number (codes "' y='") (65 + 14 * (m / 28))) ++ with_number (codes "'>m") m ++ codes "</text>\n"
+    with_number (codes "<rect width='11' height='11' class='m") m ++ place_text (44 + 43 * (m % 28)) (72 + 14 * (m / 28)) ++ (with_number (codes "'/><text x='") (58 + 43 * (m % 28)) ++ with_number (codes "' y='") (81 + 14 * (m / 28))) ++ with_number (codes "'>m") m ++ codes "</text>\n"
+
+-- what makes the colour of a mutex, and its place in the legend
+abbrev pub painted_text : ℕ → List ℕ
+painted_text m = stripes_if m ++ swatch_text m

@@ -1,9 +1,11 @@
-//! Arrows from the events that let a thread go on, written into a buffer behind its first `at` bytes. Each call says where it ended.
-ghost use Rattle.std.specs.Prelude.{◌≡◌, ◌+◌, ◌-◌, ◌<◌, ◌≤◌, ◌^◌, ◌++◌, length, take};
+//! Arrows from the events that let a thread go on, and lines from those that hand a mutex on, written into a buffer behind its first `at` bytes. Each call says where it ended.
+ghost use Rattle.std.specs.Prelude.{◌≡◌, ◌+◌, ◌-◌, ◌<◌, ◌≤◌, ◌^◌, ◌++◌, length, take, codes};
+ghost use Rattle.trace_picture.specs.History.{entry_of, IsWithin};
 ghost use Rattle.trace_picture.specs.Places.{column_x, row_y};
-ghost use Rattle.trace_picture.specs.Arrows.{point_text, bow_text, bow_x, bow_y, origin_text, cause_text, arrow_text, arrow_if};
+ghost use Rattle.trace_picture.specs.Shapes.{with_number};
+ghost use Rattle.trace_picture.specs.Arrows.{point_text, bow_text, bow_x, bow_y, origin_text, cause_text, arrow_text, arrow_if, line_text, line_if, handed};
 
-use crate::history::Origin;
+use crate::history::{Origin, Table, Turn};
 use crate::shapes::{x_of, y_of};
 use crate::tags::add_with_number;
 use larch_actions::ThreadId;
@@ -121,5 +123,104 @@ pub fn add_arrow_if(
             }
         }
         None => at,
+    }
+}
+
+// Adds which mutex is handed on, and to which thread.
+fn add_heir(buf: &mut [u8], at: usize, t: ThreadId, mutex: u32) -> usize
+    requires { at + 80 ≤ length buf.old }
+    ensures text { take result buf.new ≡ take at buf.old ++ (with_number (codes " hands on m") mutex ++ with_number (codes " to t") t.0) }
+    ensures near { result ≤ at + 80 }
+{
+    let at = add_with_number(buf, at, b" hands on m", u64::from(mutex));
+    add_with_number(buf, at, b" to t", u64::from(t.0))
+}
+
+// Adds the two ends of a line.
+fn add_ends(buf: &mut [u8], at: usize, start: u64, place: u64, t: ThreadId, o: &Origin) -> usize
+    requires room { at + 180 ≤ length buf.old }
+    requires place { place < 2 ^ 41 }
+    ensures text { take result buf.new ≡ take at buf.old ++
+        (point_text (codes "<path class='l' d='M") (bow_x start place o.now) (bow_y start t.0 o.now)
+        ++ point_text (codes "L") (column_x (place - start) - 1) (row_y t.0 + 8)) }
+    ensures near { result ≤ at + 180 }
+{
+    let x = x_from(start, place, o);
+    let y = y_from(start, t, o);
+    let u = x_of(place.saturating_sub(start)) - 1;
+    let at = add_point(buf, at, b"<path class='l' d='M", x, y);
+    add_point(buf, at, b"L", u, y_of(t.0) + 8)
+}
+
+// Adds the line to the event of this thread, by which it takes the mutex.
+#[tactic(auto, unfolding(crate::specs::Arrows::line_text))]
+fn add_line_to(
+    buf: &mut [u8],
+    at: usize,
+    start: u64,
+    place: u64,
+    t: ThreadId,
+    mutex: u32,
+    o: &Origin,
+) -> usize
+    requires room { at + 400 ≤ length buf.old }
+    requires place { place < 2 ^ 41 }
+    ensures text { take result buf.new ≡ take at buf.old ++ line_text start place t.0 mutex o.now }
+    ensures near { result ≤ at + 400 }
+{
+    let at = add_ends(buf, at, start, place, t, o);
+    let at = add_origin(buf, at, o);
+    let at = add_heir(buf, at, t, mutex);
+    add(buf, at, b"</title></path>\n")
+}
+
+// Adds the line, where another thread gave the mutex back.
+fn add_line_if(
+    buf: &mut [u8],
+    at: usize,
+    start: u64,
+    place: u64,
+    t: ThreadId,
+    mutex: u32,
+    o: Option<Origin>,
+) -> usize
+    requires room { at + 400 ≤ length buf.old }
+    requires place { place < 2 ^ 41 }
+    ensures text { take result buf.new ≡ take at buf.old ++ line_if start place t.0 mutex o }
+    ensures near { result ≤ at + 400 }
+{
+    match o {
+        Some(o) => {
+            let own = o.thread.0 == t.0;
+            if own {
+                at
+            } else {
+                add_line_to(buf, at, start, place, t, mutex, &o)
+            }
+        }
+        None => at,
+    }
+}
+
+/// Adds the line, where the event takes a mutex that another thread gave back.
+pub fn add_handed(
+    buf: &mut [u8],
+    at: usize,
+    start: u64,
+    place: u64,
+    t: ThreadId,
+    given: &Table,
+    turn: Turn,
+) -> usize
+    requires within { IsWithin turn }
+    requires room { at + 400 ≤ length buf.old }
+    requires place { place < 2 ^ 41 }
+    ensures text { take result buf.new ≡ take at buf.old ++ handed start place t.0 (entry_of given.now) turn }
+    ensures near { result ≤ at + 400 }
+{
+    match turn {
+        Turn::Begins(m) => add_line_if(buf, at, start, place, t, m, given.at(m)),
+        Turn::Ends(_) => at,
+        Turn::Stays => at,
     }
 }

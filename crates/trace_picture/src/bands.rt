@@ -3,15 +3,20 @@ ghost use Rattle.std.specs.Prelude.{◌≡◌, ◌+◌, ◌-◌, ◌*◌, ◌<�
 ghost use Rattle.larch_actions.specs.Layout.{IsLawful, HasNames};
 ghost use Rattle.trace_picture.specs.History.{entry_of, IsWithin};
 ghost use Rattle.trace_picture.specs.Kept.{kept_of, kept_after, IsNoted};
+ghost use Rattle.trace_picture.specs.Marks.{marks};
+ghost use Rattle.trace_picture.specs.Rows.{row_of};
 ghost use Rattle.trace_picture.specs.Places.{in_view, column, is_open, band_top};
-ghost use Rattle.trace_picture.specs.Shapes.{with_number, each_below, row_text, number_text, failed_text};
+ghost use Rattle.trace_picture.specs.Shapes.{with_number, each_below, row_text, number_text, object_if, failed_text};
 ghost use Rattle.trace_picture.specs.Bands.{opening, bar_if, wait_if, closing, bar_ended, wait_ended, closing_after, bars_ended, arrow_to, event_shapes, step_text, failing_text};
 
-use crate::arrows::add_arrow_if;
+use crate::arrows::{add_arrow_if, add_handed};
 use crate::board::Board;
 use crate::history::{Origin, Table, Turn};
 use crate::marks::marks_of;
-use crate::shapes::{add_bar, add_failed, add_label, add_mark, add_row, add_wait_bar};
+use crate::rows::Rows;
+use crate::shapes::{
+    add_bar, add_failed, add_label, add_mark, add_object_if, add_row, add_wait_bar,
+};
 use crate::tags::add_with_number;
 use crate::view::{View, column_of, is_band_open, is_in_view};
 use larch_actions::{Broken, Event, Layout};
@@ -24,8 +29,8 @@ pub fn top_of(layout: &Layout, band: u64) -> u64
     ensures top { result ≡ band_top layout.now band }
     ensures small { result < 2 ^ 60 }
 {
-    let height = 24 * u64::from(layout.threads) + 30;
-    100 + band * height
+    let height = 34 * u64::from(layout.threads) + 30;
+    116 + band * height
 }
 
 // Adds the rows of all threads.
@@ -78,16 +83,20 @@ fn add_bar_if(
     start: u64,
     ended: bool,
     to: u64,
+    rows: &Rows,
     mutex: u32,
     o: Option<Origin>,
 ) -> usize
     requires room { at + 350 ≤ length buf.old }
     requires place { to < 2 ^ 42 }
-    ensures text { take result buf.new ≡ take at buf.old ++ bar_if start ended to mutex o }
+    ensures text { take result buf.new ≡ take at buf.old ++ bar_if start ended to (row_of rows.now) mutex o }
     ensures near { result ≤ at + 350 }
 {
     match o {
-        Some(o) => add_bar(buf, at, start, mutex, &o, ended, to),
+        Some(o) => {
+            let lane = rows.lane(o.thread, mutex);
+            add_bar(buf, at, start, mutex, lane, &o, ended, to)
+        }
         None => at,
     }
 }
@@ -101,10 +110,10 @@ fn add_wait_if(
     to: u64,
     o: Option<Origin>,
 ) -> usize
-    requires room { at + 350 ≤ length buf.old }
+    requires room { at + 450 ≤ length buf.old }
     requires place { to < 2 ^ 42 }
     ensures text { take result buf.new ≡ take at buf.old ++ wait_if start ended to o }
-    ensures near { result ≤ at + 350 }
+    ensures near { result ≤ at + 450 }
 {
     match o {
         Some(o) => add_wait_bar(buf, at, start, &o, ended, to),
@@ -113,16 +122,25 @@ fn add_wait_if(
 }
 
 // Adds the bars of the mutexes that are held.
-fn add_bars(buf: &mut [u8], at: usize, mutexes: u32, held: &Table, start: u64, to: u64) -> usize
+fn add_bars(
+    buf: &mut [u8],
+    at: usize,
+    mutexes: u32,
+    rows: &Rows,
+    held: &Table,
+    start: u64,
+    to: u64,
+) -> usize
     requires few { mutexes ≤ 64 }
     requires place { to < 2 ^ 42 }
     requires room { at + 350 * mutexes ≤ length buf.old }
-    ensures text { take result buf.new ≡ take at buf.old ++ each_below (λ m. bar_if start false to m (entry_of held.now m)) mutexes }
+    ensures text { take result buf.new ≡ take at buf.old ++ each_below (λ m. bar_if start false to (row_of rows.now) m
+        (entry_of held.now m)) mutexes }
     ensures near { result ≤ at + 350 * mutexes }
 {
     let mut last = at;
     for m in 0..mutexes {
-        last = add_bar_if(buf, last, start, false, to, m, held.at(m));
+        last = add_bar_if(buf, last, start, false, to, rows, m, held.at(m));
     }
     last
 }
@@ -131,9 +149,9 @@ fn add_bars(buf: &mut [u8], at: usize, mutexes: u32, held: &Table, start: u64, t
 fn add_waits(buf: &mut [u8], at: usize, threads: u32, waits: &Table, start: u64, to: u64) -> usize
     requires few { threads ≤ 64 }
     requires place { to < 2 ^ 42 }
-    requires room { at + 350 * threads ≤ length buf.old }
+    requires room { at + 450 * threads ≤ length buf.old }
     ensures text { take result buf.new ≡ take at buf.old ++ each_below (λ t. wait_if start false to (entry_of waits.now t)) threads }
-    ensures near { result ≤ at + 350 * threads }
+    ensures near { result ≤ at + 450 * threads }
 {
     let mut last = at;
     for t in 0..threads {
@@ -154,11 +172,11 @@ pub fn add_closing(
 ) -> usize
     requires lawful { IsLawful layout.now }
     requires place { to < 2 ^ 42 }
-    requires room { at + 45000 ≤ length buf.old }
+    requires room { at + 52000 ≤ length buf.old }
     ensures text { take result buf.new ≡ take at buf.old ++ closing layout.now (kept_of board.now) start to }
-    ensures near { result ≤ at + 44900 }
+    ensures near { result ≤ at + 51900 }
 {
-    let at = add_bars(buf, at, layout.mutexes, &board.held, start, to);
+    let at = add_bars(buf, at, layout.mutexes, &board.rows, &board.held, start, to);
     let at = add_waits(buf, at, layout.threads, &board.waits, start, to);
     add(buf, at, b"</g>\n")
 }
@@ -175,9 +193,9 @@ fn add_closing_after(
 ) -> usize
     requires lawful { IsLawful layout.now }
     requires few { place < 2 ^ 41 }
-    requires room { at + 45000 ≤ length buf.old }
+    requires room { at + 52000 ≤ length buf.old }
     ensures text { take result buf.new ≡ take at buf.old ++ closing_after layout.now view.now (kept_of board.now) place }
-    ensures near { result ≤ at + 44900 }
+    ensures near { result ≤ at + 51900 }
 {
     if is_band_open(view, place + 1) {
         at
@@ -193,17 +211,18 @@ fn add_bar_ended(
     at: usize,
     start: u64,
     place: u64,
+    rows: &Rows,
     held: &Table,
     turn: Turn,
 ) -> usize
     requires within { IsWithin turn }
     requires few { place < 2 ^ 41 }
     requires room { at + 350 ≤ length buf.old }
-    ensures text { take result buf.new ≡ take at buf.old ++ bar_ended start place (entry_of held.now) turn }
+    ensures text { take result buf.new ≡ take at buf.old ++ bar_ended start place (row_of rows.now) (entry_of held.now) turn }
     ensures near { result ≤ at + 350 }
 {
     match turn {
-        Turn::Ends(k) => add_bar_if(buf, at, start, true, place + 1, k, held.at(k)),
+        Turn::Ends(k) => add_bar_if(buf, at, start, true, place + 1, rows, k, held.at(k)),
         Turn::Begins(_) => at,
         Turn::Stays => at,
     }
@@ -220,9 +239,9 @@ fn add_wait_ended(
 ) -> usize
     requires within { IsWithin turn }
     requires few { place < 2 ^ 41 }
-    requires room { at + 350 ≤ length buf.old }
+    requires room { at + 450 ≤ length buf.old }
     ensures text { take result buf.new ≡ take at buf.old ++ wait_ended start place (entry_of waits.now) turn }
-    ensures near { result ≤ at + 350 }
+    ensures near { result ≤ at + 450 }
 {
     match turn {
         Turn::Ends(k) => add_wait_if(buf, at, start, true, place + 1, waits.at(k)),
@@ -242,17 +261,17 @@ fn add_bars_ended(
 ) -> usize
     requires noted { IsNoted e.now }
     requires few { place < 2 ^ 41 }
-    requires room { at + 700 ≤ length buf.old }
+    requires room { at + 800 ≤ length buf.old }
     ensures text { take result buf.new ≡ take at buf.old ++ bars_ended view.now (kept_of board.now) place e.now }
-    ensures near { result ≤ at + 700 }
+    ensures near { result ≤ at + 800 }
 {
     let start = place - column_of(view, place);
     let marks = marks_of(e.thread, &e.action);
-    let at = add_bar_ended(buf, at, start, place, &board.held, marks.mutex);
+    let at = add_bar_ended(buf, at, start, place, &board.rows, &board.held, marks.mutex);
     add_wait_ended(buf, at, start, place, &board.waits, marks.wait)
 }
 
-// Adds the arrow to the event, where another thread let its thread go on.
+// Adds the arrow to the event, where another thread let its thread go on, and the line, where another handed a mutex on.
 fn add_arrow_to(
     buf: &mut [u8],
     at: usize,
@@ -263,17 +282,28 @@ fn add_arrow_to(
 ) -> usize
     requires noted { IsNoted e.now }
     requires few { place < 2 ^ 41 }
-    requires room { at + 350 ≤ length buf.old }
+    requires room { at + 750 ≤ length buf.old }
     ensures text { take result buf.new ≡ take at buf.old ++ arrow_to view.now (kept_of board.now) place e.now }
-    ensures near { result ≤ at + 350 }
+    ensures near { result ≤ at + 750 }
 {
     let start = place - column_of(view, place);
     let marks = marks_of(e.thread, &e.action);
     let by = board.waker(marks.waker);
-    add_arrow_if(buf, at, start, place, e.thread, by)
+    let at = add_arrow_if(buf, at, start, place, e.thread, by);
+    add_handed(buf, at, start, place, e.thread, &board.given, marks.mutex)
 }
 
-// Adds the number and the mark of an event, the bars that it ends, and the arrow to it.
+// Adds the number of the event's object, but for the ends of a wait.
+fn add_object_of(buf: &mut [u8], at: usize, view: &View, place: u64, e: &Event) -> usize
+    requires { at + 120 ≤ length buf.old }
+    ensures text { take result buf.new ≡ take at buf.old ++ object_if view.now place e.now (marks e.now).wait }
+    ensures near { result ≤ at + 120 }
+{
+    let marks = marks_of(e.thread, &e.action);
+    add_object_if(buf, at, view, place, e, marks.wait)
+}
+
+// Adds the number and the mark of an event, the number of its object, the bars that it ends, and the arrow to it.
 #[tactic(auto, unfolding(crate::specs::Bands::event_shapes))]
 fn add_event_shapes(
     buf: &mut [u8],
@@ -285,12 +315,13 @@ fn add_event_shapes(
 ) -> usize
     requires noted { IsNoted e.now }
     requires few { place < 2 ^ 41 }
-    requires room { at + 2000 ≤ length buf.old }
+    requires room { at + 2500 ≤ length buf.old }
     ensures text { take result buf.new ≡ take at buf.old ++ event_shapes view.now (kept_of board.now) place e.now }
-    ensures near { result ≤ at + 2000 }
+    ensures near { result ≤ at + 2500 }
 {
     let at = add_label(buf, at, view, place);
     let at = add_mark(buf, at, view, place, e);
+    let at = add_object_of(buf, at, view, place, e);
     let at = add_bars_ended(buf, at, view, board, place, e);
     add_arrow_to(buf, at, view, board, place, e)
 }
@@ -308,12 +339,12 @@ fn add_drawn(
     requires lawful { IsLawful layout.now }
     requires noted { IsNoted e.now }
     requires few { place < 2 ^ 41 }
-    requires room { at + 60000 ≤ length buf.old }
+    requires room { at + 68000 ≤ length buf.old }
     ensures text { take result buf.new ≡ take at buf.old ++
         (opening layout.now view.now place ++ event_shapes view.now (kept_of board.old) place e.now
         ++ closing_after layout.now view.now (kept_of board.new) place) }
     ensures kept { kept_of board.new ≡ kept_after place e.now (kept_of board.old) }
-    ensures near { result ≤ at + 60000 }
+    ensures near { result ≤ at + 68000 }
 {
     let at = add_opening(buf, at, layout, view, place);
     let at = add_event_shapes(buf, at, view, board, place, e);
@@ -335,10 +366,10 @@ pub fn add_step(
     requires lawful { IsLawful layout.now }
     requires named { HasNames layout.now e.now }
     requires few { place < 2 ^ 41 }
-    requires room { at + 60000 ≤ length buf.old }
+    requires room { at + 68000 ≤ length buf.old }
     ensures text { take result buf.new ≡ take at buf.old ++ step_text layout.now view.now (kept_of board.old) place e.now }
     ensures kept { kept_of board.new ≡ kept_after place e.now (kept_of board.old) }
-    ensures near { result ≤ at + 60000 }
+    ensures near { result ≤ at + 68000 }
 {
     if is_in_view(view, place) {
         add_drawn(buf, at, layout, view, board, place, e)
@@ -379,9 +410,9 @@ pub fn add_failing(
 ) -> usize
     requires lawful { IsLawful layout.now }
     requires few { place < 2 ^ 41 }
-    requires room { at + 60000 ≤ length buf.old }
+    requires room { at + 68000 ≤ length buf.old }
     ensures text { take result buf.new ≡ take at buf.old ++ failing_text layout.now view.now (kept_of board.now) place e.now why }
-    ensures near { result ≤ at + 60000 }
+    ensures near { result ≤ at + 68000 }
 {
     if is_in_view(view, place) {
         let at = add_opening(buf, at, layout, view, place);

@@ -3,11 +3,13 @@ ghost use Rattle.std.specs.Prelude.{◌≡◌};
 ghost use Rattle.trace_picture.specs.Kept.{nothing_kept, kept_after, kept_of, came, let_on_by, IsNoted, IsNear};
 
 use crate::causes::{Cause, Causes};
-use crate::history::{Origin, Table};
+use crate::history::{Origin, Table, turned_about};
 use crate::marks::marks_of;
+use crate::rows::Rows;
 use larch_actions::Event;
 
-/// Since which event each mutex is held and each thread waits, and which event lets each thread go on.
+/// Since which event each mutex is held and each thread waits, which event lets each thread go on, which lane each bar has,
+/// and which event gave each mutex back.
 #[derive(Drop)]
 pub struct Board {
     pub held: Table,
@@ -15,6 +17,8 @@ pub struct Board {
     pub stands: Causes,
     pub opens: Causes,
     pub alerts: Causes,
+    pub rows: Rows,
+    pub given: Table,
 }
 
 /// What a thread goes on by: that it was taken out of its condition, that a semaphore is available, or that it is alerted.
@@ -47,12 +51,16 @@ impl Board {
         let stands = Causes::new();
         let opens = Causes::new();
         let alerts = Causes::new();
+        let rows = Rows::new();
+        let given = Table::new();
         Board {
             held,
             waits,
             stands,
             opens,
             alerts,
+            rows,
+            given,
         }
     }
 
@@ -74,15 +82,18 @@ impl Board {
         requires { IsNoted e.now }
         ensures { kept_of self.new ≡ kept_after place e.now (kept_of self.old) }
     {
+        let marks = marks_of(e.thread, &e.action);
         let by = Origin {
             thread: e.thread,
+            object: marks.object,
             place,
         };
-        let marks = marks_of(e.thread, &e.action);
         self.held.note(marks.mutex, by);
         self.waits.note(marks.wait, by);
         self.stands.note(marks.stand, by);
         self.opens.note(marks.avail, by);
         self.alerts.note(marks.alert, by);
+        self.rows.note(marks.mutex, e.thread.0);
+        self.given.note(turned_about(marks.mutex), by);
     }
 }

@@ -58,13 +58,13 @@ fn legal(events: u64, totals: &Totals) -> Verdict
 // Sends what the buffer holds where it lacks room for another event, and says how much it holds then.
 fn make_room<O: Sink>(buf: &[u8], at: usize, out: &mut O) -> Result<usize, SinkFault>
     requires within { at ≤ length buf.now }
-    requires large { 70000 ≤ length buf.now }
+    requires large { 78000 ≤ length buf.now }
     ensures ok { IfOk result (λ end. Flows (O.held out.old) (O.held out.new) (take at buf.now) (take end buf.now) []) }
-    ensures room { IfOk result (λ end. end + 62000 ≤ length buf.now) }
+    ensures room { IfOk result (λ end. end + 70000 ≤ length buf.now) }
     ensures err { OnErr result (AppendsFront (O.held out.old) (O.held out.new) (take at buf.now)) }
     ensures cause { HasCause (O.faults out.old) (O.faults out.new) result }
 {
-    if buf.len() - at >= 62000 {
+    if buf.len() - at >= 70000 {
         return Ok(at);
     }
     match put_all(out, &buf[..at]) {
@@ -85,7 +85,7 @@ fn end_cut<O: Sink>(
 ) -> Result<(), SinkFault>
     requires lawful { IsLawful layout.now }
     requires few { count < 2 ^ 42 }
-    requires room { at + 60000 ≤ length buf.old }
+    requires room { at + 68000 ≤ length buf.old }
     ensures ok { OnOk result (Appends (O.held out.old) (O.held out.new)
         (take at buf.old ++ ending layout.now view.now (kept_of board.now) count cut_words)) }
     ensures err { OnErr result (AppendsFront (O.held out.old) (O.held out.new)

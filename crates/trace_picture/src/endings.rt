@@ -7,7 +7,7 @@ ghost use Rattle.trace_picture.specs.Kept.{kept_of};
 ghost use Rattle.trace_picture.specs.Places.{is_open, height_of};
 ghost use Rattle.trace_picture.specs.Shapes.{with_number, line_of, clause_word};
 ghost use Rattle.trace_picture.specs.Bands.{closing, band_start};
-ghost use Rattle.trace_picture.specs.Picture.{end_text, closing_if, ending, failed_note, failed_ending};
+ghost use Rattle.trace_picture.specs.Picture.{part_text, end_text, closing_if, ending, failed_note, failed_ending};
 
 use crate::bands::{add_closing, add_failing, top_of};
 use crate::board::Board;
@@ -40,9 +40,9 @@ pub fn add_last_closing(
 ) -> usize
     requires lawful { IsLawful layout.now }
     requires few { count < 2 ^ 42 }
-    requires room { at + 45000 ≤ length buf.old }
+    requires room { at + 52000 ≤ length buf.old }
     ensures text { take result buf.new ≡ take at buf.old ++ closing_if layout.now view.now (kept_of board.now) count }
-    ensures near { result ≤ at + 45000 }
+    ensures near { result ≤ at + 52000 }
 {
     if is_band_open(view, count) {
         let start = count - column_of(view, count);
@@ -87,6 +87,22 @@ pub fn add_last_tags(buf: &mut [u8], at: usize, layout: &Layout, view: &View, co
     add(buf, at, b"px}</style>\n</svg>\n")
 }
 
+// Adds which events were drawn.
+#[tactic(auto, unfolding(crate::specs::Picture::part_text))]
+fn add_part(buf: &mut [u8], at: usize, view: &View, count: u64) -> usize
+    requires { at + 100 ≤ length buf.old }
+    ensures text { take result buf.new ≡ take at buf.old ++ part_text view.now count }
+    ensures near { result ≤ at + 100 }
+{
+    let end = count.min(view.end);
+    if view.first < end {
+        let at = add_with_number(buf, at, b", drawn: ", view.first);
+        add_with_number(buf, at, b" to ", end - 1)
+    } else {
+        add(buf, at, b", drawn: none")
+    }
+}
+
 /// Adds words and a count as the last line, and what follows it.
 #[tactic(auto, unfolding(crate::specs::Picture::end_text))]
 pub fn add_end(
@@ -107,6 +123,7 @@ pub fn add_end(
     let at = add_note_place(buf, at, layout, view, count);
     let at = add(buf, at, b"'>");
     let at = add_with_number(buf, at, words, count);
+    let at = add_part(buf, at, view, count);
     add_last_tags(buf, at, layout, view, count)
 }
 
@@ -123,9 +140,9 @@ pub fn add_ending(
     requires lawful { IsLawful layout.now }
     requires few { count < 2 ^ 42 }
     requires short { length words.now ≤ 60 }
-    requires room { at + 60000 ≤ length buf.old }
+    requires room { at + 68000 ≤ length buf.old }
     ensures text { take result buf.new ≡ take at buf.old ++ ending layout.now view.now (kept_of board.now) count words.now }
-    ensures near { result ≤ at + 60000 }
+    ensures near { result ≤ at + 68000 }
 {
     let at = add_last_closing(buf, at, layout, view, board, count);
     add_end(buf, at, layout, view, count, words)
@@ -164,6 +181,7 @@ fn add_failed_end(
     let at = add_note_place(buf, at, layout, view, place + 1);
     let at = add(buf, at, b"'>");
     let at = add_failed_note(buf, at, place, e, why);
+    let at = add_part(buf, at, view, place + 1);
     add_last_tags(buf, at, layout, view, place + 1)
 }
 
@@ -180,9 +198,9 @@ pub fn add_failed_ending(
 ) -> usize
     requires lawful { IsLawful layout.now }
     requires few { place < 2 ^ 41 }
-    requires room { at + 62000 ≤ length buf.old }
+    requires room { at + 70000 ≤ length buf.old }
     ensures text { take result buf.new ≡ take at buf.old ++ failed_ending layout.now view.now (kept_of board.now) place e.now why }
-    ensures near { result ≤ at + 62000 }
+    ensures near { result ≤ at + 70000 }
 {
     let at = add_failing(buf, at, layout, view, board, place, e, why);
     add_failed_end(buf, at, layout, view, place, e, why)
@@ -202,7 +220,7 @@ pub fn end_with<O: Sink>(
     requires lawful { IsLawful layout.now }
     requires few { count < 2 ^ 42 }
     requires short { length words.now ≤ 60 }
-    requires room { at + 60000 ≤ length buf.old }
+    requires room { at + 68000 ≤ length buf.old }
     ensures ok { OnOk result (Appends (O.held out.old) (O.held out.new)
         (take at buf.old ++ ending layout.now view.now (kept_of board.now) count words.now)) }
     ensures err { OnErr result (AppendsFront (O.held out.old) (O.held out.new)
@@ -227,7 +245,7 @@ pub fn end_failed<O: Sink>(
 ) -> Result<(), SinkFault>
     requires lawful { IsLawful layout.now }
     requires few { place < 2 ^ 41 }
-    requires room { at + 62000 ≤ length buf.old }
+    requires room { at + 70000 ≤ length buf.old }
     ensures ok { OnOk result (Appends (O.held out.old) (O.held out.new)
         (take at buf.old ++ failed_ending layout.now view.now (kept_of board.now) place e.now why)) }
     ensures err { OnErr result (AppendsFront (O.held out.old) (O.held out.new)

@@ -1,21 +1,21 @@
 //! The head of a picture: the first tag, the colours, and what each mark and colour means.
 ghost use Rattle.std.specs.Prelude.{◌≡◌, ◌+◌, ◌*◌, ◌≤◌, ◌++◌, length, take, codes};
 ghost use Rattle.larch_actions.specs.Layout.{IsLawful};
-ghost use Rattle.trace_picture.specs.Shapes.{each_below, swatch_text};
+ghost use Rattle.trace_picture.specs.Shapes.{each_below, painted_text};
 ghost use Rattle.trace_picture.specs.Legend.{entry_at};
 ghost use Rattle.trace_picture.specs.Picture.{style_text, pattern_text, other_words, head_text};
 
 use crate::legend::add_entries;
-use crate::shapes::add_swatch;
+use crate::shapes::add_painted;
 use larch_actions::Layout;
 use trace_core::add;
 
 // Adds the first tag and the colours.
 #[tactic(auto, unfolding(crate::specs::Picture::style_text))]
 fn add_style(buf: &mut [u8], at: usize) -> usize
-    requires { at + 2000 ≤ length buf.old }
+    requires { at + 2600 ≤ length buf.old }
     ensures text { take result buf.new ≡ take at buf.old ++ style_text }
-    ensures near { result ≤ at + 2000 }
+    ensures near { result ≤ at + 2600 }
 {
     let at = add(
         buf,
@@ -25,7 +25,7 @@ fn add_style(buf: &mut [u8], at: usize) -> usize
     let at = add(
         buf,
         at,
-        b"text{fill:#222}.n{fill:#555;font-size:10px;text-anchor:middle}.r{fill:#f4f4f4}.i{text-anchor:middle;font-weight:bold;font-size:10px}\n",
+        b"text{fill:#222}.n{fill:#555;font-size:10px;text-anchor:middle}.s,.d{font-size:7px}.s{text-anchor:middle}.d{paint-order:stroke;stroke:#fff;stroke-width:2px}.r{fill:#f4f4f4}.i{text-anchor:middle;font-weight:bold;font-size:10px}\n",
     );
     let at = add(
         buf,
@@ -42,14 +42,14 @@ fn add_style(buf: &mut [u8], at: usize) -> usize
 // Adds the rest of the colours and the hatch.
 #[tactic(auto, unfolding(crate::specs::Picture::pattern_text))]
 fn add_pattern(buf: &mut [u8], at: usize) -> usize
-    requires { at + 2000 ≤ length buf.old }
+    requires { at + 2600 ≤ length buf.old }
     ensures text { take result buf.new ≡ take at buf.old ++ pattern_text }
-    ensures near { result ≤ at + 2000 }
+    ensures near { result ≤ at + 2600 }
 {
     let at = add(
         buf,
         at,
-        b".b{fill:#bfe0f5;stroke:#222}.v{fill:#f5b8a0;stroke:#222}.f{fill:#222}.f+.i{fill:#fff}.o,.k,.g,.b,.v{stroke-width:.7}.a{fill:none;stroke:#a02c6b;stroke-width:1.2;marker-end:url(#a)}\n</style>\n",
+        b".b{fill:#bfe0f5;stroke:#222}.v{fill:#f5b8a0;stroke:#222}.f{fill:#222}.f+.i{fill:#fff}.o,.k,.g,.b,.v{stroke-width:.7}.a{fill:none;stroke:#a02c6b;stroke-width:1.2;marker-end:url(#a)}.l{fill:none;stroke:#888;stroke-width:.8}\n</style>\n",
     );
     let at = add(
         buf,
@@ -59,7 +59,7 @@ fn add_pattern(buf: &mut [u8], at: usize) -> usize
     let at = add(
         buf,
         at,
-        b"<marker id='a' viewBox='0 0 6 6' refX='6' refY='3' markerWidth='6' markerHeight='6' orient='auto'><path d='M0 0L6 3L0 6z' fill='#a02c6b'/></marker></defs>\n",
+        b"<path id='q1' d='M3 0h2v8h-2z' fill='#fff'/><path id='q2' d='M3 0h2v8h-2z' fill='#000'/><path id='q3' d='M1 0h1v8h-1zM5 0h1v8h-1z' fill='#fff'/><path id='q4' d='M1 0h1v8h-1zM5 0h1v8h-1z' fill='#000'/><path id='q5' d='M0 0h4v8h-4z' fill='#fff'/><path id='q6' d='M0 0h4v8h-4z' fill='#000'/><g id='q7'><path d='M1 0h2v8h-2z' fill='#fff'/><path d='M5 0h2v8h-2z'/></g><g id='q8'><path d='M1 0h3v8h-3z' fill='#fff'/><path d='M4 0h1v8h-1z'/></g><g id='q9'><path d='M1 0h3v8h-3z'/><path d='M4 0h1v8h-1z' fill='#fff'/></g>\n<marker id='a' viewBox='0 0 6 6' refX='6' refY='3' markerWidth='6' markerHeight='6' orient='auto'><path d='M0 0L6 3L0 6z' fill='#a02c6b'/></marker></defs>\n",
     );
     add(buf, at, b"<rect width='100%' height='100%' fill='#fff'/>\n")
 }
@@ -67,31 +67,31 @@ fn add_pattern(buf: &mut [u8], at: usize) -> usize
 // Adds what is no mark: a wait, a bar and an arrow.
 #[tactic(auto, unfolding(crate::specs::Picture::other_words))]
 fn add_other_words(buf: &mut [u8], at: usize) -> usize
-    requires { at + 500 ≤ length buf.old }
+    requires { at + 700 ≤ length buf.old }
     ensures text { take result buf.new ≡ take at buf.old ++ other_words }
-    ensures near { result ≤ at + 500 }
+    ensures near { result ≤ at + 700 }
 {
     let at = add(
         buf,
         at,
-        b"<rect class='h' x='844' y='39' width='22' height='9'/><text x='871' y='47'>waits</text><text x='914' y='47'>coloured: holds a mutex</text>\n",
+        b"<rect class='h' x='44' y='57' width='22' height='7'/><text x='71' y='64'>waits in a condition, with its number</text><text x='294' y='64'>coloured, from m7 on striped: holds a mutex</text><text x='594' y='64'>below a mark: the number of its mutex, semaphore, condition or thread</text>\n",
     );
     add(
         buf,
         at,
-        b"<path class='a' d='M1044 43H1066'/><text x='1071' y='47'>lets another thread go on</text>\n",
+        b"<path class='a' d='M844 43H866'/><text x='871' y='47'>lets another thread go on</text><path class='l' d='M1044 43H1066'/><text x='1071' y='47'>hands a mutex on</text>\n",
     )
 }
 
 // Adds the colours of the mutexes.
 fn add_swatches(buf: &mut [u8], at: usize, mutexes: u32) -> usize
-    requires room { at + 250 * mutexes ≤ length buf.old }
-    ensures text { take result buf.new ≡ take at buf.old ++ each_below swatch_text mutexes }
-    ensures near { result ≤ at + 250 * mutexes }
+    requires room { at + 600 * mutexes ≤ length buf.old }
+    ensures text { take result buf.new ≡ take at buf.old ++ each_below painted_text mutexes }
+    ensures near { result ≤ at + 600 * mutexes }
 {
     let mut last = at;
     for m in 0..mutexes {
-        last = add_swatch(buf, last, m);
+        last = add_painted(buf, last, m);
     }
     last
 }
@@ -110,9 +110,9 @@ fn add_legend(buf: &mut [u8], at: usize) -> usize
 #[tactic(auto, unfolding(crate::specs::Picture::head_text))]
 pub fn add_head(buf: &mut [u8], at: usize, layout: &Layout) -> usize
     requires lawful { IsLawful layout.now }
-    requires room { at + 26000 ≤ length buf.old }
+    requires room { at + 50000 ≤ length buf.old }
     ensures text { take result buf.new ≡ take at buf.old ++ head_text layout.now }
-    ensures near { result ≤ at + 26000 }
+    ensures near { result ≤ at + 50000 }
 {
     let at = add_style(buf, at);
     let at = add_pattern(buf, at);

@@ -1,14 +1,15 @@
 //! Since which event each mutex is held and each thread waits.
 ghost use Rattle.std.specs.Prelude.{◌≡◌, ◌<◌, ℕ, None};
 ghost use Rattle.std.specs.declared.option.Option.{Option};
-ghost use Rattle.trace_picture.specs.History.{changed, entry_of, IsWithin};
+ghost use Rattle.trace_picture.specs.History.{changed, turned_about, entry_of, IsWithin};
 
 use larch_actions::ThreadId;
 
-/// The event since which something is so: by which thread, and its place.
+/// The event since which something is so: by which thread, of which object, and its place.
 #[derive(Clone, Copy)]
 pub struct Origin {
     pub thread: ThreadId,
+    pub object: u32,
     pub place: u64,
 }
 
@@ -18,6 +19,18 @@ pub enum Turn {
     Begins(u32),
     Ends(u32),
     Stays,
+}
+
+/// The turn of what is taken where the other isn't.
+#[inline(always)]
+pub fn turned_about(turn: Turn) -> Turn
+    ensures { result ≡ turned_about turn }
+{
+    match turn {
+        Turn::Begins(k) => Turn::Ends(k),
+        Turn::Ends(k) => Turn::Begins(k),
+        Turn::Stays => Turn::Stays,
+    }
 }
 
 /// Of each of 64 things, since which event it is taken.

@@ -15,6 +15,8 @@ use larch_actions::{Action, CondId, MutexId, SemId, ThreadId, ThreadSet};
 pub struct Marks {
     /// Which mark it has.
     pub mark: Mark,
+    /// The number of its mutex or semaphore, of the condition of a wait, a signal or a broadcast, of the thread that is alerted or asks.
+    pub object: u32,
     /// Which mutex it takes or gives back.
     pub mutex: Turn,
     /// Whether it begins or ends a wait of its thread.
@@ -29,13 +31,14 @@ pub struct Marks {
     pub waker: Waker,
 }
 
-// A mark, and nothing done.
+// A mark of an object, and nothing done.
 #[inline(always)]
-fn plain(mark: Mark) -> Marks
-    ensures { result ≡ plain mark }
+fn plain(mark: Mark, object: u32) -> Marks
+    ensures { result ≡ plain mark object }
 {
     Marks {
         mark,
+        object,
         mutex: Turn::Stays,
         wait: Turn::Stays,
         stand: Move::Stays,
@@ -54,28 +57,28 @@ fn begun(mark: Mark, t: ThreadId, held: MutexId, cond: CondId) -> Marks
         mutex: Turn::Ends(held.0),
         wait: Turn::Begins(t.0),
         stand: Move::Awaits(t.0, cond.0),
-        ..plain(mark)
+        ..plain(mark, cond.0)
     }
 }
 
 // The second part of a wait that returns.
 #[inline(always)]
-fn ended(mark: Mark, t: ThreadId, mutex: MutexId) -> Marks
-    ensures { result ≡ ended mark t.0 mutex.0 }
+fn ended(mark: Mark, t: ThreadId, mutex: MutexId, cond: CondId) -> Marks
+    ensures { result ≡ ended mark t.0 mutex.0 cond.0 }
 {
     Marks {
         mutex: Turn::Begins(mutex.0),
         wait: Turn::Ends(t.0),
         stand: Move::Ends(t.0),
         waker: Waker::Condition(t.0),
-        ..plain(mark)
+        ..plain(mark, cond.0)
     }
 }
 
 // The second part of a wait that raises.
 #[inline(always)]
-fn raised(mark: Mark, t: ThreadId, mutex: MutexId) -> Marks
-    ensures { result ≡ raised mark t.0 mutex.0 }
+fn raised(mark: Mark, t: ThreadId, mutex: MutexId, cond: CondId) -> Marks
+    ensures { result ≡ raised mark t.0 mutex.0 cond.0 }
 {
     Marks {
         mutex: Turn::Begins(mutex.0),
@@ -83,7 +86,7 @@ fn raised(mark: Mark, t: ThreadId, mutex: MutexId) -> Marks
         stand: Move::Ends(t.0),
         alert: Move::Ends(t.0),
         waker: Waker::Alarm(t.0),
-        ..plain(mark)
+        ..plain(mark, cond.0)
     }
 }
 
@@ -95,19 +98,19 @@ fn taken(mark: Mark, sem: SemId) -> Marks
     Marks {
         avail: Move::Awaits(sem.0, sem.0),
         waker: Waker::Semaphore(sem.0),
-        ..plain(mark)
+        ..plain(mark, sem.0)
     }
 }
 
 // The own alert is taken.
 #[inline(always)]
-fn heard(mark: Mark, t: ThreadId) -> Marks
-    ensures { result ≡ heard mark t.0 }
+fn heard(mark: Mark, t: ThreadId, object: u32) -> Marks
+    ensures { result ≡ heard mark t.0 object }
 {
     Marks {
         alert: Move::Ends(t.0),
         waker: Waker::Alarm(t.0),
-        ..plain(mark)
+        ..plain(mark, object)
     }
 }
 
@@ -119,36 +122,36 @@ pub fn marks_of(t: ThreadId, action: &Action) -> Marks
     match *action {
         Action::Acquire { mutex } => Marks {
             mutex: Turn::Begins(mutex.0),
-            ..plain(Mark::Acquire)
+            ..plain(Mark::Acquire, mutex.0)
         },
         Action::Release { mutex } => Marks {
             mutex: Turn::Ends(mutex.0),
-            ..plain(Mark::Release)
+            ..plain(Mark::Release, mutex.0)
         },
         Action::Enqueue { mutex, cond } => begun(Mark::Enqueue, t, mutex, cond),
-        Action::Resume { mutex, cond: _ } => ended(Mark::Resume, t, mutex),
+        Action::Resume { mutex, cond } => ended(Mark::Resume, t, mutex, cond),
         Action::AlertEnqueue { mutex, cond } => begun(Mark::AlertEnqueue, t, mutex, cond),
-        Action::AlertReturn { mutex, cond: _ } => ended(Mark::AlertReturn, t, mutex),
-        Action::AlertRaise { mutex, cond: _ } => raised(Mark::AlertRaise, t, mutex),
+        Action::AlertReturn { mutex, cond } => ended(Mark::AlertReturn, t, mutex, cond),
+        Action::AlertRaise { mutex, cond } => raised(Mark::AlertRaise, t, mutex, cond),
         Action::Signal { cond, left } => Marks {
             stand: Move::Frees(cond.0, left),
-            ..plain(Mark::Signal)
+            ..plain(Mark::Signal, cond.0)
         },
         Action::Broadcast { cond } => Marks {
             stand: Move::Frees(cond.0, ThreadSet::empty()),
-            ..plain(Mark::Broadcast)
+            ..plain(Mark::Broadcast, cond.0)
         },
         Action::P { sem } => taken(Mark::P, sem),
         Action::V { sem } => Marks {
             avail: Move::Opens(sem.0),
-            ..plain(Mark::V)
+            ..plain(Mark::V, sem.0)
         },
         Action::Alert { who } => Marks {
             alert: Move::Comes(who.0),
-            ..plain(Mark::Alert)
+            ..plain(Mark::Alert, who.0)
         },
-        Action::TestAlert { yes: _ } => heard(Mark::TestAlert, t),
+        Action::TestAlert { yes: _ } => heard(Mark::TestAlert, t, t.0),
         Action::AlertPReturn { sem } => taken(Mark::AlertPReturn, sem),
-        Action::AlertPRaise { sem: _ } => heard(Mark::AlertPRaise, t),
+        Action::AlertPRaise { sem } => heard(Mark::AlertPRaise, t, sem.0),
     }
 }

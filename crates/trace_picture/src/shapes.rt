@@ -1,11 +1,11 @@
 //! Marks, bars, rows and the legend, written into a buffer behind its first `at` bytes. Each call says where it ended.
-ghost use Rattle.std.specs.Prelude.{◌≡◌, ◌+◌, ◌<◌, ◌≤◌, ◌^◌, ◌++◌, ◌∷◌, [], length, take, codes};
+ghost use Rattle.std.specs.Prelude.{◌≡◌, ◌+◌, ◌%◌, ◌<◌, ◌≤◌, ◌^◌, ◌++◌, ◌∷◌, [], length, take, codes};
 ghost use Rattle.trace_picture.specs.Looks.{look_of};
 ghost use Rattle.trace_picture.specs.Marks.{marks};
-ghost use Rattle.trace_picture.specs.Places.{bar_from, bar_width, bar_x, column, column_x, gap_before, row_y};
-ghost use Rattle.trace_picture.specs.Shapes.{with_number, line_of, place_text, clause_word, mark_text, failed_text, end_words, span_text, bar_text, wait_text, row_text, number_text, swatch_text};
+ghost use Rattle.trace_picture.specs.Places.{bar_from, bar_width, bar_x, column, column_x, gap_before, lane_y, row_y};
+ghost use Rattle.trace_picture.specs.Shapes.{with_number, line_of, place_text, box_text, clause_word, mark_text, failed_text, end_words, span_text, bar_text, wait_name, wait_text, row_text, number_text, object_text, object_if, stripes_text, stripes_if, swatch_text, painted_text};
 
-use crate::history::Origin;
+use crate::history::{Origin, Turn};
 use crate::marks::marks_of;
 use crate::tags::{add_box, add_line, add_place, add_with_number};
 use crate::view::{View, column_of};
@@ -25,7 +25,15 @@ pub fn y_of(thread: u32) -> u64
     ensures y { result ≡ row_y thread }
     ensures small { result < 2 ^ 40 }
 {
-    18 + 24 * u64::from(thread)
+    18 + 34 * u64::from(thread)
+}
+
+// The upper edge of a lane of bars in the row of a thread.
+fn lane_of(thread: u32, lane: u32) -> u64
+    ensures y { result ≡ lane_y thread lane }
+    ensures small { result < 2 ^ 42 }
+{
+    19 + y_of(thread) + 3 * u64::from(lane)
 }
 
 /// The word of a clause.
@@ -83,6 +91,42 @@ pub fn add_mark(buf: &mut [u8], at: usize, view: &View, place: u64, e: &Event) -
     let at = add_mark_place(buf, at, view, place, e);
     let at = add_title(buf, at, place, e);
     add(buf, at, b"</title></use>\n")
+}
+
+// Adds the number of an event's object.
+#[tactic(auto, unfolding(crate::specs::Shapes::object_text))]
+fn add_object(buf: &mut [u8], at: usize, view: &View, place: u64, e: &Event) -> usize
+    requires { at + 120 ≤ length buf.old }
+    ensures text { take result buf.new ≡ take at buf.old ++ object_text view.now place e.now }
+    ensures near { result ≤ at + 120 }
+{
+    let x = x_of(column_of(view, place)) + 5;
+    let y = y_of(e.thread.0) + 18;
+    let marks = marks_of(e.thread, &e.action);
+    let at = add(buf, at, b"<text class='s");
+    let at = add_place(buf, at, x, y);
+    let at = add_with_number(buf, at, b"'>", u64::from(marks.object));
+    add(buf, at, b"</text>\n")
+}
+
+/// Adds the number of an event's object, but for the ends of a wait.
+pub fn add_object_if(
+    buf: &mut [u8],
+    at: usize,
+    view: &View,
+    place: u64,
+    e: &Event,
+    wait: Turn,
+) -> usize
+    requires { at + 120 ≤ length buf.old }
+    ensures text { take result buf.new ≡ take at buf.old ++ object_if view.now place e.now wait }
+    ensures near { result ≤ at + 120 }
+{
+    match wait {
+        Turn::Begins(_) => at,
+        Turn::Ends(_) => at,
+        Turn::Stays => add_object(buf, at, view, place, e),
+    }
 }
 
 // Adds what an event fails.
@@ -175,31 +219,63 @@ fn width_of(start: u64, o: &Origin, ended: bool, to: u64) -> u64
     (12 * (to - from_of(start, o, to))).saturating_sub(gap_of(start, o) + after)
 }
 
-/// Adds the bar of a mutex in the band that begins at the event `start`, up to the event before `to`.
+/// Adds the bar of a mutex in the band that begins at the event `start`, up to the event before `to`, in this lane.
 #[tactic(auto, unfolding(crate::specs::Shapes::bar_text))]
 pub fn add_bar(
     buf: &mut [u8],
     at: usize,
     start: u64,
     mutex: u32,
+    lane: u32,
     o: &Origin,
     ended: bool,
     to: u64,
 ) -> usize
     requires room { at + 350 ≤ length buf.old }
     requires place { to < 2 ^ 42 }
-    ensures text { take result buf.new ≡ take at buf.old ++ bar_text start mutex o.now ended to }
+    ensures text { take result buf.new ≡ take at buf.old ++ bar_text start mutex lane o.now ended to }
     ensures near { result ≤ at + 350 }
 {
     let m = u64::from(mutex);
     let x = left_of(start, o, to);
-    let y = 13 + y_of(o.thread.0) + 3 * (m % 3);
+    let y = lane_of(o.thread.0, lane);
     let width = width_of(start, o, ended, to);
-    let at = add_with_number(buf, at, b"<rect class='m", m % 7);
+    let at = add_with_number(buf, at, b"<rect class='m", m);
     let at = add_box(buf, at, x, y, width);
     let at = add_with_number(buf, at, b"' height='3'><title>m", m);
     let at = add(buf, at, b" held by");
     add_span(buf, at, o, ended, to)
+}
+
+// Adds the number of the condition of a wait.
+#[tactic(auto, unfolding(crate::specs::Shapes::wait_name))]
+fn add_wait_name(buf: &mut [u8], at: usize, start: u64, o: &Origin, to: u64) -> usize
+    requires room { at + 120 ≤ length buf.old }
+    requires place { to < 2 ^ 42 }
+    ensures text { take result buf.new ≡ take at buf.old ++ wait_name start o.now to }
+    ensures near { result ≤ at + 120 }
+{
+    let x = left_of(start, o, to) + 2;
+    let y = y_of(o.thread.0) + 18;
+    let at = add(buf, at, b"<text class='d");
+    let at = add_place(buf, at, x, y);
+    let at = add_with_number(buf, at, b"'>c", u64::from(o.object));
+    add(buf, at, b"</text>\n")
+}
+
+// Adds the box of the bar of a wait.
+fn add_wait_box(buf: &mut [u8], at: usize, start: u64, o: &Origin, ended: bool, to: u64) -> usize
+    requires room { at + 120 ≤ length buf.old }
+    requires place { to < 2 ^ 42 }
+    ensures text { take result buf.new ≡ take at buf.old ++ (codes "<rect class='h" ++
+        box_text (bar_x start o.now to) (row_y o.now.thread.0 + 12) (bar_width start o.now ended to)) }
+    ensures near { result ≤ at + 120 }
+{
+    let x = left_of(start, o, to);
+    let width = width_of(start, o, ended, to);
+    let y = y_of(o.thread.0) + 12;
+    let at = add(buf, at, b"<rect class='h");
+    add_box(buf, at, x, y, width)
 }
 
 /// Adds the bar of a wait, likewise.
@@ -212,17 +288,21 @@ pub fn add_wait_bar(
     ended: bool,
     to: u64,
 ) -> usize
-    requires room { at + 350 ≤ length buf.old }
+    requires room { at + 450 ≤ length buf.old }
     requires place { to < 2 ^ 42 }
     ensures text { take result buf.new ≡ take at buf.old ++ wait_text start o.now ended to }
-    ensures near { result ≤ at + 350 }
+    ensures near { result ≤ at + 450 }
 {
-    let x = left_of(start, o, to);
-    let width = width_of(start, o, ended, to);
-    let at = add(buf, at, b"<rect class='h");
-    let at = add_box(buf, at, x, 13 + y_of(o.thread.0), width);
-    let at = add(buf, at, b"' height='9'><title>wait of");
-    add_span(buf, at, o, ended, to)
+    let at = add_wait_box(buf, at, start, o, ended, to);
+    let at = add_with_number(
+        buf,
+        at,
+        b"' height='7'><title>wait on c",
+        u64::from(o.object),
+    );
+    let at = add(buf, at, b" of");
+    let at = add_span(buf, at, o, ended, to);
+    add_wait_name(buf, at, start, o, to)
 }
 
 /// Adds the row of a thread.
@@ -235,10 +315,10 @@ pub fn add_row(buf: &mut [u8], at: usize, thread: u32) -> usize
     let at = add_with_number(
         buf,
         at,
-        b"<rect class='r' x='40' width='1208' height='22' y='",
+        b"<rect class='r' x='40' width='1208' height='32' y='",
         y_of(thread),
     );
-    let at = add_with_number(buf, at, b"'/><text x='6' y='", 15 + y_of(thread));
+    let at = add_with_number(buf, at, b"'/><text x='6' y='", 20 + y_of(thread));
     let at = add_with_number(buf, at, b"'>t", u64::from(thread));
     add(buf, at, b"</text>\n")
 }
@@ -260,17 +340,71 @@ pub fn add_label(buf: &mut [u8], at: usize, view: &View, place: u64) -> usize
     }
 }
 
-/// Adds the colour of a mutex to the legend.
+// Adds the stripes of a mutex.
+#[tactic(auto, unfolding(crate::specs::Shapes::stripes_text))]
+fn add_stripes(buf: &mut [u8], at: usize, m: u64) -> usize
+    requires { at + 330 ≤ length buf.old }
+    ensures text { take result buf.new ≡ take at buf.old ++ stripes_text m }
+    ensures near { result ≤ at + 330 }
+{
+    let at = add_stripes_start(buf, at, m);
+    let at = add_with_number(buf, at, b"'/><use href='#q", m / 7);
+    let at = add_with_number(buf, at, b"'/></pattern>\n<style>.m", m);
+    let at = add_with_number(buf, at, b"{fill:url(#m", m);
+    add(buf, at, b")}</style>\n")
+}
+
+// Adds the name and the colour of the stripes of a mutex.
+fn add_stripes_start(buf: &mut [u8], at: usize, m: u64) -> usize
+    requires { at + 180 ≤ length buf.old }
+    ensures text { take result buf.new ≡ take at buf.old ++
+        (with_number (codes "<pattern width='8' height='8' patternUnits='userSpaceOnUse' id='m") m
+        ++ with_number (codes "'><rect width='8' height='8' class='m") (m % 7)) }
+    ensures near { result ≤ at + 160 }
+{
+    let at = add_with_number(
+        buf,
+        at,
+        b"<pattern width='8' height='8' patternUnits='userSpaceOnUse' id='m",
+        m,
+    );
+    add_with_number(buf, at, b"'><rect width='8' height='8' class='m", m % 7)
+}
+
+// Adds the stripes of a mutex past the seventh.
+fn add_stripes_if(buf: &mut [u8], at: usize, mutex: u32) -> usize
+    requires { at + 330 ≤ length buf.old }
+    ensures text { take result buf.new ≡ take at buf.old ++ stripes_if mutex }
+    ensures near { result ≤ at + 330 }
+{
+    if mutex < 7 {
+        at
+    } else {
+        add_stripes(buf, at, u64::from(mutex))
+    }
+}
+
+/// Adds what makes the colour of a mutex, and its place in the legend.
+pub fn add_painted(buf: &mut [u8], at: usize, mutex: u32) -> usize
+    requires { at + 600 ≤ length buf.old }
+    ensures text { take result buf.new ≡ take at buf.old ++ painted_text mutex }
+    ensures near { result ≤ at + 600 }
+{
+    let at = add_stripes_if(buf, at, mutex);
+    add_swatch(buf, at, mutex)
+}
+
+// Adds the colour of a mutex to the legend.
 #[tactic(auto, unfolding(crate::specs::Shapes::swatch_text))]
-pub fn add_swatch(buf: &mut [u8], at: usize, mutex: u32) -> usize
+fn add_swatch(buf: &mut [u8], at: usize, mutex: u32) -> usize
     requires { at + 250 ≤ length buf.old }
     ensures text { take result buf.new ≡ take at buf.old ++ swatch_text mutex }
     ensures near { result ≤ at + 250 }
 {
     let m = u64::from(mutex);
-    let at = add_with_number(buf, at, b"<rect width='11' height='11' class='m", m % 7);
-    let at = add_place(buf, at, 44 + 43 * (m % 28), 56 + 14 * (m / 28));
-    let at = add_swatch_place(buf, at, 58 + 43 * (m % 28), 65 + 14 * (m / 28));
+    let at = add_with_number(buf, at, b"<rect width='11' height='11' class='m", m);
+    let at = add_place(buf, at, 44 + 43 * (m % 28), 72 + 14 * (m / 28));
+    let at = add_swatch_place(buf, at, 58 + 43 * (m % 28), 81 + 14 * (m / 28));
     let at = add_with_number(buf, at, b"'>m", m);
     add(buf, at, b"</text>\n")
 }

@@ -7,5 +7,5 @@ use Rattle.trace_picture.proofs.bands.add_waits.Given as goal
 abbrev pub invariant-loop-t : goal.invariant-loop-t
 invariant-loop-t l = record {
   text : take l.last l.buf ≡ take l.at l.initial.buf ++ each_below (λ t. wait_if l.start false l.to (entry_of l.waits t)) l.t;
-  near : l.last ≤ l.at + 350 * l.t;
+  near : l.last ≤ l.at + 450 * l.t;
 }

@@ -7,4 +7,6 @@ returns c = λ i. record {
   stands = c.new-stands.ensures i;
   opens = c.new-opens.ensures i;
   alerts = c.new-alerts.ensures i;
+  rows = c.new-rows.ensures i;
+  given = c.new-given.ensures i;
 }

@@ -1,0 +1,14 @@
+use Rattle.std.proofs.Common.{◌-◌, ◌++◌, take, ◌∙◌}
+use Rattle.trace_picture.specs.Kept.{kept_of}
+use Rattle.trace_picture.specs.Bands.{bar_ended, wait_ended}
+use Rattle.trace_picture.proofs.Added.{added_two}
+use Rattle.trace_picture.proofs.bands.add_bars_ended.Goals as goal
+
+pub returns-clause-text : goal.returns-clause-text
+returns-clause-text c =
+    let old = take c.args.at c.args.buf.now in
+    let n = c.args.place in
+    let k = kept_of c.args.board.now in
+    let start = c.column_of.ensures.column in
+    let is = c.marks_of-marks.ensures in
+    added_two old _ _ _ _ c.add_bar_ended-at.ensures.text c.add_wait_ended.ensures.text ∙ (λ i. old ++ (bar_ended (n - start i) n k.rows k.held (is i).mutex ++ wait_ended (n - start i) n k.waits (is i).wait))
