@@ -18,7 +18,15 @@ pub down_some : (a b c d : List ℕ) (r : Option View) → IfSome r (IsUp c d a 
 down_some a b c d None h = tt
 down_some a b c d (Some v) h = down_asks a b c d v h
 
--- a list of two items, and one of four
+-- a list of one item, one of two and one of four
+pub one_item : {X : Type 0} (xs : List X) (a : X) → length xs ≡ 1 → a ≡ get_or xs 0 a → xs ≡ a ∷ []
+one_item [] a e p = absurd (omega (arith, e))
+one_item (x ∷ []) a e p = λ i. sym p i ∷ []
+one_item (x ∷ y ∷ xs) a e p = absurd (omega (arith, e))
+
+pub same_word : (a b : List ℕ) → a ∷ [] ≡ b ∷ [] → a ≡ b
+same_word a b e = cc
+
 pub two_items : {X : Type 0} (xs : List X) (a b : X) → length xs ≡ 2 → a ≡ get_or xs 0 a → b ≡ get_or xs 1 b → xs ≡ a ∷ b ∷ []
 two_items [] a b e p q = absurd (omega (arith, e))
 two_items (x ∷ []) a b e p q = absurd (omega (arith, e))

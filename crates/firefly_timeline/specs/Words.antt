@@ -1,6 +1,8 @@
 -- The words of the command line, and the part of a trace that they ask for.
 use Rattle.std.specs.Prelude.{◌≡◌, ◌⊎◌, ℕ, ◌+◌, ◌-◌, ◌^◌, List, [], ◌∷◌, ◌++◌, Option, Some, None, codes, decimal, min, unwrap_or, IfSome, ◌<◌, true, false}
 use Rattle.trace_picture.specs.declared.view.View.{View}
+use Rattle.firefly_timeline.specs.declared.words.Request.{Request}
+use Rattle.firefly_timeline.specs.declared.words.Request.TheVariants.{Picture, Json}
 
 -- the words that say a bound, where there is one
 abbrev pub bound_words : List ℕ → Option ℕ → List (List ℕ)
@@ -38,3 +40,8 @@ AsksOrdered (word ∷ rest) v = (u : View) × (word ≡ codes "--order") × Asks
 -- the words ask for this part, with the lock order where `--order` stands in front
 abbrev pub Wants : List (List ℕ) → View → Type 0
 Wants words v = AsksFor words v ⊎ AsksOrdered words v
+
+-- the words ask for this: a picture of this part, or by `--json` alone the events as JSON
+abbrev pub Requests : List (List ℕ) → Request → Type 0
+Requests words (Picture v) = Wants words v
+Requests words Json = words ≡ codes "--json" ∷ []

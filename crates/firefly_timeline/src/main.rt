@@ -1,17 +1,17 @@
-//! The program: the picture of a trace over standard input, output and error.
+//! The program: the picture of a trace, or its events as JSON, over standard input, output and error.
 #![tactic(auto)]
 
 mod command;
 mod words;
 
-use command::timeline;
+use command::{events, timeline};
 use command_endings::{Ending, Status, ends, number, say};
 use firefly_outside::{ReaderSource, WriterSink};
 use std::alloc::AllocError;
 use std::env;
 use std::io::ErrorKind;
 use std::process::ExitCode;
-use words::read_words;
+use words::{Request, read_request};
 
 // The words after the program's name. Words that can't be taken are none of the command line's.
 fn take_words(rt: &HostRuntime) -> Result<Vec<String>, AllocError> {
@@ -35,12 +35,13 @@ fn main(rt: HostRuntime) -> ExitCode {
     };
     let mut input = ReaderSource::new(rt.stdin());
     let mut out = WriterSink::new(rt.stdout());
-    let status = match read_words(&words) {
-        Some(view) => timeline(&view, &mut input, &mut out, &mut notes),
+    let status = match read_request(&words) {
+        Some(Request::Picture(view)) => timeline(&view, &mut input, &mut out, &mut notes),
+        Some(Request::Json) => events(&mut input, &mut out, &mut notes),
         None => {
             say(
                 &mut notes,
-                "usage: timeline [--order] [--from EVENT] [--to EVENT] < TRACE > PICTURE.svg\n",
+                "usage: timeline [--json | [--order] [--from EVENT] [--to EVENT]] < TRACE > OUTPUT\n",
             );
             Status::Usage
         }

@@ -1,13 +1,21 @@
 //! The words of the command line.
-ghost use Rattle.std.specs.Prelude.{◌≡◌, ◌^◌, ◌<◌, ℕ, [], ◌∷◌, decimal, map, Some, IfSome, IfNone};
+ghost use Rattle.std.specs.Prelude.{◌≡◌, ◌^◌, ◌<◌, ◌↔◌, ℕ, [], ◌∷◌, codes, decimal, map, IsTrue, Some, IfSome, IfNone};
 ghost use Rattle.std.specs.String.{string_bytes};
 ghost use Rattle.trace_picture.specs.declared.view.View.{View};
-ghost use Rattle.firefly_timeline.specs.Words.{AsksFor, AsksOrdered, IsPair, Wants};
+ghost use Rattle.firefly_timeline.specs.Words.{AsksFor, AsksOrdered, IsPair, Requests, Wants};
+ghost use Rattle.firefly_timeline.specs.declared.words.Request.{Request};
 ghost use Rattle.firefly_timeline.specs.Words as asked;
 
 use decimal_numbers::read_number;
 use std::string::String;
 use trace_picture::View;
+
+/// What the words ask for: a picture of a part of the trace, or its events as JSON.
+#[derive(Clone, Copy, Debug, PartialEq, Eq)]
+pub enum Request {
+    Picture(View),
+    Json,
+}
 
 // The part between two bounds, where there are any.
 fn view_between(from: Option<u64>, to: Option<u64>) -> View
@@ -81,7 +89,7 @@ fn read_two(name: &str, number: &str, other: &str, last: &str) -> Option<View>
 }
 
 // The part of the trace that the words ask for: all of it, from an event on, up to an event, or both. There is none where they ask for
-/// nothing of this kind.
+// nothing of this kind.
 fn read_view(said: &[String]) -> Option<View>
     ensures found { IfSome result (AsksFor (map string_bytes said.now)) }
     ensures none { IfNone result ((v : View) → AsksFor (map string_bytes said.now) v → ⊥) }
@@ -119,8 +127,8 @@ fn read_ordered(word: &str, rest: &[String]) -> Option<View>
     }
 }
 
-/// The part of the trace that the words ask for, and whether with the lock order. There is none where they ask for nothing of this kind.
-pub fn read_words(said: &[String]) -> Option<View>
+// The part of the trace that the words ask for, and whether with the lock order. There is none where they ask for nothing of this kind.
+fn read_words(said: &[String]) -> Option<View>
     ensures found { IfSome result (Wants (map string_bytes said.now)) }
     ensures none { IfNone result ((v : View) → Wants (map string_bytes said.now) v → ⊥) }
 {
@@ -129,6 +137,37 @@ pub fn read_words(said: &[String]) -> Option<View>
     }
     match said.split_first() {
         Some((word, rest)) => read_ordered(word.as_str(), rest),
+        None => None,
+    }
+}
+
+// Whether this is the word for JSON.
+fn is_word(word: &str) -> bool
+    ensures { IsTrue result ↔ (word.now ≡ codes "--json") }
+{
+    word == "--json"
+}
+
+// Whether the words are that one.
+fn is_json(said: &[String]) -> bool
+    ensures { IsTrue result ↔ (map string_bytes said.now ≡ codes "--json" ∷ []) }
+{
+    match said {
+        [word] => is_word(word.as_str()),
+        _ => false,
+    }
+}
+
+/// What the words ask for. There is none where they ask for nothing of this kind.
+pub fn read_request(said: &[String]) -> Option<Request>
+    ensures found { IfSome result (Requests (map string_bytes said.now)) }
+    ensures none { IfNone result ((r : Request) → Requests (map string_bytes said.now) r → ⊥) }
+{
+    if is_json(said) {
+        return Some(Request::Json);
+    }
+    match read_words(said) {
+        Some(view) => Some(Request::Picture(view)),
         None => None,
     }
 }

@@ -1,4 +1,4 @@
-use Rattle.std.proofs.Common.{◌≡◌, ◌∷◌, map, Some, IfNone, ap, subst, sym, ◌∙◌, inl, inr}
+use Rattle.std.proofs.Common.{◌≡◌, ◌∷◌, map, IfNone, ap, subst, sym, ◌∙◌, inl, inr}
 use Rattle.std.proofs.lemmas.List.{nil_from_length}
 use Rattle.std.specs.String.{string_bytes}
 use Rattle.trace_picture.specs.declared.view.View.{View}

@@ -1,0 +1,4 @@
+pub mod Spans
+pub mod Texts
+pub mod Written
+pub mod Laws
