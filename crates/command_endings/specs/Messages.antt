@@ -3,7 +3,7 @@ use Rattle.std.specs.Prelude.{ℕ, List, ◌++◌, codes, decimal}
 use Rattle.text_output.specs.Paths.{escaped}
 
 abbrev pub usage_message : List ℕ
-usage_message = codes "usage: firefly check | run | index DIR [options] | trace DIR [options] | sample SEED FILES | order\n"
+usage_message = codes "usage: firefly check | run | index DIR [options] | trace DIR [options] | sample SEED FILES | find QUERY | order | rounds THREADS ROUNDS\n"
 
 abbrev pub input_fault_message : List ℕ
 input_fault_message = codes "firefly: input could not be read\n"

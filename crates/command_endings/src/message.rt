@@ -7,8 +7,10 @@ use arrayvec::ArrayString;
 use firefly_outside::{Sink, put_all};
 use text_output::{print_path, push_with_number};
 
-pub const USAGE: &str =
-    "usage: firefly check | run | index DIR [options] | trace DIR [options] | sample SEED FILES | order\n";
+pub const USAGE: &str = concat!(
+    "usage: firefly check | run | index DIR [options] | trace DIR [options] | sample SEED FILES",
+    " | find QUERY | order | rounds THREADS ROUNDS\n"
+);
 
 pub const INPUT_FAULT: &str = "firefly: input could not be read\n";
 

@@ -3,7 +3,7 @@ use Rattle.std.proofs.Common.{◌≡◌, ◌∙◌, ◌+◌, ◌*◌, ◌≤◌,
 use Rattle.std.specs.Prelude.{decimal}
 use Rattle.std.specs.List.{AllByRecursion, filter_map}
 use Rattle.std.proofs.lemmas.Fmt.{decimal_injective}
-use Rattle.command_line.specs.Grammar.{AreInRange, BeginOptions, HasOptions, IsDirectory, IsInRange, IsPart, Options, Part, Say, SayOptions, SayWith, Task, Text, directory, path_of, setting, check, index, order, run, sample, trace}
+use Rattle.command_line.specs.Grammar.{AreInRange, BeginOptions, HasOptions, IsDirectory, IsInRange, IsPart, Options, Part, Say, SayOptions, SayWith, Task, Text, directory, path_of, setting, check, find, index, order, rounds, run, sample, trace}
 use Rattle.command_line.specs.Reading.{IsNumberOr, IsStop}
 use Rattle.command_line.proofs.Said.{by_recursion, said-taken}
 use Rattle.command_line.proofs.Taken.{held-same}
@@ -28,7 +28,9 @@ start_of run = start (codes "run" ∷ [])
 start_of (index o) = start (codes "index" ∷ [])
 start_of (trace o) = start (codes "trace" ∷ [])
 start_of (sample seed files) = start (codes "sample" ∷ [])
+start_of (find tokens) = start (codes "find" ∷ [])
 start_of order = start (codes "order" ∷ [])
+start_of (rounds threads each) = start (codes "rounds" ∷ [])
 
 said_start : (words : List Text) (t : Task) → Say words t → start words ≡ start_of t
 said_start words check h = ap start h
@@ -36,7 +38,9 @@ said_start words run h = ap start h
 said_start words (index o) h = ap start h.1
 said_start words (trace o) h = ap start h.1
 said_start words (sample seed files) h = ap start h.0
+said_start words (find tokens) h = ap start h
 said_start words order h = ap start h
+said_start words (rounds threads each) h = ap start h.0
 
 starts : (words : List Text) (t u : Task) → Say words t → Say words u → start_of t ≡ start_of u
 starts words t u g h = sym (said_start words t g) ∙ said_start words u h
@@ -51,7 +55,15 @@ say-same words (sample a n) (sample b m) g h =
     let seeds : decimal a ≡ decimal b = cc in
     let files : decimal n ≡ decimal m = cc in
     ap₂ sample (decimal_injective a b g.1 h.1 seeds) (decimal_injective n m (omega (arith, g.3)) (omega (arith, h.3)) files)
+say-same words (find a) (find b) g h =
+    let e = sym g ∙ h in
+    ap find cc
 say-same words order order g h = refl
+say-same words (rounds a n) (rounds b m) g h =
+    let e = sym g.0 ∙ h.0 in
+    let threads : decimal a ≡ decimal b = cc in
+    let each : decimal n ≡ decimal m = cc in
+    ap₂ rounds (decimal_injective a b (omega (arith, g.2)) (omega (arith, h.2)) threads) (decimal_injective n m (omega (arith, g.4)) (omega (arith, h.4)) each)
 say-same words t u g h = absurd (omega (arith, starts words t u g h))
 
 -- ---- where the words after `index` or `trace` say no options, the words say no task
@@ -105,7 +117,9 @@ task_in_range words run s = tt
 task_in_range words (index o) s = options_in_range s.0 o s.2
 task_in_range words (trace o) s = options_in_range s.0 o s.2
 task_in_range words (sample seed files) s = (s.2, s.3)
+task_in_range words (find tokens) s = tt
 task_in_range words order s = tt
+task_in_range words (rounds threads each) s = (s.1, s.2, s.3, s.4)
 
 -- ---- what words say has options where options may follow the first word
 

@@ -115,7 +115,9 @@ pub data Task : Type 0 where
   index : Options → Task
   trace : Options → Task
   sample : ℕ → ℕ → Task
+  find : List Text → Task
   order : Task
+  rounds : ℕ → ℕ → Task
 
 -- the words are this one and then such as say the options
 abbrev pub SayWith : Text → List Text → Options → Type 0
@@ -129,7 +131,10 @@ Say words (index o) = SayWith (codes "index") words o
 Say words (trace o) = SayWith (codes "trace") words o
 Say words (sample seed files) = (words ≡ codes "sample" ∷ decimal seed ∷ decimal files ∷ [])
     × (seed < 2 ^ 64) × (1 ≤ files) × (files ≤ 20000)
+Say words (find tokens) = words ≡ codes "find" ∷ tokens
 Say words order = words ≡ codes "order" ∷ []
+Say words (rounds threads each) = (words ≡ codes "rounds" ∷ decimal threads ∷ decimal each ∷ [])
+    × (1 ≤ threads) × (threads ≤ 64) × (1 ≤ each) × (each ≤ 1000)
 
 -- the words are not in the grammar
 abbrev pub SayNothing : List Text → Type 0
@@ -150,4 +155,5 @@ abbrev pub IsInRange : Task → Type 0
 IsInRange (index o) = AreInRange o
 IsInRange (trace o) = AreInRange o
 IsInRange (sample seed files) = (1 ≤ files) × (files ≤ 20000)
+IsInRange (rounds threads each) = (1 ≤ threads) × (threads ≤ 64) × (1 ≤ each) × (each ≤ 1000)
 IsInRange _ = Unit {0}

@@ -26,7 +26,9 @@ pub enum Command<'a> {
     Index(IndexOptions<'a>),
     Trace(IndexOptions<'a>),
     Sample { seed: u64, files: u32 },
+    Find(&'a [String]),
     Order,
+    Rounds { threads: u32, rounds: u32 },
 }
 
 /// Why words were not read: they say no command, or memory ran out.
@@ -68,7 +70,9 @@ fn read_command<'a>(alloc: Global, words: &'a [String]) -> Result<Command<'a>, W
         "index" => Ok(Command::Index(read_options(alloc, rest)?)),
         "trace" => Ok(Command::Trace(read_options(alloc, rest)?)),
         "sample" => read_sample(rest),
+        "find" => Ok(Command::Find(rest)),
         "order" => alone(rest, Command::Order),
+        "rounds" => read_rounds(rest),
         _ => Err(WordsFault::Usage),
     }
 }
@@ -101,6 +105,26 @@ fn read_sample<'a>(rest: &[String]) -> Result<Command<'a>, WordsFault>
         (Some(seed), Some(files)) => Ok(Command::Sample {
             seed,
             files: files as u32,
+        }),
+        _ => Err(WordsFault::Usage),
+    }
+}
+
+// The words after `rounds`.
+fn read_rounds<'a>(rest: &[String]) -> Result<Command<'a>, WordsFault>
+    ensures said { IfOk result (λ c. Say (codes "rounds" ∷ map string_bytes rest.now) (task_of c)) }
+    ensures usage { IsErr result → SayNothing (codes "rounds" ∷ map string_bytes rest.now) }
+    ensures memory { result ≢ Err WordsFault.Memory }
+{
+    let [threads, rounds] = rest else {
+        return Err(WordsFault::Usage);
+    };
+    let threads = read_number(threads.as_str(), 1, 64);
+    let rounds = read_number(rounds.as_str(), 1, 1_000);
+    match (threads, rounds) {
+        (Some(threads), Some(rounds)) => Ok(Command::Rounds {
+            threads: threads as u32,
+            rounds: rounds as u32,
         }),
         _ => Err(WordsFault::Usage),
     }

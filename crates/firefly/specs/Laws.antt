@@ -8,6 +8,7 @@ use Rattle.firefly_outside.specs.Trees.{Path, Told}
 use Rattle.word_index.specs.Index.{Index}
 use Rattle.walker.specs.TreeIndex.{IsTreeIndex}
 use Rattle.firefly_script.specs.declared.line.Line.{Line}
+use Rattle.rounds_command.specs.RoundsCommand.{IsRoundsTrace}
 use Rattle.firefly.specs.Looks.{Look}
 use Rattle.firefly.specs.RunCommand.{IsTraceOf}
 use Rattle.firefly.specs.TraceCommand.{IsIndexTrace}
@@ -19,6 +20,10 @@ AcceptsRuns = (l : Layout) (xs : List Line) (bytes : List ℕ) → IsTraceOf l x
 -- and so is that of an index run
 abbrev pub AcceptsIndexRuns : Type 0
 AcceptsIndexRuns = (o : Options) (old new : List (Option Look)) (bytes : List ℕ) → IsIndexTrace o old new bytes → IsAccepted bytes
+
+-- and that of rounds
+abbrev pub AcceptsRounds : Type 0
+AcceptsRounds = (threads rounds : ℕ) (bytes : List ℕ) → IsRoundsTrace threads rounds bytes → IsAccepted bytes
 
 -- two indexes of the files under a root of a tree are the same
 abbrev pub IsOneIndex : Type 0

@@ -40,7 +40,10 @@ fn endings() -> [(Ending<'static>, Status, &'static str); 9] {
         (
             Ending::Usage,
             Status::Usage,
-            "usage: firefly check | run | index DIR [options] | trace DIR [options] | sample SEED FILES | order\n",
+            concat!(
+                "usage: firefly check | run | index DIR [options] | trace DIR [options] | sample SEED FILES",
+                " | find QUERY | order | rounds THREADS ROUNDS\n"
+            ),
         ),
         (
             Ending::InputFault,

@@ -56,6 +56,28 @@ returns-in-Ok-Order g c =
       kept = λ _. kept-same _ c.requires.agree;
     }
 
+pub returns-in-Ok-Find : goal.returns-in-Ok-Find
+returns-in-Ok-Find g c =
+    record {
+      usage = λ none. absurd (none _ c.in-Ok-Find.ensures.said);
+      answers = λ t says. let k = rw c.in-Ok-Find.field-0-is at c.in-Ok-Find.ensures in answered t _ _ _ (k.only t says) (c.run_find.ensures.answers, c.run_find.ensures.exact, refl);
+      kept = λ _. kept-same _ c.requires.agree;
+    }
+
+pub returns-in-Ok-Rounds : goal.returns-in-Ok-Rounds
+returns-in-Ok-Rounds g c =
+    record {
+      usage = λ none. absurd (none _ c.in-Ok-Rounds.ensures.said);
+      answers = λ t says. let k = rw c.in-Ok-Rounds.field-0-is at c.in-Ok-Rounds.ensures in answered t _ _ _ (k.only t says) (c.write_rounds.ensures, (refl, refl), refl);
+      kept = λ _. kept-same _ c.requires.agree;
+    }
+
+pub write_rounds-requires-clause-threads : goal.write_rounds-requires-clause-threads
+write_rounds-requires-clause-threads g c κs within = (let k = rw c.in-Ok-Rounds.field-0-is at c.in-Ok-Rounds.ensures in (k.in_range.0, k.in_range.1))
+
+pub write_rounds-requires-clause-rounds : goal.write_rounds-requires-clause-rounds
+write_rounds-requires-clause-rounds g c κs within = (let k = rw c.in-Ok-Rounds.field-0-is at c.in-Ok-Rounds.ensures in (k.in_range.2, k.in_range.3))
+
 pub returns-in-Err-Usage : goal.returns-in-Err-Usage
 returns-in-Err-Usage g c =
     let none = c.in-Err-Usage.ensures.usage (search rules) in
