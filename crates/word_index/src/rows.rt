@@ -38,8 +38,9 @@ fn add_moved(out: &mut Vec<Place>, row: &[Place], numbers: &[u32]) -> Result<(),
     ensures ok { OnOk result (out.new.items ≡ out.old.items ++ map (moved numbers.now) row.now) }
     ensures kept { take (length out.old.items) out.new.items ≡ out.old.items }
 {
+    out.reserve(row.len())?;
     for place in row {
-        out.push(moved_place(*place, numbers))?;
+        out.push_reserved(moved_place(*place, numbers));
     }
     Ok(())
 }
@@ -75,14 +76,15 @@ fn add_merged(
     ensures ok { OnOk result (AddsMerged (map (moved of_x.now) xs.now) (map (moved of_y.now) ys.now) out.old.items out.new.items) }
     ensures kept { take (length out.old.items) out.new.items ≡ out.old.items }
 {
+    out.reserve(xs.len().saturating_add(ys.len()))?;
     let mut i = 0;
     let mut j = 0;
     while i < xs.len() || j < ys.len() {
         if takes_first(xs, of_x, i, ys, of_y, j) {
-            out.push(moved_place(xs[i], of_x))?;
+            out.push_reserved(moved_place(xs[i], of_x));
             i += 1;
         } else {
-            out.push(moved_place(ys[j], of_y))?;
+            out.push_reserved(moved_place(ys[j], of_y));
             j += 1;
         }
     }

@@ -1,4 +1,4 @@
-use Rattle.std.proofs.Common.{◌≡◌, ◌+◌, ◌<◌, ℕ, List, [], ◌∷◌, ◌++◌, map, take, get_or, length, append_assoc, ap, sym, ◌∙◌, arith}
+use Rattle.std.proofs.Common.{◌≡◌, ◌+◌, ◌<◌, ℕ, List, [], ◌∷◌, ◌++◌, map, take, get_or, length, append_assoc, append-nil, ap, sym, ◌∙◌, arith}
 use Rattle.std.proofs.Math.Seq.{take-length}
 use Rattle.std.proofs.lemmas.List.{map-append, take_more, take-append-le, take_all}
 use Rattle.word_index.specs.declared.rows.Place.{Place}
@@ -14,19 +14,37 @@ moved_next numbers old out now row k d y here was pushed is =
     pushed ∙ (ap (λ (l : List Place). l ++ y ∷ []) was ∙ (append_assoc old front (y ∷ []) ∙ ap (λ (l : List Place). old ++ l)
     (ap (λ (z : Place). front ++ z ∷ []) is ∙ (sym (map-append f (take k row) (get_or row k d ∷ [])) ∙ ap (map f) (sym (take_more row k d here))))))
 
-pub returns-in_err-push-clause-kept : goal.returns-in_err-push-clause-kept
-returns-in_err-push-clause-kept c =
-    let old = c.args.out.now.items in
-    ap (take (length old)) (c.in_err-push.ensures.items ∙ c.loop-place.invariant) ∙ take-append-le (length old) old (map (moved c.args.numbers.now) (take c.loop-place.place-index c.args.row.now)) (omega arith) ∙ take-length old
+pub returns-in_err-reserve-clause-kept : goal.returns-in_err-reserve-clause-kept
+returns-in_err-reserve-clause-kept c = ap (take (length c.args.out.now.items)) c.reserve.ensures.items ∙ take-length c.args.out.now.items
+
+pub loop-place-init : goal.loop-place-init
+loop-place-init c = record {
+  is = sym (append-nil c.reserve.new.self.items);
+  room = omega (arith, c.in_ok-reserve.ensures.ok);
+}
 
 pub loop-place-preserved : goal.loop-place-preserved
-loop-place-preserved c = moved_next c.args.numbers.now c.args.out.now.items c.loop-place.out.items c.push.new.self.items c.args.row.now c.loop-place.place-index _ c.moved_place.result
-    (omega arith) c.loop-place.invariant c.in_ok-push.ensures.items c.moved_place.ensures
+loop-place-preserved c = record {
+  is = moved_next c.args.numbers.now c.reserve.new.self.items c.loop-place.out.items c.push_reserved.new.self.items c.args.row.now c.loop-place.place-index _ c.moved_place.result
+      (omega arith) c.loop-place.invariant.is c.push_reserved.ensures.items c.moved_place.ensures;
+  room = omega (arith, c.loop-place.invariant.room, c.push_reserved.ensures.len, c.push_reserved.ensures.capacity);
+}
+
+pub push_reserved-requires : goal.push_reserved-requires
+push_reserved-requires c = omega (arith, c.loop-place.invariant.room)
+
+-- so many places behind what was there before the room was made
+moved_behind : (before old out places : List Place) → old ≡ before → out ≡ old ++ places → out ≡ before ++ places
+moved_behind before old out places same is = is ∙ ap (λ (l : List Place). l ++ places) same
 
 pub returns-clause-kept : goal.returns-clause-kept
 returns-clause-kept c =
     let old = c.args.out.now.items in
-    ap (take (length old)) c.loop-place.invariant ∙ take-append-le (length old) old (map (moved c.args.numbers.now) (take c.loop-place.place-index c.args.row.now)) (omega arith) ∙ take-length old
+    let places = map (moved c.args.numbers.now) (take c.loop-place.place-index c.args.row.now) in
+    ap (take (length old)) (moved_behind old c.reserve.new.self.items c.loop-place.out.items places c.reserve.ensures.items c.loop-place.invariant.is) ∙ take-append-le (length old) old places (omega arith) ∙ take-length old
 
 pub returns-clause-ok : goal.returns-clause-ok
-returns-clause-ok c = c.loop-place.invariant ∙ ap (λ (l : List Place). c.args.out.now.items ++ map (moved c.args.numbers.now) l) (take_all c.loop-place.place-index c.args.row.now (omega arith))
+returns-clause-ok c =
+    let places = map (moved c.args.numbers.now) (take c.loop-place.place-index c.args.row.now) in
+    moved_behind c.args.out.now.items c.reserve.new.self.items c.loop-place.out.items places c.reserve.ensures.items c.loop-place.invariant.is
+    ∙ ap (λ (l : List Place). c.args.out.now.items ++ map (moved c.args.numbers.now) l) (take_all c.loop-place.place-index c.args.row.now (omega arith))
