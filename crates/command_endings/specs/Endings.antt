@@ -4,7 +4,7 @@ use Rattle.command_endings.specs.declared.ending.Ending.{Ending}
 use Rattle.command_endings.specs.declared.ending.Ending.TheVariants as ending
 use Rattle.command_endings.specs.declared.status.Status.{Status}
 use Rattle.command_endings.specs.declared.status.Status.TheVariants.{Usage, ReadFault, SinkFault, Stopped, Memory, BadText, TooMany, TooLong}
-use Rattle.command_endings.specs.Messages.{usage_message, input_fault_message, output_fault_message, bad_line_message, stopped_message, memory_message, too_many_message, unreadable_message, too_long_message}
+use Rattle.command_endings.specs.Messages.{usage_message, input_fault_message, output_fault_message, bad_line_message, stopped_message, stopped_by_message, memory_message, too_many_message, unreadable_message, too_long_message}
 
 abbrev pub status_of : Ending → Status
 status_of ending.Usage = Usage
@@ -12,6 +12,7 @@ status_of ending.InputFault = ReadFault
 status_of (ending.Unreadable path) = ReadFault
 status_of ending.OutputFault = SinkFault
 status_of (ending.Stopped found allowed) = Stopped
+status_of (ending.StoppedBy job) = Stopped
 status_of ending.Memory = Memory
 status_of (ending.BadLine line) = BadText
 status_of ending.TooMany = TooMany
@@ -23,6 +24,7 @@ message_of ending.InputFault = input_fault_message
 message_of (ending.Unreadable path) = unreadable_message path.now
 message_of ending.OutputFault = output_fault_message
 message_of (ending.Stopped found allowed) = stopped_message found allowed
+message_of (ending.StoppedBy job) = stopped_by_message job
 message_of ending.Memory = memory_message
 message_of (ending.BadLine line) = bad_line_message line
 message_of ending.TooMany = too_many_message

@@ -6,7 +6,7 @@ ghost use Rattle.command_endings.specs.Endings.{message_of, status_of};
 use crate::Status;
 use crate::message::{
     INPUT_FAULT, OUT_OF_MEMORY, OUTPUT_FAULT, TOO_LONG, TOO_MANY, USAGE, say, say_bad_line,
-    say_stopped, say_unreadable,
+    say_stopped, say_stopped_by, say_unreadable,
 };
 use firefly_outside::Sink;
 
@@ -23,6 +23,8 @@ pub enum Ending<'a> {
     OutputFault,
     /// So many files were found, and fewer are allowed.
     Stopped { found: u64, allowed: u64 },
+    /// The job at this place has stopped all others.
+    StoppedBy(u64),
     /// Memory ran out.
     Memory,
     /// This line of the input is bad.
@@ -57,6 +59,10 @@ pub fn ends<N: Sink>(notes: &mut N, ending: Ending) -> Status
         }
         Ending::Stopped { found, allowed } => {
             say_stopped(notes, found, allowed);
+            Status::Stopped
+        }
+        Ending::StoppedBy(job) => {
+            say_stopped_by(notes, job);
             Status::Stopped
         }
         Ending::Memory => {

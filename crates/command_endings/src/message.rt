@@ -1,7 +1,7 @@
 //! The messages, a line each.
 ghost use Rattle.std.specs.Prelude.{◌≡◌};
 ghost use Rattle.command_endings.specs.Changes.{Notes, change_of};
-ghost use Rattle.command_endings.specs.Messages.{bad_line_message, stopped_message, unreadable_message};
+ghost use Rattle.command_endings.specs.Messages.{bad_line_message, stopped_by_message, stopped_message, unreadable_message};
 
 use arrayvec::ArrayString;
 use firefly_outside::{Sink, put_all};
@@ -9,7 +9,7 @@ use text_output::{print_path, push_with_number};
 
 pub const USAGE: &str = concat!(
     "usage: firefly check | run | index DIR [options] | trace DIR [options] | sample SEED FILES",
-    " | find QUERY | order | rounds THREADS ROUNDS\n"
+    " | jobs WORKERS | find QUERY | order | rounds THREADS ROUNDS\n"
 );
 
 pub const INPUT_FAULT: &str = "firefly: input could not be read\n";
@@ -62,6 +62,23 @@ pub fn say_stopped<N: Sink>(notes: &mut N, found: u64, allowed: u64)
     ensures { Notes (change_of N.held N.faults notes.old notes.new) (stopped_message found allowed) }
 {
     say(notes, stopped(found, allowed).as_str());
+}
+
+// The message on a stop by a job.
+fn stopped_by(job: u64) -> ArrayString<64>
+    ensures { result.bytes ≡ stopped_by_message job }
+{
+    let mut message = ArrayString::<64>::new();
+    push_with_number(&mut message, "firefly: stopped by job ", job);
+    message.push_str("\n");
+    message
+}
+
+/// Says which job has stopped the others.
+pub fn say_stopped_by<N: Sink>(notes: &mut N, job: u64)
+    ensures { Notes (change_of N.held N.faults notes.old notes.new) (stopped_by_message job) }
+{
+    say(notes, stopped_by(job).as_str());
 }
 
 /// Says which path could not be read.

@@ -13,7 +13,7 @@ pub enum Status {
     ReadFault,
     /// Standard output failed before it had taken the answer.
     SinkFault,
-    /// More files were found than are allowed.
+    /// More files were found than are allowed, or a job has stopped all others.
     Stopped,
     /// Memory ran out.
     Memory,

@@ -3,7 +3,7 @@ use Rattle.std.proofs.Common.{◌≡◌, ◌∙◌, ◌+◌, ◌*◌, ◌≤◌,
 use Rattle.std.specs.Prelude.{decimal}
 use Rattle.std.specs.List.{AllByRecursion, filter_map}
 use Rattle.std.proofs.lemmas.Fmt.{decimal_injective}
-use Rattle.command_line.specs.Grammar.{AreInRange, BeginOptions, HasOptions, IsDirectory, IsInRange, IsPart, Options, Part, Say, SayOptions, SayWith, Task, Text, directory, path_of, setting, check, find, index, order, rounds, run, sample, trace}
+use Rattle.command_line.specs.Grammar.{AreInRange, BeginOptions, HasOptions, IsDirectory, IsInRange, IsPart, Options, Part, Say, SayOptions, SayWith, Task, Text, directory, path_of, setting, check, find, index, jobs, order, rounds, run, sample, trace}
 use Rattle.command_line.specs.Reading.{IsNumberOr, IsStop}
 use Rattle.command_line.proofs.Said.{by_recursion, said-taken}
 use Rattle.command_line.proofs.Taken.{held-same}
@@ -28,6 +28,7 @@ start_of run = start (codes "run" ∷ [])
 start_of (index o) = start (codes "index" ∷ [])
 start_of (trace o) = start (codes "trace" ∷ [])
 start_of (sample seed files) = start (codes "sample" ∷ [])
+start_of (jobs workers) = start (codes "jobs" ∷ [])
 start_of (find tokens) = start (codes "find" ∷ [])
 start_of order = start (codes "order" ∷ [])
 start_of (rounds threads each) = start (codes "rounds" ∷ [])
@@ -38,6 +39,7 @@ said_start words run h = ap start h
 said_start words (index o) h = ap start h.1
 said_start words (trace o) h = ap start h.1
 said_start words (sample seed files) h = ap start h.0
+said_start words (jobs workers) h = ap start h.0
 said_start words (find tokens) h = ap start h
 said_start words order h = ap start h
 said_start words (rounds threads each) h = ap start h.0
@@ -55,6 +57,10 @@ say-same words (sample a n) (sample b m) g h =
     let seeds : decimal a ≡ decimal b = cc in
     let files : decimal n ≡ decimal m = cc in
     ap₂ sample (decimal_injective a b g.1 h.1 seeds) (decimal_injective n m (omega (arith, g.3)) (omega (arith, h.3)) files)
+say-same words (jobs a) (jobs b) g h =
+    let e = sym g.0 ∙ h.0 in
+    let workers : decimal a ≡ decimal b = cc in
+    ap jobs (decimal_injective a b (omega (arith, g.2)) (omega (arith, h.2)) workers)
 say-same words (find a) (find b) g h =
     let e = sym g ∙ h in
     ap find cc
@@ -117,6 +123,7 @@ task_in_range words run s = tt
 task_in_range words (index o) s = options_in_range s.0 o s.2
 task_in_range words (trace o) s = options_in_range s.0 o s.2
 task_in_range words (sample seed files) s = (s.2, s.3)
+task_in_range words (jobs workers) s = (s.1, s.2)
 task_in_range words (find tokens) s = tt
 task_in_range words order s = tt
 task_in_range words (rounds threads each) s = (s.1, s.2, s.3, s.4)

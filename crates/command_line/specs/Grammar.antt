@@ -115,6 +115,7 @@ pub data Task : Type 0 where
   index : Options → Task
   trace : Options → Task
   sample : ℕ → ℕ → Task
+  jobs : ℕ → Task
   find : List Text → Task
   order : Task
   rounds : ℕ → ℕ → Task
@@ -131,6 +132,7 @@ Say words (index o) = SayWith (codes "index") words o
 Say words (trace o) = SayWith (codes "trace") words o
 Say words (sample seed files) = (words ≡ codes "sample" ∷ decimal seed ∷ decimal files ∷ [])
     × (seed < 2 ^ 64) × (1 ≤ files) × (files ≤ 20000)
+Say words (jobs workers) = (words ≡ codes "jobs" ∷ decimal workers ∷ []) × (1 ≤ workers) × (workers ≤ 8)
 Say words (find tokens) = words ≡ codes "find" ∷ tokens
 Say words order = words ≡ codes "order" ∷ []
 Say words (rounds threads each) = (words ≡ codes "rounds" ∷ decimal threads ∷ decimal each ∷ [])
@@ -155,5 +157,6 @@ abbrev pub IsInRange : Task → Type 0
 IsInRange (index o) = AreInRange o
 IsInRange (trace o) = AreInRange o
 IsInRange (sample seed files) = (1 ≤ files) × (files ≤ 20000)
+IsInRange (jobs workers) = (1 ≤ workers) × (workers ≤ 8)
 IsInRange (rounds threads each) = (1 ≤ threads) × (threads ≤ 64) × (1 ≤ each) × (each ≤ 1000)
 IsInRange _ = Unit {0}

@@ -1,7 +1,7 @@
 -- What the words and the answer of `read_words` are in the grammar's terms.
 use Rattle.std.specs.Prelude.{map}
 use Rattle.std.specs.String.{string_bytes}
-use Rattle.command_line.specs.Grammar.{Options, Task, check, find, index, order, rounds, run, sample, trace}
+use Rattle.command_line.specs.Grammar.{Options, Task, check, find, index, jobs, order, rounds, run, sample, trace}
 use Rattle.command_line.specs.declared.command.Command.{Command}
 use Rattle.command_line.specs.declared.command.Command.TheVariants as command
 use Rattle.command_line.specs.declared.command.IndexOptions.{IndexOptions}
@@ -21,6 +21,7 @@ task_of command.Run = run
 task_of (command.Index o) = index (options_of o)
 task_of (command.Trace o) = trace (options_of o)
 task_of (command.Sample seed files) = sample seed files
+task_of (command.Jobs workers) = jobs workers
 task_of (command.Find words) = find (map string_bytes words.now)
 task_of command.Order = order
 task_of (command.Rounds threads each) = rounds threads each

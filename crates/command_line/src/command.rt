@@ -26,6 +26,7 @@ pub enum Command<'a> {
     Index(IndexOptions<'a>),
     Trace(IndexOptions<'a>),
     Sample { seed: u64, files: u32 },
+    Jobs { workers: u32 },
     Find(&'a [String]),
     Order,
     Rounds { threads: u32, rounds: u32 },
@@ -70,6 +71,7 @@ fn read_command<'a>(alloc: Global, words: &'a [String]) -> Result<Command<'a>, W
         "index" => Ok(Command::Index(read_options(alloc, rest)?)),
         "trace" => Ok(Command::Trace(read_options(alloc, rest)?)),
         "sample" => read_sample(rest),
+        "jobs" => read_jobs(rest),
         "find" => Ok(Command::Find(rest)),
         "order" => alone(rest, Command::Order),
         "rounds" => read_rounds(rest),
@@ -107,6 +109,23 @@ fn read_sample<'a>(rest: &[String]) -> Result<Command<'a>, WordsFault>
             files: files as u32,
         }),
         _ => Err(WordsFault::Usage),
+    }
+}
+
+// The word after `jobs`.
+fn read_jobs<'a>(rest: &[String]) -> Result<Command<'a>, WordsFault>
+    ensures said { IfOk result (λ c. Say (codes "jobs" ∷ map string_bytes rest.now) (task_of c)) }
+    ensures usage { IsErr result → SayNothing (codes "jobs" ∷ map string_bytes rest.now) }
+    ensures memory { result ≢ Err WordsFault.Memory }
+{
+    let [workers] = rest else {
+        return Err(WordsFault::Usage);
+    };
+    match read_number(workers.as_str(), 1, 8) {
+        Some(workers) => Ok(Command::Jobs {
+            workers: workers as u32,
+        }),
+        None => Err(WordsFault::Usage),
     }
 }
 

@@ -1,6 +1,6 @@
 use Rattle.std.proofs.Common.{ℕ, subst}
 use Rattle.command_endings.specs.Changes.{Notes, change_of}
-use Rattle.command_endings.specs.Messages.{bad_line_message}
+use Rattle.command_endings.specs.Messages.{bad_line_message, stopped_by_message}
 use Rattle.command_endings.proofs.Saying.{noted_ending, noted_stopped}
 use Rattle.command_endings.proofs.ending.ends.Goals as goal
 
@@ -29,3 +29,8 @@ pub returns-in-BadLine-clause-notes : goal.returns-in-BadLine-clause-notes
 returns-in-BadLine-clause-notes g c =
     let Q : ℕ → Type 0 = λ k. Notes (change_of g.N.Sink.held g.N.Sink.faults c.args.notes.now c.say_bad_line.new.notes) (bad_line_message k) in
     noted_ending c.args.ending _ _ c.in-BadLine.is (subst Q c.in-BadLine.line-is c.say_bad_line.ensures)
+
+pub returns-in-StoppedBy-clause-notes : goal.returns-in-StoppedBy-clause-notes
+returns-in-StoppedBy-clause-notes g c =
+    let Q : ℕ → Type 0 = λ k. Notes (change_of g.N.Sink.held g.N.Sink.faults c.args.notes.now c.say_stopped_by.new.notes) (stopped_by_message k) in
+    noted_ending c.args.ending _ _ c.in-StoppedBy.is (subst Q c.in-StoppedBy.job-is c.say_stopped_by.ensures)

@@ -1,0 +1,4 @@
+pub mod Texts
+pub mod Answered
+pub mod Reasons
+pub mod Windows

@@ -1,0 +1,19 @@
+//! What a line says.
+
+/// A job.
+#[derive(Clone, Copy, Debug, PartialEq, Eq)]
+pub enum JobLine {
+    /// The sum of the numbers from 0 to this one.
+    Sum(u64),
+    /// The pool is to stop.
+    Stop,
+}
+
+/// Why the lines were not read.
+#[derive(Clone, Copy, Debug, PartialEq, Eq)]
+pub enum JobsFault {
+    Memory,
+    BadLine(u64),
+    TooLong,
+    Read,
+}
