@@ -4,7 +4,7 @@
 #[derive(Clone, Copy, Debug, PartialEq, Eq)]
 pub enum JobLine {
     /// The sum of the numbers from 0 to this one.
-    Sum(u64),
+    Sum(u32),
     /// The pool is to stop.
     Stop,
 }

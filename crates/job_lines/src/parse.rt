@@ -33,5 +33,5 @@ pub fn line(bytes: &[u8]) -> Option<JobLine>
     let Some(number) = number(digits) else {
         return None;
     };
-    Some(JobLine::Sum(number))
+    Some(JobLine::Sum(number as u32))
 }

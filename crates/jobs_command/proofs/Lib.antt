@@ -1,0 +1,5 @@
+pub mod Sums
+pub mod Ran
+pub mod Ended
+pub mod Due
+pub mod Places
