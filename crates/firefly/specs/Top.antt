@@ -1,6 +1,6 @@
 -- What the top call answers.
 use Rattle.std.specs.Prelude.{◌≡◌, List, Option}
-use Rattle.command_line.specs.Grammar.{Task, check, run, index, trace, sample, find, order, rounds}
+use Rattle.command_line.specs.Grammar.{Task, check, run, index, trace, sample, jobs, find, order, rounds}
 use Rattle.command_endings.specs.declared.status.Status.{Status}
 use Rattle.command_endings.specs.declared.status.Status.TheVariants.{Usage, Memory}
 use Rattle.command_endings.specs.Changes.{Change, IsStill, Notes}
@@ -8,6 +8,7 @@ use Rattle.command_endings.specs.Messages.{usage_message, memory_message}
 use Rattle.check_command.specs.Check.{CheckAnswers}
 use Rattle.check_command.specs.VerdictEndings.{Found, TellsFault}
 use Rattle.order_command.specs.Order.{OrderAnswers, Ordered}
+use Rattle.jobs_command.specs.Jobs.{JobsAnswers, Decided as JobsDecided}
 use Rattle.find_command.specs.Find.{FindAnswers, Decided}
 use Rattle.rounds_command.specs.RoundsCommand.{RoundsAnswers}
 use Rattle.firefly.specs.RunCommand.{RunAnswers, Decides}
@@ -42,6 +43,7 @@ Answers run e status = RunAnswers e.input e.out e.notes status × Decides e.inpu
 Answers (index o) e status = IndexAnswers o e.trees e.new_trees e.out e.notes status × IsStill e.input
 Answers (trace o) e status = TraceAnswers o e.trees e.new_trees e.out e.notes status × IsStill e.input
 Answers (sample seed files) e status = SampleAnswers seed files e.out e.notes status × IsStill e.input × (e.new_trees ≡ e.trees)
+Answers (jobs workers) e status = JobsAnswers e.input e.out e.notes status × JobsDecided e.input status × TellsFault e.input status × (e.new_trees ≡ e.trees)
 Answers (find tokens) e status = FindAnswers tokens e.input e.out e.notes status × Decided tokens e.input status × (e.new_trees ≡ e.trees)
 Answers order e status = OrderAnswers e.input e.out e.notes status × Ordered e.input status × TellsFault e.input status × (e.new_trees ≡ e.trees)
 Answers (rounds threads each) e status = RoundsAnswers threads each e.out e.notes status × IsStill e.input × (e.new_trees ≡ e.trees)

@@ -15,6 +15,7 @@ use command_endings::{Ending, Status, ends};
 use command_line::{Command, WordsFault, read_words};
 use find_command::run_find;
 use firefly_outside::{Sink, Source, Tree};
+use jobs_command::run_jobs_command;
 use order_command::run_order;
 use rounds_command::write_rounds;
 use std::alloc::Global;
@@ -53,6 +54,7 @@ pub fn firefly<R: Threads + Wait + Sync, S: Tree, I: Source, O: Sink, N: Sink>(
         Ok(Command::Run) => run_input(rt, alloc, input, out, notes),
         Ok(Command::Trace(options)) => run_trace(rt, alloc, &options, trees, out, notes),
         Ok(Command::Sample { seed, files }) => run_sample(rt, alloc, seed, files, out, notes),
+        Ok(Command::Jobs { workers }) => run_jobs_command(rt, alloc, workers, input, out, notes),
         Ok(Command::Find(tokens)) => run_find(alloc, tokens, input, out, notes),
         Ok(Command::Order) => run_order(input, out, notes),
         Ok(Command::Rounds { threads, rounds }) => {

@@ -31,7 +31,7 @@ fn each_status_has_its_number(rt: HostRuntime) -> Result<(), Fail> {
 }
 
 // The endings, each with its status and its message.
-fn endings() -> [(Ending<'static>, Status, &'static str); 9] {
+fn endings() -> [(Ending<'static>, Status, &'static str); 10] {
     let stopped = Ending::Stopped {
         found: 5,
         allowed: 4,
@@ -42,7 +42,7 @@ fn endings() -> [(Ending<'static>, Status, &'static str); 9] {
             Status::Usage,
             concat!(
                 "usage: firefly check | run | index DIR [options] | trace DIR [options] | sample SEED FILES",
-                " | find QUERY | order | rounds THREADS ROUNDS\n"
+                " | jobs WORKERS | find QUERY | order | rounds THREADS ROUNDS\n"
             ),
         ),
         (
@@ -64,6 +64,11 @@ fn endings() -> [(Ending<'static>, Status, &'static str); 9] {
             stopped,
             Status::Stopped,
             "firefly: stopped, 5 files found, 4 allowed\n",
+        ),
+        (
+            Ending::StoppedBy(18446744073709551615),
+            Status::Stopped,
+            "firefly: stopped by job 18446744073709551615\n",
         ),
         (Ending::Memory, Status::Memory, "firefly: out of memory\n"),
         (

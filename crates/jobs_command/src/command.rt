@@ -57,7 +57,8 @@ pub fn run_jobs_command<R: Threads + Wait + Sync, I: Source, O: Sink, N: Sink>(
     out: &mut O,
     notes: &mut N,
 ) -> Status
-    requires { (1 ≤ workers) × (workers ≤ 8) }
+    requires some { 1 ≤ workers }
+    requires few { workers ≤ 8 }
     ensures answers { JobsAnswers (change_of I.left I.faults input.old input.new) (change_of O.held O.faults out.old out.new)
         (change_of N.held N.faults notes.old notes.new) result }
     ensures exact { Decided (change_of I.left I.faults input.old input.new) result }

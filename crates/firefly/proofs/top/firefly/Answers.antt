@@ -56,6 +56,20 @@ returns-in-Ok-Order g c =
       kept = λ _. kept-same _ c.requires.agree;
     }
 
+pub returns-in-Ok-Jobs : goal.returns-in-Ok-Jobs
+returns-in-Ok-Jobs g c =
+    record {
+      usage = λ none. absurd (none _ c.in-Ok-Jobs.ensures.said);
+      answers = λ t says. let k = rw c.in-Ok-Jobs.field-0-is at c.in-Ok-Jobs.ensures in answered t _ _ _ (k.only t says) (c.run_jobs_command.ensures.answers, c.run_jobs_command.ensures.exact, c.run_jobs_command.ensures.told, refl);
+      kept = λ _. kept-same _ c.requires.agree;
+    }
+
+pub run_jobs_command-requires-clause-some : goal.run_jobs_command-requires-clause-some
+run_jobs_command-requires-clause-some g c κs within = (let k = rw c.in-Ok-Jobs.field-0-is at c.in-Ok-Jobs.ensures in k.in_range.0)
+
+pub run_jobs_command-requires-clause-few : goal.run_jobs_command-requires-clause-few
+run_jobs_command-requires-clause-few g c κs within = (let k = rw c.in-Ok-Jobs.field-0-is at c.in-Ok-Jobs.ensures in k.in_range.1)
+
 pub returns-in-Ok-Find : goal.returns-in-Ok-Find
 returns-in-Ok-Find g c =
     record {
