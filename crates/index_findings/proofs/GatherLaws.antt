@@ -1,6 +1,8 @@
 -- What the workers came by, put together.
-use Rattle.std.proofs.Common.{◌≡◌, ℕ, List, [], ◌∷◌, ◌++◌, Option, Some, None, refl, sym, ap, subst, inl, inr, ◌∙◌}
+use Rattle.std.proofs.Common.{◌≡◌, ℕ, Bool, true, false, ◌||◌, List, [], ◌∷◌, ◌++◌, Option, Some, None, refl, sym, ap, subst, inl, inr, ◌∙◌}
 use Rattle.std.specs.Prelude.{IfSome}
+use Rattle.std.specs.List.{list_any}
+use Rattle.std.proofs.lemmas.List.Folds.{list_any-append}
 use Rattle.std.specs.Option.{option_or}
 use Rattle.firefly_outside.specs.Trees.{Path, Told, Calls}
 use Rattle.firefly_outside.specs.Under.{IsUnder}
@@ -27,6 +29,15 @@ or-or (Some p) b c = refl
 pub first_fault-more : (fs : List Findings) (f : Findings) → first_fault (fs ++ f ∷ []) ≡ option_or (first_fault fs) f.fault
 first_fault-more [] f = or-none f.fault
 first_fault-more (g ∷ fs) f = ap (option_or g.fault) (first_fault-more fs f) ∙ or-or g.fault (first_fault fs) f.fault
+
+or-false : (b : Bool) → (b || false) ≡ b
+or-false true = refl
+or-false false = refl
+
+-- whether any lost something, with the findings of one worker more
+pub any_lost-more : (fs : List Findings) (f : Findings) (lost : Bool) → lost ≡ list_any (λ g. g.lost) fs → (lost || f.lost) ≡ list_any (λ g. g.lost) (fs ++ f ∷ [])
+any_lost-more fs f lost is =
+    ap (λ b. b || f.lost) is ∙ (ap (λ b. list_any (λ (g : Findings). g.lost) fs || b) (sym (or-false f.lost)) ∙ sym (list_any-append (λ (g : Findings). g.lost) fs (f ∷ [])))
 
 -- what was found lies under the root
 fault_under : (t : Told) (w : Walk) → IsWalkOf w t → (f : Fault) → IsFoundFault w f → IsUnder t w.root (kind_of f) (path_of f)

@@ -1,5 +1,5 @@
 //! The answer of a run, after its workers have ended.
-ghost use Rattle.std.specs.Prelude.{◌≡◌, ◌≤◌, All, IfSome};
+ghost use Rattle.std.specs.Prelude.{◌≡◌, ◌≤◌, All, IfSome, true};
 ghost use Rattle.index_findings.specs.Gathered.{Ends, EndsByWalk};
 ghost use Rattle.index_findings.specs.Pieces.{IsFilesPiece};
 ghost use Rattle.walker.specs.Listings.{IsListingOf, IsToldBy};
@@ -15,7 +15,7 @@ use walker::{WalkAnswer, Walked, close_walk};
 use word_index::Piece;
 
 /// The answer of the closing walk over what the workers listed and the pieces that they made; or the path that failed, where these
-/// listings show that it was found. Where they don't, the listing that names it was lost for want of memory.
+/// listings show that it was found. Where something was lost, want of memory is answered: the closing walk would list or read it again.
 pub fn decided<S: Tree>(
     alloc: Global,
     root: &str,
@@ -29,6 +29,7 @@ pub fn decided<S: Tree>(
     requires stop { IfSome stop_after (λ n. n ≤ 1000000000) }
     ensures tree_stays { S.tree tree.new ≡ S.tree tree.old }
     ensures weak_stays { S.may_fail tree.new ≡ S.may_fail tree.old }
+    ensures lost { found.lost ≡ true → result ≡ WalkAnswer.Memory }
     ensures ends { Ends (S.tree tree.old) (S.may_fail tree.old) root.now stop_after found.fault (S.faults tree.old) (S.faults tree.new)
         (S.calls tree.old) (S.calls tree.new) result }
 {
@@ -36,7 +37,14 @@ pub fn decided<S: Tree>(
         visits,
         pieces,
         fault,
+        lost,
     } = found;
+    if lost {
+        drop(visits);
+        drop(pieces);
+        drop(fault);
+        return WalkAnswer::Memory;
+    }
     let Ok(walked) = collected(alloc, root, visits) else {
         drop(pieces);
         drop(fault);

@@ -17,10 +17,12 @@ pub enum Fault {
     File(Text),
 }
 
-/// The directories that a worker listed, the indexes of files that it is left with, and the path that failed, if one did.
+/// The directories that a worker listed, the indexes of files that it is left with, the path that failed, if one did, and whether something
+/// that it had listed, read or taken was lost since memory wanted.
 #[derive(Drop)]
 pub struct Findings {
     pub visits: Vec<Visit>,
     pub pieces: Vec<Piece>,
     pub fault: Option<Fault>,
+    pub lost: bool,
 }

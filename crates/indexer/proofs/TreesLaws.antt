@@ -20,6 +20,7 @@ use Rattle.walker.specs.declared.answer.WalkAnswer.TheVariants.{Done, Stopped, R
 use Rattle.word_index.specs.Index.{Index}
 use Rattle.index_findings.specs.declared.findings.Fault.{Fault}
 use Rattle.index_findings.specs.declared.findings.Findings.{Findings}
+use Rattle.index_findings.specs.declared.findings.Visit.{Visit}
 use Rattle.index_findings.specs.Gathered.{first_fault, Ends}
 use Rattle.index_findings.specs.Faults.{path_of, kind_of}
 use Rattle.index_findings.proofs.ToldLaws.{told_on, told_both}
@@ -77,15 +78,15 @@ Deciding {S} tree weak faults calls root stop fault answer given got =
     (s : S) → given ≡ Some s → (r : S) × (got ≡ Some r) × (tree r ≡ tree s) × (weak r ≡ weak s) × Ends (tree s) (weak s) root stop fault (faults s) (faults r) (calls s) (calls r) answer
 
 -- calls of one kind alone
-only_calls : (kind : Kind) (weak : List Path) (before now : Calls) (a b : Worker) (t : Told) → a.mine ≡ [] → CalledOnly kind weak before now None 0 a b t → OnlyCalls kind before now b
-only_calls Dir weak before now a b t nothing l = record {
+only_calls : (kind : Kind) (weak : List Path) (before now : Calls) (visits : List Visit) (lost : Bool) (a b : Worker) (t : Told) → a.mine ≡ [] → CalledOnly kind weak before now visits None lost 0 a b t → OnlyCalls kind before now b
+only_calls Dir weak before now visits lost a b t nothing l = record {
   dirs = l.paths;
   listed = ap (λ (c : Calls). c.listed) l.made;
   read = ap (λ (c : Calls). c.files_read) l.made;
   failed = ap (λ (c : Calls). c.failed) l.made ∙ append-nil before.failed;
   times = let was = l.times in let zero_at = ap (release_count 0) nothing in omega arith;
 }
-only_calls File weak before now a b t nothing l = record {
+only_calls File weak before now visits lost a b t nothing l = record {
   files = l.paths;
   listed = ap (λ (c : Calls). c.listed) l.made;
   read = ap (λ (c : Calls). c.files_read) l.made;
@@ -100,7 +101,7 @@ module _ {S : Type 0} (tree : S → Option Told) (weak : S → List Path) (fault
     is_r : got ≡ Some r
     same_tree : tree r ≡ tree s
     same_weak : weak r ≡ weak s
-    done : HasDone kind (tree s) root (weak s) (faults s) (faults r) (calls s) (calls r) p 0 a b f.visits.items f.pieces.items f.fault
+    done : HasDone kind (tree s) root (weak s) (faults s) (faults r) (calls s) (calls r) p 0 a b f.visits.items f.pieces.items f.fault f.lost
 
   came : (p : Run) (kind : Kind) (a b : Worker) (f : Findings) (given got : Option S) (s : S) → given ≡ Some s → GivesTree tree weak faults calls root p kind a b f given got → Came p kind a b f s got
   came p kind a b f None None s e h = absurd (cc)
@@ -165,13 +166,13 @@ module _ {S : Type 0} (tree : S → Option Told) (weak : S → List Path) (fault
               let c = w.came in
               let same : c.r ≡ r = same_Some c.r r (sym (others k None (λ z. omega arith) ∙ c.is_r) ∙ is) in
               let none_here = nobody k w.f w.is_f in
-              let done = subst (λ (o : Option Fault). HasDone (kind_at walkers k) (tree s) root (weak s) (faults s) (faults c.r) (calls s) (calls c.r) w.run 0 w.first w.last w.f.visits.items w.f.pieces.items o) none_here c.done in
+              let done = subst (λ (o : Option Fault). HasDone (kind_at walkers k) (tree s) root (weak s) (faults s) (faults c.r) (calls s) (calls c.r) w.run 0 w.first w.last w.f.visits.items w.f.pieces.items o w.f.lost) none_here c.done in
               subst (λ (v : S). IsUsedBy tree weak faults calls (kind_at walkers k) threads k s v) same (record {
                 none_rose = done.counts;
                 thread = w.last;
                 is_thread = w.is_last;
-                calls_only = told_on (tree s) (CalledOnly (kind_at walkers k) (weak s) (calls s) (calls c.r) None 0 w.first w.last) (λ t. OnlyCalls (kind_at walkers k) (calls s) (calls c.r) w.last)
-                    (λ t l. only_calls (kind_at walkers k) (weak s) (calls s) (calls c.r) w.first w.last t w.nothing l) done.told;
+                calls_only = told_on (tree s) (CalledOnly (kind_at walkers k) (weak s) (calls s) (calls c.r) w.f.visits.items None w.f.lost 0 w.first w.last) (λ t. OnlyCalls (kind_at walkers k) (calls s) (calls c.r) w.last)
+                    (λ t l. only_calls (kind_at walkers k) (weak s) (calls s) (calls c.r) w.f.visits.items w.f.lost w.first w.last t w.nothing l) done.told;
               });
           closing = λ s r e is.
               let h = ends s (above n None (omega arith) ∙ e) in
@@ -235,8 +236,8 @@ module _ {S : Type 0} (tree : S → Option Told) (weak : S → List Path) (fault
     refl,
     record {
       rose = fault_rose (faults s) (faults r) fault f.fault is h.2.counts;
-      told = told_on (tree s) (CalledOnly kind (weak s) (calls s) (calls r) f.fault 0 a b) (λ t. MayFail (weak s) t fault × FailsSince (calls s) (calls r) (path_of fault))
-          (λ t l. let k = subst (λ (o : Option Fault). CalledOnly kind (weak s) (calls s) (calls r) o 0 a b t) is l in
+      told = told_on (tree s) (CalledOnly kind (weak s) (calls s) (calls r) f.visits.items f.fault f.lost 0 a b) (λ t. MayFail (weak s) t fault × FailsSince (calls s) (calls r) (path_of fault))
+          (λ t l. let k = subst (λ (o : Option Fault). CalledOnly kind (weak s) (calls s) (calls r) f.visits.items o f.lost 0 a b t) is l in
           (k.may, failed_since kind k.paths (path_of fault) (calls s) (calls r) k.made)) h.2.told;
     },
   )

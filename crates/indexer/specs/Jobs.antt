@@ -31,7 +31,7 @@ module _ {S : Type 0} (tree : S → Option Told) (weak : S → List Path) (fault
   abbrev pub GivesTree : Run → Kind → Worker → Worker → Findings → Option S → Option S → Type 0
   GivesTree p kind a b f None None = ((o : Option Told) → HasCalled o root f.pieces.items p 0 0 a b) × (f.visits.items ≡ []) × (f.fault ≡ None)
   GivesTree p kind a b f (Some s) (Some r) = (tree r ≡ tree s) × (weak r ≡ weak s)
-      × HasDone kind (tree s) root (weak s) (faults s) (faults r) (calls s) (calls r) p 0 a b f.visits.items f.pieces.items f.fault
+      × HasDone kind (tree s) root (weak s) (faults s) (faults r) (calls s) (calls r) p 0 a b f.visits.items f.pieces.items f.fault f.lost
   GivesTree p kind a b f None (Some r) = ⊥
   GivesTree p kind a b f (Some s) None = ⊥
 

@@ -1,5 +1,5 @@
 -- What a worker with a tree has done.
-use Rattle.std.specs.Prelude.{◌≡◌, ◌⊎◌, ℕ, ◌+◌, ◌≤◌, List, [], ◌∷◌, ◌++◌, length, Option, Some, None, IfSome, Contains, All, Result, Ok, Err}
+use Rattle.std.specs.Prelude.{◌≡◌, ◌⊎◌, ℕ, ◌+◌, ◌≤◌, Bool, true, false, List, [], ◌∷◌, ◌++◌, length, map, Option, Some, None, IfSome, Contains, All, Result, Ok, Err}
 use Rattle.firefly_outside.specs.Causes.{Rose}
 use Rattle.firefly_outside.specs.Trees.{Path, Told, Calls}
 use Rattle.firefly_outside.specs.Under.{IsThere}
@@ -10,6 +10,8 @@ use Rattle.word_index.specs.Index.{Index}
 use Rattle.index_findings.specs.declared.findings.Fault.{Fault}
 use Rattle.index_findings.specs.declared.findings.Visit.{Visit}
 use Rattle.index_findings.specs.Faults.{path_of, kind_of}
+use Rattle.indexer.specs.declared.work_end.WorkEnd.{WorkEnd}
+use Rattle.indexer.specs.declared.work_end.WorkEnd.TheVariants.{Over, Lost, Failed}
 use Rattle.indexer.specs.Turns.{Worker, Run, ComesBack, release_count}
 
 -- the listing is one of its directory, and where the tree tells, the tree's own
@@ -40,23 +42,45 @@ abbrev pub mutex_of : Kind → ℕ
 mutex_of Dir = 0
 mutex_of File = 1
 
+-- the listings of these directories were kept, in the order in which they were made
+abbrev pub HasKept : Kind → List Path → List Visit → Type 0
+HasKept Dir paths visits = paths ≡ map (λ v. v.dir) visits
+HasKept File paths visits = Unit {0}
+
 -- directories were listed, or files read, and nothing else was done, but that this failed, if something did; the mutex was released for
--- each of them before, and so many times more
-pub record CalledOnly (kind : Kind) (weak : List Path) (before now : Calls) (fault : Option Fault) (spare : ℕ) (a b : Worker) (t : Told) : Type 0 where
+-- each of them before, and so many times more; and where nothing was lost, each listing was kept
+pub record CalledOnly (kind : Kind) (weak : List Path) (before now : Calls) (visits : List Visit) (fault : Option Fault) (lost : Bool) (spare : ℕ) (a b : Worker) (t : Told) : Type 0 where
   pub paths : List Path
+  pub kept : lost ≡ false → HasKept kind paths visits
   pub made : now ≡ calls_with kind paths (paths_of fault) before
   pub may : IfSome fault (MayFail weak t)
   pub times : length paths + spare + release_count (mutex_of kind) a.mine ≤ release_count (mutex_of kind) b.mine
 
--- the worker came from a to b by calls of one kind on its tree, and has these listings and pieces; this failed, if something did
+-- the worker came from a to b by calls of one kind on its tree, and has these listings and pieces; this failed, if something did, and
+-- something may be lost
 pub record HasDone (kind : Kind) (tree : Option Told) (root : Path) (weak : List Path) (count then_count : ℕ) (before now : Calls) (p : Run) (spare : ℕ) (a b : Worker)
-    (visits : List Visit) (pieces : List Index) (fault : Option Fault) : Type 0 where
+    (visits : List Visit) (pieces : List Index) (fault : Option Fault) (lost : Bool) : Type 0 where
   pub back : ComesBack tree root pieces p a b
   pub each : All (IsVisit tree) visits
   pub counts : FaultCounts count then_count fault
-  pub told : IfSome tree (CalledOnly kind weak before now fault spare a b)
+  pub told : IfSome tree (CalledOnly kind weak before now visits fault lost spare a b)
 
 -- what failed, if something did
-abbrev pub fault_of : {T : Type 0} → Result T (Option Fault) → Option Fault
+abbrev pub fault_in : WorkEnd → Option Fault
+fault_in Over = None
+fault_in Lost = None
+fault_in (Failed fault) = Some fault
+
+abbrev pub fault_of : {T : Type 0} → Result T WorkEnd → Option Fault
 fault_of (Ok v) = None
-fault_of (Err fault) = fault
+fault_of (Err end) = fault_in end
+
+-- whether something may be lost
+abbrev pub is_lost : WorkEnd → Bool
+is_lost Over = false
+is_lost Lost = true
+is_lost (Failed fault) = false
+
+abbrev pub lost_of : {T : Type 0} → Result T WorkEnd → Bool
+lost_of (Ok v) = false
+lost_of (Err end) = is_lost end

@@ -30,6 +30,7 @@ mod uses;
 mod value;
 mod walking;
 mod work;
+mod work_end;
 
 pub use answer::IndexAnswer;
 pub use indexing::{index, index_with};

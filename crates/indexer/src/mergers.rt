@@ -1,43 +1,63 @@
 //! The work of a merger.
 ghost use Rattle.std.specs.Prelude.{◌≡◌, ℕ, [], Option, None};
 ghost use Rattle.firefly_outside.specs.Trees.{Path, Told};
+ghost use Rattle.index_findings.specs.Pieces.{AreMergedFrom};
 ghost use Rattle.indexer.specs.Turns.{HasCalled, HasLists, IsBetween, Worker};
 
 use crate::ending::cancel;
 use crate::pieces::next_piece;
 use crate::uses::IndexUses;
-use alerts::test_alert;
+use bounded_buffer::TakeEnd;
 use index_findings::{Findings, keep, merge_rest};
 use nub_rule::{Package, Thread};
-use std::alloc::Global;
+use std::alloc::{AllocError, Global};
 use std::sync::Wait;
 use word_index::Piece;
 
-// One turn of a merger: it takes a piece and keeps it with the others. It answers whether the thread is to go on.
+// One turn of a merger: it takes a piece and keeps it with the others. It answers whether more may come. An alert ends nothing: all is shut
+// then, and what the buffer still has is taken. On `Err` the piece is lost, and all workers are to end.
 fn merge_once<R: Wait>(
     rt: &R,
     p: &Package<IndexUses>,
     me: &mut Thread<IndexUses>,
     kept: &mut Vec<Piece>,
-) -> bool
+) -> Result<bool, AllocError>
     requires layout { HasLists p.now.layout }
     requires between { IsBetween p.now me.old }
     ensures { (o : Option Told) (root : Path) (a : Worker) → HasCalled o root kept.old.items p.now 0 0 a me.old
         → HasCalled o root kept.new.items p.now 0 0 a me.new }
 {
-    let Some(piece) = next_piece(rt, p, me) else {
-        return false;
-    };
-    match keep(kept, piece) {
-        Ok(()) => !test_alert(rt, p, me),
-        Err(_) => {
-            cancel(rt, p, me);
-            false
-        }
+    match next_piece(rt, p, me) {
+        Ok(Some(piece)) => match keep(kept, piece) {
+            Ok(()) => Ok(true),
+            Err(error) => {
+                cancel(rt, p, me);
+                Err(error)
+            }
+        },
+        Ok(None) => Ok(true),
+        Err(TakeEnd::Alerted) => Ok(true),
+        Err(TakeEnd::ClosedEmpty) => Ok(false),
     }
 }
 
-/// Takes pieces from their buffer until there are no more, and merges those that are of like size, and in the end what it has. Where memory
+// What a merger comes by: its pieces, merged as far as they may be.
+fn merged(alloc: Global, mut kept: Vec<Piece>, lost: bool) -> Findings
+    ensures pieces { AreMergedFrom kept.items result.pieces.items }
+    ensures visits { result.visits.items ≡ [] }
+    ensures fault { result.fault ≡ None }
+    ensures lost { result.lost ≡ lost }
+{
+    merge_rest(&mut kept);
+    Findings {
+        visits: Vec::new(alloc),
+        pieces: kept,
+        fault: None,
+        lost,
+    }
+}
+
+/// Takes pieces from their buffer until it is shut and empty, and merges those that are of like size, and in the end what it has. Where memory
 /// wants for a piece more, it alerts all workers.
 ///
 /// It blocks as `next_piece` does.
@@ -55,13 +75,10 @@ pub fn merge_all<R: Wait>(
 {
     let mut kept = Vec::new(alloc);
     for _ in rt.forever() {
-        if !merge_once(rt, p, me, &mut kept) {
-            merge_rest(&mut kept);
-            return Findings {
-                visits: Vec::new(alloc),
-                pieces: kept,
-                fault: None,
-            };
+        match merge_once(rt, p, me, &mut kept) {
+            Ok(true) => {}
+            Ok(false) => return merged(alloc, kept, false),
+            Err(_) => return merged(alloc, kept, true),
         }
     }
     unreachable!()

@@ -1,5 +1,5 @@
 //! The work of a parser.
-ghost use Rattle.std.specs.Prelude.{◌≡◌, ℕ, [], All, Option, Some, None};
+ghost use Rattle.std.specs.Prelude.{◌≡◌, ℕ, [], All, Option, Some, None, false};
 ghost use Rattle.firefly_outside.specs.Trees.{Calls, Path, Told};
 ghost use Rattle.firefly_outside.specs.declared.tree.Kind.TheVariants.{File};
 ghost use Rattle.index_findings.specs.Lots.{AreRead};
@@ -7,13 +7,14 @@ ghost use Rattle.index_findings.specs.Pieces.{IsFilesPiece};
 ghost use Rattle.indexer.specs.Jobs.{GivesTree};
 ghost use Rattle.indexer.specs.Lots.{HasGiven, HasParsed, HasPassed};
 ghost use Rattle.indexer.specs.Turns.{HasLists, IsBetween, Run, Worker};
-ghost use Rattle.indexer.specs.Walks.{HasDone, fault_of};
+ghost use Rattle.indexer.specs.Walks.{HasDone, fault_of, lost_of};
 
 use crate::ending::cancel;
 use crate::files::next_file;
 use crate::pieces::{put_piece, shut_pieces};
 use crate::turns::end_parser;
 use crate::uses::IndexUses;
+use crate::work_end::WorkEnd;
 use firefly_outside::{Text, Tree, TreeError};
 use index_findings::{Fault, Findings, Lot, pieces_of};
 use nub_rule::{Package, Thread};
@@ -21,32 +22,28 @@ use std::alloc::Global;
 use std::sync::Wait;
 use word_index::Piece;
 
-// Reads one file into the lot. An error names the file where it failed, and none where memory wants.
-fn read_one<S: Tree>(
-    alloc: Global,
-    tree: &mut S,
-    path: Text,
-    lot: &mut Lot,
-) -> Result<(), Option<Fault>>
+// Reads one file into the lot. Where memory wants, it is lost.
+fn read_one<S: Tree>(alloc: Global, tree: &mut S, path: Text, lot: &mut Lot) -> Result<(), WorkEnd>
     ensures read { AreRead (S.tree tree.old) lot.old.files.items → AreRead (S.tree tree.old) lot.new.files.items }
     ensures done { (S.tree tree.new ≡ S.tree tree.old) × (S.may_fail tree.new ≡ S.may_fail tree.old)
         × ((root : Path) (count : ℕ) (before : Calls) (p : Run) (a b : Worker)
         → HasDone File (S.tree tree.old) root (S.may_fail tree.old) count (S.faults tree.old) before (S.calls tree.old) p 1 a b [] [] None
+        false
         → HasDone File (S.tree tree.old) root (S.may_fail tree.old) count (S.faults tree.new) before (S.calls tree.new) p 0 a b [] []
-        (fault_of result)) }
+        (fault_of result) (lost_of result)) }
 {
     match tree.read(alloc, path.as_str()) {
         Ok(file) => match lot.add(path, file) {
             Ok(()) => Ok(()),
-            Err(_) => Err(None),
+            Err(_) => Err(WorkEnd::Lost),
         },
-        Err(TreeError::Memory) => Err(None),
-        Err(TreeError::Failed) => Err(Some(Fault::File(path))),
+        Err(TreeError::Memory) => Err(WorkEnd::Lost),
+        Err(TreeError::Failed) => Err(WorkEnd::Failed(Fault::File(path))),
     }
 }
 
-// Puts a piece into the buffer, or where that gives it back, to those that are kept; where memory wants, all workers are to end. It answers
-// whether the thread is to go on.
+// Puts a piece into the buffer, or where that gives it back, to those that are kept. Where memory wants, it is lost, and all workers are to
+// end. It answers whether it wasn't lost.
 fn give_piece<R: Wait>(
     rt: &R,
     p: &Package<IndexUses>,
@@ -73,7 +70,7 @@ fn give_piece<R: Wait>(
     }
 }
 
-// Gives each of the pieces so.
+// Gives each of the pieces so. It answers whether none was lost.
 fn give_pieces<R: Wait>(
     rt: &R,
     p: &Package<IndexUses>,
@@ -96,7 +93,7 @@ fn give_pieces<R: Wait>(
 }
 
 // Makes pieces of the files of the lot, if it has any and is full or the last, and gives them on. It is empty then; one that isn't full may
-// grow. Where memory wants, all workers are to end. It answers whether the thread is to go on.
+// grow. Where memory wants, files are lost, and all workers are to end. It answers whether none was lost.
 fn pass_lot<R: Wait>(
     rt: &R,
     alloc: Global,
@@ -125,8 +122,7 @@ fn pass_lot<R: Wait>(
     }
 }
 
-// One turn of a parser: it takes a file's path, reads the file into the lot, and makes pieces of a lot that is full. An error ends its
-// work, and names the file where it failed.
+// One turn of a parser: it takes a file's path, reads the file into the lot, and makes pieces of a lot that is full.
 fn parse_once<R: Wait, S: Tree>(
     rt: &R,
     alloc: Global,
@@ -136,32 +132,33 @@ fn parse_once<R: Wait, S: Tree>(
     tree: &mut S,
     lot: &mut Lot,
     kept: &mut Vec<Piece>,
-) -> Result<(), Option<Fault>>
+) -> Result<(), WorkEnd>
     requires layout { HasLists p.now.layout }
     requires between { IsBetween p.now me.old }
     requires read { AreRead (S.tree tree.old) lot.old.files.items }
     ensures { HasParsed S.tree S.may_fail S.faults S.calls root.now p.now tree.old tree.new lot.new.files.items kept.old.items kept.new.items
-        me.old me.new (fault_of result) }
+        me.old me.new (fault_of result) (lost_of result) }
 {
     let Some(path) = next_file(rt, p, me) else {
-        return Err(None);
+        return Err(WorkEnd::Over);
     };
     match read_one(alloc, tree, path, lot) {
         Ok(()) => {
             if pass_lot(rt, alloc, p, me, root, lot, kept, false) {
                 Ok(())
             } else {
-                Err(None)
+                Err(WorkEnd::Lost)
             }
         }
-        Err(fault) => {
+        Err(end) => {
             cancel(rt, p, me);
-            Err(fault)
+            Err(end)
         }
     }
 }
 
-// Gives on what is left in the lot, and says that the parser has ended; the last one shuts the buffer of pieces.
+// Gives on what is left in the lot, and says that the parser has ended; the last one shuts the buffer of pieces. It answers whether no file
+// was lost.
 fn end_pieces<R: Wait>(
     rt: &R,
     alloc: Global,
@@ -170,22 +167,22 @@ fn end_pieces<R: Wait>(
     root: &str,
     lot: &mut Lot,
     kept: &mut Vec<Piece>,
-)
+) -> bool
     requires layout { HasLists p.now.layout }
     requires between { IsBetween p.now me.old }
     requires read { (o : Option Told) × AreRead o lot.old.files.items }
     ensures { (o : Option Told) (m : ℕ) → AreRead o lot.old.files.items → HasGiven o root.now p.now m kept.old.items kept.new.items me.old
         me.new }
 {
-    pass_lot(rt, alloc, p, me, root, lot, kept, true);
+    let all_given = pass_lot(rt, alloc, p, me, root, lot, kept, true);
     if end_parser(rt, p, me) {
         shut_pieces(rt, p, me);
     }
+    all_given
 }
 
 /// Reads files whose paths it takes from their buffer, makes pieces of them, and puts these into theirs, until there are no more. A piece
-/// that the buffer doesn't take is kept. Where a file fails or memory wants, it alerts all workers; what is left then is for the closing
-/// walk.
+/// that the buffer doesn't take is kept. Where a file fails or memory wants, it alerts all workers.
 ///
 /// It blocks as `next_file` and `put_piece` do.
 pub fn parse<R: Wait, S: Tree>(
@@ -205,12 +202,14 @@ pub fn parse<R: Wait, S: Tree>(
     for _ in rt.forever() {
         match parse_once(rt, alloc, p, me, root, tree, &mut lot, &mut kept) {
             Ok(()) => {}
-            Err(fault) => {
-                end_pieces(rt, alloc, p, me, root, &mut lot, &mut kept);
+            Err(end) => {
+                let (fault, lost) = end.parts();
+                let all_given = end_pieces(rt, alloc, p, me, root, &mut lot, &mut kept);
                 return Findings {
                     visits: Vec::new(alloc),
                     pieces: kept,
                     fault,
+                    lost: lost | !all_given,
                 };
             }
         }

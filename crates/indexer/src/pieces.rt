@@ -1,9 +1,8 @@
 //! The calls at the buffer of pieces.
 ghost use Rattle.std.specs.Prelude.{◌≡◌, ℕ, [], Option, IfSome};
-ghost use Rattle.std.specs.Option.{option_to_list};
 ghost use Rattle.firefly_outside.specs.Trees.{Path, Told};
 ghost use Rattle.index_findings.specs.Pieces.{IsFilesPiece};
-ghost use Rattle.indexer.specs.Taken.{piece_of};
+ghost use Rattle.indexer.specs.Taken.{piece_in, piece_of};
 ghost use Rattle.indexer.specs.Turns.{HasCalled, HasLists, IsBetween};
 
 use crate::uses::IndexUses;
@@ -42,32 +41,35 @@ pub fn put_piece<R: Wait>(
     }
 }
 
-// The piece that was taken, if one was.
-fn piece_in(taken: Result<(u64, IndexItem), TakeEnd>) -> Option<Piece>
-    ensures { option_to_list result ≡ piece_of taken }
+// The piece that was taken, if the item is one.
+fn as_piece(taken: Result<(u64, IndexItem), TakeEnd>) -> Result<Option<Piece>, TakeEnd>
+    ensures { piece_in result ≡ piece_of taken }
 {
     match taken {
         Ok((_, item)) => match item {
-            IndexItem::Piece(piece) => Some(piece),
-            IndexItem::File(_) => None,
+            IndexItem::Piece(piece) => Ok(Some(piece)),
+            IndexItem::File(path) => {
+                drop(path);
+                Ok(None)
+            }
         },
-        Err(_) => None,
+        Err(end) => Err(end),
     }
 }
 
-/// Takes a piece. None comes where the buffer is shut and empty, and where the thread is alerted.
+/// Takes a piece. An error says that the buffer is shut and empty, or that the thread was alerted while it waited.
 ///
 /// It blocks while another thread has the buffer, and while it is empty and open.
 pub fn next_piece<R: Wait>(
     rt: &R,
     p: &Package<IndexUses>,
     me: &mut Thread<IndexUses>,
-) -> Option<Piece>
+) -> Result<Option<Piece>, TakeEnd>
     requires layout { HasLists p.now.layout }
     requires between { IsBetween p.now me.old }
-    ensures { (o : Option Told) (root : Path) (m : ℕ) → HasCalled o root (option_to_list result) p.now m 0 me.old me.new }
+    ensures { (o : Option Told) (root : Path) (m : ℕ) → HasCalled o root (piece_in result) p.now m 0 me.old me.new }
 {
-    piece_in(take(rt, p, me, &PIECES))
+    as_piece(take(rt, p, me, &PIECES))
 }
 
 /// Shuts the buffer: it takes no more, and gives what it has.

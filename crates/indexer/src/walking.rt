@@ -1,15 +1,16 @@
 //! The work of a walker.
-ghost use Rattle.std.specs.Prelude.{◌≡◌, ℕ, [], Option, Some, None};
+ghost use Rattle.std.specs.Prelude.{◌≡◌, ℕ, [], Option, Some, None, false};
 ghost use Rattle.firefly_outside.specs.Trees.{Calls, Path, Told};
 ghost use Rattle.firefly_outside.specs.declared.tree.Kind.TheVariants.{Dir};
 ghost use Rattle.indexer.specs.Jobs.{GivesTree};
 ghost use Rattle.indexer.specs.Turns.{HasCalled, HasLists, IsBetween, Run, Worker};
-ghost use Rattle.indexer.specs.Walks.{HasDone, fault_of};
+ghost use Rattle.indexer.specs.Walks.{HasDone, fault_of, lost_of};
 
 use crate::ending::cancel;
 use crate::files::{put_files, shut_files};
 use crate::turns::{finish_dir, next_dir, put_dirs, shut_dirs};
 use crate::uses::IndexUses;
+use crate::work_end::WorkEnd;
 use alerts::test_alert;
 use firefly_outside::{Text, Tree, TreeError};
 use index_findings::{Fault, Findings, Visit, keep_listing};
@@ -18,28 +19,27 @@ use std::alloc::Global;
 use std::sync::Wait;
 use walker::list_dir;
 
-// Lists one directory, keeps its listing, and gives the directories and files found there. An error names the directory where it failed,
-// and none where memory wants.
+// Lists one directory, keeps its listing, and gives the directories and files found there. Where memory wants, the listing is lost.
 fn list_one<S: Tree>(
     alloc: Global,
     tree: &mut S,
     dir: Text,
     visits: &mut Vec<Visit>,
-) -> Result<(Vec<Text>, Vec<Text>), Option<Fault>>
+) -> Result<(Vec<Text>, Vec<Text>), WorkEnd>
     ensures { (S.tree tree.new ≡ S.tree tree.old) × (S.may_fail tree.new ≡ S.may_fail tree.old)
         × ((root : Path) (count : ℕ) (before : Calls) (p : Run) (a b : Worker)
         → HasDone Dir (S.tree tree.old) root (S.may_fail tree.old) count (S.faults tree.old) before
-        (S.calls tree.old) p 1 a b visits.old.items [] None
+        (S.calls tree.old) p 1 a b visits.old.items [] None false
         → HasDone Dir (S.tree tree.old) root (S.may_fail tree.old) count (S.faults tree.new) before
-        (S.calls tree.new) p 0 a b visits.new.items [] (fault_of result)) }
+        (S.calls tree.new) p 0 a b visits.new.items [] (fault_of result) (lost_of result)) }
 {
     match list_dir(alloc, tree, dir.as_str()) {
         Ok(listing) => match keep_listing(visits, dir, listing) {
             Ok(found) => Ok(found),
-            Err(_) => Err(None),
+            Err(_) => Err(WorkEnd::Lost),
         },
-        Err(TreeError::Memory) => Err(None),
-        Err(TreeError::Failed) => Err(Some(Fault::Dir(dir))),
+        Err(TreeError::Memory) => Err(WorkEnd::Lost),
+        Err(TreeError::Failed) => Err(WorkEnd::Failed(Fault::Dir(dir))),
     }
 }
 
@@ -79,8 +79,7 @@ fn end_files<R: Wait>(rt: &R, p: &Package<IndexUses>, me: &mut Thread<IndexUses>
     shut_files(rt, p, me);
 }
 
-// One turn of a walker: it takes a directory, lists it, and gives what was found there. An error ends its work, and names the directory
-// where it failed.
+// One turn of a walker: it takes a directory, lists it, and gives what was found there.
 fn walk_once<R: Wait, S: Tree>(
     rt: &R,
     alloc: Global,
@@ -88,37 +87,37 @@ fn walk_once<R: Wait, S: Tree>(
     me: &mut Thread<IndexUses>,
     tree: &mut S,
     visits: &mut Vec<Visit>,
-) -> Result<(), Option<Fault>>
+) -> Result<(), WorkEnd>
     requires layout { HasLists p.now.layout }
     requires between { IsBetween p.now me.old }
     ensures { (S.tree tree.new ≡ S.tree tree.old) × (S.may_fail tree.new ≡ S.may_fail tree.old)
         × ((root : Path) (count : ℕ) (before : Calls) (a : Worker)
         → HasDone Dir (S.tree tree.old) root (S.may_fail tree.old) count (S.faults tree.old) before
-        (S.calls tree.old) p.now 0 a me.old visits.old.items [] None
+        (S.calls tree.old) p.now 0 a me.old visits.old.items [] None false
         → HasDone Dir (S.tree tree.old) root (S.may_fail tree.old) count (S.faults tree.new) before
-        (S.calls tree.new) p.now 0 a me.new visits.new.items [] (fault_of result)) }
+        (S.calls tree.new) p.now 0 a me.new visits.new.items [] (fault_of result) (lost_of result)) }
 {
     let Some(dir) = next_dir(rt, p, me) else {
         end_files(rt, p, me);
-        return Err(None);
+        return Err(WorkEnd::Over);
     };
     match list_one(alloc, tree, dir, visits) {
         Ok((dirs, files)) => {
             if give_found(rt, p, me, dirs, files) {
                 Ok(())
             } else {
-                Err(None)
+                Err(WorkEnd::Over)
             }
         }
-        Err(fault) => {
+        Err(end) => {
             cancel(rt, p, me);
-            Err(fault)
+            Err(end)
         }
     }
 }
 
 /// Lists directories from the list until it is over, and puts the directories found into it and the files into their buffer. Where a
-/// directory fails, memory wants or more is found than may be, it alerts all workers; what is left then is for the closing walk.
+/// directory fails, memory wants or more is found than may be, it alerts all workers.
 ///
 /// It blocks as `next_dir` and `put_files` do.
 pub fn walk<R: Wait, S: Tree>(
@@ -137,11 +136,13 @@ pub fn walk<R: Wait, S: Tree>(
     for _ in rt.forever() {
         match walk_once(rt, alloc, p, me, tree, &mut visits) {
             Ok(()) => {}
-            Err(fault) => {
+            Err(end) => {
+                let (fault, lost) = end.parts();
                 return Findings {
                     visits,
                     pieces: Vec::new(alloc),
                     fault,
+                    lost,
                 };
             }
         }

@@ -2,7 +2,7 @@ use Rattle.std.proofs.Common.{◌∷◌, [], ◌++◌, length, ap, sym, ◌∙�
 use Rattle.std.specs.Option.{option_or}
 use Rattle.std.proofs.lemmas.List.{flat_map_more}
 use Rattle.index_findings.specs.declared.findings.Findings.{Findings}
-use Rattle.index_findings.proofs.GatherLaws.{first_fault-more}
+use Rattle.index_findings.proofs.GatherLaws.{any_lost-more, first_fault-more}
 use Rattle.index_findings.proofs.gathering.gathered.Goals as goal
 
 pub loop-found-preserved : goal.loop-found-preserved
@@ -19,4 +19,5 @@ loop-found-preserved c =
       visits = c.in_ok-append.ensures.items ∙ (ap (λ l. l ++ x.visits.items) was.visits ∙ flat_map_more (λ (f : Findings). f.visits.items) [] at.yielded x);
       pieces = c.in_ok-append-2.ensures.items ∙ (ap (λ l. l ++ x.pieces.items) was.pieces ∙ flat_map_more (λ (f : Findings). f.pieces.items) [] at.yielded x);
       fault = c.or-fault.ensures ∙ (ap (λ o. option_or o x.fault) was.fault ∙ sym (first_fault-more at.yielded x));
+      lost = any_lost-more at.yielded x at.lost was.lost;
     }

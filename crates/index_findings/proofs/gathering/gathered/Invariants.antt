@@ -1,5 +1,5 @@
 use Rattle.std.proofs.Common.{◌≡◌, ◌++◌, length}
-use Rattle.std.specs.List.{flat_map}
+use Rattle.std.specs.List.{flat_map, list_any}
 use Rattle.std.specs.Vec.Iter.{into_iter_items, into_iter_len}
 use Rattle.index_findings.specs.Gathered.{first_fault}
 use Rattle.index_findings.proofs.gathering.gathered.Given as goal
@@ -12,4 +12,5 @@ invariant-loop-found l =
       visits : l.visits.items ≡ flat_map (λ f. f.visits.items) l.yielded;
       pieces : l.pieces.items ≡ flat_map (λ f. f.pieces.items) l.yielded;
       fault : l.fault ≡ first_fault l.yielded;
+      lost : l.lost ≡ list_any (λ f. f.lost) l.yielded;
     }

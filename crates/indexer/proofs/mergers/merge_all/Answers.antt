@@ -13,7 +13,12 @@ merge_once-requires-clause-between g c = still_between None [] c.loop.kept.items
 pub loop-preserved : goal.loop-preserved
 loop-preserved g c = λ o root. c.merge_once.ensures o root c.args.me.now (c.loop.invariant o root)
 
-pub returns-then-not-merge_once-clause-called : goal.returns-then-not-merge_once-clause-called
-returns-then-not-merge_once-clause-called g c = λ o root.
-    called_as o root c.merge_once.new.kept.items c.merge_rest.new.kept.items c.args.p.now 0 0 c.args.me.now c.merge_once.new.me (c.merge_rest.ensures.files o root)
+pub returns-in-Ok-false-clause-called : goal.returns-in-Ok-false-clause-called
+returns-in-Ok-false-clause-called g c = λ o root.
+    called_as o root c.merge_once.new.kept.items c.merged.result.pieces.items c.args.p.now 0 0 c.args.me.now c.merge_once.new.me (c.merged.ensures.pieces.files o root)
+    (c.merge_once.ensures o root c.args.me.now (c.loop.invariant o root))
+
+pub returns-in-Err-clause-called : goal.returns-in-Err-clause-called
+returns-in-Err-clause-called g c = λ o root.
+    called_as o root c.merge_once.new.kept.items c.merged-in-Err.result.pieces.items c.args.p.now 0 0 c.args.me.now c.merge_once.new.me (c.merged-in-Err.ensures.pieces.files o root)
     (c.merge_once.ensures o root c.args.me.now (c.loop.invariant o root))

@@ -1,7 +1,8 @@
-use Rattle.std.proofs.Common.{[], None, refl}
+use Rattle.std.proofs.Common.{[], None, true, false, refl}
 use Rattle.firefly_outside.specs.declared.tree.Kind.TheVariants.{File}
+use Rattle.indexer.specs.Walks.{fault_in, is_lost}
 use Rattle.indexer.proofs.Turning.{called_any, still_between}
-use Rattle.indexer.proofs.WalkSteps.{done_on}
+use Rattle.indexer.proofs.WalkSteps.{done_less, done_on}
 use Rattle.indexer.proofs.parsing.parse_once.Goals as goal
 
 pub pass_lot-requires-clause-between : goal.pass_lot-requires-clause-between
@@ -27,7 +28,7 @@ returns-in_default g c =
       read = c.requires.read;
       kept = λ all. all;
       done = λ count before a h.
-          done_on File o root (S.may_fail tree) count before p a 0 (S.faults tree) (S.calls tree) me c.next_file.new.me [] None h
+          done_on File o root (S.may_fail tree) count before p a 0 (S.faults tree) (S.calls tree) me c.next_file.new.me [] None false h
           (called_any o root [] p 1 1 me c.next_file.new.me (c.next_file.ensures o root));
     }
 
@@ -47,8 +48,8 @@ returns-then-pass_lot g c =
       read = (c.pass_lot.ensures o 1 read).read;
       kept = (c.pass_lot.ensures o 1 read).given.kept;
       done = λ count before a h.
-          done_on File o root (S.may_fail tree) count before p a 0 (S.faults after) (S.calls after) c.next_file.new.me c.pass_lot.new.me [] None
-          (c.in-Ok.ensures.done.2 root count before p a c.next_file.new.me (done_on File o root (S.may_fail tree) count before p a 1 (S.faults tree) (S.calls tree) me c.next_file.new.me [] None h (c.next_file.ensures o root)))
+          done_on File o root (S.may_fail tree) count before p a 0 (S.faults after) (S.calls after) c.next_file.new.me c.pass_lot.new.me [] None false
+          (c.in-Ok.ensures.done.2 root count before p a c.next_file.new.me (done_on File o root (S.may_fail tree) count before p a 1 (S.faults tree) (S.calls tree) me c.next_file.new.me [] None false h (c.next_file.ensures o root)))
           (c.pass_lot.ensures o 1 read).given.called;
     }
 
@@ -68,9 +69,10 @@ returns-else-pass_lot g c =
       read = (c.pass_lot.ensures o 1 read).read;
       kept = (c.pass_lot.ensures o 1 read).given.kept;
       done = λ count before a h.
-          done_on File o root (S.may_fail tree) count before p a 0 (S.faults after) (S.calls after) c.next_file.new.me c.pass_lot.new.me [] None
-          (c.in-Ok.ensures.done.2 root count before p a c.next_file.new.me (done_on File o root (S.may_fail tree) count before p a 1 (S.faults tree) (S.calls tree) me c.next_file.new.me [] None h (c.next_file.ensures o root)))
-          (c.pass_lot.ensures o 1 read).given.called;
+          done_less File o root (S.may_fail tree) count before p a (S.faults after) (S.calls after) c.pass_lot.new.me [] [] None false true (λ none. refl)
+          (done_on File o root (S.may_fail tree) count before p a 0 (S.faults after) (S.calls after) c.next_file.new.me c.pass_lot.new.me [] None false
+          (c.in-Ok.ensures.done.2 root count before p a c.next_file.new.me (done_on File o root (S.may_fail tree) count before p a 1 (S.faults tree) (S.calls tree) me c.next_file.new.me [] None false h (c.next_file.ensures o root)))
+          (c.pass_lot.ensures o 1 read).given.called);
     }
 
 pub returns-in-Err : goal.returns-in-Err
@@ -88,7 +90,7 @@ returns-in-Err g c =
       read = c.in-Err.ensures.read c.requires.read;
       kept = λ all. all;
       done = λ count before a h.
-          done_on File o root (S.may_fail tree) count before p a 0 (S.faults after) (S.calls after) c.next_file.new.me c.cancel.new.me [] c.in-Err.fault
-          (c.in-Err.ensures.done.2 root count before p a c.next_file.new.me (done_on File o root (S.may_fail tree) count before p a 1 (S.faults tree) (S.calls tree) me c.next_file.new.me [] None h (c.next_file.ensures o root)))
+          done_on File o root (S.may_fail tree) count before p a 0 (S.faults after) (S.calls after) c.next_file.new.me c.cancel.new.me [] (fault_in c.in-Err.end) (is_lost c.in-Err.end)
+          (c.in-Err.ensures.done.2 root count before p a c.next_file.new.me (done_on File o root (S.may_fail tree) count before p a 1 (S.faults tree) (S.calls tree) me c.next_file.new.me [] None false h (c.next_file.ensures o root)))
           (c.cancel.ensures o root 1);
     }

@@ -10,7 +10,7 @@ use Rattle.index_findings.specs.Lots.{AreRead}
 use Rattle.index_findings.proofs.ToldLaws.{told_on}
 use Rattle.index_findings.proofs.LotLaws.{read_more}
 use Rattle.indexer.specs.Walks.{MayFail, calls_with}
-use Rattle.indexer.proofs.WalkSteps.{done_more, done_fault, calls_read}
+use Rattle.indexer.proofs.WalkSteps.{done_more, done_lost, done_fault, calls_read}
 use Rattle.indexer.proofs.parsing.read_one.Goals as goal
 
 pub returns-in-Err-Failed-clause-done : goal.returns-in-Err-Failed-clause-done
@@ -44,8 +44,8 @@ returns-in-Ok-add-clause-done g c = (
       let text = c.as_str.result.now in
       let calls = g.S.Tree.calls old in
       let calls' = g.S.Tree.calls new in
-      done_more File tree root (g.S.Tree.may_fail old) count before p a (g.S.Tree.faults old) (g.S.Tree.faults new) calls calls' b [] [] text h c.in-Ok.ensures.count (λ each. each)
-      (told_on tree (λ t. IsFile t text c.in-Ok.file × (calls' ≡ record calls { files_read = calls.files_read ++ text ∷ [] })) (λ t. (calls' ≡ calls) ⊎ (calls' ≡ calls_with File (text ∷ []) [] calls)) (λ t q. inr (q.1 ∙ calls_read calls text)) c.in-Ok.ensures.told),
+      done_more File tree root (g.S.Tree.may_fail old) count before p a (g.S.Tree.faults old) (g.S.Tree.faults new) calls calls' b [] [] text h c.in-Ok.ensures.count (λ each. each) (λ ps kept. tt)
+      (told_on tree (λ t. IsFile t text c.in-Ok.file × (calls' ≡ record calls { files_read = calls.files_read ++ text ∷ [] })) (λ t. calls' ≡ calls_with File (text ∷ []) [] calls) (λ t q. q.1 ∙ calls_read calls text) c.in-Ok.ensures.told),
 )
 
 pub returns-in-Err-clause-done : goal.returns-in-Err-clause-done
@@ -59,7 +59,7 @@ returns-in-Err-clause-done g c = (
       let text = c.as_str.result.now in
       let calls = g.S.Tree.calls old in
       let calls' = g.S.Tree.calls new in
-      done_more File tree root (g.S.Tree.may_fail old) count before p a (g.S.Tree.faults old) (g.S.Tree.faults new) calls calls' b [] [] text h c.in-Ok.ensures.count (λ each. each)
+      done_lost File tree root (g.S.Tree.may_fail old) count before p a (g.S.Tree.faults old) (g.S.Tree.faults new) calls calls' b [] text h c.in-Ok.ensures.count
       (told_on tree (λ t. IsFile t text c.in-Ok.file × (calls' ≡ record calls { files_read = calls.files_read ++ text ∷ [] })) (λ t. (calls' ≡ calls) ⊎ (calls' ≡ calls_with File (text ∷ []) [] calls)) (λ t q. inr (q.1 ∙ calls_read calls text)) c.in-Ok.ensures.told),
 )
 
@@ -77,7 +77,7 @@ returns-in-Err-Memory-clause-done g c = (
       let calls' = g.S.Tree.calls new in
       let same = subst (λ (e : TreeError). Counts {T = FileBytes} (g.S.Tree.faults old) (g.S.Tree.faults new) (Err e)) c.in-Err-Memory.field-0-is c.in-Err-Memory.ensures.count in
       let told = subst (λ (e : TreeError). IfSome tree (Reads weak text calls calls' (Err e))) c.in-Err-Memory.field-0-is c.in-Err-Memory.ensures.told in
-      done_more File tree root weak count before p a (g.S.Tree.faults old) (g.S.Tree.faults new) calls calls' b [] [] text h same (λ each. each)
+      done_lost File tree root weak count before p a (g.S.Tree.faults old) (g.S.Tree.faults new) calls calls' b [] text h same
       (told_on tree (λ t. calls' ≡ calls) (λ t. (calls' ≡ calls) ⊎ (calls' ≡ calls_with File (text ∷ []) [] calls)) (λ t q. inl q) told),
 )
 

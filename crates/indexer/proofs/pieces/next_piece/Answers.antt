@@ -21,7 +21,7 @@ returns g c = λ o root m.
     let b = c.take.new.me in
     let e = c.take.ensures in
     let between = c.requires.between in
-    subst (λ (ps : List Index). HasCalled o root ps p m 0 a b) (same c.take.result ∙ sym c.piece_in.ensures) (record {
+    subst (λ (ps : List Index). HasCalled o root ps p m 0 a b) (same c.take.result ∙ sym c.as_piece.ensures) (record {
       back = λ n s idle.
           let ran = e.ran s idle.share in
           (ran.share, idle_again p n s ran.share a b idle e.rest e.same e.held ran.is_share, passes_take o root c.take.result _ s ran.share ran.here);

@@ -1,5 +1,5 @@
-use Rattle.std.proofs.Common.{subst, sym, inl, inr, ◌⊎◌, ◌≡◌, List, [], ◌∷◌, ◌++◌, ◌∙◌, Some, Err}
-use Rattle.std.specs.Prelude.{All, IfSome}
+use Rattle.std.proofs.Common.{subst, sym, inl, inr, ◌⊎◌, ◌≡◌, true, List, [], ◌∷◌, ◌++◌, ◌∙◌, Some, None, Err}
+use Rattle.std.specs.Prelude.{IfSome}
 use Rattle.firefly_outside.specs.Trees.{Counts, Path, IsFault, Directory}
 use Rattle.firefly_outside.specs.declared.tree.Entry.{Entry}
 use Rattle.firefly_outside.specs.declared.tree.Kind.TheVariants.{Dir}
@@ -8,8 +8,9 @@ use Rattle.walker.specs.Listings.{IsToldBy, ListsDir, with_listed}
 use Rattle.walker.specs.declared.listing.Listing.{Listing}
 use Rattle.index_findings.specs.declared.findings.Fault.TheVariants.{Dir as DirFault}
 use Rattle.index_findings.proofs.ToldLaws.{told_on}
-use Rattle.indexer.specs.Walks.{IsVisit, MayFail, calls_with}
-use Rattle.indexer.proofs.WalkSteps.{calls_listed, done_more, done_fault, visits_more}
+use Rattle.index_findings.specs.declared.findings.Visit.{Visit}
+use Rattle.indexer.specs.Walks.{HasDone, MayFail, calls_with}
+use Rattle.indexer.proofs.WalkSteps.{calls_listed, done_more, done_lost, done_fault, kept_more, visits_more}
 use Rattle.indexer.proofs.walking.list_one.Goals as goal
 
 pub returns-in-Ok-keep_listing : goal.returns-in-Ok-keep_listing
@@ -27,7 +28,8 @@ returns-in-Ok-keep_listing g c = (
       done_more Dir tree root (g.S.Tree.may_fail old) count before p a (g.S.Tree.faults old) (g.S.Tree.faults new) calls calls' b c.args.visits.now.items c.keep_listing.new.visits.items text h c.in-Ok.ensures.count
       (visits_more tree c.args.visits.now.items c.keep_listing.new.visits.items c.args.dir text l c.in-Ok-keep_listing.ensures.ok c.as_str.ensures c.in-Ok.ensures.lawful
       (told_on tree (λ t. IsToldBy t text l × (calls' ≡ with_listed calls text)) (λ t. IsToldBy t text l) (λ t q. q.0) c.in-Ok.ensures.told))
-      (told_on tree (λ t. IsToldBy t text l × (calls' ≡ with_listed calls text)) (λ t. (calls' ≡ calls) ⊎ (calls' ≡ calls_with Dir (text ∷ []) [] calls)) (λ t q. inr (q.1 ∙ calls_listed calls text)) c.in-Ok.ensures.told),
+      (kept_more c.args.visits.now.items c.keep_listing.new.visits.items c.args.dir text l c.in-Ok-keep_listing.ensures.ok c.as_str.ensures)
+      (told_on tree (λ t. IsToldBy t text l × (calls' ≡ with_listed calls text)) (λ t. calls' ≡ calls_with Dir (text ∷ []) [] calls) (λ t q. q.1 ∙ calls_listed calls text) c.in-Ok.ensures.told),
 )
 
 pub returns-in-Err : goal.returns-in-Err
@@ -42,9 +44,10 @@ returns-in-Err g c = (
       let calls = g.S.Tree.calls old in
       let calls' = g.S.Tree.calls new in
       let l = c.in-Ok.listing in
-      done_more Dir tree root (g.S.Tree.may_fail old) count before p a (g.S.Tree.faults old) (g.S.Tree.faults new) calls calls' b c.args.visits.now.items c.keep_listing.new.visits.items text h c.in-Ok.ensures.count
-      (λ each. subst (All (IsVisit tree)) (sym c.in-Err.ensures.err) each)
-      (told_on tree (λ t. IsToldBy t text l × (calls' ≡ with_listed calls text)) (λ t. (calls' ≡ calls) ⊎ (calls' ≡ calls_with Dir (text ∷ []) [] calls)) (λ t q. inr (q.1 ∙ calls_listed calls text)) c.in-Ok.ensures.told),
+      let visits = c.args.visits.now.items in
+      subst (λ (vs : List Visit). HasDone Dir tree root (g.S.Tree.may_fail old) count (g.S.Tree.faults new) before calls' p 0 a b vs [] None true) (sym c.in-Err.ensures.err)
+      (done_lost Dir tree root (g.S.Tree.may_fail old) count before p a (g.S.Tree.faults old) (g.S.Tree.faults new) calls calls' b visits text h c.in-Ok.ensures.count
+      (told_on tree (λ t. IsToldBy t text l × (calls' ≡ with_listed calls text)) (λ t. (calls' ≡ calls) ⊎ (calls' ≡ calls_with Dir (text ∷ []) [] calls)) (λ t q. inr (q.1 ∙ calls_listed calls text)) c.in-Ok.ensures.told)),
 )
 
 pub returns-in-Err-Failed : goal.returns-in-Err-Failed
@@ -82,7 +85,7 @@ returns-in-Err-Memory g c = (
       let visits = c.args.visits.now.items in
       let same = subst (λ (e : TreeError). Counts {T = Listing} (g.S.Tree.faults old) (g.S.Tree.faults new) (Err e)) c.in-Err-Memory.field-0-is c.in-Err-Memory.ensures.count in
       let told = subst (λ (e : TreeError). IfSome tree (ListsDir weak text calls calls' (Err e))) c.in-Err-Memory.field-0-is c.in-Err-Memory.ensures.told in
-      done_more Dir tree root weak count before p a (g.S.Tree.faults old) (g.S.Tree.faults new) calls calls' b visits visits text h same (λ each. each)
+      done_lost Dir tree root weak count before p a (g.S.Tree.faults old) (g.S.Tree.faults new) calls calls' b visits text h same
       (told_on tree (λ t. (calls' ≡ calls) ⊎ (calls' ≡ with_listed calls text)) (λ t. (calls' ≡ calls) ⊎ (calls' ≡ calls_with Dir (text ∷ []) [] calls))
       (λ t q. elim q [ inl none ↦ inl none | inr one ↦ inr (one ∙ calls_listed calls text) ]) told),
 )

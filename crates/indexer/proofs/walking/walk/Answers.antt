@@ -1,8 +1,9 @@
-use Rattle.std.proofs.Common.{◌∙◌, [], List, None, refl, sym, subst}
+use Rattle.std.proofs.Common.{◌∙◌, Bool, false, [], List, Option, None, refl, sym, subst}
 use Rattle.firefly_outside.specs.declared.tree.Kind.TheVariants.{Dir}
 use Rattle.word_index.specs.Index.{Index}
+use Rattle.index_findings.specs.declared.findings.Fault.{Fault}
 use Rattle.index_findings.specs.declared.findings.Visit.{Visit}
-use Rattle.indexer.specs.Walks.{HasDone}
+use Rattle.indexer.specs.Walks.{HasDone, fault_in, is_lost}
 use Rattle.indexer.proofs.Turning.{still_between}
 use Rattle.indexer.proofs.WalkSteps.{done_along, done_none}
 use Rattle.indexer.proofs.walking.walk.Goals as goal
@@ -14,7 +15,7 @@ loop-init g c =
     record {
       tree_stays = refl;
       weak_stays = refl;
-      done = λ root. subst (λ (vs : List Visit). HasDone Dir (S.tree tree) root (S.may_fail tree) (S.faults tree) (S.faults tree) (S.calls tree) (S.calls tree) c.args.p.now 0 c.args.me.now c.args.me.now vs [] None)
+      done = λ root. subst (λ (vs : List Visit). HasDone Dir (S.tree tree) root (S.may_fail tree) (S.faults tree) (S.faults tree) (S.calls tree) (S.calls tree) c.args.p.now 0 c.args.me.now c.args.me.now vs [] None false)
           (sym c.new-visits.ensures.items) (done_none Dir (S.tree tree) root (S.may_fail tree) (S.faults tree) (S.calls tree) c.args.p.now c.args.me.now);
     }
 
@@ -32,7 +33,7 @@ loop-preserved g c =
       tree_stays = c.walk_once.ensures.0 ∙ was.tree_stays;
       weak_stays = c.walk_once.ensures.1 ∙ was.weak_stays;
       done = λ root. done_along Dir (S.tree first) root (S.may_fail first) (S.faults first) (S.calls first) c.args.p.now c.args.me.now (S.tree now) (S.may_fail now) was.tree_stays was.weak_stays
-          (S.faults now) (S.faults then) (S.calls now) (S.calls then) 0 0 c.loop.me c.walk_once.new.me c.loop.visits.items c.walk_once.new.visits.items None None
+          (S.faults now) (S.faults then) (S.calls now) (S.calls then) 0 0 c.loop.me c.walk_once.new.me c.loop.visits.items c.walk_once.new.visits.items None None false false
           (was.done root) (c.in-Ok.ensures.2 root (S.faults first) (S.calls first) c.args.me.now);
     }
 
@@ -43,9 +44,15 @@ returns-in-Err g c = λ root.
     let then = c.walk_once.new.tree in
     let was = c.loop.invariant in
     let S = g.S.Tree in
-    let all = subst (λ (ps : List Index). HasDone Dir (S.tree first) root (S.may_fail first) (S.faults first) (S.faults then) (S.calls first) (S.calls then) c.args.p.now 0 c.args.me.now c.walk_once.new.me c.walk_once.new.visits.items ps c.in-Err.fault)
+    let end = c.in-Err.end in
+    let parts = c.parts-fault.ensures in
+    let all = subst (λ (ps : List Index). HasDone Dir (S.tree first) root (S.may_fail first) (S.faults first) (S.faults then) (S.calls first) (S.calls then) c.args.p.now 0 c.args.me.now c.walk_once.new.me c.walk_once.new.visits.items ps (fault_in end) (is_lost end))
     (sym c.new.ensures.items)
     (done_along Dir (S.tree first) root (S.may_fail first) (S.faults first) (S.calls first) c.args.p.now c.args.me.now (S.tree now) (S.may_fail now) was.tree_stays was.weak_stays
-    (S.faults now) (S.faults then) (S.calls now) (S.calls then) 0 0 c.loop.me c.walk_once.new.me c.loop.visits.items c.walk_once.new.visits.items None c.in-Err.fault
-    (was.done root) (c.in-Err.ensures.2 root (S.faults first) (S.calls first) c.args.me.now)) in
-    (c.walk_once.ensures.0 ∙ was.tree_stays, c.walk_once.ensures.1 ∙ was.weak_stays, all)
+    (S.faults now) (S.faults then) (S.calls now) (S.calls then) 0 0 c.loop.me c.walk_once.new.me c.loop.visits.items c.walk_once.new.visits.items None (fault_in end) false (is_lost end)
+    (was.done root) (c.in-Err.ensures.2 root (S.faults first) (S.calls first) c.args.me.now)) in (
+      c.walk_once.ensures.0 ∙ was.tree_stays,
+      c.walk_once.ensures.1 ∙ was.weak_stays,
+      subst (λ (o : Option Fault). HasDone Dir (S.tree first) root (S.may_fail first) (S.faults first) (S.faults then) (S.calls first) (S.calls then) c.args.p.now 0 c.args.me.now c.walk_once.new.me c.walk_once.new.visits.items c.new.result.items o c.parts-fault.result.1) (sym parts.fault)
+          (subst (λ (b : Bool). HasDone Dir (S.tree first) root (S.may_fail first) (S.faults first) (S.faults then) (S.calls first) (S.calls then) c.args.p.now 0 c.args.me.now c.walk_once.new.me c.walk_once.new.visits.items c.new.result.items (fault_in end) b) (sym parts.lost) all),
+    )

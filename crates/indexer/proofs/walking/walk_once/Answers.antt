@@ -1,5 +1,6 @@
-use Rattle.std.proofs.Common.{[], None, refl}
+use Rattle.std.proofs.Common.{[], None, false, refl}
 use Rattle.firefly_outside.specs.declared.tree.Kind.TheVariants.{Dir}
+use Rattle.indexer.specs.Walks.{fault_in, is_lost}
 use Rattle.indexer.proofs.Turning.{called_any, called_then, still_between}
 use Rattle.indexer.proofs.WalkSteps.{done_on}
 use Rattle.indexer.proofs.walking.walk_once.Goals as goal
@@ -23,7 +24,7 @@ returns-in_default g c = (
       let p = c.args.p.now in
       let o = S.tree tree in
       let me = c.args.me.now in
-      done_on Dir o root (S.may_fail tree) count before p a 0 (S.faults tree) (S.calls tree) me c.end_files.new.me c.args.visits.now.items None h
+      done_on Dir o root (S.may_fail tree) count before p a 0 (S.faults tree) (S.calls tree) me c.end_files.new.me c.args.visits.now.items None false h
       (called_then o root p 0 me c.next_dir.new.me c.end_files.new.me (called_any o root [] p 0 1 me c.next_dir.new.me (c.next_dir.ensures o root)) (c.end_files.ensures o root 0)),
 )
 
@@ -38,8 +39,8 @@ returns-then-give_found g c = (
       let p = c.args.p.now in
       let o = S.tree tree in
       let me = c.args.me.now in
-      done_on Dir o root (S.may_fail tree) count before p a 0 (S.faults after) (S.calls after) c.next_dir.new.me c.give_found.new.me c.list_one.new.visits.items None
-      (c.in-Ok.ensures.2 root count before p a c.next_dir.new.me (done_on Dir o root (S.may_fail tree) count before p a 1 (S.faults tree) (S.calls tree) me c.next_dir.new.me c.args.visits.now.items None h (c.next_dir.ensures o root)))
+      done_on Dir o root (S.may_fail tree) count before p a 0 (S.faults after) (S.calls after) c.next_dir.new.me c.give_found.new.me c.list_one.new.visits.items None false
+      (c.in-Ok.ensures.2 root count before p a c.next_dir.new.me (done_on Dir o root (S.may_fail tree) count before p a 1 (S.faults tree) (S.calls tree) me c.next_dir.new.me c.args.visits.now.items None false h (c.next_dir.ensures o root)))
       (c.give_found.ensures o root 0),
 )
 
@@ -54,8 +55,8 @@ returns-else-give_found g c = (
       let p = c.args.p.now in
       let o = S.tree tree in
       let me = c.args.me.now in
-      done_on Dir o root (S.may_fail tree) count before p a 0 (S.faults after) (S.calls after) c.next_dir.new.me c.give_found.new.me c.list_one.new.visits.items None
-      (c.in-Ok.ensures.2 root count before p a c.next_dir.new.me (done_on Dir o root (S.may_fail tree) count before p a 1 (S.faults tree) (S.calls tree) me c.next_dir.new.me c.args.visits.now.items None h (c.next_dir.ensures o root)))
+      done_on Dir o root (S.may_fail tree) count before p a 0 (S.faults after) (S.calls after) c.next_dir.new.me c.give_found.new.me c.list_one.new.visits.items None false
+      (c.in-Ok.ensures.2 root count before p a c.next_dir.new.me (done_on Dir o root (S.may_fail tree) count before p a 1 (S.faults tree) (S.calls tree) me c.next_dir.new.me c.args.visits.now.items None false h (c.next_dir.ensures o root)))
       (c.give_found.ensures o root 0),
 )
 
@@ -70,7 +71,7 @@ returns-in-Err g c = (
       let p = c.args.p.now in
       let o = S.tree tree in
       let me = c.args.me.now in
-      done_on Dir o root (S.may_fail tree) count before p a 0 (S.faults after) (S.calls after) c.next_dir.new.me c.cancel.new.me c.list_one.new.visits.items c.in-Err.fault
-      (c.in-Err.ensures.2 root count before p a c.next_dir.new.me (done_on Dir o root (S.may_fail tree) count before p a 1 (S.faults tree) (S.calls tree) me c.next_dir.new.me c.args.visits.now.items None h (c.next_dir.ensures o root)))
+      done_on Dir o root (S.may_fail tree) count before p a 0 (S.faults after) (S.calls after) c.next_dir.new.me c.cancel.new.me c.list_one.new.visits.items (fault_in c.in-Err.end) (is_lost c.in-Err.end)
+      (c.in-Err.ensures.2 root count before p a c.next_dir.new.me (done_on Dir o root (S.may_fail tree) count before p a 1 (S.faults tree) (S.calls tree) me c.next_dir.new.me c.args.visits.now.items None false h (c.next_dir.ensures o root)))
       (c.cancel.ensures o root 0),
 )
