@@ -1,4 +1,5 @@
 pub mod Orders
+pub mod Numerals
 pub mod Tokens
 pub mod Escaping
 pub mod Utf8
@@ -13,6 +14,7 @@ pub mod LineReads
 pub mod Taken
 pub mod Ordered
 pub mod Wholes
+pub mod Printed
 mod Due
 pub mod FileWords
 pub mod ReadBack

@@ -1,5 +1,5 @@
 -- The lines of an index text, read exactly.
-use Rattle.std.proofs.Common.{◌≡◌, ◌⊎◌, inl, inr, ℕ, ◌^◌, ◌<◌, List, [], ◌∷◌, ◌++◌, arith, refl, sym, ap, ◌∙◌, append_assoc, Option, None, Err}
+use Rattle.std.proofs.Common.{◌≡◌, ◌⊎◌, inl, inr, ℕ, ◌^◌, ◌<◌, ◌≤◌, List, [], ◌∷◌, ◌++◌, arith, refl, sym, ap, ◌∙◌, append_assoc, Option, None, Err}
 use Rattle.std.specs.Prelude.{codes, decimal}
 use Rattle.trace_core.specs.declared.line.Stop.TheVariants.{Dead}
 use Rattle.trace_core.specs.Codes.{IsCode}
@@ -7,8 +7,10 @@ use Rattle.trace_core.proofs.CodeLaws.{then_code, as_code, or_code, same_code, w
 use Rattle.trace_core.proofs.Numbers.{number_code}
 use Rattle.text_output.specs.Paths.{escaped, newline}
 use Rattle.index_print.specs.Text.{hit_line, skipped_line}
+use Rattle.index_reading.specs.Numerals.{numeral}
 use Rattle.index_reading.specs.Texts.{IsFigure, IsHit}
 use Rattle.index_reading.specs.Lines.{Heading, word, skipped, key_at, figure_at, word_heading_at, heading_at, hit_from, hit_at, skipped_at}
+use Rattle.index_reading.proofs.Numerals.{numeral_code}
 use Rattle.index_reading.proofs.WordCode.{IsLast, IsKey, key_code}
 use Rattle.index_reading.proofs.PathCode.{IsLastPath, IsNext, path_text, path_code, some_next}
 
@@ -19,11 +21,11 @@ one_figure : IsFigure 1
 one_figure = (omega arith, omega arith)
 
 abbrev pub heading_text : Heading → List ℕ
-heading_text (word w n) = w ++ codes " " ++ decimal n ++ newline
+heading_text (word w n) = w ++ codes " " ++ numeral n ++ newline
 heading_text (skipped p) = skipped_line p
 
 abbrev IsWordHeading : Option (List ℕ) → Heading → Type 0
-IsWordHeading last (word w n) = IsKey last w × IsFigure n
+IsWordHeading last (word w n) = IsKey last w × (1 ≤ n)
 IsWordHeading last (skipped p) = ⊥
 
 abbrev IsSkippedHeading : Heading → Type 0
@@ -31,19 +33,19 @@ IsSkippedHeading (word w n) = ⊥
 IsSkippedHeading (skipped p) = IsNext None p
 
 abbrev pub IsHeading : Option (List ℕ) → Heading → Type 0
-IsHeading last (word w n) = IsKey last w × IsFigure n
+IsHeading last (word w n) = IsKey last w × (1 ≤ n)
 IsHeading last (skipped p) = IsNext None p
 
-word_text : (w : List ℕ) (n : ℕ) → heading_text (word w n) ≡ (w ++ 32 ∷ []) ++ (decimal n ++ 10 ∷ [])
-word_text w n = append_assoc (w ++ 32 ∷ []) (decimal n) newline
+word_text : (w : List ℕ) (n : ℕ) → heading_text (word w n) ≡ (w ++ 32 ∷ []) ++ (numeral n ++ 10 ∷ [])
+word_text w n = append_assoc (w ++ 32 ∷ []) (numeral n) newline
 
-word_heading_from : (last : Option (List ℕ)) (x : Heading) → IsWordHeading last x → (p : List ℕ × ℕ) × (IsKey last p.0 × IsFigure p.1) × (x ≡ word p.0 p.1)
+word_heading_from : (last : Option (List ℕ)) (x : Heading) → IsWordHeading last x → (p : List ℕ × ℕ) × (IsKey last p.0 × (1 ≤ p.1)) × (x ≡ word p.0 p.1)
 word_heading_from last (word w n) h = ((w, n), h, refl)
 word_heading_from last (skipped p) h = absurd h
 
 word_heading_code : (last : Option (List ℕ)) → IsLast last → IsCode (IsWordHeading last) heading_text (word_heading_at last)
 word_heading_code last ok =
-    as_code (then_code (key_code last ok) (λ _ n. IsFigure n) (λ _ n. decimal n ++ 10 ∷ []) _ (λ _ _. figure_code 10 (omega arith)) (λ _ _. (1, one_figure)))
+    as_code (then_code (key_code last ok) (λ _ n. 1 ≤ n) (λ _ n. numeral n ++ 10 ∷ []) _ (λ _ _. numeral_code 10 (omega arith)) (λ _ _. (1, omega arith)))
     (λ p. word p.0 p.1) (IsWordHeading last) heading_text (λ p h. (h, word_text p.0 p.1)) (word_heading_from last)
 
 pub skipped_code : (last : Option (List ℕ)) → IsLastPath last → IsCode (IsNext last) skipped_line (skipped_at last)
@@ -59,9 +61,9 @@ no_key last rest = refl
 
 headings_apart : (last : Option (List ℕ)) → IsLast last → AreApart (IsWordHeading last) IsSkippedHeading heading_text
 headings_apart last ok (word w n) (skipped p) a b h k e =
-    let left : heading_text (word w n) ++ a ≡ (w ++ 32 ∷ []) ++ ((decimal n ++ 10 ∷ []) ++ a) = ap (λ l. l ++ a) (word_text w n) ∙ append_assoc (w ++ 32 ∷ []) (decimal n ++ 10 ∷ []) a in
+    let left : heading_text (word w n) ++ a ≡ (w ++ 32 ∷ []) ++ ((numeral n ++ 10 ∷ []) ++ a) = ap (λ l. l ++ a) (word_text w n) ∙ append_assoc (w ++ 32 ∷ []) (numeral n ++ 10 ∷ []) a in
     let right : skipped_line p ++ b ≡ codes "skipped: " ++ ((escaped p ++ newline) ++ b) = ap (λ l. l ++ b) (append_assoc (codes "skipped: ") (escaped p) newline) ∙ append_assoc (codes "skipped: ") (escaped p ++ newline) b in
-    let found = (key_code last ok).again w ((decimal n ++ 10 ∷ []) ++ a) h.0 in
+    let found = (key_code last ok).again w ((numeral n ++ 10 ∷ []) ++ a) h.0 in
     let dead = no_key last ((escaped p ++ newline) ++ b) in
     let same = ap (key_at last) (sym left ∙ e ∙ right) in
     let bad = sym found ∙ same ∙ dead in

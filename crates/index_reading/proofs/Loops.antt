@@ -7,13 +7,13 @@ use Rattle.trace_core.specs.Codes.{IsCode}
 use Rattle.trace_core.specs.Prefixes.{IsBrokenAt, IsCutShortAt}
 use Rattle.trace_core.proofs.Grammar.{Unfolds, broken, cut_short, broken_behind, cut_short_behind}
 use Rattle.word_index.specs.Index.{Hit, Row}
-use Rattle.index_print.specs.Text.{hit_line, word_line, row_text, skipped_line}
+use Rattle.index_print.specs.Text.{hit_line, skipped_line}
 use Rattle.index_table.specs.Rows.{paths_of, words_of}
 use Rattle.index_reading.specs.declared.fault.Stop.{Stop}
 use Rattle.index_reading.specs.declared.fault.Stop.TheVariants.{Memory, More, Dead}
 use Rattle.index_reading.specs.declared.fault.Halt.{Halt}
 use Rattle.index_reading.specs.declared.fault.Halt.TheVariants as halts
-use Rattle.index_reading.specs.Texts.{IsHit, AreHits, IsRow, AreRows, ArePaths}
+use Rattle.index_reading.specs.Texts.{IsHit, AreHits, IsRow, AreRows, ArePaths, word_line, row_text}
 use Rattle.index_reading.specs.Lines.{Heading, word, skipped, heading_at, hit_at, skipped_at}
 use Rattle.index_reading.specs.Steps.{IsRowsText, IsHitsText, IsSkippedText, Halts, halt_of}
 use Rattle.index_reading.proofs.WordCode.{IsLast}

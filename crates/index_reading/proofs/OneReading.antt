@@ -5,8 +5,8 @@ use Rattle.trace_core.specs.declared.line.Stop.{Stop}
 use Rattle.trace_core.specs.Codes.{IsCode}
 use Rattle.trace_core.proofs.CodeLaws.{ok_injective}
 use Rattle.word_index.specs.Index.{Hit, Row}
-use Rattle.index_print.specs.Text.{hit_line, word_line, row_text, skipped_line}
-use Rattle.index_reading.specs.Texts.{AreHits, AreRows, ArePaths, ReadsAs}
+use Rattle.index_print.specs.Text.{hit_line, skipped_line}
+use Rattle.index_reading.specs.Texts.{AreHits, AreRows, ArePaths, ReadsAs, word_line, row_text, text_of}
 use Rattle.index_reading.specs.Lines.{word, skipped}
 use Rattle.index_reading.proofs.WordCode.{IsLast}
 use Rattle.index_reading.proofs.PathCode.{IsLastPath}
@@ -39,9 +39,6 @@ one_hits last ok (h ∷ hs) (g ∷ gs) many a b x y e =
     let path = ap (λ (h : Hit). h.path) first.0 in
     let rest = one_hits (Some h.path) a.0.path hs gs (omega (arith, many)) a.1 (subst (λ p. AreHits (Some p) gs) (sym path) b.1) x y first.1 in
     ((λ i. first.0 i ∷ rest.0 i), rest.1)
-
-abbrev text_of : List Row → List (List ℕ) → List ℕ
-text_of rs ps = flat_map row_text rs ++ flat_map skipped_line ps
 
 -- the text of a row and what follows, behind the line of its word
 abbrev behind_word : Row → List Row → List (List ℕ) → List ℕ

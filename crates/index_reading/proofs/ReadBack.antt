@@ -15,6 +15,7 @@ use Rattle.index_print.specs.Text.{index_text}
 use Rattle.index_reading.specs.Texts.{IsWord, IsPath, IsFigure, IsAbove, AreHits, AreRows, ArePaths, ReadsAs}
 use Rattle.index_reading.specs.Laws.{IsFile, AreFiles}
 use Rattle.index_reading.proofs.FileWords.{file_counted}
+use Rattle.index_reading.proofs.Printed.{printed_from}
 
 -- what rises from the last text on, is told element by element
 module _ {X : Type 0} (key : X → List ℕ) where
@@ -109,10 +110,10 @@ module _ (files : List File) (index : Index) (are : AreFiles files) (of : IsInde
 
   reads_back : ReadsAs (index_text index) index.rows index.skipped
   reads_back = record {
-    rows = all_from (λ (r : Row). r.word) IsFilled AreRows (λ last. tt) (λ last r rs good above rest. (record { word = good.word; above = above; many = good.many; hits = good.hits }, rest))
+    rows = all_from (λ (r : Row). r.word) IsFilled AreRows (λ last. tt) (λ last r rs good above rest. (record { word = good.word; above = above; many = good.many.0; hits = good.hits }, rest))
         None index.rows (λ r k. tt) (rises_from (λ (r : Row). r.word) index.rows of.ordered.words) filled;
     skipped = all_from (λ (p : List ℕ). p) IsPath ArePaths (λ last. tt) (λ last p ps good above rest. ((good, above), rest)) None index.skipped (λ p k. tt) of.ordered.skipped skipped_path;
-    text = refl;
+    text = sym (printed_from index.skipped index.rows (λ r has. (filled r has).many.1));
   }
 
 pub read_back : (files : List File) (index : Index) → AreFiles files → IsIndexOf files index → ReadsAs (index_text index) index.rows index.skipped

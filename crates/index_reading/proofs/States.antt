@@ -1,5 +1,5 @@
 -- The rest of an index text, by what was read last.
-use Rattle.std.proofs.Common.{◌≡◌, ◌⊎◌, inl, inr, ℕ, zero, suc, ◌+◌, ◌%◌, ◌^◌, ◌<◌, ◌≤◌, List, [], ◌∷◌, ◌++◌, length, arith, refl, sym, ap, subst, ◌∙◌, append_assoc, Option, Some, None}
+use Rattle.std.proofs.Common.{◌≡◌, ◌⊎◌, inl, inr, ℕ, zero, suc, ◌+◌, ◌%◌, ◌^◌, ◌<◌, ◌≤◌, List, [], ◌∷◌, ◌++◌, length, arith, refl, sym, ap, ◌∙◌, append_assoc, Option, Some, None}
 use Rattle.std.specs.Prelude.{codes, decimal}
 use Rattle.std.specs.List.{flat_map}
 use Rattle.std.proofs.lemmas.Fmt.{decimal_by_steps}
@@ -7,10 +7,12 @@ use Rattle.trace_core.specs.Prefixes.{first_lines, IsBrokenAt, IsCutShortAt}
 use Rattle.trace_core.proofs.Grammar.{Unfolds, IsFlat, IsFlat-append, IsLine}
 use Rattle.text_output.specs.Paths.{escaped, newline}
 use Rattle.word_index.specs.Index.{Hit, Row}
-use Rattle.index_print.specs.Text.{hit_line, word_line, row_text, skipped_line}
-use Rattle.index_reading.specs.Texts.{IsFigure, IsHit}
+use Rattle.index_print.specs.Text.{hit_line, skipped_line}
+use Rattle.index_reading.specs.Numerals.{numeral}
+use Rattle.index_reading.specs.Texts.{IsHit, word_line, row_text}
 use Rattle.index_reading.specs.Lines.{Heading, word, skipped}
 use Rattle.index_reading.specs.Steps.{IsRowsText, IsHitsText, IsSkippedText}
+use Rattle.index_reading.proofs.Numerals.{numeral_by_steps}
 use Rattle.index_reading.proofs.Escaping.{escaped_passes, flat_passes}
 use Rattle.index_reading.proofs.WordCode.{Keys, low_key}
 use Rattle.index_reading.proofs.PathCode.{IsLastPath, IsNext, some_next}
@@ -20,6 +22,11 @@ use Rattle.index_reading.proofs.LineCodes.{IsHeading, heading_text}
 flat_decimal : (n : ℕ) → n < 2 ^ 64 → IsFlat (decimal n)
 flat_decimal n fits =
     decimal_by_steps (λ _ ds. IsFlat ds) (λ n small. ((λ h. omega arith), tt)) (λ n ds large h. IsFlat-append ds ((48 + n % 10) ∷ []) h ((λ k. omega arith), tt)) n fits
+
+-- nor has the number of a word's files one
+flat_numeral : (n : ℕ) → IsFlat (numeral n)
+flat_numeral n =
+    numeral_by_steps (λ _ ds. IsFlat ds) (λ n small. ((λ h. omega arith), tt)) (λ n ds large h. IsFlat-append ds ((48 + n % 10) ∷ []) h ((λ k. omega arith), tt)) n
 
 flat_word : (w : List ℕ) → Keys w → IsFlat w
 flat_word [] h = tt
@@ -41,7 +48,7 @@ skipped_is_line : (p : List ℕ) → IsLine (skipped_line p)
 skipped_is_line p = (codes "skipped: " ++ escaped p, IsFlat-append (codes "skipped: ") (escaped p) flat_skipped (flat_path p), refl)
 
 heading_is_line : (last : Option (List ℕ)) (x : Heading) → IsHeading last x → IsLine (heading_text x)
-heading_is_line last (word w n) h = (w ++ codes " " ++ decimal n, IsFlat-append (w ++ codes " ") (decimal n) (IsFlat-append w (codes " ") (flat_word w h.0.0.bytes) flat_blank) (flat_decimal n h.1.1), refl)
+heading_is_line last (word w n) h = (w ++ codes " " ++ numeral n, IsFlat-append (w ++ codes " ") (numeral n) (IsFlat-append w (codes " ") (flat_word w h.0.0.bytes) flat_blank) (flat_numeral n), refl)
 heading_is_line last (skipped p) h = skipped_is_line p
 
 hit_is_line : (last : Option (List ℕ)) (h : Hit) → IsHit last h → IsLine (hit_line h)
@@ -151,8 +158,8 @@ rows_back last bytes t = by t.heading t.lawful t.next t.is
         let rs = rows.0 in
         let ps = rows.1 in
         let tail = flat_map row_text rs ++ flat_map skipped_line ps in
-        let many : IsFigure (length hits) = subst IsFigure (sym n.2) l.1 in
-        let front : heading_text (word w m) ≡ word_line r = ap (λ k. w ++ codes " " ++ decimal k ++ newline) (sym n.2) in (
+        let many : 1 ≤ length hits = omega (arith, n.2, l.1) in
+        let front : heading_text (word w m) ≡ word_line r = ap (λ k. w ++ codes " " ++ numeral k ++ newline) (sym n.2) in (
           r ∷ rs,
           ps,
           (record { word = l.0.0; above = l.0.1; many = many; hits = n.3 }, rows.2),

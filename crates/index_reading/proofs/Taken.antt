@@ -1,19 +1,20 @@
 -- What was taken so far.
-use Rattle.std.proofs.Common.{◌≡◌, ℕ, ◌+◌, ◌-◌, ◌<◌, ◌≤◌, List, [], ◌∷◌, ◌++◌, length, arith, refl, sym, ap, subst, ◌∙◌, append_assoc, append-nil, length-append, Option, Some, None, Ok, Err, slice_get, Result}
+use Rattle.std.proofs.Common.{◌≡◌, ℕ, ◌+◌, ◌-◌, ◌^◌, ◌<◌, ◌≤◌, List, [], ◌∷◌, ◌++◌, length, arith, refl, sym, ap, subst, ◌∙◌, append_assoc, append-nil, length-append, Option, Some, None, Ok, Err, slice_get, Result}
 use Rattle.std.specs.List.{flat_map}
 use Rattle.std.specs.Borrow.{Bor}
 use Rattle.std.proofs.lemmas.List.{length_push}
 use Rattle.std.proofs.lemmas.List.Concat.{flat_map-append}
 use Rattle.word_index.specs.Index.{Hit, Row}
-use Rattle.index_print.specs.Text.{hit_line, word_line, row_text, skipped_line}
+use Rattle.index_print.specs.Text.{hit_line, skipped_line}
 use Rattle.index_table.specs.Rows.{Drafted, paths_of}
 use Rattle.index_reading.specs.declared.fault.Stop.{Stop}
 use Rattle.index_reading.specs.declared.fault.Stop.TheVariants.{Memory, More, Dead}
 use Rattle.index_reading.specs.declared.fault.Halt.{Halt}
-use Rattle.index_reading.specs.Texts.{IsFigure, AreHits, AreRows, ArePaths, IsAbove}
+use Rattle.index_reading.specs.Numerals.{numeral, capped}
+use Rattle.index_reading.specs.Texts.{AreHits, AreRows, ArePaths, IsAbove, word_line, row_text}
 use Rattle.index_reading.specs.Lines.{Heading, word, skipped, heading_at, hit_at, skipped_at}
 use Rattle.index_reading.specs.Steps.{IsRowsText, IsHitsText, IsSkippedText, Halts, halt_of, Stops, TakesHit, TakesSkipped, TakesHits, TakesPaths, TakesRow, TakesRows, last_word, last_skipped}
-use Rattle.std.specs.Prelude.{codes, decimal}
+use Rattle.std.specs.Prelude.{codes}
 use Rattle.text_output.specs.Paths.{newline}
 use Rattle.index_reading.proofs.States.{Behind}
 use Rattle.index_reading.proofs.WordCode.{IsLast}
@@ -73,18 +74,20 @@ hits_next {bytes} {many} {lines} {old} {now} {left} {line} {rest} t new after h 
       room = omega (arith, t.room, long, r.shorter);
     }
 
+-- so many hits as a counter can't count have no room in the bytes
 pub hits_end : {bytes : List ℕ} {many lines : ℕ} {old now : Drafted} {left line : ℕ} {rest : List ℕ} → TakenHits bytes many lines old now left line rest
-    → (w : List ℕ) (r : Bor (List ℕ)) → r.now ≡ rest → left ≡ 0 → TakesHits w many lines old now bytes (Ok r)
-hits_end {bytes} {many} {lines} {old} {now} t w r e none = (now.hits, omega (arith, t.count, none), t.are, t.text ∙ ap (λ l. flat_map hit_line now.hits ++ l) (sym e), t.kept)
+    → (w : List ℕ) (r : Bor (List ℕ)) → r.now ≡ rest → left ≡ 0 → length bytes + 1 < 2 ^ 64 → (n : ℕ) → many ≡ capped n → TakesHits w n lines old now bytes (Ok r)
+hits_end {bytes} {many} {lines} {old} {now} t w r e none short n c = (now.hits, omega (arith, t.count, none, t.room, short, c), t.are, t.text ∙ ap (λ l. flat_map hit_line now.hits ++ l) (sym e), t.kept)
 
 pub hits_stop : {bytes : List ℕ} {many lines : ℕ} {old now : Drafted} {left line : ℕ} {rest : List ℕ} → TakenHits bytes many lines old now left line rest
-    → (w : List ℕ) (new last : Drafted) (stop : Stop) → TakesHit now new rest (Err stop) → 0 < left → TakesHits w many lines old last bytes (Err (halt_of stop (line + 1)))
-hits_stop {bytes} {many} {lines} {old} {now} {left} {line} {rest} t w new last stop h some =
+    → (w : List ℕ) (new last : Drafted) (stop : Stop) → TakesHit now new rest (Err stop) → 0 < left → (n : ℕ) → many ≡ capped n → TakesHits w n lines old last bytes (Err (halt_of stop (line + 1)))
+hits_stop {bytes} {many} {lines} {old} {now} {left} {line} {rest} t w new last stop h some n c =
     let e = end_path_is now.hits in
     let end = end_path None now.hits in
-    let reach = reach_hits w None now.hits tt t.are left rest many t.count in
-    let here = hits_halt w end left (path_stays None now.hits tt t.are) some rest stop (stops stop (subst (λ l. Stops (hit_at l rest) stop) (sym e) h)) line in
-    subst (λ b. Halts (IsHitsText w many None) lines b (halt_of stop (line + 1))) (sym t.text) (behind_halt reach lines line t.lined (halt_of stop (line + 1)) here)
+    let more = n - length now.hits in
+    let reach = reach_hits w None now.hits tt t.are more rest n (omega (arith, t.count, some, c)) in
+    let here = hits_halt w end more (path_stays None now.hits tt t.are) (omega (arith, t.count, some, c)) rest stop (stops stop (subst (λ l. Stops (hit_at l rest) stop) (sym e) h)) line in
+    subst (λ b. Halts (IsHitsText w n None) lines b (halt_of stop (line + 1))) (sym t.text) (behind_halt reach lines line t.lined (halt_of stop (line + 1)) here)
   where
     stops : (s : Stop) → Stops (hit_at (end_path None now.hits) rest) s → StopsAt (hit_at (end_path None now.hits)) rest s
     stops Memory h = tt
@@ -213,22 +216,26 @@ pub hits_room : (hs : List Hit) (bytes rest : List ℕ) → bytes ≡ flat_map h
 hits_room hs bytes rest e = omega (arith, ap length e, length-append (flat_map hit_line hs) rest, hits_long hs)
 
 pub rows_next : {bytes : List ℕ} {now : Drafted} {line : ℕ} {rest : List ℕ} → TakenRows bytes now line rest
-    → (w after : List ℕ) (n : ℕ) → heading_at (last_word now) rest ≡ Ok (word w n, after) → (new : Drafted) (end : Bor (List ℕ)) → TakesRow w n (line + 1) now new after (Ok end) → TakenRows bytes new (line + 1 + n) end.now
-rows_next {bytes} {now} {line} {rest} t w after n e new end h =
+    → (w after : List ℕ) (n : ℕ) → heading_at (last_word now) rest ≡ Ok (word w n, after) → (new : Drafted) (end : Bor (List ℕ)) → TakesRow w n (line + 1) now new after (Ok end)
+    → (many : ℕ) → many ≡ capped n → length bytes + 1 < 2 ^ 64 → TakenRows bytes new (line + 1 + many) end.now
+rows_next {bytes} {now} {line} {rest} t w after n e new end h many c short =
     let r = heading_read now (word w n) rest after t.are e in
     let row : Row = record { word = w; hits = h.0 } in
     let rows : new.rows ≡ now.rows ++ row ∷ [] = ap (λ (d : Drafted). d.rows) h.4 in
     let above = subst (λ o. IsAbove o w) (sym (end_word_is now.rows)) r.lawful.0.1 in
-    let many : IsFigure (length h.0) = subst IsFigure (sym h.1) r.lawful.1 in
-    let front : heading_text (word w n) ≡ word_line row = ap (λ k. w ++ codes " " ++ decimal k ++ newline) (sym h.1) in
+    let room = hits_room h.0 after end.now h.3 in
+    let front_room = heading_room (word w n) rest after r.is in
+    let counted : many ≡ length h.0 = omega (arith, c, h.1, room, front_room, t.room, short) in
+    let some : 1 ≤ length h.0 = omega (arith, h.1, r.lawful.1) in
+    let front : heading_text (word w n) ≡ word_line row = ap (λ k. w ++ codes " " ++ numeral k ++ newline) (sym h.1) in
     let text : rest ≡ row_text row ++ end.now = r.is ∙ (λ i. front i ++ h.3 i) ∙ sym (append_assoc (word_line row) (flat_map hit_line h.0) end.now) in
     record {
-      are = subst (AreRows None) (sym rows) (rows_push None now.rows row t.are (record { word = r.lawful.0.0; above = above; many = many; hits = h.2 }));
+      are = subst (AreRows None) (sym rows) (rows_push None now.rows row t.are (record { word = r.lawful.0.0; above = above; many = some; hits = h.2 }));
       hits = ap (λ (d : Drafted). d.hits) h.4;
       skips = ap (λ (d : Drafted). d.skipped) h.4 ∙ t.skips;
       text = t.text ∙ ap (λ l. flat_map row_text now.rows ++ l) text ∙ sym (lines_append row_text now.rows row end.now) ∙ ap (λ l. flat_map row_text l ++ end.now) (sym rows);
-      lined = omega (arith, t.lined, lines_push now.rows row, ap lines_of rows, h.1);
-      room = omega (arith, t.room, heading_room (word w n) rest after r.is, hits_room h.0 after end.now h.3, h.1);
+      lined = omega (arith, t.lined, lines_push now.rows row, ap lines_of rows, counted);
+      room = omega (arith, t.room, front_room, room, counted);
     }
 
 pub rows_end : {bytes : List ℕ} {now : Drafted} {line : ℕ} {rest : List ℕ} → TakenRows bytes now line rest → length rest ≡ 0 → TakesRows now bytes (Ok tt)

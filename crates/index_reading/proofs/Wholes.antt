@@ -2,14 +2,14 @@
 use Rattle.std.proofs.Common.{◌≡◌, ◌∙◌, ℕ, List, ◌++◌, sym, subst, arith}
 use Rattle.std.specs.List.{flat_map}
 use Rattle.word_index.specs.Index.{Row}
-use Rattle.index_print.specs.Text.{row_text, skipped_line}
+use Rattle.index_print.specs.Text.{skipped_line}
 use Rattle.index_reading.specs.declared.fault.Halt.{Halt}
-use Rattle.index_reading.specs.Texts.{ReadsAs, IsIndexText, AreRows, ArePaths}
+use Rattle.index_reading.specs.Texts.{ReadsAs, IsIndexText, AreRows, ArePaths, row_text, text_of}
 use Rattle.index_reading.specs.Steps.{IsRowsText, Halts}
 use Rattle.index_reading.proofs.Loops.{reach_same, behind_halt}
 use Rattle.std.specs.Prelude.{None}
 
-pub reads_as : (bytes : List ℕ) (rs : List Row) (ps : List (List ℕ)) (rs' : List Row) (ps' : List (List ℕ)) → rs' ≡ rs → ps' ≡ ps → AreRows None rs → ArePaths None ps → bytes ≡ flat_map row_text rs ++ flat_map skipped_line ps → ReadsAs bytes rs' ps'
+pub reads_as : (bytes : List ℕ) (rs : List Row) (ps : List (List ℕ)) (rs' : List Row) (ps' : List (List ℕ)) → rs' ≡ rs → ps' ≡ ps → AreRows None rs → ArePaths None ps → bytes ≡ text_of rs ps → ReadsAs bytes rs' ps'
 reads_as bytes rs ps rs' ps' e f rows paths text = record {
   rows = subst (AreRows None) (sym e) rows;
   skipped = subst (ArePaths None) (sym f) paths;

@@ -1,5 +1,5 @@
 -- Why an index isn't read.
-use Rattle.std.specs.Prelude.{ℕ, ◌<◌, List, length, take, IfSome}
+use Rattle.std.specs.Prelude.{◌≡◌, ◌≢◌, ℕ, ◌<◌, ◌≤◌, List, length, take, IfErr, IfSome, OnOk, Result}
 use Rattle.std.specs.declared.option.Option.{Option}
 use Rattle.firefly_outside.specs.Causes.{Rose}
 use Rattle.trace_core.specs.Prefixes.{Begins}
@@ -20,6 +20,12 @@ HasReason left before now Memory = Unit {0}
 HasReason left before now (BadLine k) = IfSome left (λ input. IsShown IsIndexText budget input k)
 HasReason left before now TooLong = IfSome left (λ input. (budget < length input) × Begins IsIndexText (take budget input))
 HasReason left before now Read = Rose before now
+
+-- A failed read is told: the count of faults never falls, and rises only where the call tells a failed read.
+pub record IsTold {T : Type 0} (before now : ℕ) (result : Result T IndexFault) : Type 0 where
+  pub later : before ≤ now
+  pub unfailed : OnOk result (now ≡ before)
+  pub otherwise : IfErr result (λ fault. fault ≢ Read → now ≡ before)
 
 -- the fault of a halt in bytes that are the whole input
 abbrev pub whole_fault_of : Halt → IndexFault

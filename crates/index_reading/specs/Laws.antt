@@ -1,9 +1,10 @@
 -- What index texts are to indexes.
-use Rattle.std.specs.Prelude.{◌≡◌, ℕ, ◌^◌, ◌<◌, List, length}
+use Rattle.std.specs.Prelude.{◌≡◌, ℕ, ◌^◌, ◌<◌, List, length, decimal}
 use Rattle.std.specs.List.{All}
 use Rattle.word_index.specs.Index.{File, Row, Index, IsIndexOf}
 use Rattle.index_print.specs.Text.{index_text}
-use Rattle.index_reading.specs.Texts.{IsPath, ReadsAs}
+use Rattle.index_reading.specs.Numerals.{numeral}
+use Rattle.index_reading.specs.Texts.{IsPath, ReadsAs, text_of}
 
 -- a file with a path on a line, and few enough bytes to count
 pub record IsFile (file : File) : Type 0 where
@@ -21,3 +22,11 @@ IndexTextsAreRead = (files : List File) (index : Index) → AreFiles files → I
 -- a text reads as one index only
 abbrev pub TextsReadAsOne : Type 0
 TextsReadAsOne = (bytes : List ℕ) (rs qs : List Row) (ps ss : List (List ℕ)) → ReadsAs bytes rs ps → ReadsAs bytes qs ss → (rs ≡ qs) × (ps ≡ ss)
+
+-- where each row has fewer files than 2 to the power of 64, the text is the one that is printed
+abbrev pub TextsArePrinted : Type 0
+TextsArePrinted = (index : Index) → All (λ r. length r.hits < 2 ^ 64) index.rows → text_of index.rows index.skipped ≡ index_text index
+
+-- the digits of a number of 64 bits are those that are printed
+abbrev pub NumeralsArePrinted : Type 0
+NumeralsArePrinted = (n : ℕ) → n < 2 ^ 64 → numeral n ≡ decimal n

@@ -8,6 +8,7 @@ use Rattle.std.specs.Str.{is_utf8}
 use Rattle.trace_core.specs.declared.line.Stop.TheVariants.{More, Dead}
 use Rattle.trace_core.specs.Reading.{Reader, after_word, both, as_value, either, number_at}
 use Rattle.word_index.specs.Index.{Hit}
+use Rattle.index_reading.specs.Numerals.{numeral_at, capped}
 use Rattle.index_reading.specs.Texts.{is_key_byte}
 
 module _ (ok : ℕ → Bool) (good grow : List ℕ → Bool) (stop : ℕ) where
@@ -121,10 +122,18 @@ pub data Heading : Type 0 where
   skipped : List ℕ → Heading
 
 abbrev pub key_line_at : Option (List ℕ) → Reader (List ℕ × ℕ)
-key_line_at last = both (key_at last) (λ _. figure_at 10)
+key_line_at last = both (key_at last) (λ _. numeral_at 10)
 
 abbrev pub word_heading_at : Option (List ℕ) → Reader Heading
 word_heading_at last = as_value (λ p. word p.0 p.1) (key_line_at last)
 
 abbrev pub heading_at : Option (List ℕ) → Reader Heading
 heading_at last = either (word_heading_at last) (as_value skipped (skipped_at None))
+
+-- the same with the number of files as far as a counter goes
+abbrev pub capped_line : List ℕ × ℕ → List ℕ × ℕ
+capped_line p = (p.0, capped p.1)
+
+abbrev pub capped_heading : Heading → Heading
+capped_heading (word w n) = word w (capped n)
+capped_heading (skipped path) = skipped path

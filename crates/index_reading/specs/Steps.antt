@@ -6,7 +6,7 @@ use Rattle.trace_core.specs.declared.line.Stop as trace
 use Rattle.trace_core.specs.declared.line.Stop.TheVariants as stops
 use Rattle.trace_core.specs.Prefixes.{IsBrokenAt, IsCutShortAt}
 use Rattle.word_index.specs.Index.{Hit, Row}
-use Rattle.index_print.specs.Text.{hit_line, row_text, skipped_line}
+use Rattle.index_print.specs.Text.{hit_line, skipped_line}
 use Rattle.index_table.specs.Rows.{Drafted, paths_of, words_of}
 use Rattle.index_reading.specs.declared.fault.Stop.{Stop}
 use Rattle.index_reading.specs.declared.fault.Stop.TheVariants.{Memory, More, Dead}
@@ -14,7 +14,7 @@ use Rattle.index_reading.specs.declared.fault.Halt.{Halt}
 use Rattle.index_reading.specs.declared.fault.Halt.TheVariants as halts
 use Rattle.index_reading.specs.declared.lines.Front.{Front}
 use Rattle.index_reading.specs.declared.lines.Front.TheVariants as fronts
-use Rattle.index_reading.specs.Texts.{AreHits, AreRows, ArePaths}
+use Rattle.index_reading.specs.Texts.{AreHits, AreRows, ArePaths, text_of}
 use Rattle.index_reading.specs.Lines.{Heading, word, skipped, hit_at, skipped_at}
 
 -- what a function returned, seen by view, is what reading gives
@@ -63,7 +63,7 @@ TakesSkipped old new bytes (Err stop) = Stops (skipped_at (last_skipped old) byt
 
 -- the bytes are the text of rows above the last word, and of skipped paths
 abbrev pub IsRowsText : Option (List ℕ) → List ℕ → Type 0
-IsRowsText last bytes = (rows : List Row) × (paths : List (List ℕ)) × AreRows last rows × ArePaths None paths × (bytes ≡ flat_map row_text rows ++ flat_map skipped_line paths)
+IsRowsText last bytes = (rows : List Row) × (paths : List (List ℕ)) × AreRows last rows × ArePaths None paths × (bytes ≡ text_of rows paths)
 
 -- so many hits above the last path, and then rows above this word
 abbrev pub IsHitsText : List ℕ → ℕ → Option (List ℕ) → List ℕ → Type 0
@@ -96,5 +96,5 @@ TakesPaths lines old new bytes (Err halt) = Halts (IsSkippedText (last_skipped o
 
 -- rows and skipped paths were taken up to the end
 abbrev pub TakesRows : Drafted → List ℕ → Result (Unit {0}) Halt → Type 0
-TakesRows new bytes (Ok u) = AreRows None new.rows × ArePaths None new.skipped × (new.hits ≡ []) × (bytes ≡ flat_map row_text new.rows ++ flat_map skipped_line new.skipped)
+TakesRows new bytes (Ok u) = AreRows None new.rows × ArePaths None new.skipped × (new.hits ≡ []) × (bytes ≡ text_of new.rows new.skipped)
 TakesRows new bytes (Err halt) = Halts (IsRowsText None) 0 bytes halt

@@ -1,10 +1,12 @@
 -- Index texts, and the index that each of them reads as.
-use Rattle.std.specs.Prelude.{◌≡◌, ℕ, ◌^◌, ◌<◌, ◌≤◌, Bool, true, List, [], ◌∷◌, length, ◌==◌, ◌||◌, Option, Some, None}
-use Rattle.std.specs.List.{AllByRecursion}
+use Rattle.std.specs.Prelude.{◌≡◌, ℕ, ◌^◌, ◌<◌, ◌≤◌, Bool, true, List, [], ◌∷◌, ◌++◌, length, ◌==◌, ◌||◌, codes, Option, Some, None}
+use Rattle.std.specs.List.{AllByRecursion, flat_map}
 use Rattle.std.specs.Str.{IsUtf8}
 use Rattle.word_index.specs.Index.{Hit, Row, IsBelow}
 use Rattle.word_index.specs.Words.{in_range}
-use Rattle.index_print.specs.Text.{index_text}
+use Rattle.text_output.specs.Paths.{newline}
+use Rattle.index_print.specs.Text.{hit_line, skipped_line}
+use Rattle.index_reading.specs.Numerals.{numeral}
 
 -- a letter in lower case, a digit or `_`
 abbrev pub is_key_byte : ℕ → Bool
@@ -19,7 +21,7 @@ pub record IsPath (path : List ℕ) : Type 0 where
   pub some : 0 < length path
   pub text : IsUtf8 path
 
--- a number of a line
+-- a count or a first line
 abbrev pub IsFigure : ℕ → Type 0
 IsFigure n = (1 ≤ n) × (n < 2 ^ 64)
 
@@ -42,7 +44,7 @@ AreHits last (hit ∷ hits) = IsHit last hit × AreHits (Some hit.path) hits
 pub record IsRow (last : Option (List ℕ)) (row : Row) : Type 0 where
   pub word : IsWord row.word
   pub above : IsAbove last row.word
-  pub many : IsFigure (length row.hits)
+  pub many : 1 ≤ length row.hits
   pub hits : AreHits None row.hits
 
 -- the words of rows rise from the last one on
@@ -55,11 +57,22 @@ abbrev pub ArePaths : Option (List ℕ) → List (List ℕ) → Type 0
 ArePaths last [] = Unit {0}
 ArePaths last (path ∷ paths) = (IsPath path × IsAbove last path) × ArePaths (Some path) paths
 
+-- a word and the number of its files, however large
+abbrev pub word_line : Row → List ℕ
+word_line row = row.word ++ codes " " ++ numeral (length row.hits) ++ newline
+
+abbrev pub row_text : Row → List ℕ
+row_text row = word_line row ++ flat_map hit_line row.hits
+
+-- the words in order with their files, and then the skipped files
+abbrev pub text_of : List Row → List (List ℕ) → List ℕ
+text_of rows skipped = flat_map row_text rows ++ flat_map skipped_line skipped
+
 -- the bytes are the text of these rows and skipped paths
 pub record ReadsAs (bytes : List ℕ) (rs : List Row) (ps : List (List ℕ)) : Type 0 where
   pub rows : AreRows None rs
   pub skipped : ArePaths None ps
-  pub text : bytes ≡ index_text (record { paths = []; skipped = ps; rows = rs })
+  pub text : bytes ≡ text_of rs ps
 
 abbrev pub IsIndexText : List ℕ → Type 0
 IsIndexText bytes = (rows : List Row) × (skipped : List (List ℕ)) × ReadsAs bytes rows skipped

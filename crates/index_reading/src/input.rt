@@ -1,6 +1,6 @@
 //! The bytes of a source, as far as they are needed.
 ghost use Rattle.std.specs.Prelude.{◌≡◌, ◌<◌, ◌≤◌, length, IfOk, IfErr, IfSome};
-ghost use Rattle.index_reading.specs.Faults.{budget, HasReason};
+ghost use Rattle.index_reading.specs.Faults.{budget, HasReason, IsTold};
 ghost use Rattle.index_reading.specs.Input.{IsTaken, Takes};
 
 use crate::fault::IndexFault;
@@ -21,6 +21,7 @@ fn take_piece<I: Source>(
 ) -> Result<bool, IndexFault>
     requires { 0 < length piece.old }
     ensures taken { Takes (I.left input.old) (I.left input.new) (I.faults input.old) (I.faults input.new) bytes.old.items bytes.new.items result }
+    ensures told { IsTold (I.faults input.old) (I.faults input.new) result }
     ensures piece { length piece.new ≡ length piece.old }
 {
     match input.next(piece) {
@@ -37,6 +38,7 @@ fn take_piece<I: Source>(
 pub fn take_input<I: Source>(alloc: Global, input: &mut I) -> Result<Vec<u8>, IndexFault>
     ensures bytes { IfOk result (λ v. IfSome (I.left input.old) (IsTaken v.items)) }
     ensures fault { IfErr result (HasReason (I.left input.old) (I.faults input.old) (I.faults input.new)) }
+    ensures told { IsTold (I.faults input.old) (I.faults input.new) result }
 {
     let mut bytes = Vec::new(alloc);
     let mut piece = [0; PIECE];

@@ -1,5 +1,5 @@
 //! Laws of index texts.
-ghost use Rattle.index_reading.specs.Laws.{IndexTextsAreRead, TextsReadAsOne};
+ghost use Rattle.index_reading.specs.Laws.{IndexTextsAreRead, NumeralsArePrinted, TextsArePrinted, TextsReadAsOne};
 
 /// The text of an index of files is an index text, and reads as the rows and skipped paths of that index.
 ///
@@ -11,4 +11,14 @@ pub fn an_index_text_is_read()
 /// A text reads as one index: rows and skipped paths that it reads as are the only ones.
 pub fn a_text_reads_as_one()
     ensures { TextsReadAsOne }
+{}
+
+/// The text of rows with fewer files than 2 to the power of 64 each is the one that an index is printed as.
+pub fn a_text_is_the_printed_one()
+    ensures { TextsArePrinted }
+{}
+
+/// The digits of a number of 64 bits are those that it is printed as.
+pub fn a_numeral_is_the_printed_one()
+    ensures { NumeralsArePrinted }
 {}

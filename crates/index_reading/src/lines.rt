@@ -1,18 +1,19 @@
 //! The lines of an index text.
 ghost use Rattle.std.specs.Prelude.{◌≡◌, ◌∷◌, ◌++◌, [], OnOk};
 ghost use Rattle.std.specs.Option.{option_copied};
-ghost use Rattle.index_reading.specs.Lines.{heading_at, key_line_at, skipped_at, hit_front_at};
+ghost use Rattle.trace_core.specs.Reading.{as_value};
+ghost use Rattle.index_reading.specs.Lines.{capped_heading, capped_line, heading_at, key_line_at, skipped_at, hit_front_at};
 ghost use Rattle.index_reading.specs.Steps.{Gives, TakesHit, TakesSkipped, heading_of};
 
 use crate::fault::Stop;
 use crate::key::key;
 use crate::path::path;
-use crate::token::{figure, word};
+use crate::token::{capped_numeral, figure, word};
 use index_table::Draft;
 use std::alloc::AllocError;
 use std::str::from_utf8;
 
-/// The front of a row, or a skipped path.
+/// The front of a row with its number of files as far as a counter goes, or a skipped path.
 #[derive(Clone, Copy)]
 pub enum Front<'b> {
     Word { word: &'b [u8], many: u64 },
@@ -29,15 +30,16 @@ fn bytes_of(last: Option<&str>) -> Option<&[u8]>
     }
 }
 
-// Reads the line of a word: the word, its number of files and what follows.
+// Reads the line of a word: the word, its number of files as far as a counter goes, and what follows.
 fn word_line<'b>(bytes: &'b [u8], last: Option<&[u8]>) -> Result<(&'b [u8], u64, &'b [u8]), Stop>
-    ensures { Gives (λ x. ((x.0.now, x.1), x.2.now)) result (key_line_at (option_copied last.entry) bytes.now) }
+    ensures { Gives (λ x. ((x.0.now, x.1), x.2.now)) result
+        (as_value capped_line (key_line_at (option_copied last.entry)) bytes.now) }
 {
     let (name, rest) = match key(bytes, last) {
         Ok(read) => read,
         Err(stop) => return Err(stop),
     };
-    match figure(rest, b'\n') {
+    match capped_numeral(rest, b'\n') {
         Ok((many, rest)) => Ok((name, many, rest)),
         Err(stop) => Err(stop),
     }
@@ -63,7 +65,8 @@ pub fn heading<'b>(
     last: Option<&[u8]>,
     out: &mut Vec<u8>,
 ) -> Result<(Front<'b>, &'b [u8]), Stop>
-    ensures { Gives (λ x. (heading_of out.new.items x.0, x.1.now)) result (heading_at (option_copied last.entry) bytes.now) }
+    ensures { Gives (λ x. (heading_of out.new.items x.0, x.1.now)) result
+        (as_value capped_heading (heading_at (option_copied last.entry)) bytes.now) }
 {
     match word_line(bytes, last) {
         Err(Stop::Dead) => {}

@@ -1,6 +1,7 @@
 //! Whole index texts.
-ghost use Rattle.std.specs.Prelude.{◌≡◌, ◌+◌, ◌<◌, ◌^◌, [], length, None, IfOk, IfErr};
-ghost use Rattle.index_reading.specs.Texts.{ReadsAs, IsIndexText, IsFigure, ArePaths};
+ghost use Rattle.std.specs.Prelude.{◌≡◌, ℕ, ◌+◌, ◌<◌, ◌≤◌, ◌^◌, [], length, None, IfOk, IfErr};
+ghost use Rattle.index_reading.specs.Numerals.{capped};
+ghost use Rattle.index_reading.specs.Texts.{ReadsAs, IsIndexText, ArePaths};
 ghost use Rattle.index_reading.specs.Steps.{Halts, TakesHits, TakesPaths, TakesRow, TakesRows, halt_of};
 
 use crate::fault::{Halt, Stop};
@@ -19,7 +20,7 @@ fn halt_at(stop: Stop, line: u64) -> Halt
     }
 }
 
-// Takes so many hits of a row, behind so many lines.
+// Takes so many hits of a row, behind so many lines. Where the counter stands at its end for more of them, the bytes end first.
 fn take_hits<'b>(
     bytes: &'b [u8],
     word: &[u8],
@@ -29,9 +30,9 @@ fn take_hits<'b>(
     out: &mut Vec<u8>,
 ) -> Result<&'b [u8], Halt>
     requires none { draft.old.hits ≡ [] }
-    requires many { IsFigure many }
+    requires many { 1 ≤ many }
     requires short { lines + length bytes.now + 1 < 2 ^ 64 }
-    ensures { TakesHits word.now many lines draft.old draft.new bytes.now result }
+    ensures { (n : ℕ) → many ≡ capped n → TakesHits word.now n lines draft.old draft.new bytes.now result }
 {
     let _ = word;
     let mut rest = bytes;
@@ -48,7 +49,7 @@ fn take_hits<'b>(
     Ok(rest)
 }
 
-// Takes a row behind its first line and so many lines.
+// Takes a row of so many hits behind its first line and so many lines.
 fn take_row<'b>(
     bytes: &'b [u8],
     word: &[u8],
@@ -58,9 +59,9 @@ fn take_row<'b>(
     out: &mut Vec<u8>,
 ) -> Result<&'b [u8], Halt>
     requires none { draft.old.hits ≡ [] }
-    requires many { IsFigure many }
+    requires many { 1 ≤ many }
     requires short { lines + length bytes.now + 1 < 2 ^ 64 }
-    ensures { TakesRow word.now many lines draft.old draft.new bytes.now result }
+    ensures { (n : ℕ) → many ≡ capped n → TakesRow word.now n lines draft.old draft.new bytes.now result }
 {
     match take_hits(bytes, word, many, lines, draft, out) {
         Ok(rest) => match draft.end_row(word) {

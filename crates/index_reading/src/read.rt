@@ -1,6 +1,6 @@
 //! An index from a source.
 ghost use Rattle.std.specs.Prelude.{◌≡◌, ◌<◌, ◌≤◌, length, IfOk, IfErr, IfSome};
-ghost use Rattle.index_reading.specs.Faults.{budget, HasReason, whole_fault_of, front_fault_of};
+ghost use Rattle.index_reading.specs.Faults.{budget, HasReason, IsTold, whole_fault_of, front_fault_of};
 ghost use Rattle.index_reading.specs.Input.{IsDue};
 ghost use Rattle.index_reading.specs.Texts.{ReadsAs};
 
@@ -61,10 +61,12 @@ fn front_reason(alloc: Global, bytes: &[u8]) -> IndexFault
 ///
 /// A bad line is the first at which the input is no front of an index text; where it ends too early, the line that was to go on.
 /// It is told where the first 67,108,864 bytes show it, or the end of the input within them. `TooLong` says that more bytes come and
-/// that these begin an index text, and `Read` that the source failed.
+/// that these begin an index text, and `Read` that the source failed:
+/// where anything else is answered it has not.
 pub fn read_index<I: Source>(alloc: Global, input: &mut I) -> Result<Index, IndexFault>
     ensures index { IfOk result (λ i. IfSome (I.left input.old) (λ bytes. (length bytes ≤ budget) × ReadsAs bytes i.rows i.skipped)) }
     ensures fault { IfErr result (HasReason (I.left input.old) (I.faults input.old) (I.faults input.new)) }
+    ensures told { IsTold (I.faults input.old) (I.faults input.new) result }
 {
     let bytes = take_input(alloc, input)?;
     if bytes.len() <= BUDGET {
