@@ -3,7 +3,7 @@ ghost use Rattle.std.specs.Prelude.{map};
 ghost use Rattle.std.specs.String.{string_bytes};
 ghost use Rattle.command_endings.specs.Changes.{change_of};
 ghost use Rattle.query_reading.specs.Postfix.{tree_of};
-ghost use Rattle.find_command.specs.Find.{PrintsFound, EndsBy, FindAnswers, Decided};
+ghost use Rattle.find_command.specs.Find.{PrintsFound, EndsBy, FindAnswers, Decided, TellsFault};
 
 use crate::lines::print_paths;
 use command_endings::{Ending, Status, ends};
@@ -36,8 +36,9 @@ fn answer<I: Source, O: Sink, N: Sink>(
     out: &mut O,
     notes: &mut N,
 ) -> Status
-    ensures { EndsBy (tree_of query.now) (change_of I.left I.faults input.old input.new) (change_of O.held O.faults out.old out.new)
+    ensures ends { EndsBy (tree_of query.now) (change_of I.left I.faults input.old input.new) (change_of O.held O.faults out.old out.new)
         (change_of N.held N.faults notes.old notes.new) result }
+    ensures told { TellsFault (change_of I.left I.faults input.old input.new) result }
 {
     match read_index(alloc, input) {
         Ok(index) => print_found(alloc, query, &index, out, notes),
@@ -59,6 +60,7 @@ pub fn run_find<I: Source, O: Sink, N: Sink>(
     ensures answers { FindAnswers (map string_bytes words.now) (change_of I.left I.faults input.old input.new)
         (change_of O.held O.faults out.old out.new) (change_of N.held N.faults notes.old notes.new) result }
     ensures exact { Decided (map string_bytes words.now) (change_of I.left I.faults input.old input.new) result }
+    ensures told { TellsFault (change_of I.left I.faults input.old input.new) result }
 {
     match read_query(alloc, words) {
         Ok(query) => answer(alloc, &query, input, out, notes),

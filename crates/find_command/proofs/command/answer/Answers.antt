@@ -6,15 +6,15 @@ use Rattle.query_reading.specs.Postfix.{tree_of}
 use Rattle.find_command.proofs.Ended.{ended, found}
 use Rattle.find_command.proofs.command.answer.Goals as goal
 
-pub returns-in-Ok : goal.returns-in-Ok
-returns-in-Ok g c =
+pub returns-in-Ok-clause-ends : goal.returns-in-Ok-clause-ends
+returns-in-Ok-clause-ends g c =
     let input = change_of g.I.Source.left g.I.Source.faults c.args.input.now c.read_index.new.input in
     let out = change_of g.O.Sink.held g.O.Sink.faults c.args.out.now c.print_found.new.out in
     let notes = change_of g.N.Sink.held g.N.Sink.faults c.args.notes.now c.print_found.new.notes in
     found (tree_of c.args.query.now) c.in-Ok.index.rows input out notes c.print_found.result (c.in-Ok.index.skipped, c.in-Ok.ensures.index) c.print_found.ensures
 
-pub returns-in-Err-BadLine : goal.returns-in-Err-BadLine
-returns-in-Err-BadLine g c =
+pub returns-in-Err-BadLine-clause-ends : goal.returns-in-Err-BadLine-clause-ends
+returns-in-Err-BadLine-clause-ends g c =
     let input = change_of g.I.Source.left g.I.Source.faults c.args.input.now c.read_index.new.input in
     let out = change_of g.O.Sink.held g.O.Sink.faults c.args.out.now c.args.out.now in
     let notes = change_of g.N.Sink.held g.N.Sink.faults c.args.notes.now c.ends-in-Err-BadLine.new.notes in

@@ -74,7 +74,7 @@ pub returns-in-Ok-Find : goal.returns-in-Ok-Find
 returns-in-Ok-Find g c =
     record {
       usage = λ none. absurd (none _ c.in-Ok-Find.ensures.said);
-      answers = λ t says. let k = rw c.in-Ok-Find.field-0-is at c.in-Ok-Find.ensures in answered t _ _ _ (k.only t says) (c.run_find.ensures.answers, c.run_find.ensures.exact, refl);
+      answers = λ t says. let k = rw c.in-Ok-Find.field-0-is at c.in-Ok-Find.ensures in answered t _ _ _ (k.only t says) (c.run_find.ensures.answers, c.run_find.ensures.exact, c.run_find.ensures.told, refl);
       kept = λ _. kept-same _ c.requires.agree;
     }
 
