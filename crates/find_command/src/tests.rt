@@ -62,6 +62,27 @@ fn queries_are_answered(rt: HostRuntime) -> Result<(), Fail> {
     Ok(())
 }
 
+// Whether a source that fails once so many bytes were given ends the command so.
+fn fails_after(alloc: Global, given: usize) -> Result<bool, AllocError> {
+    let mut tokens: Vec<String> = Vec::new(alloc);
+    tokens.push(String::from_str(alloc, "run")?)?;
+    let mut input = MemSource::new(SMALL.to_vec(alloc)?);
+    input.fail_after(given);
+    let mut out = MemSink::with_room(alloc, 1000)?;
+    let mut notes = MemSink::with_room(alloc, 1000)?;
+    let found = run_find(alloc, tokens.as_slice(), &mut input, &mut out, &mut notes);
+    Ok(found == Status::ReadFault && out.bytes().is_empty() && !notes.bytes().is_empty())
+}
+
+#[test]
+fn a_failed_read_is_told(rt: HostRuntime) -> Result<(), Fail> {
+    let alloc = rt.alloc();
+    assert!(rt; fails_after(alloc, 0)?);
+    assert!(rt; fails_after(alloc, 20)?);
+    assert!(rt; fails_after(alloc, SMALL.len())?);
+    Ok(())
+}
+
 #[test]
 fn no_query_is_read_for_nothing(rt: HostRuntime) -> Result<(), Fail> {
     let alloc = rt.alloc();

@@ -3,12 +3,12 @@ use Rattle.std.proofs.Common.{◌≡◌, ◌⊎◌, ℕ, zero, suc, ◌+◌, ◌
 use Rattle.std.proofs.lemmas.Bool.{eqb-true, eq-eqb}
 use Rattle.std.proofs.lemmas.Bool.Decides.{nat_tests}
 use Rattle.std.proofs.lemmas.Fmt.{decimal_by_steps}
-use Rattle.std.specs.Prelude.{◌==◌, ◌&&◌, nat_lt, nat_le, decimal}
+use Rattle.std.specs.Prelude.{◌==◌, nat_lt, decimal}
 use Rattle.trace_core.specs.declared.line.Stop.TheVariants.{More, Dead}
 use Rattle.trace_core.proofs.Words.{chosen}
 use Rattle.trace_core.proofs.CodeLaws.{ok_injective}
 use Rattle.trace_core.specs.Codes.{IsCode}
-use Rattle.index_reading.specs.Numerals.{digits_in, numeral, is_digit, digits_from, leading_at, numeral_at}
+use Rattle.index_reading.specs.Numerals.{digits_in, numeral, is_digit, is_leading, digits_from, leading_at, numeral_at}
 
 -- one digit, or one more behind those of a tenth
 in_one : (turns n : ℕ) → n < 10 → digits_in (suc turns) n ≡ (48 + n) ∷ []
@@ -61,10 +61,10 @@ is_digit-facts c e = search (rules, tests)
 is_digit-from : (c : ℕ) → 48 ≤ c → c ≤ 57 → is_digit c ≡ true
 is_digit-from c a b = search (rules, tests)
 
-first-facts : (c : ℕ) → (nat_le 49 c && nat_le c 57) ≡ true → (49 ≤ c) × (c ≤ 57)
+first-facts : (c : ℕ) → is_leading c ≡ true → (49 ≤ c) × (c ≤ 57)
 first-facts c e = search (rules, tests)
 
-first-from : (c : ℕ) → 49 ≤ c → c ≤ 57 → (nat_le 49 c && nat_le c 57) ≡ true
+first-from : (c : ℕ) → 49 ≤ c → c ≤ 57 → is_leading c ≡ true
 first-from c a b = search (rules, tests)
 
 numeral_more : (v c : ℕ) → 0 < v → 48 ≤ c → c ≤ 57 → numeral (10 * v + (c - 48)) ≡ numeral v ++ c ∷ []
@@ -151,7 +151,7 @@ numeral_again stop apart n rest some =
 numeral_found : (stop : ℕ) (bytes rest : List ℕ) (n : ℕ) → numeral_at stop bytes ≡ Ok (n, rest) → (1 ≤ n) × (bytes ≡ (numeral n ++ stop ∷ []) ++ rest)
 numeral_found stop [] rest n e = absurd (cc)
 numeral_found stop (c ∷ bytes) rest n e =
-    elim (chosen (nat_le 49 c && nat_le c 57) _ _ _ e) [
+    elim (chosen (is_leading c) _ _ _ e) [
       | inl p ↦
           let f = first-facts c p.0 in
           let g = from_found stop (c - 48) bytes rest n (omega (arith, f.0)) p.1 in
@@ -163,7 +163,7 @@ numeral_found stop (c ∷ bytes) rest n e =
 numeral_asks : (stop : ℕ) (bytes : List ℕ) → numeral_at stop bytes ≡ Err More → (n : ℕ) × (rest : List ℕ) × (1 ≤ n) × (bytes ++ rest ≡ numeral n ++ stop ∷ [])
 numeral_asks stop [] e = (1, numeral 1 ++ stop ∷ [], omega arith, refl)
 numeral_asks stop (c ∷ bytes) e =
-    elim (chosen (nat_le 49 c && nat_le c 57) _ _ _ e) [
+    elim (chosen (is_leading c) _ _ _ e) [
       | inl p ↦
           let f = first-facts c p.0 in
           let g = from_more stop (c - 48) bytes (omega (arith, f.0)) p.1 in
@@ -175,7 +175,7 @@ numeral_asks stop (c ∷ bytes) e =
 numeral_dead : (stop : ℕ) (bytes more : List ℕ) → numeral_at stop bytes ≡ Err Dead → numeral_at stop (bytes ++ more) ≡ Err Dead
 numeral_dead stop [] more e = absurd (cc)
 numeral_dead stop (c ∷ bytes) more e =
-    elim (chosen (nat_le 49 c && nat_le c 57) _ _ _ e) [
+    elim (chosen (is_leading c) _ _ _ e) [
       | inl p ↦ rw p.0 (from_dead stop (c - 48) bytes more p.1)
       | inr p ↦ rw p.0 refl
     ]
@@ -196,7 +196,7 @@ pub record IsLed (stop v : ℕ) (bytes rest : List ℕ) : Type 0 where
 pub led : (stop v : ℕ) (bytes rest : List ℕ) → leading_at bytes ≡ Ok (v, rest) → IsLed stop v bytes rest
 led stop v [] rest e = absurd (cc)
 led stop v (c ∷ bytes) rest e =
-    elim (chosen (nat_le 49 c && nat_le c 57) _ _ _ e) [
+    elim (chosen (is_leading c) _ _ _ e) [
       | inl p ↦
           let f = first-facts c p.0 in
           let q = ok_injective p.1 in

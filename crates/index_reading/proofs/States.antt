@@ -23,7 +23,6 @@ flat_decimal : (n : ℕ) → n < 2 ^ 64 → IsFlat (decimal n)
 flat_decimal n fits =
     decimal_by_steps (λ _ ds. IsFlat ds) (λ n small. ((λ h. omega arith), tt)) (λ n ds large h. IsFlat-append ds ((48 + n % 10) ∷ []) h ((λ k. omega arith), tt)) n fits
 
--- nor has the number of a word's files one
 flat_numeral : (n : ℕ) → IsFlat (numeral n)
 flat_numeral n =
     numeral_by_steps (λ _ ds. IsFlat ds) (λ n small. ((λ h. omega arith), tt)) (λ n ds large h. IsFlat-append ds ((48 + n % 10) ∷ []) h ((λ k. omega arith), tt)) n

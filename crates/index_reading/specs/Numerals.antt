@@ -13,9 +13,13 @@ unfoldable pub numeral : ℕ → List ℕ
 numeral n = digits_in (suc n) n
 
 -- a digit from 1 on
+abbrev pub is_leading : ℕ → Bool
+is_leading c = nat_le 49 c && nat_le c 57
+
+-- the first digit of a number
 abbrev pub leading_at : Reader ℕ
 leading_at [] = Err More
-leading_at (c ∷ bytes) = if nat_le 49 c && nat_le c 57 then Ok (c - 48, bytes) else Err Dead
+leading_at (c ∷ bytes) = if is_leading c then Ok (c - 48, bytes) else Err Dead
 
 abbrev pub is_digit : ℕ → Bool
 is_digit c = nat_le 48 c && nat_le c 57
@@ -31,7 +35,7 @@ digits_from stop v (c ∷ bytes) =
 -- a number from 1 on, and the byte that stops it
 abbrev pub numeral_at : ℕ → Reader ℕ
 numeral_at stop [] = Err More
-numeral_at stop (c ∷ bytes) = if nat_le 49 c && nat_le c 57 then digits_from stop (c - 48) bytes else Err Dead
+numeral_at stop (c ∷ bytes) = if is_leading c then digits_from stop (c - 48) bytes else Err Dead
 
 -- the number, or the greatest of 64 bits where it is greater
 abbrev pub capped : ℕ → ℕ

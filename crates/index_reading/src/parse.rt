@@ -20,7 +20,7 @@ fn halt_at(stop: Stop, line: u64) -> Halt
     }
 }
 
-// Takes so many hits of a row, behind so many lines. Where the counter stands at its end for more of them, the bytes end first.
+// Takes so many hits of a row, behind so many lines. The greatest number of 64 bits stands for every greater one too: the bytes end first.
 fn take_hits<'b>(
     bytes: &'b [u8],
     word: &[u8],

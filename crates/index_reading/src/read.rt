@@ -61,8 +61,7 @@ fn front_reason(alloc: Global, bytes: &[u8]) -> IndexFault
 ///
 /// A bad line is the first at which the input is no front of an index text; where it ends too early, the line that was to go on.
 /// It is told where the first 67,108,864 bytes show it, or the end of the input within them. `TooLong` says that more bytes come and
-/// that these begin an index text, and `Read` that the source failed:
-/// where anything else is answered it has not.
+/// that these begin an index text. `Read` says that the source failed; with any other answer it did not.
 pub fn read_index<I: Source>(alloc: Global, input: &mut I) -> Result<Index, IndexFault>
     ensures index { IfOk result (λ i. IfSome (I.left input.old) (λ bytes. (length bytes ≤ budget) × ReadsAs bytes i.rows i.skipped)) }
     ensures fault { IfErr result (HasReason (I.left input.old) (I.faults input.old) (I.faults input.new)) }

@@ -35,7 +35,7 @@ fn cut_word<'b>(bytes: &'b [u8], word: &[u8]) -> Result<&'b [u8], Stop>
     Err(Stop::More)
 }
 
-// Reads a digit from 1 on.
+// Reads the first digit of a number from 1 on.
 #[inline(always)]
 fn leading(bytes: &[u8]) -> Result<(u64, &[u8]), Stop>
     ensures { Gives (λ x. (x.0, x.1.now)) result (leading_at bytes.now) }
