@@ -36,7 +36,3 @@ NotesFor notes verdict.ReadFault = Notes notes input_fault_message
 abbrev pub Found : Change → Status → Type 0
 Found input status =
     (bytes : List ℕ) (v : Verdict) → input.old ≡ Some bytes → status ≢ ReadFault → v ≢ verdict.ReadFault → Finds input v → (status ≡ status_of v) ⊎ (status ≡ SinkFault)
-
--- A failed read is told. One can fail only where no verdict is due yet, so from the byte that decides on nothing is read.
-abbrev pub TellsFault : Change → Status → Type 0
-TellsFault input status = status ≢ ReadFault → input.now ≡ input.before

@@ -1,7 +1,8 @@
 //! The command `check`.
 ghost use Rattle.command_endings.specs.Changes.{change_of};
 ghost use Rattle.check_command.specs.Check.{CheckAnswers};
-ghost use Rattle.check_command.specs.VerdictEndings.{Found, TellsFault};
+ghost use Rattle.command_endings.specs.Endings.{TellsFault};
+ghost use Rattle.check_command.specs.VerdictEndings.{Found};
 
 use crate::verdict_ending::{CHECK_BUDGET, ends_by};
 use crate::verdict_line::{illegal, legal};

@@ -1,9 +1,10 @@
 -- How a command ends that wrote no whole answer: its status and its message.
-use Rattle.std.specs.Prelude.{ℕ, List}
+use Rattle.std.specs.Prelude.{◌≡◌, ◌≢◌, ℕ, List}
 use Rattle.command_endings.specs.declared.ending.Ending.{Ending}
 use Rattle.command_endings.specs.declared.ending.Ending.TheVariants as ending
 use Rattle.command_endings.specs.declared.status.Status.{Status}
 use Rattle.command_endings.specs.declared.status.Status.TheVariants.{Usage, ReadFault, SinkFault, Stopped, Memory, BadText, TooMany, TooLong}
+use Rattle.command_endings.specs.Changes.{Change}
 use Rattle.command_endings.specs.Messages.{usage_message, input_fault_message, output_fault_message, bad_line_message, stopped_message, stopped_by_message, memory_message, too_many_message, unreadable_message, too_long_message}
 
 abbrev pub status_of : Ending → Status
@@ -29,3 +30,7 @@ message_of ending.Memory = memory_message
 message_of (ending.BadLine line) = bad_line_message line
 message_of ending.TooMany = too_many_message
 message_of ending.TooLong = too_long_message
+
+-- A failed read is told: the input's count of faults rises only where the status says so.
+abbrev pub TellsFault : Change → Status → Type 0
+TellsFault input status = status ≢ ReadFault → input.now ≡ input.before

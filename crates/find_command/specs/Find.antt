@@ -73,7 +73,3 @@ IsDue bytes status = ⊥
 abbrev pub Decided : List Token → Change → Status → Type 0
 Decided tokens input status = (tree : Tree) (bytes : List ℕ) (due : Status) → Reads tokens tree → input.old ≡ Some bytes → status ≢ Memory → status ≢ ReadFault → IsDue bytes due
     → (status ≡ due) ⊎ ((due ≡ Done) × (status ≡ SinkFault))
-
--- A failed read is told: the count of faults rises where the status says so, and stays as it was elsewhere.
-abbrev pub TellsFault : Change → Status → Type 0
-TellsFault input status = status ≢ ReadFault → input.now ≡ input.before

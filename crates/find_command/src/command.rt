@@ -3,7 +3,8 @@ ghost use Rattle.std.specs.Prelude.{map};
 ghost use Rattle.std.specs.String.{string_bytes};
 ghost use Rattle.command_endings.specs.Changes.{change_of};
 ghost use Rattle.query_reading.specs.Postfix.{tree_of};
-ghost use Rattle.find_command.specs.Find.{PrintsFound, EndsBy, FindAnswers, Decided, TellsFault};
+ghost use Rattle.command_endings.specs.Endings.{TellsFault};
+ghost use Rattle.find_command.specs.Find.{PrintsFound, EndsBy, FindAnswers, Decided};
 
 use crate::lines::print_paths;
 use command_endings::{Ending, Status, ends};

@@ -6,7 +6,8 @@ use Rattle.command_endings.specs.declared.status.Status.TheVariants.{Usage, Memo
 use Rattle.command_endings.specs.Changes.{Change, IsStill, Notes}
 use Rattle.command_endings.specs.Messages.{usage_message, memory_message}
 use Rattle.check_command.specs.Check.{CheckAnswers}
-use Rattle.check_command.specs.VerdictEndings.{Found, TellsFault}
+use Rattle.check_command.specs.VerdictEndings.{Found}
+use Rattle.command_endings.specs.Endings.{TellsFault}
 use Rattle.order_command.specs.Order.{OrderAnswers, Ordered}
 use Rattle.jobs_command.specs.Jobs.{JobsAnswers, Decided as JobsDecided}
 use Rattle.find_command.specs.Find.{FindAnswers, Decided}

@@ -95,7 +95,3 @@ IsDue bytes status = ⊥
 abbrev pub Decided : Change → Status → Type 0
 Decided input status = (bytes : List ℕ) (due : Status) → input.old ≡ Some bytes → status ≢ Memory → status ≢ ReadFault → IsDue bytes due
     → (status ≡ due) ⊎ ((due ≡ Done) × (status ≡ SinkFault))
-
--- a failed read is told
-abbrev pub TellsFault : Change → Status → Type 0
-TellsFault input status = status ≢ ReadFault → input.now ≡ input.before

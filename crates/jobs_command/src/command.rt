@@ -3,7 +3,8 @@ ghost use Rattle.std.specs.Prelude.{◌≡◌, ◌≤◌, length};
 ghost use Rattle.std.specs.List.{AllByRecursion};
 ghost use Rattle.command_endings.specs.Changes.{change_of};
 ghost use Rattle.job_lines.specs.Faults.{most_lines};
-ghost use Rattle.jobs_command.specs.Jobs.{Decided, JobsAnswers, Runs, SaysFault, TellsFault};
+ghost use Rattle.command_endings.specs.Endings.{TellsFault};
+ghost use Rattle.jobs_command.specs.Jobs.{Decided, JobsAnswers, Runs, SaysFault};
 
 use crate::lines::print_values;
 use crate::run::run_lines;

@@ -1,6 +1,6 @@
 //! The command `order`.
 ghost use Rattle.command_endings.specs.Changes.{change_of};
-ghost use Rattle.check_command.specs.VerdictEndings.{TellsFault};
+ghost use Rattle.command_endings.specs.Endings.{TellsFault};
 ghost use Rattle.order_command.specs.Order.{OrderAnswers, Ordered};
 
 use crate::lines::{lines_of, no_cycle};
