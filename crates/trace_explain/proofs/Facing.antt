@@ -3,13 +3,13 @@ use Rattle.std.proofs.Common.{◌≡◌, ◌≢◌, ℕ, not, [], refl, ◌∙�
 use Rattle.larch_actions.specs.declared.event.Pending.{Pending}
 use Rattle.larch_actions.specs.declared.event.Pending.TheVariants.{Nothing, Waiting, AlertWaiting}
 use Rattle.larch_actions.specs.Actions.{Spec}
-use Rattle.trace_picture.specs.declared.history.Origin.{Origin}
-use Rattle.trace_picture.specs.declared.causes.Cause.{Cause}
-use Rattle.trace_picture.specs.declared.causes.Cause.TheVariants.{Never, Awaited, By}
-use Rattle.trace_picture.specs.Kept.{kept_since, behind}
-use Rattle.trace_picture.proofs.Agreeing.{Fits, stands_in, is_awaited, is_come}
-use Rattle.trace_picture.proofs.Causing.{told_run, IsWaitOn as IsOnWait}
-use Rattle.trace_picture.proofs.Holding.{bars_are_holds}
+use Rattle.trace_board.specs.declared.history.Origin.{Origin}
+use Rattle.trace_board.specs.declared.causes.Cause.{Cause}
+use Rattle.trace_board.specs.declared.causes.Cause.TheVariants.{Never, Awaited, By}
+use Rattle.trace_board.specs.Kept.{kept_since, behind}
+use Rattle.trace_board.proofs.Agreeing.{Fits, stands_in, is_awaited, is_come}
+use Rattle.trace_board.proofs.Causing.{told_run, IsWaitOn as IsOnWait}
+use Rattle.trace_board.proofs.Holding.{bars_are_holds}
 use Rattle.trace_explain.specs.Laws.{WaitsSo, IsWaitOn, is_named, OpenSo, AlertedSo, FactsAreSo}
 
 -- who stands in a condition or was taken out has begun a wait

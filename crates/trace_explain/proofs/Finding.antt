@@ -12,8 +12,8 @@ use Rattle.trace_core.specs.Standing.{Standing}
 use Rattle.trace_core.specs.Steps.{TakesHead, TakesEvent}
 use Rattle.trace_check.specs.Verdicts.{refusal}
 use Rattle.trace_check.proofs.UnderWay.{IsUnderWay, starts_on, step_on, fails_on}
-use Rattle.trace_picture.specs.Kept.{Kept, nothing_kept, kept_after, kept_since, behind}
-use Rattle.trace_picture.proofs.Drawing.{behind-push, length-behind}
+use Rattle.trace_board.specs.Kept.{Kept, nothing_kept, kept_after, kept_since, behind}
+use Rattle.trace_board.proofs.Behind.{behind-push, length-behind}
 use Rattle.trace_explain.specs.declared.find.Found.TheVariants.{Illegal}
 use Rattle.trace_explain.specs.Words.{verdict_of, found_of}
 use Rattle.trace_explain.specs.Told.{IsFailure, HasNoted}

@@ -6,7 +6,7 @@ use Rattle.std.specs.Io.KnownBytes.{Appends}
 use Rattle.firefly_outside.specs.Causes.{AppendsFront}
 use Rattle.trace_check.specs.declared.checker.Verdict.{Verdict}
 use Rattle.trace_check.specs.Verdicts.{IsJust}
-use Rattle.trace_picture.specs.Kept.{Kept}
+use Rattle.trace_board.specs.Kept.{Kept}
 use Rattle.trace_explain.specs.declared.find.Found.{Found}
 use Rattle.trace_explain.specs.declared.find.Found.TheVariants.{Legal, Illegal, BadLine, TooLong, ReadFault}
 use Rattle.trace_explain.specs.Words.{text_of, verdict_of, illegal_text}

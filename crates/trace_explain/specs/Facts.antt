@@ -2,17 +2,17 @@
 use Rattle.std.specs.Prelude.{ℕ, ◌==◌, if◌then◌else◌, List, [], ◌++◌, codes, Some, None}
 use Rattle.std.specs.declared.option.Option.{Option}
 use Rattle.larch_actions.specs.declared.event.Event.{Event}
-use Rattle.trace_picture.specs.declared.history.Origin.{Origin}
-use Rattle.trace_picture.specs.declared.history.Turn.{Turn}
-use Rattle.trace_picture.specs.declared.history.Turn.TheVariants as turn
-use Rattle.trace_picture.specs.declared.causes.Cause.{Cause}
-use Rattle.trace_picture.specs.declared.causes.Cause.TheVariants.{Never, Awaited, By}
-use Rattle.trace_picture.specs.declared.causes.Move.{Move}
-use Rattle.trace_picture.specs.declared.causes.Move.TheVariants as move
-use Rattle.trace_picture.specs.declared.board.Waker.{Waker}
-use Rattle.trace_picture.specs.declared.board.Waker.TheVariants as waker
-use Rattle.trace_picture.specs.Marks.{marks_of}
-use Rattle.trace_picture.specs.Kept.{Kept}
+use Rattle.trace_board.specs.declared.history.Origin.{Origin}
+use Rattle.trace_board.specs.declared.history.Turn.{Turn}
+use Rattle.trace_board.specs.declared.history.Turn.TheVariants as turn
+use Rattle.trace_board.specs.declared.causes.Cause.{Cause}
+use Rattle.trace_board.specs.declared.causes.Cause.TheVariants.{Never, Awaited, By}
+use Rattle.trace_board.specs.declared.causes.Move.{Move}
+use Rattle.trace_board.specs.declared.causes.Move.TheVariants as move
+use Rattle.trace_board.specs.declared.board.Waker.{Waker}
+use Rattle.trace_board.specs.declared.board.Waker.TheVariants as waker
+use Rattle.trace_board.specs.Marks.{marks_of}
+use Rattle.trace_board.specs.Kept.{Kept}
 use Rattle.trace_picture.specs.Shapes.{with_number, each_below}
 use Rattle.trace_explain.specs.Sentences.{plain, since, standing}
 

@@ -5,11 +5,12 @@ use Rattle.larch_actions.specs.declared.event.Event.{Event}
 use Rattle.larch_actions.specs.declared.event.Pending.{Pending}
 use Rattle.larch_actions.specs.declared.event.Pending.TheVariants.{Nothing, Waiting, AlertWaiting}
 use Rattle.larch_actions.specs.Actions.{Spec, IsRun}
-use Rattle.trace_picture.specs.declared.history.Origin.{Origin}
-use Rattle.trace_picture.specs.declared.causes.Cause.{Cause}
-use Rattle.trace_picture.specs.declared.causes.Cause.TheVariants.{Never, Awaited, By}
-use Rattle.trace_picture.specs.Kept.{Kept, kept_since, behind}
-use Rattle.trace_picture.specs.Laws.{IsSince, IsMadeBy}
+use Rattle.trace_board.specs.declared.history.Origin.{Origin}
+use Rattle.trace_board.specs.declared.causes.Cause.{Cause}
+use Rattle.trace_board.specs.declared.causes.Cause.TheVariants.{Never, Awaited, By}
+use Rattle.trace_board.specs.declared.rows.Bar.TheVariants.{Mutex}
+use Rattle.trace_board.specs.Kept.{Kept, kept_since, behind}
+use Rattle.trace_board.specs.Laws.{IsSince, IsMadeBy}
 
 -- what is said of a thread's wait: that it is in none; in which condition it stands; that it was taken out and is in none
 abbrev pub WaitsSo : Spec → ℕ → Cause → Type 0
@@ -44,7 +45,7 @@ AlertedSo s t (By o) = s.alerts t ≡ true
 -- What is kept of the events of a run says what is so in the state that they lead to.
 pub record AreSo (k : Kept) (s : Spec) (es : List Event) : Type 0 where
   -- who holds a mutex, and by which event it was taken, since when no event took it or gave it back
-  pub held : (m : ℕ) → MatchOption (k.held m) (s.holder m ≡ none) (λ o. (s.holder m ≡ some o.thread.0) × IsSince m o (behind [] es))
+  pub held : (m : ℕ) → MatchOption (k.held m) (s.holder m ≡ none) (λ o. (s.holder m ≡ some o.thread.0) × IsSince (Mutex m) o (behind [] es))
   pub waits : (t : ℕ) → WaitsSo s t (k.stands t)
   -- the threads named are those that stand in the condition
   pub stands : (c t : ℕ) → s.members c t ≡ is_named c (k.stands t)

@@ -1,6 +1,6 @@
 -- The forms of sentences.
 use Rattle.std.specs.Prelude.{ℕ, List, ◌++◌, codes}
-use Rattle.trace_picture.specs.declared.history.Origin.{Origin}
+use Rattle.trace_board.specs.declared.history.Origin.{Origin}
 use Rattle.trace_picture.specs.Shapes.{with_number}
 
 -- a kind, a number and words

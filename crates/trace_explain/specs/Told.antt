@@ -6,7 +6,7 @@ use Rattle.firefly_outside.specs.Causes.{AppendsFront}
 use Rattle.trace_check.specs.declared.checker.Verdict.{Verdict}
 use Rattle.trace_check.specs.declared.checker.Verdict.TheVariants as verdict
 use Rattle.trace_check.specs.Verdicts.{IsIllegalText, IsJust}
-use Rattle.trace_picture.specs.Kept.{Kept, kept_since, behind, IsNoted}
+use Rattle.trace_board.specs.Kept.{Kept, kept_since, behind, IsNoted}
 use Rattle.trace_explain.specs.declared.find.Found.{Found}
 use Rattle.trace_explain.specs.declared.find.Found.TheVariants.{Legal, Illegal, BadLine, TooLong, ReadFault}
 use Rattle.trace_explain.specs.Words.{legal_text, illegal_text, bad_text}

@@ -7,7 +7,7 @@ use Rattle.trace_core.specs.declared.intake.TextFault.TheVariants as fault
 use Rattle.trace_check.specs.declared.checker.Summary.{Summary}
 use Rattle.trace_check.specs.declared.checker.Verdict.{Verdict}
 use Rattle.trace_check.specs.declared.checker.Verdict.TheVariants as verdict
-use Rattle.trace_picture.specs.Kept.{Kept}
+use Rattle.trace_board.specs.Kept.{Kept}
 use Rattle.trace_picture.specs.Shapes.{with_number, line_of, clause_word}
 use Rattle.trace_explain.specs.declared.find.Found.{Found}
 use Rattle.trace_explain.specs.declared.find.Found.TheVariants.{Legal, Illegal, BadLine, TooLong, ReadFault}

@@ -11,9 +11,9 @@ ghost use Rattle.trace_explain.specs.Told.{GotText, GotFront};
 use crate::find::find_all;
 use crate::tell::tell;
 use firefly_outside::{Sink, SinkFault, Source};
+use trace_board::board::Board;
 use trace_check::Verdict;
 use trace_core::EventReader;
-use trace_picture::board::Board;
 
 /// Checks at most `budget` bytes of the input, and writes why the verdict is as it is: of a legal trace its counts, of an illegal one the event,
 /// the rule that it fails and the state before it, of a bad line what may stand there, and else nothing.

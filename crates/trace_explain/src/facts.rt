@@ -1,18 +1,18 @@
 //! What is said of the state before an event, written into a buffer behind its first `at` bytes. Each call says where it ended.
 ghost use Rattle.std.specs.Prelude.{◌≡◌, ◌+◌, ◌*◌, ◌<◌, ◌≤◌, ◌++◌, length, take};
-ghost use Rattle.trace_picture.specs.Causes.{cause_of, IsSmall};
-ghost use Rattle.trace_picture.specs.History.{IsWithin};
-ghost use Rattle.trace_picture.specs.Kept.{kept_of, IsNear, IsNoted};
+ghost use Rattle.trace_board.specs.Causes.{cause_of, IsSmall};
+ghost use Rattle.trace_board.specs.History.{IsWithin};
+ghost use Rattle.trace_board.specs.Kept.{kept_of, IsNear, IsNoted};
 ghost use Rattle.trace_picture.specs.Shapes.{each_below};
 ghost use Rattle.trace_explain.specs.Facts.{wait_text, held_text, open_text, alert_text, stander, standers, mutex_fact, stand_fact, open_fact, alert_fact, facts};
 
 use crate::sentences::{add_plain, add_since, add_standing};
 use larch_actions::Event;
+use trace_board::board::{Board, Waker};
+use trace_board::causes::{Cause, Causes, Move};
+use trace_board::history::{Origin, Turn};
+use trace_board::marks::marks_of;
 use trace_core::add;
-use trace_picture::board::{Board, Waker};
-use trace_picture::causes::{Cause, Causes, Move};
-use trace_picture::history::{Origin, Turn};
-use trace_picture::marks::marks_of;
 use trace_picture::tags::add_with_number;
 
 // Adds how it stands with the thread's wait.

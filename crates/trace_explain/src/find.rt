@@ -4,15 +4,15 @@ ghost use Rattle.trace_core.specs.declared.progress.Phase.TheVariants as phase;
 ghost use Rattle.trace_core.specs.Reader.{standing, input_of};
 ghost use Rattle.trace_check.specs.declared.checker.Verdict.TheVariants as verdict;
 ghost use Rattle.trace_check.specs.Verdicts.{IsJust};
-ghost use Rattle.trace_picture.specs.Kept.{kept_of, nothing_kept};
+ghost use Rattle.trace_board.specs.Kept.{kept_of, nothing_kept};
 ghost use Rattle.trace_explain.specs.Words.{verdict_of, found_of};
 ghost use Rattle.trace_explain.specs.Told.{IsFailure, HasNoted};
 
 use firefly_outside::Source;
 use larch_actions::{Broken, Event, State};
+use trace_board::board::Board;
 use trace_check::Summary;
 use trace_core::{EventReader, TextFault};
-use trace_picture::board::Board;
 
 /// A verdict, with the event that fails.
 #[derive(Drop)]

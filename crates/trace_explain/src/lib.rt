@@ -2,7 +2,7 @@
 //!
 //! Promises: `explain` checks a trace as `trace_check` does, and the sink gets exactly the text that specs/Words.antt defines for the verdict.
 //! What that text says of mutexes, conditions, semaphores and alerts is so in the state before the event (laws).
-//! Stands on the reader of trace_core, the state of larch_actions, and what trace_picture keeps of the events. It takes no memory.
+//! Stands on the reader of trace_core, the state of larch_actions, and what trace_board keeps of the events. It takes no memory.
 #![tactic(auto)]
 
 mod explanation;

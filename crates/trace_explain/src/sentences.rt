@@ -2,8 +2,8 @@
 ghost use Rattle.std.specs.Prelude.{◌≡◌, ◌+◌, ◌≤◌, ◌++◌, length, take};
 ghost use Rattle.trace_explain.specs.Sentences.{plain, since, standing};
 
+use trace_board::history::Origin;
 use trace_core::add;
-use trace_picture::history::Origin;
 use trace_picture::tags::add_with_number;
 
 /// Adds a kind, a number and words, as a line.

@@ -2,7 +2,7 @@
 ghost use Rattle.std.specs.Prelude.{◌≡◌, ◌+◌, ◌≤◌, ◌++◌, length, take, [], OnOk, OnErr, IfOk};
 ghost use Rattle.std.specs.Io.KnownBytes.{Appends};
 ghost use Rattle.firefly_outside.specs.Causes.{HasCause, AppendsFront};
-ghost use Rattle.trace_picture.specs.Kept.{kept_of, IsNoted};
+ghost use Rattle.trace_board.specs.Kept.{kept_of, IsNoted};
 ghost use Rattle.trace_explain.specs.Words.{legal_text, failed_text, illegal_text, later_text, expected, bad_text, text_of, verdict_of};
 ghost use Rattle.trace_explain.specs.Told.{HasNoted};
 
@@ -11,9 +11,9 @@ use crate::find::Found;
 use crate::rules::rule;
 use firefly_outside::{Sink, SinkFault, put_all};
 use larch_actions::{Broken, Event};
+use trace_board::board::Board;
 use trace_check::{Summary, Verdict};
 use trace_core::add;
-use trace_picture::board::Board;
 use trace_picture::shapes::word_of;
 use trace_picture::tags::{add_line, add_with_number};
 

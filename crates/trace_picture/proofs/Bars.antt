@@ -3,21 +3,34 @@ use Rattle.std.proofs.Common.{◌≡◌, ℕ, ◌+◌, ◌*◌, ◌/◌, ◌%◌
 use Rattle.std.specs.Prelude.{codes}
 use Rattle.larch_actions.specs.declared.event.Event.{Event}
 use Rattle.larch_actions.specs.declared.event.Broken.{Broken}
-use Rattle.trace_picture.specs.declared.history.Origin.{Origin}
+use Rattle.trace_board.specs.declared.history.Origin.{Origin}
 use Rattle.trace_picture.specs.declared.view.View.{View}
-use Rattle.trace_picture.specs.declared.marks.Marks.{Marks}
-use Rattle.trace_picture.specs.Marks.{marks}
+use Rattle.trace_board.specs.declared.marks.Marks.{Marks}
+use Rattle.trace_board.specs.Marks.{marks}
 use Rattle.trace_picture.specs.Places.{column, column_x, row_y, lane_y, bar_x, bar_width}
-use Rattle.trace_picture.specs.Shapes.{with_number, box_text, place_text, span_text, bar_text, wait_name, wait_text, object_text, swatch_text, failed_text, line_of, clause_word}
+use Rattle.trace_picture.specs.Shapes.{with_number, box_text, place_text, span_text, bar_box, bar_text, taken_text, wait_name, wait_text, object_text, swatch_text, failed_text, line_of, clause_word}
 use Rattle.trace_picture.proofs.Added.{added_two, added_four, added_five}
 
-pub added_bar : (start mutex lane : ℕ) (o : Origin) (ended : Bool) (to x y w m : ℕ) (old a b c d e : List ℕ) → m ≡ mutex → x ≡ bar_x start o to → y ≡ lane_y o.thread.0 lane → w ≡ bar_width start o ended to
-    → a ≡ old ++ with_number (codes "<rect class='m") m → b ≡ a ++ box_text x y w → c ≡ b ++ with_number (codes "' height='3'><title>m") m → d ≡ c ++ codes " held by" → e ≡ d ++ span_text o ended to
+pub added_bar_box : (start lane : ℕ) (o : Origin) (ended : Bool) (to x y w : ℕ) (old a : List ℕ) → x ≡ bar_x start o to → y ≡ lane_y o.thread.0 lane → w ≡ bar_width start o ended to
+    → a ≡ old ++ box_text x y w → a ≡ old ++ bar_box start lane o ended to
+unfolding bar_box
+added_bar_box start lane o ended to x y w old a same_x same_y same_w one = one ∙ (λ i. old ++ box_text (same_x i) (same_y i) (same_w i))
+
+pub added_bar : (start mutex lane : ℕ) (o : Origin) (ended : Bool) (to m : ℕ) (old a b c d e : List ℕ) → m ≡ mutex
+    → a ≡ old ++ with_number (codes "<rect class='m") m → b ≡ a ++ bar_box start lane o ended to → c ≡ b ++ with_number (codes "' height='3'><title>m") m → d ≡ c ++ codes " held by" → e ≡ d ++ span_text o ended to
     → e ≡ old ++ bar_text start mutex lane o ended to
 unfolding bar_text
-added_bar start mutex lane o ended to x y w m old a b c d e same_m same_x same_y same_w one two three four five =
-    let shape : ℕ → ℕ → ℕ → ℕ → List ℕ = λ k u v z. with_number (codes "<rect class='m") k ++ box_text u v z ++ with_number (codes "' height='3'><title>m") k ++ codes " held by" ++ span_text o ended to in
-    added_five old a b c _ _ _ _ _ one two three d e four five ∙ (λ i. old ++ shape (same_m i) (same_x i) (same_y i) (same_w i))
+added_bar start mutex lane o ended to m old a b c d e same_m one two three four five =
+    let shape : ℕ → List ℕ = λ k. with_number (codes "<rect class='m") k ++ bar_box start lane o ended to ++ with_number (codes "' height='3'><title>m") k ++ codes " held by" ++ span_text o ended to in
+    added_five old a b c _ _ _ _ _ one two three d e four five ∙ (λ i. old ++ shape (same_m i))
+
+pub added_taken : (start sem lane : ℕ) (o : Origin) (ended : Bool) (to s : ℕ) (old a b c d e : List ℕ) → s ≡ sem
+    → a ≡ old ++ codes "<rect class='e" → b ≡ a ++ bar_box start lane o ended to → c ≡ b ++ with_number (codes "' height='3'><title>s") s → d ≡ c ++ codes " taken by" → e ≡ d ++ span_text o ended to
+    → e ≡ old ++ taken_text start sem lane o ended to
+unfolding taken_text
+added_taken start sem lane o ended to s old a b c d e same one two three four five =
+    let shape : ℕ → List ℕ = λ k. codes "<rect class='e" ++ bar_box start lane o ended to ++ with_number (codes "' height='3'><title>s") k ++ codes " taken by" ++ span_text o ended to in
+    added_five old a b c _ _ _ _ _ one two three d e four five ∙ (λ i. old ++ shape (same i))
 
 pub added_box : (start : ℕ) (o : Origin) (ended : Bool) (to x y w : ℕ) (old a b : List ℕ) → x ≡ bar_x start o to → y ≡ row_y o.thread.0 + 12 → w ≡ bar_width start o ended to
     → a ≡ old ++ codes "<rect class='h" → b ≡ a ++ box_text x y w

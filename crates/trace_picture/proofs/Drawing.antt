@@ -20,21 +20,14 @@ use Rattle.trace_check.specs.declared.checker.Summary.{Summary}
 use Rattle.trace_check.specs.declared.checker.Verdict.TheVariants as verdict
 use Rattle.trace_check.specs.Verdicts.{front_text, refusal}
 use Rattle.trace_check.proofs.UnderWay.{IsUnderWay, few, starts_on, step_on, fails_on, ends_on, consumes_some}
+use Rattle.trace_board.proofs.Behind.{behind-push, length-behind}
 use Rattle.trace_picture.specs.declared.view.View.{View}
-use Rattle.trace_picture.specs.Kept.{Kept, nothing_kept, kept_after, kept_since, behind}
+use Rattle.trace_board.specs.Kept.{Kept, nothing_kept, kept_after, kept_since, behind}
 use Rattle.trace_picture.specs.Shapes.{with_number}
 use Rattle.trace_picture.specs.Bands.{step_text, failing_text}
 use Rattle.trace_picture.specs.Picture.{head_text, steps_text, front_picture, closing_if, last_closing, end_text, failed_note, failed_picture, cut_picture}
 use Rattle.trace_picture.specs.Rings.{IsEnding}
 use Rattle.trace_picture.specs.Drawn.{IsFrontText, GotCut, IsDrawn, IsAPicture, IsCutOff}
-
-pub behind-push : (past es : List Event) (e : Event) → behind past (es ++ e ∷ []) ≡ e ∷ behind past es
-behind-push past [] e = refl
-behind-push past (x ∷ es) e = behind-push (x ∷ past) es e
-
-pub length-behind : (past es : List Event) → length (behind past es) ≡ length past + length es
-length-behind past [] = omega arith
-length-behind past (x ∷ es) = omega (arith, length-behind (x ∷ past) es)
 
 steps-push : (l : Layout) (v : View) (past es : List Event) (e : Event)
     → steps_text l v past (es ++ e ∷ []) ≡ steps_text l v past es ++ step_text l v (kept_since (behind past es)) (length (behind past es)) e
@@ -137,11 +130,11 @@ module _ (budget : ℕ) (left₀ : Option (List ℕ)) (before now : ℕ) (p : St
         run = u.run;
       }
 
-  ends_same : (words : List ℕ) → closing_if p.layout v k count ++ end_text p.layout v count (with_number words count)
-      ≡ last_closing p.layout v d.under_way.events ++ end_text p.layout v (length d.under_way.events) (with_number words (length d.under_way.events))
+  ends_same : (words : List ℕ) → closing_if p.layout v k count ++ end_text p.layout v k count (with_number words count)
+      ≡ last_closing p.layout v d.under_way.events ++ end_text p.layout v (kept_since (behind [] d.under_way.events)) (length d.under_way.events) (with_number words (length d.under_way.events))
   ends_same words =
       let n = sym d.under_way.counted in
-      λ i. closing_if p.layout v (d.kept_is i) (n i) ++ end_text p.layout v (n i) (with_number words (n i))
+      λ i. closing_if p.layout v (d.kept_is i) (n i) ++ end_text p.layout v (d.kept_is i) (n i) (with_number words (n i))
 
   -- the end that the counts say is that of the events
   pub legal_end : (on : Bool) (l : Layout) (end : List ℕ) → l ≡ p.layout → IsEnding on l v k count d.under_way.events end
@@ -155,24 +148,24 @@ module _ (budget : ℕ) (left₀ : Option (List ℕ)) (before now : ℕ) (p : St
   pub legal_pending : (end : List ℕ) → Pending told₀ told (kept ++ end) (front_picture p.layout v d.under_way.events ++ end) []
   legal_pending end = pending_text told₀ told kept (kept ++ end) (front_picture p.layout v d.under_way.events) end d.flows refl
 
-  fails_same : (e : Event) (why : Broken) → failing_text p.layout v k count e why ++ end_text p.layout v (count + 1) (failed_note count e why)
-      ≡ failing_text p.layout v (kept_since (behind [] d.under_way.events)) (length d.under_way.events) e why ++ end_text p.layout v (length d.under_way.events + 1) (failed_note (length d.under_way.events) e why)
+  fails_same : (e : Event) (why : Broken) → failing_text p.layout v k count e why ++ end_text p.layout v k (count + 1) (failed_note count e why)
+      ≡ failing_text p.layout v (kept_since (behind [] d.under_way.events)) (length d.under_way.events) e why ++ end_text p.layout v (kept_since (behind [] d.under_way.events)) (length d.under_way.events + 1) (failed_note (length d.under_way.events) e why)
   fails_same e why =
       let n = sym d.under_way.counted in
-      λ i. failing_text p.layout v (d.kept_is i) (n i) e why ++ end_text p.layout v (n i + 1) (failed_note (n i) e why)
+      λ i. failing_text p.layout v (d.kept_is i) (n i) e why ++ end_text p.layout v (d.kept_is i) (n i + 1) (failed_note (n i) e why)
 
   module _ (end : List ℕ) (told' : Option (List ℕ)) where
-    pub cut_pending : end ≡ kept ++ (closing_if p.layout v k count ++ end_text p.layout v count (with_number (codes "the input can't be read further, events: ") count)) → Pending told₀ told end (cut_picture p.layout v d.under_way.events) []
+    pub cut_pending : end ≡ kept ++ (closing_if p.layout v k count ++ end_text p.layout v k count (with_number (codes "the input can't be read further, events: ") count)) → Pending told₀ told end (cut_picture p.layout v d.under_way.events) []
     unfolding cut_picture
     cut_pending text =
         let es = d.under_way.events in
-        pending_text told₀ told kept end (front_picture p.layout v es) (last_closing p.layout v es ++ end_text p.layout v (length es) (with_number (codes "the input can't be read further, events: ") (length es))) d.flows (text ∙ ap (λ x. kept ++ x) (ends_same (codes "the input can't be read further, events: ")))
+        pending_text told₀ told kept end (front_picture p.layout v es) (last_closing p.layout v es ++ end_text p.layout v (kept_since (behind [] d.under_way.events)) (length es) (with_number (codes "the input can't be read further, events: ") (length es))) d.flows (text ∙ ap (λ x. kept ++ x) (ends_same (codes "the input can't be read further, events: ")))
 
-    pub failed_pending : (e : Event) (why : Broken) → end ≡ kept ++ (failing_text p.layout v k count e why ++ end_text p.layout v (count + 1) (failed_note count e why)) → Pending told₀ told end (failed_picture p.layout v d.under_way.events e why) []
+    pub failed_pending : (e : Event) (why : Broken) → end ≡ kept ++ (failing_text p.layout v k count e why ++ end_text p.layout v k (count + 1) (failed_note count e why)) → Pending told₀ told end (failed_picture p.layout v d.under_way.events e why) []
     unfolding failed_picture
     failed_pending e why text =
         let es = d.under_way.events in
-        pending_text told₀ told kept end (front_picture p.layout v es) (failing_text p.layout v (kept_since (behind [] es)) (length es) e why ++ end_text p.layout v (length es + 1) (failed_note (length es) e why)) d.flows (text ∙ ap (λ x. kept ++ x) (fails_same e why))
+        pending_text told₀ told kept end (front_picture p.layout v es) (failing_text p.layout v (kept_since (behind [] es)) (length es) e why ++ end_text p.layout v (kept_since (behind [] d.under_way.events)) (length es + 1) (failed_note (length es) e why)) d.flows (text ∙ ap (λ x. kept ++ x) (fails_same e why))
 
     -- a sink that failed
     pub cut_by : (text : List ℕ) → IsAPicture p.layout v d.under_way.events text → AppendsFront told₀ told' text → (bytes : List ℕ) → left₀ ≡ Some bytes → (w : IsFrontText budget bytes) × (text : List ℕ) × IsAPicture w.layout v w.events text × AppendsFront told₀ told' text
@@ -205,21 +198,21 @@ module _ (budget : ℕ) (left₀ : Option (List ℕ)) (before now : ℕ) (p : St
   unfolding cut_picture
   room_cut f =
       let es = d.under_way.events in
-      let ending = last_closing p.layout v es ++ end_text p.layout v (length es) (with_number (codes "the input can't be read further, events: ") (length es)) in
+      let ending = last_closing p.layout v es ++ end_text p.layout v (kept_since (behind [] d.under_way.events)) (length es) (with_number (codes "the input can't be read further, events: ") (length es)) in
       let more : Pending told₀ told kept (cut_picture p.layout v es) ending = (d.flows.0, d.flows.1, ap (λ x. x ++ ending) (d.flows.2 ∙ append-nil (d.flows.0 ++ kept))) in
       let front : AppendsFront told₀ told' (cut_picture p.layout v es) = pending_fault told₀ told told' kept (cut_picture p.layout v es) ending more f in
       if_some left₀ _ (cut_by budget left₀ before now p m count v told₀ told kept k d end told' (cut_picture p.layout v es) (inr (inl refl)) front)
 
-  pub refused_got : (f : TextFault) → end ≡ kept ++ (closing_if l v k count ++ end_text l v count (with_number (codes "the input can't be read further, events: ") count)) → Appends told told' end → IsDrawn budget v left₀ told₀ told' (refusal f)
+  pub refused_got : (f : TextFault) → end ≡ kept ++ (closing_if l v k count ++ end_text l v k count (with_number (codes "the input can't be read further, events: ") count)) → Appends told told' end → IsDrawn budget v left₀ told₀ told' (refusal f)
   unfolding front_read
   refused_got f text a =
-      let sent = pending_sent told₀ told told' end (cut_picture p.layout v d.under_way.events) (cut_pending budget left₀ before now p m count v told₀ told kept k d end told' (subst (λ x. end ≡ kept ++ (closing_if x v k count ++ end_text x v count (with_number (codes "the input can't be read further, events: ") count))) same_l text)) a in
+      let sent = pending_sent told₀ told told' end (cut_picture p.layout v d.under_way.events) (cut_pending budget left₀ before now p m count v told₀ told kept k d end told' (subst (λ x. end ≡ kept ++ (closing_if x v k count ++ end_text x v k count (with_number (codes "the input can't be read further, events: ") count))) same_l text)) a in
       refused_drawn budget v left₀ told₀ told' f (if_some left₀ _ (λ bytes told_is. inr (front_read budget left₀ before now p m count v told₀ told kept k d bytes told_is, sent)))
 
-  pub refused_cut : end ≡ kept ++ (closing_if l v k count ++ end_text l v count (with_number (codes "the input can't be read further, events: ") count)) → AppendsFront told told' end → IsCutOff budget v left₀ told₀ told'
+  pub refused_cut : end ≡ kept ++ (closing_if l v k count ++ end_text l v k count (with_number (codes "the input can't be read further, events: ") count)) → AppendsFront told told' end → IsCutOff budget v left₀ told₀ told'
   refused_cut text f =
       let es = d.under_way.events in
-      let front = pending_fault told₀ told told' end (cut_picture p.layout v es) [] (cut_pending budget left₀ before now p m count v told₀ told kept k d end told' (subst (λ x. end ≡ kept ++ (closing_if x v k count ++ end_text x v count (with_number (codes "the input can't be read further, events: ") count))) same_l text)) f in
+      let front = pending_fault told₀ told told' end (cut_picture p.layout v es) [] (cut_pending budget left₀ before now p m count v told₀ told kept k d end told' (subst (λ x. end ≡ kept ++ (closing_if x v k count ++ end_text x v k count (with_number (codes "the input can't be read further, events: ") count))) same_l text)) f in
       if_some left₀ _ (cut_by budget left₀ before now p m count v told₀ told kept k d end told' (cut_picture p.layout v es) (inr (inl refl)) front)
 
   pub legal_cut : (tail : List ℕ) → IsEnding v.ordered l v k count d.under_way.events tail → AppendsFront told told' (kept ++ tail) → IsCutOff budget v left₀ told₀ told'
@@ -230,10 +223,10 @@ module _ (budget : ℕ) (left₀ : Option (List ℕ)) (before now : ℕ) (p : St
       let tail_is = legal_end budget left₀ before now p m count v told₀ told kept k d v.ordered l tail same_l h in
       if_some left₀ _ (cut_by budget left₀ before now p m count v told₀ told kept k d end told' all (inl (tail, tail_is, refl)) front)
 
-  pub failed_cut : (e : Event) (why : Broken) → end ≡ kept ++ (failing_text l v k count e why ++ end_text l v (count + 1) (failed_note count e why)) → AppendsFront told told' end → IsCutOff budget v left₀ told₀ told'
+  pub failed_cut : (e : Event) (why : Broken) → end ≡ kept ++ (failing_text l v k count e why ++ end_text l v k (count + 1) (failed_note count e why)) → AppendsFront told told' end → IsCutOff budget v left₀ told₀ told'
   failed_cut e why text f =
       let es = d.under_way.events in
-      let front = pending_fault told₀ told told' end (failed_picture p.layout v es e why) [] (failed_pending budget left₀ before now p m count v told₀ told kept k d end told' e why (subst (λ x. end ≡ kept ++ (failing_text x v k count e why ++ end_text x v (count + 1) (failed_note count e why))) same_l text)) f in
+      let front = pending_fault told₀ told told' end (failed_picture p.layout v es e why) [] (failed_pending budget left₀ before now p m count v told₀ told kept k d end told' e why (subst (λ x. end ≡ kept ++ (failing_text x v k count e why ++ end_text x v k (count + 1) (failed_note count e why))) same_l text)) f in
       if_some left₀ _ (cut_by budget left₀ before now p m count v told₀ told kept k d end told' (failed_picture p.layout v es e why) (inr (inr (e, why, refl))) front)
 
 pub legal_got : (budget : ℕ) (left₀ : Option (List ℕ)) (before now : ℕ) (p p' : Standing) (m : Moment) (count : ℕ) (v : View) (told₀ told : Option (List ℕ)) (kept : List ℕ) (k : Kept) (d : IsDrawing budget left₀ before p now m count v told₀ told kept k) (end : List ℕ) (told' : Option (List ℕ)) (l : Layout) (s : Summary) → l ≡ p.layout
@@ -249,12 +242,12 @@ legal_got budget (Some bytes) before now p p' m count v told₀ told kept k d en
 )
 
 pub failed_got : (budget : ℕ) (left₀ : Option (List ℕ)) (before now : ℕ) (p p' : Standing) (m : Moment) (count : ℕ) (v : View) (told₀ told : Option (List ℕ)) (kept : List ℕ) (k : Kept) (d : IsDrawing budget left₀ before p now m count v told₀ told kept k) (end : List ℕ) (told' : Option (List ℕ)) (l : Layout) (e : Event) (why : Broken) → l ≡ p.layout
-    → TakesEvent p p' e → Fails (spec_of m) e why → end ≡ kept ++ (failing_text l v k count e why ++ end_text l v (count + 1) (failed_note count e why)) → Appends told told' end → IsDrawn budget v left₀ told₀ told' (verdict.Illegal count why)
+    → TakesEvent p p' e → Fails (spec_of m) e why → end ≡ kept ++ (failing_text l v k count e why ++ end_text l v k (count + 1) (failed_note count e why)) → Appends told told' end → IsDrawn budget v left₀ told₀ told' (verdict.Illegal count why)
 unfolding fails_on
 failed_got budget None before now p p' m count v told₀ told kept k d end told' l e why same_l t f text sent = tt
 failed_got budget (Some bytes) before now p p' m count v told₀ told kept k d end told' l e why same_l t f text sent = (
   fails_on budget (Some bytes) before now p p' m count e why d.under_way t f,
-  pending_sent told₀ told told' end (failed_picture p.layout v d.under_way.events e why) (failed_pending budget (Some bytes) before now p m count v told₀ told kept k d end told' e why (subst (λ x. end ≡ kept ++ (failing_text x v k count e why ++ end_text x v (count + 1) (failed_note count e why))) same_l text)) sent,
+  pending_sent told₀ told told' end (failed_picture p.layout v d.under_way.events e why) (failed_pending budget (Some bytes) before now p m count v told₀ told kept k d end told' e why (subst (λ x. end ≡ kept ++ (failing_text x v k count e why ++ end_text x v k (count + 1) (failed_note count e why))) same_l text)) sent,
 )
 
 pub take_none : (xs : List ℕ) → take 0 xs ≡ []

@@ -1,11 +1,8 @@
 pub mod Added
-pub mod Agreeing
 pub mod Bars
-pub mod Causing
+pub mod Digits
 pub mod Drawing
 pub mod Exact
-pub mod Freeing
-pub mod Holding
-pub mod Noting
+pub mod Lines
 pub mod Ringing
 pub mod Seeing

@@ -18,7 +18,7 @@ use Rattle.lock_order.specs.declared.nestings.Nestings.{Nestings}
 use Rattle.lock_order.specs.Order.{IsFirst, TellsCycle}
 use Rattle.lock_order.specs.Kept.{IsKept}
 use Rattle.trace_picture.specs.declared.view.View.{View}
-use Rattle.trace_picture.specs.Kept.{Kept, nothing_kept, kept_after}
+use Rattle.trace_board.specs.Kept.{Kept, nothing_kept, kept_after}
 use Rattle.trace_picture.specs.Picture.{head_text}
 use Rattle.trace_picture.specs.Bands.{step_text}
 use Rattle.trace_picture.specs.Shapes.{with_number}

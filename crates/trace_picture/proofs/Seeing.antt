@@ -1,31 +1,31 @@
 -- What is drawn: marks, bars and lanes.
-use Rattle.std.proofs.Common.{◌≡◌, ◌≢◌, ℕ, zero, suc, ◌+◌, ◌-◌, ◌*◌, ◌%◌, ◌<◌, ◌≤◌, ◌⊎◌, inl, inr, Bool, true, false, cond, eqb, List, [], ◌∷◌, ◌++◌, length, length-append, refl, ap, sym, subst, ◌∙◌, append_assoc, Some, None, MatchOption, ne_eqb, arith}
-use Rattle.std.specs.Prelude.{codes, min, max, nat_le}
+use Rattle.std.proofs.Common.{◌≡◌, ℕ, suc, ◌+◌, ◌-◌, ◌*◌, ◌%◌, ◌<◌, ◌≤◌, ◌⊎◌, inl, inr, Bool, true, false, cond, eqb, List, [], ◌∷◌, ◌++◌, length, length-append, refl, ap, sym, subst, ◌∙◌, append_assoc, Some, None, MatchOption, arith}
+use Rattle.std.specs.Prelude.{codes, min, max}
 use Rattle.std.specs.declared.option.Option.{Option}
 use mathlib.Core.Option.{none, some, Option as Optional}
-use Rattle.std.proofs.lemmas.Bool.{cases_lt, cond_both, cond-true, eqb-true}
+use Rattle.std.proofs.lemmas.Bool.{cases_lt, cond-true, true≢false}
 use Rattle.std.proofs.lemmas.Bool.Decides.{nat_tests}
 use Rattle.larch_actions.specs.declared.event.Layout.{Layout}
 use Rattle.larch_actions.specs.declared.event.Event.{Event}
 use Rattle.larch_actions.specs.declared.event.Action.{Action}
 use Rattle.larch_actions.specs.declared.event.Action.TheVariants.{Acquire, Release, Enqueue, Resume, AlertEnqueue, AlertReturn, AlertRaise, Signal, Broadcast, P, V, Alert, TestAlert, AlertPReturn, AlertPRaise}
-use Rattle.larch_actions.specs.Actions.{Spec, IsRun, MayAct, MeetsRequires, put}
-use Rattle.trace_picture.specs.declared.history.Origin.{Origin}
-use Rattle.trace_picture.specs.declared.history.Turn.{Turn}
-use Rattle.trace_picture.specs.declared.history.Turn.TheVariants.{Begins, Ends, Stays}
-use Rattle.trace_picture.specs.declared.rows.Row.{Row}
+use Rattle.larch_actions.specs.Actions.{Spec, MeetsRequires}
+use Rattle.trace_board.specs.declared.history.Origin.{Origin}
+use Rattle.trace_board.specs.declared.history.Turn.TheVariants.{Begins, Ends, Stays}
+use Rattle.trace_board.specs.declared.rows.Bar.{Bar}
+use Rattle.trace_board.specs.declared.rows.Bar.TheVariants.{Mutex, Semaphore}
 use Rattle.trace_picture.specs.declared.view.View.{View}
 use Rattle.trace_picture.specs.Looks.{look_of}
-use Rattle.trace_picture.specs.Marks.{marks, marks_of}
-use Rattle.trace_picture.specs.Rows.{row_with, beside, with_bar, let_go, has, lane_in, turned}
-use Rattle.trace_picture.specs.Kept.{Kept, kept_since, kept_after, behind}
-use Rattle.trace_picture.specs.Places.{in_view, column, lane_y, gap_before, bar_x, bar_width}
-use Rattle.trace_picture.specs.Shapes.{place_text, box_text, bar_text, span_text, line_of, number_text, mark_text, object_if, with_number}
-use Rattle.trace_picture.specs.Bands.{band_start, opening, closing_after, bar_if, bar_ended, wait_ended, bars_ended, arrow_to, event_shapes, step_text}
-use Rattle.trace_picture.specs.Laws.{IsSince}
-use Rattle.trace_picture.specs.Seen.{kind_of, MarksDiffer, HasText, EventsAreMarked, IsBarTo, BarsAreDrawn, LanesAreOwn}
-use Rattle.trace_picture.proofs.Drawing.{length-behind}
-use Rattle.trace_picture.proofs.Holding as holding
+use Rattle.trace_board.specs.Marks.{marks, marks_of}
+use Rattle.trace_board.specs.Rows.{lane_in}
+use Rattle.trace_board.specs.Kept.{Kept, kept_since, kept_after, behind}
+use Rattle.trace_picture.specs.Places.{in_view, gap_before, bar_x, bar_width}
+use Rattle.trace_picture.specs.Shapes.{place_text, box_text, bar_box, bar_text, taken_text, span_text, line_of, number_text, mark_text, object_if, with_number}
+use Rattle.trace_picture.specs.Bands.{band_start, opening, closing_after, bar_if, taken_if, bar_ended, taken_ended, wait_ended, bars_ended, arrow_to, event_shapes, step_text}
+use Rattle.trace_board.specs.Laws.{IsSince}
+use Rattle.trace_picture.specs.Seen.{kind_of, MarksDiffer, HasText, EventsAreMarked, BarsAreDrawn, TakingsAreDrawn}
+use Rattle.trace_board.proofs.Behind.{length-behind}
+use Rattle.trace_board.proofs.Holding as holding
 
 -- the place of a letter among others
 index_of : ℕ → List ℕ → ℕ
@@ -78,10 +78,15 @@ marked_there : (op num part rest end object bars arrow cl : List ℕ)
     → op ++ (num ++ (part ++ rest ++ end) ++ object ++ bars ++ arrow) ++ cl ≡ (op ++ num) ++ part ++ (rest ++ (end ++ (object ++ (bars ++ (arrow ++ cl)))))
 marked_there op num part rest end object bars arrow cl = simp append_assoc
 
-barred_there : (op num mark object name box height held span wait arrow cl : List ℕ)
-    → op ++ (num ++ mark ++ object ++ ((name ++ box ++ height ++ held ++ span) ++ wait) ++ arrow) ++ cl
-    ≡ (op ++ num ++ mark ++ object) ++ (name ++ box) ++ (height ++ (held ++ (span ++ (wait ++ (arrow ++ cl)))))
-barred_there op num mark object name box height held span wait arrow cl = simp append_assoc
+barred_there : (op num mark object name box height held span more arrow cl : List ℕ)
+    → op ++ (num ++ mark ++ object ++ ((name ++ box ++ height ++ held ++ span) ++ more) ++ arrow) ++ cl
+    ≡ (op ++ num ++ mark ++ object) ++ (name ++ box) ++ (height ++ (held ++ (span ++ (more ++ (arrow ++ cl)))))
+barred_there op num mark object name box height held span more arrow cl = simp append_assoc
+
+taken_there : (op num mark object bars name box height by span wait arrow cl : List ℕ)
+    → op ++ (num ++ mark ++ object ++ (bars ++ (name ++ box ++ height ++ by ++ span) ++ wait) ++ arrow) ++ cl
+    ≡ (op ++ num ++ mark ++ object ++ bars) ++ (name ++ box) ++ (height ++ (by ++ (span ++ (wait ++ (arrow ++ cl)))))
+taken_there op num mark object bars name box height by span wait arrow cl = simp append_assoc
 
 pub events_are_marked : EventsAreMarked
 unfolding step_text event_shapes mark_text
@@ -100,22 +105,27 @@ events_are_marked = λ l v k n e seen.
     }
 
 -- the bar that the event ends is in what it adds
-module _ (l : Layout) (v : View) (k : Kept) (n : ℕ) (e : Event) (seen : in_view v n ≡ true) (m : ℕ) (o : Origin) (turn : (marks e).mutex ≡ Ends m) (held : k.held m ≡ Some o) where
+module _ (l : Layout) (v : View) (k : Kept) (n : ℕ) (e : Event) (seen : in_view v n ≡ true) (m : ℕ) (o : Origin) where
   abbrev start : ℕ
   start = band_start v n
 
-  abbrev lane : ℕ
-  lane = lane_in (k.rows o.thread.0) m
+  abbrev box_at : ℕ → List ℕ
+  box_at lane = box_text (bar_x start o (n + 1)) (37 + 34 * o.thread.0 + 3 * lane) (bar_width start o true (n + 1))
+
+  box_is : (lane : ℕ) → bar_box start lane o true (n + 1) ≡ box_at lane
+  unfolding bar_box
+  box_is lane = ap (λ y. box_text (bar_x start o (n + 1)) y (bar_width start o true (n + 1))) (omega arith)
+
+  abbrev taken : List ℕ
+  taken = taken_ended start n k.rows k.taken (marks e).semaphore
 
   abbrev wait : List ℕ
   wait = wait_ended start n k.waits (marks e).wait
 
-  bar_is : bars_ended v k n e ≡ bar_text start m lane o true (n + 1) ++ wait
-  bar_is = ap (λ t. bar_ended start n k.rows k.held t ++ wait) turn ∙ ap (λ h. bar_if start true (n + 1) k.rows m h ++ wait) held
-
-  bar_there : (y : ℕ) → lane_y o.thread.0 lane ≡ y → HasText (step_text l v k n e) (with_number (codes "<rect class='m") m ++ box_text (bar_x start o (n + 1)) y (bar_width start o true (n + 1)))
+  -- of a mutex
+  bar_there : (marks e).mutex ≡ Ends m → k.held m ≡ Some o → HasText (step_text l v k n e) (with_number (codes "<rect class='m") m ++ box_at (lane_in (k.rows o.thread.0) (Mutex m)))
   unfolding step_text event_shapes bar_text
-  bar_there y same =
+  bar_there turn held =
       let op = opening l v n in
       let num = number_text v n in
       let mark = mark_text v n e in
@@ -126,14 +136,45 @@ module _ (l : Layout) (v : View) (k : Kept) (n : ℕ) (e : Event) (seen : in_vie
       let height = with_number (codes "' height='3'><title>m") m in
       let by = codes " held by" in
       let span = span_text o true (n + 1) in
-      let box : ℕ → List ℕ = λ z. box_text (bar_x start o (n + 1)) z (bar_width start o true (n + 1)) in
+      let lane = lane_in (k.rows o.thread.0) (Mutex m) in
+      let is : bar_ended start n k.rows k.held (marks e).mutex ≡ name ++ box_at lane ++ height ++ by ++ span =
+      ap (λ t. bar_ended start n k.rows k.held t) turn ∙ ap (λ h. bar_if start true (n + 1) k.rows m h) held ∙ ap (λ z. name ++ z ++ height ++ by ++ span) (box_is lane)
+      in
       record {
         before = op ++ num ++ mark ++ object;
+        after = height ++ (by ++ (span ++ ((taken ++ wait) ++ (arrow ++ cl))));
+        text =
+            cond-true (in_view v n) (op ++ event_shapes v k n e ++ cl) [] seen
+            ∙ ap (λ b. op ++ (num ++ mark ++ object ++ b ++ arrow) ++ cl) (append_assoc (bar_ended start n k.rows k.held (marks e).mutex) taken wait ∙ ap (λ b. b ++ (taken ++ wait)) is)
+            ∙ barred_there op num mark object name (box_at lane) height by span (taken ++ wait) arrow cl;
+      }
+
+  -- of a semaphore
+  taking_there : (marks e).semaphore ≡ Ends m → k.taken m ≡ Some o → HasText (step_text l v k n e) (codes "<rect class='e" ++ box_at (lane_in (k.rows o.thread.0) (Semaphore m)))
+  unfolding step_text event_shapes taken_text
+  taking_there turn since =
+      let op = opening l v n in
+      let num = number_text v n in
+      let mark = mark_text v n e in
+      let object = object_if v n e (marks e).wait in
+      let bars = bar_ended start n k.rows k.held (marks e).mutex in
+      let arrow = arrow_to v k n e in
+      let cl = closing_after l v (kept_after n e k) n in
+      let name = codes "<rect class='e" in
+      let height = with_number (codes "' height='3'><title>s") m in
+      let by = codes " taken by" in
+      let span = span_text o true (n + 1) in
+      let lane = lane_in (k.rows o.thread.0) (Semaphore m) in
+      let is : taken ≡ name ++ box_at lane ++ height ++ by ++ span =
+      ap (λ t. taken_ended start n k.rows k.taken t) turn ∙ ap (λ h. taken_if start true (n + 1) k.rows m h) since ∙ ap (λ z. name ++ z ++ height ++ by ++ span) (box_is lane)
+      in
+      record {
+        before = op ++ num ++ mark ++ object ++ bars;
         after = height ++ (by ++ (span ++ (wait ++ (arrow ++ cl))));
         text =
             cond-true (in_view v n) (op ++ event_shapes v k n e ++ cl) [] seen
-            ∙ ap (λ b. op ++ (num ++ mark ++ object ++ b ++ arrow) ++ cl) (bar_is ∙ ap (λ z. (name ++ box z ++ height ++ by ++ span) ++ wait) same)
-            ∙ barred_there op num mark object name (box y) height by span wait arrow cl;
+            ∙ ap (λ b. op ++ (num ++ mark ++ object ++ (bars ++ b ++ wait) ++ arrow) ++ cl) is
+            ∙ taken_there op num mark object bars name (box_at lane) height by span wait arrow cl;
       }
 
 gives_own : (t : ℕ) (a : Action) (s : Spec) (m : ℕ) → (marks_of t a).mutex ≡ Ends m → MeetsRequires t s a → s.holder m ≡ some t
@@ -163,7 +204,7 @@ gives_own t (AlertPReturn k) s m h r = let bad : Stays ≡ Ends m = h in cc
 gives_own t (AlertPRaise k) s m h r = let bad : Stays ≡ Ends m = h in cc
 
 -- what a held mutex is held since
-held_since : (m t : ℕ) (past : List Event) (x : Option Origin) (h : Optional ℕ) → h ≡ some t → MatchOption x (h ≡ none) (λ o. (h ≡ some o.thread.0) × IsSince m o past) → (o : Origin) × (x ≡ Some o) × (o.thread.0 ≡ t) × IsSince m o past
+held_since : (m t : ℕ) (past : List Event) (x : Option Origin) (h : Optional ℕ) → h ≡ some t → MatchOption x (h ≡ none) (λ o. (h ≡ some o.thread.0) × IsSince (Mutex m) o past) → (o : Origin) × (x ≡ Some o) × (o.thread.0 ≡ t) × IsSince (Mutex m) o past
 held_since m t past None h is none_held = absurd (let bad : some t ≡ none = sym is ∙ none_held in cc)
 held_since m t past (Some o) h is held = (o, refl, same o.thread.0 t (sym held.0 ∙ is), held.1)
   where
@@ -197,6 +238,15 @@ gap_is s o = from (cases_lt o.place s)
 right_edge : (s n : ℕ) (o : Origin) → s ≤ n → o.place ≤ n → bar_x s o (n + 1) + bar_width s o true (n + 1) ≡ 54 + 12 * (n - s)
 right_edge s n o first le = right_from s n o.place (gap_before s o) first le (gap_is s o)
 
+-- what a taken semaphore is taken since
+taken_since : (n : ℕ) (past : List Event) (x : Option Origin) (b : Bool) → b ≡ false → MatchOption x (b ≡ true) (λ o. (b ≡ false) × IsSince (Semaphore n) o past) → (o : Origin) × (x ≡ Some o) × IsSince (Semaphore n) o past
+taken_since n past None b shut free = absurd (true≢false (sym free ∙ shut))
+taken_since n past (Some o) b shut since = (o, refl, since.1)
+
+-- the event from which a bar goes is before
+since_near : (b : Bar) (o : Origin) (es : List Event) → IsSince b o (behind [] es) → o.place < length es
+since_near b o es h = omega (arith, h.place, ap length h.split, length-append h.later (h.taking ∷ h.earlier), length-behind [] es)
+
 pub bars_are_drawn : BarsAreDrawn
 bars_are_drawn = λ l v es s r e may m turn seen.
     let past = behind [] es in
@@ -206,68 +256,36 @@ bars_are_drawn = λ l v es s r e may m turn seen.
     let start = band_start v n in
     let h = held_since m t past (k.held m) (s.holder m) (gives_own t e.action s m turn may.requires_met) (holding.bars_are_holds es s r m) in
     let o = h.0 in
-    let near : o.place < n = omega (arith, h.3.place, ap length h.3.split, length-append h.3.later (h.3.taking ∷ h.3.earlier), length-behind [] es) in
+    let near : o.place < n = since_near (Mutex m) o es h.3 in
+    let first : start ≤ n = omega arith in (
+      record {
+        o = o;
+        lane = lane_in (k.rows o.thread.0) (Mutex m);
+        since = h.3;
+        drawn = bar_there l v k n e seen m o turn h.1;
+        from_taking = λ le. left_here start n o (omega arith) le;
+        from_before = λ lt. left_before start n o first lt;
+        ends = right_edge start n o first (omega arith);
+      },
+      h.2,
+    )
+
+pub takings_are_drawn : TakingsAreDrawn
+takings_are_drawn = λ l v es s r e m turn shut seen.
+    let past = behind [] es in
+    let k = kept_since past in
+    let n = length es in
+    let start = band_start v n in
+    let h = taken_since m past (k.taken m) (s.avail m) shut (holding.bars_are_takings es s r m) in
+    let o = h.0 in
+    let near : o.place < n = since_near (Semaphore m) o es h.2 in
     let first : start ≤ n = omega arith in
     record {
       o = o;
-      lane = lane_in (k.rows o.thread.0) m;
-      since = h.3;
-      own = h.2;
-      drawn = bar_there l v k n e seen m o turn h.1 (37 + 34 * t + 3 * lane_in (k.rows o.thread.0) m) (omega (arith, h.2));
+      lane = lane_in (k.rows o.thread.0) (Semaphore m);
+      since = h.2;
+      drawn = taking_there l v k n e seen m o turn h.1;
       from_taking = λ le. left_here start n o (omega arith) le;
       from_before = λ lt. left_before start n o first lt;
       ends = right_edge start n o first (omega arith);
     }
-
-not_both : (x : Option ℕ) (m k : ℕ) → m ≢ k → has m x ≡ true → has k x ≡ true → ⊥
-not_both None m k ne h g = let bad : false ≡ true = h in cc
-not_both (Some i) m k ne h g = ne (sym (eqb-true i m h) ∙ eqb-true i k g)
-
-abbrev pick : Bool → Bool → Bool → ℕ
-pick p q r = cond p 0 (cond q 1 (cond r 2 3))
-
-lanes : (p q r a b c : Bool) → (p ≡ true → a ≡ true → ⊥) → (q ≡ true → b ≡ true → ⊥) → (r ≡ true → c ≡ true → ⊥) → pick p q r ≡ pick a b c → pick p q r ≡ 3
-lanes true q r true b c hp hq hr e = absurd (hp refl refl)
-lanes true q r false true c hp hq hr e = let bad : ◌≡◌ {A = ℕ} 0 1 = e in absurd (omega arith)
-lanes true q r false false true hp hq hr e = let bad : ◌≡◌ {A = ℕ} 0 2 = e in absurd (omega arith)
-lanes true q r false false false hp hq hr e = e
-lanes false true r true b c hp hq hr e = let bad : ◌≡◌ {A = ℕ} 1 0 = e in absurd (omega arith)
-lanes false true r false true c hp hq hr e = absurd (hq refl refl)
-lanes false true r false false true hp hq hr e = let bad : ◌≡◌ {A = ℕ} 1 2 = e in absurd (omega arith)
-lanes false true r false false false hp hq hr e = e
-lanes false false true true b c hp hq hr e = let bad : ◌≡◌ {A = ℕ} 2 0 = e in absurd (omega arith)
-lanes false false true false true c hp hq hr e = let bad : ◌≡◌ {A = ℕ} 2 1 = e in absurd (omega arith)
-lanes false false true false false true hp hq hr e = absurd (hr refl refl)
-lanes false false true false false false hp hq hr e = e
-lanes false false false a b c hp hq hr e = refl
-
-pub own_lane : (r : Row) (m k : ℕ) → m ≢ k → lane_in r m ≡ lane_in r k → lane_in r m ≡ 3
-own_lane r m k ne e = lanes (has m r.first) (has m r.second) (has m r.third) (has k r.first) (has k r.second) (has k r.third) (not_both r.first m k ne) (not_both r.second m k ne) (not_both r.third m k ne) e
-
-lane_beside : (k m : ℕ) → k ≢ m → (a b c : Option ℕ) → lane_in (beside k a b c) m ≡ lane_in (row_with a b c) m
-lane_beside k m ne None b c = ap (λ p. pick p (has m b) (has m c)) (ne_eqb k m ne)
-lane_beside k m ne (Some i) None c = ap (λ p. pick (eqb i m) p (has m c)) (ne_eqb k m ne)
-lane_beside k m ne (Some i) (Some j) None = ap (λ p. pick (eqb i m) (eqb j m) p) (ne_eqb k m ne)
-lane_beside k m ne (Some i) (Some j) (Some h) = refl
-
-still_has : (k m : ℕ) → k ≢ m → (x : Option ℕ) → has m (let_go k x) ≡ has m x
-still_has k m ne None = refl
-still_has k m ne (Some i) =
-    cond_both (eqb i k) None (Some i) (λ y. has m y ≡ eqb i m) (λ e. sym (ne_eqb i m (λ same. ne (sym (eqb-true i k e) ∙ same)))) (λ e. refl)
-
-pub lane_stays : (turn : Turn) (t : ℕ) (f : ℕ → Row) (m u : ℕ) → turn ≢ Begins m → turn ≢ Ends m → lane_in (turned turn t f u) m ≡ lane_in (f u) m
-lane_stays (Begins k) t f m u begins ends =
-    cond_both (eqb u t) (with_bar k (f t)) (f u) (λ y. lane_in y m ≡ lane_in (f u) m)
-    (λ e. lane_beside k m (λ same. begins (ap Begins same)) (f t).first (f t).second (f t).third ∙ ap (λ x. lane_in (f x) m) (sym (eqb-true u t e)))
-    (λ e. refl)
-lane_stays (Ends k) t f m u begins ends =
-    cond_both (eqb u t) (row_with (let_go k (f t).first) (let_go k (f t).second) (let_go k (f t).third)) (f u) (λ y. lane_in y m ≡ lane_in (f u) m)
-    (λ e. (λ i. pick (keeps (f t).first i) (keeps (f t).second i) (keeps (f t).third i)) ∙ ap (λ x. lane_in (f x) m) (sym (eqb-true u t e)))
-    (λ e. refl)
-  where
-    keeps : (x : Option ℕ) → has m (let_go k x) ≡ has m x
-    keeps x = still_has k m (λ same. ends (ap Ends same)) x
-lane_stays Stays t f m u begins ends = refl
-
-pub lanes_are_own : LanesAreOwn
-lanes_are_own = (own_lane, lane_stays)

@@ -1,9 +1,9 @@
 -- The arrow from the event that let a thread go on to the event by which it went on, and the line from the event that gave a mutex back to the next that took it.
 use Rattle.std.specs.Prelude.{ℕ, ◌+◌, ◌-◌, ◌==◌, nat_lt, nat_le, if◌then◌else◌, List, [], ◌++◌, codes, min, Some, None}
 use Rattle.std.specs.declared.option.Option.{Option}
-use Rattle.trace_picture.specs.declared.history.Origin.{Origin}
-use Rattle.trace_picture.specs.declared.history.Turn.{Turn}
-use Rattle.trace_picture.specs.declared.history.Turn.TheVariants.{Begins, Ends, Stays}
+use Rattle.trace_board.specs.declared.history.Origin.{Origin}
+use Rattle.trace_board.specs.declared.history.Turn.{Turn}
+use Rattle.trace_board.specs.declared.history.Turn.TheVariants.{Begins, Ends, Stays}
 use Rattle.trace_picture.specs.Places.{column_x, row_y}
 use Rattle.trace_picture.specs.Shapes.{with_number}
 

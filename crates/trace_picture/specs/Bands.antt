@@ -4,16 +4,17 @@ use Rattle.std.specs.declared.option.Option.{Option}
 use Rattle.larch_actions.specs.declared.event.Layout.{Layout}
 use Rattle.larch_actions.specs.declared.event.Event.{Event}
 use Rattle.larch_actions.specs.declared.event.Broken.{Broken}
-use Rattle.trace_picture.specs.declared.history.Origin.{Origin}
-use Rattle.trace_picture.specs.declared.history.Turn.{Turn}
-use Rattle.trace_picture.specs.declared.history.Turn.TheVariants.{Begins, Ends, Stays}
-use Rattle.trace_picture.specs.declared.rows.Row.{Row}
+use Rattle.trace_board.specs.declared.history.Origin.{Origin}
+use Rattle.trace_board.specs.declared.history.Turn.{Turn}
+use Rattle.trace_board.specs.declared.history.Turn.TheVariants.{Begins, Ends, Stays}
+use Rattle.trace_board.specs.declared.rows.Bar.TheVariants.{Mutex, Semaphore}
+use Rattle.trace_board.specs.declared.rows.Row.{Row}
 use Rattle.trace_picture.specs.declared.view.View.{View}
-use Rattle.trace_picture.specs.Marks.{marks}
-use Rattle.trace_picture.specs.Kept.{Kept, kept_after, let_on_by}
-use Rattle.trace_picture.specs.Rows.{lane_in}
+use Rattle.trace_board.specs.Marks.{marks}
+use Rattle.trace_board.specs.Kept.{Kept, kept_after, let_on_by}
+use Rattle.trace_board.specs.Rows.{lane_in}
 use Rattle.trace_picture.specs.Places.{in_view, column, is_open, band_top}
-use Rattle.trace_picture.specs.Shapes.{with_number, each_below, mark_text, object_if, failed_text, bar_text, wait_text, row_text, number_text}
+use Rattle.trace_picture.specs.Shapes.{with_number, each_below, mark_text, object_if, failed_text, bar_text, taken_text, wait_text, row_text, number_text}
 use Rattle.trace_picture.specs.Arrows.{arrow_if, handed}
 
 -- the first event of the band in which the event n stands
@@ -28,7 +29,12 @@ opening l v n =
 -- the bar of a mutex in the band that begins at `start`, where it is held
 abbrev pub bar_if : ℕ → Bool → ℕ → (ℕ → Row) → ℕ → Option Origin → List ℕ
 bar_if start ended to rows m None = []
-bar_if start ended to rows m (Some o) = bar_text start m (lane_in (rows o.thread.0) m) o ended to
+bar_if start ended to rows m (Some o) = bar_text start m (lane_in (rows o.thread.0) (Mutex m)) o ended to
+
+-- the bar of a semaphore, where it is taken
+abbrev pub taken_if : ℕ → Bool → ℕ → (ℕ → Row) → ℕ → Option Origin → List ℕ
+taken_if start ended to rows s None = []
+taken_if start ended to rows s (Some o) = taken_text start s (lane_in (rows o.thread.0) (Semaphore s)) o ended to
 
 -- the bar of a wait, where a thread waits
 abbrev pub wait_if : ℕ → Bool → ℕ → Option Origin → List ℕ
@@ -38,13 +44,20 @@ wait_if start ended to (Some o) = wait_text start o ended to
 -- the end of the band that begins at `start`, before the event `to`: the bars that go on
 unfoldable pub closing : Layout → Kept → ℕ → ℕ → List ℕ
 closing l k start to =
-    each_below (λ m. bar_if start false to k.rows m (k.held m)) l.mutexes ++ each_below (λ t. wait_if start false to (k.waits t)) l.threads ++ codes "</g>\n"
+    each_below (λ m. bar_if start false to k.rows m (k.held m)) l.mutexes ++ each_below (λ s. taken_if start false to k.rows s (k.taken s)) l.semaphores
+    ++ each_below (λ t. wait_if start false to (k.waits t)) l.threads ++ codes "</g>\n"
 
 -- the bar that ends with the event n
 abbrev pub bar_ended : ℕ → ℕ → (ℕ → Row) → (ℕ → Option Origin) → Turn → List ℕ
 bar_ended start n rows held (Begins k) = []
 bar_ended start n rows held (Ends k) = bar_if start true (n + 1) rows k (held k)
 bar_ended start n rows held Stays = []
+
+-- the bar of the semaphore that the event n makes available
+abbrev pub taken_ended : ℕ → ℕ → (ℕ → Row) → (ℕ → Option Origin) → Turn → List ℕ
+taken_ended start n rows taken (Begins k) = []
+taken_ended start n rows taken (Ends k) = taken_if start true (n + 1) rows k (taken k)
+taken_ended start n rows taken Stays = []
 
 abbrev pub wait_ended : ℕ → ℕ → (ℕ → Option Origin) → Turn → List ℕ
 wait_ended start n waits (Begins k) = []
@@ -57,7 +70,7 @@ closing_after l v k n = if is_open v (n + 1) then [] else closing l k (band_star
 
 -- the bars that the event n ends
 abbrev pub bars_ended : View → Kept → ℕ → Event → List ℕ
-bars_ended v k n e = bar_ended (band_start v n) n k.rows k.held (marks e).mutex ++ wait_ended (band_start v n) n k.waits (marks e).wait
+bars_ended v k n e = bar_ended (band_start v n) n k.rows k.held (marks e).mutex ++ taken_ended (band_start v n) n k.rows k.taken (marks e).semaphore ++ wait_ended (band_start v n) n k.waits (marks e).wait
 
 -- the arrow to the event n, where another thread let its thread go on, and the line, where another thread handed a mutex on
 abbrev pub arrow_to : View → Kept → ℕ → Event → List ℕ

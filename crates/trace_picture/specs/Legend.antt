@@ -1,7 +1,7 @@
 -- The legend of the marks: six entries in a row.
 use Rattle.std.specs.Prelude.{ℕ, ◌+◌, ◌*◌, ◌/◌, ◌%◌, List, [], ◌∷◌, ◌++◌, codes, slice_index_or}
-use Rattle.trace_picture.specs.declared.legend.Mark.{Mark}
-use Rattle.trace_picture.specs.declared.legend.Mark.TheVariants as mark
+use Rattle.trace_board.specs.declared.marks.Mark.{Mark}
+use Rattle.trace_board.specs.declared.marks.Mark.TheVariants as mark
 use Rattle.trace_picture.specs.declared.legend.Look.{Look}
 use Rattle.trace_picture.specs.Looks.{look_of, words_of, all_marks}
 use Rattle.trace_picture.specs.Shapes.{with_number}

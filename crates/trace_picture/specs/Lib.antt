@@ -1,16 +1,11 @@
 pub mod Looks
-pub mod Marks
-pub mod History
-pub mod Causes
-pub mod Rows
-pub mod Kept
 pub mod Places
 pub mod Shapes
 pub mod Legend
 pub mod Arrows
 pub mod Bands
+pub mod Longest
 pub mod Picture
 pub mod Rings
 pub mod Drawn
-pub mod Laws
 pub mod Seen

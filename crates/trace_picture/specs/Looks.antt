@@ -1,7 +1,7 @@
 -- The marks of events: how each looks, and what it is the mark of.
 use Rattle.std.specs.Prelude.{ℕ, List, [], ◌∷◌, codes, slice_index}
-use Rattle.trace_picture.specs.declared.legend.Mark.{Mark}
-use Rattle.trace_picture.specs.declared.legend.Mark.TheVariants.{Acquire, Release, Enqueue, Resume, Signal, Broadcast, P, V, Alert, TestAlert, AlertEnqueue, AlertReturn, AlertRaise, AlertPReturn, AlertPRaise, Failed}
+use Rattle.trace_board.specs.declared.marks.Mark.{Mark}
+use Rattle.trace_board.specs.declared.marks.Mark.TheVariants.{Acquire, Release, Enqueue, Resume, Signal, Broadcast, P, V, Alert, TestAlert, AlertEnqueue, AlertReturn, AlertRaise, AlertPReturn, AlertPRaise, Failed}
 use Rattle.trace_picture.specs.declared.legend.Look.{Look}
 
 -- how a mark is called, its class, and how it is shown

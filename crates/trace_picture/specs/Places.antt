@@ -1,7 +1,7 @@
 -- Where things stand in the picture: a hundred events a band, a row a thread, in points from the upper left.
 use Rattle.std.specs.Prelude.{ℕ, ◌+◌, ◌-◌, ◌*◌, ◌/◌, ◌%◌, ◌==◌, ◌&&◌, not, nat_lt, nat_le, Bool, min, max, if◌then◌else◌}
 use Rattle.larch_actions.specs.declared.event.Layout.{Layout}
-use Rattle.trace_picture.specs.declared.history.Origin.{Origin}
+use Rattle.trace_board.specs.declared.history.Origin.{Origin}
 use Rattle.trace_picture.specs.declared.view.View.{View}
 
 -- the event at place n is drawn

@@ -12,7 +12,7 @@ use Rattle.lock_order.specs.declared.nestings.Nestings.{Nestings}
 use Rattle.lock_order.specs.Order.{HasCycle, TellsCycle}
 use Rattle.lock_order.specs.Kept.{IsKept}
 use Rattle.trace_picture.specs.declared.view.View.{View}
-use Rattle.trace_picture.specs.Kept.{Kept, kept_since, behind}
+use Rattle.trace_board.specs.Kept.{Kept, kept_since, behind}
 use Rattle.trace_picture.specs.Places.{in_view, column, column_x, row_y, band_top}
 use Rattle.trace_picture.specs.Shapes.{with_number}
 use Rattle.trace_picture.specs.Picture.{closing_if, end_text, ending, legal_words, front_picture}
@@ -45,7 +45,7 @@ no_cycle_words = codes "legal, no lock-order cycle, events: "
 
 -- the end of the picture of n events, with rings around the events of this cycle
 abbrev pub ringed_ending : Layout → View → Kept → ℕ → List Nested → List ℕ
-ringed_ending l v k n ns = closing_if l v k n ++ rings_text l v ns ++ end_text l v n (with_number ringed_words n)
+ringed_ending l v k n ns = closing_if l v k n ++ rings_text l v ns ++ end_text l v k n (with_number ringed_words n)
 
 -- A cycle of the events is ringed, or they have none and this is said.
 abbrev pub ShowsOrdered : Layout → View → Kept → ℕ → List Event → List ℕ → Type 0

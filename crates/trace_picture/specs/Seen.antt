@@ -1,23 +1,23 @@
 -- What the marks and the bars that are drawn say. Numbers of points stand here a second time, so that a change in one place is seen.
-use Rattle.std.specs.Prelude.{◌≡◌, ◌≢◌, ℕ, ◌+◌, ◌-◌, ◌*◌, ◌%◌, ◌<◌, ◌≤◌, true, List, [], ◌∷◌, ◌++◌, length, codes}
+use Rattle.std.specs.Prelude.{◌≡◌, ◌≢◌, ℕ, ◌+◌, ◌-◌, ◌*◌, ◌%◌, ◌<◌, ◌≤◌, true, false, if◌then◌else◌, List, [], ◌∷◌, ◌++◌, length, codes, MatchOption}
 use Rattle.larch_actions.specs.declared.event.Layout.{Layout}
 use Rattle.larch_actions.specs.declared.event.Event.{Event}
 use Rattle.larch_actions.specs.declared.event.Action.{Action}
 use Rattle.larch_actions.specs.declared.event.Action.TheVariants.{Acquire, Release, Enqueue, Resume, AlertEnqueue, AlertReturn, AlertRaise, Signal, Broadcast, P, V, Alert, TestAlert, AlertPReturn, AlertPRaise}
 use Rattle.larch_actions.specs.Actions.{Spec, IsRun, MayAct}
-use Rattle.trace_picture.specs.declared.history.Origin.{Origin}
-use Rattle.trace_picture.specs.declared.history.Turn.{Turn}
-use Rattle.trace_picture.specs.declared.history.Turn.TheVariants.{Begins, Ends}
-use Rattle.trace_picture.specs.declared.rows.Row.{Row}
+use Rattle.trace_board.specs.declared.history.Origin.{Origin}
+use Rattle.trace_board.specs.declared.history.Turn.TheVariants.{Ends}
+use Rattle.trace_board.specs.declared.rows.Bar.{Bar}
+use Rattle.trace_board.specs.declared.rows.Bar.TheVariants.{Mutex, Semaphore}
 use Rattle.trace_picture.specs.declared.view.View.{View}
 use Rattle.trace_picture.specs.Looks.{look_of}
-use Rattle.trace_picture.specs.Marks.{marks, marks_of}
-use Rattle.trace_picture.specs.Rows.{lane_in, turned}
-use Rattle.trace_picture.specs.Kept.{Kept, kept_since, behind}
+use Rattle.trace_board.specs.Marks.{marks, marks_of}
+use Rattle.trace_board.specs.Kept.{Kept, kept_since, behind, longest_in}
 use Rattle.trace_picture.specs.Places.{in_view, bar_x, bar_width}
-use Rattle.trace_picture.specs.Shapes.{place_text, box_text, bar_text, with_number}
+use Rattle.trace_picture.specs.Shapes.{place_text, box_text, with_number}
 use Rattle.trace_picture.specs.Bands.{band_start, step_text}
-use Rattle.trace_picture.specs.Laws.{IsSince}
+use Rattle.trace_picture.specs.Picture.{end_text}
+use Rattle.trace_board.specs.Laws.{IsSince}
 
 -- the kinds of actions, in the order of the table
 abbrev pub kind_of : Action → ℕ
@@ -55,26 +55,34 @@ EventsAreMarked =
     (l : Layout) (v : View) (k : Kept) (n : ℕ) (e : Event) → in_view v n ≡ true
     → HasText (step_text l v k n e) ((codes "<use href='#" ++ (look_of (marks e).mark).letter ∷ []) ++ place_text (44 + 12 * ((n - v.first) % 100)) (18 + 34 * e.thread.0))
 
--- The bar of m that ends with the event at the place n, in the band from `start`: it goes from the event that took m, in the row of the thread that
--- gives it back, from the column of the taking, or the band's first, to that of the giving back, but for the gaps.
-pub record IsBarTo (whole : List ℕ) (past : List Event) (start n t m : ℕ) : Type 0 where
+-- The bar that ends with the event at the place n, in the band from `start`, as a tag that begins so: it goes from the event that took what the bar is
+-- of, in the row of the thread that did, from the column of the taking, or the band's first, to that of the event, but for the gaps.
+pub record IsBarTo (whole : List ℕ) (past : List Event) (name : List ℕ) (b : Bar) (start n : ℕ) : Type 0 where
   pub o : Origin
   pub lane : ℕ
-  pub since : IsSince m o past
-  pub own : o.thread.0 ≡ t
-  pub drawn : HasText whole (with_number (codes "<rect class='m") m ++ box_text (bar_x start o (n + 1)) (37 + 34 * t + 3 * lane) (bar_width start o true (n + 1)))
+  pub since : IsSince b o past
+  pub drawn : HasText whole (name ++ box_text (bar_x start o (n + 1)) (37 + 34 * o.thread.0 + 3 * lane) (bar_width start o true (n + 1)))
   pub from_taking : start ≤ o.place → bar_x start o (n + 1) ≡ 46 + 12 * (o.place - start)
   pub from_before : o.place < start → bar_x start o (n + 1) ≡ 44
   pub ends : bar_x start o (n + 1) + bar_width start o true (n + 1) ≡ 54 + 12 * (n - start)
 
--- Each event of a run that gives a mutex back ends its bar, where the event is in view.
+-- Each event of a run that gives a mutex back ends its bar, in the row of its thread, where the event is in view.
 abbrev pub BarsAreDrawn : Type 0
 BarsAreDrawn =
     (l : Layout) (v : View) (es : List Event) (s : Spec) → IsRun es s → (e : Event) → MayAct s e → (m : ℕ) → (marks e).mutex ≡ Ends m → in_view v (length es) ≡ true
-    → IsBarTo (step_text l v (kept_since (behind [] es)) (length es) e) (behind [] es) (band_start v (length es)) (length es) e.thread.0 m
+    → (w : IsBarTo (step_text l v (kept_since (behind [] es)) (length es) e) (behind [] es) (with_number (codes "<rect class='m") m) (Mutex m) (band_start v (length es)) (length es)) × (w.o.thread.0 ≡ e.thread.0)
 
--- Two mutexes have one lane of a row only where that is the last, and a bar keeps its lane while other mutexes are taken and given back.
-abbrev pub LanesAreOwn : Type 0
-LanesAreOwn =
-    ((r : Row) (m k : ℕ) → m ≢ k → lane_in r m ≡ lane_in r k → lane_in r m ≡ 3)
-    × ((turn : Turn) (t : ℕ) (f : ℕ → Row) (m u : ℕ) → turn ≢ Begins m → turn ≢ Ends m → lane_in (turned turn t f u) m ≡ lane_in (f u) m)
+-- Each event that makes a semaphore available which wasn't ends its bar, in the row of the thread that took it, where the event is in view.
+abbrev pub TakingsAreDrawn : Type 0
+TakingsAreDrawn =
+    (l : Layout) (v : View) (es : List Event) (s : Spec) → IsRun es s → (e : Event) → (k : ℕ) → (marks e).semaphore ≡ Ends k → s.avail k ≡ false → in_view v (length es) ≡ true
+    → IsBarTo (step_text l v (kept_since (behind [] es)) (length es) e) (behind [] es) (codes "<rect class='e") (Semaphore k) (band_start v (length es)) (length es)
+
+-- The last lines of a picture tell the longest hold of each mutex: by whom, how many events, from which event to which, or that there is none.
+abbrev pub HoldsAreTold : Type 0
+HoldsAreTold =
+    (l : Layout) (v : View) (past : List Event) (n : ℕ) (note : List ℕ) (m : ℕ) → m < l.mutexes
+    → MatchOption (longest_in (kept_since past) n m)
+    (HasText (end_text l v (kept_since past) n note) (with_number (codes "'>m") m ++ codes " never held"))
+    (λ h. HasText (end_text l v (kept_since past) n note) (with_number (codes "'>m") m ++ (with_number (codes " longest held by t") h.since.thread.0 ++ with_number (codes ", events: ") (h.last - h.since.place) ++ with_number (codes ", from ") h.since.place
+    ++ (if h.ended then with_number (codes " to ") h.last else codes " on"))))

@@ -4,12 +4,12 @@ use Rattle.larch_actions.specs.declared.event.Event.{Event}
 use Rattle.larch_actions.specs.declared.event.Broken.{Broken}
 use Rattle.larch_actions.specs.declared.event.Broken.TheVariants as broken
 use Rattle.trace_core.specs.Text.{action_text}
-use Rattle.trace_picture.specs.declared.history.Origin.{Origin}
-use Rattle.trace_picture.specs.declared.history.Turn.{Turn}
-use Rattle.trace_picture.specs.declared.history.Turn.TheVariants.{Begins, Ends, Stays}
+use Rattle.trace_board.specs.declared.history.Origin.{Origin}
+use Rattle.trace_board.specs.declared.history.Turn.{Turn}
+use Rattle.trace_board.specs.declared.history.Turn.TheVariants.{Begins, Ends, Stays}
 use Rattle.trace_picture.specs.declared.view.View.{View}
 use Rattle.trace_picture.specs.Looks.{look_of}
-use Rattle.trace_picture.specs.Marks.{marks}
+use Rattle.trace_board.specs.Marks.{marks}
 use Rattle.trace_picture.specs.Places.{column, column_x, row_y, lane_y, bar_x, bar_width}
 
 -- words and a number
@@ -68,10 +68,19 @@ end_words ended to = if ended then with_number (codes " to event ") (to - 1) els
 unfoldable pub span_text : Origin → Bool → ℕ → List ℕ
 span_text o ended to = with_number (codes " t") o.thread.0 ++ with_number (codes " from event ") o.place ++ end_words ended to ++ codes "</title></rect>\n"
 
+-- where a bar in this lane stands that ends before the event `to`, as far as the band that begins at `start` shows it
+unfoldable pub bar_box : ℕ → ℕ → Origin → Bool → ℕ → List ℕ
+bar_box start lane o ended to = box_text (bar_x start o to) (lane_y o.thread.0 lane) (bar_width start o ended to)
+
 -- a mutex that is held up to the event before `to`, as far as the band that begins at `start` shows it, in this lane
 unfoldable pub bar_text : ℕ → ℕ → ℕ → Origin → Bool → ℕ → List ℕ
 bar_text start m lane o ended to =
-    with_number (codes "<rect class='m") m ++ box_text (bar_x start o to) (lane_y o.thread.0 lane) (bar_width start o ended to) ++ with_number (codes "' height='3'><title>m") m ++ codes " held by" ++ span_text o ended to
+    with_number (codes "<rect class='m") m ++ bar_box start lane o ended to ++ with_number (codes "' height='3'><title>m") m ++ codes " held by" ++ span_text o ended to
+
+-- a semaphore that is taken, likewise
+unfoldable pub taken_text : ℕ → ℕ → ℕ → Origin → Bool → ℕ → List ℕ
+taken_text start s lane o ended to =
+    codes "<rect class='e" ++ bar_box start lane o ended to ++ with_number (codes "' height='3'><title>s") s ++ codes " taken by" ++ span_text o ended to
 
 -- the number of the condition of a wait, in its bar
 unfoldable pub wait_name : ℕ → Origin → ℕ → List ℕ

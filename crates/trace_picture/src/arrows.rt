@@ -1,14 +1,14 @@
 //! Arrows from the events that let a thread go on, and lines from those that hand a mutex on, written into a buffer behind its first `at` bytes. Each call says where it ended.
 ghost use Rattle.std.specs.Prelude.{◌≡◌, ◌+◌, ◌-◌, ◌<◌, ◌≤◌, ◌^◌, ◌++◌, length, take, codes};
-ghost use Rattle.trace_picture.specs.History.{entry_of, IsWithin};
+ghost use Rattle.trace_board.specs.History.{entry_of, IsWithin};
 ghost use Rattle.trace_picture.specs.Places.{column_x, row_y};
 ghost use Rattle.trace_picture.specs.Shapes.{with_number};
 ghost use Rattle.trace_picture.specs.Arrows.{point_text, bow_text, bow_x, bow_y, origin_text, cause_text, arrow_text, arrow_if, line_text, line_if, handed};
 
-use crate::history::{Origin, Table, Turn};
 use crate::shapes::{x_of, y_of};
 use crate::tags::add_with_number;
 use larch_actions::ThreadId;
+use trace_board::history::{Origin, Table, Turn};
 use trace_core::add;
 
 // Adds a point of a line.

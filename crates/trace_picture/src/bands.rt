@@ -1,25 +1,25 @@
 //! What each event adds to the picture.
 ghost use Rattle.std.specs.Prelude.{◌≡◌, ◌+◌, ◌-◌, ◌*◌, ◌<◌, ◌≤◌, ◌^◌, ◌++◌, length, take, codes, false, ℕ, None};
 ghost use Rattle.larch_actions.specs.Layout.{IsLawful, HasNames};
-ghost use Rattle.trace_picture.specs.History.{entry_of, IsWithin};
-ghost use Rattle.trace_picture.specs.Kept.{kept_of, kept_after, IsNoted};
-ghost use Rattle.trace_picture.specs.Marks.{marks};
-ghost use Rattle.trace_picture.specs.Rows.{row_of};
+ghost use Rattle.trace_board.specs.History.{entry_of, IsWithin};
+ghost use Rattle.trace_board.specs.Kept.{kept_of, kept_after, IsNoted};
+ghost use Rattle.trace_board.specs.Marks.{marks};
+ghost use Rattle.trace_board.specs.Rows.{row_of};
 ghost use Rattle.trace_picture.specs.Places.{in_view, column, is_open, band_top};
 ghost use Rattle.trace_picture.specs.Shapes.{with_number, each_below, row_text, number_text, object_if, failed_text};
-ghost use Rattle.trace_picture.specs.Bands.{opening, bar_if, wait_if, closing, bar_ended, wait_ended, closing_after, bars_ended, arrow_to, event_shapes, step_text, failing_text};
+ghost use Rattle.trace_picture.specs.Bands.{opening, bar_if, taken_if, wait_if, closing, bar_ended, taken_ended, wait_ended, closing_after, bars_ended, arrow_to, event_shapes, step_text, failing_text};
 
 use crate::arrows::{add_arrow_if, add_handed};
-use crate::board::Board;
-use crate::history::{Origin, Table, Turn};
-use crate::marks::marks_of;
-use crate::rows::Rows;
 use crate::shapes::{
-    add_bar, add_failed, add_label, add_mark, add_object_if, add_row, add_wait_bar,
+    add_bar, add_failed, add_label, add_mark, add_object_if, add_row, add_taken_bar, add_wait_bar,
 };
 use crate::tags::add_with_number;
 use crate::view::{View, column_of, is_band_open, is_in_view};
 use larch_actions::{Broken, Event, Layout};
+use trace_board::board::Board;
+use trace_board::history::{Origin, Table, Turn};
+use trace_board::marks::{Marks, marks_of};
+use trace_board::rows::{Bar, Rows};
 use trace_core::add;
 
 /// The upper edge of a band.
@@ -94,8 +94,33 @@ fn add_bar_if(
 {
     match o {
         Some(o) => {
-            let lane = rows.lane(o.thread, mutex);
+            let lane = rows.lane(o.thread, Bar::Mutex(mutex));
             add_bar(buf, at, start, mutex, lane, &o, ended, to)
+        }
+        None => at,
+    }
+}
+
+// Adds the bar of a semaphore where it is taken.
+fn add_taken_if(
+    buf: &mut [u8],
+    at: usize,
+    start: u64,
+    ended: bool,
+    to: u64,
+    rows: &Rows,
+    sem: u32,
+    o: Option<Origin>,
+) -> usize
+    requires room { at + 350 ≤ length buf.old }
+    requires place { to < 2 ^ 42 }
+    ensures text { take result buf.new ≡ take at buf.old ++ taken_if start ended to (row_of rows.now) sem o }
+    ensures near { result ≤ at + 350 }
+{
+    match o {
+        Some(o) => {
+            let lane = rows.lane(o.thread, Bar::Semaphore(sem));
+            add_taken_bar(buf, at, start, sem, lane, &o, ended, to)
         }
         None => at,
     }
@@ -145,6 +170,30 @@ fn add_bars(
     last
 }
 
+// Adds the bars of the semaphores that are taken.
+fn add_takings(
+    buf: &mut [u8],
+    at: usize,
+    semaphores: u32,
+    rows: &Rows,
+    taken: &Table,
+    start: u64,
+    to: u64,
+) -> usize
+    requires few { semaphores ≤ 64 }
+    requires place { to < 2 ^ 42 }
+    requires room { at + 350 * semaphores ≤ length buf.old }
+    ensures text { take result buf.new ≡ take at buf.old ++ each_below (λ s. taken_if start false to (row_of rows.now) s
+        (entry_of taken.now s)) semaphores }
+    ensures near { result ≤ at + 350 * semaphores }
+{
+    let mut last = at;
+    for s in 0..semaphores {
+        last = add_taken_if(buf, last, start, false, to, rows, s, taken.at(s));
+    }
+    last
+}
+
 // Adds the bars of the threads that wait.
 fn add_waits(buf: &mut [u8], at: usize, threads: u32, waits: &Table, start: u64, to: u64) -> usize
     requires few { threads ≤ 64 }
@@ -172,11 +221,20 @@ pub fn add_closing(
 ) -> usize
     requires lawful { IsLawful layout.now }
     requires place { to < 2 ^ 42 }
-    requires room { at + 52000 ≤ length buf.old }
+    requires room { at + 75000 ≤ length buf.old }
     ensures text { take result buf.new ≡ take at buf.old ++ closing layout.now (kept_of board.now) start to }
-    ensures near { result ≤ at + 51900 }
+    ensures near { result ≤ at + 74900 }
 {
     let at = add_bars(buf, at, layout.mutexes, &board.rows, &board.held, start, to);
+    let at = add_takings(
+        buf,
+        at,
+        layout.semaphores,
+        &board.rows,
+        &board.taken,
+        start,
+        to,
+    );
     let at = add_waits(buf, at, layout.threads, &board.waits, start, to);
     add(buf, at, b"</g>\n")
 }
@@ -193,9 +251,9 @@ fn add_closing_after(
 ) -> usize
     requires lawful { IsLawful layout.now }
     requires few { place < 2 ^ 41 }
-    requires room { at + 52000 ≤ length buf.old }
+    requires room { at + 75000 ≤ length buf.old }
     ensures text { take result buf.new ≡ take at buf.old ++ closing_after layout.now view.now (kept_of board.now) place }
-    ensures near { result ≤ at + 51900 }
+    ensures near { result ≤ at + 74900 }
 {
     if is_band_open(view, place + 1) {
         at
@@ -223,6 +281,29 @@ fn add_bar_ended(
 {
     match turn {
         Turn::Ends(k) => add_bar_if(buf, at, start, true, place + 1, rows, k, held.at(k)),
+        Turn::Begins(_) => at,
+        Turn::Stays => at,
+    }
+}
+
+// Adds the bar of the semaphore that the event makes available.
+fn add_taken_ended(
+    buf: &mut [u8],
+    at: usize,
+    start: u64,
+    place: u64,
+    rows: &Rows,
+    taken: &Table,
+    turn: Turn,
+) -> usize
+    requires within { IsWithin turn }
+    requires few { place < 2 ^ 41 }
+    requires room { at + 350 ≤ length buf.old }
+    ensures text { take result buf.new ≡ take at buf.old ++ taken_ended start place (row_of rows.now) (entry_of taken.now) turn }
+    ensures near { result ≤ at + 350 }
+{
+    match turn {
+        Turn::Ends(k) => add_taken_if(buf, at, start, true, place + 1, rows, k, taken.at(k)),
         Turn::Begins(_) => at,
         Turn::Stays => at,
     }
@@ -258,17 +339,27 @@ fn add_bars_ended(
     board: &Board,
     place: u64,
     e: &Event,
+    shown: &Marks,
 ) -> usize
+    requires same { shown.now ≡ marks e.now }
     requires noted { IsNoted e.now }
     requires few { place < 2 ^ 41 }
-    requires room { at + 800 ≤ length buf.old }
+    requires room { at + 1150 ≤ length buf.old }
     ensures text { take result buf.new ≡ take at buf.old ++ bars_ended view.now (kept_of board.now) place e.now }
-    ensures near { result ≤ at + 800 }
+    ensures near { result ≤ at + 1150 }
 {
     let start = place - column_of(view, place);
-    let marks = marks_of(e.thread, &e.action);
-    let at = add_bar_ended(buf, at, start, place, &board.rows, &board.held, marks.mutex);
-    add_wait_ended(buf, at, start, place, &board.waits, marks.wait)
+    let at = add_bar_ended(buf, at, start, place, &board.rows, &board.held, shown.mutex);
+    let at = add_taken_ended(
+        buf,
+        at,
+        start,
+        place,
+        &board.rows,
+        &board.taken,
+        shown.semaphore,
+    );
+    add_wait_ended(buf, at, start, place, &board.waits, shown.wait)
 }
 
 // Adds the arrow to the event, where another thread let its thread go on, and the line, where another handed a mutex on.
@@ -279,7 +370,9 @@ fn add_arrow_to(
     board: &Board,
     place: u64,
     e: &Event,
+    shown: &Marks,
 ) -> usize
+    requires same { shown.now ≡ marks e.now }
     requires noted { IsNoted e.now }
     requires few { place < 2 ^ 41 }
     requires room { at + 750 ≤ length buf.old }
@@ -287,20 +380,9 @@ fn add_arrow_to(
     ensures near { result ≤ at + 750 }
 {
     let start = place - column_of(view, place);
-    let marks = marks_of(e.thread, &e.action);
-    let by = board.waker(marks.waker);
+    let by = board.waker(shown.waker);
     let at = add_arrow_if(buf, at, start, place, e.thread, by);
-    add_handed(buf, at, start, place, e.thread, &board.given, marks.mutex)
-}
-
-// Adds the number of the event's object, but for the ends of a wait.
-fn add_object_of(buf: &mut [u8], at: usize, view: &View, place: u64, e: &Event) -> usize
-    requires { at + 120 ≤ length buf.old }
-    ensures text { take result buf.new ≡ take at buf.old ++ object_if view.now place e.now (marks e.now).wait }
-    ensures near { result ≤ at + 120 }
-{
-    let marks = marks_of(e.thread, &e.action);
-    add_object_if(buf, at, view, place, e, marks.wait)
+    add_handed(buf, at, start, place, e.thread, &board.given, shown.mutex)
 }
 
 // Adds the number and the mark of an event, the number of its object, the bars that it ends, and the arrow to it.
@@ -315,15 +397,16 @@ fn add_event_shapes(
 ) -> usize
     requires noted { IsNoted e.now }
     requires few { place < 2 ^ 41 }
-    requires room { at + 2500 ≤ length buf.old }
+    requires room { at + 2900 ≤ length buf.old }
     ensures text { take result buf.new ≡ take at buf.old ++ event_shapes view.now (kept_of board.now) place e.now }
-    ensures near { result ≤ at + 2500 }
+    ensures near { result ≤ at + 2900 }
 {
+    let shown = marks_of(e.thread, &e.action);
     let at = add_label(buf, at, view, place);
-    let at = add_mark(buf, at, view, place, e);
-    let at = add_object_of(buf, at, view, place, e);
-    let at = add_bars_ended(buf, at, view, board, place, e);
-    add_arrow_to(buf, at, view, board, place, e)
+    let at = add_mark(buf, at, view, place, e, &shown);
+    let at = add_object_if(buf, at, view, place, e, &shown);
+    let at = add_bars_ended(buf, at, view, board, place, e, &shown);
+    add_arrow_to(buf, at, view, board, place, e, &shown)
 }
 
 // Adds what the event shows, and the end of its band, where it is drawn.
@@ -339,12 +422,12 @@ fn add_drawn(
     requires lawful { IsLawful layout.now }
     requires noted { IsNoted e.now }
     requires few { place < 2 ^ 41 }
-    requires room { at + 68000 ≤ length buf.old }
+    requires room { at + 93000 ≤ length buf.old }
     ensures text { take result buf.new ≡ take at buf.old ++
         (opening layout.now view.now place ++ event_shapes view.now (kept_of board.old) place e.now
         ++ closing_after layout.now view.now (kept_of board.new) place) }
     ensures kept { kept_of board.new ≡ kept_after place e.now (kept_of board.old) }
-    ensures near { result ≤ at + 68000 }
+    ensures near { result ≤ at + 93000 }
 {
     let at = add_opening(buf, at, layout, view, place);
     let at = add_event_shapes(buf, at, view, board, place, e);
@@ -353,7 +436,7 @@ fn add_drawn(
 }
 
 /// Adds all that an event adds, and notes what it takes and gives back.
-#[tactic(auto, using(crate::proofs::Noting::noted), unfolding(crate::specs::Bands::step_text))]
+#[tactic(auto, using(trace_board::proofs::Noting::noted), unfolding(crate::specs::Bands::step_text))]
 pub fn add_step(
     buf: &mut [u8],
     at: usize,
@@ -366,10 +449,10 @@ pub fn add_step(
     requires lawful { IsLawful layout.now }
     requires named { HasNames layout.now e.now }
     requires few { place < 2 ^ 41 }
-    requires room { at + 68000 ≤ length buf.old }
+    requires room { at + 93000 ≤ length buf.old }
     ensures text { take result buf.new ≡ take at buf.old ++ step_text layout.now view.now (kept_of board.old) place e.now }
     ensures kept { kept_of board.new ≡ kept_after place e.now (kept_of board.old) }
-    ensures near { result ≤ at + 68000 }
+    ensures near { result ≤ at + 93000 }
 {
     if is_in_view(view, place) {
         add_drawn(buf, at, layout, view, board, place, e)
@@ -410,9 +493,9 @@ pub fn add_failing(
 ) -> usize
     requires lawful { IsLawful layout.now }
     requires few { place < 2 ^ 41 }
-    requires room { at + 68000 ≤ length buf.old }
+    requires room { at + 93000 ≤ length buf.old }
     ensures text { take result buf.new ≡ take at buf.old ++ failing_text layout.now view.now (kept_of board.now) place e.now why }
-    ensures near { result ≤ at + 68000 }
+    ensures near { result ≤ at + 93000 }
 {
     if is_in_view(view, place) {
         let at = add_opening(buf, at, layout, view, place);

@@ -3,19 +3,21 @@ ghost use Rattle.std.specs.Prelude.{◌≡◌, ◌+◌, ◌<◌, ◌≤◌, ◌^
 ghost use Rattle.std.specs.Io.KnownBytes.{Appends};
 ghost use Rattle.firefly_outside.specs.Causes.{HasCause, AppendsFront};
 ghost use Rattle.larch_actions.specs.Layout.{IsLawful};
-ghost use Rattle.trace_picture.specs.Kept.{kept_of};
+ghost use Rattle.trace_board.specs.Kept.{kept_of};
 ghost use Rattle.trace_picture.specs.Places.{is_open, height_of};
 ghost use Rattle.trace_picture.specs.Shapes.{with_number, line_of, clause_word};
 ghost use Rattle.trace_picture.specs.Bands.{closing, band_start};
+ghost use Rattle.trace_picture.specs.Longest.{holds_text, holds_height};
 ghost use Rattle.trace_picture.specs.Picture.{part_text, end_text, closing_if, ending, failed_note, failed_ending};
 
 use crate::bands::{add_closing, add_failing, top_of};
-use crate::board::Board;
+use crate::longest::{add_holds, height_of_holds};
 use crate::shapes::word_of;
 use crate::tags::{add_line, add_with_number};
 use crate::view::{View, column_of, count_bands, is_band_open};
 use firefly_outside::{Sink, SinkFault, put_all};
 use larch_actions::{Broken, Event, Layout};
+use trace_board::board::Board;
 use trace_core::add;
 
 // How high the picture is, but for its last line.
@@ -40,9 +42,9 @@ pub fn add_last_closing(
 ) -> usize
     requires lawful { IsLawful layout.now }
     requires few { count < 2 ^ 42 }
-    requires room { at + 52000 ≤ length buf.old }
+    requires room { at + 75000 ≤ length buf.old }
     ensures text { take result buf.new ≡ take at buf.old ++ closing_if layout.now view.now (kept_of board.now) count }
-    ensures near { result ≤ at + 52000 }
+    ensures near { result ≤ at + 75000 }
 {
     if is_band_open(view, count) {
         let start = count - column_of(view, count);
@@ -69,22 +71,41 @@ pub fn add_note_place(buf: &mut [u8], at: usize, layout: &Layout, view: &View, c
     )
 }
 
-/// Adds the end of the last line, and what follows it.
-pub fn add_last_tags(buf: &mut [u8], at: usize, layout: &Layout, view: &View, count: u64) -> usize
+// Adds the height, and the last tag.
+fn add_last_tags(buf: &mut [u8], at: usize, layout: &Layout, low: u64) -> usize
     requires lawful { IsLawful layout.now }
-    requires few { count < 2 ^ 42 }
+    requires low { low < 2 ^ 60 }
     requires room { at + 120 ≤ length buf.old }
-    ensures text { take result buf.new ≡ take at buf.old ++ (with_number (codes "</text>\n<style>:root{height:")
-        (height_of layout.now view.now count + 24) ++ codes "px}</style>\n</svg>\n") }
+    ensures text { take result buf.new ≡ take at buf.old ++ (with_number (codes "<style>:root{height:")
+        (low + 24 + holds_height layout.now.mutexes) ++ codes "px}</style>\n</svg>\n") }
     ensures near { result ≤ at + 120 }
 {
-    let at = add_with_number(
-        buf,
-        at,
-        b"</text>\n<style>:root{height:",
-        height(layout, view, count) + 24,
-    );
+    let height = low + 24 + height_of_holds(layout);
+    let at = add_with_number(buf, at, b"<style>:root{height:", height);
     add(buf, at, b"px}</style>\n</svg>\n")
+}
+
+/// Adds the end of the note, the lines of the mutexes, and what follows them.
+pub fn add_last_lines(
+    buf: &mut [u8],
+    at: usize,
+    layout: &Layout,
+    view: &View,
+    board: &Board,
+    count: u64,
+) -> usize
+    requires lawful { IsLawful layout.now }
+    requires few { count < 2 ^ 42 }
+    requires room { at + 17000 ≤ length buf.old }
+    ensures text { take result buf.new ≡ take at buf.old ++ (codes "</text>\n" ++ holds_text layout.now.mutexes (kept_of board.now) count
+        (height_of layout.now view.now count) ++ (with_number (codes "<style>:root{height:") (height_of layout.now view.now count + 24
+        + holds_height layout.now.mutexes) ++ codes "px}</style>\n</svg>\n")) }
+    ensures near { result ≤ at + 17000 }
+{
+    let low = height(layout, view, count);
+    let at = add(buf, at, b"</text>\n");
+    let at = add_holds(buf, at, layout.mutexes, board, count, low);
+    add_last_tags(buf, at, layout, low)
 }
 
 // Adds which events were drawn.
@@ -110,21 +131,23 @@ pub fn add_end(
     at: usize,
     layout: &Layout,
     view: &View,
+    board: &Board,
     count: u64,
     words: &[u8],
 ) -> usize
     requires lawful { IsLawful layout.now }
     requires few { count < 2 ^ 42 }
     requires short { length words.now ≤ 60 }
-    requires room { at + 400 ≤ length buf.old }
-    ensures text { take result buf.new ≡ take at buf.old ++ end_text layout.now view.now count (with_number words.now count) }
-    ensures near { result ≤ at + 400 }
+    requires room { at + 17300 ≤ length buf.old }
+    ensures text { take result buf.new ≡ take at buf.old ++ end_text layout.now view.now (kept_of board.now) count
+        (with_number words.now count) }
+    ensures near { result ≤ at + 17300 }
 {
     let at = add_note_place(buf, at, layout, view, count);
     let at = add(buf, at, b"'>");
     let at = add_with_number(buf, at, words, count);
     let at = add_part(buf, at, view, count);
-    add_last_tags(buf, at, layout, view, count)
+    add_last_lines(buf, at, layout, view, board, count)
 }
 
 /// Adds the end of a picture of so many events, with these words on its last line.
@@ -140,12 +163,12 @@ pub fn add_ending(
     requires lawful { IsLawful layout.now }
     requires few { count < 2 ^ 42 }
     requires short { length words.now ≤ 60 }
-    requires room { at + 68000 ≤ length buf.old }
+    requires room { at + 93000 ≤ length buf.old }
     ensures text { take result buf.new ≡ take at buf.old ++ ending layout.now view.now (kept_of board.now) count words.now }
-    ensures near { result ≤ at + 68000 }
+    ensures near { result ≤ at + 93000 }
 {
     let at = add_last_closing(buf, at, layout, view, board, count);
-    add_end(buf, at, layout, view, count, words)
+    add_end(buf, at, layout, view, board, count, words)
 }
 
 // Adds what the failing event fails, and its line.
@@ -168,21 +191,23 @@ fn add_failed_end(
     at: usize,
     layout: &Layout,
     view: &View,
+    board: &Board,
     place: u64,
     e: &Event,
     why: Broken,
 ) -> usize
     requires lawful { IsLawful layout.now }
     requires few { place < 2 ^ 41 }
-    requires room { at + 1000 ≤ length buf.old }
-    ensures text { take result buf.new ≡ take at buf.old ++ end_text layout.now view.now (place + 1) (failed_note place e.now why) }
-    ensures near { result ≤ at + 1000 }
+    requires room { at + 18000 ≤ length buf.old }
+    ensures text { take result buf.new ≡ take at buf.old ++ end_text layout.now view.now (kept_of board.now) (place + 1)
+        (failed_note place e.now why) }
+    ensures near { result ≤ at + 18000 }
 {
     let at = add_note_place(buf, at, layout, view, place + 1);
     let at = add(buf, at, b"'>");
     let at = add_failed_note(buf, at, place, e, why);
     let at = add_part(buf, at, view, place + 1);
-    add_last_tags(buf, at, layout, view, place + 1)
+    add_last_lines(buf, at, layout, view, board, place + 1)
 }
 
 /// Adds the event that fails, and the end of the picture.
@@ -198,12 +223,12 @@ pub fn add_failed_ending(
 ) -> usize
     requires lawful { IsLawful layout.now }
     requires few { place < 2 ^ 41 }
-    requires room { at + 70000 ≤ length buf.old }
+    requires room { at + 112000 ≤ length buf.old }
     ensures text { take result buf.new ≡ take at buf.old ++ failed_ending layout.now view.now (kept_of board.now) place e.now why }
-    ensures near { result ≤ at + 70000 }
+    ensures near { result ≤ at + 112000 }
 {
     let at = add_failing(buf, at, layout, view, board, place, e, why);
-    add_failed_end(buf, at, layout, view, place, e, why)
+    add_failed_end(buf, at, layout, view, board, place, e, why)
 }
 
 /// Sends what the buffer holds and the end of a picture of so many events, with these words on its last line.
@@ -220,7 +245,7 @@ pub fn end_with<O: Sink>(
     requires lawful { IsLawful layout.now }
     requires few { count < 2 ^ 42 }
     requires short { length words.now ≤ 60 }
-    requires room { at + 68000 ≤ length buf.old }
+    requires room { at + 93000 ≤ length buf.old }
     ensures ok { OnOk result (Appends (O.held out.old) (O.held out.new)
         (take at buf.old ++ ending layout.now view.now (kept_of board.now) count words.now)) }
     ensures err { OnErr result (AppendsFront (O.held out.old) (O.held out.new)
@@ -245,7 +270,7 @@ pub fn end_failed<O: Sink>(
 ) -> Result<(), SinkFault>
     requires lawful { IsLawful layout.now }
     requires few { place < 2 ^ 41 }
-    requires room { at + 70000 ≤ length buf.old }
+    requires room { at + 112000 ≤ length buf.old }
     ensures ok { OnOk result (Appends (O.held out.old) (O.held out.new)
         (take at buf.old ++ failed_ending layout.now view.now (kept_of board.now) place e.now why)) }
     ensures err { OnErr result (AppendsFront (O.held out.old) (O.held out.new)

@@ -49,7 +49,7 @@ fn add_pattern(buf: &mut [u8], at: usize) -> usize
     let at = add(
         buf,
         at,
-        b".b{fill:#bfe0f5;stroke:#222}.v{fill:#f5b8a0;stroke:#222}.f{fill:#222}.f+.i{fill:#fff}.o,.k,.g,.b,.v{stroke-width:.7}.a{fill:none;stroke:#a02c6b;stroke-width:1.2;marker-end:url(#a)}.l{fill:none;stroke:#888;stroke-width:.8}\n</style>\n",
+        b".e{fill:#fff;stroke:#222;stroke-width:.6;stroke-dasharray:3 1}.b{fill:#bfe0f5;stroke:#222}.v{fill:#f5b8a0;stroke:#222}.f{fill:#222}.f+.i{fill:#fff}.o,.k,.g,.b,.v{stroke-width:.7}.a{fill:none;stroke:#a02c6b;stroke-width:1.2;marker-end:url(#a)}.l{fill:none;stroke:#888;stroke-width:.8}\n</style>\n",
     );
     let at = add(
         buf,
@@ -64,17 +64,17 @@ fn add_pattern(buf: &mut [u8], at: usize) -> usize
     add(buf, at, b"<rect width='100%' height='100%' fill='#fff'/>\n")
 }
 
-// Adds what is no mark: a wait, a bar and an arrow.
+// Adds what is no mark: a wait, the bars and the arrows.
 #[tactic(auto, unfolding(crate::specs::Picture::other_words))]
 fn add_other_words(buf: &mut [u8], at: usize) -> usize
-    requires { at + 700 ≤ length buf.old }
+    requires { at + 800 ≤ length buf.old }
     ensures text { take result buf.new ≡ take at buf.old ++ other_words }
-    ensures near { result ≤ at + 700 }
+    ensures near { result ≤ at + 800 }
 {
     let at = add(
         buf,
         at,
-        b"<rect class='h' x='44' y='57' width='22' height='7'/><text x='71' y='64'>waits in a condition, with its number</text><text x='294' y='64'>coloured, from m7 on striped: holds a mutex</text><text x='594' y='64'>below a mark: the number of its mutex, semaphore, condition or thread</text>\n",
+        b"<rect class='h' x='44' y='57' width='22' height='7'/><text x='71' y='64'>waits in a condition, with its number</text><text x='294' y='64'>coloured, from m7 on striped: holds a mutex</text><text x='594' y='64'>below a mark: the number of its mutex, semaphore, condition or thread</text><rect class='e' x='1044' y='59' width='22' height='3'/><text x='1071' y='64'>a semaphore is taken</text>\n",
     );
     add(
         buf,

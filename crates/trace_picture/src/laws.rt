@@ -1,17 +1,5 @@
-//! Laws of the picture.
-ghost use Rattle.trace_picture.specs.Laws.{BarsAreHolds, ArrowsAreCauses};
-ghost use Rattle.trace_picture.specs.Seen.{MarksDiffer, EventsAreMarked, BarsAreDrawn, LanesAreOwn};
-
-/// A bar of a mutex goes on in a thread's row exactly while the state has the mutex held by this thread, from the event that took it.
-pub fn bars_are_holds()
-    ensures { BarsAreHolds }
-{}
-
-/// An arrow goes from the event that made hold what a thread went on by: that it is out of its condition, that its semaphore is available,
-/// or that it is alerted. Since that event it has held.
-pub fn arrows_are_causes()
-    ensures { ArrowsAreCauses }
-{}
+//! Laws of the picture. What a bar, an arrow and a longest hold say stands in the laws of trace_board.
+ghost use Rattle.trace_picture.specs.Seen.{MarksDiffer, EventsAreMarked, BarsAreDrawn, TakingsAreDrawn, HoldsAreTold};
 
 /// Actions of different kinds have marks of different names, in which different letters are seen.
 pub fn marks_differ()
@@ -28,7 +16,12 @@ pub fn bars_are_drawn()
     ensures { BarsAreDrawn }
 {}
 
-/// No two mutexes have one lane of a row but the last, and a bar keeps its lane.
-pub fn lanes_are_own()
-    ensures { LanesAreOwn }
+/// An event that makes a taken semaphore available ends a bar in the row of the thread that took it, from the column of the taking to its own.
+pub fn takings_are_drawn()
+    ensures { TakingsAreDrawn }
+{}
+
+/// The last lines tell the longest hold of each mutex: by whom, how many events, and from which event to which.
+pub fn holds_are_told()
+    ensures { HoldsAreTold }
 {}

@@ -1,35 +1,14 @@
 //! The marks of events, and the legend that says what each means.
 //!
-//! A further mark is a variant and a row in each function here and in specs/Looks.antt.
+//! A further mark is a row in each function here and in specs/Looks.antt.
 ghost use Rattle.std.specs.Prelude.{◌≡◌, ◌+◌, ◌*◌, ◌<◌, ◌≤◌, ◌∷◌, [], ◌++◌, length, take, codes};
 ghost use Rattle.trace_picture.specs.Shapes.{each_below};
 ghost use Rattle.trace_picture.specs.Looks.{look, look_of, words_of};
 ghost use Rattle.trace_picture.specs.Legend.{place_in_legend, shape_text, words_text, entry_text, entry_at};
 
 use crate::tags::add_with_number;
+use trace_board::marks::Mark;
 use trace_core::add;
-
-/// The mark of an event.
-#[derive(Clone, Copy)]
-pub enum Mark {
-    Acquire,
-    Release,
-    Enqueue,
-    Resume,
-    Signal,
-    Broadcast,
-    P,
-    V,
-    Alert,
-    TestAlert,
-    AlertEnqueue,
-    AlertReturn,
-    AlertRaise,
-    AlertPReturn,
-    AlertPRaise,
-    /// Of an event that fails.
-    Failed,
-}
 
 /// How a mark is called, its class, and how it is shown.
 #[derive(Clone, Copy)]
@@ -70,55 +49,53 @@ fn looks(letter: u8, class: u8, shown: u8) -> Look
     }
 }
 
-impl Mark {
-    /// How it looks.
-    #[inline(always)]
-    pub fn look(self) -> Look
-        ensures { result ≡ look_of self }
-    {
-        match self {
-            Mark::Acquire => looks(b'A', b'o', b'A'),
-            Mark::Release => looks(b'R', b'o', b'R'),
-            Mark::Enqueue => looks(b'W', b'k', b'W'),
-            Mark::Resume => looks(b'C', b'k', b'C'),
-            Mark::Signal => looks(b'S', b'g', b'S'),
-            Mark::Broadcast => looks(b'B', b'g', b'B'),
-            Mark::P => looks(b'P', b'b', b'P'),
-            Mark::V => looks(b'V', b'b', b'V'),
-            Mark::Alert => looks(b'L', b'v', b'!'),
-            Mark::TestAlert => looks(b'T', b'v', b'?'),
-            Mark::AlertEnqueue => looks(b'w', b'k', b'w'),
-            Mark::AlertReturn => looks(b'c', b'k', b'c'),
-            Mark::AlertRaise => looks(b'x', b'v', b'x'),
-            Mark::AlertPReturn => looks(b'p', b'b', b'p'),
-            Mark::AlertPRaise => looks(b'y', b'v', b'y'),
-            Mark::Failed => looks(b'F', b'f', b'#'),
-        }
+/// How it looks.
+#[inline(always)]
+pub fn look_of(mark: Mark) -> Look
+    ensures { result ≡ look_of mark }
+{
+    match mark {
+        Mark::Acquire => looks(b'A', b'o', b'A'),
+        Mark::Release => looks(b'R', b'o', b'R'),
+        Mark::Enqueue => looks(b'W', b'k', b'W'),
+        Mark::Resume => looks(b'C', b'k', b'C'),
+        Mark::Signal => looks(b'S', b'g', b'S'),
+        Mark::Broadcast => looks(b'B', b'g', b'B'),
+        Mark::P => looks(b'P', b'b', b'P'),
+        Mark::V => looks(b'V', b'b', b'V'),
+        Mark::Alert => looks(b'L', b'v', b'!'),
+        Mark::TestAlert => looks(b'T', b'v', b'?'),
+        Mark::AlertEnqueue => looks(b'w', b'k', b'w'),
+        Mark::AlertReturn => looks(b'c', b'k', b'c'),
+        Mark::AlertRaise => looks(b'x', b'v', b'x'),
+        Mark::AlertPReturn => looks(b'p', b'b', b'p'),
+        Mark::AlertPRaise => looks(b'y', b'v', b'y'),
+        Mark::Failed => looks(b'F', b'f', b'#'),
     }
+}
 
-    // What it is the mark of.
-    fn words(self) -> &'static [u8]
-        ensures words { result.now ≡ words_of self }
-        ensures short { length result.now ≤ 20 }
-    {
-        match self {
-            Mark::Acquire => b"acquire",
-            Mark::Release => b"release",
-            Mark::Enqueue => b"enqueue",
-            Mark::Resume => b"resume",
-            Mark::Signal => b"signal",
-            Mark::Broadcast => b"broadcast",
-            Mark::P => b"p",
-            Mark::V => b"v",
-            Mark::Alert => b"alert",
-            Mark::TestAlert => b"test-alert",
-            Mark::AlertEnqueue => b"alert-enqueue",
-            Mark::AlertReturn => b"alert-resume returns",
-            Mark::AlertRaise => b"alert-resume raises",
-            Mark::AlertPReturn => b"alert-p returns",
-            Mark::AlertPRaise => b"alert-p raises",
-            Mark::Failed => b"event that fails",
-        }
+// What it is the mark of.
+fn words_of(mark: Mark) -> &'static [u8]
+    ensures words { result.now ≡ words_of mark }
+    ensures short { length result.now ≤ 20 }
+{
+    match mark {
+        Mark::Acquire => b"acquire",
+        Mark::Release => b"release",
+        Mark::Enqueue => b"enqueue",
+        Mark::Resume => b"resume",
+        Mark::Signal => b"signal",
+        Mark::Broadcast => b"broadcast",
+        Mark::P => b"p",
+        Mark::V => b"v",
+        Mark::Alert => b"alert",
+        Mark::TestAlert => b"test-alert",
+        Mark::AlertEnqueue => b"alert-enqueue",
+        Mark::AlertReturn => b"alert-resume returns",
+        Mark::AlertRaise => b"alert-resume raises",
+        Mark::AlertPReturn => b"alert-p returns",
+        Mark::AlertPRaise => b"alert-p raises",
+        Mark::Failed => b"event that fails",
     }
 }
 
@@ -171,7 +148,7 @@ fn add_words(buf: &mut [u8], at: usize, mark: Mark) -> usize
     ensures near { result ≤ at + 60 }
 {
     let at = add(buf, at, b"<text x='16' y='9'>");
-    let at = add(buf, at, mark.words());
+    let at = add(buf, at, words_of(mark));
     add(buf, at, b"</text></g>\n")
 }
 
@@ -184,7 +161,7 @@ fn add_entry(buf: &mut [u8], at: usize, place: u64, mark: Mark) -> usize
     ensures near { result ≤ at + 280 }
 {
     let at = add_place_in_legend(buf, at, place);
-    let at = add_shape(buf, at, &mark.look());
+    let at = add_shape(buf, at, &look_of(mark));
     add_words(buf, at, mark)
 }
 

@@ -8,11 +8,10 @@ ghost use Rattle.larch_actions.specs.Layout.{IsLawful};
 ghost use Rattle.larch_actions.specs.Actions.{Spec, Acts};
 ghost use Rattle.lock_order.specs.declared.answer.Nested.{Nested};
 ghost use Rattle.lock_order.specs.Kept.{HasPlace, IsKept};
-ghost use Rattle.trace_picture.specs.Kept.{kept_of};
+ghost use Rattle.trace_board.specs.Kept.{kept_of};
 ghost use Rattle.trace_picture.specs.Rings.{ring_y, ring_text, ring_if, rings_text, ringed_ending, ShowsOrdered, IsEnding, AreNoted, Sends};
 
 use crate::bands::top_of;
-use crate::board::Board;
 use crate::endings::{add_end, add_last_closing, end_with};
 use crate::shapes::{x_of, y_of};
 use crate::tags::add_with_number;
@@ -20,6 +19,7 @@ use crate::view::{View, column_of, is_in_view};
 use firefly_outside::{Sink, SinkFault, put_all};
 use larch_actions::{Event, Layout};
 use lock_order::{Cycle, Nested, Nestings, cycle_in};
+use trace_board::board::Board;
 use trace_core::add;
 
 /// Notes what the event nests, where the lock order is wanted.
@@ -110,9 +110,9 @@ fn add_ringed_ending(
     requires lawful { IsLawful layout.now }
     requires few { count < 2 ^ 42 }
     requires places { AllByRecursion (λ (n : Nested). n.place < 2 ^ 42) cycle.now }
-    requires room { at + 68000 ≤ length buf.old }
+    requires room { at + 112000 ≤ length buf.old }
     ensures text { take result buf.new ≡ take at buf.old ++ ringed_ending layout.now view.now (kept_of board.now) count cycle.now }
-    ensures near { result ≤ at + 68000 }
+    ensures near { result ≤ at + 112000 }
 {
     let at = add_last_closing(buf, at, layout, view, board, count);
     let at = add_rings(buf, at, layout, view, cycle);
@@ -121,6 +121,7 @@ fn add_ringed_ending(
         at,
         layout,
         view,
+        board,
         count,
         b"legal, a lock-order cycle is ringed, events: ",
     )
@@ -140,7 +141,7 @@ fn end_ringed<O: Sink>(
     requires lawful { IsLawful layout.now }
     requires few { count < 2 ^ 42 }
     requires places { AllByRecursion (λ (n : Nested). n.place < 2 ^ 42) cycle.now }
-    requires room { at + 68000 ≤ length buf.old }
+    requires room { at + 112000 ≤ length buf.old }
     ensures ok { OnOk result (Appends (O.held out.old) (O.held out.new)
         (take at buf.old ++ ringed_ending layout.now view.now (kept_of board.now) count cycle.now)) }
     ensures err { OnErr result (AppendsFront (O.held out.old) (O.held out.new)
@@ -165,7 +166,7 @@ fn end_ordered<O: Sink>(
     requires lawful { IsLawful layout.now }
     requires few { count < 2 ^ 42 }
     requires noted { AreNoted nestings.now count }
-    requires room { at + 68000 ≤ length buf.old }
+    requires room { at + 112000 ≤ length buf.old }
     ensures ended { (es : List Event) (now : Spec) → IsKept es now nestings.now
         → (end : List ℕ) × ShowsOrdered layout.now view.now (kept_of board.now) count es end
         × Sends result (O.held out.old) (O.held out.new) (take at buf.old ++ end) }
@@ -200,7 +201,7 @@ pub fn end_legal<O: Sink>(
     requires lawful { IsLawful layout.now }
     requires few { count < 2 ^ 42 }
     requires noted { view.now.ordered ≡ true → AreNoted nestings.now count }
-    requires room { at + 68000 ≤ length buf.old }
+    requires room { at + 112000 ≤ length buf.old }
     ensures ended { (es : List Event) (now : Spec) → (view.now.ordered ≡ true → IsKept es now nestings.now)
         → (end : List ℕ) × IsEnding view.now.ordered layout.now view.now (kept_of board.now) count es end
         × Sends result (O.held out.old) (O.held out.new) (take at buf.old ++ end) }

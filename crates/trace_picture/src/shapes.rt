@@ -1,15 +1,16 @@
 //! Marks, bars, rows and the legend, written into a buffer behind its first `at` bytes. Each call says where it ended.
 ghost use Rattle.std.specs.Prelude.{◌≡◌, ◌+◌, ◌%◌, ◌<◌, ◌≤◌, ◌^◌, ◌++◌, ◌∷◌, [], length, take, codes};
 ghost use Rattle.trace_picture.specs.Looks.{look_of};
-ghost use Rattle.trace_picture.specs.Marks.{marks};
+ghost use Rattle.trace_board.specs.Marks.{marks};
 ghost use Rattle.trace_picture.specs.Places.{bar_from, bar_width, bar_x, column, column_x, gap_before, lane_y, row_y};
-ghost use Rattle.trace_picture.specs.Shapes.{with_number, line_of, place_text, box_text, clause_word, mark_text, failed_text, end_words, span_text, bar_text, wait_name, wait_text, row_text, number_text, object_text, object_if, stripes_text, stripes_if, swatch_text, painted_text};
+ghost use Rattle.trace_picture.specs.Shapes.{with_number, line_of, place_text, box_text, clause_word, mark_text, failed_text, end_words, span_text, bar_box, bar_text, taken_text, wait_name, wait_text, row_text, number_text, object_text, object_if, stripes_text, stripes_if, swatch_text, painted_text};
 
-use crate::history::{Origin, Turn};
-use crate::marks::marks_of;
+use crate::legend::look_of;
 use crate::tags::{add_box, add_line, add_place, add_with_number};
 use crate::view::{View, column_of};
 use larch_actions::{Broken, Event};
+use trace_board::history::{Origin, Turn};
+use trace_board::marks::{Mark, Marks};
 use trace_core::add;
 
 /// The left edge of a column.
@@ -50,14 +51,13 @@ pub fn word_of(why: Broken) -> &'static [u8]
 }
 
 // Adds the start of a mark.
-fn add_use(buf: &mut [u8], at: usize, e: &Event) -> usize
+fn add_use(buf: &mut [u8], at: usize, mark: Mark) -> usize
     requires { at + 20 ≤ length buf.old }
-    ensures text { take result buf.new ≡ take at buf.old ++ (codes "<use href='#" ++ (look_of (marks e.now).mark).letter ∷ []) }
+    ensures text { take result buf.new ≡ take at buf.old ++ (codes "<use href='#" ++ (look_of mark).letter ∷ []) }
     ensures near { result ≤ at + 20 }
 {
     let at = add(buf, at, b"<use href='#");
-    let marks = marks_of(e.thread, &e.action);
-    let look = marks.mark.look();
+    let look = look_of(mark);
     add(buf, at, &[look.letter])
 }
 
@@ -80,14 +80,22 @@ fn add_mark_place(buf: &mut [u8], at: usize, view: &View, place: u64, e: &Event)
     add_place(buf, at, x_of(column_of(view, place)), y_of(e.thread.0))
 }
 
-/// Adds the mark of an event.
+/// Adds the mark of an event, which shows this.
 #[tactic(auto, unfolding(crate::specs::Shapes::mark_text))]
-pub fn add_mark(buf: &mut [u8], at: usize, view: &View, place: u64, e: &Event) -> usize
-    requires { at + 600 ≤ length buf.old }
+pub fn add_mark(
+    buf: &mut [u8],
+    at: usize,
+    view: &View,
+    place: u64,
+    e: &Event,
+    shown: &Marks,
+) -> usize
+    requires same { shown.now ≡ marks e.now }
+    requires room { at + 600 ≤ length buf.old }
     ensures text { take result buf.new ≡ take at buf.old ++ mark_text view.now place e.now }
     ensures near { result ≤ at + 600 }
 {
-    let at = add_use(buf, at, e);
+    let at = add_use(buf, at, shown.mark);
     let at = add_mark_place(buf, at, view, place, e);
     let at = add_title(buf, at, place, e);
     add(buf, at, b"</title></use>\n")
@@ -95,17 +103,17 @@ pub fn add_mark(buf: &mut [u8], at: usize, view: &View, place: u64, e: &Event) -
 
 // Adds the number of an event's object.
 #[tactic(auto, unfolding(crate::specs::Shapes::object_text))]
-fn add_object(buf: &mut [u8], at: usize, view: &View, place: u64, e: &Event) -> usize
-    requires { at + 120 ≤ length buf.old }
+fn add_object(buf: &mut [u8], at: usize, view: &View, place: u64, e: &Event, shown: &Marks) -> usize
+    requires same { shown.now ≡ marks e.now }
+    requires room { at + 120 ≤ length buf.old }
     ensures text { take result buf.new ≡ take at buf.old ++ object_text view.now place e.now }
     ensures near { result ≤ at + 120 }
 {
     let x = x_of(column_of(view, place)) + 5;
     let y = y_of(e.thread.0) + 18;
-    let marks = marks_of(e.thread, &e.action);
     let at = add(buf, at, b"<text class='s");
     let at = add_place(buf, at, x, y);
-    let at = add_with_number(buf, at, b"'>", u64::from(marks.object));
+    let at = add_with_number(buf, at, b"'>", u64::from(shown.object));
     add(buf, at, b"</text>\n")
 }
 
@@ -116,16 +124,17 @@ pub fn add_object_if(
     view: &View,
     place: u64,
     e: &Event,
-    wait: Turn,
+    shown: &Marks,
 ) -> usize
-    requires { at + 120 ≤ length buf.old }
-    ensures text { take result buf.new ≡ take at buf.old ++ object_if view.now place e.now wait }
+    requires same { shown.now ≡ marks e.now }
+    requires room { at + 120 ≤ length buf.old }
+    ensures text { take result buf.new ≡ take at buf.old ++ object_if view.now place e.now (marks e.now).wait }
     ensures near { result ≤ at + 120 }
 {
-    match wait {
+    match shown.wait {
         Turn::Begins(_) => at,
         Turn::Ends(_) => at,
-        Turn::Stays => add_object(buf, at, view, place, e),
+        Turn::Stays => add_object(buf, at, view, place, e, shown),
     }
 }
 
@@ -219,6 +228,28 @@ fn width_of(start: u64, o: &Origin, ended: bool, to: u64) -> u64
     (12 * (to - from_of(start, o, to))).saturating_sub(gap_of(start, o) + after)
 }
 
+// Adds the place and the width of a bar in a lane.
+#[tactic(auto, unfolding(crate::specs::Shapes::bar_box))]
+fn add_bar_box(
+    buf: &mut [u8],
+    at: usize,
+    start: u64,
+    lane: u32,
+    o: &Origin,
+    ended: bool,
+    to: u64,
+) -> usize
+    requires room { at + 100 ≤ length buf.old }
+    requires place { to < 2 ^ 42 }
+    ensures text { take result buf.new ≡ take at buf.old ++ bar_box start lane o.now ended to }
+    ensures near { result ≤ at + 100 }
+{
+    let x = left_of(start, o, to);
+    let y = lane_of(o.thread.0, lane);
+    let width = width_of(start, o, ended, to);
+    add_box(buf, at, x, y, width)
+}
+
 /// Adds the bar of a mutex in the band that begins at the event `start`, up to the event before `to`, in this lane.
 #[tactic(auto, unfolding(crate::specs::Shapes::bar_text))]
 pub fn add_bar(
@@ -237,13 +268,34 @@ pub fn add_bar(
     ensures near { result ≤ at + 350 }
 {
     let m = u64::from(mutex);
-    let x = left_of(start, o, to);
-    let y = lane_of(o.thread.0, lane);
-    let width = width_of(start, o, ended, to);
     let at = add_with_number(buf, at, b"<rect class='m", m);
-    let at = add_box(buf, at, x, y, width);
+    let at = add_bar_box(buf, at, start, lane, o, ended, to);
     let at = add_with_number(buf, at, b"' height='3'><title>m", m);
     let at = add(buf, at, b" held by");
+    add_span(buf, at, o, ended, to)
+}
+
+/// Adds the bar of a semaphore, likewise.
+#[tactic(auto, unfolding(crate::specs::Shapes::taken_text))]
+pub fn add_taken_bar(
+    buf: &mut [u8],
+    at: usize,
+    start: u64,
+    sem: u32,
+    lane: u32,
+    o: &Origin,
+    ended: bool,
+    to: u64,
+) -> usize
+    requires room { at + 350 ≤ length buf.old }
+    requires place { to < 2 ^ 42 }
+    ensures text { take result buf.new ≡ take at buf.old ++ taken_text start sem lane o.now ended to }
+    ensures near { result ≤ at + 350 }
+{
+    let at = add(buf, at, b"<rect class='e");
+    let at = add_bar_box(buf, at, start, lane, o, ended, to);
+    let at = add_with_number(buf, at, b"' height='3'><title>s", u64::from(sem));
+    let at = add(buf, at, b" taken by");
     add_span(buf, at, o, ended, to)
 }
 

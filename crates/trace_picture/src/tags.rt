@@ -2,8 +2,9 @@
 ghost use Rattle.std.specs.Prelude.{◌≡◌, ◌+◌, ◌≤◌, ◌++◌, length, take, decimal};
 ghost use Rattle.trace_picture.specs.Shapes.{with_number, place_text, box_text, line_of};
 
+use crate::numbers::add_number;
 use larch_actions::Event;
-use trace_core::{add, add_event, add_number};
+use trace_core::{add, add_event};
 
 /// Adds words and a number.
 // Where it is called the words are known, so they are stored and not copied.

@@ -1,6 +1,6 @@
 use Rattle.std.proofs.Common.{◌≡◌, ◌≤◌}
 use Rattle.trace_core.specs.Reader.{standing}
-use Rattle.trace_picture.specs.Kept.{kept_of}
+use Rattle.trace_board.specs.Kept.{kept_of}
 use Rattle.trace_explain.proofs.Finding.{IsFinding}
 use Rattle.trace_explain.proofs.find.find_all.Given as goal
 

@@ -1,5 +1,5 @@
 use Rattle.std.proofs.Common.{◌-◌, ◌++◌, take, ap, ◌∙◌}
-use Rattle.trace_picture.specs.Kept.{kept_of, let_on_by}
+use Rattle.trace_board.specs.Kept.{kept_of, let_on_by}
 use Rattle.trace_picture.specs.Arrows.{arrow_if, handed}
 use Rattle.trace_picture.proofs.Added.{added_two}
 use Rattle.trace_picture.proofs.bands.add_arrow_to.Goals as goal
@@ -11,6 +11,6 @@ returns-clause-text c =
     let t = c.args.e.now.thread.0 in
     let k = kept_of c.args.board.now in
     let start = c.column_of.ensures.column in
-    let is = c.marks_of-marks.ensures in
+    let is = c.requires.same in
     let by = c.waker-by.ensures ∙ ap (λ m. let_on_by k m.waker) is in
     added_two old _ _ _ _ c.add_arrow_if-at.ensures.text c.add_handed.ensures.text ∙ (λ i. old ++ (arrow_if (n - start i) n t (by i) ++ handed (n - start i) n t k.given (is i).mutex))

@@ -1,5 +1,5 @@
 use Rattle.std.proofs.Common.{ℕ, List, ◌+◌, ◌++◌, take, false, ap, sym, ◌∙◌, append-nil, arith}
-use Rattle.trace_picture.specs.History.{entry_of}
+use Rattle.trace_board.specs.History.{entry_of}
 use Rattle.trace_picture.specs.Shapes.{each_below}
 use Rattle.trace_picture.specs.Bands.{wait_if}
 use Rattle.trace_picture.proofs.Added.{each_more, each_none, added_more}

@@ -1,6 +1,6 @@
 use Rattle.std.proofs.Common.{◌≡◌, ◌≤◌, length, take}
 use Rattle.trace_core.specs.Reader.{standing}
-use Rattle.trace_picture.specs.Kept.{kept_of}
+use Rattle.trace_board.specs.Kept.{kept_of}
 use Rattle.trace_picture.proofs.Ringing.{IsRinging}
 use Rattle.trace_picture.proofs.draw.draw_all.Given as goal
 

@@ -7,4 +7,4 @@ pub returns-clause-text : goal.returns-clause-text
 unfolding words_text
 returns-clause-text c =
     let before = take c.add-at.result c.add-at.new.buf in
-    added_three _ _ _ _ _ _ _ [] [] c.add-at.ensures.text (c.add-at-2.ensures.text ∙ ap (λ w. before ++ w) c.words.ensures.words) c.add.ensures.text
+    added_three _ _ _ _ _ _ _ [] [] c.add-at.ensures.text (c.add-at-2.ensures.text ∙ ap (λ w. before ++ w) c.words_of.ensures.words) c.add.ensures.text

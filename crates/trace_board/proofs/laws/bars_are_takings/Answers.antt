@@ -1,0 +1,5 @@
+use Rattle.trace_board.proofs.Holding as holding
+use Rattle.trace_board.proofs.laws.bars_are_takings.Goals as goal
+
+pub returns : goal.returns
+returns c = holding.bars_are_takings

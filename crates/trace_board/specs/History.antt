@@ -1,0 +1,37 @@
+-- Since which event each mutex is held, each semaphore is taken and each thread waits. A past has the latest event first.
+use Rattle.std.specs.Prelude.{ℕ, ◌<◌, Some, None}
+use Rattle.std.specs.declared.option.Option.{Option}
+use Rattle.larch_actions.specs.declared.event.Event.{Event}
+use Rattle.larch_actions.specs.Actions.{put}
+use Rattle.larch_actions.specs.State.{shown_at}
+use Rattle.trace_board.specs.declared.history.Origin.{Origin}
+use Rattle.trace_board.specs.declared.history.Turn.{Turn}
+use Rattle.trace_board.specs.declared.history.Turn.TheVariants.{Begins, Ends, Stays}
+use Rattle.trace_board.specs.declared.history.Table.{Table}
+use Rattle.trace_board.specs.Marks.{marks}
+
+-- the name in a turn is below 64
+abbrev pub IsWithin : Turn → Type 0
+IsWithin (Begins k) = k < 64
+IsWithin (Ends k) = k < 64
+IsWithin Stays = Unit {0}
+
+-- what a turn changes: since which event each thing is taken, where it is
+abbrev pub changed : Turn → Origin → (ℕ → Option Origin) → ℕ → Option Origin
+changed (Begins k) o f = put f k (Some o)
+changed (Ends k) o f = put f k None
+changed Stays o f = f
+
+-- what is taken where the other isn't
+abbrev pub turned_about : Turn → Turn
+turned_about (Begins k) = Ends k
+turned_about (Ends k) = Begins k
+turned_about Stays = Stays
+
+-- the event as the one since which something is so
+abbrev pub origin_of : ℕ → Event → Origin
+origin_of n e = record { thread = e.thread; object = (marks e).object; place = n }
+
+-- what a table says
+abbrev pub entry_of : Table → ℕ → Option Origin
+entry_of t = shown_at (λ x. x) None t.entries

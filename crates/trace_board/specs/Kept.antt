@@ -1,0 +1,102 @@
+-- What is kept of the events before. The past has the latest event first.
+use Rattle.std.specs.Prelude.{ℕ, ◌-◌, ◌<◌, false, List, [], ◌∷◌, length, Some, None}
+use Rattle.std.specs.declared.option.Option.{Option}
+use Rattle.larch_actions.specs.declared.event.Event.{Event}
+use Rattle.trace_board.specs.declared.history.Origin.{Origin}
+use Rattle.trace_board.specs.declared.causes.Cause.{Cause}
+use Rattle.trace_board.specs.declared.causes.Cause.TheVariants.{Never, Awaited, By}
+use Rattle.trace_board.specs.declared.rows.Row.{Row}
+use Rattle.trace_board.specs.declared.holds.Hold.{Hold}
+use Rattle.trace_board.specs.declared.board.Board.{Board}
+use Rattle.trace_board.specs.declared.board.Waker.{Waker}
+use Rattle.trace_board.specs.declared.board.Waker.TheVariants.{Condition, Semaphore, Alarm, Nobody}
+use Rattle.trace_board.specs.Marks.{marks}
+use Rattle.trace_board.specs.History.{changed, turned_about, origin_of, entry_of, IsWithin}
+use Rattle.trace_board.specs.Causes.{moved, cause_of, IsSmall}
+use Rattle.trace_board.specs.Rows.{empty_row, turned, turned_by_semaphore, row_of}
+use Rattle.trace_board.specs.Holds.{hold_to, longer, lengthened, longest_of}
+
+pub record Kept : Type 0 where
+  -- since which event each mutex is held
+  pub held : ℕ → Option Origin
+  -- since which event each thread waits
+  pub waits : ℕ → Option Origin
+  -- in which condition each thread stands, or which event took it out of the one it waits on
+  pub stands : ℕ → Cause
+  -- that each semaphore isn't available, or which event made it so
+  pub opens : ℕ → Cause
+  -- which event alerted each thread
+  pub alerts : ℕ → Cause
+  -- which bar has each lane of each thread's row
+  pub rows : ℕ → Row
+  -- which event gave each mutex back, where it isn't held
+  pub given : ℕ → Option Origin
+  -- since which event each semaphore is taken
+  pub taken : ℕ → Option Origin
+  -- the longest hold of each mutex that was given back
+  pub longest : ℕ → Option Hold
+
+abbrev pub nothing_kept : Kept
+nothing_kept = record { held = λ (k : ℕ). None; waits = λ (k : ℕ). None; stands = λ (k : ℕ). Never; opens = λ (k : ℕ). Never; alerts = λ (k : ℕ). Never; rows = λ (k : ℕ). empty_row; given = λ (k : ℕ). None; taken = λ (k : ℕ). None; longest = λ (k : ℕ). None }
+
+-- what is kept after the event at the place n
+abbrev pub kept_after : ℕ → Event → Kept → Kept
+kept_after n e k = record {
+  held = changed (marks e).mutex (origin_of n e) k.held;
+  waits = changed (marks e).wait (origin_of n e) k.waits;
+  stands = moved (marks e).stand (origin_of n e) k.stands;
+  opens = moved (marks e).avail (origin_of n e) k.opens;
+  alerts = moved (marks e).alert (origin_of n e) k.alerts;
+  rows = turned_by_semaphore (marks e).semaphore e.thread.0 k.taken (turned (marks e).mutex e.thread.0 k.rows);
+  given = changed (turned_about (marks e).mutex) (origin_of n e) k.given;
+  taken = changed (marks e).semaphore (origin_of n e) k.taken;
+  longest = lengthened (marks e).mutex n k.held k.longest;
+}
+
+-- what is kept after these events
+abbrev pub kept_since : List Event → Kept
+kept_since [] = nothing_kept
+kept_since (e ∷ past) = kept_after (length past) e (kept_since past)
+
+-- the longest hold of the mutex m: one that is under way counts up to the event before n
+abbrev pub longest_in : Kept → ℕ → ℕ → Option Hold
+longest_in k n m = longer (k.longest m) (hold_to false (n - 1) (k.held m))
+
+-- the events before, and then these, the latest first
+abbrev pub behind : List Event → List Event → List Event
+behind past [] = past
+behind past (e ∷ es) = behind (e ∷ past) es
+
+abbrev pub IsNear : Waker → Type 0
+IsNear (Condition t) = t < 64
+IsNear (Semaphore s) = s < 64
+IsNear (Alarm t) = t < 64
+IsNear Nobody = Unit {0}
+
+-- each thing that an event takes, gives back, awaits or lets go on has a number below 64
+pub record IsNoted (e : Event) : Type 0 where
+  pub thread : e.thread.0 < 64
+  pub held : IsWithin (marks e).mutex
+  pub taken : IsWithin (marks e).semaphore
+  pub waits : IsWithin (marks e).wait
+  pub stands : IsSmall (marks e).stand
+  pub opens : IsSmall (marks e).avail
+  pub alerts : IsSmall (marks e).alert
+  pub waker : IsNear (marks e).waker
+
+-- the event that a cause is
+abbrev pub came : Cause → Option Origin
+came Never = None
+came (Awaited k) = None
+came (By o) = Some o
+
+-- the event by which a thread goes on
+abbrev pub let_on_by : Kept → Waker → Option Origin
+let_on_by k (Condition t) = came (k.stands t)
+let_on_by k (Semaphore s) = came (k.opens s)
+let_on_by k (Alarm t) = came (k.alerts t)
+let_on_by k Nobody = None
+
+-- what the tables say
+abbrev pub kept_of : Board → Kept
+kept_of b = record { held = entry_of b.held; waits = entry_of b.waits; stands = cause_of b.stands; opens = cause_of b.opens; alerts = cause_of b.alerts; rows = row_of b.rows; given = entry_of b.given; taken = entry_of b.taken; longest = longest_of b.longest }

@@ -1,0 +1,7 @@
+pub mod Marks
+pub mod History
+pub mod Causes
+pub mod Rows
+pub mod Holds
+pub mod Kept
+pub mod Laws

@@ -1,0 +1,110 @@
+//! What is kept of the events before.
+ghost use Rattle.std.specs.Prelude.{◌≡◌};
+ghost use Rattle.trace_board.specs.Kept.{nothing_kept, kept_after, kept_of, came, let_on_by, IsNoted, IsNear};
+
+use crate::causes::{Cause, Causes};
+use crate::history::{Origin, Table, turned_about};
+use crate::holds::Longest;
+use crate::marks::marks_of;
+use crate::rows::Rows;
+use larch_actions::Event;
+
+/// Since which event each mutex is held, each semaphore is taken and each thread waits, which event lets each thread go on, which lane each bar has,
+/// which event gave each mutex back, and for how long each mutex was held at the longest.
+#[derive(Drop)]
+pub struct Board {
+    pub held: Table,
+    pub waits: Table,
+    pub stands: Causes,
+    pub opens: Causes,
+    pub alerts: Causes,
+    pub rows: Rows,
+    pub given: Table,
+    pub taken: Table,
+    pub longest: Longest,
+}
+
+/// What a thread goes on by: that it was taken out of its condition, that a semaphore is available, or that it is alerted.
+#[derive(Clone, Copy)]
+pub enum Waker {
+    Condition(u32),
+    Semaphore(u32),
+    Alarm(u32),
+    Nobody,
+}
+
+// The event that the cause is.
+fn event_of(cause: Cause) -> Option<Origin>
+    ensures { result ≡ came cause }
+{
+    match cause {
+        Cause::Never => None,
+        Cause::Awaited(_) => None,
+        Cause::By(o) => Some(o),
+    }
+}
+
+impl Board {
+    /// Nothing is held, and nobody waits.
+    pub fn new() -> Board
+        ensures { kept_of result ≡ nothing_kept }
+    {
+        let held = Table::new();
+        let waits = Table::new();
+        let stands = Causes::new();
+        let opens = Causes::new();
+        let alerts = Causes::new();
+        let rows = Rows::new();
+        let given = Table::new();
+        let taken = Table::new();
+        let longest = Longest::new();
+        Board {
+            held,
+            waits,
+            stands,
+            opens,
+            alerts,
+            rows,
+            given,
+            taken,
+            longest,
+        }
+    }
+
+    /// The event by which a thread goes on.
+    pub fn waker(&self, waker: Waker) -> Option<Origin>
+        requires { IsNear waker }
+        ensures { result ≡ let_on_by (kept_of self.now) waker }
+    {
+        match waker {
+            Waker::Condition(t) => event_of(self.stands.at(t)),
+            Waker::Semaphore(s) => event_of(self.opens.at(s)),
+            Waker::Alarm(t) => event_of(self.alerts.at(t)),
+            Waker::Nobody => None,
+        }
+    }
+
+    /// Notes what the event takes, gives back, awaits and lets go on.
+    pub fn note(&mut self, place: u64, e: &Event)
+        requires { IsNoted e.now }
+        ensures { kept_of self.new ≡ kept_after place e.now (kept_of self.old) }
+    {
+        let marks = marks_of(e.thread, &e.action);
+        let by = Origin {
+            thread: e.thread,
+            object: marks.object,
+            place,
+        };
+        self.longest.note(marks.mutex, place, &self.held);
+        self.rows.note(marks.mutex, e.thread.0);
+        self.rows
+            .note_semaphore(marks.semaphore, e.thread.0, &self.taken);
+        self.held.note(marks.mutex, by);
+        self.waits.note(marks.wait, by);
+        self.stands.note(marks.stand, by);
+        self.opens.note(marks.avail, by);
+        self.alerts.note(marks.alert, by);
+        self.given.note(turned_about(marks.mutex), by);
+        self.taken.note(marks.semaphore, by);
+    }
+}

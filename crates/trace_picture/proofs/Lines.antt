@@ -1,0 +1,68 @@
+-- What the last lines of a picture say.
+use Rattle.std.proofs.Common.{◌≡◌, ℕ, zero, suc, ◌+◌, ◌<◌, List, [], ◌++◌, refl, ap, sym, ◌∙◌, append_assoc, append-nil, Some, None, MatchOption, arith}
+use Rattle.std.specs.Prelude.{codes}
+use mathlib.Core.Logic.{dite}
+use native.Mathlib.Decide.{ℕ_discrete}
+use Rattle.std.specs.declared.option.Option.{Option}
+use Rattle.larch_actions.specs.declared.event.Layout.{Layout}
+use Rattle.trace_board.specs.declared.holds.Hold.{Hold}
+use Rattle.trace_board.specs.Kept.{Kept, kept_since, longest_in}
+use Rattle.trace_picture.specs.declared.view.View.{View}
+use Rattle.trace_picture.specs.Places.{height_of}
+use Rattle.trace_picture.specs.Shapes.{with_number, each_below}
+use Rattle.trace_picture.specs.Longest.{hold_end, hold_text, told_hold, line_place, hold_line, holds_text, holds_height}
+use Rattle.trace_picture.specs.Picture.{part_text, end_text}
+use Rattle.trace_picture.specs.Seen.{HasText, HoldsAreTold}
+
+-- a part of a part is one of the whole
+has_in : (whole mid part : List ℕ) → HasText whole mid → HasText mid part → HasText whole part
+has_in whole mid part h g = record {
+  before = h.before ++ g.before;
+  after = g.after ++ h.after;
+  text = h.text ∙ ap (λ x. h.before ++ x ++ h.after) g.text ∙ regroup h.before g.before part g.after h.after;
+}
+  where
+    regroup : (a b c d e : List ℕ) → a ++ (b ++ c ++ d) ++ e ≡ (a ++ b) ++ c ++ (d ++ e)
+    regroup a b c d e = simp append_assoc
+
+-- one of the texts below a bound
+each_has : (f : ℕ → List ℕ) (n m : ℕ) → m < n → HasText (each_below f n) (f m)
+unfolding each_below
+each_has f zero m lt = absurd (omega arith)
+each_has f (suc n) m lt = dite (ℕ_discrete m n)
+    (λ same. record { before = each_below f n; after = []; text = sym (append-nil (each_below f n ++ f m) ∙ ap (λ k. each_below f n ++ f k) same) })
+    (λ ne.
+    let h = each_has f n m (omega (arith, ne)) in
+    record { before = h.before; after = h.after ++ f n; text = ap (λ x. x ++ f n) h.text ∙ append_assoc (h.before ++ f m) h.after (f n) })
+
+-- a line of a picture's end
+module _ (l : Layout) (v : View) (k : Kept) (n : ℕ) (note : List ℕ) (m : ℕ) (lt : m < l.mutexes) where
+  abbrev low : ℕ
+  low = height_of l v n
+
+  lines_there : HasText (end_text l v k n note) (holds_text l.mutexes k n low)
+  unfolding end_text
+  lines_there = record {
+    before = with_number (codes "<text x='44' y='") (low + 14) ++ (codes "'>" ++ note) ++ part_text v n ++ codes "</text>\n";
+    after = with_number (codes "<style>:root{height:") (low + 24 + holds_height l.mutexes) ++ codes "px}</style>\n</svg>\n";
+    text = refl;
+  }
+
+  line_there : (h : Option Hold) → longest_in k n m ≡ h → HasText (end_text l v k n note) (with_number (codes "'>m") m ++ told_hold h)
+  unfolding hold_line
+  line_there h is =
+      has_in (end_text l v k n note) (hold_line low m (longest_in k n m)) (with_number (codes "'>m") m ++ told_hold h)
+      (has_in (end_text l v k n note) (holds_text l.mutexes k n low) (hold_line low m (longest_in k n m)) lines_there (each_has (λ i. hold_line low i (longest_in k n i)) l.mutexes m lt))
+      (record { before = line_place low m; after = codes "</text>\n"; text = ap (λ x. line_place low m ++ with_number (codes "'>m") m ++ told_hold x ++ codes "</text>\n") is ∙ regroup (line_place low m) (with_number (codes "'>m") m) (told_hold h) (codes "</text>\n") })
+    where
+      regroup : (a b c d : List ℕ) → a ++ b ++ c ++ d ≡ a ++ (b ++ c) ++ d
+      regroup a b c d = simp append_assoc
+
+  told : (h : Option Hold) → longest_in k n m ≡ h
+      → MatchOption h (HasText (end_text l v k n note) (with_number (codes "'>m") m ++ codes " never held")) (λ h. HasText (end_text l v k n note) (with_number (codes "'>m") m ++ hold_text h))
+  told None is = line_there None is
+  told (Some h) is = line_there (Some h) is
+
+pub holds_are_told : HoldsAreTold
+unfolding hold_text hold_end
+holds_are_told = λ l v past n note m lt. told l v (kept_since past) n note m lt (longest_in (kept_since past) n m) refl

@@ -1,7 +1,0 @@
-use Rattle.larch_actions.specs.Sets.{in_set}
-use Rattle.trace_picture.specs.Causes.{taken, cause_of}
-use Rattle.trace_picture.proofs.Freeing.{IsPartly}
-use Rattle.trace_picture.proofs.causes.Causes.free.Given as goal
-
-abbrev pub invariant-loop-t : goal.invariant-loop-t
-invariant-loop-t l = IsPartly (λ k. taken l.cond (in_set l.left k) l.by) (cause_of l.initial.self) l.t (cause_of l.self)

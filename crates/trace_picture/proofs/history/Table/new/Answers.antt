@@ -1,6 +1,0 @@
-use Rattle.std.proofs.Common.{None, refl}
-use Rattle.larch_actions.proofs.Shown.{shown_at-replicate}
-use Rattle.trace_picture.proofs.history.Table.new.Goals as goal
-
-pub returns : goal.returns
-returns c = shown_at-replicate (λ x. x) None 64 None refl

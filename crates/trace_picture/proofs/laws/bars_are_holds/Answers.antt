@@ -1,5 +1,0 @@
-use Rattle.trace_picture.proofs.Holding as holding
-use Rattle.trace_picture.proofs.laws.bars_are_holds.Goals as goal
-
-pub returns : goal.returns
-returns c = holding.bars_are_holds

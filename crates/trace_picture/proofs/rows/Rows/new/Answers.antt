@@ -1,8 +1,0 @@
-use Rattle.std.proofs.Common.{◌≡◌, ℕ, refl, ap, ◌∙◌}
-use Rattle.larch_actions.proofs.Shown.{shown_at-replicate}
-use Rattle.trace_picture.specs.declared.rows.Row.{Row}
-use Rattle.trace_picture.specs.Rows.{empty_row}
-use Rattle.trace_picture.proofs.rows.Rows.new.Goals as goal
-
-pub returns : goal.returns
-returns c = shown_at-replicate (λ x. x) empty_row 64 c.empty-row.result c.empty-row.ensures ∙ (λ i k. empty_row)

@@ -1,0 +1,127 @@
+//! The last lines of a picture: the longest hold of each mutex, written into a buffer behind its first `at` bytes. Each call says where it ended.
+ghost use Rattle.std.specs.Prelude.{◌≡◌, ◌+◌, ◌*◌, ◌/◌, ◌%◌, ◌<◌, ◌≤◌, ◌^◌, ◌++◌, length, take, codes};
+ghost use Rattle.larch_actions.specs.Layout.{IsLawful};
+ghost use Rattle.trace_board.specs.Kept.{kept_of, longest_in};
+ghost use Rattle.trace_picture.specs.Shapes.{with_number, each_below, place_text};
+ghost use Rattle.trace_picture.specs.Longest.{hold_end, hold_text, told_hold, line_place, hold_line, holds_text, holds_height};
+
+use crate::tags::{add_place, add_with_number};
+use larch_actions::Layout;
+use trace_board::board::Board;
+use trace_board::holds::{Hold, hold_to, longer};
+use trace_core::add;
+
+// Adds where a hold ended.
+#[tactic(auto, unfolding(crate::specs::Longest::hold_end))]
+fn add_hold_end(buf: &mut [u8], at: usize, hold: &Hold) -> usize
+    requires { at + 30 ≤ length buf.old }
+    ensures text { take result buf.new ≡ take at buf.old ++ hold_end hold.now }
+    ensures near { result ≤ at + 30 }
+{
+    if hold.ended {
+        add_with_number(buf, at, b" to ", hold.last)
+    } else {
+        add(buf, at, b" on")
+    }
+}
+
+// Adds by whom and from which event to which a mutex was held.
+#[tactic(auto, unfolding(crate::specs::Longest::hold_text))]
+fn add_hold(buf: &mut [u8], at: usize, hold: &Hold) -> usize
+    requires { at + 130 ≤ length buf.old }
+    ensures text { take result buf.new ≡ take at buf.old ++ hold_text hold.now }
+    ensures near { result ≤ at + 130 }
+{
+    let at = add_with_number(
+        buf,
+        at,
+        b" longest held by t",
+        u64::from(hold.since.thread.0),
+    );
+    let at = add_with_number(buf, at, b", events: ", hold.length());
+    let at = add_with_number(buf, at, b", from ", hold.since.place);
+    add_hold_end(buf, at, hold)
+}
+
+// Adds the hold, or that there is none.
+fn add_told(buf: &mut [u8], at: usize, hold: Option<Hold>) -> usize
+    requires { at + 130 ≤ length buf.old }
+    ensures text { take result buf.new ≡ take at buf.old ++ told_hold hold }
+    ensures near { result ≤ at + 130 }
+{
+    match hold {
+        Some(hold) => add_hold(buf, at, &hold),
+        None => add(buf, at, b" never held"),
+    }
+}
+
+// Adds the place of the line of a mutex.
+#[tactic(auto, unfolding(crate::specs::Longest::line_place))]
+fn add_line_place(buf: &mut [u8], at: usize, low: u64, m: u64) -> usize
+    requires low { low < 2 ^ 60 }
+    requires few { m < 64 }
+    requires room { at + 80 ≤ length buf.old }
+    ensures text { take result buf.new ≡ take at buf.old ++ line_place low m }
+    ensures near { result ≤ at + 80 }
+{
+    let at = add(buf, at, b"<text class='t");
+    add_place(buf, at, 44 + 400 * (m % 3), low + 30 + 14 * (m / 3))
+}
+
+// Adds the line of a mutex.
+#[tactic(auto, unfolding(crate::specs::Longest::hold_line))]
+fn add_hold_line(buf: &mut [u8], at: usize, low: u64, mutex: u32, hold: Option<Hold>) -> usize
+    requires low { low < 2 ^ 60 }
+    requires few { mutex < 64 }
+    requires room { at + 260 ≤ length buf.old }
+    ensures text { take result buf.new ≡ take at buf.old ++ hold_line low mutex hold }
+    ensures near { result ≤ at + 260 }
+{
+    let m = u64::from(mutex);
+    let at = add_line_place(buf, at, low, m);
+    let at = add_with_number(buf, at, b"'>m", m);
+    let at = add_told(buf, at, hold);
+    add(buf, at, b"</text>\n")
+}
+
+// The longest hold of the mutex; one that is under way counts up to the event before `count`.
+fn longest_in(board: &Board, count: u64, mutex: u32) -> Option<Hold>
+    requires { mutex < 64 }
+    ensures { result ≡ longest_in (kept_of board.now) count mutex }
+{
+    longer(
+        board.longest.at(mutex),
+        hold_to(false, count.saturating_sub(1), board.held.at(mutex)),
+    )
+}
+
+/// Adds the lines of all mutexes, below this height.
+pub fn add_holds(
+    buf: &mut [u8],
+    at: usize,
+    mutexes: u32,
+    board: &Board,
+    count: u64,
+    low: u64,
+) -> usize
+    requires low { low < 2 ^ 60 }
+    requires few { mutexes ≤ 64 }
+    requires room { at + 260 * mutexes ≤ length buf.old }
+    ensures text { take result buf.new ≡ take at buf.old ++ holds_text mutexes (kept_of board.now) count low }
+    ensures near { result ≤ at + 260 * mutexes }
+{
+    let mut last = at;
+    for m in 0..mutexes {
+        last = add_hold_line(buf, last, low, m, longest_in(board, count, m));
+    }
+    last
+}
+
+/// How high the lines of all mutexes are.
+pub fn height_of_holds(layout: &Layout) -> u64
+    requires { IsLawful layout.now }
+    ensures height { result ≡ holds_height layout.now.mutexes }
+    ensures small { result < 2 ^ 20 }
+{
+    (u64::from(layout.mutexes) + 2) / 3 * 14
+}
