@@ -1,9 +1,9 @@
 -- An input has one answer.
-use Rattle.std.proofs.Common.{◌≡◌, ◌⊎◌, inl, inr, ℕ, ◌+◌, ◌<◌, ◌≤◌, List, [], ◌∷◌, ◌++◌, length, refl, ap, sym, ◌∙◌, append_assoc, append-nil, length-append, arith}
+use Rattle.std.proofs.Common.{◌≡◌, inl, inr, ℕ, ◌<◌, List, [], ◌∷◌, ◌++◌, length, refl, ap, sym, ◌∙◌, append-nil, length-append, arith}
 use Rattle.std.specs.List.{AllByRecursion}
 use Rattle.job_lines.specs.declared.line.JobLine.{JobLine}
 use Rattle.job_lines.specs.Lines.{IsLawful, line_text, lines_text, ReadsAs}
-use Rattle.job_lines.specs.Faults.{most_lines, BeginsNoLine, IsBadLine, IsTooLong, IsJobsText, OneAnswer}
+use Rattle.job_lines.specs.Faults.{BeginsNoLine, IsBadLine, IsTooLong, IsJobsText, OneAnswer}
 use Rattle.job_lines.proofs.Texts.{IsBehind, first_line, fronts}
 
 -- the same bytes, and then nothing

@@ -1,8 +1,7 @@
 -- What is found behind the first lines is the answer for the whole input.
-use Rattle.std.proofs.Common.{◌≡◌, ℕ, ◌+◌, ◌<◌, ◌≤◌, List, [], ◌∷◌, ◌++◌, length, refl, ap, sym, subst, ◌∙◌, append_assoc, append-nil, Option, None, Some, IfSome, arith, length-append, inl, inr}
+use Rattle.std.proofs.Common.{◌≡◌, ℕ, ◌+◌, ◌<◌, ◌≤◌, List, [], ◌++◌, length, refl, ap, sym, ◌∙◌, append_assoc, append-nil, Option, None, Some, IfSome}
 use Rattle.std.specs.List.{AllByRecursion}
-use Rattle.std.specs.Io.KnownBytes.{Consumes, IsAtEnd, Keeps, prepend_known}
-use Rattle.firefly_outside.specs.Causes.{Rose}
+use Rattle.std.specs.Io.KnownBytes.{Consumes, Keeps}
 use Rattle.job_lines.specs.declared.line.JobLine.{JobLine}
 use Rattle.job_lines.specs.Lines.{IsLawful, lines_text, ReadsAs}
 use Rattle.job_lines.specs.Faults.{most_lines, BeginsNoLine, IsFlat, IsBadLine, IsTooLong, IsUndecided}

@@ -1,9 +1,8 @@
 -- What stands next, and what is taken of it.
 use Rattle.std.specs.Prelude.{◌≡◌, ℕ, ◌+◌, ◌<◌, ◌≤◌, List, [], ◌∷◌, ◌++◌, length, drop, Option, Result, Ok, Err, IfSome, MatchOption}
-use Rattle.std.specs.Io.KnownBytes.{Consumes, IsAtEnd, Keeps}
+use Rattle.std.specs.Io.KnownBytes.{Consumes, IsAtEnd}
 use Rattle.firefly_outside.specs.Causes.{Rose}
 use Rattle.firefly_outside.specs.declared.source.Failed.{Failed}
-use Rattle.job_lines.specs.declared.line.JobLine.{JobLine}
 use Rattle.job_lines.specs.declared.line.JobsFault.{JobsFault}
 use Rattle.job_lines.specs.declared.line.JobsFault.TheVariants as fault
 use Rattle.job_lines.specs.declared.take.Next.{Next}

@@ -1,10 +1,10 @@
 -- One way to end is due on an input that tells its bytes.
-use Rattle.std.proofs.Common.{◌≡◌, ◌≢◌, ◌⊎◌, inl, inr, ℕ, ◌≤◌, List, length, Some, refl, sym, subst}
+use Rattle.std.proofs.Common.{◌≡◌, ◌≢◌, ◌⊎◌, inl, inr, ℕ, List, Some, refl, sym, subst}
 use Rattle.std.specs.Prelude.{IfSome}
 use Rattle.std.specs.declared.option.Option.{Option}
 use Rattle.job_lines.specs.declared.line.JobLine.{JobLine}
 use Rattle.job_lines.specs.Lines.{ReadsAs}
-use Rattle.job_lines.specs.Faults.{most_lines, IsBadLine, IsTooLong}
+use Rattle.job_lines.specs.Faults.{IsBadLine, IsTooLong}
 use Rattle.job_lines.proofs.Answered.{one_answer}
 use Rattle.command_endings.specs.declared.status.Status.{Status}
 use Rattle.command_endings.specs.declared.status.Status.TheVariants.{Done, Usage, ReadFault, SinkFault, Stopped, Memory, Illegal, BadText, TooMany, TooLong}

@@ -1,11 +1,9 @@
 -- What the pool made of the lines.
-use Rattle.std.proofs.Common.{◌≡◌, ℕ, zero, suc, List, [], ◌∷◌, map, Some, None, refl, ap, sym, ◌∙◌}
-use Rattle.std.specs.Prelude.{slice_get}
+use Rattle.std.proofs.Common.{◌≡◌, ℕ, zero, suc, List, [], ◌∷◌, map, refl, ap, sym, ◌∙◌}
 use mathlib.Core.Option.{some}
 use lib.ListN.{get_elem?}
 use Rattle.job_lines.specs.declared.line.JobLine.{JobLine}
 use Rattle.job_lines.specs.declared.line.JobLine.TheVariants as line
-use Rattle.job_pool.specs.declared.job.Work.{Work}
 use Rattle.job_pool.specs.declared.job.Work.TheVariants.{Value, Stop}
 use Rattle.job_pool.specs.declared.pool_end.PoolEnd.{PoolEnd}
 use Rattle.job_pool.specs.declared.pool_end.PoolEnd.TheVariants as pool

@@ -1,5 +1,5 @@
 -- The sum of the first numbers.
-use Rattle.std.proofs.Common.{◌≡◌, ℕ, zero, suc, ◌+◌, ◌*◌, ◌/◌, ap, sym, ◌∙◌, arith, add-one}
+use Rattle.std.proofs.Common.{◌≡◌, ℕ, zero, suc, ◌+◌, ◌*◌, ◌/◌, arith}
 use Rattle.std.specs.List.{fold, range_with_len}
 use Rattle.jobs_command.specs.Values.{sum_to}
 

@@ -12,12 +12,7 @@ use firefly_outside::{Sink, SinkFault};
 use text_output::{Held, flush, put, put_with_number};
 
 // Puts the line of a value.
-fn put_line<O: Sink>(
-    held: &mut Held,
-    place: u64,
-    value: u64,
-    out: &mut O,
-) -> Result<(), SinkFault>
+fn put_line<O: Sink>(held: &mut Held, place: u64, value: u64, out: &mut O) -> Result<(), SinkFault>
     ensures text { Puts (O.held out.old) held.old.items (value_line (place, value)) result (O.held out.new) held.new.items }
     ensures cause { HasCause (O.faults out.old) (O.faults out.new) result }
 {

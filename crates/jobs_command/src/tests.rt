@@ -31,7 +31,14 @@ fn a_failed_read_is_told(rt: HostRuntime) -> Result<(), Fail> {
     let right = answers(&rt, alloc, text, 24, Status::ReadFault, b"")?
         && answers(&rt, alloc, text, 7, Status::ReadFault, b"")?
         && answers(&rt, alloc, text, 0, Status::ReadFault, b"")?
-        && answers(&rt, alloc, text, 25, Status::Done, b"0 6\n1 0\n2 500000500000\n")?;
+        && answers(
+            &rt,
+            alloc,
+            text,
+            25,
+            Status::Done,
+            b"0 6\n1 0\n2 500000500000\n",
+        )?;
     assert!(rt; right);
     Ok(())
 }

@@ -1,4 +1,4 @@
-use Rattle.std.proofs.Common.{◌≡◌, ◌+◌, ◌*◌, ◌/◌, ap, ◌∙◌}
+use Rattle.std.proofs.Common.{◌+◌, ◌*◌, ◌/◌, ap, ◌∙◌}
 use Rattle.jobs_command.proofs.Sums.{formula}
 use Rattle.jobs_command.proofs.job.sum_up.Goals as goal
 
