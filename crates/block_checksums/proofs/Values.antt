@@ -1,6 +1,5 @@
 -- What a pool answers of jobs that give values.
 use Rattle.std.proofs.Common.{◌≡◌, ℕ, List, [], ◌∷◌, map, refl}
-use Rattle.job_pool.specs.declared.job.Work.{Work}
 use Rattle.job_pool.specs.declared.job.Work.TheVariants.{Value}
 
 -- the values are those of the jobs

@@ -14,9 +14,10 @@ const PRIME: u64 = 0x0100_0000_01b3;
 fn checksum(bytes: &[u8]) -> u64
     ensures { result ≡ checksum_of bytes.now }
 {
-    bytes
-        .iter()
-        .fold(START, |sum, byte| (sum ^ u64::from(*byte)).wrapping_mul(PRIME))
+    bytes.iter().fold(
+        START,
+        |sum, byte| (sum ^ u64::from(*byte)).wrapping_mul(PRIME),
+    )
 }
 
 /// A block of bytes. Its job is its checksum.
