@@ -1,0 +1,13 @@
+pub mod Distinct
+pub mod Counting
+pub mod Children
+pub mod Shares
+pub mod Work
+pub mod Notes
+pub mod Sharing
+pub mod Once
+pub mod WorkLaws
+pub mod BufferLaws
+pub mod Lists
+pub mod Opening
+pub mod Closing
