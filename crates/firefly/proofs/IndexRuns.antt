@@ -1,5 +1,5 @@
 -- What an index run says of the trees that were handed in.
-use Rattle.std.proofs.Common.{◌≡◌, ⊎_elim, ℕ, suc, ◌+◌, ◌≤◌, Bool, true, false, List, length, Option, Some, None, refl, sym, ap, subst, ◌∙◌, arith}
+use Rattle.std.proofs.Common.{◌≡◌, ⊎_elim, ℕ, suc, ◌+◌, ◌≤◌, Bool, true, false, List, ◌++◌, length, Option, Some, None, refl, sym, ap, subst, ◌∙◌, arith}
 use Rattle.std.specs.Prelude.{IfSome, slice_index_or}
 use Rattle.std.proofs.lemmas.Bool.{cases_lt, cases_eq}
 use Rattle.std.proofs.lemmas.Option.{same_Some}
@@ -12,17 +12,18 @@ use Rattle.larch_actions.specs.declared.event.Event.{Event}
 use Rattle.larch_actions.specs.Actions.{by_thread}
 use Rattle.nub.specs.Ended.{Ended}
 use Rattle.indexer.specs.declared.plan.Plan.{Plan}
-use Rattle.indexer.specs.declared.value.IndexValue.{IndexValue}
+use Rattle.index_rule.specs.declared.value.IndexValue.{IndexValue}
 use Rattle.indexer.specs.Says as says
 use Rattle.indexer.specs.Turns.{Worker, release_count}
-use Rattle.indexer.specs.Work.{Share}
+use Rattle.index_rule.specs.Shares.{Share}
+use Rattle.indexer.specs.Once.{AreSince, IsEachOnce}
 use Rattle.command_line.specs.Grammar.{Options}
-use Rattle.firefly.specs.IndexRun.{NoneRose, OnlyLists, OnlyReads, CallsOf, kind_of_worker, IsAt, ShowsWork, FailedAt, plan_of}
-use Rattle.firefly.specs.Looks.{Look, look_of, looks_of, IsSameTree, KeepTrees}
+use Rattle.firefly.specs.IndexRun.{AreAskedOnce, NoneRose, OnlyLists, OnlyReads, CallsOf, kind_of_worker, IsAt, ShowsWork, FailedAt, plan_of}
+use Rattle.firefly.specs.Looks.{Look, look_of, looks_of, told_by, IsSameTree, KeepTrees}
 use Rattle.firefly.proofs.Places.{Back, among_at, place_of, sees, seen}
 
 -- the history, where there is one, is the plan's, and each thread's part of it is its own events
-own_part : (plan : Plan) (c : Ended IndexValue Share (Prim.Unit {0})) (h : List Event) → says.IsRunOf plan c → c.trace ≡ Some h → (n : ℕ) (t : Worker) → get_elem? c.threads n ≡ some t → by_thread n h ≡ t.mine
+own_part : (plan : Plan) (c : Ended IndexValue Share Path) (h : List Event) → says.IsRunOf plan c → c.trace ≡ Some h → (n : ℕ) (t : Worker) → get_elem? c.threads n ≡ some t → by_thread n h ≡ t.mine
 own_part plan c h run e n t at = by_traced plan.traced refl
   where
     by_traced : (b : Bool) → plan.traced ≡ b → by_thread n h ≡ t.mine
@@ -97,11 +98,38 @@ module _ {S : Type 0} (tree : S → Option Told) (weak : S → List Path) (fault
   }) h
 
   -- the work of the walkers and the parsers is in the history
-  pub shows_work : (o : Options) (traced : Bool) (c : Ended IndexValue Share (Prim.Unit {0})) (old new : List (Option S)) → says.IsRunOf (plan_of o traced) c
+  pub shows_work : (o : Options) (traced : Bool) (c : Ended IndexValue Share Path) (old new : List (Option S)) → says.IsRunOf (plan_of o traced) c
       → says.AreUsed tree weak faults calls o.walkers (o.walkers + o.parsers) c.threads old new → (h : List Event) → c.trace ≡ Some h → ShowsWork o (looks_of look old) (looks_of look new) h
   shows_work o traced c old new run used h e k a b low at = by_looks (λ x y. IfSome x.told (λ t. CallsOf (kind_of_worker o k) x.calls y.calls (by_thread (suc k) h))) old new k a b at (λ s r es er.
       let w = used.workers k s r low es er in
       seen_calls (kind_of_worker o k) s r (by_thread (suc k) h) w.thread (own_part (plan_of o traced) c h run e (suc k) w.thread w.is_thread) w.calls_only)
+
+  -- what was listed or read on the trees, by their looks
+  since_seen : (of : Calls → List Path) (n : ℕ) (old new : List (Option S)) (lists : List (List Path)) → AreSince calls of n old new lists → AreSince (λ (l : Look). l.calls) of n (looks_of look old) (looks_of look new) lists
+  since_seen of n old new lists h = record {
+    many = h.many;
+    since = λ k a b paths before now at.
+        let s = seen look old k a before in
+        let r = seen look new k b now in
+        subst (λ (x : Look). of b.calls ≡ of x.calls ++ paths) s.2 (subst (λ (y : Look). of y.calls ≡ of (calls s.0) ++ paths) r.2 (h.since k s.0 r.0 paths s.1 r.1 at));
+  }
+
+  -- each directory was listed once, and each file read once
+  pub asked_once : (o : Options) (told : Option Told) (old new : List (Option S)) → told_by (looks_of look old) ≡ told → IfSome told (λ t. IsEachOnce calls t o.directory (o.walkers + o.parsers) old new)
+      → AreAskedOnce o (looks_of look old) (looks_of look new)
+  asked_once o told old new first h =
+      subst (λ (q : Option Told). IfSome q (λ t. IsEachOnce (λ (l : Look). l.calls) t o.directory (o.walkers + o.parsers) (looks_of look old) (looks_of look new))) (sym first)
+      (if_some told (λ t. IsEachOnce calls t o.directory (o.walkers + o.parsers) old new) (λ t. IsEachOnce (λ (l : Look). l.calls) t o.directory (o.walkers + o.parsers) (looks_of look old) (looks_of look new))
+      (λ t e. record {
+        listed = e.listed;
+        listed_since = since_seen (λ c. c.listed) (o.walkers + o.parsers) old new e.listed e.listed_since;
+        listed_once = e.listed_once;
+        listed_all = e.listed_all;
+        read = e.read;
+        read_since = since_seen (λ c. c.files_read) (o.walkers + o.parsers) old new e.read e.read_since;
+        read_once = e.read_once;
+        read_all = e.read_all;
+      }) h)
 
   -- the path that is answered is one at which a call on a tree failed
   pub failed_at : (o : Options) (old new : List (Option S)) (path : Path) → KeepTrees (looks_of look old) (looks_of look new) → says.IsCausedAt tree weak faults calls o.directory old new path

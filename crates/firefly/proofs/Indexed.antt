@@ -6,7 +6,7 @@ use Rattle.command_line.specs.Grammar.{Options}
 use Rattle.command_endings.specs.Changes.{Change, IsStill}
 use Rattle.command_endings.specs.Printing.{Prints}
 use Rattle.firefly.specs.IndexCommand.{IndexAnswers}
-use Rattle.firefly.specs.IndexRun.{IsTheIndex, NoIndex, NoneRose}
+use Rattle.firefly.specs.IndexRun.{AreAskedOnce, IsTheIndex, NoIndex, NoneRose}
 use Rattle.firefly.specs.Looks.{Look}
 use Rattle.firefly.specs.TraceCommand.{IsIndexTrace, TraceAnswers}
 use Rattle.command_endings.specs.declared.status.Status.{Status}
@@ -20,9 +20,9 @@ module _ {A : Type 0} where
   same_error e = cc
 
 module _ (o : Options) (old new : List (Option Look)) (out notes : Change) where
-  pub index_printed : (piece : Index) (answer : Status) → IsTheIndex o old piece → NoneRose old new → Prints (index_text piece) Done out notes answer → IndexAnswers o old new out notes answer
-  index_printed piece answer is none (inl p) = subst (λ (s : Status). IndexAnswers o old new out notes s) (sym p.0) (piece, is, none, p.1, p.2)
-  index_printed piece answer is none (inr p) = subst (λ (s : Status). IndexAnswers o old new out notes s) (sym p.0) (piece, is, none, p.1, p.2)
+  pub index_printed : (piece : Index) (answer : Status) → IsTheIndex o old piece → NoneRose old new → AreAskedOnce o old new → Prints (index_text piece) Done out notes answer → IndexAnswers o old new out notes answer
+  index_printed piece answer is none once (inl p) = subst (λ (s : Status). IndexAnswers o old new out notes s) (sym p.0) (piece, is, none, once, p.1, p.2)
+  index_printed piece answer is none once (inr p) = subst (λ (s : Status). IndexAnswers o old new out notes s) (sym p.0) (piece, is, none, once, p.1, p.2)
 
   pub trace_printed : (bytes : List ℕ) (answer : Status) → IsIndexTrace o old new bytes → Prints bytes Done out notes answer → TraceAnswers o old new out notes answer
   trace_printed bytes answer is (inl p) = subst (λ (s : Status). TraceAnswers o old new out notes s) (sym p.0) (bytes, is, p.1, p.2)

@@ -6,14 +6,14 @@ use Rattle.command_line.specs.Grammar.{Options}
 use Rattle.command_endings.specs.declared.status.Status.{Status}
 use Rattle.command_endings.specs.declared.status.Status.TheVariants.{Done, Usage, ReadFault, SinkFault, Stopped, Memory, Illegal, BadText, TooMany, TooLong}
 use Rattle.command_endings.specs.Changes.{Change, IsStill, Gets, GetsFront, Notes}
-use Rattle.firefly.specs.IndexRun.{IsTheIndex, NoIndex, NoneRose}
+use Rattle.firefly.specs.IndexRun.{AreAskedOnce, IsTheIndex, NoIndex, NoneRose}
 use Rattle.firefly.specs.Looks.{Look}
 use Rattle.command_endings.specs.Messages.{output_fault_message}
 
 -- each status by its cause
 abbrev pub IndexAnswers : Options → List (Option Look) → List (Option Look) → Change → Change → Status → Type 0
-IndexAnswers o old new out notes Done = (piece : Index) × IsTheIndex o old piece × NoneRose old new × Gets out (index_text piece) × IsStill notes
-IndexAnswers o old new out notes SinkFault = (piece : Index) × IsTheIndex o old piece × NoneRose old new × GetsFront out (index_text piece) × Notes notes output_fault_message
+IndexAnswers o old new out notes Done = (piece : Index) × IsTheIndex o old piece × NoneRose old new × AreAskedOnce o old new × Gets out (index_text piece) × IsStill notes
+IndexAnswers o old new out notes SinkFault = (piece : Index) × IsTheIndex o old piece × NoneRose old new × AreAskedOnce o old new × GetsFront out (index_text piece) × Notes notes output_fault_message
 IndexAnswers o old new out notes Stopped = NoIndex o old new notes Stopped × IsStill out
 IndexAnswers o old new out notes TooMany = NoIndex o old new notes TooMany × IsStill out
 IndexAnswers o old new out notes ReadFault = NoIndex o old new notes ReadFault × IsStill out

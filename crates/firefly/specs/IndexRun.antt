@@ -10,6 +10,7 @@ use Rattle.larch_actions.specs.Actions.{by_thread}
 use Rattle.word_index.specs.Index.{Index}
 use Rattle.walker.specs.Closing.{IsWhole, IsFaultUnder, most_dirs}
 use Rattle.indexer.specs.declared.plan.Plan.{Plan}
+use Rattle.indexer.specs.Once.{IsEachOnce}
 use Rattle.indexer.specs.Says.{FailsSince}
 use Rattle.indexer.specs.Turns.{release_count}
 use Rattle.command_line.specs.Grammar.{Options}
@@ -30,6 +31,11 @@ NoneRose old new = (a b : Look) → Among old new a b → b.faults ≡ a.faults
 -- the piece is the index of all files under the directory that is told, and neither limit is passed
 abbrev pub IsTheIndex : Options → List (Option Look) → Index → Type 0
 IsTheIndex o old piece = IfSome (told_by old) (λ t. IsWhole t o.directory o.stop_after piece)
+
+-- where the trees tell, over those of the workers and of the closing walk together the directories under the one that is told were listed,
+-- each once, and the files under it were read, each once
+abbrev pub AreAskedOnce : Options → List (Option Look) → List (Option Look) → Type 0
+AreAskedOnce o old new = IfSome (told_by old) (λ t. IsEachOnce (λ (l : Look). l.calls) t o.directory (o.walkers + o.parsers) old new)
 
 -- directories alone were listed, no more often than these events release mutex 0
 pub record OnlyLists (before now : Calls) (own : List Event) : Type 0 where

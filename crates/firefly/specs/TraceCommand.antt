@@ -7,19 +7,21 @@ use Rattle.command_line.specs.Grammar.{Options}
 use Rattle.command_endings.specs.declared.status.Status.{Status}
 use Rattle.command_endings.specs.declared.status.Status.TheVariants.{Done, Usage, ReadFault, SinkFault, Stopped, Memory, Illegal, BadText, TooMany, TooLong}
 use Rattle.command_endings.specs.Changes.{Change, IsStill, Gets, GetsFront, Notes}
-use Rattle.firefly.specs.IndexRun.{IsTheIndex, NoIndex, NoneRose, ShowsWork, plan_of}
+use Rattle.firefly.specs.IndexRun.{AreAskedOnce, IsTheIndex, NoIndex, NoneRose, ShowsWork, plan_of}
 use Rattle.firefly.specs.Looks.{Look}
 use Rattle.command_endings.specs.Messages.{output_fault_message}
 use Rattle.check_command.specs.Traces.{IsClosedTrace}
 
 -- The trace of a run that made the index: a legal and closed list of events of the plan's layout, without values, in which the work of
--- the walkers and parsers is to be seen. No tree's count rose.
+-- the walkers and parsers is to be seen. No tree's count rose, and
+-- each directory was listed once and each file read once.
 pub record IsIndexTrace (o : Options) (old new : List (Option Look)) (bytes : List ℕ) : Type 0 where
   pub events : List Event
   pub trace : IsClosedTrace (layout_of (plan_of o true)) [] events bytes
   pub piece : Index
   pub is_index : IsTheIndex o old piece
   pub none_rose : NoneRose old new
+  pub once : AreAskedOnce o old new
   pub work : ShowsWork o old new events
 
 -- each status by its cause

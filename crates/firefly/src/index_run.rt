@@ -6,7 +6,7 @@ ghost use Rattle.command_line.specs.Tasks.{options_of};
 ghost use Rattle.indexer.specs.Plans.{IsPlan};
 ghost use Rattle.indexer.specs.Says.{IsRunOf};
 ghost use Rattle.command_endings.specs.Changes.{change_of};
-ghost use Rattle.firefly.specs.IndexRun.{IsTheIndex, NoIndex, NoneRose, ShowsWork, plan_of};
+ghost use Rattle.firefly.specs.IndexRun.{AreAskedOnce, IsTheIndex, NoIndex, NoneRose, ShowsWork, plan_of};
 ghost use Rattle.firefly.specs.Looks.{Agree, KeepTrees, look_of, looks_of};
 
 use command_endings::{Ending, Status, ends};
@@ -50,6 +50,9 @@ pub fn index_by<R: Threads + Wait + Sync, S: Tree, N: Sink>(
     ensures is_index { IfOk result (λ r. IsTheIndex (options_of options.now)
         (looks_of (look_of S.tree S.may_fail S.calls S.faults) trees.old) r.0) }
     ensures none_rose { IfOk result (λ r. NoneRose (looks_of (look_of S.tree S.may_fail S.calls S.faults) trees.old)
+        (looks_of (look_of S.tree S.may_fail S.calls S.faults) trees.new)) }
+    ensures once { IfOk result (λ r. AreAskedOnce (options_of options.now)
+        (looks_of (look_of S.tree S.may_fail S.calls S.faults) trees.old)
         (looks_of (look_of S.tree S.may_fail S.calls S.faults) trees.new)) }
     ensures run { IfOk result (λ r. IsRunOf (plan_of (options_of options.now) traced) r.1) }
     ensures work { IfOk result (λ r. (h : List Event) → r.1.trace ≡ Some h

@@ -34,7 +34,7 @@ batch_covered b piece old new fs holds index is path = (
 )
 
 -- the batch with one file more has its path more
-more_paths : (b c : Held) (name : Path) (file : FileBytes) (fs : List File) → HoldsFiles fs b → HoldsFiles (fs ++ read_file name file ∷ []) c → c.paths ≡ b.paths ++ name ∷ []
+pub more_paths : (b c : Held) (name : Path) (file : FileBytes) (fs : List File) → HoldsFiles fs b → HoldsFiles (fs ++ read_file name file ∷ []) c → c.paths ≡ b.paths ++ name ∷ []
 more_paths b c name file fs was now = now.paths ∙ (map-append (λ (f : File). f.path) fs (read_file name file ∷ []) ∙ ap (λ (ps : List Path). ps ++ name ∷ []) (sym was.paths))
 
 only : (name path : Path) → Contains (name ∷ []) path → name ≡ path

@@ -2,6 +2,7 @@
 use Rattle.std.specs.Prelude.{◌≡◌, ◌<◌, ◌≤◌, ◌⊎◌, Bool, List, Option, IfSome, IsTrue, Contains, All, vec_len}
 use Rattle.firefly_outside.specs.Trees.{Path, Told, IsFile, child}
 use Rattle.firefly_outside.specs.declared.tree.FileBytes.{FileBytes}
+use Rattle.walker.specs.Pile.{AreApart}
 use Rattle.walker.specs.TreeIndex.{IsFileAt}
 use Rattle.word_index.specs.Batch.{Held, HoldsFiles}
 use Rattle.word_index.specs.Index.{File, Index}
@@ -30,6 +31,11 @@ pub record IsReadAt (root : Path) (files : List ReadFile) (path : Path) : Type 0
 -- one of the pieces covers the path, or a file of the batch has it
 abbrev pub IsHeldAt : List Index → Held → Path → Type 0
 IsHeldAt pieces held path = IsCovered pieces path ⊎ Contains held.paths path
+
+-- no path is covered twice, by two of the pieces or by one of them and the batch
+pub record AreHeldOnce (pieces : List Index) (held : Held) : Type 0 where
+  pub apart : AreApart pieces
+  pub ahead : (path : Path) → IsCovered pieces path → ¬ Contains held.paths path
 
 -- the batch holds files that the tree has so below the root
 pub record HoldsRead (tree : Option Told) (root : Path) (held : Held) : Type 0 where

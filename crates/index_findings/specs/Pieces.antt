@@ -1,6 +1,7 @@
 -- Pieces of the index of a tree.
 use Rattle.std.specs.Prelude.{List, Option, IfSome, Contains, All, ◌↔◌}
 use Rattle.firefly_outside.specs.Trees.{Path, Told}
+use Rattle.walker.specs.Pile.{AreApart}
 use Rattle.walker.specs.TreeIndex.{IsFileAt}
 use Rattle.word_index.specs.Index.{File, Index, IsIndexOf}
 
@@ -16,15 +17,9 @@ pub record IsCovered (pieces : List Index) (path : Path) : Type 0 where
   pub among : Contains pieces piece
   pub covers : Contains piece.paths path
 
--- what pieces become by being merged: they are of files such as those before were of, and cover the same paths
+-- what pieces become by being merged: they are of files such as those before were of, cover the same paths, and none of them twice where none
+-- was covered twice
 pub record AreMergedFrom (old new : List Index) : Type 0 where
   pub files : (tree : Option Told) (root : Path) → All (IsFilesPiece tree root) old → All (IsFilesPiece tree root) new
   pub covers : (path : Path) → IsCovered new path ↔ IsCovered old path
-
--- the piece is of files such as both are of
-abbrev pub JoinsFiles : Index → Index → Index → Type 0
-JoinsFiles a b both = (tree : Option Told) (root : Path) → IsFilesPiece tree root a → IsFilesPiece tree root b → IsFilesPiece tree root both
-
--- each of these paths is covered by one of the pieces
-abbrev pub AreAllCovered : List Path → List Index → Type 0
-AreAllCovered paths pieces = (path : Path) → Contains paths path → IsCovered pieces path
+  pub apart : AreApart old → AreApart new

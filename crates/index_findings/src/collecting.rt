@@ -1,28 +1,23 @@
 //! What the walkers came by, put together.
-ghost use Rattle.std.specs.Prelude.{◌≡◌, All, IfOk, OnOk};
-ghost use Rattle.firefly_outside.specs.Trees.{Told};
+ghost use Rattle.std.specs.Prelude.{◌≡◌, ◌↔◌, All, Contains, IfOk, OnOk};
+ghost use Rattle.firefly_outside.specs.Trees.{Path, Told};
 ghost use Rattle.walker.specs.Listings.{IsListingOf, IsToldBy, Notes};
-ghost use Rattle.walker.specs.Walk.{IsUnlisted, IsWalkOf};
+ghost use Rattle.walker.specs.Walk.{IsListed, IsUnlisted, IsWalkOf, files_of, new_walk};
+ghost use Rattle.index_findings.specs.Visits.{AreVisits, HasNoted, IsFoundFile, dirs_listed};
 
 use crate::findings::Visit;
 use std::alloc::{AllocError, Global};
 use walker::Walked;
 
-// Puts a listing into the walk, or drops it where its directory wasn't found or is listed.
+// Puts a listing into the walk.
 fn note_visit(walked: &mut Walked, visit: Visit) -> Result<(), AllocError>
-    requires { IsListingOf visit.dir visit.listing }
-    ensures noted { OnOk result (IsUnlisted walked.old visit.dir → Notes walked.old walked.new visit.dir visit.listing) }
-    ensures dropped { ¬ IsUnlisted walked.old visit.dir → walked.new ≡ walked.old }
+    requires unlisted { IsUnlisted walked.old visit.dir }
+    requires lawful { IsListingOf visit.dir visit.listing }
+    ensures noted { OnOk result (Notes walked.old walked.new visit.dir visit.listing) }
     ensures told { OnOk result ((t : Told) → IsWalkOf walked.old t → IsToldBy t visit.dir visit.listing → IsWalkOf walked.new t) }
-    ensures root { OnOk result (walked.new.root ≡ walked.old.root) }
 {
     let Visit { dir, listing } = visit;
-    let path = dir.as_str();
-    if !walked.unlisted(path) {
-        drop(listing);
-        return Ok(());
-    }
-    match walked.note(path, listing) {
+    match walked.note(dir.as_str(), listing) {
         Ok(()) => Ok(()),
         Err(back) => {
             drop(back);
@@ -31,12 +26,14 @@ fn note_visit(walked: &mut Walked, visit: Visit) -> Result<(), AllocError>
     }
 }
 
-/// The walk of these listings. A directory is listed after the one that names it; a second listing of a directory and one of a directory
-/// that no other names are dropped.
+/// The walk of these listings: their directories are those that it shows as listed, and it has found their files.
 pub fn collected(alloc: Global, root: &str, visits: Vec<Visit>) -> Result<Walked, AllocError>
-    requires { All (λ v. IsListingOf v.dir v.listing) visits.items }
+    requires lawful { All (λ v. IsListingOf v.dir v.listing) visits.items }
+    requires visits { AreVisits root.now visits.items }
     ensures root { IfOk result (λ w. w.root ≡ root.now) }
     ensures told { IfOk result (λ w. (t : Told) → All (λ v. IsToldBy t v.dir v.listing) visits.items → IsWalkOf w t) }
+    ensures listed { IfOk result (λ w. (p : Path) → IsListed w p ↔ Contains (dirs_listed visits.items) p) }
+    ensures files { IfOk result (λ w. (p : Path) → IsFoundFile visits.items p → Contains (files_of w) p) }
 {
     let mut walked = Walked::new(alloc, root)?;
     match note_visits(&mut walked, visits) {
@@ -48,10 +45,12 @@ pub fn collected(alloc: Global, root: &str, visits: Vec<Visit>) -> Result<Walked
     }
 }
 
-// Puts these listings into the walk, that of a directory after the one that names it.
+// Puts these listings into a walk that has found the root alone, that of a directory after the one that names it.
 fn note_visits(walked: &mut Walked, mut visits: Vec<Visit>) -> Result<(), AllocError>
-    requires { All (λ v. IsListingOf v.dir v.listing) visits.items }
-    ensures root { OnOk result (walked.new.root ≡ walked.old.root) }
+    requires first { walked.old ≡ new_walk walked.old.root }
+    requires lawful { All (λ v. IsListingOf v.dir v.listing) visits.items }
+    requires visits { AreVisits walked.old.root visits.items }
+    ensures noted { OnOk result (HasNoted walked.old.root visits.items walked.new) }
     ensures told { OnOk result ((t : Told) → IsWalkOf walked.old t → All (λ v. IsToldBy t v.dir v.listing) visits.items
         → IsWalkOf walked.new t) }
 {

@@ -1,14 +1,18 @@
 //! The answer of a run, after its workers have ended.
-ghost use Rattle.std.specs.Prelude.{◌≡◌, ◌≤◌, All, IfSome, true};
+ghost use Rattle.std.specs.Prelude.{◌≡◌, ◌≤◌, ◌↔◌, All, Contains, IfSome, true, false};
+ghost use Rattle.firefly_outside.specs.Trees.{Path};
 ghost use Rattle.index_findings.specs.Gathered.{Ends, EndsByWalk};
-ghost use Rattle.index_findings.specs.Pieces.{IsFilesPiece};
+ghost use Rattle.index_findings.specs.Pieces.{IsCovered, IsFilesPiece};
+ghost use Rattle.index_findings.specs.Rest.{CallsRest, WalksRest};
+ghost use Rattle.index_findings.specs.Visits.{AreFound, AreVisits, dirs_listed};
+ghost use Rattle.walker.specs.Pile.{AreApart};
 ghost use Rattle.walker.specs.Listings.{IsListingOf, IsToldBy};
 ghost use Rattle.walker.specs.Walk.{IsWalkOf};
 
 use crate::collecting::collected;
 use crate::faults::fault_answer;
 use crate::findings::Findings;
-use crate::joining::found_part;
+use crate::joining::whole_of;
 use firefly_outside::Tree;
 use std::alloc::Global;
 use walker::{WalkAnswer, Walked, close_walk};
@@ -26,12 +30,17 @@ pub fn decided<S: Tree>(
     requires lawful { All (λ v. IsListingOf v.dir v.listing) found.visits.items }
     requires told { IfSome (S.tree tree.old) (λ t. All (λ v. IsToldBy t v.dir v.listing) found.visits.items) }
     requires pieces { All (IsFilesPiece (S.tree tree.old) root.now) found.pieces.items }
+    requires once { found.lost ≡ false → AreVisits root.now found.visits.items }
+    requires apart { found.lost ≡ false → AreApart found.pieces.items }
+    requires found { found.lost ≡ false → AreFound root.now found.visits.items found.pieces.items }
     requires stop { IfSome stop_after (λ n. n ≤ 1000000000) }
     ensures tree_stays { S.tree tree.new ≡ S.tree tree.old }
     ensures weak_stays { S.may_fail tree.new ≡ S.may_fail tree.old }
     ensures lost { found.lost ≡ true → result ≡ WalkAnswer.Memory }
     ensures ends { Ends (S.tree tree.old) (S.may_fail tree.old) root.now stop_after found.fault (S.faults tree.old) (S.faults tree.new)
         (S.calls tree.old) (S.calls tree.new) result }
+    ensures rest { IfSome (S.tree tree.old) (λ t. CallsRest t root.now found.visits.items found.pieces.items (S.calls tree.old)
+        (S.calls tree.new) result) }
 {
     let Findings {
         visits,
@@ -73,13 +82,16 @@ fn closed<S: Tree>(
     requires root { walked.root ≡ root.now }
     requires told { IfSome (S.tree tree.old) (IsWalkOf walked) }
     requires pieces { All (IsFilesPiece (S.tree tree.old) root.now) pieces.items }
+    requires apart { AreApart pieces.items }
+    requires found { (p : Path) → IsCovered pieces.items p → Contains walked.files p }
     requires stop { IfSome stop_after (λ n. n ≤ 1000000000) }
     ensures tree_stays { S.tree tree.new ≡ S.tree tree.old }
     ensures weak_stays { S.may_fail tree.new ≡ S.may_fail tree.old }
     ensures ends { EndsByWalk (S.tree tree.old) (S.may_fail tree.old) root.now stop_after (S.faults tree.old) (S.faults tree.new)
         (S.calls tree.old) (S.calls tree.new) result }
+    ensures rest { IfSome (S.tree tree.old) (λ t. WalksRest t walked pieces.items (S.calls tree.old) (S.calls tree.new) result) }
 {
-    match found_part(alloc, &walked, pieces) {
+    match whole_of(alloc, pieces) {
         Ok(piece) => close_walk(alloc, tree, root, walked, piece, stop_after),
         Err(_) => {
             drop(walked);

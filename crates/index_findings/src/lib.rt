@@ -2,8 +2,9 @@
 //! path that failed, if one did.
 //!
 //! Promises: files that were read become pieces of the files that the tree has; pieces that are merged stay of such files and cover the same
-//! paths; the findings of all are one, with the first fault; and `decided` gives over them what the closing walk answers, or the path that
-//! failed, where the listings show that it was found. Stands on the walk of `walker`, the pieces of `word_index` and the trees of
+//! paths; the findings of all are one, with the first fault; and `decided` gives over them what the closing walk answers, which lists and
+//! reads only what they leave, or the path that failed, where the listings show that it was found; where something was lost for want of
+//! memory it says so. Stands on the walk of `walker`, the pieces of `word_index` and the trees of
 //! `firefly_outside`. It knows of no threads, and doesn't say which pieces are merged.
 #![tactic(auto)]
 

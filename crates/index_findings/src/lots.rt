@@ -1,10 +1,11 @@
 //! Files that were read, on the way to their pieces.
-ghost use Rattle.std.specs.Prelude.{◌≡◌, ◌+◌, ◌-◌, ◌^◌, ◌++◌, ◌∷◌, ◌↔◌, ◌⊎◌, [], List, min, vec_len, All, IfOk, OnOk, OnErr, IsTrue, Option};
+ghost use Rattle.std.specs.Prelude.{◌≡◌, ◌+◌, ◌-◌, ◌^◌, ◌++◌, ◌∷◌, ◌↔◌, ◌⊎◌, [], List, min, map, ◌≢◌, AllPairs, vec_len, All, IfOk, OnOk, OnErr, IsTrue, Option};
 ghost use Rattle.firefly_outside.specs.Trees.{Path, Told, child};
 ghost use Rattle.word_index.specs.Batch.{HoldsFiles};
 ghost use Rattle.word_index.specs.Index.{File};
 ghost use Rattle.index_findings.specs.Pieces.{IsCovered, IsFilesPiece};
-ghost use Rattle.index_findings.specs.Lots.{AreRead, HoldsRead, IsDue, IsHeldAt, IsRead, IsReadAt};
+ghost use Rattle.walker.specs.Pile.{AreApart};
+ghost use Rattle.index_findings.specs.Lots.{AreHeldOnce, AreRead, HoldsRead, IsDue, IsHeldAt, IsRead, IsReadAt};
 
 use firefly_outside::{FileBytes, Text};
 use std::alloc::{AllocError, Global};
@@ -81,6 +82,7 @@ fn put_batch(pieces: &mut Vec<Piece>, batch: Batch) -> Result<(), AllocError>
         → All (IsFilesPiece o root) pieces.new.items) }
     ensures covers { OnOk result ((files : List File) → HoldsFiles files batch → (path : Path)
         → IsCovered pieces.new.items path ↔ IsHeldAt pieces.old.items batch path) }
+    ensures apart { OnOk result ((files : List File) → HoldsFiles files batch → AreHeldOnce pieces.old.items batch → AreApart pieces.new.items) }
 {
     let piece = batch.into_piece()?;
     pieces.push(piece)?;
@@ -102,6 +104,8 @@ fn add_file(
         → HoldsRead o root.now b) }
     ensures covers { IfOk result (λ b. (files : List File) → HoldsFiles files batch → (path : Path)
         → IsHeldAt pieces.new.items b path ↔ (IsHeldAt pieces.old.items batch path ⊎ (read.now.path ≡ child root.now path))) }
+    ensures apart { IfOk result (λ b. (files : List File) → HoldsFiles files batch → AreHeldOnce pieces.old.items batch
+        → ((path : Path) → read.now.path ≡ child root.now path → ¬ IsHeldAt pieces.old.items batch path) → AreHeldOnce pieces.new.items b) }
 {
     let Some(name) = below(root, read.path.as_str()) else {
         return Ok(batch);
@@ -113,7 +117,8 @@ fn add_file(
     Batch::new(alloc).add(name, &read.file)
 }
 
-/// The pieces of these files, in the order of their paths: they cover the paths below the root of those that lie there.
+/// The pieces of these files, in the order of their paths: they cover the paths below the root of those that lie there, and none twice where
+/// no two of the files have the same path.
 pub fn pieces_of(
     alloc: Global,
     root: &str,
@@ -121,6 +126,7 @@ pub fn pieces_of(
 ) -> Result<Vec<Piece>, AllocError>
     ensures files { IfOk result (λ ps. (o : Option Told) → AreRead o lot.items → All (IsFilesPiece o root.now) ps.items) }
     ensures covers { IfOk result (λ ps. (path : Path) → IsCovered ps.items path ↔ IsReadAt root.now lot.items path) }
+    ensures apart { AllPairs (λ p q. p ≢ q) (map (λ r. r.path) lot.items) → IfOk result (λ ps. AreApart ps.items) }
 {
     lot.sort_by(|a, b| a.path.cmp(&b.path))?;
     let mut pieces = Vec::new(alloc);

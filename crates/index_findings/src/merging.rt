@@ -1,7 +1,7 @@
 //! Pieces that are kept until they are merged.
-ghost use Rattle.std.specs.Prelude.{◌≡◌, ◌++◌, ◌∷◌, [], ◌<◌, IsTrue, IfOk, OnOk, OnErr, vec_len};
-ghost use Rattle.word_index.specs.Index.{Meet, IsUnion};
-ghost use Rattle.index_findings.specs.Pieces.{AreMergedFrom, JoinsFiles};
+ghost use Rattle.std.specs.Prelude.{◌≡◌, ◌++◌, ◌∷◌, [], ◌<◌, IsTrue, OnOk, OnErr, vec_len};
+ghost use Rattle.walker.specs.Pile.{AreApart};
+ghost use Rattle.index_findings.specs.Pieces.{AreMergedFrom};
 
 use std::alloc::AllocError;
 use word_index::{Piece, merge};
@@ -11,16 +11,14 @@ fn size(piece: &Piece) -> u64 {
     piece.files().saturating_add(piece.entries())
 }
 
-// Whether the last piece is to be merged with the one before: no path is covered by both, and that one is at most about twice as large, or
-// may be of any size.
-fn may_merge(before: &Piece, last: &Piece, of_any_size: bool) -> bool
-    ensures { IsTrue result → ¬ Meet before.now last.now }
-{
-    (of_any_size || size(before) / 2 <= size(last)) && !before.meets(last)
+// Whether the last piece is to be merged with the one before: that one is at most about twice as large, or may be of any size.
+fn is_to_merge(before: &Piece, last: &Piece, of_any_size: bool) -> bool {
+    of_any_size || size(before) / 2 <= size(last)
 }
 
 // Merges the last piece with the one before, if they are to be, and says whether it did. Where memory wants, both stay.
 fn merge_last(kept: &mut Vec<Piece>, of_any_size: bool) -> bool
+    requires { AreApart kept.old.items }
     ensures merged { AreMergedFrom kept.old.items kept.new.items }
     ensures fewer { IsTrue result → vec_len kept.new < vec_len kept.old }
 {
@@ -31,7 +29,7 @@ fn merge_last(kept: &mut Vec<Piece>, of_any_size: bool) -> bool
         kept.push_reserved(last);
         return false;
     };
-    if !may_merge(&before, &last, of_any_size) {
+    if !is_to_merge(&before, &last, of_any_size) {
         kept.push_reserved(before);
         kept.push_reserved(last);
         return false;
@@ -49,9 +47,10 @@ fn merge_last(kept: &mut Vec<Piece>, of_any_size: bool) -> bool
     }
 }
 
-/// Keeps one piece more. Each piece kept is more than about twice as large as the next, but where the two cover a common path or memory
-/// wanted; so a piece is merged again only when it has grown by half.
+/// Keeps one piece more. Each piece kept is more than about twice as large as the next, but where memory wanted; so a piece is merged again
+/// only when it has grown by half.
 pub fn keep(kept: &mut Vec<Piece>, piece: Piece) -> Result<(), AllocError>
+    requires { AreApart (kept.old.items ++ piece ∷ []) }
     ensures kept { OnOk result (AreMergedFrom (kept.old.items ++ piece ∷ []) kept.new.items) }
     ensures refused { OnErr result (kept.new.items ≡ kept.old.items) }
 {
@@ -60,8 +59,9 @@ pub fn keep(kept: &mut Vec<Piece>, piece: Piece) -> Result<(), AllocError>
     Ok(())
 }
 
-/// Merges the pieces, from the last on, until two cover a common path or memory wants.
+/// Merges the pieces, from the last on, until memory wants.
 pub fn merge_rest(kept: &mut Vec<Piece>)
+    requires { AreApart kept.old.items }
     ensures { AreMergedFrom kept.old.items kept.new.items }
 {
     while merge_last(kept, true) {}

@@ -15,18 +15,19 @@ use Rattle.nub.proofs.Users.{from_at, idle_first, idle_done, share_of}
 use Rattle.word_index.specs.Index.{Index}
 use Rattle.index_findings.specs.declared.findings.Findings.{Findings}
 use Rattle.index_findings.specs.Pieces.{IsFilesPiece}
-use Rattle.indexer.specs.declared.value.IndexItem.{IndexItem}
-use Rattle.indexer.specs.declared.value.IndexValue.{IndexValue}
-use Rattle.indexer.specs.Jobs.{GivesTree, HasWorked, kind_at, tree_at}
+use Rattle.index_rule.specs.declared.value.IndexItem.{IndexItem}
+use Rattle.index_rule.specs.declared.value.IndexValue.{IndexValue}
+use Rattle.indexer.specs.Jobs.{GivesTree, HasWorked, IsFresh, kind_at, tree_at}
 use Rattle.indexer.specs.Pieces.{IsPieceItem, AllPut, AllTaken}
 use Rattle.indexer.specs.Runs.{IsFoundBy}
 use Rattle.indexer.specs.Says.{AllTell}
-use Rattle.indexer.specs.Turns.{Worker, Run, ComesBack, HasCalled, IsBetween}
-use Rattle.indexer.specs.Work.{Share, KeepsWork}
-use Rattle.indexer.proofs.TakenLaws.{taken_fit}
+use Rattle.indexer.specs.Turns.{Worker, Run, ComesBack, HasCalled}
+use Rattle.index_rule.specs.Closing.{taken_fit}
+use Rattle.index_rule.specs.Shares.{Share, blank}
+use Rattle.index_rule.specs.Work.{KeepsWork}
 
-abbrev no_share : Prim.Unit {0} → ℕ → Share
-no_share w t = []
+abbrev pub no_share : Path → ℕ → Share
+no_share w t = blank
 
 -- behind the first
 pub behind_first : {A : Type 0} (xs : List A) (n : ℕ) (t : A) → get_elem? (remove xs 0) n ≡ some t → get_elem? xs (suc n) ≡ some t
@@ -53,21 +54,21 @@ pub one_fewer : {A B : Type 0} (threads : List A) (found : List B) (n : ℕ) →
 one_fewer [] found n many long low = absurd (omega arith)
 one_fewer (x ∷ threads) found n many long low = let more = ap suc many ∙ long in omega arith
 
--- a first thread is between two calls
-pub first_between : (p : Run) (n : ℕ) (t : Worker) → IsFirst p no_share n t → IsBetween p t
-first_between p n t first = (n, [], idle_first p no_share n t first)
+-- a first thread is between two calls, and has done nothing
+pub first_fresh : (p : Run) (n : ℕ) (t : Worker) → IsFirst p no_share n t → IsFresh p t
+first_fresh p n t first = ((n, blank, idle_first p no_share n t first), first.share)
 
 -- where all came back from threads that had done nothing, all that was put at the buffer of pieces are pieces of the tree
 puts_first : (o : Option Told) (root : Path) (ps : List Index) (p : Run) (n : ℕ) (a b : Worker) → IsFirst p no_share n a → ComesBack o root ps p a b → (s : Share) → b.share ≡ Some s → AllPut (IsPieceItem o root) 2 s
 puts_first o root ps p n a b first back s at =
-    let r = back n [] (idle_first p no_share n a first) in
+    let r = back n blank (idle_first p no_share n a first) in
     subst (λ (u : Share). AllPut (IsPieceItem o root) 2 u) (same_Some r.0 s (sym r.1.share ∙ at)) (r.2.puts (All-nil (λ (q : ℕ × IndexItem). IsPieceItem o root q.1)))
 
 -- what was taken are pieces of the tree, and so are those that are left
 pieces_first : (o : Option Told) (root : Path) (ps : List Index) (p : Run) (n : ℕ) (a b : Worker) → IsFirst p no_share n a → ComesBack o root ps p a b → (s : Share) → b.share ≡ Some s → AllTaken (IsPieceItem o root) 2 s
     → All (IsFilesPiece o root) ps
 pieces_first o root ps p n a b first back s at taken =
-    let r = back n [] (idle_first p no_share n a first) in
+    let r = back n blank (idle_first p no_share n a first) in
     (r.2.takes (subst (λ (u : Share). AllTaken (IsPieceItem o root) 2 u) (sym (same_Some r.0 s (sym r.1.share ∙ at))) taken)).1
 
 by_cond : {S : Type 0} (v : Bool) (x : Option S) (s : S) → cond v x None ≡ Some s → x ≡ Some s
@@ -79,7 +80,7 @@ pub tree_of : {S : Type 0} (n : ℕ) (trees : List (Option S)) (k : ℕ) (s : S)
 tree_of n trees k s e = by_cond (nat_lt k n) (get_or trees k None) s e
 
 -- a share at a place is that of the thread there
-thread_of : (threads : List Worker) (shares : List Share) → map (λ t. t.share) threads ≡ map (λ s. Some s) shares → (n : ℕ) (s : Share) → get_elem? shares n ≡ some s
+pub thread_of : (threads : List Worker) (shares : List Share) → map (λ t. t.share) threads ≡ map (λ s. Some s) shares → (n : ℕ) (s : Share) → get_elem? shares n ≡ some s
     → (t : Worker) × (get_elem? threads n ≡ some t) × (t.share ≡ Some s)
 thread_of threads [] each n s at = absurd (some-ne-none s (sym at))
 thread_of [] (r ∷ shares) each n s at = absurd (cc)
@@ -111,12 +112,12 @@ module _ {S : Type 0} (tree : S → Option Told) (weak : S → List Path) (fault
       → get_elem? threads 0 ≡ some caller → HasCalled None [] [] p 0 0 caller last
       → Each (HasWorked tree weak faults calls root p walkers n (remove threads 0) findings old new) back → Each (IsDone p) (last ∷ back)
   all_done walkers n threads caller last back findings old new firsts own called worked zero t e =
-      let r = called.back 0 [] (idle_first p no_share 0 caller (firsts 0 caller own)) in
+      let r = called.back 0 blank (idle_first p no_share 0 caller (firsts 0 caller own)) in
       subst (λ (u : Worker). IsDone p 0 u) (some-injective last t e) (idle_done p 0 r.0 last r.1)
   all_done walkers n threads caller last back findings old new firsts own called worked (suc k) t e =
       let w = worked k t e in
       let first = firsts (suc k) w.was (behind_first threads k w.was w.is_was) in
-      let idle = gives_idle (kind_at walkers k) w.was t w.found (tree_at n old k) (tree_at n new k) w.gives (suc k) [] (idle_first p no_share (suc k) w.was first) in
+      let idle = gives_idle (kind_at walkers k) w.was t w.found (tree_at n old k) (tree_at n new k) w.gives (suc k) blank (idle_first p no_share (suc k) w.was first) in
       idle_done p (suc k) idle.0 t idle.1
 
   -- what each worker came by
@@ -152,7 +153,7 @@ module _ {S : Type 0} (tree : S → Option Told) (weak : S → List Path) (fault
         puts_first o root w.found.pieces.items p (suc k) w.was t (firsts (suc k) w.was (behind_first threads k w.was w.is_was)) (back_at k t e) s at
 
     -- the pieces that are left are of files of the tree
-    pub all_pieces : (values : List IndexValue) → length values ≡ 3 → KeepsLocks KeepsWork (last ∷ back) values → length findings ≡ length back → All (IsFilesPiece o root) (flat_map (λ f. f.pieces.items) findings)
+    pub all_pieces : (values : List IndexValue) → length values ≡ 3 → KeepsLocks (KeepsWork p.world) (last ∷ back) values → length findings ≡ length back → All (IsFilesPiece o root) (flat_map (λ f. f.pieces.items) findings)
     all_pieces values three keeps many = flat findings (λ k f e.
         let within = (from_at findings k f e).0 in
         let there = some_at back k (omega arith) in
@@ -161,7 +162,7 @@ module _ {S : Type 0} (tree : S → Option Told) (weak : S → List Path) (fault
         let s = share_of (last ∷ back) keeps.shares keeps.each_share (suc k) there.0 there.1 in
         subst (λ (g : Findings). All (IsFilesPiece o root) g.pieces.items) same
         (pieces_first o root w.found.pieces.items p (suc k) w.was there.0 (firsts (suc k) w.was (behind_first threads k w.was w.is_was)) (back_at k there.0 there.1) s.0 s.2
-        (taken_fit (IsPieceItem o root) values keeps.shares keeps.kept 2 (let low = three in omega arith)
+        (taken_fit p.world values keeps.shares keeps.kept (IsPieceItem o root) 2 (let low = three in omega arith)
         (λ j u at. let t = thread_of (last ∷ back) keeps.shares keeps.each_share j u at in all_puts j t.0 t.1 u t.2)
         (suc k) s.0 s.1)))
       where

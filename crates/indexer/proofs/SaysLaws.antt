@@ -19,12 +19,12 @@ use Rattle.index_findings.specs.Gathered.{Ends, EndsByWalk}
 use Rattle.index_findings.specs.Faults.{path_of, kind_of}
 use Rattle.index_findings.proofs.ToldLaws.{told_on}
 use Rattle.indexer.specs.declared.plan.Plan.{Plan}
-use Rattle.indexer.specs.declared.value.IndexValue.{IndexValue}
+use Rattle.index_rule.specs.declared.value.IndexValue.{IndexValue}
 use Rattle.indexer.specs.Jobs.{GivesTree, kind_at, tree_at}
 use Rattle.indexer.specs.Runs.{IsFoundBy}
 use Rattle.indexer.specs.Says.{AllTell, IndexSays, IsRunOf, WalkSays, answer_of}
 use Rattle.indexer.specs.Turns.{Worker, Run}
-use Rattle.indexer.specs.Work.{Share}
+use Rattle.index_rule.specs.Shares.{Share}
 use Rattle.indexer.specs.Walks.{IsVisit}
 use Rattle.indexer.proofs.RunLaws.{tree_of}
 
@@ -72,7 +72,7 @@ ends_say o weak root stop (Some fault) count then_count before now answer h = �
     h.cases
 
 -- what the closing walk's answer says, the run's says
-pub index_says : (o : Option Told) (root : Path) (plan : Plan) (closed : Ended IndexValue Share (Prim.Unit {0})) (answer : WalkAnswer)
+pub index_says : (o : Option Told) (root : Path) (plan : Plan) (closed : Ended IndexValue Share Path) (answer : WalkAnswer)
     → WalkSays o root plan.stop_after answer → IsRunOf plan closed → IndexSays o root plan (answer_of answer closed)
 index_says o root plan closed (Done piece) says run = (says, run)
 index_says o root plan closed (Stopped many) says run = says

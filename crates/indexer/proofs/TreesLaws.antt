@@ -24,13 +24,13 @@ use Rattle.index_findings.specs.declared.findings.Visit.{Visit}
 use Rattle.index_findings.specs.Gathered.{first_fault, Ends}
 use Rattle.index_findings.specs.Faults.{path_of, kind_of}
 use Rattle.index_findings.proofs.ToldLaws.{told_on, told_both}
-use Rattle.indexer.specs.declared.value.IndexValue.{IndexValue}
+use Rattle.index_rule.specs.declared.value.IndexValue.{IndexValue}
 use Rattle.indexer.specs.Jobs.{GivesTree, kind_at, tree_at}
 use Rattle.indexer.specs.Runs.{IsFoundBy}
 use Rattle.indexer.specs.Says.{AllTell, OnlyCalls, AreBack, IsUsedBy, AreUsed, HasCause, IsCausedAt, FailsSince, TreesAfter, answer_of}
 use Rattle.indexer.specs.Turns.{Worker, Run, release_count}
 use Rattle.indexer.specs.Walks.{HasDone, FaultCounts, CalledOnly, MayFail, calls_with}
-use Rattle.indexer.specs.Work.{Share}
+use Rattle.index_rule.specs.Shares.{Share}
 use Rattle.indexer.proofs.RunLaws.{some_at}
 
 fault_count : (a b : ℕ) (fault : Option Fault) → FaultCounts a b fault → a ≤ b
@@ -290,7 +290,7 @@ module _ {S : Type 0} (tree : S → Option Told) (weak : S → List Path) (fault
         h.4.cases
 
 -- of whatever the closing walk answered
-module _ {S : Type 0} (tree : S → Option Told) (weak : S → List Path) (faults : S → ℕ) (calls : S → Calls) (root : Path) (walkers n : ℕ) (closed : Ended IndexValue Share (Prim.Unit {0})) (findings : List Findings)
+module _ {S : Type 0} (tree : S → Option Told) (weak : S → List Path) (faults : S → ℕ) (calls : S → Calls) (root : Path) (walkers n : ℕ) (closed : Ended IndexValue Share Path) (findings : List Findings)
     (old mid new : List (Option S)) (stop : Option ℕ) (fault : Option Fault) (is_fault : fault ≡ first_fault findings) (found : Each (IsFoundBy tree weak faults calls root walkers n closed.threads old mid) findings)
     (own : S) (is_own : slice_index_or old n None ≡ Some own) (above : (i : ℕ) (d : Option S) → n ≤ i → slice_index_or mid i d ≡ slice_index_or old i d)
     (others : (i : ℕ) (d : Option S) → (i ≡ n → ⊥) → slice_index_or new i d ≡ slice_index_or mid i d) where

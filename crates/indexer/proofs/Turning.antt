@@ -1,5 +1,5 @@
 -- The calls of a worker.
-use Rattle.std.proofs.Common.{◌≡◌, ℕ, ◌+◌, ◌≤◌, List, [], ◌∷◌, ◌++◌, Option, Some, None, Result, Ok, Err, inl, sym, ap, subst, ◌∙◌, refl, arith, slice_set, cond}
+use Rattle.std.proofs.Common.{◌≡◌, ℕ, ◌+◌, ◌≤◌, List, [], ◌∷◌, ◌++◌, Option, Some, None, Result, Ok, Err, sym, ap, subst, ◌∙◌, refl, arith, slice_set, cond, append-nil}
 use Rattle.std.specs.Prelude.{All}
 use Rattle.std.proofs.lemmas.List.{set-set}
 use Rattle.std.proofs.lemmas.List.Elements.{All-append, All-cons, All-head, All-nil, All-tail}
@@ -22,19 +22,35 @@ use Rattle.nub.specs.Rest.{AtRest, Adds, IsSame}
 use Rattle.nub.proofs.Users.{idle_again}
 use Rattle.word_index.specs.Index.{Index}
 use Rattle.index_findings.specs.Pieces.{IsFilesPiece}
-use Rattle.indexer.specs.declared.value.IndexItem.{IndexItem}
-use Rattle.indexer.specs.declared.value.IndexItem.TheVariants.{File as FileItem, Piece as PieceItem}
-use Rattle.indexer.specs.declared.value.IndexValue.{IndexValue}
-use Rattle.indexer.specs.declared.value.IndexValue.TheVariants.{Dirs, Ring}
+use Rattle.index_rule.specs.declared.value.IndexItem.{IndexItem}
+use Rattle.index_rule.specs.declared.value.IndexItem.TheVariants.{File as FileItem, Piece as PieceItem}
+use Rattle.index_rule.specs.declared.value.IndexValue.{IndexValue}
+use Rattle.index_rule.specs.declared.value.IndexValue.TheVariants.{Dirs, Ring}
 use Rattle.indexer.specs.Pieces.{IsPieceItem}
-use Rattle.indexer.specs.Work.{Share, IsBehind, MayChange}
+use Rattle.std.proofs.lemmas.Option.{same_Some}
+use Rattle.index_rule.specs.Counting.{contains_nil, distinct_nil}
+use Rattle.index_rule.specs.Shares.{Share, IsChildOfTook}
+use Rattle.index_rule.specs.Work.{IsBehind, IsNewTo, MayChange, waiting_of}
 use Rattle.indexer.specs.Turns.{Worker, Run, releases, release_count, Passes, ComesBack, HasCalled, HasList, IsBetween}
 
--- the list may be given back with whatever it has
-pub dirs_stay : (x y : IndexValue) (s : Share) → IsBehind 0 x → IsBehind 0 y → MayChange 0 x y s s
-dirs_stay (Dirs d) (Dirs e) s h k = record { kind = refl; done = inl (refl, refl) }
-dirs_stay (Dirs d) (Ring q) s h k = absurd (k refl)
-dirs_stay (Ring q) y s h k = absurd (h refl)
+-- the list may be given back as it was got
+pub dirs_stay : (root : Path) (x y : IndexValue) (s : Share) → IsBehind 0 x → IsBehind 0 y → waiting_of y ≡ waiting_of x → MayChange root 0 x y s s
+dirs_stay root (Dirs d) (Dirs e) s h k same = record {
+  kind = refl;
+  moves = record {
+    rest = waiting_of (Dirs d);
+    gone = [];
+    come = [];
+    was = sym (append-nil (waiting_of (Dirs d)));
+    is = same ∙ sym (append-nil (waiting_of (Dirs d)));
+    share = refl;
+    from = All-nil (IsChildOfTook s);
+    once = distinct_nil;
+    new = λ d k. absurd (contains_nil d k);
+  };
+}
+dirs_stay root (Dirs d) (Ring q) s h k same = absurd (k refl)
+dirs_stay root (Ring q) y s h k same = absurd (h refl)
 
 release_count-append : (m : ℕ) (xs ys : List Event) → release_count m (xs ++ ys) ≡ release_count m xs + release_count m ys
 release_count-append m xs ys = sum_by-append (λ (e : Event). cond (releases m e.action) 1 0) xs ys
@@ -72,7 +88,7 @@ taken_pieces (Err e) = []
 
 module _ (o : Option Told) (root : Path) where
   -- a share that has the same at the buffer of pieces
-  pub passes_same : (s r : Share) → part_of r 2 ≡ part_of s 2 → Passes o root [] s r
+  pub passes_same : (s r : Share) → part_of r.notes 2 ≡ part_of s.notes 2 → Passes o root [] s r
   passes_same s r e = record {
     puts = subst (λ (u : Used IndexItem). All (λ p. IsPieceItem o root p.1) u.puts) (sym e);
     takes = λ h. (subst (λ (u : Used IndexItem). All (λ p. IsPieceItem o root p.1) u.takes) e h, All-nil (IsFilesPiece o root));
@@ -98,9 +114,9 @@ module _ (o : Option Told) (root : Path) where
   put_parts i (Err (Closed, j)) k u fits = ((λ h. h), (λ h. h))
   put_parts i (Err (PutAlerted, j)) k u fits = ((λ h. h), (λ h. h))
 
-  pub passes_put : (i : IndexItem) (x : Result ℕ (PutEnd × IndexItem)) (k : ℕ) (s r : Share) → part_of r 2 ≡ did_last (put_did i x) (more_full k (part_of s 2)) → IsPieceItem o root i → Passes o root [] s r
+  pub passes_put : (i : IndexItem) (x : Result ℕ (PutEnd × IndexItem)) (k : ℕ) (s r : Share) → part_of r.notes 2 ≡ did_last (put_did i x) (more_full k (part_of s.notes 2)) → IsPieceItem o root i → Passes o root [] s r
   passes_put i x k s r e fits =
-      let parts = put_parts i x k (part_of s 2) fits in
+      let parts = put_parts i x k (part_of s.notes 2) fits in
       record {
         puts = λ h. subst (λ (u : Used IndexItem). All (λ p. IsPieceItem o root p.1) u.puts) (sym e) (parts.0 h);
         takes = λ h. (parts.1 (subst (λ (u : Used IndexItem). All (λ p. IsPieceItem o root p.1) u.takes) e h), All-nil (IsFilesPiece o root));
@@ -120,15 +136,15 @@ module _ (o : Option Told) (root : Path) where
   take_parts (Err ClosedEmpty) k u = ((λ h. h), (λ h. (h, All-nil (IsFilesPiece o root))))
   take_parts (Err TakeAlerted) k u = ((λ h. h), (λ h. (h, All-nil (IsFilesPiece o root))))
 
-  pub passes_take : (x : Result (ℕ × IndexItem) TakeEnd) (k : ℕ) (s r : Share) → part_of r 2 ≡ did_last (take_did x) (more_empty k (part_of s 2)) → Passes o root (taken_pieces x) s r
+  pub passes_take : (x : Result (ℕ × IndexItem) TakeEnd) (k : ℕ) (s r : Share) → part_of r.notes 2 ≡ did_last (take_did x) (more_empty k (part_of s.notes 2)) → Passes o root (taken_pieces x) s r
   passes_take x k s r e =
-      let parts = take_parts x k (part_of s 2) in
+      let parts = take_parts x k (part_of s.notes 2) in
       record {
         puts = λ h. subst (λ (u : Used IndexItem). All (λ p. IsPieceItem o root p.1) u.puts) (sym e) (parts.0 h);
         takes = λ h. parts.1 (subst (λ (u : Used IndexItem). All (λ p. IsPieceItem o root p.1) u.takes) e h);
       }
 
-  pub passes_shut : (s r : Share) → part_of r 2 ≡ did Shut (part_of s 2) → Passes o root [] s r
+  pub passes_shut : (s r : Share) → part_of r.notes 2 ≡ did Shut (part_of s.notes 2) → Passes o root [] s r
   passes_shut s r e = record {
     puts = λ h. subst (λ (u : Used IndexItem). All (λ p. IsPieceItem o root p.1) u.puts) (sym e) h;
     takes = λ h. (subst (λ (u : Used IndexItem). All (λ p. IsPieceItem o root p.1) u.takes) e h, All-nil (IsFilesPiece o root));
@@ -171,16 +187,16 @@ module _ (o : Option Told) (root : Path) where
   called_any ps p m k a b h = record { back = h.back; times = let more = h.times in omega arith }
 
   -- who gives the list back is between two calls again
-  pub gave_back : (p : Run) (a b c : Worker) (x : IndexValue) → HasList p a x b → AtRest p c → IsSame b c → c.held ≡ slice_set b.held 0 None → (c.share ≡ b.share)
+  pub gave_back : (p : Run) (a b c : Worker) (x : IndexValue) (has : HasList p a x b) → AtRest p c → IsSame b c → c.held ≡ slice_set b.held 0 None → (r : Share) → c.share ≡ Some r → r.notes ≡ has.own.notes
       → Adds [] (release_event b.number 0) b c → HasCalled o root [] p 0 1 a c
-  gave_back p a b c x has rest same held share adds = record {
+  gave_back p a b c x has rest same held r share notes adds = record {
     back = λ n s idle. (
-      s,
-      idle_again p n s s a c idle rest
+      r,
+      idle_again p n s r a c idle rest
           (record { number = same.number ∙ has.same.number; world = same.world ∙ has.same.world })
           (held ∙ (ap (λ h. slice_set h 0 None) has.held ∙ (set-set a.held 0 (Some x) None ∙ set_again a.held 0 None (idle.lacks 0 (omega arith)))))
-          (share ∙ (has.share ∙ (sym has.was ∙ idle.share))),
-      passes_none s,
+          share,
+      passes_same s r (ap (λ l. part_of l 2) (notes ∙ ap (λ (u : Share). u.notes) (same_Some has.own s (sym has.was ∙ idle.share)))),
     );
     times = let more = adds_release b.number b c adds in let before = has.times 0 in omega arith;
   }
@@ -193,9 +209,9 @@ module _ (o : Option Told) (root : Path) where
   }
 
 -- who waited with the list has it again
-pub has_again : (p : Run) (a b c : Worker) (x y : IndexValue) (es : List Event) (e : Event) → HasList p a x b → AtRest p c → IsSame b c → Holds c 0 y → c.held ≡ slice_set b.held 0 (Some y)
-    → c.share ≡ b.share → Adds es e b c → IsBehind 0 y → HasList p a y c
-has_again p a b c x y es e has rest same holds held share adds kind = record {
+pub has_again : (p : Run) (a b c : Worker) (x y : IndexValue) (es : List Event) (e : Event) (has : HasList p a x b) → AtRest p c → IsSame b c → Holds c 0 y → c.held ≡ slice_set b.held 0 (Some y)
+    → c.share ≡ b.share → Adds es e b c → IsBehind 0 y → IsNewTo p.world 0 has.own y → HasList p a y c
+has_again p a b c x y es e has rest same holds held share adds kind new = record {
   rest = rest;
   same = record { number = same.number ∙ has.same.number; world = same.world ∙ has.same.world };
   has = holds;
@@ -205,5 +221,6 @@ has_again p a b c x y es e has rest same holds held share adds kind = record {
   was = has.was;
   share = share ∙ has.share;
   kind = kind;
+  new = new;
   times = λ m. let more = adds_keep m es e b c adds in let before = has.times m in omega arith;
 }

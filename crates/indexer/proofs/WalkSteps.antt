@@ -13,6 +13,7 @@ use Rattle.word_index.specs.Index.{Index}
 use Rattle.index_findings.specs.declared.findings.Fault.{Fault}
 use Rattle.index_findings.specs.declared.findings.Visit.{Visit}
 use Rattle.index_findings.specs.Pieces.{IsFilesPiece}
+use Rattle.index_findings.specs.Visits.{dirs_listed}
 use Rattle.index_findings.specs.Faults.{path_of}
 use Rattle.index_findings.proofs.ToldLaws.{told_on, told_both, told_all}
 use Rattle.indexer.specs.Turns.{Worker, Run, HasCalled}
@@ -187,3 +188,17 @@ visits_more tree visits kept dir text l all is lawful told each =
     let v : Visit = record { dir = dir; listing = l } in
     let here : IsVisit tree v = record { lawful = subst (λ (d : Path). IsListingOf d l) is lawful; told = subst (λ (d : Path). IfSome tree (λ t. IsToldBy t d l)) is told } in
     subst (All (IsVisit tree)) (sym all) (All-append (IsVisit tree) visits (v ∷ []) each (All-cons (IsVisit tree) v [] here (All-nil (IsVisit tree))))
+
+-- who lists directories reads nothing, and unless a listing was lost it has those that it listed
+pub lists_only : (tree : Option Told) (weak : List Path) (before now : Calls) (visits : List Visit) (fault : Option Fault) (lost : Bool) (spare : ℕ) (a b : Worker) → IfSome tree (CalledOnly Dir weak before now visits fault lost spare a b)
+    → IfSome tree (λ t. (now.files_read ≡ before.files_read ++ []) × (lost ≡ false → now.listed ≡ before.listed ++ dirs_listed visits))
+lists_only tree weak before now visits fault lost spare a b h =
+    told_on tree (CalledOnly Dir weak before now visits fault lost spare a b) (λ t. (now.files_read ≡ before.files_read ++ []) × (lost ≡ false → now.listed ≡ before.listed ++ dirs_listed visits))
+    (λ t c. (ap (λ (d : Calls). d.files_read) c.made ∙ sym (append-nil before.files_read), (λ none. ap (λ (d : Calls). d.listed) c.made ∙ ap (λ l. before.listed ++ l) (c.kept none)))) h
+
+-- who reads files lists nothing
+pub reads_only : (tree : Option Told) (weak : List Path) (before now : Calls) (visits : List Visit) (fault : Option Fault) (lost : Bool) (spare : ℕ) (a b : Worker) (files : List Path) → visits ≡ [] → IfSome tree (CalledOnly File weak before now visits fault lost spare a b)
+    → IfSome tree (λ t. now.files_read ≡ before.files_read ++ files) → IfSome tree (λ t. (now.files_read ≡ before.files_read ++ files) × (lost ≡ false → now.listed ≡ before.listed ++ dirs_listed visits))
+reads_only None weak before now visits fault lost spare a b files none h read = tt
+reads_only (Some t) weak before now visits fault lost spare a b files none h read =
+    (read, (λ kept. ap (λ (d : Calls). d.listed) h.made ∙ (sym (append-nil before.listed) ∙ ap (λ (vs : List Visit). before.listed ++ dirs_listed vs) (sym none))))

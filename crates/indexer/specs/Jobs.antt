@@ -1,14 +1,19 @@
 -- Workers with their trees, and what comes of them.
-use Rattle.std.specs.Prelude.{◌≡◌, ℕ, ◌≤◌, ◌<◌, List, [], ◌∷◌, length, map, remove, Option, Some, None, cond, nat_lt, slice_index_or}
+use Rattle.std.specs.Prelude.{◌≡◌, ℕ, ◌≤◌, ◌<◌, true, false, List, [], ◌∷◌, ◌++◌, length, map, remove, Option, Some, None, IfSome, cond, nat_lt, slice_index_or}
 use mathlib.Core.Option.{some}
 use lib.ListN.{get_elem?}
 use Rattle.firefly_outside.specs.Trees.{Path, Told, Calls}
 use Rattle.firefly_outside.specs.declared.tree.Kind.{Kind}
 use Rattle.firefly_outside.specs.declared.tree.Kind.TheVariants.{File, Dir}
+use Rattle.bounded_buffer.specs.Plain.{part_of}
 use Rattle.nub_rule.specs.Items.{Each}
+use Rattle.index_findings.specs.Visits.{dirs_listed}
+use Rattle.index_rule.specs.Shares.{blank}
+use Rattle.indexer.specs.Gets.{Makes, OfShare, nothing}
+use Rattle.indexer.specs.Hands.{IsLeft}
 use Rattle.index_findings.specs.declared.findings.Findings.{Findings}
 use Rattle.indexer.specs.declared.job.Job.{Job}
-use Rattle.indexer.specs.Turns.{Worker, Run, HasCalled}
+use Rattle.indexer.specs.Turns.{Worker, Run, HasCalled, IsBetween}
 use Rattle.indexer.specs.Walks.{HasDone}
 
 -- the tree of the worker k, where the first n workers have one
@@ -19,6 +24,10 @@ tree_at n trees k = cond (nat_lt k n) (slice_index_or trees k None) None
 abbrev pub kind_at : ℕ → ℕ → Kind
 kind_at walkers k = cond (nat_lt k walkers) Dir File
 
+-- the thread is between two calls, and has done nothing yet
+abbrev pub IsFresh : Run → Worker → Type 0
+IsFresh p a = IsBetween p a × (a.share ≡ Some blank)
+
 -- a job for each thread, with the tree and the kind of its place; the trees behind the first n stay
 pub record AreJobs {S : Type 0} (walkers n : ℕ) (threads : List Worker) (old new : List (Option S)) (jobs : List (Job S)) : Type 0 where
   pub made : map (λ (j : Job S). j.me) jobs ≡ threads
@@ -27,11 +36,15 @@ pub record AreJobs {S : Type 0} (walkers n : ℕ) (threads : List Worker) (old n
   pub others : (i : ℕ) (d : Option S) → n ≤ i → slice_index_or new i d ≡ slice_index_or old i d
 
 module _ {S : Type 0} (tree : S → Option Told) (weak : S → List Path) (faults : S → ℕ) (calls : S → Calls) (root : Path) where
-  -- the worker came from a to b with these findings: the tree that it got came back, with calls of its kind; without a tree it took and merged pieces
+  -- the worker came from a to b with these findings, as its share says: the tree that it got came back, with calls of its kind; without a tree
+  -- it took and merged pieces, and unless it lost one it saw the end of their buffer
   abbrev pub GivesTree : Run → Kind → Worker → Worker → Findings → Option S → Option S → Type 0
   GivesTree p kind a b f None None = ((o : Option Told) → HasCalled o root f.pieces.items p 0 0 a b) × (f.visits.items ≡ []) × (f.fault ≡ None)
+      × OfShare b (IsLeft p.world [] f) × (f.lost ≡ false → OfShare b (λ u. (part_of u.notes 2).seen_end ≡ true))
   GivesTree p kind a b f (Some s) (Some r) = (tree r ≡ tree s) × (weak r ≡ weak s)
       × HasDone kind (tree s) root (weak s) (faults s) (faults r) (calls s) (calls r) p 0 a b f.visits.items f.pieces.items f.fault f.lost
+      × ((files : List Path) × OfShare b (IsLeft p.world files f)
+      × IfSome (tree s) (λ t. ((calls r).files_read ≡ (calls s).files_read ++ files) × (f.lost ≡ false → (calls r).listed ≡ (calls s).listed ++ dirs_listed f.visits.items)))
   GivesTree p kind a b f None (Some r) = ⊥
   GivesTree p kind a b f (Some s) None = ⊥
 
@@ -48,7 +61,7 @@ module _ {S : Type 0} (tree : S → Option Told) (weak : S → List Path) (fault
     pub caller : Worker
     pub is_caller : get_elem? threads 0 ≡ some caller
     pub last : Worker
-    pub called : (o : Option Told) (q : Path) → HasCalled o q [] p 0 0 caller last
+    pub called : Makes p nothing caller last
     pub back : List Worker
     pub is_all : all ≡ last ∷ back
     pub many : length back ≡ length (remove threads 0)

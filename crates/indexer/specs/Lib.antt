@@ -1,13 +1,13 @@
 pub mod Plans
-pub mod Work
 pub mod Pieces
-pub mod WorkLaws
-pub mod BufferLaws
 pub mod Turns
+pub mod Gets
+pub mod Hands
+pub mod States
 pub mod Walks
 pub mod Lots
+pub mod Once
 pub mod Jobs
-pub mod Opening
 pub mod Runs
 pub mod Says
 pub mod Taken

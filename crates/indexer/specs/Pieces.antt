@@ -3,9 +3,9 @@ use Rattle.std.specs.Prelude.{ℕ, Option, All}
 use Rattle.bounded_buffer.specs.Plain.{part_of}
 use Rattle.firefly_outside.specs.Trees.{Path, Told}
 use Rattle.index_findings.specs.Pieces.{IsFilesPiece}
-use Rattle.indexer.specs.declared.value.IndexItem.{IndexItem}
-use Rattle.indexer.specs.declared.value.IndexItem.TheVariants.{File as FileItem, Piece as PieceItem}
-use Rattle.indexer.specs.Work.{Share}
+use Rattle.index_rule.specs.declared.value.IndexItem.{IndexItem}
+use Rattle.index_rule.specs.declared.value.IndexItem.TheVariants.{File as FileItem, Piece as PieceItem}
+use Rattle.index_rule.specs.Shares.{Share}
 
 -- the item is a piece of files of the tree
 abbrev pub IsPieceItem : Option Told → Path → IndexItem → Type 0
@@ -14,8 +14,8 @@ IsPieceItem tree root (PieceItem piece) = IsFilesPiece tree root piece
 
 -- each item that the share says its thread put at this mutex is such an item
 abbrev pub AllPut : (IndexItem → Type 0) → ℕ → Share → Type 0
-AllPut fits m s = All (λ p. fits p.1) (part_of s m).puts
+AllPut fits m s = All (λ p. fits p.1) (part_of s.notes m).puts
 
 -- and each that it took there
 abbrev pub AllTaken : (IndexItem → Type 0) → ℕ → Share → Type 0
-AllTaken fits m s = All (λ p. fits p.1) (part_of s m).takes
+AllTaken fits m s = All (λ p. fits p.1) (part_of s.notes m).takes

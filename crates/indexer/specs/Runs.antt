@@ -1,6 +1,6 @@
 -- What a run of the workers leaves.
 use Rattle.std.specs.Prelude.{◌≡◌, ℕ, ◌+◌, ◌≤◌, true, false, List, [], length, All, Option, Some, None, slice_index_or}
-use Rattle.std.specs.List.{flat_map}
+use Rattle.std.specs.List.{flat_map, list_any}
 use Rattle.std.proofs.Common.{suc}
 use mathlib.Core.Option.{some}
 use lib.ListN.{get_elem?}
@@ -10,13 +10,16 @@ use Rattle.nub.specs.Ended.{Ended, IsWhole}
 use Rattle.nub_rule.specs.Items.{Each}
 use Rattle.index_findings.specs.declared.findings.Findings.{Findings}
 use Rattle.index_findings.specs.Pieces.{IsFilesPiece}
+use Rattle.index_findings.specs.Visits.{AreFound, AreVisits}
+use Rattle.walker.specs.Pile.{AreApart}
+use Rattle.indexer.specs.Once.{IsWorkedOnce}
 use Rattle.indexer.specs.declared.plan.Plan.{Plan}
-use Rattle.indexer.specs.declared.value.IndexValue.{IndexValue}
+use Rattle.index_rule.specs.declared.value.IndexValue.{IndexValue}
 use Rattle.indexer.specs.Jobs.{GivesTree, kind_at, tree_at}
 use Rattle.indexer.specs.Plans.{layout_of}
 use Rattle.indexer.specs.Says.{AllTell}
 use Rattle.indexer.specs.Turns.{Worker, Run}
-use Rattle.indexer.specs.Work.{Share}
+use Rattle.index_rule.specs.Shares.{Share}
 
 module _ {S : Type 0} (tree : S → Option Told) (weak : S → List Path) (faults : S → ℕ) (calls : S → Calls) (root : Path) where
   -- the worker k, which is thread k + 1 and had done nothing at first, came by this, and its tree came back
@@ -29,11 +32,16 @@ module _ {S : Type 0} (tree : S → Option Told) (weak : S → List Path) (fault
     pub gives : GivesTree tree weak faults calls root run (kind_at walkers k) first last found (tree_at n old k) (tree_at n new k)
 
   -- the package of the plan was closed so when its workers had ended, and this is what they came by
-  pub record HasRun (plan : Plan) (old new : List (Option S)) (closed : Ended IndexValue Share (Prim.Unit {0})) (findings : List Findings) : Type 0 where
+  pub record HasRun (plan : Plan) (old new : List (Option S)) (closed : Ended IndexValue Share Path) (findings : List Findings) : Type 0 where
     pub layout : closed.layout ≡ layout_of plan
     pub untraced : plan.traced ≡ false → closed.trace ≡ None
     pub traced : plan.traced ≡ true → (h : List Event) × (closed.trace ≡ Some h) × IsWhole (layout_of plan) closed.threads h
     pub count : length findings + 1 ≡ (layout_of plan).threads
     pub found : Each (IsFoundBy plan.walkers (plan.walkers + plan.parsers) closed.threads old new) findings
     pub pieces : (o : Option Told) → AllTell tree o old → All (IsFilesPiece o root) (flat_map (λ f. f.pieces.items) findings)
+    pub visits : AreVisits root (flat_map (λ f. f.visits.items) findings)
+    pub apart : AreApart (flat_map (λ f. f.pieces.items) findings)
+    pub covered : AreFound root (flat_map (λ f. f.visits.items) findings) (flat_map (λ f. f.pieces.items) findings)
+    pub once : (t : Told) → AllTell tree (Some t) old → list_any (λ f. f.lost) findings ≡ false
+        → IsWorkedOnce calls root (plan.walkers + plan.parsers) old new (flat_map (λ f. f.visits.items) findings) (flat_map (λ f. f.pieces.items) findings)
     pub others : (i : ℕ) (d : Option S) → plan.walkers + plan.parsers ≤ i → slice_index_or new i d ≡ slice_index_or old i d

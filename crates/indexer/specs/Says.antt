@@ -16,11 +16,11 @@ use Rattle.walker.specs.declared.answer.WalkAnswer.TheVariants.{Done, Stopped, R
 use Rattle.indexer.specs.declared.answer.IndexAnswer.{IndexAnswer}
 use Rattle.indexer.specs.declared.answer.IndexAnswer.TheVariants.{Done as IndexDone, Stopped as IndexStopped, ReadFault as IndexReadFault, TooMany as IndexTooMany, Memory as IndexMemory}
 use Rattle.indexer.specs.declared.plan.Plan.{Plan}
-use Rattle.indexer.specs.declared.value.IndexValue.{IndexValue}
+use Rattle.index_rule.specs.declared.value.IndexValue.{IndexValue}
 use Rattle.indexer.specs.Jobs.{kind_at}
 use Rattle.indexer.specs.Plans.{layout_of}
 use Rattle.indexer.specs.Turns.{Worker, release_count}
-use Rattle.indexer.specs.Work.{Share}
+use Rattle.index_rule.specs.Shares.{Share}
 
 -- all trees tell this tree, or none tells
 abbrev pub AllTell : {S : Type 0} → (S → Option Told) → Option Told → List (Option S) → Type 0
@@ -39,13 +39,13 @@ WalkSays o root stop (TooMany many) = (many ≡ most_dirs + 1) × IfSome o (λ t
 WalkSays o root stop Memory = Unit {0}
 
 -- the closed package of the plan: its trace is there where the plan says so, and then it is the whole history
-pub record IsRunOf (plan : Plan) (c : Ended IndexValue Share (Prim.Unit {0})) : Type 0 where
+pub record IsRunOf (plan : Plan) (c : Ended IndexValue Share Path) : Type 0 where
   pub layout : c.layout ≡ layout_of plan
   pub untraced : plan.traced ≡ false → c.trace ≡ None
   pub traced : plan.traced ≡ true → (h : List Event) × (c.trace ≡ Some h) × IsWholeHistory (layout_of plan) c.threads h
 
 -- what a run answers where its closing walk answered this
-abbrev pub answer_of : WalkAnswer → Ended IndexValue Share (Prim.Unit {0}) → IndexAnswer
+abbrev pub answer_of : WalkAnswer → Ended IndexValue Share Path → IndexAnswer
 answer_of (Done piece) closed = IndexDone piece closed
 answer_of (Stopped many) closed = IndexStopped many
 answer_of (ReadFault path) closed = IndexReadFault path

@@ -10,15 +10,16 @@ use Rattle.nub.specs.Idle.{IsIdle}
 use Rattle.nub.specs.Rest.{AtRest, IsSame}
 use Rattle.word_index.specs.Index.{Index}
 use Rattle.index_findings.specs.Pieces.{IsFilesPiece}
-use Rattle.indexer.specs.declared.value.IndexValue.{IndexValue}
+use Rattle.index_rule.specs.declared.value.IndexValue.{IndexValue}
 use Rattle.indexer.specs.Pieces.{IsPieceItem, AllPut, AllTaken}
-use Rattle.indexer.specs.Work.{Share, IsBehind}
+use Rattle.index_rule.specs.Shares.{Share, blank}
+use Rattle.index_rule.specs.Work.{IsBehind, IsNewTo}
 
 abbrev pub Worker : Type 0
-Worker = Known IndexValue Share (Prim.Unit {0})
+Worker = Known IndexValue Share Path
 
 abbrev pub Run : Type 0
-Run = Shape (Prim.Unit {0})
+Run = Shape Path
 
 abbrev pub releases : ℕ → Action → Bool
 releases m (Release k) = eqb k.0 m
@@ -59,8 +60,13 @@ pub record HasList (p : Run) (a : Worker) (x : IndexValue) (b : Worker) : Type 0
   pub was : a.share ≡ Some own
   pub share : b.share ≡ Some own
   pub kind : IsBehind 0 x
+  pub new : IsNewTo p.world 0 own x
   pub times : (m : ℕ) → release_count m a.mine ≤ release_count m b.mine
 
 -- the thread is between two calls
 abbrev pub IsBetween : Run → Worker → Type 0
 IsBetween p a = (n : ℕ) × (s : Share) × IsIdle p n s a
+
+-- and has done nothing
+abbrev pub IsReady : Run → Worker → Type 0
+IsReady p a = (n : ℕ) × IsIdle p n blank a

@@ -1,6 +1,6 @@
 //! What an index run answers.
-use crate::uses::IndexUses;
 use firefly_outside::Text;
+use index_rule::IndexUses;
 use nub::Closed;
 use word_index::Piece;
 

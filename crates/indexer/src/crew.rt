@@ -3,16 +3,17 @@ ghost use Rattle.std.specs.Prelude.{◌≡◌, ◌≤◌, ◌<◌, [], length, I
 ghost use Rattle.firefly_outside.specs.Trees.{Path, Told};
 ghost use Rattle.nub_rule.specs.Items.{Each};
 ghost use Rattle.package_crew.specs.Crews.{CameBack};
-ghost use Rattle.indexer.specs.Jobs.{GivesTree, HasCrew};
-ghost use Rattle.indexer.specs.Turns.{HasCalled, HasLists, IsBetween};
+ghost use Rattle.indexer.specs.Gets.{Makes, nothing};
+ghost use Rattle.indexer.specs.Jobs.{GivesTree, HasCrew, IsFresh};
+ghost use Rattle.indexer.specs.Turns.{HasLists, IsBetween};
 
 use crate::ending::shut_all;
 use crate::handing::{jobs_of, put_back};
 use crate::job::Job;
-use crate::uses::IndexUses;
 use crate::work::work;
 use firefly_outside::Tree;
 use index_findings::Findings;
+use index_rule::IndexUses;
 use nub_rule::{Package, Thread};
 use package_crew::{Gate, at_once_beside};
 use std::alloc::{AllocError, Global};
@@ -34,8 +35,9 @@ fn run_jobs<R: Threads + Wait + Sync, S: Tree, G: Gate>(
 ) -> Result<(Vec<Job<S>>, Vec<Findings>, Thread<IndexUses>), AllocError>
     requires layout { HasLists p.now.layout }
     requires caller { IsBetween p.now caller }
-    requires jobs { Each (λ n j. IsBetween p.now j.me) jobs.items }
-    ensures caller { IfOk result (λ r. (o : Option Told) (q : Path) → HasCalled o q [] p.now 0 0 caller r.2) }
+    requires jobs { Each (λ n j. IsFresh p.now j.me) jobs.items }
+    requires root { root.now ≡ p.now.world }
+    ensures caller { IfOk result (λ r. Makes p.now nothing caller r.2) }
     ensures jobs { IfOk result (λ r. length r.0.items ≡ length jobs.items) }
     ensures findings { IfOk result (λ r. length r.1.items ≡ length jobs.items) }
     ensures each { IfOk result (λ r. Each (λ n j. CameBack
@@ -48,13 +50,13 @@ fn run_jobs<R: Threads + Wait + Sync, S: Tree, G: Gate>(
         jobs,
         starts as usize,
         &move |job: Job<S>| -> (Job<S>, Findings)
-            requires { HasLists p.now.layout × IsBetween p.now job.me }
+            requires { HasLists p.now.layout × IsFresh p.now job.me × (root.now ≡ p.now.world) }
             ensures { GivesTree S.tree S.may_fail S.faults S.calls root.entry.now p.entry.now job.kind job.me result.0.me result.1
                 job.tree result.0.tree }
         { work(rt, alloc, p, root, gate, walkers, job) },
         |refused: bool| -> Thread<IndexUses>
             requires { HasLists p.now.layout × IsBetween p.now caller }
-            ensures { (o : Option Told) (q : Path) → HasCalled o q [] p.entry.now 0 0 caller result }
+            ensures { Makes p.entry.now nothing caller result }
         {
             let mut caller = caller;
             if refused {
@@ -84,7 +86,8 @@ pub fn run_workers<R: Threads + Wait + Sync, S: Tree, G: Gate>(
 ) -> Result<(Vec<Thread<IndexUses>>, Vec<Findings>), AllocError>
     requires layout { HasLists p.now.layout }
     requires caller { 0 < length threads.items }
-    requires threads { Each (λ n t. IsBetween p.now t) threads.items }
+    requires threads { Each (λ n t. IsFresh p.now t) threads.items }
+    requires root { root.now ≡ p.now.world }
     requires trees { with_tree ≤ length trees.old }
     ensures { IfOk result (λ r. HasCrew S.tree S.may_fail S.faults S.calls root.now p.now walkers with_tree threads.items trees.old
         trees.new r.0.items r.1.items) }

@@ -1,13 +1,12 @@
 //! Ending a run before its time.
-ghost use Rattle.std.specs.Prelude.{ℕ, [], Option};
-ghost use Rattle.firefly_outside.specs.Trees.{Path, Told};
-ghost use Rattle.indexer.specs.Turns.{HasCalled, HasLists, IsBetween};
+ghost use Rattle.indexer.specs.Gets.{Makes, nothing};
+ghost use Rattle.indexer.specs.Turns.{HasLists, IsBetween};
 
 use crate::files::shut_files;
 use crate::pieces::shut_pieces;
 use crate::turns::shut_dirs;
-use crate::uses::IndexUses;
 use alerts::alert;
+use index_rule::IndexUses;
 use larch_actions::ThreadId;
 use nub_rule::{Package, Thread};
 use std::sync::Wait;
@@ -16,7 +15,7 @@ use std::sync::Wait;
 pub fn shut_all<R: Wait>(rt: &R, p: &Package<IndexUses>, me: &mut Thread<IndexUses>)
     requires layout { HasLists p.now.layout }
     requires between { IsBetween p.now me.old }
-    ensures { (o : Option Told) (root : Path) (m : ℕ) → HasCalled o root [] p.now m 0 me.old me.new }
+    ensures { Makes p.now nothing me.old me.new }
 {
     shut_dirs(rt, p, me);
     shut_files(rt, p, me);
@@ -28,7 +27,7 @@ pub fn shut_all<R: Wait>(rt: &R, p: &Package<IndexUses>, me: &mut Thread<IndexUs
 pub fn cancel<R: Wait>(rt: &R, p: &Package<IndexUses>, me: &mut Thread<IndexUses>)
     requires layout { HasLists p.now.layout }
     requires between { IsBetween p.now me.old }
-    ensures { (o : Option Told) (root : Path) (m : ℕ) → HasCalled o root [] p.now m 0 me.old me.new }
+    ensures { Makes p.now nothing me.old me.new }
 {
     shut_all(rt, p, me);
     for t in 1..p.layout().threads {

@@ -1,13 +1,15 @@
 //! The calls at the buffer of files.
-ghost use Rattle.std.specs.Prelude.{◌≡◌, ◌↔◌, ℕ, [], Option, IsTrue};
+ghost use Rattle.std.specs.Prelude.{◌≡◌, ◌↔◌, ◌⊎◌, ℕ, [], ◌∷◌, List, Option, IsTrue, IfSome, IfOk, All, Contains};
 ghost use Rattle.firefly_outside.specs.Trees.{Path, Told};
+ghost use Rattle.index_rule.specs.Shares.{IsItemAt, MayPut, paths_put};
+ghost use Rattle.indexer.specs.Gets.{Gets, IsNewFile, Makes, MayPutAll, OfShare, nothing};
+ghost use Rattle.indexer.specs.Taken.{path_of};
 ghost use Rattle.indexer.specs.Turns.{HasCalled, HasLists, IsBetween};
 
-use crate::uses::IndexUses;
-use crate::value::IndexItem;
 use alerts::test_alert;
 use bounded_buffer::{BufferAt, PutEnd, TakeEnd, put, shut, take};
 use firefly_outside::Text;
+use index_rule::{IndexItem, IndexUses};
 use larch_actions::{CondId, MutexId};
 use nub_rule::{Package, Thread};
 use std::sync::Wait;
@@ -24,7 +26,8 @@ const FILES: BufferAt = BufferAt {
 fn put_file<R: Wait>(rt: &R, p: &Package<IndexUses>, me: &mut Thread<IndexUses>, file: Text) -> bool
     requires layout { HasLists p.now.layout }
     requires between { IsBetween p.now me.old }
-    ensures { (o : Option Told) (root : Path) (m : ℕ) → HasCalled o root [] p.now m 0 me.old me.new }
+    requires may { OfShare me.old (MayPut p.now.world 1 (IndexItem.File file)) }
+    ensures { (put : List Path) × Makes p.now (record nothing { files_put = put }) me.old me.new × ((put ≡ []) ⊎ (put ≡ file ∷ [])) }
 {
     match put(rt, p, me, &FILES, IndexItem::File(file)) {
         Ok(_) => true,
@@ -57,7 +60,8 @@ pub fn put_files<R: Wait>(
 ) -> bool
     requires layout { HasLists p.now.layout }
     requires between { IsBetween p.now me.old }
-    ensures { (o : Option Told) (root : Path) (m : ℕ) → HasCalled o root [] p.now m 0 me.old me.new }
+    requires may { OfShare me.old (λ s. MayPutAll files.items (paths_put p.now.world 1 s) s) }
+    ensures { (put : List Path) × Makes p.now (record nothing { files_put = put }) me.old me.new × All (Contains files.items) put }
 {
     for file in files {
         if !put_file(rt, p, me, file) {
@@ -68,15 +72,13 @@ pub fn put_files<R: Wait>(
 }
 
 // The path of the file that was taken, if one was.
-fn path_in(taken: Result<(u64, IndexItem), TakeEnd>) -> Option<Text> {
+fn path_in(taken: Result<(u64, IndexItem), TakeEnd>) -> Option<Text>
+    requires { IfOk taken (λ t. IsItemAt 1 t.1) }
+    ensures { path_of taken ≡ result }
+{
     match taken {
-        Ok((_, item)) => match item {
-            IndexItem::File(path) => Some(path),
-            IndexItem::Piece(piece) => {
-                drop(piece);
-                None
-            }
-        },
+        Ok((_, IndexItem::File(path))) => Some(path),
+        Ok((_, IndexItem::Piece(_))) => unreachable!(),
         Err(_) => None,
     }
 }
@@ -91,7 +93,9 @@ pub fn next_file<R: Wait>(
 ) -> Option<Text>
     requires layout { HasLists p.now.layout }
     requires between { IsBetween p.now me.old }
-    ensures { (o : Option Told) (root : Path) → HasCalled o root [] p.now 1 1 me.old me.new }
+    ensures called { (o : Option Told) (root : Path) → HasCalled o root [] p.now 1 1 me.old me.new }
+    ensures gets { (taken : List Path) × Gets p.now (record nothing { files_taken = taken }) me.old me.new
+        × IfSome result (λ path. (taken ≡ path ∷ []) × OfShare me.old (IsNewFile p.now.world path)) }
 {
     let taken = take(rt, p, me, &FILES);
     let path = path_in(taken);
@@ -105,7 +109,7 @@ pub fn next_file<R: Wait>(
 pub fn shut_files<R: Wait>(rt: &R, p: &Package<IndexUses>, me: &mut Thread<IndexUses>)
     requires layout { HasLists p.now.layout }
     requires between { IsBetween p.now me.old }
-    ensures { (o : Option Told) (root : Path) (m : ℕ) → HasCalled o root [] p.now m 0 me.old me.new }
+    ensures { Makes p.now nothing me.old me.new }
 {
     shut(rt, p, me, &FILES);
 }

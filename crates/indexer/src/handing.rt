@@ -4,8 +4,8 @@ ghost use Rattle.indexer.specs.Jobs.{AreJobs, kind_at, tree_at};
 ghost use Rattle.indexer.specs.declared.job.Job.{Job};
 
 use crate::job::Job;
-use crate::uses::IndexUses;
 use firefly_outside::Kind;
+use index_rule::IndexUses;
 use nub_rule::Thread;
 use std::alloc::{AllocError, Global};
 use std::mem;

@@ -1,9 +1,13 @@
 //! The index of a tree, made by threads.
-ghost use Rattle.std.specs.Prelude.{◌≡◌, ◌+◌, ◌≤◌, ◌<◌, ℕ, length, slice_index_or, All, IfSome, Option, Some, None};
+ghost use Rattle.std.specs.Prelude.{◌≡◌, ◌+◌, ◌≤◌, ◌<◌, ℕ, true, false, length, slice_index_or, All, IfSome, Option, Some, None};
 ghost use Rattle.firefly_outside.specs.Trees.{Told};
 ghost use Rattle.walker.specs.Listings.{IsListingOf, IsToldBy};
 ghost use Rattle.index_findings.specs.Gathered.{Ends};
 ghost use Rattle.index_findings.specs.Pieces.{IsFilesPiece};
+ghost use Rattle.index_findings.specs.Rest.{CallsRest};
+ghost use Rattle.index_findings.specs.Visits.{AreFound, AreVisits};
+ghost use Rattle.walker.specs.Pile.{AreApart};
+ghost use Rattle.indexer.specs.Once.{EachOnce};
 ghost use Rattle.indexer.specs.Plans.{IsPlan, layout_of};
 ghost use Rattle.indexer.specs.Says.{AllTell, HasCause, IndexSays, TreesAfter, answer_of};
 
@@ -11,9 +15,9 @@ use crate::answer::IndexAnswer;
 use crate::handing::put_at;
 use crate::plan::Plan;
 use crate::running::worked_run;
-use crate::uses::IndexUses;
 use firefly_outside::Tree;
 use index_findings::{Findings, decided, gathered};
+use index_rule::IndexUses;
 use nub::Closed;
 use package_crew::Gate;
 use std::alloc::Global;
@@ -36,7 +40,13 @@ fn decided_at<S: Tree>(
     requires told { (s : S) → slice_index_or trees.old at None ≡ Some s
         → IfSome (S.tree s) (λ t. All (λ v. IsToldBy t v.dir v.listing) found.visits.items) }
     requires pieces { (s : S) → slice_index_or trees.old at None ≡ Some s → All (IsFilesPiece (S.tree s) root.now) found.pieces.items }
+    requires once { found.lost ≡ false → AreVisits root.now found.visits.items }
+    requires apart { found.lost ≡ false → AreApart found.pieces.items }
+    requires found { found.lost ≡ false → AreFound root.now found.visits.items found.pieces.items }
     requires stop { IfSome stop_after (λ n. n ≤ 1000000000) }
+    ensures lost { found.lost ≡ true → result ≡ WalkAnswer.Memory }
+    ensures rest { (s r : S) → slice_index_or trees.old at None ≡ Some s → slice_index_or trees.new at None ≡ Some r
+        → IfSome (S.tree s) (λ t. CallsRest t root.now found.visits.items found.pieces.items (S.calls s) (S.calls r) result) }
     ensures ends { (s : S) → slice_index_or trees.old at None ≡ Some s → (r : S) × (slice_index_or trees.new at None ≡ Some r)
         × (S.tree r ≡ S.tree s) × (S.may_fail r ≡ S.may_fail s)
         × Ends (S.tree s) (S.may_fail s) root.now stop_after found.fault (S.faults s) (S.faults r) (S.calls s) (S.calls r) result }
@@ -99,6 +109,8 @@ pub fn index<R: Threads + Wait + Sync, S: Tree, G: Gate>(
     ensures cause { HasCause S.tree S.may_fail S.faults S.calls root.now trees.old trees.new result }
     ensures trees { TreesAfter S.tree S.may_fail S.faults S.calls plan.now.walkers
         (plan.now.walkers + plan.now.parsers) trees.old trees.new result }
+    ensures once { (o : Option Told) → AllTell S.tree o trees.old
+        → EachOnce S.calls o root.now (plan.now.walkers + plan.now.parsers) trees.old trees.new result }
 {
     index_with(rt, alloc, root, plan, trees, gate, MOST_WORKERS)
 }
@@ -122,6 +134,8 @@ pub fn index_with<R: Threads + Wait + Sync, S: Tree, G: Gate>(
     ensures cause { HasCause S.tree S.may_fail S.faults S.calls root.now trees.old trees.new result }
     ensures trees { TreesAfter S.tree S.may_fail S.faults S.calls plan.now.walkers
         (plan.now.walkers + plan.now.parsers) trees.old trees.new result }
+    ensures once { (o : Option Told) → AllTell S.tree o trees.old
+        → EachOnce S.calls o root.now (plan.now.walkers + plan.now.parsers) trees.old trees.new result }
 {
     let Ok((closed, findings)) = worked_run(rt, alloc, root, plan, trees, gate, starts) else {
         return IndexAnswer::Memory;

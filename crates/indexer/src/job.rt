@@ -1,6 +1,6 @@
 //! What one worker begins with.
-use crate::uses::IndexUses;
 use firefly_outside::Kind;
+use index_rule::IndexUses;
 use nub_rule::Thread;
 
 /// A worker: its thread; its tree where it is a walker or a parser; and then whether it lists directories or reads files.

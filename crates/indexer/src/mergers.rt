@@ -1,14 +1,19 @@
 //! The work of a merger.
-ghost use Rattle.std.specs.Prelude.{◌≡◌, ℕ, [], Option, None};
+ghost use Rattle.std.specs.Prelude.{◌≡◌, ℕ, [], Option, None, Ok, true, false};
+ghost use Rattle.bounded_buffer.specs.Plain.{part_of};
 ghost use Rattle.firefly_outside.specs.Trees.{Path, Told};
+ghost use Rattle.walker.specs.Pile.{AreApart};
 ghost use Rattle.index_findings.specs.Pieces.{AreMergedFrom};
-ghost use Rattle.indexer.specs.Turns.{HasCalled, HasLists, IsBetween, Worker};
+ghost use Rattle.indexer.specs.Gets.{OfShare};
+ghost use Rattle.indexer.specs.Hands.{IsLeft};
+ghost use Rattle.indexer.specs.States.{HasMerged, merge_lost};
+ghost use Rattle.indexer.specs.Turns.{HasCalled, HasLists, IsBetween, IsReady, Worker};
 
 use crate::ending::cancel;
 use crate::pieces::next_piece;
-use crate::uses::IndexUses;
 use bounded_buffer::TakeEnd;
 use index_findings::{Findings, keep, merge_rest};
+use index_rule::IndexUses;
 use nub_rule::{Package, Thread};
 use std::alloc::{AllocError, Global};
 use std::sync::Wait;
@@ -24,18 +29,20 @@ fn merge_once<R: Wait>(
 ) -> Result<bool, AllocError>
     requires layout { HasLists p.now.layout }
     requires between { IsBetween p.now me.old }
-    ensures { (o : Option Told) (root : Path) (a : Worker) → HasCalled o root kept.old.items p.now 0 0 a me.old
+    requires share { OfShare me.old (HasMerged p.now.world kept.old.items false) }
+    ensures called { (o : Option Told) (root : Path) (a : Worker) → HasCalled o root kept.old.items p.now 0 0 a me.old
         → HasCalled o root kept.new.items p.now 0 0 a me.new }
+    ensures share { OfShare me.new (HasMerged p.now.world kept.new.items (merge_lost result)) }
+    ensures ended { result ≡ Ok false → OfShare me.new (λ s. (part_of s.notes 2).seen_end ≡ true) }
 {
     match next_piece(rt, p, me) {
-        Ok(Some(piece)) => match keep(kept, piece) {
+        Ok(piece) => match keep(kept, piece) {
             Ok(()) => Ok(true),
             Err(error) => {
                 cancel(rt, p, me);
                 Err(error)
             }
         },
-        Ok(None) => Ok(true),
         Err(TakeEnd::Alerted) => Ok(true),
         Err(TakeEnd::ClosedEmpty) => Ok(false),
     }
@@ -43,6 +50,7 @@ fn merge_once<R: Wait>(
 
 // What a merger comes by: its pieces, merged as far as they may be.
 fn merged(alloc: Global, mut kept: Vec<Piece>, lost: bool) -> Findings
+    requires { AreApart kept.items }
     ensures pieces { AreMergedFrom kept.items result.pieces.items }
     ensures visits { result.visits.items ≡ [] }
     ensures fault { result.fault ≡ None }
@@ -68,7 +76,9 @@ pub fn merge_all<R: Wait>(
     me: &mut Thread<IndexUses>,
 ) -> Findings
     requires layout { HasLists p.now.layout }
-    requires between { IsBetween p.now me.old }
+    requires ready { IsReady p.now me.old }
+    ensures share { OfShare me.new (IsLeft p.now.world [] result) }
+    ensures ended { result.lost ≡ false → OfShare me.new (λ s. (part_of s.notes 2).seen_end ≡ true) }
     ensures called { (o : Option Told) (root : Path) → HasCalled o root result.pieces.items p.now 0 0 me.old me.new }
     ensures visits { result.visits.items ≡ [] }
     ensures fault { result.fault ≡ None }

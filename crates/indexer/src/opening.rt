@@ -1,15 +1,15 @@
 //! The package of an index run.
-ghost use Rattle.std.specs.Prelude.{◌≡◌, IfOk, [], length};
+ghost use Rattle.std.specs.Prelude.{◌≡◌, ◌∷◌, [], IfOk, length};
 ghost use Rattle.nub_rule.specs.Items.{Each};
 ghost use Rattle.nub.specs.Ended.{IsFirst};
-ghost use Rattle.indexer.specs.Opening.{IsOpening};
+ghost use Rattle.index_rule.specs.Opening.{IsOpening};
+ghost use Rattle.index_rule.specs.Shares.{blank};
 ghost use Rattle.indexer.specs.Plans.{IsPlan, layout_of};
 
 use crate::plan::{Plan, index_layout};
-use crate::uses::IndexUses;
-use crate::value::{IndexValue, WaitingDirs};
 use bounded_buffer::Ring;
 use firefly_outside::Text;
+use index_rule::{IndexUses, IndexValue, WaitingDirs};
 use nub::open_package;
 use nub_rule::{Package, Thread};
 use std::alloc::{AllocError, Global};
@@ -21,7 +21,9 @@ const MOST_FILES: u32 = 256;
 const MOST_PIECES: u32 = 8;
 
 // The list with the root alone.
-fn first_dirs(alloc: Global, root: &str, plan: &Plan) -> Result<WaitingDirs, AllocError> {
+fn first_dirs(alloc: Global, root: &str, plan: &Plan) -> Result<WaitingDirs, AllocError>
+    ensures { IfOk result (λ d. d.waiting.items ≡ root.now ∷ []) }
+{
     let most_files = plan.stop_after.unwrap_or(u64::MAX);
     let mut waiting = Vec::new(alloc);
     waiting.push(Text::of(alloc, root)?)?;
@@ -38,7 +40,7 @@ fn first_dirs(alloc: Global, root: &str, plan: &Plan) -> Result<WaitingDirs, All
 
 // The list with the root alone, and the two buffers.
 fn first_values(alloc: Global, root: &str, plan: &Plan) -> Result<Vec<IndexValue>, AllocError>
-    ensures { IfOk result (λ vs. IsOpening vs.items) }
+    ensures { IfOk result (λ vs. IsOpening root.now vs.items) }
 {
     let mut values = Vec::with_capacity(alloc, 3)?;
     let dirs = first_dirs(alloc, root, plan)?;
@@ -57,10 +59,11 @@ pub fn open_run(
     plan: &Plan,
 ) -> Result<(Package<IndexUses>, Vec<Thread<IndexUses>>), AllocError>
     requires { IsPlan plan.now }
-    ensures package { IfOk result (λ o. (o.0.layout ≡ layout_of plan.now) × (o.0.traced ≡ plan.now.traced)) }
+    ensures package { IfOk result (λ o. (o.0.layout ≡ layout_of plan.now) × (o.0.traced ≡ plan.now.traced) × (o.0.world ≡ root.now)) }
     ensures count { IfOk result (λ o. length o.1.items ≡ (layout_of plan.now).threads) }
-    ensures threads { IfOk result (λ o. Each (IsFirst o.0 (λ w t. [])) o.1.items) }
+    ensures threads { IfOk result (λ o. Each (IsFirst o.0 (λ w t. blank)) o.1.items) }
 {
     let values = first_values(alloc, root, plan)?;
-    open_package::<IndexUses>(alloc, index_layout(plan), &(), values, plan.traced)
+    let world = Text::of(alloc, root)?;
+    open_package::<IndexUses>(alloc, index_layout(plan), &world, values, plan.traced)
 }

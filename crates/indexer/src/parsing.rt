@@ -1,22 +1,27 @@
 //! The work of a parser.
-ghost use Rattle.std.specs.Prelude.{◌≡◌, ℕ, [], All, Option, Some, None, false};
+ghost use Rattle.std.specs.Prelude.{◌≡◌, ◌++◌, ◌||◌, ℕ, [], List, All, Bool, IfSome, IsTrue, Option, Some, None, false, true, not};
 ghost use Rattle.firefly_outside.specs.Trees.{Calls, Path, Told};
 ghost use Rattle.firefly_outside.specs.declared.tree.Kind.TheVariants.{File};
 ghost use Rattle.index_findings.specs.Lots.{AreRead};
 ghost use Rattle.index_findings.specs.Pieces.{IsFilesPiece};
+ghost use Rattle.std.specs.List.{flat_map};
+ghost use Rattle.index_rule.specs.Shares.{MayPut, covered};
+ghost use Rattle.index_rule.specs.declared.value.IndexItem.TheVariants.{Piece as PieceItem};
+ghost use Rattle.indexer.specs.Gets.{Gets, OfShare, nothing};
 ghost use Rattle.indexer.specs.Jobs.{GivesTree};
 ghost use Rattle.indexer.specs.Lots.{HasGiven, HasParsed, HasPassed};
-ghost use Rattle.indexer.specs.Turns.{HasLists, IsBetween, Run, Worker};
+ghost use Rattle.indexer.specs.States.{HasGathered, IsPassedOn, MayPutPieces, ReadsInto, lot_paths};
+ghost use Rattle.indexer.specs.Turns.{HasLists, IsBetween, IsReady, Run, Worker};
 ghost use Rattle.indexer.specs.Walks.{HasDone, fault_of, lost_of};
 
 use crate::ending::cancel;
 use crate::files::next_file;
 use crate::pieces::{put_piece, shut_pieces};
 use crate::turns::end_parser;
-use crate::uses::IndexUses;
 use crate::work_end::WorkEnd;
 use firefly_outside::{Text, Tree, TreeError};
 use index_findings::{Fault, Findings, Lot, pieces_of};
+use index_rule::IndexUses;
 use nub_rule::{Package, Thread};
 use std::alloc::Global;
 use std::sync::Wait;
@@ -24,6 +29,8 @@ use word_index::Piece;
 
 // Reads one file into the lot. Where memory wants, it is lost.
 fn read_one<S: Tree>(alloc: Global, tree: &mut S, path: Text, lot: &mut Lot) -> Result<(), WorkEnd>
+    ensures lot { (more : List Path) × ReadsInto path (lot_paths lot.old.files.items) (lot_paths lot.new.files.items) more (lost_of result)
+        × IfSome (S.tree tree.old) (λ t. (S.calls tree.new).files_read ≡ (S.calls tree.old).files_read ++ more) }
     ensures read { AreRead (S.tree tree.old) lot.old.files.items → AreRead (S.tree tree.old) lot.new.files.items }
     ensures done { (S.tree tree.new ≡ S.tree tree.old) × (S.may_fail tree.new ≡ S.may_fail tree.old)
         × ((root : Path) (count : ℕ) (before : Calls) (p : Run) (a b : Worker)
@@ -54,19 +61,22 @@ fn give_piece<R: Wait>(
     requires layout { HasLists p.now.layout }
     requires between { IsBetween p.now me.old }
     requires piece { (o : Option Told) × (root : Path) × IsFilesPiece o root piece }
-    ensures { (o : Option Told) (root : Path) (m : ℕ) → IsFilesPiece o root piece → HasGiven o root p.now m kept.old.items kept.new.items
+    requires may { OfShare me.old (MayPut p.now.world 2 (PieceItem piece)) }
+    ensures gets { (put : List Path) × Gets p.now (record nothing { pieces_put = put }) me.old me.new
+        × IsPassedOn p.now.world (covered p.now.world piece) put kept.old.items kept.new.items result }
+    ensures given { (o : Option Told) (root : Path) (m : ℕ) → IsFilesPiece o root piece → HasGiven o root p.now m kept.old.items kept.new.items
         me.old me.new }
 {
-    let Some(piece) = put_piece(rt, p, me, piece) else {
-        return true;
-    };
-    match kept.push(piece) {
-        Ok(()) => true,
-        Err(failed) => {
-            drop(failed.value);
-            cancel(rt, p, me);
-            false
-        }
+    match put_piece(rt, p, me, piece) {
+        None => true,
+        Some(piece) => match kept.push(piece) {
+            Ok(()) => true,
+            Err(failed) => {
+                drop(failed.value);
+                cancel(rt, p, me);
+                false
+            }
+        },
     }
 }
 
@@ -81,7 +91,10 @@ fn give_pieces<R: Wait>(
     requires layout { HasLists p.now.layout }
     requires between { IsBetween p.now me.old }
     requires pieces { (o : Option Told) × (root : Path) × All (IsFilesPiece o root) pieces.items }
-    ensures { (o : Option Told) (root : Path) (m : ℕ) → All (IsFilesPiece o root) pieces.items → HasGiven o root p.now m kept.old.items
+    requires may { OfShare me.old (MayPutPieces p.now.world pieces.items) }
+    ensures gets { (put : List Path) × Gets p.now (record nothing { pieces_put = put }) me.old me.new
+        × IsPassedOn p.now.world (flat_map (covered p.now.world) pieces.items) put kept.old.items kept.new.items result }
+    ensures given { (o : Option Told) (root : Path) (m : ℕ) → All (IsFilesPiece o root) pieces.items → HasGiven o root p.now m kept.old.items
         kept.new.items me.old me.new }
 {
     for piece in pieces {
@@ -106,8 +119,14 @@ fn pass_lot<R: Wait>(
 ) -> bool
     requires layout { HasLists p.now.layout }
     requires between { IsBetween p.now me.old }
+    requires root { root.now ≡ p.now.world }
     requires read { (o : Option Told) × AreRead o lot.old.files.items }
-    ensures { (o : Option Told) (m : ℕ) → AreRead o lot.old.files.items → HasPassed o root.now p.now m lot.new.files.items kept.old.items
+    requires share { (files : List Path) × (lost : Bool)
+        × OfShare me.old (HasGathered p.now.world (lot_paths lot.old.files.items) kept.old.items files lost) }
+    ensures share { (files : List Path) (lost : Bool) → OfShare me.old (HasGathered p.now.world (lot_paths lot.old.files.items) kept.old.items files lost)
+        → OfShare me.new (HasGathered p.now.world (lot_paths lot.new.files.items) kept.new.items files (lost || not result)) }
+    ensures empty { IsTrue last → lot.new.files.items ≡ [] }
+    ensures passed { (o : Option Told) (m : ℕ) → AreRead o lot.old.files.items → HasPassed o root.now p.now m lot.new.files.items kept.old.items
         kept.new.items me.old me.new }
 {
     if !lot.is_due(last) {
@@ -135,8 +154,14 @@ fn parse_once<R: Wait, S: Tree>(
 ) -> Result<(), WorkEnd>
     requires layout { HasLists p.now.layout }
     requires between { IsBetween p.now me.old }
+    requires root { root.now ≡ p.now.world }
     requires read { AreRead (S.tree tree.old) lot.old.files.items }
-    ensures { HasParsed S.tree S.may_fail S.faults S.calls root.now p.now tree.old tree.new lot.new.files.items kept.old.items kept.new.items
+    requires share { (files : List Path) × OfShare me.old (HasGathered p.now.world (lot_paths lot.old.files.items) kept.old.items files false) }
+    ensures share { (files : List Path) → OfShare me.old (HasGathered p.now.world (lot_paths lot.old.files.items) kept.old.items files false)
+        → (more : List Path) × OfShare me.new (HasGathered p.now.world (lot_paths lot.new.files.items) kept.new.items (files ++ more)
+        (lost_of result))
+        × IfSome (S.tree tree.old) (λ t. (S.calls tree.new).files_read ≡ (S.calls tree.old).files_read ++ more) }
+    ensures parsed { HasParsed S.tree S.may_fail S.faults S.calls root.now p.now tree.old tree.new lot.new.files.items kept.old.items kept.new.items
         me.old me.new (fault_of result) (lost_of result) }
 {
     let Some(path) = next_file(rt, p, me) else {
@@ -170,8 +195,13 @@ fn end_pieces<R: Wait>(
 ) -> bool
     requires layout { HasLists p.now.layout }
     requires between { IsBetween p.now me.old }
+    requires root { root.now ≡ p.now.world }
     requires read { (o : Option Told) × AreRead o lot.old.files.items }
-    ensures { (o : Option Told) (m : ℕ) → AreRead o lot.old.files.items → HasGiven o root.now p.now m kept.old.items kept.new.items me.old
+    requires share { (files : List Path) × (lost : Bool)
+        × OfShare me.old (HasGathered p.now.world (lot_paths lot.old.files.items) kept.old.items files lost) }
+    ensures share { (files : List Path) (lost : Bool) → OfShare me.old (HasGathered p.now.world (lot_paths lot.old.files.items) kept.old.items files lost)
+        → OfShare me.new (HasGathered p.now.world [] kept.new.items files (lost || not result)) }
+    ensures given { (o : Option Told) (m : ℕ) → AreRead o lot.old.files.items → HasGiven o root.now p.now m kept.old.items kept.new.items me.old
         me.new }
 {
     let all_given = pass_lot(rt, alloc, p, me, root, lot, kept, true);
@@ -194,7 +224,8 @@ pub fn parse<R: Wait, S: Tree>(
     tree: &mut S,
 ) -> Findings
     requires layout { HasLists p.now.layout }
-    requires between { IsBetween p.now me.old }
+    requires ready { IsReady p.now me.old }
+    requires root { root.now ≡ p.now.world }
     ensures { GivesTree S.tree S.may_fail S.faults S.calls root.now p.now File me.old me.new result (Some tree.old) (Some tree.new) }
 {
     let mut lot = Lot::new(alloc);

@@ -1,16 +1,18 @@
 //! The calls at the list of directories.
-ghost use Rattle.std.specs.Prelude.{◌≡◌, ℕ, [], Option};
+ghost use Rattle.std.specs.Prelude.{◌≡◌, ℕ, [], List, Option, IfSome, All, Contains, drop, length};
+ghost use Rattle.std.specs.Option.{option_to_list};
 ghost use Rattle.firefly_outside.specs.Trees.{Path, Told};
+ghost use Rattle.indexer.specs.Gets.{Gets, Makes, MayPutAll, OfShare, moved_more, nothing};
 ghost use Rattle.indexer.specs.Turns.{HasCalled, HasList, HasLists, IsBetween, Worker};
-ghost use Rattle.indexer.specs.Work.{IsBehind};
-ghost use Rattle.indexer.specs.declared.value.IndexValue.{IndexValue};
+ghost use Rattle.index_rule.specs.Work.{IsBehind, MovesDirs, moved, waiting_of};
+ghost use Rattle.index_rule.specs.declared.value.IndexValue.{IndexValue};
 
-use crate::dirs::{Turn, list_in, next_turn, put_found};
-use crate::uses::IndexUses;
-use crate::value::{IndexValue, WaitingDirs};
 use alert_wait::{Outcome, alert_wait};
 use condition::broadcast;
 use firefly_outside::Text;
+use index_rule::{
+    DidMove, IndexUses, IndexValue, Turn, WaitingDirs, list_in, next_turn, put_found,
+};
 use larch_actions::{CondId, MutexId};
 use nub_rule::{NoChange, Package, Thread};
 use std::sync::Wait;
@@ -31,14 +33,17 @@ fn take_list<R: Wait>(rt: &R, p: &Package<IndexUses>, me: &mut Thread<IndexUses>
     list_in(acquire(rt, p, me, DIRS))
 }
 
-// Gives the list back.
+// Gives the list back: directories left its end, or new ones came there.
 fn give_list<R: Wait>(rt: &R, p: &Package<IndexUses>, me: &mut Thread<IndexUses>, list: WaitingDirs)
     requires layout { HasLists p.now.layout }
-    requires has { (a : Worker) × (x : IndexValue) × HasList p.now a x me.old }
-    ensures { (a : Worker) (x : IndexValue) → HasList p.now a x me.old → IsBetween p.now a → (o : Option Told) (root : Path)
+    requires has { (a : Worker) × (x : IndexValue) × (h : HasList p.now a x me.old)
+        × MovesDirs (waiting_of x) list.waiting.items h.own (moved (waiting_of x) list.waiting.items h.own) }
+    ensures called { (a : Worker) (x : IndexValue) → HasList p.now a x me.old → IsBetween p.now a → (o : Option Told) (root : Path)
         → HasCalled o root [] p.now 0 1 a me.new × ((m : ℕ) → HasCalled o root [] p.now m 0 a me.new) }
+    ensures gets { (a : Worker) (x : IndexValue) → HasList p.now a x me.old
+        → Gets p.now (moved_more (drop (length list.waiting.items) (waiting_of x)) (drop (length (waiting_of x)) list.waiting.items)) a me.new }
 {
-    release::<IndexUses, NoChange, R>(rt, p, me, DIRS, IndexValue::Dirs(list));
+    release::<IndexUses, DidMove, R>(rt, p, me, DIRS, IndexValue::Dirs(list));
 }
 
 // Waits until there may be something in the list, and says whether an alert ended the wait.
@@ -49,7 +54,7 @@ fn wait_for_dirs<R: Wait>(
     list: WaitingDirs,
 ) -> (Outcome, WaitingDirs)
     requires layout { HasLists p.now.layout }
-    requires has { (a : Worker) × (x : IndexValue) × HasList p.now a x me.old }
+    requires has { (a : Worker) × (x : IndexValue) × HasList p.now a x me.old × (list.waiting.items ≡ waiting_of x) }
     ensures { (a : Worker) (x : IndexValue) → HasList p.now a x me.old → HasList p.now a (IndexValue.Dirs result.1) me.new }
 {
     let (outcome, value) = alert_wait::<IndexUses, NoChange, R>(
@@ -70,7 +75,9 @@ fn wait_for_dirs<R: Wait>(
 pub fn next_dir<R: Wait>(rt: &R, p: &Package<IndexUses>, me: &mut Thread<IndexUses>) -> Option<Text>
     requires layout { HasLists p.now.layout }
     requires between { IsBetween p.now me.old }
-    ensures { (o : Option Told) (root : Path) → HasCalled o root [] p.now 0 1 me.old me.new }
+    ensures called { (o : Option Told) (root : Path) → HasCalled o root [] p.now 0 1 me.old me.new }
+    ensures gets { Gets p.now (moved_more (option_to_list result) []) me.old me.new }
+    ensures new { IfSome result (λ dir. OfShare me.old (λ s. ¬ Contains s.took dir)) }
 {
     let mut list = take_list(rt, p, me);
     for _ in rt.forever() {
@@ -103,7 +110,8 @@ pub fn put_dirs<R: Wait>(
 ) -> bool
     requires layout { HasLists p.now.layout }
     requires between { IsBetween p.now me.old }
-    ensures { (o : Option Told) (root : Path) (m : ℕ) → HasCalled o root [] p.now m 0 me.old me.new }
+    requires may { OfShare me.old (λ s. MayPutAll found.items s.put s) }
+    ensures { (put : List Path) × Makes p.now (moved_more [] put) me.old me.new × All (Contains found.items) put }
 {
     let mut list = take_list(rt, p, me);
     let within = put_found(&mut list, found, files);
@@ -117,7 +125,7 @@ pub fn put_dirs<R: Wait>(
 pub fn finish_dir<R: Wait>(rt: &R, p: &Package<IndexUses>, me: &mut Thread<IndexUses>)
     requires layout { HasLists p.now.layout }
     requires between { IsBetween p.now me.old }
-    ensures { (o : Option Told) (root : Path) (m : ℕ) → HasCalled o root [] p.now m 0 me.old me.new }
+    ensures { Makes p.now nothing me.old me.new }
 {
     let mut list = take_list(rt, p, me);
     list.in_work = list.in_work.saturating_sub(1);
@@ -130,7 +138,7 @@ pub fn finish_dir<R: Wait>(rt: &R, p: &Package<IndexUses>, me: &mut Thread<Index
 pub fn end_parser<R: Wait>(rt: &R, p: &Package<IndexUses>, me: &mut Thread<IndexUses>) -> bool
     requires layout { HasLists p.now.layout }
     requires between { IsBetween p.now me.old }
-    ensures { (o : Option Told) (root : Path) (m : ℕ) → HasCalled o root [] p.now m 0 me.old me.new }
+    ensures { Makes p.now nothing me.old me.new }
 {
     let mut list = take_list(rt, p, me);
     list.parsers = list.parsers.saturating_sub(1);
@@ -143,7 +151,7 @@ pub fn end_parser<R: Wait>(rt: &R, p: &Package<IndexUses>, me: &mut Thread<Index
 pub fn shut_dirs<R: Wait>(rt: &R, p: &Package<IndexUses>, me: &mut Thread<IndexUses>)
     requires layout { HasLists p.now.layout }
     requires between { IsBetween p.now me.old }
-    ensures { (o : Option Told) (root : Path) (m : ℕ) → HasCalled o root [] p.now m 0 me.old me.new }
+    ensures { Makes p.now nothing me.old me.new }
 {
     let mut list = take_list(rt, p, me);
     list.shut = true;

@@ -1,19 +1,21 @@
 //! The work of a walker.
-ghost use Rattle.std.specs.Prelude.{◌≡◌, ℕ, [], Option, Some, None, false};
-ghost use Rattle.firefly_outside.specs.Trees.{Calls, Path, Told};
+ghost use Rattle.std.specs.Prelude.{◌≡◌, ℕ, [], List, All, Contains, IfOk, OnErr, Option, Some, None, false};
+ghost use Rattle.firefly_outside.specs.Trees.{Calls, Path};
 ghost use Rattle.firefly_outside.specs.declared.tree.Kind.TheVariants.{Dir};
+ghost use Rattle.indexer.specs.Gets.{Makes, MayGive, OfShare, nothing};
 ghost use Rattle.indexer.specs.Jobs.{GivesTree};
-ghost use Rattle.indexer.specs.Turns.{HasCalled, HasLists, IsBetween, Run, Worker};
+ghost use Rattle.indexer.specs.States.{HasWalked, KeepsListing};
+ghost use Rattle.indexer.specs.Turns.{HasLists, IsBetween, IsReady, Run, Worker};
 ghost use Rattle.indexer.specs.Walks.{HasDone, fault_of, lost_of};
 
 use crate::ending::cancel;
 use crate::files::{put_files, shut_files};
 use crate::turns::{finish_dir, next_dir, put_dirs, shut_dirs};
-use crate::uses::IndexUses;
 use crate::work_end::WorkEnd;
 use alerts::test_alert;
 use firefly_outside::{Text, Tree, TreeError};
 use index_findings::{Fault, Findings, Visit, keep_listing};
+use index_rule::IndexUses;
 use nub_rule::{Package, Thread};
 use std::alloc::Global;
 use std::sync::Wait;
@@ -26,7 +28,9 @@ fn list_one<S: Tree>(
     dir: Text,
     visits: &mut Vec<Visit>,
 ) -> Result<(Vec<Text>, Vec<Text>), WorkEnd>
-    ensures { (S.tree tree.new ≡ S.tree tree.old) × (S.may_fail tree.new ≡ S.may_fail tree.old)
+    ensures found { IfOk result (λ r. KeepsListing dir visits.old.items visits.new.items r.0.items r.1.items) }
+    ensures refused { OnErr result (visits.new.items ≡ visits.old.items) }
+    ensures done { (S.tree tree.new ≡ S.tree tree.old) × (S.may_fail tree.new ≡ S.may_fail tree.old)
         × ((root : Path) (count : ℕ) (before : Calls) (p : Run) (a b : Worker)
         → HasDone Dir (S.tree tree.old) root (S.may_fail tree.old) count (S.faults tree.old) before
         (S.calls tree.old) p 1 a b visits.old.items [] None false
@@ -54,7 +58,9 @@ fn give_found<R: Wait>(
 ) -> bool
     requires layout { HasLists p.now.layout }
     requires between { IsBetween p.now me.old }
-    ensures { (o : Option Told) (root : Path) (m : ℕ) → HasCalled o root [] p.now m 0 me.old me.new }
+    requires may { OfShare me.old (MayGive p.now.world dirs.items files.items) }
+    ensures { (put : List Path) × (files_put : List Path) × Makes p.now (record nothing { put = put; files_put = files_put }) me.old me.new
+        × All (Contains dirs.items) put × All (Contains files.items) files_put }
 {
     // Counted before a file goes through the buffer: where more was found than may be, none of these is read.
     if !put_dirs(rt, p, me, dirs, files.len()) {
@@ -73,7 +79,7 @@ fn give_found<R: Wait>(
 fn end_files<R: Wait>(rt: &R, p: &Package<IndexUses>, me: &mut Thread<IndexUses>)
     requires layout { HasLists p.now.layout }
     requires between { IsBetween p.now me.old }
-    ensures { (o : Option Told) (root : Path) (m : ℕ) → HasCalled o root [] p.now m 0 me.old me.new }
+    ensures { Makes p.now nothing me.old me.new }
 {
     shut_dirs(rt, p, me);
     shut_files(rt, p, me);
@@ -90,7 +96,9 @@ fn walk_once<R: Wait, S: Tree>(
 ) -> Result<(), WorkEnd>
     requires layout { HasLists p.now.layout }
     requires between { IsBetween p.now me.old }
-    ensures { (S.tree tree.new ≡ S.tree tree.old) × (S.may_fail tree.new ≡ S.may_fail tree.old)
+    requires share { OfShare me.old (HasWalked p.now.world visits.old.items) }
+    ensures share { OfShare me.new (HasWalked p.now.world visits.new.items) }
+    ensures done { (S.tree tree.new ≡ S.tree tree.old) × (S.may_fail tree.new ≡ S.may_fail tree.old)
         × ((root : Path) (count : ℕ) (before : Calls) (a : Worker)
         → HasDone Dir (S.tree tree.old) root (S.may_fail tree.old) count (S.faults tree.old) before
         (S.calls tree.old) p.now 0 a me.old visits.old.items [] None false
@@ -128,7 +136,7 @@ pub fn walk<R: Wait, S: Tree>(
     tree: &mut S,
 ) -> Findings
     requires layout { HasLists p.now.layout }
-    requires between { IsBetween p.now me.old }
+    requires ready { IsReady p.now me.old }
     ensures { (root : Path) → GivesTree S.tree S.may_fail S.faults S.calls root p.now Dir me.old me.new result (Some tree.old)
         (Some tree.new) }
 {

@@ -1,15 +1,16 @@
 //! What one worker does.
-ghost use Rattle.std.specs.Prelude.{Some};
+ghost use Rattle.std.specs.Prelude.{◌≡◌, Some};
+ghost use Rattle.index_rule.specs.Shares.{blank};
 ghost use Rattle.indexer.specs.Jobs.{GivesTree};
-ghost use Rattle.indexer.specs.Turns.{HasLists, IsBetween};
+ghost use Rattle.indexer.specs.Turns.{HasLists, IsBetween, IsReady};
 
 use crate::job::Job;
 use crate::mergers::merge_all;
 use crate::parsing::parse;
-use crate::uses::IndexUses;
 use crate::walking::walk;
 use firefly_outside::{Kind, Tree};
 use index_findings::Findings;
+use index_rule::IndexUses;
 use nub_rule::{Package, Thread};
 use package_crew::Gate;
 use std::alloc::Global;
@@ -28,7 +29,8 @@ fn work_on<R: Wait, S: Tree, G: Gate>(
     tree: &mut S,
 ) -> Findings
     requires layout { HasLists p.now.layout }
-    requires between { IsBetween p.now me.old }
+    requires ready { IsReady p.now me.old }
+    requires root { root.now ≡ p.now.world }
     ensures { GivesTree S.tree S.may_fail S.faults S.calls root.now p.now kind me.old me.new result (Some tree.old) (Some tree.new) }
 {
     match kind {
@@ -52,6 +54,8 @@ pub fn work<R: Wait, S: Tree, G: Gate>(
 ) -> (Job<S>, Findings)
     requires layout { HasLists p.now.layout }
     requires between { IsBetween p.now job.me }
+    requires first { job.me.share ≡ Some blank }
+    requires root { root.now ≡ p.now.world }
     ensures { GivesTree S.tree S.may_fail S.faults S.calls root.now p.now job.kind job.me result.0.me result.1 job.tree result.0.tree }
 {
     let Job { mut me, kind, tree } = job;

@@ -3,7 +3,7 @@ ghost use Rattle.std.specs.Prelude.{◌≡◌, ◌+◌, All, IfOk, length};
 ghost use Rattle.firefly_outside.specs.Seen.{tree_of};
 ghost use Rattle.indexer_tests.specs.Copies.{HoldsTree};
 
-use firefly_outside::MemTree;
+use firefly_outside::{MemTree, Text};
 use std::alloc::{AllocError, Global};
 
 // A copy of the tree that fails at these paths.
@@ -56,4 +56,28 @@ pub fn read_by(trees: &[Option<MemTree>]) -> usize {
         }
     }
     many
+}
+
+// How often the path is among these.
+fn times_in(paths: &[Text], path: &str) -> usize {
+    let mut many = 0usize;
+    for other in paths {
+        if other.as_str() == path {
+            many = many.saturating_add(1);
+        }
+    }
+    many
+}
+
+/// How often the path was listed, and how often it was read, these trees together.
+pub fn times_asked(trees: &[Option<MemTree>], path: &str) -> (usize, usize) {
+    let mut lists = 0usize;
+    let mut reads = 0usize;
+    for tree in trees {
+        if let Some(tree) = tree {
+            lists = lists.saturating_add(times_in(tree.listed(), path));
+            reads = reads.saturating_add(times_in(tree.files_read(), path));
+        }
+    }
+    (lists, reads)
 }

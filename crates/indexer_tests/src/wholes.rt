@@ -1,7 +1,7 @@
 //! Runs that find the whole, and runs that are stopped.
-use crate::copies::{listed_by, read_by};
+use crate::copies::{listed_by, read_by, times_asked};
 use crate::runs::{plan_of, run_on, seen_of, stopping_plan};
-use crate::trees::{project, project_index};
+use crate::trees::{project, project_index, project_paths};
 use firefly_outside::MemTree;
 use indexer::NoGate;
 use std::test::Fail;
@@ -25,6 +25,38 @@ fn each_plan_finds_the_index(rt: HostRuntime) -> Result<(), Fail> {
         assert_eq!(rt; seen.lists, 3);
         assert_eq!(rt; seen.reads, 5);
     }
+    Ok(())
+}
+
+// Whether each directory of the project was listed once and never read, and each file read once and never listed, these trees together.
+fn asked_once(trees: &[Option<MemTree>]) -> bool {
+    let mut once = true;
+    let mut dirs = 3usize;
+    for path in project_paths() {
+        let wanted = if dirs > 0 { (1, 0) } else { (0, 1) };
+        once = once && times_asked(trees, path) == wanted;
+        dirs = dirs.saturating_sub(1);
+    }
+    once
+}
+
+#[test]
+fn each_directory_is_listed_once_and_each_file_read_once(rt: HostRuntime) -> Result<(), Fail> {
+    let tree = project(rt.alloc())?;
+    let plan = plan_of(2, 4, 2);
+    let ran = run_on(&rt, rt.alloc(), &tree, &plan, &[], &[], &NoGate);
+    drop(tree);
+    let (answer, trees) = ran?;
+    drop(answer);
+    let many = trees.len();
+    let lists = listed_by(&trees);
+    let reads = read_by(&trees);
+    let once = asked_once(&trees);
+    drop(trees);
+    assert_eq!(rt; many, 7);
+    assert_eq!(rt; lists, 3);
+    assert_eq!(rt; reads, 5);
+    assert!(rt; once);
     Ok(())
 }
 

@@ -15,7 +15,7 @@ returns-in-Ok-clause-answers g c =
     let piece = c.in-Ok.piece in
     let printed = subst (λ n. Prints (index_text piece) Done out (change_of g.N.Sink.held g.N.Sink.faults n c.print-status.new.notes) c.print-status.result) c.in-Ok.ensures.quiet c.print-status.ensures in
     index_printed (options_of c.args.options.now) (looks_of look c.args.trees.now) (looks_of look c.index_by.new.trees) out (change_of g.N.Sink.held g.N.Sink.faults c.args.notes.now c.print-status.new.notes) piece c.print-status.result
-    c.in-Ok.ensures.is_index c.in-Ok.ensures.none_rose printed
+    c.in-Ok.ensures.is_index c.in-Ok.ensures.none_rose c.in-Ok.ensures.once printed
 
 pub returns-in-Err-clause-answers : goal.returns-in-Err-clause-answers
 returns-in-Err-clause-answers g c =

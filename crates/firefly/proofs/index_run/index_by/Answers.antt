@@ -14,7 +14,8 @@ use Rattle.firefly.specs.Looks.{look_of, looks_of}
 use Rattle.command_endings.specs.Messages.{stopped_message, unreadable_message}
 use Rattle.command_endings.specs.declared.status.Status.{Status}
 use Rattle.firefly.proofs.Places.{all_tell, first_tells, keeps, looks_many, there}
-use Rattle.firefly.proofs.IndexRuns.{all_back, all_still, failed_at, no_rise, shows_work}
+use Rattle.indexer.specs.Once.{EachOnce}
+use Rattle.firefly.proofs.IndexRuns.{all_back, all_still, asked_once, failed_at, no_rise, shows_work}
 use Rattle.firefly.proofs.index_run.index_by.Goals as goal
 
 pub index-requires-clause-trees : goal.index-requires-clause-trees
@@ -55,6 +56,7 @@ returns-in-Stopped g c =
     record {
       is_index = tt;
       none_rose = tt;
+      once = tt;
       run = tt;
       work = tt;
       quiet = tt;
@@ -79,6 +81,7 @@ returns-in-ReadFault g c =
     record {
       is_index = tt;
       none_rose = tt;
+      once = tt;
       run = tt;
       work = tt;
       quiet = tt;
@@ -105,6 +108,7 @@ returns-in-TooMany g c =
     record {
       is_index = tt;
       none_rose = tt;
+      once = tt;
       run = tt;
       work = tt;
       quiet = tt;
@@ -120,6 +124,7 @@ returns-in-Memory g c =
     record {
       is_index = tt;
       none_rose = tt;
+      once = tt;
       run = tt;
       work = tt;
       quiet = tt;
@@ -144,6 +149,7 @@ returns-in-Done g c =
     record {
       is_index = subst (λ (q : Option Told). IfSome q (λ t. IsWhole t o.directory o.stop_after c.in-Done.piece)) (sym first) w.0;
       none_rose = no_rise S.tree S.may_fail S.faults S.calls old new (all_still S.tree S.may_fail S.faults S.calls o.walkers (o.walkers + o.parsers) c.in-Done.closed.threads old new trees.0 trees.1);
+      once = asked_once S.tree S.may_fail S.faults S.calls o told old new first (subst (λ (p : Plan). EachOnce S.calls told o.directory (p.walkers + p.parsers) old new answer) plan (c.in-Done.ensures.once told (all_tell look told old c.requires.agree.1)));
       run = w.1;
       work = shows_work S.tree S.may_fail S.faults S.calls o c.args.traced c.in-Done.closed old new w.1 trees.1;
       quiet = refl;

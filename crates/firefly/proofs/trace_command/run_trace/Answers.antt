@@ -33,6 +33,7 @@ returns-in-Ok-clause-answers g c =
       piece = c.in-Ok.piece;
       is_index = c.in-Ok.ensures.is_index;
       none_rose = c.in-Ok.ensures.none_rose;
+      once = c.in-Ok.ensures.once;
       work = c.in-Ok.ensures.work w.0 w.1;
     })
     printed

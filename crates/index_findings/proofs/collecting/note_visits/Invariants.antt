@@ -1,14 +1,16 @@
-use Rattle.std.proofs.Common.{◌≡◌, All}
-use Rattle.std.specs.Vec.Iter.{into_iter_items}
+use Rattle.std.proofs.Common.{◌≡◌, ◌++◌, All, length}
+use Rattle.std.specs.Vec.Iter.{into_iter_items, into_iter_len}
 use Rattle.firefly_outside.specs.Trees.{Told}
-use Rattle.walker.specs.Listings.{IsListingOf, IsToldBy}
+use Rattle.walker.specs.Listings.{IsToldBy}
 use Rattle.walker.specs.Walk.{IsWalkOf}
+use Rattle.index_findings.specs.Visits.{HasNoted}
 use Rattle.index_findings.proofs.collecting.note_visits.Given as goal
 
 abbrev pub invariant-loop-visit : goal.invariant-loop-visit
 invariant-loop-visit l =
     record {
-      root : l.walked.root ≡ l.initial.walked.root;
-      rest : All (λ v. IsListingOf v.dir v.listing) (into_iter_items l.visit-iterator);
+      whole : l.yielded ++ into_iter_items l.visit-iterator ≡ into_iter_items l.initial.visit-iterator;
+      left : into_iter_len l.visit-iterator ≡ length (into_iter_items l.visit-iterator);
+      noted : HasNoted l.initial.walked.root l.yielded l.walked;
       told : (t : Told) → IsWalkOf l.initial.walked t → All (λ v. IsToldBy t v.dir v.listing) (into_iter_items l.initial.visit-iterator) → IsWalkOf l.walked t × All (λ v. IsToldBy t v.dir v.listing) (into_iter_items l.visit-iterator);
     }

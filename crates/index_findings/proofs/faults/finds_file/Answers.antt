@@ -1,20 +1,11 @@
-use Rattle.std.proofs.Common.{◌≡◌, ◌∙◌, true, false, Contains, sym, ap, subst}
+use Rattle.std.proofs.Common.{◌≡◌, ◌∙◌, true, false, sym, ap}
 use Rattle.firefly_outside.specs.Trees.{Path, child}
-use Rattle.walker.proofs.ListLemmas.{Contains-map, Contains-unmap}
-use Rattle.walker.proofs.Children.{child_name}
-use Rattle.walker.specs.Walk.{Walk, files_of}
+use Rattle.walker.proofs.ListLemmas.{Contains-unmap}
+use Rattle.index_findings.proofs.RestLaws.{by_name, of_name}
 use Rattle.index_findings.proofs.faults.finds_file.Goals as goal
 
 untrue : false ≡ true → ⊥
 untrue e = cc
-
-by_name : (w : Walk) (root path name : Path) → root ≡ w.root → path ≡ child root name → Contains w.files name → Contains (files_of w) path
-by_name w root path name same is h = subst (Contains (files_of w)) (sym (is ∙ ap (λ (r : Path). child r name) same)) (Contains-map (child w.root) w.files name h)
-
-of_name : (w : Walk) (root path name : Path) → root ≡ w.root → path ≡ child root name → Contains (files_of w) path → Contains w.files name
-of_name w root path name same is h =
-    let o = Contains-unmap (child w.root) w.files path h in
-    subst (Contains w.files) (child_name w.root o.origin name (o.is ∙ is ∙ ap (λ (r : Path). child r name) same)) o.among
 
 pub returns-in-Some : goal.returns-in-Some
 returns-in-Some c = (

@@ -1,44 +1,30 @@
-use Rattle.std.proofs.Common.{List, [], ◌∷◌, ◌++◌, inl, inr, sym, subst}
-use Rattle.std.specs.Prelude.{All}
-use Rattle.walker.proofs.ListLemmas.{Contains-nil}
+use Rattle.std.proofs.Common.{List, [], ◌∷◌, ◌++◌, arith, subst}
+use Rattle.walker.specs.Pile.{AreApart}
 use Rattle.word_index.specs.Index.{Index}
-use Rattle.index_findings.specs.Pieces.{IsFilesPiece, IsCovered}
-use Rattle.index_findings.proofs.PieceLaws.{of_none, all_front, all_last, covered_front, covered_last}
+use Rattle.index_findings.specs.Pieces.{AreMergedFrom}
+use Rattle.index_findings.proofs.PieceLaws.{last_apart, merged_none, merged_on, merged_same, merged_two}
+use Rattle.index_findings.proofs.VisitLaws.{none_left}
 use Rattle.index_findings.proofs.joining.joined.Goals as goal
 
-pub returns-in_default-clause-files : goal.returns-in_default-clause-files
-returns-in_default-clause-files c = λ tree root all. of_none tree root c.empty.result c.empty.ensures
-
-pub returns-in_default-clause-covers : goal.returns-in_default-clause-covers
-returns-in_default-clause-covers c = λ path h. absurd (Contains-nil path ((c.empty.ensures.paths path).0 h))
+pub returns-in_default : goal.returns-in_default
+returns-in_default c = merged_none c.args.kept.items c.empty.result (none_left c.args.kept.items (let none = c.in_default.ensures.cases.0 in let ok = c.args.kept.ok.0 in omega arith)) c.empty.ensures
 
 pub loop-piece-init : goal.loop-piece-init
-loop-piece-init c =
-    let rest = c.pop.new.self.items in
-    let whole = c.in-Some.whole in
-    let items = c.in-Some.ensures.items in
-    record {
-      files = λ tree root all.
-          let own : All (IsFilesPiece tree root) (rest ++ whole ∷ []) = subst (All (IsFilesPiece tree root)) items all in
-          (all_front (IsFilesPiece tree root) rest whole own, all_last (IsFilesPiece tree root) rest whole own);
-      covers = λ path h. subst (λ (l : List Index). IsCovered l path) (sym items) (covered_last rest whole path h);
-      rest = λ path h. subst (λ (l : List Index). IsCovered l path) (sym items) (covered_front rest whole path h);
-    }
+loop-piece-init c = merged_same c.args.kept.items (c.pop.new.self.items ++ c.in-Some.whole ∷ []) c.in-Some.ensures.items
+
+pub joined_two-requires : goal.joined_two-requires
+joined_two-requires c =
+    last_apart c.pop-in-loop-piece.new.self.items c.in-Some-pop.piece c.loop-piece.whole
+    (subst (λ (l : List Index). AreApart (l ++ c.loop-piece.whole ∷ [])) c.in-Some-pop.ensures.items (c.loop-piece.invariant.apart c.requires))
 
 pub loop-piece-preserved : goal.loop-piece-preserved
 loop-piece-preserved c =
-    let was = c.loop-piece.invariant in
     let rest = c.pop-in-loop-piece.new.self.items in
     let piece = c.in-Some-pop.piece in
-    let items = c.in-Some-pop.ensures.items in
-    record {
-      files = λ tree root all.
-          let h = was.files tree root all in
-          let own : All (IsFilesPiece tree root) (rest ++ piece ∷ []) = subst (All (IsFilesPiece tree root)) items h.0 in
-          (all_front (IsFilesPiece tree root) rest piece own, c.in_ok-whole.ensures.files tree root h.1 (all_last (IsFilesPiece tree root) rest piece own));
-      covers = λ path h. elim (c.in_ok-whole.ensures.covers path h) [
-        | inl first ↦ was.covers path first
-        | inr second ↦ was.rest path (subst (λ (l : List Index). IsCovered l path) (sym items) (covered_last rest piece path second))
-      ];
-      rest = λ path h. was.rest path (subst (λ (l : List Index). IsCovered l path) (sym items) (covered_front rest piece path h));
-    }
+    let whole = c.loop-piece.whole in
+    merged_on c.args.kept.items ((rest ++ piece ∷ []) ++ whole ∷ []) (rest ++ c.in_ok-whole.whole ∷ [])
+    (subst (λ (l : List Index). AreMergedFrom c.args.kept.items (l ++ whole ∷ [])) c.in-Some-pop.ensures.items c.loop-piece.invariant)
+    (merged_two rest piece whole c.in_ok-whole.whole c.in_ok-whole.ensures.index c.in_ok-whole.ensures.union)
+
+pub returns : goal.returns
+returns c = subst (λ (l : List Index). AreMergedFrom c.args.kept.items (l ++ c.loop-piece.whole ∷ [])) (none_left c.loop-piece.kept.items (let none = c.in_default-pop.ensures.cases.0 in let ok = c.loop-piece.kept.ok.0 in omega arith)) c.loop-piece.invariant

@@ -1,6 +1,7 @@
 use Rattle.std.proofs.Common.{[], ◌∙◌, sym}
 use Rattle.index_findings.proofs.CoverLaws.{added_covered, begun_covered, outside_covered}
 use Rattle.index_findings.proofs.LotLaws.{holds_more, holds_one, if_ok_map, on_ok}
+use Rattle.index_findings.proofs.OnceLaws.{once_added, once_begun}
 use Rattle.index_findings.proofs.lots.add_file.Goals as goal
 
 pub returns-then-takes-clause-batch : goal.returns-then-takes-clause-batch
@@ -36,3 +37,17 @@ returns-clause-covers c =
     if_ok_map c.add-2.result _ _ (λ b adds files holds path.
     begun_covered c.args.root.now c.args.read.now.path c.in-Some.name.now is path c.args.pieces.now.items c.put_batch.new.pieces.items c.args.batch c.new.result b c.args.read.now.file none (adds [] none)
     (c.in_ok-put_batch.ensures.covers files holds path)) c.add-2.ensures
+
+pub returns-then-takes-clause-apart : goal.returns-then-takes-clause-apart
+returns-then-takes-clause-apart c =
+    let is = sym c.as_str.ensures ∙ c.in-Some.ensures in
+    if_ok_map c.add.result _ _ (λ b adds files holds once fresh.
+    once_added c.args.pieces.now.items c.args.batch b c.in-Some.name.now c.args.read.now.file files holds (adds files holds) once (fresh c.in-Some.name.now is)) c.add.ensures
+
+pub returns-clause-apart : goal.returns-clause-apart
+returns-clause-apart c =
+    let is = sym c.as_str.ensures ∙ c.in-Some.ensures in
+    let none = c.new.ensures.none in
+    if_ok_map c.add-2.result _ _ (λ b adds files holds once fresh.
+    once_begun c.args.pieces.now.items c.put_batch.new.pieces.items c.args.batch c.new.result b c.in-Some.name.now c.args.read.now.file none (adds [] none) (c.in_ok-put_batch.ensures.apart files holds once)
+    (c.in_ok-put_batch.ensures.covers files holds) (fresh c.in-Some.name.now is)) c.add-2.ensures

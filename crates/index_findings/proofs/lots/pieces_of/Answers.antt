@@ -1,4 +1,4 @@
-use Rattle.std.proofs.Common.{List, ap, arith, length, sym, subst, ◌∙◌}
+use Rattle.std.proofs.Common.{◌≢◌, AllPairs, List, ap, arith, length, sym, subst, ◌∙◌}
 use Rattle.std.specs.Prelude.{All, None, Option}
 use Rattle.std.specs.Vec.Iter.{into_iter_items}
 use Rattle.std.proofs.lemmas.List.Elements.{All-head, All-nil, All-tail}
@@ -9,6 +9,7 @@ use Rattle.index_findings.specs.Lots.{AreRead, IsRead, IsReadAt}
 use Rattle.index_findings.specs.Pieces.{IsFilesPiece}
 use Rattle.index_findings.proofs.CoverLaws.{all_covered, none_covered, none_told, read_sorted, turn_covered}
 use Rattle.index_findings.proofs.LotLaws.{holds_none}
+use Rattle.index_findings.proofs.OnceLaws.{next_fresh, once_first, once_turn, paths_read, read_once_sorted}
 use Rattle.index_findings.proofs.lots.pieces_of.Goals as goal
 
 abbrev Read : Option Told → ReadFile → Type 0
@@ -22,6 +23,7 @@ loop-read-init c =
     record {
       files = λ o all. (subst (All (IsFilesPiece o c.args.root.now)) (sym made) (All-nil (IsFilesPiece o c.args.root.now)), holds_none o c.args.root.now c.new-batch.result none.none, all);
       left = gives.1 ∙ (c.sort_by.new.self.ok.0 ∙ ap length (sym gives.0));
+      once = λ once. once_first c.args.root.now c.new-pieces.result.items c.new-batch.result (into_iter_items c.into_iter-read-iterator.result) made none.empty once;
       covers = λ path. none_covered c.args.root.now path (into_iter_items c.into_iter-read-iterator.result) c.new-pieces.result.items c.new-batch.result made none.empty;
     }
 
@@ -44,6 +46,10 @@ loop-read-preserved c =
           let own = subst (AreRead o) steps h.2 in
           (added.pieces o h.1 h.0, added.batch o h.1 (All-head (Read o) x rest own), All-tail (Read o) x rest own);
       left = (let left = was.left in omega arith);
+      once = λ once.
+          let before = was.once once in
+          once_turn c.args.root.now old rest x steps at.pieces.items at.batch before c.add_file-added.new.pieces.items c.in_ok-batch.batch
+          (added.apart held.files held.holds before.held (next_fresh c.args.root.now old rest x steps at.pieces.items at.batch before)) (added.covers held.files held.holds);
       covers = λ path. turn_covered c.args.root.now path all old rest x at.pieces.items c.add_file-added.new.pieces.items at.batch c.in_ok-batch.batch steps (was.covers path) (added.covers held.files held.holds path);
     }
 
@@ -69,3 +75,12 @@ returns-clause-covers c = λ path.
       (λ h. read_sorted root path sorted c.args.lot.items (IsPermutation-sym c.args.lot.items sorted same) (subst (λ (l : List ReadFile). IsReadAt root l path) gives (covered.0 h))),
       (λ h. covered.1 (subst (λ (l : List ReadFile). IsReadAt root l path) (sym gives) (read_sorted root path c.args.lot.items sorted same h))),
     )
+
+pub returns-clause-apart : goal.returns-clause-apart
+returns-clause-apart c = λ once.
+    let at = c.loop-read in
+    let gives = c.into_iter-read-iterator.ensures.into_iter_gives.0 in
+    let all = into_iter_items c.into_iter-read-iterator.result in
+    let held = (at.invariant.files None (none_told all)).1 in
+    let sorted = subst (λ (l : List ReadFile). AllPairs (λ p q. p ≢ q) (paths_read l)) (sym gives) (read_once_sorted c.args.lot.items c.sort_by.new.self.items c.sort_by.ensures.permutation once) in
+    c.in_ok-put_batch.ensures.apart held.files held.holds (at.invariant.once sorted).held

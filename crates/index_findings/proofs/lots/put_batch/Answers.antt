@@ -1,5 +1,6 @@
 use Rattle.index_findings.proofs.CoverLaws.{batch_covered}
 use Rattle.index_findings.proofs.LotLaws.{batch_piece}
+use Rattle.index_findings.proofs.OnceLaws.{once_put}
 use Rattle.index_findings.proofs.lots.put_batch.Goals as goal
 
 pub returns-clause-pieces : goal.returns-clause-pieces
@@ -7,3 +8,6 @@ returns-clause-pieces c = λ o root h all. batch_piece o root c.args.batch c.in_
 
 pub returns-clause-covers : goal.returns-clause-covers
 returns-clause-covers c = λ files holds path. batch_covered c.args.batch c.in_ok-piece.piece c.args.pieces.now.items c.push.new.self.items files holds (c.in_ok-piece.ensures files holds) c.in_ok-push.ensures.items path
+
+pub returns-clause-apart : goal.returns-clause-apart
+returns-clause-apart c = λ files holds once. once_put c.args.batch c.in_ok-piece.piece c.args.pieces.now.items c.push.new.self.items files holds (c.in_ok-piece.ensures files holds) c.in_ok-push.ensures.items once

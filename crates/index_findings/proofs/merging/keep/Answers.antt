@@ -10,3 +10,6 @@ loop-preserved c = merged_on (c.args.kept.now.items ++ c.args.piece ∷ []) c.lo
 
 pub returns-clause-kept : goal.returns-clause-kept
 returns-clause-kept c = merged_on (c.args.kept.now.items ++ c.args.piece ∷ []) c.loop.kept.items c.merge_last.new.kept.items c.loop.invariant c.merge_last.ensures.merged
+
+pub merge_last-requires : goal.merge_last-requires
+merge_last-requires c = c.loop.invariant.apart c.requires

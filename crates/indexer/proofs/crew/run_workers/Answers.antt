@@ -11,7 +11,7 @@ use Rattle.indexer.proofs.crew.run_workers.Goals as goal
 pub run_jobs-requires-clause-caller : goal.run_jobs-requires-clause-caller
 run_jobs-requires-clause-caller g c κs within =
     let caller = c.remove-caller.result in
-    c.requires.threads 0 caller (at_first c.args.threads.items caller c.requires.caller c.remove-caller.ensures.value)
+    (c.requires.threads 0 caller (at_first c.args.threads.items caller c.requires.caller c.remove-caller.ensures.value)).0
 
 pub run_jobs-requires-clause-jobs : goal.run_jobs-requires-clause-jobs
 run_jobs-requires-clause-jobs g c κs within = λ n x at.

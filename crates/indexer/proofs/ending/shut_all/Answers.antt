@@ -1,17 +1,17 @@
-use Rattle.std.proofs.Common.{[], None}
-use Rattle.indexer.proofs.Turning.{called_then, still_between}
+use Rattle.indexer.specs.Gets.{nothing}
+use Rattle.indexer.proofs.Getting.{makes_after, makes_between}
 use Rattle.indexer.proofs.ending.shut_all.Goals as goal
 
 pub shut_files-requires-clause-between : goal.shut_files-requires-clause-between
-shut_files-requires-clause-between g c = still_between None [] [] c.args.p.now c.args.me.now c.shut_dirs.new.me c.requires.between (c.shut_dirs.ensures None [] 0).back
+shut_files-requires-clause-between g c = makes_between c.args.p.now nothing c.args.me.now c.shut_dirs.new.me c.requires.between c.shut_dirs.ensures
 
 pub shut_pieces-requires-clause-between : goal.shut_pieces-requires-clause-between
 shut_pieces-requires-clause-between g c =
-    still_between None [] [] c.args.p.now c.args.me.now c.shut_files.new.me c.requires.between
-    (called_then None [] c.args.p.now 0 c.args.me.now c.shut_dirs.new.me c.shut_files.new.me (c.shut_dirs.ensures None [] 0) (c.shut_files.ensures None [] 0)).back
+    makes_between c.args.p.now nothing c.args.me.now c.shut_files.new.me c.requires.between
+    (makes_after c.args.p.now nothing c.args.me.now c.shut_dirs.new.me c.shut_files.new.me c.shut_dirs.ensures c.shut_files.ensures)
 
 pub returns : goal.returns
-returns g c = λ o root m.
-    called_then o root c.args.p.now m c.args.me.now c.shut_files.new.me c.shut_pieces.new.me
-    (called_then o root c.args.p.now m c.args.me.now c.shut_dirs.new.me c.shut_files.new.me (c.shut_dirs.ensures o root m) (c.shut_files.ensures o root m))
-    (c.shut_pieces.ensures o root m)
+returns g c =
+    makes_after c.args.p.now nothing c.args.me.now c.shut_files.new.me c.shut_pieces.new.me
+    (makes_after c.args.p.now nothing c.args.me.now c.shut_dirs.new.me c.shut_files.new.me c.shut_dirs.ensures c.shut_files.ensures)
+    c.shut_pieces.ensures

@@ -1,9 +1,16 @@
-use Rattle.std.proofs.Common.{◌+◌, ◌≤◌, length, Option, None, sym, subst, ◌∙◌, arith}
+use Rattle.std.proofs.Common.{◌+◌, ◌≤◌, List, length, Option, None, sym, subst, ◌∙◌, arith}
 use Rattle.std.specs.Prelude.{All, IfSome, slice_index_or}
 use Rattle.firefly_outside.specs.Trees.{Told}
 use Rattle.walker.specs.Listings.{IsToldBy}
 use Rattle.index_findings.specs.declared.findings.Visit.{Visit}
 use Rattle.index_findings.specs.Pieces.{IsFilesPiece}
+use Rattle.std.specs.List.{flat_map}
+use Rattle.walker.specs.Pile.{AreApart}
+use Rattle.word_index.specs.Index.{Index}
+use Rattle.index_findings.specs.Visits.{AreFound, AreVisits}
+use Rattle.index_findings.specs.declared.findings.Findings.{Findings}
+use Rattle.indexer.specs.Once.{EachOnce}
+use Rattle.indexer.proofs.EndOnce.{each_once}
 use Rattle.indexer.specs.Says.{HasCause, IndexSays, TreesAfter}
 use Rattle.indexer.specs.Walks.{IsVisit}
 use Rattle.indexer.proofs.SaysLaws.{all_visits, visits_lawful, visits_told, if_each, index_says, end_says}
@@ -39,6 +46,18 @@ decided_at-answer-requires-clause-pieces g c κs within = λ s e.
     subst (λ (q : Option Told). All (IsFilesPiece q c.args.root.now) pieces) (sym same)
     (subst (All (IsFilesPiece o c.args.root.now)) (sym c.in-Ok-gathered.ensures.pieces) (c.in-Ok.ensures.pieces o c.requires.tell.1))
 
+pub decided_at-answer-requires-clause-once : goal.decided_at-answer-requires-clause-once
+decided_at-answer-requires-clause-once g c κs within = λ kept. subst (AreVisits c.args.root.now) (sym c.in-Ok-gathered.ensures.visits) c.in-Ok.ensures.visits
+
+pub decided_at-answer-requires-clause-apart : goal.decided_at-answer-requires-clause-apart
+decided_at-answer-requires-clause-apart g c κs within = λ kept. subst AreApart (sym c.in-Ok-gathered.ensures.pieces) c.in-Ok.ensures.apart
+
+pub decided_at-answer-requires-clause-found : goal.decided_at-answer-requires-clause-found
+decided_at-answer-requires-clause-found g c κs within = λ kept.
+    let gathered = c.in-Ok-gathered.ensures in
+    subst (λ (vs : List Visit). AreFound c.args.root.now vs c.in-Ok-gathered.found.pieces.items) (sym gathered.visits)
+    (subst (λ (ps : List Index). AreFound c.args.root.now (flat_map (λ (f : Findings). f.visits.items) c.in-Ok.findings.items) ps) (sym gathered.pieces) c.in-Ok.ensures.covered)
+
 pub decided_at-answer-requires-clause-there : goal.decided_at-answer-requires-clause-there
 decided_at-answer-requires-clause-there g c κs within =
     let n = c.args.plan.now.walkers + c.args.plan.now.parsers in
@@ -69,6 +88,9 @@ returns g c =
     let others = c.decided_at-answer.ensures.others in
     let is = sym c.answered.ensures in
     record {
+      once = λ o tell. subst (EachOnce S.calls o root n old new) is
+          (each_once S.tree S.calls root n closed findings old mid new o own.0 own.1 tell run.once c.in-Ok-gathered.found.visits.items c.in-Ok-gathered.found.pieces.items c.in-Ok-gathered.found.lost c.in-Ok-gathered.ensures.visits c.in-Ok-gathered.ensures.pieces c.in-Ok-gathered.ensures.lost
+          run.others others answer c.decided_at-answer.ensures.lost c.decided_at-answer.ensures.rest (ends own.0 (run.others n None (omega arith) ∙ own.1)).0 (ends own.0 (run.others n None (omega arith) ∙ own.1)).1);
       says = λ o tell. subst (IndexSays o root plan) is (index_says o root plan closed answer
           (end_says S.tree S.may_fail S.faults S.calls o root plan.stop_after fault own.0 (slice_index_or new n None) answer (tell n own.0 own.1) (ends own.0 (run.others n None (omega arith) ∙ own.1)))
           (record { layout = run.layout; untraced = run.untraced; traced = run.traced }));

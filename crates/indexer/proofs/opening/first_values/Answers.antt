@@ -1,7 +1,7 @@
 use Rattle.std.proofs.Common.{List, [], ◌∷◌, ◌++◌, ap, ◌∙◌}
 use Rattle.bounded_buffer.specs.Rings.{fresh}
-use Rattle.indexer.specs.declared.value.IndexValue.{IndexValue}
-use Rattle.indexer.specs.declared.value.IndexValue.TheVariants.{Dirs, Ring}
+use Rattle.index_rule.specs.declared.value.IndexValue.{IndexValue}
+use Rattle.index_rule.specs.declared.value.IndexValue.TheVariants.{Dirs, Ring}
 use Rattle.indexer.proofs.opening.first_values.Goals as goal
 
 pub returns : goal.returns
@@ -12,5 +12,6 @@ returns c =
     let three = c.push_reserved-3.ensures.items ∙ ap (λ (l : List IndexValue). l ++ Ring c.in_ok-pieces.pieces ∷ []) two in
     record {
       dirs = dirs;
+      waits = c.in_ok-dirs.ensures;
       is = three ∙ (ap (λ q. Dirs dirs ∷ Ring q ∷ Ring c.in_ok-pieces.pieces ∷ []) c.in_ok-files.ensures ∙ ap (λ q. Dirs dirs ∷ Ring (fresh 256) ∷ Ring q ∷ []) c.in_ok-pieces.ensures);
     }

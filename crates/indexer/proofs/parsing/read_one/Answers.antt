@@ -1,7 +1,10 @@
 use Rattle.std.proofs.Common.{◌≡◌, ◌∙◌, ◌⊎◌, [], ◌∷◌, ◌++◌, inl, inr, subst, sym, Err}
 use Rattle.std.specs.Prelude.{IfSome}
-use Rattle.firefly_outside.specs.Trees.{Counts, Path, IsFault, IsFile, Bytes, Reads}
-use Rattle.std.proofs.Common.{ℕ, List, Some}
+use Rattle.firefly_outside.specs.Trees.{Calls, Counts, Path, IsFault, IsFile, Bytes, Reads}
+use Rattle.std.proofs.Common.{ℕ, List, Some, ap, refl, append-nil}
+use Rattle.std.proofs.lemmas.List.{map-append}
+use Rattle.index_findings.specs.declared.lots.ReadFile.{ReadFile}
+use Rattle.indexer.specs.States.{lot_paths}
 use Rattle.firefly_outside.specs.declared.tree.FileBytes.{FileBytes}
 use Rattle.firefly_outside.specs.declared.tree.Kind.TheVariants.{File}
 use Rattle.firefly_outside.specs.declared.tree.TreeError.{TreeError}
@@ -91,3 +94,46 @@ returns-in-Ok-add-clause-read g c = λ read.
 
 pub returns-in-Err-clause-read : goal.returns-in-Err-clause-read
 returns-in-Err-clause-read g c = λ read. subst (AreRead (g.S.Tree.tree c.args.tree.now)) (sym c.in-Err.ensures.refused.0) read
+
+pub returns-in-Ok-add-clause-lot : goal.returns-in-Ok-add-clause-lot
+returns-in-Ok-add-clause-lot g c =
+    let tree = g.S.Tree.tree c.args.tree.now in
+    let text = c.as_str.result.now in
+    let calls = g.S.Tree.calls c.args.tree.now in
+    let calls' = g.S.Tree.calls c.read.new.self in
+    let one : ReadFile = record { path = c.args.path; file = c.in-Ok.file } in (
+      c.args.path ∷ [],
+      inl (refl, ap lot_paths c.in-Ok-add.ensures.added ∙ map-append (λ (f : ReadFile). f.path) c.args.lot.now.files.items (one ∷ [])),
+      subst (λ (d : Path). IfSome tree (λ t. calls'.files_read ≡ calls.files_read ++ d ∷ [])) c.as_str.ensures
+          (told_on tree (λ t. IsFile t text c.in-Ok.file × (calls' ≡ record calls { files_read = calls.files_read ++ text ∷ [] })) (λ t. calls'.files_read ≡ calls.files_read ++ text ∷ []) (λ t q. ap (λ (d : Calls). d.files_read) q.1) c.in-Ok.ensures.told),
+    )
+
+pub returns-in-Err-clause-lot : goal.returns-in-Err-clause-lot
+returns-in-Err-clause-lot g c =
+    let tree = g.S.Tree.tree c.args.tree.now in
+    let text = c.as_str.result.now in
+    let calls = g.S.Tree.calls c.args.tree.now in
+    let calls' = g.S.Tree.calls c.read.new.self in (
+      c.args.path ∷ [],
+      inr (ap lot_paths c.in-Err.ensures.refused.0, inr (refl, refl)),
+      subst (λ (d : Path). IfSome tree (λ t. calls'.files_read ≡ calls.files_read ++ d ∷ [])) c.as_str.ensures
+          (told_on tree (λ t. IsFile t text c.in-Ok.file × (calls' ≡ record calls { files_read = calls.files_read ++ text ∷ [] })) (λ t. calls'.files_read ≡ calls.files_read ++ text ∷ []) (λ t q. ap (λ (d : Calls). d.files_read) q.1) c.in-Ok.ensures.told),
+    )
+
+pub returns-in-Err-Memory-clause-lot : goal.returns-in-Err-Memory-clause-lot
+returns-in-Err-Memory-clause-lot g c =
+    let tree = g.S.Tree.tree c.args.tree.now in
+    let text = c.as_str.result.now in
+    let calls = g.S.Tree.calls c.args.tree.now in
+    let calls' = g.S.Tree.calls c.read.new.self in
+    let told = subst (λ (e : TreeError). IfSome tree (Reads (g.S.Tree.may_fail c.args.tree.now) text calls calls' (Err e))) c.in-Err-Memory.field-0-is c.in-Err-Memory.ensures.told in
+    ([], inr (refl, inl refl), told_on tree (λ t. calls' ≡ calls) (λ t. calls'.files_read ≡ calls.files_read ++ []) (λ t q. ap (λ (d : Calls). d.files_read) q ∙ sym (append-nil calls.files_read)) told)
+
+pub returns-in-Err-Failed-clause-lot : goal.returns-in-Err-Failed-clause-lot
+returns-in-Err-Failed-clause-lot g c =
+    let tree = g.S.Tree.tree c.args.tree.now in
+    let text = c.as_str.result.now in
+    let calls = g.S.Tree.calls c.args.tree.now in
+    let calls' = g.S.Tree.calls c.read.new.self in
+    let told = subst (λ (e : TreeError). IfSome tree (Reads (g.S.Tree.may_fail c.args.tree.now) text calls calls' (Err e))) c.in-Err-Failed.field-0-is c.in-Err-Failed.ensures.told in
+    ([], inr (refl, inl refl), told_on tree (λ t. IsFault (g.S.Tree.may_fail c.args.tree.now) text ((bs : List ℕ) × (t text ≡ Some (Bytes bs))) calls calls') (λ t. calls'.files_read ≡ calls.files_read ++ []) (λ t q. ap (λ (d : Calls). d.files_read) q.noted ∙ sym (append-nil calls.files_read)) told)

@@ -4,12 +4,20 @@ use Rattle.larch_actions.specs.declared.event.Layout.{Layout}
 use Rattle.nub.specs.Ended.{IsWhole, KeepsLocks}
 use Rattle.indexer.specs.Plans.{layout_of}
 use Rattle.indexer.specs.Turns.{Worker}
-use Rattle.indexer.specs.Work.{KeepsWork}
-use Rattle.indexer.proofs.RunLaws.{first_between, all_many, one_fewer, all_done, all_found_by, all_pieces}
+use Rattle.index_rule.specs.Work.{KeepsWork}
+use Rattle.firefly_outside.specs.Trees.{Path}
+use Rattle.index_findings.specs.Visits.{AreFound, AreVisits}
+use Rattle.indexer.specs.Once.{IsWorkedOnce}
+use Rattle.indexer.proofs.Together.{pieces_of, visits_of}
+use Rattle.indexer.proofs.RunOnce.{all_apart, all_found, all_visits_once, worked_once}
+use Rattle.indexer.proofs.RunLaws.{first_fresh, all_many, one_fewer, all_done, all_found_by, all_pieces}
 use Rattle.indexer.proofs.running.worked_run.Goals as goal
 
 pub run_workers-requires-clause-threads : goal.run_workers-requires-clause-threads
-run_workers-requires-clause-threads g c κs within = λ n x at. first_between c.in_ok-p.p n x (c.in_ok-p.ensures.threads n x at)
+run_workers-requires-clause-threads g c κs within = λ n x at. first_fresh c.in_ok-p.p n x (c.in_ok-p.ensures.threads n x at)
+
+pub run_workers-requires-clause-root : goal.run_workers-requires-clause-root
+run_workers-requires-clause-root g c κs within = sym c.in_ok-p.ensures.package.2
 
 pub run_workers-requires-clause-caller : goal.run_workers-requires-clause-caller
 run_workers-requires-clause-caller g c κs within = let count = c.in_ok-p.ensures.count in omega arith
@@ -26,7 +34,7 @@ close_package-requires-clause-threads g c κs =
     let plan = c.args.plan.now in
     let crew = c.in-Ok.ensures in
     let done = all_done S.tree S.may_fail S.faults S.calls c.args.root.now c.in_ok-p.p plan.walkers (plan.walkers + plan.parsers) c.in_ok-p.threads.items crew.caller crew.last crew.back c.in-Ok.findings.items c.args.trees.now c.run_workers.new.trees
-    c.in_ok-p.ensures.threads crew.is_caller (crew.called None []) crew.worked in
+    c.in_ok-p.ensures.threads crew.is_caller (crew.called.called None [] 0) crew.worked in
     λ n x at. done n x (ap (λ (l : List Worker). get_elem? l n) (sym crew.is_all) ∙ at)
 
 pub returns : goal.returns
@@ -44,6 +52,9 @@ returns g c =
     let firsts = c.in_ok-p.ensures.threads in
     let closed = c.in_ok-closed.closed in
     let ended = c.in_ok-closed.ensures in
+    let n = plan.walkers + plan.parsers in
+    let three = ended.values.0 ∙ ap (λ (l : Layout). l.mutexes) opened.0 in
+    let locks = subst (λ (l : List Worker). KeepsLocks (KeepsWork p.world) l closed.values) crew.is_all ended.values.1 in
     record {
       layout = ended.layout ∙ opened.0;
       untraced = λ no. (ended.untraced (opened.1 ∙ no)).1;
@@ -52,7 +63,13 @@ returns g c =
           (whole.0, whole.1, subst (λ (l : Layout). IsWhole l closed.threads whole.0) opened.0 (subst (λ (l : List Worker). IsWhole p.layout l whole.0) (sym ended.threads) whole.2));
       count = one_fewer threads findings (layout_of plan).threads (crew.found ∙ crew.many) c.in_ok-p.ensures.count (omega arith);
       found = all_found_by S.tree S.may_fail S.faults S.calls root p plan.walkers (plan.walkers + plan.parsers) threads crew.last crew.back closed.threads findings old new firsts crew.found (ended.threads ∙ crew.is_all) crew.worked;
-      pieces = λ o tell. all_pieces S.tree S.may_fail S.faults S.calls root p o plan.walkers (plan.walkers + plan.parsers) threads crew.caller crew.last crew.back findings old new tell firsts crew.is_caller (crew.called o root) crew.worked
-          closed.values (ended.values.0 ∙ ap (λ (l : Layout). l.mutexes) opened.0) (subst (λ (l : List Worker). KeepsLocks KeepsWork l closed.values) crew.is_all ended.values.1) crew.found;
+      pieces = λ o tell. all_pieces S.tree S.may_fail S.faults S.calls root p o plan.walkers (plan.walkers + plan.parsers) threads crew.caller crew.last crew.back findings old new tell firsts crew.is_caller (crew.called.called o root 0) crew.worked
+          closed.values (ended.values.0 ∙ ap (λ (l : Layout). l.mutexes) opened.0) (subst (λ (l : List Worker). KeepsLocks (KeepsWork p.world) l closed.values) crew.is_all ended.values.1) crew.found;
+      visits = subst (λ (r : Path). AreVisits r (visits_of findings)) opened.2 (all_visits_once S.tree S.may_fail S.faults S.calls root p plan.walkers n threads crew.caller crew.last crew.back findings old new firsts crew.is_caller crew.called crew.worked closed.values three locks crew.found);
+      apart = all_apart S.tree S.may_fail S.faults S.calls root p plan.walkers n threads crew.caller crew.last crew.back findings old new firsts crew.is_caller crew.called crew.worked closed.values three locks crew.found;
+      covered = subst (λ (r : Path). AreFound r (visits_of findings) (pieces_of findings)) opened.2 (all_found S.tree S.may_fail S.faults S.calls root p plan.walkers n threads crew.caller crew.last crew.back findings old new firsts crew.is_caller crew.called crew.worked closed.values three locks crew.found);
+      once = λ t tell kept. subst (λ (r : Path). IsWorkedOnce S.calls r n old new (visits_of findings) (pieces_of findings)) opened.2
+          (worked_once S.tree S.may_fail S.faults S.calls root p plan.walkers n threads crew.caller crew.last crew.back findings old new firsts crew.is_caller crew.called crew.worked closed.values three locks crew.found t tell kept
+          (let count = one_fewer threads findings (layout_of plan).threads (crew.found ∙ crew.many) c.in_ok-p.ensures.count (omega arith) in let some = c.requires.plan.mergers in omega arith));
       others = crew.others;
     }

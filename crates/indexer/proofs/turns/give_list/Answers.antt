@@ -1,18 +1,33 @@
-use Rattle.std.proofs.Common.{sym, ◌∙◌, refl}
-use Rattle.indexer.specs.declared.value.IndexValue.TheVariants.{Dirs}
-use Rattle.indexer.proofs.Turning.{dirs_stay, gave_any, gave_back}
+use Rattle.std.proofs.Common.{refl, subst}
+use Rattle.std.proofs.lemmas.Option.{same_Some}
+use Rattle.std.proofs.Common.{sym, ◌∙◌}
+use Rattle.index_rule.specs.Shares.{Share}
+use Rattle.index_rule.specs.Work.{MayChange, moved, waiting_of}
+use Rattle.index_rule.specs.declared.value.IndexValue.TheVariants.{Dirs}
+use Rattle.indexer.proofs.Getting.{list_gets, list_moves}
+use Rattle.indexer.proofs.Turning.{gave_any, gave_back}
 use Rattle.indexer.proofs.turns.give_list.Goals as goal
 
 pub release-requires-clause-may : goal.release-requires-clause-may
 release-requires-clause-may g c κs within =
     let x = c.requires.has.1 in
     let has = c.requires.has.2 in
-    (x, has.has, λ w s world share. dirs_stay x (Dirs c.args.list) s has.kind refl)
+    let ys = c.args.list.waiting.items in (
+      x,
+      has.has,
+      λ w s world share.
+          subst (λ (u : Share). MayChange w 0 x (Dirs c.args.list) u (moved (waiting_of x) ys u)) (same_Some has.own s (sym has.share ∙ share)) (list_moves w x c.args.list has.own has.kind c.requires.has.3),
+    )
 
-pub returns : goal.returns
-returns g c = λ a x has between o root.
+pub returns-clause-called : goal.returns-clause-called
+returns-clause-called g c = λ a x has between o root.
     let free = c.release.ensures in
     let called = gave_back o root c.args.p.now a c.args.me.now c.release.new.me x has free.rest free.same free.held
-    (free.share c.args.p.now.world has.own x has.world has.share has.has ∙ sym has.share)
+    (moved (waiting_of x) c.args.list.waiting.items has.own)
+    (free.share c.args.p.now.world has.own x has.world has.share has.has) refl
     free.event in
     (called, λ m. gave_any o root c.args.p.now m a c.args.me.now c.release.new.me x has free.event called)
+
+pub returns-clause-gets : goal.returns-clause-gets
+returns-clause-gets g c = λ a x has.
+    list_gets c.args.p.now a c.args.me.now c.release.new.me x c.args.list.waiting.items has (c.release.ensures.share c.args.p.now.world has.own x has.world has.share has.has)

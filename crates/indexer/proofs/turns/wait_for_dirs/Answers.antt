@@ -1,6 +1,6 @@
 use Rattle.std.proofs.Common.{sym, subst, ◌∙◌, refl}
-use Rattle.indexer.specs.declared.value.IndexValue.{IndexValue}
-use Rattle.indexer.specs.declared.value.IndexValue.TheVariants.{Dirs}
+use Rattle.index_rule.specs.declared.value.IndexValue.{IndexValue}
+use Rattle.index_rule.specs.declared.value.IndexValue.TheVariants.{Dirs}
 use Rattle.indexer.specs.Turns.{HasList}
 use Rattle.indexer.proofs.Turning.{dirs_stay, has_again}
 use Rattle.indexer.proofs.turns.wait_for_dirs.Goals as goal
@@ -9,7 +9,7 @@ pub alert_wait-outcome-requires-clause-may : goal.alert_wait-outcome-requires-cl
 alert_wait-outcome-requires-clause-may g c κs within =
     let x = c.requires.has.1 in
     let has = c.requires.has.2 in
-    (x, has.has, λ w s world share. dirs_stay x (Dirs c.args.list) s has.kind refl)
+    (x, has.has, λ w s world share. dirs_stay w x (Dirs c.args.list) s has.kind refl c.requires.has.3)
 
 pub list_in-requires : goal.list_in-requires
 list_in-requires g c =
@@ -25,4 +25,4 @@ returns g c = λ a x has.
     let share = back.share w has.own x has.world has.share has.has in
     let fits = back.fits w has.own (back.same.world ∙ has.world) share in
     subst (λ (y : IndexValue). HasList c.args.p.now a y c.alert_wait-outcome.new.me) c.list_in.ensures
-    (has_again c.args.p.now a c.args.me.now c.alert_wait-outcome.new.me x c.alert_wait-outcome.result.1 _ _ has back.rest back.same back.holds back.held (share ∙ sym has.share) back.event fits.kind)
+    (has_again c.args.p.now a c.args.me.now c.alert_wait-outcome.new.me x c.alert_wait-outcome.result.1 _ _ has back.rest back.same back.holds back.held (share ∙ sym has.share) back.event fits.kind fits.new)

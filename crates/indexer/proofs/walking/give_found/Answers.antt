@@ -1,35 +1,69 @@
-use Rattle.std.proofs.Common.{[], None}
-use Rattle.indexer.proofs.Turning.{called_idle, called_then, still_between}
+use Rattle.std.proofs.Common.{[]}
+use Rattle.std.specs.Prelude.{Contains}
+use Rattle.std.proofs.lemmas.List.Elements.{All-nil}
+use Rattle.index_rule.specs.Shares.{Share, paths_put}
+use Rattle.indexer.specs.Gets.{MayGive, MayPutAll, moved_more, nothing}
+use Rattle.indexer.proofs.Getting.{files_later, makes_before, makes_between, makes_found, makes_idle, of_after}
 use Rattle.indexer.proofs.walking.give_found.Goals as goal
 
+pub put_dirs-requires-clause-may : goal.put_dirs-requires-clause-may
+put_dirs-requires-clause-may g c s at = (c.requires.may s at).dirs
+
 pub cancel-requires-clause-between : goal.cancel-requires-clause-between
-cancel-requires-clause-between g c = still_between None [] [] c.args.p.now c.args.me.now c.put_dirs.new.me c.requires.between (c.put_dirs.ensures None [] 0).back
+cancel-requires-clause-between g c = let put = c.put_dirs.ensures in makes_between c.args.p.now (moved_more [] put.0) c.args.me.now c.put_dirs.new.me c.requires.between put.1
 
 pub put_files-requires-clause-between : goal.put_files-requires-clause-between
-put_files-requires-clause-between g c = still_between None [] [] c.args.p.now c.args.me.now c.put_dirs.new.me c.requires.between (c.put_dirs.ensures None [] 0).back
+put_files-requires-clause-between g c = let put = c.put_dirs.ensures in makes_between c.args.p.now (moved_more [] put.0) c.args.me.now c.put_dirs.new.me c.requires.between put.1
+
+pub put_files-requires-clause-may : goal.put_files-requires-clause-may
+put_files-requires-clause-may g c =
+    let p = c.args.p.now in
+    let put = c.put_dirs.ensures in
+    let fs = c.args.files.items in
+    of_after p (moved_more [] put.0) c.args.me.now c.put_dirs.new.me (MayGive p.world c.args.dirs.items fs) (λ (r : Share). MayPutAll fs (paths_put p.world 1 r) r) c.requires.between put.1.gets c.requires.may
+    (λ s r grows may. files_later p.world fs put.0 s r grows may.files)
 
 pub finish_dir-requires-clause-between : goal.finish_dir-requires-clause-between
 finish_dir-requires-clause-between g c =
-    still_between None [] [] c.args.p.now c.args.me.now c.put_files.new.me c.requires.between
-    (called_then None [] c.args.p.now 0 c.args.me.now c.put_dirs.new.me c.put_files.new.me (c.put_dirs.ensures None [] 0) (c.put_files.ensures None [] 0)).back
+    let p = c.args.p.now in
+    let put = c.put_dirs.ensures in
+    let files = c.put_files.ensures in
+    makes_between p (record nothing { put = put.0; files_put = files.0 }) c.args.me.now c.put_files.new.me c.requires.between (makes_found p put.0 files.0 c.args.me.now c.put_dirs.new.me c.put_files.new.me put.1 files.1)
 
 pub test_alert-requires-clause-rest : goal.test_alert-requires-clause-rest
 test_alert-requires-clause-rest g c κs within =
     let p = c.args.p.now in
     let a = c.args.me.now in
-    let put = called_then None [] p 0 a c.put_dirs.new.me c.put_files.new.me (c.put_dirs.ensures None [] 0) (c.put_files.ensures None [] 0) in
-    (still_between None [] [] p a c.finish_dir.new.me c.requires.between (called_then None [] p 0 a c.put_files.new.me c.finish_dir.new.me put (c.finish_dir.ensures None [] 0)).back).2.rest
+    let put = c.put_dirs.ensures in
+    let files = c.put_files.ensures in
+    let more = record nothing { put = put.0; files_put = files.0 } in
+    let found = makes_found p put.0 files.0 a c.put_dirs.new.me c.put_files.new.me put.1 files.1 in
+    (makes_between p more a c.finish_dir.new.me c.requires.between (makes_before p more a c.put_files.new.me c.finish_dir.new.me found c.finish_dir.ensures)).2.rest
 
 pub returns-then-not-put_dirs : goal.returns-then-not-put_dirs
-returns-then-not-put_dirs g c = λ o root m. called_then o root c.args.p.now m c.args.me.now c.put_dirs.new.me c.cancel.new.me (c.put_dirs.ensures o root m) (c.cancel.ensures o root m)
+returns-then-not-put_dirs g c =
+    let put = c.put_dirs.ensures in
+    (put.0, [], makes_before c.args.p.now (moved_more [] put.0) c.args.me.now c.put_dirs.new.me c.cancel.new.me put.1 c.cancel.ensures, put.2, All-nil (Contains c.args.files.items))
 
 pub returns-then-not-put_files : goal.returns-then-not-put_files
-returns-then-not-put_files g c = λ o root m. called_then o root c.args.p.now m c.args.me.now c.put_dirs.new.me c.put_files.new.me (c.put_dirs.ensures o root m) (c.put_files.ensures o root m)
+returns-then-not-put_files g c =
+    let put = c.put_dirs.ensures in
+    let files = c.put_files.ensures in
+    (put.0, files.0, makes_found c.args.p.now put.0 files.0 c.args.me.now c.put_dirs.new.me c.put_files.new.me put.1 files.1, put.2, files.2)
 
 pub returns : goal.returns
-returns g c = λ o root m.
+returns g c =
     let p = c.args.p.now in
     let a = c.args.me.now in
-    let put = called_then o root p m a c.put_dirs.new.me c.put_files.new.me (c.put_dirs.ensures o root m) (c.put_files.ensures o root m) in
-    let done = called_then o root p m a c.put_files.new.me c.finish_dir.new.me put (c.finish_dir.ensures o root m) in
-    called_then o root p m a c.finish_dir.new.me c.test_alert.new.me done (called_idle o root p m _ _ c.finish_dir.new.me c.test_alert.new.me c.test_alert.ensures.event c.test_alert.ensures.idle)
+    let put = c.put_dirs.ensures in
+    let files = c.put_files.ensures in
+    let more = record nothing { put = put.0; files_put = files.0 } in
+    let found = makes_found p put.0 files.0 a c.put_dirs.new.me c.put_files.new.me put.1 files.1 in
+    let ended = makes_before p more a c.put_files.new.me c.finish_dir.new.me found c.finish_dir.ensures in (
+      put.0,
+      files.0,
+      makes_before p more a c.finish_dir.new.me c.test_alert.new.me ended
+          (makes_idle p _ _ c.finish_dir.new.me c.test_alert.new.me (makes_between p more a c.finish_dir.new.me c.requires.between ended) c.test_alert.ensures.event c.test_alert.ensures.idle),
+      put.2,
+      files.2,
+    )

@@ -4,7 +4,7 @@ use Rattle.firefly_outside.specs.Trees.{Counts, Path, IsFault, Directory}
 use Rattle.firefly_outside.specs.declared.tree.Entry.{Entry}
 use Rattle.firefly_outside.specs.declared.tree.Kind.TheVariants.{Dir}
 use Rattle.firefly_outside.specs.declared.tree.TreeError.{TreeError}
-use Rattle.walker.specs.Listings.{IsToldBy, ListsDir, with_listed}
+use Rattle.walker.specs.Listings.{IsListingOf, IsToldBy, ListsDir, with_listed}
 use Rattle.walker.specs.declared.listing.Listing.{Listing}
 use Rattle.index_findings.specs.declared.findings.Fault.TheVariants.{Dir as DirFault}
 use Rattle.index_findings.proofs.ToldLaws.{told_on}
@@ -13,8 +13,8 @@ use Rattle.indexer.specs.Walks.{HasDone, MayFail, calls_with}
 use Rattle.indexer.proofs.WalkSteps.{calls_listed, done_more, done_lost, done_fault, kept_more, visits_more}
 use Rattle.indexer.proofs.walking.list_one.Goals as goal
 
-pub returns-in-Ok-keep_listing : goal.returns-in-Ok-keep_listing
-returns-in-Ok-keep_listing g c = (
+pub returns-in-Ok-keep_listing-clause-done : goal.returns-in-Ok-keep_listing-clause-done
+returns-in-Ok-keep_listing-clause-done g c = (
   c.list_dir.ensures.tree_stays,
   c.list_dir.ensures.weak_stays,
   λ root count before p a b h.
@@ -32,8 +32,8 @@ returns-in-Ok-keep_listing g c = (
       (told_on tree (λ t. IsToldBy t text l × (calls' ≡ with_listed calls text)) (λ t. calls' ≡ calls_with Dir (text ∷ []) [] calls) (λ t q. q.1 ∙ calls_listed calls text) c.in-Ok.ensures.told),
 )
 
-pub returns-in-Err : goal.returns-in-Err
-returns-in-Err g c = (
+pub returns-in-Err-clause-done : goal.returns-in-Err-clause-done
+returns-in-Err-clause-done g c = (
   c.list_dir.ensures.tree_stays,
   c.list_dir.ensures.weak_stays,
   λ root count before p a b h.
@@ -50,8 +50,8 @@ returns-in-Err g c = (
       (told_on tree (λ t. IsToldBy t text l × (calls' ≡ with_listed calls text)) (λ t. (calls' ≡ calls) ⊎ (calls' ≡ calls_with Dir (text ∷ []) [] calls)) (λ t q. inr (q.1 ∙ calls_listed calls text)) c.in-Ok.ensures.told)),
 )
 
-pub returns-in-Err-Failed : goal.returns-in-Err-Failed
-returns-in-Err-Failed g c = (
+pub returns-in-Err-Failed-clause-done : goal.returns-in-Err-Failed-clause-done
+returns-in-Err-Failed-clause-done g c = (
   c.list_dir.ensures.tree_stays,
   c.list_dir.ensures.weak_stays,
   λ root count before p a b h.
@@ -70,8 +70,8 @@ returns-in-Err-Failed g c = (
       (told_on tree (λ t. IsFault weak dir ((es : List Entry) × (t dir ≡ Some (Directory es))) calls calls') (λ t. (calls' ≡ record calls { failed = calls.failed ++ dir ∷ [] }) × MayFail weak t (DirFault dir)) (λ t q. (q.noted, q.may)) told_dir),
 )
 
-pub returns-in-Err-Memory : goal.returns-in-Err-Memory
-returns-in-Err-Memory g c = (
+pub returns-in-Err-Memory-clause-done : goal.returns-in-Err-Memory-clause-done
+returns-in-Err-Memory-clause-done g c = (
   c.list_dir.ensures.tree_stays,
   c.list_dir.ensures.weak_stays,
   λ root count before p a b h.
@@ -89,3 +89,13 @@ returns-in-Err-Memory g c = (
       (told_on tree (λ t. (calls' ≡ calls) ⊎ (calls' ≡ with_listed calls text)) (λ t. (calls' ≡ calls) ⊎ (calls' ≡ calls_with Dir (text ∷ []) [] calls))
       (λ t q. elim q [ inl none ↦ inl none | inr one ↦ inr (one ∙ calls_listed calls text) ]) told),
 )
+
+pub returns-in-Ok-keep_listing-clause-found : goal.returns-in-Ok-keep_listing-clause-found
+returns-in-Ok-keep_listing-clause-found g c =
+    record {
+      listing = c.in-Ok.listing;
+      lawful = subst (λ (d : Path). IsListingOf d c.in-Ok.listing) c.as_str.ensures c.in-Ok.ensures.lawful;
+      kept = c.in-Ok-keep_listing.ensures.ok;
+      dirs = c.in-Ok-keep_listing.ensures.found.0;
+      files = c.in-Ok-keep_listing.ensures.found.1;
+    }

@@ -8,4 +8,4 @@ returns-in-None g c =
     let e = c.merge_all-findings.ensures in
     let root = c.args.root.now in
     subst (λ (t : Option g.row.S.Denot). GivesTree S.tree S.may_fail S.faults S.calls root c.args.p.now c.args.job.kind c.args.job.me c.merge_all-findings.new.me c.merge_all-findings.result t None)
-    (sym c.in-None.is) ((λ o. e.called o root), e.visits, e.fault)
+    (sym c.in-None.is) ((λ o. e.called o root), e.visits, e.fault, e.share, e.ended)

@@ -1,4 +1,5 @@
+use Rattle.indexer.proofs.Getting.{makes_none}
 use Rattle.indexer.proofs.crew.fn.run_jobs.at_once_beside+arg6.Goals as goal
 
-pub returns-then-refused : goal.returns-then-refused
-returns-then-refused g c = λ o q. c.shut_all.ensures o q 0
+pub returns-else-refused : goal.returns-else-refused
+returns-else-refused g c = makes_none _ _
