@@ -4,5 +4,6 @@ pub mod Causing
 pub mod Freeing
 pub mod Holding
 pub mod Lanes
+pub mod Latest
 pub mod Longest
 pub mod Noting

@@ -1,8 +1,9 @@
 -- What is kept of the events before. The past has the latest event first.
-use Rattle.std.specs.Prelude.{ℕ, ◌-◌, ◌<◌, false, List, [], ◌∷◌, length, Some, None}
+use Rattle.std.specs.Prelude.{ℕ, ◌-◌, ◌<◌, nat_le, Bool, true, false, List, [], ◌∷◌, length, Some, None}
 use Rattle.std.specs.declared.option.Option.{Option}
 use Rattle.larch_actions.specs.declared.event.Event.{Event}
 use Rattle.trace_board.specs.declared.history.Origin.{Origin}
+use Rattle.trace_board.specs.declared.history.Turn.TheVariants.{Begins}
 use Rattle.trace_board.specs.declared.causes.Cause.{Cause}
 use Rattle.trace_board.specs.declared.causes.Cause.TheVariants.{Never, Awaited, By}
 use Rattle.trace_board.specs.declared.rows.Row.{Row}
@@ -35,9 +36,11 @@ pub record Kept : Type 0 where
   pub taken : ℕ → Option Origin
   -- the longest hold of each mutex that was given back
   pub longest : ℕ → Option Hold
+  -- the latest event of each thread
+  pub latest : ℕ → Option Origin
 
 abbrev pub nothing_kept : Kept
-nothing_kept = record { held = λ (k : ℕ). None; waits = λ (k : ℕ). None; stands = λ (k : ℕ). Never; opens = λ (k : ℕ). Never; alerts = λ (k : ℕ). Never; rows = λ (k : ℕ). empty_row; given = λ (k : ℕ). None; taken = λ (k : ℕ). None; longest = λ (k : ℕ). None }
+nothing_kept = record { held = λ (k : ℕ). None; waits = λ (k : ℕ). None; stands = λ (k : ℕ). Never; opens = λ (k : ℕ). Never; alerts = λ (k : ℕ). Never; rows = λ (k : ℕ). empty_row; given = λ (k : ℕ). None; taken = λ (k : ℕ). None; longest = λ (k : ℕ). None; latest = λ (k : ℕ). None }
 
 -- what is kept after the event at the place n
 abbrev pub kept_after : ℕ → Event → Kept → Kept
@@ -51,6 +54,7 @@ kept_after n e k = record {
   given = changed (turned_about (marks e).mutex) (origin_of n e) k.given;
   taken = changed (marks e).semaphore (origin_of n e) k.taken;
   longest = lengthened (marks e).mutex n k.held k.longest;
+  latest = changed (Begins e.thread.0) (origin_of n e) k.latest;
 }
 
 -- what is kept after these events
@@ -61,6 +65,23 @@ kept_since (e ∷ past) = kept_after (length past) e (kept_since past)
 -- the longest hold of the mutex m: one that is under way counts up to the event before n
 abbrev pub longest_in : Kept → ℕ → ℕ → Option Hold
 longest_in k n m = longer (k.longest m) (hold_to false (n - 1) (k.held m))
+
+-- it is so since the event `start` or a later one
+abbrev pub is_from : ℕ → Option Origin → Bool
+is_from start None = false
+is_from start (Some o) = nat_le start o.place
+
+-- the thread t had an event from the event `start` on
+abbrev pub has_run : Kept → ℕ → ℕ → Bool
+has_run k start t = is_from start (k.latest t)
+
+abbrev pub held_or : Option Origin → Bool → Bool
+held_or None b = b
+held_or (Some o) b = true
+
+-- the mutex m is held, or was given back from the event `start` on
+abbrev pub was_held : Kept → ℕ → ℕ → Bool
+was_held k start m = held_or (k.held m) (is_from start (k.given m))
 
 -- the events before, and then these, the latest first
 abbrev pub behind : List Event → List Event → List Event
@@ -99,4 +120,4 @@ let_on_by k Nobody = None
 
 -- what the tables say
 abbrev pub kept_of : Board → Kept
-kept_of b = record { held = entry_of b.held; waits = entry_of b.waits; stands = cause_of b.stands; opens = cause_of b.opens; alerts = cause_of b.alerts; rows = row_of b.rows; given = entry_of b.given; taken = entry_of b.taken; longest = longest_of b.longest }
+kept_of b = record { held = entry_of b.held; waits = entry_of b.waits; stands = cause_of b.stands; opens = cause_of b.opens; alerts = cause_of b.alerts; rows = row_of b.rows; given = entry_of b.given; taken = entry_of b.taken; longest = longest_of b.longest; latest = entry_of b.latest }

@@ -17,7 +17,7 @@ use Rattle.trace_board.specs.Marks.{marks}
 use Rattle.trace_board.specs.History.{origin_of}
 use Rattle.trace_board.specs.Rows.{lane_in}
 use Rattle.trace_board.specs.Holds.{held_for}
-use Rattle.trace_board.specs.Kept.{Kept, kept_after, kept_since, behind, let_on_by, longest_in}
+use Rattle.trace_board.specs.Kept.{Kept, kept_after, kept_since, behind, let_on_by, longest_in, has_run}
 
 -- the number of what a bar is of, and whether an event takes it or gives it back
 abbrev pub number_of : Bar → ℕ
@@ -78,6 +78,19 @@ IsHold n m h past = ((h.ended ≡ true) × IsGivenBack m h past) ⊎ ((h.ended �
 abbrev pub HoldsAreLongest : Type 0
 HoldsAreLongest =
     (past : List Event) (n m : ℕ) → MatchOption (longest_in (kept_since past) n m) ((h : Hold) → IsHold n m h past → ⊥) (λ h. IsHold n m h past × ((j : Hold) → IsHold n m j past → held_for j ≤ held_for h))
+
+-- an event of the thread t, from the event `start` on
+pub record HasEvent (t start : ℕ) (past : List Event) : Type 0 where
+  pub later : List Event
+  pub event : Event
+  pub earlier : List Event
+  pub split : past ≡ later ++ event ∷ earlier
+  pub by : event.thread.0 ≡ t
+  pub from : start ≤ length earlier
+
+-- A thread is told to have run since an event exactly where one of the events from that one on is its own.
+abbrev pub RunsAreSeen : Type 0
+RunsAreSeen = (past : List Event) (start t : ℕ) → (has_run (kept_since past) start t ≡ true → HasEvent t start past) × (HasEvent t start past → has_run (kept_since past) start t ≡ true)
 
 -- what an action of the thread t waits for, but for a mutex: to be out of its condition, the semaphore, or to be alerted
 abbrev pub awaited_by : ℕ → Action → Spec → Bool

@@ -1,16 +1,16 @@
 //! What is kept of the events before.
-ghost use Rattle.std.specs.Prelude.{◌≡◌};
-ghost use Rattle.trace_board.specs.Kept.{nothing_kept, kept_after, kept_of, came, let_on_by, IsNoted, IsNear};
+ghost use Rattle.std.specs.Prelude.{◌≡◌, ◌<◌};
+ghost use Rattle.trace_board.specs.Kept.{nothing_kept, kept_after, kept_of, came, let_on_by, is_from, has_run, was_held, IsNoted, IsNear};
 
 use crate::causes::{Cause, Causes};
-use crate::history::{Origin, Table, turned_about};
+use crate::history::{Origin, Table, Turn, turned_about};
 use crate::holds::Longest;
 use crate::marks::marks_of;
 use crate::rows::Rows;
 use larch_actions::Event;
 
 /// Since which event each mutex is held, each semaphore is taken and each thread waits, which event lets each thread go on, which lane each bar has,
-/// which event gave each mutex back, and for how long each mutex was held at the longest.
+/// which event gave each mutex back, for how long each mutex was held at the longest, and which is the latest event of each thread.
 #[derive(Drop)]
 pub struct Board {
     pub held: Table,
@@ -22,6 +22,7 @@ pub struct Board {
     pub given: Table,
     pub taken: Table,
     pub longest: Longest,
+    pub latest: Table,
 }
 
 /// What a thread goes on by: that it was taken out of its condition, that a semaphore is available, or that it is alerted.
@@ -44,6 +45,16 @@ fn event_of(cause: Cause) -> Option<Origin>
     }
 }
 
+// Whether it is so since the event `start` or a later one.
+fn is_from(start: u64, since: Option<Origin>) -> bool
+    ensures { result ≡ is_from start since }
+{
+    match since {
+        Some(o) => start <= o.place,
+        None => false,
+    }
+}
+
 impl Board {
     /// Nothing is held, and nobody waits.
     pub fn new() -> Board
@@ -58,6 +69,7 @@ impl Board {
         let given = Table::new();
         let taken = Table::new();
         let longest = Longest::new();
+        let latest = Table::new();
         Board {
             held,
             waits,
@@ -68,6 +80,7 @@ impl Board {
             given,
             taken,
             longest,
+            latest,
         }
     }
 
@@ -81,6 +94,25 @@ impl Board {
             Waker::Semaphore(s) => event_of(self.opens.at(s)),
             Waker::Alarm(t) => event_of(self.alerts.at(t)),
             Waker::Nobody => None,
+        }
+    }
+
+    /// Whether the thread had an event from the event `start` on.
+    pub fn has_run(&self, start: u64, t: u32) -> bool
+        requires { t < 64 }
+        ensures { result ≡ has_run (kept_of self.now) start t }
+    {
+        is_from(start, self.latest.at(t))
+    }
+
+    /// Whether the mutex is held, or was given back from the event `start` on.
+    pub fn was_held(&self, start: u64, m: u32) -> bool
+        requires { m < 64 }
+        ensures { result ≡ was_held (kept_of self.now) start m }
+    {
+        match self.held.at(m) {
+            Some(_) => true,
+            None => is_from(start, self.given.at(m)),
         }
     }
 
@@ -106,5 +138,6 @@ impl Board {
         self.alerts.note(marks.alert, by);
         self.given.note(turned_about(marks.mutex), by);
         self.taken.note(marks.semaphore, by);
+        self.latest.note(Turn::Begins(e.thread.0), by);
     }
 }

@@ -1,5 +1,5 @@
 //! Laws of what is kept.
-ghost use Rattle.trace_board.specs.Laws.{BarsAreHolds, BarsAreTakings, ArrowsAreCauses, LanesAreOwn, HoldsAreLongest};
+ghost use Rattle.trace_board.specs.Laws.{BarsAreHolds, BarsAreTakings, ArrowsAreCauses, LanesAreOwn, HoldsAreLongest, RunsAreSeen};
 
 /// A bar of a mutex goes on in a thread's row exactly while the state has the mutex held by this thread, from the event that took it.
 pub fn bars_are_holds()
@@ -25,4 +25,9 @@ pub fn lanes_are_own()
 /// What is told as the longest hold of a mutex is one of its holds, and none is longer.
 pub fn holds_are_longest()
     ensures { HoldsAreLongest }
+{}
+
+/// A thread is told to have run since an event exactly where one of the events from that one on is its own.
+pub fn runs_are_seen()
+    ensures { RunsAreSeen }
 {}

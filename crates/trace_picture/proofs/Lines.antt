@@ -11,6 +11,7 @@ use Rattle.trace_picture.specs.declared.view.View.{View}
 use Rattle.trace_picture.specs.Places.{height_of}
 use Rattle.trace_picture.specs.Shapes.{with_number, each_below}
 use Rattle.trace_picture.specs.Longest.{hold_end, hold_text, told_hold, line_place, hold_line, holds_text, holds_height}
+use Rattle.trace_picture.specs.Overview.{over_height, over_style}
 use Rattle.trace_picture.specs.Picture.{part_text, end_text}
 use Rattle.trace_picture.specs.Seen.{HasText, HoldsAreTold}
 
@@ -44,7 +45,7 @@ module _ (l : Layout) (v : View) (k : Kept) (n : ℕ) (note : List ℕ) (m : ℕ
   unfolding end_text
   lines_there = record {
     before = with_number (codes "<text x='44' y='") (low + 14) ++ (codes "'>" ++ note) ++ part_text v n ++ codes "</text>\n";
-    after = with_number (codes "<style>:root{height:") (low + 24 + holds_height l.mutexes) ++ codes "px}</style>\n</svg>\n";
+    after = with_number (codes "</g>\n<style>:root{height:") (low + 24 + holds_height l.mutexes + over_height l v n) ++ over_style l v n;
     text = refl;
   }
 

@@ -16,6 +16,7 @@ use Rattle.trace_board.specs.Rows.{lane_in}
 use Rattle.trace_picture.specs.Places.{in_view, column, is_open, band_top}
 use Rattle.trace_picture.specs.Shapes.{with_number, each_below, mark_text, object_if, failed_text, bar_text, taken_text, wait_text, row_text, number_text}
 use Rattle.trace_picture.specs.Arrows.{arrow_if, handed}
+use Rattle.trace_picture.specs.Overview.{column_text}
 
 -- the first event of the band in which the event n stands
 abbrev pub band_start : View → ℕ → ℕ
@@ -24,7 +25,7 @@ band_start v n = n - column v n
 -- a new band with its rows, where the event n begins one
 unfoldable pub opening : Layout → View → ℕ → List ℕ
 opening l v n =
-    if column v n == 0 then (with_number (codes "<g transform='translate(0 ") (band_top l ((n - v.first) / 100)) ++ codes ")'>\n") ++ each_below row_text l.threads else []
+    if column v n == 0 then (with_number (codes "<g id='b") ((n - v.first) / 100) ++ with_number (codes "' transform='translate(0 ") (band_top l ((n - v.first) / 100)) ++ codes ")'>\n") ++ each_below row_text l.threads else []
 
 -- the bar of a mutex in the band that begins at `start`, where it is held
 abbrev pub bar_if : ℕ → Bool → ℕ → (ℕ → Row) → ℕ → Option Origin → List ℕ
@@ -41,11 +42,11 @@ abbrev pub wait_if : ℕ → Bool → ℕ → Option Origin → List ℕ
 wait_if start ended to None = []
 wait_if start ended to (Some o) = wait_text start o ended to
 
--- the end of the band that begins at `start`, before the event `to`: the bars that go on
-unfoldable pub closing : Layout → Kept → ℕ → ℕ → List ℕ
-closing l k start to =
+-- the end of the band that begins at `start`, before the event `to`: the bars that go on, and its column of the overview
+unfoldable pub closing : Layout → View → Kept → ℕ → ℕ → List ℕ
+closing l v k start to =
     each_below (λ m. bar_if start false to k.rows m (k.held m)) l.mutexes ++ each_below (λ s. taken_if start false to k.rows s (k.taken s)) l.semaphores
-    ++ each_below (λ t. wait_if start false to (k.waits t)) l.threads ++ codes "</g>\n"
+    ++ each_below (λ t. wait_if start false to (k.waits t)) l.threads ++ codes "</g>\n" ++ column_text l k ((start - v.first) / 100) start to
 
 -- the bar that ends with the event n
 abbrev pub bar_ended : ℕ → ℕ → (ℕ → Row) → (ℕ → Option Origin) → Turn → List ℕ
@@ -66,7 +67,7 @@ wait_ended start n waits Stays = []
 
 -- the end of the band of the event n, where it is full or the part that is drawn ends
 unfoldable pub closing_after : Layout → View → Kept → ℕ → List ℕ
-closing_after l v k n = if is_open v (n + 1) then [] else closing l k (band_start v n) (n + 1)
+closing_after l v k n = if is_open v (n + 1) then [] else closing l v k (band_start v n) (n + 1)
 
 -- the bars that the event n ends
 abbrev pub bars_ended : View → Kept → ℕ → Event → List ℕ
@@ -89,4 +90,4 @@ step_text l v k n e =
 -- all that an event that fails adds, where it is drawn: it ends its band
 unfoldable pub failing_text : Layout → View → Kept → ℕ → Event → Broken → List ℕ
 failing_text l v k n e why =
-    if in_view v n then opening l v n ++ (number_text v n ++ failed_text v n e why) ++ closing l k (band_start v n) (n + 1) else []
+    if in_view v n then opening l v n ++ (number_text v n ++ failed_text v n e why) ++ closing l v k (band_start v n) (n + 1) else []

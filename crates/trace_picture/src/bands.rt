@@ -10,6 +10,7 @@ ghost use Rattle.trace_picture.specs.Shapes.{with_number, each_below, row_text, 
 ghost use Rattle.trace_picture.specs.Bands.{opening, bar_if, taken_if, wait_if, closing, bar_ended, taken_ended, wait_ended, closing_after, bars_ended, arrow_to, event_shapes, step_text, failing_text};
 
 use crate::arrows::{add_arrow_if, add_handed};
+use crate::overview::add_column;
 use crate::shapes::{
     add_bar, add_failed, add_label, add_mark, add_object_if, add_row, add_taken_bar, add_wait_bar,
 };
@@ -51,11 +52,12 @@ fn add_band(buf: &mut [u8], at: usize, layout: &Layout, band: u64) -> usize
     requires lawful { IsLawful layout.now }
     requires few { band < 2 ^ 42 }
     requires room { at + 100 ≤ length buf.old }
-    ensures text { take result buf.new ≡ take at buf.old ++ (with_number (codes "<g transform='translate(0 ")
+    ensures text { take result buf.new ≡ take at buf.old ++ (with_number (codes "<g id='b") band ++ with_number (codes "' transform='translate(0 ")
         (band_top layout.now band) ++ codes ")'>\n") }
     ensures near { result ≤ at + 100 }
 {
-    let at = add_with_number(buf, at, b"<g transform='translate(0 ", top_of(layout, band));
+    let at = add_with_number(buf, at, b"<g id='b", band);
+    let at = add_with_number(buf, at, b"' transform='translate(0 ", top_of(layout, band));
     add(buf, at, b")'>\n")
 }
 
@@ -215,15 +217,17 @@ pub fn add_closing(
     buf: &mut [u8],
     at: usize,
     layout: &Layout,
+    view: &View,
     board: &Board,
     start: u64,
     to: u64,
 ) -> usize
     requires lawful { IsLawful layout.now }
+    requires start { start < 2 ^ 42 }
     requires place { to < 2 ^ 42 }
-    requires room { at + 75000 ≤ length buf.old }
-    ensures text { take result buf.new ≡ take at buf.old ++ closing layout.now (kept_of board.now) start to }
-    ensures near { result ≤ at + 74900 }
+    requires room { at + 92000 ≤ length buf.old }
+    ensures text { take result buf.new ≡ take at buf.old ++ closing layout.now view.now (kept_of board.now) start to }
+    ensures near { result ≤ at + 91900 }
 {
     let at = add_bars(buf, at, layout.mutexes, &board.rows, &board.held, start, to);
     let at = add_takings(
@@ -236,7 +240,9 @@ pub fn add_closing(
         to,
     );
     let at = add_waits(buf, at, layout.threads, &board.waits, start, to);
-    add(buf, at, b"</g>\n")
+    let at = add(buf, at, b"</g>\n");
+    let band = start.saturating_sub(view.first) / 100;
+    add_column(buf, at, layout, board, band, start, to)
 }
 
 // Adds the end of a band after the event, where it is full or the part that is drawn ends.
@@ -251,15 +257,15 @@ fn add_closing_after(
 ) -> usize
     requires lawful { IsLawful layout.now }
     requires few { place < 2 ^ 41 }
-    requires room { at + 75000 ≤ length buf.old }
+    requires room { at + 92000 ≤ length buf.old }
     ensures text { take result buf.new ≡ take at buf.old ++ closing_after layout.now view.now (kept_of board.now) place }
-    ensures near { result ≤ at + 74900 }
+    ensures near { result ≤ at + 91900 }
 {
     if is_band_open(view, place + 1) {
         at
     } else {
         let start = place - column_of(view, place);
-        add_closing(buf, at, layout, board, start, place + 1)
+        add_closing(buf, at, layout, view, board, start, place + 1)
     }
 }
 
@@ -422,12 +428,12 @@ fn add_drawn(
     requires lawful { IsLawful layout.now }
     requires noted { IsNoted e.now }
     requires few { place < 2 ^ 41 }
-    requires room { at + 93000 ≤ length buf.old }
+    requires room { at + 110000 ≤ length buf.old }
     ensures text { take result buf.new ≡ take at buf.old ++
         (opening layout.now view.now place ++ event_shapes view.now (kept_of board.old) place e.now
         ++ closing_after layout.now view.now (kept_of board.new) place) }
     ensures kept { kept_of board.new ≡ kept_after place e.now (kept_of board.old) }
-    ensures near { result ≤ at + 93000 }
+    ensures near { result ≤ at + 110000 }
 {
     let at = add_opening(buf, at, layout, view, place);
     let at = add_event_shapes(buf, at, view, board, place, e);
@@ -449,10 +455,10 @@ pub fn add_step(
     requires lawful { IsLawful layout.now }
     requires named { HasNames layout.now e.now }
     requires few { place < 2 ^ 41 }
-    requires room { at + 93000 ≤ length buf.old }
+    requires room { at + 110000 ≤ length buf.old }
     ensures text { take result buf.new ≡ take at buf.old ++ step_text layout.now view.now (kept_of board.old) place e.now }
     ensures kept { kept_of board.new ≡ kept_after place e.now (kept_of board.old) }
-    ensures near { result ≤ at + 93000 }
+    ensures near { result ≤ at + 110000 }
 {
     if is_in_view(view, place) {
         add_drawn(buf, at, layout, view, board, place, e)
@@ -493,15 +499,15 @@ pub fn add_failing(
 ) -> usize
     requires lawful { IsLawful layout.now }
     requires few { place < 2 ^ 41 }
-    requires room { at + 93000 ≤ length buf.old }
+    requires room { at + 110000 ≤ length buf.old }
     ensures text { take result buf.new ≡ take at buf.old ++ failing_text layout.now view.now (kept_of board.now) place e.now why }
-    ensures near { result ≤ at + 93000 }
+    ensures near { result ≤ at + 110000 }
 {
     if is_in_view(view, place) {
         let at = add_opening(buf, at, layout, view, place);
         let at = add_failed_shapes(buf, at, view, place, e, why);
         let start = place - column_of(view, place);
-        add_closing(buf, at, layout, board, start, place + 1)
+        add_closing(buf, at, layout, view, board, start, place + 1)
     } else {
         at
     }

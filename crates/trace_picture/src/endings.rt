@@ -8,10 +8,12 @@ ghost use Rattle.trace_picture.specs.Places.{is_open, height_of};
 ghost use Rattle.trace_picture.specs.Shapes.{with_number, line_of, clause_word};
 ghost use Rattle.trace_picture.specs.Bands.{closing, band_start};
 ghost use Rattle.trace_picture.specs.Longest.{holds_text, holds_height};
+ghost use Rattle.trace_picture.specs.Overview.{over_height, over_style};
 ghost use Rattle.trace_picture.specs.Picture.{part_text, end_text, closing_if, ending, failed_note, failed_ending};
 
 use crate::bands::{add_closing, add_failing, top_of};
 use crate::longest::{add_holds, height_of_holds};
+use crate::overview::{add_over_style, height_of_overview};
 use crate::shapes::word_of;
 use crate::tags::{add_line, add_with_number};
 use crate::view::{View, column_of, count_bands, is_band_open};
@@ -42,13 +44,13 @@ pub fn add_last_closing(
 ) -> usize
     requires lawful { IsLawful layout.now }
     requires few { count < 2 ^ 42 }
-    requires room { at + 75000 ≤ length buf.old }
+    requires room { at + 92000 ≤ length buf.old }
     ensures text { take result buf.new ≡ take at buf.old ++ closing_if layout.now view.now (kept_of board.now) count }
-    ensures near { result ≤ at + 75000 }
+    ensures near { result ≤ at + 92000 }
 {
     if is_band_open(view, count) {
         let start = count - column_of(view, count);
-        add_closing(buf, at, layout, board, start, count)
+        add_closing(buf, at, layout, view, board, start, count)
     } else {
         at
     }
@@ -71,18 +73,27 @@ pub fn add_note_place(buf: &mut [u8], at: usize, layout: &Layout, view: &View, c
     )
 }
 
-// Adds the height, and the last tag.
-fn add_last_tags(buf: &mut [u8], at: usize, layout: &Layout, low: u64) -> usize
+// Adds the height, what shows the overview, and the last tag.
+fn add_last_tags(
+    buf: &mut [u8],
+    at: usize,
+    layout: &Layout,
+    view: &View,
+    count: u64,
+    low: u64,
+) -> usize
     requires lawful { IsLawful layout.now }
+    requires few { count < 2 ^ 42 }
     requires low { low < 2 ^ 60 }
-    requires room { at + 120 ≤ length buf.old }
-    ensures text { take result buf.new ≡ take at buf.old ++ (with_number (codes "<style>:root{height:")
-        (low + 24 + holds_height layout.now.mutexes) ++ codes "px}</style>\n</svg>\n") }
-    ensures near { result ≤ at + 120 }
+    requires room { at + 220 ≤ length buf.old }
+    ensures text { take result buf.new ≡ take at buf.old ++ (with_number (codes "</g>\n<style>:root{height:")
+        (low + 24 + holds_height layout.now.mutexes + over_height layout.now view.now count)
+        ++ over_style layout.now view.now count) }
+    ensures near { result ≤ at + 220 }
 {
-    let height = low + 24 + height_of_holds(layout);
-    let at = add_with_number(buf, at, b"<style>:root{height:", height);
-    add(buf, at, b"px}</style>\n</svg>\n")
+    let whole = low + 24 + height_of_holds(layout) + height_of_overview(layout, view, count);
+    let at = add_with_number(buf, at, b"</g>\n<style>:root{height:", whole);
+    add_over_style(buf, at, layout, view, count)
 }
 
 /// Adds the end of the note, the lines of the mutexes, and what follows them.
@@ -98,14 +109,15 @@ pub fn add_last_lines(
     requires few { count < 2 ^ 42 }
     requires room { at + 17000 ≤ length buf.old }
     ensures text { take result buf.new ≡ take at buf.old ++ (codes "</text>\n" ++ holds_text layout.now.mutexes (kept_of board.now) count
-        (height_of layout.now view.now count) ++ (with_number (codes "<style>:root{height:") (height_of layout.now view.now count + 24
-        + holds_height layout.now.mutexes) ++ codes "px}</style>\n</svg>\n")) }
+        (height_of layout.now view.now count) ++ (with_number (codes "</g>\n<style>:root{height:") (height_of layout.now view.now count + 24
+        + holds_height layout.now.mutexes + over_height layout.now view.now count)
+        ++ over_style layout.now view.now count)) }
     ensures near { result ≤ at + 17000 }
 {
     let low = height(layout, view, count);
     let at = add(buf, at, b"</text>\n");
     let at = add_holds(buf, at, layout.mutexes, board, count, low);
-    add_last_tags(buf, at, layout, low)
+    add_last_tags(buf, at, layout, view, count, low)
 }
 
 // Adds which events were drawn.
@@ -163,9 +175,9 @@ pub fn add_ending(
     requires lawful { IsLawful layout.now }
     requires few { count < 2 ^ 42 }
     requires short { length words.now ≤ 60 }
-    requires room { at + 93000 ≤ length buf.old }
+    requires room { at + 110000 ≤ length buf.old }
     ensures text { take result buf.new ≡ take at buf.old ++ ending layout.now view.now (kept_of board.now) count words.now }
-    ensures near { result ≤ at + 93000 }
+    ensures near { result ≤ at + 110000 }
 {
     let at = add_last_closing(buf, at, layout, view, board, count);
     add_end(buf, at, layout, view, board, count, words)
@@ -223,9 +235,9 @@ pub fn add_failed_ending(
 ) -> usize
     requires lawful { IsLawful layout.now }
     requires few { place < 2 ^ 41 }
-    requires room { at + 112000 ≤ length buf.old }
+    requires room { at + 130000 ≤ length buf.old }
     ensures text { take result buf.new ≡ take at buf.old ++ failed_ending layout.now view.now (kept_of board.now) place e.now why }
-    ensures near { result ≤ at + 112000 }
+    ensures near { result ≤ at + 130000 }
 {
     let at = add_failing(buf, at, layout, view, board, place, e, why);
     add_failed_end(buf, at, layout, view, board, place, e, why)
@@ -245,7 +257,7 @@ pub fn end_with<O: Sink>(
     requires lawful { IsLawful layout.now }
     requires few { count < 2 ^ 42 }
     requires short { length words.now ≤ 60 }
-    requires room { at + 93000 ≤ length buf.old }
+    requires room { at + 110000 ≤ length buf.old }
     ensures ok { OnOk result (Appends (O.held out.old) (O.held out.new)
         (take at buf.old ++ ending layout.now view.now (kept_of board.now) count words.now)) }
     ensures err { OnErr result (AppendsFront (O.held out.old) (O.held out.new)
@@ -270,7 +282,7 @@ pub fn end_failed<O: Sink>(
 ) -> Result<(), SinkFault>
     requires lawful { IsLawful layout.now }
     requires few { place < 2 ^ 41 }
-    requires room { at + 112000 ≤ length buf.old }
+    requires room { at + 130000 ≤ length buf.old }
     ensures ok { OnOk result (Appends (O.held out.old) (O.held out.new)
         (take at buf.old ++ failed_ending layout.now view.now (kept_of board.now) place e.now why)) }
     ensures err { OnErr result (AppendsFront (O.held out.old) (O.held out.new)

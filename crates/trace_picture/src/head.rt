@@ -3,7 +3,7 @@ ghost use Rattle.std.specs.Prelude.{◌≡◌, ◌+◌, ◌*◌, ◌≤◌, ◌+
 ghost use Rattle.larch_actions.specs.Layout.{IsLawful};
 ghost use Rattle.trace_picture.specs.Shapes.{each_below, painted_text};
 ghost use Rattle.trace_picture.specs.Legend.{entry_at};
-ghost use Rattle.trace_picture.specs.Picture.{style_text, pattern_text, other_words, head_text};
+ghost use Rattle.trace_picture.specs.Picture.{style_text, pattern_text, other_words, over_words, head_text};
 
 use crate::legend::add_entries;
 use crate::shapes::add_painted;
@@ -49,7 +49,7 @@ fn add_pattern(buf: &mut [u8], at: usize) -> usize
     let at = add(
         buf,
         at,
-        b".e{fill:#fff;stroke:#222;stroke-width:.6;stroke-dasharray:3 1}.b{fill:#bfe0f5;stroke:#222}.v{fill:#f5b8a0;stroke:#222}.f{fill:#222}.f+.i{fill:#fff}.o,.k,.g,.b,.v{stroke-width:.7}.a{fill:none;stroke:#a02c6b;stroke-width:1.2;marker-end:url(#a)}.l{fill:none;stroke:#888;stroke-width:.8}\n</style>\n",
+        b".u{display:none}.e{fill:#fff;stroke:#222;stroke-width:.6;stroke-dasharray:3 1}.b{fill:#bfe0f5;stroke:#222}.v{fill:#f5b8a0;stroke:#222}.f{fill:#222}.f+.i{fill:#fff}.o,.k,.g,.b,.v{stroke-width:.7}.a{fill:none;stroke:#a02c6b;stroke-width:1.2;marker-end:url(#a)}.l{fill:none;stroke:#888;stroke-width:.8}\n</style>\n",
     );
     let at = add(
         buf,
@@ -67,9 +67,9 @@ fn add_pattern(buf: &mut [u8], at: usize) -> usize
 // Adds what is no mark: a wait, the bars and the arrows.
 #[tactic(auto, unfolding(crate::specs::Picture::other_words))]
 fn add_other_words(buf: &mut [u8], at: usize) -> usize
-    requires { at + 800 ≤ length buf.old }
+    requires { at + 1000 ≤ length buf.old }
     ensures text { take result buf.new ≡ take at buf.old ++ other_words }
-    ensures near { result ≤ at + 800 }
+    ensures near { result ≤ at + 1000 }
 {
     let at = add(
         buf,
@@ -106,6 +106,20 @@ fn add_legend(buf: &mut [u8], at: usize) -> usize
     add_other_words(buf, at)
 }
 
+// Adds what may be moved down, and the words of the overview.
+#[tactic(auto, unfolding(crate::specs::Picture::over_words))]
+fn add_over_words(buf: &mut [u8], at: usize) -> usize
+    requires { at + 250 ≤ length buf.old }
+    ensures text { take result buf.new ≡ take at buf.old ++ over_words }
+    ensures near { result ≤ at + 250 }
+{
+    add(
+        buf,
+        at,
+        b"<g class='w'>\n<text class='u' x='44' y='-4'>Overview: a column for a hundred events, with the threads that had one and below them the mutexes that were held; it links to its band</text>\n",
+    )
+}
+
 /// Adds the head.
 #[tactic(auto, unfolding(crate::specs::Picture::head_text))]
 pub fn add_head(buf: &mut [u8], at: usize, layout: &Layout) -> usize
@@ -117,5 +131,6 @@ pub fn add_head(buf: &mut [u8], at: usize, layout: &Layout) -> usize
     let at = add_style(buf, at);
     let at = add_pattern(buf, at);
     let at = add_legend(buf, at);
-    add_swatches(buf, at, layout.mutexes)
+    let at = add_swatches(buf, at, layout.mutexes);
+    add_over_words(buf, at)
 }

@@ -17,6 +17,7 @@ pub mod laws;
 mod legend;
 mod longest;
 mod numbers;
+mod overview;
 mod rings;
 pub mod shapes;
 pub mod tags;

@@ -11,4 +11,5 @@ returns c = λ i. record {
   given = c.new-given.ensures i;
   taken = c.new-taken.ensures i;
   longest = c.new-longest.ensures i;
+  latest = c.new-latest.ensures i;
 }

@@ -35,5 +35,6 @@ returns c =
     let opens = c.note-6.ensures ∙ ap (λ m. moved m.avail (by m) (cause_of b.opens)) is in
     let alerts = c.note-7.ensures ∙ ap (λ m. moved m.alert (by m) (cause_of b.alerts)) is in
     let given = c.note-8.ensures ∙ ap (λ t. changed t (by c.marks_of-marks.result) (entry_of b.given)) c.turned_about.ensures ∙ ap (λ m. changed (turned_about m.mutex) (by m) (entry_of b.given)) is in
+    let latest = c.note-10.ensures ∙ ap (λ m. changed (Begins t) (by m) (entry_of b.latest)) is in
     let taken = c.note-9.ensures ∙ ap (λ m. changed m.semaphore (by m) (entry_of b.taken)) is in
-    λ i. record { held = held i; waits = waits i; stands = stands i; opens = opens i; alerts = alerts i; rows = rows i; given = given i; taken = taken i; longest = longest i }
+    λ i. record { held = held i; waits = waits i; stands = stands i; opens = opens i; alerts = alerts i; rows = rows i; given = given i; taken = taken i; longest = longest i; latest = latest i }

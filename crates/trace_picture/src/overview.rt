@@ -1,0 +1,186 @@
+//! The overview of a long trace: a column for each band, written into a buffer behind its first `at` bytes. Each call says where it ended.
+ghost use Rattle.std.specs.Prelude.{◌≡◌, ◌+◌, ◌-◌, ◌*◌, ◌/◌, ◌%◌, ◌<◌, ◌≤◌, ◌^◌, ◌++◌, length, take, codes};
+ghost use Rattle.larch_actions.specs.Layout.{IsLawful};
+ghost use Rattle.trace_board.specs.Kept.{kept_of};
+ghost use Rattle.trace_picture.specs.Shapes.{with_number, each_below, place_text};
+ghost use Rattle.trace_picture.specs.Overview.{columns_height, over_x, over_y, cell_text, ran_cell, held_cell, link_text, column_text, over_height, over_style};
+
+use crate::tags::{add_place, add_with_number};
+use crate::view::{View, count_bands};
+use larch_actions::Layout;
+use trace_board::board::Board;
+use trace_core::add;
+
+// How high a row of a hundred columns is.
+fn height_of_columns(layout: &Layout) -> u64
+    requires { IsLawful layout.now }
+    ensures height { result ≡ columns_height layout.now }
+    ensures small { result < 2 ^ 11 }
+{
+    4 * u64::from(layout.threads) + 4 * u64::from(layout.mutexes) + 24
+}
+
+// Adds a cell of a column.
+#[tactic(auto, unfolding(crate::specs::Overview::cell_text))]
+fn add_cell(buf: &mut [u8], at: usize, x: u64, y: u64) -> usize
+    requires { at + 90 ≤ length buf.old }
+    ensures text { take result buf.new ≡ take at buf.old ++ cell_text x y }
+    ensures near { result ≤ at + 90 }
+{
+    let at = add_place(buf, at, x, y);
+    add(buf, at, b"' width='11' height='3'/>\n")
+}
+
+// Adds the cell of a thread, where it had an event from the event `start` on.
+fn add_ran(buf: &mut [u8], at: usize, board: &Board, start: u64, x: u64, y: u64, t: u32) -> usize
+    requires few { t < 64 }
+    requires low { y < 2 ^ 60 }
+    requires room { at + 120 ≤ length buf.old }
+    ensures text { take result buf.new ≡ take at buf.old ++ ran_cell (kept_of board.now) start x y t }
+    ensures near { result ≤ at + 120 }
+{
+    if board.has_run(start, t) {
+        let at = add(buf, at, b"<rect class='f");
+        add_cell(buf, at, x, y + 4 * u64::from(t))
+    } else {
+        at
+    }
+}
+
+// Adds the cell of a mutex, where it was held from the event `start` on.
+fn add_held(buf: &mut [u8], at: usize, board: &Board, start: u64, x: u64, y: u64, m: u32) -> usize
+    requires few { m < 64 }
+    requires low { y < 2 ^ 60 }
+    requires room { at + 140 ≤ length buf.old }
+    ensures text { take result buf.new ≡ take at buf.old ++ held_cell (kept_of board.now) start x y m }
+    ensures near { result ≤ at + 140 }
+{
+    if board.was_held(start, m) {
+        let at = add_with_number(buf, at, b"<rect class='m", u64::from(m));
+        add_cell(buf, at, x, y + 4 * u64::from(m))
+    } else {
+        at
+    }
+}
+
+// Adds the cells of the threads.
+fn add_each_ran(
+    buf: &mut [u8],
+    at: usize,
+    board: &Board,
+    start: u64,
+    x: u64,
+    y: u64,
+    threads: u32,
+) -> usize
+    requires few { threads ≤ 64 }
+    requires low { y < 2 ^ 60 }
+    requires room { at + 120 * threads ≤ length buf.old }
+    ensures text { take result buf.new ≡ take at buf.old ++ each_below (ran_cell (kept_of board.now) start x y) threads }
+    ensures near { result ≤ at + 120 * threads }
+{
+    let mut last = at;
+    for t in 0..threads {
+        last = add_ran(buf, last, board, start, x, y, t);
+    }
+    last
+}
+
+// Adds the cells of the mutexes.
+fn add_each_held(
+    buf: &mut [u8],
+    at: usize,
+    board: &Board,
+    start: u64,
+    x: u64,
+    y: u64,
+    mutexes: u32,
+) -> usize
+    requires few { mutexes ≤ 64 }
+    requires low { y < 2 ^ 60 }
+    requires room { at + 140 * mutexes ≤ length buf.old }
+    ensures text { take result buf.new ≡ take at buf.old ++ each_below (held_cell (kept_of board.now) start x y) mutexes }
+    ensures near { result ≤ at + 140 * mutexes }
+{
+    let mut last = at;
+    for m in 0..mutexes {
+        last = add_held(buf, last, board, start, x, y, m);
+    }
+    last
+}
+
+// Adds the link of a column to its band.
+#[tactic(auto, unfolding(crate::specs::Overview::link_text))]
+fn add_link(buf: &mut [u8], at: usize, band: u64, start: u64, to: u64) -> usize
+    requires { at + 130 ≤ length buf.old }
+    ensures text { take result buf.new ≡ take at buf.old ++ link_text band start to }
+    ensures near { result ≤ at + 130 }
+{
+    let at = add_with_number(buf, at, b"<a class='u' href='#b", band);
+    let at = add_with_number(buf, at, b"'><title>events ", start);
+    let at = add_with_number(buf, at, b" to ", to.saturating_sub(1));
+    add(buf, at, b"</title>\n")
+}
+
+/// Adds the column of the band that begins at the event `start`, up to the event before `to`.
+pub fn add_column(
+    buf: &mut [u8],
+    at: usize,
+    layout: &Layout,
+    board: &Board,
+    band: u64,
+    start: u64,
+    to: u64,
+) -> usize
+    requires lawful { IsLawful layout.now }
+    requires few { band < 2 ^ 42 }
+    requires room { at + 17000 ≤ length buf.old }
+    ensures text { take result buf.new ≡ take at buf.old ++ column_text layout.now (kept_of board.now) band start to }
+    ensures near { result ≤ at + 17000 }
+{
+    let x = 44 + 12 * (band % 100);
+    let y = band / 100 * height_of_columns(layout);
+    let low = y + 4 * u64::from(layout.threads) + 4;
+    let at = add_link(buf, at, band, start, to);
+    let at = add_each_ran(buf, at, board, start, x, y, layout.threads);
+    let at = add_each_held(buf, at, board, start, x, low, layout.mutexes);
+    add(buf, at, b"</a>\n")
+}
+
+/// How much higher the overview makes the picture.
+pub fn height_of_overview(layout: &Layout, view: &View, count: u64) -> u64
+    requires lawful { IsLawful layout.now }
+    requires few { count < 2 ^ 42 }
+    ensures height { result ≡ over_height layout.now view.now count }
+    ensures small { result < 2 ^ 60 }
+{
+    let bands = count_bands(view, count);
+    if 10 < bands {
+        (bands + 99) / 100 * height_of_columns(layout) + 24
+    } else {
+        0
+    }
+}
+
+/// Adds what shows the overview and moves the rest down, and the last tag.
+pub fn add_over_style(buf: &mut [u8], at: usize, layout: &Layout, view: &View, count: u64) -> usize
+    requires lawful { IsLawful layout.now }
+    requires few { count < 2 ^ 42 }
+    requires room { at + 160 ≤ length buf.old }
+    ensures text { take result buf.new ≡ take at buf.old ++ over_style layout.now view.now count }
+    ensures near { result ≤ at + 160 }
+{
+    if 10 < count_bands(view, count) {
+        let height = height_of_overview(layout, view, count);
+        let at = add_with_number(buf, at, b"px}.w{transform:translate(0,", height);
+        let at = add_with_number(
+            buf,
+            at,
+            b"px)}.u{display:inline;transform:translate(0,calc(136px - ",
+            height,
+        );
+        add(buf, at, b"px))}</style>\n</svg>\n")
+    } else {
+        add(buf, at, b"px}</style>\n</svg>\n")
+    }
+}
