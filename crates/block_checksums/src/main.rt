@@ -22,9 +22,9 @@ const TEXT: &[u8] =
 /// How many blocks are to be timed, of how many bytes each, and by how many workers.
 #[derive(Clone, Copy)]
 struct Timed {
-    blocks: u32,
-    bytes: u32,
-    workers: u32,
+    blocks: u64,
+    bytes: u64,
+    workers: u64,
 }
 
 /// The number that a word says, up to the greatest one.
@@ -41,20 +41,23 @@ fn timed_in(words: &[String]) -> Option<Timed> {
     let bytes = number_in(words, 1, 1_000_000)?;
     let workers = number_in(words, 2, 8)?;
     Some(Timed {
-        blocks: blocks as u32,
-        bytes: bytes as u32,
-        workers: workers as u32,
+        blocks,
+        bytes,
+        workers,
     })
 }
 
 /// Prints the sum of the checksums of blocks that are all alike.
 fn time<R: Threads + Wait + Sync + Print>(rt: &R, alloc: Global, timed: Timed) -> io::Result<()> {
-    let bytes = vec![in alloc; 7u8; timed.bytes as usize]?;
+    let bytes = vec![in alloc; 7u8; timed.bytes.min(1_000_000) as usize]?;
     let mut blocks = Vec::new(alloc);
-    for _block in 0..timed.blocks.min(100_000) {
+    for _block in 0..timed.blocks {
         blocks.push(Block(&bytes))?;
     }
-    let sums = checksums(rt, alloc, timed.workers.max(1).min(8), blocks)?;
+    if blocks.len() > 100_000 {
+        return println!(rt; "too many blocks");
+    }
+    let sums = checksums(rt, alloc, timed.workers.max(1).min(8) as u32, blocks)?;
     let sum = sums.iter().fold(0u64, |sum, one| sum.wrapping_add(*one));
     println!(rt;
         "{} blocks have checksums of the sum {sum:016x}",
