@@ -123,7 +123,8 @@ fn pass_lot<R: Wait>(
     requires read { (o : Option Told) × AreRead o lot.old.files.items }
     requires share { (files : List Path) × (lost : Bool)
         × OfShare me.old (HasGathered p.now.world (lot_paths lot.old.files.items) kept.old.items files lost) }
-    ensures share { (files : List Path) (lost : Bool) → OfShare me.old (HasGathered p.now.world (lot_paths lot.old.files.items) kept.old.items files lost)
+    ensures share { (files : List Path) (lost : Bool)
+        → OfShare me.old (HasGathered p.now.world (lot_paths lot.old.files.items) kept.old.items files lost)
         → OfShare me.new (HasGathered p.now.world (lot_paths lot.new.files.items) kept.new.items files (lost || not result)) }
     ensures empty { IsTrue last → lot.new.files.items ≡ [] }
     ensures passed { (o : Option Told) (m : ℕ) → AreRead o lot.old.files.items → HasPassed o root.now p.now m lot.new.files.items kept.old.items
@@ -199,7 +200,8 @@ fn end_pieces<R: Wait>(
     requires read { (o : Option Told) × AreRead o lot.old.files.items }
     requires share { (files : List Path) × (lost : Bool)
         × OfShare me.old (HasGathered p.now.world (lot_paths lot.old.files.items) kept.old.items files lost) }
-    ensures share { (files : List Path) (lost : Bool) → OfShare me.old (HasGathered p.now.world (lot_paths lot.old.files.items) kept.old.items files lost)
+    ensures share { (files : List Path) (lost : Bool)
+        → OfShare me.old (HasGathered p.now.world (lot_paths lot.old.files.items) kept.old.items files lost)
         → OfShare me.new (HasGathered p.now.world [] kept.new.items files (lost || not result)) }
     ensures given { (o : Option Told) (m : ℕ) → AreRead o lot.old.files.items → HasGiven o root.now p.now m kept.old.items kept.new.items me.old
         me.new }
