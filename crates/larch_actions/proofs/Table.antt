@@ -2,7 +2,7 @@
 use Rattle.std.proofs.Common.{◌≡◌, ◌⊎◌, ℕ, ◌<◌, ◌≤◌, Bool, List, [], ◌∷◌, inl, inr, get_or, length, refl, true, false, sym, ◌∙◌, arith}
 use Rattle.std.specs.Prelude.{nat_lt, ◌&&◌}
 use Rattle.larch_actions.specs.declared.event.Action.{Action}
-use Rattle.larch_actions.specs.declared.event.Action.TheVariants.{Acquire, Release, Enqueue, Resume, AlertEnqueue, AlertReturn, AlertRaise, Signal, Broadcast, P, V, Alert, TestAlert, AlertPReturn, AlertPRaise}
+use Rattle.larch_actions.specs.declared.event.Action.TheVariants.{Acquire, Release, Enqueue, Resume, AlertEnqueue, AlertReturn, AlertRaise, Signal, Broadcast, P, V, Alert, TestAlert, AlertPReturn, AlertPRaise, Fork, End, Join}
 use Rattle.larch_actions.specs.declared.rows.Word.{Word}
 use Rattle.larch_actions.specs.declared.rows.Word.TheVariants as word
 use Rattle.larch_actions.specs.declared.rows.Numbers.{Numbers}
@@ -29,6 +29,9 @@ action_back (AlertReturn m c) = refl
 action_back (AlertRaise m c) = refl
 action_back (AlertPReturn s) = refl
 action_back (AlertPRaise s) = refl
+action_back (Fork t) = refl
+action_back End = refl
+action_back (Join t) = refl
 
 pub is_row : (a : Action) → IsRow (row_of a)
 is_row (Acquire m) = record { numbers = refl; ending = refl }
@@ -47,10 +50,16 @@ is_row (AlertReturn m c) = record { numbers = tt; ending = inl refl }
 is_row (AlertRaise m c) = record { numbers = tt; ending = inr refl }
 is_row (AlertPReturn s) = record { numbers = refl; ending = inl refl }
 is_row (AlertPRaise s) = record { numbers = refl; ending = inr refl }
+is_row (Fork t) = record { numbers = refl; ending = refl }
+is_row End = record { numbers = refl; ending = refl }
+is_row (Join t) = record { numbers = refl; ending = refl }
 
--- a row with one name, with two, and with either ending
+-- a row with one name, with none, and with no ending
 single : (w : Word) (x : Numbers) (e : Ending) → x.second ≡ 0 → row w (one x.first) e ≡ row w x e
 single w x e n = (λ i. row w (record { first = x.first; second = sym n i }) e)
+
+nameless : (w : Word) (x : Numbers) (e : Ending) → x ≡ none → row w none e ≡ row w x e
+nameless w x e n = (λ i. row w (sym n i) e)
 
 plain : (w : Word) (x : Numbers) (e : Ending) → e ≡ Nothing → row w x Nothing ≡ row w x e
 plain w x e h = (λ i. row w x (sym h i))
@@ -63,8 +72,8 @@ signal_back x (Left left) n h = single word.Signal x (Left left) n
 signal_back x _ n h = let k = h.1 in absurd (cc)
 
 answer_back : (x : Numbers) (e : Ending) → x ≡ none → IsEnding endings.Answer e → row_of (made word.TestAlert x e) ≡ row word.TestAlert x e
-answer_back x Yes n h = (λ i. row word.TestAlert (sym n i) Yes)
-answer_back x No n h = (λ i. row word.TestAlert (sym n i) No)
+answer_back x Yes n h = nameless word.TestAlert x Yes n
+answer_back x No n h = nameless word.TestAlert x No n
 answer_back x _ n h = neither _ Yes No (λ k. absurd (cc)) (λ k. absurd (cc)) h
 
 resume_back : (x : Numbers) (e : Ending) → IsEnding endings.Outcome e → row_of (made word.AlertResume x e) ≡ row word.AlertResume x e
@@ -91,6 +100,9 @@ row_back_of word.TestAlert x e n h = answer_back x e n h
 row_back_of word.AlertEnqueue x e n h = plain word.AlertEnqueue x e h
 row_back_of word.AlertResume x e n h = resume_back x e h
 row_back_of word.AlertP x e n h = take_back x e n h
+row_back_of word.Fork x e n h = single word.Fork x Nothing n ∙ plain word.Fork x e h
+row_back_of word.End x e n h = nameless word.End x Nothing n ∙ plain word.End x e h
+row_back_of word.Join x e n h = single word.Join x Nothing n ∙ plain word.Join x e h
 
 pub row_back : (r : Row) → IsRow r → row_of (action_of r) ≡ r
 row_back r h = row_back_of r.word r.numbers r.ending h.numbers h.ending
@@ -110,6 +122,9 @@ place_of word.TestAlert = 9
 place_of word.AlertEnqueue = 10
 place_of word.AlertResume = 11
 place_of word.AlertP = 12
+place_of word.Fork = 13
+place_of word.End = 14
+place_of word.Join = 15
 
 -- the word stands there
 abbrev pub IsThere : Word → Type 0
@@ -129,6 +144,9 @@ is_there word.TestAlert = (refl, omega arith)
 is_there word.AlertEnqueue = (refl, omega arith)
 is_there word.AlertResume = (refl, omega arith)
 is_there word.AlertP = (refl, omega arith)
+is_there word.Fork = (refl, omega arith)
+is_there word.End = (refl, omega arith)
+is_there word.Join = (refl, omega arith)
 
 -- none of the bytes is a space or a newline, by a test that computes
 abbrev pub is_plain : List ℕ → Bool
@@ -153,3 +171,6 @@ each_plain word.TestAlert = (omega arith, refl)
 each_plain word.AlertEnqueue = (omega arith, refl)
 each_plain word.AlertResume = (omega arith, refl)
 each_plain word.AlertP = (omega arith, refl)
+each_plain word.Fork = (omega arith, refl)
+each_plain word.End = (omega arith, refl)
+each_plain word.Join = (omega arith, refl)

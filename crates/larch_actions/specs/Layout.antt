@@ -1,5 +1,7 @@
 -- Layouts, names and which of them are lawful.
 use Rattle.std.specs.Prelude.{◌≡◌, ℕ, ◌<◌, ◌≤◌, true, List, ◌++◌, codes, decimal}
+use Rattle.larch_actions.specs.declared.event.Version.{Version}
+use Rattle.larch_actions.specs.declared.event.Version.TheVariants.{One, Two}
 use Rattle.larch_actions.specs.declared.event.Layout.{Layout}
 use Rattle.larch_actions.specs.declared.event.Event.{Event}
 use Rattle.larch_actions.specs.declared.event.Action.{Action}
@@ -13,23 +15,33 @@ use Rattle.larch_actions.specs.declared.rows.Endings.TheVariants.{Threads}
 use Rattle.larch_actions.specs.declared.rows.Ending.{Ending}
 use Rattle.larch_actions.specs.declared.rows.Row.{Row}
 use Rattle.larch_actions.specs.Sets.{in_set}
-use Rattle.larch_actions.specs.Rows.{kinds_of, endings_of, row_of, left_by}
+use Rattle.larch_actions.specs.Rows.{kinds_of, endings_of, since, row_of, left_by}
 
--- how many threads a layout has at most, and how many things of another kind
+-- how many threads there are at most in any version, and how many things of another kind
 abbrev pub most_threads : ℕ
-most_threads = 64
+most_threads = 256
 
 abbrev pub most_objects : ℕ
 most_objects = 64
 
--- the layout with these counts
-abbrev pub layout_of : ℕ → ℕ → ℕ → ℕ → Layout
-layout_of threads mutexes conditions semaphores = record { threads = threads; mutexes = mutexes; conditions = conditions; semaphores = semaphores }
+-- how many threads a layout of the version has at most
+abbrev pub most_in : Version → ℕ
+most_in One = 64
+most_in Two = 256
 
--- 1 to 64 threads, and 0 to 64 of each other kind
+-- the layout of the version with these counts
+abbrev pub layout_in : Version → ℕ → ℕ → ℕ → ℕ → Layout
+layout_in version threads mutexes conditions semaphores =
+    record { version = version; threads = threads; mutexes = mutexes; conditions = conditions; semaphores = semaphores }
+
+-- the one of version one
+abbrev pub layout_of : ℕ → ℕ → ℕ → ℕ → Layout
+layout_of = layout_in One
+
+-- 1 to 64 threads in version one and 1 to 256 in version two, and 0 to 64 of each other kind
 pub record IsLawful (l : Layout) : Type 0 where
   pub some : 1 ≤ l.threads
-  pub threads : l.threads ≤ most_threads
+  pub threads : l.threads ≤ most_in l.version
   pub mutexes : l.mutexes ≤ most_objects
   pub conditions : l.conditions ≤ most_objects
   pub semaphores : l.semaphores ≤ most_objects
@@ -59,15 +71,20 @@ abbrev pub FitsIn : Layout → Kinds → Numbers → Endings → Ending → Type
 FitsIn l ks x Threads e = AreBelow l ks x × ((t : ℕ) → in_set (left_by e) t ≡ true → t < l.threads)
 FitsIn l ks x _ e = AreBelow l ks x
 
--- each name in the row is below the count of its kind
-abbrev pub IsNamedRow : Layout → Row → Type 0
-IsNamedRow l r = FitsIn l (kinds_of r.word) r.numbers (endings_of r.word) r.ending
+-- so is it, and a word that came with version two stands in no other
+abbrev pub InVersion : Version → Version → Type 0 → Type 0
+InVersion One v A = A
+InVersion Two v A = (v ≡ Two) × A
 
--- each name in the action is below the count of its kind
+-- each name in the row is below the count of its kind, and the word is one of the version
+abbrev pub IsNamedRow : Layout → Row → Type 0
+IsNamedRow l r = InVersion (since r.word) l.version (FitsIn l (kinds_of r.word) r.numbers (endings_of r.word) r.ending)
+
+-- each name in the action is below the count of its kind, and the action is one of the version
 abbrev pub IsNamed : Layout → Action → Type 0
 IsNamed l a = IsNamedRow l (row_of a)
 
--- each name in the event is below the count of its kind
+-- each name in the event is below the count of its kind, and its action is one of the version
 abbrev pub HasNames : Layout → Event → Type 0
 HasNames l e = (e.thread.0 < l.threads) × IsNamed l e.action
 

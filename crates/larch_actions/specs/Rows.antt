@@ -1,7 +1,9 @@
 -- The table of actions: for each its word, the names behind the word, and its ending.
 use Rattle.std.specs.Prelude.{◌≡◌, ◌⊎◌, ℕ, Bool, true, false, List, [], ◌∷◌, codes, if◌then◌else◌}
+use Rattle.larch_actions.specs.declared.event.Version.{Version}
+use Rattle.larch_actions.specs.declared.event.Version.TheVariants as version
 use Rattle.larch_actions.specs.declared.event.Action.{Action}
-use Rattle.larch_actions.specs.declared.event.Action.TheVariants.{Acquire, Release, Enqueue, Resume, AlertEnqueue, AlertReturn, AlertRaise, Signal, Broadcast, P, V, Alert, TestAlert, AlertPReturn, AlertPRaise}
+use Rattle.larch_actions.specs.declared.event.Action.TheVariants.{Acquire, Release, Enqueue, Resume, AlertEnqueue, AlertReturn, AlertRaise, Signal, Broadcast, P, V, Alert, TestAlert, AlertPReturn, AlertPRaise, Fork, End, Join}
 use Rattle.larch_actions.specs.declared.rows.Word.{Word}
 use Rattle.larch_actions.specs.declared.rows.Word.TheVariants as word
 use Rattle.larch_actions.specs.declared.kind.Kind.TheVariants.{Mutex, Condition, Semaphore, Thread}
@@ -19,7 +21,7 @@ use Rattle.larch_actions.specs.Sets.{set_of}
 -- all words
 abbrev pub words : List Word
 words =
-    word.Acquire ∷ word.Release ∷ word.P ∷ word.V ∷ word.Enqueue ∷ word.Resume ∷ word.Signal ∷ word.Broadcast ∷ word.Alert ∷ word.TestAlert ∷ word.AlertEnqueue ∷ word.AlertResume ∷ word.AlertP ∷ []
+    word.Acquire ∷ word.Release ∷ word.P ∷ word.V ∷ word.Enqueue ∷ word.Resume ∷ word.Signal ∷ word.Broadcast ∷ word.Alert ∷ word.TestAlert ∷ word.AlertEnqueue ∷ word.AlertResume ∷ word.AlertP ∷ word.Fork ∷ word.End ∷ word.Join ∷ []
 
 -- a word as it is spelt
 abbrev pub word_text : Word → List ℕ
@@ -36,6 +38,16 @@ word_text word.TestAlert = codes "test-alert"
 word_text word.AlertEnqueue = codes "alert-enqueue"
 word_text word.AlertResume = codes "alert-resume"
 word_text word.AlertP = codes "alert-p"
+word_text word.Fork = codes "fork"
+word_text word.End = codes "end"
+word_text word.Join = codes "join"
+
+-- the version that it came with
+abbrev pub since : Word → Version
+since word.Fork = version.Two
+since word.End = version.Two
+since word.Join = version.Two
+since _ = version.One
 
 -- what the names behind it are
 abbrev pub kinds_of : Word → Kinds
@@ -52,6 +64,9 @@ kinds_of word.TestAlert = kinds.Nothing
 kinds_of word.AlertEnqueue = kinds.Two Mutex Condition
 kinds_of word.AlertResume = kinds.Two Mutex Condition
 kinds_of word.AlertP = kinds.One Semaphore
+kinds_of word.Fork = kinds.One Thread
+kinds_of word.End = kinds.Nothing
+kinds_of word.Join = kinds.One Thread
 
 -- which endings it may have
 abbrev pub endings_of : Word → Endings
@@ -94,6 +109,9 @@ row_of (AlertReturn m c) = row word.AlertResume (two m.0 c.0) Returns
 row_of (AlertRaise m c) = row word.AlertResume (two m.0 c.0) Raises
 row_of (AlertPReturn s) = row word.AlertP (one s.0) Returns
 row_of (AlertPRaise s) = row word.AlertP (one s.0) Raises
+row_of (Fork t) = row word.Fork (one t.0) Nothing
+row_of End = row word.End none Nothing
+row_of (Join t) = row word.Join (one t.0) Nothing
 
 -- what an ending says, where it is of that sort
 abbrev pub is_raised : Ending → Bool
@@ -123,6 +141,9 @@ made word.TestAlert x e = TestAlert (is_yes e)
 made word.AlertEnqueue x e = AlertEnqueue (record { 0 = x.first }) (record { 0 = x.second })
 made word.AlertResume x e = if is_raised e then AlertRaise (record { 0 = x.first }) (record { 0 = x.second }) else AlertReturn (record { 0 = x.first }) (record { 0 = x.second })
 made word.AlertP x e = if is_raised e then AlertPRaise (record { 0 = x.first }) else AlertPReturn (record { 0 = x.first })
+made word.Fork x e = Fork (record { 0 = x.first })
+made word.End x e = End
+made word.Join x e = Join (record { 0 = x.first })
 
 -- the action of a row
 abbrev pub action_of : Row → Action

@@ -1,20 +1,27 @@
 -- Sets of threads.
-use Rattle.std.specs.Prelude.{◌^◌, ℕ, Bool, true, false, cond, eqb, List, [], ◌∷◌}
+use Rattle.std.specs.Prelude.{◌-◌, ◌*◌, ◌/◌, ◌^◌, min, ℕ, Bool, true, false, cond, eqb, List, [], ◌∷◌, get_or, set}
 use Rattle.std.specs.Int.{bit_at}
 use Rattle.std.specs.Int.Bits.{bit_or}
 use Rattle.larch_actions.specs.declared.thread_set.ThreadSet.{ThreadSet}
 
+-- in which word the bit of the thread t stands, and where in it
+abbrev pub word_of : ℕ → ℕ
+word_of t = min (t / 64) 3
+
+abbrev pub bit_of : ℕ → ℕ
+bit_of t = t - 64 * word_of t
+
 -- the thread t is in the set
 abbrev pub in_set : ThreadSet → ℕ → Bool
-in_set s t = eqb (bit_at s.bits t) 1
+in_set s t = eqb (bit_at (get_or s.words (word_of t) 0) (bit_of t)) 1
 
-abbrev pub bits_of : List ℕ → ℕ
-bits_of [] = 0
-bits_of (x ∷ xs) = bit_or (2 ^ x) (bits_of xs)
+abbrev pub words_of : List ℕ → List ℕ
+words_of [] = 0 ∷ 0 ∷ 0 ∷ 0 ∷ []
+words_of (x ∷ xs) = set (words_of xs) (word_of x) (bit_or (2 ^ bit_of x) (get_or (words_of xs) (word_of x) 0))
 
 -- the set of the threads of the list
 abbrev pub set_of : List ℕ → ThreadSet
-set_of xs = record { bits = bits_of xs }
+set_of xs = record { words = words_of xs }
 
 -- t is in the list
 abbrev pub mem : ℕ → List ℕ → Bool

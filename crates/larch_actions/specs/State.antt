@@ -6,7 +6,13 @@ use Rattle.larch_actions.specs.declared.event.Layout.{Layout}
 use Rattle.larch_actions.specs.declared.event.Event.{Event}
 use Rattle.larch_actions.specs.declared.event.ThreadId.{ThreadId}
 use Rattle.larch_actions.specs.declared.event.Broken.{Broken}
+use Rattle.larch_actions.specs.declared.event.Version.{Version}
+use Rattle.larch_actions.specs.declared.event.Version.TheVariants.{One, Two}
+use Rattle.larch_actions.specs.declared.event.Life.{Life}
+use Rattle.larch_actions.specs.declared.event.Life.TheVariants.{Unborn, Live, Ended}
 use Rattle.larch_actions.specs.declared.event.Pending.{Pending}
+use Rattle.larch_actions.specs.declared.state.ThreadState.{ThreadState}
+use Rattle.larch_actions.specs.declared.state.ThreadState.TheVariants as thread
 use Rattle.larch_actions.specs.declared.event.Pending.TheVariants.{Nothing, Waiting, AlertWaiting}
 use Rattle.larch_actions.specs.declared.thread_set.ThreadSet.{ThreadSet}
 use Rattle.larch_actions.specs.Sets.{in_set}
@@ -19,7 +25,7 @@ pub record Moment : Type 0 where
   pub members : List ThreadSet
   pub available : List Bool
   pub alerts : ThreadSet
-  pub pending : List Pending
+  pub threads : List ThreadState
 
 -- the element at the place, as view shows it, and d past the end
 abbrev pub shown_at : {X Y : Type 0} → (X → Y) → Y → List X → ℕ → Y
@@ -32,6 +38,28 @@ abbrev pub holder_of : Option ThreadId → Optional ℕ
 holder_of None = none
 holder_of (Some t) = some t.0
 
+-- what a thread has begun, and its life
+abbrev pub pending_of : ThreadState → Pending
+pending_of (thread.Waiting m c) = Waiting m c
+pending_of (thread.AlertWaiting m c) = AlertWaiting m c
+pending_of _ = Nothing
+
+abbrev pub life_of : ThreadState → Life
+life_of thread.Unborn = Unborn
+life_of thread.Ended = Ended
+life_of _ = Live
+
+-- a thread that lives and has begun this
+abbrev pub begun : Pending → ThreadState
+begun Nothing = thread.Running
+begun (Waiting m c) = thread.Waiting m c
+begun (AlertWaiting m c) = thread.AlertWaiting m c
+
+-- the life of a thread that is past all that are kept
+abbrev pub life_beyond : Version → Life
+life_beyond One = Live
+life_beyond Two = Unborn
+
 -- the state of the specification that the lists show
 abbrev pub spec_of : Moment → Spec
 spec_of m = record {
@@ -39,8 +67,13 @@ spec_of m = record {
   members = shown_at in_set (λ _. false) m.members;
   avail = shown_at (λ b. b) true m.available;
   alerts = in_set m.alerts;
-  pending = shown_at (λ p. p) Nothing m.pending;
+  pending = shown_at pending_of Nothing m.threads;
+  life = shown_at life_of (life_beyond m.layout.version) m.threads;
 }
+
+-- the thread t lives and has begun this
+abbrev pub HasBegun : Spec → ℕ → Pending → Type 0
+HasBegun s t what = (s.life t ≡ Live) × (s.pending t ≡ what)
 
 -- the step of the event was made, or the event fails this clause first and the state is as before
 abbrev pub Answers : {X : Type 0} → Moment → Moment → Event → Result X Broken → Type 0

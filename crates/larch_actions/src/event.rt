@@ -3,16 +3,40 @@ ghost use Rattle.std.specs.Prelude.{◌≡◌, ◌↔◌, IsTrue};
 
 use crate::{Kind, ThreadSet};
 
-/// How many threads a lawful layout has at most.
-pub const MOST_THREADS: u32 = 64;
+/// How many threads there are at most, in any version.
+pub const MOST_THREADS: u32 = 256;
 
 /// How many mutexes, conditions or semaphores it has at most.
 pub const MOST_OBJECTS: u32 = 64;
 
-/// How many threads, mutexes, conditions and semaphores there are. A lawful layout has 1 to 64 threads and 0 to 64 of each
-/// other kind.
+/// Which actions there are. In version one all threads live from the first to the last. In version two thread 0 does at first,
+/// and each other one from its fork to its end.
+#[derive(Clone, Copy, Debug, PartialEq, Eq)]
+pub enum Version {
+    One,
+    Two,
+}
+
+impl Version {
+    ghost use Rattle.larch_actions.specs.Layout.{most_in};
+
+    /// How many threads a lawful layout of this version has at most.
+    #[inline(always)]
+    pub fn most_threads(self) -> u32
+        ensures { result ≡ most_in self }
+    {
+        match self {
+            Version::One => 64,
+            Version::Two => 256,
+        }
+    }
+}
+
+/// The version, and how many threads, mutexes, conditions and semaphores there are. A lawful layout has 1 to 64 threads in version
+/// one and 1 to 256 in version two, and 0 to 64 of each other kind.
 #[derive(Clone, Copy, Debug, PartialEq, Eq)]
 pub struct Layout {
+    pub version: Version,
     pub threads: u32,
     pub mutexes: u32,
     pub conditions: u32,
@@ -20,14 +44,29 @@ pub struct Layout {
 }
 
 impl Layout {
-    ghost use Rattle.larch_actions.specs.Layout.{IsLawful, count_of, layout_of};
+    ghost use Rattle.larch_actions.specs.Layout.{IsLawful, count_of, layout_in, layout_of};
 
-    /// The layout with these counts.
+    /// The layout of version one with these counts.
     #[inline(always)]
     pub fn of(threads: u32, mutexes: u32, conditions: u32, semaphores: u32) -> Layout
         ensures { result ≡ layout_of threads mutexes conditions semaphores }
     {
+        Layout::of_version(Version::One, threads, mutexes, conditions, semaphores)
+    }
+
+    /// The layout of this version with these counts.
+    #[inline(always)]
+    pub fn of_version(
+        version: Version,
+        threads: u32,
+        mutexes: u32,
+        conditions: u32,
+        semaphores: u32,
+    ) -> Layout
+        ensures { result ≡ layout_in version threads mutexes conditions semaphores }
+    {
         Layout {
+            version,
             threads,
             mutexes,
             conditions,
@@ -40,7 +79,7 @@ impl Layout {
         ensures { IsTrue result ↔ IsLawful self.now }
     {
         self.threads >= 1
-            && self.threads <= MOST_THREADS
+            && self.threads <= self.version.most_threads()
             && self.mutexes <= MOST_OBJECTS
             && self.conditions <= MOST_OBJECTS
             && self.semaphores <= MOST_OBJECTS
@@ -101,6 +140,12 @@ pub enum Action {
     TestAlert { yes: bool },
     AlertPReturn { sem: SemId },
     AlertPRaise { sem: SemId },
+    /// In version two alone, as the two below: the thread begins to live.
+    Fork { who: ThreadId },
+    /// The thread that makes it ends.
+    End,
+    /// With the thread whose end it waited for.
+    Join { who: ThreadId },
 }
 
 /// An action by a thread.
@@ -117,6 +162,14 @@ pub enum Broken {
     Requires,
     When,
     Ensures,
+}
+
+/// Whether a thread has been forked yet, and whether it has ended.
+#[derive(Clone, Copy, Debug, PartialEq, Eq)]
+pub enum Life {
+    Unborn,
+    Live,
+    Ended,
 }
 
 /// What a thread has begun: nothing, or a wait whose second part is to come.

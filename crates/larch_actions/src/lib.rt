@@ -12,8 +12,8 @@ mod state;
 mod thread_set;
 
 pub use event::{
-    Action, Broken, CondId, Event, Layout, MOST_OBJECTS, MOST_THREADS, MutexId, Pending, SemId,
-    ThreadId,
+    Action, Broken, CondId, Event, Layout, Life, MOST_OBJECTS, MOST_THREADS, MutexId, Pending,
+    SemId, ThreadId, Version,
 };
 pub use kind::Kind;
 pub use rows::{Ending, Endings, Kinds, Numbers, Row, WORDS, Word};

@@ -3,9 +3,9 @@
 //! A further action is a variant of `Action` and of `Word`, a row in each function here, in specs/Rows.antt and proofs/Table.antt, and what it
 //! asks and does in specs/Actions.antt. Which names are lawful, texts, their printing and their reading follow from the rows.
 ghost use Rattle.std.specs.Prelude.{◌≡◌, ◌≤◌, length, if◌then◌else◌};
-ghost use Rattle.larch_actions.specs.Rows.{word_text, kinds_of, endings_of, row, none, one, two, answer_of, row_of, is_raised, is_yes, left_by, action_of, IsRow};
+ghost use Rattle.larch_actions.specs.Rows.{word_text, since, kinds_of, endings_of, row, none, one, two, answer_of, row_of, is_raised, is_yes, left_by, action_of, IsRow};
 
-use crate::{Action, CondId, Kind, MutexId, SemId, ThreadId, ThreadSet};
+use crate::{Action, CondId, Kind, MutexId, SemId, ThreadId, ThreadSet, Version};
 
 /// The word of an action.
 #[derive(Clone, Copy)]
@@ -23,6 +23,9 @@ pub enum Word {
     AlertEnqueue,
     AlertResume,
     AlertP,
+    Fork,
+    End,
+    Join,
 }
 
 /// The numbers of the names behind a word, in order. Where fewer stand there, the others are 0.
@@ -72,7 +75,7 @@ pub struct Row {
 }
 
 /// All words.
-pub const WORDS: [Word; 13] = [
+pub const WORDS: [Word; 16] = [
     Word::Acquire,
     Word::Release,
     Word::P,
@@ -86,6 +89,9 @@ pub const WORDS: [Word; 13] = [
     Word::AlertEnqueue,
     Word::AlertResume,
     Word::AlertP,
+    Word::Fork,
+    Word::End,
+    Word::Join,
 ];
 
 impl Word {
@@ -109,6 +115,22 @@ impl Word {
             Word::AlertEnqueue => b"alert-enqueue",
             Word::AlertResume => b"alert-resume",
             Word::AlertP => b"alert-p",
+            Word::Fork => b"fork",
+            Word::End => b"end",
+            Word::Join => b"join",
+        }
+    }
+
+    /// The version that it came with: one, or two, whose traces alone have it.
+    #[inline(always)]
+    pub fn since(self) -> Version
+        ensures { result ≡ since self }
+    {
+        match self {
+            Word::Fork => Version::Two,
+            Word::End => Version::Two,
+            Word::Join => Version::Two,
+            _ => Version::One,
         }
     }
 
@@ -131,6 +153,9 @@ impl Word {
             Word::AlertEnqueue => Kinds::Two(Kind::Mutex, Kind::Condition),
             Word::AlertResume => Kinds::Two(Kind::Mutex, Kind::Condition),
             Word::AlertP => Kinds::One(Kind::Semaphore),
+            Word::Fork => Kinds::One(Kind::Thread),
+            Word::End => Kinds::Nothing,
+            Word::Join => Kinds::One(Kind::Thread),
         }
     }
 
@@ -178,20 +203,28 @@ fn wait(word: Word, mutex: MutexId, cond: CondId, ending: Ending) -> Row
     }
 }
 
-// The row of a test of the own alert.
+// A row with no name.
 #[inline(always)]
-fn answer(yes: bool) -> Row
-    ensures { result ≡ row Word.TestAlert none (answer_of yes) }
+fn nameless(word: Word, ending: Ending) -> Row
+    ensures { result ≡ row word none ending }
 {
     let numbers = Numbers {
         first: 0,
         second: 0,
     };
     Row {
-        word: Word::TestAlert,
+        word,
         numbers,
-        ending: if yes { Ending::Yes } else { Ending::No },
+        ending,
     }
+}
+
+// The answer to a test of the own alert.
+#[inline(always)]
+fn answer(yes: bool) -> Ending
+    ensures { result ≡ answer_of yes }
+{
+    if yes { Ending::Yes } else { Ending::No }
 }
 
 impl Action {
@@ -212,7 +245,7 @@ impl Action {
             Action::Signal { cond, left } => one(Word::Signal, cond.0, Ending::Left(left)),
             Action::Broadcast { cond } => one(Word::Broadcast, cond.0, Ending::Nothing),
             Action::Alert { who } => one(Word::Alert, who.0, Ending::Nothing),
-            Action::TestAlert { yes } => answer(yes),
+            Action::TestAlert { yes } => nameless(Word::TestAlert, answer(yes)),
             Action::AlertEnqueue { mutex, cond } => {
                 wait(Word::AlertEnqueue, mutex, cond, Ending::Nothing)
             }
@@ -224,6 +257,9 @@ impl Action {
             }
             Action::AlertPReturn { sem } => one(Word::AlertP, sem.0, Ending::Returns),
             Action::AlertPRaise { sem } => one(Word::AlertP, sem.0, Ending::Raises),
+            Action::Fork { who } => one(Word::Fork, who.0, Ending::Nothing),
+            Action::End => nameless(Word::End, Ending::Nothing),
+            Action::Join { who } => one(Word::Join, who.0, Ending::Nothing),
         }
     }
 }
@@ -322,6 +358,13 @@ impl Row {
             },
             Word::AlertResume => resumed(MutexId(first), CondId(second), raises(&self.ending)),
             Word::AlertP => taken(SemId(first), raises(&self.ending)),
+            Word::Fork => Action::Fork {
+                who: ThreadId(first),
+            },
+            Word::End => Action::End,
+            Word::Join => Action::Join {
+                who: ThreadId(first),
+            },
         }
     }
 }

@@ -3,13 +3,15 @@ ghost use Rattle.std.specs.Prelude.{◌≡◌, ◌<◌, ◌↔◌, IsTrue, OnOk,
 ghost use mathlib.Core.Option.{none, some};
 ghost use Rattle.larch_actions.specs.Layout.{IsLawful, HasNames};
 ghost use Rattle.larch_actions.specs.Sets.{in_set};
-ghost use Rattle.larch_actions.specs.Actions.{at_first, Acts, Fails, put, without_member};
-ghost use Rattle.larch_actions.specs.State.{Moment, spec_of, holder_of, Answers, held, waiting, alerted};
+ghost use Rattle.larch_actions.specs.Actions.{at_first, lives_at_first, Acts, Fails, put};
+ghost use Rattle.larch_actions.specs.State.{Moment, spec_of, shown_at, pending_of, life_of, life_beyond, Answers, held, waiting, alerted};
+ghost use Rattle.larch_actions.specs.declared.event.Life.TheVariants as Life;
+ghost use Rattle.larch_actions.specs.declared.event.Pending.TheVariants.{Nothing};
 
 mod parts;
 mod steps;
 
-use crate::{Action, Broken, Event, Layout, MutexId, Pending, ThreadId, ThreadSet};
+use crate::{Action, Broken, CondId, Event, Layout, MutexId, ThreadId, ThreadSet, Version};
 use std::marker::Model;
 
 /// How many mutexes are held, how many threads are between the two parts of a wait, and how many are alerted.
@@ -20,6 +22,17 @@ pub struct Totals {
     pub alerted: u64,
 }
 
+/// Where a thread stands: its life, and while it lives what it has begun. One word for both, so that one comparison decides the order.
+#[derive(Clone, Copy, PartialEq, Eq)]
+pub enum ThreadState {
+    Unborn,
+    /// It lives, and is in no wait.
+    Running,
+    Waiting { mutex: MutexId, cond: CondId },
+    AlertWaiting { mutex: MutexId, cond: CondId },
+    Ended,
+}
+
 /// The state of the specification for one layout.
 #[derive(Drop)]
 pub struct State {
@@ -28,7 +41,7 @@ pub struct State {
     members: [ThreadSet; 64],
     available: [bool; 64],
     alerts: ThreadSet,
-    pending: [Pending; 64],
+    threads: [ThreadState; 256],
 }
 
 impl Model for State {
@@ -43,18 +56,19 @@ impl Model for State {
       members = s.members;
       available = s.available;
       alerts = s.alerts;
-      pending = s.pending;
+      threads = s.threads;
     } };
 
     ghost invariant = { λ s. IsLawful s.layout };
 }
 
 impl State {
-    /// The first state: nothing is held, waited for or alerted, and each semaphore is available.
+    /// The first state: nothing is held, waited for or alerted, and each semaphore is available. In version one each thread lives, and
+    /// in version two thread 0 alone.
     pub fn new(layout: Layout) -> State
         requires { IsLawful layout }
         ensures layout { result.layout ≡ layout }
-        ensures first { spec_of result ≡ at_first }
+        ensures first { spec_of result ≡ at_first layout.version }
     {
         State {
             layout,
@@ -62,7 +76,7 @@ impl State {
             members: [ThreadSet::empty(); 64],
             available: [true; 64],
             alerts: ThreadSet::empty(),
-            pending: [Pending::Nothing; 64],
+            threads: first_threads(layout.version),
         }
     }
 
@@ -103,6 +117,9 @@ impl State {
             Action::TestAlert { yes } => self.test_alert(t, yes),
             Action::AlertPReturn { sem } => self.alert_p_return(t, sem),
             Action::AlertPRaise { sem } => self.alert_p_raise(t, sem),
+            Action::Fork { who } => self.fork(t, who),
+            Action::End => self.end(t),
+            Action::Join { who } => self.join(t, who),
         }
     }
 
@@ -136,7 +153,7 @@ impl State {
     {
         let mut count = 0;
         for t in 0..self.layout.threads {
-            if !self.has_begun(ThreadId(t), Pending::Nothing) {
+            if self.is_waiting(ThreadId(t)) {
                 count += 1;
             }
         }
@@ -154,4 +171,24 @@ impl State {
         }
         count
     }
+}
+
+// Where each thread stands at first.
+fn first_threads(version: Version) -> [ThreadState; 256]
+    ensures pending { shown_at pending_of Nothing result ≡ λ _. Nothing }
+    ensures life { shown_at life_of (life_beyond version) result ≡ lives_at_first version }
+{
+    match version {
+        Version::One => [ThreadState::Running; 256],
+        Version::Two => one_lives(),
+    }
+}
+
+fn one_lives() -> [ThreadState; 256]
+    ensures pending { shown_at pending_of Nothing result ≡ λ _. Nothing }
+    ensures life { shown_at life_of Life.Unborn result ≡ put (λ _. Life.Unborn) 0 Life.Live }
+{
+    let mut threads = [ThreadState::Unborn; 256];
+    threads[0] = ThreadState::Running;
+    threads
 }

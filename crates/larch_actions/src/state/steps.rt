@@ -8,15 +8,17 @@ ghost use Rattle.larch_actions.specs.Actions.{put, without_member};
 ghost use Rattle.larch_actions.specs.Layout.{most_objects, most_threads};
 ghost use Rattle.larch_actions.specs.State.{spec_of, Answers};
 ghost use Rattle.larch_actions.specs.declared.event.Action.{Action};
+ghost use Rattle.larch_actions.specs.declared.event.Life.TheVariants as Life;
 ghost use Rattle.larch_actions.specs.declared.event.Pending.TheVariants.{Nothing};
 
 use super::State;
-use crate::{Broken, CondId, MutexId, Pending, SemId, ThreadId, ThreadSet};
+use crate::{Broken, CondId, Life, MutexId, Pending, SemId, ThreadId, ThreadSet};
 
 impl State {
     // The first part of a wait: the thread gives the mutex back and goes into the condition.
     fn begin_wait(&mut self, t: ThreadId, mutex: MutexId, cond: CondId, what: Pending)
         requires thread { t.0 < most_threads }
+        requires live { (spec_of self.old).life t.0 ≡ Life.Live }
         requires mutex { mutex.0 < most_objects }
         requires cond { cond.0 < most_objects }
         ensures layout { self.new.layout ≡ self.old.layout }
@@ -37,6 +39,7 @@ impl State {
     // The second part of a wait, as far as all have it: the thread has the mutex again.
     fn end_wait(&mut self, t: ThreadId, mutex: MutexId)
         requires thread { t.0 < most_threads }
+        requires live { (spec_of self.old).life t.0 ≡ Life.Live }
         requires mutex { mutex.0 < most_objects }
         ensures layout { self.new.layout ≡ self.old.layout }
         ensures spec { spec_of self.new ≡
@@ -313,6 +316,49 @@ impl State {
             return Err(Broken::When);
         }
         self.clear_alert(t);
+        Ok(())
+    }
+
+    pub(super) fn fork(&mut self, t: ThreadId, who: ThreadId) -> Result<(), Broken>
+        requires thread { t.0 < most_threads }
+        requires who { who.0 < most_threads }
+        ensures { Answers self.old self.new (record { thread = t; action = Action.Fork who }) result }
+    {
+        if !self.has_begun(t, Pending::Nothing) {
+            return Err(Broken::Order);
+        }
+        if !self.is_unborn(who) {
+            return Err(Broken::Requires);
+        }
+        self.set_life(who, Life::Live);
+        Ok(())
+    }
+
+    pub(super) fn end(&mut self, t: ThreadId) -> Result<(), Broken>
+        requires { t.0 < most_threads }
+        ensures { Answers self.old self.new (record { thread = t; action = Action.End }) result }
+    {
+        if !self.has_begun(t, Pending::Nothing) {
+            return Err(Broken::Order);
+        }
+        if !self.holds_none(t) {
+            return Err(Broken::Requires);
+        }
+        self.set_life(t, Life::Ended);
+        Ok(())
+    }
+
+    pub(super) fn join(&mut self, t: ThreadId, who: ThreadId) -> Result<(), Broken>
+        requires thread { t.0 < most_threads }
+        requires who { who.0 < most_threads }
+        ensures { Answers self.old self.new (record { thread = t; action = Action.Join who }) result }
+    {
+        if !self.has_begun(t, Pending::Nothing) {
+            return Err(Broken::Order);
+        }
+        if !self.has_ended(who) {
+            return Err(Broken::When);
+        }
         Ok(())
     }
 }

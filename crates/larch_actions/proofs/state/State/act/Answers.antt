@@ -45,3 +45,12 @@ returns-in-AlertPReturn c = answers_at c.args.self.now c.alert_p_return.new.self
 
 pub returns-in-AlertPRaise : goal.returns-in-AlertPRaise
 returns-in-AlertPRaise c = answers_at c.args.self.now c.alert_p_raise.new.self c.args.e.now _ c.alert_p_raise.result c.in-AlertPRaise.is c.alert_p_raise.ensures
+
+pub returns-in-Fork : goal.returns-in-Fork
+returns-in-Fork c = answers_at c.args.self.now c.fork.new.self c.args.e.now _ c.fork.result c.in-Fork.is c.fork.ensures
+
+pub returns-in-End : goal.returns-in-End
+returns-in-End c = answers_at c.args.self.now c.end.new.self c.args.e.now _ c.end.result c.in-End.is c.end.ensures
+
+pub returns-in-Join : goal.returns-in-Join
+returns-in-Join c = answers_at c.args.self.now c.join.new.self c.args.e.now _ c.join.result c.in-Join.is c.join.ensures

@@ -13,3 +13,6 @@ returns-clause-spec c =
     c.set_pending.ensures.spec ∙ ap (λ (z : Spec). record z { pending = put z.pending c.args.t.0 c.args.what }) (c.set_holder.ensures.spec
     ∙ ap (λ (z : Spec). record z { holder = put z.holder c.args.mutex.0 none }) (c.set_members.ensures.spec
     ∙ ap (λ f. record s { members = put s.members c.args.cond.0 f }) more))
+
+pub set_pending-requires-clause-live : goal.set_pending-requires-clause-live
+set_pending-requires-clause-live c = ap (λ (z : Spec). z.life c.args.t.0) c.set_holder.ensures.spec ∙ (ap (λ (z : Spec). z.life c.args.t.0) c.set_members.ensures.spec ∙ c.requires.live)

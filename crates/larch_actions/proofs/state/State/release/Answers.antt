@@ -3,6 +3,6 @@ use Rattle.larch_actions.proofs.state.State.release.Goals as goal
 
 pub returns : goal.returns
 returns c = (
-  (record { order = search rules; requires_met = search rules; when_met = search rules; choice_met = search rules }, c.set_holder.ensures.spec),
+  (record { live = search rules; order = search rules; requires_met = search rules; when_met = search rules; choice_met = search rules }, c.set_holder.ensures.spec),
   c.set_holder.ensures.layout,
 )

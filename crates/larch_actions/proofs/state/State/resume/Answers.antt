@@ -3,6 +3,6 @@ use Rattle.larch_actions.proofs.state.State.resume.Goals as goal
 
 pub returns : goal.returns
 returns c = (
-  (record { order = search rules; requires_met = search rules; when_met = search rules; choice_met = search rules }, c.end_wait.ensures.spec),
+  (record { live = search rules; order = search rules; requires_met = search rules; when_met = search rules; choice_met = search rules }, c.end_wait.ensures.spec),
   c.end_wait.ensures.layout,
 )

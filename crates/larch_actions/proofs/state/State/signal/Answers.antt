@@ -8,6 +8,7 @@ pub returns : goal.returns
 returns c = (
   (
     record {
+      live = search rules;
       order = search rules;
       requires_met = search rules;
       when_met = search rules;

@@ -1,9 +1,10 @@
-use Rattle.std.proofs.Common.{rules}
-use Rattle.larch_actions.proofs.Sets.{in_set-insert, grows}
+use Rattle.std.proofs.Common.{rules, ap}
+use Rattle.larch_actions.specs.declared.thread_set.ThreadSet.{ThreadSet}
+use Rattle.larch_actions.proofs.Sets.{put_in, grows}
 use Rattle.larch_actions.proofs.thread_set.ThreadSet.insert.Goals as goal
 
 pub returns-clause-list : goal.returns-clause-list
-returns-clause-list c = λ xs e. grows c.args.self.now c.args.t.0 xs (search rules) e
+returns-clause-list c = λ xs e i. record { words = grows c.args.self.now.words c.args.t.0 (search rules) (search rules) xs (ap (λ (s : ThreadSet). s.words) e) i }
 
 pub returns-clause-members : goal.returns-clause-members
-returns-clause-members c = λ k. in_set-insert c.args.self.now.bits c.args.t.0 k (search rules)
+returns-clause-members c = λ k. put_in c.args.self.now.words c.args.t.0 (search rules) (search rules) k

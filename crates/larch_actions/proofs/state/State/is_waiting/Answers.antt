@@ -1,0 +1,8 @@
+use Rattle.std.proofs.Common.{rules}
+use Rattle.larch_actions.proofs.Shown.{waits-shown}
+use Rattle.larch_actions.specs.contracts.state.State.{the_view}
+use Rattle.larch_actions.specs.declared.state.ThreadState.TheVariants as thread
+use Rattle.larch_actions.proofs.state.State.is_waiting.Goals as goal
+
+pub returns : goal.returns
+returns c = rw (← c.self.view_is) (waits-shown (the_view c.self.inside) c.args.t.0 (search rules) thread.Unborn _ c.waits.ensures)
