@@ -1,6 +1,7 @@
 -- What is kept stays what the events nest.
 use Rattle.std.proofs.Common.{◌≡◌, ℕ, ◌+◌, ◌*◌, ◌<◌, ◌≤◌, ◌||◌, ◌⊎◌, Bool, true, false, cond, eqb, inl, inr, List, [], ◌∷◌, ◌++◌, length, refl, sym, ap, subst, ◌∙◌, arith, eq-eqb, ne_eqb}
 use mathlib.Core.Option.{Option, none, some, some-injective, some-ne-none}
+use Rattle.larch_actions.specs.declared.event.Version.{Version}
 use Rattle.larch_actions.specs.declared.event.Event.{Event}
 use Rattle.larch_actions.specs.Actions.{Spec, Acts, IsRun, acted, put, at_first}
 use Rattle.larch_actions.specs.State.{shown_at}
@@ -132,9 +133,9 @@ module _ (es : List Event) (now next : Spec) (e : Event) (a : Acts now e next) w
   next_holds h same u m = ap (λ (z : Spec). holds z u m) a.1 ∙ ap (λ (f : ℕ → Option ℕ). is_thread (f m) u) same
 
   -- an event that gets no mutex nests nothing
-  old_nests : (m n t p : ℕ) → got e.action ≡ none → IsRun es now → Nests (es ++ e ∷ []) m n t p → Nests es m n t p
-  old_nests m n t p idle run h =
-      elim (nests-either es now e m n t p run h) [
+  old_nests : (v : Version) (m n t p : ℕ) → got e.action ≡ none → IsRun v es now → Nests (es ++ e ∷ []) m n t p → Nests es m n t p
+  old_nests v m n t p idle run h =
+      elim (nests-either v es now e m n t p run h) [
         | inl old ↦ old
         | inr new ↦ absurd (some-ne-none n (sym new.gets ∙ idle))
       ]
@@ -142,12 +143,13 @@ module _ (es : List Event) (now next : Spec) (e : Event) (a : Acts now e next) w
   -- the event changes nothing of what is kept
   pub keeps : (k : Nestings) → got e.action ≡ none → (acted e.thread.0 now e.action).holder ≡ now.holder → IsKept es now k → IsKept (es ++ e ∷ []) next k
   keeps k idle same kept = record {
-    run = leads-push at_first now next es e kept.run a;
+    version = kept.version;
+    run = leads-push (at_first kept.version) now next es e kept.run a;
     held = λ t m. kept.held t m ∙ sym (next_holds now.holder same t m);
     held_low = kept.held_low;
     low = kept.low;
     nested = λ m n b. nests-more es e m n (first_thread k m n) (first_place k m n) (kept.nested m n b);
-    least = λ m n t p h. kept.least m n t p (old_nests m n t p idle kept.run h);
+    least = λ m n t p h. kept.least m n t p (old_nests kept.version m n t p idle kept.run h);
   }
 
   -- the event gives a mutex back
@@ -162,14 +164,15 @@ module _ (es : List Event) (now next : Spec) (e : Event) (a : Acts now e next) w
       let before : (m i : ℕ) → stands k' m i ≡ stands k m i = λ m i. ap (λ (l : List MutexSet). shown_at in_mutexes (λ _. false) l i m) g.outers in
       let thread : (m i : ℕ) → first_thread k' m i ≡ first_thread k m i = λ m i. ap (λ (l : List First). shown_at (λ (f : First). f.thread.0) 0 l (i * 64 + m)) g.firsts in
       let place : (m i : ℕ) → first_place k' m i ≡ first_place k m i = λ m i. ap (λ (l : List First). shown_at (λ (f : First). f.place) 0 l (i * 64 + m)) g.firsts in record {
-        run = leads-push at_first now next es e kept.run a;
+        version = kept.version;
+        run = leads-push (at_first kept.version) now next es e kept.run a;
         held = holding;
         held_low = λ u m is. kept.held_low u m (given_was (eqb t u) (eqb n m) (has_held k u m) (sym (g.held u m) ∙ is));
         low = λ m i b. kept.low m i (sym (before m i) ∙ b);
         nested = λ m i b.
             nests_at (es ++ e ∷ []) m i (first_thread k m i) (first_thread k' m i) (first_place k m i) (first_place k' m i) (thread m i) (place m i)
             (nests-more es e m i (first_thread k m i) (first_place k m i) (kept.nested m i (sym (before m i) ∙ b)));
-        least = λ m i u p h. let l = kept.least m i u p (old_nests m i u p idle kept.run h) in (before m i ∙ l.0, subst (λ z. z ≤ p) (sym (place m i)) l.1);
+        least = λ m i u p h. let l = kept.least m i u p (old_nests kept.version m i u p idle kept.run h) in (before m i ∙ l.0, subst (λ z. z ≤ p) (sym (place m i)) l.1);
       }
 
   -- the event gets a mutex
@@ -181,12 +184,13 @@ module _ (es : List Event) (now next : Spec) (e : Event) (a : Acts now e next) w
       g.held u m ∙ ap (λ b. cond (eqb t u) (cond (eqb n m) true b) b) (kept.held u m) ∙ sym (got_holds now t n u m free)
       ∙ sym (next_holds (put now.holder n (some t)) (got_after t now e.action n gets) u m)
       in record {
-        run = leads-push at_first now next es e kept.run a;
+        version = kept.version;
+        run = leads-push (at_first kept.version) now next es e kept.run a;
         held = holding;
         held_low = got_low k k' t n (length es) small g kept.held_low;
         low = λ m i b. stood k k' t n (length es) g m i b (kept.low m i) (λ same new h. kept.held_low t m h);
         nested = λ m i b. stood k k' t n (length es) g m i b (got_old k k' n g kept m i) (got_new k k' n gets g kept m i);
-        least = λ m i u p h. elim (nests-either es now e m i u p kept.run h) [
+        least = λ m i u p h. elim (nests-either kept.version es now e m i u p kept.run h) [
           | inl old ↦
               let l = kept.least m i u p old in
               let s = g.stays m i (kept.low m i l.0) l.0 in
@@ -208,7 +212,7 @@ module _ (es : List Event) (now next : Spec) (e : Event) (a : Acts now e next) w
           let mine : now.holder m ≡ some e.thread.0 = holder_is now e.thread.0 m (sym (kept.held e.thread.0 m) ∙ h) in
           subst (λ z. Nests (es ++ e ∷ []) m z (first_thread k' m z) (first_place k' m z)) same
           (nests_at (es ++ e ∷ []) m n e.thread.0 (first_thread k' m n) (length es) (first_place k' m n) s.0 s.1
-          (nests-now es now e m n e.thread.0 (length es) kept.run (record { counted = refl; actor = refl; gets = gets; holds = mine })))
+          (nests-now kept.version es now e m n e.thread.0 (length es) kept.run (record { counted = refl; actor = refl; gets = gets; holds = mine })))
 
       got_least : (k k' : Nestings) (n : ℕ) → got e.action ≡ some n → HasGot k e.thread.0 n (length es) k' → IsKept es now k → (m i u p : ℕ) → NestsNow es now e m i u p → Before k' m i × (first_place k' m i ≤ p)
       got_least k k' n gets g kept m i u p new =

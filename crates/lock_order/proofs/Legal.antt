@@ -1,16 +1,15 @@
 -- Answers on legal traces, and that one answer is just.
-use Rattle.std.proofs.Common.{◌≡◌, ◌≢◌, ℕ, ◌+◌, ◌-◌, ◌^◌, ◌<◌, List, [], ◌∷◌, ◌++◌, length, length-append, refl, ap, sym, subst, ◌∙◌, append_assoc, append-nil, Some, arith}
+use Rattle.std.proofs.Common.{◌≡◌, ◌≢◌, ℕ, ◌-◌, ◌^◌, ◌<◌, List, length, refl, ap, sym, subst, ◌∙◌, Some}
 use Rattle.std.specs.declared.option.Option.{Option}
 use Rattle.larch_actions.specs.declared.event.Event.{Event}
 use Rattle.larch_actions.specs.State.{held, waiting, alerted}
-use Rattle.trace_core.specs.Text.{first_line, layout_line, end_line, values_text}
-use Rattle.trace_core.specs.Whole.{event_lines}
 use Rattle.trace_check.specs.declared.checker.Summary.{Summary}
 use Rattle.trace_check.specs.declared.checker.Verdict.{Verdict}
 use Rattle.trace_check.specs.declared.checker.Verdict.TheVariants as verdict
-use Rattle.trace_check.specs.Verdicts.{front_text, IsJust, IsLegalText}
-use Rattle.trace_check.proofs.Fronts.{same_front, rest_text-split, length-front_text}
-use Rattle.trace_check.proofs.Unique.{one_verdict}
+use Rattle.trace_check.specs.Verdicts.{IsJust, IsLegalText}
+use Rattle.trace_check.proofs.Alike.{plain_all, length-plain_all}
+use Rattle.trace_check.proofs.Unique.{one_verdict, made_legal, legal_events}
+use Rattle.lock_order.proofs.Alike.{cycle_plain, cycle_back}
 use Rattle.lock_order.specs.declared.answer.OrderAnswer.{OrderAnswer}
 use Rattle.lock_order.specs.declared.answer.OrderAnswer.TheVariants.{NoCycle, Found, Illegal, BadLine, TooLong, ReadFault}
 use Rattle.lock_order.specs.Order.{HasCycle}
@@ -35,29 +34,22 @@ summary_of budget bytes es t =
       refl,
     )
 
--- the text is its head, the lines of its events, and the rest
-parts : (bytes : List ℕ) (es : List Event) (budget : ℕ) → (t : IsLegalTrace budget bytes es) → bytes ≡ front_text t.layout es ++ (end_line (length es) ++ values_text t.values)
-parts bytes es budget t =
-    let z : 0 + length es ≡ length es = omega arith in
-    t.text.text ∙ ap (λ x. first_line ++ layout_line t.layout ++ x) (rest_text-split 0 es t.values ∙ ap (λ n. event_lines 0 es ++ (end_line n ++ values_text t.values)) z)
-    ∙ sym (append_assoc (first_line ++ layout_line t.layout) (event_lines 0 es) (end_line (length es) ++ values_text t.values))
-
-no_tail : (xs tail ys : List Event) → ys ≡ xs ++ tail → length ys ≡ length xs → ys ≡ xs
-no_tail xs [] ys e same = e ∙ append-nil xs
-no_tail xs (x ∷ tail) ys e same = absurd (omega (arith, ap length e, length-append xs (x ∷ tail)))
-
--- a legal trace has one list of events
-same_events : (budget : ℕ) (bytes : List ℕ) (es ds : List Event) → budget < 2 ^ 64 - 1 → IsLegalTrace budget bytes es → IsLegalTrace budget bytes ds → es ≡ ds
+-- a legal trace has one list of events, but for how their sets of threads are kept
+same_events : (budget : ℕ) (bytes : List ℕ) (es ds : List Event) → budget < 2 ^ 64 - 1 → IsLegalTrace budget bytes es → IsLegalTrace budget bytes ds → plain_all es ≡ plain_all ds
+unfolding summary_of
 same_events budget bytes es ds fits t u =
     let s = summary_of budget bytes es t in
     let r = summary_of budget bytes ds u in
-    let one = one_verdict budget bytes (Some bytes) (Some bytes) 0 0 0 0 (verdict.Legal s.0) (verdict.Legal r.0) fits (λ e. cc) (λ e. cc) s.1 r.1 in
-    let same : s.0 ≡ r.0 = cc in
-    let long : length es ≡ length ds = sym s.2 ∙ ap (λ (x : Summary). x.events) same ∙ r.2 in
-    let text = parts bytes es budget t in
-    let few : length es < 2 ^ 64 - 1 = omega (arith, length-front_text t.layout es, ap length text, length-append (front_text t.layout es) (end_line (length es) ++ values_text t.values), t.within) in
-    let f = same_front u.layout t.layout ds es (end_line (length ds) ++ values_text u.values) (end_line (length es) ++ values_text t.values) u.text.lawful t.text.lawful few u.text.named t.text.named (omega arith) (sym (parts bytes ds budget u) ∙ text) in
-    no_tail ds f.1.0 es f.1.1 long
+    let (i, own, made) = made_legal budget bytes s.0 s.1 in
+    let (j, own', made') = made_legal budget bytes r.0 r.1 in
+    sym made ∙ (legal_events budget bytes s.0 r.0 fits i own j own').1 ∙ made'
+
+same_length : (budget : ℕ) (bytes : List ℕ) (es ds : List Event) → budget < 2 ^ 64 - 1 → IsLegalTrace budget bytes es → IsLegalTrace budget bytes ds → length es ≡ length ds
+same_length budget bytes es ds fits t u = sym (length-plain_all es) ∙ ap length (same_events budget bytes es ds fits t u) ∙ length-plain_all ds
+
+same_cycles : (budget : ℕ) (bytes : List ℕ) (es ds : List Event) → budget < 2 ^ 64 - 1 → IsLegalTrace budget bytes es → IsLegalTrace budget bytes ds → HasCycle es → HasCycle ds
+same_cycles budget bytes es ds fits t u c =
+    cycle_back u.layout u.text.lawful ds u.text.named (subst HasCycle (same_events budget bytes es ds fits t u) (cycle_plain t.layout t.text.lawful es t.text.named c))
 
 -- a legal trace is no input for another verdict
 not_legal : (budget : ℕ) (bytes : List ℕ) (left' : Option (List ℕ)) (before now : ℕ) (es : List Event) (v : Verdict) → budget < 2 ^ 64 - 1 → IsLegalTrace budget bytes es
@@ -77,12 +69,12 @@ other_same budget bytes left' before now v w fits x y h k = one_verdict budget b
 
 pub one_answer : (budget : ℕ) (bytes : List ℕ) (left' : Option (List ℕ)) (before now : ℕ) (a b : OrderAnswer) → budget < 2 ^ 64 - 1 → a ≢ ReadFault → b ≢ ReadFault
     → IsJustAnswer budget (Some bytes) left' before now a → IsJustAnswer budget (Some bytes) left' before now b → Agree a b
-one_answer budget bytes left' before now (NoCycle m) (NoCycle n) fits x y h k = ap NoCycle (h.2 ∙ ap length (same_events budget bytes h.0 k.0 fits h.1 k.1) ∙ sym k.2)
-one_answer budget bytes left' before now (NoCycle m) (Found d) fits x y h k = absurd (h.3 (subst HasCycle (sym (same_events budget bytes h.0 k.0 fits h.1 k.1)) (tells_cycle k.0 d k.2)))
+one_answer budget bytes left' before now (NoCycle m) (NoCycle n) fits x y h k = ap NoCycle (h.2 ∙ same_length budget bytes h.0 k.0 fits h.1 k.1 ∙ sym k.2)
+one_answer budget bytes left' before now (NoCycle m) (Found d) fits x y h k = absurd (h.3 (same_cycles budget bytes k.0 h.0 fits k.1 h.1 (tells_cycle k.0 d k.2)))
 one_answer budget bytes left' before now (NoCycle m) (Illegal q w) fits x y h k = none_legal budget bytes left' before now h.0 (verdict.Illegal q w) fits h.1 (λ e. cc) (λ s e. cc) k
 one_answer budget bytes left' before now (NoCycle m) (BadLine j) fits x y h k = none_legal budget bytes left' before now h.0 (verdict.BadLine j) fits h.1 (λ e. cc) (λ s e. cc) k
 one_answer budget bytes left' before now (NoCycle m) TooLong fits x y h k = none_legal budget bytes left' before now h.0 verdict.TooLong fits h.1 (λ e. cc) (λ s e. cc) k
-one_answer budget bytes left' before now (Found c) (NoCycle n) fits x y h k = absurd (k.3 (subst HasCycle (same_events budget bytes h.0 k.0 fits h.1 k.1) (tells_cycle h.0 c h.2)))
+one_answer budget bytes left' before now (Found c) (NoCycle n) fits x y h k = absurd (k.3 (same_cycles budget bytes h.0 k.0 fits h.1 k.1 (tells_cycle h.0 c h.2)))
 one_answer budget bytes left' before now (Found c) (Found d) fits x y h k = tt
 one_answer budget bytes left' before now (Found c) (Illegal q w) fits x y h k = none_legal budget bytes left' before now h.0 (verdict.Illegal q w) fits h.1 (λ e. cc) (λ s e. cc) k
 one_answer budget bytes left' before now (Found c) (BadLine j) fits x y h k = none_legal budget bytes left' before now h.0 (verdict.BadLine j) fits h.1 (λ e. cc) (λ s e. cc) k

@@ -8,5 +8,6 @@ pub mod Events
 pub mod Keeping
 pub mod Tables
 pub mod Peeling
+pub mod Alike
 pub mod Legal
 pub mod Reading

@@ -124,10 +124,10 @@ ring-map : (R S : ℕ → ℕ → Type 0) → ((m n : ℕ) → R m n → S m n) 
 ring-map R S f [] c = tt
 ring-map R S f (m ∷ ms) c = chain-map R S f (m ∷ ms) m c
 
+-- a cycle stays one where the same mutexes stand before others
+pub cycle-map : (R S : ℕ → ℕ → Type 0) → ((m n : ℕ) → R m n → S m n) → (ms : List ℕ) → IsCycle R ms → IsCycle S ms
+cycle-map R S f ms c = record { two = c.two; distinct = c.distinct; ring = ring-map R S f ms c.ring }
+
 -- a cycle of the events is one of what is kept
 pub kept_cycle : (es : List Event) (now : Spec) (k : Nestings) (ms : List ℕ) → IsKept es now k → IsCycle (StandsBefore es) ms → IsCycle (Before k) ms
-kept_cycle es now k ms kept c = record {
-  two = c.two;
-  distinct = c.distinct;
-  ring = ring-map (StandsBefore es) (Before k) (λ m n s. (kept.least m n s.0 s.1 s.2).0) ms c.ring;
-}
+kept_cycle es now k ms kept c = cycle-map (StandsBefore es) (Before k) (λ m n s. (kept.least m n s.0 s.1 s.2).0) ms c

@@ -2,7 +2,10 @@
 use Rattle.std.proofs.Common.{◌≡◌, ℕ, ◌+◌, ◌-◌, ◌^◌, ◌<◌, ◌≤◌, List, [], ◌∷◌, ◌++◌, length, refl, sym, subst, Some, None, arith, Bool, true}
 use Rattle.std.specs.declared.option.Option.{Option}
 use mathlib.Core.Option.{some, some-injective, some-ne-none}
+use Rattle.larch_actions.specs.declared.event.Version.{Version}
 use Rattle.larch_actions.specs.declared.event.Layout.{Layout}
+use Rattle.larch_actions.specs.declared.kind.Kind.TheVariants.{Thread}
+use Rattle.larch_actions.proofs.Names.{few_of}
 use Rattle.larch_actions.specs.declared.event.Event.{Event}
 use Rattle.larch_actions.specs.declared.event.Action.{Action}
 use Rattle.larch_actions.specs.declared.event.Action.TheVariants.{Acquire, Release, Enqueue, Resume, AlertEnqueue, AlertReturn, AlertRaise}
@@ -28,11 +31,11 @@ pub record IsNoting (budget : ℕ) (left₀ : Option (List ℕ)) (before : ℕ) 
   pub kept : on ≡ true → IsKept under_way.events (spec_of m) k
 
 pub noting_starts : (budget : ℕ) (left₀ : Option (List ℕ)) (before now : ℕ) (p p' : Standing) (l : Layout) (m : Moment) (on : Bool) (k : Nestings)
-    → p.rest ≡ left₀ → p.room ≡ budget → p.lines ≡ 0 → TakesHead p p' l → before ≤ now → m.layout ≡ l → spec_of m ≡ at_first → IsKept [] at_first k → IsNoting budget left₀ before p' now m 0 on k
+    → p.rest ≡ left₀ → p.room ≡ budget → p.lines ≡ 0 → TakesHead p p' l → before ≤ now → m.layout ≡ l → spec_of m ≡ at_first l.version → ((v : Version) → IsKept [] (at_first v) k) → IsNoting budget left₀ before p' now m 0 on k
 unfolding starts_on
 noting_starts budget left₀ before now p p' l m on k rest room lines t le laid first kept = record {
   under_way = starts_on budget left₀ before now p p' l m rest room lines t le laid first;
-  kept = λ e. subst (λ (z : Spec). IsKept [] z k) (sym first) kept;
+  kept = λ e. subst (λ (z : Spec). IsKept [] z k) (sym first) (kept l.version);
 }
 
 pub noting_goes : (budget : ℕ) (left₀ : Option (List ℕ)) (before now now' : ℕ) (p p' : Standing) (m m' : Moment) (count : ℕ) (e : Event) (on : Bool) (k k' : Nestings) → budget < 2 ^ 64 - 1
@@ -83,7 +86,7 @@ named_given l _ m h e = absurd (some-ne-none m (sym e))
 -- lawful names have a place in the tables
 pub has_place : (l : Layout) (e : Event) → IsLawful l → HasNames l e → HasPlace e
 has_place l e ok named =
-    let t = ok.threads in
+    let t = few_of l ok Thread in
     let m = ok.mutexes in
     let thread = named.0 in record {
       thread = omega arith;

@@ -1,5 +1,6 @@
 -- The tables of what is kept.
 use Rattle.std.proofs.Common.{◌≡◌, ◌≢◌, ℕ, ◌+◌, ◌*◌, ◌<◌, ◌||◌, ◌&&◌, not, Bool, true, false, cond, eqb, inl, inr, List, [], ◌∷◌, length, length-append, get_or, set, replicate, refl, sym, ap, subst, ◌∙◌, arith, eq-eqb, ne_eqb}
+use Rattle.larch_actions.specs.declared.event.Version.{Version}
 use Rattle.larch_actions.specs.declared.event.MutexId.{MutexId}
 use Rattle.larch_actions.specs.Actions.{at_first}
 use Rattle.larch_actions.specs.State.{shown_at}
@@ -56,14 +57,15 @@ no_nests m n t p h = absurd (omega (arith, ap length h.split, length-append h.be
 
 -- what is kept of no event
 pub starts : (none : MutexSet) → ((m : ℕ) → in_mutexes none m ≡ false)
-    → IsKept [] at_first (record { held = replicate 64 none; outers = replicate 64 none; firsts = replicate 4096 (record { thread = record { 0 = 0 }; place = 0 }) })
-starts empty h =
-    let nobody : (t m : ℕ) → words (replicate 64 empty) t m ≡ false = λ t m. ap (λ (f : ℕ → ℕ → Bool). f t m) (shown_at-replicate in_mutexes (λ _. false) 64 empty (λ i j. h j i)) in record {
+    → (v : Version) → IsKept [] (at_first v) (record { held = replicate 256 none; outers = replicate 64 none; firsts = replicate 4096 (record { thread = record { 0 = 0 }; place = 0 }) })
+starts empty h v =
+    let nobody : (n t m : ℕ) → words (replicate n empty) t m ≡ false = λ n t m. ap (λ (f : ℕ → ℕ → Bool). f t m) (shown_at-replicate in_mutexes (λ _. false) n empty (λ i j. h j i)) in record {
+      version = v;
       run = refl;
-      held = nobody;
-      held_low = λ t m is. both_ways (words (replicate 64 empty) t m) is (nobody t m);
-      low = λ m n is. both_ways (words (replicate 64 empty) n m) is (nobody n m);
-      nested = λ m n is. both_ways (words (replicate 64 empty) n m) is (nobody n m);
+      held = nobody 256;
+      held_low = λ t m is. both_ways (words (replicate 256 empty) t m) is (nobody 256 t m);
+      low = λ m n is. both_ways (words (replicate 64 empty) n m) is (nobody 64 n m);
+      nested = λ m n is. both_ways (words (replicate 64 empty) n m) is (nobody 64 n m);
       least = λ m n t p x. no_nests m n t p x;
     }
 

@@ -1,9 +1,9 @@
 -- Sets of mutexes as bits of a number.
-use Rattle.std.proofs.Common.{w64, ◌≡◌, ◌≢◌, ℕ, ◌*◌, ◌%◌, ◌^◌, ◌<◌, ◌≤◌, ◌&&◌, ◌||◌, ◌⊎◌, true, false, not, eqb, bit_and, inl, inr, refl, sym, ap, ◌∙◌, arith}
+use Rattle.std.proofs.Common.{w64, ◌≡◌, ◌≢◌, ℕ, ◌*◌, ◌%◌, ◌^◌, ◌<◌, ◌≤◌, ◌&&◌, ◌||◌, ◌⊎◌, true, false, cond, not, eqb, bit_and, inl, inr, refl, sym, ap, ◌∙◌, arith}
 use Rattle.std.specs.Int.{bit_at, bit_not, trailing_zeros}
 use Rattle.std.specs.Int.Bits.{bit_or}
 use Rattle.std.proofs.lemmas.Nat.{and_le_l}
-use Rattle.std.proofs.lemmas.Nat.Bits.{bit_at_and, bit_at_or, bit_at_not, bit_at-lt, bit_at-zero, bit_at_ones, bit_at_above, bit_at_clear_same, bit_at-trailing_zeros}
+use Rattle.std.proofs.lemmas.Nat.Bits.{bit_at_and, bit_at_or, bit_at_not, bit_at-lt, bit_at-zero, bit_at_ones, bit_at_above, bit_at_set_same, bit_at_set_other, bit_at_clear_same, bit_at_clear_other, bit_at-trailing_zeros}
 use Rattle.lock_order.proofs.Numbers.{same_or, both_ways}
 
 is_one : (b : ℕ) → eqb b 1 ≡ true → b ≡ 1
@@ -90,3 +90,27 @@ none_or_some n fits = (
   λ e k. elim (same_or n 0) [ inl p ↦ none-bits n k p.0 | inr p ↦ both_ways (eqb n 0) e p.1 ],
   λ e. elim (same_or n 0) [ inl p ↦ both_ways (eqb n 0) p.1 e | inr p ↦ (trailing_zeros w64 n, (first-bit n p.0 fits).0) ],
 )
+
+-- one bit more
+pub with-bit : (n t k : ℕ) → t < 64 → eqb (bit_at (bit_or n (1 * 2 ^ t % 18446744073709551616)) k) 1 ≡ cond (eqb t k) true (eqb (bit_at n k) 1)
+with-bit n t k low =
+    elim (same_or t k) [
+      | inl p ↦ ap (λ b. eqb b 1) (ap (bit_at (bit_or n (1 * 2 ^ t % 18446744073709551616))) (sym p.0) ∙ bit_at_set_same w64 n t low) ∙ sym (ap (λ b. cond b true (eqb (bit_at n k) 1)) p.1)
+      | inr p ↦ ap (λ b. eqb b 1) (bit_at_set_other w64 n t low k (λ z. p.0 (sym z))) ∙ sym (ap (λ b. cond b true (eqb (bit_at n k) 1)) p.1)
+    ]
+
+kept_bit : (n t k : ℕ) → t < 64 → n < 2 ^ 64 → (t ≡ k → ⊥) → bit_at (bit_and n (bit_not w64 (1 * 2 ^ t % 18446744073709551616))) k ≡ bit_at n k
+kept_bit n t k low fits ne =
+    elim (below_or k) [
+      | inl lt ↦ bit_at_clear_other w64 n t low k lt (λ z. ne (sym z))
+      | inr ge ↦ let gone = bit_at_above n 64 k fits ge in let both = bit_at_and n (bit_not w64 (1 * 2 ^ t % 18446744073709551616)) k in omega arith
+    ]
+
+-- one bit less
+pub without-bit : (n t k : ℕ) → t < 64 → n < 2 ^ 64 → eqb (bit_at (bit_and n (bit_not w64 (1 * 2 ^ t % 18446744073709551616))) k) 1 ≡ cond (eqb t k) false (eqb (bit_at n k) 1)
+without-bit n t k low fits =
+    let mask = bit_not w64 (1 * 2 ^ t % 18446744073709551616) in
+    elim (same_or t k) [
+      | inl p ↦ ap (λ b. eqb b 1) (ap (bit_at (bit_and n mask)) (sym p.0) ∙ bit_at_clear_same w64 n t low) ∙ sym (ap (λ b. cond b false (eqb (bit_at n k) 1)) p.1)
+      | inr p ↦ ap (λ b. eqb b 1) (kept_bit n t k low fits p.0) ∙ sym (ap (λ b. cond b false (eqb (bit_at n k) 1)) p.1)
+    ]

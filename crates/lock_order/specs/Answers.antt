@@ -18,7 +18,7 @@ pub record IsLegalTrace (budget : ℕ) (bytes : List ℕ) (events : List Event) 
   pub values : List MutexValue
   pub text : ReadsAs bytes layout events values
   pub within : length bytes ≤ budget
-  pub legal : IsLegal events
+  pub legal : IsLegal layout.version events
 
 -- a legal trace of so many events, which has no cycle
 abbrev pub HasNoCycle : ℕ → List ℕ → ℕ → Type 0

@@ -2,6 +2,7 @@
 use Rattle.std.specs.Prelude.{◌≡◌, ℕ, ◌+◌, ◌*◌, ◌<◌, ◌≤◌, ◌||◌, Bool, true, false, cond, eqb, List, length, IfSome}
 use mathlib.Core.Option.{Option, none, some}
 use Rattle.std.specs.declared.option.Option.{Option as Known}
+use Rattle.larch_actions.specs.declared.event.Version.{Version}
 use Rattle.larch_actions.specs.declared.event.Event.{Event}
 use Rattle.larch_actions.specs.declared.event.Action.{Action}
 use Rattle.larch_actions.specs.declared.event.Action.TheVariants.{Release, Enqueue, AlertEnqueue}
@@ -27,7 +28,7 @@ given _ = none
 
 -- the event's thread and the mutex that it gets or gives back have a place in the tables
 pub record HasPlace (e : Event) : Type 0 where
-  pub thread : e.thread.0 < 64
+  pub thread : e.thread.0 < 256
   pub gets : (m : ℕ) → got e.action ≡ some m → m < 64
   pub gives : (m : ℕ) → given e.action ≡ some m → m < 64
 
@@ -59,7 +60,8 @@ Before k m n = stands k m n ≡ true
 
 -- What is kept is what the events so far, which lead to that state, nest.
 pub record IsKept (es : List Event) (now : Spec) (k : Nestings) : Type 0 where
-  pub run : IsRun es now
+  pub version : Version
+  pub run : IsRun version es now
   pub held : (t m : ℕ) → has_held k t m ≡ holds now t m
   pub held_low : (t m : ℕ) → has_held k t m ≡ true → m < 64
   pub low : (m n : ℕ) → Before k m n → m < 64

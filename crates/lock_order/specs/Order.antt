@@ -2,6 +2,7 @@
 use Rattle.std.specs.Prelude.{◌≡◌, ℕ, ◌≤◌, false, List, [], ◌∷◌, ◌++◌, length, map}
 use Rattle.std.specs.List.{AllByRecursion}
 use mathlib.Core.Option.{Option, none, some}
+use Rattle.larch_actions.specs.declared.event.Version.{Version}
 use Rattle.larch_actions.specs.declared.event.Event.{Event}
 use Rattle.larch_actions.specs.declared.event.Action.{Action}
 use Rattle.larch_actions.specs.declared.event.Action.TheVariants.{Acquire, Resume, AlertReturn, AlertRaise}
@@ -17,14 +18,16 @@ got (AlertReturn m c) = some m.0
 got (AlertRaise m c) = some m.0
 got _ = none
 
--- The event at this place is one by which the thread gets the inner mutex while it holds the outer one, in the state before it.
+-- The event at this place is one by which the thread gets the inner mutex while it holds the outer one, in the state before it. Who
+-- holds a mutex after some events is the same in each version in which they are a run.
 pub record Nests (es : List Event) (outer inner thread place : ℕ) : Type 0 where
   pub before : List Event
   pub event : Event
   pub after : List Event
+  pub version : Version
   pub state : Spec
   pub split : es ≡ before ++ event ∷ after
-  pub run : IsRun before state
+  pub run : IsRun version before state
   pub counted : place ≡ length before
   pub actor : event.thread.0 ≡ thread
   pub gets : got event.action ≡ some inner

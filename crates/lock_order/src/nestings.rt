@@ -1,5 +1,6 @@
 //! What the events of a trace nest.
 ghost use Rattle.std.specs.Prelude.{◌≡◌, ◌<◌, ℕ, List, ◌∷◌, [], ◌++◌, length, true, false};
+ghost use Rattle.larch_actions.specs.declared.event.Version.{Version};
 ghost use Rattle.larch_actions.specs.declared.event.Event.{Event};
 ghost use Rattle.larch_actions.specs.Actions.{Spec, Acts, at_first};
 
@@ -18,7 +19,7 @@ pub struct First {
 #[derive(Drop)]
 pub struct Nestings {
     // by the thread
-    held: [MutexSet; 64],
+    held: [MutexSet; 256],
     // by the inner mutex: the outer ones
     outers: [MutexSet; 64],
     // by the inner mutex, and then by the outer one, where it is among the outer ones
@@ -32,7 +33,7 @@ impl Nestings {
 
     /// Of no event.
     pub fn new() -> Nestings
-        ensures { IsKept [] at_first result }
+        ensures { (v : Version) → IsKept [] (at_first v) result }
     {
         let none = MutexSet::empty();
         let nothing = First {
@@ -40,7 +41,7 @@ impl Nestings {
             place: 0,
         };
         Nestings {
-            held: [none; 64],
+            held: [none; 256],
             outers: [none; 64],
             firsts: [nothing; 4096],
         }
@@ -67,7 +68,7 @@ impl Nestings {
 
     #[inline(always)]
     fn get(&mut self, t: ThreadId, m: MutexId, place: u64)
-        requires thread { t.0 < 64 }
+        requires thread { t.0 < 256 }
         requires mutex { m.0 < 64 }
         ensures { HasGot self.old t.0 m.0 place self.new }
     {
@@ -81,7 +82,7 @@ impl Nestings {
 
     #[inline(always)]
     fn give(&mut self, t: ThreadId, m: MutexId)
-        requires thread { t.0 < 64 }
+        requires thread { t.0 < 256 }
         requires mutex { m.0 < 64 }
         ensures { HasGiven self.old t.0 m.0 self.new }
     {

@@ -2,6 +2,7 @@
 ghost use Rattle.std.specs.Prelude.{◌≡◌, ◌≢◌, ◌≤◌, ◌^◌, ◌-◌, ◌<◌, List, ℕ, length, Some, [], true};
 ghost use Rattle.trace_core.specs.declared.progress.Phase.TheVariants as phase;
 ghost use Rattle.trace_core.specs.Reader.{standing, input_of};
+ghost use Rattle.larch_actions.specs.declared.event.Version.{Version};
 ghost use Rattle.larch_actions.specs.declared.event.Event.{Event};
 ghost use Rattle.larch_actions.specs.Actions.{Spec, at_first};
 ghost use Rattle.trace_check.specs.Verdicts.{IsJust};
@@ -93,7 +94,7 @@ fn read_all<I: Source>(
     requires phase { (standing I.left reader.old).phase ≡ phase.Head }
     requires lines { (standing I.left reader.old).lines ≡ 0 }
     requires fits { (standing I.left reader.old).room < 2 ^ 64 - 1 }
-    requires empty { IsKept [] at_first nestings.old }
+    requires empty { (v : Version) → IsKept [] (at_first v) nestings.old }
     ensures just { IsJust (standing I.left reader.old).room (standing I.left reader.old).rest (I.left (input_of reader.new).now)
         (I.faults (input_of reader.old).now) (I.faults (input_of reader.new).now) result }
     ensures noted { noting ≡ true → IsNoted (standing I.left reader.old).room (standing I.left reader.old).rest result nestings.new }

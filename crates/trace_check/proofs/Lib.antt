@@ -1,4 +1,5 @@
 pub mod Runs
+pub mod Alike
 pub mod Fronts
 pub mod UnderWay
 pub mod Unique

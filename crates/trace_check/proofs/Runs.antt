@@ -24,7 +24,7 @@ leads_same s t u (e ∷ es) r q =
     leads_same q.0 t u es (subst (λ (z : Spec). Leads z es t) same r.2) q.2
 
 fails_acts : (s t : Spec) (e : Event) (why : Broken) → Fails s e why → Acts s e t → ⊥
-fails_acts s t e broken.Order f a = f a.0.order
+fails_acts s t e broken.Order f a = f (a.0.live, a.0.order)
 fails_acts s t e broken.Requires f a = f.1 a.0.requires_met
 fails_acts s t e broken.When f a = f.2 a.0.when_met
 fails_acts s t e broken.Ensures f a = f.3 a.0.choice_met

@@ -17,15 +17,17 @@ use Rattle.trace_core.specs.declared.line.Line.TheVariants as line
 use Rattle.trace_core.specs.declared.line.Expect.TheVariants as expect
 use Rattle.trace_core.specs.Prefixes.{Begins}
 use Rattle.trace_core.specs.Intake.{IsShown, HasReason, Misses, LacksAt}
+use Rattle.trace_core.specs.Made.{IsMade}
 use Rattle.trace_core.specs.Standing.{Standing}
 use Rattle.trace_core.specs.Steps.{TakesHead, TakesEvent, TakesEnd, Breaks}
-use Rattle.trace_core.specs.Text.{first_line, layout_line, event_line, end_line, values_text, rest_text, trace_text, IsTrace, IsRest}
+use Rattle.trace_core.specs.Text.{first_line, layout_line, head_text, event_line, end_line, values_text, rest_text, trace_text, IsTrace, IsRest}
 use Rattle.trace_core.proofs.Outcomes.{reason_behind, Consumes-trans, take_behind}
 use Rattle.trace_core.specs.Whole.{event_lines}
 use Rattle.trace_check.specs.Verdicts.{front_text, NoFault, IsCutOff, refusal, IsJust, IsLegalText, IsIllegalText}
 use Rattle.trace_check.specs.declared.checker.Summary.{Summary}
 use Rattle.trace_check.proofs.Runs.{leads-push, leads-split}
-use Rattle.trace_check.proofs.Fronts.{front_text-push, rest_text-split, named-push, names-last, length-front_text, same_front, le_total}
+use Rattle.trace_check.proofs.Alike.{AreReadable, readable, plain_all, plain_readable, leads_back}
+use Rattle.trace_check.proofs.Fronts.{front_text-push, front_text-plain, rest_text-split, named-push, made-push, readable-last, length-front_text, same_front, le_total}
 
 -- so far these events were read, and they are a run
 pub record IsUnderWay (budget : ℕ) (left₀ : Option (List ℕ)) (before : ℕ) (st : Standing) (now : ℕ) (m : Moment) (count : ℕ) : Type 0 where
@@ -34,7 +36,8 @@ pub record IsUnderWay (budget : ℕ) (left₀ : Option (List ℕ)) (before : ℕ
   pub lawful : IsLawful st.layout
   pub layout : m.layout ≡ st.layout
   pub named : AllByRecursion (HasNames st.layout) events
-  pub run : IsRun events (spec_of m)
+  pub made : AllByRecursion (λ (e : Event). IsMade e.action) events
+  pub run : IsRun st.layout.version events (spec_of m)
   pub counted : length events ≡ count
   pub place : st.place ≡ count
   pub read : Consumes left₀ st.rest (front_text st.layout events)
@@ -77,14 +80,15 @@ step_on budget left₀ before now now' p p' m m' count e fits u t a same le =
       lawful = subst IsLawful (sym t.layout) u.lawful;
       layout = same ∙ u.layout ∙ sym t.layout;
       named = rw t.layout (named-push p.layout u.events e u.named t.names);
-      run = leads-push at_first (spec_of m) (spec_of m') u.events e u.run a;
+      made = made-push u.events e u.made t.made;
+      run = rw t.layout (leads-push (at_first p.layout.version) (spec_of m) (spec_of m') u.events e u.run a);
       counted = length-append u.events (e ∷ []) ∙ ap (λ k. k + 1) u.counted;
       place = t.place ∙ ap (λ k. k + 1) u.place;
       read = rw t.layout r.0;
       room = rw t.layout r.1;
       reasons = λ left'' after f h.
           u.reasons left'' after f
-          (reason_behind (expect.Events p.layout p.place) (possible budget left₀ before p now m count fits u) (line.Event e) t.names p.rest p'.rest left'' p.lines p.room p'.room now now' after f t.passes.bytes t.passes.room le
+          (reason_behind (expect.Events p.layout p.place) (possible budget left₀ before p now m count fits u) (line.Event e) (t.names, t.made) p.rest p'.rest left'' p.lines p.room p'.room now now' after f t.passes.bytes t.passes.room le
           (rw (t.layout, t.place, t.passes.lines) at h));
     }
 
@@ -97,27 +101,31 @@ Consumes-split None c xs ys h = (None, tt, tt)
 Consumes-split (Some x) None xs ys h = absurd h
 Consumes-split (Some x) (Some z) xs ys h = (Some (ys ++ z), h ∙ append_assoc xs ys z, refl)
 
-no_more : (l' l : Layout) (place : ℕ) (es tail : List Event) (seen more : List ℕ) → length es ≡ place → l' ≡ l → AllByRecursion (HasNames l) tail → 0 < length tail → seen ≡ event_lines (length es) tail ++ more
+no_more : (l' l : Layout) (place : ℕ) (es tail : List Event) (seen more : List ℕ) → length es ≡ place → l' ≡ l → AreReadable l tail → 0 < length tail → seen ≡ event_lines (length es) tail ++ more
     → Misses (HasNames l') (event_line place) seen → ⊥
 no_more l' l place es [] seen more at same named some e misses = omega arith
 no_more l' l place es (x ∷ tail) seen more at same named some e misses =
-    misses x (event_lines (length es + 1) tail ++ more) (subst (λ k. HasNames k x) (sym same) named.0)
+    misses x (event_lines (length es + 1) tail ++ more) (subst (λ k. HasNames k x) (sym same) named.0.0)
     (e ∙ append_assoc (event_line (length es) x) (event_lines (length es + 1) tail) more ∙ ap (λ n. event_line n x ++ (event_lines (length es + 1) tail ++ more)) at)
 
 -- where no further event stands behind a run, all events are of the run
-no_fault : (l' : Layout) (events : List Event) (place : ℕ) (last : Spec) (seen bytes : List ℕ) → IsLawful l' → AllByRecursion (HasNames l') events → IsRun events last → length events ≡ place
+no_fault : (l' : Layout) (events : List Event) (place : ℕ) (last : Spec) (seen bytes : List ℕ) → IsLawful l' → AreReadable l' events → IsRun l'.version events last → length events ≡ place
     → bytes ≡ front_text l' events ++ seen → length bytes < 2 ^ 64 - 1 → Misses (HasNames l') (event_line place) seen → NoFault bytes
-no_fault l' events place last seen bytes lawful names run at cut fits misses = λ l es more ok named eq.
+no_fault l' events place last seen bytes lawful names run at cut fits misses = λ l ds more ok said eq₀.
+    let es = plain_all ds in
+    let named = plain_readable l ok ds said in
+    let eq : bytes ≡ front_text l es ++ more = eq₀ ∙ ap (λ t. t ++ more) (sym (front_text-plain l ok ds said)) in
     let few₁ : length es < 2 ^ 64 - 1 = omega (arith, length-front_text l es, ap length eq, length-append (front_text l es) more) in
     let few₂ : length events < 2 ^ 64 - 1 = omega (arith, length-front_text l' events, ap length cut, length-append (front_text l' events) seen) in
     elim (le_total (length es) (length events)) [
       | inl le ↦
           let s = same_front l l' es events more seen ok lawful few₂ named names le (sym eq ∙ cut) in
-          let r = leads-split at_first last es s.1.0 (subst (λ x. IsRun x last) s.1.1 run) in
-          (r.0, r.1)
+          let own : IsRun l.version (es ++ s.1.0) last = subst (λ (k : Layout). IsRun k.version (es ++ s.1.0) last) (sym s.0) (subst (λ x. IsRun l'.version x last) s.1.1 run) in
+          let r = leads-split (at_first l.version) last es s.1.0 own in
+          (r.0, leads_back l ok (at_first l.version) r.0 ds said r.1)
       | inr lt ↦
           let s = same_front l' l events es seen more lawful ok few₁ names named (omega arith) (sym cut ∙ eq) in
-          let tail = names-last l events s.1.0 (subst (AllByRecursion (HasNames l)) s.1.1 named) in
+          let tail = readable-last l events s.1.0 (subst (AreReadable l) s.1.1 named) in
           let longer : 0 < length s.1.0 = omega (arith, ap length s.1.1, length-append events s.1.0) in
           absurd (no_more l' l place events s.1.0 seen more at s.0 tail longer s.1.2 misses)
     ]
@@ -133,7 +141,7 @@ within_budget budget (Some bytes) before now p m count fits u misses =
     let b = consumes_some bytes p.rest front u.read in
     let cut : take budget bytes ≡ front ++ take p.room b.0 = take_behind front bytes b.0 budget p.room b.1 u.room in
     let short : length (take budget bytes) < 2 ^ 64 - 1 = omega (arith, length-take budget bytes) in
-    no_fault p.layout u.events p.place (spec_of m) (take p.room b.0) (take budget bytes) u.lawful u.named u.run (u.counted ∙ sym u.place) cut short
+    no_fault p.layout u.events p.place (spec_of m) (take p.room b.0) (take budget bytes) u.lawful (readable p.layout u.events u.named u.made) u.run (u.counted ∙ sym u.place) cut short
     (whole_at p.rest b.0 (λ input. Misses (HasNames p.layout) (event_line p.place) (take p.room input)) b.2 misses)
 
 -- an event that fails
@@ -178,7 +186,7 @@ read_just budget (Some bytes) left' before now' p now m count fits u h l =
     let whole = Consumes-trans (Some bytes) p.rest left' front l.0 u.read l.1 in
     let same : h.1.0 ≡ front ++ l.0 = cut_off bytes left' h.1.0 (front ++ l.0) h.1.1 whole in
     let short : length h.1.0 < 2 ^ 64 - 1 = omega (arith, h.1.3) in
-    (h.0, (h.1.0, h.1.1, h.1.2, h.1.3, no_fault p.layout u.events p.place (spec_of m) l.0 h.1.0 u.lawful u.named u.run (u.counted ∙ sym u.place) same short l.2))
+    (h.0, (h.1.0, h.1.1, h.1.2, h.1.3, no_fault p.layout u.events p.place (spec_of m) l.0 h.1.0 u.lawful (readable p.layout u.events u.named u.made) u.run (u.counted ∙ sym u.place) same short l.2))
 
 pub fault_on : (budget : ℕ) (left₀ left' : Option (List ℕ)) (before now now' : ℕ) (p p' : Standing) (m : Moment) (count : ℕ) (f : TextFault) → budget < 2 ^ 64 - 1
     → IsUnderWay budget left₀ before p now m count → Breaks (IsRest p.layout p.place) (HasNames p.layout) (event_line p.place) p p' left' now now' f → IsJust budget left₀ left' before now' (refusal f)
@@ -187,21 +195,21 @@ fault_on budget left₀ left' before now now' p p' m count fault.TooLong fits u 
 fault_on budget left₀ left' before now now' p p' m count fault.Read fits u b = read_just budget left₀ left' before now' p now m count fits u (u.reasons left' now' fault.Read b.reason) b.lacks
 
 -- without a head there is no event
-headless : (bytes : List ℕ) → Misses IsLawful (λ l. first_line ++ layout_line l) bytes → NoFault bytes
-headless bytes h = λ l es more ok named e. absurd (h l (event_lines 0 es ++ more) ok (e ∙ append_assoc (first_line ++ layout_line l) (event_lines 0 es) more))
+headless : (bytes : List ℕ) → Misses IsLawful head_text bytes → NoFault bytes
+headless bytes h = λ l es more ok named e. absurd (h l (event_lines 0 es ++ more) ok (e ∙ append_assoc (head_text l) (event_lines 0 es) more))
 
-no_head : (budget : ℕ) (left₀ : Option (List ℕ)) → IfSome left₀ (λ input. Misses IsLawful (λ l. first_line ++ layout_line l) (take budget input)) → IfSome left₀ (λ bytes. NoFault (take budget bytes))
+no_head : (budget : ℕ) (left₀ : Option (List ℕ)) → IfSome left₀ (λ input. Misses IsLawful head_text (take budget input)) → IfSome left₀ (λ bytes. NoFault (take budget bytes))
 no_head budget None h = tt
 no_head budget (Some bytes) h = headless (take budget bytes) h
 
 cut_in_head : (left₀ left' : Option (List ℕ)) (before now : ℕ) (budget : ℕ) → HasReason IsTrace 0 budget left₀ left' before now fault.Read
-    → LacksAt IsLawful (λ l. first_line ++ layout_line l) budget left₀ left' fault.Read → IfSome left₀ (λ bytes. IsCutOff budget bytes left')
+    → LacksAt IsLawful head_text budget left₀ left' fault.Read → IfSome left₀ (λ bytes. IsCutOff budget bytes left')
 cut_in_head None left' before now budget h l = tt
 cut_in_head (Some bytes) left' before now budget h l =
     let same : l.0 ≡ h.1.0 = cut_off bytes left' l.0 h.1.0 l.1 h.1.1 in
     (h.1.0, h.1.1, h.1.2, h.1.3, subst NoFault same (headless l.0 l.2))
 
-pub head_fault : (budget : ℕ) (left₀ left' : Option (List ℕ)) (before now : ℕ) (f : TextFault) → HasReason IsTrace 0 budget left₀ left' before now f → LacksAt IsLawful (λ l. first_line ++ layout_line l) budget left₀ left' f → IsJust budget left₀ left' before now (refusal f)
+pub head_fault : (budget : ℕ) (left₀ left' : Option (List ℕ)) (before now : ℕ) (f : TextFault) → HasReason IsTrace 0 budget left₀ left' before now f → LacksAt IsLawful head_text budget left₀ left' f → IsJust budget left₀ left' before now (refusal f)
 head_fault budget left₀ left' before now (fault.BadLine k) h l = bad_just budget left₀ k h.1 (no_head budget left₀ l)
 head_fault budget left₀ left' before now fault.TooLong h l = long_just budget left₀ h (no_head budget left₀ l)
 head_fault budget left₀ left' before now fault.Read h l = (h.0, cut_in_head left₀ left' before now budget h l)
@@ -217,7 +225,7 @@ ends_on budget (Some bytes) before now p p' m count s fits u t e h w a =
     let at : p.place ≡ 0 + length u.events = omega (arith, u.place, u.counted) in
     let rest : event_lines 0 u.events ++ b.0 ≡ rest_text 0 u.events vs = ap (λ l. event_lines 0 u.events ++ l) (x.0.2 ∙ ap (λ n. end_line n ++ values_text vs) at) ∙ sym (rest_text-split 0 u.events vs) in
     let text : bytes ≡ trace_text p.layout u.events vs =
-    b.1 ∙ append_assoc (first_line ++ layout_line p.layout) (event_lines 0 u.events) b.0 ∙ ap (λ l. first_line ++ layout_line p.layout ++ l) rest
+    b.1 ∙ append_assoc (head_text p.layout) (event_lines 0 u.events) b.0 ∙ ap (λ l. head_text p.layout ++ l) rest
     in record {
       layout = p.layout;
       events = u.events;
@@ -235,19 +243,21 @@ ends_on budget (Some bytes) before now p p' m count s fits u t e h w a =
     }
 
 unfoldable pub starts_on : (budget : ℕ) (left₀ : Option (List ℕ)) (before now : ℕ) (p p' : Standing) (l : Layout) (m : Moment)
-    → p.rest ≡ left₀ → p.room ≡ budget → p.lines ≡ 0 → TakesHead p p' l → before ≤ now → m.layout ≡ l → spec_of m ≡ at_first → IsUnderWay budget left₀ before p' now m 0
+    → p.rest ≡ left₀ → p.room ≡ budget → p.lines ≡ 0 → TakesHead p p' l → before ≤ now → m.layout ≡ l → spec_of m ≡ at_first l.version → IsUnderWay budget left₀ before p' now m 0
 starts_on budget left₀ before now p p' l m rest room lines t le laid first =
-    let bytes : Consumes left₀ p'.rest (first_line ++ layout_line l) = rw rest at t.passes.bytes in
-    let whole : front_text l [] ≡ first_line ++ layout_line l = append-nil (first_line ++ layout_line l) in
-    let split = Consumes-split left₀ p'.rest first_line (layout_line l) bytes in
-    let size : p'.room + length (first_line ++ layout_line l) ≡ budget = t.passes.room ∙ room in
-    let sum : length (first_line ++ layout_line l) ≡ length first_line + length (layout_line l) = length-append first_line (layout_line l) in record {
+    let bytes : Consumes left₀ p'.rest (head_text l) = rw rest at t.passes.bytes in
+    let whole : front_text l [] ≡ head_text l = append-nil (head_text l) in
+    let one = first_line l.version in
+    let split = Consumes-split left₀ p'.rest one (layout_line l) bytes in
+    let size : p'.room + length (head_text l) ≡ budget = t.passes.room ∙ room in
+    let sum : length (head_text l) ≡ length one + length (layout_line l) = length-append one (layout_line l) in record {
       events = [];
       phase = t.phase;
       lawful = subst IsLawful (sym t.layout) t.lawful;
       layout = laid ∙ sym t.layout;
       named = tt;
-      run = sym first;
+      made = tt;
+      run = sym (first ∙ ap (λ (k : Layout). at_first k.version) (sym t.layout));
       counted = refl;
       place = t.place;
       read = rw t.layout (subst (Consumes left₀ p'.rest) (sym whole) bytes);
@@ -255,6 +265,6 @@ starts_on budget left₀ before now p p' l m rest room lines t le laid first =
       reasons = λ left'' after f h.
           let k = rw (t.layout, t.place, t.passes.lines ∙ ap (λ n. n + 2) lines) at h in
           let room₁ = p'.room + length (layout_line l) in
-          let laid = reason_behind expect.Counts tt (line.Counts l) t.lawful split.0 p'.rest left'' 1 room₁ p'.room now now after f split.2 refl (omega arith) k in
-          reason_behind expect.Head tt line.Head tt left₀ split.0 left'' 0 budget room₁ before now after f split.1 (omega (arith, size, sum)) le laid;
+          let laid = reason_behind (expect.Counts l.version) tt (line.Counts l) (t.lawful, refl) split.0 p'.rest left'' 1 room₁ p'.room now now after f split.2 refl (omega arith) k in
+          reason_behind expect.Head tt (line.Head l.version) tt left₀ split.0 left'' 0 budget room₁ before now after f split.1 (omega (arith, size, sum)) le laid;
     }

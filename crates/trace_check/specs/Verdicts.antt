@@ -14,7 +14,7 @@ use Rattle.trace_core.specs.declared.intake.TextFault.{TextFault}
 use Rattle.trace_core.specs.declared.intake.TextFault.TheVariants as fault
 use Rattle.trace_core.specs.Prefixes.{Begins}
 use Rattle.trace_core.specs.Intake.{IsShown}
-use Rattle.trace_core.specs.Text.{MutexValue, first_line, layout_line, ReadsAs, IsTrace}
+use Rattle.trace_core.specs.Text.{MutexValue, head_text, ReadsAs, IsTrace}
 use Rattle.trace_core.specs.Whole.{event_lines}
 use Rattle.trace_check.specs.declared.checker.Summary.{Summary}
 use Rattle.trace_check.specs.declared.checker.Verdict.{Verdict}
@@ -28,11 +28,11 @@ refusal fault.Read = ReadFault
 
 -- the head of a text, and the lines of its first events
 abbrev pub front_text : Layout → List Event → List ℕ
-front_text l es = first_line ++ layout_line l ++ event_lines 0 es
+front_text l es = head_text l ++ event_lines 0 es
 
 -- whole lines of events at the front of the bytes are those of a legal list
 abbrev pub NoFault : List ℕ → Type 0
-NoFault bytes = (l : Layout) (es : List Event) (more : List ℕ) → IsLawful l → AllByRecursion (HasNames l) es → bytes ≡ front_text l es ++ more → IsLegal es
+NoFault bytes = (l : Layout) (es : List Event) (more : List ℕ) → IsLawful l → AllByRecursion (HasNames l) es → bytes ≡ front_text l es ++ more → IsLegal l.version es
 
 -- the counts of the events and of the state that they lead to
 pub record Counts (l : Layout) (es : List Event) (last : Spec) (s : Summary) : Type 0 where
@@ -49,7 +49,7 @@ pub record IsLegalText (budget : ℕ) (bytes : List ℕ) (s : Summary) : Type 0 
   pub last : Spec
   pub text : ReadsAs bytes layout events values
   pub within : length bytes ≤ budget
-  pub run : IsRun events last
+  pub run : IsRun layout.version events last
   pub counts : Counts layout events last s
 
 -- The input begins with the head and the lines of some events, within the budget. The last of them is the first that fails.
@@ -62,7 +62,7 @@ pub record IsIllegalText (budget : ℕ) (bytes : List ℕ) (place : ℕ) (why : 
   pub named : AllByRecursion (HasNames layout) (events ++ event ∷ [])
   pub text : bytes ≡ front_text layout (events ++ event ∷ []) ++ rest
   pub within : length (front_text layout (events ++ event ∷ [])) ≤ budget
-  pub fault : FirstFault (events ++ event ∷ []) events event why
+  pub fault : FirstFault layout.version (events ++ event ∷ []) events event why
   pub counted : place ≡ length events
 
 -- what was given until reading failed is the front of a trace text, and shows no event that fails

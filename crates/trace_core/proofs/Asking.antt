@@ -1,5 +1,6 @@
 -- Where the bytes that are held don't decide.
 use Rattle.std.proofs.Common.{◌≡◌, ℕ, ◌+◌, ◌⊎◌, inl, inr, List, [], ◌++◌, refl, ap, sym, subst, ◌∙◌, append_assoc, Ok, Err}
+use Rattle.larch_actions.specs.declared.event.Version.{Version}
 use Rattle.larch_actions.specs.declared.event.Layout.{Layout}
 use Rattle.larch_actions.specs.Layout.{IsLawful, HasNames}
 use Rattle.trace_core.specs.declared.line.Line.TheVariants as line
@@ -8,19 +9,20 @@ use Rattle.trace_core.specs.declared.line.Stop.TheVariants.{More}
 use Rattle.trace_core.specs.declared.intake.Intake.{Intake}
 use Rattle.trace_core.specs.Prefixes.{Begins}
 use Rattle.trace_core.specs.Intake.{IsUndecided}
-use Rattle.trace_core.specs.Text.{IsTrace, IsRest, IsValues, first_line, layout_line, event_line}
+use Rattle.trace_core.specs.Text.{IsTrace, IsRest, IsValues, first_line, layout_line, head_text, event_line}
 use Rattle.trace_core.specs.Lines.{line_at, IsPossible}
 use Rattle.trace_core.proofs.CodeLaws.{ok_injective}
 use Rattle.trace_core.proofs.LineLaws.{line_code}
+use Rattle.trace_core.proofs.Plain.{plain_event, plain_is_read, plain_line}
 use Rattle.trace_core.proofs.Texts.{line_grammar}
 use Rattle.trace_core.proofs.Grammar.{front, front_from}
-use Rattle.trace_core.proofs.Outcomes.{more_lacks, head_text}
+use Rattle.trace_core.proofs.Outcomes.{more_lacks, same_version}
 use Rattle.trace_core.proofs.Ends.{all_begin}
 
 pub undecided_event : (l : Layout) (n : ℕ) → IsPossible (expect.Events l n) → (w : List ℕ) → line_at (expect.Events l n) w ≡ Err More → IsUndecided (IsRest l n) (HasNames l) (event_line n) w
 undecided_event l n ok w e =
     let x = expect.Events l n in
-    (front (line_grammar x ok) (line_code x ok) w e, λ v a h. more_lacks x ok w e (line.Event v) a h)
+    (front (line_grammar x ok) (line_code x ok) w e, λ v a h eq. more_lacks x ok w e (line.Event (plain_event v)) a (plain_is_read l ok.0 v h) (eq ∙ ap (λ t. t ++ a) (sym (plain_line l ok.0 n v h))))
 
 -- behind the end line the values decide
 pub undecided_end : (l : Layout) (n : ℕ) → IsPossible (expect.Events l n) → (w w' : List ℕ) → line_at (expect.Events l n) w ≡ Ok (line.End, w') → Begins (IsValues l 0) w' → IsUndecided (IsRest l n) (HasNames l) (event_line n) w
@@ -29,21 +31,22 @@ undecided_end l n ok w w' e b =
     let code = line_code x ok in (
       front_from (line_grammar x ok) code w w' line.End e b,
       λ v a h eq.
-          let same : (line.End, w') ≡ (line.Event v, a) = ok_injective (sym e ∙ ap (line_at x) eq ∙ code.again (line.Event v) a h) in
-          let k : line.End ≡ line.Event v = ap (λ p. p.0) same in absurd (cc),
+          let read = plain_event v in
+          let same : (line.End, w') ≡ (line.Event read, a) = ok_injective (sym e ∙ ap (line_at x) (eq ∙ ap (λ t. t ++ a) (sym (plain_line l ok.0 n v h))) ∙ code.again (line.Event read) a (plain_is_read l ok.0 v h)) in
+          let k : line.End ≡ line.Event read = ap (λ p. p.0) same in absurd (cc),
     )
 
 pub undecided_first : (w : List ℕ) → line_at expect.Head w ≡ Err More → IsUndecided IsTrace IsLawful head_text w
 undecided_first w e =
-    (front (line_grammar expect.Head tt) (line_code expect.Head tt) w e, λ l a h eq. more_lacks expect.Head tt w e line.Head (layout_line l ++ a) tt (eq ∙ append_assoc first_line (layout_line l) a))
+    (front (line_grammar expect.Head tt) (line_code expect.Head tt) w e, λ l a h eq. more_lacks expect.Head tt w e (line.Head l.version) (layout_line l ++ a) tt (eq ∙ append_assoc (first_line l.version) (layout_line l) a))
 
-pub undecided_counts : (w w' : List ℕ) → line_at expect.Head w ≡ Ok (line.Head, w') → line_at expect.Counts w' ≡ Err More → IsUndecided IsTrace IsLawful head_text w
-undecided_counts w w' e m =
+pub undecided_counts : (v : Version) (w w' : List ℕ) → line_at expect.Head w ≡ Ok (line.Head v, w') → line_at (expect.Counts v) w' ≡ Err More → IsUndecided IsTrace IsLawful head_text w
+undecided_counts v w w' e m =
     let code = line_code expect.Head tt in (
-      front_from (line_grammar expect.Head tt) code w w' line.Head e (front (line_grammar expect.Counts tt) (line_code expect.Counts tt) w' m),
+      front_from (line_grammar expect.Head tt) code w w' (line.Head v) e (front (line_grammar (expect.Counts v) tt) (line_code (expect.Counts v) tt) w' m),
       λ l a h eq.
-          let same : (line.Head, w') ≡ (line.Head, layout_line l ++ a) = ok_injective (sym e ∙ ap (line_at expect.Head) (eq ∙ append_assoc first_line (layout_line l) a) ∙ code.again line.Head (layout_line l ++ a) tt) in
-          more_lacks expect.Counts tt w' m (line.Counts l) a h (ap (λ p. p.1) same),
+          let same : (line.Head v, w') ≡ (line.Head l.version, layout_line l ++ a) = ok_injective (sym e ∙ ap (line_at expect.Head) (eq ∙ append_assoc (first_line l.version) (layout_line l) a) ∙ code.again (line.Head l.version) (layout_line l ++ a) tt) in
+          more_lacks (expect.Counts v) tt w' m (line.Counts l) a (h, same_version v l.version (ap (λ p. p.0) same)) (ap (λ p. p.1) same),
     )
 
 pub undecided_value : (l : Layout) (least : ℕ) → IsPossible (expect.Values l least) → (w : List ℕ) → line_at (expect.Values l least) w ≡ Err More → Begins (IsValues l least) w
@@ -63,11 +66,11 @@ asked_or_not h = elim h [ inl p ↦ inl p.0 | inr q ↦ inr q ]
 pub first_asks : {I : Type 0} {a b : I} (w : List ℕ) → (b ≡ a) ⊎ (line_at expect.Head w ≡ Err More) → (b ≡ a) ⊎ IsUndecided IsTrace IsLawful head_text w
 first_asks w h = elim h [ inl p ↦ inl p | inr e ↦ inr (undecided_first w e) ]
 
-pub head_asks : {I : Type 0} {a b c : I} (w w' : List ℕ) → ((b ≡ a) × (line_at expect.Head w ≡ Ok (line.Head, w'))) ⊎ (line_at expect.Head w ≡ Err More) → (c ≡ b) ⊎ (line_at expect.Counts w' ≡ Err More)
+pub head_asks : {I : Type 0} {a b c : I} (v : Version) (w w' : List ℕ) → ((b ≡ a) × (line_at expect.Head w ≡ Ok (line.Head v, w'))) ⊎ (line_at expect.Head w ≡ Err More) → (c ≡ b) ⊎ (line_at (expect.Counts v) w' ≡ Err More)
     → (c ≡ a) ⊎ IsUndecided IsTrace IsLawful head_text w
-head_asks w w' h k =
+head_asks v w w' h k =
     elim h [
-      | inl p ↦ elim k [ inl q ↦ inl (q ∙ p.0) | inr m ↦ inr (undecided_counts w w' p.1 m) ]
+      | inl p ↦ elim k [ inl q ↦ inl (q ∙ p.0) | inr m ↦ inr (undecided_counts v w w' p.1 m) ]
       | inr e ↦ inr (undecided_first w e)
     ]
 

@@ -111,9 +111,12 @@ unfolding members_from
 nobody_from s zero t h = refl
 nobody_from s (suc n) t h = rw (h t) (nobody_from s n (t + 1) h)
 
-pub nobody : (s : ThreadSet) → ((k : ℕ) → in_set s k ≡ false) → names_text (members s) ≡ []
+pub no_members : (s : ThreadSet) → ((k : ℕ) → in_set s k ≡ false) → members s ≡ []
 unfolding members
-nobody s h = ap names_text (nobody_from s 64 0 h)
+no_members s h = nobody_from s 256 0 h
+
+pub nobody : (s : ThreadSet) → ((k : ℕ) → in_set s k ≡ false) → names_text (members s) ≡ []
+nobody s h = ap names_text (no_members s h)
 
 no_names : (w d l e : List ℕ) → ((w ++ (d ++ 32 ∷ [])) ++ l) ++ e ≡ (((w ++ d) ++ 32 ∷ l) ++ []) ++ e
 no_names w d l e = simp (append_assoc, append-nil)

@@ -6,6 +6,7 @@ pub mod RisingSets
 pub mod Choices
 pub mod Tails
 pub mod Members
+pub mod Plain
 pub mod RowTexts
 pub mod Quick
 pub mod Ways

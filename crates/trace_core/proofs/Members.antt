@@ -1,9 +1,6 @@
 -- The names of a set of threads, and the set of some names.
 use Rattle.std.proofs.Common.{◌≡◌, ℕ, zero, suc, ◌+◌, ◌<◌, ◌≤◌, ◌⊎◌, inl, inr, List, [], ◌∷◌, ◌++◌, refl, ap, sym, subst, ◌∙◌, append_assoc, Bool, true, false, cond, eqb, arith}
-use Rattle.std.proofs.lemmas.Bool.{eqb-true}
 use Rattle.std.proofs.lemmas.Bool.Decides.{eqb_tells}
-use Rattle.std.proofs.lemmas.Nat.Bits.{bit_at-lt, same_from_bits}
-use Rattle.std.specs.Int.{bit_at}
 use Rattle.std.specs.Prelude.{codes, decimal}
 use Rattle.larch_actions.specs.declared.thread_set.ThreadSet.{ThreadSet}
 use Rattle.larch_actions.specs.Sets.{in_set, mem}
@@ -41,7 +38,7 @@ rising-from s (suc n) t bound h =
 -- the names of a set are rising
 pub rising-members : (s : ThreadSet) (bound : ℕ) → ((k : ℕ) → in_set s k ≡ true → k < bound) → IsRising 0 bound (members s)
 unfolding members
-rising-members s bound h = rising-from s 64 0 bound h
+rising-members s bound h = rising-from s 256 0 bound h
 
 mem-before : (s : ThreadSet) (n t k : ℕ) → k < t → mem k (members_from s t n) ≡ false
 unfolding members_from
@@ -79,12 +76,12 @@ not_in : (s : ThreadSet) (bound k : ℕ) → ((j : ℕ) → in_set s j ≡ true 
 not_in s bound k h high =
     elim (in_set s k) as (λ b. in_set s k ≡ b → b ≡ false) [ true ↦ λ e. absurd (omega (arith, h k e)) | false ↦ λ e. refl ] refl
 
-mem-members : (s : ThreadSet) (bound : ℕ) → bound ≤ 64 → ((j : ℕ) → in_set s j ≡ true → j < bound) → (k : ℕ) → mem k (members s) ≡ in_set s k
+mem-members : (s : ThreadSet) (bound : ℕ) → bound ≤ 256 → ((j : ℕ) → in_set s j ≡ true → j < bound) → (k : ℕ) → mem k (members s) ≡ in_set s k
 unfolding members
 mem-members s bound small h k =
-    elim (low_or_high k 64) [
-      | inl low ↦ mem-from s 64 0 k (omega arith) (omega arith)
-      | inr high ↦ mem-high k 0 bound (members_from s 0 64) (omega arith) (rising-from s 64 0 bound h) ∙ sym (not_in s bound k h (omega arith))
+    elim (low_or_high k 256) [
+      | inl low ↦ mem-from s 256 0 k (omega arith) (omega arith)
+      | inr high ↦ mem-high k 0 bound (members_from s 0 256) (omega arith) (rising-from s 256 0 bound h) ∙ sym (not_in s bound k h (omega arith))
     ]
 
 either_way : (a b c : Bool) → cond b true (cond a true c) ≡ cond (cond a true b) true c
@@ -103,26 +100,9 @@ or_none false = refl
 pub in_set-from : (ts : List ℕ) (k : ℕ) → in_set (set_from ts) k ≡ mem k ts
 in_set-from ts k = in_set-of k (onto [] ts) ∙ mem-onto [] ts k ∙ or_none (mem k ts)
 
-same_bit : (x y : ℕ) → x < 2 → y < 2 → eqb x 1 ≡ eqb y 1 → x ≡ y
-same_bit x y p q e =
-    elim (eqb_tells x 1) [
-      | inl h ↦ omega (arith, h.1, eqb-true y 1 (sym e ∙ h.0))
-      | inr h ↦
-          elim (eqb_tells y 1) [
-            | inl k ↦ absurd (h.1 (eqb-true x 1 (e ∙ k.0)))
-            | inr k ↦ omega (arith, h.1, k.1)
-          ]
-    ]
-
--- sets of the same threads are the same
-same_set : (a b : ThreadSet) → ((k : ℕ) → in_set a k ≡ in_set b k) → a ≡ b
-same_set a b h =
-    let bits : a.bits ≡ b.bits = same_from_bits a.bits b.bits (λ k. same_bit (bit_at a.bits k) (bit_at b.bits k) (bit_at-lt a.bits k) (bit_at-lt b.bits k) (h k)) in
-    λ i. record { bits = bits i }
-
--- the set of the names of a set
-pub set_from-members : (s : ThreadSet) (bound : ℕ) → bound ≤ 64 → ((k : ℕ) → in_set s k ≡ true → k < bound) → s ≡ set_from (members s)
-set_from-members s bound small h = same_set s (set_from (members s)) (λ k. sym (in_set-from (members s) k ∙ mem-members s bound small h k))
+-- the set of the names of a set has the same threads
+pub in_set-members : (s : ThreadSet) (bound : ℕ) → bound ≤ 256 → ((k : ℕ) → in_set s k ≡ true → k < bound) → (k : ℕ) → in_set (set_from (members s)) k ≡ in_set s k
+in_set-members s bound small h k = in_set-from (members s) k ∙ mem-members s bound small h k
 
 -- rising names are in range
 pub below_bound : (bound : ℕ) (ts : List ℕ) → IsRising 0 bound ts → (k : ℕ) → in_set (set_from ts) k ≡ true → k < bound
@@ -153,9 +133,9 @@ members_from-rising s (suc n) t (u ∷ us) h same =
     ]
 
 -- the names of the set of rising names
-pub members-set_from : (bound : ℕ) (ts : List ℕ) → bound ≤ 64 → IsRising 0 bound ts → members (set_from ts) ≡ ts
+pub members-set_from : (bound : ℕ) (ts : List ℕ) → bound ≤ 256 → IsRising 0 bound ts → members (set_from ts) ≡ ts
 unfolding members
-members-set_from bound ts small h = members_from-rising (set_from ts) 64 0 ts (rising-wider 0 bound 64 ts small h) (λ k le. in_set-from ts k)
+members-set_from bound ts small h = members_from-rising (set_from ts) 256 0 ts (rising-wider 0 bound 256 ts small h) (λ k le. in_set-from ts k)
 
 pub names_line_is : (ts : List ℕ) → names_line ts ≡ names_text ts ++ newline
 names_line_is [] = refl

@@ -1,5 +1,5 @@
 -- Reading a number with a lower bound is exact.
-use Rattle.std.proofs.Common.{◌≡◌, ℕ, ◌+◌, ◌-◌, ◌*◌, ◌/◌, ◌%◌, ◌<◌, ◌≤◌, ◌⊎◌, inl, inr, List, [], ◌∷◌, ◌++◌, length, take, drop, get_or, cond, refl, ap, sym, subst, ◌∙◌, append_assoc, append-nil, Bool, true, false, Ok, Err, arith, rules, tests}
+use Rattle.std.proofs.Common.{◌≡◌, ℕ, ◌+◌, ◌-◌, ◌*◌, ◌/◌, ◌%◌, ◌^◌, ◌<◌, ◌≤◌, ◌⊎◌, inl, inr, List, [], ◌∷◌, ◌++◌, length, take, drop, get_or, cond, refl, ap, sym, subst, ◌∙◌, append_assoc, append-nil, Bool, true, false, Ok, Err, arith, rules, tests}
 use Rattle.std.proofs.lemmas.Bool.{eqb-true}
 use Rattle.std.proofs.lemmas.Bool.Decides.{nat_tests}
 use Rattle.std.proofs.lemmas.Fmt.{decimal_step, decimal_digit}
@@ -34,7 +34,8 @@ reaches_below : (least bound v : ℕ) → reaches least bound v ≡ true → v <
 reaches_below least bound v e = grind (arith, nat_tests)
 
 -- a number in range that begins with v
-reaches_some : (least bound v : ℕ) → reaches least bound v ≡ true → (least ≤ v) ⊎ ((0 < v) × (10 * v < bound) × (least ≤ 10 * v + 9))
+reaches_some : (least bound v : ℕ) → reaches least bound v ≡ true
+    → (least ≤ v) ⊎ (((0 < v) × (10 * v < bound) × (least ≤ 10 * v + 9)) ⊎ ((0 < v) × (100 * v < bound) × (least ≤ 100 * v + 99)))
 reaches_some least bound v e = grind (arith, nat_tests)
 
 reaches_here : (least bound v : ℕ) → least ≤ v → v < bound → reaches least bound v ≡ true
@@ -42,6 +43,9 @@ reaches_here least bound v a b = grind (arith, nat_tests)
 
 reaches_next : (least bound v : ℕ) → 0 < v → 10 * v < bound → least ≤ 10 * v + 9 → reaches least bound v ≡ true
 reaches_next least bound v a b d = grind (arith, nat_tests)
+
+reaches_far : (least bound v : ℕ) → 0 < v → 100 * v < bound → least ≤ 100 * v + 99 → reaches least bound v ≡ true
+reaches_far least bound v a b d = grind (arith, nat_tests)
 
 -- a byte that may stop each number
 abbrev end_of : Bool → ℕ
@@ -67,7 +71,7 @@ lt_from a b e = search (rules, tests)
 from_lt : (a b : ℕ) → a < b → nat_lt a b ≡ true
 from_lt a b e = search (rules, tests)
 
-pub digits-found : (several : Bool) (least bound : ℕ) → bound ≤ 64 → (v : ℕ) (bytes rest : List ℕ) (p : ℕ × ℕ) → v < bound → digits_from several least bound v bytes ≡ Ok (p, rest)
+pub digits-found : (several : Bool) (least bound : ℕ) → bound ≤ 256 → (v : ℕ) (bytes rest : List ℕ) (p : ℕ × ℕ) → v < bound → digits_from several least bound v bytes ≡ Ok (p, rest)
     → IsStopped several least bound p × (decimal v ++ bytes ≡ decimal p.0 ++ p.1 ∷ rest)
 digits-found several least bound small v [] rest p l e = absurd (cc)
 digits-found several least bound small v (c ∷ bytes) rest p l e =
@@ -90,13 +94,30 @@ digits-found several least bound small v (c ∷ bytes) rest p l e =
           ]
     ]
 
+-- a number of two digits more
+two_more : (v w : ℕ) → 0 < v → 100 * v ≤ w → w ≤ 100 * v + 99 → w < 2 ^ 64 → (ds : List ℕ) × (decimal w ≡ decimal v ++ ds)
+two_more v w some low high fits =
+    let q = w / 10 in
+    let a = 48 + (q - 10 * v) in
+    let b = 48 + w % 10 in
+    let q_is : 10 * v + (a - 48) ≡ q = omega arith in
+    let w_is : 10 * q + (b - 48) ≡ w = omega arith in
+    let first : decimal q ≡ decimal v ++ a ∷ [] = ap decimal (sym q_is) ∙ decimal_more v a some (omega arith) (omega arith) (omega arith) in
+    let all : decimal w ≡ decimal q ++ b ∷ [] = ap decimal (sym w_is) ∙ decimal_more q b (omega arith) (omega arith) (omega arith) (omega arith) in
+    (a ∷ b ∷ [], all ∙ ap (λ l. l ++ b ∷ []) first ∙ append_assoc (decimal v) (a ∷ []) (b ∷ []))
+
 -- the bytes go on to a whole number
-completes : (least bound : ℕ) → least < bound → bound ≤ 64 → (v : ℕ) → reaches least bound v ≡ true → (w : ℕ) × (ds : List ℕ) × (least ≤ w) × (w < bound) × (decimal w ≡ decimal v ++ ds)
+completes : (least bound : ℕ) → least < bound → bound ≤ 256 → (v : ℕ) → reaches least bound v ≡ true → (w : ℕ) × (ds : List ℕ) × (least ≤ w) × (w < bound) × (decimal w ≡ decimal v ++ ds)
 completes least bound some small v e =
     let b = reaches_below least bound v e in
     elim (reaches_some least bound v e) [
       | inl le ↦ (v, [], le, b, sym (append-nil (decimal v)))
-      | inr h ↦
+      | inr (inr h) ↦
+          elim (le_or (100 * v) least) [
+            | inl le ↦ let d = two_more v least h.0 le h.2 (omega arith) in (least, d.0, omega arith, some, d.1)
+            | inr gt ↦ let d = two_more v (100 * v) h.0 (omega arith) (omega arith) (omega (arith, h.1)) in (100 * v, d.0, omega arith, h.1, d.1)
+          ]
+      | inr (inl h) ↦
           elim (le_or (10 * v) least) [
             | inl le ↦
                 let c = 48 + (least - 10 * v) in
@@ -108,7 +129,7 @@ completes least bound some small v e =
           ]
     ]
 
-pub digits-more : (several : Bool) (least bound : ℕ) → least < bound → bound ≤ 64 → (v : ℕ) (bytes : List ℕ) → reaches least bound v ≡ true → digits_from several least bound v bytes ≡ Err More
+pub digits-more : (several : Bool) (least bound : ℕ) → least < bound → bound ≤ 256 → (v : ℕ) (bytes : List ℕ) → reaches least bound v ≡ true → digits_from several least bound v bytes ≡ Err More
     → (p : ℕ × ℕ) × (rest : List ℕ) × IsStopped several least bound p × ((decimal v ++ bytes) ++ rest ≡ decimal p.0 ++ p.1 ∷ [])
 digits-more several least bound some small v [] re e =
     let w = completes least bound some small v re in
@@ -146,7 +167,7 @@ digits-dead several least bound v (c ∷ bytes) more e =
 first_digit : (c : ℕ) → 48 ≤ c → c ≤ 57 → decimal (c - 48) ≡ c ∷ []
 first_digit c low high = let e : 48 + (c - 48) ≡ c = omega arith in decimal_digit (c - 48) (omega arith) ∙ ap (λ d. d ∷ []) e
 
-pub from-found : (several : Bool) (least bound : ℕ) → bound ≤ 64 → (bytes rest : List ℕ) (p : ℕ × ℕ) → number_from several least bound bytes ≡ Ok (p, rest) → IsStopped several least bound p × (bytes ≡ (decimal p.0 ++ p.1 ∷ []) ++ rest)
+pub from-found : (several : Bool) (least bound : ℕ) → bound ≤ 256 → (bytes rest : List ℕ) (p : ℕ × ℕ) → number_from several least bound bytes ≡ Ok (p, rest) → IsStopped several least bound p × (bytes ≡ (decimal p.0 ++ p.1 ∷ []) ++ rest)
 from-found several least bound small [] rest p e = absurd (cc)
 from-found several least bound small (c ∷ bytes) rest p e =
     elim (chosen (is_digit c && reaches least bound (c - 48)) _ _ _ e) [
@@ -158,7 +179,7 @@ from-found several least bound small (c ∷ bytes) rest p e =
       | inr q ↦ let h = q.1 in absurd (cc)
     ]
 
-from-more : (several : Bool) (least bound : ℕ) → least < bound → bound ≤ 64 → (bytes : List ℕ) → number_from several least bound bytes ≡ Err More → (p : ℕ × ℕ) × (rest : List ℕ) × IsStopped several least bound p × (bytes ++ rest ≡ decimal p.0 ++ p.1 ∷ [])
+from-more : (several : Bool) (least bound : ℕ) → least < bound → bound ≤ 256 → (bytes : List ℕ) → number_from several least bound bytes ≡ Err More → (p : ℕ × ℕ) × (rest : List ℕ) × IsStopped several least bound p × (bytes ++ rest ≡ decimal p.0 ++ p.1 ∷ [])
 from-more several least bound some small [] e = ((least, end_of several), decimal least ++ end_of several ∷ [], (omega arith, some, stop_end several bound least), refl)
 from-more several least bound some small (c ∷ bytes) e =
     elim (chosen (is_digit c && reaches least bound (c - 48)) _ _ _ e) [
@@ -183,17 +204,41 @@ digit_goes_on : (several : Bool) (bound v c : ℕ) (b : Bool) → 48 ≤ c → (
 digit_goes_on true bound v c b low = grind (arith, nat_tests)
 digit_goes_on false bound v c b low = grind (arith, nat_tests)
 
-from-again : (several : Bool) (least bound : ℕ) → bound ≤ 64 → (p : ℕ × ℕ) (rest : List ℕ) → IsStopped several least bound p → number_from several least bound ((decimal p.0 ++ p.1 ∷ []) ++ rest) ≡ Ok (p, rest)
+-- how many digits it has: two, three or more, or one
+how_long : (n : ℕ) → (((10 ≤ n) × (n < 100)) ⊎ (100 ≤ n)) ⊎ (n < 10)
+how_long n = grind arith
+
+from-again : (several : Bool) (least bound : ℕ) → bound ≤ 256 → (p : ℕ × ℕ) (rest : List ℕ) → IsStopped several least bound p → number_from several least bound ((decimal p.0 ++ p.1 ∷ []) ++ rest) ≡ Ok (p, rest)
 from-again several least bound small p rest l =
     let n = p.0 in
     let c = p.1 in
     let stop : (may_stop several bound n c && nat_le least n) ≡ true = true_both _ _ l.2 (from_le least n l.0) in
-    elim (le_or 10 n) [
+    elim (how_long n) [
       | inr one ↦
           let z : 48 + n - 48 ≡ n = omega arith in
           let go : (is_digit (48 + n) && reaches least bound n) ≡ true = true_both _ _ (digit_from (48 + n) (omega arith) (omega arith)) (reaches_here least bound n l.0 l.1) in
           ap (λ l. number_from several least bound ((l ++ c ∷ []) ++ rest)) (decimal_digit n one) ∙ rw (z, go, stop) refl
-      | inl two ↦
+      | inl (inr three) ↦
+          let r = n / 100 in
+          let q = n / 10 in
+          let d = 48 + q % 10 in
+          let f = 48 + n % 10 in
+          let low : n < 256 = omega (arith, l.1) in
+          let q' : 10 * r + (d - 48) ≡ q = omega arith in
+          let n' : 10 * q + (f - 48) ≡ n = omega arith in
+          let z : 48 + r - 48 ≡ r = omega arith in
+          let head : (is_digit (48 + r) && reaches least bound r) ≡ true = true_both _ _ (digit_from (48 + r) (omega arith) (omega (arith, low))) (reaches_far least bound r (omega arith) (omega (arith, l.1)) (omega (arith, l.0))) in
+          let next : (is_digit d && (nat_lt 0 r && reaches least bound q)) ≡ true =
+          true_both _ _ (digit_from d (omega arith) (omega arith)) (true_both _ _ (from_lt 0 r (omega arith)) (reaches_next least bound q (omega arith) (omega (arith, l.1)) (omega (arith, l.0))))
+          in
+          let last : (is_digit f && (nat_lt 0 q && reaches least bound n)) ≡ true =
+          true_both _ _ (digit_from f (omega arith) (omega arith)) (true_both _ _ (from_lt 0 q (omega arith)) (reaches_here least bound n l.0 l.1))
+          in
+          let front : decimal q ≡ (48 + r) ∷ d ∷ [] = decimal_step q (omega arith) (omega (arith, low)) ∙ ap (λ m. decimal m ++ d ∷ []) (let e : q / 10 ≡ r = omega arith in e) ∙ ap (λ l. l ++ d ∷ []) (decimal_digit r (omega (arith, low))) in
+          let spelled : decimal n ≡ (48 + r) ∷ d ∷ f ∷ [] = decimal_step n (omega arith) (omega (arith, low)) ∙ ap (λ l. l ++ f ∷ []) front in
+          ap (λ l. number_from several least bound ((l ++ c ∷ []) ++ rest)) spelled
+          ∙ rw (z, head, digit_goes_on several bound r d (nat_le least r) (omega arith), q', next, digit_goes_on several bound q f (nat_le least q) (omega arith), n', last, stop) refl
+      | inl (inl two) ↦
           let q = n / 10 in
           let d = 48 + n % 10 in
           let n' : 10 * q + (d - 48) ≡ n = omega arith in
@@ -202,11 +247,11 @@ from-again several least bound small p rest l =
           let next : (is_digit d && (nat_lt 0 q && reaches least bound n)) ≡ true =
           true_both _ _ (digit_from d (omega arith) (omega arith)) (true_both _ _ (from_lt 0 q (omega arith)) (reaches_here least bound n l.0 l.1))
           in
-          let spelled : decimal n ≡ (48 + q) ∷ d ∷ [] = decimal_step n two (omega (arith, l.1)) ∙ ap (λ l. l ++ d ∷ []) (decimal_digit q (omega (arith, l.1))) in
+          let spelled : decimal n ≡ (48 + q) ∷ d ∷ [] = decimal_step n two.0 (omega (arith, l.1)) ∙ ap (λ l. l ++ d ∷ []) (decimal_digit q (omega (arith, l.1))) in
           ap (λ l. number_from several least bound ((l ++ c ∷ []) ++ rest)) spelled ∙ rw (z, head, digit_goes_on several bound q d (nat_le least q) (omega arith), n', next, stop) refl
     ]
 
-pub number_from_code : (several : Bool) (least bound : ℕ) → least < bound → bound ≤ 64 → IsCode (IsStopped several least bound) (λ p. decimal p.0 ++ p.1 ∷ []) (number_from several least bound)
+pub number_from_code : (several : Bool) (least bound : ℕ) → least < bound → bound ≤ 256 → IsCode (IsStopped several least bound) (λ p. decimal p.0 ++ p.1 ∷ []) (number_from several least bound)
 number_from_code several least bound some small = record {
   found = from-found several least bound small;
   again = from-again several least bound small;

@@ -1,6 +1,6 @@
 -- What each way out of reading a line means for the bytes that weren't read before.
 use Rattle.std.proofs.Common.{◌≡◌, ℕ, ◌+◌, ◌-◌, ◌<◌, ◌≤◌, inl, inr, List, [], ◌++◌, length, length-append, take, refl, ap, sym, subst, ◌∙◌, append_assoc, append-nil, Ok, Err, Some, None, IfSome, arith}
-use Rattle.std.proofs.lemmas.List.{take_at, take_all, append_cancel_left}
+use Rattle.std.proofs.lemmas.List.{take_at, take_all}
 use Rattle.std.proofs.Math.Seq.{take-append-add}
 use Rattle.std.specs.Io.KnownBytes.{Consumes, IsAtEnd, Keeps, prepend_known}
 use Rattle.std.specs.declared.option.Option.{Option}
@@ -13,14 +13,16 @@ use Rattle.trace_core.specs.declared.intake.Intake.{Intake}
 use Rattle.trace_core.specs.declared.intake.TextFault.{TextFault}
 use Rattle.trace_core.specs.declared.intake.TextFault.TheVariants.{BadLine, TooLong, Read}
 use Rattle.trace_core.specs.Intake.{IsShown, IsFilled, HasReason, Misses, LacksAt, room_of}
+use Rattle.larch_actions.specs.declared.event.Version.{Version}
 use Rattle.larch_actions.specs.declared.event.Layout.{Layout}
 use Rattle.larch_actions.specs.Layout.{IsLawful, HasNames}
 use Rattle.trace_core.specs.declared.line.Line.TheVariants as line
 use Rattle.trace_core.specs.declared.line.Expect.TheVariants as expect
-use Rattle.trace_core.specs.Text.{first_line, layout_line, event_line, end_line}
+use Rattle.trace_core.specs.Text.{first_line, layout_line, head_text, event_line, end_line}
 use Rattle.trace_core.proofs.CodeLaws.{ok_injective}
 use Rattle.trace_core.specs.Lines.{line_at, line_text, IsPossible, IsAllowed, IsTextFrom, IsTextBehind}
 use Rattle.trace_core.proofs.LineLaws.{line_code}
+use Rattle.trace_core.proofs.Plain.{plain_event, plain_is_read, plain_line}
 use Rattle.trace_core.proofs.Texts.{line_grammar}
 use Rattle.trace_core.proofs.Grammar.{front, broken, cut_short, begins_behind, broken_behind, cut_short_behind}
 
@@ -227,22 +229,29 @@ pub end_lacks : (l : Layout) (n : ℕ) → IsPossible (expect.Events l n) → (T
     → Consumes r r' (end_line n) → room' + length (end_line n) ≡ room → HasReason T lines room' r' left' before now fault → LacksAt (HasNames l) (event_line n) room r left' fault
 end_lacks l n ok T lines room room' r r' left' before now fault c same h =
     lacks_behind IsNone none_text (HasNames l) (event_line n) (end_line n) room room' r r' left' fault
-    (λ bytes _ e a p eq. let s = same_line (expect.Events l n) ok line.End (line.Event e) bytes a tt p eq in let k = s.0 in absurd (cc))
+    (λ bytes _ e a p eq.
+    let s = same_line (expect.Events l n) ok line.End (line.Event (plain_event e)) bytes a tt (plain_is_read l ok.0 e p) (eq ∙ ap (λ t. t ++ a) (sym (plain_line l ok.0 n e p))) in
+    let k = s.0 in absurd (cc))
     c same (nothing_lacks T lines room' r' left' before now fault h)
 
-pub event_lacks : (l : Layout) (n : ℕ) (r left' : Option (List ℕ)) (room : ℕ) (fault : TextFault) → LacksAt (IsAllowed (expect.Events l n)) (line_text (expect.Events l n)) room r left' fault → LacksAt (HasNames l) (event_line n) room r left' fault
-event_lacks l n r left' room fault h = lacks_also (IsAllowed (expect.Events l n)) (line_text (expect.Events l n)) (HasNames l) (event_line n) room r left' fault (λ bytes m e a p. m (line.Event e) a p) h
+pub event_lacks : (l : Layout) → IsLawful l → (n : ℕ) (r left' : Option (List ℕ)) (room : ℕ) (fault : TextFault) → LacksAt (IsAllowed (expect.Events l n)) (line_text (expect.Events l n)) room r left' fault → LacksAt (HasNames l) (event_line n) room r left' fault
+event_lacks l ok n r left' room fault h =
+    lacks_also (IsAllowed (expect.Events l n)) (line_text (expect.Events l n)) (HasNames l) (event_line n) room r left' fault
+    (λ bytes m e a p eq. m (line.Event (plain_event e)) a (plain_is_read l ok e p) (eq ∙ ap (λ t. t ++ a) (sym (plain_line l ok n e p)))) h
 
-abbrev pub head_text : Layout → List ℕ
-head_text l = first_line ++ layout_line l
+-- the first lines of two versions differ
+pub same_version : (v w : Version) → line.Head v ≡ line.Head w → w ≡ v
+same_version v w e = cc
 
 pub first_lacks : (r left' : Option (List ℕ)) (room : ℕ) (fault : TextFault) → LacksAt (IsAllowed expect.Head) (line_text expect.Head) room r left' fault → LacksAt IsLawful head_text room r left' fault
 first_lacks r left' room fault h =
-    lacks_also (IsAllowed expect.Head) (line_text expect.Head) IsLawful head_text room r left' fault (λ bytes m l a p eq. m line.Head (layout_line l ++ a) tt (eq ∙ append_assoc first_line (layout_line l) a)) h
+    lacks_also (IsAllowed expect.Head) (line_text expect.Head) IsLawful head_text room r left' fault (λ bytes m l a p eq. m (line.Head l.version) (layout_line l ++ a) tt (eq ∙ append_assoc (first_line l.version) (layout_line l) a)) h
 
-pub counts_lacks : (r r' left' : Option (List ℕ)) (room room' : ℕ) (fault : TextFault) → Consumes r r' first_line → room' + length first_line ≡ room
-    → LacksAt (IsAllowed expect.Counts) (line_text expect.Counts) room' r' left' fault → LacksAt IsLawful head_text room r left' fault
-counts_lacks r r' left' room room' fault c same h =
-    lacks_behind (IsAllowed expect.Counts) (line_text expect.Counts) IsLawful head_text first_line room room' r r' left' fault
-    (λ bytes m l a p eq. m (line.Counts l) a p (append_cancel_left first_line bytes (layout_line l ++ a) (eq ∙ append_assoc first_line (layout_line l) a)))
+pub counts_lacks : (v : Version) (r r' left' : Option (List ℕ)) (room room' : ℕ) (fault : TextFault) → Consumes r r' (first_line v) → room' + length (first_line v) ≡ room
+    → LacksAt (IsAllowed (expect.Counts v)) (line_text (expect.Counts v)) room' r' left' fault → LacksAt IsLawful head_text room r left' fault
+counts_lacks v r r' left' room room' fault c same h =
+    lacks_behind (IsAllowed (expect.Counts v)) (line_text (expect.Counts v)) IsLawful head_text (first_line v) room room' r r' left' fault
+    (λ bytes m l a p eq.
+    let s = same_line expect.Head tt (line.Head v) (line.Head l.version) bytes (layout_line l ++ a) tt tt (eq ∙ append_assoc (first_line l.version) (layout_line l) a) in
+    m (line.Counts l) a (p, same_version v l.version s.0) s.1)
     c same h

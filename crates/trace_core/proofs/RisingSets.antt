@@ -95,7 +95,7 @@ tail_from least bound [] h = absurd h
 tail_from least bound (t ∷ []) h = (((t, 10), []), ((h.0, h.1, refl), refl), refl)
 tail_from least bound (t ∷ u ∷ ts) h = (((t, 32), u ∷ ts), ((h.0, h.1, stop_space bound t (omega (arith, h.2.0, h.2.1))), (refl, h.2)), refl)
 
-tail_code : (fuel least bound : ℕ) → bound ≤ 64 → least < bound → bound ≤ least + fuel → IsCode (IsTail least bound) tail_text (tail_at fuel least bound)
+tail_code : (fuel least bound : ℕ) → bound ≤ 256 → least < bound → bound ≤ least + fuel → IsCode (IsTail least bound) tail_text (tail_at fuel least bound)
 tail_code zero least bound small some fuel = absurd (omega arith)
 tail_code (suc n) least bound small some fuel =
     let pair = then_code (number_from_code true least bound some small) (Behind bound) behind_text (behind_reader n bound)
@@ -132,7 +132,7 @@ names_from : (bound : ℕ) (ts : List ℕ) → IsRising 0 bound ts → IsNone ts
 names_from bound [] h = inl tt
 names_from bound (t ∷ ts) h = inr h
 
-pub names_code : (bound : ℕ) → 0 < bound → bound ≤ 64 → IsCode (IsRising 0 bound) names_line (names_at bound)
+pub names_code : (bound : ℕ) → 0 < bound → bound ≤ 256 → IsCode (IsRising 0 bound) names_line (names_at bound)
 names_code bound some small =
     let nothing : IsCode IsNone (λ _. []) _ = nothing_code [] IsNone (λ _. []) tt none_is refl in
     let none = lawful_code (word_code nothing (10 ∷ []) ([], tt)) names_line none_text in

@@ -1,9 +1,12 @@
 -- Reading an action is exact, whatever its word.
 use Rattle.std.proofs.Common.{◌≡◌, ◌⊎◌, ℕ, ◌<◌, ◌≤◌, inl, inr, List, [], ◌∷◌, ◌++◌, length, get_or, zero, suc, refl, ap, sym, subst, ◌∙◌, append_assoc, Bool, true, false, arith, rules, tests}
 use Rattle.std.specs.Prelude.{codes, decimal, nat_lt, ◌&&◌}
+use Rattle.larch_actions.specs.declared.event.Version.{Version}
+use Rattle.larch_actions.specs.declared.event.Version.TheVariants as version
 use Rattle.larch_actions.specs.declared.event.Layout.{Layout}
 use Rattle.larch_actions.specs.declared.event.Action.{Action}
 use Rattle.larch_actions.specs.declared.kind.Kind.{Kind}
+use Rattle.larch_actions.specs.declared.kind.Kind.TheVariants.{Thread}
 use Rattle.larch_actions.specs.declared.rows.Word.{Word}
 use Rattle.larch_actions.specs.declared.rows.Word.TheVariants as word
 use Rattle.larch_actions.specs.declared.rows.Numbers.{Numbers}
@@ -15,20 +18,21 @@ use Rattle.larch_actions.specs.declared.rows.Ending.{Ending}
 use Rattle.larch_actions.specs.declared.rows.Ending.TheVariants.{Nothing, Returns, Yes, Left}
 use Rattle.larch_actions.specs.declared.thread_set.ThreadSet.{ThreadSet}
 use Rattle.larch_actions.specs.Sets.{in_set}
-use Rattle.larch_actions.specs.Layout.{IsLawful, IsNamed, IsNamedRow, AreBelow, FitsIn, count_of, letter}
-use Rattle.larch_actions.specs.Rows.{words, word_text, kinds_of, endings_of, none, one, two, answer_of, left_by, row, row_of, made, AreFor, IsEnding}
+use Rattle.larch_actions.specs.Layout.{IsLawful, IsNamed, IsNamedRow, InVersion, AreBelow, FitsIn, count_of, letter}
+use Rattle.larch_actions.specs.Rows.{words, word_text, since, kinds_of, endings_of, none, one, two, answer_of, left_by, row, row_of, made, AreFor, IsEnding}
 use Rattle.larch_actions.proofs.Names.{few_of}
 use Rattle.larch_actions.proofs.Table.{action_back, is_row, row_back, place_of, is_there}
 use Rattle.trace_core.specs.Codes.{IsCode}
+use Rattle.trace_core.specs.Made.{IsMade, IsMadeEnding}
 use Rattle.trace_core.specs.Names.{names_at, set_from}
-use Rattle.trace_core.specs.Lines.{stop_of, gap_of, outcome_of, ending_at, name_at, behind_at, are_some, row_at, rows_at, action_at}
+use Rattle.trace_core.specs.Lines.{stop_of, gap_of, outcome_of, ending_at, name_at, behind_at, are_some, is_in, may_stand, row_at, rows_at, action_at}
 use Rattle.trace_core.specs.Reading.{as_value}
 use Rattle.trace_core.specs.Text.{row_text, members, newline}
 use Rattle.trace_core.proofs.CodeLaws.{AreApart, no_code, nothing_code, same_code, word_code, then_code, as_code, or_code, only_code}
 use Rattle.trace_core.proofs.Choices.{differ, differ-apart, all_differ, differs_from_all, both_true}
 use Rattle.trace_core.proofs.Numbers.{number_code}
 use Rattle.trace_core.proofs.RisingSets.{names_line, names_code}
-use Rattle.trace_core.proofs.Members.{rising-members, set_from-members, below_bound, members-set_from}
+use Rattle.trace_core.proofs.Members.{rising-members, below_bound, members-set_from}
 use Rattle.trace_core.proofs.Pieces.{flag_code, flag_text}
 use Rattle.trace_core.proofs.RowTexts.{text, ending_line, name_line, behind_line, start_of, row_is, begins_so}
 
@@ -57,56 +61,76 @@ ends_of : (l : Layout) (ks : Kinds) (x : Numbers) (es : Endings) (e : Ending) �
 ends_of l ks x endings.Threads e f h = (h, f.1)
 ends_of l ks x _ e f h = h
 
+-- and it is kept as reading makes it
+abbrev IsLastly : Layout → Endings → Ending → Type 0
+IsLastly l es e = EndsIn l es e × IsMadeEnding e
+
+-- what a row says that its word may stand in the version
+fits_of : (v w : Version) (A : Type 0) → InVersion v w A → A
+fits_of version.One w A h = h
+fits_of version.Two w A h = h.1
+
+known_of : (v w : Version) (A : Type 0) → InVersion v w A → is_in v w ≡ true
+known_of version.One w A h = refl
+known_of version.Two w A h = ap (is_in version.Two) h.0
+
+in_version : (v w : Version) (A : Type 0) → is_in v w ≡ true → A → InVersion v w A
+in_version version.One w A known h = h
+in_version version.Two version.One A known h = absurd (cc)
+in_version version.Two version.Two A known h = (refl, h)
+
 -- what lawful names in an action are
 pub named_parts : (l : Layout) (a : Action) → IsNamed l a → AreBelow l (kinds_of (row_of a).word) (row_of a).numbers × EndsIn l (endings_of (row_of a).word) (row_of a).ending
 named_parts l a h =
     let r = row_of a in
     let ks = kinds_of r.word in
     let es = endings_of r.word in
-    (below_of l ks r.numbers es r.ending h, ends_of l ks r.numbers es r.ending h (is_row a).ending)
+    let f = fits_of (since r.word) l.version (FitsIn l ks r.numbers es r.ending) h in
+    (below_of l ks r.numbers es r.ending f, ends_of l ks r.numbers es r.ending f (is_row a).ending)
 
-outcome_to : (l : Layout) (b : Bool) → Unit {0} → EndsIn l endings.Outcome (outcome_of b) × (ending_line (outcome_of b) ≡ flag_text (codes "returns" ++ newline) (codes "raises" ++ newline) b)
-outcome_to l true h = (inl refl, refl)
-outcome_to l false h = (inr refl, refl)
+outcome_to : (l : Layout) (b : Bool) → Unit {0} → IsLastly l endings.Outcome (outcome_of b) × (ending_line (outcome_of b) ≡ flag_text (codes "returns" ++ newline) (codes "raises" ++ newline) b)
+outcome_to l true h = ((inl refl, tt), refl)
+outcome_to l false h = ((inr refl, tt), refl)
 
-outcome_from : (l : Layout) (e : Ending) → EndsIn l endings.Outcome e → (b : Bool) × Unit {0} × (e ≡ outcome_of b)
-outcome_from l e h = elim h [ inl k ↦ (true, tt, k) | inr k ↦ (false, tt, k) ]
+outcome_from : (l : Layout) (e : Ending) → IsLastly l endings.Outcome e → (b : Bool) × Unit {0} × (e ≡ outcome_of b)
+outcome_from l e h = elim h.0 [ inl k ↦ (true, tt, k) | inr k ↦ (false, tt, k) ]
 
-answer_to : (l : Layout) (b : Bool) → Unit {0} → EndsIn l endings.Answer (answer_of b) × (ending_line (answer_of b) ≡ flag_text (codes "yes" ++ newline) (codes "no" ++ newline) b)
-answer_to l true h = (inl refl, refl)
-answer_to l false h = (inr refl, refl)
+answer_to : (l : Layout) (b : Bool) → Unit {0} → IsLastly l endings.Answer (answer_of b) × (ending_line (answer_of b) ≡ flag_text (codes "yes" ++ newline) (codes "no" ++ newline) b)
+answer_to l true h = ((inl refl, tt), refl)
+answer_to l false h = ((inr refl, tt), refl)
 
-answer_from : (l : Layout) (e : Ending) → EndsIn l endings.Answer e → (b : Bool) × Unit {0} × (e ≡ answer_of b)
-answer_from l e h = elim h [ inl k ↦ (true, tt, k) | inr k ↦ (false, tt, k) ]
+answer_from : (l : Layout) (e : Ending) → IsLastly l endings.Answer e → (b : Bool) × Unit {0} × (e ≡ answer_of b)
+answer_from l e h = elim h.0 [ inl k ↦ (true, tt, k) | inr k ↦ (false, tt, k) ]
 
--- a set of threads, by the names of its members
+-- a set of threads, by the names of its members, and kept as they make it
 abbrev IsLow : Layout → ThreadSet → Type 0
-IsLow l left = (t : ℕ) → in_set left t ≡ true → t < l.threads
+IsLow l left = ((t : ℕ) → in_set left t ≡ true → t < l.threads) × (left ≡ set_from (members left))
 
 left_code : (l : Layout) → IsLawful l → IsCode (IsLow l) (λ left. names_line (members left)) (as_value set_from (names_at l.threads))
 left_code l ok =
-    as_code (names_code l.threads (omega (arith, ok.some)) ok.threads) set_from (IsLow l) (λ left. names_line (members left))
-    (λ ts h. (below_bound l.threads ts h, ap names_line (members-set_from l.threads ts ok.threads h)))
-    (λ left h. (members left, rising-members left l.threads h, set_from-members left l.threads ok.threads h))
+    let few = few_of l ok Thread in
+    as_code (names_code l.threads (omega (arith, ok.some)) few) set_from (IsLow l) (λ left. names_line (members left))
+    (λ ts h. let same = members-set_from l.threads ts few h in ((below_bound l.threads ts h, ap set_from (sym same)), ap names_line same))
+    (λ left h. (members left, rising-members left l.threads h.0, h.1))
 
-some_left : (l : Layout) → IsLow l (set_from [])
-some_left l = below_bound l.threads [] tt
+some_left : (l : Layout) → IsLawful l → IsLow l (set_from [])
+some_left l ok = (below_bound l.threads [] tt, ap set_from (sym (members-set_from l.threads [] (few_of l ok Thread) tt)))
 
-left_from : (l : Layout) (e : Ending) → EndsIn l endings.Threads e → (left : ThreadSet) × IsLow l left × (e ≡ Left left)
-left_from l e h = (h.0.0, subst (λ x. IsLow l (left_by x)) h.0.1 h.1, h.0.1)
+left_from : (l : Layout) (e : Ending) → IsLastly l endings.Threads e → (left : ThreadSet) × IsLow l left × (e ≡ Left left)
+left_from l e h = (h.0.0.0, (subst (λ x. (t : ℕ) → in_set (left_by x) t ≡ true → t < l.threads) h.0.0.1 h.0.1, subst IsMadeEnding h.0.0.1 h.1), h.0.0.1)
 
-ending_code : (l : Layout) → IsLawful l → (es : Endings) → IsCode (EndsIn l es) ending_line (ending_at l es)
-ending_code l ok endings.Nothing = nothing_code Nothing (EndsIn l endings.Nothing) ending_line refl (λ e h. h) refl
-ending_code l ok endings.Outcome = as_code (flag_code (codes "returns" ++ newline) (codes "raises" ++ newline) refl) outcome_of (EndsIn l endings.Outcome) ending_line (outcome_to l) (outcome_from l)
-ending_code l ok endings.Answer = as_code (flag_code (codes "yes" ++ newline) (codes "no" ++ newline) refl) answer_of (EndsIn l endings.Answer) ending_line (answer_to l) (answer_from l)
+ending_code : (l : Layout) → IsLawful l → (es : Endings) → IsCode (IsLastly l es) ending_line (ending_at l es)
+ending_code l ok endings.Nothing = nothing_code Nothing (IsLastly l endings.Nothing) ending_line (refl, tt) (λ e h. h.0) refl
+ending_code l ok endings.Outcome = as_code (flag_code (codes "returns" ++ newline) (codes "raises" ++ newline) refl) outcome_of (IsLastly l endings.Outcome) ending_line (outcome_to l) (outcome_from l)
+ending_code l ok endings.Answer = as_code (flag_code (codes "yes" ++ newline) (codes "no" ++ newline) refl) answer_of (IsLastly l endings.Answer) ending_line (answer_to l) (answer_from l)
 ending_code l ok endings.Threads =
-    as_code (word_code (left_code l ok) (codes "left") (set_from [], some_left l)) Left (EndsIn l endings.Threads) ending_line (λ left h. (((left, refl), h), refl)) (left_from l)
+    as_code (word_code (left_code l ok) (codes "left") (set_from [], some_left l ok)) Left (IsLastly l endings.Threads) ending_line (λ left h. ((((left, refl), h.0), h.1), refl)) (left_from l)
 
-some_ending : (l : Layout) (es : Endings) → (e : Ending) × EndsIn l es e
-some_ending l endings.Nothing = (Nothing, refl)
-some_ending l endings.Outcome = (Returns, inl refl)
-some_ending l endings.Answer = (Yes, inl refl)
-some_ending l endings.Threads = (Left (set_from []), ((set_from [], refl), some_left l))
+some_ending : (l : Layout) → IsLawful l → (es : Endings) → (e : Ending) × IsLastly l es e
+some_ending l ok endings.Nothing = (Nothing, (refl, tt))
+some_ending l ok endings.Outcome = (Returns, (inl refl, tt))
+some_ending l ok endings.Answer = (Yes, (inl refl, tt))
+some_ending l ok endings.Threads = let some = some_left l ok in (Left (set_from []), (((set_from [], refl), some.0), some.1))
 
 stop_low : (es : Endings) → stop_of es < 48
 stop_low endings.Nothing = omega arith
@@ -143,58 +167,77 @@ none_lawful l (kinds.Two k j) x h b = none_of_two (count_of l k) (count_of l j) 
 
 -- lawful names and a lawful ending
 abbrev AreBehind : Layout → Kinds → Endings → Numbers × Ending → Type 0
-AreBehind l ks es p = AreIn l ks p.0 × EndsIn l es p.1
+AreBehind l ks es p = AreIn l ks p.0 × IsLastly l es p.1
 
-one_from : (l : Layout) (k : Kind) (es : Endings) (p : Numbers × Ending) → AreBehind l (kinds.One k) es p → (q : ℕ × Ending) × ((q.0 < count_of l k) × EndsIn l es q.1) × (p ≡ (one q.0, q.1))
+one_from : (l : Layout) (k : Kind) (es : Endings) (p : Numbers × Ending) → AreBehind l (kinds.One k) es p → (q : ℕ × Ending) × ((q.0 < count_of l k) × IsLastly l es q.1) × (p ≡ (one q.0, q.1))
 one_from l k es p h = ((p.0.first, p.1), (h.0.0, h.1), (λ i. (record { first = p.0.first; second = h.0.1 i }, p.1)))
 
 behind_code : (l : Layout) → IsLawful l → (ks : Kinds) (es : Endings) → AreSome l ks → IsCode (AreBehind l ks es) (behind_line ks es) (behind_at l ks es)
 behind_code l ok kinds.Nothing es some =
     as_code (ending_code l ok es) (λ e. (none, e)) (AreBehind l kinds.Nothing es) (behind_line kinds.Nothing es) (λ e h. (((tt, refl), h), refl)) (λ p h. (p.1, h.1, (λ i. (h.0.1 i, p.1))))
 behind_code l ok (kinds.One k) es some =
-    let both = then_code (name_code l ok k (stop_of es) some (stop_low es)) (λ _ e. EndsIn l es e) (λ _ e. ending_line e) (λ _. ending_at l es) (λ _ _. ending_code l ok es) (λ _ _. some_ending l es) in
+    let both = then_code (name_code l ok k (stop_of es) some (stop_low es)) (λ _ e. IsLastly l es e) (λ _ e. ending_line e) (λ _. ending_at l es) (λ _ _. ending_code l ok es) (λ _ _. some_ending l ok es) in
     as_code both (λ p. (one p.0, p.1)) (AreBehind l (kinds.One k) es) (behind_line (kinds.One k) es) (λ p h. (((h.0, refl), h.1), refl)) (one_from l k es)
 behind_code l ok (kinds.Two k j) es some =
-    let last = then_code (name_code l ok j (stop_of es) some.1 (stop_low es)) (λ _ e. EndsIn l es e) (λ _ e. ending_line e) (λ _. ending_at l es) (λ _ _. ending_code l ok es) (λ _ _. some_ending l es) in
-    let e = some_ending l es in
-    let both = then_code (name_code l ok k 32 some.0 (omega arith)) (λ _ p. (p.0 < count_of l j) × EndsIn l es p.1) (λ _ p. name_line j (stop_of es) p.0 ++ ending_line p.1) _ (λ _ _. last) (λ _ _. ((0, e.0), (some.1, e.1))) in
+    let last = then_code (name_code l ok j (stop_of es) some.1 (stop_low es)) (λ _ e. IsLastly l es e) (λ _ e. ending_line e) (λ _. ending_at l es) (λ _ _. ending_code l ok es) (λ _ _. some_ending l ok es) in
+    let e = some_ending l ok es in
+    let both = then_code (name_code l ok k 32 some.0 (omega arith)) (λ _ p. (p.0 < count_of l j) × IsLastly l es p.1) (λ _ p. name_line j (stop_of es) p.0 ++ ending_line p.1) _ (λ _ _. last) (λ _ _. ((0, e.0), (some.1, e.1))) in
     as_code both (λ p. (two p.0 p.1.0, p.1.1)) (AreBehind l (kinds.Two k j) es) (behind_line (kinds.Two k j) es) (λ p h. ((((h.0, h.1.0), tt), h.1.1), refl))
     (λ p h. ((p.0.first, (p.0.second, p.1)), (h.0.0.0, (h.0.0.1, h.1)), refl))
 
-some_behind : (l : Layout) (ks : Kinds) (es : Endings) → AreSome l ks → (p : Numbers × Ending) × AreBehind l ks es p
-some_behind l kinds.Nothing es some = let e = some_ending l es in ((none, e.0), ((tt, refl), e.1))
-some_behind l (kinds.One k) es some = let e = some_ending l es in ((none, e.0), ((some, refl), e.1))
-some_behind l (kinds.Two k j) es some = let e = some_ending l es in ((none, e.0), ((some, tt), e.1))
+some_behind : (l : Layout) → IsLawful l → (ks : Kinds) (es : Endings) → AreSome l ks → (p : Numbers × Ending) × AreBehind l ks es p
+some_behind l ok kinds.Nothing es some = let e = some_ending l ok es in ((none, e.0), ((tt, refl), e.1))
+some_behind l ok (kinds.One k) es some = let e = some_ending l ok es in ((none, e.0), ((some, refl), e.1))
+some_behind l ok (kinds.Two k j) es some = let e = some_ending l ok es in ((none, e.0), ((some, tt), e.1))
 
--- a lawful action with this word
+-- the word may stand in the version, with what is behind it
+abbrev AreWith : Layout → Word → Numbers × Ending → Type 0
+AreWith l w p = (is_in (since w) l.version ≡ true) × AreBehind l (kinds_of w) (endings_of w) p
+
+-- a lawful action as reading makes it
+abbrev pub IsRead : Layout → Action → Type 0
+IsRead l a = IsNamed l a × IsMade a
+
+-- such an action with this word
 abbrev pub IsOf : Layout → Word → Action → Type 0
-IsOf l w a = ((row_of a).word ≡ w) × IsNamed l a
+IsOf l w a = ((row_of a).word ≡ w) × IsRead l a
 
-row_to : (l : Layout) (w : Word) (p : Numbers × Ending) → AreBehind l (kinds_of w) (endings_of w) p → IsOf l w (made w p.0 p.1) × (text (made w p.0 p.1) ≡ word_text w ++ (gap_of (kinds_of w) (endings_of w) ∷ [] ++ behind_line (kinds_of w) (endings_of w) p))
-row_to l w p h =
-    let ends = is_ending l (endings_of w) p.1 h.1 in
+row_to : (l : Layout) (w : Word) (p : Numbers × Ending) → AreWith l w p → IsOf l w (made w p.0 p.1) × (text (made w p.0 p.1) ≡ word_text w ++ (gap_of (kinds_of w) (endings_of w) ∷ [] ++ behind_line (kinds_of w) (endings_of w) p))
+row_to l w p (known, h) =
+    let ends = is_ending l (endings_of w) p.1 h.1.0 in
     let back = row_back (row w p.0 p.1) (record { numbers = h.0.1; ending = ends }) in
-    let named : IsNamedRow l (row w p.0 p.1) = fits_from l (kinds_of w) p.0 (endings_of w) p.1 h.0.0 h.1 in
-    ((ap (λ r. r.word) back, subst (IsNamedRow l) (sym back) named), ap (λ r. row_text r ++ newline) back ∙ row_is w p.0 p.1 ends)
+    let fits = fits_from l (kinds_of w) p.0 (endings_of w) p.1 h.0.0 h.1.0 in
+    let named : IsNamedRow l (row w p.0 p.1) = in_version (since w) l.version (FitsIn l (kinds_of w) p.0 (endings_of w) p.1) known fits in
+    ((ap (λ r. r.word) back, (subst (IsNamedRow l) (sym back) named, subst (λ r. IsMadeEnding r.ending) (sym back) h.1.1)), ap (λ r. row_text r ++ newline) back ∙ row_is w p.0 p.1 ends)
 
-row_from : (l : Layout) (w : Word) (a : Action) → IsOf l w a → (p : Numbers × Ending) × AreBehind l (kinds_of w) (endings_of w) p × (a ≡ made w p.0 p.1)
+row_from : (l : Layout) (w : Word) (a : Action) → IsOf l w a → (p : Numbers × Ending) × AreWith l w p × (a ≡ made w p.0 p.1)
 row_from l w a h =
     let r = row_of a in
     let is = is_row a in
     let v = r.word in
-    let below = below_of l (kinds_of v) r.numbers (endings_of v) r.ending h.1 in
-    let ends = ends_of l (kinds_of v) r.numbers (endings_of v) r.ending h.1 is.ending in
-    let P : Word → Type 0 = λ w. (p : Numbers × Ending) × AreBehind l (kinds_of w) (endings_of w) p × (a ≡ made w p.0 p.1) in
-    subst P h.0 ((r.numbers, r.ending), ((below, is.numbers), ends), sym (action_back a))
+    let A = FitsIn l (kinds_of v) r.numbers (endings_of v) r.ending in
+    let fits = fits_of (since v) l.version A h.1.0 in
+    let below = below_of l (kinds_of v) r.numbers (endings_of v) r.ending fits in
+    let ends = ends_of l (kinds_of v) r.numbers (endings_of v) r.ending fits is.ending in
+    let P : Word → Type 0 = λ w. (p : Numbers × Ending) × AreWith l w p × (a ≡ made w p.0 p.1) in
+    subst P h.0 ((r.numbers, r.ending), (known_of (since v) l.version A h.1.0, ((below, is.numbers), (ends, h.1.1))), sym (action_back a))
+
+other_false : (a b : Bool) → (a && b) ≡ false → a ≡ true → b ≡ false
+other_false true b h e = h
+other_false false b h e = absurd (cc)
 
 row_code : (l : Layout) → IsLawful l → (w : Word) → IsCode (IsOf l w) text (row_at l w)
 row_code l ok w =
     let ks = kinds_of w in
     let es = endings_of w in
     let line : Numbers × Ending → List ℕ = λ p. word_text w ++ (gap_of ks es ∷ [] ++ behind_line ks es p) in
-    let words = only_code (are_some l ks) (AreBehind l ks es) line _
-    (λ h. let some = are_some_from l ks h in let p = some_behind l ks es some in word_code (word_code (behind_code l ok ks es some) (gap_of ks es ∷ []) p) (word_text w) p)
-    (λ h p b. none_lawful l ks p.0 h b.0.0) in
+    let words = only_code (may_stand l w) (AreWith l w) line _
+    (λ h.
+    let both = both_true (is_in (since w) l.version) (are_some l ks) h in
+    let some = are_some_from l ks both.1 in
+    let p = some_behind l ok ks es some in
+    same_code (word_code (word_code (behind_code l ok ks es some) (gap_of ks es ∷ []) p) (word_text w) p) (AreWith l w) line (λ p. refl) (λ p b. (both.0, b)) (λ p b. b.1))
+    (λ h p b. none_lawful l ks p.0 (other_false (is_in (since w) l.version) (are_some l ks) h b.0) b.1.0.0) in
     as_code words (λ p. made w p.0 p.1) (IsOf l w) text (row_to l w) (row_from l w)
 
 -- a lawful action with one of these words
@@ -227,7 +270,7 @@ rows_code l ok (w ∷ ws) d =
     let d' = both_true (differs_from_all (start_of w) (starts ws)) (all_differ (starts ws)) d in
     or_code (row_code l ok w) (rows_code l ok ws d'.1) (apart_from_all l w ws d'.0)
 
-named_of : (l : Layout) (ws : List Word) (a : Action) → IsAmong l ws a → IsNamed l a
+named_of : (l : Layout) (ws : List Word) (a : Action) → IsAmong l ws a → IsRead l a
 named_of l [] a h = absurd h
 named_of l (w ∷ ws) a h = elim h [ inl k ↦ k.1 | inr k ↦ named_of l ws a k ]
 
@@ -236,7 +279,7 @@ among l [] i d a low h = absurd (omega arith)
 among l (w ∷ ws) zero d a low h = inl h
 among l (w ∷ ws) (suc i) d a low h = inr (among l ws i d a (omega arith) h)
 
-among_all : (l : Layout) (a : Action) → IsNamed l a → IsAmong l words a
+among_all : (l : Layout) (a : Action) → IsRead l a → IsAmong l words a
 among_all l a h =
     let w = (row_of a).word in
     let there = is_there w in
@@ -245,5 +288,5 @@ among_all l a h =
 starts_differ : all_differ (starts words) ≡ true
 starts_differ = refl
 
-pub action_code : (l : Layout) → IsLawful l → IsCode (IsNamed l) text (action_at l)
-action_code l ok = same_code (rows_code l ok words starts_differ) (IsNamed l) text (λ a. refl) (named_of l words) (among_all l)
+pub action_code : (l : Layout) → IsLawful l → IsCode (IsRead l) text (action_at l)
+action_code l ok = same_code (rows_code l ok words starts_differ) (IsRead l) text (λ a. refl) (named_of l words) (among_all l)

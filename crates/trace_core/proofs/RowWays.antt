@@ -6,7 +6,7 @@ use Rattle.larch_actions.specs.declared.event.Action.{Action}
 use Rattle.larch_actions.specs.declared.rows.Word.{Word}
 use Rattle.trace_core.specs.declared.line.Stop.TheVariants.{More, Dead}
 use Rattle.larch_actions.specs.Rows.{word_text, kinds_of, endings_of, made}
-use Rattle.trace_core.specs.Lines.{gap_of, behind_at, are_some, row_at, rows_at}
+use Rattle.trace_core.specs.Lines.{gap_of, behind_at, may_stand, row_at, rows_at}
 use Rattle.trace_core.specs.Reading.{Reader, or_else, word_at, after_word, as_value, only_if}
 
 -- the words from a place on: the one there, and those behind it
@@ -37,4 +37,4 @@ not_it false f word bytes read e = refl
 -- another word stands there
 pub other_row : (l : Layout) (w : Word) (bytes : List ℕ) → word_at (word_text w) bytes ≡ Err Dead → row_at l w bytes ≡ Err Dead
 other_row l w bytes e =
-    not_it (are_some l (kinds_of w)) (λ p. made w p.0 p.1) (word_text w) bytes (after_word (gap_of (kinds_of w) (endings_of w) ∷ []) (behind_at l (kinds_of w) (endings_of w))) e
+    not_it (may_stand l w) (λ p. made w p.0 p.1) (word_text w) bytes (after_word (gap_of (kinds_of w) (endings_of w) ∷ []) (behind_at l (kinds_of w) (endings_of w))) e

@@ -2,9 +2,12 @@
 use Rattle.std.proofs.Common.{◌≡◌, ℕ, ◌+◌, ◌-◌, ◌*◌, ◌^◌, ◌<◌, ◌≤◌, List, [], ◌∷◌, length, length-append, ap, Err, arith}
 use Rattle.std.proofs.lemmas.Fmt.{length-decimal-le}
 use Rattle.std.specs.Prelude.{decimal}
+use Rattle.larch_actions.specs.declared.event.Version.{Version}
+use Rattle.larch_actions.specs.declared.event.Version.TheVariants as version
 use Rattle.larch_actions.specs.declared.event.Layout.{Layout}
 use Rattle.larch_actions.specs.declared.event.Action.{Action}
 use Rattle.larch_actions.specs.declared.kind.Kind.{Kind}
+use Rattle.larch_actions.specs.declared.kind.Kind.TheVariants.{Thread}
 use Rattle.larch_actions.specs.declared.rows.Numbers.{Numbers}
 use Rattle.larch_actions.specs.declared.rows.Kinds.{Kinds}
 use Rattle.larch_actions.specs.declared.rows.Kinds.TheVariants as kinds
@@ -22,7 +25,7 @@ use Rattle.trace_core.specs.declared.line.Line.TheVariants as line
 use Rattle.trace_core.specs.declared.line.Expect.{Expect}
 use Rattle.trace_core.specs.declared.line.Expect.TheVariants as expect
 use Rattle.trace_core.specs.Names.{IsRising}
-use Rattle.trace_core.specs.Text.{action_text, names_text, with_name, with_names, with_ending, members}
+use Rattle.trace_core.specs.Text.{first_line, action_text, names_text, with_name, with_names, with_ending, members}
 use Rattle.trace_core.specs.Lines.{line_at, line_text, IsPossible, IsAllowed}
 use Rattle.trace_core.proofs.LineLaws.{line_code}
 use Rattle.trace_core.proofs.Members.{rising-members}
@@ -32,12 +35,12 @@ use Rattle.trace_core.proofs.RowLaws.{EndsIn, named_parts}
 decimal_short : (n : ℕ) → n < 2 ^ 64 → length (decimal n) ≤ 20
 decimal_short n fits = length-decimal-le 20 n (omega arith) (omega arith) fits
 
-names_short : (least bound : ℕ) (ts : List ℕ) → bound ≤ 64 → IsRising least bound ts → length (names_text ts) ≤ 22 * (bound - least)
+names_short : (least bound : ℕ) (ts : List ℕ) → bound ≤ 256 → IsRising least bound ts → length (names_text ts) ≤ 22 * (bound - least)
 names_short least bound [] small h = omega arith
 names_short least bound (t ∷ ts) small h =
     simp length-append (omega (arith, decimal_short t (omega (arith, h.1)), names_short (t + 1) bound ts small h.2, h.0, h.1))
 
-name_short : (front : List ℕ) (k : Kind) (n : ℕ) → n < 64 → length (with_name front k n) ≤ length front + 22
+name_short : (front : List ℕ) (k : Kind) (n : ℕ) → n < 256 → length (with_name front k n) ≤ length front + 22
 name_short front k n low = simp length-append (omega (arith, decimal_short n (omega arith)))
 
 with_short : (l : Layout) → IsLawful l → (front : List ℕ) (ks : Kinds) (x : Numbers) → AreBelow l ks x → length (with_names front ks x) ≤ length front + 44
@@ -46,12 +49,12 @@ with_short l ok front (kinds.One k) x h = omega (arith, name_short front k x.fir
 with_short l ok front (kinds.Two k j) x h =
     omega (arith, name_short front k x.first (omega (arith, h.0, few_of l ok k)), name_short (with_name front k x.first) j x.second (omega (arith, h.1, few_of l ok j)))
 
-left_short : (l : Layout) → IsLawful l → (front : List ℕ) (e : Ending) → EndsIn l endings.Threads e → length (with_ending front e) ≤ length front + 1420
+left_short : (l : Layout) → IsLawful l → (front : List ℕ) (e : Ending) → EndsIn l endings.Threads e → length (with_ending front e) ≤ length front + 5650
 left_short l ok front (Left left) h =
-    simp length-append (omega (arith, names_short 0 l.threads (members left) ok.threads (rising-members left l.threads h.1), ok.threads))
+    simp length-append (omega (arith, names_short 0 l.threads (members left) (few_of l ok Thread) (rising-members left l.threads h.1), few_of l ok Thread))
 left_short l ok front _ h = let k = h.0.1 in absurd (cc)
 
-ending_short : (l : Layout) → IsLawful l → (es : Endings) (front : List ℕ) (e : Ending) → EndsIn l es e → length (with_ending front e) ≤ length front + 1420
+ending_short : (l : Layout) → IsLawful l → (es : Endings) (front : List ℕ) (e : Ending) → EndsIn l es e → length (with_ending front e) ≤ length front + 5650
 ending_short l ok endings.Threads front e h = left_short l ok front e h
 ending_short l ok _ front Nothing h = omega arith
 ending_short l ok _ front Returns h = simp length-append (omega arith)
@@ -62,28 +65,32 @@ ending_short l ok endings.Nothing front (Left left) h = absurd (cc)
 ending_short l ok endings.Outcome front (Left left) h = neither _ Returns Raises (λ k. absurd (cc)) (λ k. absurd (cc)) h
 ending_short l ok endings.Answer front (Left left) h = neither _ Yes No (λ k. absurd (cc)) (λ k. absurd (cc)) h
 
-action_short : (l : Layout) (a : Action) → IsLawful l → IsNamed l a → length (action_text a) ≤ 1500
+action_short : (l : Layout) (a : Action) → IsLawful l → IsNamed l a → length (action_text a) ≤ 5750
 action_short l a ok h =
     let r = row_of a in
     let parts = named_parts l a h in
     let front = with_names (word_text r.word) (kinds_of r.word) r.numbers in
     omega (arith, ending_short l ok (endings_of r.word) front r.ending parts.1, with_short l ok (word_text r.word) (kinds_of r.word) r.numbers parts.0, (each_plain r.word).0)
 
-line_short : (x : Expect) → IsPossible x → (y : Line) → IsAllowed x y → length (line_text x y) ≤ 2000
-line_short expect.Head ok line.Head h = omega arith
+first_short : (v : Version) → length (first_line v) ≤ 6250
+first_short version.One = omega arith
+first_short version.Two = omega arith
+
+line_short : (x : Expect) → IsPossible x → (y : Line) → IsAllowed x y → length (line_text x y) ≤ 6250
+line_short expect.Head ok (line.Head v) h = first_short v
 line_short expect.Head ok _ h = absurd h
-line_short expect.Counts ok (line.Counts l) h =
-    simp length-append (omega (arith, decimal_short l.threads (omega (arith, h.threads)), decimal_short l.mutexes (omega (arith, h.mutexes)), decimal_short l.conditions (omega (arith, h.conditions)), decimal_short l.semaphores (omega (arith, h.semaphores))))
-line_short expect.Counts ok _ h = absurd h
+line_short (expect.Counts v) ok (line.Counts l) h =
+    simp length-append (omega (arith, decimal_short l.threads (omega (arith, few_of l h.0 Thread)), decimal_short l.mutexes (omega (arith, h.0.mutexes)), decimal_short l.conditions (omega (arith, h.0.conditions)), decimal_short l.semaphores (omega (arith, h.0.semaphores))))
+line_short (expect.Counts v) ok _ h = absurd h
 line_short (expect.Events l n) ok (line.Event e) h =
-    simp length-append (omega (arith, decimal_short n (omega (arith, ok.1)), decimal_short e.thread.0 (omega (arith, ok.0.threads, h.0)), action_short l e.action ok.0 h.1))
+    simp length-append (omega (arith, decimal_short n (omega (arith, ok.1)), decimal_short e.thread.0 (omega (arith, few_of l ok.0 Thread, h.0.0)), action_short l e.action ok.0 h.0.1))
 line_short (expect.Events l n) ok line.End h = simp length-append (omega (arith, decimal_short n (omega (arith, ok.1))))
 line_short (expect.Events l n) ok _ h = absurd h
 line_short (expect.Values l least) ok (line.Value k v) h = simp length-append (omega (arith, decimal_short k (omega (arith, ok.0.mutexes, h.1)), decimal_short v h.2))
 line_short (expect.Values l least) ok _ h = absurd h
 
 -- bytes to which more must come are short
-pub more_short : (x : Expect) → IsPossible x → (w : List ℕ) → line_at x w ≡ Err More → length w ≤ 2000
+pub more_short : (x : Expect) → IsPossible x → (w : List ℕ) → line_at x w ≡ Err More → length w ≤ 6250
 more_short x ok w e =
     let m = (line_code x ok).more w e in
     omega (arith, line_short x ok m.0 m.2, ap length m.3, length-append w m.1)

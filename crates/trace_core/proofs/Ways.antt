@@ -1,8 +1,10 @@
 -- What reading the layout line gives, told by what its parts gave.
-use Rattle.std.proofs.Common.{◌≡◌, ℕ, List, [], refl, ap, sym, ◌∙◌, Ok, Err}
+use Rattle.std.proofs.Common.{◌≡◌, ℕ, ◌+◌, List, [], refl, ap, sym, ◌∙◌, Ok, Err}
 use Rattle.std.specs.Prelude.{codes}
 use Rattle.std.specs.declared.result.Result.{Result}
+use Rattle.larch_actions.specs.declared.event.Version.{Version}
 use Rattle.larch_actions.specs.declared.event.Layout.{Layout}
+use Rattle.larch_actions.specs.Layout.{most_in}
 use Rattle.trace_core.specs.declared.line.Line.TheVariants as line
 use Rattle.trace_core.specs.declared.line.Stop.{Stop}
 use Rattle.trace_core.specs.Reading.{Reader, ◌>>=◌, word_at, after_word, both, as_value, number_at}
@@ -41,21 +43,21 @@ last_same bytes =
 abbrev counted : ℕ → Result ((ℕ × (ℕ × ℕ)) × List ℕ) Stop → Result ((ℕ × (ℕ × (ℕ × ℕ))) × List ℕ) Stop
 counted t r = r >>= λ y. Ok ((t, y.0), y.1)
 
-laid : (t : ℕ) (r : Result ((ℕ × (ℕ × ℕ)) × List ℕ) Stop)
-    → as_value line.Counts (as_value layout_from (λ _. counted t r)) [] ≡ as_value line.Counts (as_value (λ p. layout_from (t, p)) (λ _. r)) []
-laid t (Ok x) = refl
-laid t (Err s) = refl
+laid : (v : Version) (t : ℕ) (r : Result ((ℕ × (ℕ × ℕ)) × List ℕ) Stop)
+    → as_value line.Counts (as_value (layout_from v) (λ _. counted t r)) [] ≡ as_value line.Counts (as_value (λ p. layout_from v (t, p)) (λ _. r)) []
+laid v t (Ok x) = refl
+laid v t (Err s) = refl
 
-counts_from : (bytes rest more : List ℕ) (t : ℕ) → word_at (codes "threads ") bytes ≡ Ok rest → number_at 1 65 32 rest ≡ Ok (t, more)
-    → as_value line.Counts counts_at bytes ≡ as_value line.Counts (as_value (λ p. layout_from (t, p)) last_names) more
-counts_from bytes rest more t e f =
-    let h : as_value line.Counts counts_at bytes ≡ as_value line.Counts (as_value (λ p. layout_from (t, p)) last_numbers) more = rw (e, f) (laid t (last_numbers more)) in
-    h ∙ ap (λ r. as_value line.Counts (as_value (λ p. layout_from (t, p)) (λ _. r)) []) (sym (last_same more))
+counts_from : (v : Version) (bytes rest more : List ℕ) (t : ℕ) → word_at (codes "threads ") bytes ≡ Ok rest → number_at 1 (most_in v + 1) 32 rest ≡ Ok (t, more)
+    → as_value line.Counts (counts_at v) bytes ≡ as_value line.Counts (as_value (λ p. layout_from v (t, p)) last_names) more
+counts_from v bytes rest more t e f =
+    let h : as_value line.Counts (counts_at v) bytes ≡ as_value line.Counts (as_value (λ p. layout_from v (t, p)) last_numbers) more = rw (e, f) (laid v t (last_numbers more)) in
+    h ∙ ap (λ r. as_value line.Counts (as_value (λ p. layout_from v (t, p)) (λ _. r)) []) (sym (last_same more))
 
-pub counts_ok : (bytes rest more end : List ℕ) (t : ℕ) (l : Layout) → word_at (codes "threads ") bytes ≡ Ok rest → number_at 1 65 32 rest ≡ Ok (t, more) → as_value (λ p. layout_from (t, p)) last_names more ≡ Ok (l, end)
-    → as_value line.Counts counts_at bytes ≡ Ok (line.Counts l, end)
-counts_ok bytes rest more end t l e f g = counts_from bytes rest more t e f ∙ value_ok line.Counts (as_value (λ p. layout_from (t, p)) last_names) more (l, end) g
+pub counts_ok : (v : Version) (bytes rest more end : List ℕ) (t : ℕ) (l : Layout) → word_at (codes "threads ") bytes ≡ Ok rest → number_at 1 (most_in v + 1) 32 rest ≡ Ok (t, more) → as_value (λ p. layout_from v (t, p)) last_names more ≡ Ok (l, end)
+    → as_value line.Counts (counts_at v) bytes ≡ Ok (line.Counts l, end)
+counts_ok v bytes rest more end t l e f g = counts_from v bytes rest more t e f ∙ value_ok line.Counts (as_value (λ p. layout_from v (t, p)) last_names) more (l, end) g
 
-pub counts_stop : (bytes rest more : List ℕ) (t : ℕ) (s : Stop) → word_at (codes "threads ") bytes ≡ Ok rest → number_at 1 65 32 rest ≡ Ok (t, more) → as_value (λ p. layout_from (t, p)) last_names more ≡ Err s
-    → as_value line.Counts counts_at bytes ≡ Err s
-counts_stop bytes rest more t s e f g = counts_from bytes rest more t e f ∙ value_stops line.Counts (as_value (λ p. layout_from (t, p)) last_names) more s g
+pub counts_stop : (v : Version) (bytes rest more : List ℕ) (t : ℕ) (s : Stop) → word_at (codes "threads ") bytes ≡ Ok rest → number_at 1 (most_in v + 1) 32 rest ≡ Ok (t, more) → as_value (λ p. layout_from v (t, p)) last_names more ≡ Err s
+    → as_value line.Counts (counts_at v) bytes ≡ Err s
+counts_stop v bytes rest more t s e f g = counts_from v bytes rest more t e f ∙ value_stops line.Counts (as_value (λ p. layout_from v (t, p)) last_names) more s g

@@ -10,7 +10,7 @@ use Rattle.firefly_outside.specs.Causes.{AppendsFront}
 use Rattle.larch_actions.specs.declared.event.Layout.{Layout}
 use Rattle.larch_actions.specs.declared.event.Event.{Event}
 use Rattle.larch_actions.specs.Layout.{IsLawful, HasNames}
-use Rattle.trace_core.specs.Text.{MutexValue, AreValues, ReadsAs, first_line, layout_line, event_line, end_line, values_text, rest_text, trace_text}
+use Rattle.trace_core.specs.Text.{MutexValue, AreValues, ReadsAs, head_text, event_line, end_line, values_text, rest_text, trace_text}
 use Rattle.trace_core.specs.Whole.{event_lines, numbered, Flows}
 
 front_more : (a b : Option (List ℕ)) (p q : List ℕ) → AppendsFront a b p → AppendsFront a b (p ++ q)
@@ -26,35 +26,32 @@ rest_parts n (e ∷ es) vs =
     let size : n + length (e ∷ es) ≡ n + 1 + length es = omega arith in
     append_assoc (event_line n e) (event_lines (n + 1) es) (end_line (n + length (e ∷ es)) ++ values_text vs) ∙ ap (λ m. event_line n e ++ (event_lines (n + 1) es ++ (end_line m ++ values_text vs))) size ∙ ap (λ l. event_line n e ++ l) (rest_parts (n + 1) es vs)
 
-abbrev head : Layout → List ℕ
-head l = first_line ++ layout_line l
-
 abbrev lines : List Event → List ℕ
 lines es = event_lines 0 es ++ end_line (length es)
 
-whole_text : (l : Layout) (es : List Event) (vs : List MutexValue) → (head l ++ lines es) ++ values_text vs ≡ trace_text l es vs
+whole_text : (l : Layout) (es : List Event) (vs : List MutexValue) → (head_text l ++ lines es) ++ values_text vs ≡ trace_text l es vs
 whole_text l es vs =
     let size : 0 + length es ≡ length es = omega arith in
-    append_assoc (head l) (lines es) (values_text vs) ∙ ap (λ x. head l ++ x) (append_assoc (event_lines 0 es) (end_line (length es)) (values_text vs) ∙ ap (λ m. event_lines 0 es ++ (end_line m ++ values_text vs)) (sym size) ∙ rest_parts 0 es vs)
+    append_assoc (head_text l) (lines es) (values_text vs) ∙ ap (λ x. head_text l ++ x) (append_assoc (event_lines 0 es) (end_line (length es)) (values_text vs) ∙ ap (λ m. event_lines 0 es ++ (end_line m ++ values_text vs)) (sym size) ∙ rest_parts 0 es vs)
 
 flowed : (before after text more : List ℕ) (h0 h1 : Option (List ℕ)) → (f : Flows h0 h1 before after text) → f.0 ++ (after ++ more) ≡ (before ++ text) ++ more
 flowed before after text more h0 h1 f = sym (append_assoc f.0 after more) ∙ ap (λ x. x ++ more) f.2
 
-pub whole_put : (l : Layout) (es : List Event) (vs : List MutexValue) (h0 h1 h2 h3 : Option (List ℕ)) (first mid last : List ℕ) → first ≡ head l → Flows h0 h1 first mid (lines es) → Flows h1 h2 mid last (values_text vs) → Appends h2 h3 last → Appends h0 h3 (trace_text l es vs)
+pub whole_put : (l : Layout) (es : List Event) (vs : List MutexValue) (h0 h1 h2 h3 : Option (List ℕ)) (first mid last : List ℕ) → first ≡ head_text l → Flows h0 h1 first mid (lines es) → Flows h1 h2 mid last (values_text vs) → Appends h2 h3 last → Appends h0 h3 (trace_text l es vs)
 whole_put l es vs h0 h1 h2 h3 first mid last is f k a =
     let same : f.0 ++ (k.0 ++ last) ≡ trace_text l es vs = ap (λ x. f.0 ++ x) k.2 ∙ flowed first mid (lines es) (values_text vs) h0 h1 f ∙ ap (λ x. (x ++ lines es) ++ values_text vs) is ∙ whole_text l es vs in
     subst (Appends h0 h3) same (Appends-trans h0 h1 h3 f.0 (k.0 ++ last) f.1 (Appends-trans h1 h2 h3 k.0 last k.1 a))
 
-pub events_fault : (l : Layout) (es : List Event) (vs : List MutexValue) (h0 h1 : Option (List ℕ)) (first : List ℕ) → first ≡ head l → AppendsFront h0 h1 (first ++ lines es) → AppendsFront h0 h1 (trace_text l es vs)
+pub events_fault : (l : Layout) (es : List Event) (vs : List MutexValue) (h0 h1 : Option (List ℕ)) (first : List ℕ) → first ≡ head_text l → AppendsFront h0 h1 (first ++ lines es) → AppendsFront h0 h1 (trace_text l es vs)
 events_fault l es vs h0 h1 first is f =
     subst (AppendsFront h0 h1) (ap (λ x. (x ++ lines es) ++ values_text vs) is ∙ whole_text l es vs) (front_more h0 h1 (first ++ lines es) (values_text vs) f)
 
-pub values_fault : (l : Layout) (es : List Event) (vs : List MutexValue) (h0 h1 h2 : Option (List ℕ)) (first mid : List ℕ) → first ≡ head l → Flows h0 h1 first mid (lines es) → AppendsFront h1 h2 (mid ++ values_text vs) → AppendsFront h0 h2 (trace_text l es vs)
+pub values_fault : (l : Layout) (es : List Event) (vs : List MutexValue) (h0 h1 h2 : Option (List ℕ)) (first mid : List ℕ) → first ≡ head_text l → Flows h0 h1 first mid (lines es) → AppendsFront h1 h2 (mid ++ values_text vs) → AppendsFront h0 h2 (trace_text l es vs)
 values_fault l es vs h0 h1 h2 first mid is f a =
     let same : f.0 ++ (mid ++ values_text vs) ≡ trace_text l es vs = flowed first mid (lines es) (values_text vs) h0 h1 f ∙ ap (λ x. (x ++ lines es) ++ values_text vs) is ∙ whole_text l es vs in
     subst (AppendsFront h0 h2) same (front_behind h0 h1 h2 f.0 (mid ++ values_text vs) f.1 a)
 
-pub last_fault : (l : Layout) (es : List Event) (vs : List MutexValue) (h0 h1 h2 h3 : Option (List ℕ)) (first mid last : List ℕ) → first ≡ head l → Flows h0 h1 first mid (lines es) → Flows h1 h2 mid last (values_text vs) → AppendsFront h2 h3 last → AppendsFront h0 h3 (trace_text l es vs)
+pub last_fault : (l : Layout) (es : List Event) (vs : List MutexValue) (h0 h1 h2 h3 : Option (List ℕ)) (first mid last : List ℕ) → first ≡ head_text l → Flows h0 h1 first mid (lines es) → Flows h1 h2 mid last (values_text vs) → AppendsFront h2 h3 last → AppendsFront h0 h3 (trace_text l es vs)
 last_fault l es vs h0 h1 h2 h3 first mid last is f k a =
     let same : f.0 ++ (k.0 ++ last) ≡ trace_text l es vs = ap (λ x. f.0 ++ x) k.2 ∙ flowed first mid (lines es) (values_text vs) h0 h1 f ∙ ap (λ x. (x ++ lines es) ++ values_text vs) is ∙ whole_text l es vs in
     subst (AppendsFront h0 h3) same (front_behind h0 h1 h3 f.0 (k.0 ++ last) f.1 (front_behind h1 h2 h3 k.0 last k.1 a))

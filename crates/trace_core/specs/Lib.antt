@@ -3,6 +3,7 @@ pub mod Prefixes
 pub mod Codes
 pub mod Reading
 pub mod Names
+pub mod Made
 pub mod Lines
 pub mod Held
 pub mod Spelled

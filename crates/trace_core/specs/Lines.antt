@@ -1,5 +1,7 @@
 -- Reading the lines of a trace text.
 use Rattle.std.specs.Prelude.{◌≡◌, ℕ, ◌+◌, ◌^◌, ◌<◌, ◌≤◌, nat_lt, ◌&&◌, Bool, true, false, List, [], ◌∷◌, ◌++◌, if◌then◌else◌, codes, decimal, Ok, Err, Result}
+use Rattle.larch_actions.specs.declared.event.Version.{Version}
+use Rattle.larch_actions.specs.declared.event.Version.TheVariants as version
 use Rattle.larch_actions.specs.declared.event.Layout.{Layout}
 use Rattle.larch_actions.specs.declared.event.Event.{Event}
 use Rattle.larch_actions.specs.declared.event.Action.{Action}
@@ -12,8 +14,8 @@ use Rattle.larch_actions.specs.declared.rows.Endings.{Endings}
 use Rattle.larch_actions.specs.declared.rows.Endings.TheVariants as endings
 use Rattle.larch_actions.specs.declared.rows.Ending.{Ending}
 use Rattle.larch_actions.specs.declared.rows.Ending.TheVariants as ending
-use Rattle.larch_actions.specs.Rows.{words, word_text, kinds_of, endings_of, none, one, two, answer_of, made}
-use Rattle.larch_actions.specs.Layout.{IsLawful, HasNames, count_of, letter, layout_of, most_objects, most_threads}
+use Rattle.larch_actions.specs.Rows.{words, word_text, since, kinds_of, endings_of, none, one, two, answer_of, made}
+use Rattle.larch_actions.specs.Layout.{IsLawful, HasNames, count_of, letter, layout_in, most_objects, most_in}
 use Rattle.trace_core.specs.declared.line.Line.{Line}
 use Rattle.trace_core.specs.declared.line.Line.TheVariants as line
 use Rattle.trace_core.specs.declared.line.Expect.{Expect}
@@ -23,6 +25,7 @@ use Rattle.trace_core.specs.declared.line.Stop.{Stop}
 use Rattle.trace_core.specs.declared.line.Stop.TheVariants.{Dead}
 use Rattle.trace_core.specs.Reading.{Reader, ◌>>=◌, word_at, after_word, both, as_value, either, only_if, number_at}
 use Rattle.trace_core.specs.Names.{number_from, names_at, set_from}
+use Rattle.trace_core.specs.Made.{IsMade}
 use Rattle.trace_core.specs.Text.{first_line, layout_line, event_line, end_line, value_line, IsRest, IsLaid, IsTrace, IsValues, MutexValue, AreValues, values_text}
 
 -- the place of an event, and what stands before its thread's number
@@ -73,10 +76,20 @@ are_some l kinds.Nothing = true
 are_some l (kinds.One k) = nat_lt 0 (count_of l k)
 are_some l (kinds.Two k j) = nat_lt 0 (count_of l k) && nat_lt 0 (count_of l j)
 
+-- what came with the one version is in the other
+abbrev pub is_in : Version → Version → Bool
+is_in version.One v = true
+is_in version.Two version.One = false
+is_in version.Two version.Two = true
+
+-- the word is one of the version, and there are things of each kind that it names
+abbrev pub may_stand : Layout → Word → Bool
+may_stand l w = is_in (since w) l.version && are_some l (kinds_of w)
+
 -- an action with this word up to the end of its line
 abbrev pub row_at : Layout → Word → Reader Action
 row_at l w =
-    as_value (λ p. made w p.0 p.1) (only_if (are_some l (kinds_of w)) (after_word (word_text w) (after_word (gap_of (kinds_of w) (endings_of w) ∷ []) (behind_at l (kinds_of w) (endings_of w)))))
+    as_value (λ p. made w p.0 p.1) (only_if (may_stand l w) (after_word (word_text w) (after_word (gap_of (kinds_of w) (endings_of w) ∷ []) (behind_at l (kinds_of w) (endings_of w)))))
 
 -- an action with one of these words
 abbrev pub rows_at : Layout → List Word → Reader Action
@@ -98,14 +111,14 @@ end_at n = after_word (codes "end ") (after_word (decimal n) (after_word (10 ∷
 abbrev pub event_or_end_at : Layout → ℕ → Reader Line
 event_or_end_at l n = either (as_value line.Event (event_at l n)) (end_at n)
 
-abbrev pub layout_from : ℕ × (ℕ × (ℕ × ℕ)) → Layout
-layout_from p = layout_of p.0 p.1.0 p.1.1.0 p.1.1.1
+abbrev pub layout_from : Version → ℕ × (ℕ × (ℕ × ℕ)) → Layout
+layout_from v p = layout_in v p.0 p.1.0 p.1.1.0 p.1.1.1
 
-abbrev pub counts_at : Reader Layout
-counts_at =
-    as_value layout_from
+abbrev pub counts_at : Version → Reader Layout
+counts_at v =
+    as_value (layout_from v)
     (after_word (codes "threads ")
-    (both (number_at 1 (most_threads + 1) 32) (λ _.
+    (both (number_at 1 (most_in v + 1) 32) (λ _.
     after_word (codes "mutexes ")
     (both (number_at 0 (most_objects + 1) 32) (λ _.
     after_word (codes "conditions ")
@@ -113,8 +126,11 @@ counts_at =
     after_word (codes "semaphores ")
     (number_at 0 (most_objects + 1) 10))))))))
 
+abbrev pub head_of : Bool → Line
+head_of one = line.Head (if one then version.One else version.Two)
+
 abbrev pub head_at : Reader Line
-head_at = after_word first_line (λ rest. Ok (line.Head, rest))
+head_at = as_value head_of (flag_at (first_line version.One) (first_line version.Two))
 
 abbrev pub value_of : (ℕ × ℕ) × ℕ → Line
 value_of p = line.Value p.0.0 p.1
@@ -126,22 +142,22 @@ value_at l least = as_value value_of (after_word (codes "value m") (both (number
 -- the line that comes next
 abbrev pub line_at : Expect → Reader Line
 line_at expect.Head = head_at
-line_at expect.Counts = as_value line.Counts counts_at
+line_at (expect.Counts v) = as_value line.Counts (counts_at v)
 line_at (expect.Events l n) = event_or_end_at l n
 line_at (expect.Values l least) = value_at l least
 
 -- what is asked for can come: the layout is lawful, another event may stand behind the next, and some mutex may have a value
 abbrev pub IsPossible : Expect → Type 0
 IsPossible expect.Head = Unit {0}
-IsPossible expect.Counts = Unit {0}
+IsPossible (expect.Counts v) = Unit {0}
 IsPossible (expect.Events l n) = IsLawful l × (n + 1 < 2 ^ 64)
 IsPossible (expect.Values l least) = IsLawful l × (least < l.mutexes)
 
 -- the line may come next
 abbrev pub IsAllowed : Expect → Line → Type 0
-IsAllowed expect.Head line.Head = Unit {0}
-IsAllowed expect.Counts (line.Counts l) = IsLawful l
-IsAllowed (expect.Events l n) (line.Event e) = HasNames l e
+IsAllowed expect.Head (line.Head v) = Unit {0}
+IsAllowed (expect.Counts v) (line.Counts l) = IsLawful l × (l.version ≡ v)
+IsAllowed (expect.Events l n) (line.Event e) = HasNames l e × IsMade e.action
 IsAllowed (expect.Events l n) line.End = Unit {0}
 IsAllowed (expect.Values l least) (line.Value k v) = (least ≤ k) × (k < l.mutexes) × (v < 2 ^ 64)
 IsAllowed _ _ = ⊥
@@ -153,7 +169,7 @@ place_in _ = 0
 
 -- the text of the line in its place
 abbrev pub line_text : Expect → Line → List ℕ
-line_text x line.Head = first_line
+line_text x (line.Head v) = first_line v
 line_text x (line.Counts l) = layout_line l
 line_text x (line.Event e) = event_line (place_in x) e
 line_text x line.End = end_line (place_in x)
@@ -166,14 +182,14 @@ IsSomeValues l least bytes = (v : MutexValue) × (vs : List MutexValue) × AreVa
 -- from the line that comes next on, the bytes are the rest of a trace text
 abbrev pub IsTextFrom : Expect → List ℕ → Type 0
 IsTextFrom expect.Head bytes = IsTrace bytes
-IsTextFrom expect.Counts bytes = IsLaid bytes
+IsTextFrom (expect.Counts v) bytes = IsLaid v bytes
 IsTextFrom (expect.Events l n) bytes = IsRest l n bytes
 IsTextFrom (expect.Values l least) bytes = IsSomeValues l least bytes
 
 -- behind this line, the bytes are the rest of a trace text
 abbrev pub IsTextBehind : Expect → Line → List ℕ → Type 0
-IsTextBehind expect.Head line.Head bytes = IsLaid bytes
-IsTextBehind expect.Counts (line.Counts l) bytes = IsRest l 0 bytes
+IsTextBehind expect.Head (line.Head v) bytes = IsLaid v bytes
+IsTextBehind (expect.Counts v) (line.Counts l) bytes = IsRest l 0 bytes
 IsTextBehind (expect.Events l n) (line.Event e) bytes = IsRest l (n + 1) bytes
 IsTextBehind (expect.Events l n) line.End bytes = IsValues l 0 bytes
 IsTextBehind (expect.Values l least) (line.Value k v) bytes = IsValues l (k + 1) bytes

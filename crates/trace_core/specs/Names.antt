@@ -5,9 +5,13 @@ use Rattle.larch_actions.specs.Sets.{set_of}
 use Rattle.trace_core.specs.declared.line.Stop.TheVariants.{More, Dead}
 use Rattle.trace_core.specs.Reading.{Reader, after_word, both, as_value, either}
 
--- a number from least on and below the bound can begin with the digits of v
+-- some of the n numbers from v on are from least on and below the bound, where least is below it
+abbrev pub meets : ℕ → ℕ → ℕ → ℕ → Bool
+meets least bound v n = nat_lt v bound && nat_lt least (v + n)
+
+-- a number from least on and below the bound, which is at most 1000, can begin with the digits of v
 abbrev pub reaches : ℕ → ℕ → ℕ → Bool
-reaches least bound v = nat_lt v bound && (nat_le least v || (nat_lt 0 v && (nat_lt (10 * v) bound && nat_le least (10 * v + 9))))
+reaches least bound v = nat_lt v bound && (nat_le least v || (nat_lt 0 v && (meets least bound (10 * v) 10 || meets least bound (100 * v) 100)))
 
 abbrev pub is_digit : ℕ → Bool
 is_digit c = nat_le 48 c && nat_le c 57

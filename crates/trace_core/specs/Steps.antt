@@ -12,8 +12,9 @@ use Rattle.trace_core.specs.declared.progress.Progress.{Progress}
 use Rattle.trace_core.specs.declared.progress.Phase.TheVariants as phase
 use Rattle.trace_core.specs.Intake.{HasReason, LacksAt}
 use Rattle.trace_core.specs.Lines.{line_at}
+use Rattle.trace_core.specs.Made.{IsMade}
 use Rattle.trace_core.specs.Standing.{Standing}
-use Rattle.trace_core.specs.Text.{MutexValue, AreValues, first_line, layout_line, event_line, end_line, values_text}
+use Rattle.trace_core.specs.Text.{MutexValue, AreValues, head_text, event_line, end_line, values_text}
 
 -- the bytes of the text were read
 pub record Passes (old new : Standing) (text : List ℕ) (count : ℕ) : Type 0 where
@@ -24,7 +25,7 @@ pub record Passes (old new : Standing) (text : List ℕ) (count : ℕ) : Type 0 
 -- the head of the text with this layout was read, and events come next
 pub record TakesHead (old new : Standing) (l : Layout) : Type 0 where
   pub lawful : IsLawful l
-  pub passes : Passes old new (first_line ++ layout_line l) 2
+  pub passes : Passes old new (head_text l) 2
   pub phase : new.phase ≡ phase.Events
   pub layout : new.layout ≡ l
   pub place : new.place ≡ 0
@@ -32,6 +33,7 @@ pub record TakesHead (old new : Standing) (l : Layout) : Type 0 where
 -- the line of the event in its place was read
 pub record TakesEvent (old new : Standing) (event : Event) : Type 0 where
   pub names : HasNames old.layout event
+  pub made : IsMade event.action
   pub passes : Passes old new (event_line old.place event) 1
   pub phase : new.phase ≡ phase.Events
   pub layout : new.layout ≡ old.layout

@@ -1,6 +1,8 @@
 -- Trace texts.
 use Rattle.std.specs.Prelude.{◌≡◌, ℕ, zero, suc, ◌+◌, ◌^◌, ◌<◌, ◌≤◌, List, [], ◌∷◌, ◌++◌, if◌then◌else◌, length, codes, decimal}
 use Rattle.std.specs.List.{AllByRecursion}
+use Rattle.larch_actions.specs.declared.event.Version.{Version}
+use Rattle.larch_actions.specs.declared.event.Version.TheVariants as version
 use Rattle.larch_actions.specs.declared.event.Layout.{Layout}
 use Rattle.larch_actions.specs.declared.event.Event.{Event}
 use Rattle.larch_actions.specs.declared.event.Action.{Action}
@@ -13,17 +15,23 @@ use Rattle.larch_actions.specs.declared.rows.Ending.TheVariants.{Nothing, Return
 use Rattle.larch_actions.specs.declared.rows.Row.{Row}
 use Rattle.larch_actions.specs.Rows.{word_text, kinds_of, row_of}
 use Rattle.larch_actions.specs.declared.thread_set.ThreadSet.{ThreadSet}
-use Rattle.larch_actions.specs.Layout.{IsLawful, HasNames, layout_text, letter}
+use Rattle.larch_actions.specs.Layout.{IsLawful, HasNames, layout_text, letter, most_threads}
 use Rattle.larch_actions.specs.Sets.{in_set}
 
 abbrev pub newline : List ℕ
 newline = 10 ∷ []
 
-abbrev pub first_line : List ℕ
-first_line = codes "firefly-trace 1" ++ newline
+-- the first line of a text of the version
+abbrev pub first_line : Version → List ℕ
+first_line version.One = codes "firefly-trace 1" ++ newline
+first_line version.Two = codes "firefly-trace 2" ++ newline
 
 abbrev pub layout_line : Layout → List ℕ
 layout_line l = layout_text l ++ newline
+
+-- the first line and the layout line
+abbrev pub head_text : Layout → List ℕ
+head_text l = first_line l.version ++ layout_line l
 
 -- which of n threads from t on are in the set
 unfoldable pub members_from : ThreadSet → ℕ → ℕ → List ℕ
@@ -32,7 +40,7 @@ members_from s t (suc n) = if in_set s t then t ∷ members_from s (t + 1) n els
 
 -- the threads of the set, strictly rising
 unfoldable pub members : ThreadSet → List ℕ
-members s = members_from s 0 64
+members s = members_from s 0 most_threads
 
 -- the names of the threads, each behind a space
 abbrev pub names_text : List ℕ → List ℕ
@@ -96,7 +104,7 @@ rest_text n (e ∷ es) vs = event_line n e ++ rest_text (n + 1) es vs
 
 -- the one text of the layout, the events and the values
 abbrev pub trace_text : Layout → List Event → List MutexValue → List ℕ
-trace_text l es vs = first_line ++ layout_line l ++ rest_text 0 es vs
+trace_text l es vs = head_text l ++ rest_text 0 es vs
 
 -- The bytes are the text of the layout, the events and the values, all of whose names are lawful.
 pub record ReadsAs (bytes : List ℕ) (l : Layout) (es : List Event) (vs : List MutexValue) : Type 0 where
@@ -117,6 +125,6 @@ IsValues l least bytes = (vs : List MutexValue) × AreValues l least vs × (byte
 abbrev pub IsRest : Layout → ℕ → List ℕ → Type 0
 IsRest l n bytes = (es : List Event) × (vs : List MutexValue) × AllByRecursion (HasNames l) es × (n + length es < 2 ^ 64) × AreValues l 0 vs × (bytes ≡ rest_text n es vs)
 
--- the rest of a trace text from the layout line on
-abbrev pub IsLaid : List ℕ → Type 0
-IsLaid bytes = (l : Layout) × (rest : List ℕ) × IsLawful l × IsRest l 0 rest × (bytes ≡ layout_line l ++ rest)
+-- the rest of a trace text of the version from the layout line on
+abbrev pub IsLaid : Version → List ℕ → Type 0
+IsLaid v bytes = (l : Layout) × (rest : List ℕ) × (IsLawful l × (l.version ≡ v)) × IsRest l 0 rest × (bytes ≡ layout_line l ++ rest)

@@ -3,12 +3,14 @@ ghost use Rattle.std.specs.Prelude.{◌≡◌, ◌<◌, true, Err};
 ghost use Rattle.larch_actions.specs.Rows.{word_text};
 ghost use Rattle.larch_actions.specs.Layout.{IsLawful};
 ghost use Rattle.trace_core.specs.Reading.{Gives, word_at};
-ghost use Rattle.trace_core.specs.Lines.{stop_of, gap_of, are_some, ending_at, name_at, behind_at, row_at, action_at};
+ghost use Rattle.trace_core.specs.Lines.{stop_of, gap_of, are_some, is_in, may_stand, ending_at, name_at, behind_at, row_at, action_at};
 
 use crate::line::Stop;
 use crate::names::names;
 use crate::token::{flag, number, word};
-use larch_actions::{Action, Ending, Endings, Kind, Kinds, Layout, Numbers, Row, WORDS, Word};
+use larch_actions::{
+    Action, Ending, Endings, Kind, Kinds, Layout, Numbers, Row, Version, WORDS, Word,
+};
 
 // The numbers of the names behind a word, the ending, and the bytes behind it.
 #[derive(Clone, Copy)]
@@ -47,6 +49,26 @@ fn are_some(layout: &Layout, kinds: Kinds) -> bool
         Kinds::One(kind) => layout.count(kind) > 0,
         Kinds::Two(kind, other) => layout.count(kind) > 0 && layout.count(other) > 0,
     }
+}
+
+// Whether what came with the one version is in the other.
+fn is_in(since: Version, version: Version) -> bool
+    ensures { result ≡ is_in since version }
+{
+    match since {
+        Version::One => true,
+        Version::Two => match version {
+            Version::One => false,
+            Version::Two => true,
+        },
+    }
+}
+
+// Whether the word is one of the version, and there are things of each kind that it names.
+fn may_stand(layout: &Layout, word: Word) -> bool
+    ensures { result ≡ may_stand layout.now word }
+{
+    is_in(word.since(), layout.version) && are_some(layout, word.kinds())
 }
 
 // Reads the threads that are left.
@@ -201,7 +223,7 @@ fn row<'b>(bytes: &'b [u8], layout: &Layout, first: Word) -> Result<(Action, &'b
     }
     let kinds = first.kinds();
     let endings = first.endings();
-    if !are_some(layout, kinds) {
+    if !may_stand(layout, first) {
         return Err(Stop::Dead);
     }
     let rest = match word(bytes, first.text()) {

@@ -1,11 +1,12 @@
 //! Lines of a trace text, written into a buffer behind its first `at` bytes. Each call says where it ended.
 ghost use Rattle.std.specs.Prelude.{◌≡◌, ◌+◌, ◌≤◌, ◌++◌, length, take, codes, decimal};
-ghost use Rattle.trace_core.specs.Text.{newline, first_line, layout_line, members, names_text, with_name, with_names, with_ending, action_text, event_line, end_line, value_line};
+ghost use Rattle.trace_core.specs.Text.{newline, first_line, layout_line, head_text, members, names_text, with_name, with_names, with_ending, action_text, event_line, end_line, value_line};
 
 use crate::digits::add_short_number;
 use itoa::Buffer;
 use larch_actions::{
-    Action, Ending, Event, Kind, Kinds, Layout, MOST_THREADS, MutexId, Numbers, ThreadId, ThreadSet,
+    Action, Ending, Event, Kind, Kinds, Layout, MOST_THREADS, MutexId, Numbers, ThreadId,
+    ThreadSet, Version,
 };
 
 /// Adds the piece.
@@ -60,9 +61,9 @@ fn add_named(buf: &mut [u8], at: usize, word: &[u8], n: u32) -> usize
 
 // Adds the names of the threads, each behind a space.
 fn add_names(buf: &mut [u8], at: usize, left: &ThreadSet) -> usize
-    requires { at + 300 ≤ length buf.old }
+    requires { at + 1320 ≤ length buf.old }
     ensures text { take result buf.new ≡ take at buf.old ++ names_text (members left.now) }
-    ensures near { result ≤ at + 256 }
+    ensures near { result ≤ at + 1280 }
 {
     let mut last = at;
     for t in 0..MOST_THREADS {
@@ -103,9 +104,9 @@ fn add_row_names(buf: &mut [u8], at: usize, kinds: Kinds, numbers: &Numbers) -> 
 
 // Adds the threads that are left.
 fn add_left(buf: &mut [u8], at: usize, left: &ThreadSet) -> usize
-    requires { at + 305 ≤ length buf.old }
+    requires { at + 1325 ≤ length buf.old }
     ensures text { take result buf.new ≡ with_ending (take at buf.old) (Ending.Left left.now) }
-    ensures near { result ≤ at + 261 }
+    ensures near { result ≤ at + 1285 }
 {
     let at = add(buf, at, b" left");
     add_names(buf, at, left)
@@ -114,9 +115,9 @@ fn add_left(buf: &mut [u8], at: usize, left: &ThreadSet) -> usize
 // Adds the ending of a row.
 #[inline(always)]
 fn add_ending(buf: &mut [u8], at: usize, ending: &Ending) -> usize
-    requires { at + 305 ≤ length buf.old }
+    requires { at + 1325 ≤ length buf.old }
     ensures text { take result buf.new ≡ with_ending (take at buf.old) ending.now }
-    ensures near { result ≤ at + 261 }
+    ensures near { result ≤ at + 1285 }
 {
     match ending {
         Ending::Nothing => at,
@@ -130,9 +131,9 @@ fn add_ending(buf: &mut [u8], at: usize, ending: &Ending) -> usize
 
 // Adds the action by its row.
 fn add_action(buf: &mut [u8], at: usize, action: &Action) -> usize
-    requires { at + 366 ≤ length buf.old }
+    requires { at + 1386 ≤ length buf.old }
     ensures text { take result buf.new ≡ take at buf.old ++ action_text action.now }
-    ensures near { result ≤ at + 321 }
+    ensures near { result ≤ at + 1345 }
 {
     let row = action.row();
     let at = add(buf, at, row.word.text());
@@ -142,9 +143,9 @@ fn add_action(buf: &mut [u8], at: usize, action: &Action) -> usize
 
 /// Adds the line of the event in this place, with its newline.
 pub fn add_event(buf: &mut [u8], at: usize, place: u64, e: &Event) -> usize
-    requires { at + 410 ≤ length buf.old }
+    requires { at + 1430 ≤ length buf.old }
     ensures text { take result buf.new ≡ take at buf.old ++ event_line place e.now }
-    ensures near { result ≤ at + 400 }
+    ensures near { result ≤ at + 1400 }
 {
     let at = add_number(buf, at, place);
     let at = add_named(buf, at, b" t", e.thread.0);
@@ -166,13 +167,24 @@ fn add_layout(buf: &mut [u8], at: usize, layout: &Layout) -> usize
     add(buf, at, b"\n")
 }
 
+// The first line of a text of the version.
+fn first_line(version: Version) -> &'static [u8]
+    ensures text { result.now ≡ first_line version }
+    ensures short { length result.now ≤ 16 }
+{
+    match version {
+        Version::One => b"firefly-trace 1\n",
+        Version::Two => b"firefly-trace 2\n",
+    }
+}
+
 // Adds the first line and the layout line.
 pub fn add_head(buf: &mut [u8], at: usize, layout: &Layout) -> usize
     requires { at + 400 ≤ length buf.old }
-    ensures text { take result buf.new ≡ take at buf.old ++ (first_line ++ layout_line layout.now) }
+    ensures text { take result buf.new ≡ take at buf.old ++ head_text layout.now }
     ensures near { result ≤ at + 400 }
 {
-    let at = add(buf, at, b"firefly-trace 1\n");
+    let at = add(buf, at, first_line(layout.version));
     add_layout(buf, at, layout)
 }
 

@@ -1,4 +1,4 @@
-//! Trace texts: a reader that gives the events of a text one after another, and printers of its lines.
+//! Trace texts of both versions: a reader that gives the events of a text one after another, and printers of its lines.
 //!
 //! Promises: the reader gives what the text says, or the text's bad line as soon as the bytes show it; what is printed reads as what was
 //! given. Stands on the sources and sinks of firefly_outside and the events of larch_actions. It takes no memory, and says nothing of

@@ -6,9 +6,9 @@ ghost use Rattle.trace_core.specs.Lines.{IsPossible, named_at, event_at, end_at,
 
 use crate::action::action;
 use crate::names::number_from;
-use crate::token::{last_number, named, number, place_and_t, word};
+use crate::token::{flag, last_number, named, number, place_and_t, word};
 use itoa::Buffer;
-use larch_actions::{Event, Layout, MOST_OBJECTS, MOST_THREADS, ThreadId};
+use larch_actions::{Event, Layout, MOST_OBJECTS, ThreadId, Version};
 
 /// Why nothing was read: the bytes are only a front of what could be read, or no front of it.
 #[derive(Clone, Copy)]
@@ -20,7 +20,7 @@ pub enum Stop {
 /// A line of a trace text.
 #[derive(Clone, Copy)]
 pub enum Line {
-    Head,
+    Head(Version),
     Counts(Layout),
     Event(Event),
     End,
@@ -31,7 +31,7 @@ pub enum Line {
 #[derive(Clone, Copy)]
 pub enum Expect {
     Head,
-    Counts,
+    Counts(Version),
     Events { layout: Layout, place: u64 },
     Values { layout: Layout, least: u32 },
 }
@@ -88,19 +88,20 @@ fn event_or_end<'b>(bytes: &'b [u8], layout: &Layout, place: u64) -> Result<(Lin
     }
 }
 
-// Reads the first line.
+// Reads the first line, which tells the version.
 fn head(bytes: &[u8]) -> Result<(Line, &[u8]), Stop>
     ensures { Gives (λ x. (x.0, x.1.now)) result (head_at bytes.now) }
 {
-    match word(bytes, b"firefly-trace 1\n") {
-        Ok(rest) => Ok((Line::Head, rest)),
+    match flag(bytes, b"firefly-trace 1\n", b"firefly-trace 2\n") {
+        Ok((true, rest)) => Ok((Line::Head(Version::One), rest)),
+        Ok((false, rest)) => Ok((Line::Head(Version::Two), rest)),
         Err(stop) => Err(stop),
     }
 }
 
 // Reads the counts behind that of the threads, up to the end of the layout line.
-fn last_counts(bytes: &[u8], threads: u32) -> Result<(Layout, &[u8]), Stop>
-    ensures { Gives (λ x. (x.0, x.1.now)) result (as_value (λ p. layout_from (threads, p))
+fn last_counts(bytes: &[u8], version: Version, threads: u32) -> Result<(Layout, &[u8]), Stop>
+    ensures { Gives (λ x. (x.0, x.1.now)) result (as_value (λ p. layout_from version (threads, p))
         (both (named_at (codes "mutexes ") (most_objects + 1) 32) (λ _. both (named_at (codes "conditions ") (most_objects + 1) 32)
         (λ _. named_at (codes "semaphores ") (most_objects + 1) 10))) bytes.now) }
 {
@@ -116,23 +117,23 @@ fn last_counts(bytes: &[u8], threads: u32) -> Result<(Layout, &[u8]), Stop>
         Ok(read) => read,
         Err(stop) => return Err(stop),
     };
-    let layout = Layout::of(threads, mutexes, conditions, semaphores);
+    let layout = Layout::of_version(version, threads, mutexes, conditions, semaphores);
     Ok((layout, rest))
 }
 
-// Reads the layout line.
-fn counts(bytes: &[u8]) -> Result<(Line, &[u8]), Stop>
-    ensures { Gives (λ x. (x.0, x.1.now)) result (as_value Line.Counts counts_at bytes.now) }
+// Reads the layout line of a text of the version.
+fn counts(bytes: &[u8], version: Version) -> Result<(Line, &[u8]), Stop>
+    ensures { Gives (λ x. (x.0, x.1.now)) result (as_value Line.Counts (counts_at version) bytes.now) }
 {
     let rest = match word(bytes, b"threads ") {
         Ok(rest) => rest,
         Err(stop) => return Err(stop),
     };
-    let (threads, rest) = match number(rest, 1, MOST_THREADS + 1, b' ') {
+    let (threads, rest) = match number(rest, 1, version.most_threads() + 1, b' ') {
         Ok(read) => read,
         Err(stop) => return Err(stop),
     };
-    match last_counts(rest, threads) {
+    match last_counts(rest, version, threads) {
         Ok((layout, rest)) => Ok((Line::Counts(layout), rest)),
         Err(stop) => Err(stop),
     }
@@ -165,7 +166,7 @@ pub fn line_of<'b>(bytes: &'b [u8], expect: &Expect) -> Result<(Line, &'b [u8]),
 {
     match expect {
         Expect::Head => head(bytes),
-        Expect::Counts => counts(bytes),
+        Expect::Counts(version) => counts(bytes, *version),
         Expect::Events { layout, place } => event_or_end(bytes, layout, *place),
         Expect::Values { layout, least } => value(bytes, layout, *least),
     }

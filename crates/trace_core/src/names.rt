@@ -1,18 +1,28 @@
 //! Reading names in rising order.
-ghost use Rattle.std.specs.Prelude.{◌≡◌, ◌<◌, ◌≤◌};
+ghost use Rattle.std.specs.Prelude.{◌≡◌, ◌+◌, ◌^◌, ◌<◌, ◌≤◌};
 ghost use Rattle.trace_core.specs.Reading.{Gives, as_value};
-ghost use Rattle.trace_core.specs.Names.{reaches, may_stop, number_from, tail_at, names_at, set_from};
+ghost use Rattle.trace_core.specs.Names.{meets, reaches, may_stop, number_from, tail_at, names_at, set_from};
 
 use crate::line::Stop;
 use crate::token::word;
 use larch_actions::{ThreadId, ThreadSet};
 
+// Whether some of the `n` numbers from `v` on are from `least` on and below the bound, where `least` is below it.
+fn meets(least: u32, bound: u32, v: u32, n: u32) -> bool
+    requires { v + n < 2 ^ 32 }
+    ensures { result ≡ meets least bound v n }
+{
+    v < bound && least < v + n
+}
+
 // Whether a number from `least` on and below the bound can begin with the digits of `v`.
 fn reaches(least: u32, bound: u32, v: u32) -> bool
-    requires { bound ≤ 64 }
+    requires { bound ≤ 256 }
     ensures { result ≡ reaches least bound v }
 {
-    v < bound && (least <= v || (v > 0 && 10 * v < bound && least <= 10 * v + 9))
+    v < bound
+        && (least <= v
+            || (v > 0 && (meets(least, bound, 10 * v, 10) || meets(least, bound, 100 * v, 100))))
 }
 
 // Whether the byte may stop the number `v`: among several names this one may be the last, or a
@@ -38,7 +48,7 @@ pub struct Stopped<'b> {
 
 // Reads a number from `least` on and below the bound, and the byte that stops it.
 pub fn number_from(bytes: &[u8], several: bool, least: u32, bound: u32) -> Result<Stopped<'_>, Stop>
-    requires { bound ≤ 64 }
+    requires { bound ≤ 256 }
     ensures { Gives (λ x. ((x.value, x.stop), x.rest.now)) result (number_from several least bound bytes.now) }
 {
     let [first, rest @ ..] = bytes else {
@@ -72,7 +82,7 @@ pub fn number_from(bytes: &[u8], several: bool, least: u32, bound: u32) -> Resul
 // Reads the names behind the first ` t`.
 fn tail(bytes: &[u8], bound: u32) -> Result<(ThreadSet, &[u8]), Stop>
     requires some { 0 < bound }
-    requires few { bound ≤ 64 }
+    requires few { bound ≤ 256 }
     ensures { Gives (λ x. (x.0, x.1.now)) result (as_value set_from (tail_at bound 0 bound) bytes.now) }
 {
     let mut left = ThreadSet::empty();
@@ -98,7 +108,7 @@ fn tail(bytes: &[u8], bound: u32) -> Result<(ThreadSet, &[u8]), Stop>
 // Reads the names of the threads that stay, up to the end of the line.
 pub fn names(bytes: &[u8], bound: u32) -> Result<(ThreadSet, &[u8]), Stop>
     requires some { 0 < bound }
-    requires few { bound ≤ 64 }
+    requires few { bound ≤ 256 }
     ensures { Gives (λ x. (x.0, x.1.now)) result (as_value set_from (names_at bound) bytes.now) }
 {
     match word(bytes, b"\n") {

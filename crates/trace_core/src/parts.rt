@@ -2,8 +2,9 @@
 ghost use Rattle.std.specs.Prelude.{◌≡◌, ◌⊎◌, ◌+◌, ◌<◌, ◌≤◌, ◌++◌, [], length, IfOk, IfErr, IfSome, IfNone, OnOk, OnErr};
 ghost use Rattle.std.specs.Io.KnownBytes.{Consumes};
 ghost use Rattle.larch_actions.specs.Layout.{IsLawful, HasNames};
-ghost use Rattle.trace_core.specs.Text.{first_line, layout_line, event_line, IsTrace, IsRest, IsValues};
+ghost use Rattle.trace_core.specs.Text.{head_text, event_line, IsTrace, IsRest, IsValues};
 ghost use Rattle.trace_core.specs.Intake.{rest_of, room_of, HasReason, LacksAt, IsAsked, IsTold, IsUndecided};
+ghost use Rattle.trace_core.specs.Made.{IsMade};
 ghost use Rattle.trace_core.specs.Prefixes.{Begins};
 ghost use Rattle.trace_core.specs.Steps.{IsEnding};
 
@@ -68,7 +69,7 @@ pub fn take_event<I: Source>(
 ) -> Result<Option<Event>, TextFault>
     requires lawful { IsLawful layout.now }
     requires placed { place ≤ intake.old.lines }
-    ensures event { IfOk result (λ found. IfSome found (λ e. HasNames layout.now e
+    ensures event { IfOk result (λ found. IfSome found (λ e. HasNames layout.now e × IsMade e.action
         × Consumes (rest_of intake.old (I.left input.old)) (rest_of intake.new (I.left input.new)) (event_line place e))) }
     ensures room { IfOk result (λ found. IfSome found (λ e. room_of intake.new + length (event_line place e) ≡ room_of intake.old)) }
     ensures lines { IfOk result (λ found. IfSome found (λ _. intake.new.lines ≡ intake.old.lines + 1)) }
@@ -100,22 +101,22 @@ pub fn take_event<I: Source>(
 /// Takes the first line and the layout line.
 pub fn take_head<I: Source>(intake: &mut Intake, input: &mut I) -> Result<Layout, TextFault>
     ensures layout { IfOk result (λ l. IsLawful l × Consumes (rest_of intake.old (I.left input.old))
-        (rest_of intake.new (I.left input.new)) (first_line ++ layout_line l)) }
-    ensures room { IfOk result (λ l. room_of intake.new + length (first_line ++ layout_line l) ≡ room_of intake.old) }
+        (rest_of intake.new (I.left input.new)) (head_text l)) }
+    ensures room { IfOk result (λ l. room_of intake.new + length (head_text l) ≡ room_of intake.old) }
     ensures lines { OnOk result (intake.new.lines ≡ intake.old.lines + 2) }
     ensures fault { IfErr result (HasReason IsTrace intake.old.lines (room_of intake.old) (rest_of intake.old (I.left input.old))
         (I.left input.new) (I.faults input.old) (I.faults input.new)) }
-    ensures lacks { IfErr result (LacksAt IsLawful (λ l. first_line ++ layout_line l) (room_of intake.old)
+    ensures lacks { IfErr result (LacksAt IsLawful head_text (room_of intake.old)
         (rest_of intake.old (I.left input.old)) (I.left input.new)) }
     ensures told { IsTold (I.faults input.old) (I.faults input.new) result }
-    ensures asks { (input.new ≡ input.old) ⊎ IsUndecided IsTrace IsLawful (λ l. first_line ++ layout_line l) intake.old.window }
+    ensures asks { (input.new ≡ input.old) ⊎ IsUndecided IsTrace IsLawful head_text intake.old.window }
 {
-    match take_line(intake, input, &Expect::Head) {
-        Ok(Line::Head) => {}
+    let version = match take_line(intake, input, &Expect::Head) {
+        Ok(Line::Head(version)) => version,
         Ok(_) => unreachable!(),
         Err(fault) => return Err(fault),
-    }
-    match take_line(intake, input, &Expect::Counts) {
+    };
+    match take_line(intake, input, &Expect::Counts(version)) {
         Ok(Line::Counts(layout)) => Ok(layout),
         Ok(_) => unreachable!(),
         Err(fault) => Err(fault),

@@ -2,7 +2,7 @@
 ghost use Rattle.std.specs.Prelude.{◌++◌, OnOk, OnErr};
 ghost use Rattle.std.specs.Io.KnownBytes.{Appends};
 ghost use Rattle.firefly_outside.specs.Causes.{HasCause, AppendsFront};
-ghost use Rattle.trace_core.specs.Text.{first_line, layout_line, event_line, end_line, value_line};
+ghost use Rattle.trace_core.specs.Text.{head_text, event_line, end_line, value_line};
 
 use crate::compose::{add_end, add_event, add_head, add_value};
 use firefly_outside::{Sink, SinkFault, put_all};
@@ -10,8 +10,8 @@ use larch_actions::{Event, Layout, MutexId};
 
 /// Prints the first line and the layout line. After a fault the sink has got a proper prefix of them.
 pub fn print_head<O: Sink>(layout: &Layout, out: &mut O) -> Result<(), SinkFault>
-    ensures ok { OnOk result (Appends (O.held out.old) (O.held out.new) (first_line ++ layout_line layout.now)) }
-    ensures err { OnErr result (AppendsFront (O.held out.old) (O.held out.new) (first_line ++ layout_line layout.now)) }
+    ensures ok { OnOk result (Appends (O.held out.old) (O.held out.new) (head_text layout.now)) }
+    ensures err { OnErr result (AppendsFront (O.held out.old) (O.held out.new) (head_text layout.now)) }
     ensures cause { HasCause (O.faults out.old) (O.faults out.new) result }
 {
     let mut buf = [0; 400];
@@ -25,7 +25,7 @@ pub fn print_event<O: Sink>(place: u64, e: &Event, out: &mut O) -> Result<(), Si
     ensures err { OnErr result (AppendsFront (O.held out.old) (O.held out.new) (event_line place e.now)) }
     ensures cause { HasCause (O.faults out.old) (O.faults out.new) result }
 {
-    let mut buf = [0; 410];
+    let mut buf = [0; 1430];
     let end = add_event(&mut buf, 0, place, e);
     put_all(out, &buf[..end])
 }

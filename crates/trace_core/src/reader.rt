@@ -2,7 +2,7 @@
 ghost use Rattle.std.specs.Prelude.{◌≡◌, ◌≢◌, ◌⊎◌, ◌≤◌, ◌++◌, ◌^◌, ◌-◌, ◌<◌, IfOk, IfErr, IfSome, IfNone, OnOk};
 ghost use Rattle.trace_core.specs.declared.intake.TextFault.{TextFault};
 ghost use Rattle.trace_core.specs.declared.progress.Phase.TheVariants as phase;
-ghost use Rattle.trace_core.specs.Text.{IsTrace, IsRest, first_line, layout_line, event_line};
+ghost use Rattle.trace_core.specs.Text.{IsTrace, IsRest, head_text, event_line};
 ghost use Rattle.larch_actions.specs.Layout.{IsLawful, HasNames};
 ghost use Rattle.trace_core.specs.Steps.{TakesHead, TakesEvent, TakesEnd, Breaks};
 ghost use Rattle.trace_core.specs.Intake.{IsUndecided};
@@ -46,12 +46,12 @@ impl<'a, I: Source> EventReader<'a, I> {
         // On success.
         ensures head { IfOk result (TakesHead (standing I.left self.old) (standing I.left self.new)) }
         // On a fault.
-        ensures fault { IfErr result (Breaks IsTrace IsLawful (λ l. first_line ++ layout_line l) (standing I.left self.old)
+        ensures fault { IfErr result (Breaks IsTrace IsLawful head_text (standing I.left self.old)
             (standing I.left self.new) (I.left (input_of self.new).now) (I.faults (input_of self.old).now)
             (I.faults (input_of self.new).now)) }
         // The source is asked only where the bytes that it gave don't decide.
         ensures asks { ((input_of self.new).now ≡ (input_of self.old).now)
-            ⊎ IsUndecided IsTrace IsLawful (λ l. first_line ++ layout_line l) (held_of self.old) }
+            ⊎ IsUndecided IsTrace IsLawful head_text (held_of self.old) }
         // What stays.
         ensures same_input { (input_of self.new).ghost_name ≡ (input_of self.old).ghost_name }
         // A question that fails is told, and fails only where the bytes given don't decide: none is asked where they do.

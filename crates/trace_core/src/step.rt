@@ -1,14 +1,14 @@
 //! The steps of a reader.
 ghost use Rattle.std.specs.Prelude.{◌≡◌, ◌⊎◌, ◌+◌, ◌<◌, ◌≤◌, ◌++◌, length, drop, IfOk, IfErr, IfSome, IfNone};
 ghost use Rattle.trace_core.specs.declared.progress.Phase.TheVariants as phase;
-ghost use Rattle.trace_core.specs.Text.{IsTrace, IsRest, first_line, layout_line, event_line};
+ghost use Rattle.trace_core.specs.Text.{IsTrace, IsRest, head_text, event_line};
 ghost use Rattle.larch_actions.specs.Layout.{IsLawful, HasNames};
-ghost use Rattle.trace_core.specs.Held.{IsEventAt};
+ghost use Rattle.trace_core.specs.Held.{IsEventAt, held_event};
 ghost use Rattle.trace_core.specs.Intake.{IsTold, IsUndecided};
 ghost use Rattle.trace_core.specs.Standing.{standing_of};
 ghost use Rattle.trace_core.specs.Steps.{TakesHead, TakesEvent, TakesEnd, Breaks, IsTaken};
 
-use crate::held::{HeldEvent, event_held};
+use crate::held::{HeldEvent, event_held, event_of};
 use crate::intake::{Intake, TextFault};
 use crate::parts::{take_event, take_head};
 use crate::place::Place;
@@ -19,10 +19,10 @@ use larch_actions::{Event, Layout};
 /// Takes the head, and notes what comes next.
 pub fn begin<I: Source>(progress: &mut Progress, input: &mut I) -> Result<Layout, TextFault>
     ensures head { IfOk result (TakesHead (standing_of progress.old (I.left input.old)) (standing_of progress.new (I.left input.new))) }
-    ensures fault { IfErr result (Breaks IsTrace IsLawful (λ l. first_line ++ layout_line l) (standing_of progress.old (I.left input.old))
+    ensures fault { IfErr result (Breaks IsTrace IsLawful head_text (standing_of progress.old (I.left input.old))
         (standing_of progress.new (I.left input.new)) (I.left input.new) (I.faults input.old) (I.faults input.new)) }
     ensures told { IsTold (I.faults input.old) (I.faults input.new) result }
-    ensures asks { (input.new ≡ input.old) ⊎ IsUndecided IsTrace IsLawful (λ l. first_line ++ layout_line l) progress.old.intake.window }
+    ensures asks { (input.new ≡ input.old) ⊎ IsUndecided IsTrace IsLawful head_text progress.old.intake.window }
 {
     progress.place = Place::first();
     match take_head(&mut progress.intake, input) {
@@ -66,14 +66,14 @@ fn pass_line(intake: &mut Intake, size: usize)
 
 // Takes the event whose line the window holds whole, where it has a form that is read at once.
 #[inline(always)]
-fn take_held(progress: &mut Progress) -> Option<Event>
-    ensures taken { IfSome result (IsTaken progress.old progress.new) }
+fn take_held(progress: &mut Progress) -> Option<HeldEvent>
+    ensures taken { IfSome result (λ x. IsTaken progress.old progress.new (held_event x)) }
     ensures same { IfNone result (progress.new ≡ progress.old) }
 {
     let held = event_in(&progress.intake, &progress.layout, &progress.place)?;
-    pass_line(&mut progress.intake, held.end);
+    pass_line(&mut progress.intake, held.action.end);
     progress.place.step();
-    Some(held.event)
+    Some(held)
 }
 
 /// Takes an event or the end, and notes what comes next.
@@ -92,7 +92,7 @@ pub fn go_on<I: Source>(progress: &mut Progress, input: &mut I) -> Result<Option
         (event_line progress.old.place) progress.old.intake.window }
 {
     match take_held(progress) {
-        Some(event) => Ok(Some(event)),
+        Some(held) => Ok(Some(event_of(&held))),
         None => go_on_slowly(progress, input),
     }
 }

@@ -12,13 +12,13 @@ use larch_actions::{Event, MutexId};
 // Sends what the buffer holds where it lacks room for another line, and says how much it holds then.
 fn make_room<O: Sink>(buf: &[u8], at: usize, out: &mut O) -> Result<usize, SinkFault>
     requires within { at ≤ length buf.now }
-    requires large { 1000 ≤ length buf.now }
+    requires large { 2000 ≤ length buf.now }
     ensures ok { IfOk result (λ end. Flows (O.held out.old) (O.held out.new) (take at buf.now) (take end buf.now) []) }
-    ensures room { IfOk result (λ end. end + 410 ≤ length buf.now) }
+    ensures room { IfOk result (λ end. end + 1430 ≤ length buf.now) }
     ensures err { OnErr result (AppendsFront (O.held out.old) (O.held out.new) (take at buf.now)) }
     ensures cause { HasCause (O.faults out.old) (O.faults out.new) result }
 {
-    if buf.len() - at >= 410 {
+    if buf.len() - at >= 1430 {
         return Ok(at);
     }
     match put_all(out, &buf[..at]) {
@@ -35,7 +35,7 @@ pub fn put_events<O: Sink>(
     out: &mut O,
 ) -> Result<usize, SinkFault>
     requires within { at ≤ length buf.old }
-    requires large { 1000 ≤ length buf.old }
+    requires large { 2000 ≤ length buf.old }
     ensures ok { IfOk result (λ end. Flows (O.held out.old) (O.held out.new) (take at buf.old) (take end buf.new)
         (event_lines 0 events.now ++ end_line (length events.now))) }
     ensures within { IfOk result (λ end. end ≤ length buf.old) }
@@ -66,7 +66,7 @@ pub fn put_values<O: Sink>(
     out: &mut O,
 ) -> Result<usize, SinkFault>
     requires within { at ≤ length buf.old }
-    requires large { 1000 ≤ length buf.old }
+    requires large { 2000 ≤ length buf.old }
     requires few { length values.now ≤ 64 }
     ensures ok { IfOk result (λ end. Flows (O.held out.old) (O.held out.new) (take at buf.old) (take end buf.new)
         (values_text (numbered 0 values.now))) }

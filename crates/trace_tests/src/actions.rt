@@ -13,12 +13,7 @@ use std::process::Abort;
 fn first() -> State
     ensures { result.layout ≡ board }
 {
-    State::new(Layout {
-        threads: 2,
-        mutexes: 1,
-        conditions: 1,
-        semaphores: 1,
-    })
+    State::new(Layout::of(2, 1, 1, 1))
 }
 
 // The action of this thread. Of what the step tells only the layout is said here, so no more is alive in the tests.

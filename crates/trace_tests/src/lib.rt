@@ -11,6 +11,8 @@ mod cut_traces;
 #[cfg(test)]
 mod every_byte;
 #[cfg(test)]
+mod forks;
+#[cfg(test)]
 mod lines;
 #[cfg(test)]
 mod questions;

@@ -199,12 +199,7 @@ fn print_events<O: Sink>(out: &mut O, first: u64, events: &[Event]) -> Result<()
 
 // Prints each kind of line.
 fn print_each<O: Sink>(out: &mut O) -> Result<(), SinkFault> {
-    let layout = Layout {
-        threads: 12,
-        mutexes: 2,
-        conditions: 1,
-        semaphores: 1,
-    };
+    let layout = Layout::of(12, 2, 1, 1);
     print_head(&layout, out)?;
     print_events(out, 0, &waits())?;
     print_events(out, 9, &others())?;
@@ -223,12 +218,7 @@ fn each_kind_of_line_is_printed(rt: HostRuntime) -> Result<(), Fail> {
 
 // The text of one event and one value, printed into so much room, and whether it fitted.
 fn printed(alloc: Global, room: usize) -> Result<(Result<(), SinkFault>, Vec<u8>), AllocError> {
-    let layout = Layout {
-        threads: 1,
-        mutexes: 1,
-        conditions: 0,
-        semaphores: 0,
-    };
+    let layout = Layout::of(1, 1, 0, 0);
     let events = [Event {
         thread: ThreadId(0),
         action: Action::Acquire { mutex: MutexId(0) },

@@ -1,18 +1,71 @@
 //! Actions up to the end of their lines, each by its own words and not by its row: so an event of a usual line takes some 140 instructions,
 //! and some 400 where it is read by the row (action.rt). What isn't read here is read there, so a further action needs nothing here.
-ghost use Rattle.std.specs.Prelude.{◌≡◌, ◌≤◌, ◌<◌, ◌+◌, length, IfSome};
-ghost use Rattle.trace_core.specs.Held.{IsActionAt};
+//! What is read is handed on in parts, and an action made of them at the end alone: a set of threads in it would be moved at each step.
+ghost use Rattle.std.specs.Prelude.{◌≡◌, ◌≤◌, ◌<◌, ◌+◌, length, IfSome, true, false};
+ghost use Rattle.trace_core.specs.Held.{IsActionAt, held_action};
 
 use crate::held::name::name_before;
 use crate::held::wait::{ending_held, wait_held};
 use crate::held::word::{has_byte, has_eight, has_four, has_two};
-use larch_actions::{Action, CondId, Layout, MutexId, SemId, ThreadId, ThreadSet};
+use larch_actions::{Action, CondId, Layout, MutexId, SemId, ThreadId, ThreadSet, Word};
 
-/// An action, and where its line ends.
+/// The parts of an action, and where its line ends: its word, the numbers of its names, and whether it returns or says yes.
 #[derive(Clone, Copy)]
 pub struct HeldAction {
-    pub action: Action,
+    pub word: Word,
+    pub first: u32,
+    pub second: u32,
+    pub yes: bool,
     pub end: usize,
+}
+
+/// The action of these parts, which leaves no thread.
+#[inline(always)]
+pub fn action_of(word: Word, first: u32, second: u32, yes: bool) -> Action
+    ensures { result ≡ held_action word first second yes }
+{
+    let (mutex, cond) = (MutexId(first), CondId(second));
+    match word {
+        Word::Acquire => Action::Acquire { mutex },
+        Word::Release => Action::Release { mutex },
+        Word::P => Action::P { sem: SemId(first) },
+        Word::V => Action::V { sem: SemId(first) },
+        Word::Enqueue => Action::Enqueue { mutex, cond },
+        Word::Resume => Action::Resume { mutex, cond },
+        Word::Signal => Action::Signal {
+            cond: CondId(first),
+            left: ThreadSet::empty(),
+        },
+        Word::Broadcast => Action::Broadcast {
+            cond: CondId(first),
+        },
+        Word::Alert => Action::Alert {
+            who: ThreadId(first),
+        },
+        Word::TestAlert => Action::TestAlert { yes },
+        Word::AlertEnqueue => Action::AlertEnqueue { mutex, cond },
+        Word::AlertResume => {
+            if yes {
+                Action::AlertReturn { mutex, cond }
+            } else {
+                Action::AlertRaise { mutex, cond }
+            }
+        }
+        Word::AlertP => {
+            if yes {
+                Action::AlertPReturn { sem: SemId(first) }
+            } else {
+                Action::AlertPRaise { sem: SemId(first) }
+            }
+        }
+        Word::Fork => Action::Fork {
+            who: ThreadId(first),
+        },
+        Word::End => Action::End,
+        Word::Join => Action::Join {
+            who: ThreadId(first),
+        },
+    }
 }
 
 // An acquire or a release.
@@ -27,16 +80,21 @@ fn lock(bytes: &[u8], at: usize, layout: &Layout) -> Option<HeldAction>
         return None;
     }
     let m = name_before(bytes, at + 9, layout.mutexes, b'\n')?;
-    let mutex = MutexId(m.value);
     if takes {
         return Some(HeldAction {
-            action: Action::Acquire { mutex },
+            word: Word::Acquire,
+            first: m.value,
+            second: 0,
+            yes: false,
             end: m.end,
         });
     }
     if gives {
         return Some(HeldAction {
-            action: Action::Release { mutex },
+            word: Word::Release,
+            first: m.value,
+            second: 0,
+            yes: false,
             end: m.end,
         });
     }
@@ -60,10 +118,10 @@ fn signal(bytes: &[u8], at: usize, layout: &Layout) -> Option<HeldAction>
         return None;
     }
     Some(HeldAction {
-        action: Action::Signal {
-            cond: CondId(c.value),
-            left: ThreadSet::empty(),
-        },
+        word: Word::Signal,
+        first: c.value,
+        second: 0,
+        yes: false,
         end: c.end + 5,
     })
 }
@@ -81,10 +139,10 @@ fn enqueue(bytes: &[u8], at: usize, layout: &Layout) -> Option<HeldAction>
     }
     let wait = wait_held(bytes, at + 9, layout, b'\n')?;
     Some(HeldAction {
-        action: Action::Enqueue {
-            mutex: wait.mutex,
-            cond: wait.cond,
-        },
+        word: Word::Enqueue,
+        first: wait.mutex.0,
+        second: wait.cond.0,
+        yes: false,
         end: wait.end,
     })
 }
@@ -99,10 +157,10 @@ fn resume(bytes: &[u8], at: usize, layout: &Layout) -> Option<HeldAction>
     }
     let wait = wait_held(bytes, at + 8, layout, b'\n')?;
     Some(HeldAction {
-        action: Action::Resume {
-            mutex: wait.mutex,
-            cond: wait.cond,
-        },
+        word: Word::Resume,
+        first: wait.mutex.0,
+        second: wait.cond.0,
+        yes: false,
         end: wait.end,
     })
 }
@@ -123,9 +181,10 @@ fn broadcast(bytes: &[u8], at: usize, layout: &Layout) -> Option<HeldAction>
     }
     let c = name_before(bytes, at + 11, layout.conditions, b'\n')?;
     Some(HeldAction {
-        action: Action::Broadcast {
-            cond: CondId(c.value),
-        },
+        word: Word::Broadcast,
+        first: c.value,
+        second: 0,
+        yes: false,
         end: c.end,
     })
 }
@@ -149,10 +208,10 @@ fn alert_enqueue(bytes: &[u8], at: usize, layout: &Layout) -> Option<HeldAction>
     }
     let wait = wait_held(bytes, at + 15, layout, b'\n')?;
     Some(HeldAction {
-        action: Action::AlertEnqueue {
-            mutex: wait.mutex,
-            cond: wait.cond,
-        },
+        word: Word::AlertEnqueue,
+        first: wait.mutex.0,
+        second: wait.cond.0,
+        yes: false,
         end: wait.end,
     })
 }
@@ -173,15 +232,20 @@ fn alert_resume(bytes: &[u8], at: usize, layout: &Layout) -> Option<HeldAction>
     }
     let wait = wait_held(bytes, at + 14, layout, b' ')?;
     let ending = ending_held(bytes, wait.end)?;
-    let (mutex, cond) = (wait.mutex, wait.cond);
     if ending.returns {
         return Some(HeldAction {
-            action: Action::AlertReturn { mutex, cond },
+            word: Word::AlertResume,
+            first: wait.mutex.0,
+            second: wait.cond.0,
+            yes: true,
             end: ending.end,
         });
     }
     Some(HeldAction {
-        action: Action::AlertRaise { mutex, cond },
+        word: Word::AlertResume,
+        first: wait.mutex.0,
+        second: wait.cond.0,
+        yes: false,
         end: ending.end,
     })
 }
@@ -199,15 +263,20 @@ fn alert_p(bytes: &[u8], at: usize, layout: &Layout) -> Option<HeldAction>
     }
     let s = name_before(bytes, at + 9, layout.semaphores, b' ')?;
     let ending = ending_held(bytes, s.end)?;
-    let sem = SemId(s.value);
     if ending.returns {
         return Some(HeldAction {
-            action: Action::AlertPReturn { sem },
+            word: Word::AlertP,
+            first: s.value,
+            second: 0,
+            yes: true,
             end: ending.end,
         });
     }
     Some(HeldAction {
-        action: Action::AlertPRaise { sem },
+        word: Word::AlertP,
+        first: s.value,
+        second: 0,
+        yes: false,
         end: ending.end,
     })
 }
@@ -225,7 +294,10 @@ fn test_alert(bytes: &[u8], at: usize, layout: &Layout) -> Option<HeldAction>
     }
     if has_four(bytes, at + 10, b" no\n") {
         return Some(HeldAction {
-            action: Action::TestAlert { yes: false },
+            word: Word::TestAlert,
+            first: 0,
+            second: 0,
+            yes: false,
             end: at + 14,
         });
     }
@@ -236,7 +308,10 @@ fn test_alert(bytes: &[u8], at: usize, layout: &Layout) -> Option<HeldAction>
         return None;
     }
     Some(HeldAction {
-        action: Action::TestAlert { yes: true },
+        word: Word::TestAlert,
+        first: 0,
+        second: 0,
+        yes: true,
         end: at + 15,
     })
 }
@@ -269,9 +344,10 @@ fn p(bytes: &[u8], at: usize, layout: &Layout) -> Option<HeldAction>
     }
     let s = name_before(bytes, at + 3, layout.semaphores, b'\n')?;
     Some(HeldAction {
-        action: Action::P {
-            sem: SemId(s.value),
-        },
+        word: Word::P,
+        first: s.value,
+        second: 0,
+        yes: false,
         end: s.end,
     })
 }
@@ -289,9 +365,10 @@ fn v(bytes: &[u8], at: usize, layout: &Layout) -> Option<HeldAction>
     }
     let s = name_before(bytes, at + 3, layout.semaphores, b'\n')?;
     Some(HeldAction {
-        action: Action::V {
-            sem: SemId(s.value),
-        },
+        word: Word::V,
+        first: s.value,
+        second: 0,
+        yes: false,
         end: s.end,
     })
 }
@@ -312,9 +389,10 @@ fn alert(bytes: &[u8], at: usize, layout: &Layout) -> Option<HeldAction>
     }
     let t = name_before(bytes, at + 7, layout.threads, b'\n')?;
     Some(HeldAction {
-        action: Action::Alert {
-            who: ThreadId(t.value),
-        },
+        word: Word::Alert,
+        first: t.value,
+        second: 0,
+        yes: false,
         end: t.end,
     })
 }

@@ -14,6 +14,6 @@ pub returns : goal.returns
 returns c = λ es now kept.
     let k = c.args.nestings.now in
     let ms = c.turn.new.circle.items in
-    let cycle = is_cycle k ms (λ m b. not_itself es now m _ _ kept.run (kept.nested m m b)) c.turn.ensures.circle in
+    let cycle = is_cycle k ms (λ m b. not_itself kept.version es now m _ _ kept.run (kept.nested m m b)) c.turn.ensures.circle in
     let told : c.cycle_of.result ≡ links k ms (first_or 0 ms) = subst (λ l. c.cycle_of.result ≡ links k l (first_or 0 l)) c.as_slice.ensures.value c.cycle_of.ensures in
     subst (TellsCycle es) (sym told) (tells es now k ms kept cycle c.turn.ensures.least)

@@ -18,5 +18,5 @@ loop-word-preserved c =
 
 pub returns : goal.returns
 returns c =
-    let end : c.loop-word.word-index ≡ 13 = omega arith in
+    let end : c.loop-word.word-index ≡ 16 = omega arith in
     sym c.loop-word.invariant ∙ ap (λ n. rows_at c.args.layout.now (drop n words) c.args.bytes.now) end

@@ -4,10 +4,10 @@ use Rattle.trace_core.proofs.Wholes.{whole_reads}
 use Rattle.trace_core.proofs.laws.print_whole.Goals as goal
 
 -- said of any number of bytes, since counting so many takes long
-enough : (n : ℕ) → 1000 ≤ n → 1000 ≤ length (let bytes : List ℕ = replicate n 0 in bytes)
+enough : (n : ℕ) → 2000 ≤ n → 2000 ≤ length (let bytes : List ℕ = replicate n 0 in bytes)
 enough n h = rw length-replicate h
 
-large : 1000 ≤ 65536
+large : 2000 ≤ 65536
 large = omega arith
 
 pub returns-clause-reads : goal.returns-clause-reads

@@ -27,7 +27,7 @@ returns-in-Err-take_values-clause-lacks g c =
 
 pub returns-in-Err-clause-lacks : goal.returns-in-Err-clause-lacks
 returns-in-Err-clause-lacks g c =
-    event_lacks c.args.layout.now c.args.place _ _ _ c.in-Err.fault c.in-Err.ensures.lacks
+    event_lacks c.args.layout.now c.requires.lawful c.args.place _ _ _ c.in-Err.fault c.in-Err.ensures.lacks
 
 pub returns-in-Ok-Event-clause-asks : goal.returns-in-Ok-Event-clause-asks
 returns-in-Ok-Event-clause-asks g c =

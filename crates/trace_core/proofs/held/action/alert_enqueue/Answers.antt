@@ -9,4 +9,4 @@ returns c =
     let four = stands_end (let e : c.args.at + 8 + 4 ≡ c.args.at + 12 = omega arith in e) (stands_then (c.if-not-has_eight.ensures refl) (c.if-not-has_four.ensures refl)) in
     let two = stands_end (let e : c.args.at + 12 + 2 ≡ c.args.at + 14 = omega arith in e) (stands_then four (c.if-not-has_two.ensures refl)) in
     let word = stands_end (let e : c.args.at + 14 + 1 ≡ c.args.at + 15 = omega arith in e) (stands_then two (c.if-not-has_byte.ensures refl)) in
-    record { named = (w.mutex, w.cond); text = after_wait (codes "alert-enqueue m") word w }
+    record { named = (w.mutex, w.cond); made = tt; text = after_wait (codes "alert-enqueue m") word w }

@@ -7,10 +7,10 @@ pub returns-then-ending : goal.returns-then-ending
 returns-then-ending c =
     let s = c.in_ok-s.ensures.name in
     let word = stands_end (let e : c.args.at + 8 + 1 ≡ c.args.at + 9 = omega arith in e) (stands_then (c.if-not-has_eight.ensures refl) (c.if-not-has_byte.ensures refl)) in
-    record { named = s.below; text = returned (codes "alert-p s" ++ decimal c.in_ok-s.s.value) (after_name (codes "alert-p s") word s) c.in_ok-ending.ensures.ending c.if-ending.true }
+    record { named = s.below; made = tt; text = returned (codes "alert-p s" ++ decimal c.in_ok-s.s.value) (after_name (codes "alert-p s") word s) c.in_ok-ending.ensures.ending c.if-ending.true }
 
 pub returns : goal.returns
 returns c =
     let s = c.in_ok-s.ensures.name in
     let word = stands_end (let e : c.args.at + 8 + 1 ≡ c.args.at + 9 = omega arith in e) (stands_then (c.if-not-has_eight.ensures refl) (c.if-not-has_byte.ensures refl)) in
-    record { named = s.below; text = raised (codes "alert-p s" ++ decimal c.in_ok-s.s.value) (after_name (codes "alert-p s") word s) c.in_ok-ending.ensures.ending c.if-ending.false }
+    record { named = s.below; made = tt; text = raised (codes "alert-p s" ++ decimal c.in_ok-s.s.value) (after_name (codes "alert-p s") word s) c.in_ok-ending.ensures.ending c.if-ending.false }

@@ -7,4 +7,4 @@ pub returns : goal.returns
 returns c =
     let w = c.in_ok-wait.ensures.wait in
     let word = stands_end (let e : c.args.at + 8 + 1 ≡ c.args.at + 9 = omega arith in e) (stands_then (c.if-not-has_eight.ensures refl) (c.if-not-has_byte.ensures refl)) in
-    record { named = (w.mutex, w.cond); text = after_wait (codes "enqueue m") word w }
+    record { named = (w.mutex, w.cond); made = tt; text = after_wait (codes "enqueue m") word w }

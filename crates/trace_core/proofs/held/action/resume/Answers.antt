@@ -6,4 +6,4 @@ use Rattle.trace_core.proofs.held.action.resume.Goals as goal
 pub returns : goal.returns
 returns c =
     let w = c.in_ok-wait.ensures.wait in
-    record { named = (w.mutex, w.cond); text = after_wait (codes "resume m") (c.if-not-has_eight.ensures refl) w }
+    record { named = (w.mutex, w.cond); made = tt; text = after_wait (codes "resume m") (c.if-not-has_eight.ensures refl) w }
