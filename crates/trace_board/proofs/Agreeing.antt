@@ -4,9 +4,9 @@ use mathlib.Core.Logic.{dite}
 use native.Mathlib.Decide.{ℕ_discrete}
 use Rattle.std.specs.Prelude.{◌&&◌}
 use Rattle.std.proofs.lemmas.Bool.{cond_both, cond-true, cond-false, eqb-true, false_from_ne_true, true≢false, and_left, and_right}
-use Rattle.std.proofs.lemmas.Nat.Bits.{bit_at-zero}
+use Rattle.larch_actions.proofs.Sets.{in_set-none}
 use Rattle.larch_actions.specs.declared.event.Action.{Action}
-use Rattle.larch_actions.specs.declared.event.Action.TheVariants.{Acquire, Release, Enqueue, Resume, AlertEnqueue, AlertReturn, AlertRaise, Signal, Broadcast, P, V, Alert, TestAlert, AlertPReturn, AlertPRaise}
+use Rattle.larch_actions.specs.declared.event.Action.TheVariants.{Acquire, Release, Enqueue, Resume, AlertEnqueue, AlertReturn, AlertRaise, Signal, Broadcast, P, V, Alert, TestAlert, AlertPReturn, AlertPRaise, Fork, End, Join}
 use Rattle.larch_actions.specs.declared.event.Pending.{Pending}
 use Rattle.larch_actions.specs.declared.event.Pending.TheVariants.{Nothing, Waiting, AlertWaiting}
 use Rattle.larch_actions.specs.Actions.{Spec, put, acted, KeepsOrder, MeetsWhen, MeetsChoice, MayLeave}
@@ -14,6 +14,7 @@ use Rattle.larch_actions.specs.Sets.{in_set, set_of}
 use Rattle.trace_board.specs.declared.history.Origin.{Origin}
 use Rattle.trace_board.specs.declared.causes.Cause.{Cause}
 use Rattle.trace_board.specs.declared.causes.Cause.TheVariants.{Never, Awaited, By}
+use Rattle.trace_board.specs.Awaited.{is_awaited}
 use Rattle.trace_board.specs.Causes.{taken, opened, come, moved}
 use Rattle.trace_board.specs.Marks.{marks_of}
 
@@ -22,11 +23,6 @@ abbrev pub stands_in : ℕ → Cause → Bool
 stands_in c Never = false
 stands_in c (Awaited k) = eqb c k
 stands_in c (By o) = false
-
-abbrev pub is_awaited : Cause → Bool
-is_awaited Never = false
-is_awaited (Awaited k) = true
-is_awaited (By o) = false
 
 abbrev pub is_come : Cause → Bool
 is_come Never = false
@@ -84,6 +80,9 @@ fits_after t (Alert who) o f s h x = h x
 fits_after t (TestAlert b) o f s h x = h x
 fits_after t (AlertPReturn n) o f s h x = h x
 fits_after t (AlertPRaise n) o f s h x = h x
+fits_after t (Fork who) o f s h x = h x
+fits_after t End o f s h x = h x
+fits_after t (Join who) o f s h x = h x
 
 -- who is out of the condition that it waits on is in none
 out_of : (c d : ℕ) (x : Cause) → IsOn d x → stands_in d x ≡ false → stands_in c x ≡ false
@@ -136,9 +135,6 @@ may_stay : (old left : ℕ → Bool) → MayLeave old left → (x : ℕ) → lef
 may_stay old left (inl none) x e = absurd (true≢false (sym e ∙ none x))
 may_stay old left (inr some) x e = some.0 x e
 
-none_left : (x : ℕ) → in_set (set_of []) x ≡ false
-none_left x = ap (λ b. eqb b 1) (bit_at-zero x)
-
 module _ (t : ℕ) (o : Origin) (f : ℕ → Cause) (s : Spec) (fits : (x : ℕ) → Fits (s.pending x) (f x)) (h : (c x : ℕ) → s.members c x ≡ stands_in c (f x)) (c x : ℕ) where
   other : (d : ℕ) → cond (eqb c d) (s.members d x) (s.members c x) ≡ stands_in c (f x)
   other d = cond_both (eqb c d) (s.members d x) (s.members c x) (λ v. v ≡ stands_in c (f x)) (λ e. h d x ∙ ap (λ n. stands_in n (f x)) (sym (eqb-true c d e))) (λ e. h c x)
@@ -177,13 +173,16 @@ module _ (t : ℕ) (o : Origin) (f : ℕ → Cause) (s : Spec) (fits : (x : ℕ)
       at_cond (eqb c d.0) (in_set left) (s.members c) x ∙ freed_in c d.0 (in_set left x) o (f x) (s.members c x) (s.members d.0 x) (h c x) (h d.0 x) (may_stay (s.members d.0) (in_set left) choice x)
   members_after (Broadcast d) order ready choice =
       at_cond (eqb c d.0) (λ i. false) (s.members c) x ∙ freed_in c d.0 false o (f x) (s.members c x) (s.members d.0 x) (h c x) (h d.0 x) (λ e. absurd (true≢false (sym e)))
-      ∙ ap (λ b. stands_in c (taken d.0 b o (f x))) (sym (none_left x))
+      ∙ ap (λ b. stands_in c (taken d.0 b o (f x))) (sym (in_set-none x))
   members_after (P n) order ready choice = h c x
   members_after (V n) order ready choice = h c x
   members_after (Alert who) order ready choice = h c x
   members_after (TestAlert b) order ready choice = h c x
   members_after (AlertPReturn n) order ready choice = h c x
   members_after (AlertPRaise n) order ready choice = h c x
+  members_after (Fork who) order ready choice = h c x
+  members_after End order ready choice = h c x
+  members_after (Join who) order ready choice = h c x
 
 open_now : (o : Origin) (x : Cause) → true ≡ not (is_awaited (opened o x))
 open_now o Never = refl
@@ -206,6 +205,9 @@ avail_after t (Alert who) o f s h n = h n
 avail_after t (TestAlert b) o f s h n = h n
 avail_after t (AlertPReturn k) o f s h n = both_put (λ v y. v ≡ not (is_awaited y)) s.avail f k.0 false (Awaited k.0) n (λ e. refl) (h n)
 avail_after t (AlertPRaise k) o f s h n = h n
+avail_after t (Fork who) o f s h n = h n
+avail_after t End o f s h n = h n
+avail_after t (Join who) o f s h n = h n
 
 come_now : (o : Origin) (x : Cause) → true ≡ is_come (come o x)
 come_now o Never = refl
@@ -228,3 +230,6 @@ alerts_after t (Alert who) o f s h x = both_put (λ v y. v ≡ is_come y) s.aler
 alerts_after t (TestAlert b) o f s h x = both_put (λ v y. v ≡ is_come y) s.alerts f t false Never x (λ e. refl) (h x)
 alerts_after t (AlertPReturn n) o f s h x = h x
 alerts_after t (AlertPRaise n) o f s h x = both_put (λ v y. v ≡ is_come y) s.alerts f t false Never x (λ e. refl) (h x)
+alerts_after t (Fork who) o f s h x = h x
+alerts_after t End o f s h x = h x
+alerts_after t (Join who) o f s h x = h x

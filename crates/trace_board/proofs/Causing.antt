@@ -1,59 +1,30 @@
 -- Each event that lets a thread go on made hold what the thread waits for.
 use Rattle.std.proofs.Common.{◌≡◌, ℕ, Bool, true, false, not, cond, eqb, ◌⊎◌, inl, inr, List, [], ◌∷◌, ◌++◌, length, refl, ap, sym, subst, ◌∙◌, append_assoc, append-nil, Some, None, arith, eq-eqb}
+use Rattle.std.specs.declared.option.Option.{Option}
 use Rattle.std.specs.Prelude.{◌&&◌}
-use Rattle.std.proofs.lemmas.Bool.{eqb-true}
+use Rattle.std.proofs.lemmas.Bool.{eqb-true, true≢false}
 use Rattle.larch_actions.specs.declared.event.Event.{Event}
 use Rattle.larch_actions.specs.declared.event.Action.{Action}
-use Rattle.larch_actions.specs.declared.event.Action.TheVariants.{Acquire, Release, Enqueue, Resume, AlertEnqueue, AlertReturn, AlertRaise, Signal, Broadcast, P, V, Alert, TestAlert, AlertPReturn, AlertPRaise}
+use Rattle.larch_actions.specs.declared.event.Action.TheVariants.{Acquire, Release, Enqueue, Resume, AlertEnqueue, AlertReturn, AlertRaise, Signal, Broadcast, P, V, Alert, TestAlert, AlertPReturn, AlertPRaise, Fork, End, Join}
 use Rattle.larch_actions.specs.declared.event.Pending.{Pending}
 use Rattle.larch_actions.specs.declared.event.Pending.TheVariants.{Nothing, Waiting, AlertWaiting}
-use Rattle.larch_actions.specs.Actions.{Spec, acted, KeepsOrder, MayAct, Acts, Leads, IsRun, at_first}
+use Rattle.larch_actions.specs.declared.event.Version.{Version}
+use Rattle.larch_actions.specs.Actions.{Spec, acted, KeepsOrder, MayAct, Leads, IsRun, at_first}
 use Rattle.larch_actions.specs.Sets.{in_set, set_of}
 use Rattle.trace_board.specs.declared.history.Origin.{Origin}
 use Rattle.trace_board.specs.declared.causes.Cause.{Cause}
 use Rattle.trace_board.specs.declared.causes.Cause.TheVariants.{Never, Awaited, By}
 use Rattle.trace_board.specs.History.{origin_of}
+use Rattle.trace_board.specs.Awaited.{is_awaited}
 use Rattle.trace_board.specs.Causes.{taken, opened, come, moved}
 use Rattle.trace_board.specs.Marks.{marks_of}
-use Rattle.trace_board.specs.Kept.{Kept, nothing_kept, kept_after, kept_since, behind, came, let_on_by}
-use Rattle.trace_board.specs.Laws.{awaited_by, HoldsAlong, IsMadeBy, ArrowsAreCauses}
-use Rattle.trace_board.proofs.Agreeing.{stands_in, is_awaited, is_come, Fits, IsOn, fits_after, members_after, avail_after, alerts_after}
+use Rattle.trace_board.specs.Kept.{Kept, nothing_kept, kept_after, kept_since, behind, came, let_on_by, has_run}
+use Rattle.trace_board.specs.Laws.{awaited_by, IsMadeBy, ArrowsAreCauses, RowsAreLives, ForksAreBirths}
+use Rattle.trace_board.proofs.Agreeing.{stands_in, is_come, Fits, IsOn, fits_after, members_after, avail_after, alerts_after}
 use Rattle.trace_board.proofs.Behind.{behind-push, length-behind}
-
-leads_push : (es : List Event) (s t : Spec) (e : Event) (u : Spec) → Leads s es t → Acts t e u → Leads s (es ++ e ∷ []) u
-leads_push [] s t e u l a = (u, subst (λ x. Acts x e u) (sym l) a, refl)
-leads_push (x ∷ es) s t e u l a = (l.0, l.1, leads_push es l.0 t e u l.2 a)
-
-holds_push : (test : Spec → Bool) (es : List Event) (s t : Spec) (e : Event) (u : Spec) → Leads s es t → Acts t e u → test u ≡ true → HoldsAlong test s es → HoldsAlong test s (es ++ e ∷ [])
-holds_push test [] s t e u l a y h = (h, ap (λ x. test (acted e.thread.0 x e.action)) l ∙ ap test (sym a.1) ∙ y)
-holds_push test (x ∷ es) s t e u l a y h = (h.0, holds_push test es (acted x.thread.0 s x.action) t e u (subst (λ v. Leads v es t) l.1.1 l.2) a y h.1)
-
-module _ (test : Spec → Bool) (es : List Event) (s : Spec) (e : Event) (u : Spec) (a : Acts s e u) (holds : test u ≡ true) where
-  -- it was made to hold by this event
-  made_new : IsRun es s → test s ≡ false → IsMadeBy test (es ++ e ∷ []) u (origin_of (length es) e)
-  made_new r was = record { before = es; cause = e; since = []; old = s; new = u; split = refl; is = refl; ran = r; acts = a; leads = refl; was = was; holds = holds }
-
-  -- it holds still
-  made_on : (o : Origin) → IsMadeBy test es s o → IsMadeBy test (es ++ e ∷ []) u o
-  made_on o m = record {
-    before = m.before;
-    cause = m.cause;
-    since = m.since ++ e ∷ [];
-    old = m.old;
-    new = m.new;
-    split = ap (λ x. x ++ e ∷ []) m.split ∙ append_assoc m.before (m.cause ∷ m.since) (e ∷ []);
-    is = m.is;
-    ran = m.ran;
-    acts = m.acts;
-    leads = leads_push m.since m.new s e u m.leads a;
-    was = m.was;
-    holds = holds_push test m.since m.new s e u m.leads a holds m.holds;
-  }
-
-  -- either
-  made : (o : Origin) → IsRun es s → (IsMadeBy test es s o) ⊎ ((o ≡ origin_of (length es) e) × (test s ≡ false)) → IsMadeBy test (es ++ e ∷ []) u o
-  made o r (inl m) = made_on o m
-  made o r (inr (same, was)) = subst (IsMadeBy test (es ++ e ∷ []) u) (sym same) (made_new r was)
+use Rattle.trace_board.proofs.Making.{leads_push, made}
+use Rattle.trace_board.proofs.Living.{IsLife, life_first, life_on}
+use Rattle.trace_board.proofs.Latest.{runs_are_seen}
 
 -- the condition on which a thread waits
 abbrev pub IsWaitOn : ℕ → Pending → Type 0
@@ -62,14 +33,15 @@ IsWaitOn c (Waiting m d) = c ≡ d.0
 IsWaitOn c (AlertWaiting m d) = c ≡ d.0
 
 -- what is kept tells of the state, and of each cause that came which event it was
-pub record IsTold (k : Kept) (es : List Event) (s : Spec) : Type 0 where
+pub record IsTold (version : Version) (k : Kept) (es : List Event) (s : Spec) : Type 0 where
   pub stands : (c x : ℕ) → s.members c x ≡ stands_in c (k.stands x)
   pub fits : (x : ℕ) → Fits (s.pending x) (k.stands x)
   pub opens : (n : ℕ) → s.avail n ≡ not (is_awaited (k.opens n))
   pub alerts : (x : ℕ) → s.alerts x ≡ is_come (k.alerts x)
-  pub out : (x : ℕ) (o : Origin) → k.stands x ≡ By o → (c : ℕ) → IsWaitOn c (s.pending x) → IsMadeBy (λ z. not (z.members c x)) es s o
-  pub opener : (n : ℕ) (o : Origin) → k.opens n ≡ By o → IsMadeBy (λ z. z.avail n) es s o
-  pub alerted : (x : ℕ) (o : Origin) → k.alerts x ≡ By o → IsMadeBy (λ z. z.alerts x) es s o
+  pub out : (x : ℕ) (o : Origin) → k.stands x ≡ By o → (c : ℕ) → IsWaitOn c (s.pending x) → IsMadeBy version (λ z. not (z.members c x)) es s o
+  pub opener : (n : ℕ) (o : Origin) → k.opens n ≡ By o → IsMadeBy version (λ z. z.avail n) es s o
+  pub alerted : (x : ℕ) (o : Origin) → k.alerts x ≡ By o → IsMadeBy version (λ z. z.alerts x) es s o
+  pub lives : (x : ℕ) → IsLife version k es s x
 
 by_same : (o p : Origin) → By o ≡ By p → p ≡ o
 by_same o p e = cc
@@ -125,6 +97,9 @@ stand_from t (Alert who) o f s x p h = (refl, inl h)
 stand_from t (TestAlert b) o f s x p h = (refl, inl h)
 stand_from t (AlertPReturn n) o f s x p h = (refl, inl h)
 stand_from t (AlertPRaise n) o f s x p h = (refl, inl h)
+stand_from t (Fork who) o f s x p h = (refl, inl h)
+stand_from t End o f s x p h = (refl, inl h)
+stand_from t (Join who) o f s x p h = (refl, inl h)
 
 -- one cause was changed to what is from the one before
 changed_from : (R : Cause → Type 0) (b : Bool) (y x : Cause) (p : Origin) → (y ≡ By p → b ≡ true → R x) → (x ≡ By p → R x) → cond b y x ≡ By p → R x
@@ -150,6 +125,9 @@ module _ (o : Origin) (f : ℕ → Cause) (x : ℕ) (p : Origin) where
   open_from t (TestAlert b) h = inl h
   open_from t (AlertPReturn n) h = changed_from (λ y. IsFrom y p o) (eqb x n.0) (Awaited n.0) (f x) p (λ e b. absurd (not_awaited n.0 p e)) (λ e. inl e) h
   open_from t (AlertPRaise n) h = inl h
+  open_from t (Fork who) h = inl h
+  open_from t End h = inl h
+  open_from t (Join who) h = inl h
 
   abbrev IsAlertFrom : Cause → Type 0
   IsAlertFrom y = (y ≡ By p) ⊎ ((p ≡ o) × (is_come y ≡ false))
@@ -172,6 +150,9 @@ module _ (o : Origin) (f : ℕ → Cause) (x : ℕ) (p : Origin) where
   alert_from t (TestAlert b) h = changed_from IsAlertFrom (eqb x t) Never (f x) p (λ e b. absurd (not_never p e)) (λ e. inl e) h
   alert_from t (AlertPReturn n) h = inl h
   alert_from t (AlertPRaise n) h = changed_from IsAlertFrom (eqb x t) Never (f x) p (λ e b. absurd (not_never p e)) (λ e. inl e) h
+  alert_from t (Fork who) h = inl h
+  alert_from t End h = inl h
+  alert_from t (Join who) h = inl h
 
 -- who waits on c and stands somewhere stands in c
 waits_there : (c : ℕ) (p : Pending) (x : Cause) → Fits p x → IsWaitOn c p → is_awaited x ≡ true → stands_in c x ≡ true
@@ -189,7 +170,7 @@ waits_there c (AlertWaiting m d) (Awaited k) h w e = here c k d.0 h w
     here c k d (inl i) w = eq-eqb c k (let same : k ≡ d = cc in w ∙ sym same)
     here c k d (inr (o, i)) w = absurd (not_awaited k o i)
 
-module _ (k : Kept) (es : List Event) (s : Spec) (e : Event) (r : IsRun es s) (may : MayAct s e) (told : IsTold k es s) where
+module _ (version : Version) (k : Kept) (es : List Event) (s : Spec) (e : Event) (r : IsRun version es s) (may : MayAct s e) (told : IsTold version k es s) where
   abbrev t : ℕ
   t = e.thread.0
 
@@ -214,35 +195,35 @@ module _ (k : Kept) (es : List Event) (s : Spec) (e : Event) (r : IsRun es s) (m
   alerts : (x : ℕ) → next.alerts x ≡ is_come (later.alerts x)
   alerts = alerts_after t a o k.alerts s told.alerts
 
-  out : (x : ℕ) (p : Origin) → later.stands x ≡ By p → (c : ℕ) → IsWaitOn c (next.pending x) → IsMadeBy (λ z. not (z.members c x)) (es ++ e ∷ []) next p
+  out : (x : ℕ) (p : Origin) → later.stands x ≡ By p → (c : ℕ) → IsWaitOn c (next.pending x) → IsMadeBy version (λ z. not (z.members c x)) (es ++ e ∷ []) next p
   out x p h c w =
       let from = stand_from t a o k.stands s x p h in
       let waits : IsWaitOn c (s.pending x) = subst (IsWaitOn c) from.0 w in
-      made (λ z. not (z.members c x)) es s e next (may, refl) (ap not (stands c x ∙ ap (stands_in c) h)) p r (was from.1 waits)
+      made version (λ z. not (z.members c x)) es s e next (may, refl) (ap not (stands c x ∙ ap (stands_in c) h)) p r (was from.1 waits)
     where
-      was : IsFrom (k.stands x) p o → IsWaitOn c (s.pending x) → (IsMadeBy (λ z. not (z.members c x)) es s p) ⊎ ((p ≡ o) × (not (s.members c x) ≡ false))
+      was : IsFrom (k.stands x) p o → IsWaitOn c (s.pending x) → (IsMadeBy version (λ z. not (z.members c x)) es s p) ⊎ ((p ≡ o) × (not (s.members c x) ≡ false))
       was (inl h) w = inl (told.out x p h c w)
       was (inr (same, aw)) w = inr (same, ap not (told.stands c x ∙ waits_there c (s.pending x) (k.stands x) (told.fits x) w aw))
 
-  opener : (n : ℕ) (p : Origin) → later.opens n ≡ By p → IsMadeBy (λ z. z.avail n) (es ++ e ∷ []) next p
-  opener n p h = made (λ z. z.avail n) es s e next (may, refl) (opens n ∙ ap (λ y. not (is_awaited y)) h) p r (was (open_from o k.opens n p t a h))
+  opener : (n : ℕ) (p : Origin) → later.opens n ≡ By p → IsMadeBy version (λ z. z.avail n) (es ++ e ∷ []) next p
+  opener n p h = made version (λ z. z.avail n) es s e next (may, refl) (opens n ∙ ap (λ y. not (is_awaited y)) h) p r (was (open_from o k.opens n p t a h))
     where
-      was : IsFrom (k.opens n) p o → (IsMadeBy (λ z. z.avail n) es s p) ⊎ ((p ≡ o) × (s.avail n ≡ false))
+      was : IsFrom (k.opens n) p o → (IsMadeBy version (λ z. z.avail n) es s p) ⊎ ((p ≡ o) × (s.avail n ≡ false))
       was (inl h) = inl (told.opener n p h)
       was (inr (same, aw)) = inr (same, told.opens n ∙ ap not aw)
 
-  alerted : (x : ℕ) (p : Origin) → later.alerts x ≡ By p → IsMadeBy (λ z. z.alerts x) (es ++ e ∷ []) next p
-  alerted x p h = made (λ z. z.alerts x) es s e next (may, refl) (alerts x ∙ ap is_come h) p r (was (alert_from o k.alerts x p t a h))
+  alerted : (x : ℕ) (p : Origin) → later.alerts x ≡ By p → IsMadeBy version (λ z. z.alerts x) (es ++ e ∷ []) next p
+  alerted x p h = made version (λ z. z.alerts x) es s e next (may, refl) (alerts x ∙ ap is_come h) p r (was (alert_from o k.alerts x p t a h))
     where
-      was : IsAlertFrom o k.alerts x p (k.alerts x) → (IsMadeBy (λ z. z.alerts x) es s p) ⊎ ((p ≡ o) × (s.alerts x ≡ false))
+      was : IsAlertFrom o k.alerts x p (k.alerts x) → (IsMadeBy version (λ z. z.alerts x) es s p) ⊎ ((p ≡ o) × (s.alerts x ≡ false))
       was (inl h) = inl (told.alerted x p h)
       was (inr (same, un)) = inr (same, told.alerts x ∙ un)
 
-  told_on : IsTold later (es ++ e ∷ []) next
-  told_on = record { stands = stands; fits = fits_after t a o k.stands s told.fits; opens = opens; alerts = alerts; out = out; opener = opener; alerted = alerted }
+  told_on : IsTold version later (es ++ e ∷ []) next
+  told_on = record { stands = stands; fits = fits_after t a o k.stands s told.fits; opens = opens; alerts = alerts; out = out; opener = opener; alerted = alerted; lives = λ x. life_on version k es s e r may x (told.lives x) }
 
-told_first : IsTold nothing_kept [] at_first
-told_first = record {
+told_first : (version : Version) → IsTold version nothing_kept [] (at_first version)
+told_first version = record {
   stands = λ c x. refl;
   fits = λ x. refl;
   opens = λ n. refl;
@@ -250,6 +231,7 @@ told_first = record {
   out = λ x o h. absurd (not_never o h);
   opener = λ n o h. absurd (not_never o h);
   alerted = λ x o h. absurd (not_never o h);
+  lives = λ x. life_first version x;
 }
 
 kept-push : (es : List Event) (e : Event) → kept_after (length es) e (kept_since (behind [] es)) ≡ kept_since (behind [] (es ++ e ∷ []))
@@ -257,28 +239,28 @@ kept-push es e =
     let n : length es ≡ length (behind [] es) = omega (arith, length-behind [] es) in
     ap (λ i. kept_after i e (kept_since (behind [] es))) n ∙ ap kept_since (sym (behind-push [] es e))
 
-told_from : (done : List Event) (s : Spec) → IsRun done s → IsTold (kept_since (behind [] done)) done s → (es : List Event) (u : Spec) → Leads s es u → IsTold (kept_since (behind [] (done ++ es))) (done ++ es) u
-told_from done s r told [] u l =
-    subst (λ x. IsTold (kept_since (behind [] x)) x u) (sym (append-nil done)) (subst (IsTold (kept_since (behind [] done)) done) l told)
-told_from done s r told (e ∷ es) u l =
+told_from : (version : Version) (done : List Event) (s : Spec) → IsRun version done s → IsTold version (kept_since (behind [] done)) done s → (es : List Event) (u : Spec) → Leads s es u → IsTold version (kept_since (behind [] (done ++ es))) (done ++ es) u
+told_from version done s r told [] u l =
+    subst (λ x. IsTold version (kept_since (behind [] x)) x u) (sym (append-nil done)) (subst (IsTold version (kept_since (behind [] done)) done) l told)
+told_from version done s r told (e ∷ es) u l =
     let n = acted e.thread.0 s e.action in
-    let after = subst (λ k. IsTold k (done ++ e ∷ []) n) (kept-push done e) (told_on (kept_since (behind [] done)) done s e r l.1.0 told) in
+    let after = subst (λ k. IsTold version k (done ++ e ∷ []) n) (kept-push done e) (told_on version (kept_since (behind [] done)) done s e r l.1.0 told) in
     let rest : Leads n es u = subst (λ v. Leads v es u) l.1.1 l.2 in
-    subst (λ x. IsTold (kept_since (behind [] x)) x u) (append_assoc done (e ∷ []) es) (told_from (done ++ e ∷ []) n (leads_push done at_first s e n r (l.1.0, refl)) after es u rest)
+    subst (λ x. IsTold version (kept_since (behind [] x)) x u) (append_assoc done (e ∷ []) es) (told_from version (done ++ e ∷ []) n (leads_push done (at_first version) s e n r (l.1.0, refl)) after es u rest)
 
-pub told_run : (es : List Event) (s : Spec) → IsRun es s → IsTold (kept_since (behind [] es)) es s
-told_run es s r = told_from [] at_first refl told_first es s r
+pub told_run : (version : Version) (es : List Event) (s : Spec) → IsRun version es s → IsTold version (kept_since (behind [] es)) es s
+told_run version es s r = told_from version [] (at_first version) refl (told_first version) es s r
 
 came_by : (x : Cause) (o : Origin) → came x ≡ Some o → x ≡ By o
 came_by Never o h = let bad : None ≡ Some o = h in cc
 came_by (Awaited k) o h = let bad : None ≡ Some o = h in cc
 came_by (By p) o h = let same : Some p ≡ Some o = h in cc
 
-module _ (k : Kept) (es : List Event) (s : Spec) (told : IsTold k es s) (t : ℕ) (o : Origin) where
-  no_cause : (a : Action) → None ≡ Some o → IsMadeBy (awaited_by t a) es s o
+module _ (version : Version) (k : Kept) (es : List Event) (s : Spec) (told : IsTold version k es s) (t : ℕ) (o : Origin) where
+  no_cause : (a : Action) → None ≡ Some o → IsMadeBy version (awaited_by t a) es s o
   no_cause a h = absurd (let bad : None ≡ Some o = h in cc)
 
-  by_action : (a : Action) → KeepsOrder (s.pending t) a → let_on_by k (marks_of t a).waker ≡ Some o → IsMadeBy (awaited_by t a) es s o
+  by_action : (a : Action) → KeepsOrder (s.pending t) a → let_on_by k (marks_of t a).waker ≡ Some o → IsMadeBy version (awaited_by t a) es s o
   by_action (Acquire m) order h = no_cause (Acquire m) h
   by_action (Release m) order h = no_cause (Release m) h
   by_action (Enqueue m c) order h = no_cause (Enqueue m c) h
@@ -294,6 +276,22 @@ module _ (k : Kept) (es : List Event) (s : Spec) (told : IsTold k es s) (t : ℕ
   by_action (TestAlert b) order h = told.alerted t o (came_by (k.alerts t) o h)
   by_action (AlertPReturn n) order h = told.opener n.0 o (came_by (k.opens n.0) o h)
   by_action (AlertPRaise n) order h = told.alerted t o (came_by (k.alerts t) o h)
+  by_action (Fork who) order h = no_cause (Fork who) h
+  by_action End order h = no_cause End h
+  by_action (Join who) order h = (told.lives who.0).ended o h
 
 pub arrows_are_causes : ArrowsAreCauses
-arrows_are_causes = λ es s r e may o h. by_action (kept_since (behind [] es)) es s (told_run es s r) e.thread.0 o e.action may.order h
+arrows_are_causes = λ version es s r e may o h. by_action version (kept_since (behind [] es)) es s (told_run version es s r) e.thread.0 o e.action may.order h
+
+pub rows_are_lives : RowsAreLives
+rows_are_lives = λ version es s r t. ((told_run version es s r).lives t).is
+
+unrun : (b : Bool) (y : Option Origin) (o : Origin) → cond b None y ≡ Some o → (b ≡ false) × (y ≡ Some o)
+unrun true y o h = absurd (let bad : None ≡ Some o = h in cc)
+unrun false y o h = (refl, h)
+
+pub forks_are_births : ForksAreBirths
+forks_are_births = λ version es s r e may o h.
+    let k = kept_since (behind [] es) in
+    let first = unrun (has_run k 0 e.thread.0) (k.born e.thread.0) o h in
+    (((told_run version es s r).lives e.thread.0).forked o first.1 may.live, λ had. true≢false (sym ((runs_are_seen (behind [] es) 0 e.thread.0).1 had) ∙ first.0))

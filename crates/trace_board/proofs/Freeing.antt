@@ -1,18 +1,12 @@
 -- Causes changed one by one.
-use Rattle.std.proofs.Common.{◌≡◌, ℕ, zero, suc, ◌+◌, ◌<◌, ◌≤◌, ◌⊎◌, inl, inr, Bool, true, false, not, ◌&&◌, eqb, List, [], ◌∷◌, length, refl, ap, sym, ◌∙◌, arith, eq-eqb, ne_eqb}
-use Rattle.std.proofs.lemmas.Bool.{cases_order, cases_lt, cond-true, cond-false}
+use Rattle.std.proofs.Common.{◌≡◌, ℕ, ◌+◌, ◌<◌, ◌≤◌, ◌⊎◌, inl, inr, Bool, true, false, not, ◌&&◌, eqb, refl, ap, sym, ◌∙◌, arith, eq-eqb, ne_eqb}
+use Rattle.std.proofs.lemmas.Bool.{true≢false, cases_order, cases_lt, cond-true, cond-false}
 use Rattle.larch_actions.specs.Actions.{put}
-use Rattle.larch_actions.specs.State.{shown_at}
 use Rattle.trace_board.specs.declared.history.Origin.{Origin}
 use Rattle.trace_board.specs.declared.causes.Cause.{Cause}
-use Rattle.trace_board.specs.declared.causes.Cause.TheVariants.{Awaited, By}
+use Rattle.trace_board.specs.declared.causes.Cause.TheVariants.{Never, Awaited, By}
+use Rattle.trace_board.specs.Awaited.{is_awaited}
 use Rattle.trace_board.specs.Causes.{taken}
-
--- past the end a list shows what is shown there
-pub past_end : {X Y : Type 0} (view : X → Y) (d : Y) (xs : List X) (i : ℕ) → length xs ≤ i → shown_at view d xs i ≡ d
-past_end view d [] i h = refl
-past_end view d (x ∷ xs) zero h = absurd (omega arith)
-past_end view d (x ∷ xs) (suc i) h = past_end view d xs i (omega arith)
 
 -- each of the causes below n is changed by h, and the others are as they were
 pub record IsPartly (h : ℕ → Cause → Cause) (f : ℕ → Cause) (n : ℕ) (g : ℕ → Cause) : Type 0 where
@@ -22,8 +16,14 @@ pub record IsPartly (h : ℕ → Cause → Cause) (f : ℕ → Cause) (n : ℕ) 
 put_here : (g : ℕ → Cause) (t k : ℕ) (x : Cause) → k ≡ t → put g t x k ≡ x
 put_here g t k x e = cond-true (eqb k t) x (g k) (eq-eqb k t e)
 
-put_there : (g : ℕ → Cause) (t k : ℕ) (x : Cause) → (k ≡ t → ⊥) → put g t x k ≡ g k
+pub put_there : (g : ℕ → Cause) (t k : ℕ) (x : Cause) → (k ≡ t → ⊥) → put g t x k ≡ g k
 put_there g t k x ne = cond-false (eqb k t) x (g k) (ne_eqb k t ne)
+
+-- who isn't awaited isn't taken out
+pub stays_so : (c : ℕ) (stays : Bool) (o : Origin) (x : Cause) → is_awaited x ≡ false → taken c stays o x ≡ x
+stays_so c stays o Never e = refl
+stays_so c stays o (Awaited k) e = absurd (true≢false e)
+stays_so c stays o (By p) e = refl
 
 -- one who stands in the condition, and isn't left there, was taken out
 pub freed_by : (c k : ℕ) (stays : Bool) (o : Origin) (was : Cause) → was ≡ Awaited k → k ≡ c → stays ≡ false → By o ≡ taken c stays o was

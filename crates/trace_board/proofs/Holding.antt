@@ -6,7 +6,7 @@ use Rattle.std.specs.declared.option.Option.{Option}
 use mathlib.Core.Option.{none, some, Option as Optional}
 use Rattle.larch_actions.specs.declared.event.Event.{Event}
 use Rattle.larch_actions.specs.declared.event.Action.{Action}
-use Rattle.larch_actions.specs.declared.event.Action.TheVariants.{Acquire, Release, Enqueue, Resume, AlertEnqueue, AlertReturn, AlertRaise, Signal, Broadcast, P, V, Alert, TestAlert, AlertPReturn, AlertPRaise}
+use Rattle.larch_actions.specs.declared.event.Action.TheVariants.{Acquire, Release, Enqueue, Resume, AlertEnqueue, AlertReturn, AlertRaise, Signal, Broadcast, P, V, Alert, TestAlert, AlertPReturn, AlertPRaise, Fork, End, Join}
 use Rattle.larch_actions.specs.Actions.{Spec, acted, Leads, at_first}
 use Rattle.trace_board.specs.declared.history.Origin.{Origin}
 use Rattle.trace_board.specs.declared.history.Turn.{Turn}
@@ -47,6 +47,9 @@ agrees_after o f s (Alert t) m h = h
 agrees_after o f s (TestAlert b) m h = h
 agrees_after o f s (AlertPReturn k) m h = h
 agrees_after o f s (AlertPRaise k) m h = h
+agrees_after o f s (Fork t) m h = h
+agrees_after o f s End m h = h
+agrees_after o f s (Join t) m h = h
 
 agrees_run : (past es : List Event) (s t : Spec) (m : ℕ) → Leads s es t → Agrees ((kept_since past).held m) (s.holder m) → Agrees ((kept_since (behind past es)).held m) (t.holder m)
 agrees_run past [] s t m r h = subst (λ (u : Spec). Agrees ((kept_since past).held m) (u.holder m)) r h
@@ -83,6 +86,9 @@ taken_after o f s (Alert t) n h = h
 taken_after o f s (TestAlert b) n h = h
 taken_after o f s (AlertPReturn k) n h = shut (eqb n k.0) o (f n) (s.avail n) h
 taken_after o f s (AlertPRaise k) n h = h
+taken_after o f s (Fork t) n h = h
+taken_after o f s End n h = h
+taken_after o f s (Join t) n h = h
 
 taken_run : (past es : List Event) (s t : Spec) (n : ℕ) → Leads s es t → AgreesOn ((kept_since past).taken n) (s.avail n) → AgreesOn ((kept_since (behind past es)).taken n) (t.avail n)
 taken_run past [] s t n r h = subst (λ (u : Spec). AgreesOn ((kept_since past).taken n) (u.avail n)) r h
@@ -164,7 +170,7 @@ both_taken n past None v a s = a
 both_taken n past (Some o) v a s = (a, s)
 
 pub bars_are_holds : BarsAreHolds
-bars_are_holds = λ es s r m. both m (behind [] es) ((kept_since (behind [] es)).held m) (s.holder m) (agrees_run [] es at_first s m r refl) (held_past m (behind [] es))
+bars_are_holds = λ version es s r m. both m (behind [] es) ((kept_since (behind [] es)).held m) (s.holder m) (agrees_run [] es (at_first version) s m r refl) (held_past m (behind [] es))
 
 pub bars_are_takings : BarsAreTakings
-bars_are_takings = λ es s r n. both_taken n (behind [] es) ((kept_since (behind [] es)).taken n) (s.avail n) (taken_run [] es at_first s n r refl) (taken_past n (behind [] es))
+bars_are_takings = λ version es s r n. both_taken n (behind [] es) ((kept_since (behind [] es)).taken n) (s.avail n) (taken_run [] es (at_first version) s n r refl) (taken_past n (behind [] es))

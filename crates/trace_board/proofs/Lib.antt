@@ -5,5 +5,7 @@ pub mod Freeing
 pub mod Holding
 pub mod Lanes
 pub mod Latest
+pub mod Living
 pub mod Longest
+pub mod Making
 pub mod Noting

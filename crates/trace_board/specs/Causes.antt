@@ -1,5 +1,6 @@
 -- Which event let a thread go on: the one that took it out of its condition, that made its semaphore available, or that alerted it.
 use Rattle.std.specs.Prelude.{ℕ, ◌<◌, ◌==◌, ◌&&◌, not, Bool, if◌then◌else◌}
+use Rattle.larch_actions.specs.Layout.{most_threads}
 use Rattle.larch_actions.specs.Actions.{put}
 use Rattle.larch_actions.specs.Sets.{in_set}
 use Rattle.larch_actions.specs.State.{shown_at}
@@ -28,13 +29,13 @@ come o Never = By o
 come o (Awaited k) = By o
 come o (By p) = By p
 
--- the name in a move is below 64
+-- the name in a move is that of one of as many things as there may be threads
 abbrev pub IsSmall : Move → Type 0
-IsSmall (Awaits k c) = k < 64
-IsSmall (Ends k) = k < 64
+IsSmall (Awaits k c) = k < most_threads
+IsSmall (Ends k) = k < most_threads
 IsSmall (Frees c left) = Unit {0}
-IsSmall (Opens k) = k < 64
-IsSmall (Comes k) = k < 64
+IsSmall (Opens k) = k < most_threads
+IsSmall (Comes k) = k < most_threads
 IsSmall Stays = Unit {0}
 
 -- what a move changes, by this event

@@ -1,7 +1,8 @@
--- Since which event each mutex is held, each semaphore is taken and each thread waits. A past has the latest event first.
+-- Since which event each mutex is held, each semaphore is taken, each thread waits, lives or has ended. A past has the latest event first.
 use Rattle.std.specs.Prelude.{ℕ, ◌<◌, Some, None}
 use Rattle.std.specs.declared.option.Option.{Option}
 use Rattle.larch_actions.specs.declared.event.Event.{Event}
+use Rattle.larch_actions.specs.Layout.{most_threads}
 use Rattle.larch_actions.specs.Actions.{put}
 use Rattle.larch_actions.specs.State.{shown_at}
 use Rattle.trace_board.specs.declared.history.Origin.{Origin}
@@ -10,10 +11,10 @@ use Rattle.trace_board.specs.declared.history.Turn.TheVariants.{Begins, Ends, St
 use Rattle.trace_board.specs.declared.history.Table.{Table}
 use Rattle.trace_board.specs.Marks.{marks}
 
--- the name in a turn is below 64
+-- the name in a turn is that of one of as many things as there may be threads
 abbrev pub IsWithin : Turn → Type 0
-IsWithin (Begins k) = k < 64
-IsWithin (Ends k) = k < 64
+IsWithin (Begins k) = k < most_threads
+IsWithin (Ends k) = k < most_threads
 IsWithin Stays = Unit {0}
 
 -- what a turn changes: since which event each thing is taken, where it is
@@ -27,6 +28,15 @@ abbrev pub turned_about : Turn → Turn
 turned_about (Begins k) = Ends k
 turned_about (Ends k) = Begins k
 turned_about Stays = Stays
+
+-- what begins to live, and what has ended from then on
+abbrev pub begun_by : Turn → Turn
+begun_by (Begins k) = Begins k
+begun_by _ = Stays
+
+abbrev pub ended_by : Turn → Turn
+ended_by (Ends k) = Begins k
+ended_by _ = Stays
 
 -- the event as the one since which something is so
 abbrev pub origin_of : ℕ → Event → Origin

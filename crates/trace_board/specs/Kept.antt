@@ -1,7 +1,12 @@
 -- What is kept of the events before. The past has the latest event first.
-use Rattle.std.specs.Prelude.{ℕ, ◌-◌, ◌<◌, nat_le, Bool, true, false, List, [], ◌∷◌, length, Some, None}
+use Rattle.std.specs.Prelude.{ℕ, ◌-◌, ◌<◌, nat_le, Bool, true, false, if◌then◌else◌, List, [], ◌∷◌, length, Some, None}
 use Rattle.std.specs.declared.option.Option.{Option}
 use Rattle.larch_actions.specs.declared.event.Event.{Event}
+use Rattle.larch_actions.specs.declared.event.Version.{Version}
+use Rattle.larch_actions.specs.declared.event.Life.{Life}
+use Rattle.larch_actions.specs.declared.event.Life.TheVariants.{Live, Ended}
+use Rattle.larch_actions.specs.Actions.{lives_at_first}
+use Rattle.larch_actions.specs.Layout.{most_threads}
 use Rattle.trace_board.specs.declared.history.Origin.{Origin}
 use Rattle.trace_board.specs.declared.history.Turn.TheVariants.{Begins}
 use Rattle.trace_board.specs.declared.causes.Cause.{Cause}
@@ -10,9 +15,10 @@ use Rattle.trace_board.specs.declared.rows.Row.{Row}
 use Rattle.trace_board.specs.declared.holds.Hold.{Hold}
 use Rattle.trace_board.specs.declared.board.Board.{Board}
 use Rattle.trace_board.specs.declared.board.Waker.{Waker}
+use Rattle.trace_board.specs.declared.board.Waker.TheVariants as waker
 use Rattle.trace_board.specs.declared.board.Waker.TheVariants.{Condition, Semaphore, Alarm, Nobody}
 use Rattle.trace_board.specs.Marks.{marks}
-use Rattle.trace_board.specs.History.{changed, turned_about, origin_of, entry_of, IsWithin}
+use Rattle.trace_board.specs.History.{changed, turned_about, begun_by, ended_by, origin_of, entry_of, IsWithin}
 use Rattle.trace_board.specs.Causes.{moved, cause_of, IsSmall}
 use Rattle.trace_board.specs.Rows.{empty_row, turned, turned_by_semaphore, row_of}
 use Rattle.trace_board.specs.Holds.{hold_to, longer, lengthened, longest_of}
@@ -38,9 +44,12 @@ pub record Kept : Type 0 where
   pub longest : ℕ → Option Hold
   -- the latest event of each thread
   pub latest : ℕ → Option Origin
+  -- which event forked each thread, and by which each ended
+  pub born : ℕ → Option Origin
+  pub over : ℕ → Option Origin
 
 abbrev pub nothing_kept : Kept
-nothing_kept = record { held = λ (k : ℕ). None; waits = λ (k : ℕ). None; stands = λ (k : ℕ). Never; opens = λ (k : ℕ). Never; alerts = λ (k : ℕ). Never; rows = λ (k : ℕ). empty_row; given = λ (k : ℕ). None; taken = λ (k : ℕ). None; longest = λ (k : ℕ). None; latest = λ (k : ℕ). None }
+nothing_kept = record { held = λ (k : ℕ). None; waits = λ (k : ℕ). None; stands = λ (k : ℕ). Never; opens = λ (k : ℕ). Never; alerts = λ (k : ℕ). Never; rows = λ (k : ℕ). empty_row; given = λ (k : ℕ). None; taken = λ (k : ℕ). None; longest = λ (k : ℕ). None; latest = λ (k : ℕ). None; born = λ (k : ℕ). None; over = λ (k : ℕ). None }
 
 -- what is kept after the event at the place n
 abbrev pub kept_after : ℕ → Event → Kept → Kept
@@ -55,6 +64,8 @@ kept_after n e k = record {
   taken = changed (marks e).semaphore (origin_of n e) k.taken;
   longest = lengthened (marks e).mutex n k.held k.longest;
   latest = changed (Begins e.thread.0) (origin_of n e) k.latest;
+  born = changed (begun_by (marks e).life) (origin_of n e) k.born;
+  over = changed (ended_by (marks e).life) (origin_of n e) k.over;
 }
 
 -- what is kept after these events
@@ -83,23 +94,39 @@ held_or (Some o) b = true
 abbrev pub was_held : Kept → ℕ → ℕ → Bool
 was_held k start m = held_or (k.held m) (is_from start (k.given m))
 
+-- the event that forked the thread t, where it has had no event
+abbrev pub forked_by : Kept → ℕ → Option Origin
+forked_by k t = if has_run k 0 t then None else k.born t
+
+-- the life of a thread that these events forked and ended, where they did
+abbrev pub life_by : Life → Option Origin → Option Origin → Life
+life_by first born (Some o) = Ended
+life_by first None None = first
+life_by first (Some o) None = Live
+
+-- whether the thread t is unborn, lives or has ended
+abbrev pub life_in : Version → Kept → ℕ → Life
+life_in version k t = life_by (lives_at_first version t) (k.born t) (k.over t)
+
 -- the events before, and then these, the latest first
 abbrev pub behind : List Event → List Event → List Event
 behind past [] = past
 behind past (e ∷ es) = behind (e ∷ past) es
 
 abbrev pub IsNear : Waker → Type 0
-IsNear (Condition t) = t < 64
-IsNear (Semaphore s) = s < 64
-IsNear (Alarm t) = t < 64
+IsNear (Condition t) = t < most_threads
+IsNear (Semaphore s) = s < most_threads
+IsNear (Alarm t) = t < most_threads
+IsNear (waker.Ended t) = t < most_threads
 IsNear Nobody = Unit {0}
 
--- each thing that an event takes, gives back, awaits or lets go on has a number below 64
+-- each thing that an event takes, gives back, awaits or lets go on, and each thread that it forks, ends or joins, has such a number
 pub record IsNoted (e : Event) : Type 0 where
-  pub thread : e.thread.0 < 64
+  pub thread : e.thread.0 < most_threads
   pub held : IsWithin (marks e).mutex
   pub taken : IsWithin (marks e).semaphore
   pub waits : IsWithin (marks e).wait
+  pub life : IsWithin (marks e).life
   pub stands : IsSmall (marks e).stand
   pub opens : IsSmall (marks e).avail
   pub alerts : IsSmall (marks e).alert
@@ -116,8 +143,9 @@ abbrev pub let_on_by : Kept → Waker → Option Origin
 let_on_by k (Condition t) = came (k.stands t)
 let_on_by k (Semaphore s) = came (k.opens s)
 let_on_by k (Alarm t) = came (k.alerts t)
+let_on_by k (waker.Ended t) = k.over t
 let_on_by k Nobody = None
 
 -- what the tables say
 abbrev pub kept_of : Board → Kept
-kept_of b = record { held = entry_of b.held; waits = entry_of b.waits; stands = cause_of b.stands; opens = cause_of b.opens; alerts = cause_of b.alerts; rows = row_of b.rows; given = entry_of b.given; taken = entry_of b.taken; longest = longest_of b.longest; latest = entry_of b.latest }
+kept_of b = record { held = entry_of b.held; waits = entry_of b.waits; stands = cause_of b.stands; opens = cause_of b.opens; alerts = cause_of b.alerts; rows = row_of b.rows; given = entry_of b.given; taken = entry_of b.taken; longest = longest_of b.longest; latest = entry_of b.latest; born = entry_of b.lives.born; over = entry_of b.lives.over }

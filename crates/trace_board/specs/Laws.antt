@@ -4,7 +4,10 @@ use Rattle.std.specs.List.{AllByRecursion}
 use mathlib.Core.Option.{none, some}
 use Rattle.larch_actions.specs.declared.event.Event.{Event}
 use Rattle.larch_actions.specs.declared.event.Action.{Action}
-use Rattle.larch_actions.specs.declared.event.Action.TheVariants.{Resume, AlertReturn, AlertRaise, P, TestAlert, AlertPReturn, AlertPRaise}
+use Rattle.larch_actions.specs.declared.event.Action.TheVariants.{Resume, AlertReturn, AlertRaise, P, TestAlert, AlertPReturn, AlertPRaise, Join}
+use Rattle.larch_actions.specs.declared.event.Version.{Version}
+use Rattle.larch_actions.specs.declared.event.Life.{Life}
+use Rattle.larch_actions.specs.declared.event.Life.TheVariants.{Live, Ended}
 use Rattle.larch_actions.specs.Actions.{Spec, IsRun, Leads, Acts, MayAct, acted}
 use Rattle.trace_board.specs.declared.history.Origin.{Origin}
 use Rattle.trace_board.specs.declared.history.Turn.{Turn}
@@ -17,7 +20,7 @@ use Rattle.trace_board.specs.Marks.{marks}
 use Rattle.trace_board.specs.History.{origin_of}
 use Rattle.trace_board.specs.Rows.{lane_in}
 use Rattle.trace_board.specs.Holds.{held_for}
-use Rattle.trace_board.specs.Kept.{Kept, kept_after, kept_since, behind, let_on_by, longest_in, has_run}
+use Rattle.trace_board.specs.Kept.{Kept, kept_after, kept_since, behind, let_on_by, longest_in, has_run, forked_by, life_in}
 
 -- the number of what a bar is of, and whether an event takes it or gives it back
 abbrev pub number_of : Bar → ℕ
@@ -46,13 +49,13 @@ pub record IsSince (b : Bar) (o : Origin) (past : List Event) : Type 0 where
 -- and this bar goes from the event that took the mutex, since when no event took it or gave it back.
 abbrev pub BarsAreHolds : Type 0
 BarsAreHolds =
-    (es : List Event) (s : Spec) → IsRun es s → (m : ℕ) → MatchOption ((kept_since (behind [] es)).held m) (s.holder m ≡ none) (λ o. (s.holder m ≡ some o.thread.0) × IsSince (Mutex m) o (behind [] es))
+    (version : Version) (es : List Event) (s : Spec) → IsRun version es s → (m : ℕ) → MatchOption ((kept_since (behind [] es)).held m) (s.holder m ≡ none) (λ o. (s.holder m ≡ some o.thread.0) × IsSince (Mutex m) o (behind [] es))
 
 -- After each run a semaphore isn't available exactly where a bar of it is under way, and this bar goes from the event that took the semaphore, in the
 -- row of the thread that did so, since when no event took it or made it available.
 abbrev pub BarsAreTakings : Type 0
 BarsAreTakings =
-    (es : List Event) (s : Spec) → IsRun es s → (n : ℕ) → MatchOption ((kept_since (behind [] es)).taken n) (s.avail n ≡ true) (λ o. (s.avail n ≡ false) × IsSince (Semaphore n) o (behind [] es))
+    (version : Version) (es : List Event) (s : Spec) → IsRun version es s → (n : ℕ) → MatchOption ((kept_since (behind [] es)).taken n) (s.avail n ≡ true) (λ o. (s.avail n ≡ false) × IsSince (Semaphore n) o (behind [] es))
 
 -- Two bars have one lane of a row only where that is the last, and a bar keeps its lane while others begin and end.
 abbrev pub LanesAreOwn : Type 0
@@ -92,7 +95,22 @@ pub record HasEvent (t start : ℕ) (past : List Event) : Type 0 where
 abbrev pub RunsAreSeen : Type 0
 RunsAreSeen = (past : List Event) (start t : ℕ) → (has_run (kept_since past) start t ≡ true → HasEvent t start past) × (HasEvent t start past → has_run (kept_since past) start t ≡ true)
 
--- what an action of the thread t waits for, but for a mutex: to be out of its condition, the semaphore, or to be alerted
+-- After each run a thread is unborn, lives or has ended as the picture has its row: none yet, one from its fork on where one is kept, and up to the event
+-- that is kept as its end.
+abbrev pub RowsAreLives : Type 0
+RowsAreLives =
+    (version : Version) (es : List Event) (s : Spec) → IsRun version es s → (t : ℕ)
+    → s.life t ≡ life_in version (kept_since (behind [] es)) t
+
+abbrev pub is_live : Life → Bool
+is_live Live = true
+is_live _ = false
+
+abbrev pub is_ended : Life → Bool
+is_ended Ended = true
+is_ended _ = false
+
+-- what an action of the thread t waits for, but for a mutex: to be out of its condition, the semaphore, to be alerted, or the end of the thread that it joins
 abbrev pub awaited_by : ℕ → Action → Spec → Bool
 awaited_by t (Resume m c) = λ s. not (s.members c.0 t)
 awaited_by t (AlertReturn m c) = λ s. not (s.members c.0 t)
@@ -101,6 +119,7 @@ awaited_by t (P n) = λ s. s.avail n.0
 awaited_by t (AlertPReturn n) = λ s. s.avail n.0
 awaited_by t (AlertPRaise n) = λ s. s.alerts t
 awaited_by t (TestAlert answer) = λ s. s.alerts t
+awaited_by t (Join who) = λ s. is_ended (s.life who.0)
 awaited_by t _ = λ s. false
 
 -- the test holds in this state and after each of these events
@@ -109,7 +128,7 @@ HoldsAlong test s [] = test s ≡ true
 HoldsAlong test s (e ∷ es) = (test s ≡ true) × HoldsAlong test (acted e.thread.0 s e.action) es
 
 -- of the events of this run one made the test hold, and it has held since
-pub record IsMadeBy (test : Spec → Bool) (es : List Event) (s : Spec) (o : Origin) : Type 0 where
+pub record IsMadeBy (version : Version) (test : Spec → Bool) (es : List Event) (s : Spec) (o : Origin) : Type 0 where
   pub before : List Event
   pub cause : Event
   pub since : List Event
@@ -117,7 +136,7 @@ pub record IsMadeBy (test : Spec → Bool) (es : List Event) (s : Spec) (o : Ori
   pub new : Spec
   pub split : es ≡ before ++ cause ∷ since
   pub is : o ≡ origin_of (length before) cause
-  pub ran : IsRun before old
+  pub ran : IsRun version before old
   pub acts : Acts old cause new
   pub leads : Leads new since s
   pub was : test old ≡ false
@@ -127,5 +146,12 @@ pub record IsMadeBy (test : Spec → Bool) (es : List Event) (s : Spec) (o : Ori
 -- event waits for, which has held since.
 abbrev pub ArrowsAreCauses : Type 0
 ArrowsAreCauses =
-    (es : List Event) (s : Spec) → IsRun es s → (e : Event) → MayAct s e → (o : Origin) → let_on_by (kept_since (behind [] es)) (marks e).waker ≡ Some o
-    → IsMadeBy (awaited_by e.thread.0 e.action) es s o
+    (version : Version) (es : List Event) (s : Spec) → IsRun version es s → (e : Event) → MayAct s e → (o : Origin) → let_on_by (kept_since (behind [] es)) (marks e).waker ≡ Some o
+    → IsMadeBy version (awaited_by e.thread.0 e.action) es s o
+
+-- Where an event may follow a run, the picture has its thread begin to go on by an event of the run only where it is its thread's first, and that event made
+-- the thread live, as it has since.
+abbrev pub ForksAreBirths : Type 0
+ForksAreBirths =
+    (version : Version) (es : List Event) (s : Spec) → IsRun version es s → (e : Event) → MayAct s e → (o : Origin) → forked_by (kept_since (behind [] es)) e.thread.0 ≡ Some o
+    → IsMadeBy version (λ z. is_live (z.life e.thread.0)) es s o × (HasEvent e.thread.0 0 (behind [] es) → ⊥)

@@ -1,5 +1,6 @@
 pub mod Marks
 pub mod History
+pub mod Awaited
 pub mod Causes
 pub mod Rows
 pub mod Holds

@@ -2,18 +2,18 @@
 use Rattle.std.specs.Prelude.{ℕ, []}
 use Rattle.larch_actions.specs.declared.event.Event.{Event}
 use Rattle.larch_actions.specs.declared.event.Action.{Action}
-use Rattle.larch_actions.specs.declared.event.Action.TheVariants.{Acquire, Release, Enqueue, Resume, AlertEnqueue, AlertReturn, AlertRaise, Signal, Broadcast, P, V, Alert, TestAlert, AlertPReturn, AlertPRaise}
+use Rattle.larch_actions.specs.declared.event.Action.TheVariants.{Acquire, Release, Enqueue, Resume, AlertEnqueue, AlertReturn, AlertRaise, Signal, Broadcast, P, V, Alert, TestAlert, AlertPReturn, AlertPRaise, Fork, End, Join}
 use Rattle.larch_actions.specs.Sets.{set_of}
 use Rattle.trace_board.specs.declared.history.Turn.TheVariants as turn
 use Rattle.trace_board.specs.declared.causes.Move.TheVariants.{Awaits, Ends, Frees, Opens, Comes, Stays}
-use Rattle.trace_board.specs.declared.board.Waker.TheVariants.{Condition, Semaphore, Alarm, Nobody}
+use Rattle.trace_board.specs.declared.board.Waker.TheVariants.{Condition, Semaphore, Alarm, Ended, Nobody}
 use Rattle.trace_board.specs.declared.marks.Mark.{Mark}
 use Rattle.trace_board.specs.declared.marks.Mark.TheVariants as mark
 use Rattle.trace_board.specs.declared.marks.Marks.{Marks}
 
 -- a mark of the object of this number, and nothing done
 abbrev pub plain : Mark → ℕ → Marks
-plain k n = record { mark = k; object = n; mutex = turn.Stays; semaphore = turn.Stays; wait = turn.Stays; stand = Stays; avail = Stays; alert = Stays; waker = Nobody }
+plain k n = record { mark = k; object = n; mutex = turn.Stays; semaphore = turn.Stays; wait = turn.Stays; life = turn.Stays; stand = Stays; avail = Stays; alert = Stays; waker = Nobody }
 
 -- the first part of a wait, and the second that returns or raises
 abbrev pub begun : Mark → ℕ → ℕ → ℕ → Marks
@@ -32,7 +32,7 @@ semaphore_taken k s = record (plain k s) { semaphore = turn.Begins s; avail = Aw
 abbrev pub heard : Mark → ℕ → ℕ → Marks
 heard k t n = record (plain k n) { alert = Ends t; waker = Alarm t }
 
--- what an action of the thread t shows, and of which object; which mutex it takes or gives back, and which semaphore it takes or makes available; whether it begins or ends a wait; what it does to those who stand
+-- what an action of the thread t shows, and of which object; which mutex it takes or gives back, and which semaphore it takes or makes available; whether it begins or ends a wait, and the life of a thread; what it does to those who stand
 -- in conditions, to semaphores and to alerts; and what it goes on by
 abbrev pub marks_of : ℕ → Action → Marks
 marks_of t (Acquire m) = record (plain mark.Acquire m.0) { mutex = turn.Begins m.0 }
@@ -50,6 +50,9 @@ marks_of t (Alert who) = record (plain mark.Alert who.0) { alert = Comes who.0 }
 marks_of t (TestAlert answer) = heard mark.TestAlert t t
 marks_of t (AlertPReturn s) = semaphore_taken mark.AlertPReturn s.0
 marks_of t (AlertPRaise s) = heard mark.AlertPRaise t s.0
+marks_of t (Fork who) = record (plain mark.Fork who.0) { life = turn.Begins who.0 }
+marks_of t End = record (plain mark.End t) { life = turn.Ends t }
+marks_of t (Join who) = record (plain mark.Join who.0) { waker = Ended who.0 }
 
 -- what an event shows and does
 abbrev pub marks : Event → Marks

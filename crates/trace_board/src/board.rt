@@ -1,16 +1,19 @@
 //! What is kept of the events before.
 ghost use Rattle.std.specs.Prelude.{◌≡◌, ◌<◌};
-ghost use Rattle.trace_board.specs.Kept.{nothing_kept, kept_after, kept_of, came, let_on_by, is_from, has_run, was_held, IsNoted, IsNear};
+ghost use Rattle.larch_actions.specs.Actions.{lives_at_first};
+ghost use Rattle.larch_actions.specs.Layout.{most_threads};
+ghost use Rattle.trace_board.specs.Kept.{nothing_kept, kept_after, kept_of, came, let_on_by, is_from, has_run, was_held, forked_by, life_by, life_in, IsNoted, IsNear};
 
 use crate::causes::{Cause, Causes};
-use crate::history::{Origin, Table, Turn, turned_about};
+use crate::history::{Lives, Origin, Table, Turn, turned_about};
 use crate::holds::Longest;
 use crate::marks::marks_of;
 use crate::rows::Rows;
-use larch_actions::Event;
+use larch_actions::{Event, Life, Version};
 
 /// Since which event each mutex is held, each semaphore is taken and each thread waits, which event lets each thread go on, which lane each bar has,
-/// which event gave each mutex back, for how long each mutex was held at the longest, and which is the latest event of each thread.
+/// which event gave each mutex back, for how long each mutex was held at the longest, which is the latest event of each thread, and which forked and
+/// which ended it.
 #[derive(Drop)]
 pub struct Board {
     pub held: Table,
@@ -23,14 +26,16 @@ pub struct Board {
     pub taken: Table,
     pub longest: Longest,
     pub latest: Table,
+    pub lives: Lives,
 }
 
-/// What a thread goes on by: that it was taken out of its condition, that a semaphore is available, or that it is alerted.
+/// What a thread goes on by: that it was taken out of its condition, that a semaphore is available, that it is alerted, or that another thread has ended.
 #[derive(Clone, Copy)]
 pub enum Waker {
     Condition(u32),
     Semaphore(u32),
     Alarm(u32),
+    Ended(u32),
     Nobody,
 }
 
@@ -55,6 +60,29 @@ fn is_from(start: u64, since: Option<Origin>) -> bool
     }
 }
 
+// The life of the thread at first.
+fn first_life(version: Version, t: u32) -> Life
+    ensures { result ≡ lives_at_first version t }
+{
+    match version {
+        Version::One => Life::Live,
+        Version::Two => { if t == 0 { Life::Live } else { Life::Unborn } }
+    }
+}
+
+// Its life after these events that forked and ended it.
+fn life_by(first: Life, born: Option<Origin>, over: Option<Origin>) -> Life
+    ensures { result ≡ life_by first born over }
+{
+    match over {
+        Some(_) => Life::Ended,
+        None => match born {
+            Some(_) => Life::Live,
+            None => first,
+        },
+    }
+}
+
 impl Board {
     /// Nothing is held, and nobody waits.
     pub fn new() -> Board
@@ -70,6 +98,7 @@ impl Board {
         let taken = Table::new();
         let longest = Longest::new();
         let latest = Table::new();
+        let lives = Lives::new();
         Board {
             held,
             waits,
@@ -81,6 +110,7 @@ impl Board {
             taken,
             longest,
             latest,
+            lives,
         }
     }
 
@@ -93,21 +123,46 @@ impl Board {
             Waker::Condition(t) => event_of(self.stands.at(t)),
             Waker::Semaphore(s) => event_of(self.opens.at(s)),
             Waker::Alarm(t) => event_of(self.alerts.at(t)),
+            Waker::Ended(t) => self.lives.over.at(t),
             Waker::Nobody => None,
         }
     }
 
     /// Whether the thread had an event from the event `start` on.
     pub fn has_run(&self, start: u64, t: u32) -> bool
-        requires { t < 64 }
+        requires { t < most_threads }
         ensures { result ≡ has_run (kept_of self.now) start t }
     {
         is_from(start, self.latest.at(t))
     }
 
+    /// The event that forked the thread, where it has had no event.
+    pub fn forked_by(&self, t: u32) -> Option<Origin>
+        requires { t < most_threads }
+        ensures { result ≡ forked_by (kept_of self.now) t }
+    {
+        if self.has_run(0, t) {
+            None
+        } else {
+            self.lives.born.at(t)
+        }
+    }
+
+    /// Whether the thread is unborn, lives or has ended, in a trace of this version.
+    pub fn life(&self, version: Version, t: u32) -> Life
+        requires { t < most_threads }
+        ensures { result ≡ life_in version (kept_of self.now) t }
+    {
+        life_by(
+            first_life(version, t),
+            self.lives.born.at(t),
+            self.lives.over.at(t),
+        )
+    }
+
     /// Whether the mutex is held, or was given back from the event `start` on.
     pub fn was_held(&self, start: u64, m: u32) -> bool
-        requires { m < 64 }
+        requires { m < most_threads }
         ensures { result ≡ was_held (kept_of self.now) start m }
     {
         match self.held.at(m) {
@@ -139,5 +194,6 @@ impl Board {
         self.given.note(turned_about(marks.mutex), by);
         self.taken.note(marks.semaphore, by);
         self.latest.note(Turn::Begins(e.thread.0), by);
+        self.lives.note(marks.life, by);
     }
 }

@@ -1,9 +1,10 @@
 //! Which event let a thread go on.
-ghost use Rattle.std.specs.Prelude.{◌≡◌, ◌<◌, ℕ};
+ghost use Rattle.std.specs.Prelude.{◌≡◌, ◌<◌, ◌≤◌, ℕ};
 ghost use Rattle.larch_actions.specs.Actions.{put};
+ghost use Rattle.larch_actions.specs.Layout.{most_threads};
 ghost use Rattle.larch_actions.specs.Sets.{in_set};
 ghost use Rattle.trace_board.specs.declared.causes.Cause.TheVariants.{Never};
-ghost use Rattle.trace_board.specs.Causes.{taken, opened, come, moved, cause_of, IsSmall};
+ghost use Rattle.trace_board.specs.Awaited.{NoneFrom};
 
 use crate::history::Origin;
 use larch_actions::{ThreadId, ThreadSet};
@@ -35,47 +36,58 @@ pub enum Move {
     Stays,
 }
 
-// What the event makes of a cause that it makes come, where it is awaited.
-fn opened_by(was: Cause, by: Origin) -> Cause
-    ensures { result ≡ opened by was }
-{
-    match was {
-        Cause::Never => Cause::Never,
-        Cause::Awaited(_) => Cause::By(by),
-        Cause::By(other) => Cause::By(other),
+impl Cause {
+    ghost use Rattle.trace_board.specs.Causes.{opened, come};
+
+    // What the event makes of a cause that it makes come, where it is awaited.
+    fn opened_by(self, by: Origin) -> Cause
+        ensures { result ≡ opened by self }
+    {
+        match self {
+            Cause::Never => Cause::Never,
+            Cause::Awaited(_) => Cause::By(by),
+            Cause::By(other) => Cause::By(other),
+        }
+    }
+
+    // What the event makes of a cause that may have come.
+    fn come_by(self, by: Origin) -> Cause
+        ensures { result ≡ come by self }
+    {
+        match self {
+            Cause::Never => Cause::By(by),
+            Cause::Awaited(_) => Cause::By(by),
+            Cause::By(other) => Cause::By(other),
+        }
     }
 }
 
-// What the event makes of a cause that may have come.
-fn come_by(was: Cause, by: Origin) -> Cause
-    ensures { result ≡ come by was }
-{
-    match was {
-        Cause::Never => Cause::By(by),
-        Cause::Awaited(_) => Cause::By(by),
-        Cause::By(other) => Cause::By(other),
-    }
-}
-
-/// A cause for each of 64 threads or semaphores.
+/// A cause for each of 256 threads or semaphores.
 #[derive(Drop)]
 pub struct Causes {
-    entries: [Cause; 64],
+    entries: [Cause; 256],
+    // None is awaited from this number on.
+    limit: u32,
+    ghost within: { limit ≤ 256 },
+    ghost few: { NoneFrom limit entries },
 }
 
 impl Causes {
+    ghost use Rattle.trace_board.specs.Causes.{taken, moved, cause_of, IsSmall};
+
     /// Nothing is awaited, and nothing came.
     pub fn new() -> Causes
         ensures { cause_of result ≡ (λ (k : ℕ). Never) }
     {
         Causes {
-            entries: [Cause::Never; 64],
+            entries: [Cause::Never; 256],
+            limit: 0,
         }
     }
 
     /// The cause of this number.
     pub fn at(&self, k: u32) -> Cause
-        requires { k < 64 }
+        requires { k < most_threads }
         ensures { result ≡ cause_of self.now k }
     {
         self.entries[k as usize]
@@ -83,22 +95,26 @@ impl Causes {
 
     // Sets the cause of this number.
     fn put(&mut self, k: u32, now: Cause)
-        requires { k < 64 }
+        requires { k < most_threads }
         ensures { cause_of self.new ≡ put (cause_of self.old) k now }
     {
         self.entries[k as usize] = now;
+        self.limit = self.limit.max(k + 1);
     }
 
     // What the event makes of a thread that may stand in the condition and may stay.
     #[inline(always)]
-    fn free_one(&mut self, t: u32, cond: u32, stays: bool, by: Origin)
-        requires { t < 64 }
-        ensures { cause_of self.new ≡ put (cause_of self.old) t (taken cond stays by (cause_of self.old t)) }
+    fn free_one(&mut self, t: u32, cond: u32, left: &ThreadSet, by: Origin)
+        requires { t < most_threads }
+        ensures { cause_of self.new ≡ put (cause_of self.old) t (taken cond (in_set left.now t) by (cause_of self.old t)) }
     {
         match self.at(t) {
             Cause::Awaited(k) => {
-                if k == cond && !stays {
-                    self.put(t, Cause::By(by));
+                if k == cond {
+                    let stays = left.has(ThreadId(t));
+                    if !stays {
+                        self.put(t, Cause::By(by));
+                    }
                 }
             }
             Cause::Never => {}
@@ -111,9 +127,8 @@ impl Causes {
     fn free(&mut self, cond: u32, left: &ThreadSet, by: Origin)
         ensures { cause_of self.new ≡ (λ t. taken cond (in_set left.now t) by (cause_of self.old t)) }
     {
-        for t in 0..64 {
-            let stays = left.has(ThreadId(t));
-            self.free_one(t, cond, stays, by);
+        for t in 0..self.limit {
+            self.free_one(t, cond, left, by);
         }
     }
 
@@ -129,12 +144,12 @@ impl Causes {
             Move::Frees(cond, left) => self.free(cond, &left, by),
             Move::Opens(k) => {
                 let was = self.at(k);
-                let now = opened_by(was, by);
+                let now = was.opened_by(by);
                 self.put(k, now);
             }
             Move::Comes(k) => {
                 let was = self.at(k);
-                let now = come_by(was, by);
+                let now = was.come_by(by);
                 self.put(k, now);
             }
             Move::Stays => {}

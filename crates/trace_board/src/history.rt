@@ -1,7 +1,8 @@
-//! Since which event each mutex is held, each semaphore is taken and each thread waits.
+//! Since which event each mutex is held, each semaphore is taken, each thread waits, lives or has ended.
 ghost use Rattle.std.specs.Prelude.{◌≡◌, ◌<◌, ℕ, None};
+ghost use Rattle.larch_actions.specs.Layout.{most_threads};
 ghost use Rattle.std.specs.declared.option.Option.{Option};
-ghost use Rattle.trace_board.specs.History.{changed, turned_about, entry_of, IsWithin};
+ghost use Rattle.trace_board.specs.History.{changed, turned_about, begun_by, ended_by, entry_of, IsWithin};
 
 use larch_actions::ThreadId;
 
@@ -33,10 +34,10 @@ pub fn turned_about(turn: Turn) -> Turn
     }
 }
 
-/// Of each of 64 things, since which event it is taken.
+/// Of each of 256 things, since which event it is taken.
 #[derive(Drop)]
 pub struct Table {
-    entries: [Option<Origin>; 64],
+    entries: [Option<Origin>; 256],
 }
 
 impl Table {
@@ -45,13 +46,13 @@ impl Table {
         ensures { entry_of result ≡ (λ (k : ℕ). None) }
     {
         Table {
-            entries: [None; 64],
+            entries: [None; 256],
         }
     }
 
     /// Since when the thing is taken.
     pub fn at(&self, k: u32) -> Option<Origin>
-        requires { k < 64 }
+        requires { k < most_threads }
         ensures { result ≡ entry_of self.now k }
     {
         self.entries[k as usize]
@@ -65,6 +66,39 @@ impl Table {
         match turn {
             Turn::Begins(k) => self.entries[k as usize] = Some(by),
             Turn::Ends(k) => self.entries[k as usize] = None,
+            Turn::Stays => {}
+        }
+    }
+}
+
+/// Which event forked each thread, and by which each ended.
+#[derive(Drop)]
+pub struct Lives {
+    pub born: Table,
+    pub over: Table,
+}
+
+impl Lives {
+    /// None was forked, and none has ended.
+    pub fn new() -> Lives
+        ensures born { entry_of result.born ≡ (λ (k : ℕ). None) }
+        ensures over { entry_of result.over ≡ (λ (k : ℕ). None) }
+    {
+        let born = Table::new();
+        let over = Table::new();
+        Lives { born, over }
+    }
+
+    /// Notes the turn of a thread's life, by this event.
+    #[inline(always)]
+    pub fn note(&mut self, turn: Turn, by: Origin)
+        requires { IsWithin turn }
+        ensures born { entry_of self.new.born ≡ changed (begun_by turn) by (entry_of self.old.born) }
+        ensures over { entry_of self.new.over ≡ changed (ended_by turn) by (entry_of self.old.over) }
+    {
+        match turn {
+            Turn::Begins(k) => self.born.note(Turn::Begins(k), by),
+            Turn::Ends(k) => self.over.note(Turn::Begins(k), by),
             Turn::Stays => {}
         }
     }

@@ -1,6 +1,7 @@
 //! For how long each mutex was held at the longest.
 ghost use Rattle.std.specs.Prelude.{◌≡◌, ◌<◌, ℕ, None};
 ghost use Rattle.larch_actions.specs.Actions.{put};
+ghost use Rattle.larch_actions.specs.Layout.{most_threads};
 ghost use Rattle.trace_board.specs.History.{entry_of, IsWithin};
 ghost use Rattle.trace_board.specs.Holds.{held_for, hold_to, longer, lengthened, longest_of};
 
@@ -52,10 +53,10 @@ pub fn longer(one: Option<Hold>, other: Option<Hold>) -> Option<Hold>
     }
 }
 
-/// The longest hold of each of 64 mutexes that was given back.
+/// The longest hold of each mutex that was given back.
 #[derive(Drop)]
 pub struct Longest {
-    entries: [Option<Hold>; 64],
+    entries: [Option<Hold>; 256],
 }
 
 impl Longest {
@@ -64,13 +65,13 @@ impl Longest {
         ensures { longest_of result ≡ (λ (k : ℕ). None) }
     {
         Longest {
-            entries: [None; 64],
+            entries: [None; 256],
         }
     }
 
     /// The longest hold of the mutex.
     pub fn at(&self, m: u32) -> Option<Hold>
-        requires { m < 64 }
+        requires { m < most_threads }
         ensures { result ≡ longest_of self.now m }
     {
         self.entries[m as usize]
@@ -78,7 +79,7 @@ impl Longest {
 
     // Sets the longest hold of the mutex.
     fn put(&mut self, m: u32, now: Option<Hold>)
-        requires { m < 64 }
+        requires { m < most_threads }
         ensures { longest_of self.new ≡ put (longest_of self.old) m now }
     {
         self.entries[m as usize] = now;

@@ -1,5 +1,5 @@
 //! Laws of what is kept.
-ghost use Rattle.trace_board.specs.Laws.{BarsAreHolds, BarsAreTakings, ArrowsAreCauses, LanesAreOwn, HoldsAreLongest, RunsAreSeen};
+ghost use Rattle.trace_board.specs.Laws.{BarsAreHolds, BarsAreTakings, ArrowsAreCauses, LanesAreOwn, HoldsAreLongest, RunsAreSeen, RowsAreLives, ForksAreBirths};
 
 /// A bar of a mutex goes on in a thread's row exactly while the state has the mutex held by this thread, from the event that took it.
 pub fn bars_are_holds()
@@ -12,9 +12,19 @@ pub fn bars_are_takings()
 {}
 
 /// An arrow goes from the event that made hold what a thread went on by: that it is out of its condition, that its semaphore is available,
-/// or that it is alerted. Since that event it has held.
+/// that it is alerted, or that the thread which it joins has ended. Since that event it has held.
 pub fn arrows_are_causes()
     ensures { ArrowsAreCauses }
+{}
+
+/// A thread is unborn, lives or has ended as the events say that are kept as its fork and its end.
+pub fn rows_are_lives()
+    ensures { RowsAreLives }
+{}
+
+/// A thread begins to go on, at its first event, by the event that made it live, as it has since.
+pub fn forks_are_births()
+    ensures { ForksAreBirths }
 {}
 
 /// No two bars have one lane of a row but the last, and a bar keeps its lane.

@@ -27,6 +27,9 @@ pub enum Mark {
     AlertRaise,
     AlertPReturn,
     AlertPRaise,
+    Fork,
+    End,
+    Join,
     /// Of an event that fails.
     Failed,
 }
@@ -36,7 +39,8 @@ pub enum Mark {
 pub struct Marks {
     /// Which mark it has.
     pub mark: Mark,
-    /// The number of its mutex or semaphore, of the condition of a wait, a signal or a broadcast, of the thread that is alerted or asks.
+    /// The number of its mutex or semaphore, of the condition of a wait, a signal or a broadcast, of the thread that is alerted, forked or joined, that
+    /// asks or ends.
     pub object: u32,
     /// Which mutex it takes or gives back.
     pub mutex: Turn,
@@ -44,6 +48,8 @@ pub struct Marks {
     pub semaphore: Turn,
     /// Whether it begins or ends a wait of its thread.
     pub wait: Turn,
+    /// Which thread it forks or ends.
+    pub life: Turn,
     /// What it does to those who stand in conditions.
     pub stand: Move,
     /// What it does to semaphores.
@@ -65,6 +71,7 @@ fn plain(mark: Mark, object: u32) -> Marks
         mutex: Turn::Stays,
         semaphore: Turn::Stays,
         wait: Turn::Stays,
+        life: Turn::Stays,
         stand: Move::Stays,
         avail: Move::Stays,
         alert: Move::Stays,
@@ -179,5 +186,17 @@ pub fn marks_of(t: ThreadId, action: &Action) -> Marks
         Action::TestAlert { yes: _ } => heard(Mark::TestAlert, t, t.0),
         Action::AlertPReturn { sem } => taken(Mark::AlertPReturn, sem),
         Action::AlertPRaise { sem } => heard(Mark::AlertPRaise, t, sem.0),
+        Action::Fork { who } => Marks {
+            life: Turn::Begins(who.0),
+            ..plain(Mark::Fork, who.0)
+        },
+        Action::End => Marks {
+            life: Turn::Ends(t.0),
+            ..plain(Mark::End, t.0)
+        },
+        Action::Join { who } => Marks {
+            waker: Waker::Ended(who.0),
+            ..plain(Mark::Join, who.0)
+        },
     }
 }

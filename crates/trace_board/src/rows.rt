@@ -1,6 +1,7 @@
 //! Which lane of its thread's row each bar has.
 ghost use Rattle.std.specs.Prelude.{◌≡◌, ◌<◌, ◌≤◌, ℕ};
 ghost use Rattle.larch_actions.specs.Actions.{put};
+ghost use Rattle.larch_actions.specs.Layout.{most_threads};
 ghost use Rattle.trace_board.specs.History.{entry_of, IsWithin};
 ghost use Rattle.trace_board.specs.Rows.{empty_row, same_bar, with_bar, let_go, without_bar, has, lane_in, begun_in, ended_in, turned, left, turned_by_semaphore, row_of};
 
@@ -129,10 +130,10 @@ impl Row {
     }
 }
 
-/// The row of each of 64 threads.
+/// The row of each of 256 threads.
 #[derive(Drop)]
 pub struct Rows {
-    entries: [Row; 64],
+    entries: [Row; 256],
 }
 
 impl Rows {
@@ -141,14 +142,16 @@ impl Rows {
         ensures { row_of result ≡ (λ (k : ℕ). empty_row) }
     {
         let row = Row::empty();
-        Rows { entries: [row; 64] }
+        Rows {
+            entries: [row; 256],
+        }
     }
 
     // The row of the thread.
     fn at(&self, t: u32) -> Row
         ensures { result ≡ row_of self.now t }
     {
-        if t < 64 {
+        if t < 256 {
             self.entries[t as usize]
         } else {
             Row::empty()
@@ -165,7 +168,7 @@ impl Rows {
 
     // Sets the row of the thread.
     fn put(&mut self, t: u32, now: Row)
-        requires { t < 64 }
+        requires { t < most_threads }
         ensures { row_of self.new ≡ put (row_of self.old) t now }
     {
         self.entries[t as usize] = now;
@@ -173,7 +176,7 @@ impl Rows {
 
     // The bar opens in the row of the thread.
     fn begin(&mut self, bar: Bar, t: u32)
-        requires { t < 64 }
+        requires { t < most_threads }
         ensures { row_of self.new ≡ begun_in bar t (row_of self.old) }
     {
         let was = self.at(t);
@@ -185,7 +188,7 @@ impl Rows {
     fn end(&mut self, bar: Bar, t: u32)
         ensures { row_of self.new ≡ ended_in bar t (row_of self.old) }
     {
-        if t < 64 {
+        if t < 256 {
             let was = self.at(t);
             let now = was.without_bar(bar);
             self.put(t, now);
@@ -194,7 +197,7 @@ impl Rows {
 
     /// Notes the turn of a mutex by this thread.
     pub fn note(&mut self, turn: Turn, t: u32)
-        requires { t < 64 }
+        requires { t < most_threads }
         ensures { row_of self.new ≡ turned turn t (row_of self.old) }
     {
         match turn {
@@ -216,7 +219,7 @@ impl Rows {
 
     /// Notes the turn of a semaphore by this thread.
     pub fn note_semaphore(&mut self, turn: Turn, t: u32, taken: &Table)
-        requires thread { t < 64 }
+        requires thread { t < most_threads }
         requires within { IsWithin turn }
         ensures { row_of self.new ≡ turned_by_semaphore turn t (entry_of taken.now) (row_of self.old) }
     {

@@ -4,7 +4,7 @@ use Rattle.std.proofs.lemmas.Bool.{eqb-true}
 use mathlib.Core.Option.{none, some, Option as Optional}
 use Rattle.larch_actions.specs.declared.event.Event.{Event}
 use Rattle.larch_actions.specs.declared.event.Action.{Action}
-use Rattle.larch_actions.specs.declared.event.Action.TheVariants.{Acquire, Release, Enqueue, Resume, AlertEnqueue, AlertReturn, AlertRaise, Signal, Broadcast, P, V, Alert, TestAlert, AlertPReturn, AlertPRaise}
+use Rattle.larch_actions.specs.declared.event.Action.TheVariants.{Acquire, Release, Enqueue, Resume, AlertEnqueue, AlertReturn, AlertRaise, Signal, Broadcast, P, V, Alert, TestAlert, AlertPReturn, AlertPRaise, Fork, End, Join}
 use Rattle.larch_actions.specs.declared.event.Pending.{Pending}
 use Rattle.larch_actions.specs.declared.event.Pending.TheVariants.{Nothing, Waiting, AlertWaiting}
 use Rattle.larch_actions.specs.Actions.{Spec, Leads, KeepsOrder, MeetsRequires, MeetsWhen, acted, at_first}
@@ -64,6 +64,9 @@ mutex_turns m t s (Alert u) r w = rests (is_held (s.holder m))
 mutex_turns m t s (TestAlert b) r w = rests (is_held (s.holder m))
 mutex_turns m t s (AlertPReturn k) r w = rests (is_held (s.holder m))
 mutex_turns m t s (AlertPRaise k) r w = rests (is_held (s.holder m))
+mutex_turns m t s (Fork u) r w = rests (is_held (s.holder m))
+mutex_turns m t s End r w = rests (is_held (s.holder m))
+mutex_turns m t s (Join u) r w = rests (is_held (s.holder m))
 
 module _ (f : ℕ → Pending) (t u : ℕ) where
   at_own : (x : Pending) → f u ≡ x → eqb t u && true ≡ true → is_waiting (f t) ≡ is_waiting x
@@ -114,6 +117,9 @@ wait_turns t u s (Alert w) o = goes_on s.pending t u
 wait_turns t u s (TestAlert b) o = goes_on s.pending t u
 wait_turns t u s (AlertPReturn k) o = goes_on s.pending t u
 wait_turns t u s (AlertPRaise k) o = goes_on s.pending t u
+wait_turns t u s (Fork w) o = goes_on s.pending t u
+wait_turns t u s End o = goes_on s.pending t u
+wait_turns t u s (Join w) o = goes_on s.pending t u
 
 mutexes_along : (m : ℕ) (es : List Event) (s t : Spec) → Leads s es t → InTurn (λ e. is_mutex m (ended_by e.action)) (λ e. is_mutex m (begun_by e.action)) (is_held (s.holder m)) es
 mutexes_along m [] s t r = tt
@@ -125,7 +131,7 @@ mutexes_along m (e ∷ es) s t r =
     (h.0, h.1, subst (λ b. InTurn ends begins b es) is (mutexes_along m es r.0 t r.2))
 
 pub mutexes_in_turn : MutexesInTurn
-mutexes_in_turn = λ es s r m. mutexes_along m es at_first s r
+mutexes_in_turn = λ version es s r m. mutexes_along m es (at_first version) s r
 
 waits_along : (n : ℕ) (es : List Event) (s t : Spec) → Leads s es t → InTurn (λ e. eqb n e.thread.0 && is_wait (ended_by e.action)) (λ e. eqb n e.thread.0 && is_wait (begun_by e.action)) (is_waiting (s.pending n)) es
 waits_along n [] s t r = tt
@@ -137,4 +143,4 @@ waits_along n (e ∷ es) s t r =
     (h.0, h.1, subst (λ b. InTurn ends begins b es) is (waits_along n es r.0 t r.2))
 
 pub waits_in_turn : WaitsInTurn
-waits_in_turn = λ es s r t. waits_along t es at_first s r
+waits_in_turn = λ version es s r t. waits_along t es (at_first version) s r

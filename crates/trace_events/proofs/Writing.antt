@@ -77,7 +77,7 @@ pub record IsWriting (budget : ℕ) (left₀ : Option (List ℕ)) (before : ℕ)
   pub under_way : IsUnderWay budget left₀ before st now m count
   pub sent : Sends told₀ [] (open_text st.layout under_way.events) told kept
 
-module _ (budget : ℕ) (left₀ : Option (List ℕ)) (before now : ℕ) (p p' : Standing) (l : Layout) (m : Moment) (rest : p.rest ≡ left₀) (room : p.room ≡ budget) (lines : p.lines ≡ 0) (t : TakesHead p p' l) (le : before ≤ now) (laid : m.layout ≡ l) (first : spec_of m ≡ at_first)
+module _ (budget : ℕ) (left₀ : Option (List ℕ)) (before now : ℕ) (p p' : Standing) (l : Layout) (m : Moment) (rest : p.rest ≡ left₀) (room : p.room ≡ budget) (lines : p.lines ≡ 0) (t : TakesHead p p' l) (le : before ≤ now) (laid : m.layout ≡ l) (first : spec_of m ≡ at_first l.version)
     (told₀ told : Option (List ℕ)) (kept₀ kept : List ℕ) (empty : kept₀ ≡ []) where
   pub writing_starts : Sends told₀ kept₀ (head_text l) told kept → IsWriting budget left₀ before p' now m 0 told₀ told kept
   unfolding starts_on

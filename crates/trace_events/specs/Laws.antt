@@ -2,6 +2,7 @@
 use Rattle.std.specs.Prelude.{◌≡◌, ℕ, Bool, true, false, cond, eqb, ◌&&◌, List, [], ◌∷◌, Some, None}
 use Rattle.std.specs.declared.option.Option.{Option}
 use Rattle.larch_actions.specs.declared.event.Event.{Event}
+use Rattle.larch_actions.specs.declared.event.Version.{Version}
 use Rattle.larch_actions.specs.Actions.{Spec, IsRun}
 use Rattle.trace_events.specs.declared.spans.Span.{Span}
 use Rattle.trace_events.specs.declared.spans.Span.TheVariants.{Mutex, Wait, Semaphore}
@@ -28,8 +29,8 @@ InTurn ends begins is_open (e ∷ es) =
     (ends e ≡ true → is_open ≡ true) × (begins e ≡ true → is_open ≡ false) × InTurn ends begins (cond (begins e) true (cond (ends e) false is_open)) es
 
 abbrev pub MutexesInTurn : Type 0
-MutexesInTurn = (es : List Event) (s : Spec) → IsRun es s → (m : ℕ) → InTurn (λ e. is_mutex m (ended_by e.action)) (λ e. is_mutex m (begun_by e.action)) false es
+MutexesInTurn = (version : Version) (es : List Event) (s : Spec) → IsRun version es s → (m : ℕ) → InTurn (λ e. is_mutex m (ended_by e.action)) (λ e. is_mutex m (begun_by e.action)) false es
 
 -- the waits of the thread t
 abbrev pub WaitsInTurn : Type 0
-WaitsInTurn = (es : List Event) (s : Spec) → IsRun es s → (t : ℕ) → InTurn (λ e. eqb t e.thread.0 && is_wait (ended_by e.action)) (λ e. eqb t e.thread.0 && is_wait (begun_by e.action)) false es
+WaitsInTurn = (version : Version) (es : List Event) (s : Spec) → IsRun version es s → (t : ℕ) → InTurn (λ e. eqb t e.thread.0 && is_wait (ended_by e.action)) (λ e. eqb t e.thread.0 && is_wait (begun_by e.action)) false es

@@ -23,7 +23,7 @@ pub record IsFrontText (budget : ℕ) (bytes : List ℕ) : Type 0 where
   pub named : AllByRecursion (HasNames layout) events
   pub text : bytes ≡ front_text layout events ++ rest
   pub within : length (front_text layout events) ≤ budget
-  pub run : IsRun events last
+  pub run : IsRun layout.version events last
 
 -- the sink got nothing, since there is no head, or the text of events at the front of the input
 abbrev pub GotFront : ℕ → List ℕ → Option (List ℕ) → Option (List ℕ) → Type 0

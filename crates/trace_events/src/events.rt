@@ -53,7 +53,7 @@ fn put_head<O: Sink>(held: &mut Held, layout: &Layout, out: &mut O) -> Result<()
     ensures text { Puts (O.held out.old) held.old.items (head_text layout.now) result (O.held out.new) held.new.items }
     ensures cause { HasCause (O.faults out.old) (O.faults out.new) result }
 {
-    let mut buf = [0; 17000];
+    let mut buf = [0; 65000];
     put_head_by(&mut buf, held, layout, out)
 }
 
@@ -65,7 +65,7 @@ fn put_head_by<O: Sink>(
     out: &mut O,
 ) -> Result<(), SinkFault>
     requires lawful { IsLawful layout.now }
-    requires large { 17000 ≤ length buf.old }
+    requires large { 65000 ≤ length buf.old }
     ensures text { Puts (O.held out.old) held.old.items (head_text layout.now) result (O.held out.new) held.new.items }
     ensures cause { HasCause (O.faults out.old) (O.faults out.new) result }
 {
@@ -78,7 +78,7 @@ fn put_event<O: Sink>(held: &mut Held, place: u64, e: &Event, out: &mut O) -> Re
     ensures text { Puts (O.held out.old) held.old.items (event_text place e.now) result (O.held out.new) held.new.items }
     ensures cause { HasCause (O.faults out.old) (O.faults out.new) result }
 {
-    let mut buf = [0; 1000];
+    let mut buf = [0; 2000];
     let end = add_items(&mut buf, 0, place, e);
     put(held, &buf[..end], out)
 }

@@ -68,12 +68,12 @@ fn add_rows(buf: &mut [u8], at: usize, threads: u32) -> usize
 }
 
 /// Adds what stands before the events.
-#[tactic(auto, unfolding(crate::specs::Texts::head_text, crate::specs::Texts::opening_text))]
+#[tactic(auto, using(larch_actions::proofs::Names::few_threads), unfolding(crate::specs::Texts::head_text, crate::specs::Texts::opening_text))]
 pub fn add_head(buf: &mut [u8], at: usize, layout: &Layout) -> usize
     requires lawful { IsLawful layout.now }
-    requires room { at + 17000 ≤ length buf.old }
+    requires room { at + 65000 ≤ length buf.old }
     ensures text { take result buf.new ≡ take at buf.old ++ head_text layout.now }
-    ensures near { result ≤ at + 17000 }
+    ensures near { result ≤ at + 65000 }
 {
     let at = add(
         buf,
@@ -96,11 +96,11 @@ fn add_place(buf: &mut [u8], at: usize, place: u64, thread: ThreadId) -> usize
 
 // Adds the action as it stands on its line.
 fn add_action(buf: &mut [u8], at: usize, place: u64, e: &Event) -> usize
-    requires { at + 400 ≤ length buf.old }
+    requires { at + 1400 ≤ length buf.old }
     ensures text { take result buf.new ≡ take at buf.old ++ action_text e.now.action }
-    ensures near { result ≤ at + 400 }
+    ensures near { result ≤ at + 1400 }
 {
-    let mut line = [0; 410];
+    let mut line = [0; 1430];
     // the numbers of the event and of its thread alone, so how long they are
     let numbers = add_number(&mut line, 0, place);
     let numbers = add_number(&mut line, numbers, u64::from(e.thread.0));
@@ -112,9 +112,9 @@ fn add_action(buf: &mut [u8], at: usize, place: u64, e: &Event) -> usize
 // Adds an event as an instant.
 #[tactic(auto, unfolding(crate::specs::Texts::instant_text))]
 fn add_instant(buf: &mut [u8], at: usize, place: u64, e: &Event) -> usize
-    requires { at + 510 ≤ length buf.old }
+    requires { at + 1510 ≤ length buf.old }
     ensures text { take result buf.new ≡ take at buf.old ++ instant_text place e.now }
-    ensures near { result ≤ at + 510 }
+    ensures near { result ≤ at + 1510 }
 {
     let at = add(buf, at, b",\n{\"ph\":\"i\",\"s\":\"t\"");
     let at = add_place(buf, at, place, e.thread);
@@ -233,9 +233,9 @@ fn add_turn(
 /// Adds an event.
 #[tactic(auto, unfolding(crate::specs::Texts::event_text))]
 pub fn add_items(buf: &mut [u8], at: usize, place: u64, e: &Event) -> usize
-    requires { at + 1000 ≤ length buf.old }
+    requires { at + 2000 ≤ length buf.old }
     ensures text { take result buf.new ≡ take at buf.old ++ event_text place e.now }
-    ensures near { result ≤ at + 1000 }
+    ensures near { result ≤ at + 2000 }
 {
     let at = add_instant(buf, at, place, e);
     let at = add_turn(buf, at, b'e', place, e.thread, ended_by(&e.action));

@@ -1,5 +1,9 @@
 -- What is kept of the events is so in the state.
-use Rattle.std.proofs.Common.{◌≡◌, ◌≢◌, ℕ, not, [], refl, ◌∙◌, inl, inr, eq-eqb}
+use Rattle.std.proofs.Common.{◌≡◌, ◌≢◌, ◌↔◌, ℕ, true, false, not, List, [], refl, ap, sym, ◌∙◌, inl, inr, Some, None, MatchOption, eq-eqb}
+use Rattle.std.proofs.lemmas.Bool.{eqb-true}
+use Rattle.std.specs.declared.option.Option.{Option}
+use mathlib.Core.Option.{none, some, Option as Optional}
+use Rattle.larch_actions.specs.declared.event.Event.{Event}
 use Rattle.larch_actions.specs.declared.event.Pending.{Pending}
 use Rattle.larch_actions.specs.declared.event.Pending.TheVariants.{Nothing, Waiting, AlertWaiting}
 use Rattle.larch_actions.specs.Actions.{Spec}
@@ -7,10 +11,13 @@ use Rattle.trace_board.specs.declared.history.Origin.{Origin}
 use Rattle.trace_board.specs.declared.causes.Cause.{Cause}
 use Rattle.trace_board.specs.declared.causes.Cause.TheVariants.{Never, Awaited, By}
 use Rattle.trace_board.specs.Kept.{kept_since, behind}
-use Rattle.trace_board.proofs.Agreeing.{Fits, stands_in, is_awaited, is_come}
+use Rattle.trace_board.specs.declared.rows.Bar.TheVariants.{Mutex}
+use Rattle.trace_board.specs.Laws.{IsSince}
+use Rattle.trace_board.specs.Awaited.{is_awaited}
+use Rattle.trace_board.proofs.Agreeing.{Fits, stands_in, is_come}
 use Rattle.trace_board.proofs.Causing.{told_run, IsWaitOn as IsOnWait}
 use Rattle.trace_board.proofs.Holding.{bars_are_holds}
-use Rattle.trace_explain.specs.Laws.{WaitsSo, IsWaitOn, is_named, OpenSo, AlertedSo, FactsAreSo}
+use Rattle.trace_explain.specs.Laws.{WaitsSo, IsWaitOn, is_named, is_listed, OpenSo, AlertedSo, FactsAreSo}
 
 -- who stands in a condition or was taken out has begun a wait
 begun : (p : Pending) (x : Cause) → Fits p x → x ≢ Never → p ≢ Nothing
@@ -56,12 +63,21 @@ wait_on c Nothing h = h
 wait_on c (Waiting m d) h = h
 wait_on c (AlertWaiting m d) h = h
 
+listed_so : (m t : ℕ) (x : Option Origin) (h : Optional ℕ) (past : List Event) → MatchOption x (h ≡ none) (λ o. (h ≡ some o.thread.0) × IsSince (Mutex m) o past) → (is_listed t x ≡ true) ↔ (h ≡ some t)
+listed_so m t None h past free = ((λ e. absurd (let bad : false ≡ true = e in cc)), (λ e. absurd (let bad : none ≡ some t = sym free ∙ e in cc)))
+listed_so m t (Some o) h past held = ((λ e. held.0 ∙ ap some (eqb-true o.thread.0 t e)), (λ e. eq-eqb o.thread.0 t (same o.thread.0 t (sym held.0 ∙ e))))
+  where
+    same : (i j : ℕ) → some i ≡ some j → i ≡ j
+    same i j u = cc
+
 pub facts_are_so : FactsAreSo
-facts_are_so = λ es s r.
+facts_are_so = λ version es s r.
     let k = kept_since (behind [] es) in
-    let told = told_run es s r in
+    let told = told_run version es s r in
     record {
-      held = bars_are_holds es s r;
+      held = bars_are_holds version es s r;
+      listed = λ m t. listed_so m t (k.held m) (s.holder m) (behind [] es) (bars_are_holds version es s r m);
+      lives = λ t. (told.lives t).is;
       waits = λ t. waits_so s t (k.stands t) (told.fits t) (λ c. told.stands c t);
       stands = λ c t. told.stands c t ∙ named_so c (k.stands t);
       opens = λ n. open_so s n (k.opens n) (told.opens n);
@@ -69,4 +85,6 @@ facts_are_so = λ es s r.
       taken_out_by = λ t c o is on. told.out t o is c (wait_on c (s.pending t) on);
       opened_by = told.opener;
       alerted_by = told.alerted;
+      forked_by = λ t. (told.lives t).forked;
+      ended_by = λ t. (told.lives t).ended;
     }

@@ -24,7 +24,7 @@ pub record IsFinding (budget : ℕ) (left₀ : Option (List ℕ)) (before : ℕ)
   pub kept_is : k ≡ kept_since (behind [] under_way.events)
 
 pub finding_starts : (budget : ℕ) (left₀ : Option (List ℕ)) (before now : ℕ) (p p' : Standing) (l : Layout) (m : Moment) (k : Kept)
-    → p.rest ≡ left₀ → p.room ≡ budget → p.lines ≡ 0 → TakesHead p p' l → before ≤ now → m.layout ≡ l → spec_of m ≡ at_first → k ≡ nothing_kept → IsFinding budget left₀ before p' now m 0 k
+    → p.rest ≡ left₀ → p.room ≡ budget → p.lines ≡ 0 → TakesHead p p' l → before ≤ now → m.layout ≡ l → spec_of m ≡ at_first l.version → k ≡ nothing_kept → IsFinding budget left₀ before p' now m 0 k
 unfolding starts_on
 finding_starts budget left₀ before now p p' l m k rest room lines t le laid first none = record {
   under_way = starts_on budget left₀ before now p p' l m rest room lines t le laid first;
@@ -48,10 +48,10 @@ module _ (budget : ℕ) (left₀ : Option (List ℕ)) (before now : ℕ) (p : St
 
 -- an event that fails is the input's
 pub finding_fails : (budget : ℕ) (left₀ : Option (List ℕ)) (before now : ℕ) (p p' : Standing) (m : Moment) (count : ℕ) (k : Kept) → IsFinding budget left₀ before p now m count k
-    → (e : Event) (why : Broken) → TakesEvent p p' e → Fails (spec_of m) e why → IsFailure budget left₀ k (Illegal count e why)
+    → (l : Layout) (e : Event) (why : Broken) → l ≡ p.layout → TakesEvent p p' e → Fails (spec_of m) e why → IsFailure budget left₀ k (Illegal l.version count e why)
 unfolding fails_on
-finding_fails budget None before now p p' m count k d e why t f = tt
-finding_fails budget (Some bytes) before now p p' m count k d e why t f = (fails_on budget (Some bytes) before now p p' m count e why d.under_way t f, refl, d.kept_is)
+finding_fails budget None before now p p' m count k d l e why same t f = tt
+finding_fails budget (Some bytes) before now p p' m count k d l e why same t f = (fails_on budget (Some bytes) before now p p' m count e why d.under_way t f, ap (λ (x : Layout). x.version) (sym same), refl, d.kept_is)
 
 -- a text that can't be read has no event that fails
 pub verdict_found : (f : TextFault) → verdict_of (found_of f) ≡ refusal f

@@ -15,8 +15,8 @@ use Rattle.trace_explain.specs.Told.{Explains, GotText, GotFront, IsFailure}
 -- the text for what was found explains its verdict
 pub explains : (budget : ℕ) (left : Option (List ℕ)) (k : Kept) (found : Found) → IsFailure budget left k found → Explains budget left (verdict_of found) (text_of k found)
 explains budget left k (Legal s) h = refl
-explains budget None k (Illegal place e why) h = tt
-explains budget (Some bytes) k (Illegal place e why) h = (h.0, λ i. illegal_text (h.2 i) place (sym h.1 i) why)
+explains budget None k (Illegal version place e why) h = tt
+explains budget (Some bytes) k (Illegal version place e why) h = (h.0, λ i. illegal_text (sym h.1 i) (h.3 i) place (sym h.2 i) why)
 explains budget left k (BadLine n) h = refl
 explains budget left k TooLong h = refl
 explains budget left k ReadFault h = refl

@@ -1,6 +1,8 @@
 -- What is said of the state before an event.
 use Rattle.std.specs.Prelude.{ℕ, ◌==◌, if◌then◌else◌, List, [], ◌++◌, codes, Some, None}
 use Rattle.std.specs.declared.option.Option.{Option}
+use Rattle.larch_actions.specs.declared.event.Version.{Version}
+use Rattle.larch_actions.specs.declared.event.Version.TheVariants.{One, Two}
 use Rattle.larch_actions.specs.declared.event.Event.{Event}
 use Rattle.trace_board.specs.declared.history.Origin.{Origin}
 use Rattle.trace_board.specs.declared.history.Turn.{Turn}
@@ -14,7 +16,7 @@ use Rattle.trace_board.specs.declared.board.Waker.TheVariants as waker
 use Rattle.trace_board.specs.Marks.{marks_of}
 use Rattle.trace_board.specs.Kept.{Kept}
 use Rattle.trace_picture.specs.Shapes.{with_number, each_below}
-use Rattle.trace_explain.specs.Sentences.{plain, since, standing}
+use Rattle.trace_explain.specs.Sentences.{plain, since, standing, ended}
 
 -- the thread's wait: in which condition it stands, or who took it out
 abbrev pub wait_text : ℕ → Cause → List ℕ
@@ -47,7 +49,37 @@ stander c t (By o) = []
 
 -- all that stand in the condition
 unfoldable pub standers : Kept → ℕ → List ℕ
-standers k c = with_number (codes "in c") c ++ codes ":" ++ each_below (λ t. stander c t (k.stands t)) 64 ++ codes "\n"
+standers k c = with_number (codes "in c") c ++ codes ":" ++ each_below (λ t. stander c t (k.stands t)) 256 ++ codes "\n"
+
+-- the life of a thread at first
+abbrev pub first_text : ℕ → List ℕ
+first_text t = if t == 0 then plain (codes "t") t (codes " is live from the start") else plain (codes "t") t (codes " is not forked")
+
+-- whether a thread is unborn, lives or has ended, and by which events
+abbrev pub life_text : ℕ → Option Origin → Option Origin → List ℕ
+life_text t born (Some o) = ended t o
+life_text t (Some o) None = since (codes "t") t (codes " is forked by t") o
+life_text t None None = first_text t
+
+-- the name of a mutex that the thread holds
+abbrev pub held_by : ℕ → ℕ → Option Origin → List ℕ
+held_by t m None = []
+held_by t m (Some o) = if o.thread.0 == t then with_number (codes " m") m else []
+
+-- all that it holds
+unfoldable pub holdings : Kept → ℕ → List ℕ
+holdings k t = with_number (codes "held by t") t ++ codes ":" ++ each_below (λ m. held_by t m (k.held m)) 64 ++ codes "\n"
+
+-- the life of the thread that makes the event: in version one all live
+abbrev pub own_fact : Version → Kept → ℕ → List ℕ
+own_fact One k t = []
+own_fact Two k t = life_text t (k.born t) (k.over t)
+
+-- the thread that is forked, and what the one that ends holds
+abbrev pub life_fact : Kept → Turn → List ℕ
+life_fact k (turn.Begins t) = life_text t (k.born t) (k.over t)
+life_fact k (turn.Ends t) = holdings k t
+life_fact k turn.Stays = []
 
 -- the mutex that the action takes or gives back
 abbrev pub mutex_fact : Kept → Turn → List ℕ
@@ -66,13 +98,14 @@ open_fact k (move.Awaits s c) = open_text s (k.opens s)
 open_fact k (move.Opens s) = open_text s (k.opens s)
 open_fact k _ = []
 
--- the alert that the action goes on by
-abbrev pub alert_fact : Kept → Waker → List ℕ
-alert_fact k (waker.Alarm t) = alert_text t (k.alerts t)
-alert_fact k _ = []
+-- the alert that the action goes on by, and the thread that it joins
+abbrev pub waker_fact : Kept → Waker → List ℕ
+waker_fact k (waker.Alarm t) = alert_text t (k.alerts t)
+waker_fact k (waker.Ended t) = life_text t (k.born t) (k.over t)
+waker_fact k _ = []
 
 -- all that the order and the action's row speak of
-unfoldable pub facts : Kept → Event → List ℕ
-facts k e =
-    wait_text e.thread.0 (k.stands e.thread.0) ++ mutex_fact k (marks_of e.thread.0 e.action).mutex ++ stand_fact k (marks_of e.thread.0 e.action).stand
-    ++ open_fact k (marks_of e.thread.0 e.action).avail ++ alert_fact k (marks_of e.thread.0 e.action).waker
+unfoldable pub facts : Version → Kept → Event → List ℕ
+facts version k e =
+    own_fact version k e.thread.0 ++ wait_text e.thread.0 (k.stands e.thread.0) ++ life_fact k (marks_of e.thread.0 e.action).life ++ mutex_fact k (marks_of e.thread.0 e.action).mutex ++ stand_fact k (marks_of e.thread.0 e.action).stand
+    ++ open_fact k (marks_of e.thread.0 e.action).avail ++ waker_fact k (marks_of e.thread.0 e.action).waker

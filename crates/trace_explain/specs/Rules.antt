@@ -1,13 +1,16 @@
 -- The rows of the table in words. SELF is the thread of the event, and m, c and s are the names in it.
 use Rattle.std.specs.Prelude.{ℕ, List, codes}
 use Rattle.larch_actions.specs.declared.event.Action.{Action}
-use Rattle.larch_actions.specs.declared.event.Action.TheVariants.{Acquire, Release, Enqueue, Resume, AlertEnqueue, AlertReturn, AlertRaise, Signal, Broadcast, P, V, Alert, TestAlert, AlertPReturn, AlertPRaise}
+use Rattle.larch_actions.specs.declared.event.Action.TheVariants.{Acquire, Release, Enqueue, Resume, AlertEnqueue, AlertReturn, AlertRaise, Signal, Broadcast, P, V, Alert, TestAlert, AlertPReturn, AlertPRaise, Fork, End, Join}
+use Rattle.larch_actions.specs.declared.event.Version.{Version}
+use Rattle.larch_actions.specs.declared.event.Version.TheVariants.{One, Two}
 use Rattle.larch_actions.specs.declared.event.Broken.{Broken}
 use Rattle.larch_actions.specs.declared.event.Broken.TheVariants as broken
 
 -- what the order asks
-abbrev pub order_rule : List ℕ
-order_rule = codes "after the first part of a wait a thread's next event is the second part of that wait, and no other thread makes a second part"
+abbrev pub order_rule : Version → List ℕ
+order_rule One = codes "after the first part of a wait a thread's next event is the second part of that wait, and no other thread makes a second part"
+order_rule Two = codes "a thread makes events from its fork to its end alone; after the first part of a wait its next event is the second part of that wait, and no other thread makes a second part"
 
 -- what the row of an action says
 abbrev pub row_of : Action → List ℕ
@@ -26,10 +29,13 @@ row_of (Alert t) = codes "ENSURES the other thread is alerted"
 row_of (TestAlert answer) = codes "ENSURES the answer tells whether SELF was alerted, and SELF is not alerted"
 row_of (AlertPReturn s) = codes "WHEN s is available; ENSURES s is not available"
 row_of (AlertPRaise s) = codes "WHEN SELF is alerted; ENSURES SELF is not alerted"
+row_of (Fork t) = codes "REQUIRES the other thread is unborn; ENSURES the other thread is live"
+row_of End = codes "REQUIRES SELF holds no mutex; ENSURES SELF has ended"
+row_of (Join t) = codes "WHEN the other thread has ended"
 
 -- the rule that an event fails
-abbrev pub rule_of : Broken → Action → List ℕ
-rule_of broken.Order a = order_rule
-rule_of broken.Requires a = row_of a
-rule_of broken.When a = row_of a
-rule_of broken.Ensures a = row_of a
+abbrev pub rule_of : Version → Broken → Action → List ℕ
+rule_of version broken.Order a = order_rule version
+rule_of version broken.Requires a = row_of a
+rule_of version broken.When a = row_of a
+rule_of version broken.Ensures a = row_of a

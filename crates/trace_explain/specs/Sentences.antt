@@ -14,3 +14,7 @@ since kind n words o = with_number kind n ++ with_number words o.thread.0 ++ wit
 -- a thread that stands in a condition
 unfoldable pub standing : ℕ → ℕ → List ℕ
 standing t c = with_number (codes "t") t ++ with_number (codes " stands in c") c ++ codes "\n"
+
+-- a thread that has ended
+unfoldable pub ended : ℕ → Origin → List ℕ
+ended t o = with_number (codes "t") t ++ with_number (codes " has ended since event ") o.place ++ codes "\n"

@@ -1,5 +1,6 @@
 -- The text for each thing that a check finds.
 use Rattle.std.specs.Prelude.{ℕ, ◌-◌, ◌==◌, if◌then◌else◌, List, [], ◌++◌, codes}
+use Rattle.larch_actions.specs.declared.event.Version.{Version}
 use Rattle.larch_actions.specs.declared.event.Event.{Event}
 use Rattle.larch_actions.specs.declared.event.Broken.{Broken}
 use Rattle.trace_core.specs.declared.intake.TextFault.{TextFault}
@@ -24,8 +25,8 @@ unfoldable pub failed_text : ℕ → Event → Broken → List ℕ
 failed_text n e why = with_number (codes "illegal ") n ++ codes " " ++ clause_word why ++ codes "\nevent: " ++ line_of n e
 
 -- the rule that the event fails, and the state before it
-unfoldable pub illegal_text : Kept → ℕ → Event → Broken → List ℕ
-illegal_text k n e why = failed_text n e why ++ codes "\nrule: " ++ rule_of why e.action ++ codes "\n" ++ facts k e
+unfoldable pub illegal_text : Version → Kept → ℕ → Event → Broken → List ℕ
+illegal_text version k n e why = failed_text n e why ++ codes "\nrule: " ++ rule_of version why e.action ++ codes "\n" ++ facts version k e
 
 -- what may stand on the line of the event n
 unfoldable pub later_text : ℕ → List ℕ
@@ -35,8 +36,8 @@ later_text n =
 -- what may stand on the line
 abbrev pub expected : ℕ → List ℕ
 expected n =
-    if n == 1 then codes ": the first line is `firefly-trace 1`\n"
-    else (if n == 2 then codes ": the second line is `threads T mutexes M conditions C semaphores S`, T from 1 to 64, the others from 0 to 64\n" else later_text (n - 3))
+    if n == 1 then codes ": the first line is `firefly-trace 1` or `firefly-trace 2`\n"
+    else (if n == 2 then codes ": the second line is `threads T mutexes M conditions C semaphores S`, T from 1 to 64, behind `firefly-trace 2` to 256, the others from 0 to 64\n" else later_text (n - 3))
 
 unfoldable pub bad_text : ℕ → List ℕ
 bad_text n = with_number (codes "bad line ") n ++ expected n
@@ -44,7 +45,7 @@ bad_text n = with_number (codes "bad line ") n ++ expected n
 -- the text for what was found, where this is kept of the events before
 abbrev pub text_of : Kept → Found → List ℕ
 text_of k (Legal s) = legal_text s
-text_of k (Illegal n e why) = illegal_text k n e why
+text_of k (Illegal version n e why) = illegal_text version k n e why
 text_of k (BadLine n) = bad_text n
 text_of k TooLong = []
 text_of k ReadFault = []
@@ -52,7 +53,7 @@ text_of k ReadFault = []
 -- the verdict of what was found
 abbrev pub verdict_of : Found → Verdict
 verdict_of (Legal s) = verdict.Legal s
-verdict_of (Illegal n e why) = verdict.Illegal n why
+verdict_of (Illegal version n e why) = verdict.Illegal n why
 verdict_of (BadLine n) = verdict.BadLine n
 verdict_of TooLong = verdict.TooLong
 verdict_of ReadFault = verdict.ReadFault

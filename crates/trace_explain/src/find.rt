@@ -9,16 +9,17 @@ ghost use Rattle.trace_explain.specs.Words.{verdict_of, found_of};
 ghost use Rattle.trace_explain.specs.Told.{IsFailure, HasNoted};
 
 use firefly_outside::Source;
-use larch_actions::{Broken, Event, State};
+use larch_actions::{Broken, Event, State, Version};
 use trace_board::board::Board;
 use trace_check::Summary;
 use trace_core::{EventReader, TextFault};
 
-/// A verdict, with the event that fails.
+/// A verdict, with the event that fails and the version of its trace.
 #[derive(Drop)]
 pub enum Found {
     Legal(Summary),
     Illegal {
+        version: Version,
         place: u64,
         event: Event,
         why: Broken,
@@ -66,7 +67,14 @@ pub fn find_all<I: Source>(reader: &mut EventReader<I>, board: &mut Board) -> Fo
                     board.note(place, &event);
                     place += 1;
                 }
-                Err(why) => return Found::Illegal { place, event, why },
+                Err(why) => {
+                    return Found::Illegal {
+                        version: layout.version,
+                        place,
+                        event,
+                        why,
+                    };
+                }
             },
             Ok(None) => {
                 let totals = state.summary();

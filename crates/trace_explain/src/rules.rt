@@ -1,8 +1,8 @@
 //! The rows of the table in words.
 ghost use Rattle.std.specs.Prelude.{◌≡◌, ◌≤◌, length};
-ghost use Rattle.trace_explain.specs.Rules.{row_of, rule_of};
+ghost use Rattle.trace_explain.specs.Rules.{order_rule, row_of, rule_of};
 
-use larch_actions::{Action, Broken};
+use larch_actions::{Action, Broken, Version};
 
 // What the row of the action says.
 fn row(action: &Action) -> &'static [u8]
@@ -40,18 +40,36 @@ fn row(action: &Action) -> &'static [u8]
         }
         Action::AlertPReturn { .. } => b"WHEN s is available; ENSURES s is not available",
         Action::AlertPRaise { .. } => b"WHEN SELF is alerted; ENSURES SELF is not alerted",
+        Action::Fork { .. } => {
+            b"REQUIRES the other thread is unborn; ENSURES the other thread is live"
+        }
+        Action::End => b"REQUIRES SELF holds no mutex; ENSURES SELF has ended",
+        Action::Join { .. } => b"WHEN the other thread has ended",
+    }
+}
+
+// What the order asks.
+fn order(version: Version) -> &'static [u8]
+    ensures words { result.now ≡ order_rule version }
+    ensures short { length result.now ≤ 200 }
+{
+    match version {
+        Version::One => {
+            b"after the first part of a wait a thread's next event is the second part of that wait, and no other thread makes a second part"
+        }
+        Version::Two => {
+            b"a thread makes events from its fork to its end alone; after the first part of a wait its next event is the second part of that wait, and no other thread makes a second part"
+        }
     }
 }
 
 /// The rule that an event fails: the order, or the row of its action.
-pub fn rule(why: Broken, action: &Action) -> &'static [u8]
-    ensures words { result.now ≡ rule_of why action.now }
-    ensures short { length result.now ≤ 160 }
+pub fn rule(version: Version, why: Broken, action: &Action) -> &'static [u8]
+    ensures words { result.now ≡ rule_of version why action.now }
+    ensures short { length result.now ≤ 200 }
 {
     match why {
-        Broken::Order => {
-            b"after the first part of a wait a thread's next event is the second part of that wait, and no other thread makes a second part"
-        }
+        Broken::Order => order(version),
         Broken::Requires => row(action),
         Broken::When => row(action),
         Broken::Ensures => row(action),

@@ -1,6 +1,6 @@
 //! The forms of sentences, written into a buffer behind its first `at` bytes. Each call says where it ended.
 ghost use Rattle.std.specs.Prelude.{◌≡◌, ◌+◌, ◌≤◌, ◌++◌, length, take};
-ghost use Rattle.trace_explain.specs.Sentences.{plain, since, standing};
+ghost use Rattle.trace_explain.specs.Sentences.{plain, since, standing, ended};
 
 use trace_board::history::Origin;
 use trace_core::add;
@@ -44,5 +44,17 @@ pub fn add_standing(buf: &mut [u8], at: usize, t: u32, c: u32) -> usize
 {
     let at = add_with_number(buf, at, b"t", u64::from(t));
     let at = add_with_number(buf, at, b" stands in c", u64::from(c));
+    add(buf, at, b"\n")
+}
+
+/// Adds since when a thread has ended, as a line.
+#[tactic(auto, unfolding(crate::specs::Sentences::ended))]
+pub fn add_ended(buf: &mut [u8], at: usize, t: u32, o: &Origin) -> usize
+    requires room { at + 160 ≤ length buf.old }
+    ensures text { take result buf.new ≡ take at buf.old ++ ended t o.now }
+    ensures near { result ≤ at + 160 }
+{
+    let at = add_with_number(buf, at, b"t", u64::from(t));
+    let at = add_with_number(buf, at, b" has ended since event ", o.place);
     add(buf, at, b"\n")
 }

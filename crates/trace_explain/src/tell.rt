@@ -10,7 +10,7 @@ use crate::facts::add_facts;
 use crate::find::Found;
 use crate::rules::rule;
 use firefly_outside::{Sink, SinkFault, put_all};
-use larch_actions::{Broken, Event};
+use larch_actions::{Broken, Event, Version};
 use trace_board::board::Board;
 use trace_check::{Summary, Verdict};
 use trace_core::add;
@@ -34,9 +34,9 @@ fn add_legal(buf: &mut [u8], at: usize, s: &Summary) -> usize
 // Adds which clause an event fails, and its line.
 #[tactic(auto, unfolding(crate::specs::Words::failed_text))]
 fn add_failed(buf: &mut [u8], at: usize, place: u64, e: &Event, why: Broken) -> usize
-    requires room { at + 500 ≤ length buf.old }
+    requires room { at + 1600 ≤ length buf.old }
     ensures text { take result buf.new ≡ take at buf.old ++ failed_text place e.now why }
-    ensures near { result ≤ at + 500 }
+    ensures near { result ≤ at + 1600 }
 {
     let at = add_with_number(buf, at, b"illegal ", place);
     let at = add(buf, at, b" ");
@@ -50,21 +50,22 @@ fn add_failed(buf: &mut [u8], at: usize, place: u64, e: &Event, why: Broken) -> 
 fn add_illegal(
     buf: &mut [u8],
     at: usize,
+    version: Version,
     board: &Board,
     place: u64,
     e: &Event,
     why: Broken,
 ) -> usize
     requires noted { IsNoted e.now }
-    requires room { at + 5000 ≤ length buf.old }
-    ensures text { take result buf.new ≡ take at buf.old ++ illegal_text (kept_of board.now) place e.now why }
-    ensures near { result ≤ at + 5000 }
+    requires room { at + 16384 ≤ length buf.old }
+    ensures text { take result buf.new ≡ take at buf.old ++ illegal_text version (kept_of board.now) place e.now why }
+    ensures near { result ≤ at + 16384 }
 {
     let at = add_failed(buf, at, place, e, why);
     let at = add(buf, at, b"\nrule: ");
-    let at = add(buf, at, rule(why, &e.action));
+    let at = add(buf, at, rule(version, why, &e.action));
     let at = add(buf, at, b"\n");
-    add_facts(buf, at, board, e)
+    add_facts(buf, at, version, board, e)
 }
 
 // Adds what may stand on the line of an event.
@@ -88,13 +89,17 @@ fn add_expected(buf: &mut [u8], at: usize, line: u64) -> usize
     ensures near { result ≤ at + 400 }
 {
     if line == 1 {
-        return add(buf, at, b": the first line is `firefly-trace 1`\n");
+        return add(
+            buf,
+            at,
+            b": the first line is `firefly-trace 1` or `firefly-trace 2`\n",
+        );
     }
     if line == 2 {
         return add(
             buf,
             at,
-            b": the second line is `threads T mutexes M conditions C semaphores S`, T from 1 to 64, the others from 0 to 64\n",
+            b": the second line is `threads T mutexes M conditions C semaphores S`, T from 1 to 64, behind `firefly-trace 2` to 256, the others from 0 to 64\n",
         );
     }
     add_later(buf, at, line.saturating_sub(3))
@@ -114,13 +119,18 @@ fn add_bad(buf: &mut [u8], at: usize, line: u64) -> usize
 // Adds the text for what was found.
 fn add_found(buf: &mut [u8], at: usize, board: &Board, found: &Found) -> usize
     requires noted { HasNoted found.now }
-    requires room { at + 5000 ≤ length buf.old }
+    requires room { at + 16384 ≤ length buf.old }
     ensures text { take result buf.new ≡ take at buf.old ++ text_of (kept_of board.now) found.now }
-    ensures near { result ≤ at + 5000 }
+    ensures near { result ≤ at + 16384 }
 {
     match found {
         Found::Legal(summary) => add_legal(buf, at, summary),
-        Found::Illegal { place, event, why } => add_illegal(buf, at, board, *place, event, *why),
+        Found::Illegal {
+            version,
+            place,
+            event,
+            why,
+        } => add_illegal(buf, at, *version, board, *place, event, *why),
         Found::BadLine(line) => add_bad(buf, at, *line),
         Found::TooLong => at,
         Found::ReadFault => at,
@@ -151,7 +161,7 @@ fn tell_by<O: Sink>(
     out: &mut O,
 ) -> Result<Verdict, SinkFault>
     requires noted { HasNoted found.now }
-    requires large { 5000 ≤ length buf.old }
+    requires large { 16384 ≤ length buf.old }
     ensures verdict { IfOk result (λ v. v ≡ verdict_of found.now) }
     ensures ok { OnOk result (Appends (O.held out.old) (O.held out.new) (text_of (kept_of board.now) found.now)) }
     ensures err { OnErr result (AppendsFront (O.held out.old) (O.held out.new) (text_of (kept_of board.now) found.now)) }
@@ -172,6 +182,6 @@ pub fn tell<O: Sink>(found: &Found, board: &Board, out: &mut O) -> Result<Verdic
     ensures err { OnErr result (AppendsFront (O.held out.old) (O.held out.new) (text_of (kept_of board.now) found.now)) }
     ensures cause { HasCause (O.faults out.old) (O.faults out.new) result }
 {
-    let mut buf = [0; 8192];
+    let mut buf = [0; 16384];
     tell_by(&mut buf, found, board, out)
 }

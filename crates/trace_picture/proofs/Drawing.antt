@@ -68,7 +68,7 @@ nothing_sent None = tt
 nothing_sent (Some xs) = sym (append-nil xs)
 
 unfoldable pub drawing_starts : (budget : ℕ) (left₀ : Option (List ℕ)) (before now : ℕ) (p p' : Standing) (l : Layout) (m : Moment) (v : View) (told : Option (List ℕ)) (kept : List ℕ) (k : Kept)
-    → p.rest ≡ left₀ → p.room ≡ budget → p.lines ≡ 0 → TakesHead p p' l → before ≤ now → m.layout ≡ l → spec_of m ≡ at_first → kept ≡ [] ++ head_text l → k ≡ nothing_kept
+    → p.rest ≡ left₀ → p.room ≡ budget → p.lines ≡ 0 → TakesHead p p' l → before ≤ now → m.layout ≡ l → spec_of m ≡ at_first l.version → kept ≡ [] ++ head_text l → k ≡ nothing_kept
     → IsDrawing budget left₀ before p' now m 0 v told told kept k
 unfolding starts_on
 drawing_starts budget left₀ before now p p' l m v told kept k rest room lines t le laid first text none =

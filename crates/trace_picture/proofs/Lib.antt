@@ -5,4 +5,5 @@ pub mod Drawing
 pub mod Exact
 pub mod Lines
 pub mod Ringing
+pub mod RowsSeen
 pub mod Seeing

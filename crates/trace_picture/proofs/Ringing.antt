@@ -6,6 +6,7 @@ use Rattle.std.specs.declared.option.Option.{Option}
 use Rattle.std.proofs.lemmas.List.{take_more}
 use Rattle.std.proofs.lemmas.List.Concat.{flat_map-append}
 use Rattle.larch_actions.specs.declared.event.Layout.{Layout}
+use Rattle.larch_actions.specs.declared.event.Version.{Version}
 use Rattle.larch_actions.specs.declared.event.Event.{Event}
 use Rattle.larch_actions.specs.Actions.{Spec, Acts, at_first}
 use Rattle.larch_actions.specs.State.{Moment, spec_of}
@@ -32,12 +33,12 @@ pub record IsRinging (budget : ℕ) (left₀ : Option (List ℕ)) (before : ℕ)
   pub noted : on ≡ true → IsKept drawing.under_way.events (spec_of m) n
 
 pub ringing_starts : (budget : ℕ) (left₀ : Option (List ℕ)) (before now : ℕ) (p p' : Standing) (l : Layout) (m : Moment) (v : View) (told : Option (List ℕ)) (kept : List ℕ) (k : Kept) (on : Bool) (n : Nestings)
-    → p.rest ≡ left₀ → p.room ≡ budget → p.lines ≡ 0 → TakesHead p p' l → before ≤ now → m.layout ≡ l → spec_of m ≡ at_first → kept ≡ [] ++ head_text l → k ≡ nothing_kept → IsKept [] at_first n
+    → p.rest ≡ left₀ → p.room ≡ budget → p.lines ≡ 0 → TakesHead p p' l → before ≤ now → m.layout ≡ l → spec_of m ≡ at_first l.version → kept ≡ [] ++ head_text l → k ≡ nothing_kept → ((version : Version) → IsKept [] (at_first version) n)
     → IsRinging budget left₀ before p' now m 0 v told told kept k on n
 unfolding starts_on drawing_starts
 ringing_starts budget left₀ before now p p' l m v told kept k on n rest room lines t le laid first text none empty = record {
   drawing = drawing_starts budget left₀ before now p p' l m v told kept k rest room lines t le laid first text none;
-  noted = λ wanted. subst (λ (z : Spec). IsKept [] z n) (sym first) empty;
+  noted = λ wanted. subst (λ (z : Spec). IsKept [] z n) (sym first) (empty l.version);
 }
 
 module _ (budget : ℕ) (left₀ : Option (List ℕ)) (before now : ℕ) (p : Standing) (m : Moment) (count : ℕ) (v : View) (told₀ told : Option (List ℕ)) (kept : List ℕ) (k : Kept) (on : Bool) (n : Nestings)

@@ -8,7 +8,7 @@ use Rattle.std.proofs.lemmas.Bool.Decides.{nat_tests}
 use Rattle.larch_actions.specs.declared.event.Layout.{Layout}
 use Rattle.larch_actions.specs.declared.event.Event.{Event}
 use Rattle.larch_actions.specs.declared.event.Action.{Action}
-use Rattle.larch_actions.specs.declared.event.Action.TheVariants.{Acquire, Release, Enqueue, Resume, AlertEnqueue, AlertReturn, AlertRaise, Signal, Broadcast, P, V, Alert, TestAlert, AlertPReturn, AlertPRaise}
+use Rattle.larch_actions.specs.declared.event.Action.TheVariants.{Acquire, Release, Enqueue, Resume, AlertEnqueue, AlertReturn, AlertRaise, Signal, Broadcast, P, V, Alert, TestAlert, AlertPReturn, AlertPRaise, Fork, End, Join}
 use Rattle.larch_actions.specs.Actions.{Spec, MeetsRequires}
 use Rattle.trace_board.specs.declared.history.Origin.{Origin}
 use Rattle.trace_board.specs.declared.history.Turn.TheVariants.{Begins, Ends, Stays}
@@ -21,6 +21,7 @@ use Rattle.trace_board.specs.Rows.{lane_in}
 use Rattle.trace_board.specs.Kept.{Kept, kept_since, kept_after, behind}
 use Rattle.trace_picture.specs.Places.{in_view, gap_before, bar_x, bar_width}
 use Rattle.trace_picture.specs.Shapes.{place_text, box_text, bar_box, bar_text, taken_text, span_text, line_of, number_text, mark_text, object_if, with_number}
+use Rattle.trace_picture.specs.Lives.{life_row}
 use Rattle.trace_picture.specs.Bands.{band_start, opening, closing_after, bar_if, taken_if, bar_ended, taken_ended, wait_ended, bars_ended, arrow_to, event_shapes, step_text}
 use Rattle.trace_board.specs.Laws.{IsSince}
 use Rattle.trace_picture.specs.Seen.{kind_of, MarksDiffer, HasText, EventsAreMarked, BarsAreDrawn, TakingsAreDrawn}
@@ -32,7 +33,7 @@ index_of : ℕ → List ℕ → ℕ
 index_of x [] = 0
 index_of x (y ∷ ys) = cond (eqb x y) 0 (suc (index_of x ys))
 
-by_letter : (t : ℕ) (a : Action) → index_of (look_of (marks_of t a).mark).letter (codes "ARWCSBPVLTwcxpy") ≡ kind_of a
+by_letter : (t : ℕ) (a : Action) → index_of (look_of (marks_of t a).mark).letter (codes "ARWCSBPVLTwcxpyfEJ") ≡ kind_of a
 unfolding index_of
 by_letter t (Acquire m) = refl
 by_letter t (Release m) = refl
@@ -49,8 +50,11 @@ by_letter t (Alert who) = refl
 by_letter t (TestAlert b) = refl
 by_letter t (AlertPReturn n) = refl
 by_letter t (AlertPRaise n) = refl
+by_letter t (Fork who) = refl
+by_letter t End = refl
+by_letter t (Join who) = refl
 
-by_shown : (t : ℕ) (a : Action) → index_of (look_of (marks_of t a).mark).shown (codes "ARWCSBPV!?wcxpy") ≡ kind_of a
+by_shown : (t : ℕ) (a : Action) → index_of (look_of (marks_of t a).mark).shown (codes "ARWCSBPV!?wcxpyFEJ") ≡ kind_of a
 unfolding index_of
 by_shown t (Acquire m) = refl
 by_shown t (Release m) = refl
@@ -67,26 +71,29 @@ by_shown t (Alert who) = refl
 by_shown t (TestAlert b) = refl
 by_shown t (AlertPReturn n) = refl
 by_shown t (AlertPRaise n) = refl
+by_shown t (Fork who) = refl
+by_shown t End = refl
+by_shown t (Join who) = refl
 
 pub marks_differ : MarksDiffer
 marks_differ = λ t u a b ne. (
-  (λ e. ne (sym (by_letter t a) ∙ ap (λ x. index_of x (codes "ARWCSBPVLTwcxpy")) e ∙ by_letter u b)),
-  (λ e. ne (sym (by_shown t a) ∙ ap (λ x. index_of x (codes "ARWCSBPV!?wcxpy")) e ∙ by_shown u b)),
+  (λ e. ne (sym (by_letter t a) ∙ ap (λ x. index_of x (codes "ARWCSBPVLTwcxpyfEJ")) e ∙ by_letter u b)),
+  (λ e. ne (sym (by_shown t a) ∙ ap (λ x. index_of x (codes "ARWCSBPV!?wcxpyFEJ")) e ∙ by_shown u b)),
 )
 
-marked_there : (op num part rest end object bars arrow cl : List ℕ)
-    → op ++ (num ++ (part ++ rest ++ end) ++ object ++ bars ++ arrow) ++ cl ≡ (op ++ num) ++ part ++ (rest ++ (end ++ (object ++ (bars ++ (arrow ++ cl)))))
-marked_there op num part rest end object bars arrow cl = simp append_assoc
+marked_there : (op num life part rest end object bars arrow cl : List ℕ)
+    → op ++ (num ++ life ++ (part ++ rest ++ end) ++ object ++ bars ++ arrow) ++ cl ≡ (op ++ num ++ life) ++ part ++ (rest ++ (end ++ (object ++ (bars ++ (arrow ++ cl)))))
+marked_there op num life part rest end object bars arrow cl = simp append_assoc
 
-barred_there : (op num mark object name box height held span more arrow cl : List ℕ)
-    → op ++ (num ++ mark ++ object ++ ((name ++ box ++ height ++ held ++ span) ++ more) ++ arrow) ++ cl
-    ≡ (op ++ num ++ mark ++ object) ++ (name ++ box) ++ (height ++ (held ++ (span ++ (more ++ (arrow ++ cl)))))
-barred_there op num mark object name box height held span more arrow cl = simp append_assoc
+barred_there : (op num life mark object name box height held span more arrow cl : List ℕ)
+    → op ++ (num ++ life ++ mark ++ object ++ ((name ++ box ++ height ++ held ++ span) ++ more) ++ arrow) ++ cl
+    ≡ (op ++ num ++ life ++ mark ++ object) ++ (name ++ box) ++ (height ++ (held ++ (span ++ (more ++ (arrow ++ cl)))))
+barred_there op num life mark object name box height held span more arrow cl = simp append_assoc
 
-taken_there : (op num mark object bars name box height by span wait arrow cl : List ℕ)
-    → op ++ (num ++ mark ++ object ++ (bars ++ (name ++ box ++ height ++ by ++ span) ++ wait) ++ arrow) ++ cl
-    ≡ (op ++ num ++ mark ++ object ++ bars) ++ (name ++ box) ++ (height ++ (by ++ (span ++ (wait ++ (arrow ++ cl)))))
-taken_there op num mark object bars name box height by span wait arrow cl = simp append_assoc
+taken_there : (op num life mark object bars name box height by span wait arrow cl : List ℕ)
+    → op ++ (num ++ life ++ mark ++ object ++ (bars ++ (name ++ box ++ height ++ by ++ span) ++ wait) ++ arrow) ++ cl
+    ≡ (op ++ num ++ life ++ mark ++ object ++ bars) ++ (name ++ box) ++ (height ++ (by ++ (span ++ (wait ++ (arrow ++ cl)))))
+taken_there op num life mark object bars name box height by span wait arrow cl = simp append_assoc
 
 pub events_are_marked : EventsAreMarked
 unfolding step_text event_shapes mark_text
@@ -94,14 +101,15 @@ events_are_marked = λ l v k n e seen.
     let part = (codes "<use href='#" ++ (look_of (marks e).mark).letter ∷ []) ++ place_text (44 + 12 * ((n - v.first) % 100)) (18 + 34 * e.thread.0) in
     let rest = codes "'><title>" ++ line_of n e in
     let end = codes "</title></use>\n" in
+    let life = life_row v n (marks e).life in
     let object = object_if v n e (marks e).wait in
     let bars = bars_ended v k n e in
     let arrow = arrow_to v k n e in
     let cl = closing_after l v (kept_after n e k) n in
     record {
-      before = opening l v n ++ number_text v n;
+      before = opening l v k n ++ number_text v n ++ life;
       after = rest ++ (end ++ (object ++ (bars ++ (arrow ++ cl))));
-      text = cond-true (in_view v n) (opening l v n ++ event_shapes v k n e ++ cl) [] seen ∙ marked_there (opening l v n) (number_text v n) part rest end object bars arrow cl;
+      text = cond-true (in_view v n) (opening l v k n ++ event_shapes v k n e ++ cl) [] seen ∙ marked_there (opening l v k n) (number_text v n) life part rest end object bars arrow cl;
     }
 
 -- the bar that the event ends is in what it adds
@@ -126,8 +134,9 @@ module _ (l : Layout) (v : View) (k : Kept) (n : ℕ) (e : Event) (seen : in_vie
   bar_there : (marks e).mutex ≡ Ends m → k.held m ≡ Some o → HasText (step_text l v k n e) (with_number (codes "<rect class='m") m ++ box_at (lane_in (k.rows o.thread.0) (Mutex m)))
   unfolding step_text event_shapes bar_text
   bar_there turn held =
-      let op = opening l v n in
+      let op = opening l v k n in
       let num = number_text v n in
+      let life = life_row v n (marks e).life in
       let mark = mark_text v n e in
       let object = object_if v n e (marks e).wait in
       let arrow = arrow_to v k n e in
@@ -141,20 +150,21 @@ module _ (l : Layout) (v : View) (k : Kept) (n : ℕ) (e : Event) (seen : in_vie
       ap (λ t. bar_ended start n k.rows k.held t) turn ∙ ap (λ h. bar_if start true (n + 1) k.rows m h) held ∙ ap (λ z. name ++ z ++ height ++ by ++ span) (box_is lane)
       in
       record {
-        before = op ++ num ++ mark ++ object;
+        before = op ++ num ++ life ++ mark ++ object;
         after = height ++ (by ++ (span ++ ((taken ++ wait) ++ (arrow ++ cl))));
         text =
             cond-true (in_view v n) (op ++ event_shapes v k n e ++ cl) [] seen
-            ∙ ap (λ b. op ++ (num ++ mark ++ object ++ b ++ arrow) ++ cl) (append_assoc (bar_ended start n k.rows k.held (marks e).mutex) taken wait ∙ ap (λ b. b ++ (taken ++ wait)) is)
-            ∙ barred_there op num mark object name (box_at lane) height by span (taken ++ wait) arrow cl;
+            ∙ ap (λ b. op ++ (num ++ life ++ mark ++ object ++ b ++ arrow) ++ cl) (append_assoc (bar_ended start n k.rows k.held (marks e).mutex) taken wait ∙ ap (λ b. b ++ (taken ++ wait)) is)
+            ∙ barred_there op num life mark object name (box_at lane) height by span (taken ++ wait) arrow cl;
       }
 
   -- of a semaphore
   taking_there : (marks e).semaphore ≡ Ends m → k.taken m ≡ Some o → HasText (step_text l v k n e) (codes "<rect class='e" ++ box_at (lane_in (k.rows o.thread.0) (Semaphore m)))
   unfolding step_text event_shapes taken_text
   taking_there turn since =
-      let op = opening l v n in
+      let op = opening l v k n in
       let num = number_text v n in
+      let life = life_row v n (marks e).life in
       let mark = mark_text v n e in
       let object = object_if v n e (marks e).wait in
       let bars = bar_ended start n k.rows k.held (marks e).mutex in
@@ -169,12 +179,12 @@ module _ (l : Layout) (v : View) (k : Kept) (n : ℕ) (e : Event) (seen : in_vie
       ap (λ t. taken_ended start n k.rows k.taken t) turn ∙ ap (λ h. taken_if start true (n + 1) k.rows m h) since ∙ ap (λ z. name ++ z ++ height ++ by ++ span) (box_is lane)
       in
       record {
-        before = op ++ num ++ mark ++ object ++ bars;
+        before = op ++ num ++ life ++ mark ++ object ++ bars;
         after = height ++ (by ++ (span ++ (wait ++ (arrow ++ cl))));
         text =
             cond-true (in_view v n) (op ++ event_shapes v k n e ++ cl) [] seen
-            ∙ ap (λ b. op ++ (num ++ mark ++ object ++ (bars ++ b ++ wait) ++ arrow) ++ cl) is
-            ∙ taken_there op num mark object bars name (box_at lane) height by span wait arrow cl;
+            ∙ ap (λ b. op ++ (num ++ life ++ mark ++ object ++ (bars ++ b ++ wait) ++ arrow) ++ cl) is
+            ∙ taken_there op num life mark object bars name (box_at lane) height by span wait arrow cl;
       }
 
 gives_own : (t : ℕ) (a : Action) (s : Spec) (m : ℕ) → (marks_of t a).mutex ≡ Ends m → MeetsRequires t s a → s.holder m ≡ some t
@@ -202,6 +212,9 @@ gives_own t (Alert who) s m h r = let bad : Stays ≡ Ends m = h in cc
 gives_own t (TestAlert b) s m h r = let bad : Stays ≡ Ends m = h in cc
 gives_own t (AlertPReturn k) s m h r = let bad : Stays ≡ Ends m = h in cc
 gives_own t (AlertPRaise k) s m h r = let bad : Stays ≡ Ends m = h in cc
+gives_own t (Fork who) s m h r = let bad : Stays ≡ Ends m = h in cc
+gives_own t End s m h r = let bad : Stays ≡ Ends m = h in cc
+gives_own t (Join who) s m h r = let bad : Stays ≡ Ends m = h in cc
 
 -- what a held mutex is held since
 held_since : (m t : ℕ) (past : List Event) (x : Option Origin) (h : Optional ℕ) → h ≡ some t → MatchOption x (h ≡ none) (λ o. (h ≡ some o.thread.0) × IsSince (Mutex m) o past) → (o : Origin) × (x ≡ Some o) × (o.thread.0 ≡ t) × IsSince (Mutex m) o past
@@ -254,7 +267,7 @@ bars_are_drawn = λ l v es s r e may m turn seen.
     let n = length es in
     let t = e.thread.0 in
     let start = band_start v n in
-    let h = held_since m t past (k.held m) (s.holder m) (gives_own t e.action s m turn may.requires_met) (holding.bars_are_holds es s r m) in
+    let h = held_since m t past (k.held m) (s.holder m) (gives_own t e.action s m turn may.requires_met) (holding.bars_are_holds l.version es s r m) in
     let o = h.0 in
     let near : o.place < n = since_near (Mutex m) o es h.3 in
     let first : start ≤ n = omega arith in (
@@ -276,7 +289,7 @@ takings_are_drawn = λ l v es s r e m turn shut seen.
     let k = kept_since past in
     let n = length es in
     let start = band_start v n in
-    let h = taken_since m past (k.taken m) (s.avail m) shut (holding.bars_are_takings es s r m) in
+    let h = taken_since m past (k.taken m) (s.avail m) shut (holding.bars_are_takings l.version es s r m) in
     let o = h.0 in
     let near : o.place < n = since_near (Semaphore m) o es h.2 in
     let first : start ≤ n = omega arith in

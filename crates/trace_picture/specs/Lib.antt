@@ -3,6 +3,7 @@ pub mod Places
 pub mod Shapes
 pub mod Legend
 pub mod Arrows
+pub mod Lives
 pub mod Overview
 pub mod Bands
 pub mod Longest

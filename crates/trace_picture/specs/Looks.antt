@@ -1,7 +1,7 @@
 -- The marks of events: how each looks, and what it is the mark of.
 use Rattle.std.specs.Prelude.{ℕ, List, [], ◌∷◌, codes, slice_index}
 use Rattle.trace_board.specs.declared.marks.Mark.{Mark}
-use Rattle.trace_board.specs.declared.marks.Mark.TheVariants.{Acquire, Release, Enqueue, Resume, Signal, Broadcast, P, V, Alert, TestAlert, AlertEnqueue, AlertReturn, AlertRaise, AlertPReturn, AlertPRaise, Failed}
+use Rattle.trace_board.specs.declared.marks.Mark.TheVariants.{Acquire, Release, Enqueue, Resume, Signal, Broadcast, P, V, Alert, TestAlert, AlertEnqueue, AlertReturn, AlertRaise, AlertPReturn, AlertPRaise, Fork, End, Join, Failed}
 use Rattle.trace_picture.specs.declared.legend.Look.{Look}
 
 -- how a mark is called, its class, and how it is shown
@@ -28,6 +28,9 @@ look_of AlertReturn = look_text (codes "ckc")
 look_of AlertRaise = look_text (codes "xvx")
 look_of AlertPReturn = look_text (codes "pbp")
 look_of AlertPRaise = look_text (codes "yvy")
+look_of Fork = look_text (codes "fjF")
+look_of End = look_text (codes "EjE")
+look_of Join = look_text (codes "JjJ")
 look_of Failed = look_text (codes "Ff#")
 
 -- what it is the mark of
@@ -47,9 +50,12 @@ words_of AlertReturn = codes "alert-resume returns"
 words_of AlertRaise = codes "alert-resume raises"
 words_of AlertPReturn = codes "alert-p returns"
 words_of AlertPRaise = codes "alert-p raises"
+words_of Fork = codes "fork"
+words_of End = codes "end"
+words_of Join = codes "join"
 words_of Failed = codes "event that fails"
 
--- all marks, in the order of the legend
+-- all marks of version one, in the order of the legend
 abbrev pub all_marks : List Mark
 all_marks =
     Acquire ∷ Release ∷ Enqueue ∷ Resume ∷ Signal ∷ Broadcast ∷ P ∷ V ∷ Alert ∷ TestAlert ∷ AlertEnqueue ∷ AlertReturn ∷ AlertRaise ∷ AlertPReturn ∷ AlertPRaise ∷ Failed ∷ []

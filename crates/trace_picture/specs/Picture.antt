@@ -7,7 +7,7 @@ use Rattle.trace_picture.specs.declared.view.View.{View}
 use Rattle.trace_board.specs.Kept.{Kept, kept_since, behind}
 use Rattle.trace_picture.specs.Places.{is_open, height_of}
 use Rattle.trace_picture.specs.Shapes.{with_number, each_below, line_of, clause_word, painted_text}
-use Rattle.trace_picture.specs.Legend.{entry_at}
+use Rattle.trace_picture.specs.Legend.{entry_at, life_legend}
 use Rattle.trace_picture.specs.Longest.{holds_text, holds_height}
 use Rattle.trace_picture.specs.Overview.{over_height, over_style}
 use Rattle.trace_picture.specs.Bands.{step_text, failing_text, closing, band_start}
@@ -30,7 +30,7 @@ over_words = codes "<g class='w'>\n<text class='u' x='44' y='-4'>Overview: a col
 
 -- the first tag, the colours, what each mark and each colour means
 unfoldable pub head_text : Layout → List ℕ
-head_text l = style_text ++ pattern_text ++ (each_below entry_at 16 ++ other_words) ++ each_below painted_text l.mutexes ++ over_words
+head_text l = style_text ++ pattern_text ++ (each_below entry_at 16 ++ other_words) ++ each_below painted_text l.mutexes ++ over_words ++ life_legend l.version
 
 -- what events add behind this past, in order
 unfoldable pub steps_text : Layout → View → List Event → List Event → List ℕ

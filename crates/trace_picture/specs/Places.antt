@@ -1,5 +1,7 @@
 -- Where things stand in the picture: a hundred events a band, a row a thread, in points from the upper left.
 use Rattle.std.specs.Prelude.{ℕ, ◌+◌, ◌-◌, ◌*◌, ◌/◌, ◌%◌, ◌==◌, ◌&&◌, not, nat_lt, nat_le, Bool, min, max, if◌then◌else◌}
+use Rattle.larch_actions.specs.declared.event.Version.{Version}
+use Rattle.larch_actions.specs.declared.event.Version.TheVariants.{One, Two}
 use Rattle.larch_actions.specs.declared.event.Layout.{Layout}
 use Rattle.trace_board.specs.declared.history.Origin.{Origin}
 use Rattle.trace_picture.specs.declared.view.View.{View}
@@ -28,9 +30,14 @@ bands v n = (shown v n + 99) / 100
 abbrev pub band_height : Layout → ℕ
 band_height l = 34 * l.threads + 30
 
+-- the upper edge of the first band: in version two the legend has a line more
+abbrev pub first_top : Version → ℕ
+first_top One = 116
+first_top Two = 132
+
 -- the upper edge of the band at this number
 abbrev pub band_top : Layout → ℕ → ℕ
-band_top l k = 116 + k * band_height l
+band_top l k = first_top l.version + k * band_height l
 
 -- how high the picture of n events is, but for its last line
 abbrev pub height_of : Layout → View → ℕ → ℕ

@@ -1,9 +1,11 @@
 -- What the marks and the bars that are drawn say. Numbers of points stand here a second time, so that a change in one place is seen.
-use Rattle.std.specs.Prelude.{◌≡◌, ◌≢◌, ℕ, ◌+◌, ◌-◌, ◌*◌, ◌%◌, ◌<◌, ◌≤◌, true, false, if◌then◌else◌, List, [], ◌∷◌, ◌++◌, length, codes, MatchOption}
+use Rattle.std.specs.Prelude.{◌≡◌, ◌≢◌, ℕ, ◌+◌, ◌-◌, ◌*◌, ◌%◌, ◌<◌, ◌≤◌, true, false, if◌then◌else◌, List, [], ◌∷◌, ◌++◌, length, codes, Some, MatchOption}
 use Rattle.larch_actions.specs.declared.event.Layout.{Layout}
+use Rattle.larch_actions.specs.declared.event.Version.TheVariants.{Two}
+use Rattle.larch_actions.specs.declared.event.ThreadId.{ThreadId}
 use Rattle.larch_actions.specs.declared.event.Event.{Event}
 use Rattle.larch_actions.specs.declared.event.Action.{Action}
-use Rattle.larch_actions.specs.declared.event.Action.TheVariants.{Acquire, Release, Enqueue, Resume, AlertEnqueue, AlertReturn, AlertRaise, Signal, Broadcast, P, V, Alert, TestAlert, AlertPReturn, AlertPRaise}
+use Rattle.larch_actions.specs.declared.event.Action.TheVariants.{Acquire, Release, Enqueue, Resume, AlertEnqueue, AlertReturn, AlertRaise, Signal, Broadcast, P, V, Alert, TestAlert, AlertPReturn, AlertPRaise, Fork, End, Join}
 use Rattle.larch_actions.specs.Actions.{Spec, IsRun, MayAct}
 use Rattle.trace_board.specs.declared.history.Origin.{Origin}
 use Rattle.trace_board.specs.declared.history.Turn.TheVariants.{Ends}
@@ -12,12 +14,13 @@ use Rattle.trace_board.specs.declared.rows.Bar.TheVariants.{Mutex, Semaphore}
 use Rattle.trace_picture.specs.declared.view.View.{View}
 use Rattle.trace_picture.specs.Looks.{look_of}
 use Rattle.trace_board.specs.Marks.{marks, marks_of}
-use Rattle.trace_board.specs.Kept.{Kept, kept_since, behind, longest_in}
-use Rattle.trace_picture.specs.Places.{in_view, bar_x, bar_width}
-use Rattle.trace_picture.specs.Shapes.{place_text, box_text, with_number}
-use Rattle.trace_picture.specs.Bands.{band_start, step_text}
+use Rattle.trace_board.specs.Kept.{Kept, kept_since, behind, longest_in, forked_by}
+use Rattle.trace_picture.specs.Places.{in_view, column, bar_x, bar_width}
+use Rattle.trace_picture.specs.Shapes.{each_below, place_text, box_text, row_text, with_number}
+use Rattle.trace_picture.specs.Arrows.{arrow_text}
+use Rattle.trace_picture.specs.Bands.{band_start, opening, step_text}
 use Rattle.trace_picture.specs.Picture.{end_text}
-use Rattle.trace_board.specs.Laws.{IsSince}
+use Rattle.trace_board.specs.Laws.{IsSince, IsMadeBy, HasEvent, is_live, is_ended}
 
 -- the kinds of actions, in the order of the table
 abbrev pub kind_of : Action → ℕ
@@ -36,6 +39,9 @@ kind_of (AlertReturn m c) = 11
 kind_of (AlertRaise m c) = 12
 kind_of (AlertPReturn s) = 13
 kind_of (AlertPRaise s) = 14
+kind_of (Fork who) = 15
+kind_of End = 16
+kind_of (Join who) = 17
 
 -- Actions of different kinds have marks of different names, in which different letters are seen.
 abbrev pub MarksDiffer : Type 0
@@ -69,14 +75,44 @@ pub record IsBarTo (whole : List ℕ) (past : List Event) (name : List ℕ) (b :
 -- Each event of a run that gives a mutex back ends its bar, in the row of its thread, where the event is in view.
 abbrev pub BarsAreDrawn : Type 0
 BarsAreDrawn =
-    (l : Layout) (v : View) (es : List Event) (s : Spec) → IsRun es s → (e : Event) → MayAct s e → (m : ℕ) → (marks e).mutex ≡ Ends m → in_view v (length es) ≡ true
+    (l : Layout) (v : View) (es : List Event) (s : Spec) → IsRun l.version es s → (e : Event) → MayAct s e → (m : ℕ) → (marks e).mutex ≡ Ends m → in_view v (length es) ≡ true
     → (w : IsBarTo (step_text l v (kept_since (behind [] es)) (length es) e) (behind [] es) (with_number (codes "<rect class='m") m) (Mutex m) (band_start v (length es)) (length es)) × (w.o.thread.0 ≡ e.thread.0)
 
 -- Each event that makes a semaphore available which wasn't ends its bar, in the row of the thread that took it, where the event is in view.
 abbrev pub TakingsAreDrawn : Type 0
 TakingsAreDrawn =
-    (l : Layout) (v : View) (es : List Event) (s : Spec) → IsRun es s → (e : Event) → (k : ℕ) → (marks e).semaphore ≡ Ends k → s.avail k ≡ false → in_view v (length es) ≡ true
+    (l : Layout) (v : View) (es : List Event) (s : Spec) → IsRun l.version es s → (e : Event) → (k : ℕ) → (marks e).semaphore ≡ Ends k → s.avail k ≡ false → in_view v (length es) ≡ true
     → IsBarTo (step_text l v (kept_since (behind [] es)) (length es) e) (behind [] es) (codes "<rect class='e") (Semaphore k) (band_start v (length es)) (length es)
+
+-- In version two a band begins with the rows of the threads that live, and with no others.
+abbrev pub RowsStand : Type 0
+RowsStand =
+    (l : Layout) (v : View) (es : List Event) (s : Spec) → l.version ≡ Two → IsRun l.version es s → column v (length es) ≡ 0
+    → HasText (opening l v (kept_since (behind [] es)) (length es)) (each_below (λ t. if is_live (s.life t) then row_text t else []) l.threads)
+
+-- Each fork in view begins the row of the thread that it forks, in its own column, up to the right edge.
+abbrev pub RowsBegin : Type 0
+RowsBegin =
+    (l : Layout) (v : View) (k : Kept) (n : ℕ) (e : Event) (who : ThreadId) → e.action ≡ Fork who → in_view v n ≡ true
+    → HasText (step_text l v k n e) (with_number (codes "<rect class='r' height='32' width='") (1204 - 12 * ((n - v.first) % 100)) ++ place_text (44 + 12 * ((n - v.first) % 100)) (18 + 34 * who.0))
+
+-- Each end in view cuts the row of its thread off behind its own column, up to the right edge.
+abbrev pub RowsEnd : Type 0
+RowsEnd =
+    (l : Layout) (v : View) (k : Kept) (n : ℕ) (e : Event) → e.action ≡ End → in_view v n ≡ true
+    → HasText (step_text l v k n e) (with_number (codes "<rect class='z' height='32' width='") (1192 - 12 * ((n - v.first) % 100)) ++ place_text (56 + 12 * ((n - v.first) % 100)) (18 + 34 * e.thread.0))
+
+-- Each join in view has an arrow from the end of the thread that it joins.
+abbrev pub JoinsAreDrawn : Type 0
+JoinsAreDrawn =
+    (l : Layout) (v : View) (es : List Event) (s : Spec) → IsRun l.version es s → (e : Event) → MayAct s e → (who : ThreadId) → e.action ≡ Join who → in_view v (length es) ≡ true
+    → (o : Origin) × IsMadeBy l.version (λ z. is_ended (z.life who.0)) es s o × HasText (step_text l v (kept_since (behind [] es)) (length es) e) (arrow_text (band_start v (length es)) (length es) e.thread.0 o)
+
+-- The first event of each thread that was forked has, in view, an arrow from its fork.
+abbrev pub ForksAreDrawn : Type 0
+ForksAreDrawn =
+    (l : Layout) (v : View) (es : List Event) (s : Spec) → IsRun l.version es s → (e : Event) → MayAct s e → (o : Origin) → forked_by (kept_since (behind [] es)) e.thread.0 ≡ Some o → in_view v (length es) ≡ true
+    → IsMadeBy l.version (λ z. is_live (z.life e.thread.0)) es s o × (HasEvent e.thread.0 0 (behind [] es) → ⊥) × HasText (step_text l v (kept_since (behind [] es)) (length es) e) (arrow_text (band_start v (length es)) (length es) e.thread.0 o)
 
 -- The last lines of a picture tell the longest hold of each mutex: by whom, how many events, from which event to which, or that there is none.
 abbrev pub HoldsAreTold : Type 0

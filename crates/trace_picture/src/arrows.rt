@@ -22,9 +22,9 @@ fn add_point(buf: &mut [u8], at: usize, word: &[u8], x: u64, y: u64) -> usize
     add_with_number(buf, at, b" ", y)
 }
 
-// Adds a bow from one point to another.
+/// Adds a bow from one point to another.
 #[tactic(auto, unfolding(crate::specs::Arrows::bow_text))]
-fn add_bow(buf: &mut [u8], at: usize, x: u64, y: u64, u: u64, w: u64) -> usize
+pub fn add_bow(buf: &mut [u8], at: usize, x: u64, y: u64, u: u64, w: u64) -> usize
     requires { at + 200 ≤ length buf.old }
     ensures text { take result buf.new ≡ take at buf.old ++ bow_text x y u w }
     ensures near { result ≤ at + 200 }
@@ -34,8 +34,8 @@ fn add_bow(buf: &mut [u8], at: usize, x: u64, y: u64, u: u64, w: u64) -> usize
     add_point(buf, at, b" ", u, w)
 }
 
-// Adds an event, by its place and its thread.
-fn add_origin(buf: &mut [u8], at: usize, o: &Origin) -> usize
+/// Adds an event, by its place and its thread.
+pub fn add_origin(buf: &mut [u8], at: usize, o: &Origin) -> usize
     requires { at + 80 ≤ length buf.old }
     ensures text { take result buf.new ≡ take at buf.old ++ origin_text o.now }
     ensures near { result ≤ at + 80 }
@@ -56,9 +56,9 @@ fn add_cause(buf: &mut [u8], at: usize, t: ThreadId, o: &Origin) -> usize
     add(buf, at, b" go on</title></path>\n")
 }
 
-// From how far to the right the arrow to the event goes.
-fn x_from(start: u64, place: u64, o: &Origin) -> u64
-    requires { place < 2 ^ 41 }
+/// From how far to the right the arrow to the event goes.
+pub fn x_from(start: u64, place: u64, o: &Origin) -> u64
+    requires { place < 2 ^ 42 }
     ensures { result ≡ bow_x start place o.now }
 {
     if start <= o.place {
@@ -68,8 +68,8 @@ fn x_from(start: u64, place: u64, o: &Origin) -> u64
     }
 }
 
-// From how far below the arrow goes.
-fn y_from(start: u64, t: ThreadId, o: &Origin) -> u64
+/// From how far below the arrow goes.
+pub fn y_from(start: u64, t: ThreadId, o: &Origin) -> u64
     ensures { result ≡ bow_y start t.0 o.now }
 {
     if start <= o.place {

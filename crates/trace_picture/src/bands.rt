@@ -5,25 +5,38 @@ ghost use Rattle.trace_board.specs.History.{entry_of, IsWithin};
 ghost use Rattle.trace_board.specs.Kept.{kept_of, kept_after, IsNoted};
 ghost use Rattle.trace_board.specs.Marks.{marks};
 ghost use Rattle.trace_board.specs.Rows.{row_of};
-ghost use Rattle.trace_picture.specs.Places.{in_view, column, is_open, band_top};
-ghost use Rattle.trace_picture.specs.Shapes.{with_number, each_below, row_text, number_text, object_if, failed_text};
+ghost use Rattle.trace_picture.specs.Places.{in_view, column, is_open, first_top, band_top};
+ghost use Rattle.trace_picture.specs.Shapes.{with_number, each_below, number_text, object_if, failed_text};
 ghost use Rattle.trace_picture.specs.Bands.{opening, bar_if, taken_if, wait_if, closing, bar_ended, taken_ended, wait_ended, closing_after, bars_ended, arrow_to, event_shapes, step_text, failing_text};
 
 use crate::arrows::{add_arrow_if, add_handed};
+use crate::lives::{add_births, add_life_row, add_rows};
 use crate::overview::add_column;
 use crate::shapes::{
-    add_bar, add_failed, add_label, add_mark, add_object_if, add_row, add_taken_bar, add_wait_bar,
+    add_bar, add_failed, add_label, add_mark, add_object_if, add_taken_bar, add_wait_bar,
 };
 use crate::tags::add_with_number;
 use crate::view::{View, column_of, is_band_open, is_in_view};
-use larch_actions::{Broken, Event, Layout};
+use larch_actions::{Broken, Event, Layout, Version};
 use trace_board::board::Board;
 use trace_board::history::{Origin, Table, Turn};
 use trace_board::marks::{Marks, marks_of};
 use trace_board::rows::{Bar, Rows};
 use trace_core::add;
 
+// The upper edge of the first band.
+fn first_top(version: Version) -> u64
+    ensures top { result ≡ first_top version }
+    ensures small { result ≤ 132 }
+{
+    match version {
+        Version::One => 116,
+        Version::Two => 132,
+    }
+}
+
 /// The upper edge of a band.
+#[tactic(auto, using(larch_actions::proofs::Names::few_threads))]
 pub fn top_of(layout: &Layout, band: u64) -> u64
     requires lawful { IsLawful layout.now }
     requires few { band < 2 ^ 42 }
@@ -31,20 +44,7 @@ pub fn top_of(layout: &Layout, band: u64) -> u64
     ensures small { result < 2 ^ 60 }
 {
     let height = 34 * u64::from(layout.threads) + 30;
-    116 + band * height
-}
-
-// Adds the rows of all threads.
-fn add_rows(buf: &mut [u8], at: usize, threads: u32) -> usize
-    requires room { at + 200 * threads ≤ length buf.old }
-    ensures text { take result buf.new ≡ take at buf.old ++ each_below row_text threads }
-    ensures near { result ≤ at + 200 * threads }
-{
-    let mut last = at;
-    for t in 0..threads {
-        last = add_row(buf, last, t);
-    }
-    last
+    first_top(layout.version) + band * height
 }
 
 // Adds the first tag of a band.
@@ -62,17 +62,24 @@ fn add_band(buf: &mut [u8], at: usize, layout: &Layout, band: u64) -> usize
 }
 
 // Adds a new band where the event begins one.
-#[tactic(auto, unfolding(crate::specs::Bands::opening))]
-fn add_opening(buf: &mut [u8], at: usize, layout: &Layout, view: &View, place: u64) -> usize
+#[tactic(auto, using(larch_actions::proofs::Names::few_threads), unfolding(crate::specs::Bands::opening))]
+fn add_opening(
+    buf: &mut [u8],
+    at: usize,
+    layout: &Layout,
+    view: &View,
+    board: &Board,
+    place: u64,
+) -> usize
     requires lawful { IsLawful layout.now }
     requires few { place < 2 ^ 41 }
-    requires room { at + 13000 ≤ length buf.old }
-    ensures text { take result buf.new ≡ take at buf.old ++ opening layout.now view.now place }
-    ensures near { result ≤ at + 12900 }
+    requires room { at + 52000 ≤ length buf.old }
+    ensures text { take result buf.new ≡ take at buf.old ++ opening layout.now view.now (kept_of board.now) place }
+    ensures near { result ≤ at + 51400 }
 {
     if column_of(view, place) == 0 {
         let at = add_band(buf, at, layout, place.saturating_sub(view.first) / 100);
-        add_rows(buf, at, layout.threads)
+        add_rows(buf, at, layout.version, board, layout.threads)
     } else {
         at
     }
@@ -198,7 +205,7 @@ fn add_takings(
 
 // Adds the bars of the threads that wait.
 fn add_waits(buf: &mut [u8], at: usize, threads: u32, waits: &Table, start: u64, to: u64) -> usize
-    requires few { threads ≤ 64 }
+    requires few { threads ≤ 256 }
     requires place { to < 2 ^ 42 }
     requires room { at + 450 * threads ≤ length buf.old }
     ensures text { take result buf.new ≡ take at buf.old ++ each_below (λ t. wait_if start false to (entry_of waits.now t)) threads }
@@ -212,7 +219,7 @@ fn add_waits(buf: &mut [u8], at: usize, threads: u32, waits: &Table, start: u64,
 }
 
 /// Adds the end of a band.
-#[tactic(auto, unfolding(crate::specs::Bands::closing))]
+#[tactic(auto, using(larch_actions::proofs::Names::few_threads), unfolding(crate::specs::Bands::closing))]
 pub fn add_closing(
     buf: &mut [u8],
     at: usize,
@@ -225,9 +232,9 @@ pub fn add_closing(
     requires lawful { IsLawful layout.now }
     requires start { start < 2 ^ 42 }
     requires place { to < 2 ^ 42 }
-    requires room { at + 92000 ≤ length buf.old }
+    requires room { at + 290000 ≤ length buf.old }
     ensures text { take result buf.new ≡ take at buf.old ++ closing layout.now view.now (kept_of board.now) start to }
-    ensures near { result ≤ at + 91900 }
+    ensures near { result ≤ at + 290000 }
 {
     let at = add_bars(buf, at, layout.mutexes, &board.rows, &board.held, start, to);
     let at = add_takings(
@@ -240,6 +247,7 @@ pub fn add_closing(
         to,
     );
     let at = add_waits(buf, at, layout.threads, &board.waits, start, to);
+    let at = add_births(buf, at, layout.version, board, start, to, layout.threads);
     let at = add(buf, at, b"</g>\n");
     let band = start.saturating_sub(view.first) / 100;
     add_column(buf, at, layout, board, band, start, to)
@@ -257,9 +265,9 @@ fn add_closing_after(
 ) -> usize
     requires lawful { IsLawful layout.now }
     requires few { place < 2 ^ 41 }
-    requires room { at + 92000 ≤ length buf.old }
+    requires room { at + 290000 ≤ length buf.old }
     ensures text { take result buf.new ≡ take at buf.old ++ closing_after layout.now view.now (kept_of board.now) place }
-    ensures near { result ≤ at + 91900 }
+    ensures near { result ≤ at + 290000 }
 {
     if is_band_open(view, place + 1) {
         at
@@ -368,7 +376,8 @@ fn add_bars_ended(
     add_wait_ended(buf, at, start, place, &board.waits, shown.wait)
 }
 
-// Adds the arrow to the event, where another thread let its thread go on, and the line, where another handed a mutex on.
+// Adds the arrow to the event, where another thread let its thread go on, that to a thread's first event from its fork, and the line, where another
+// handed a mutex on.
 fn add_arrow_to(
     buf: &mut [u8],
     at: usize,
@@ -381,17 +390,19 @@ fn add_arrow_to(
     requires same { shown.now ≡ marks e.now }
     requires noted { IsNoted e.now }
     requires few { place < 2 ^ 41 }
-    requires room { at + 750 ≤ length buf.old }
+    requires room { at + 1100 ≤ length buf.old }
     ensures text { take result buf.new ≡ take at buf.old ++ arrow_to view.now (kept_of board.now) place e.now }
-    ensures near { result ≤ at + 750 }
+    ensures near { result ≤ at + 1100 }
 {
     let start = place - column_of(view, place);
     let by = board.waker(shown.waker);
     let at = add_arrow_if(buf, at, start, place, e.thread, by);
+    let fork = board.forked_by(e.thread.0);
+    let at = add_arrow_if(buf, at, start, place, e.thread, fork);
     add_handed(buf, at, start, place, e.thread, &board.given, shown.mutex)
 }
 
-// Adds the number and the mark of an event, the number of its object, the bars that it ends, and the arrow to it.
+// Adds the number of an event, the row that it begins or ends, its mark and the number of its object, the bars that it ends, and the arrows to it.
 #[tactic(auto, unfolding(crate::specs::Bands::event_shapes))]
 fn add_event_shapes(
     buf: &mut [u8],
@@ -403,12 +414,13 @@ fn add_event_shapes(
 ) -> usize
     requires noted { IsNoted e.now }
     requires few { place < 2 ^ 41 }
-    requires room { at + 2900 ≤ length buf.old }
+    requires room { at + 4400 ≤ length buf.old }
     ensures text { take result buf.new ≡ take at buf.old ++ event_shapes view.now (kept_of board.now) place e.now }
-    ensures near { result ≤ at + 2900 }
+    ensures near { result ≤ at + 4400 }
 {
     let shown = marks_of(e.thread, &e.action);
     let at = add_label(buf, at, view, place);
+    let at = add_life_row(buf, at, view, place, shown.life);
     let at = add_mark(buf, at, view, place, e, &shown);
     let at = add_object_if(buf, at, view, place, e, &shown);
     let at = add_bars_ended(buf, at, view, board, place, e, &shown);
@@ -428,14 +440,14 @@ fn add_drawn(
     requires lawful { IsLawful layout.now }
     requires noted { IsNoted e.now }
     requires few { place < 2 ^ 41 }
-    requires room { at + 110000 ≤ length buf.old }
+    requires room { at + 346000 ≤ length buf.old }
     ensures text { take result buf.new ≡ take at buf.old ++
-        (opening layout.now view.now place ++ event_shapes view.now (kept_of board.old) place e.now
+        (opening layout.now view.now (kept_of board.old) place ++ event_shapes view.now (kept_of board.old) place e.now
         ++ closing_after layout.now view.now (kept_of board.new) place) }
     ensures kept { kept_of board.new ≡ kept_after place e.now (kept_of board.old) }
-    ensures near { result ≤ at + 110000 }
+    ensures near { result ≤ at + 346000 }
 {
-    let at = add_opening(buf, at, layout, view, place);
+    let at = add_opening(buf, at, layout, view, board, place);
     let at = add_event_shapes(buf, at, view, board, place, e);
     board.note(place, e);
     add_closing_after(buf, at, layout, view, board, place)
@@ -455,10 +467,10 @@ pub fn add_step(
     requires lawful { IsLawful layout.now }
     requires named { HasNames layout.now e.now }
     requires few { place < 2 ^ 41 }
-    requires room { at + 110000 ≤ length buf.old }
+    requires room { at + 346000 ≤ length buf.old }
     ensures text { take result buf.new ≡ take at buf.old ++ step_text layout.now view.now (kept_of board.old) place e.now }
     ensures kept { kept_of board.new ≡ kept_after place e.now (kept_of board.old) }
-    ensures near { result ≤ at + 110000 }
+    ensures near { result ≤ at + 346000 }
 {
     if is_in_view(view, place) {
         add_drawn(buf, at, layout, view, board, place, e)
@@ -477,9 +489,9 @@ fn add_failed_shapes(
     e: &Event,
     why: Broken,
 ) -> usize
-    requires room { at + 1500 ≤ length buf.old }
+    requires room { at + 1700 ≤ length buf.old }
     ensures text { take result buf.new ≡ take at buf.old ++ (number_text view.now place ++ failed_text view.now place e.now why) }
-    ensures near { result ≤ at + 1500 }
+    ensures near { result ≤ at + 1700 }
 {
     let at = add_label(buf, at, view, place);
     add_failed(buf, at, view, place, e, why)
@@ -499,12 +511,12 @@ pub fn add_failing(
 ) -> usize
     requires lawful { IsLawful layout.now }
     requires few { place < 2 ^ 41 }
-    requires room { at + 110000 ≤ length buf.old }
+    requires room { at + 346000 ≤ length buf.old }
     ensures text { take result buf.new ≡ take at buf.old ++ failing_text layout.now view.now (kept_of board.now) place e.now why }
-    ensures near { result ≤ at + 110000 }
+    ensures near { result ≤ at + 346000 }
 {
     if is_in_view(view, place) {
-        let at = add_opening(buf, at, layout, view, place);
+        let at = add_opening(buf, at, layout, view, board, place);
         let at = add_failed_shapes(buf, at, view, place, e, why);
         let start = place - column_of(view, place);
         add_closing(buf, at, layout, view, board, start, place + 1)

@@ -44,9 +44,9 @@ pub fn add_last_closing(
 ) -> usize
     requires lawful { IsLawful layout.now }
     requires few { count < 2 ^ 42 }
-    requires room { at + 92000 ≤ length buf.old }
+    requires room { at + 290000 ≤ length buf.old }
     ensures text { take result buf.new ≡ take at buf.old ++ closing_if layout.now view.now (kept_of board.now) count }
-    ensures near { result ≤ at + 92000 }
+    ensures near { result ≤ at + 290000 }
 {
     if is_band_open(view, count) {
         let start = count - column_of(view, count);
@@ -175,9 +175,9 @@ pub fn add_ending(
     requires lawful { IsLawful layout.now }
     requires few { count < 2 ^ 42 }
     requires short { length words.now ≤ 60 }
-    requires room { at + 110000 ≤ length buf.old }
+    requires room { at + 346000 ≤ length buf.old }
     ensures text { take result buf.new ≡ take at buf.old ++ ending layout.now view.now (kept_of board.now) count words.now }
-    ensures near { result ≤ at + 110000 }
+    ensures near { result ≤ at + 346000 }
 {
     let at = add_last_closing(buf, at, layout, view, board, count);
     add_end(buf, at, layout, view, board, count, words)
@@ -186,9 +186,9 @@ pub fn add_ending(
 // Adds what the failing event fails, and its line.
 #[tactic(auto, unfolding(crate::specs::Picture::failed_note))]
 fn add_failed_note(buf: &mut [u8], at: usize, place: u64, e: &Event, why: Broken) -> usize
-    requires room { at + 500 ≤ length buf.old }
+    requires room { at + 1500 ≤ length buf.old }
     ensures text { take result buf.new ≡ take at buf.old ++ failed_note place e.now why }
-    ensures near { result ≤ at + 500 }
+    ensures near { result ≤ at + 1500 }
 {
     let at = add(buf, at, b"illegal, fails ");
     let at = add(buf, at, word_of(why));
@@ -210,10 +210,10 @@ fn add_failed_end(
 ) -> usize
     requires lawful { IsLawful layout.now }
     requires few { place < 2 ^ 41 }
-    requires room { at + 18000 ≤ length buf.old }
+    requires room { at + 19000 ≤ length buf.old }
     ensures text { take result buf.new ≡ take at buf.old ++ end_text layout.now view.now (kept_of board.now) (place + 1)
         (failed_note place e.now why) }
-    ensures near { result ≤ at + 18000 }
+    ensures near { result ≤ at + 19000 }
 {
     let at = add_note_place(buf, at, layout, view, place + 1);
     let at = add(buf, at, b"'>");
@@ -235,9 +235,9 @@ pub fn add_failed_ending(
 ) -> usize
     requires lawful { IsLawful layout.now }
     requires few { place < 2 ^ 41 }
-    requires room { at + 130000 ≤ length buf.old }
+    requires room { at + 370000 ≤ length buf.old }
     ensures text { take result buf.new ≡ take at buf.old ++ failed_ending layout.now view.now (kept_of board.now) place e.now why }
-    ensures near { result ≤ at + 130000 }
+    ensures near { result ≤ at + 370000 }
 {
     let at = add_failing(buf, at, layout, view, board, place, e, why);
     add_failed_end(buf, at, layout, view, board, place, e, why)
@@ -257,7 +257,7 @@ pub fn end_with<O: Sink>(
     requires lawful { IsLawful layout.now }
     requires few { count < 2 ^ 42 }
     requires short { length words.now ≤ 60 }
-    requires room { at + 110000 ≤ length buf.old }
+    requires room { at + 346000 ≤ length buf.old }
     ensures ok { OnOk result (Appends (O.held out.old) (O.held out.new)
         (take at buf.old ++ ending layout.now view.now (kept_of board.now) count words.now)) }
     ensures err { OnErr result (AppendsFront (O.held out.old) (O.held out.new)
@@ -282,7 +282,7 @@ pub fn end_failed<O: Sink>(
 ) -> Result<(), SinkFault>
     requires lawful { IsLawful layout.now }
     requires few { place < 2 ^ 41 }
-    requires room { at + 130000 ≤ length buf.old }
+    requires room { at + 370000 ≤ length buf.old }
     ensures ok { OnOk result (Appends (O.held out.old) (O.held out.new)
         (take at buf.old ++ failed_ending layout.now view.now (kept_of board.now) place e.now why)) }
     ensures err { OnErr result (AppendsFront (O.held out.old) (O.held out.new)

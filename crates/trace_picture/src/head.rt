@@ -2,10 +2,10 @@
 ghost use Rattle.std.specs.Prelude.{◌≡◌, ◌+◌, ◌*◌, ◌≤◌, ◌++◌, length, take, codes};
 ghost use Rattle.larch_actions.specs.Layout.{IsLawful};
 ghost use Rattle.trace_picture.specs.Shapes.{each_below, painted_text};
-ghost use Rattle.trace_picture.specs.Legend.{entry_at};
+ghost use Rattle.trace_picture.specs.Legend.{entry_at, life_legend};
 ghost use Rattle.trace_picture.specs.Picture.{style_text, pattern_text, other_words, over_words, head_text};
 
-use crate::legend::add_entries;
+use crate::legend::{add_entries, add_life_legend};
 use crate::shapes::add_painted;
 use larch_actions::Layout;
 use trace_core::add;
@@ -124,13 +124,14 @@ fn add_over_words(buf: &mut [u8], at: usize) -> usize
 #[tactic(auto, unfolding(crate::specs::Picture::head_text))]
 pub fn add_head(buf: &mut [u8], at: usize, layout: &Layout) -> usize
     requires lawful { IsLawful layout.now }
-    requires room { at + 50000 ≤ length buf.old }
+    requires room { at + 52000 ≤ length buf.old }
     ensures text { take result buf.new ≡ take at buf.old ++ head_text layout.now }
-    ensures near { result ≤ at + 50000 }
+    ensures near { result ≤ at + 52000 }
 {
     let at = add_style(buf, at);
     let at = add_pattern(buf, at);
     let at = add_legend(buf, at);
     let at = add_swatches(buf, at, layout.mutexes);
-    add_over_words(buf, at)
+    let at = add_over_words(buf, at);
+    add_life_legend(buf, at, layout.version)
 }

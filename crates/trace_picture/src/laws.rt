@@ -1,5 +1,5 @@
 //! Laws of the picture. What a bar, an arrow and a longest hold say stands in the laws of trace_board.
-ghost use Rattle.trace_picture.specs.Seen.{MarksDiffer, EventsAreMarked, BarsAreDrawn, TakingsAreDrawn, HoldsAreTold};
+ghost use Rattle.trace_picture.specs.Seen.{MarksDiffer, EventsAreMarked, BarsAreDrawn, TakingsAreDrawn, RowsStand, RowsBegin, RowsEnd, JoinsAreDrawn, ForksAreDrawn, HoldsAreTold};
 
 /// Actions of different kinds have marks of different names, in which different letters are seen.
 pub fn marks_differ()
@@ -19,6 +19,31 @@ pub fn bars_are_drawn()
 /// An event that makes a taken semaphore available ends a bar in the row of the thread that took it, from the column of the taking to its own.
 pub fn takings_are_drawn()
     ensures { TakingsAreDrawn }
+{}
+
+/// In version two a band begins with the rows of the threads that live.
+pub fn rows_stand()
+    ensures { RowsStand }
+{}
+
+/// A fork begins the row of its thread in its own column.
+pub fn rows_begin()
+    ensures { RowsBegin }
+{}
+
+/// An end cuts the row of its thread off behind its own column.
+pub fn rows_end()
+    ensures { RowsEnd }
+{}
+
+/// A join has an arrow from the end of the thread that it joins.
+pub fn joins_are_drawn()
+    ensures { JoinsAreDrawn }
+{}
+
+/// The first event of a thread has an arrow from the fork that made it live.
+pub fn forks_are_drawn()
+    ensures { ForksAreDrawn }
 {}
 
 /// The last lines tell the longest hold of each mutex: by whom, how many events, and from which event to which.

@@ -4,9 +4,10 @@
 ghost use Rattle.std.specs.Prelude.{◌≡◌, ◌+◌, ◌*◌, ◌<◌, ◌≤◌, ◌∷◌, [], ◌++◌, length, take, codes};
 ghost use Rattle.trace_picture.specs.Shapes.{each_below};
 ghost use Rattle.trace_picture.specs.Looks.{look, look_of, words_of};
-ghost use Rattle.trace_picture.specs.Legend.{place_in_legend, shape_text, words_text, entry_text, entry_at};
+ghost use Rattle.trace_picture.specs.Legend.{place_in_legend, shape_text, words_text, entry_text, entry_at, life_line, life_legend};
 
 use crate::tags::add_with_number;
+use larch_actions::Version;
 use trace_board::marks::Mark;
 use trace_core::add;
 
@@ -18,7 +19,7 @@ pub struct Look {
     pub shown: u8,
 }
 
-// All marks, in the order of the legend.
+// All marks of version one, in the order of the legend.
 const MARKS: [Mark; 16] = [
     Mark::Acquire,
     Mark::Release,
@@ -70,6 +71,9 @@ pub fn look_of(mark: Mark) -> Look
         Mark::AlertRaise => looks(b'x', b'v', b'x'),
         Mark::AlertPReturn => looks(b'p', b'b', b'p'),
         Mark::AlertPRaise => looks(b'y', b'v', b'y'),
+        Mark::Fork => looks(b'f', b'j', b'F'),
+        Mark::End => looks(b'E', b'j', b'E'),
+        Mark::Join => looks(b'J', b'j', b'J'),
         Mark::Failed => looks(b'F', b'f', b'#'),
     }
 }
@@ -95,20 +99,22 @@ fn words_of(mark: Mark) -> &'static [u8]
         Mark::AlertRaise => b"alert-resume raises",
         Mark::AlertPReturn => b"alert-p returns",
         Mark::AlertPRaise => b"alert-p raises",
+        Mark::Fork => b"fork",
+        Mark::End => b"end",
+        Mark::Join => b"join",
         Mark::Failed => b"event that fails",
     }
 }
 
-// Adds where the entry at this place of the legend stands.
+// Adds where an entry of the legend stands.
 #[tactic(auto, unfolding(crate::specs::Legend::place_in_legend))]
-fn add_place_in_legend(buf: &mut [u8], at: usize, place: u64) -> usize
-    requires few { place < 16 }
-    requires room { at + 100 ≤ length buf.old }
-    ensures text { take result buf.new ≡ take at buf.old ++ place_in_legend place }
+fn add_place_in_legend(buf: &mut [u8], at: usize, x: u64, y: u64) -> usize
+    requires { at + 100 ≤ length buf.old }
+    ensures text { take result buf.new ≡ take at buf.old ++ place_in_legend x y }
     ensures near { result ≤ at + 100 }
 {
-    let at = add_with_number(buf, at, b"<g transform='translate(", 44 + 200 * (place % 6));
-    let at = add_with_number(buf, at, b" ", 6 + 16 * (place / 6));
+    let at = add_with_number(buf, at, b"<g transform='translate(", x);
+    let at = add_with_number(buf, at, b" ", y);
     add(buf, at, b")'>")
 }
 
@@ -152,20 +158,19 @@ fn add_words(buf: &mut [u8], at: usize, mark: Mark) -> usize
     add(buf, at, b"</text></g>\n")
 }
 
-// Adds the entry of the mark at this place of the legend.
+// Adds the entry of a mark.
 #[tactic(auto, unfolding(crate::specs::Legend::entry_text))]
-fn add_entry(buf: &mut [u8], at: usize, place: u64, mark: Mark) -> usize
-    requires few { place < 16 }
-    requires room { at + 280 ≤ length buf.old }
-    ensures text { take result buf.new ≡ take at buf.old ++ entry_text place mark }
+fn add_entry(buf: &mut [u8], at: usize, x: u64, y: u64, mark: Mark) -> usize
+    requires { at + 280 ≤ length buf.old }
+    ensures text { take result buf.new ≡ take at buf.old ++ entry_text x y mark }
     ensures near { result ≤ at + 280 }
 {
-    let at = add_place_in_legend(buf, at, place);
+    let at = add_place_in_legend(buf, at, x, y);
     let at = add_shape(buf, at, &look_of(mark));
     add_words(buf, at, mark)
 }
 
-/// Adds the entries of all marks.
+/// Adds the entries of all marks of version one.
 pub fn add_entries(buf: &mut [u8], at: usize) -> usize
     requires { at + 4480 ≤ length buf.old }
     ensures text { take result buf.new ≡ take at buf.old ++ each_below entry_at 16 }
@@ -174,7 +179,47 @@ pub fn add_entries(buf: &mut [u8], at: usize) -> usize
     let mut last = at;
     for place in 0..16 {
         let mark = MARKS[place as usize];
-        last = add_entry(buf, last, place, mark);
+        last = add_entry(
+            buf,
+            last,
+            44 + 200 * (place % 6),
+            6 + 16 * (place / 6),
+            mark,
+        );
     }
     last
+}
+
+// Adds the line that the legend has more in version two.
+#[tactic(auto, unfolding(crate::specs::Legend::life_line, crate::specs::Legend::life_style, crate::specs::Legend::life_words))]
+fn add_life_line(buf: &mut [u8], at: usize) -> usize
+    requires { at + 1200 ≤ length buf.old }
+    ensures text { take result buf.new ≡ take at buf.old ++ life_line }
+    ensures near { result ≤ at + 1200 }
+{
+    let at = add(
+        buf,
+        at,
+        b"<style>.j{fill:#cfe8cf;stroke:#222;stroke-width:.7}.z{fill:#fff}</style>\n",
+    );
+    let at = add_entry(buf, at, 44, 116, Mark::Fork);
+    let at = add_entry(buf, at, 244, 116, Mark::End);
+    let at = add_entry(buf, at, 444, 116, Mark::Join);
+    add(
+        buf,
+        at,
+        b"<text x='644' y='125'>a row goes from its thread's fork to its end; arrows: from the fork on, and from the end to the join</text>\n",
+    )
+}
+
+/// Adds what the legend has more in a later version.
+pub fn add_life_legend(buf: &mut [u8], at: usize, version: Version) -> usize
+    requires { at + 1200 ≤ length buf.old }
+    ensures text { take result buf.new ≡ take at buf.old ++ life_legend version }
+    ensures near { result ≤ at + 1200 }
+{
+    match version {
+        Version::One => at,
+        Version::Two => add_life_line(buf, at),
+    }
 }

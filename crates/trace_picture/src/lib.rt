@@ -15,6 +15,7 @@ mod endings;
 mod head;
 pub mod laws;
 mod legend;
+mod lives;
 mod longest;
 mod numbers;
 mod overview;

@@ -12,6 +12,7 @@ use trace_board::board::Board;
 use trace_core::add;
 
 // How high a row of a hundred columns is.
+#[tactic(auto, using(larch_actions::proofs::Names::few_threads))]
 fn height_of_columns(layout: &Layout) -> u64
     requires { IsLawful layout.now }
     ensures height { result ≡ columns_height layout.now }
@@ -33,7 +34,7 @@ fn add_cell(buf: &mut [u8], at: usize, x: u64, y: u64) -> usize
 
 // Adds the cell of a thread, where it had an event from the event `start` on.
 fn add_ran(buf: &mut [u8], at: usize, board: &Board, start: u64, x: u64, y: u64, t: u32) -> usize
-    requires few { t < 64 }
+    requires few { t < 256 }
     requires low { y < 2 ^ 60 }
     requires room { at + 120 ≤ length buf.old }
     ensures text { take result buf.new ≡ take at buf.old ++ ran_cell (kept_of board.now) start x y t }
@@ -73,7 +74,7 @@ fn add_each_ran(
     y: u64,
     threads: u32,
 ) -> usize
-    requires few { threads ≤ 64 }
+    requires few { threads ≤ 256 }
     requires low { y < 2 ^ 60 }
     requires room { at + 120 * threads ≤ length buf.old }
     ensures text { take result buf.new ≡ take at buf.old ++ each_below (ran_cell (kept_of board.now) start x y) threads }
@@ -123,6 +124,7 @@ fn add_link(buf: &mut [u8], at: usize, band: u64, start: u64, to: u64) -> usize
 }
 
 /// Adds the column of the band that begins at the event `start`, up to the event before `to`.
+#[tactic(auto, using(larch_actions::proofs::Names::few_threads))]
 pub fn add_column(
     buf: &mut [u8],
     at: usize,
@@ -134,9 +136,9 @@ pub fn add_column(
 ) -> usize
     requires lawful { IsLawful layout.now }
     requires few { band < 2 ^ 42 }
-    requires room { at + 17000 ≤ length buf.old }
+    requires room { at + 40000 ≤ length buf.old }
     ensures text { take result buf.new ≡ take at buf.old ++ column_text layout.now (kept_of board.now) band start to }
-    ensures near { result ≤ at + 17000 }
+    ensures near { result ≤ at + 40000 }
 {
     let x = 44 + 12 * (band % 100);
     let y = band / 100 * height_of_columns(layout);

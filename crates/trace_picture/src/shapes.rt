@@ -63,9 +63,9 @@ fn add_use(buf: &mut [u8], at: usize, mark: Mark) -> usize
 
 // Adds the line of an event as a title.
 fn add_title(buf: &mut [u8], at: usize, place: u64, e: &Event) -> usize
-    requires { at + 430 ≤ length buf.old }
+    requires { at + 1450 ≤ length buf.old }
     ensures text { take result buf.new ≡ take at buf.old ++ (codes "'><title>" ++ line_of place e.now) }
-    ensures near { result ≤ at + 420 }
+    ensures near { result ≤ at + 1420 }
 {
     let at = add(buf, at, b"'><title>");
     add_line(buf, at, place, e)
@@ -91,9 +91,9 @@ pub fn add_mark(
     shown: &Marks,
 ) -> usize
     requires same { shown.now ≡ marks e.now }
-    requires room { at + 600 ≤ length buf.old }
+    requires room { at + 1600 ≤ length buf.old }
     ensures text { take result buf.new ≡ take at buf.old ++ mark_text view.now place e.now }
-    ensures near { result ≤ at + 600 }
+    ensures near { result ≤ at + 1600 }
 {
     let at = add_use(buf, at, shown.mark);
     let at = add_mark_place(buf, at, view, place, e);
@@ -158,9 +158,9 @@ pub fn add_failed(
     e: &Event,
     why: Broken,
 ) -> usize
-    requires { at + 600 ≤ length buf.old }
+    requires { at + 1600 ≤ length buf.old }
     ensures text { take result buf.new ≡ take at buf.old ++ failed_text view.now place e.now why }
-    ensures near { result ≤ at + 600 }
+    ensures near { result ≤ at + 1600 }
 {
     let at = add(buf, at, b"<use href='#F");
     let at = add_mark_place(buf, at, view, place, e);

@@ -44,9 +44,9 @@ pub fn add_box(buf: &mut [u8], at: usize, x: u64, y: u64, width: u64) -> usize
 
 /// Adds the line of the event, without its newline.
 pub fn add_line(buf: &mut [u8], at: usize, place: u64, e: &Event) -> usize
-    requires { at + 410 ≤ length buf.old }
+    requires { at + 1430 ≤ length buf.old }
     ensures text { take result buf.new ≡ take at buf.old ++ line_of place e.now }
-    ensures near { result ≤ at + 400 }
+    ensures near { result ≤ at + 1400 }
 {
     let end = add_event(buf, at, place, e);
     end - 1

@@ -9,6 +9,7 @@ use Rattle.trace_explain.proofs.find.find_all.Goals as goal
 pub loop-event-init : goal.loop-event-init
 loop-event-init g c = record {
   finding = finding_starts _ _ _ _ _ _ c.in-Ok.layout c.new-state.result _ refl refl c.requires.lines c.in-Ok.ensures.head c.head.ensures.later c.new-state.ensures.layout c.new-state.ensures.first c.requires.empty;
+  laid = sym c.in-Ok.ensures.head.layout;
   same_input = c.head.ensures.same_input;
   unfailed = c.in-Ok.ensures.unfailed;
   later = c.head.ensures.later;
@@ -36,7 +37,7 @@ pub returns-in-Err-apply-clause-failure : goal.returns-in-Err-apply-clause-failu
 returns-in-Err-apply-clause-failure g c =
     let d = c.loop-event.invariant.finding in
     let taken = rw c.in-Ok-Some.field-0-is at (c.in-Ok-Some.ensures.event d.under_way.phase) in
-    finding_fails _ _ _ _ _ _ _ _ _ d c.in-Ok-Some.event c.in-Err-apply.why taken c.in-Err-apply.ensures.refused
+    finding_fails _ _ _ _ _ _ _ _ _ d c.in-Ok.layout c.in-Ok-Some.event c.in-Err-apply.why c.loop-event.invariant.laid taken c.in-Err-apply.ensures.refused
 
 pub returns-in-Err-apply-clause-noted : goal.returns-in-Err-apply-clause-noted
 returns-in-Err-apply-clause-noted g c =
@@ -56,6 +57,7 @@ loop-event-preserved g c =
     let taken = rw c.in-Ok-Some.field-0-is at (c.in-Ok-Some.ensures.event d.under_way.phase) in
     record {
       finding = finding_steps _ _ _ _ _ _ _ _ d _ _ _ c.in-Ok-Some.event _ c.requires.fits taken c.in-Ok-apply.ensures.ok c.apply.ensures.layout c.next_event.ensures.later c.note.ensures;
+      laid = c.loop-event.invariant.laid ∙ sym taken.layout;
       same_input = c.next_event.ensures.same_input ∙ c.loop-event.invariant.same_input;
       unfailed = c.in-Ok-Some.ensures.unfailed ∙ c.loop-event.invariant.unfailed;
       later = omega (arith, c.next_event.ensures.later, c.loop-event.invariant.later);

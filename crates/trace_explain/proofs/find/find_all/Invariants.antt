@@ -9,6 +9,7 @@ invariant-loop-event g l =
     let first = standing g.I.Source.left l.fn.reader in
     record {
       finding : IsFinding first.room first.rest (g.I.Source.faults l.fn.reader.input.now) (standing g.I.Source.left l.reader) (g.I.Source.faults l.reader.input.now) l.state l.place (kept_of l.board);
+      laid : l.layout ≡ l.reader.progress.layout;
       same_input : l.reader.input.ghost_name ≡ l.fn.reader.input.ghost_name;
       unfailed : g.I.Source.faults l.reader.input.now ≡ g.I.Source.faults l.fn.reader.input.now;
       later : g.I.Source.faults l.fn.reader.input.now ≤ g.I.Source.faults l.reader.input.now;

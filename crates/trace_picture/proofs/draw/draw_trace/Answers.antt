@@ -3,14 +3,14 @@ use Rattle.std.proofs.lemmas.List.{length-replicate}
 use Rattle.trace_picture.proofs.draw.draw_trace.Goals as goal
 
 -- said of any number of bytes, since counting so many takes long
-enough : (n : ℕ) → 190000 ≤ n → 190000 ≤ length (let bytes : List ℕ = replicate n 0 in bytes)
+enough : (n : ℕ) → 450000 ≤ n → 450000 ≤ length (let bytes : List ℕ = replicate n 0 in bytes)
 enough n h = rw length-replicate h
 
-large : 190000 ≤ 196608
+large : 450000 ≤ 458752
 large = omega arith
 
 pub draw_by-requires-clause-large : goal.draw_by-requires-clause-large
-draw_by-requires-clause-large g c = enough 196608 large
+draw_by-requires-clause-large g c = enough 458752 large
 
 pub returns-clause-later : goal.returns-clause-later
 returns-clause-later g c = c.draw_by.ensures.later

@@ -12,4 +12,6 @@ returns c = λ i. record {
   taken = c.new-taken.ensures i;
   longest = c.new-longest.ensures i;
   latest = c.new-latest.ensures i;
+  born = c.new-lives.ensures.born i;
+  over = c.new-lives.ensures.over i;
 }

@@ -1,7 +1,7 @@
 use Rattle.std.proofs.Common.{ap, sym, subst, ◌∙◌}
 use Rattle.trace_board.specs.declared.history.Origin.{Origin}
 use Rattle.trace_board.specs.declared.marks.Marks.{Marks}
-use Rattle.trace_board.specs.History.{changed, turned_about, entry_of, IsWithin}
+use Rattle.trace_board.specs.History.{changed, turned_about, begun_by, ended_by, entry_of, IsWithin}
 use Rattle.trace_board.specs.Causes.{moved, cause_of}
 use Rattle.trace_board.specs.declared.history.Turn.{Turn}
 use Rattle.trace_board.specs.declared.history.Turn.TheVariants.{Begins, Ends, Stays}
@@ -37,4 +37,6 @@ returns c =
     let given = c.note-8.ensures ∙ ap (λ t. changed t (by c.marks_of-marks.result) (entry_of b.given)) c.turned_about.ensures ∙ ap (λ m. changed (turned_about m.mutex) (by m) (entry_of b.given)) is in
     let latest = c.note-10.ensures ∙ ap (λ m. changed (Begins t) (by m) (entry_of b.latest)) is in
     let taken = c.note-9.ensures ∙ ap (λ m. changed m.semaphore (by m) (entry_of b.taken)) is in
-    λ i. record { held = held i; waits = waits i; stands = stands i; opens = opens i; alerts = alerts i; rows = rows i; given = given i; taken = taken i; longest = longest i; latest = latest i }
+    let born = c.note-11.ensures.born ∙ ap (λ m. changed (begun_by m.life) (by m) (entry_of b.lives.born)) is in
+    let over = c.note-11.ensures.over ∙ ap (λ m. changed (ended_by m.life) (by m) (entry_of b.lives.over)) is in
+    λ i. record { held = held i; waits = waits i; stands = stands i; opens = opens i; alerts = alerts i; rows = rows i; given = given i; taken = taken i; longest = longest i; latest = latest i; born = born i; over = over i }

@@ -10,3 +10,6 @@ returns-in-Semaphore c = c.event_of-in-Semaphore.ensures ∙ ap came c.at-in-Sem
 
 pub returns-in-Alarm : goal.returns-in-Alarm
 returns-in-Alarm c = c.event_of-in-Alarm.ensures ∙ ap came c.at-in-Alarm.ensures ∙ ap (let_on_by (kept_of c.args.self.now)) (sym c.in-Alarm.is)
+
+pub returns-in-Ended : goal.returns-in-Ended
+returns-in-Ended c = c.at-in-Ended.ensures ∙ ap (let_on_by (kept_of c.args.self.now)) (sym c.in-Ended.is)

@@ -3,4 +3,4 @@ use Rattle.larch_actions.proofs.Shown.{shown_at-replicate}
 use Rattle.trace_board.proofs.holds.Longest.new.Goals as goal
 
 pub returns : goal.returns
-returns c = shown_at-replicate (λ x. x) None 64 None refl
+returns c = shown_at-replicate (λ x. x) None 256 None refl

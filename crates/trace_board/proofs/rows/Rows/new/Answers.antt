@@ -4,4 +4,4 @@ use Rattle.trace_board.specs.Rows.{empty_row}
 use Rattle.trace_board.proofs.rows.Rows.new.Goals as goal
 
 pub returns : goal.returns
-returns c = shown_at-replicate (λ x. x) empty_row 64 c.empty-row.result c.empty-row.ensures ∙ (λ i k. empty_row)
+returns c = shown_at-replicate (λ x. x) empty_row 256 c.empty-row.result c.empty-row.ensures ∙ (λ i k. empty_row)

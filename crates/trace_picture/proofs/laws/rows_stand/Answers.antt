@@ -1,0 +1,5 @@
+use Rattle.trace_picture.proofs.RowsSeen as seen
+use Rattle.trace_picture.proofs.laws.rows_stand.Goals as goal
+
+pub returns : goal.returns
+returns c = seen.rows_stand
