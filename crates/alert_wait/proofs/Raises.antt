@@ -2,6 +2,7 @@
 use Rattle.std.proofs.Common.{◌≡◌, ℕ, ◌<◌, ◌≤◌, Bool, true, false, Option as Opt, None, Some, List, [], ◌∷◌, ◌++◌, length, refl, ap, ap₂, sym, subst, ◌∙◌, ⊎_elim}
 use Rattle.std.proofs.lemmas.Bool.{cases_lt}
 use Rattle.larch_actions.specs.declared.event.Event.{Event}
+use Rattle.larch_actions.specs.declared.event.Version.TheVariants.{One}
 use Rattle.larch_actions.specs.Actions.{IsLegal, by_thread}
 use Rattle.larch_actions.specs.Sets.{without}
 use Rattle.nub_rule.specs.declared.view.Stage.TheVariants.{Alerted}
@@ -26,7 +27,7 @@ module _ {T H W : Type 0} where
       let far = ap (λ l. l ++ at.0) seen in (
         at.0,
         record {
-          legal = subst IsLegal (ap (λ l. l ++ d ∷ []) far) grows.legal;
+          legal = subst (IsLegal One) (ap (λ l. l ++ d ∷ []) far) grows.legal;
           own = ap₂ (λ n l. by_thread n l) (sym number) (sym (ap (λ l. l ++ d ∷ []) far)) ∙ (grows.own ∙ ap (λ l. l ++ d ∷ []) mine);
           number = λ k p. grows.number k (pen ∙ p) ∙ ap length far;
         },

@@ -2,6 +2,7 @@
 use Rattle.std.proofs.Common.{◌≡◌, ℕ, Option as Opt, Some, None, List, [], ◌∷◌, ◌++◌, ap, subst, sym, ◌∙◌, append_assoc, append-nil, slice_set}
 use Rattle.std.proofs.lemmas.List.{set-set}
 use Rattle.larch_actions.specs.declared.event.Event.{Event}
+use Rattle.larch_actions.specs.declared.event.Version.TheVariants.{One}
 use Rattle.larch_actions.specs.Actions.{IsLegal, StartsWith, by_thread}
 use Rattle.larch_actions.specs.Sets.{without}
 use Rattle.nub_rule.specs.declared.view.Pen.{Pen}
@@ -106,7 +107,7 @@ module _ {T H W : Type 0} where
         let mine = ap (λ k. k.mine) s.out ∙ second.3 in
         record {
           mine = mine ∙ ap (λ l. l ++ h ∷ []) (between_mine ∙ (first.3 ∙ ap (λ k. k.mine ++ d ∷ []) s.put));
-          legal = subst IsLegal (sym seen) second.1.legal;
+          legal = subst (IsLegal One) (sym seen) second.1.legal;
           grows = begins_on o.seen k.seen z.seen (grown o.seen first.0 k.seen d (between_seen ∙ (first.2 ∙ ap (λ k. (k.seen ++ first.0) ++ d ∷ []) s.put))) (grown k.seen second.0 z.seen h seen);
           ends = (k.seen ++ second.0, seen);
           own = ap (λ n. by_thread n z.seen) (ap (λ k. k.number) s.out ∙ ap (λ k. k.number) s.ended) ∙ (ap (by_thread k.number) seen ∙ (second.1.own ∙ sym mine));

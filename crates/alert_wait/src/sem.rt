@@ -6,6 +6,7 @@ ghost use Rattle.nub_rule.specs.Known.{Makes, StandsAs, recorded};
 ghost use Rattle.nub_rule.specs.Parts.{IsAlerted};
 ghost use Rattle.nub_rule.specs.Places.{sem_object};
 ghost use Rattle.nub_rule.specs.Plays.{alert_p_raise_event};
+ghost use Rattle.nub.specs.Holding.{IsHolding};
 ghost use Rattle.nub.specs.Idle.{IsIdle};
 ghost use Rattle.nub.specs.Rest.{AtRest, Adds, HasStored, IsOutside, IsSame};
 ghost use Rattle.alert_wait.specs.Outcomes.{p_end};
@@ -32,6 +33,7 @@ pub fn alert_p<U: Uses, R: Wait>(rt: &R, p: &Package<U>, me: &mut Thread<U>, s: 
     ensures held { me.new.held ≡ me.old.held }
     ensures share { me.new.share ≡ me.old.share }
     ensures idle { (n : ℕ) (s : U.Share) → IsIdle p.now n s me.old → IsIdle p.now n s me.new }
+    ensures holding { (n m : ℕ) (s : U.Share) (x : U.Value) → IsHolding p.now n m s x me.old → IsHolding p.now n m s x me.new }
 {
     take_or_raise(rt, p, me, s)
 }

@@ -7,6 +7,7 @@ ghost use Rattle.nub_rule.specs.declared.view.WaitBit.TheVariants.{Open, Quiet};
 ghost use Rattle.nub_rule.specs.Known.{Holds, Makes, recorded};
 ghost use Rattle.nub_rule.specs.Plays.{alert_raise_event, enqueue_event};
 ghost use Rattle.gate.specs.Gates.{IsTaken};
+ghost use Rattle.nub.specs.Holding.{IsHolding};
 ghost use Rattle.nub.specs.Rest.{AtRest, Adds, HasStored, IsOutside, IsSame};
 ghost use Rattle.alert_wait.specs.Outcomes.{wait_end};
 
@@ -46,6 +47,9 @@ pub fn alert_wait<U: Uses, C: Change<U>, R: Wait>(
     ensures share { (w : U.World) (s : U.Share) (x : U.Value) → me.old.world ≡ Some w → me.old.share ≡ Some s
         → Holds me.old m.0 x → me.new.share ≡ Some (C.after w m.0 me.old.number x value s) }
     ensures fits { (w : U.World) (s : U.Share) → me.new.world ≡ Some w → me.new.share ≡ Some s → U.fits w m.0 result.1 me.new.number s }
+    ensures holding { (n : ℕ) (s : U.Share) (x : U.Value) → IsHolding p.now n m.0 s x me.old
+        → IsHolding p.now n m.0 (C.after p.now.world m.0 n x value s) result.1 me.new
+        × U.fits p.now.world m.0 result.1 n (C.after p.now.world m.0 n x value s) }
 {
     put_value(p, me, m, value);
     // The count is read before the bit is cleared: a Signal between the two, under the mutex or not, takes this thread out.

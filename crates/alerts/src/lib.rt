@@ -6,6 +6,7 @@
 
 ghost use Rattle.std.specs.Prelude.{◌≡◌, ℕ, ◌<◌, []};
 ghost use Rattle.nub_rule.specs.Plays.{alert_event, test_alert_event};
+ghost use Rattle.nub.specs.Holding.{IsHolding};
 ghost use Rattle.nub.specs.Idle.{IsIdle};
 ghost use Rattle.nub.specs.Rest.{AtRest, Adds, IsSame};
 
@@ -27,6 +28,7 @@ pub fn alert<U: Uses, R: Wait>(rt: &R, p: &Package<U>, me: &mut Thread<U>, t: Th
     ensures held { me.new.held ≡ me.old.held }
     ensures share { me.new.share ≡ me.old.share }
     ensures idle { (n : ℕ) (s : U.Share) → IsIdle p.now n s me.old → IsIdle p.now n s me.new }
+    ensures holding { (n m : ℕ) (s : U.Share) (x : U.Value) → IsHolding p.now n m s x me.old → IsHolding p.now n m s x me.new }
 {
     let e = Event {
         thread: ThreadId(me.number()),
@@ -49,6 +51,7 @@ pub fn test_alert<U: Uses, R: Wait>(rt: &R, p: &Package<U>, me: &mut Thread<U>) 
     ensures held { me.new.held ≡ me.old.held }
     ensures share { me.new.share ≡ me.old.share }
     ensures idle { (n : ℕ) (s : U.Share) → IsIdle p.now n s me.old → IsIdle p.now n s me.new }
+    ensures holding { (n m : ℕ) (s : U.Share) (x : U.Value) → IsHolding p.now n m s x me.old → IsHolding p.now n m s x me.new }
 {
     begin_event(rt, p, me);
     let yes = swap_alert(p, me) == 1;

@@ -21,7 +21,7 @@ got_inside p n x a b i rest same holds held share above = record {
   got = x;
   holds = holds;
   before = a.held;
-  none = record { lacks = i.lacks; none = i.none };
+  none = record { lacks = i.lacks; lacks_named = i.lacks_named; none = i.none };
   held = held;
   share = [];
   is_share = share ∙ i.share;
@@ -42,7 +42,7 @@ again_inside p n x times a b i few rest same holds held share above =
       got = x;
       holds = holds;
       before = a.held;
-      none = record { lacks = i.idle.lacks; none = i.idle.none };
+      none = record { lacks = i.idle.lacks; lacks_named = i.idle.lacks_named; none = i.idle.none };
       held = held;
       share = i.share;
       is_share = share ∙ i.idle.share;
@@ -137,6 +137,7 @@ ended_inside p n y times a b i rest same held share =
         rest = rest;
         world = same.world ∙ i.world;
         lacks = λ m low. ap (λ h. get_elem? h m) again ∙ i.none.lacks m low;
+        lacks_named = λ m low. ap (λ h. get_elem? h m) again ∙ i.none.lacks_named m low;
         none = λ m x e. i.none.none m x (ap (λ h. get_elem? h m) (sym again) ∙ e);
         share = share;
       };

@@ -33,9 +33,10 @@ pub record HasTurned (p : Shape (Unit {0})) (times n : ℕ) (t : Worker) : Type 
   pub idle : IsIdle p n share t
   pub sum : added 0 share ≡ times
 
--- nothing is held
-pub record HoldsNone (held : List (Opt ℕ)) : Type 0 where
+-- nothing is held, of so many mutexes
+pub record HoldsNone (mutexes : ℕ) (held : List (Opt ℕ)) : Type 0 where
   pub lacks : (m : ℕ) → m < 64 → get_elem? held m ≡ some None
+  pub lacks_named : (m : ℕ) → m < mutexes → get_elem? held m ≡ some None
   pub none : (m x : ℕ) → ¬ (get_elem? held m ≡ some (Some x))
 
 -- the thread n of the package has mutex 0, whose value it got and has made y, and no other; it has added 1 so often, now or before
@@ -46,7 +47,7 @@ pub record IsInside (p : Shape (Unit {0})) (n y times : ℕ) (t : Worker) : Type
   pub got : ℕ
   pub holds : Holds t 0 got
   pub before : List (Opt ℕ)
-  pub none : HoldsNone before
+  pub none : HoldsNone p.layout.mutexes before
   pub held : t.held ≡ slice_set before 0 (Some got)
   pub share : List Added
   pub is_share : t.share ≡ Some share

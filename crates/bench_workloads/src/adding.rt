@@ -64,12 +64,7 @@ pub fn add_at_once<R: Threads + Wait + Sync>(
     ensures count { IfOk result (λ r. length r.closed.threads ≡ threads.number) }
     ensures each { IfOk result (λ r. Each (λ n t. HasMade (2 * times) t) r.closed.threads) }
 {
-    let layout = Layout {
-        threads: threads.number,
-        mutexes: 1,
-        conditions: 0,
-        semaphores: 0,
-    };
+    let layout = Layout::of(threads.number, 1, 0, 0);
     let (closed, own) = run_part(rt, alloc, layout, Part::Add { times, outside })?;
     Ok(Added { closed, own })
 }

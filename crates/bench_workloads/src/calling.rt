@@ -61,12 +61,7 @@ pub fn call_alone<R: Threads + Wait + Sync>(
     ensures count { IfOk result (λ r. length r.threads ≡ 1) }
     ensures each { IfOk result (λ r. Each (λ n t. HasMade times t) r.threads) }
 {
-    let layout = Layout {
-        threads: 1,
-        mutexes: 0,
-        conditions: 1,
-        semaphores: 0,
-    };
+    let layout = Layout::of(1, 0, 1, 0);
     let (closed, _) = run_part(rt, alloc, layout, Part::Call { all, times })?;
     Ok(closed)
 }

@@ -1,6 +1,7 @@
 //! Packages of sums whose threads all do one part.
 ghost use Rattle.std.specs.Prelude.{[], ◌≡◌, ◌<◌, IfOk, length, replicate};
 ghost use Rattle.larch_actions.specs.Layout.{IsLawful};
+ghost use Rattle.larch_actions.specs.declared.event.Version.TheVariants.{One};
 ghost use Rattle.nub.specs.Ended.{IsFirst};
 ghost use Rattle.bench_workloads.specs.Parts.{HasDonePart, HasNamed, HasRun};
 
@@ -74,6 +75,7 @@ pub fn run_part<R: Threads + Wait + Sync>(
     part: Part,
 ) -> Result<(Closed<SumUses>, Vec<u64>), AllocError>
     requires lawful { IsLawful layout }
+    requires version { layout.version ≡ One }
     requires named { HasNamed part layout }
     ensures { IfOk result (λ r. HasRun layout part r.0) }
 {

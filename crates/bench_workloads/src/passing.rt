@@ -201,12 +201,7 @@ pub fn pass_at_once<R: Threads + Wait + Sync>(
     ensures sum { IfOk result (λ r. sum r.sums.items % 2 ^ 64 ≡ numbers_sum 0 (sides.first * times) % 2 ^ 64) }
     ensures over { IfOk result (λ r. (q : Held ℕ) → get_elem? r.closed.values 0 ≡ some q → IsOver (sides.first * times) q) }
 {
-    let layout = Layout {
-        threads: sides.first + sides.second,
-        mutexes: 2,
-        conditions: 4,
-        semaphores: 0,
-    };
+    let layout = Layout::of(sides.first + sides.second, 2, 4, 0);
     let rings = two_rings(alloc, capacity, sides.first)?;
     let (shared, threads) = open_package::<Numbers>(alloc, layout, &(), rings, false)?;
     let Ok((threads, sums)) = at_once(

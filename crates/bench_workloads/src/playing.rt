@@ -94,12 +94,7 @@ pub fn play_at_once<R: Threads + Wait + Sync>(
 ) -> Result<Closed<SumUses>, AllocError>
     ensures value { IfOk result (λ r. r.values ≡ (threads.number * times) ∷ []) }
 {
-    let layout = Layout {
-        threads: threads.number,
-        mutexes: 1,
-        conditions: 2,
-        semaphores: 0,
-    };
+    let layout = Layout::of(threads.number, 1, 2, 0);
     let part = Part::Turns {
         what,
         threads,

@@ -162,12 +162,7 @@ pub fn read_at_once<R: Threads + Wait + Sync>(
     ensures each { IfOk result (λ r. Each (HasPlayed sides.first times) r.closed.threads) }
     ensures sum { IfOk result (λ r. sum r.writes.items ≡ sides.second * times) }
 {
-    let layout = Layout {
-        threads: sides.first + sides.second,
-        mutexes: 1,
-        conditions: 1,
-        semaphores: 0,
-    };
+    let layout = Layout::of(sides.first + sides.second, 1, 1, 0);
     let values = one_state(alloc)?;
     let (shared, threads) = open_package::<RwUses>(alloc, layout, &(), values, false)?;
     let readers = sides.first;

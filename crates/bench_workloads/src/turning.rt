@@ -68,12 +68,7 @@ pub fn turn_at_once<R: Threads + Wait + Sync>(
     ensures turns { IfOk result (λ r. Each (λ n k. k ≡ times) r.turns.items) }
     ensures each { IfOk result (λ r. Each (λ n t. HasMade (n + 2 * times) t) r.closed.threads) }
 {
-    let layout = Layout {
-        threads: count,
-        mutexes: 0,
-        conditions: 0,
-        semaphores: count,
-    };
+    let layout = Layout::of(count, 0, 0, count);
     let (shared, mut threads) = open_package::<SumUses>(
         alloc,
         layout,

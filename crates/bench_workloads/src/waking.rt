@@ -209,12 +209,7 @@ pub fn alert_at_once<R: Threads + Wait + Sync>(
     ensures alerted { IfOk result (λ r. r.alerted.items ≡ times ∷ 0 ∷ []) }
     ensures raised { IfOk result (λ r. (t : Worker) → get_elem? r.closed.threads 0 ≡ some t → raises t.mine ≡ times) }
 {
-    let layout = Layout {
-        threads: 2,
-        mutexes: 1,
-        conditions: 2,
-        semaphores: 0,
-    };
+    let layout = Layout::of(2, 1, 2, 0);
     let values = vec![in alloc; 0u64]?;
     let (shared, threads) = open_package::<WokenSums>(alloc, layout, &(), values, false)?;
     let Ok((threads, alerted)) = at_once(

@@ -7,6 +7,7 @@
 ghost use Rattle.std.specs.Prelude.{◌≡◌, ℕ, ◌<◌, []};
 ghost use Rattle.nub_rule.specs.Plays.{p_event, v_event};
 ghost use Rattle.nub.specs.Rest.{AtRest, Adds, IsSame};
+ghost use Rattle.nub.specs.Holding.{IsHolding};
 ghost use Rattle.nub.specs.Idle.{IsIdle};
 
 use gate::{free, take};
@@ -29,6 +30,7 @@ pub fn p<U: Uses, R: Wait>(rt: &R, pkg: &Package<U>, me: &mut Thread<U>, s: SemI
     ensures held { me.new.held ≡ me.old.held }
     ensures share { me.new.share ≡ me.old.share }
     ensures idle { (n : ℕ) (s : U.Share) → IsIdle pkg.now n s me.old → IsIdle pkg.now n s me.new }
+    ensures holding { (n m : ℕ) (s : U.Share) (x : U.Value) → IsHolding pkg.now n m s x me.old → IsHolding pkg.now n m s x me.new }
 {
     let e = Event {
         thread: ThreadId(me.number()),
@@ -52,6 +54,7 @@ pub fn v<U: Uses, R: Wait>(rt: &R, pkg: &Package<U>, me: &mut Thread<U>, s: SemI
     ensures held { me.new.held ≡ me.old.held }
     ensures share { me.new.share ≡ me.old.share }
     ensures idle { (n : ℕ) (s : U.Share) → IsIdle pkg.now n s me.old → IsIdle pkg.now n s me.new }
+    ensures holding { (n m : ℕ) (s : U.Share) (x : U.Value) → IsHolding pkg.now n m s x me.old → IsHolding pkg.now n m s x me.new }
 {
     let e = Event {
         thread: ThreadId(me.number()),

@@ -10,6 +10,7 @@ ghost use Rattle.nub_rule.specs.declared.view.Wait.{Wait as Waiting};
 ghost use Rattle.nub_rule.specs.Known.{Holds};
 ghost use Rattle.nub_rule.specs.Places.{cond_object};
 ghost use Rattle.nub_rule.specs.Plays.{broadcast_action, enqueue_event, event, signal_action, unread};
+ghost use Rattle.nub.specs.Holding.{IsHolding};
 ghost use Rattle.nub.specs.Idle.{IsIdle};
 ghost use Rattle.nub.specs.Rest.{AtRest, Adds, IsOutside, IsSame};
 ghost use Rattle.condition.specs.Waits.{resume_event};
@@ -34,6 +35,7 @@ pub fn signal<U: Uses, R: Wait>(rt: &R, p: &Package<U>, me: &mut Thread<U>, c: C
     ensures held { me.new.held ≡ me.old.held }
     ensures share { me.new.share ≡ me.old.share }
     ensures idle { (n : ℕ) (s : U.Share) → IsIdle p.now n s me.old → IsIdle p.now n s me.new }
+    ensures holding { (n m : ℕ) (s : U.Share) (x : U.Value) → IsHolding p.now n m s x me.old → IsHolding p.now n m s x me.new }
 {
     if !advance_quietly(p, me, c, false) {
         advance_slowly(rt, p, me, c, false);
@@ -53,6 +55,7 @@ pub fn broadcast<U: Uses, R: Wait>(rt: &R, p: &Package<U>, me: &mut Thread<U>, c
     ensures held { me.new.held ≡ me.old.held }
     ensures share { me.new.share ≡ me.old.share }
     ensures idle { (n : ℕ) (s : U.Share) → IsIdle p.now n s me.old → IsIdle p.now n s me.new }
+    ensures holding { (n m : ℕ) (s : U.Share) (x : U.Value) → IsHolding p.now n m s x me.old → IsHolding p.now n m s x me.new }
 {
     if !advance_quietly(p, me, c, true) {
         advance_slowly(rt, p, me, c, true);
@@ -84,6 +87,9 @@ pub fn wait<U: Uses, C: Change<U>, R: Wait>(
     ensures share { (w : U.World) (s : U.Share) (x : U.Value) → me.old.world ≡ Some w → me.old.share ≡ Some s
         → Holds me.old m.0 x → me.new.share ≡ Some (C.after w m.0 me.old.number x value s) }
     ensures fits { (w : U.World) (s : U.Share) → me.new.world ≡ Some w → me.new.share ≡ Some s → U.fits w m.0 result me.new.number s }
+    ensures holding { (n : ℕ) (s : U.Share) (x : U.Value) → IsHolding p.now n m.0 s x me.old
+        → IsHolding p.now n m.0 (C.after p.now.world m.0 n x value s) result me.new
+        × U.fits p.now.world m.0 result n (C.after p.now.world m.0 n x value s) }
 {
     put_value(p, me, m, value);
     // The count is read before the bit is cleared: a Signal between the two, under the mutex or not, takes this thread out.

@@ -1,6 +1,7 @@
 //! A condition, with a mutex whose value tells whose turn it is.
-ghost use Rattle.std.specs.Prelude.{◌≤◌};
+ghost use Rattle.std.specs.Prelude.{◌≡◌, ◌≤◌};
 ghost use Rattle.larch_actions.specs.Layout.{IsLawful};
+ghost use Rattle.larch_actions.specs.declared.event.Version.TheVariants.{One};
 
 use crate::notes::Notes;
 use crate::run::{LARGEST, run, two_of_each};
@@ -27,6 +28,7 @@ fn leaves<R: Threads + Wait + Abort + Sync>(
     values: &[u64],
 ) -> Result<(), Fail>
     requires lawful { IsLawful layout }
+    requires version { layout.version ≡ One }
     requires named { (2 ≤ layout.mutexes) × (2 ≤ layout.conditions) }
 {
     let closed = run(rt, alloc, layout, what, notes, false)?;
@@ -59,6 +61,7 @@ fn steps_of<R: Threads + Wait + Abort + Sync>(
     conds: (CondId, CondId),
 ) -> Result<(Steps, Steps), Fail>
     requires lawful { IsLawful layout }
+    requires version { layout.version ≡ One }
     requires named { (2 ≤ layout.mutexes) × (2 ≤ layout.conditions) }
 {
     let closed = run(rt, alloc, layout, what, &Notes::new(), true)?;

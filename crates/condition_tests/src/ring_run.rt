@@ -36,12 +36,7 @@ fn run<R: Threads + Wait + Sync>(
     requires threads { (1 ≤ threads) × (threads ≤ 64) }
     requires capacity { (1 ≤ capacity) × (capacity ≤ 4096) }
 {
-    let layout = Layout {
-        threads,
-        mutexes: 1,
-        conditions: 2,
-        semaphores: 0,
-    };
+    let layout = Layout::of(threads, 1, 2, 0);
     let values = one_ring(alloc, capacity)?;
     let (pkg, threads) = open_package::<Numbers>(alloc, layout, &(), values, false)?;
     let ended = AtomicU64::new(0);

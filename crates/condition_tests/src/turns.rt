@@ -44,12 +44,7 @@ fn open_state(
     ensures count { IfOk result (λ o. (o.0.layout.threads ≡ threads) × (length o.1.items ≡ threads)) }
     ensures threads { IfOk result (λ o. Each (λ n t. IsActing o.0 n Idle t) o.1.items) }
 {
-    let layout = Layout {
-        threads,
-        mutexes: 1,
-        conditions: 1,
-        semaphores: 0,
-    };
+    let layout = Layout::of(threads, 1, 1, 0);
     let values = one_state(alloc)?;
     let (pkg, threads) = open_package::<RwUses>(alloc, layout, &(), values, false)?;
     Ok((pkg, threads))

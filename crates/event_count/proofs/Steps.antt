@@ -1,6 +1,7 @@
 -- What the thread knows after some steps, of plain variables.
 use Rattle.std.proofs.Common.{◌≡◌, ℕ, Option as Opt, None, Some, List, [], ◌∷◌, ◌++◌, length, ap, ap₂, sym, subst, ◌∙◌}
 use Rattle.larch_actions.specs.declared.event.Event.{Event}
+use Rattle.larch_actions.specs.declared.event.Version.TheVariants.{One}
 use Rattle.larch_actions.specs.Actions.{IsLegal, by_thread}
 use Rattle.larch_actions.specs.Sets.{without}
 use Rattle.nub_rule.specs.declared.view.Pen.{Pen}
@@ -27,7 +28,7 @@ module _ {T H W : Type 0} where
         let far = ap (λ k. k.seen ++ at.0) began in (
           at.0,
           record {
-            legal = subst IsLegal (ap (λ l. l ++ e ∷ []) far) at.1.legal;
+            legal = subst (IsLegal One) (ap (λ l. l ++ e ∷ []) far) at.1.legal;
             own = ap₂ (λ n l. by_thread n l) (sym (ap (λ k. k.number) began)) (sym (ap (λ l. l ++ e ∷ []) far)) ∙ (at.1.own ∙ ap (λ k. k.mine ++ e ∷ []) began);
             number = λ k p. absurd (no_read o.pen k pen p);
           },

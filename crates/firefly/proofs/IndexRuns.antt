@@ -20,7 +20,7 @@ use Rattle.indexer.specs.Once.{AreSince, IsEachOnce}
 use Rattle.command_line.specs.Grammar.{Options}
 use Rattle.firefly.specs.IndexRun.{AreAskedOnce, NoneRose, OnlyLists, OnlyReads, CallsOf, kind_of_worker, IsAt, ShowsWork, FailedAt, plan_of}
 use Rattle.firefly.specs.Looks.{Look, look_of, looks_of, told_by, IsSameTree, KeepTrees}
-use Rattle.firefly.proofs.Places.{Back, among_at, place_of, sees, seen}
+use Rattle.firefly.proofs.Places.{Back, Owned, among_at, place_of, sees, seen}
 
 -- the history, where there is one, is the plan's, and each thread's part of it is its own events
 own_part : (plan : Plan) (c : Ended IndexValue Share Path) (h : List Event) → says.IsRunOf plan c → c.trace ≡ Some h → (n : ℕ) (t : Worker) → get_elem? c.threads n ≡ some t → by_thread n h ≡ t.mine
@@ -53,6 +53,10 @@ module _ {S : Type 0} (tree : S → Option Told) (weak : S → List Path) (fault
       (λ apart. (s, h.others k None (omega (arith, high, apart)) ∙ e, same_look s))
       (cases_eq k n))
       (cases_lt k n)
+
+  -- what is left is in its place
+  pub all_own : (n : ℕ) (old new : List (Option S)) → says.AreLeft tree weak faults calls n old new → Owned look old new
+  all_own n old new h k r e = let w = h.own k r e in (w.0, w.1, is_same w.0 r w.2)
 
   -- no count rose
   abbrev pub AreStill : List (Option S) → List (Option S) → Type 0

@@ -3,7 +3,7 @@ use Rattle.std.proofs.Common.{◌≡◌, inl, inr, ℕ, zero, suc, ◌<◌, List
 use Rattle.std.specs.Prelude.{slice_index_or}
 use Rattle.std.proofs.lemmas.Option.{same_Some}
 use Rattle.firefly_outside.specs.Trees.{Told}
-use Rattle.firefly.specs.Looks.{Look, look_at, looks_of, AllTell, IsSameTree, KeepTrees, Among, told_by}
+use Rattle.firefly.specs.Looks.{Look, look_at, looks_of, AllTell, AreOwn, IsSameTree, KeepTrees, Among, told_by}
 
 -- one of the trees, at its place
 pub among_at : (xs ys : List (Option Look)) → KeepTrees xs ys → (k : ℕ) (a b : Look) → slice_index_or xs k None ≡ Some a → slice_index_or ys k None ≡ Some b → Among xs ys a b
@@ -28,6 +28,9 @@ pub first_tells : (o : Option Told) (xs : List (Option Look)) → AllTell o xs �
 first_tells o [] h low = absurd (omega arith)
 first_tells o (None ∷ xs) h low = absurd h
 first_tells o (Some x ∷ xs) h low = h.0
+
+none_some : {A : Type 0} (a : A) → None ≡ Some a → ⊥
+none_some a e = cc
 
 module _ {S : Type 0} (look : S → Look) where
   pub look_there : (trees : List (Option S)) (k : ℕ) → slice_index_or (looks_of look trees) k None ≡ look_at look (slice_index_or trees k None)
@@ -78,3 +81,18 @@ module _ {S : Type 0} (look : S → Look) where
   keeps o (Some x ∷ xs) (y ∷ ys) tell many back =
       let h = back 0 x refl in
       kept_one x h.0 y xs ys h.1 h.2 (keeps o xs ys tell.1 (omega arith) (λ k s e. back (suc k) s e))
+
+  -- what stands at each place came back there
+  abbrev pub Owned : List (Option S) → List (Option S) → Type 0
+  Owned old new = (k : ℕ) (r : S) → slice_index_or new k None ≡ Some r → (s : S) × (slice_index_or old k None ≡ Some s) × IsSameTree (look s) (look r)
+
+  pub owns : (old new : List (Option S)) → length new ≡ length old → Owned old new → AreOwn (looks_of look old) (looks_of look new)
+  owns [] [] many own = tt
+  owns [] (y ∷ ys) many own = absurd (omega arith)
+  owns (x ∷ xs) [] many own = absurd (omega arith)
+  owns (None ∷ xs) (None ∷ ys) many own = owns xs ys (omega arith) (λ k r e. own (suc k) r e)
+  owns (Some x ∷ xs) (None ∷ ys) many own = owns xs ys (omega arith) (λ k r e. own (suc k) r e)
+  owns (None ∷ xs) (Some y ∷ ys) many own = let h = own 0 y refl in absurd (none_some h.0 h.1)
+  owns (Some x ∷ xs) (Some y ∷ ys) many own =
+      let h = own 0 y refl in
+      (subst (λ (v : S). IsSameTree (look v) (look y)) (sym (same_Some x h.0 h.1)) h.2, owns xs ys (omega arith) (λ k r e. own (suc k) r e))

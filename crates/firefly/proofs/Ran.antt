@@ -46,7 +46,7 @@ pub same_some : {A : Type 0} (o : Option A) (x y : A) → o ≡ Some x → o ≡
 same_some o x y p q = cc
 
 -- what a run left is its trace
-pub is_trace : (k l : Layout) (xs : List Line) (h : List Event) (vs bytes : List ℕ) → k ≡ l → length vs ≡ l.mutexes → ((m : ℕ) → m < l.mutexes → get_or vs m 0 ≡ total xs m) → ReadsAs bytes k h (numbered 0 vs) → IsClosed h
+pub is_trace : (k l : Layout) (xs : List Line) (h : List Event) (vs bytes : List ℕ) → k ≡ l → length vs ≡ l.mutexes → ((m : ℕ) → m < l.mutexes → get_or vs m 0 ≡ total xs m) → ReadsAs bytes k h (numbered 0 vs) → IsClosed l.version h
     → ((t : ℕ) → t < l.threads → AreEventsOf xs t (by_thread t h)) → IsTraceOf l xs bytes
 is_trace k l xs h vs bytes same size each reads closed own =
     let L : Layout → Type 0 = λ z. ReadsAs bytes z h (numbered 0 vs) in

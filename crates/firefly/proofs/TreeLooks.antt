@@ -1,7 +1,7 @@
 -- Trees before a call and after it.
 use Rattle.std.proofs.Common.{◌≡◌, List, [], ◌∷◌, ◌++◌, refl, arith, Option, Some, None}
 use Rattle.firefly_outside.specs.Trees.{Told}
-use Rattle.firefly.specs.Looks.{Look, looks_of, AllTell, Agree, KeepTrees, NoneFailed}
+use Rattle.firefly.specs.Looks.{Look, looks_of, AllTell, Agree, AreOwn, KeepTrees, NoneFailed}
 
 kept : (told : Option Told) (ts : List (Option Look)) → AllTell told ts → KeepTrees ts ts
 kept told [] h = tt
@@ -11,6 +11,19 @@ kept told (Some l ∷ ts) h = (record { told = refl; weak = refl; count = omega 
 -- what stays is kept
 pub kept-same : (ts : List (Option Look)) → Agree ts → KeepTrees ts ts
 kept-same ts h = kept h.0 ts h.1
+
+-- each place that is kept holds its own tree
+pub kept_own : (xs ys : List (Option Look)) → KeepTrees xs ys → AreOwn xs ys
+kept_own [] [] h = tt
+kept_own [] (y ∷ ys) h = absurd h
+kept_own (None ∷ xs) [] h = absurd h
+kept_own (None ∷ xs) (y ∷ ys) h = absurd h
+kept_own (Some a ∷ xs) [] h = absurd h
+kept_own (Some a ∷ xs) (None ∷ ys) h = absurd h
+kept_own (Some a ∷ xs) (Some b ∷ ys) h = (h.0, kept_own xs ys h.1)
+
+pub own-same : (ts : List (Option Look)) → Agree ts → AreOwn ts ts
+own-same ts h = kept_own ts ts (kept-same ts h)
 
 module _ {S : Type 0} (look : S → Look) (told : Option Told) (x : S) (is : (look x).told ≡ told) where
   -- one more tree that tells the same

@@ -48,6 +48,13 @@ KeepTrees [] [] = Unit {0}
 KeepTrees (Some a ∷ xs) (Some b ∷ ys) = IsSameTree a b × KeepTrees xs ys
 KeepTrees _ _ = ⊥
 
+-- each place is empty, or holds its own tree
+abbrev pub AreOwn : List (Option Look) → List (Option Look) → Type 0
+AreOwn [] [] = Unit {0}
+AreOwn (x ∷ xs) (None ∷ ys) = AreOwn xs ys
+AreOwn (Some a ∷ xs) (Some b ∷ ys) = IsSameTree a b × AreOwn xs ys
+AreOwn _ _ = ⊥
+
 -- no tree has failed yet
 abbrev pub NoneFailed : List (Option Look) → Type 0
 NoneFailed [] = Unit {0}

@@ -6,7 +6,7 @@ ghost use Rattle.index_print.specs.Text.{index_text};
 ghost use Rattle.command_endings.specs.Changes.{change_of};
 ghost use Rattle.command_endings.specs.Printing.{Prints};
 ghost use Rattle.firefly.specs.IndexCommand.{IndexAnswers};
-ghost use Rattle.firefly.specs.Looks.{Agree, KeepTrees, look_of, looks_of};
+ghost use Rattle.firefly.specs.Looks.{Agree, AreOwn, KeepTrees, look_of, looks_of};
 
 use crate::index_run::index_by;
 use command_endings::{Ending, Status, ends};
@@ -45,6 +45,8 @@ pub fn run_index<R: Threads + Wait + Sync, S: Tree, O: Sink, N: Sink>(
         (looks_of (look_of S.tree S.may_fail S.calls S.faults) trees.new) (change_of O.held O.faults out.old out.new)
         (change_of N.held N.faults notes.old notes.new) result }
     ensures kept { result ≢ Status.Memory → KeepTrees (looks_of (look_of S.tree S.may_fail S.calls S.faults) trees.old)
+        (looks_of (look_of S.tree S.may_fail S.calls S.faults) trees.new) }
+    ensures own { AreOwn (looks_of (look_of S.tree S.may_fail S.calls S.faults) trees.old)
         (looks_of (look_of S.tree S.may_fail S.calls S.faults) trees.new) }
 {
     match index_by(rt, alloc, options, false, trees, notes) {

@@ -7,7 +7,7 @@ ghost use Rattle.indexer.specs.Plans.{IsPlan};
 ghost use Rattle.indexer.specs.Says.{IsRunOf};
 ghost use Rattle.command_endings.specs.Changes.{change_of};
 ghost use Rattle.firefly.specs.IndexRun.{AreAskedOnce, IsTheIndex, NoIndex, NoneRose, ShowsWork, plan_of};
-ghost use Rattle.firefly.specs.Looks.{Agree, KeepTrees, look_of, looks_of};
+ghost use Rattle.firefly.specs.Looks.{Agree, AreOwn, KeepTrees, look_of, looks_of};
 
 use command_endings::{Ending, Status, ends};
 use command_line::IndexOptions;
@@ -63,6 +63,8 @@ pub fn index_by<R: Threads + Wait + Sync, S: Tree, N: Sink>(
         (looks_of (look_of S.tree S.may_fail S.calls S.faults) trees.old)
         (looks_of (look_of S.tree S.may_fail S.calls S.faults) trees.new) (change_of N.held N.faults notes.old notes.new) status) }
     ensures kept { result ≢ Err Status.Memory → KeepTrees (looks_of (look_of S.tree S.may_fail S.calls S.faults) trees.old)
+        (looks_of (look_of S.tree S.may_fail S.calls S.faults) trees.new) }
+    ensures own { AreOwn (looks_of (look_of S.tree S.may_fail S.calls S.faults) trees.old)
         (looks_of (look_of S.tree S.may_fail S.calls S.faults) trees.new) }
 {
     let plan = plan_by(options, traced);

@@ -3,7 +3,7 @@ ghost use Rattle.std.specs.Prelude.{◌≡◌, ◌≢◌, ◌⊎◌, ◌≤◌, 
 ghost use Rattle.std.specs.String.{string_bytes};
 ghost use Rattle.command_line.specs.Grammar.{BeginOptions, Task, Say, SayNothing, HasOptions};
 ghost use Rattle.command_endings.specs.Changes.{change_of};
-ghost use Rattle.firefly.specs.Looks.{look_of, looks_of, Agree, KeepTrees};
+ghost use Rattle.firefly.specs.Looks.{look_of, looks_of, Agree, AreOwn, KeepTrees};
 ghost use Rattle.firefly.specs.Top.{Answers, UsageAnswers, WordsWant, effects_of};
 
 use crate::index_command::run_index;
@@ -44,8 +44,10 @@ pub fn firefly<R: Threads + Wait + Sync, S: Tree, I: Source, O: Sink, N: Sink>(
         (looks_of (look_of S.tree S.may_fail S.calls S.faults) trees.new) (change_of I.left I.faults input.old input.new)
         (change_of O.held O.faults out.old out.new) (change_of N.held N.faults notes.old notes.new) in
         (t : Task) → Say (map string_bytes words.now) t → Answers t e result ⊎ (HasOptions t × WordsWant e result) }
-    // Each tree is in its place. Where memory runs out, some may be gone.
+    // Each tree is in its place. Where memory runs out, some places may be empty, and no other holds another's tree.
     ensures kept { result ≢ Status.Memory → KeepTrees (looks_of (look_of S.tree S.may_fail S.calls S.faults) trees.old)
+        (looks_of (look_of S.tree S.may_fail S.calls S.faults) trees.new) }
+    ensures own { AreOwn (looks_of (look_of S.tree S.may_fail S.calls S.faults) trees.old)
         (looks_of (look_of S.tree S.may_fail S.calls S.faults) trees.new) }
 {
     match read_words(alloc, words) {

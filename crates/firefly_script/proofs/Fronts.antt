@@ -3,7 +3,9 @@ use Rattle.std.proofs.Common.{◌≡◌, ℕ, ◌+◌, ◌^◌, ◌<◌, List, [
 use Rattle.std.proofs.lemmas.Bool.{ne_eqb}
 use Rattle.std.specs.Prelude.{codes, decimal}
 use Rattle.larch_actions.specs.declared.event.Layout.{Layout}
-use Rattle.larch_actions.specs.Layout.{IsLawful, layout_text}
+use Rattle.larch_actions.specs.Layout.{layout_text}
+use Rattle.firefly_script.specs.Layouts.{IsScriptLayout}
+use Rattle.firefly_script.proofs.Layouts.{few_threads}
 use Rattle.firefly_script.specs.declared.line.Line.{Line}
 use Rattle.firefly_script.specs.declared.line.Operation.{Operation}
 use Rattle.firefly_script.specs.Faults.{Lacks, newlines}
@@ -22,26 +24,26 @@ flat_number word n rest w fits r =
 flat_last : (word : List ℕ) (n : ℕ) → is_lacking 10 word ≡ true → n < 2 ^ 64 → Lacks 10 (word ++ decimal n)
 flat_last word n w fits = lacks_append 10 word (decimal n) (lacks_from 10 word w) (lacks_decimal 10 n (omega arith) fits)
 
-pub layout_flat : (l : Layout) → IsLawful l → Lacks 10 (layout_text l)
+pub layout_flat : (l : Layout) → IsScriptLayout l → Lacks 10 (layout_text l)
 layout_flat l ok =
-    flat_number (codes "threads ") l.threads _ refl (omega (arith, ok.threads))
-    (flat_number (codes " mutexes ") l.mutexes _ refl (omega (arith, ok.mutexes))
-    (flat_number (codes " conditions ") l.conditions _ refl (omega (arith, ok.conditions)) (flat_last (codes " semaphores ") l.semaphores refl (omega (arith, ok.semaphores)))))
+    flat_number (codes "threads ") l.threads _ refl (omega (arith, few_threads l ok))
+    (flat_number (codes " mutexes ") l.mutexes _ refl (omega (arith, ok.lawful.mutexes))
+    (flat_number (codes " conditions ") l.conditions _ refl (omega (arith, ok.lawful.conditions)) (flat_last (codes " semaphores ") l.semaphores refl (omega (arith, ok.lawful.semaphores)))))
 
-operation_flat : (l : Layout) (o : Operation) → IsLawful l → IsNamed l o → Lacks 10 (operation_text o)
+operation_flat : (l : Layout) (o : Operation) → IsScriptLayout l → IsNamed l o → Lacks 10 (operation_text o)
 operation_flat l o ok h =
     lacks_append 10 (word_text (word_of o)) (operands_text (kinds_of (word_of o)) (numbers_of o)) (fits (word_of o)).flat (operands_flat l ok (kinds_of (word_of o)) (numbers_of o) h)
 
-pub line_flat : (l : Layout) (h : Holding) (x : Line) → IsLawful l → MayCome l h x → Lacks 10 (line_text x)
+pub line_flat : (l : Layout) (h : Holding) (x : Line) → IsScriptLayout l → MayCome l h x → Lacks 10 (line_text x)
 line_flat l h x ok may =
-    flat_number (codes "t") x.thread.0 _ refl (omega (arith, may.thread, ok.threads)) (lacks_append 10 (codes " ") (operation_text x.operation) (lacks_from 10 (codes " ") refl) (operation_flat l x.operation ok may.named))
+    flat_number (codes "t") x.thread.0 _ refl (omega (arith, may.thread, few_threads l ok)) (lacks_append 10 (codes " ") (operation_text x.operation) (lacks_from 10 (codes " ") refl) (operation_flat l x.operation ok may.named))
 
 pub lines_append : (xs ys : List Line) → lines_text (xs ++ ys) ≡ lines_text xs ++ lines_text ys
 lines_append [] ys = refl
 lines_append (x ∷ xs) ys = ap (λ b. line_text x ++ 10 ∷ b) (lines_append xs ys) ∙ sym (append_assoc (line_text x) (10 ∷ lines_text xs) (lines_text ys))
 
 -- where lines stand at the front of the text of others, these begin with them
-pub lines_behind : (l : Layout) (h : Holding) (xs ys : List Line) (rest : List ℕ) → IsLawful l → MayFollow l h xs → MayFollow l h ys → lines_text xs ++ rest ≡ lines_text ys → (zs : List Line) × (ys ≡ xs ++ zs) × (rest ≡ lines_text zs)
+pub lines_behind : (l : Layout) (h : Holding) (xs ys : List Line) (rest : List ℕ) → IsScriptLayout l → MayFollow l h xs → MayFollow l h ys → lines_text xs ++ rest ≡ lines_text ys → (zs : List Line) × (ys ≡ xs ++ zs) × (rest ≡ lines_text zs)
 lines_behind l h [] ys rest ok p q e = (ys, refl, e)
 lines_behind l h (x ∷ xs) [] rest ok p q e = absurd (cc)
 lines_behind l h (x ∷ xs) (y ∷ ys) rest ok p q e =
@@ -52,7 +54,7 @@ lines_behind l h (x ∷ xs) (y ∷ ys) rest ok p q e =
     let ih = lines_behind l (holding_after h x.thread.0 x.operation) xs ys rest ok p.1 (subst P (sym same) q.1) c.1 in
     (ih.0, ap (λ zs. y ∷ zs) ih.1 ∙ ap (λ z. z ∷ (xs ++ ih.0)) (sym same), ih.2)
 
-pub script_behind : (k l : Layout) (h : Holding) (xs ys : List Line) (rest : List ℕ) → IsLawful k → IsLawful l → MayFollow l h xs → MayFollow k h ys → script_text l xs ++ rest ≡ script_text k ys
+pub script_behind : (k l : Layout) (h : Holding) (xs ys : List Line) (rest : List ℕ) → IsScriptLayout k → IsScriptLayout l → MayFollow l h xs → MayFollow k h ys → script_text l xs ++ rest ≡ script_text k ys
     → (k ≡ l) × ((zs : List Line) × (ys ≡ xs ++ zs) × (rest ≡ lines_text zs))
 script_behind k l h xs ys rest okk ok p q e =
     let first : layout_text l ++ 10 ∷ (lines_text xs ++ rest) ≡ layout_text k ++ 10 ∷ lines_text ys = sym (append_assoc (layout_text l) (10 ∷ lines_text xs) rest) ∙ e in
@@ -69,12 +71,12 @@ pub newlines_flat : (bytes : List ℕ) → Lacks 10 bytes → newlines bytes ≡
 newlines_flat [] p = refl
 newlines_flat (c ∷ bytes) p = rw (ne_eqb c 10 p.0) (omega (arith, newlines_flat bytes p.1))
 
-pub newlines_lines : (l : Layout) (h : Holding) (xs : List Line) → IsLawful l → MayFollow l h xs → newlines (lines_text xs) ≡ length xs
+pub newlines_lines : (l : Layout) (h : Holding) (xs : List Line) → IsScriptLayout l → MayFollow l h xs → newlines (lines_text xs) ≡ length xs
 newlines_lines l h [] ok p = refl
 newlines_lines l h (x ∷ xs) ok p =
     omega (arith, newlines_append (line_text x) (10 ∷ lines_text xs), newlines_flat (line_text x) (line_flat l h x ok p.0), newlines_lines l (holding_after h x.thread.0 x.operation) xs ok p.1)
 
-pub newlines_script : (l : Layout) (h : Holding) (xs : List Line) → IsLawful l → MayFollow l h xs → newlines (script_text l xs) ≡ length xs + 1
+pub newlines_script : (l : Layout) (h : Holding) (xs : List Line) → IsScriptLayout l → MayFollow l h xs → newlines (script_text l xs) ≡ length xs + 1
 newlines_script l h xs ok p =
     omega (arith, newlines_append (layout_text l) (10 ∷ lines_text xs), newlines_flat (layout_text l) (layout_flat l ok), newlines_lines l h xs ok p)
 

@@ -5,6 +5,7 @@ pub mod Follow
 pub mod Fronts
 pub mod Injective
 pub mod Kept
+pub mod Layouts
 pub mod Lengths
 pub mod LineFaults
 pub mod Operands

@@ -2,7 +2,7 @@
 use Rattle.std.proofs.Common.{◌≡◌, ℕ, ◌+◌, ◌<◌, ◌≤◌, List, length, take, ap, Option, None, Some, IfSome, arith}
 use Rattle.std.specs.Io.KnownBytes.{Keeps, IsAtEnd, prepend_known}
 use Rattle.larch_actions.specs.declared.event.Layout.{Layout}
-use Rattle.larch_actions.specs.Layout.{IsLawful}
+use Rattle.firefly_script.specs.Layouts.{IsScriptLayout}
 use Rattle.firefly_script.specs.declared.line.Line.{Line}
 use Rattle.firefly_script.specs.declared.script.ScriptFault.{ScriptFault}
 use Rattle.firefly_script.specs.declared.script.ScriptFault.TheVariants.{Memory, BadLine, TooLong, Read}
@@ -25,7 +25,7 @@ whole_bad l xs r left' w n before now (BadLine j) k f few t =
 whole_bad l xs r left' w n before now TooLong k f few t = absurd t
 whole_bad l xs r left' w n before now Read k f few t = absurd t
 
-pub long_bad : (l : Layout) (xs : List Line) (r left' : Option (List ℕ)) (w : List ℕ) (before now j : ℕ) → IsLawful l → Keeps r (prepend_known w left') → j ≡ length xs + 2 → length xs < 99999 → 257 ≤ length w → Lacks 10 (take 257 w)
+pub long_bad : (l : Layout) (xs : List Line) (r left' : Option (List ℕ)) (w : List ℕ) (before now j : ℕ) → IsScriptLayout l → Keeps r (prepend_known w left') → j ≡ length xs + 2 → length xs < 99999 → 257 ≤ length w → Lacks 10 (take 257 w)
     → LineFault l xs r left' before now (BadLine j)
 long_bad l xs r left' w before now j ok k e few long flat =
     bad l xs r left' before now j e few (long_none (NoneIs l xs) r left' w k long flat (none_long l xs ok)) (some_left r left' w k (omega arith))

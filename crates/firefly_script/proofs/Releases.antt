@@ -2,7 +2,9 @@
 use Rattle.std.proofs.Common.{◌≡◌, ℕ, zero, suc, ◌+◌, ◌*◌, ◌/◌, ◌%◌, ◌<◌, ◌≤◌, ◌⊎◌, inl, inr, List, [], ◌∷◌, ◌++◌, refl, ap, sym, subst, ◌∙◌, append_assoc, Bool, true, false, cond, arith}
 use Rattle.std.proofs.lemmas.Bool.Decides.{eqb_tells}
 use Rattle.larch_actions.specs.declared.event.Layout.{Layout}
-use Rattle.larch_actions.specs.Layout.{IsLawful, layout_text}
+use Rattle.larch_actions.specs.Layout.{layout_of, layout_text}
+use Rattle.firefly_script.specs.Layouts.{IsScriptLayout}
+use Rattle.firefly_script.proofs.Layouts.{few_threads}
 use Rattle.firefly_script.specs.declared.line.Line.{Line}
 use Rattle.firefly_script.specs.declared.line.Operation.TheVariants.{Release}
 use Rattle.firefly_script.specs.Faults.{Begins}
@@ -76,18 +78,18 @@ releases_end (suc k) h u n lt e =
           (ih.0, apart k u n lt ih.1 (λ s. let x : h t m ≡ h u n = ap (λ i. h i m) s.0 ∙ ap (λ j. h u j) s.1 in let y = ih.0 in absurd (cc)))
     ]
 
-all_released : (l : Layout) (h : Holding) → IsLawful l → IsWithin l h → AllFree (held_after h (releases 4096 h))
+all_released : (l : Layout) (h : Holding) → IsScriptLayout l → IsWithin l h → AllFree (held_after h (releases 4096 h))
 all_released l h ok w t m =
     elim (known (held_after h (releases 4096 h) t m)) [
       | inl p ↦
           let inside = held_within l h (releases 4096 h) (releases_follow l 4096 h w) w t m p in
-          let r = releases_end 4096 h t m (omega (arith, inside.1, ok.mutexes)) p in
-          absurd (omega (arith, r.1, inside.0, inside.1, ok.threads, ok.mutexes))
+          let r = releases_end 4096 h t m (omega (arith, inside.1, ok.lawful.mutexes)) p in
+          absurd (omega (arith, r.1, inside.0, inside.1, few_threads l ok, ok.lawful.mutexes))
       | inr p ↦ p
     ]
 
 -- lines that may come one after another begin a script text
-pub script_begins : (l : Layout) (xs : List Line) → IsLawful l → MayFollow l none_held xs → Begins (script_text l xs)
+pub script_begins : (l : Layout) (xs : List Line) → IsScriptLayout l → MayFollow l none_held xs → Begins (script_text l xs)
 script_begins l xs ok p =
     let h = held_after none_held xs in
     let w = held_within l none_held xs p (none_within l) in
@@ -108,11 +110,11 @@ script_begins l xs ok p =
     )
 
 one_thread : Layout
-one_thread = record { threads = 1; mutexes = 0; conditions = 0; semaphores = 0 }
+one_thread = layout_of 1 0 0 0
 
-one_thread_is : IsLawful one_thread
+one_thread_is : IsScriptLayout one_thread
 unfolding one_thread
-one_thread_is = record { some = omega arith; threads = omega arith; mutexes = omega arith; conditions = omega arith; semaphores = omega arith }
+one_thread_is = record { lawful = record { some = omega arith; threads = omega arith; mutexes = omega arith; conditions = omega arith; semaphores = omega arith }; version = refl }
 
 pub nothing_begins : Begins []
 nothing_begins =

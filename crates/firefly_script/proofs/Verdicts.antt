@@ -3,7 +3,8 @@ use Rattle.std.proofs.Common.{◌≡◌, ℕ, ◌+◌, ◌<◌, ◌≤◌, ◌�
 use Rattle.std.proofs.lemmas.Bool.Decides.{eqb_tells}
 use Rattle.std.specs.Io.KnownBytes.{Consumes}
 use Rattle.larch_actions.specs.declared.event.Layout.{Layout}
-use Rattle.larch_actions.specs.Layout.{IsLawful, layout_text}
+use Rattle.larch_actions.specs.Layout.{layout_text}
+use Rattle.firefly_script.specs.Layouts.{IsScriptLayout}
 use Rattle.firefly_outside.specs.Causes.{Rose}
 use Rattle.firefly_script.specs.declared.line.Line.{Line}
 use Rattle.firefly_script.specs.declared.script.ScriptFault.{ScriptFault}
@@ -18,7 +19,7 @@ use Rattle.firefly_script.proofs.Fronts.{script_behind, layout_flat, line_flat, 
 use Rattle.firefly_script.proofs.Pieces.{cut_same, lacks_not}
 use Rattle.firefly_script.proofs.Releases.{script_begins, nothing_begins}
 
-pub good_front : (l : Layout) (xs : List Line) → IsLawful l → MayFollow l none_held xs → IsGoodFront (script_text l xs)
+pub good_front : (l : Layout) (xs : List Line) → IsScriptLayout l → MayFollow l none_held xs → IsGoodFront (script_text l xs)
 good_front l xs ok p = record { begins = script_begins l xs ok p; ended = λ some. script_end l xs }
 
 pub no_front : IsGoodFront []
@@ -88,7 +89,7 @@ not_longer front full ends t =
     let n = last_newline t.before t.rest ends.0 (sym t.split ∙ ends.1) t.more in
     omega (arith, ap newlines t.split, newlines_append t.before t.rest, t.counted)
 
-module _ (l : Layout) (xs : List Line) (ok : IsLawful l) (p : MayFollow l none_held xs) where
+module _ (l : Layout) (xs : List Line) (ok : IsScriptLayout l) (p : MayFollow l none_held xs) where
   -- what goes on from the lines is lines
   behind : (rest : List ℕ) → IsScriptText (script_text l xs ++ rest) → (zs : List Line) × MayFollow l (held_after none_held xs) zs × AllFree (held_after (held_after none_held xs) zs) × (rest ≡ lines_text zs)
   behind rest (k, ys, r) =
@@ -213,7 +214,7 @@ head_reason r left' before now TooLong f = absurd f
 head_reason r left' before now Read f =
     (f.1.rose, (f.0, f.1.consumed, record { before = []; rest = f.0; split = refl; front = no_front; few = omega arith; open_line = f.1.open_line; short = f.1.short; full = λ e. absurd (omega arith) }))
 
-pub later_reason : (l : Layout) (r rest left' : Option (List ℕ)) (first before now : ℕ) (fault : ScriptFault) → IsLawful l → Consumes r rest (layout_text l ++ 10 ∷ []) → first ≤ before → LaterFault l rest left' before now fault → HasReason r left' first now fault
+pub later_reason : (l : Layout) (r rest left' : Option (List ℕ)) (first before now : ℕ) (fault : ScriptFault) → IsScriptLayout l → Consumes r rest (layout_text l ++ 10 ∷ []) → first ≤ before → LaterFault l rest left' before now fault → HasReason r left' first now fault
 later_reason l r rest left' first before now fault ok c le f =
     let all = consumes_trans r rest f.left (layout_text l ++ 10 ∷ []) (lines_text f.lines) c f.consumed in
     let whole : Consumes r f.left (script_text l f.lines) = subst (Consumes r f.left) (append_assoc (layout_text l) (10 ∷ []) (lines_text f.lines)) all in

@@ -3,7 +3,8 @@ use Rattle.std.specs.Prelude.{◌≡◌, ℕ, ◌+◌, ◌<◌, ◌≤◌, List,
 use Rattle.std.specs.Io.KnownBytes.{Consumes, IsAtEnd}
 use Rattle.std.specs.declared.option.Option.{Option}
 use Rattle.larch_actions.specs.declared.event.Layout.{Layout}
-use Rattle.larch_actions.specs.Layout.{IsLawful, layout_text}
+use Rattle.larch_actions.specs.Layout.{layout_text}
+use Rattle.firefly_script.specs.Layouts.{IsScriptLayout}
 use Rattle.firefly_outside.specs.Causes.{Rose}
 use Rattle.firefly_script.specs.declared.line.Line.{Line}
 use Rattle.firefly_script.specs.declared.draft.Draft.{Draft}
@@ -16,7 +17,7 @@ use Rattle.firefly_script.specs.Text.{line_text, lines_text}
 
 -- the lines may come one after another, and the table shows what is held after them
 pub record IsDraft (d : Draft) : Type 0 where
-  pub lawful : IsLawful d.layout
+  pub lawful : IsScriptLayout d.layout
   pub follow : MayFollow d.layout none_held d.lines.items
   pub shows : Shows d.held (held_after none_held d.lines.items)
 
@@ -33,7 +34,7 @@ NoneIs l xs bytes = (x : Line) → MayCome l (held_after none_held xs) x → byt
 
 -- no layout has this text
 abbrev pub NoLayoutIs : List ℕ → Type 0
-NoLayoutIs bytes = (l : Layout) → IsLawful l → bytes ≡ layout_text l → ⊥
+NoLayoutIs bytes = (l : Layout) → IsScriptLayout l → bytes ≡ layout_text l → ⊥
 
 -- the first line of the bytes is none of these, if it is whole
 abbrev pub FirstIsNone : (List ℕ → Type 0) → List ℕ → Type 0

@@ -1,3 +1,4 @@
+pub mod Layouts
 pub mod Table
 pub mod Operations
 pub mod Text

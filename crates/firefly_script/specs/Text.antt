@@ -1,7 +1,8 @@
 -- Script texts.
 use Rattle.std.specs.Prelude.{◌≡◌, ℕ, List, [], ◌∷◌, ◌++◌, codes, decimal}
 use Rattle.larch_actions.specs.declared.event.Layout.{Layout}
-use Rattle.larch_actions.specs.Layout.{IsLawful, layout_text}
+use Rattle.larch_actions.specs.Layout.{layout_text}
+use Rattle.firefly_script.specs.Layouts.{IsScriptLayout}
 use Rattle.firefly_script.specs.declared.line.Operation.{Operation}
 use Rattle.firefly_script.specs.declared.line.Line.{Line}
 use Rattle.firefly_script.specs.Operations.{MayFollow, none_held, held_after, AllFree}
@@ -25,7 +26,7 @@ script_text l xs = layout_text l ++ 10 ∷ lines_text xs
 
 -- the lines may come one after another, and at their end no thread holds a mutex
 pub record IsScript (l : Layout) (xs : List Line) : Type 0 where
-  pub lawful : IsLawful l
+  pub lawful : IsScriptLayout l
   pub follow : MayFollow l none_held xs
   pub free : AllFree (held_after none_held xs)
 

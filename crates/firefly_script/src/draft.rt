@@ -1,7 +1,7 @@
 //! The lines of a script that were read so far.
 ghost use Rattle.std.specs.Prelude.{◌≡◌, ◌+◌, ◌*◌, ◌<◌, ◌↔◌, ℕ, IsTrue, IfOk, Ok, true, false, not, []};
 ghost use Rattle.std.specs.List.{list_all};
-ghost use Rattle.larch_actions.specs.Layout.{IsLawful};
+ghost use Rattle.firefly_script.specs.Layouts.{IsScriptLayout};
 ghost use Rattle.firefly_script.specs.Operations.{Holding, IsNamed, MayDo, holding_after, held_after, none_held, AllFree};
 ghost use Rattle.firefly_script.specs.Held.{Shows};
 ghost use Rattle.firefly_script.specs.Drafts.{IsDraft, Takes, NoneIs};
@@ -25,7 +25,7 @@ pub struct Draft {
 // Where the table says whether the thread holds the mutex.
 #[inline]
 fn entry(thread: u32, mutex: MutexId, layout: &Layout) -> usize
-    requires lawful { IsLawful layout.now }
+    requires lawful { IsScriptLayout layout.now }
     requires thread { thread < layout.now.threads }
     requires mutex { mutex.0 < layout.now.mutexes }
     ensures at { result ≡ 64 * thread + mutex.0 }
@@ -36,7 +36,7 @@ fn entry(thread: u32, mutex: MutexId, layout: &Layout) -> usize
 
 // Whether the thread may do this, and if so what is held then.
 fn step(held: &mut [bool], thread: u32, operation: &Operation, layout: &Layout) -> bool
-    requires lawful { IsLawful layout.now }
+    requires lawful { IsScriptLayout layout.now }
     requires thread { thread < layout.now.threads }
     requires named { IsNamed layout.now operation.now }
     requires shows { (h : Holding) × Shows held.old h }
@@ -71,7 +71,7 @@ fn none_set(table: &[bool]) -> bool
 impl Draft {
     /// No line yet.
     pub fn new(alloc: Global, layout: Layout) -> Draft
-        requires { IsLawful layout }
+        requires { IsScriptLayout layout }
         ensures layout { result.layout ≡ layout }
         ensures lines { result.lines.items ≡ [] }
         ensures draft { IsDraft result }

@@ -1,6 +1,7 @@
 //! What stands in the bytes of one line.
 ghost use Rattle.std.specs.Prelude.{◌≡◌, ◌<◌, ◌≤◌, ◌++◌, ◌∷◌, List, ℕ, codes, decimal, length, MatchOption};
-ghost use Rattle.larch_actions.specs.Layout.{IsLawful, layout_text};
+ghost use Rattle.larch_actions.specs.Layout.{layout_text};
+ghost use Rattle.firefly_script.specs.Layouts.{IsScriptLayout};
 ghost use Rattle.firefly_script.specs.Faults.{Lacks};
 ghost use Rattle.firefly_script.specs.Operations.{IsNamed};
 ghost use Rattle.firefly_script.specs.Table.{IsWithin, operand_text};
@@ -10,9 +11,12 @@ ghost use Rattle.firefly_script.specs.Parsing.{Parses, IsField, AreParted, Are, 
 use crate::line::{Line, Operation};
 use crate::table::{Numbers, Operand, kinds, known_word, make};
 use itoa::Buffer;
-use larch_actions::{Layout, MOST_OBJECTS, MOST_THREADS, ThreadId};
+use larch_actions::{Layout, MOST_OBJECTS, ThreadId};
 use memchr::memchr;
 use std::str;
+
+// The greatest number of threads of a layout of version one.
+const MOST_THREADS: u32 = 64;
 
 /// The greatest number that an `add` may have.
 pub const MOST_ADDED: u64 = 1_000_000;
@@ -91,7 +95,7 @@ fn operand(bytes: &[u8], what: Operand, layout: &Layout) -> Option<u64>
 
 // All that stands behind a word, each behind a space.
 fn operands(bytes: &[u8], kinds: &[Operand], layout: &Layout) -> Option<Numbers>
-    requires lawful { IsLawful layout.now }
+    requires lawful { IsScriptLayout layout.now }
     requires few { length kinds.now ≤ 3 }
     ensures { MatchOption result (NoneAre layout.now kinds.now bytes.now) (λ x. Are layout.now kinds.now bytes.now (first_of kinds.now x)) }
 {
@@ -124,7 +128,7 @@ fn operands(bytes: &[u8], kinds: &[Operand], layout: &Layout) -> Option<Numbers>
 
 // An operation.
 fn operation(bytes: &[u8], layout: &Layout) -> Option<Operation>
-    requires { IsLawful layout.now }
+    requires { IsScriptLayout layout.now }
     ensures { Parses (IsNamed layout.now) operation_text bytes.now result }
 {
     let (word, behind) = parted(bytes);
@@ -139,7 +143,7 @@ fn operation(bytes: &[u8], layout: &Layout) -> Option<Operation>
 
 /// The line that the bytes are, without its newline.
 pub fn line(bytes: &[u8], layout: &Layout) -> Option<Line>
-    requires { IsLawful layout.now }
+    requires { IsScriptLayout layout.now }
     ensures { Parses (IsLineOf layout.now) line_text bytes.now result }
 {
     let Some((thread, behind)) = cut(bytes, b' ') else {
@@ -174,7 +178,7 @@ fn field<'b>(bytes: &'b [u8], word: &[u8], most: u32) -> Option<(u32, &'b [u8])>
 
 /// The layout that the bytes are, without the newline of its line.
 pub fn layout(bytes: &[u8]) -> Option<Layout>
-    ensures { Parses IsLawful layout_text bytes.now result }
+    ensures { Parses IsScriptLayout layout_text bytes.now result }
 {
     let Some((threads, behind)) = field(bytes, b"threads ", MOST_THREADS) else {
         return None;

@@ -1,7 +1,8 @@
 //! Reading scripts.
 ghost use Rattle.std.specs.Prelude.{◌≡◌, ◌+◌, ◌<◌, ◌≤◌, ◌++◌, ◌∷◌, [], List, ℕ, Ok, true, false, length, take, drop, Some, IfSome, IfOk, IfErr, OnOk, OnErr, MatchResult};
 ghost use Rattle.std.specs.Io.KnownBytes.{Consumes, IsAtEnd, prepend_known};
-ghost use Rattle.larch_actions.specs.Layout.{IsLawful, layout_text};
+ghost use Rattle.larch_actions.specs.Layout.{layout_text};
+ghost use Rattle.firefly_script.specs.Layouts.{IsScriptLayout};
 ghost use Rattle.firefly_script.specs.declared.line.Line.{Line};
 ghost use Rattle.firefly_script.specs.Operations.{MayFollow, none_held, held_after, AllFree};
 ghost use Rattle.firefly_script.specs.Text.{line_text, lines_text, IsScript, ReadsAs};
@@ -21,7 +22,7 @@ pub const MOST_LINES: usize = 100_000;
 
 // Takes the layout line.
 fn head<I: Source>(window: &mut Window, input: &mut I) -> Result<Layout, ScriptFault>
-    ensures layout { IfOk result (λ l. IsLawful l × Consumes (prepend_known window.old (I.left input.old))
+    ensures layout { IfOk result (λ l. IsScriptLayout l × Consumes (prepend_known window.old (I.left input.old))
         (prepend_known window.new (I.left input.new)) (layout_text l ++ 10 ∷ [])) }
     ensures fault { IfErr result (HeadFault (prepend_known window.old (I.left input.old)) (I.left input.new)
         (I.faults input.old) (I.faults input.new)) }

@@ -35,6 +35,7 @@ impl Model for Script {
 
 impl Script {
     ghost use Rattle.larch_actions.specs.Layout.{IsLawful};
+    ghost use Rattle.larch_actions.specs.declared.event.Version.TheVariants.{One};
     ghost use Rattle.firefly_script.specs.Text.{IsScript};
 
     /// A script of these lines.
@@ -51,6 +52,7 @@ impl Script {
     pub fn layout(&self) -> Layout
         ensures layout { result ≡ self.now.layout }
         ensures lawful { IsLawful result }
+        ensures version { result.version ≡ One }
     {
         self.layout
     }

@@ -3,6 +3,7 @@ use Rattle.std.proofs.Common.{◌≡◌, ◌≢◌, ℕ, Bool, eqb, true, false,
 use Rattle.std.proofs.lemmas.Bool.Decides.{nat_tests}
 use lib.ListN.{get_elem?}
 use Rattle.larch_actions.specs.declared.event.Event.{Event}
+use Rattle.larch_actions.specs.declared.event.Version.TheVariants.{One}
 use Rattle.larch_actions.specs.Actions.{IsLegal, by_thread}
 use Rattle.larch_actions.specs.Sets.{without}
 use Rattle.nub_rule.specs.declared.object.Object.{Object}
@@ -32,7 +33,7 @@ module _ {T H W : Type 0} where
       let far = ap (λ l. l ++ at.0) seen in (
         at.0,
         record {
-          legal = subst IsLegal (ap (λ l. l ++ e ∷ []) far) at.1.legal;
+          legal = subst (IsLegal One) (ap (λ l. l ++ e ∷ []) far) at.1.legal;
           own = ap₂ (λ n l. by_thread n l) (sym number) (sym (ap (λ l. l ++ e ∷ []) far)) ∙ (at.1.own ∙ ap (λ l. l ++ e ∷ []) mine);
           number = λ k p. at.1.number k (pen ∙ p) ∙ ap length far;
         },
@@ -140,7 +141,7 @@ module _ {T H W : Type 0} where
         let far = ap (λ k. k.seen ++ at.0) began in (
           at.0,
           record {
-            legal = subst IsLegal (ap (λ l. l ++ e ∷ []) far) at.1.legal;
+            legal = subst (IsLegal One) (ap (λ l. l ++ e ∷ []) far) at.1.legal;
             own = ap₂ (λ n l. by_thread n l) (sym (ap (λ k. k.number) began)) (sym (ap (λ l. l ++ e ∷ []) far)) ∙ (at.1.own ∙ ap (λ k. k.mine ++ e ∷ []) began);
             number = λ k p. absurd (no_read o.pen k pen p);
           },

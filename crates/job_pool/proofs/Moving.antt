@@ -4,7 +4,7 @@ use Rattle.nub_rule.specs.Known.{Shape}
 use Rattle.nub.specs.Ended.{IsFirst}
 use Rattle.nub.specs.Idle.{IsIdle}
 use Rattle.nub.specs.Rest.{AtRest, IsSame}
-use Rattle.nub.proofs.Users.{idle_again}
+use Rattle.nub.proofs.Users.{idle_again, idle_first}
 use Rattle.bounded_buffer.specs.declared.note.Note.{Note}
 use Rattle.bounded_buffer.specs.declared.ends.PutEnd.{PutEnd}
 use Rattle.bounded_buffer.specs.declared.ends.PutEnd.TheVariants.{Closed, Alerted as PutAlerted}
@@ -48,7 +48,7 @@ module _ {T : Type 0} where
 
   -- who has done nothing
   pub first_between : (p : Shape (Unit {0})) (n : ℕ) (t : Worker T) → IsFirst p (λ w t. []) n t → IsBetween p n t
-  first_between p n t f = record { share = []; idle = record { number = f.number; rest = f.rest; world = f.world; lacks = f.lacks; none = f.none; share = f.share } }
+  first_between p n t f = record { share = []; idle = idle_first p (λ w t. []) n t f }
 
   pub first_puts : (p : Shape (Unit {0})) (n : ℕ) (t : Worker T) → IsFirst p (λ w t. []) n t → puts_of t ≡ []
   first_puts p n t f = ap (λ o. map (λ q. q.1) (part_in o).puts) f.share

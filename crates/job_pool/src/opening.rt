@@ -21,12 +21,7 @@ pub fn open<T: Send + Drop>(
     ensures count { IfOk result (λ o. length o.1.items ≡ workers + 1) }
     ensures threads { IfOk result (λ o. AreFirst o.0 0 o.1.items) }
 {
-    let layout = Layout {
-        threads: workers + 1,
-        mutexes: 1,
-        conditions: 2,
-        semaphores: 0,
-    };
+    let layout = Layout::of(workers + 1, 1, 2, 0);
     let mut rings = Vec::with_capacity(alloc, 1)?;
     rings.push_reserved(Ring::new(alloc, many as u32)?);
     open_package::<Pieces<T>>(alloc, layout, &(), rings, false)

@@ -1,6 +1,7 @@
 -- What calls add, one after the other.
 use Rattle.std.proofs.Common.{◌≡◌, List, [], ◌∷◌, ◌++◌, ap, subst, sym, ◌∙◌, append_assoc, append-nil}
 use Rattle.larch_actions.specs.declared.event.Event.{Event}
+use Rattle.larch_actions.specs.declared.event.Version.TheVariants.{One}
 use Rattle.larch_actions.specs.Actions.{IsLegal, StartsWith, by_thread}
 use Rattle.nub_rule.specs.Known.{Known, Makes}
 use Rattle.nub.specs.Rest.{Added, Adds}
@@ -31,7 +32,7 @@ module _ {W V H : Type 0} where
   pub adds_one : (e : Event) (a b : Known V H W) → Makes e a b → b.number ≡ a.number → Adds [] e a b
   adds_one e a b made number = record {
     mine = made.3 ∙ ap (λ l. l ++ e ∷ []) (sym (append-nil a.mine));
-    legal = subst IsLegal (sym made.2) made.1.legal;
+    legal = subst (IsLegal One) (sym made.2) made.1.legal;
     grows = grown a.seen made.0 b.seen e made.2;
     ends = (a.seen ++ made.0, made.2);
     own = ap (λ n. by_thread n b.seen) number ∙ (ap (by_thread a.number) made.2 ∙ (made.1.own ∙ sym made.3));

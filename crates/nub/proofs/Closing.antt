@@ -1,5 +1,5 @@
 -- What the threads that a package begins and ends with know.
-use Rattle.std.proofs.Common.{◌≡◌, Bool, ℕ, ◌+◌, ◌<◌, List, [], ◌∷◌, length, get_or, replicate, map, sym, ap, ◌∙◌, subst, refl, arith, cond, eqb, true, false, suc, zero, Some, None, Option as Opt, inl, inr, ⊎_elim}
+use Rattle.std.proofs.Common.{◌≡◌, Bool, ℕ, ◌+◌, ◌<◌, ◌≤◌, List, [], ◌∷◌, length, get_or, replicate, map, sym, ap, ◌∙◌, subst, refl, arith, cond, eqb, true, false, suc, zero, Some, None, Option as Opt, inl, inr, ⊎_elim}
 use mathlib.Core.Option.{some, some-injective, some-ne-none}
 use lib.ListN.{get_elem?}
 use Rattle.std.specs.List.{All}
@@ -71,8 +71,8 @@ events-of t k [] = refl
 events-of t k (e ∷ es) = events-at t k e es (eqb e.thread.0 t) (events-of t (k + 1) es)
 
 module _ {T H W : Type 0} where
-  first-is : (p : Shape W) (begin : W → ℕ → H) (n : ℕ) → IsFirst p begin n (first_known {T = T} {H = H} p.table_id p.world begin n)
-  first-is p begin n = record {
+  first-is : (p : Shape W) (begin : W → ℕ → H) (n : ℕ) → p.layout.mutexes ≤ 64 → IsFirst p begin n (first_known {T = T} {H = H} p.table_id p.world begin n)
+  first-is p begin n few = record {
     number = refl;
     rest = record {
       of = refl;
@@ -89,14 +89,15 @@ module _ {T H W : Type 0} where
     world = refl;
     seen = refl;
     mine = refl;
+    few = few;
     lacks = λ m l. none_there 64 m l;
     size = length-replicate {A = Opt T} 64 None;
     none = λ m x h. none_held 64 m x h;
     share = refl;
   }
 
-  pub first_is : (p : Shape W) (begin : W → ℕ → H) (n : ℕ) (t : Known T H W) → t ≡ first_known p.table_id p.world begin n → IsFirst p begin n t
-  first_is p begin n t e = let P : Known T H W → Type 0 = λ k. IsFirst p begin n k in subst P (sym e) (first-is p begin n)
+  pub first_is : (p : Shape W) (begin : W → ℕ → H) (n : ℕ) (t : Known T H W) → p.layout.mutexes ≤ 64 → t ≡ first_known p.table_id p.world begin n → IsFirst p begin n t
+  first_is p begin n t few e = let P : Known T H W → Type 0 = λ k. IsFirst p begin n k in subst P (sym e) (first-is p begin n few)
 
   -- the same threads leave the same
   pub left_by : (layout : Layout) (holds : List T → List H → Type 0) (threads others : List (Known T H W)) (values : List T) → threads ≡ others → Leaves layout holds (map (λ t. part_of t) threads) values → Leaves layout holds (map (λ t. part_of t) others) values
@@ -130,7 +131,7 @@ module _ {T H W : Type 0} where
 
   pub whole : (layout : Layout) (holds : List T → List H → Type 0) (threads : List (Known T H W)) (values : List T) (l : Leaves layout holds (map (λ t. part_of t) threads) values) → length threads ≡ layout.threads → IsWhole layout threads l.log
   whole layout holds threads values l count = record {
-    closed = (l.spec, l.run, l.nothing_held, l.nothing_begun);
+    closed = (l.spec, l.run, l.nothing_held, l.nothing_begun, l.over);
     people = by-threads layout threads l.log l.history;
     names = λ k e m. let a = by-threads layout threads l.log l.history k e m in (omega arith, l.history.names k (get_or l.log k e) (at_get_or l.log k e m));
     longest = ⊎_elim

@@ -1,6 +1,9 @@
 pub mod Adding
 pub mod Closing
+pub mod Guards
+pub mod Holding
 pub mod Knowing
 pub mod Places
+pub mod Totals
 pub mod Users
 pub mod Without

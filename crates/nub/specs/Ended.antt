@@ -1,5 +1,5 @@
 -- What a package begins with, and what contracts see of it once it is closed.
-use Rattle.std.specs.Prelude.{◌≡◌, ◌⊎◌, ℕ, ◌<◌, List, [], map, length, Option as Opt, Some, None}
+use Rattle.std.specs.Prelude.{◌≡◌, ◌⊎◌, ℕ, ◌<◌, ◌≤◌, List, [], map, length, Option as Opt, Some, None}
 use Rattle.std.proofs.Common.{Vec, Global}
 use Rattle.std.specs.List.{All}
 use mathlib.Core.Option.{some}
@@ -34,6 +34,7 @@ module _ {T H W : Type 0} where
     pub world : t.world ≡ Some p.world
     pub seen : t.seen ≡ []
     pub mine : t.mine ≡ []
+    pub few : p.layout.mutexes ≤ 64
     pub lacks : (m : ℕ) → m < 64 → get_elem? t.held m ≡ some None
     pub size : length t.held ≡ 64
     pub none : (m : ℕ) (x : T) → ¬ (get_elem? t.held m ≡ some (Some x))
@@ -54,7 +55,7 @@ module _ {T H W : Type 0} where
   -- the list is the whole history of the threads: it is legal and closed, each event is by one of them and has names of the layout, each has seen a beginning of it, one has seen all of
   -- it unless it is empty, and its part by each is that thread's own events
   pub record IsWhole (l : Layout) (threads : List (Known T H W)) (h : List Event) : Type 0 where
-    pub closed : IsClosed h
+    pub closed : IsClosed l.version h
     pub people : All (λ e. e.thread.0 < length threads) h
     pub names : All (HasNames l) h
     pub longest : (h ≡ []) ⊎ ((n : ℕ) × (t : Known T H W) × (get_elem? threads n ≡ some t) × (t.seen ≡ h))

@@ -11,5 +11,6 @@ pub record IsIdle {T H W : Type 0} (p : Shape W) (n : ℕ) (s : H) (t : Known T 
   pub rest : AtRest p t
   pub world : t.world ≡ Some p.world
   pub lacks : (m : ℕ) → m < 64 → get_elem? t.held m ≡ some None
+  pub lacks_named : (m : ℕ) → m < p.layout.mutexes → get_elem? t.held m ≡ some None
   pub none : (m : ℕ) (x : T) → ¬ (get_elem? t.held m ≡ some (Some x))
   pub share : t.share ≡ Some s

@@ -1,6 +1,7 @@
 -- Where a thread has no call open, and what a call adds.
 use Rattle.std.specs.Prelude.{◌≡◌, ℕ, Bool, true, false, List, [], ◌∷◌, ◌++◌, map, None}
 use Rattle.larch_actions.specs.declared.event.Event.{Event}
+use Rattle.larch_actions.specs.declared.event.Version.TheVariants.{One}
 use Rattle.larch_actions.specs.Actions.{IsLegal, StartsWith, by_thread}
 use Rattle.nub_rule.specs.declared.view.Pen.TheVariants.{No}
 use Rattle.nub_rule.specs.Known.{Known, Shape, Holds, IsOut, part_of}
@@ -40,7 +41,7 @@ module _ {T H W : Type 0} where
   -- a call added these own events and then e: the history that was seen grew to a legal one that ends with e, and the own events are the thread's part of it
   pub record Adds (es : List Event) (e : Event) (a b : Known T H W) : Type 0 where
     pub mine : b.mine ≡ (a.mine ++ es) ++ e ∷ []
-    pub legal : IsLegal b.seen
+    pub legal : IsLegal One b.seen
     pub grows : StartsWith b.seen a.seen
     pub ends : (before : List Event) × (b.seen ≡ before ++ e ∷ [])
     pub own : by_thread b.number b.seen ≡ b.mine

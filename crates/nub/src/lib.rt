@@ -16,7 +16,7 @@ mod trace_order;
 mod whole;
 
 pub use closed::Closed;
-pub use larch_actions::{Action, CondId, Event, Layout, MutexId, SemId, ThreadId};
+pub use larch_actions::{Action, CondId, Event, Layout, MutexId, SemId, ThreadId, Version};
 pub use nub_rule::{Change, NoChange, Package, Thread, Uses};
 pub use patience::{Look, is_patient, learn};
 pub use pen::{begin_event, end_event};

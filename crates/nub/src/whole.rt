@@ -2,6 +2,7 @@
 ghost use Rattle.std.specs.Prelude.{◌≡◌, ℕ, List, Some, None, true, false, length, IfOk, is_ok};
 ghost use Rattle.larch_actions.specs.declared.event.Event.{Event};
 ghost use Rattle.larch_actions.specs.Layout.{IsLawful};
+ghost use Rattle.larch_actions.specs.declared.event.Version.TheVariants.{One};
 ghost use Rattle.nub_rule.specs.Ends.{firsts};
 ghost use Rattle.nub_rule.specs.Items.{Each};
 ghost use Rattle.nub.specs.Ended.{IsFirst, IsDone, KeepsLocks, IsWhole, trace_of};
@@ -24,6 +25,7 @@ pub fn open_package<U: Uses>(
     traced: bool,
 ) -> Result<(Package<U>, Vec<Thread<U>>), AllocError>
     requires lawful { IsLawful layout }
+    requires version { layout.version ≡ One }
     requires values { length values.items ≡ layout.mutexes }
     requires holds { U.holds world.now values.items (firsts (U.begin world.now) layout.threads) }
     ensures package { IfOk result (λ o. (o.0.layout ≡ layout) × (o.0.traced ≡ traced) × (o.0.world ≡ world.now)) }

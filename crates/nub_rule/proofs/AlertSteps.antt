@@ -136,7 +136,7 @@ module _ {T H W : Type 0} (l : Layout) (traced : Bool) (w : W) (begin : W → �
       (λ z. owes-frame c.queue words (set words i x) all n p (after z) at (λ k lo. other words i (bit_at k) x (λ y. omega arith)) refl refl refl c.owes)
       (λ z. begun-same words (set words i x) all n p (after z) at (waits-stay words i x (λ k lo y. omega arith)) refl refl refl c.begun)
 
-  or_alert_at : (slots id t : ℕ) (me : Me (Slot T) (View T H W)) → t < 64 → t < l.threads → me.0.kind ≡ Member → me.0.part.wait ≡ None → MayTell traced me.0.part.pen
+  or_alert_at : (slots id t : ℕ) (me : Me (Slot T) (View T H W)) → t < most_threads → t < l.threads → me.0.kind ≡ Member → me.0.part.wait ≡ None → MayTell traced me.0.part.pen
       → Allows (IsKept l traced w begin holds) slots id me (alert_at t) (λ x. bit_or x 1) (or_alert_tells (step slots (alert_at t) 1 0 none) me)
   or_alert_at slots id t me low named kind out may = let v = me.0 in let n = v.number in let p = v.part in let i = alert_at t in let e = alert_event n t in
       member_steps l traced w begin holds slots id i (λ x. bit_or x 1) v me.1 (λ r q ds. Learns e n p (λ z. record (told p z e) { alerted = p.alerted }) q × (ds ≡ me.1)) (or_alert_tells (step slots i 1 0 none) me) kind
@@ -146,11 +146,11 @@ module _ {T H W : Type 0} (l : Layout) (traced : Bool) (w : W) (begin : W → �
       let r : ℕ = get_or words i 0 in
       let idle_now : c.spec.pending n ≡ Nothing = c.shows.pendings.pends n p at ∙ ap pending_of out in
       let up : bit_or r 1 ≡ 1 = one-in r (zero-one r (c.spec.alerts t) (c.shows.alerts t low)) in
-      let m = alert-marks e n t 1 true p p.alerted words homes all c at low refl named may (record { order = idle_now; requires_met = tt; when_met = tt; choice_met = tt }, refl) (inr (refl, refl)) (λ q ea one. alert-seen-set words 1 all n p q at t one ea c.alert_seen) in
+      let m = alert-marks e n t 1 true p p.alerted words homes all c at low refl named may (record { live = c.shows.lives n; order = idle_now; requires_met = tt; when_met = tt; choice_met = tt }, refl) (inr (refl, refl)) (λ q ea one. alert-seen-set words 1 all n p q at t one ea c.alert_seen) in
       (m.0, keeps, tt, subst (λ (y : ℕ). Core l traced w holds (set words i y) homes (set all n m.0)) (sym up) m.1, (m.2, refl)))
 
   -- the same at a word that is this place
-  pub or_alert_keeps : (slots id t : ℕ) (me : Me (Slot T) (View T H W)) (i : ℕ) → i ≡ alert_at t → t < 64 → t < l.threads → me.0.kind ≡ Member → me.0.part.wait ≡ None → MayTell traced me.0.part.pen
+  pub or_alert_keeps : (slots id t : ℕ) (me : Me (Slot T) (View T H W)) (i : ℕ) → i ≡ alert_at t → t < most_threads → t < l.threads → me.0.kind ≡ Member → me.0.part.wait ≡ None → MayTell traced me.0.part.pen
       → Allows (IsKept l traced w begin holds) slots id me i (λ x. bit_or x 1) (or_alert_tells (step slots i 1 0 none) me)
   or_alert_keeps slots id t me i word low named kind out may = subst (λ (i : ℕ). Allows (IsKept l traced w begin holds) slots id me i (λ x. bit_or x 1) (or_alert_tells (step slots i 1 0 none) me)) (sym word) (or_alert_at slots id t me low named kind out may)
 
@@ -165,7 +165,7 @@ module _ {T H W : Type 0} (l : Layout) (traced : Bool) (w : W) (begin : W → �
       let e = test_alert_event n (eqb r 1) in
       let says = c.shows.alerts n low in
       let idle_now : c.spec.pending n ≡ Nothing = c.shows.pendings.pends n p at ∙ ap pending_of out in
-      let m = alert-marks e n n 0 false p false words homes all c at low refl tt may (record { order = idle_now; requires_met = tt; when_met = tt; choice_met = answer-is r (c.spec.alerts n) says }, refl) (inl (refl, refl)) (λ q ea zero. alert-seen-clear words 0 all n p q at ea c.alert_seen) in
+      let m = alert-marks e n n 0 false p false words homes all c at low refl tt may (record { live = c.shows.lives n; order = idle_now; requires_met = tt; when_met = tt; choice_met = answer-is r (c.spec.alerts n) says }, refl) (inl (refl, refl)) (λ q ea zero. alert-seen-clear words 0 all n p q at ea c.alert_seen) in
       (m.0, keeps, tt, m.1, (zero-one r (c.spec.alerts n) says, c.alert_seen n p at, m.2, refl)))
 
   -- the same at a word that is this place
@@ -184,7 +184,7 @@ module _ {T H W : Type 0} (l : Layout) (traced : Bool) (w : W) (begin : W → �
       let r : ℕ = get_or words i 0 in
       let one : r ≡ 1 = c.alert_seen n p at seen in
       let idle_now : c.spec.pending n ≡ Nothing = c.shows.pendings.pends n p at ∙ ap pending_of out in
-      let m = alert-marks e n n 0 false p false words homes all c at low refl named may (record { order = idle_now; requires_met = tt; when_met = said-one r (c.spec.alerts n) (c.shows.alerts n low) one; choice_met = tt }, refl) (inl (refl, refl)) (λ q ea zero. alert-seen-clear words 0 all n p q at ea c.alert_seen) in
+      let m = alert-marks e n n 0 false p false words homes all c at low refl named may (record { live = c.shows.lives n; order = idle_now; requires_met = tt; when_met = said-one r (c.spec.alerts n) (c.shows.alerts n low) one; choice_met = tt }, refl) (inl (refl, refl)) (λ q ea zero. alert-seen-clear words 0 all n p q at ea c.alert_seen) in
       (m.0, keeps, tt, subst (λ (y : ℕ). Core l traced w holds (set words i y) homes (set all n m.0)) (sym (one-out r s one)) m.1, (one, m.2, refl)))
 
   -- the same at a word that is this place, with this mask

@@ -38,7 +38,7 @@ module _ {T H W : Type 0} where
   pub fit_noted : (z z' : TableId) (n : ℕ) (hand : List ℕ) (me me' : Sat T H W) (q : Part T H) {kept : List T} {room : ℕ} → z' ≡ z → me' ≡ (with_part me.0 q, me.1) → IsThread z n hand me kept room
       → q.held ≡ me.0.part.held → q.spin ≡ me.0.part.spin → q.queue ≡ me.0.part.queue → q.owed ≡ me.0.part.owed → q.stand ≡ me.0.part.stand → IsThread z' n hand me' kept room
   fit_noted z z' n hand me me' q ez em i eh es eq eo et = let h = i.hands in fit_still z z' n hand me me' q ez em i (ap length eh) (hands-same me.0.part q me.1 me.1 (λ k. refl) es eq eh
-      (λ o there nowhere. subst (λ (l : List ℕ). length l < 64) (sym eq) (h.room o (sym es ∙ there) (sym et ∙ nowhere))) (λ none. eo ∙ h.settled (sym es ∙ none)) h)
+      (λ o there nowhere. subst (λ (l : List ℕ). length l < most_threads) (sym eq) (h.room o (sym es ∙ there) (sym et ∙ nowhere))) (λ none. eo ∙ h.settled (sym es ∙ none)) h)
 
   -- the thread is one still, and contracts see it with its part changed by f and its values by h
   pub record After (f : ℕ → Part T H → Part T H) (h : List (Opt (Opt T)) → List (Opt (Opt T))) (z z' : TableId) (n : ℕ) (hand : List ℕ) (me me' : Sat T H W) (kept : List T) (room : ℕ) : Type 0 where
@@ -154,7 +154,7 @@ module _ {T H W : Type 0} where
       ks hs d low first (ap length eh ∙ length-set front.0.part.held m None)
       (hands-freed front.0.part q front.1 (rest front.1) m s near wide d first refl eh es eq est eo
       (hands-same me.0.part front.0.part me.1 front.1 found (ap (λ x. x.spin) p) (ap (λ x. x.queue) p) (ap (λ x. x.held) p)
-      (λ k there nowhere. subst (λ (l : List ℕ). length l < 64) (ap (λ x. x.queue) (sym p)) (h.room k (ap (λ x. x.spin) (sym p) ∙ there) (ap (λ x. x.stand) (sym p) ∙ nowhere))) (λ none. ap (λ x. x.owed) p ∙ h.settled (ap (λ x. x.spin) (sym p) ∙ none)) h))
+      (λ k there nowhere. subst (λ (l : List ℕ). length l < most_threads) (ap (λ x. x.queue) (sym p)) (h.room k (ap (λ x. x.spin) (sym p) ∙ there) (ap (λ x. x.stand) (sym p) ∙ nowhere))) (λ none. ap (λ x. x.owed) p ∙ h.settled (ap (λ x. x.spin) (sym p) ∙ none)) h))
 
   -- the event that a step told after a slot was brought to the front, by the number and the queue of its thread
   pub told_after : (e : ℕ → List ℕ → Event) (f : Part T H → Part T H) (u : List Event) (z z' : TableId) (n : ℕ) (es : List Entry) (lo : Bool) {nx : ℕ} (me me' : Sat T H W) (front : View T H W) (ds : List (ℕ × Slot T)) (a : Known T H W) → known_as z n me es lo nx ≡ a → z' ≡ z → front ≡ me.0 → me.0.number ≡ n

@@ -175,6 +175,7 @@ module _ {T H W : Type 0} (l : Layout) (traced : Bool) (w : W) (begin : W → �
         semaphores = semaphores-frame k.spec.avail words words' (λ j lo. stay (bit_at (sem_object j))) k.shows.semaphores;
         alerts = alerts-frame k.spec.alerts words words' (λ j lo. stay (alert_at j)) k.shows.alerts;
         conditions = conditions-quiet words words' k.spinner k.queue k.spec.members all n p (told p z e) at k.shows.conditions c f (λ j lo. stay (count_at (cond_object j))) refl refl refl refl none_f (nobody-left c words homes all k low hit) (nobody-counts c words homes all k low hit);
+        lives = k.shows.lives;
       })
       (λ z. alert-seen-frame all n p (told p z e) at words words' k.sizes.few (λ j lo. stay (alert_at j)) refl k.alert_seen)
       (λ z. owes-frame k.queue words words' all n p (told p z e) at (λ j lo. stay (bit_at j)) refl refl refl k.owes)
@@ -191,9 +192,9 @@ module _ {T H W : Type 0} (l : Layout) (traced : Bool) (w : W) (begin : W → �
   pub read_waits_broadcast_keeps : (slots id c : ℕ) (me : Me (Slot T) (View T H W)) (i : ℕ) → i ≡ waits_at (cond_object c) → c < 64 → c < l.conditions → me.0.kind ≡ Member → me.0.part.wait ≡ None → MayTell traced me.0.part.pen
       → Allows (IsKept l traced w begin holds) slots id me i (λ x. x) (read_waits_tells broadcast_action (step slots i 0 0 none) me)
   read_waits_broadcast_keeps slots id c me i word low named kind out may = read_waits_at broadcast_action (λ _. false) slots id c me low kind out may (λ t. refl)
-      (λ words homes all k at. (named, (record { order = k.shows.pendings.pends me.0.number me.0.part at ∙ ap pending_of out; requires_met = tt; when_met = tt; choice_met = tt }, refl))) i word
+      (λ words homes all k at. (named, (record { live = k.shows.lives me.0.number; order = k.shows.pendings.pends me.0.number me.0.part at ∙ ap pending_of out; requires_met = tt; when_met = tt; choice_met = tt }, refl))) i word
 
   pub read_waits_signal_keeps : (slots id c : ℕ) (me : Me (Slot T) (View T H W)) (i : ℕ) → i ≡ waits_at (cond_object c) → c < 64 → c < l.conditions → me.0.kind ≡ Member → me.0.part.wait ≡ None → MayTell traced me.0.part.pen
       → Allows (IsKept l traced w begin holds) slots id me i (λ x. x) (read_waits_tells signal_action (step slots i 0 0 none) me)
   read_waits_signal_keeps slots id c me i word low named kind out may = read_waits_at signal_action (in_set (set_of [])) slots id c me low kind out may (λ t. in_set-of t [])
-      (λ words homes all k at. ((named, λ t is. both_ways (in_set (set_of []) t) is (in_set-of t [])), (record { order = k.shows.pendings.pends me.0.number me.0.part at ∙ ap pending_of out; requires_met = tt; when_met = tt; choice_met = inl (λ t. in_set-of t []) }, refl))) i word
+      (λ words homes all k at. ((named, λ t is. both_ways (in_set (set_of []) t) is (in_set-of t [])), (record { live = k.shows.lives me.0.number; order = k.shows.pendings.pends me.0.number me.0.part at ∙ ap pending_of out; requires_met = tt; when_met = tt; choice_met = inl (λ t. in_set-of t []) }, refl))) i word

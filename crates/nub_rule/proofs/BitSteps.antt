@@ -7,6 +7,7 @@ use native.Mathlib.Decide.{ℕ_discrete}
 use prog.Atomic.{either}
 use lib.ListN.{get_elem?}
 use Rattle.larch_actions.specs.declared.event.Event.{Event}
+use Rattle.larch_actions.specs.declared.event.Version.{Version}
 use Rattle.larch_actions.specs.declared.event.Action.{Action}
 use Rattle.larch_actions.specs.declared.event.Action.TheVariants.{Resume, AlertReturn}
 use Rattle.larch_actions.specs.declared.event.Layout.{Layout}
@@ -86,7 +87,7 @@ module _ {T H W : Type 0} (l : Layout) (traced : Bool) (w : W) (begin : W → �
 
   -- the thread n takes the bit of m, which nobody has, with its value: what is left to show is what was told, what is shown, and the pen
   pub bit_taken : (n m : ℕ) (p q : Part T H) (x : T) (words : List ℕ) (homes : List (Option (Slot T))) (all : List (Part T H)) → get_elem? all n ≡ some p → m < l.mutexes → (c : Core l traced w holds words homes all) → get_or words (bit_at m) 0 ≡ 0 → get_elem? c.values m ≡ some x → HasTaken m x p q
-      → (log : List Event) (spec : Spec) → IsRun log spec → Told l log (set all n q) → Shows (set words (bit_at m) 1) c.spinner c.queue (put c.owner m (some n)) spec (set all n q) → Pens traced (length log) (set words (bit_at m) 1) c.writer (set all n q)
+      → (log : List Event) (spec : Spec) → IsRun l.version log spec → Told l log (set all n q) → Shows (set words (bit_at m) 1) c.spinner c.queue (put c.owner m (some n)) spec (set all n q) → Pens traced (length log) (set words (bit_at m) 1) c.writer (set all n q)
       → Core l traced w holds (tried_words m words) (set homes (value_at m) none) (set all n q)
   bit_taken n m p q x words homes all at inside c hit found t log spec run told' shows pens =
       let r : ℕ = get_or words (bit_at m) 0 in let lawful = c.sizes.lawful in let ws = c.sizes.words_wide in
@@ -142,7 +143,7 @@ module _ {T H W : Type 0} (l : Layout) (traced : Bool) (w : W) (begin : W → �
 
   taking-acquire : (m n : ℕ) (p : Part T H) → p.wait ≡ None → Taking (acquire_event n m) m n p
   taking-acquire m n p out words homes all c at free = let idle : c.spec.pending n ≡ Nothing = c.shows.pendings.pends n p at ∙ ap pending_of out in
-      (c.spec.pending, (record { order = idle; requires_met = tt; when_met = c.shows.holders.free m free; choice_met = tt }, refl), idle, (λ j ne. refl), (λ k ne. ap (λ w. waits_on w k) out), λ c k. ap (λ w. counts_in w c k) out)
+      (c.spec.pending, (record { live = c.shows.lives n; order = idle; requires_met = tt; when_met = c.shows.holders.free m free; choice_met = tt }, refl), idle, (λ j ne. refl), (λ k ne. ap (λ w. waits_on w k) out), λ c k. ap (λ w. counts_in w c k) out)
 
   -- the thread was taken out of the condition
   taking-second : (n : ℕ) (p : Part T H) (x : Wait) → p.wait ≡ Some x → x.member ≡ None → p.stand ≡ None → Taking (event n (taken_action x.mutex.0 (Some x))) x.mutex.0 n p
@@ -157,9 +158,9 @@ module _ {T H W : Type 0} (l : Layout) (traced : Bool) (w : W) (begin : W → �
         f,
         either_way x.alertable
             (λ is. subst (λ (a : Action). Acts c.spec (event n a) (took c.spec m n f)) (sym (ap (λ b. cond b (AlertReturn x.mutex x.cond) (Resume x.mutex x.cond)) is))
-            (record { order = pends ∙ ap (λ b. cond b (AlertWaiting x.mutex x.cond) (Waiting x.mutex x.cond)) is; requires_met = tt; when_met = (c.shows.holders.free m free, out); choice_met = tt }, refl))
+            (record { live = c.shows.lives n; order = pends ∙ ap (λ b. cond b (AlertWaiting x.mutex x.cond) (Waiting x.mutex x.cond)) is; requires_met = tt; when_met = (c.shows.holders.free m free, out); choice_met = tt }, refl))
             (λ is. subst (λ (a : Action). Acts c.spec (event n a) (took c.spec m n f)) (sym (ap (λ b. cond b (AlertReturn x.mutex x.cond) (Resume x.mutex x.cond)) is))
-            (record { order = pends ∙ ap (λ b. cond b (AlertWaiting x.mutex x.cond) (Waiting x.mutex x.cond)) is; requires_met = tt; when_met = (c.shows.holders.free m free, out); choice_met = tt }, refl)),
+            (record { live = c.shows.lives n; order = pends ∙ ap (λ b. cond b (AlertWaiting x.mutex x.cond) (Waiting x.mutex x.cond)) is; requires_met = tt; when_met = (c.shows.holders.free m free, out); choice_met = tt }, refl)),
         put-here c.spec.pending n Nothing,
         (λ j ne. put-else c.spec.pending n j Nothing ne),
         (λ k ne. ap (λ w. waits_on w k) in_wait ∙ ne_eqb x.mutex.0 k (λ e. ne (sym e))),
@@ -201,7 +202,7 @@ module _ {T H W : Type 0} (l : Layout) (traced : Bool) (w : W) (begin : W → �
         let placed : q.places ≡ p.places ++ length c.log ∷ [] = ap (λ (z : List Event). p.places ++ length z ∷ []) (sym seen.1) in
         let take = taking words homes all c at free in
         let spec' = took c.spec m n take.0 in
-        let run = leads-snoc at_first c.log c.spec e spec' c.run take.1 in
+        let run = leads-snoc (at_first l.version) c.log c.spec e spec' c.run take.1 in
         let told' = told-event all n p q at l c.log e by (naming words homes all c at) longer refl placed c.told in
         let words' : List ℕ = set words (bit_at m) 1 in
         let homes' : List (Option (Slot T)) = set homes (value_at m) none in
@@ -219,7 +220,7 @@ module _ {T H W : Type 0} (l : Layout) (traced : Bool) (w : W) (begin : W → �
               seen.0,
               (λ s is. let u = o.shared n p at in let f : Some u.0 ≡ Some s = sym u.1 ∙ is in let g : u.0 ≡ s = cc in law c.values c.shares o.kept m x found.1 n s (u.2 ∙ ap some g)),
               record {
-                legal = (spec', subst (λ (z : List Event). IsRun z spec') (sym longer) run);
+                legal = (spec', subst (λ (v : Version). IsRun v ((p.seen ++ seen.0) ++ e ∷ []) spec') c.sizes.version (subst (λ (z : List Event). IsRun l.version z spec') (sym longer) run));
                 own = ap (by_thread n) longer ∙ (told'.each n q (set_here all n q (at_within all n p at))).own;
                 number = λ k is. numbered-by traced (length c.log) words c.writer all n p q at c.pens k is ∙ ap (λ (z : List Event). length z) seen.1;
               },
@@ -276,8 +277,8 @@ module _ {T H W : Type 0} (l : Layout) (traced : Bool) (w : W) (begin : W → �
         let held : c.spec.holder m ≡ some n = c.shows.holders.holds n p at m own ∙ ap (λ w. cond (waits_on w m) none (some n)) out in
         let idle : c.spec.pending n ≡ Nothing = c.shows.pendings.pends n p at ∙ ap pending_of out in
         let spec' : Spec = record c.spec { holder = put c.spec.holder m none } in
-        let acts : Acts c.spec e spec' = (record { order = idle; requires_met = held; when_met = tt; choice_met = tt }, refl) in
-        let run = leads-snoc at_first c.log c.spec e spec' c.run acts in
+        let acts : Acts c.spec e spec' = (record { live = c.shows.lives n; order = idle; requires_met = held; when_met = tt; choice_met = tt }, refl) in
+        let run = leads-snoc (at_first l.version) c.log c.spec e spec' c.run acts in
         let told' = told-event all n p q at l c.log e refl inside longer refl placed c.told in
         let words' : List ℕ = set words (bit_at m) 0 in
         let line : Slot T = Value (Some y) in
@@ -315,7 +316,7 @@ module _ {T H W : Type 0} (l : Layout) (traced : Bool) (w : W) (begin : W → �
               mine.1,
               seen.0,
               record {
-                legal = (spec', subst (λ (z : List Event). IsRun z spec') (sym longer) run);
+                legal = (spec', subst (λ (v : Version). IsRun v ((p.seen ++ seen.0) ++ e ∷ []) spec') c.sizes.version (subst (λ (z : List Event). IsRun l.version z spec') (sym longer) run));
                 own = ap (by_thread n) longer ∙ (told'.each n q (set_here all n q (at_within all n p at))).own;
                 number = λ k is. numbered-by traced (length c.log) words c.writer all n p q at c.pens k is ∙ ap (λ (z : List Event). length z) seen.1;
               },

@@ -54,6 +54,7 @@ module _ {T H : Type 0} (words words' : List ℕ) (spinner : ℕ → Option ℕ)
     semaphores = semaphores-frame spec.avail words words' ws.sems s.semaphores;
     alerts = alerts-frame spec.alerts words words' ws.alerts s.alerts;
     conditions = c;
+    lives = s.lives;
   }
 
 same-wait : (x y : Wait) → Some x ≡ Some y → x ≡ y

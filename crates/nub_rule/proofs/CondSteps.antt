@@ -6,6 +6,7 @@ use native.Mathlib.Decide.{ℕ_discrete}
 use lib.ListN.{get_elem?}
 use lib.Seq.{set-get_or}
 use Rattle.larch_actions.specs.declared.event.Event.{Event}
+use Rattle.larch_actions.specs.declared.event.Life.TheVariants.{Live}
 use Rattle.larch_actions.specs.declared.event.Action.{Action}
 use Rattle.larch_actions.specs.declared.event.Layout.{Layout}
 use Rattle.larch_actions.specs.declared.event.Pending.TheVariants.{Nothing}
@@ -44,9 +45,9 @@ count-aside c low = record { bits = λ k up z. omega arith; spins = λ k up z. o
 abbrev entered : Spec → ℕ → ℕ → ℕ → Wait → Spec
 entered old n m c w = record old { holder = put old.holder m none; members = put old.members c (put (old.members c) n true); pending = put old.pending n (pending_of (Some w)) }
 
-enters : (alertable : Bool) (n m c k : ℕ) (old : Spec) → old.pending n ≡ Nothing → old.holder m ≡ some n → Acts old (enqueue_event alertable n m c) (entered old n m c (begun_wait alertable m c k))
-enters true n m c k old free held = (record { order = free; requires_met = held; when_met = tt; choice_met = tt }, refl)
-enters false n m c k old free held = (record { order = free; requires_met = held; when_met = tt; choice_met = tt }, refl)
+enters : (alertable : Bool) (n m c k : ℕ) (old : Spec) → old.life n ≡ Live → old.pending n ≡ Nothing → old.holder m ≡ some n → Acts old (enqueue_event alertable n m c) (entered old n m c (begun_wait alertable m c k))
+enters true n m c k old lives free held = (record { live = lives; order = free; requires_met = held; when_met = tt; choice_met = tt }, refl)
+enters false n m c k old lives free held = (record { live = lives; order = free; requires_met = held; when_met = tt; choice_met = tt }, refl)
 
 -- who is behind the first is in the list
 more-behind : (t : ℕ) (xs : List ℕ) → mem t (behind xs) ≡ true → mem t xs ≡ true
@@ -96,6 +97,7 @@ module _ {T H : Type 0} (words words' : List ℕ) (spinner : ℕ → Option ℕ)
     semaphores = semaphores-frame spec.avail words words' ws.sems s.semaphores;
     alerts = alerts-frame spec.alerts words words' ws.alerts s.alerts;
     conditions = conditions-enter words words' spinner queue spec.members all n p q at s.conditions c k w low ws.counts read on_cond stood before ew el eq ec even;
+    lives = s.lives;
   }
 
 module _ {T H W : Type 0} (l : Layout) (traced : Bool) (w : W) (begin : W → ℕ → H) (holds : W → List T → List H → Type 0) where
@@ -118,7 +120,7 @@ module _ {T H W : Type 0} (l : Layout) (traced : Bool) (w : W) (begin : W → �
       let b = begun_wait alertable m c r in
       let done = marks l traced w holds e n i r p (after_load alertable n m c r p) words homes all k (entered k.spec n m c b) at (by_whom alertable n m c) (named_so alertable n m c named) may (count-aside c low)
       (λ z. record { seen = refl; mine = refl; places = refl; held = refl; share = refl; spin = refl; queue = refl; owed = refl; stand = refl; pen = refl })
-      (enters alertable n m c r k.spec free held)
+      (enters alertable n m c r k.spec (k.shows.lives n) free held)
       (λ z. shows-enter words words' k.spinner k.queue k.owner k.spec all n p (after_load alertable n m c r p z) at m c r b low (record { counts = λ j lo. stay (count_at (cond_object j)); sems = λ j lo. stay (bit_at (sem_object j)); alerts = λ j lo. stay (alert_at j) }) refl own refl (λ _. refl) refl refl out refl refl refl refl even k.shows)
       (λ z. alert-seen-frame all n p (after_load alertable n m c r p z) at words words' k.sizes.few (λ j lo. stay (alert_at j)) refl k.alert_seen)
       (λ z. owes-frame k.queue words words' all n p (after_load alertable n m c r p z) at (λ j lo. stay (bit_at j)) refl refl refl k.owes)
@@ -185,6 +187,7 @@ module _ {T H W : Type 0} (l : Layout) (traced : Bool) (w : W) (begin : W → �
         alerts = alerts-frame k.spec.alerts words words' (λ j lo. other words i (alert_at j) v (λ z. omega arith)) k.shows.alerts;
         conditions = conditions-advance words words' k.spinner k.queue k.spec.members all n p (after z) at s c ys f low (λ j lo ne. other words i (count_at (cond_object j)) v (λ z. ne (omega arith))) (get_or-set_same words i v 0 (omega arith) ∙ up)
             spins.0 (only_here k.spinner k.queue k.owed words homes all n p (after z) at k.spins (cond_object c) here) out refl refl refl is less;
+        lives = k.shows.lives;
       })
       (λ z. alert-seen-stays all n p (after z) at words i v k.sizes.few (λ j lo z. omega arith) refl k.alert_seen)
       (λ z. owes-frame k.queue words words' all n p (after z) at (λ j lo. other words i (bit_at j) v (λ z. omega arith)) refl refl refl k.owes)
@@ -207,7 +210,7 @@ module _ {T H W : Type 0} (l : Layout) (traced : Bool) (w : W) (begin : W → �
   pub advance_broadcast_keeps : (slots id c : ℕ) (me : Me (Slot T) (View T H W)) (i : ℕ) → i ≡ count_at (cond_object c) → c < 64 → c < l.conditions → me.0.kind ≡ Member → me.0.part.spin ≡ Some (cond_object c) → me.0.part.wait ≡ None → me.0.part.count < 18446744073709551615 → MayTell traced me.0.part.pen
       → Allows (IsKept l traced w begin holds) slots id me i (λ x. (x + 1) % 2 ^ 64) (advance_tells (λ _. []) broadcast_action (step slots i 1 0 none) me)
   advance_broadcast_keeps slots id c me i word low named kind here out more may = advance_at (λ _. []) broadcast_action (λ _. false) slots id c me low kind here out more may (λ t. refl) (λ t is. refl)
-      (λ words homes all k at. (named, (record { order = k.shows.pendings.pends me.0.number me.0.part at ∙ ap pending_of out; requires_met = tt; when_met = tt; choice_met = tt }, refl))) i word
+      (λ words homes all k at. (named, (record { live = k.shows.lives me.0.number; order = k.shows.pendings.pends me.0.number me.0.part at ∙ ap pending_of out; requires_met = tt; when_met = tt; choice_met = tt }, refl))) i word
 
   pub advance_signal_keeps : (slots id c : ℕ) (me : Me (Slot T) (View T H W)) (i : ℕ) → i ≡ count_at (cond_object c) → c < 64 → c < l.conditions → me.0.kind ≡ Member → me.0.part.spin ≡ Some (cond_object c) → me.0.part.wait ≡ None → me.0.part.left ≡ me.0.part.queue → me.0.part.count < 18446744073709551615 → MayTell traced me.0.part.pen
       → Allows (IsKept l traced w begin holds) slots id me i (λ x. (x + 1) % 2 ^ 64) (advance_tells behind signal_action (step slots i 1 0 none) me)
@@ -223,6 +226,7 @@ module _ {T H W : Type 0} (l : Layout) (traced : Bool) (w : W) (begin : W → �
         (named, people),
         (
           record {
+            live = k.shows.lives n;
             order = k.shows.pendings.pends n p at ∙ ap pending_of out;
             requires_met = tt;
             when_met = tt;

@@ -9,9 +9,12 @@ use Rattle.std.specs.Mem.Slots.Ownership.{Filled}
 use native.Mathlib.Decide.{ℕ_discrete}
 use lib.ListN.{get_elem?}
 use Rattle.larch_actions.specs.declared.event.Layout.{Layout}
+use Rattle.larch_actions.specs.declared.event.Version.{Version}
+use Rattle.larch_actions.specs.declared.event.Version.TheVariants.{One}
 use Rattle.larch_actions.specs.Layout.{IsLawful}
 use Rattle.larch_actions.specs.declared.event.Pending.TheVariants.{Nothing}
-use Rattle.larch_actions.specs.Actions.{at_first}
+use Rattle.larch_actions.specs.Actions.{at_first, lives_at_first, AreOver}
+use Rattle.larch_actions.proofs.Names.{few_in_one}
 use Rattle.atomic_table.specs.Table.{opening, Final, Seen}
 use Rattle.atomic_table.proofs.Lists.{at_map, at_longer}
 use Rattle.nub_rule.specs.declared.rule.Slot.{Slot}
@@ -98,9 +101,9 @@ module _ {T : Type 0} where
       (at_longer (replicate n (Queue no_line)) (map (λ (x : T). Value (Some x)) values) o (Queue no_line) (replicate_there n o (Queue no_line) low))
 
 module _ {T H W : Type 0} (l : Layout) (traced : Bool) (w : W) (begin : W → ℕ → H) (holds : W → List T → List H → Type 0) where
-  pub opens : (ws : List ℕ) (values : List T) → length ws ≡ word_count → ((k : ℕ) → get_or ws k 0 ≡ 0) → length values ≡ l.mutexes → IsLawful l → holds w values (firsts (begin w) l.threads)
+  pub opens : (ws : List ℕ) (values : List T) → length ws ≡ word_count → ((k : ℕ) → get_or ws k 0 ≡ 0) → length values ≡ l.mutexes → IsLawful l → l.version ≡ One → holds w values (firsts (begin w) l.threads)
       → IsKept l traced w begin holds (opening ws (opening_slots values) (opening_view w begin))
-  opens ws values wide_words zeros many lawful first =
+  opens ws values wide_words zeros many lawful one first =
       let all = firsts (λ n. fresh {T = T} (Some (begin w n))) l.threads in
       let wide : length all ≡ l.threads = length-map-range_with_len (λ n. fresh {T = T} (Some (begin w n))) 0 l.threads in
       let none_got : (p : Part T H) → p.held ≡ replicate 64 None → (m : ℕ) (x : T) → Got p m x → ⊥ = λ p e m x g. let z : None ≡ Some x = at_replicate 64 m None (Some x) (ap (λ h. get_elem? h m) (sym e) ∙ g) in none_some x z in
@@ -115,7 +118,7 @@ module _ {T H W : Type 0} (l : Layout) (traced : Bool) (w : W) (begin : W → �
         placed = λ n lo. (opening_view {T = T} w begin, refl, omega arith);
         core = record {
           log = [];
-          spec = at_first;
+          spec = at_first l.version;
           owner = λ _. none;
           spinner = λ _. none;
           writer = none;
@@ -127,7 +130,8 @@ module _ {T H W : Type 0} (l : Layout) (traced : Bool) (w : W) (begin : W → �
             words_wide = wide_words;
             homes_wide = slots_wide 192 values ∙ ap (λ (z : ℕ). 192 + z) many;
             lawful = lawful.mutexes;
-            few = subst (λ (z : ℕ). z ≤ most_threads) (sym wide) lawful.threads;
+            version = one;
+            few = subst (λ (z : ℕ). z ≤ most_threads) (sym wide) (few_in_one l lawful one);
             count = wide;
             parts_wide = each-firsts Wide (λ n. fresh (Some (begin w n))) l.threads (λ i low. length-replicate {A = Opt T} 64 None);
           };
@@ -188,6 +192,7 @@ module _ {T H W : Type 0} (l : Layout) (traced : Bool) (w : W) (begin : W → �
               queued = λ c t is. refl;
               knows = each-firsts (Knows (λ _. none) (λ _. []) (λ _. 0) (λ _ _. false)) (λ n. fresh (Some (begin w n))) l.threads (λ i low. record { counts = λ c. refl; risen = λ c k hi. refl; inside = λ c is. absurd (some-ne-none i (sym is)); even = λ x is. absurd (none_some x is) });
             };
+            lives = λ n. ap (λ v. lives_at_first v n) one;
           };
           pens = record {
             flag = inl (zeros pen_at, refl);
@@ -226,6 +231,7 @@ module _ {T H W : Type 0} (l : Layout) (traced : Bool) (w : W) (begin : W → �
           spec = c.spec;
           shares = c.shares;
           run = c.run;
+          over = subst (λ (v : Version). AreOver v c.spec.life) (sym c.sizes.version) tt;
           nothing_held = λ m. c.shows.holders.free m (free m);
           nothing_begun = λ t. ⊎_elim
               (λ (low : t < length r.all). let p = at_below r.all t low in c.shows.pendings.pends t p.0 p.1 ∙ ap pending_of (rest t p.0 p.1).1)
@@ -288,7 +294,7 @@ module _ {T H : Type 0} where
 
 module _ {T H W : Type 0} where
   -- a thread that was given out fits
-  pub first_fits : (begin : W → ℕ → H) (v : View T H W) (z : TableId) (me : Sat T H W) (n : ℕ) (hand : List ℕ) (kept : List T) (room : ℕ) → me ≡ (member_view begin v, []) → v.next ≡ n → hand ≡ [] → kept ≡ [] → (n ≡ 0 → z.slots ≤ value_at room) → n < 64 → IsThread z n hand me kept room
+  pub first_fits : (begin : W → ℕ → H) (v : View T H W) (z : TableId) (me : Sat T H W) (n : ℕ) (hand : List ℕ) (kept : List T) (room : ℕ) → me ≡ (member_view begin v, []) → v.next ≡ n → hand ≡ [] → kept ≡ [] → (n ≡ 0 → z.slots ≤ value_at room) → n < most_threads → IsThread z n hand me kept room
   first_fits begin v z me n hand kept room is next empty bare roomy few = subst (λ (m : Sat T H W). IsThread z n hand m kept room) (sym is) record {
     member = refl;
     numbered = next;

@@ -80,6 +80,7 @@ module _ {T H : Type 0} (all : List (Part T H)) (n : ℕ) (p q : Part T H) (at :
     words_wide = ew ∙ s.words_wide;
     homes_wide = eh ∙ s.homes_wide;
     lawful = s.lawful;
+    version = s.version;
     few = subst (λ (z : ℕ). z ≤ most_threads) (sym (length-set all n q)) s.few;
     count = length-set all n q ∙ s.count;
     parts_wide = each-set Wide Wide all n q (el ∙ s.parts_wide n p at) (λ k r ne at' c. c) s.parts_wide;
@@ -210,6 +211,7 @@ module _ {T H : Type 0} (all : List (Part T H)) (n : ℕ) (p q : Part T H) (at :
     semaphores = semaphores-frame spec.avail words words' ws.sems s.semaphores;
     alerts = alerts-frame spec.alerts words words' ws.alerts s.alerts;
     conditions = conditions-frame spinner queue spec.members words words' ws.counts ew el eq ec s.conditions;
+    lives = s.lives;
   }
 
   -- ALERT SEEN reads the alert words, and which threads saw their own set

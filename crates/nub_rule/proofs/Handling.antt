@@ -14,7 +14,7 @@ use Rattle.nub_rule.specs.declared.rule.Slot.TheVariants.{Value, Queue}
 use Rattle.nub_rule.specs.declared.view.Part.{Part}
 use Rattle.nub_rule.specs.Items.{line_of}
 use Rattle.nub_rule.specs.Known.{value_in, values_of, Hands}
-use Rattle.nub_rule.specs.Places.{queue_at, value_at}
+use Rattle.nub_rule.specs.Places.{most_threads, queue_at, value_at}
 use Rattle.nub_rule.specs.Slots.{find, IsDistinct, Below}
 use Rattle.nub_rule.proofs.Each.{at_within, same_elements, at_firsts}
 use Rattle.nub_rule.proofs.Standing.{same_object, some_none}
@@ -60,7 +60,7 @@ module _ {T : Type 0} where
 
 module _ {T H : Type 0} (p q : Part T H) (xs ys : List (ℕ × Slot T)) where
   -- nothing of this has changed
-  pub hands-same : ((k : ℕ) → find k ys ≡ find k xs) → q.spin ≡ p.spin → q.queue ≡ p.queue → q.held ≡ p.held → ((o : ℕ) → q.spin ≡ Some o → q.stand ≡ None → length q.queue < 64) → (q.spin ≡ None → q.owed ≡ []) → Hands p xs → Hands q ys
+  pub hands-same : ((k : ℕ) → find k ys ≡ find k xs) → q.spin ≡ p.spin → q.queue ≡ p.queue → q.held ≡ p.held → ((o : ℕ) → q.spin ≡ Some o → q.stand ≡ None → length q.queue < most_threads) → (q.spin ≡ None → q.owed ≡ []) → Hands p xs → Hands q ys
   hands-same f es eq eh room settled h = record {
     below = λ o is. h.below o (sym es ∙ is);
     queue_in = λ o is. f (queue_at o) ∙ (h.queue_in o (sym es ∙ is) ∙ ap (λ (l : List ℕ). Some (Queue (line_of l))) (sym eq));
@@ -72,7 +72,7 @@ module _ {T H : Type 0} (p q : Part T H) (xs ys : List (ℕ × Slot T)) where
   }
 
   -- a spin word was taken, with its queue
-  pub hands-spun : (o : ℕ) (zs : List ℕ) → o < 192 → ys ≡ (queue_at o, Queue (line_of zs)) ∷ xs → p.spin ≡ None → q.spin ≡ Some o → q.queue ≡ zs → q.held ≡ p.held → q.stand ≡ p.stand → (p.stand ≡ None → length zs < 64) → Hands p xs → Hands q ys
+  pub hands-spun : (o : ℕ) (zs : List ℕ) → o < 192 → ys ≡ (queue_at o, Queue (line_of zs)) ∷ xs → p.spin ≡ None → q.spin ≡ Some o → q.queue ≡ zs → q.held ≡ p.held → q.stand ≡ p.stand → (p.stand ≡ None → length zs < most_threads) → Hands p xs → Hands q ys
   hands-spun o zs low is out now eq eh est room h =
       let old : (k : ℕ) → k ≢ o → find k ys ≡ find k xs = λ k ne. ap (find k) is ∙ find-else k (queue_at o, Queue (line_of zs)) xs (λ z. ne (sym z)) in record {
         below = λ k there. let e : o ≡ k = same_object o k (sym now ∙ there) in omega arith;
@@ -81,7 +81,7 @@ module _ {T H : Type 0} (p q : Part T H) (xs ys : List (ℕ × Slot T)) where
         value_got = λ m x g. let u = h.value_got m x (ap (λ l. get_elem? l m) (sym eh) ∙ g) in (u.0, old (value_at m) (λ z. omega arith) ∙ u.1);
         value_lacked = λ m g. old (value_at m) (λ z. omega arith) ∙ h.value_lacked m (ap (λ l. get_elem? l m) (sym eh) ∙ g);
         settled = λ none_now. absurd (some_none q.spin o none_now now);
-        room = λ k there nowhere. subst (λ (l : List ℕ). length l < 64) (sym eq) (room (sym est ∙ nowhere));
+        room = λ k there nowhere. subst (λ (l : List ℕ). length l < most_threads) (sym eq) (room (sym est ∙ nowhere));
       }
 
   -- a spin word was given back, with its queue
@@ -99,7 +99,7 @@ module _ {T H : Type 0} (p q : Part T H) (xs ys : List (ℕ × Slot T)) where
       }
 
   -- the queue at hand has changed
-  pub hands-queue : (o : ℕ) (zs : List ℕ) → o < 192 → find (queue_at o) ys ≡ Some (Queue (line_of zs)) → ((k : ℕ) → k ≢ queue_at o → find k ys ≡ find k xs) → p.spin ≡ Some o → q.spin ≡ p.spin → q.queue ≡ zs → q.held ≡ p.held → (q.stand ≡ None → length zs < 64) → Hands p xs → Hands q ys
+  pub hands-queue : (o : ℕ) (zs : List ℕ) → o < 192 → find (queue_at o) ys ≡ Some (Queue (line_of zs)) → ((k : ℕ) → k ≢ queue_at o → find k ys ≡ find k xs) → p.spin ≡ Some o → q.spin ≡ p.spin → q.queue ≡ zs → q.held ≡ p.held → (q.stand ≡ None → length zs < most_threads) → Hands p xs → Hands q ys
   hands-queue o zs low now f was es eq eh room h = record {
     below = λ k there. h.below k (sym es ∙ there);
     queue_in = λ k there. let e : o ≡ k = same_object o k (sym was ∙ (sym es ∙ there)) in (λ i. find (sym e i) ys) ∙ (now ∙ ap (λ (l : List ℕ). Some (Queue (line_of l))) (sym eq));
@@ -107,7 +107,7 @@ module _ {T H : Type 0} (p q : Part T H) (xs ys : List (ℕ × Slot T)) where
     value_got = λ m x g. let u = h.value_got m x (ap (λ l. get_elem? l m) (sym eh) ∙ g) in (u.0, f (value_at m) (λ z. omega arith) ∙ u.1);
     value_lacked = λ m g. f (value_at m) (λ z. omega arith) ∙ h.value_lacked m (ap (λ l. get_elem? l m) (sym eh) ∙ g);
     settled = λ none_now. absurd (some_none q.spin o none_now (es ∙ was));
-    room = λ k there nowhere. subst (λ (l : List ℕ). length l < 64) (sym eq) (room nowhere);
+    room = λ k there nowhere. subst (λ (l : List ℕ). length l < most_threads) (sym eq) (room nowhere);
   }
 
   -- a mutex was taken, with its value
@@ -141,7 +141,7 @@ module _ {T H : Type 0} (p q : Part T H) (xs ys : List (ℕ × Slot T)) where
             (λ ne. let u = h.value_got k y (sym (before k ne) ∙ got) in (u.0, old (value_at k) (λ z. ne (omega arith)) ∙ u.1));
         value_lacked = λ k got. dite (ℕ_discrete k m) (λ e. (λ i. find (value_at (e i)) (is i)) ∙ g.0) (λ ne. old (value_at k) (λ z. ne (omega arith)) ∙ h.value_lacked k (sym (before k ne) ∙ got));
         settled = λ none_now. eo ∙ h.settled (sym es ∙ none_now);
-        room = λ o there nowhere. subst (λ (l : List ℕ). length l < 64) (sym eq) (h.room o (sym es ∙ there) (sym est ∙ nowhere));
+        room = λ o there nowhere. subst (λ (l : List ℕ). length l < most_threads) (sym eq) (h.room o (sym es ∙ there) (sym est ∙ nowhere));
       }
 
   -- the value in a slot has changed

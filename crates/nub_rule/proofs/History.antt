@@ -6,6 +6,7 @@ use native.Mathlib.Decide.{ℕ_discrete}
 use lib.ListN.{get_elem?}
 use Rattle.atomic_table.proofs.Lists.{set_else, set_here}
 use Rattle.larch_actions.specs.declared.event.Event.{Event}
+use Rattle.larch_actions.specs.declared.event.Version.{Version}
 use Rattle.larch_actions.specs.declared.event.Layout.{Layout}
 use Rattle.larch_actions.specs.Actions.{Spec, Leads, IsRun, StartsWith, at_first, by_thread}
 use Rattle.nub_rule.specs.declared.view.Part.{Part}
@@ -88,11 +89,11 @@ module _ {T H : Type 0} where
       view : (j : ℕ) → j < length views → (r : Part T H) × (get_elem? views j ≡ some r)
       view j low = at_below views j low
 
-pub step-state : (log log' : List Event) (state state' : Spec) (es : List Event) → IsRun log state → IsRun log' state' → log' ≡ log ++ es → Leads state es state'
-step-state log log' state state' es run run' is =
-    let t = leads-split at_first state' log es (subst (λ (l : List Event). Leads at_first l state') is run') in
-    subst (λ (z : Spec). Leads z es state') (leads-one at_first t.0 state log t.1 run) t.2
+pub step-state : (v : Version) (log log' : List Event) (state state' : Spec) (es : List Event) → IsRun v log state → IsRun v log' state' → log' ≡ log ++ es → Leads state es state'
+step-state v log log' state state' es run run' is =
+    let t = leads-split (at_first v) state' log es (subst (λ (l : List Event). Leads (at_first v) l state') is run') in
+    subst (λ (z : Spec). Leads z es state') (leads-one (at_first v) t.0 state log t.1 run) t.2
 
 module _ {T H : Type 0} where
-  pub same-history : (l : Layout) (log log' : List Event) (state state' : Spec) (views : List (Part T H)) → History l log views → History l log' views → IsRun log state → IsRun log' state' → (log' ≡ log) × (state' ≡ state)
-  same-history l log log' state state' views h h' run run' = let e = one-log l log log' views h h' in (e, leads-one at_first state' state log (subst (λ (l : List Event). Leads at_first l state') e run') run)
+  pub same-history : (l : Layout) (log log' : List Event) (state state' : Spec) (views : List (Part T H)) → History l log views → History l log' views → IsRun l.version log state → IsRun l.version log' state' → (log' ≡ log) × (state' ≡ state)
+  same-history l log log' state state' views h h' run run' = let e = one-log l log log' views h h' in (e, leads-one (at_first l.version) state' state log (subst (λ (es : List Event). Leads (at_first l.version) es state') e run') run)

@@ -169,7 +169,7 @@ module _ {T H W : Type 0} (l : Layout) (traced : Bool) (w : W) (holds : W → Li
       (λ n e. let v = spins-at o n e in inl (n, v.0, v.1, (v.2, has n v.0 v.1 e)))
 
   out-of-all : (d n : ℕ) → length all ≤ n → c.spec.members d n ≡ false
-  out-of-all = strangers-out (length all) at_first c.spec c.log c.run c.told.people (λ _ _ _. refl)
+  out-of-all = strangers-out (length all) (at_first l.version) c.spec c.log c.run c.told.people (λ _ _ _. refl)
 
   members : (d n : ℕ) → d < 64 → (c.spec.members d n ≡ true) ↔ ((mem n (c.shows.conditions.left d) ≡ true) ⊎ ((p : Part T H) × (get_elem? all n ≡ some p) × (counts_in p.wait d (get_or words (count_at (cond_object d)) 0) ≡ true)))
   members d n low =

@@ -3,6 +3,7 @@ use Rattle.std.proofs.Common.{Bool, ◌≡◌, ◌≢◌, ℕ, ◌+◌, ◌<◌,
 use mathlib.Core.Option.{Option, some}
 use lib.ListN.{get_elem?}
 use Rattle.larch_actions.specs.declared.event.Event.{Event}
+use Rattle.larch_actions.specs.declared.event.Version.{Version}
 use Rattle.larch_actions.specs.declared.event.Layout.{Layout}
 use Rattle.larch_actions.specs.Actions.{Spec, at_first, Acts, IsRun, by_thread}
 use Rattle.larch_actions.specs.Layout.{IsNamed}
@@ -62,7 +63,7 @@ module _ {T H W : Type 0} (l : Layout) (traced : Bool) (w : W) (holds : W → Li
       let t = tells z in
       let longer : q.seen ≡ c.log ++ e ∷ [] = t.seen ∙ ap (λ (y : List Event). y ++ e ∷ []) (sym seen.1) in
       let placed : q.places ≡ p.places ++ length c.log ∷ [] = t.places ∙ ap (λ (y : List Event). p.places ++ length y ∷ []) (sym seen.1) in
-      let run = leads-snoc at_first c.log c.spec e spec' c.run acts in
+      let run = leads-snoc (at_first l.version) c.log c.spec e spec' c.run acts in
       let told' = told-event all n p q at l c.log e by named longer t.mine placed c.told in
       let words' : List ℕ = set words i x in
       let more : length (c.log ++ e ∷ []) ≡ length c.log + 1 = length-append c.log (e ∷ []) in
@@ -93,7 +94,7 @@ module _ {T H W : Type 0} (l : Layout) (traced : Bool) (w : W) (holds : W → Li
         (
           seen.0,
           record {
-            legal = (spec', subst (λ (y : List Event). IsRun y spec') (sym longer ∙ t.seen) run);
+            legal = (spec', subst (λ (v : Version). IsRun v ((p.seen ++ seen.0) ++ e ∷ []) spec') c.sizes.version (subst (λ (y : List Event). IsRun l.version y spec') (sym longer ∙ t.seen) run));
             own = ap (by_thread n) (sym t.seen ∙ longer) ∙ ((told'.each n q (set_here all n q (at_within all n p at))).own ∙ t.mine);
             number = λ k is. numbered-by traced (length c.log) words c.writer all n p q at c.pens k is ∙ ap (λ (y : List Event). length y) seen.1;
           },

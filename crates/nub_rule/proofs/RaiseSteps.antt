@@ -53,13 +53,14 @@ module _ {T H W : Type 0} (l : Layout) (traced : Bool) (w : W) (begin : W → �
       let unqueued : mem n (k.queue (cond_object c)) ≡ false = not_true (mem n (k.queue (cond_object c))) (λ is. stand_none p.stand (cond_object c) apart ((k.lines.stands n p at).lined (cond_object c) (mem-behind n (k.owed (cond_object c)) (k.queue (cond_object c)) is)).0) in
       let done = marks l traced w holds e n i 0 p (raised n x p) words homes all k (acted n k.spec e.action) at refl named may (alert-aside n low)
       (λ z. record { seen = refl; mine = refl; places = refl; held = refl; share = refl; spin = refl; queue = refl; owed = refl; stand = refl; pen = refl })
-      (record { order = begun; requires_met = tt; when_met = (nobody, alerted); choice_met = tt }, refl)
+      (record { live = k.shows.lives n; order = begun; requires_met = tt; when_met = (nobody, alerted); choice_met = tt }, refl)
       (λ z. record {
         holders = holders-take words words' k.spinner k.queue k.owner all n p (raised n x p z) at k.owner k.spec.holder m own (λ j ne. refl) refl (λ j ne. ap (λ v. waits_on v j) before ∙ ne_eqb m j (λ f. ne (sym f))) k.shows.holders;
         pendings = pendings-put words words' k.spinner k.queue k.owner all n p (raised n x p z) at k.spec.pending (put k.spec.pending n Nothing) (put-here k.spec.pending n Nothing) (λ j ne. put-else k.spec.pending n j Nothing ne) k.shows.pendings;
         semaphores = semaphores-frame k.spec.avail words words' (λ j lo. other words i (bit_at (sem_object j)) 0 (λ f. omega arith)) k.shows.semaphores;
         alerts = alerts-set words words' k.spec.alerts n false (λ j lo ne. other words i (alert_at j) 0 (λ f. ne (omega arith))) (inl (zero_now, refl)) k.shows.alerts;
         conditions = conditions-out words words' k.spinner k.queue k.spec.members all n p (raised n x p z) at k.shows.conditions c x (λ j lo. other words i (count_at (cond_object j)) 0 (λ f. omega arith)) before refl refl refl refl unqueued;
+        lives = k.shows.lives;
       })
       (λ z. alert-seen-clear words 0 all n p (raised n x p z) at refl k.alert_seen)
       (λ z. owes-frame k.queue words words' all n p (raised n x p z) at (λ j lo. other words i (bit_at j) 0 (λ f. omega arith)) refl refl refl k.owes)

@@ -37,7 +37,7 @@ inside_of None xs t h there = absurd (false_true (sym (ap (mem t) (h refl)) ∙ 
 inside_of (Some k) xs t h there = (k, refl)
 
 module _ {T H W : Type 0} (l : Layout) (traced : Bool) (w : W) (begin : W → ℕ → H) (holds : W → List T → List H → Type 0) where
-  set_ready_at : (slots id t : ℕ) (me : Me (Slot T) (View T H W)) → t < 64 → me.0.kind ≡ Member → (me.0.part.spin ≡ None → me.0.part.owed ≡ []) → ((o : ℕ) → me.0.part.spin ≡ Some o → o < 192) → mem t me.0.part.owed ≡ true
+  set_ready_at : (slots id t : ℕ) (me : Me (Slot T) (View T H W)) → t < most_threads → me.0.kind ≡ Member → (me.0.part.spin ≡ None → me.0.part.owed ≡ []) → ((o : ℕ) → me.0.part.spin ≡ Some o → o < 192) → mem t me.0.part.owed ≡ true
       → Allows (IsKept l traced w begin holds) slots id me (ready_at t) (λ _. 1) (set_ready_tells (step slots (ready_at t) 1 0 none) me)
   set_ready_at slots id t me low kind settled inside there = let v = me.0 in let n = v.number in let p = v.part in let q : Part T H = record p { owed = without t p.owed } in
       let spins = inside_of p.spin p.owed t settled there in let o = spins.0 in let here = spins.1 in let below = inside o here in
@@ -108,7 +108,7 @@ module _ {T H W : Type 0} (l : Layout) (traced : Bool) (w : W) (begin : W → �
       (λ (one : get_or words i 0 ≡ 1). (record p { stand = staged Found p.stand }, keeps, tt, restages n i p s Found words homes all at stood c (λ _. one) (λ u _. absurd (tested-not s.stage tested u)) (λ f. absurd f), inr (one, refl, refl)))
       (c.lines.stands n p at).flag)
 
-  clear_ready_at : (slots id : ℕ) (me : Me (Slot T) (View T H W)) (s : Stand) → me.0.number < 64 → me.0.kind ≡ Member → me.0.part.stand ≡ Some s → IsFound s.stage → Allows (IsKept l traced w begin holds) slots id me (ready_at me.0.number) (λ _. 0) (clear_ready_tells (step slots (ready_at me.0.number) 0 0 none) me)
+  clear_ready_at : (slots id : ℕ) (me : Me (Slot T) (View T H W)) (s : Stand) → me.0.number < most_threads → me.0.kind ≡ Member → me.0.part.stand ≡ Some s → IsFound s.stage → Allows (IsKept l traced w begin holds) slots id me (ready_at me.0.number) (λ _. 0) (clear_ready_tells (step slots (ready_at me.0.number) 0 0 none) me)
   clear_ready_at slots id me s low kind stood found = let v = me.0 in let n = v.number in let p = v.part in let i = ready_at n in let q : Part T H = record p { stand = None; turns = turned p.stand p.turns } in
       member_steps l traced w begin holds slots id i (λ _. 0) v me.1 (λ r x ds. (r ≡ 1) × (x ≡ q) × (ds ≡ me.1)) (clear_ready_tells (step slots i 0 0 none) me) kind
       (λ r x ds world t. (t.0, λ j. (with_part v (t.1 j), t.2 j)))

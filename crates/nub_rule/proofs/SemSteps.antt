@@ -6,6 +6,7 @@ use native.Mathlib.Decide.{ℕ_discrete}
 use prog.Atomic.{either}
 use lib.ListN.{get_elem?}
 use Rattle.larch_actions.specs.declared.event.Event.{Event}
+use Rattle.larch_actions.specs.declared.event.Life.TheVariants.{Live}
 use Rattle.larch_actions.specs.declared.event.Action.{Action}
 use Rattle.larch_actions.specs.declared.event.Action.TheVariants.{P, AlertPReturn}
 use Rattle.larch_actions.specs.declared.event.Layout.{Layout}
@@ -56,9 +57,9 @@ pub by-plain : (n s : ℕ) (e : Event) → MayTakeSem n s e → ((x : SemId) →
 by-plain n s e may not = ⊎_elim (λ (u : e ≡ p_event n s). u) (λ (u : e ≡ alert_p_event n s). absurd (not record { 0 = s } (ap (λ (d : Event). d.action) u))) may
 
 -- the row of a P, whether an alert may end it or not
-p-acts : (alertable : Bool) (n s : ℕ) (old : Spec) → old.pending n ≡ Nothing → old.avail s ≡ true → Acts old (event n (p_action alertable s)) (record old { avail = put old.avail s false })
-p-acts true n s old idle free = (record { order = idle; requires_met = tt; when_met = free; choice_met = tt }, refl)
-p-acts false n s old idle free = (record { order = idle; requires_met = tt; when_met = free; choice_met = tt }, refl)
+p-acts : (alertable : Bool) (n s : ℕ) (old : Spec) → old.life n ≡ Live → old.pending n ≡ Nothing → old.avail s ≡ true → Acts old (event n (p_action alertable s)) (record old { avail = put old.avail s false })
+p-acts true n s old lives idle free = (record { live = lives; order = idle; requires_met = tt; when_met = free; choice_met = tt }, refl)
+p-acts false n s old lives idle free = (record { live = lives; order = idle; requires_met = tt; when_met = free; choice_met = tt }, refl)
 
 module _ {T H W : Type 0} (l : Layout) (traced : Bool) (w : W) (begin : W → ℕ → H) (holds : W → List T → List H → Type 0) where
   -- an event by which the bit of the semaphore s becomes x
@@ -95,7 +96,7 @@ module _ {T H W : Type 0} (l : Layout) (traced : Bool) (w : W) (begin : W → �
       (λ hit.
       let free = zero-shows r (c.spec.avail s) (c.shows.semaphores s low) hit in
       let idle : c.spec.pending n ≡ Nothing = c.shows.pendings.pends n p at ∙ ap pending_of out in
-      let m = sem-marks e n s 1 false p (without o p.failed) (without o p.turns) p.cleared words homes all c at low refl (p-named alertable s named) may (p-acts alertable n s c.spec idle free) (inr (refl, refl))
+      let m = sem-marks e n s 1 false p (without o p.failed) (without o p.turns) p.cleared words homes all c at low refl (p-named alertable s named) may (p-acts alertable n s c.spec (c.shows.lives n) idle free) (inr (refl, refl))
       (λ q es et ec. owes-try c.queue words (set words (bit_at o) 1) all n p q at o (λ k lo ne. other words (bit_at o) (bit_at k) 1 (λ z. ne (omega arith))) (λ z. let y = get_or-set_same words (bit_at o) 1 0 (omega arith) in omega arith) es ec et c.owes) in
       (m.0, keeps, tt, subst (λ b. Core l traced w holds (set words (bit_at o) (either b 1 r)) homes (set all n m.0)) (sym (eq-eqb r 0 hit)) m.1, inl (hit, m.2, refl)))
       (λ miss. let q : Part T H = record p { failed = o ∷ p.failed; turns = without o p.turns } in (
@@ -125,7 +126,7 @@ module _ {T H W : Type 0} (l : Layout) (traced : Bool) (w : W) (begin : W → �
       (t.0, t.1.0, t.1.1, λ i. (with_part v (t.1.2 i), t.2 i)))
       (λ words homes all c at small.
       let idle : c.spec.pending n ≡ Nothing = c.shows.pendings.pends n p at ∙ ap pending_of out in
-      let m = sem-marks e n s 0 true p p.failed p.turns (o ∷ p.cleared) words homes all c at low refl named may (record { order = idle; requires_met = tt; when_met = tt; choice_met = tt }, refl) (inl (refl, refl))
+      let m = sem-marks e n s 0 true p p.failed p.turns (o ∷ p.cleared) words homes all c at low refl named may (record { live = c.shows.lives n; order = idle; requires_met = tt; when_met = tt; choice_met = tt }, refl) (inl (refl, refl))
       (λ q es et ec. owes-clear c.queue words (set words (bit_at o) 0) all n p q at o (λ k lo ne. other words (bit_at o) (bit_at k) 0 (λ z. ne (omega arith))) apart es ec et c.owes) in
       (m.0, keeps, tt, m.1, (says-flag (get_or words (bit_at o) 0) (cond (c.spec.avail s) false true) (c.shows.semaphores s low), m.2, refl)))
 

@@ -177,6 +177,7 @@ module _ {T H : Type 0} (words words' : List ℕ) (ws : SameShown words words') 
     semaphores = semaphores-frame spec.avail words words' ws.sems s.semaphores;
     alerts = alerts-frame spec.alerts words words' ws.alerts s.alerts;
     conditions = c;
+    lives = s.lives;
   }
 
   pub shows-spin : (o : ℕ) → q.wait ≡ p.wait → q.left ≡ queue o → q.queue ≡ queue o → spinner o ≡ none → ((k : ℕ) → spinner k ≡ some n → ⊥)
@@ -201,6 +202,7 @@ module _ {T H : Type 0} (words words' : List ℕ) (ws : SameShown words words') 
     semaphores = semaphores-frame spec.avail words words' ws.sems s.semaphores;
     alerts = alerts-frame spec.alerts words words' ws.alerts s.alerts;
     conditions = conditions-back words words' spinner queue owner all n p q at spec.members ws.counts ew el ec out s.conditions;
+    lives = s.lives;
   }
 
   -- the thread n gives the mutex m back
@@ -212,6 +214,7 @@ module _ {T H : Type 0} (words words' : List ℕ) (ws : SameShown words words') 
     semaphores = semaphores-frame spec.avail words words' ws.sems s.semaphores;
     alerts = alerts-frame spec.alerts words words' ws.alerts s.alerts;
     conditions = conditions-frame all n p q at spinner queue spec.members words words' ws.counts ew el eq ec s.conditions;
+    lives = s.lives;
   }
 
 module _ {T H : Type 0} (words words' : List ℕ) (spinner : ℕ → Option ℕ) (queue : ℕ → List ℕ) (owner : ℕ → Option ℕ) (spec : Spec) (all : List (Part T H)) (n : ℕ) (p q : Part T H) (at : get_elem? all n ≡ some p) where
@@ -224,6 +227,7 @@ module _ {T H : Type 0} (words words' : List ℕ) (spinner : ℕ → Option ℕ)
     semaphores = semaphores-set words words' spec.avail s b ss now h.semaphores;
     alerts = alerts-frame spec.alerts words words' al h.alerts;
     conditions = conditions-frame all n p q at spinner queue spec.members words words' cs ew el eq ec h.conditions;
+    lives = h.lives;
   }
 
   -- the alert word of the thread t is set or cleared
@@ -235,4 +239,5 @@ module _ {T H : Type 0} (words words' : List ℕ) (spinner : ℕ → Option ℕ)
     semaphores = semaphores-frame spec.avail words words' ss h.semaphores;
     alerts = alerts-set words words' spec.alerts t b as' now h.alerts;
     conditions = conditions-frame all n p q at spinner queue spec.members words words' cs ew el eq ec h.conditions;
+    lives = h.lives;
   }

@@ -16,7 +16,7 @@ use Rattle.nub_rule.specs.declared.view.View.{View}
 use Rattle.nub_rule.specs.declared.view.Kind.TheVariants.{Member}
 use Rattle.nub_rule.specs.Items.{Small, line_of, Marks, Core}
 use Rattle.nub_rule.specs.Parts.{stands_at}
-use Rattle.nub_rule.specs.Places.{bit_at, spin_at, queue_at, value_at}
+use Rattle.nub_rule.specs.Places.{most_threads, bit_at, spin_at, queue_at, value_at}
 use Rattle.nub_rule.specs.Plays.{with_part, take_spin_tells, give_spin_tells}
 use Rattle.nub_rule.specs.Rule.{IsKept}
 use Rattle.nub_rule.proofs.Each.{at_within}
@@ -39,7 +39,7 @@ one-by x n owner m own = ⊎_elim (λ (t : (x ≡ 0) × (owner ≡ none)). absur
 module _ {T H W : Type 0} (l : Layout) (traced : Bool) (w : W) (begin : W → ℕ → H) (holds : W → List T → List H → Type 0) where
   -- the winner of a spin word learns the queue
   abbrev Spun : ℕ → ℕ → Part T H → List (ℕ × Slot T) → Part T H → List (ℕ × Slot T) → Type 0
-  Spun n o p cs q ds = (xs : List ℕ) × (k : ℕ) × (p.stand ≡ None → length xs < 64) × Small 64 xs × (mem n xs ≡ true → stands_at p.stand o ≡ true) × (q ≡ record p { spin = Some o; queue = xs; owed = []; left = xs; count = k; failed = without o p.failed }) × (ds ≡ (queue_at o, Queue (line_of xs)) ∷ cs)
+  Spun n o p cs q ds = (xs : List ℕ) × (k : ℕ) × (p.stand ≡ None → length xs < most_threads) × Small most_threads xs × (mem n xs ≡ true → stands_at p.stand o ≡ true) × (q ≡ record p { spin = Some o; queue = xs; owed = []; left = xs; count = k; failed = without o p.failed }) × (ds ≡ (queue_at o, Queue (line_of xs)) ∷ cs)
 
   spins_at : (n o : ℕ) (p : Part T H) (cs : List (ℕ × Slot T)) → o < 192 → p.spin ≡ None
       → Steps l traced w begin holds n (spin_at o) (λ x. either (eqb x 0) 1 x) p cs (λ r q ds. ((r ≡ 0) × Spun n o p cs q ds) ⊎ ((r ≡ 1) × (q ≡ p) × (ds ≡ cs)))
@@ -73,7 +73,7 @@ module _ {T H W : Type 0} (l : Layout) (traced : Bool) (w : W) (begin : W → �
             xs,
             c.shows.conditions.count (o - 128),
             (λ out. let room = room_to_push (length all) n xs (distinct-behind (c.owed o) xs (lines.distinct o)) (λ t is. lines.people o t (inside t is)) (at_within all n p at) (not_true (mem n xs) (λ is. stand_none p.stand o out (there is))) in omega arith),
-            small_of 64 xs (λ t is. let a = lines.people o t (inside t is) in omega arith),
+            small_of most_threads xs (λ t is. let a = lines.people o t (inside t is) in omega arith),
             there,
             refl,
             refl,

@@ -11,7 +11,7 @@ use Rattle.nub_rule.specs.declared.view.Part.{Part}
 use Rattle.nub_rule.specs.declared.view.Stand.{Stand}
 use Rattle.nub_rule.specs.Items.{Distinct, Stands, Lines}
 use Rattle.nub_rule.specs.Parts.{stands_at, IsFound}
-use Rattle.nub_rule.specs.Places.{ready_at}
+use Rattle.nub_rule.specs.Places.{most_threads, ready_at}
 use Rattle.nub_rule.specs.Plays.{less}
 use Rattle.nub_rule.proofs.Each.{at_within, each-set}
 use Rattle.nub_rule.proofs.Frames.{SameReady}
@@ -123,9 +123,9 @@ module _ {T H : Type 0} (line line' : ℕ → List ℕ) (words words' : List ℕ
     found = λ st is f. z ∙ s.found st (sym e ∙ is) f;
   }
 
-  module _ (all : List (Part T H)) (n : ℕ) (p q : Part T H) (at : get_elem? all n ≡ some p) (few : length all ≤ 64) where
+  module _ (all : List (Part T H)) (n : ℕ) (p q : Part T H) (at : get_elem? all n ≡ some p) (few : length all ≤ most_threads) where
     -- only the thread n's own stand, place and ready word change
-    pub lines-moved : ((k : ℕ) → k < 64 → k ≢ n → get_or words' (ready_at k) 0 ≡ get_or words (ready_at k) 0) → ((k o : ℕ) → k ≢ n → mem k (line' o) ≡ mem k (line o)) → ((o : ℕ) → Distinct (line' o)) → Stands words' line' n q → Lines line words all → Lines line' words' (set all n q)
+    pub lines-moved : ((k : ℕ) → k < most_threads → k ≢ n → get_or words' (ready_at k) 0 ≡ get_or words (ready_at k) 0) → ((k o : ℕ) → k ≢ n → mem k (line' o) ≡ mem k (line o)) → ((o : ℕ) → Distinct (line' o)) → Stands words' line' n q → Lines line words all → Lines line' words' (set all n q)
     lines-moved ws em distinct own h = record {
       distinct = distinct;
       people = λ o t there. subst (λ (z : ℕ). t < z) (sym (length-set all n q)) (dite (ℕ_discrete t n) (λ e. subst (λ (z : ℕ). z < length all) (sym e) (at_within all n p at)) (λ ne. h.people o t (sym (em t o ne) ∙ there)));
@@ -143,7 +143,7 @@ module _ {T H : Type 0} (line line' : ℕ → List ℕ) (words words' : List ℕ
     pub lines-push : (o : ℕ) (s : Stand) → SameReady words words' → line' o ≡ line o ++ n ∷ [] → ((k : ℕ) → k ≢ o → line' k ≡ line k) → p.stand ≡ None → q.stand ≡ Some s → s.at ≡ o → (IsFound s.stage → ⊥) → Lines line words all → Lines line' words' (set all n q)
     lines-push o s ws is elsewhere out now there fresh h =
         let gone = nowhere out h in
-        let low : n < 64 = (let z = at_within all n p at in omega arith) in
+        let low : n < most_threads = (let z = at_within all n p at in omega arith) in
         let zero : get_or words' (ready_at n) 0 ≡ 0 = ws n low ∙ gone.1 in
         let same_stand : (st : Stand) → q.stand ≡ Some st → s ≡ st = λ st e. (let z : Some s ≡ Some st = sym now ∙ e in cc) in
         lines-moved (λ k lo ne. ws k lo)
@@ -160,7 +160,7 @@ module _ {T H : Type 0} (line line' : ℕ → List ℕ) (words words' : List ℕ
     -- the thread n leaves the line of o, in which it was
     pub lines-leave : (o : ℕ) → SameReady words words' → line' o ≡ without n (line o) → ((k : ℕ) → k ≢ o → line' k ≡ line k) → mem n (line o) ≡ true → q.stand ≡ None → Lines line words all → Lines line' words' (set all n q)
     lines-leave o ws is elsewhere there now h =
-        let low : n < 64 = (let z = at_within all n p at in omega arith) in
+        let low : n < most_threads = (let z = at_within all n p at in omega arith) in
         let old = (h.stands n p at).lined o there in
         let zero : get_or words' (ready_at n) 0 ≡ 0 = ws n low ∙ old.1 in
         lines-moved (λ k lo ne. ws k lo)
@@ -177,7 +177,7 @@ module _ {T H : Type 0} (line line' : ℕ → List ℕ) (words words' : List ℕ
         } h
 
     -- the thread n, which is ready, clears its ready word
-    pub lines-unready : ((k : ℕ) → k < 64 → k ≢ n → get_or words' (ready_at k) 0 ≡ get_or words (ready_at k) 0) → ((o : ℕ) → line' o ≡ line o) → get_or words (ready_at n) 0 ≡ 1 → get_or words' (ready_at n) 0 ≡ 0 → q.stand ≡ None → Lines line words all → Lines line' words' (set all n q)
+    pub lines-unready : ((k : ℕ) → k < most_threads → k ≢ n → get_or words' (ready_at k) 0 ≡ get_or words (ready_at k) 0) → ((o : ℕ) → line' o ≡ line o) → get_or words (ready_at n) 0 ≡ 1 → get_or words' (ready_at n) 0 ≡ 0 → q.stand ≡ None → Lines line words all → Lines line' words' (set all n q)
     lines-unready ws el one zero now h = lines-moved ws (λ k i ne. ap (mem k) (el i)) (λ i. subst Distinct (sym (el i)) (h.distinct i))
         record {
           flag = inl zero;
@@ -190,7 +190,7 @@ module _ {T H : Type 0} (line line' : ℕ → List ℕ) (words words' : List ℕ
     -- the thread n stands where it stood, at another stage
     pub lines-stage : (s r : Stand) → SameReady words words' → ((o : ℕ) → line' o ≡ line o) → p.stand ≡ Some s → q.stand ≡ Some r → r.at ≡ s.at → (IsFound r.stage → get_or words (ready_at n) 0 ≡ 1) → Lines line words all → Lines line' words' (set all n q)
     lines-stage s r ws el was now there found h =
-        let low : n < 64 = (let z = at_within all n p at in omega arith) in
+        let low : n < most_threads = (let z = at_within all n p at in omega arith) in
         let z = ws n low in
         let t = h.stands n p at in
         let same_stand : (st : Stand) → q.stand ≡ Some st → r ≡ st = λ st e. (let y : Some r ≡ Some st = sym now ∙ e in cc) in
@@ -209,7 +209,7 @@ module _ {T H : Type 0} (line line' : ℕ → List ℕ) (words words' : List ℕ
         (stands-same n p q same (λ i. ap (mem n) (el i)) (ws n (let z = at_within all n p at in omega arith)) (h.stands n p at)) h
 
     -- the thread t leaves the line of o and is made ready
-    pub lines-ready : (t o : ℕ) → ((k : ℕ) → k < 64 → k ≢ t → get_or words' (ready_at k) 0 ≡ get_or words (ready_at k) 0) → get_or words' (ready_at t) 0 ≡ 1 → line' o ≡ without t (line o) → ((k : ℕ) → k ≢ o → line' k ≡ line k) → mem t (line o) ≡ true → q.stand ≡ p.stand
+    pub lines-ready : (t o : ℕ) → ((k : ℕ) → k < most_threads → k ≢ t → get_or words' (ready_at k) 0 ≡ get_or words (ready_at k) 0) → get_or words' (ready_at t) 0 ≡ 1 → line' o ≡ without t (line o) → ((k : ℕ) → k ≢ o → line' k ≡ line k) → mem t (line o) ≡ true → q.stand ≡ p.stand
         → Lines line words all → Lines line' words' (set all n q)
     lines-ready t o ws one is elsewhere there same h =
         let fewer : (k i : ℕ) → k ≢ t → mem k (line' i) ≡ mem k (line i) = λ k i ne. dite (ℕ_discrete i o) (λ e. (λ j. mem k (line' (e j))) ∙ (ap (mem k) is ∙ (mem-without k t (line o) ne ∙ λ j. mem k (line (sym e j))))) (λ other. ap (mem k) (elsewhere i other)) in

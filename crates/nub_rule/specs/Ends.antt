@@ -6,7 +6,7 @@ use lib.ListN.{get_elem?}
 use Rattle.larch_actions.specs.declared.event.Event.{Event}
 use Rattle.larch_actions.specs.declared.event.Layout.{Layout}
 use Rattle.larch_actions.specs.declared.event.Pending.TheVariants.{Nothing}
-use Rattle.larch_actions.specs.Actions.{Spec, IsRun}
+use Rattle.larch_actions.specs.Actions.{Spec, IsRun, AreOver}
 use Rattle.atomic_table.specs.Seated.{TableId}
 use Rattle.nub_rule.specs.declared.rule.Slot.{Slot}
 use Rattle.nub_rule.specs.declared.rule.Slot.TheVariants.{Value, Queue}
@@ -31,7 +31,8 @@ module _ {T H : Type 0} where
     pub log : List Event
     pub spec : Spec
     pub shares : List H
-    pub run : IsRun log spec
+    pub run : IsRun l.version log spec
+    pub over : AreOver l.version spec.life
     pub nothing_held : (m : ℕ) → spec.holder m ≡ none
     pub nothing_begun : (t : ℕ) → spec.pending t ≡ Nothing
     pub history : Told l log parts

@@ -4,8 +4,10 @@ use mathlib.Core.Option.{Option, none, some}
 use lib.ListN.{get_elem?}
 use Rattle.larch_actions.specs.declared.event.Layout.{Layout}
 use Rattle.larch_actions.specs.declared.event.Event.{Event}
+use Rattle.larch_actions.specs.declared.event.Life.TheVariants.{Live}
 use Rattle.larch_actions.specs.declared.event.Pending.{Pending}
 use Rattle.larch_actions.specs.declared.event.Pending.TheVariants.{Nothing}
+use Rattle.larch_actions.specs.declared.event.Version.TheVariants.{One}
 use Rattle.larch_actions.specs.Actions.{Spec, IsRun, StartsWith, by_thread}
 use Rattle.larch_actions.specs.Layout.{IsNamed}
 use Rattle.larch_actions.specs.Sets.{mem}
@@ -187,6 +189,8 @@ module _ {T H : Type 0} where
     pub semaphores : Semaphores words spec.avail
     pub alerts : Alerts words spec.alerts
     pub conditions : Conditions words spinner queue spec.members all
+    -- every thread lives, from the opening on
+    pub lives : (n : ℕ) → spec.life n ≡ Live
 
   -- NUMBERING: one thread at most has the pen. In a traced package the number word is the number of events while the pen is free. In an untraced one nobody has it
   pub record Pens (traced : Bool) (total : ℕ) (words : List ℕ) (writer : Option ℕ) (all : List (Part T H)) : Type 0 where
@@ -201,6 +205,7 @@ module _ {T H : Type 0} where
     pub words_wide : length words ≡ word_count
     pub homes_wide : length homes ≡ 192 + l.mutexes
     pub lawful : l.mutexes ≤ 64
+    pub version : l.version ≡ One
     pub few : length all ≤ most_threads
     pub count : length all ≡ l.threads
     pub parts_wide : Each Wide all
@@ -218,7 +223,7 @@ module _ {T H : Type 0} where
     pub values : List T
     pub shares : List H
     pub sizes : Sizes l words homes all
-    pub run : IsRun log spec
+    pub run : IsRun l.version log spec
     pub told : Told l log all
     pub owned : Owned l (holds w) owner values shares words homes all
     pub spins : Spins spinner queue owed words homes all

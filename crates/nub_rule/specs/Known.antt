@@ -5,6 +5,7 @@ use mathlib.Core.Option.{some}
 use lib.ListN.{get_elem?}
 use Rattle.larch_actions.specs.declared.event.Event.{Event}
 use Rattle.larch_actions.specs.declared.event.Layout.{Layout}
+use Rattle.larch_actions.specs.declared.event.Version.TheVariants.{One}
 use Rattle.larch_actions.specs.Layout.{IsLawful}
 use Rattle.atomic_table.specs.Table.{Me}
 use Rattle.atomic_table.specs.Seated.{TableId}
@@ -266,6 +267,7 @@ pub record IsPackage {W : Type 0} (z : TableId) (key : About W) (layout : Layout
   pub words : z.words ≡ word_count
   pub slots : z.slots ≡ value_at layout.mutexes
   pub lawful : IsLawful layout
+  pub version : layout.version ≡ One
   pub bare : shelf ≡ []
   pub roomy : layout.threads ≤ room
   pub woken : unparkers ≡ layout.threads

@@ -211,7 +211,7 @@ module _ {T H : Type 0} where
     pub values : List T
     pub shares : List H
     pub history : History l log views
-    pub run : IsRun log state
+    pub run : IsRun l.version log state
     pub meaning : Meaning words homes views queue left state
     pub mutex_bits : MutexBits l.mutexes words views state
     pub spin_words : SpinWords words homes views queue

@@ -5,6 +5,7 @@ use lib.ListN.{get_elem?}
 use Rattle.larch_actions.specs.declared.event.Event.{Event}
 use Rattle.larch_actions.specs.declared.event.Action.{Action}
 use Rattle.larch_actions.specs.declared.event.Action.TheVariants.{Acquire, Release, Enqueue, AlertEnqueue, Resume, AlertReturn, AlertRaise, Signal, Broadcast, P, V, Alert, TestAlert, AlertPReturn, AlertPRaise}
+use Rattle.larch_actions.specs.declared.event.Version.TheVariants.{One}
 use Rattle.larch_actions.specs.Actions.{IsLegal, by_thread}
 use Rattle.larch_actions.specs.Sets.{mem, set_of, without}
 use Rattle.atomic_table.specs.Table.{Me, Step, rest}
@@ -130,7 +131,7 @@ module _ {T H : Type 0} where
 
   -- the history that was seen grew to a legal one that ends with the event, and the own events are the thread's part of it
   pub record Grows (n : ℕ) (p : Part T H) (between : List Event) (e : Event) : Type 0 where
-    pub legal : IsLegal ((p.seen ++ between) ++ e ∷ [])
+    pub legal : IsLegal One ((p.seen ++ between) ++ e ∷ [])
     pub own : by_thread n ((p.seen ++ between) ++ e ∷ []) ≡ p.mine ++ e ∷ []
     pub number : (k : ℕ) → p.pen ≡ Read k → k ≡ length (p.seen ++ between)
 

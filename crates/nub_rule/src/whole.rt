@@ -6,6 +6,7 @@ ghost use Rattle.std.specs.Mem.Slots.Ownership.{Filled};
 ghost use mathlib.Core.Option.{some};
 ghost use lib.ListN.{get_elem?};
 ghost use Rattle.larch_actions.specs.Layout.{IsLawful};
+ghost use Rattle.larch_actions.specs.declared.event.Version.TheVariants.{One};
 ghost use Rattle.nub_rule.specs.declared.rule.Slot.TheVariants.{Value, Queue};
 ghost use Rattle.nub_rule.specs.declared.view.Kind.TheVariants.{Root, Collector};
 ghost use Rattle.nub_rule.specs.Items.{Each, no_line};
@@ -234,6 +235,7 @@ pub fn open_package<U: Uses>(
     traced: bool,
 ) -> Result<(Package<U>, Vec<Thread<U>>), AllocError>
     requires lawful { IsLawful layout }
+    requires version { layout.version ≡ One }
     requires values { length values.items ≡ layout.mutexes }
     requires holds { U.holds world.now values.items (firsts (U.begin world.now) layout.threads) }
     ensures package { IfOk result (λ o. (o.0.layout ≡ layout) × (o.0.traced ≡ traced) × (o.0.world ≡ world.now)) }

@@ -6,7 +6,9 @@ ghost use Rattle.nub.specs.Idle.{IsIdle};
 use crate::alerting::{AlertTask, do_alerts};
 use crate::notes::{Notes, has_numbers};
 use crate::traces::{event, has_events, has_length};
-use nub::{Action, Closed, Event, Layout, SemId, Thread, ThreadId, close_package, open_package};
+use nub::{
+    Action, Closed, Event, Layout, SemId, Thread, ThreadId, Version, close_package, open_package,
+};
 use package_crew::at_once;
 use std::alloc::{AllocError, Global};
 use std::process::Abort;
@@ -17,6 +19,7 @@ use sum_uses::SumUses;
 
 // Three threads and five semaphores.
 const LAYOUT: Layout = Layout {
+    version: Version::One,
     threads: 3,
     mutexes: 0,
     conditions: 0,

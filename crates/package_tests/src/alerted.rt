@@ -188,12 +188,7 @@ pub fn run_alerts<R: Threads + Wait + Sync>(
 ) -> Result<Closed<SumUses>, AllocError>
     requires { (1 ≤ threads) × (threads ≤ 64) }
 {
-    let layout = Layout {
-        threads,
-        mutexes: 1,
-        conditions: 1,
-        semaphores: 4,
-    };
+    let layout = Layout::of(threads, 1, 1, 4);
     let values = vec![in alloc; 0u64; 1]?;
     let (pkg, threads) = open_package::<SumUses>(alloc, layout, &(), values, traced)?;
     let Ok((threads, _)) = at_once(

@@ -1,6 +1,7 @@
 //! A mutex and the value behind it.
-ghost use Rattle.std.specs.Prelude.{◌≤◌};
+ghost use Rattle.std.specs.Prelude.{◌≡◌, ◌≤◌};
 ghost use Rattle.larch_actions.specs.Layout.{IsLawful};
+ghost use Rattle.larch_actions.specs.declared.event.Version.TheVariants.{One};
 
 use crate::notes::{Notes, has_numbers};
 use crate::run::{LARGEST, run, two_of_each};
@@ -24,6 +25,7 @@ fn leaves<R: Threads + Wait + Abort + Sync>(
     events: Option<usize>,
 ) -> Result<(), Fail>
     requires lawful { IsLawful layout }
+    requires version { layout.version ≡ One }
     requires named { (2 ≤ layout.mutexes) × (2 ≤ layout.semaphores) }
 {
     let closed = run(rt, alloc, layout, what, notes, events.is_some())?;

@@ -1,12 +1,13 @@
 //! A package whose threads do a task.
 ghost use Rattle.std.specs.Prelude.{[], ◌≡◌, ◌≤◌, replicate, IfOk};
 ghost use Rattle.larch_actions.specs.Layout.{IsLawful};
+ghost use Rattle.larch_actions.specs.declared.event.Version.TheVariants.{One};
 ghost use Rattle.nub.specs.Ended.{IsDone};
 ghost use Rattle.nub.specs.Idle.{IsIdle};
 
 use crate::notes::Notes;
 use crate::work::{Task, work};
-use nub::{Closed, Layout, Thread, close_package, open_package};
+use nub::{Closed, Layout, Thread, Version, close_package, open_package};
 use package_crew::at_once;
 use std::alloc::{AllocError, Global};
 use std::sync::Wait;
@@ -17,18 +18,15 @@ use sum_uses::SumUses;
 pub fn two_of_each(threads: u32) -> Layout
     requires { (1 ≤ threads) × (threads ≤ 64) }
     ensures lawful { IsLawful result }
+    ensures version { result.version ≡ One }
     ensures named { (2 ≤ result.mutexes) × (2 ≤ result.semaphores) }
 {
-    Layout {
-        threads,
-        mutexes: 2,
-        conditions: 2,
-        semaphores: 2,
-    }
+    Layout::of(threads, 2, 2, 2)
 }
 
 /// The largest layout.
 pub const LARGEST: Layout = Layout {
+    version: Version::One,
     threads: 64,
     mutexes: 64,
     conditions: 64,
@@ -52,6 +50,7 @@ pub fn run<R: Threads + Wait + Sync>(
     traced: bool,
 ) -> Result<Closed<SumUses>, AllocError>
     requires lawful { IsLawful layout }
+    requires version { layout.version ≡ One }
     requires named { (2 ≤ layout.mutexes) × (2 ≤ layout.semaphores) }
 {
     let values = zeros(alloc, layout.mutexes)?;

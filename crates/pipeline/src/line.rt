@@ -51,12 +51,7 @@ pub fn run<R: Threads + Wait + Sync>(
     ensures stages { IfOk result (λ r. Each (HasPassed count) r.1.threads) }
     ensures over { IfOk result (λ r. (length r.1.values ≡ 2) × Each (IsOver count) r.1.values) }
 {
-    let layout = Layout {
-        threads: 3,
-        mutexes: 2,
-        conditions: 4,
-        semaphores: 0,
-    };
+    let layout = Layout::of(3, 2, 4, 0);
     let rings = two_rings(alloc)?;
     let (p, threads) = open_package::<Numbers>(alloc, layout, &(), rings, false)?;
     let (threads, left) = at_once(

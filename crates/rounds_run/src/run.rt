@@ -4,6 +4,7 @@ ghost use Rattle.std.specs.List.{AllByRecursion};
 ghost use mathlib.Core.Option.{some};
 ghost use lib.ListN.{get_elem?};
 ghost use Rattle.larch_actions.specs.Actions.{IsClosed, by_thread};
+ghost use Rattle.larch_actions.specs.declared.event.Version.TheVariants.{One};
 ghost use Rattle.larch_actions.specs.declared.event.Event.{Event};
 ghost use Rattle.larch_actions.specs.Layout.{HasNames, layout_of};
 ghost use Rattle.barrier_once.specs.declared.cell.Cell.TheVariants.{Bar, Sum, Once};
@@ -95,18 +96,13 @@ pub fn run_rounds<R: Threads + Wait + Sync>(
     requires threads { (1 ≤ threads) × (threads ≤ 64) }
     requires rounds { (1 ≤ rounds) × (rounds ≤ 1000) }
     ensures layout { IfOk result (λ r. r.closed.layout ≡ layout_of threads 3 1 0) }
-    ensures trace { IfOk result (λ r. (h : List Event) × (r.closed.trace ≡ Some h) × IsClosed h
+    ensures trace { IfOk result (λ r. (h : List Event) × (r.closed.trace ≡ Some h) × IsClosed One h
         × AllByRecursion (HasNames (layout_of threads 3 1 0)) h × ((t : ℕ) → t < threads → AreEventsOf t rounds (by_thread t h))) }
     ensures values { IfOk result (λ r. (v : ℕ) × (1 ≤ v) × (v ≤ threads)
         × (r.closed.values ≡ Bar (2 * rounds) 0 ∷ Sum (rounds * triangle threads) ∷ Once (Some v) ∷ [])) }
     ensures totals { IfOk result (λ r. AreTotals threads rounds r.totals.items) }
 {
-    let layout = Layout {
-        threads,
-        mutexes: 3,
-        conditions: 1,
-        semaphores: 0,
-    };
+    let layout = Layout::of(threads, 3, 1, 0);
     let world = RoundWorld {
         parties: threads,
         most: u64::from(threads),

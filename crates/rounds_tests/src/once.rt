@@ -59,12 +59,7 @@ fn offered_alone<R: Threads + Wait + Sync>(
     alloc: Global,
     calls: &AtomicU64,
 ) -> Result<Vec<(u64, u64)>, AllocError> {
-    let layout = Layout {
-        threads: 1,
-        mutexes: 3,
-        conditions: 1,
-        semaphores: 0,
-    };
+    let layout = Layout::of(1, 3, 1, 0);
     let world = RoundWorld {
         parties: 1,
         most: 6,

@@ -123,7 +123,7 @@ pub fn run_script<R: Threads + Wait + Sync, G: Gate>(
     gate: &G,
 ) -> Result<Closed<SumUses>, AllocError>
     ensures layout { IfOk result (λ c. c.layout ≡ script.now.layout) }
-    ensures trace { IfOk result (λ c. (h : List Event) × (c.trace ≡ Some h) × IsClosed h
+    ensures trace { IfOk result (λ c. (h : List Event) × (c.trace ≡ Some h) × IsClosed script.now.layout.version h
         × AllByRecursion (HasNames script.now.layout) h × ((t : ℕ) → t < script.now.layout.threads
         → AreEventsOf script.now.lines t (by_thread t h))) }
     ensures count { IfOk result (λ c. length c.values ≡ script.now.layout.mutexes) }

@@ -3,6 +3,7 @@ use Rattle.larch_actions.specs.declared.event.Event.{Event}
 use Rattle.nub_rule.specs.Known.{Makes}
 use Rattle.nub_rule.specs.Plays.{test_alert_event}
 use Rattle.nub.specs.Rest.{AtRest, HasStored}
+use Rattle.nub.proofs.Holding.{keeps}
 use Rattle.nub.proofs.Users.{idle_again}
 use Rattle.nub.proofs.Without.{stored_by}
 use Rattle.alerts.proofs.test_alert.Given.{Over}
@@ -37,3 +38,7 @@ returns-clause-rest g c = rest g (goal.at.returns-clause-rest g c).After-end_eve
 pub returns-clause-idle : goal.returns-clause-idle
 returns-clause-idle g c = let a = (goal.at.returns-clause-idle g c).After-end_event in
     λ n s i. idle_again c.args.p.now n s s c.args.me.now c.end_event.new.me i (rest g a) record { number = search rules; world = search rules } (search rules) (search rules)
+
+pub returns-clause-holding : goal.returns-clause-holding
+returns-clause-holding g c = let a = (goal.at.returns-clause-holding g c).After-end_event in
+    λ n m s x i. keeps c.args.p.now n m s x c.args.me.now c.end_event.new.me i (rest g a) record { number = search rules; world = search rules } (search rules) (search rules)

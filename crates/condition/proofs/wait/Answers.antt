@@ -4,10 +4,13 @@ use mathlib.Core.Option.{some}
 use lib.ListN.{get_elem?}
 use Rattle.nub_rule.specs.declared.view.WaitBit.TheVariants.{Open}
 use Rattle.nub_rule.specs.Plays.{begun_wait, opened, unread}
-use Rattle.nub.specs.Rest.{HasStored}
+use Rattle.nub.specs.Rest.{AtRest, HasStored}
 use Rattle.condition.specs.Waits.{resume_event}
+use Rattle.nub.proofs.Holding.{fits_own, retakes}
 use Rattle.nub.proofs.Without.{still_out}
 use Rattle.std.specs.Prelude.{Option as Opt}
+use Rattle.condition.proofs.wait.Given.{Over}
+use Rattle.condition.proofs.wait.Goals.{After-take_value}
 use Rattle.condition.proofs.wait.Goals as goal
 
 same_value : {T : Type 0} (x y : T) → (let a : Opt (Opt T) = Some (Some x) in some a) ≡ some (Some (Some y)) → x ≡ y
@@ -43,8 +46,8 @@ take-requires-clause-may g c κs within =
 pub block_and_lower-requires-clause-raised : goal.block_and_lower-requires-clause-raised
 block_and_lower-requires-clause-raised g c κs within = ap (λ k. k.raised) c.free.ensures.rest ∙ ap (λ k. k.raised) c.read_count-count.ensures.begun
 
-pub returns-clause-rest : goal.returns-clause-rest
-returns-clause-rest g c =
+rest : (g : Over) (c : After-take_value g) → AtRest c.args.p.now c.take_value.new.me
+rest g c =
     let old = c.args.me.now in
     let new = c.take_value.new.me in
     let m = c.args.m.0 in
@@ -74,11 +77,28 @@ returns-clause-rest g c =
       stored = subst (λ k. HasStored c.args.p.now.traced k) (sym out) c.take.ensures.stored;
     }
 
-pub returns-clause-held : goal.returns-clause-held
-returns-clause-held g c =
+held : (g : Over) (c : After-take_value g) → c.take_value.new.me.held ≡ slice_set c.args.me.now.held c.args.m.0 (Some c.take_value.result)
+held g c =
     let old = c.args.me.now in
     let m = c.args.m.0 in
     let taken = c.take.ensures.taken in
     let x = taken.0 in
     let held = ap (λ k. k.held) c.block_and_lower.ensures ∙ (c.free.ensures.freed.0 ∙ ap (λ k. slice_set k.held m None) c.read_count-count.ensures.begun ∙ ap (λ k. slice_set k.held m None) c.put_value.ensures.value) in
     ap (λ k. k.held) c.take_value.ensures.out ∙ (taken.1 ∙ (ap (λ h. slice_set h m (Some x)) held ∙ (set-set old.held m None (Some x) ∙ ap (λ z. slice_set old.held m (Some z)) (same_value x c.take_value.result (sym taken.4 ∙ c.take_value.ensures.value)))))
+
+pub returns-clause-rest : goal.returns-clause-rest
+returns-clause-rest g c = rest g (goal.at.returns-clause-rest g c).After-take_value
+
+pub returns-clause-held : goal.returns-clause-held
+returns-clause-held g c = held g (goal.at.returns-clause-held g c).After-take_value
+
+pub returns-clause-holding : goal.returns-clause-holding
+returns-clause-holding g c = let a = (goal.at.returns-clause-holding g c).After-take_value in
+    λ n s x i.
+    let p = c.args.p.now in
+    let m = c.args.m.0 in
+    let y = c.take_value.result in
+    let r = g.C.Change.after p.world m n x c.args.value s in
+    let picked : c.take_value.new.me.share ≡ Some r = subst (λ (k : ℕ). c.take_value.new.me.share ≡ Some (g.C.Change.after p.world m k x c.args.value s)) i.number (search rules) in
+    let again = retakes p n m s r x y c.args.me.now c.take_value.new.me i (rest g a) record { number = search rules; world = search rules } (held g a) (search rules) picked in
+    (again, fits_own g.U.Uses.fits p n m r y y c.take_value.new.me again (search rules))

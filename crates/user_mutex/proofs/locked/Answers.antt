@@ -1,8 +1,6 @@
-use Rattle.std.proofs.Common.{◌≡◌, ℕ, Some, None, rules, ap, sym, subst, ◌∙◌, slice_set}
+use Rattle.std.proofs.Common.{◌≡◌, ℕ, Some, rules, sym, subst, ◌∙◌}
 use Rattle.std.specs.Fn.{FnOnceReturnsAtMut}
-use Rattle.std.proofs.lemmas.List.{set-set}
-use Rattle.atomic_table.proofs.Lists.{set_again}
-use Rattle.nub.proofs.Users.{idle_again}
+use Rattle.nub.proofs.Holding.{held_back}
 use Rattle.user_mutex.proofs.locked.Goals as goal
 
 pub release-requires-clause-may : goal.release-requires-clause-may
@@ -21,8 +19,8 @@ release-requires-clause-may g c κs within =
     )
 
 pub returns-clause-held : goal.returns-clause-held
-returns-clause-held g c = let m = c.args.m.0 in
-    c.release.ensures.held ∙ (ap (λ h. slice_set h m None) c.acquire-value.ensures.held ∙ (set-set c.args.me.now.held m (Some c.acquire-value.result) None ∙ set_again c.args.me.now.held m None c.requires.lacks))
+returns-clause-held g c =
+    held_back c.args.me.now c.acquire-value.new.me c.release.new.me c.args.m.0 c.acquire-value.result c.requires.lacks c.acquire-value.ensures.held c.release.ensures.held
 
 pub returns-clause-answer : goal.returns-clause-answer
 returns-clause-answer g c =
@@ -42,22 +40,8 @@ returns-clause-answer g c =
 
 pub returns-clause-idle : goal.returns-clause-idle
 returns-clause-idle g c = λ n s idle.
-    let m = c.args.m.0 in
-    let w = c.args.p.now.world in
-    let old = c.args.me.now in
     let x = c.acquire-value.result in
     let y = c.f-answer.new.arg2 in
-    let got = c.acquire-value.ensures in
-    let own = idle.number in
-    let held = c.release.ensures.held ∙ (ap (λ h. slice_set h m None) got.held ∙ (set-set old.held m (Some x) None ∙ set_again old.held m None c.requires.lacks)) in
-    let share : c.release.new.me.share ≡ Some (g.C.Change.after w m n x y s) = subst (λ (k : ℕ). c.release.new.me.share ≡ Some (g.C.Change.after w m k x y s)) (got.same.number ∙ own) (c.release.ensures.share w s x (got.same.world ∙ idle.world) (got.share ∙ idle.share) got.holds) in
-    let returns : FnOnceReturnsAtMut g.F.FnOnce c.args.f x c.f-answer.result y = search rules in (
-      x,
-      y,
-      returns,
-      subst (λ (k : ℕ). g.U.Uses.fits w m x k s) own (got.fits w s idle.world idle.share),
-      idle_again c.args.p.now n s (g.C.Change.after w m n x y s) old c.release.new.me idle c.release.ensures.rest
-          (record { number = c.release.ensures.same.number ∙ got.same.number; world = c.release.ensures.same.world ∙ got.same.world })
-          held
-          share,
-    )
+    let has = c.acquire-value.ensures.holding n s idle in
+    let returns : FnOnceReturnsAtMut g.F.FnOnce c.args.f x c.f-answer.result y = search rules in
+    (x, y, returns, has.1, c.release.ensures.idle n s x has.0)

@@ -1,6 +1,7 @@
 use Rattle.std.proofs.Common.{[], length, ap, sym, subst, ◌∙◌, arith}
 use lib.ListN.{get_elem?}
 use Rattle.std.proofs.lemmas.List.{length-replicate}
+use Rattle.larch_actions.proofs.Names.{few_in_one}
 use Rattle.nub.specs.Ended.{IsDone, KeepsLocks}
 use Rattle.nub.proofs.Users.{first_own}
 use Rattle.sum_uses.specs.Sums.{AreSums}
@@ -14,7 +15,7 @@ open_package-requires-clause-values g c κs = ap length c.in_ok-values.ensures �
 
 pub open_package-requires-clause-holds : goal.open_package-requires-clause-holds
 open_package-requires-clause-holds g c κs =
-    let few = c.requires.lawful.threads in
+    let few = few_in_one c.args.layout c.requires.lawful c.requires.version in
     sums_begin c.in_ok-values.values.items c.args.layout.threads (λ m x e. all_zero c.args.layout.mutexes m x (ap (λ l. get_elem? l m) (sym c.in_ok-values.ensures) ∙ e)) (omega arith)
 
 pub at_once-requires-after_bounds : goal.at_once-requires-after_bounds

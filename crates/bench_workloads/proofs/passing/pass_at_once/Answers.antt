@@ -9,11 +9,11 @@ use Rattle.bench_workloads.proofs.Makers.{Closes, closes, both_new}
 use Rattle.bench_workloads.proofs.passing.pass_at_once.Goals as goal
 
 pub open_package-requires-clause-holds : goal.open_package-requires-clause-holds
-open_package-requires-clause-holds g c κs = rings_begin c.in_ok-rings.rings.items (c.args.sides.first + c.args.sides.second) (both_new c.args.capacity.number c.args.sides.first c.in_ok-rings.rings.items c.in_ok-rings.ensures)
+open_package-requires-clause-holds g c κs = rings_begin c.in_ok-rings.rings.items c.of-layout.result.threads (both_new c.args.capacity.number c.args.sides.first c.in_ok-rings.rings.items c.in_ok-rings.ensures)
 
 pub at_once-requires-after_bounds : goal.at_once-requires-after_bounds
 at_once-requires-after_bounds g c κs within = λ n t at.
-    let layout = c.in_ok-shared.ensures.package.0 in
+    let layout = c.in_ok-shared.ensures.package.0 ∙ c.of-layout.ensures in
     (subst (λ l. HasBuffers l) (sym layout) (record { mutexes = lit≤ tt; conditions = lit≤ tt }), first_own c.in_ok-shared.shared (λ w t. []) n t (c.in_ok-shared.ensures.threads n t at))
 
 pub close_package-requires-clause-count : goal.close_package-requires-clause-count
@@ -38,8 +38,8 @@ returns g c =
     let back = c.in-Ok.ensures.each n t at in
     let own : HasPassed p makers times back.was.number back.left t = (let goes = back.goes in search rules) in
     (back.left, back.is_left, subst (λ k. HasPassed p makers times k back.left t) (c.in_ok-shared.ensures.threads n back.was back.is_was).number own) in
-    let was = c.in_ok-shared.ensures.count in
-    let mutexes = ap (λ l. l.mutexes) c.in_ok-shared.ensures.package.0 in
+    let was = c.in_ok-shared.ensures.count ∙ ap (λ l. l.threads) c.of-layout.ensures in
+    let mutexes = ap (λ l. l.mutexes) (c.in_ok-shared.ensures.package.0 ∙ c.of-layout.ensures) in
     let many = c.in-Ok.ensures.threads in
     let counted = c.in-Ok.ensures.results in
     let all : length threads ≡ makers + c.args.sides.second = omega arith in

@@ -16,11 +16,12 @@ open_package-requires-clause-holds g c κs =
     let state : RwState = record { readers = 0; writer = None } in
     let values = c.in_ok-values.values.items in
     let few = c.args.sides.in_package.2 in
-    roles_begin values (c.args.sides.first + c.args.sides.second) few (λ m q at. let same = only_value values state c.in_ok-values.ensures m q at in (ap (λ (x : RwState). x.readers) same, ap (λ (x : RwState). x.writer) same))
+    let wide = ap (λ l. l.threads) c.of-layout.ensures in
+    roles_begin values c.of-layout.result.threads (omega arith) (λ m q at. let same = only_value values state c.in_ok-values.ensures m q at in (ap (λ (x : RwState). x.readers) same, ap (λ (x : RwState). x.writer) same))
 
 pub at_once-requires-after_bounds : goal.at_once-requires-after_bounds
 at_once-requires-after_bounds g c κs within = λ n t at.
-    let layout = c.in_ok-shared.ensures.package.0 in
+    let layout = c.in_ok-shared.ensures.package.0 ∙ c.of-layout.ensures in
     (subst (λ l. HasState l) (sym layout) (record { mutexes = lit≤ tt; conditions = lit≤ tt }), first_own c.in_ok-shared.shared (λ w t. []) n t (c.in_ok-shared.ensures.threads n t at))
 
 pub close_package-requires-clause-count : goal.close_package-requires-clause-count
@@ -46,8 +47,8 @@ returns g c =
     let back = c.in-Ok.ensures.each n t at in
     let own : HasCounted p readers times back.was.number back.left t = (let goes = back.goes in search rules) in
     (back.left, back.is_left, subst (λ k. HasCounted p readers times k back.left t) (c.in_ok-shared.ensures.threads n back.was back.is_was).number own) in
-    let was = c.in_ok-shared.ensures.count in
-    let mutexes = ap (λ l. l.mutexes) c.in_ok-shared.ensures.package.0 in
+    let was = c.in_ok-shared.ensures.count ∙ ap (λ l. l.threads) c.of-layout.ensures in
+    let mutexes = ap (λ l. l.mutexes) (c.in_ok-shared.ensures.package.0 ∙ c.of-layout.ensures) in
     let many = c.in-Ok.ensures.threads in
     let results = c.in-Ok.ensures.results in
     let all : length threads ≡ readers + c.args.sides.second = omega arith in

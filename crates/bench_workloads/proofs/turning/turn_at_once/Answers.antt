@@ -8,7 +8,7 @@ use Rattle.bench_workloads.specs.Workloads.{HasCalled}
 use Rattle.bench_workloads.proofs.turning.turn_at_once.Goals as goal
 
 pub open_package-requires-clause-holds : goal.open_package-requires-clause-holds
-open_package-requires-clause-holds g c κs = let few = c.requires.1 in sums_begin c.new.result.items c.args.count (λ m x e. absurd (some-ne-none x (sym (ap (λ l. get_elem? l m) (sym c.new.ensures.items) ∙ e)))) (omega arith)
+open_package-requires-clause-holds g c κs = let few = c.requires.1 in let wide = ap (λ l. l.threads) c.of-layout.ensures in sums_begin c.new.result.items c.of-layout.result.threads (λ m x e. absurd (some-ne-none x (sym (ap (λ l. get_elem? l m) (sym c.new.ensures.items) ∙ e)))) (omega arith)
 
 pub at_once-requires-after_bounds : goal.at_once-requires-after_bounds
 at_once-requires-after_bounds g c κs within = λ n t at.
@@ -16,8 +16,8 @@ at_once-requires-after_bounds g c κs within = λ n t at.
     let number = d.idle.number in
     let low = (from_at c.first_to_begin.new.threads.items n t at).0 in
     let count = c.first_to_begin.ensures.count in
-    let all = c.in_ok-shared.ensures.count in
-    ((c.requires.0, ap (λ l. l.semaphores) c.in_ok-shared.ensures.package.0, omega arith, subst (λ k. HasCalled c.in_ok-shared.shared [] k k t) (sym number) d), search rules)
+    let all = c.in_ok-shared.ensures.count ∙ ap (λ l. l.threads) c.of-layout.ensures in
+    ((c.requires.0, ap (λ l. l.semaphores) (c.in_ok-shared.ensures.package.0 ∙ c.of-layout.ensures), omega arith, subst (λ k. HasCalled c.in_ok-shared.shared [] k k t) (sym number) d), search rules)
 
 pub close_package-requires-clause-count : goal.close_package-requires-clause-count
 close_package-requires-clause-count g c κs = c.in-Ok.ensures.threads ∙ (c.first_to_begin.ensures.count ∙ c.in_ok-shared.ensures.count ∙ sym (ap (λ l. l.threads) c.in_ok-shared.ensures.package.0))
@@ -31,7 +31,7 @@ close_package-requires-clause-threads g c κs = λ n t at.
 
 pub returns-clause-count : goal.returns-clause-count
 returns-clause-count g c =
-    let all = c.first_to_begin.ensures.count ∙ c.in_ok-shared.ensures.count in
+    let all = c.first_to_begin.ensures.count ∙ c.in_ok-shared.ensures.count ∙ ap (λ l. l.threads) c.of-layout.ensures in
     (c.in-Ok.ensures.results ∙ all, ap length c.in_ok-closed.ensures.threads ∙ (c.in-Ok.ensures.threads ∙ all))
 
 pub returns-clause-turns : goal.returns-clause-turns

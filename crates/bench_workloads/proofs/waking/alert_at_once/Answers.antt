@@ -11,11 +11,11 @@ use Rattle.bench_workloads.proofs.Raises.{two_are}
 use Rattle.bench_workloads.proofs.waking.alert_at_once.Goals as goal
 
 pub open_package-requires-clause-holds : goal.open_package-requires-clause-holds
-open_package-requires-clause-holds g c κs = sums_begin c.in_ok-values.values.items 2 (λ m x e. one_zero m x (ap (λ l. get_elem? l m) (sym c.in_ok-values.ensures.items) ∙ e)) (lit≤ tt)
+open_package-requires-clause-holds g c κs = let wide = ap (λ l. l.threads) c.of-layout.ensures in sums_begin c.in_ok-values.values.items c.of-layout.result.threads (λ m x e. one_zero m x (ap (λ l. get_elem? l m) (sym c.in_ok-values.ensures.items) ∙ e)) (omega arith)
 
 pub at_once-requires-after_bounds : goal.at_once-requires-after_bounds
 at_once-requires-after_bounds g c κs within = λ n t at.
-    let layout = c.in_ok-shared.ensures.package.0 in
+    let layout = c.in_ok-shared.ensures.package.0 ∙ c.of-layout.ensures in
     let mutexes = ap (λ l. l.mutexes) layout in
     let conditions = ap (λ l. l.conditions) layout in
     let threads = ap (λ l. l.threads) layout in
@@ -42,14 +42,14 @@ returns g c =
     let back = c.in-Ok.ensures.each n t at in
     let own : HasWoken p times back.was.number back.left t = (let goes = back.goes in search rules) in
     (back.left, back.is_left, subst (λ k. HasWoken p times k back.left t) (c.in_ok-shared.ensures.threads n back.was back.is_was).number own) in
-    let mutexes = ap (λ l. l.mutexes) c.in_ok-shared.ensures.package.0 in
+    let mutexes = ap (λ l. l.mutexes) (c.in_ok-shared.ensures.package.0 ∙ c.of-layout.ensures) in
     let long = c.in_ok-closed.ensures.values.0 in
     let one = only_one values (omega arith) in
     let kept = c.in_ok-closed.ensures.values.1 in
     let sum = same_total (λ t. t.share) times threads kept.shares (λ n t at. let a = (each n t at).2.turned in (a.share, a.idle.share, a.sum)) kept.each_share in
     let back = c.in-Ok.ensures.threads in
     let results = c.in-Ok.ensures.results in
-    let all = c.in_ok-shared.ensures.count in
+    let all = c.in_ok-shared.ensures.count ∙ ap (λ l. l.threads) c.of-layout.ensures in
     let count : length threads ≡ 2 = omega arith in
     let first = at_below threads 0 (omega arith) in
     let second = at_below threads 1 (omega arith) in

@@ -1,4 +1,4 @@
-use Rattle.std.proofs.Common.{[], ◌<◌, arith, ap, rules, sym, subst, lit≤}
+use Rattle.std.proofs.Common.{[], ◌<◌, ◌∙◌, arith, ap, rules, sym, subst, lit≤}
 use Rattle.nub.specs.Ended.{IsDone}
 use Rattle.nub.proofs.Users.{from_at, idle_own}
 use Rattle.bounded_buffer.specs.Rings.{fresh}
@@ -10,15 +10,15 @@ use Rattle.condition_tests.proofs.ring_run.run.Goals as goal
 pub open_package-requires-clause-holds : goal.open_package-requires-clause-holds
 open_package-requires-clause-holds g c κs =
     let capacity = c.args.capacity in
-    rings_begin c.in_ok-values.values.items c.args.threads (λ m q at. (capacity, only_value c.in_ok-values.values.items (fresh capacity) c.in_ok-values.ensures m q at))
+    rings_begin c.in_ok-values.values.items c.of-layout.result.threads (λ m q at. (capacity, only_value c.in_ok-values.values.items (fresh capacity) c.in_ok-values.ensures m q at))
 
 pub at_once-requires-after_bounds : goal.at_once-requires-after_bounds
 at_once-requires-after_bounds g c κs within = λ n t at.
     let few = c.requires.threads in
-    let layout = c.in_ok-pkg.ensures.package.0 in
+    let layout = c.in_ok-pkg.ensures.package.0 ∙ c.of-layout.ensures in
     let low = (from_at c.in_ok-pkg.threads.items n t at).0 in
     let number = (c.in_ok-pkg.ensures.threads n t at).number in
-    let count = c.in_ok-pkg.ensures.count in
+    let count = c.in_ok-pkg.ensures.count ∙ ap (λ l. l.threads) c.of-layout.ensures in
     let wide = ap (λ l. l.threads) layout in (
       subst (λ l. HasBuffer l) (sym layout) (record { threads = few.0; mutexes = lit≤ tt; conditions = lit≤ tt }),
       record { share = []; idle = idle_own c.in_ok-pkg.pkg (λ w t. []) n t (c.in_ok-pkg.ensures.threads n t at) },

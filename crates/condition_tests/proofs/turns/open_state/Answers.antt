@@ -1,4 +1,4 @@
-use Rattle.std.proofs.Common.{None, ap}
+use Rattle.std.proofs.Common.{None, ap, arith}
 use Rattle.readers_writers.specs.declared.state.RwState.{RwState}
 use Rattle.readers_writers.proofs.Opening.{roles_begin}
 use Rattle.condition_tests.proofs.Freeing.{only_value}
@@ -9,7 +9,9 @@ pub open_package-requires-clause-holds : goal.open_package-requires-clause-holds
 open_package-requires-clause-holds c κs =
     let state : RwState = record { readers = 0; writer = None } in
     let values = c.in_ok-values.values.items in
-    roles_begin values c.args.threads c.requires.1 (λ m q at. let same = only_value values state c.in_ok-values.ensures m q at in (ap (λ (x : RwState). x.readers) same, ap (λ (x : RwState). x.writer) same))
+    let wide = ap (λ l. l.threads) c.of-layout.ensures in
+    let few = c.requires.1 in
+    roles_begin values c.of-layout.result.threads (omega arith) (λ m q at. let same = only_value values state c.in_ok-values.ensures m q at in (ap (λ (x : RwState). x.readers) same, ap (λ (x : RwState). x.writer) same))
 
 pub returns-clause-threads : goal.returns-clause-threads
 returns-clause-threads c = λ n t at. acting_first c.in_ok-pkg.pkg n t (c.in_ok-pkg.ensures.threads n t at)

@@ -13,9 +13,10 @@ use Rattle.firefly.specs.IndexRun.{NoIndex}
 use Rattle.firefly.specs.Looks.{look_of, looks_of}
 use Rattle.command_endings.specs.Messages.{stopped_message, unreadable_message}
 use Rattle.command_endings.specs.declared.status.Status.{Status}
-use Rattle.firefly.proofs.Places.{all_tell, first_tells, keeps, looks_many, there}
+use Rattle.firefly.proofs.Places.{all_tell, first_tells, keeps, looks_many, owns, there}
+use Rattle.firefly.proofs.TreeLooks.{kept_own}
 use Rattle.indexer.specs.Once.{EachOnce}
-use Rattle.firefly.proofs.IndexRuns.{all_back, all_still, asked_once, failed_at, no_rise, shows_work}
+use Rattle.firefly.proofs.IndexRuns.{all_back, all_own, all_still, asked_once, failed_at, no_rise, shows_work}
 use Rattle.firefly.proofs.index_run.index_by.Goals as goal
 
 pub index-requires-clause-trees : goal.index-requires-clause-trees
@@ -62,6 +63,7 @@ returns-in-Stopped g c =
       quiet = tt;
       refused = subst (λ (s : Status). NoIndex o (looks_of look old) (looks_of look new) notes s) (sym c.ends.ensures.status) (n, w.0.1, subst (λ (q : Option Told). IfSome q (λ t. AreMany t o.directory File (n + 1))) (sym first) many, said);
       kept = λ ne. keeps look told old new c.requires.agree.1 (omega (arith, c.index.auto.trees)) (all_back S.tree S.may_fail S.faults S.calls (o.walkers + o.parsers) old new back);
+      own = kept_own (looks_of look old) (looks_of look new) (keeps look told old new c.requires.agree.1 (omega (arith, c.index.auto.trees)) (all_back S.tree S.may_fail S.faults S.calls (o.walkers + o.parsers) old new back));
     }
 
 pub returns-in-ReadFault : goal.returns-in-ReadFault
@@ -87,6 +89,7 @@ returns-in-ReadFault g c =
       quiet = tt;
       refused = subst (λ (s : Status). NoIndex o (looks_of look old) (looks_of look new) notes s) (sym c.ends-in-ReadFault.ensures.status) (path, failed_at S.tree S.may_fail S.faults S.calls o old new path keep c.in-ReadFault.ensures.cause, said);
       kept = λ ne. keep;
+      own = kept_own (looks_of look old) (looks_of look new) keep;
     }
 
 pub returns-in-TooMany : goal.returns-in-TooMany
@@ -114,12 +117,17 @@ returns-in-TooMany g c =
       quiet = tt;
       refused = subst (λ (s : Status). NoIndex o (looks_of look old) (looks_of look new) notes s) (sym c.ends-in-TooMany.ensures.status) (subst (λ (q : Option Told). IfSome q (λ t. AreMany t o.directory Dir (most_dirs + 1))) (sym first) many, c.ends-in-TooMany.ensures.notes);
       kept = λ ne. keeps look told old new c.requires.agree.1 (omega (arith, c.index.auto.trees)) (all_back S.tree S.may_fail S.faults S.calls (o.walkers + o.parsers) old new back);
+      own = kept_own (looks_of look old) (looks_of look new) (keeps look told old new c.requires.agree.1 (omega (arith, c.index.auto.trees)) (all_back S.tree S.may_fail S.faults S.calls (o.walkers + o.parsers) old new back));
     }
 
 pub returns-in-Memory : goal.returns-in-Memory
 returns-in-Memory g c =
     let S = g.S.Tree in
     let look = look_of S.tree S.may_fail S.calls S.faults in
+    let o = options_of c.args.options.now in
+    let old = c.args.trees.now in
+    let new = c.index.new.trees in
+    let left = subst (λ (p : Plan). says.TreesAfter S.tree S.may_fail S.faults S.calls p.walkers (p.walkers + p.parsers) old new index.Memory) c.plan_by-plan.ensures.plan c.in-Memory.ensures.trees in
     let notes = change_of g.N.Sink.held g.N.Sink.faults c.args.notes.now c.ends-in-Memory.new.notes in
     record {
       is_index = tt;
@@ -130,6 +138,7 @@ returns-in-Memory g c =
       quiet = tt;
       refused = subst (λ (s : Status). NoIndex (options_of c.args.options.now) (looks_of look c.args.trees.now) (looks_of look c.index.new.trees) notes s) (sym c.ends-in-Memory.ensures.status) c.ends-in-Memory.ensures.notes;
       kept = λ ne. absurd (ne (ap (λ (s : Status). Err s) c.ends-in-Memory.ensures.status));
+      own = owns look old new (omega (arith, c.index.auto.trees)) (all_own S.tree S.may_fail S.faults S.calls (o.walkers + o.parsers) old new left);
     }
 
 pub returns-in-Done : goal.returns-in-Done
@@ -155,4 +164,5 @@ returns-in-Done g c =
       quiet = refl;
       refused = tt;
       kept = λ ne. keeps look told old new c.requires.agree.1 (omega (arith, c.index.auto.trees)) (all_back S.tree S.may_fail S.faults S.calls (o.walkers + o.parsers) old new trees.0);
+      own = kept_own (looks_of look old) (looks_of look new) (keeps look told old new c.requires.agree.1 (omega (arith, c.index.auto.trees)) (all_back S.tree S.may_fail S.faults S.calls (o.walkers + o.parsers) old new trees.0));
     }

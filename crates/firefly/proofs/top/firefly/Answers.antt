@@ -2,7 +2,7 @@ use Rattle.std.proofs.Common.{◌≡◌, ◌⊎◌, refl, sym, subst, inl, inr, 
 use Rattle.command_line.specs.Grammar.{HasOptions, Task}
 use Rattle.firefly.specs.Top.{Effects, Answers, WordsWant}
 use Rattle.command_endings.specs.declared.status.Status.{Status}
-use Rattle.firefly.proofs.TreeLooks.{kept-same}
+use Rattle.firefly.proofs.TreeLooks.{kept-same, own-same}
 use Rattle.firefly.proofs.top.firefly.Goals as goal
 
 answered : (t u : Task) (e : Effects) (status : Status) → t ≡ u → Answers u e status → Answers t e status ⊎ (HasOptions t × WordsWant e status)
@@ -14,6 +14,7 @@ returns-in-Ok-Check g c =
       usage = λ none. absurd (none _ c.in-Ok-Check.ensures.said);
       answers = λ t says. let k = rw c.in-Ok-Check.field-0-is at c.in-Ok-Check.ensures in answered t _ _ _ (k.only t says) (c.run_check.ensures.answers, c.run_check.ensures.exact, c.run_check.ensures.told, refl);
       kept = λ _. kept-same _ c.requires.agree;
+      own = own-same _ c.requires.agree;
     }
 
 pub returns-in-Ok-Run : goal.returns-in-Ok-Run
@@ -22,6 +23,7 @@ returns-in-Ok-Run g c =
       usage = λ none. absurd (none _ c.in-Ok-Run.ensures.said);
       answers = λ t says. let k = rw c.in-Ok-Run.field-0-is at c.in-Ok-Run.ensures in answered t _ _ _ (k.only t says) (c.run_input.ensures.answers, c.run_input.ensures.exact, refl);
       kept = λ _. kept-same _ c.requires.agree;
+      own = own-same _ c.requires.agree;
     }
 
 pub returns-in-Ok-Index : goal.returns-in-Ok-Index
@@ -30,6 +32,7 @@ returns-in-Ok-Index g c =
       usage = λ none. absurd (none _ c.in-Ok-Index.ensures.said);
       answers = λ t says. let k = rw c.in-Ok-Index.field-0-is at c.in-Ok-Index.ensures in answered t _ _ _ (k.only t says) (c.run_index.ensures.answers, (refl, refl));
       kept = c.run_index.ensures.kept;
+      own = c.run_index.ensures.own;
     }
 
 pub returns-in-Ok-Trace : goal.returns-in-Ok-Trace
@@ -38,6 +41,7 @@ returns-in-Ok-Trace g c =
       usage = λ none. absurd (none _ c.in-Ok-Trace.ensures.said);
       answers = λ t says. let k = rw c.in-Ok-Trace.field-0-is at c.in-Ok-Trace.ensures in answered t _ _ _ (k.only t says) (c.run_trace.ensures.answers, (refl, refl));
       kept = c.run_trace.ensures.kept;
+      own = c.run_trace.ensures.own;
     }
 
 pub returns-in-Ok-Sample : goal.returns-in-Ok-Sample
@@ -46,6 +50,7 @@ returns-in-Ok-Sample g c =
       usage = λ none. absurd (none _ c.in-Ok-Sample.ensures.said);
       answers = λ t says. let k = rw c.in-Ok-Sample.field-0-is at c.in-Ok-Sample.ensures in answered t _ _ _ (k.only t says) (c.run_sample.ensures, (refl, refl), refl);
       kept = λ _. kept-same _ c.requires.agree;
+      own = own-same _ c.requires.agree;
     }
 
 pub returns-in-Ok-Order : goal.returns-in-Ok-Order
@@ -54,6 +59,7 @@ returns-in-Ok-Order g c =
       usage = λ none. absurd (none _ c.in-Ok-Order.ensures.said);
       answers = λ t says. let k = rw c.in-Ok-Order.field-0-is at c.in-Ok-Order.ensures in answered t _ _ _ (k.only t says) (c.run_order.ensures.answers, c.run_order.ensures.exact, c.run_order.ensures.told, refl);
       kept = λ _. kept-same _ c.requires.agree;
+      own = own-same _ c.requires.agree;
     }
 
 pub returns-in-Ok-Jobs : goal.returns-in-Ok-Jobs
@@ -62,6 +68,7 @@ returns-in-Ok-Jobs g c =
       usage = λ none. absurd (none _ c.in-Ok-Jobs.ensures.said);
       answers = λ t says. let k = rw c.in-Ok-Jobs.field-0-is at c.in-Ok-Jobs.ensures in answered t _ _ _ (k.only t says) (c.run_jobs_command.ensures.answers, c.run_jobs_command.ensures.exact, c.run_jobs_command.ensures.told, refl);
       kept = λ _. kept-same _ c.requires.agree;
+      own = own-same _ c.requires.agree;
     }
 
 pub run_jobs_command-requires-clause-some : goal.run_jobs_command-requires-clause-some
@@ -76,6 +83,7 @@ returns-in-Ok-Find g c =
       usage = λ none. absurd (none _ c.in-Ok-Find.ensures.said);
       answers = λ t says. let k = rw c.in-Ok-Find.field-0-is at c.in-Ok-Find.ensures in answered t _ _ _ (k.only t says) (c.run_find.ensures.answers, c.run_find.ensures.exact, c.run_find.ensures.told, refl);
       kept = λ _. kept-same _ c.requires.agree;
+      own = own-same _ c.requires.agree;
     }
 
 pub returns-in-Ok-Rounds : goal.returns-in-Ok-Rounds
@@ -84,6 +92,7 @@ returns-in-Ok-Rounds g c =
       usage = λ none. absurd (none _ c.in-Ok-Rounds.ensures.said);
       answers = λ t says. let k = rw c.in-Ok-Rounds.field-0-is at c.in-Ok-Rounds.ensures in answered t _ _ _ (k.only t says) (c.write_rounds.ensures, (refl, refl), refl);
       kept = λ _. kept-same _ c.requires.agree;
+      own = own-same _ c.requires.agree;
     }
 
 pub write_rounds-requires-clause-threads : goal.write_rounds-requires-clause-threads
@@ -99,6 +108,7 @@ returns-in-Err-Usage g c =
       usage = λ silent. inl (c.ends.ensures.status, refl, (refl, refl), (refl, refl), c.ends.ensures.notes);
       answers = λ t says. absurd (none t says);
       kept = λ _. kept-same _ c.requires.agree;
+      own = own-same _ c.requires.agree;
     }
 
 pub returns-in-Err-Memory : goal.returns-in-Err-Memory
@@ -108,6 +118,7 @@ returns-in-Err-Memory g c =
       usage = λ none. inr (c.in-Err-Memory.ensures.begun (search rules), (c.ends-in-Err-Memory.ensures.status, refl, (refl, refl), (refl, refl), c.ends-in-Err-Memory.ensures.notes));
       answers = λ t says. inr (memory t says, (c.ends-in-Err-Memory.ensures.status, refl, (refl, refl), (refl, refl), c.ends-in-Err-Memory.ensures.notes));
       kept = λ _. kept-same _ c.requires.agree;
+      own = own-same _ c.requires.agree;
     }
 
 pub run_index-requires-clause-range : goal.run_index-requires-clause-range

@@ -2,7 +2,8 @@ use Rattle.std.proofs.Common.{◌≡◌, ◌∷◌, ◌++◌, [], List, ℕ, Opt
 use Rattle.std.specs.Io.KnownBytes.{Consumes, prepend_known}
 use Rattle.std.proofs.Common.{IfSome}
 use Rattle.larch_actions.specs.declared.event.Layout.{Layout}
-use Rattle.larch_actions.specs.Layout.{IsLawful, layout_text}
+use Rattle.larch_actions.specs.Layout.{layout_text}
+use Rattle.firefly_script.specs.Layouts.{IsScriptLayout}
 use Rattle.firefly_script.specs.declared.line.Line.{Line}
 use Rattle.firefly_script.specs.Operations.{MayFollow, AllFree, none_held, held_after}
 use Rattle.firefly_script.specs.Drafts.{HeadFault, LaterFault}
@@ -42,7 +43,7 @@ returns-clause-script g c =
     let Within : Layout → Type 0 = λ k. MayFollow k none_held c.new.result.lines in
     let Free : List Line → Type 0 = λ ys. AllFree (held_after none_held ys) in
     whole_text l c.new.result.layout c.new.result.lines (g.I.Source.left c.args.input.now) rest same (subst P r h.layout.1) (subst Text (sym n.lines) d.done.text) (record {
-      lawful = subst IsLawful (sym same) h.layout.0;
+      lawful = subst IsScriptLayout (sym same) h.layout.0;
       follow = subst Within (sym n.layout) (subst Follow (sym n.lines) d.done.follow);
       free = subst Free (sym n.lines) d.done.free;
     })

@@ -22,19 +22,19 @@ pub open_package-requires-clause-holds : goal.open_package-requires-clause-holds
 open_package-requires-clause-holds g c κs within =
     let items = c.push_reserved.new.self.items in
     let is : items ≡ fresh c.args.many ∷ [] = c.push_reserved.ensures.items ∙ (ap (λ l. l ++ c.in_ok-new.field-0 ∷ []) c.in_ok-rings.ensures.items ∙ ap (λ r. r ∷ []) c.in_ok-new.ensures) in
-    rings_begin items (c.args.workers + 1) (one_new c.args.many items is)
+    rings_begin items c.of-layout.result.threads (one_new c.args.many items is)
 
 pub open_package-requires-clause-values : goal.open_package-requires-clause-values
 open_package-requires-clause-values g c κs within =
-    ap length (c.push_reserved.ensures.items ∙ ap (λ l. l ++ c.in_ok-new.field-0 ∷ []) c.in_ok-rings.ensures.items)
+    ap length (c.push_reserved.ensures.items ∙ ap (λ l. l ++ c.in_ok-new.field-0 ∷ []) c.in_ok-rings.ensures.items) ∙ sym (ap (λ l. l.mutexes) c.of-layout.ensures)
 
 pub returns-clause-package : goal.returns-clause-package
 returns-clause-package g c = if_ok_map c.open_package.result _ _
-    (λ o h. (subst HasBuffer (sym h.0) (record { mutexes = lit≤ tt; conditions = lit≤ tt }), ap (λ l. l.threads) h.0, ap (λ l. l.mutexes) h.0, h.1))
+    (λ o h. let is = h.0 ∙ c.of-layout.ensures in (subst HasBuffer (sym is) (record { mutexes = lit≤ tt; conditions = lit≤ tt }), ap (λ l. l.threads) is, ap (λ l. l.mutexes) is, h.1))
     c.open_package.ensures.«package»
 
 pub returns-clause-count : goal.returns-clause-count
-returns-clause-count g c = c.open_package.ensures.count
+returns-clause-count g c = if_ok_map c.open_package.result _ _ (λ o h. h ∙ ap (λ l. l.threads) c.of-layout.ensures) c.open_package.ensures.count
 
 pub returns-clause-threads : goal.returns-clause-threads
 returns-clause-threads g c = if_ok_map c.open_package.result _ _

@@ -1,4 +1,4 @@
-use Rattle.std.proofs.Common.{ap, sym, ◌∙◌}
+use Rattle.std.proofs.Common.{arith, ap, sym, ◌∙◌}
 use Rattle.nub_rule.specs.Ends.{first_known}
 use Rattle.nub.proofs.Closing.{first_is}
 use Rattle.nub.proofs.whole.open_package.Goals as goal
@@ -6,4 +6,6 @@ use Rattle.nub.proofs.whole.open_package.Goals as goal
 pub returns-clause-threads : goal.returns-clause-threads
 returns-clause-threads g c = λ n t e.
     let p = c.in_ok-package.package in
-    first_is p g.U.Uses.begin n t (c.in_ok-package.ensures.threads n t e ∙ ap (λ w. first_known p.table_id w g.U.Uses.begin n) (sym c.in_ok-package.ensures.package.2))
+    let lawful = c.requires.lawful.mutexes in
+    let same = ap (λ l. l.mutexes) c.in_ok-package.ensures.package.0 in
+    first_is p g.U.Uses.begin n t (omega arith) (c.in_ok-package.ensures.threads n t e ∙ ap (λ w. first_known p.table_id w g.U.Uses.begin n) (sym c.in_ok-package.ensures.package.2))

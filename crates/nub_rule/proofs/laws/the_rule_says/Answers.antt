@@ -11,4 +11,4 @@ returns-clause-one_history g c = λ l traced w words words' homes homes' views r
 pub returns-clause-each_step : goal.returns-clause-each_step
 returns-clause-each_step g c = λ l traced w words words' homes homes' views n p q es at more adds r r'.
     let e = step-log l r.log r'.log views n p q es at more adds r.history r'.history in
-    (e, step-state r.log r'.log r.state r'.state es r.run r'.run e)
+    (e, step-state l.version r.log r'.log r.state r'.state es r.run r'.run e)

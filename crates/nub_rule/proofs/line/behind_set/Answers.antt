@@ -2,13 +2,14 @@ use Rattle.std.proofs.Common.{rules, ◌≡◌, ◌+◌, ◌-◌, ◌∙◌, ap,
 use Rattle.larch_actions.specs.Sets.{set_of}
 use Rattle.nub_rule.proofs.Leaving.{dropped, dropped-step, dropped-all, small-at, behind-dropped, nil-of}
 use Rattle.nub_rule.proofs.line.behind_set.Goals as goal
+use Rattle.nub_rule.specs.Places.{most_threads}
 
 pub loop-i-init : goal.loop-i-init
 loop-i-init c = let e : c.len-i.result ≡ length c.args.line.now.items = search rules in
     (search rules, c.empty-set.ensures.list ∙ ap (λ l. set_of l) (sym (ap (λ n. dropped n c.args.line.now.items) e ∙ dropped-all c.args.line.now.items)), λ z. nil-of c.args.line.now.items (sym e ∙ z))
 
 pub insert-requires : goal.insert-requires
-insert-requires c = let d : c.deref.result.now ≡ c.args.line.now.items = search rules in let s = small-at 64 (c.loop-i.i - 1) c.args.line.now.items c.requires (search rules) in search rules
+insert-requires c = let d : c.deref.result.now ≡ c.args.line.now.items = search rules in let s = small-at most_threads (c.loop-i.i - 1) c.args.line.now.items c.requires (search rules) in search rules
 
 pub loop-i-preserved : goal.loop-i-preserved
 loop-i-preserved c = let d : c.deref.result.now ≡ c.args.line.now.items = search rules in

@@ -3,7 +3,7 @@ use Rattle.atomic_table.specs.Seated.{TableId}
 use Rattle.nub_rule.specs.declared.rule.Slot.TheVariants.{Queue}
 use Rattle.nub_rule.specs.Items.{line_of}
 use Rattle.nub_rule.specs.Known.{known_as}
-use Rattle.nub_rule.specs.Places.{value_at}
+use Rattle.nub_rule.specs.Places.{most_threads, value_at}
 use Rattle.nub_rule.specs.Plays.{with_part}
 use Rattle.nub_rule.specs.Places.{spin_at}
 use Rattle.nub_rule.proofs.Naming.{object_low}
@@ -31,7 +31,7 @@ invariant_of-me g c = let low = object_low _ _ _ _ c.p.view_is c.p.invariant.lai
     fit_given _ _ c.me.inside.number o _ _ _ c.bring.new.seat.me _ _ c.bring.new.seat.me.1 c.swap.ensures.0 c.swap.ensures.2.1 (ap (λ v. v.kind) same ∙ i.member) (ap (λ v. v.number) same ∙ i.numbered) (ap (λ p. length p.held) q ∙ i.wide) i.bare (subst (λ (z : TableId). c.me.inside.number ≡ 0 → z.slots ≤ value_at (vec_capacity c.me.inside.room)) (sym b.same.0) i.roomy) i.few
     b.keys c.give.ensures b.distinct b.below first refl
     (hands-unspun c.bring.new.seat.me.0.part _ c.bring.new.seat.me.1 (rest c.bring.new.seat.me.1) o _ far b.distinct first refl (ap (λ p. p.spin) q ∙ here) refl refl (ap (λ p. p.owed) q ∙ (ap (λ k. k.owed) c.me.view_is ∙ c.requires.owes_none))
-    (hands-same c.me.inside.seat.me.0.part c.bring.new.seat.me.0.part c.me.inside.seat.me.1 c.bring.new.seat.me.1 (λ k. c.bring.ensures.hand k) (ap (λ p. p.spin) q) (ap (λ p. p.queue) q) (ap (λ p. p.held) q) (λ k there nowhere. subst (λ (l : List ℕ). length l < 64) (ap (λ p. p.queue) (sym q)) (h.room k (ap (λ p. p.spin) (sym q) ∙ there) (ap (λ p. p.stand) (sym q) ∙ nowhere))) (λ none_now. ap (λ p. p.owed) q ∙ h.settled (ap (λ p. p.spin) (sym q) ∙ none_now)) h))
+    (hands-same c.me.inside.seat.me.0.part c.bring.new.seat.me.0.part c.me.inside.seat.me.1 c.bring.new.seat.me.1 (λ k. c.bring.ensures.hand k) (ap (λ p. p.spin) q) (ap (λ p. p.queue) q) (ap (λ p. p.held) q) (λ k there nowhere. subst (λ (l : List ℕ). length l < most_threads) (ap (λ p. p.queue) (sym q)) (h.room k (ap (λ p. p.spin) (sym q) ∙ there) (ap (λ p. p.stand) (sym q) ∙ nowhere))) (λ none_now. ap (λ p. p.owed) q ∙ h.settled (ap (λ p. p.spin) (sym q) ∙ none_now)) h))
 
 pub returns-clause-found : goal.returns-clause-found
 returns-clause-found g c = c.swap.ensures.2.0

@@ -5,7 +5,7 @@ use Rattle.nub_rule.specs.Items.{Small, no_line, line_of}
 use Rattle.nub_rule.specs.Known.{known_as}
 use Rattle.nub_rule.specs.Objects.{object_of}
 use Rattle.nub_rule.specs.Parts.{stands_at}
-use Rattle.nub_rule.specs.Places.{spin_at}
+use Rattle.nub_rule.specs.Places.{most_threads, spin_at}
 use Rattle.nub_rule.proofs.Handling.{values-same, hands-spun}
 use Rattle.nub_rule.proofs.Naming.{object_low, some_or_none}
 use Rattle.nub_rule.proofs.Room.{room_for}
@@ -43,10 +43,10 @@ returns-then-found-eq0-clause-won g c = let o : ℕ = c.number-o.result in let u
     λ _. as_known (λ z m a. let b = known_as z c.me.inside.number m c.me.inside.entries.items c.me.inside.lost c.me.inside.next in b ≡ record a { spin = Some (object_of c.args.at); queue = b.queue; owed = []; left = b.queue; count = b.count; failed = without (object_of c.args.at) a.failed }) _ _ _ _ _ c.me.inside.seat.me _ _ _ c.me.view_is c.compare_exchange-found.ensures.0 u.5 (λ j. record (known_as c.me.inside.seat.table_id c.me.inside.number c.me.inside.seat.me c.me.inside.entries.items c.me.inside.lost c.me.inside.next) { spin = Some (is j); queue = u.0; owed = []; left = u.0; count = u.1; failed = without (is j) c.me.inside.seat.me.0.part.failed; values = v j })
 
 pub returns-then-found-eq0-clause-small : goal.returns-then-found-eq0-clause-small
-returns-then-found-eq0-clause-small g c = let u = c.compare_exchange-found.ensures.2.0 c.number-o.result (c.spin_word.ensures ∙ ap spin_at (sym c.number-o.ensures)) c.if-found-eq0.true in λ _. subst (λ m. Small 64 m.0.part.queue) (sym u.5) u.3
+returns-then-found-eq0-clause-small g c = let u = c.compare_exchange-found.ensures.2.0 c.number-o.result (c.spin_word.ensures ∙ ap spin_at (sym c.number-o.ensures)) c.if-found-eq0.true in λ _. subst (λ m. Small most_threads m.0.part.queue) (sym u.5) u.3
 
 pub returns-then-found-eq0-clause-room : goal.returns-then-found-eq0-clause-room
-returns-then-found-eq0-clause-room g c = let u = c.compare_exchange-found.ensures.2.0 c.number-o.result (c.spin_word.ensures ∙ ap spin_at (sym c.number-o.ensures)) c.if-found-eq0.true in λ _ out. subst (λ m. length m.0.part.queue < 64) (sym u.5) (u.2 (ap (λ k. k.stand) c.me.view_is ∙ out))
+returns-then-found-eq0-clause-room g c = let u = c.compare_exchange-found.ensures.2.0 c.number-o.result (c.spin_word.ensures ∙ ap spin_at (sym c.number-o.ensures)) c.if-found-eq0.true in λ _ out. subst (λ m. length m.0.part.queue < most_threads) (sym u.5) (u.2 (ap (λ k. k.stand) c.me.view_is ∙ out))
 
 pub returns-then-found-eq0-clause-there : goal.returns-then-found-eq0-clause-there
 returns-then-found-eq0-clause-there g c = let u = c.compare_exchange-found.ensures.2.0 c.number-o.result (c.spin_word.ensures ∙ ap spin_at (sym c.number-o.ensures)) c.if-found-eq0.true in

@@ -1,4 +1,5 @@
 use Rattle.std.proofs.Common.{◌≡◌, [], false, rules, arith, ap, sym, ◌∙◌, vec_capacity}
+use Rattle.larch_actions.proofs.Names.{few_in_one}
 use Rattle.nub_rule.specs.declared.view.Kind.TheVariants.{Member}
 use Rattle.nub_rule.specs.Known.{known_as}
 use Rattle.nub_rule.specs.Parts.{fresh}
@@ -17,7 +18,7 @@ invariant_of-result g c =
     let mutexes : c.p.inside.layout.mutexes ≡ c.args.p.now.layout.mutexes = ap (λ l. l.mutexes) (sym c.p.invariant.laid_out ∙ key) in
     let threads : c.p.inside.layout.threads ≡ c.args.p.now.layout.threads = ap (λ l. l.threads) (sym c.p.invariant.laid_out ∙ key) in
     let wide = c.p.invariant.slots in
-    let few = c.p.invariant.lawful.threads in
+    let few = few_in_one c.p.inside.layout c.p.invariant.lawful c.p.invariant.version in
     let below = c.requires.next.1 in
     first_fits g.U.Uses.begin c.args.root.now.me.0 _ c.split_off-seat.result.me c.args.number c.new-hand.result _ _ c.split_off-seat.ensures.seat.1 c.requires.next.0 c.new-hand.ensures (ap (λ v. v.items) c.replace-own.ensures.value ∙ c.requires.empty) (λ z. let m = ap (λ v. vec_capacity v) c.replace-own.ensures.value in let r = c.requires.room z in omega arith) (omega arith)
 

@@ -6,13 +6,14 @@ use Rattle.nub_rule.proofs.whole.open_package.Goals as goal
 
 pub table_of-requires-clause-opens : goal.table_of-requires-clause-opens
 table_of-requires-clause-opens g c κs within = let w = c.in_ok-words.ensures in rw (c.of.ensures, c.in_ok-slots.ensures) (opens c.args.layout c.args.traced c.args.world.now g.U.Uses.begin g.U.Uses.holds c.in_ok-words.words.items c.args.values.items
-    w.length w.zeros c.requires.values c.requires.lawful c.requires.holds)
+    w.length w.zeros c.requires.values c.requires.lawful c.requires.version c.requires.holds)
 
 pub invariant_of-package : goal.invariant_of-package
 invariant_of-package g c = let t = c.in_ok-table.ensures in let m = c.in_ok-threads.ensures in record {
   words = t.0 ∙ c.in_ok-words.ensures.length;
   slots = t.1 ∙ (ap (λ l. length l) c.in_ok-slots.ensures ∙ (opening_wide c.args.values.items ∙ ap (λ n. 192 + n) c.requires.values));
   lawful = c.requires.lawful;
+  version = c.requires.version;
   bare = m.6;
   roomy = m.7;
   woken = m.3;

@@ -8,12 +8,13 @@ use Rattle.package_tests.proofs.alerted.run_alerts.Goals as goal
 pub open_package-requires-clause-holds : goal.open_package-requires-clause-holds
 open_package-requires-clause-holds g c κs =
     let few = c.requires in
-    sums_begin c.in_ok-values.values.items c.args.threads (λ m x e. all_zero 1 m x (ap (λ l. get_elem? l m) (sym (c.in_ok-values.ensures.items_if_clones_equal (λ y e. e))) ∙ e)) (omega arith)
+    let wide = ap (λ l. l.threads) c.of-layout.ensures in
+    sums_begin c.in_ok-values.values.items c.of-layout.result.threads (λ m x e. all_zero 1 m x (ap (λ l. get_elem? l m) (sym (c.in_ok-values.ensures.items_if_clones_equal (λ y e. e))) ∙ e)) (omega arith)
 
 pub at_once-requires-after_bounds : goal.at_once-requires-after_bounds
 at_once-requires-after_bounds g c κs within = λ n t at.
     let few = c.requires in
-    let layout = c.in_ok-pkg.ensures.package.0 in
+    let layout = c.in_ok-pkg.ensures.package.0 ∙ c.of-layout.ensures in
     let threads = ap (λ l. l.threads) layout in
     let mutexes = ap (λ l. l.mutexes) layout in
     let conditions = ap (λ l. l.conditions) layout in

@@ -11,11 +11,11 @@ use Rattle.pipeline.proofs.Passing.{Closes, closes, both_new}
 use Rattle.pipeline.proofs.line.run.Goals as goal
 
 pub open_package-requires-clause-holds : goal.open_package-requires-clause-holds
-open_package-requires-clause-holds g c κs = rings_begin c.in_ok-rings.rings.items 3 (both_new c.in_ok-rings.rings.items c.in_ok-rings.ensures)
+open_package-requires-clause-holds g c κs = rings_begin c.in_ok-rings.rings.items c.of-layout.result.threads (both_new c.in_ok-rings.rings.items c.in_ok-rings.ensures)
 
 pub at_once-requires-after_bounds : goal.at_once-requires-after_bounds
 at_once-requires-after_bounds g c κs within = λ n t at.
-    let layout = c.in_ok-p.ensures.package.0 in
+    let layout = c.in_ok-p.ensures.package.0 ∙ c.of-layout.ensures in
     (subst (λ l. HasBuffers l) (sym layout) (record { mutexes = lit≤ tt; conditions = lit≤ tt }), first_own c.in_ok-p.p (λ w t. []) n t (c.in_ok-p.ensures.threads n t at))
 
 pub close_package-requires-clause-count : goal.close_package-requires-clause-count
@@ -37,8 +37,8 @@ returns g c =
     let back = c.in_ok-threads.ensures.each n t at in
     let own : HasEnded (IsStage c.args.count back.left back.was.number) p back.was.number t = (let goes = back.goes in search rules) in
     (back.left, back.is_left, subst (λ k. HasEnded (IsStage c.args.count back.left k) p k t) (c.in_ok-p.ensures.threads n back.was back.is_was).number own) in
-    let was = c.in_ok-p.ensures.count in
-    let layout = c.in_ok-p.ensures.package.0 in
+    let was = c.in_ok-p.ensures.count ∙ ap (λ l. l.threads) c.of-layout.ensures in
+    let layout = c.in_ok-p.ensures.package.0 ∙ c.of-layout.ensures in
     let mutexes = ap (λ l. l.mutexes) layout in
     let many = c.in_ok-threads.ensures.threads in
     let three : length threads ≡ 3 = omega arith in

@@ -1,4 +1,4 @@
-use Rattle.std.proofs.Common.{arith, ap, refl, subst}
+use Rattle.std.proofs.Common.{◌∙◌, arith, ap, refl, subst}
 use Rattle.nub.specs.Ended.{IsDone}
 use Rattle.nub.proofs.Users.{first_own}
 use Rattle.barrier_once.specs.Rounds.{fresh_share}
@@ -7,12 +7,14 @@ use Rattle.rounds_tests.proofs.Placing.{placed_in}
 use Rattle.rounds_tests.proofs.once.offered_alone.Goals as goal
 
 pub open_package-requires-clause-holds : goal.open_package-requires-clause-holds
-open_package-requires-clause-holds g c κs = begins _ c.in_ok-cells.cells.items 1 c.places.ensures c.in_ok-cells.ensures.items (omega arith) (omega arith) refl
+open_package-requires-clause-holds g c κs =
+    let wide = ap (λ l. l.threads) c.of-layout.ensures in
+    begins _ c.in_ok-cells.cells.items c.of-layout.result.threads c.places.ensures c.in_ok-cells.ensures.items (omega arith) (omega arith) wide
 
 pub at_once-requires-after_bounds : goal.at_once-requires-after_bounds
 at_once-requires-after_bounds g c κs within = λ n t at.
     let opened = c.in_ok-p.ensures.package in
-    (placed_in c.in_ok-p.p _ 1 opened.0 opened.2 c.places.ensures refl, ap (λ w. w.most) opened.2, first_own c.in_ok-p.p (λ w k. fresh_share) n t (c.in_ok-p.ensures.threads n t at))
+    (placed_in c.in_ok-p.p _ 1 (opened.0 ∙ c.of-layout.ensures) opened.2 c.places.ensures refl, ap (λ w. w.most) opened.2, first_own c.in_ok-p.p (λ w k. fresh_share) n t (c.in_ok-p.ensures.threads n t at))
 
 pub close_package-requires-clause-threads : goal.close_package-requires-clause-threads
 close_package-requires-clause-threads g c κs = λ n t at.

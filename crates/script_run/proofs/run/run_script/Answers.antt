@@ -4,8 +4,10 @@ use Rattle.std.proofs.lemmas.List.{length-replicate}
 use Rattle.std.proofs.lemmas.List.Elements.{recursion_from_All}
 use Rattle.std.specs.List.{All}
 use Rattle.larch_actions.specs.declared.event.Layout.{Layout}
-use Rattle.larch_actions.specs.Actions.{by_thread}
+use Rattle.larch_actions.specs.Actions.{IsClosed, by_thread}
 use Rattle.larch_actions.specs.Layout.{HasNames}
+use Rattle.larch_actions.proofs.Names.{few_of}
+use Rattle.larch_actions.specs.declared.kind.Kind.TheVariants.{Thread}
 use Rattle.firefly_script.specs.declared.line.Line.{Line}
 use Rattle.firefly_script.specs.Operations.{none_held, MayFollow}
 use Rattle.firefly_script.specs.Runs.{AreEventsOf, total}
@@ -16,7 +18,7 @@ use Rattle.script_run.proofs.run.run_script.Goals as goal
 
 pub open_package-requires-clause-holds : goal.open_package-requires-clause-holds
 open_package-requires-clause-holds g c κs =
-    first_sums c.layout-layout.result.mutexes c.layout-layout.result.threads c.in_ok-values.values.items (omega (arith, c.layout-layout.ensures.lawful.threads)) c.in_ok-values.ensures
+    first_sums c.layout-layout.result.mutexes c.layout-layout.result.threads c.in_ok-values.values.items (few_of c.layout-layout.result c.layout-layout.ensures.lawful Thread) c.in_ok-values.ensures
 
 pub open_package-requires-clause-values : goal.open_package-requires-clause-values
 open_package-requires-clause-values g c κs = ap length c.in_ok-values.ensures ∙ length-replicate c.layout-layout.result.mutexes 0
@@ -64,7 +66,7 @@ returns-clause-trace g c =
     subst Q lines (rows_of c.in_ok-pkg.pkg.layout c.in_ok-pkg.pkg c.lines-2.result.now c.in_ok-threads.threads.items c.args.script.now.layout.threads w.0 count played w.2 t low) in (
       w.0,
       w.1,
-      w.2.closed,
+      subst (λ (l : Layout). IsClosed l.version w.0) (c.in_ok-pkg.ensures.package.0 ∙ layout) w.2.closed,
       recursion_from_All (HasNames c.args.script.now.layout) w.0 (subst (λ (l : Layout). All (HasNames l) w.0) (c.in_ok-pkg.ensures.package.0 ∙ layout) w.2.names),
       own,
     ))
@@ -82,5 +84,5 @@ returns-clause-values g c =
     if_ok c.close_package.result _ _
     (λ r w m low.
     let Q : List Line → Type 0 = λ xs. get_or r.values m 0 ≡ total xs m in
-    subst Q lines (values_of c.in_ok-pkg.pkg c.args.script.now.layout c.lines-2.result.now c.in_ok-threads.threads.items r.values script.lawful (subst F (sym lines) script.follow) count played w.1 (w.0 ∙ ap (λ l. l.mutexes) same) m low))
+    subst Q lines (values_of c.in_ok-pkg.pkg c.args.script.now.layout c.lines-2.result.now c.in_ok-threads.threads.items r.values script.lawful.lawful (subst F (sym lines) script.follow) count played w.1 (w.0 ∙ ap (λ l. l.mutexes) same) m low))
     c.close_package.ensures.values
