@@ -1,13 +1,15 @@
 -- The rule of readers and writers is kept by each allowed change.
-use Rattle.std.specs.Prelude.{◌≡◌, ◌≢◌, ℕ, ◌+◌, ◌≤◌, cond, List, [], ◌∷◌, length, slice_set, Option as Opt, Some, None}
-use Rattle.std.proofs.Common.{zero, suc, arith, sym, ap, subst, ◌∙◌, ⊎_elim, refl}
+use Rattle.std.specs.Prelude.{◌≡◌, ◌≢◌, ℕ, ◌+◌, ◌≤◌, cond, List, ◌∷◌, slice_set, Option as Opt, Some, None}
+use Rattle.std.proofs.Common.{arith, sym, ap, subst, ◌∙◌, ⊎_elim, refl}
 use Rattle.std.proofs.lemmas.List.{length-set}
 use Rattle.std.proofs.lemmas.Option.{same_Some}
 use Rattle.std.proofs.lemmas.Bool.{eq-eqb, cases_eq}
 use Rattle.std.proofs.lemmas.Bool.Decides.{nat_tests}
-use mathlib.Core.Option.{some, some-injective, some-ne-none}
+use mathlib.Core.Option.{some, some-injective}
 use lib.ListN.{get_elem?}
 use Rattle.atomic_table.proofs.Lists.{at_set, set_here, set_else}
+use Rattle.nub.proofs.Guards.{guarded_after}
+use Rattle.nub.proofs.Totals.{own_part, part_set, total_most}
 use Rattle.nub.proofs.Users.{from_at}
 use Rattle.readers_writers.specs.declared.role.Role.{Role}
 use Rattle.readers_writers.specs.declared.role.Role.TheVariants.{Idle, Reading, Writing}
@@ -21,25 +23,14 @@ role_here m role s = ap (λ b. cond b role (role_of s m)) (eq-eqb m m refl)
 pub role_there : (m k : ℕ) (role : Role) (s : List Turn) → k ≢ m → role_of (turn m role ∷ s) k ≡ role_of s k
 role_there m k role s n = grind (arith, nat_tests)
 
-reading-set : (m : ℕ) (shares : List (List Turn)) (t : ℕ) (s r : List Turn) → get_elem? shares t ≡ some s
-    → reading m (slice_set shares t r) + one_if_reading (role_of s m) ≡ reading m shares + one_if_reading (role_of r m)
-reading-set m [] t s r e = absurd (some-ne-none s (sym e))
-reading-set m (x ∷ xs) zero s r e = let h : one_if_reading (role_of x m) ≡ one_if_reading (role_of s m) = ap (λ y. one_if_reading (role_of y m)) (some-injective x s e) in omega arith
-reading-set m (x ∷ xs) (suc t) s r e = let h = reading-set m xs t s r e in omega arith
-
-reading-own : (m : ℕ) (shares : List (List Turn)) (t : ℕ) (s : List Turn) → get_elem? shares t ≡ some s → one_if_reading (role_of s m) ≤ reading m shares
-reading-own m [] t s e = absurd (some-ne-none s (sym e))
-reading-own m (x ∷ xs) zero s e = let h : one_if_reading (role_of x m) ≡ one_if_reading (role_of s m) = ap (λ y. one_if_reading (role_of y m)) (some-injective x s e) in omega arith
-reading-own m (x ∷ xs) (suc t) s e = let h = reading-own m xs t s e in omega arith
+-- 1 where the thread with this share reads behind the mutex
+abbrev reads_at : ℕ → List Turn → ℕ
+reads_at m s = one_if_reading (role_of s m)
 
 one-small : (r : Role) → one_if_reading r ≤ 1
 one-small Idle = omega arith
 one-small Reading = omega arith
 one-small Writing = omega arith
-
-reading-few : (m : ℕ) (shares : List (List Turn)) → reading m shares ≤ length shares
-reading-few m [] = omega arith
-reading-few m (x ∷ xs) = let h = reading-few m xs in let o = one-small (role_of x m) in omega arith
 
 no_one : (w : Opt ℕ) → ((t : ℕ) → w ≡ Some t → ⊥) → w ≡ None
 no_one None n = refl
@@ -54,11 +45,11 @@ fits_known w values shares h m x at t s there =
     let rule = h.each m x at in
     let readers = rule.readers in
     let few = h.few in
-    let all = reading-few m shares in
+    let all = total_most (reads_at m) 1 shares (λ t s e. one-small (role_of s m)) in
     record {
       few = omega arith;
       reads = λ is.
-          let own = reading-own m shares t s there in
+          let own = own_part (reads_at m) shares t s there in
           let one : one_if_reading (role_of s m) ≡ 1 = ap one_if_reading is in
           let any : 1 ≤ x.readers = omega arith in
           (any, no-writer m x shares rule any);
@@ -69,7 +60,7 @@ fits_known w values shares h m x at t s there =
 rule-same : (m : ℕ) (q : RwState) (shares : List (List Turn)) (t : ℕ) (s r : List Turn) → get_elem? shares t ≡ some s → role_of r m ≡ role_of s m
     → IsRole m q shares → IsRole m q (slice_set shares t r)
 rule-same m q shares t s r there same h = record {
-  readers = let sum = reading-set m shares t s r there in let one : one_if_reading (role_of r m) ≡ one_if_reading (role_of s m) = ap one_if_reading same in let old = h.readers in omega arith;
+  readers = let sum = part_set (reads_at m) shares t s r there in let one : one_if_reading (role_of r m) ≡ one_if_reading (role_of s m) = ap one_if_reading same in let old = h.readers in omega arith;
   writes = λ k is. let old = h.writes k is in ⊎_elim
       (λ (p : k ≡ t). (
         r,
@@ -112,13 +103,13 @@ rule-goes : (m t : ℕ) (old role : Role) (x y : RwState) (shares : List (List T
 rule-goes m t Idle Reading x y shares s r there was now goes h =
     let none : y.writer ≡ None = ap (λ (q : RwState). q.writer) goes.1 ∙ goes.0 in
     let more : y.readers ≡ x.readers + 1 = ap (λ (q : RwState). q.readers) goes.1 in
-    let sum = reading-set m shares t s r there in
+    let sum = part_set (reads_at m) shares t s r there in
     let a : one_if_reading (role_of s m) ≡ 0 = ap one_if_reading was in
     let b : one_if_reading (role_of r m) ≡ 1 = ap one_if_reading now in
     let old = h.readers in
     rule-none m y shares t r none (omega arith) (λ k u n e is. is_none x.writer k goes.0 (h.writer k u e is)) (reading-writes (role_of r m) now)
 rule-goes m t Reading Idle x y shares s r there was now goes h =
-    let sum = reading-set m shares t s r there in
+    let sum = part_set (reads_at m) shares t s r there in
     let a : one_if_reading (role_of s m) ≡ 1 = ap one_if_reading was in
     let b : one_if_reading (role_of r m) ≡ 0 = ap one_if_reading now in
     let old = h.readers in
@@ -128,7 +119,7 @@ rule-goes m t Reading Idle x y shares s r there was now goes h =
 rule-goes m t Idle Writing x y shares s r there was now goes h =
     let is : y.writer ≡ Some t = ap (λ (q : RwState). q.writer) goes.2 in
     let same : y.readers ≡ x.readers = ap (λ (q : RwState). q.readers) goes.2 in
-    let sum = reading-set m shares t s r there in
+    let sum = part_set (reads_at m) shares t s r there in
     let a : one_if_reading (role_of s m) ≡ 0 = ap one_if_reading was in
     let b : one_if_reading (role_of r m) ≡ 0 = ap one_if_reading now in
     let old = h.readers in
@@ -145,7 +136,7 @@ rule-goes m t Idle Writing x y shares s r there was now goes h =
 rule-goes m t Writing Idle x y shares s r there was now goes h =
     let none : y.writer ≡ None = ap (λ (q : RwState). q.writer) goes in
     let same : y.readers ≡ x.readers = ap (λ (q : RwState). q.readers) goes in
-    let sum = reading-set m shares t s r there in
+    let sum = part_set (reads_at m) shares t s r there in
     let a : one_if_reading (role_of s m) ≡ 0 = ap one_if_reading was in
     let b : one_if_reading (role_of r m) ≡ 0 = ap one_if_reading now in
     let old = h.readers in
@@ -158,16 +149,17 @@ rule-goes m t Writing Writing x y shares s r there was now goes h = absurd goes
 
 pub roles_after : (w : Prim.Unit {0}) (values : List RwState) (shares : List (List Turn)) → AreRoles values shares → (m : ℕ) (x y : RwState) → get_elem? values m ≡ some x
     → (t : ℕ) (s r : List Turn) → get_elem? shares t ≡ some s → Allowed m t x y s r → AreRoles (slice_set values m y) (slice_set shares t r)
-roles_after w values shares h m x y at t s r there ok = record {
-  few = let a = length-set shares t r in let b = h.few in omega arith;
-  each = λ k z e. ⊎_elim
-      (λ (p : (k ≡ m) × (y ≡ z)). subst (λ j. IsRole j z (slice_set shares t r)) (sym p.0) (subst (λ v. IsRole m v (slice_set shares t r)) p.1 (⊎_elim
-      (λ (o : (y ≡ x) × (r ≡ s)). subst (λ v. IsRole m v (slice_set shares t r)) (sym o.0) (rule-same m x shares t s r there (ap (λ l. role_of l m) o.1) (h.each m x at)))
-      (λ (o : (role : Role) × Goes t (role_of s m) role x y × (r ≡ turn m role ∷ s)). rule-goes m t (role_of s m) o.0 x y shares s r there refl (ap (λ l. role_of l m) o.2 ∙ role_here m o.0 s) o.1 (h.each m x at))
-      ok)))
-      (λ (p : (k ≢ m) × (get_elem? values k ≡ some z)). rule-same k z shares t s r there (⊎_elim
-      (λ (o : (y ≡ x) × (r ≡ s)). ap (λ l. role_of l k) o.1)
-      (λ (o : (role : Role) × Goes t (role_of s m) role x y × (r ≡ turn m role ∷ s)). ap (λ l. role_of l k) o.2 ∙ role_there m k o.0 s p.0)
-      ok) (h.each k z p.1))
-      (at_set values m k y z e);
-}
+roles_after w values shares h m x y at t s r there ok =
+    let next = slice_set shares t r in
+    let here : IsRole m x shares → IsRole m y next = ⊎_elim
+    (λ (o : (y ≡ x) × (r ≡ s)). λ rule. subst (λ v. IsRole m v next) (sym o.0) (rule-same m x shares t s r there (ap (λ l. role_of l m) o.1) rule))
+    (λ (o : (role : Role) × Goes t (role_of s m) role x y × (r ≡ turn m role ∷ s)). λ rule. rule-goes m t (role_of s m) o.0 x y shares s r there refl (ap (λ l. role_of l m) o.2 ∙ role_here m o.0 s) o.1 rule)
+    ok in
+    let there_is : (k : ℕ) → k ≢ m → role_of r k ≡ role_of s k = λ k other. ⊎_elim
+    (λ (o : (y ≡ x) × (r ≡ s)). ap (λ l. role_of l k) o.1)
+    (λ (o : (role : Role) × Goes t (role_of s m) role x y × (r ≡ turn m role ∷ s)). ap (λ l. role_of l k) o.2 ∙ role_there m k o.0 s other)
+    ok in
+    record {
+      few = let a = length-set shares t r in let b = h.few in omega arith;
+      each = (guarded_after IsRole values shares next m x y (record { each = h.each }) at here (λ k z other rule. rule-same k z shares t s r there (there_is k other) rule)).each;
+    }

@@ -3,6 +3,7 @@ use Rattle.std.specs.Prelude.{◌≡◌, ◌⊎◌, ℕ, ◌+◌, ◌<◌, ◌�
 use mathlib.Core.Option.{some}
 use lib.ListN.{get_elem?}
 use Rattle.larch_actions.specs.declared.event.Layout.{Layout}
+use Rattle.nub.specs.Totals.{total}
 use Rattle.readers_writers.specs.declared.role.Role.{Role}
 use Rattle.readers_writers.specs.declared.role.Role.TheVariants.{Idle, Reading, Writing}
 use Rattle.readers_writers.specs.declared.role.Turn.{Turn}
@@ -27,8 +28,7 @@ one_if_reading Reading = 1
 one_if_reading _ = 0
 
 abbrev pub reading : ℕ → List (List Turn) → ℕ
-reading m [] = 0
-reading m (s ∷ shares) = one_if_reading (role_of s m) + reading m shares
+reading m shares = total (λ s. one_if_reading (role_of s m)) shares
 
 -- behind the mutex m: as many readers as threads that read, the one writer is the thread that writes, and never both
 pub record IsRole (m : ℕ) (q : RwState) (shares : List (List Turn)) : Type 0 where

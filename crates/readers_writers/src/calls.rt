@@ -1,17 +1,22 @@
 //! Reading and writing.
-ghost use Rattle.std.specs.Prelude.{◌≡◌, ◌≤◌, ℕ, List, ◌∷◌, None, Some};
+ghost use Rattle.std.specs.Prelude.{◌≡◌, ◌≤◌, ℕ, List, [], ◌∷◌, slice_set, None, Some, true, false};
 ghost use mathlib.Core.Option.{some};
 ghost use lib.ListN.{get_elem?};
-ghost use Rattle.nub.specs.Rest.{AtRest, IsSame};
+ghost use Rattle.nub_rule.specs.Known.{Holds};
+ghost use Rattle.nub_rule.specs.Plays.{broadcast_action, event, release_event};
+ghost use Rattle.nub.specs.Idle.{IsIdle};
+ghost use Rattle.nub.specs.Rest.{Adds, AtRest, IsSame};
 ghost use Rattle.readers_writers.specs.Calls.{Enters, LeavesAndWakes, LeavesReaders};
 ghost use Rattle.readers_writers.specs.declared.role.Role.TheVariants.{Idle, Reading, Writing};
 ghost use Rattle.readers_writers.specs.declared.role.Turn.{Turn};
-ghost use Rattle.readers_writers.specs.Roles.{IsNamed, role_of, turn};
+ghost use Rattle.readers_writers.specs.declared.state.RwState.{RwState};
+ghost use Rattle.readers_writers.specs.Roles.{Allowed, IsNamed, role_of, turn};
 
 use crate::rw_uses::{Idles, Reads, RwUses, Writes};
-use crate::state::RwAt;
-use condition::{broadcast, wait};
-use nub_rule::{NoChange, Package, Thread};
+use crate::state::{RwAt, RwState};
+use condition::broadcast;
+use monitor::locked_when;
+use nub_rule::{Package, Thread};
 use std::sync::Wait;
 use user_mutex::{acquire, release};
 
@@ -29,17 +34,11 @@ pub fn begin_read<R: Wait>(rt: &R, p: &Package<RwUses>, me: &mut Thread<RwUses>,
     ensures ran { Enters me.old.number at.now.mutex.0 at.now.changed.0 me.old me.new }
     ensures held { me.new.held ≡ me.old.held }
     ensures role { (s : List Turn) → me.old.share ≡ Some s → me.new.share ≡ Some (turn at.now.mutex.0 Reading ∷ s) }
+    ensures idle { (n : ℕ) (s : List Turn) → IsIdle p.now n s me.old → IsIdle p.now n (turn at.now.mutex.0 Reading ∷ s) me.new }
 {
-    let mut state = acquire(rt, p, me, at.mutex);
-    for _ in rt.forever() {
-        if state.writer.is_none() {
-            state.readers += 1;
-            release::<RwUses, Reads, R>(rt, p, me, at.mutex, state);
-            return;
-        }
-        state = wait::<RwUses, NoChange, R>(rt, p, me, at.mutex, at.changed, state);
-    }
-    unreachable!()
+    let may_read = |state: &RwState| state.writer.is_none();
+    let read = |state: &mut RwState| state.readers += 1;
+    locked_when::<RwUses, Reads, (), _, _, R>(rt, p, me, at.mutex, at.changed, &may_read, read);
 }
 
 /// Ends to read. The last reader wakes those who wait.
@@ -56,14 +55,12 @@ pub fn end_read<R: Wait>(rt: &R, p: &Package<RwUses>, me: &mut Thread<RwUses>, a
     ensures ran { (n : ℕ) × (1 ≤ n) × (n ≤ 64) × LeavesReaders n me.old.number at.now.mutex.0 at.now.changed.0 me.old me.new }
     ensures held { me.new.held ≡ me.old.held }
     ensures role { (s : List Turn) → me.old.share ≡ Some s → me.new.share ≡ Some (turn at.now.mutex.0 Idle ∷ s) }
+    ensures idle { (n : ℕ) (s : List Turn) → IsIdle p.now n s me.old → IsIdle p.now n (turn at.now.mutex.0 Idle ∷ s) me.new }
 {
     let mut state = acquire(rt, p, me, at.mutex);
     state.readers -= 1;
-    // Before the mutex is given back: whoever is woken is unparked once it has been, and finds it free.
-    if state.readers == 0 {
-        broadcast(rt, p, me, at.changed);
-    }
-    release::<RwUses, Idles, R>(rt, p, me, at.mutex, state);
+    let last = state.readers == 0;
+    leave(rt, p, me, at, state, last);
 }
 
 /// Begins to write: from here on until its `end_write` no other thread reads or writes.
@@ -80,17 +77,12 @@ pub fn begin_write<R: Wait>(rt: &R, p: &Package<RwUses>, me: &mut Thread<RwUses>
     ensures ran { Enters me.old.number at.now.mutex.0 at.now.changed.0 me.old me.new }
     ensures held { me.new.held ≡ me.old.held }
     ensures role { (s : List Turn) → me.old.share ≡ Some s → me.new.share ≡ Some (turn at.now.mutex.0 Writing ∷ s) }
+    ensures idle { (n : ℕ) (s : List Turn) → IsIdle p.now n s me.old → IsIdle p.now n (turn at.now.mutex.0 Writing ∷ s) me.new }
 {
-    let mut state = acquire(rt, p, me, at.mutex);
-    for _ in rt.forever() {
-        if state.writer.is_none() && state.readers == 0 {
-            state.writer = Some(me.number());
-            release::<RwUses, Writes, R>(rt, p, me, at.mutex, state);
-            return;
-        }
-        state = wait::<RwUses, NoChange, R>(rt, p, me, at.mutex, at.changed, state);
-    }
-    unreachable!()
+    let writer = Some(me.number());
+    let may_write = |state: &RwState| state.writer.is_none() && state.readers == 0;
+    let write = |state: &mut RwState| state.writer = writer;
+    locked_when::<RwUses, Writes, (), _, _, R>(rt, p, me, at.mutex, at.changed, &may_write, write);
 }
 
 /// Ends to write, and wakes those who wait.
@@ -107,10 +99,40 @@ pub fn end_write<R: Wait>(rt: &R, p: &Package<RwUses>, me: &mut Thread<RwUses>, 
     ensures ran { LeavesAndWakes me.old.number at.now.mutex.0 at.now.changed.0 me.old me.new }
     ensures held { me.new.held ≡ me.old.held }
     ensures role { (s : List Turn) → me.old.share ≡ Some s → me.new.share ≡ Some (turn at.now.mutex.0 Idle ∷ s) }
+    ensures idle { (n : ℕ) (s : List Turn) → IsIdle p.now n s me.old → IsIdle p.now n (turn at.now.mutex.0 Idle ∷ s) me.new }
 {
     let mut state = acquire(rt, p, me, at.mutex);
     state.writer = None;
-    // Before the mutex is given back, as above.
-    broadcast(rt, p, me, at.changed);
-    release::<RwUses, Idles, R>(rt, p, me, at.mutex, state);
+    leave(rt, p, me, at, state, true);
+}
+
+/// Gives the mutex back with this state, and before that wakes all that wait, where it is to.
+fn leave<R: Wait>(
+    rt: &R,
+    p: &Package<RwUses>,
+    me: &mut Thread<RwUses>,
+    at: &RwAt,
+    state: RwState,
+    wake: bool,
+)
+    requires rest { AtRest p.now me.old }
+    requires named { IsNamed p.now.layout at.now }
+    requires world { me.old.world ≡ Some p.now.world }
+    requires may { (x : RwState) × Holds me.old at.now.mutex.0 x × ((s : List Turn) → me.old.share ≡ Some s
+        → Allowed at.now.mutex.0 me.old.number x state s (turn at.now.mutex.0 Idle ∷ s)) }
+    ensures rest { AtRest p.now me.new }
+    ensures same { IsSame me.old me.new }
+    ensures woke { wake ≡ true → Adds (event me.old.number (broadcast_action at.now.changed.0 []) ∷ [])
+        (release_event me.old.number at.now.mutex.0) me.old me.new }
+    ensures quiet { wake ≡ false → Adds [] (release_event me.old.number at.now.mutex.0) me.old me.new }
+    ensures held { me.new.held ≡ slice_set me.old.held at.now.mutex.0 None }
+    ensures role { (s : List Turn) → me.old.share ≡ Some s → me.new.share ≡ Some (turn at.now.mutex.0 Idle ∷ s) }
+{
+    // Before the mutex is given back: whoever is woken is unparked once it has been, and finds it free.
+    if wake {
+        broadcast(rt, p, me, at.changed);
+        release::<RwUses, Idles, R>(rt, p, me, at.mutex, state);
+    } else {
+        release::<RwUses, Idles, R>(rt, p, me, at.mutex, state);
+    }
 }

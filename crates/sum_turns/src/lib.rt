@@ -1,9 +1,9 @@
 //! Turns at a sum: the monitor that the tests and the workloads of conditions have.
 //!
-//! Promises: `take_turn` adds 1 to the sum under a mutex, and only to a value that its test accepts. Stands on the mutex and on conditions.
-//! Nothing is said of waiting: not that a turn ever comes, nor whom a Signal takes.
+//! Promises: `take_turn` adds 1 to the sum under a mutex, and only to a value that its test accepts. Stands on `monitor`, on the mutex and
+//! on conditions. Nothing is said of waiting: not that a turn ever comes, nor whom a Signal takes.
 #![tactic(auto)]
 
 mod turns;
 
-pub use turns::{Turn, Wake, take_turn, wait_until};
+pub use turns::{Turn, Wake, take_turn};

@@ -1,8 +1,10 @@
 -- The tickets that are left, and what each thread has sold.
-use Rattle.std.specs.Prelude.{◌≡◌, ℕ, ◌+◌, ◌≤◌, true, false, List, [], ◌∷◌, length, Some}
+use Rattle.std.specs.Prelude.{◌≡◌, ℕ, ◌+◌, ◌≤◌, true, false, List, Some}
 use mathlib.Core.Option.{some}
 use lib.ListN.{get_elem?}
 use Rattle.nub_rule.specs.Known.{Known}
+use Rattle.nub.specs.Guarded.{OneValue}
+use Rattle.nub.specs.Totals.{total}
 use Rattle.ticket_sale.specs.declared.uses.Sold.{Sold}
 
 -- of who has sold nothing yet
@@ -11,14 +13,16 @@ none_sold = record { count = 0; none_left = false }
 
 -- how many tickets the shares have sold
 abbrev pub sold_by : List Sold → ℕ
-sold_by [] = 0
-sold_by (s ∷ shares) = s.count + sold_by shares
+sold_by shares = total (λ s. s.count) shares
 
 -- each ticket is left or was sold once, and where a thread has seen none left, none is
-pub record AreSold (tickets : ℕ) (values : List ℕ) (shares : List Sold) : Type 0 where
-  pub one : length values ≡ 1
-  pub each : (m left : ℕ) → get_elem? values m ≡ some left → left + sold_by shares ≡ tickets
-  pub seen : (m left t : ℕ) (s : Sold) → get_elem? values m ≡ some left → get_elem? shares t ≡ some s → s.none_left ≡ true → left ≡ 0
+pub record IsSold (tickets left : ℕ) (shares : List Sold) : Type 0 where
+  pub all : left + sold_by shares ≡ tickets
+  pub seen : (t : ℕ) (s : Sold) → get_elem? shares t ≡ some s → s.none_left ≡ true → left ≡ 0
+
+-- so behind the one mutex
+abbrev pub AreSold : ℕ → List ℕ → List Sold → Type 0
+AreSold tickets values shares = OneValue (IsSold tickets) values shares
 
 -- what a holder knows of the tickets left and of its own share
 pub record IsPart (tickets left : ℕ) (s : Sold) : Type 0 where

@@ -74,12 +74,7 @@ pub fn sale<R: Threads + Wait + Sync>(
     ensures none_left { IfOk result (λ r. r.1.values ≡ 0 ∷ []) }
     ensures each { IfOk result (λ r. Each (IsSaid tickets r.0.items) r.1.threads) }
 {
-    let layout = Layout {
-        threads,
-        mutexes: 1,
-        conditions: 0,
-        semaphores: 0,
-    };
+    let layout = Layout::of(threads, 1, 0, 0);
     let left = vec![in alloc; tickets]?;
     let (p, threads) = open_package::<Tickets>(alloc, layout, &tickets, left, false)?;
     let (threads, sold) = at_once(

@@ -1,71 +1,60 @@
-use Rattle.std.proofs.Common.{◌≡◌, ◌+◌, ℕ, List, ◌∷◌, Some, None, rules, arith, refl, sym, ap, subst, ◌∙◌, slice_set}
-use Rattle.std.proofs.lemmas.List.{set-set}
+use Rattle.std.proofs.Common.{◌≡◌, ℕ, ◌≤◌, ◌∷◌, [], arith, refl, sym, ap, ◌∙◌}
+use Rattle.std.proofs.lemmas.Bool.Decides.{nat_tests}
 use Rattle.std.proofs.lemmas.Option.{same_Some}
-use mathlib.Core.Option.{some}
-use lib.ListN.{get_elem?}
-use Rattle.atomic_table.proofs.Lists.{set_again}
-use Rattle.nub_rule.specs.Known.{Known}
+use Rattle.nub_rule.specs.Plays.{broadcast_action, event}
+use Rattle.nub.proofs.Holding.{held_back}
+use Rattle.nub.proofs.Users.{idle_again, same_on}
 use Rattle.readers_writers.specs.declared.role.Role.TheVariants.{Idle, Reading}
-use Rattle.readers_writers.specs.declared.role.Turn.{Turn}
-use Rattle.readers_writers.specs.declared.state.RwState.{RwState}
-use Rattle.readers_writers.specs.Roles.{Allowed, role_of, turn}
-use Rattle.readers_writers.proofs.Going.{goes_by, left_after, woke_after}
-use Rattle.readers_writers.proofs.calls.end_read.Goals.{then-state-eq0, else-state-eq0}
+use Rattle.readers_writers.specs.Roles.{role_of, turn}
+use Rattle.readers_writers.proofs.Going.{goes_by, left_by}
+use Rattle.readers_writers.proofs.calls.end_read.Given.{Over}
+use Rattle.readers_writers.proofs.calls.end_read.Goals.{After-acquire-state, After-leave}
 use Rattle.readers_writers.proofs.calls.end_read.Goals as goal
 
--- a reader may end, whoever was woken meanwhile
-may_end : (m : ℕ) (a b : Known RwState (List Turn) Prim.Unit) (x y : RwState) (s : List Turn) → a.share ≡ Some s → role_of s m ≡ Reading → get_elem? a.held m ≡ some (Some x) → x.readers ≡ y.readers + 1 → y.writer ≡ x.writer → b.held ≡ a.held → b.share ≡ a.share
-    → (z : RwState) × (get_elem? b.held m ≡ some (Some z)) × ((w : Prim.Unit) (r : List Turn) → b.world ≡ Some w → b.share ≡ Some r → Allowed m b.number z y r (turn m Idle ∷ r))
-may_end m a b x y s mine reads holds fewer writer held share = (
-  x,
-  ap (λ l. get_elem? l m) held ∙ holds,
-  λ w r world now.
-      let same = same_Some s r (sym mine ∙ (sym share ∙ now)) in
-      goes_by m b.number Reading Idle x y r (subst (λ (u : List Turn). role_of u m ≡ Reading) same reads) (fewer, writer),
-)
+-- the thread is one of those that read
+known : (g : Over) (c : After-acquire-state g) → (1 ≤ c.acquire-state.result.readers) × (c.acquire-state.result.readers ≤ 64)
+known g c =
+    let role = c.requires.role in
+    let fits = c.acquire-state.ensures.fits c.args.p.now.world role.0 c.requires.world role.1 in
+    ((fits.reads role.2).0, fits.few)
 
-pub release-requires-clause-may : goal.release-requires-clause-may
-release-requires-clause-may g c κs within =
+pub leave-requires-clause-may : goal.leave-requires-clause-may
+leave-requires-clause-may g c =
     let m = c.args.at.now.mutex.0 in
     let role = c.requires.role in
     let got = c.acquire-state.ensures in
-    let known = got.fits c.args.p.now.world role.0 c.requires.world role.1 in
-    let one = known.reads role.2 in
-    elim c.if-state-eq0.branch [
-      | then-state-eq0 w ↦ may_end m c.acquire-state.new.me c.if-state-eq0.me c.acquire-state.result _ role.0 (got.share ∙ role.1) role.2 got.holds (omega (arith, one.0)) refl (ap (λ k. k.held) w.me-is ∙ w.broadcast.ensures.held) (ap (λ k. k.share) w.me-is ∙ w.broadcast.ensures.share)
-      | else-state-eq0 w ↦ may_end m c.acquire-state.new.me c.if-state-eq0.me c.acquire-state.result _ role.0 (got.share ∙ role.1) role.2 got.holds (omega (arith, one.0)) refl (ap (λ k. k.held) w.me-is) (ap (λ k. k.share) w.me-is)
-    ]
+    let one = (known g (goal.at.leave-requires-clause-may g c).After-acquire-state).0 in (
+      c.acquire-state.result,
+      got.holds,
+      λ s share. goes_by m c.acquire-state.new.me.number Reading Idle c.acquire-state.result _ s (ap (λ u. role_of u m) (same_Some s role.0 (sym share ∙ (got.share ∙ role.1))) ∙ role.2) (omega arith, refl),
+    )
 
 pub returns-clause-ran : goal.returns-clause-ran
 returns-clause-ran g c =
+    let got = c.acquire-state.ensures in
+    let all = known g (goal.at.returns-clause-ran g c).After-acquire-state in
     let m = c.args.at.now.mutex.0 in
-    let o = c.args.at.now.changed.0 in
     let a = c.args.me.now in
     let b = c.acquire-state.new.me in
-    let d = c.if-state-eq0.me in
-    let e = c.release.new.me in
-    let role = c.requires.role in
-    let got = c.acquire-state.ensures in
-    let known = got.fits c.args.p.now.world role.0 c.requires.world role.1 in
-    let one = known.reads role.2 in (
+    let e = c.leave.new.me in (
       c.acquire-state.result.readers,
-      one.0,
-      known.few,
-      elim c.if-state-eq0.branch [
-        | then-state-eq0 w ↦ (
-          λ is. woke_after m o a b w.broadcast.new.me d e got.same w.broadcast.ensures.same w.me-is got.event w.broadcast.ensures.event c.release.ensures.event,
-          λ more. absurd (more (omega (arith, one.0, w.if-state-eq0.true))),
-        )
-        | else-state-eq0 w ↦ (
-          λ is. absurd (w.if-state-eq0.false (omega (arith, is))),
-          λ more. left_after m a b d e got.same w.me-is got.event c.release.ensures.event,
-        )
-      ],
+      all.0,
+      all.1,
+      (
+        λ is. left_by (λ (n : ℕ). event n (broadcast_action c.args.at.now.changed.0 []) ∷ []) m a b e got.same got.event (c.leave.ensures.woke (grind (arith, nat_tests))),
+        λ more. left_by (λ (n : ℕ). []) m a b e got.same got.event (c.leave.ensures.quiet (grind (arith, nat_tests))),
+      ),
     )
 
+held : (g : Over) (c : After-leave g) → c.leave.new.me.held ≡ c.args.me.now.held
+held g c = held_back c.args.me.now c.acquire-state.new.me c.leave.new.me c.args.at.now.mutex.0 c.acquire-state.result c.requires.lacks c.acquire-state.ensures.held c.leave.ensures.held
+
 pub returns-clause-held : goal.returns-clause-held
-returns-clause-held g c =
-    let m = c.args.at.now.mutex.0 in
-    let old = c.args.me.now in
-    let back : c.release.new.me.held ≡ slice_set (slice_set old.held m (Some c.acquire-state.result)) m None = search rules in
-    back ∙ (set-set old.held m (Some c.acquire-state.result) None ∙ set_again old.held m None c.requires.lacks)
+returns-clause-held g c = held g (goal.at.returns-clause-held g c).After-leave
+
+pub returns-clause-idle : goal.returns-clause-idle
+returns-clause-idle g c = λ n s i.
+    let got = c.acquire-state.ensures in
+    let left = c.leave.ensures in
+    idle_again c.args.p.now n s (turn c.args.at.now.mutex.0 Idle ∷ s) c.args.me.now c.leave.new.me i left.rest (same_on c.args.me.now c.acquire-state.new.me c.leave.new.me got.same left.same)
+    (held g (goal.at.returns-clause-idle g c).After-leave) (left.role s (got.share ∙ i.share))

@@ -1,40 +1,38 @@
-use Rattle.std.proofs.Common.{◌≡◌, List, Some, None, rules, refl, sym, ap, subst, ◌∙◌, slice_set}
-use Rattle.std.proofs.lemmas.List.{set-set}
+use Rattle.std.proofs.Common.{◌≡◌, ℕ, ◌∷◌, [], refl, sym, ap, ◌∙◌}
 use Rattle.std.proofs.lemmas.Option.{same_Some}
-use lib.ListN.{get_elem?}
-use Rattle.atomic_table.proofs.Lists.{set_again}
+use Rattle.nub_rule.specs.Plays.{broadcast_action, event}
+use Rattle.nub.proofs.Holding.{held_back}
+use Rattle.nub.proofs.Users.{idle_again, same_on}
 use Rattle.readers_writers.specs.declared.role.Role.TheVariants.{Idle, Writing}
-use Rattle.readers_writers.specs.declared.role.Turn.{Turn}
-use Rattle.readers_writers.specs.Roles.{role_of}
-use Rattle.readers_writers.proofs.Going.{goes_by, woke_after}
+use Rattle.readers_writers.specs.Roles.{role_of, turn}
+use Rattle.readers_writers.proofs.Going.{goes_by, left_by}
+use Rattle.readers_writers.proofs.calls.end_write.Given.{Over}
+use Rattle.readers_writers.proofs.calls.end_write.Goals.{After-leave}
 use Rattle.readers_writers.proofs.calls.end_write.Goals as goal
 
-pub release-requires-clause-may : goal.release-requires-clause-may
-release-requires-clause-may g c κs within =
+pub leave-requires-clause-may : goal.leave-requires-clause-may
+leave-requires-clause-may g c =
     let m = c.args.at.now.mutex.0 in
     let role = c.requires.role in
-    let got = c.acquire-state.ensures in
-    let told = c.broadcast.ensures in (
+    let got = c.acquire-state.ensures in (
       c.acquire-state.result,
-      ap (λ l. get_elem? l m) told.held ∙ got.holds,
-      λ w s world share.
-          let P : List Turn → Type 0 = λ u. role_of u m ≡ Writing in
-          let same = same_Some role.0 s (sym role.1 ∙ (sym got.share ∙ (sym told.share ∙ share))) in
-          goes_by m c.broadcast.new.me.number Writing Idle c.acquire-state.result _ s (subst P same role.2) refl,
+      got.holds,
+      λ s share. goes_by m c.acquire-state.new.me.number Writing Idle c.acquire-state.result _ s (ap (λ u. role_of u m) (same_Some s role.0 (sym share ∙ (got.share ∙ role.1))) ∙ role.2) refl,
     )
 
 pub returns-clause-ran : goal.returns-clause-ran
-returns-clause-ran g c =
-    let a = c.args.me.now in
-    let b = c.acquire-state.new.me in
-    let z = c.broadcast.new.me in
-    let got = c.acquire-state.ensures in
-    let woke = c.broadcast.ensures in
-    woke_after c.args.at.now.mutex.0 c.args.at.now.changed.0 a b z z c.release.new.me got.same woke.same refl got.event woke.event c.release.ensures.event
+returns-clause-ran g c = let got = c.acquire-state.ensures in
+    left_by (λ (n : ℕ). event n (broadcast_action c.args.at.now.changed.0 []) ∷ []) c.args.at.now.mutex.0 c.args.me.now c.acquire-state.new.me c.leave.new.me got.same got.event (c.leave.ensures.woke refl)
+
+held : (g : Over) (c : After-leave g) → c.leave.new.me.held ≡ c.args.me.now.held
+held g c = held_back c.args.me.now c.acquire-state.new.me c.leave.new.me c.args.at.now.mutex.0 c.acquire-state.result c.requires.lacks c.acquire-state.ensures.held c.leave.ensures.held
 
 pub returns-clause-held : goal.returns-clause-held
-returns-clause-held g c =
-    let m = c.args.at.now.mutex.0 in
-    let old = c.args.me.now in
-    let back : c.release.new.me.held ≡ slice_set (slice_set old.held m (Some c.acquire-state.result)) m None = search rules in
-    back ∙ (set-set old.held m (Some c.acquire-state.result) None ∙ set_again old.held m None c.requires.lacks)
+returns-clause-held g c = held g (goal.at.returns-clause-held g c).After-leave
+
+pub returns-clause-idle : goal.returns-clause-idle
+returns-clause-idle g c = λ n s i.
+    let got = c.acquire-state.ensures in
+    let left = c.leave.ensures in
+    idle_again c.args.p.now n s (turn c.args.at.now.mutex.0 Idle ∷ s) c.args.me.now c.leave.new.me i left.rest (same_on c.args.me.now c.acquire-state.new.me c.leave.new.me got.same left.same)
+    (held g (goal.at.returns-clause-idle g c).After-leave) (left.role s (got.share ∙ i.share))
