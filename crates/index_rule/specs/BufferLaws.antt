@@ -153,7 +153,7 @@ work_put root at is t x y s q p d a b does of =
     let plain = plain_put tt (as_plain at) (is_plain at) t (ring_of x) (ring_of y) s.notes q p d (ring_is x q a) (ring_is y p b) does (plain_of (λ i. MayPut root m i s) d of) in (
       ring_did root m x y s q p d (put_did (ring_of x) (ring_of y)) a b (not_first at is) does (may_put root m s d of) same,
       record { here = plain.1.here; elsewhere = plain.1.elsewhere },
-      (λ waits. record { took = refl; put = refl; notes = plain.2 waits }),
+      (λ waits. record { took = refl; put = refl; files = refl; notes = plain.2 waits }),
     )
 
 pub work_take : (root : Path) (at : BufferAt) → IsBuffer at → (t : ℕ) (x y : IndexValue) (s : Share) (q p : Held IndexItem) (d : Did IndexItem)
@@ -167,7 +167,7 @@ work_take root at is t x y s q p d a b does of =
     let plain = plain_take tt (as_plain at) (is_plain at) t (ring_of x) (ring_of y) s.notes q p d (ring_is x q a) (ring_is y p b) does of in (
       ring_did root m x y s q p d (take_did (ring_of x)) a b (not_first at is) does (may_take root m s d of) same,
       record { here = plain.1.here; elsewhere = plain.1.elsewhere },
-      (λ waits. record { took = refl; put = refl; notes = plain.2 waits }),
+      (λ waits. record { took = refl; put = refl; files = refl; notes = plain.2 waits }),
     )
 
 pub work_shut : (root : Path) (at : BufferAt) → IsBuffer at → (t : ℕ) (x y : IndexValue) (s : Share) (q p : Held IndexItem)
@@ -191,10 +191,10 @@ work_waits root at is t x y s r q p a b ok k =
     plain_waits tt (as_plain at) (is_plain at) t (ring_of x) (ring_of y) s.notes r.notes q p (ring_is x q a) (ring_is y p b) (allowed root at.mutex.0 x y s r ok.moves) k
 
 pub alike_self : (s : Share) → AreAlike s s
-alike_self s = record { took = refl; put = refl; notes = refl }
+alike_self s = record { took = refl; put = refl; files = refl; notes = refl }
 
 pub alike_on : (s r u : Share) → AreAlike s r → AreAlike r u → AreAlike s u
-alike_on s r u a b = record { took = a.took ∙ b.took; put = a.put ∙ b.put; notes = a.notes ∙ b.notes }
+alike_on s r u a b = record { took = a.took ∙ b.took; put = a.put ∙ b.put; files = a.files ∙ b.files; notes = a.notes ∙ b.notes }
 
 pub alike_may : (root : Path) (m t : ℕ) (i : IndexItem) (s r : Share) → AreAlike s r → MayPut root m i s ↔ MayPut root m i r
 alike_may root m t i s r h = (may_alike root m i s r h, may_alike root m i r s (alike_back s r h))

@@ -1,11 +1,37 @@
 -- What happens to the list of directories.
-use Rattle.std.proofs.Common.{List, []}
+use Rattle.std.specs.Prelude.{◌≡◌, ◌⊎◌, ℕ, ◌+◌, ◌≤◌, ◌<◌, List, [], ◌++◌, length}
 use Rattle.std.specs.Option.{option_to_list}
 use Rattle.firefly_outside.specs.Trees.{Path}
+use Rattle.index_rule.specs.declared.dirs.PutDirs.{PutDirs}
+use Rattle.index_rule.specs.declared.dirs.PutDirs.TheVariants.{Within, Passed, Memory}
 use Rattle.index_rule.specs.declared.dirs.Turn.{Turn}
 use Rattle.index_rule.specs.declared.dirs.Turn.TheVariants.{Now, Wait}
+use Rattle.index_rule.specs.declared.value.DirsInWork.{DirsInWork}
+use Rattle.index_rule.specs.declared.value.FoundCounts.{FoundCounts}
 
 -- the directory that a walker got
 abbrev pub got_in : Turn → List Path
 got_in (Now dir) = option_to_list dir
 got_in Wait = []
+
+-- neither limit is passed
+abbrev pub IsWithin : FoundCounts → Type 0
+IsWithin c = (c.dirs ≤ c.most_dirs) × (c.files ≤ c.most_files)
+
+-- a limit is passed
+abbrev pub IsPassed : FoundCounts → Type 0
+IsPassed c = (c.most_dirs < c.dirs) ⊎ (c.most_files < c.files)
+
+-- these directories came behind the others, and were counted, with so many files
+pub record ArePut (found : List Path) (more : ℕ) (old new : DirsInWork) : Type 0 where
+  pub waiting : new.list.waiting.items ≡ old.list.waiting.items ++ found
+  pub dirs : new.found.dirs ≡ old.found.dirs + length found
+  pub files : new.found.files ≡ old.found.files + more
+  pub most_dirs : new.found.most_dirs ≡ old.found.most_dirs
+  pub most_files : new.found.most_files ≡ old.found.most_files
+
+-- and a limit is passed exactly where that is answered; or memory wanted, and nothing changed
+abbrev pub IsPutSo : List Path → ℕ → DirsInWork → DirsInWork → PutDirs → Type 0
+IsPutSo found files old new Within = ArePut found files old new × IsWithin new.found
+IsPutSo found files old new Passed = ArePut found files old new × IsPassed new.found
+IsPutSo found files old new Memory = (new.list.waiting.items ≡ old.list.waiting.items) × (new.found ≡ old.found)

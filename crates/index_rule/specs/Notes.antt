@@ -80,7 +80,7 @@ pub taken_alike : (root : Path) (m : ℕ) (s r : Share) → AreAlike s r → pat
 taken_alike root m s r h = ap (paths_in root) (parts_alike (λ u. u.takes) takes_wait takes_step s.notes r.notes m h.notes)
 
 pub alike_back : (s r : Share) → AreAlike s r → AreAlike r s
-alike_back s r h = record { took = sym h.took; put = sym h.put; notes = sym h.notes }
+alike_back s r h = record { took = sym h.took; put = sym h.put; files = sym h.files; notes = sym h.notes }
 
 -- who took more may be the parent of more
 pub child_more : (s r : Share) → ((d : Path) → Contains s.took d → Contains r.took d) → (p : Path) → IsChildOfTook s p → IsChildOfTook r p

@@ -1,10 +1,11 @@
 -- What stands behind the mutexes at first keeps the rule.
-use Rattle.std.proofs.Common.{◌≡◌, ℕ, Bool, true, false, zero, suc, List, [], ◌∷◌, ◌++◌, map, refl, sym, ap, subst, ◌∙◌, arith}
+use Rattle.std.proofs.Common.{◌≡◌, ℕ, Bool, true, false, zero, suc, ◌+◌, List, [], ◌∷◌, ◌++◌, length, map, refl, sym, ap, subst, ◌∙◌, arith}
 use Rattle.std.specs.Prelude.{All, Contains}
 use Rattle.std.specs.List.{flat_map}
 use Rattle.std.specs.List.Sorted.{IsPermutation}
 use Rattle.std.proofs.lemmas.List.Elements.{All-nil, All-cons}
 use Rattle.std.proofs.lemmas.List.Sorted.{IsPermutation-refl}
+use Rattle.std.proofs.lemmas.List.Sums.{sum_by-cons}
 use mathlib.Core.Option.{some, some-injective, some-ne-none}
 use lib.ListN.{get_elem?}
 use Rattle.bounded_buffer.specs.declared.note.Note.{Note}
@@ -15,16 +16,22 @@ use Rattle.firefly_outside.specs.Trees.{Path}
 use Rattle.index_rule.specs.Counting.{distinct_nil, distinct_cons, contains_nil}
 use Rattle.index_rule.specs.Distinct.{AreDistinct}
 use Rattle.index_rule.specs.Shares.{Share, KeepsOwn, IsChildOfTook, IsItemAt, blank, paths_taken}
-use Rattle.index_rule.specs.Work.{IsBehind, KeepsWork, ring_of, notes_of, all_took, all_put}
+use Rattle.index_rule.specs.Work.{IsBehind, KeepsWork, ring_of, notes_of, all_took, all_put, all_files}
 use Rattle.index_rule.specs.declared.value.IndexItem.{IndexItem}
 use Rattle.index_rule.specs.declared.value.IndexValue.{IndexValue}
 use Rattle.index_rule.specs.declared.value.IndexValue.TheVariants.{Dirs, Ring}
-use Rattle.index_rule.specs.declared.value.WaitingDirs.{WaitingDirs}
+use Rattle.index_rule.specs.declared.value.DirsInWork.{DirsInWork}
 
--- a list with the root alone, and the empty buffers of files and of pieces
+-- a list with the root alone
+pub record IsFirst (root : Path) (dirs : DirsInWork) : Type 0 where
+  pub waits : dirs.list.waiting.items ≡ root ∷ []
+  pub one : dirs.found.dirs ≡ 1
+  pub none : dirs.found.files ≡ 0
+
+-- and the empty buffers of files and of pieces
 pub record IsOpening (root : Path) (values : List IndexValue) : Type 0 where
-  pub dirs : WaitingDirs
-  pub waits : dirs.waiting.items ≡ root ∷ []
+  pub dirs : DirsInWork
+  pub first : IsFirst root dirs
   pub is : values ≡ Dirs dirs ∷ Ring (fresh 256) ∷ Ring (fresh 8) ∷ []
 
 -- the shares of threads that have done nothing
@@ -34,6 +41,10 @@ blanks ns = map (λ t. blank) ns
 none_of : {Y : Type 0} (f : Share → List Y) (ns : List ℕ) → f blank ≡ [] → flat_map f (blanks ns) ≡ []
 none_of f [] none = refl
 none_of f (n ∷ ns) none = ap (λ l. l ++ flat_map f (blanks ns)) none ∙ none_of f ns none
+
+none_counted : (ns : List ℕ) → all_files (blanks ns) ≡ 0
+none_counted [] = refl
+none_counted (n ∷ ns) = sum_by-cons (λ (s : Share). s.files) blank (blanks ns) ∙ ap (λ k. blank.files + k) (none_counted ns)
 
 none_pairs : (f : Used IndexItem → List (ℕ × IndexItem)) (m : ℕ) (ns : List ℕ) → f unused ≡ [] → pairs_of f m (notes_of (blanks ns)) ≡ []
 none_pairs f m [] none = refl
@@ -85,14 +96,16 @@ opens root values ns is = subst (λ vs. KeepsWork root vs (blanks ns)) (sym is.i
   rings = rings;
   dirs = subst (λ l. IsPermutation l (root ∷ all_put (blanks ns))) (sym waits) (subst (λ l. IsPermutation (root ∷ []) (root ∷ l)) (sym (none_of (λ s. s.put) ns refl)) (IsPermutation-refl (root ∷ [])));
   once = subst AreDistinct (sym waits) (distinct_cons root [] (contains_nil root) distinct_nil);
+  dirs_counted = is.first.one ∙ ap (λ (l : List Path). 1 + length l) (sym (none_of (λ s. s.put) ns refl));
+  files_counted = is.first.none ∙ sym (none_counted ns);
   own = all_blank root ns;
 })
   where
     list : List IndexValue
     list = Dirs is.dirs ∷ Ring (fresh 256) ∷ Ring (fresh 8) ∷ []
 
-    waits : is.dirs.waiting.items ++ all_took (blanks ns) ≡ root ∷ []
-    waits = ap (λ l. is.dirs.waiting.items ++ l) (none_of (λ s. s.took) ns refl) ∙ ap (λ l. l ++ []) is.waits
+    waits : is.dirs.list.waiting.items ++ all_took (blanks ns) ≡ root ∷ []
+    waits = ap (λ l. is.dirs.list.waiting.items ++ l) (none_of (λ s. s.took) ns refl) ∙ ap (λ l. l ++ []) is.first.waits
 
     kinds : (m : ℕ) (v : IndexValue) → get_elem? list m ≡ some v → IsBehind m v
     kinds zero v e = subst (λ (u : IndexValue). IsBehind 0 u) (some-injective (Dirs is.dirs) v e) refl

@@ -11,15 +11,17 @@ use Rattle.index_rule.specs.Distinct.{AreDisjoint, AreDistinct}
 use Rattle.index_rule.specs.declared.value.IndexItem.{IndexItem}
 use Rattle.index_rule.specs.declared.value.IndexItem.TheVariants.{File, Piece}
 
--- the directories that it took from the list and those that it put there, and all that it did at the buffers, each the last first
+-- the directories that it took from the list and those that it put there, how many files it counted there, and all that it did at the
+-- buffers, each the last first
 pub record Share : Type 0 where
   pub took : List Path
   pub put : List Path
+  pub files : ℕ
   pub notes : List (Note IndexItem)
 
 -- of a thread that has done nothing
 abbrev pub blank : Share
-blank = record { took = []; put = []; notes = [] }
+blank = record { took = []; put = []; files = 0; notes = [] }
 
 -- the paths of the files that the piece covers
 abbrev pub covered : Path → Index → List Path
@@ -85,4 +87,5 @@ noted m d s = record s { notes = note m d ∷ s.notes }
 pub record AreAlike (s r : Share) : Type 0 where
   pub took : s.took ≡ r.took
   pub put : s.put ≡ r.put
+  pub files : s.files ≡ r.files
   pub notes : kept s.notes ≡ kept r.notes

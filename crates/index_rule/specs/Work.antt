@@ -1,6 +1,6 @@
 -- What stands behind the mutexes of an index run, and its rule: each directory is listed once and each file is read once.
-use Rattle.std.specs.Prelude.{◌≡◌, ◌≢◌, ◌⊎◌, ℕ, List, [], ◌∷◌, ◌++◌, length, map, drop, Option, Some, None, All}
-use Rattle.std.specs.List.{flat_map}
+use Rattle.std.specs.Prelude.{◌≡◌, ◌≢◌, ◌⊎◌, ℕ, ◌+◌, ◌-◌, List, [], ◌∷◌, ◌++◌, length, map, drop, Option, Some, None, All}
+use Rattle.std.specs.List.{flat_map, sum_by}
 use Rattle.std.specs.List.Sorted.{IsPermutation}
 use mathlib.Core.Option.{some}
 use lib.ListN.{get_elem?}
@@ -30,8 +30,17 @@ ring_of (Ring q) = q
 
 -- the directories that wait to be listed
 abbrev pub waiting_of : IndexValue → List Path
-waiting_of (Dirs d) = d.waiting.items
+waiting_of (Dirs d) = d.list.waiting.items
 waiting_of (Ring q) = []
+
+-- how many directories and files were found
+abbrev pub dirs_of : IndexValue → ℕ
+dirs_of (Dirs d) = d.found.dirs
+dirs_of (Ring q) = 0
+
+abbrev pub files_of : IndexValue → ℕ
+files_of (Dirs d) = d.found.files
+files_of (Ring q) = 0
 
 -- they stand behind the first mutex
 abbrev pub waiting_in : List IndexValue → List Path
@@ -43,22 +52,32 @@ abbrev pub IsBehind : ℕ → IndexValue → Type 0
 IsBehind m (Dirs d) = m ≡ 0
 IsBehind m (Ring q) = m ≢ 0
 
+-- a count of what stands behind the first mutex
+abbrev pub first_count : (IndexValue → ℕ) → List IndexValue → ℕ
+first_count count [] = 0
+first_count count (v ∷ values) = count v
+
 abbrev pub all_took : List Share → List Path
 all_took shares = flat_map (λ s. s.took) shares
 
 abbrev pub all_put : List Share → List Path
 all_put shares = flat_map (λ s. s.put) shares
 
+abbrev pub all_files : List Share → ℕ
+all_files shares = sum_by (λ s. s.files) shares
+
 abbrev pub notes_of : List Share → List (List (Note IndexItem))
 notes_of shares = map (λ s. s.notes) shares
 
 -- each mutex has what stands behind it, and each buffer keeps the rule of buffers; the directories that wait and those that were taken are
--- the root and those that were put, each once; and each thread put what it may
+-- the root and those that were put, each once; these are as many as were counted, and so are the files; and each thread put what it may
 pub record KeepsWork (root : Path) (values : List IndexValue) (shares : List Share) : Type 0 where
   pub kinds : (m : ℕ) (v : IndexValue) → get_elem? values m ≡ some v → IsBehind m v
   pub rings : Keeps (map ring_of values) (notes_of shares)
   pub dirs : IsPermutation (waiting_in values ++ all_took shares) (root ∷ all_put shares)
   pub once : AreDistinct (waiting_in values ++ all_took shares)
+  pub dirs_counted : first_count dirs_of values ≡ 1 + length (all_put shares)
+  pub files_counted : first_count files_of values ≡ all_files shares
   pub own : All (KeepsOwn root) shares
 
 -- the files that the items of a ring are about
@@ -67,7 +86,7 @@ paths_at root q = flat_map (paths_of root) q.items
 
 -- what is there belongs there, and is new to the thread
 abbrev pub IsNewTo : Path → ℕ → Share → IndexValue → Type 0
-IsNewTo root m s (Dirs d) = AreDistinct (d.waiting.items ++ s.took)
+IsNewTo root m s (Dirs d) = AreDistinct (d.list.waiting.items ++ s.took)
 IsNewTo root m s (Ring q) = All (IsItemAt m) q.items × ((m ≡ 1) ⊎ (m ≡ 2) → AreDistinct (paths_at root q ++ paths_taken root m s) × All (IsBelow root) (paths_at root q))
 
 pub record FitsWork (root : Path) (m : ℕ) (v : IndexValue) (s : Share) : Type 0 where
@@ -82,10 +101,15 @@ pub record MovesDirs (xs ys : List Path) (s r : Share) : Type 0 where
   pub come : List Path
   pub was : xs ≡ rest ++ gone
   pub is : ys ≡ rest ++ come
-  pub share : r ≡ record s { took = gone ++ s.took; put = come ++ s.put }
+  pub share : r ≡ record s { took = gone ++ s.took; put = come ++ s.put; files = r.files }
   pub from : All (IsChildOfTook s) come
   pub once : AreDistinct come
   pub new : AreDisjoint come s.put
+
+-- the counts go from those of x to those of y: as many directories as the share put more, and as many files as it counted more
+pub record MovesCounts (x y : IndexValue) (s r : Share) : Type 0 where
+  pub dirs : dirs_of y + length s.put ≡ dirs_of x + length r.put
+  pub files : files_of y + s.files ≡ files_of x + r.files
 
 -- who puts an item may put it
 abbrev pub MayDo : Path → ℕ → Did IndexItem → Share → Type 0
@@ -97,7 +121,7 @@ abbrev pub MovesItems : Path → ℕ → Held IndexItem → Held IndexItem → S
 MovesItems root m q p s r = ((p ≡ q) × (r ≡ s)) ⊎ ((d : Did IndexItem) × Does d q p × MayDo root m d s × (r ≡ noted m d s))
 
 abbrev pub Moves : Path → ℕ → IndexValue → IndexValue → Share → Share → Type 0
-Moves root m (Dirs d) (Dirs e) s r = MovesDirs d.waiting.items e.waiting.items s r
+Moves root m (Dirs d) (Dirs e) s r = MovesDirs d.list.waiting.items e.list.waiting.items s r × MovesCounts (Dirs d) (Dirs e) s r
 Moves root m (Ring q) (Ring p) s r = MovesItems root m q p s r
 Moves root m x y s r = ⊥
 
@@ -105,9 +129,13 @@ pub record MayChange (root : Path) (m : ℕ) (x y : IndexValue) (s r : Share) : 
   pub kind : IsBehind m y
   pub moves : Moves root m x y s r
 
--- the share after the list went from xs to ys, by what left its end or came there
-abbrev pub moved : List Path → List Path → Share → Share
-moved xs ys s = record s { took = drop (length ys) xs ++ s.took; put = drop (length xs) ys ++ s.put }
+-- the share after the list went from xs to ys, by what left its end or came there, and so many files were counted
+abbrev pub moved : List Path → List Path → ℕ → Share → Share
+moved xs ys files s = record s { took = drop (length ys) xs ++ s.took; put = drop (length xs) ys ++ s.put; files = s.files + files }
+
+-- the same by what stood behind the mutex before and after
+abbrev pub moved_by : IndexValue → IndexValue → Share → Share
+moved_by x y s = moved (waiting_of x) (waiting_of y) (files_of y - files_of x) s
 
 -- what a thread may know of an item that it takes: it belongs there, none that the thread took before is about its files, and these lie below
 -- the root

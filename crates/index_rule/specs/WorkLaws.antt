@@ -1,10 +1,11 @@
 -- The two laws of the use: what a holder knows follows from the rule, and each change that is allowed keeps it.
-use Rattle.std.proofs.Common.{◌≡◌, ◌≢◌, ◌⊎◌, ℕ, List, [], ◌∷◌, ◌++◌, map, length, slice_set, zero, suc, inl, inr, sym, ap, subst, ◌∙◌, ⊎_elim, refl, arith, append_assoc}
+use Rattle.std.proofs.Common.{◌≡◌, ◌≢◌, ◌⊎◌, ℕ, ◌+◌, List, [], ◌∷◌, ◌++◌, map, length, slice_set, zero, suc, inl, inr, sym, ap, subst, ◌∙◌, ⊎_elim, refl, arith, append_assoc, length-append}
 use Rattle.std.specs.Prelude.{Contains, All}
 use Rattle.std.specs.List.{flat_map}
 use Rattle.std.specs.List.Sorted.{IsPermutation}
 use Rattle.std.proofs.lemmas.List.Elements.{All-cons, All-nil, Contains-append_left, Contains-append_right}
 use Rattle.std.proofs.lemmas.List.Sorted.{IsPermutation-sym, IsPermutation-trans, IsPermutation-append_left, IsPermutation-append_right, IsPermutation-append_comm, IsPermutation-cons, IsPermutation-middle}
+use Rattle.std.proofs.lemmas.List.Sums.{sum_by-cons}
 use Rattle.std.proofs.lemmas.Bool.{cases_eq}
 use mathlib.Core.Option.{some, some-injective, some-ne-none}
 use lib.ListN.{get_elem?}
@@ -23,7 +24,7 @@ use Rattle.index_rule.specs.Notes.{own_more}
 use Rattle.index_rule.specs.Once.{own_of, rule_at, took_once, took_or_root, child_within, files_put_once, taken_once, was_put, file_within, pieces_put_once, piece_within, some_before}
 use Rattle.index_rule.specs.Shares.{Share, paths_of, paths_in, paths_put, paths_taken, KeepsOwn, IsChildOfTook, IsItemAt, MayPut, noted}
 use Rattle.index_rule.specs.Sharing.{all_set, at_map, at_unmap, items_fit, map_set, at_one, set_same, set_more, distinct_part, one_place}
-use Rattle.index_rule.specs.Work.{KeepsWork, FitsWork, MayChange, Moves, MovesDirs, MovesItems, MayDo, IsNewTo, IsBehind, ring_of, waiting_of, waiting_in, all_took, all_put, notes_of, paths_at}
+use Rattle.index_rule.specs.Work.{KeepsWork, FitsWork, MayChange, Moves, MovesCounts, MovesDirs, MovesItems, MayDo, IsNewTo, IsBehind, ring_of, waiting_of, waiting_in, dirs_of, files_of, first_count, all_took, all_put, all_files, notes_of, paths_at}
 use Rattle.index_rule.specs.declared.value.IndexItem.{IndexItem}
 use Rattle.index_rule.specs.declared.value.IndexItem.TheVariants.{File, Piece}
 use Rattle.index_rule.specs.declared.value.IndexValue.{IndexValue}
@@ -42,6 +43,46 @@ waits_set (v ∷ values) (suc m) y n = refl
 waits_first : (values : List IndexValue) (x y : IndexValue) → get_elem? values 0 ≡ some x → waiting_in (slice_set values 0 y) ≡ waiting_of y
 waits_first [] x y e = absurd (some-ne-none x (sym e))
 waits_first (v ∷ values) x y e = refl
+
+count_first : (f : IndexValue → ℕ) (values : List IndexValue) (x : IndexValue) → get_elem? values 0 ≡ some x → first_count f values ≡ f x
+count_first f [] x e = absurd (some-ne-none x (sym e))
+count_first f (v ∷ values) x e = ap f (some-injective v x e)
+
+count_set : (f : IndexValue → ℕ) (values : List IndexValue) (m : ℕ) (y : IndexValue) → m ≢ 0 → first_count f (slice_set values m y) ≡ first_count f values
+count_set f [] m y n = refl
+count_set f (v ∷ values) zero y n = absurd (n refl)
+count_set f (v ∷ values) (suc m) y n = refl
+
+count_last : (f : IndexValue → ℕ) (values : List IndexValue) (x y : IndexValue) → get_elem? values 0 ≡ some x → first_count f (slice_set values 0 y) ≡ f y
+count_last f [] x y e = absurd (some-ne-none x (sym e))
+count_last f (v ∷ values) x y e = refl
+
+-- what all shares count, where one changes
+put_set : (shares : List Share) (t : ℕ) (s r : Share) → get_elem? shares t ≡ some s → length (all_put (slice_set shares t r)) + length s.put ≡ length (all_put shares) + length r.put
+put_set [] t s r e = absurd (some-ne-none s (sym e))
+put_set (u ∷ shares) zero s r e =
+    let same = ap (λ (v : Share). length v.put) (some-injective u s e) in
+    let one = length-append r.put (all_put shares) in
+    let two = length-append u.put (all_put shares) in
+    omega arith
+put_set (u ∷ shares) (suc t) s r e =
+    let rest = put_set shares t s r e in
+    let one = length-append u.put (all_put (slice_set shares t r)) in
+    let two = length-append u.put (all_put shares) in
+    omega arith
+
+files_set : (shares : List Share) (t : ℕ) (s r : Share) → get_elem? shares t ≡ some s → all_files (slice_set shares t r) + s.files ≡ all_files shares + r.files
+files_set [] t s r e = absurd (some-ne-none s (sym e))
+files_set (u ∷ shares) zero s r e =
+    let same = ap (λ (v : Share). v.files) (some-injective u s e) in
+    let one = sum_by-cons (λ (v : Share). v.files) r shares in
+    let two = sum_by-cons (λ (v : Share). v.files) u shares in
+    omega arith
+files_set (u ∷ shares) (suc t) s r e =
+    let rest = files_set shares t s r e in
+    let one = sum_by-cons (λ (v : Share). v.files) u (slice_set shares t r) in
+    let two = sum_by-cons (λ (v : Share). v.files) u shares in
+    omega arith
 
 -- what a holder knows of what is there
 new_dirs : (root : Path) (values : List IndexValue) (shares : List Share) → KeepsWork root values shares → (x : IndexValue) → get_elem? values 0 ≡ some x → (t : ℕ) (s : Share) → get_elem? shares t ≡ some s
@@ -161,7 +202,7 @@ own_did root m WaitedEmpty s may own = own_stays root m WaitedEmpty s (λ u. ref
 
 -- what changes at the rings
 pub allowed : (root : Path) (m : ℕ) (x y : IndexValue) (s r : Share) → Moves root m x y s r → Allowed m (ring_of x) (ring_of y) s.notes r.notes
-allowed root m (Dirs d) (Dirs e) s r h = inl (refl, ap (λ (u : Share). u.notes) h.share)
+allowed root m (Dirs d) (Dirs e) s r h = inl (refl, ap (λ (u : Share). u.notes) h.0.share)
 allowed root m (Ring q) (Ring p) s r h = ⊎_elim
     (λ (o : (p ≡ q) × (r ≡ s)). inl (o.0, ap (λ (u : Share). u.notes) o.1))
     (λ (o : (d : Did IndexItem) × Does d q p × MayDo root m d s × (r ≡ noted m d s)). inr (o.0, o.1, ap (λ (u : Share). u.notes) o.3))
@@ -190,7 +231,7 @@ module _ (root : Path) (values : List IndexValue) (shares : List Share) (h : Kee
 
   own_moved : (xs ys : List Path) (r : Share) → MovesDirs xs ys s r → KeepsOwn root r
   own_moved xs ys r go = subst (KeepsOwn root) (sym go.share)
-      (own_more root s (record s { took = go.gone ++ s.took; put = go.come ++ s.put }) go.come [] [] (own_of root values shares h t s there) (own_of root values shares h t s there).kinds
+      (own_more root s (record s { took = go.gone ++ s.took; put = go.come ++ s.put; files = r.files }) go.come [] [] (own_of root values shares h t s there) (own_of root values shares h t s there).kinds
       (λ d k. Contains-append_right go.gone s.took d k) (λ p k. k) refl refl refl go.from (All-nil (IsChildOfTook s)) (own_of root values shares h t s there).files_once
       (All-nil (Contains (paths_taken root 1 s))) (own_of root values shares h t s there).pieces_once)
 
@@ -270,9 +311,14 @@ keeps_ring : (root : Path) (values : List IndexValue) (shares : List Share) → 
     → (t : ℕ) (s r : Share) → get_elem? shares t ≡ some s → IsBehind m (Ring p) → MovesItems root m q p s r → KeepsWork root (slice_set values m (Ring p)) (slice_set shares t r)
 keeps_ring root values shares h m q p at t s r there kind ok =
     let own = own_of root values shares h t s there in
-    let stays : (r.took ≡ s.took) × (r.put ≡ s.put) × KeepsOwn root r = ⊎_elim
-    (λ (o : (p ≡ q) × (r ≡ s)). (ap (λ (u : Share). u.took) o.1, ap (λ (u : Share). u.put) o.1, subst (KeepsOwn root) (sym o.1) own))
-    (λ (o : (d : Did IndexItem) × Does d q p × MayDo root m d s × (r ≡ noted m d s)). (ap (λ (u : Share). u.took) o.3, ap (λ (u : Share). u.put) o.3, subst (KeepsOwn root) (sym o.3) (own_did root m o.0 s o.2 own)))
+    let stays : (r.took ≡ s.took) × (r.put ≡ s.put) × (r.files ≡ s.files) × KeepsOwn root r = ⊎_elim
+    (λ (o : (p ≡ q) × (r ≡ s)). (ap (λ (u : Share). u.took) o.1, ap (λ (u : Share). u.put) o.1, ap (λ (u : Share). u.files) o.1, subst (KeepsOwn root) (sym o.1) own))
+    (λ (o : (d : Did IndexItem) × Does d q p × MayDo root m d s × (r ≡ noted m d s)). (
+      ap (λ (u : Share). u.took) o.3,
+      ap (λ (u : Share). u.put) o.3,
+      ap (λ (u : Share). u.files) o.3,
+      subst (KeepsOwn root) (sym o.3) (own_did root m o.0 s o.2 own),
+    ))
     ok in
     let dirs = same_dirs root values shares h m (Ring p) kind t s r there stays.0 stays.1 in
     record {
@@ -280,12 +326,14 @@ keeps_ring root values shares h m q p at t s r there kind ok =
       rings = rings_set root values shares h m (Ring q) (Ring p) at t s r there ok;
       dirs = dirs.0;
       once = dirs.1;
-      own = all_set (KeepsOwn root) shares t r stays.2 h.own;
+      dirs_counted = (let was = h.dirs_counted in let same = count_set dirs_of values m (Ring p) kind in let now = put_set shares t s r there in let put = ap (λ (l : List Path). length l) stays.1 in omega arith);
+      files_counted = (let was = h.files_counted in let same = count_set files_of values m (Ring p) kind in let now = files_set shares t s r there in let files = stays.2 in omega arith);
+      own = all_set (KeepsOwn root) shares t r stays.3 h.own;
     }
 
 keeps_dirs : (root : Path) (values : List IndexValue) (shares : List Share) → KeepsWork root values shares → (x y : IndexValue) → get_elem? values 0 ≡ some x
-    → (t : ℕ) (s r : Share) → get_elem? shares t ≡ some s → IsBehind 0 y → Moves root 0 x y s r → MovesDirs (waiting_of x) (waiting_of y) s r → KeepsWork root (slice_set values 0 y) (slice_set shares t r)
-keeps_dirs root values shares h x y at t s r there kind ok go =
+    → (t : ℕ) (s r : Share) → get_elem? shares t ≡ some s → IsBehind 0 y → Moves root 0 x y s r → MovesDirs (waiting_of x) (waiting_of y) s r → MovesCounts x y s r → KeepsWork root (slice_set values 0 y) (slice_set shares t r)
+keeps_dirs root values shares h x y at t s r there kind ok go counts =
     let first = first_waits values x at in
     let last = waits_first values x y at in
     let went : MovesDirs (waiting_in values) (waiting_of y) s r = subst (λ l. MovesDirs l (waiting_of y) s r) (sym first) go in
@@ -294,13 +342,15 @@ keeps_dirs root values shares h x y at t s r there kind ok go =
       rings = rings_set root values shares h 0 x y at t s r there ok;
       dirs = subst (λ l. IsPermutation (l ++ all_took (slice_set shares t r)) (root ∷ all_put (slice_set shares t r))) (sym last) (dirs_moved root values shares h t s there (waiting_of y) r went);
       once = subst (λ l. AreDistinct (l ++ all_took (slice_set shares t r))) (sym last) (once_moved root values shares h t s there (waiting_of y) r went);
+      dirs_counted = (let was = h.dirs_counted in let a = count_first dirs_of values x at in let b = count_last dirs_of values x y at in let now = put_set shares t s r there in let more = counts.dirs in omega arith);
+      files_counted = (let was = h.files_counted in let a = count_first files_of values x at in let b = count_last files_of values x y at in let now = files_set shares t s r there in let more = counts.files in omega arith);
       own = all_set (KeepsOwn root) shares t r (own_moved root values shares h t s there (waiting_in values) (waiting_of y) r went) h.own;
     }
 
 keeps_moved : (root : Path) (values : List IndexValue) (shares : List Share) → KeepsWork root values shares → (m : ℕ) (x y : IndexValue) → get_elem? values m ≡ some x
     → (t : ℕ) (s r : Share) → get_elem? shares t ≡ some s → IsBehind m x → IsBehind m y → Moves root m x y s r → KeepsWork root (slice_set values m y) (slice_set shares t r)
 keeps_moved root values shares h m (Dirs d) (Dirs e) at t s r there was kind ok = subst (λ k. KeepsWork root (slice_set values k (Dirs e)) (slice_set shares t r)) (sym kind)
-    (keeps_dirs root values shares h (Dirs d) (Dirs e) (subst (λ k. get_elem? values k ≡ some (Dirs d)) kind at) t s r there refl ok ok)
+    (keeps_dirs root values shares h (Dirs d) (Dirs e) (subst (λ k. get_elem? values k ≡ some (Dirs d)) kind at) t s r there refl ok ok.0 ok.1)
 keeps_moved root values shares h m (Ring q) (Ring p) at t s r there was kind ok = keeps_ring root values shares h m q p at t s r there kind ok
 keeps_moved root values shares h m (Dirs d) (Ring p) at t s r there was kind ok = absurd ok
 keeps_moved root values shares h m (Ring q) (Dirs e) at t s r there was kind ok = absurd ok

@@ -1,10 +1,10 @@
 //! The list of directories: what walkers take from it, and what they put there.
-ghost use Rattle.std.specs.Prelude.{◌≡◌, ◌++◌, ◌⊎◌, IsTrue};
-ghost use Rattle.index_rule.specs.Lists.{got_in};
+ghost use Rattle.std.specs.Prelude.{◌≡◌, ◌++◌, ◌+◌, ◌<◌, ◌⊎◌, ◌↔◌, length, IsTrue};
+ghost use Rattle.index_rule.specs.Lists.{got_in, IsPutSo};
 ghost use Rattle.index_rule.specs.Work.{IsBehind};
 ghost use Rattle.index_rule.specs.declared.value.IndexValue.TheVariants.{Dirs};
 
-use crate::value::{IndexValue, WaitingDirs};
+use crate::value::{DirsInWork, FoundCounts, IndexValue, WaitingDirs};
 use firefly_outside::Text;
 
 /// What the list has for a walker.
@@ -16,13 +16,38 @@ pub enum Turn {
     Wait,
 }
 
-/// The list behind mutex 0.
-pub fn list_in(value: IndexValue) -> WaitingDirs
+/// How a put of found directories ends.
+#[derive(Clone, Copy)]
+pub enum PutDirs {
+    /// They were put, and no more was found than may be.
+    Within,
+    /// They were put, and more directories or files were found than may be.
+    Passed,
+    /// Memory wants: none was put, and nothing was counted.
+    Memory,
+}
+
+impl PutDirs {
+    ghost use Rattle.std.specs.Prelude.{◌≡◌, ◌↔◌, IsTrue};
+
+    /// Whether the work may go on.
+    pub fn is_within(self) -> bool
+        ensures { IsTrue result ↔ self ≡ PutDirs.Within }
+    {
+        match self {
+            PutDirs::Within => true,
+            PutDirs::Passed | PutDirs::Memory => false,
+        }
+    }
+}
+
+/// What stands behind mutex 0.
+pub fn dirs_in(value: IndexValue) -> DirsInWork
     requires { IsBehind 0 value }
     ensures { value ≡ Dirs result }
 {
     match value {
-        IndexValue::Dirs(list) => list,
+        IndexValue::Dirs(dirs) => dirs,
         IndexValue::Ring(_) => unreachable!(),
     }
 }
@@ -50,17 +75,31 @@ pub fn next_turn(list: &mut WaitingDirs) -> Turn
     }
 }
 
-/// The most directories of a tree that is indexed.
-const MOST_DIRS: u64 = 1_000_000;
-
-/// Puts the directories found in one behind the others, and counts them and the files found there. It answers whether the work may go on: no
-/// more was found than may be, and no memory wanted; where it did, none was put.
-pub fn put_found(list: &mut WaitingDirs, mut found: Vec<Text>, files: usize) -> bool
-    ensures put { IsTrue result → list.new.waiting.items ≡ list.old.waiting.items ++ found.items }
-    ensures either { (list.new.waiting.items ≡ list.old.waiting.items ++ found.items) ⊎ (list.new.waiting.items ≡ list.old.waiting.items) }
+// Whether more was found than may be.
+fn is_passed(found: &FoundCounts) -> bool
+    ensures { IsTrue result ↔ (found.now.most_dirs < found.now.dirs) ⊎ (found.now.most_files < found.now.files) }
 {
-    list.dirs = list.dirs.saturating_add(found.len() as u64);
-    list.files = list.files.saturating_add(files as u64);
-    let room = list.waiting.append(&mut found).is_ok();
-    room && list.dirs <= MOST_DIRS && list.files <= list.most_files
+    found.dirs > found.most_dirs || found.files > found.most_files
+}
+
+/// Puts the directories found in one behind the others, and counts them and the files found there.
+pub fn put_found(state: &mut DirsInWork, mut found: Vec<Text>, files: usize) -> PutDirs
+    ensures { IsPutSo found.items files state.old state.new result }
+{
+    let Some(dirs) = state.found.dirs.checked_add(found.len() as u64) else {
+        return PutDirs::Memory;
+    };
+    let Some(files) = state.found.files.checked_add(files as u64) else {
+        return PutDirs::Memory;
+    };
+    if state.list.waiting.append(&mut found).is_err() {
+        return PutDirs::Memory;
+    }
+    state.found.dirs = dirs;
+    state.found.files = files;
+    if is_passed(&state.found) {
+        PutDirs::Passed
+    } else {
+        PutDirs::Within
+    }
 }

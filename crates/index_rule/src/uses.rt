@@ -2,7 +2,7 @@
 ghost use Rattle.bounded_buffer.specs.declared.did.Did.TheVariants.{Shut};
 ghost use Rattle.bounded_buffer.specs.Plain.{put_did, take_did};
 ghost use Rattle.index_rule.specs.Shares.{Share, blank, noted};
-ghost use Rattle.index_rule.specs.Work.{KeepsWork, FitsWork, MayChange, moved, ring_of, waiting_of};
+ghost use Rattle.index_rule.specs.Work.{KeepsWork, FitsWork, MayChange, moved_by, ring_of};
 ghost use Rattle.index_rule.specs.WorkLaws.{fits_work, keeps_work};
 
 use crate::value::IndexValue;
@@ -10,7 +10,7 @@ use firefly_outside::Text;
 use nub_rule::{Change, Uses};
 use std::marker::Model;
 
-/// The directories that a thread took from the list and put there, and all that it did at the buffers. Contracts alone see it, so no value
+/// The directories that a thread took from the list and put there, how many files it counted, and all that it did at the buffers. Contracts alone see it, so no value
 /// of this type is made, and it has no field.
 pub struct IndexShare;
 
@@ -43,7 +43,7 @@ impl Uses for IndexUses {
     ghost holds_after = { keeps_work };
 }
 
-/// The share gets the directories that left the list and those that came there.
+/// The share gets the directories that left the list and those that came there, and the files that were counted.
 pub struct DidMove;
 
 /// The share gets a note of what a put did.
@@ -56,7 +56,7 @@ pub struct DidTake;
 pub struct DidShut;
 
 impl Change<IndexUses> for DidMove {
-    ghost after = { λ w m t x y s. moved (waiting_of x) (waiting_of y) s };
+    ghost after = { λ w m t x y s. moved_by x y s };
 }
 
 impl Change<IndexUses> for DidPut {

@@ -3,16 +3,28 @@ use bounded_buffer::Ring;
 use firefly_outside::Text;
 use word_index::Piece;
 
-/// The directories that wait to be listed, how many are being listed now, and whether no more are to be; how many directories and files
-/// were found, and how many files may be; and how many parsers are at work.
+/// The directories that wait to be listed, how many are being listed now, and whether no more are to be.
 #[derive(Drop)]
 pub struct WaitingDirs {
     pub waiting: Vec<Text>,
     pub in_work: u32,
     pub shut: bool,
+}
+
+/// How many directories, the root among them, and how many files were found, and how many of each may be.
+#[derive(Drop)]
+pub struct FoundCounts {
     pub dirs: u64,
     pub files: u64,
+    pub most_dirs: u64,
     pub most_files: u64,
+}
+
+/// What stands behind the first mutex: the list of directories, what was found so far, and how many parsers are at work.
+#[derive(Drop)]
+pub struct DirsInWork {
+    pub list: WaitingDirs,
+    pub found: FoundCounts,
     pub parsers: u32,
 }
 
@@ -26,6 +38,6 @@ pub enum IndexItem {
 /// The directories in work, or a buffer.
 #[derive(Drop)]
 pub enum IndexValue {
-    Dirs(WaitingDirs),
+    Dirs(DirsInWork),
     Ring(Ring<IndexItem>),
 }

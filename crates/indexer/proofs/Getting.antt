@@ -1,10 +1,10 @@
 -- What calls add to the share of their thread.
-use Rattle.std.proofs.Common.{◌≡◌, ◌≢◌, ◌⊎◌, ℕ, List, [], ◌∷◌, ◌++◌, Option, Some, None, Result, Ok, Err, inl, inr, sym, ap, subst, ◌∙◌, refl, arith, append_assoc, append-nil, drop, length, length-append, ⊎_elim, true}
+use Rattle.std.proofs.Common.{◌≡◌, ◌≢◌, ◌⊎◌, ℕ, ◌+◌, ◌-◌, List, [], ◌∷◌, ◌++◌, Option, Some, None, Result, Ok, Err, inl, inr, sym, ap, subst, ◌∙◌, refl, arith, append_assoc, append-nil, drop, length, length-append, ⊎_elim, true}
 use Rattle.std.specs.Prelude.{Contains, All, IfOk, IfSome}
 use Rattle.std.specs.Option.{option_to_list}
 use Rattle.std.proofs.Math.Seq.{drop-append_seam}
 use Rattle.std.proofs.lemmas.List.{drop_all}
-use Rattle.std.proofs.lemmas.List.Elements.{All-cons, All-head, All-nil, All-tail, All-weaker, Contains-append_cases, Contains-append_right}
+use Rattle.std.proofs.lemmas.List.Elements.{All-cons, All-contains_itself, All-head, All-nil, All-tail, All-weaker, Contains-append_cases, Contains-append_right}
 use Rattle.std.proofs.lemmas.List.Concat.{flat_map-append}
 use Rattle.std.proofs.lemmas.Option.{same_Some}
 use Rattle.bounded_buffer.specs.declared.did.Did.{Did}
@@ -16,26 +16,31 @@ use Rattle.bounded_buffer.specs.declared.ends.TakeEnd.TheVariants.{ClosedEmpty, 
 use Rattle.bounded_buffer.specs.Calls.{Looked, Ran, HasShut, did_last, put_did, take_did, wait_count}
 use Rattle.bounded_buffer.specs.Parts.{Used, more_full, more_empty}
 use Rattle.bounded_buffer.specs.Plain.{part_of, put_did as did_put, take_did as did_take}
-use Rattle.firefly_outside.specs.Trees.{Path}
+use Rattle.firefly_outside.specs.Trees.{Path, Told}
 use Rattle.larch_actions.specs.declared.event.Event.{Event}
 use Rattle.nub.specs.Idle.{IsIdle}
-use Rattle.nub.specs.Rest.{Adds}
+use Rattle.nub.specs.Rest.{Adds, IsSame}
+use Rattle.nub_rule.specs.Plays.{broadcast_action, event}
 use Rattle.index_rule.specs.Children.{IsBelow}
 use Rattle.index_rule.specs.Counting.{contains_head, contains_nil, contains_one, contains_tail, distinct_across, distinct_cons, distinct_head, distinct_nil, distinct_tail}
 use Rattle.index_rule.specs.Distinct.{AreDisjoint}
 use Rattle.index_rule.specs.Notes.{child_more}
 use Rattle.index_rule.specs.Shares.{Share, AreAlike, IsChildOfTook, IsItemAt, MayPut, covered, noted, paths_of, paths_in, paths_put, paths_taken}
-use Rattle.index_rule.specs.Work.{IsBehind, IsNewTo, ItemFits, MayChange, MovesDirs, moved, ring_in, ring_of, waiting_of}
+use Rattle.index_rule.specs.Lists.{ArePut, IsPutSo}
+use Rattle.index_rule.specs.Work.{IsBehind, IsNewTo, ItemFits, MayChange, MovesCounts, MovesDirs, dirs_of, files_of, moved, moved_by, ring_in, ring_of, waiting_of}
+use Rattle.index_rule.specs.declared.dirs.PutDirs.{PutDirs}
+use Rattle.index_rule.specs.declared.dirs.PutDirs.TheVariants.{Within, Passed, Memory}
 use Rattle.index_rule.specs.declared.value.IndexItem.{IndexItem}
 use Rattle.index_rule.specs.declared.value.IndexItem.TheVariants.{File, Piece}
 use Rattle.index_rule.specs.declared.value.IndexValue.{IndexValue}
 use Rattle.index_rule.specs.declared.value.IndexValue.TheVariants.{Dirs, Ring}
-use Rattle.index_rule.specs.declared.value.WaitingDirs.{WaitingDirs}
-use Rattle.indexer.specs.Gets.{More, nothing, Grows, Gets, IsNewFile, Makes, MayPutAll, OfShare, moved_more}
+use Rattle.index_rule.specs.declared.value.DirsInWork.{DirsInWork}
+use Rattle.index_rule.specs.declared.value.FoundCounts.{FoundCounts}
+use Rattle.indexer.specs.Gets.{Counts, More, nothing, Grows, Gets, IsNewFile, Makes, MayPutAll, OfShare, moved_more}
 use Rattle.indexer.specs.Taken.{path_of, piece_in, piece_of}
 use Rattle.word_index.specs.Index.{Index}
 use Rattle.std.specs.List.{flat_map}
-use Rattle.indexer.specs.Turns.{Worker, Run, HasList, IsBetween}
+use Rattle.indexer.specs.Turns.{Worker, Run, HasCalled, HasList, HasWoken, IsBetween}
 use Rattle.indexer.proofs.Turning.{called_none, called_then, called_idle, still_between}
 
 pub grows_none : (root : Path) (s : Share) → Grows root nothing s s
@@ -130,6 +135,14 @@ makes_idle p es e a b between adds idle = record { called = λ o root m. called_
 
 pub makes_between : (p : Run) (m : More) (a b : Worker) → IsBetween p a → Makes p m a b → IsBetween p b
 makes_between p m a b between made = still_between None [] [] p a b between (made.called None [] 0).back
+
+-- who gave the list back called so
+pub gave_makes : (p : Run) (m : More) (a b : Worker) → ((o : Option Told) (root : Path) → HasCalled o root [] p 0 1 a b × ((k : ℕ) → HasCalled o root [] p k 0 a b)) → Gets p m a b → Makes p m a b
+gave_makes p m a b called gets = record { called = λ o root. (called o root).1; gets = gets }
+
+-- a broadcast of the list's condition was the last
+pub woke : (b c : Worker) → Adds [] (event b.number (broadcast_action 0 [])) b c → IsSame b c → HasWoken c
+woke b c adds same = (b.mine ++ [], adds.mine ∙ ap (λ n. (b.mine ++ []) ++ event n (broadcast_action 0 []) ∷ []) (sym same.number))
 
 -- a call at a buffer leaves the directories
 looked_dirs : (after : Path → ℕ → ℕ → IndexValue → IndexValue → Share → Share) → ((w : Path) (m t : ℕ) (x y : IndexValue) (s : Share) → ((after w m t x y s).took ≡ s.took) × ((after w m t x y s).put ≡ s.put))
@@ -242,17 +255,18 @@ of_after p more a b P Q between gets was step r at =
     subst Q (same_Some got.0 r (sym got.1 ∙ at)) (step s got.0 got.2 (was s between.2.share))
 
 -- the list of directories changes: directories leave its end, or come there
-pub list_moves : (root : Path) (x : IndexValue) (d : WaitingDirs) (s : Share) → IsBehind 0 x → MovesDirs (waiting_of x) d.waiting.items s (moved (waiting_of x) d.waiting.items s) → MayChange root 0 x (Dirs d) s (moved (waiting_of x) d.waiting.items s)
-list_moves root (Dirs e) d s kind go = record { kind = refl; moves = go }
-list_moves root (Ring q) d s kind go = absurd (kind refl)
+pub list_moves : (root : Path) (x : IndexValue) (d : DirsInWork) (s : Share) → IsBehind 0 x → MovesDirs (waiting_of x) d.list.waiting.items s (moved_by x (Dirs d) s) → MovesCounts x (Dirs d) s (moved_by x (Dirs d) s)
+    → MayChange root 0 x (Dirs d) s (moved_by x (Dirs d) s)
+list_moves root (Dirs e) d s kind go counts = record { kind = refl; moves = (go, counts) }
+list_moves root (Ring q) d s kind go counts = absurd (kind refl)
 
-moved_grows : (root : Path) (xs ys : List Path) (s : Share) → Grows root (moved_more (drop (length ys) xs) (drop (length xs) ys)) s (moved xs ys s)
-moved_grows root xs ys s = record { took = refl; put = refl; files_put = refl; files_taken = refl; pieces_put = refl; pieces_taken = refl }
+moved_grows : (root : Path) (xs ys : List Path) (n : ℕ) (s : Share) → Grows root (moved_more (drop (length ys) xs) (drop (length xs) ys)) s (moved xs ys n s)
+moved_grows root xs ys n s = record { took = refl; put = refl; files_put = refl; files_taken = refl; pieces_put = refl; pieces_taken = refl }
 
-pub list_gets : (p : Run) (a b c : Worker) (x : IndexValue) (ys : List Path) (has : HasList p a x b) → c.share ≡ Some (moved (waiting_of x) ys has.own) → Gets p (moved_more (drop (length ys) (waiting_of x)) (drop (length (waiting_of x)) ys)) a c
-list_gets p a b c x ys has share s at =
+pub list_gets : (p : Run) (a b c : Worker) (x : IndexValue) (ys : List Path) (n : ℕ) (has : HasList p a x b) → c.share ≡ Some (moved (waiting_of x) ys n has.own) → Gets p (moved_more (drop (length ys) (waiting_of x)) (drop (length (waiting_of x)) ys)) a c
+list_gets p a b c x ys n has share s at =
     let same : has.own ≡ s = same_Some has.own s (sym has.was ∙ at) in
-    (moved (waiting_of x) ys s, subst (λ (u : Share). c.share ≡ Some (moved (waiting_of x) ys u)) same share, moved_grows p.world (waiting_of x) ys s)
+    (moved (waiting_of x) ys n s, subst (λ (u : Share). c.share ≡ Some (moved (waiting_of x) ys n u)) same share, moved_grows p.world (waiting_of x) ys n s)
 
 gone_is : (xs ys gone : List Path) → xs ≡ ys ++ gone → drop (length ys) xs ≡ gone
 gone_is xs ys gone e = ap (drop (length ys)) e ∙ drop-append_seam ys gone
@@ -260,14 +274,14 @@ gone_is xs ys gone e = ap (drop (length ys)) e ∙ drop-append_seam ys gone
 none_comes : (xs ys gone : List Path) → xs ≡ ys ++ gone → drop (length xs) ys ≡ []
 none_comes xs ys gone e = drop_all (length xs) ys (let l = ap length e in let m = length-append ys gone in omega arith)
 
-pub take_moves : (xs ys gone : List Path) (s : Share) → xs ≡ ys ++ gone → MovesDirs xs ys s (moved xs ys s)
-take_moves xs ys gone s e = record {
+pub take_moves : (xs ys gone : List Path) (n : ℕ) (s : Share) → xs ≡ ys ++ gone → MovesDirs xs ys s (moved xs ys n s)
+take_moves xs ys gone n s e = record {
   rest = ys;
   gone = gone;
   come = [];
   was = e;
   is = sym (append-nil ys);
-  share = ap (λ l. record s { took = l ++ s.took; put = drop (length xs) ys ++ s.put }) (gone_is xs ys gone e) ∙ ap (λ l. record s { took = gone ++ s.took; put = l ++ s.put }) (none_comes xs ys gone e);
+  share = ap (λ l. record s { took = l ++ s.took; put = drop (length xs) ys ++ s.put; files = s.files + n }) (gone_is xs ys gone e) ∙ ap (λ l. record s { took = gone ++ s.took; put = l ++ s.put; files = s.files + n }) (none_comes xs ys gone e);
   from = All-nil (IsChildOfTook s);
   once = distinct_nil;
   new = λ d k. absurd (contains_nil d k);
@@ -276,14 +290,21 @@ take_moves xs ys gone s e = record {
 pub take_more : (xs ys gone : List Path) → xs ≡ ys ++ gone → moved_more (drop (length ys) xs) (drop (length xs) ys) ≡ moved_more gone []
 take_more xs ys gone e = ap (λ l. moved_more l (drop (length xs) ys)) (gone_is xs ys gone e) ∙ ap (λ l. moved_more gone l) (none_comes xs ys gone e)
 
-pub put_moves : (xs ys come : List Path) (s : Share) → ys ≡ xs ++ come → MayPutAll come s.put s → MovesDirs xs ys s (moved xs ys s)
-put_moves xs ys come s e may = record {
+-- nothing was counted where none came
+pub take_counts : (x : IndexValue) (d : DirsInWork) (gone : List Path) (s : Share) → waiting_of x ≡ d.list.waiting.items ++ gone → d.found.dirs ≡ dirs_of x → d.found.files ≡ files_of x → MovesCounts x (Dirs d) s (moved_by x (Dirs d) s)
+take_counts x d gone s e dirs files = record {
+  dirs = ap (λ n. n + length s.put) dirs ∙ ap (λ (l : List Path). dirs_of x + length (l ++ s.put)) (sym (none_comes (waiting_of x) d.list.waiting.items gone e));
+  files = omega arith;
+}
+
+pub put_moves : (xs ys come : List Path) (n : ℕ) (s : Share) → ys ≡ xs ++ come → MayPutAll come s.put s → MovesDirs xs ys s (moved xs ys n s)
+put_moves xs ys come n s e may = record {
   rest = xs;
   gone = [];
   come = come;
   was = sym (append-nil xs);
   is = e;
-  share = ap (λ l. record s { took = l ++ s.took; put = drop (length xs) ys ++ s.put }) (none_comes ys xs come e) ∙ ap (λ l. record s { took = s.took; put = l ++ s.put }) (gone_is ys xs come e);
+  share = ap (λ l. record s { took = l ++ s.took; put = drop (length xs) ys ++ s.put; files = s.files + n }) (none_comes ys xs come e) ∙ ap (λ l. record s { took = s.took; put = l ++ s.put; files = s.files + n }) (gone_is ys xs come e);
   from = may.from;
   once = may.once;
   new = may.new;
@@ -292,8 +313,61 @@ put_moves xs ys come s e may = record {
 pub put_more : (xs ys come : List Path) → ys ≡ xs ++ come → moved_more (drop (length ys) xs) (drop (length xs) ys) ≡ moved_more [] come
 put_more xs ys come e = ap (λ l. moved_more l (drop (length xs) ys)) (none_comes ys xs come e) ∙ ap (λ l. moved_more [] l) (gone_is ys xs come e)
 
-pub stay_moves : (xs : List Path) (s : Share) → MovesDirs xs xs s (moved xs xs s)
-stay_moves xs s = take_moves xs xs [] s (sym (append-nil xs))
+-- those that came were counted, and so many files
+put_counts : (d e : DirsInWork) (found : List Path) (n : ℕ) (s : Share) → ArePut found n d e → MovesCounts (Dirs d) (Dirs e) s (moved_by (Dirs d) (Dirs e) s)
+put_counts d e found n s put =
+    let come = ap (λ (l : List Path). length (l ++ s.put)) (gone_is e.list.waiting.items d.list.waiting.items found put.waiting) in
+    let both = length-append found s.put in
+    let dirs = put.dirs in
+    let files = put.files in
+    record { dirs = omega arith; files = omega arith }
+
+-- the directories were put, or nothing changed
+put_either : (found : List Path) (n : ℕ) (d e : DirsInWork) (end : PutDirs) → IsPutSo found n d e end → ArePut found n d e ⊎ ((e.list.waiting.items ≡ d.list.waiting.items) × (e.found ≡ d.found))
+put_either found n d e Within h = inl h.0
+put_either found n d e Passed h = inl h.0
+put_either found n d e Memory h = inr h
+
+pub put_goes : (found : List Path) (n : ℕ) (d e : DirsInWork) (end : PutDirs) (s : Share) → IsPutSo found n d e end → MayPutAll found s.put s
+    → MovesDirs d.list.waiting.items e.list.waiting.items s (moved_by (Dirs d) (Dirs e) s) × MovesCounts (Dirs d) (Dirs e) s (moved_by (Dirs d) (Dirs e) s)
+put_goes found n d e end s h may = ⊎_elim
+    (λ (put : ArePut found n d e). (put_moves d.list.waiting.items e.list.waiting.items found (e.found.files - d.found.files) s put.waiting may, put_counts d e found n s put))
+    (λ (same : (e.list.waiting.items ≡ d.list.waiting.items) × (e.found ≡ d.found)).
+    let none = sym same.0 ∙ sym (append-nil e.list.waiting.items) in (
+      take_moves d.list.waiting.items e.list.waiting.items [] (e.found.files - d.found.files) s none,
+      take_counts (Dirs d) e [] s none (ap (λ (c : FoundCounts). c.dirs) same.1) (ap (λ (c : FoundCounts). c.files) same.1),
+    ))
+    (put_either found n d e end h)
+
+makes_as : (p : Run) (m n : More) (a b : Worker) → m ≡ n → Makes p m a b → Makes p n a b
+makes_as p m n a b e made = subst (λ k. Makes p k a b) e made
+
+pub put_made : (p : Run) (a b : Worker) (found : List Path) (n : ℕ) (d e : DirsInWork) (end : PutDirs) → IsPutSo found n d e end
+    → Makes p (moved_more (drop (length e.list.waiting.items) d.list.waiting.items) (drop (length d.list.waiting.items) e.list.waiting.items)) a b → (put : List Path) × Makes p (moved_more [] put) a b × All (Contains found) put
+put_made p a b found n d e end h made = ⊎_elim
+    (λ (put : ArePut found n d e). (found, makes_as p _ (moved_more [] found) a b (put_more d.list.waiting.items e.list.waiting.items found put.waiting) made, All-contains_itself found))
+    (λ (same : (e.list.waiting.items ≡ d.list.waiting.items) × (e.found ≡ d.found)).
+    ([], makes_as p _ nothing a b (take_more d.list.waiting.items e.list.waiting.items [] (sym same.0 ∙ sym (append-nil e.list.waiting.items))) made, All-nil (Contains found)))
+    (put_either found n d e end h)
+
+pub put_counted : (found : List Path) (n : ℕ) (d e : DirsInWork) (end : PutDirs) → IsPutSo found n d e end → end ≢ Memory → ArePut found n d e
+put_counted found n d e Within h ne = h.0
+put_counted found n d e Passed h ne = h.0
+put_counted found n d e Memory h ne = absurd (ne refl)
+
+pub list_counts : (p : Run) (a b c : Worker) (x y : IndexValue) (n : ℕ) (has : HasList p a x b) → c.share ≡ Some (moved_by x y has.own) → files_of y ≡ files_of x + n → Counts n a c
+list_counts p a b c x y n has share more s at =
+    let same : has.own ≡ s = same_Some has.own s (sym has.was ∙ at) in
+    (moved_by x y s, subst (λ (u : Share). c.share ≡ Some (moved_by x y u)) same share, omega arith)
+
+pub stay_moves : (xs : List Path) (n : ℕ) (s : Share) → MovesDirs xs xs s (moved xs xs n s)
+stay_moves xs n s = take_moves xs xs [] n s (sym (append-nil xs))
+
+pub stay_counts : (d e : DirsInWork) (s : Share) → e.list.waiting.items ≡ d.list.waiting.items → e.found ≡ d.found → MovesCounts (Dirs d) (Dirs e) s (moved_by (Dirs d) (Dirs e) s)
+stay_counts d e s waiting found = take_counts (Dirs d) e [] s (sym waiting ∙ sym (append-nil e.list.waiting.items)) (ap (λ (c : FoundCounts). c.dirs) found) (ap (λ (c : FoundCounts). c.files) found)
+
+pub makes_stay : (p : Run) (xs : List Path) (a b : Worker) → Makes p (moved_more (drop (length xs) xs) (drop (length xs) xs)) a b → Makes p nothing a b
+makes_stay p xs a b made = makes_as p (moved_more (drop (length xs) xs) (drop (length xs) xs)) nothing a b (take_more xs xs [] (sym (append-nil xs))) made
 
 pub gets_as : (p : Run) (m n : More) (a b : Worker) → m ≡ n → Gets p m a b → Gets p n a b
 gets_as p m n a b e gets = subst (λ k. Gets p k a b) e gets
@@ -306,7 +380,7 @@ pub new_dir : (root : Path) (x : IndexValue) (s : Share) (ys : List Path) (got :
 new_dir root (Ring q) s ys got kind new e = absurd (kind refl)
 new_dir root (Dirs d) s ys None kind new e = tt
 new_dir root (Dirs d) s ys (Some dir) kind new e =
-    distinct_across (d.waiting.items) s.took dir new (subst (λ l. Contains l dir) (sym e) (Contains-append_right ys (dir ∷ []) dir (contains_head dir [])))
+    distinct_across (d.list.waiting.items) s.took dir new (subst (λ l. Contains l dir) (sym e) (Contains-append_right ys (dir ∷ []) dir (contains_head dir [])))
 
 pub new_dir_of : (p : Run) (a b : Worker) (x : IndexValue) (has : HasList p a x b) (got : Option Path) → IfSome got (λ dir. ¬ Contains has.own.took dir) → IfSome got (λ dir. OfShare a (λ s. ¬ Contains s.took dir))
 new_dir_of p a b x has None new = tt

@@ -1,10 +1,10 @@
 -- The trees after a run.
-use Rattle.std.proofs.Common.{◌≡◌, ℕ, ◌<◌, ◌≤◌, Bool, true, suc, zero, List, [], ◌∷◌, ◌++◌, length, Option, Some, None, cond, nat_lt, refl, sym, ap, subst, ◌∙◌, ⊎_elim, arith, append-nil, false}
+use Rattle.std.proofs.Common.{◌≡◌, ℕ, ◌<◌, ◌≤◌, Bool, true, suc, zero, List, [], ◌∷◌, ◌++◌, length, Option, Some, None, Result, Ok, Err, OnErr, cond, nat_lt, refl, sym, ap, subst, ◌∙◌, ⊎_elim, arith, append-nil, false}
 use Rattle.std.specs.Prelude.{IfSome, Contains, slice_index_or}
 use Rattle.std.specs.Option.{option_or}
 use mathlib.Core.Option.{some, some-injective, some-ne-none}
 use lib.ListN.{get_elem?}
-use Rattle.std.proofs.lemmas.Bool.{lt-ltb, ltb-true}
+use Rattle.std.proofs.lemmas.Bool.{cases_eq, cases_lt, lt-ltb, ltb-true}
 use Rattle.std.proofs.lemmas.List.Elements.{Contains-append_right}
 use Rattle.std.proofs.lemmas.Option.{same_Some}
 use Rattle.firefly_outside.specs.Trees.{Path, Told, Calls}
@@ -27,11 +27,16 @@ use Rattle.index_findings.proofs.ToldLaws.{told_on, told_both}
 use Rattle.index_rule.specs.declared.value.IndexValue.{IndexValue}
 use Rattle.indexer.specs.Jobs.{GivesTree, kind_at, tree_at}
 use Rattle.indexer.specs.Runs.{IsFoundBy}
-use Rattle.indexer.specs.Says.{AllTell, OnlyCalls, AreBack, IsUsedBy, AreUsed, HasCause, IsCausedAt, FailsSince, TreesAfter, answer_of}
+use Rattle.indexer.specs.Says.{AllTell, OnlyCalls, IsBack, AreBack, AreLeft, IsUsedBy, AreUsed, HasCause, IsCausedAt, FailsSince, TreesAfter, answer_of}
 use Rattle.indexer.specs.Turns.{Worker, Run, release_count}
 use Rattle.indexer.specs.Walks.{HasDone, FaultCounts, CalledOnly, MayFail, calls_with}
 use Rattle.index_rule.specs.Shares.{Share}
 use Rattle.indexer.proofs.RunLaws.{some_at}
+
+-- what holds in any case holds on an error
+pub on_err_if : {T E P : Type 0} (r : Result T E) → P → OnErr r P
+on_err_if (Ok x) p = tt
+on_err_if (Err e) p = p
 
 fault_count : (a b : ℕ) (fault : Option Fault) → FaultCounts a b fault → a ≤ b
 fault_count a b None h = omega (arith, h)
@@ -136,6 +141,44 @@ module _ {S : Type 0} (tree : S → Option Told) (weak : S → List Path) (fault
         came = subst (λ (o : Option S). Came w.run (kind_at walkers k) w.first w.last there.0 s o) (tree_there n new k low) (came w.run (kind_at walkers k) w.first w.last there.0 (tree_at n old k) (tree_at n new k) s (tree_there n old k low ∙ e) w.gives);
       }
 
+  back_same : (s : S) → IsBack tree weak faults calls s s
+  back_same s = record { same_tree = refl; same_weak = refl; count = omega arith }
+
+  left_by : (n : ℕ) (old new : List (Option S)) → ((k : ℕ) (r : S) → k < n → slice_index_or new k None ≡ Some r → (s : S) × (slice_index_or old k None ≡ Some s) × IsBack tree weak faults calls s r)
+      → ((i : ℕ) (d : Option S) → n ≤ i → slice_index_or new i d ≡ slice_index_or old i d) → AreLeft tree weak faults calls n old new
+  left_by n old new low above = record {
+    own = λ k r e. ⊎_elim (λ below. low k r below e) (λ high. (r, sym (above k None (omega (arith, high))) ∙ e, back_same r)) (cases_lt k n);
+    closing = λ s e. (s, above n None (omega arith) ∙ e, back_same s);
+    others = λ i d high. above i d (omega arith);
+  }
+
+  -- where what is left stood there
+  pub left_there : (n : ℕ) (old new : List (Option S)) → ((i : ℕ) (r : S) → slice_index_or new i None ≡ Some r → slice_index_or old i None ≡ Some r)
+      → ((i : ℕ) (d : Option S) → n ≤ i → slice_index_or new i d ≡ slice_index_or old i d) → AreLeft tree weak faults calls n old new
+  left_there n old new left above = left_by n old new (λ k r low e. (r, left k r e, back_same r)) above
+
+  pub left_same : (n : ℕ) (old new : List (Option S)) → new ≡ old → AreLeft tree weak faults calls n old new
+  left_same n old new same = subst (λ (l : List (Option S)). AreLeft tree weak faults calls n old l) (sym same) (left_there n old old (λ i r e. e) (λ i d h. refl))
+
+  gives_back : (p : Run) (kind : Kind) (a b : Worker) (f : Findings) (given got : Option S) (r : S) → got ≡ Some r → GivesTree tree weak faults calls root p kind a b f given got
+      → (s : S) × (given ≡ Some s) × IsBack tree weak faults calls s r
+  gives_back p kind a b f None None r e h = absurd (cc)
+  gives_back p kind a b f None (Some u) r e h = absurd h
+  gives_back p kind a b f (Some s) None r e h = absurd h
+  gives_back p kind a b f (Some s) (Some u) r e h =
+      (s, refl, subst (IsBack tree weak faults calls s) (same_Some u r e) (record { same_tree = h.0; same_weak = h.1; count = fault_count (faults s) (faults u) f.fault h.2.counts }))
+
+  -- where the workers came back, each of their trees did
+  pub left_found : (walkers n : ℕ) (threads : List Worker) (findings : List Findings) (old new : List (Option S)) → n ≤ length findings → Each (IsFoundBy tree weak faults calls root walkers n threads old new) findings
+      → ((i : ℕ) (d : Option S) → n ≤ i → slice_index_or new i d ≡ slice_index_or old i d) → AreLeft tree weak faults calls n old new
+  left_found walkers n threads findings old new many found above = left_by n old new
+      (λ k r low e.
+      let there = some_at findings k (omega arith) in
+      let w = found k there.0 there.1 in
+      let b = gives_back w.run (kind_at walkers k) w.first w.last there.0 (tree_at n old k) (tree_at n new k) r (tree_there n new k low ∙ e) w.gives in
+      (b.0, sym (tree_there n old k low) ∙ b.1, b.2))
+      above
+
   module _ (walkers n : ℕ) (threads : List Worker) (findings : List Findings) (old mid new : List (Option S)) (stop : Option ℕ) (fault : Option Fault) (many : n ≤ length findings)
       (found : Each (IsFoundBy tree weak faults calls root walkers n threads old mid) findings)
       (above : (i : ℕ) (d : Option S) → n ≤ i → slice_index_or mid i d ≡ slice_index_or old i d)
@@ -152,6 +195,22 @@ module _ {S : Type 0} (tree : S → Option Told) (weak : S → List Path) (fault
           (h.0, h.1, record { same_tree = h.2; same_weak = h.3; count = ends_count (tree s) (weak s) root stop fault (faults s) (faults h.0) (calls s) (calls h.0) answer h.4 });
       others = λ i d low. others i d (λ same. omega arith) ∙ above i d (omega arith);
     }
+
+    -- and so they are where memory wanted behind the run
+    are_left : (answer : WalkAnswer) (own : S) → slice_index_or old n None ≡ Some own → Deciding tree weak faults calls root stop fault answer (slice_index_or mid n None) (slice_index_or new n None) → AreLeft tree weak faults calls n old new
+    are_left answer own is_own ends =
+        let was = left_found walkers n threads findings old mid many found above in
+        let all = are_back answer ends in
+        record {
+          own = λ k r e. ⊎_elim
+              (λ (here : k ≡ n).
+              let w = all.closing own is_own in
+              (own, ap (λ i. slice_index_or old i None) here ∙ is_own, subst (IsBack tree weak faults calls own) (same_Some w.0 r (sym w.1 ∙ (ap (λ i. slice_index_or new i None) (sym here) ∙ e))) w.2))
+              (λ (else : k ≡ n → ⊥). was.own k r (sym (others k None else) ∙ e))
+              (cases_eq k n);
+          closing = all.closing;
+          others = all.others;
+        }
 
     -- where the index is answered, no count rose, and only calls of its kind were made on each worker's tree
     are_used : (piece : Index) → fault ≡ first_fault findings → (own : S) → slice_index_or old n None ≡ Some own
@@ -305,7 +364,7 @@ module _ {S : Type 0} (tree : S → Option Told) (weak : S → List Path) (fault
   trees_after many (Stopped m) ends = back many (Stopped m) ends
   trees_after many (ReadFault path) ends = back many (ReadFault path) ends
   trees_after many (TooMany m) ends = back many (TooMany m) ends
-  trees_after many Memory ends = tt
+  trees_after many Memory ends = are_left tree weak faults calls root walkers n closed.threads findings old mid new stop fault many found above others Memory own is_own ends
 
   pub has_cause : (o : Option Told) → AllTell tree o old → (answer : WalkAnswer) → Decides answer → HasCause tree weak faults calls root old new (answer_of answer closed)
   has_cause o tell (Done piece) ends = tt

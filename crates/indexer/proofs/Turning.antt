@@ -1,5 +1,5 @@
 -- The calls of a worker.
-use Rattle.std.proofs.Common.{◌≡◌, ℕ, ◌+◌, ◌≤◌, List, [], ◌∷◌, ◌++◌, Option, Some, None, Result, Ok, Err, sym, ap, subst, ◌∙◌, refl, arith, slice_set, cond, append-nil}
+use Rattle.std.proofs.Common.{◌≡◌, ℕ, ◌+◌, ◌≤◌, List, [], ◌∷◌, ◌++◌, Option, Some, None, Result, Ok, Err, sym, ap, subst, ◌∙◌, refl, arith, slice_set, cond, append-nil, length}
 use Rattle.std.specs.Prelude.{All}
 use Rattle.std.proofs.lemmas.List.{set-set}
 use Rattle.std.proofs.lemmas.List.Elements.{All-append, All-cons, All-head, All-nil, All-tail}
@@ -22,6 +22,7 @@ use Rattle.nub.specs.Rest.{AtRest, Adds, IsSame}
 use Rattle.nub.proofs.Users.{idle_again}
 use Rattle.word_index.specs.Index.{Index}
 use Rattle.index_findings.specs.Pieces.{IsFilesPiece}
+use Rattle.index_rule.specs.declared.value.DirsInWork.{DirsInWork}
 use Rattle.index_rule.specs.declared.value.IndexItem.{IndexItem}
 use Rattle.index_rule.specs.declared.value.IndexItem.TheVariants.{File as FileItem, Piece as PieceItem}
 use Rattle.index_rule.specs.declared.value.IndexValue.{IndexValue}
@@ -31,26 +32,28 @@ use Rattle.std.proofs.lemmas.Option.{same_Some}
 use Rattle.index_rule.specs.Counting.{contains_nil, distinct_nil}
 use Rattle.index_rule.specs.Shares.{Share, IsChildOfTook}
 use Rattle.index_rule.specs.Work.{IsBehind, IsNewTo, MayChange, waiting_of}
-use Rattle.indexer.specs.Turns.{Worker, Run, releases, release_count, Passes, ComesBack, HasCalled, HasList, IsBetween}
+use Rattle.indexer.specs.Turns.{Worker, Run, releases, release_count, Passes, ComesBack, HasCalled, HasList, IsAs, IsBetween}
 
 -- the list may be given back as it was got
-pub dirs_stay : (root : Path) (x y : IndexValue) (s : Share) → IsBehind 0 x → IsBehind 0 y → waiting_of y ≡ waiting_of x → MayChange root 0 x y s s
-dirs_stay root (Dirs d) (Dirs e) s h k same = record {
+pub dirs_stay : (root : Path) (x : IndexValue) (e : DirsInWork) (s : Share) → IsBehind 0 x → IsAs x e → MayChange root 0 x (Dirs e) s s
+dirs_stay root (Dirs d) e s h same = record {
   kind = refl;
-  moves = record {
-    rest = waiting_of (Dirs d);
-    gone = [];
-    come = [];
-    was = sym (append-nil (waiting_of (Dirs d)));
-    is = same ∙ sym (append-nil (waiting_of (Dirs d)));
-    share = refl;
-    from = All-nil (IsChildOfTook s);
-    once = distinct_nil;
-    new = λ d k. absurd (contains_nil d k);
-  };
+  moves = (
+    record {
+      rest = waiting_of (Dirs d);
+      gone = [];
+      come = [];
+      was = sym (append-nil (waiting_of (Dirs d)));
+      is = same.waiting ∙ sym (append-nil (waiting_of (Dirs d)));
+      share = refl;
+      from = All-nil (IsChildOfTook s);
+      once = distinct_nil;
+      new = λ d k. absurd (contains_nil d k);
+    },
+    record { dirs = ap (λ n. n + length s.put) same.dirs; files = ap (λ n. n + s.files) same.files },
+  );
 }
-dirs_stay root (Dirs d) (Ring q) s h k same = absurd (k refl)
-dirs_stay root (Ring q) y s h k same = absurd (h refl)
+dirs_stay root (Ring q) e s h same = absurd (h refl)
 
 release_count-append : (m : ℕ) (xs ys : List Event) → release_count m (xs ++ ys) ≡ release_count m xs + release_count m ys
 release_count-append m xs ys = sum_by-append (λ (e : Event). cond (releases m e.action) 1 0) xs ys

@@ -1,5 +1,5 @@
 -- What a call adds to the share of its thread.
-use Rattle.std.specs.Prelude.{◌≡◌, ℕ, List, [], ◌++◌, Option, Some, None, Contains, All}
+use Rattle.std.specs.Prelude.{◌≡◌, ℕ, ◌+◌, List, [], ◌++◌, Option, Some, None, Contains, All}
 use Rattle.firefly_outside.specs.Trees.{Path, Told}
 use Rattle.word_index.specs.Index.{Index}
 use Rattle.index_rule.specs.Distinct.{AreDisjoint, AreDistinct}
@@ -36,6 +36,10 @@ Gets p more a b = (s : Share) → a.share ≡ Some s → (r : Share) × (b.share
 pub record Makes (p : Run) (more : More) (a b : Worker) : Type 0 where
   pub called : (o : Option Told) (root : Path) (m : ℕ) → HasCalled o root [] p m 0 a b
   pub gets : Gets p more a b
+
+-- the thread counted so many files more
+abbrev pub Counts : ℕ → Worker → Worker → Type 0
+Counts files a b = (s : Share) → a.share ≡ Some s → (r : Share) × (b.share ≡ Some r) × (r.files ≡ s.files + files)
 
 -- the share of the thread is such
 abbrev pub OfShare : Worker → (Share → Type 0) → Type 0

@@ -12,7 +12,10 @@ use Rattle.index_rule.specs.Shares.{blank}
 use Rattle.indexer.specs.Gets.{Makes, OfShare, nothing}
 use Rattle.indexer.specs.Hands.{IsLeft}
 use Rattle.index_findings.specs.declared.findings.Findings.{Findings}
+use Rattle.indexer.specs.Roles.{role_of}
 use Rattle.indexer.specs.declared.job.Job.{Job}
+use Rattle.indexer.specs.declared.job.Role.{Role}
+use Rattle.indexer.specs.declared.job.Role.TheVariants.{Walker, Parser, Merger}
 use Rattle.indexer.specs.Turns.{Worker, Run, HasCalled, IsBetween}
 use Rattle.indexer.specs.Walks.{HasDone}
 
@@ -28,12 +31,12 @@ kind_at walkers k = cond (nat_lt k walkers) Dir File
 abbrev pub IsFresh : Run → Worker → Type 0
 IsFresh p a = IsBetween p a × (a.share ≡ Some blank)
 
--- a job for each thread, with the tree and the kind of its place; the trees behind the first n stay
+-- a job for each thread, with the role of its place; the trees behind the first n stay, and what is left elsewhere stood there
 pub record AreJobs {S : Type 0} (walkers n : ℕ) (threads : List Worker) (old new : List (Option S)) (jobs : List (Job S)) : Type 0 where
   pub made : map (λ (j : Job S). j.me) jobs ≡ threads
-  pub kinds : (k : ℕ) (e : Job S) → k < length jobs → (slice_index_or jobs k e).kind ≡ kind_at walkers k
-  pub trees : (k : ℕ) (e : Job S) → k < length jobs → (slice_index_or jobs k e).tree ≡ tree_at n old k
+  pub roles : (k : ℕ) (e : Job S) → k < length jobs → (slice_index_or jobs k e).role ≡ role_of (kind_at walkers k) (tree_at n old k)
   pub others : (i : ℕ) (d : Option S) → n ≤ i → slice_index_or new i d ≡ slice_index_or old i d
+  pub left : (i : ℕ) (r : S) → slice_index_or new i None ≡ Some r → slice_index_or old i None ≡ Some r
 
 module _ {S : Type 0} (tree : S → Option Told) (weak : S → List Path) (faults : S → ℕ) (calls : S → Calls) (root : Path) where
   -- the worker came from a to b with these findings, as its share says: the tree that it got came back, with calls of its kind; without a tree
@@ -47,6 +50,13 @@ module _ {S : Type 0} (tree : S → Option Told) (weak : S → List Path) (fault
       × IfSome (tree s) (λ t. ((calls r).files_read ≡ (calls s).files_read ++ files) × (f.lost ≡ false → (calls r).listed ≡ (calls s).listed ++ dirs_listed f.visits.items)))
   GivesTree p kind a b f None (Some r) = ⊥
   GivesTree p kind a b f (Some s) None = ⊥
+
+  -- the same of a worker with its role, which stays
+  abbrev pub GivesRole : Run → Worker → Worker → Findings → Role S → Role S → Type 0
+  GivesRole p a b f (Walker s) (Walker r) = GivesTree p Dir a b f (Some s) (Some r)
+  GivesRole p a b f (Parser s) (Parser r) = GivesTree p File a b f (Some s) (Some r)
+  GivesRole p a b f Merger Merger = GivesTree p File a b f None None
+  GivesRole p a b f x y = ⊥
 
   -- the thread at this place came back with the findings at this place, and so did its tree; of those with a tree, which are the first n, the walkers come first
   pub record HasWorked (p : Run) (walkers n : ℕ) (threads : List Worker) (findings : List Findings) (old new : List (Option S)) (k : ℕ) (t : Worker) : Type 0 where

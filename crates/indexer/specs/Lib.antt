@@ -7,6 +7,7 @@ pub mod States
 pub mod Walks
 pub mod Lots
 pub mod Once
+pub mod Roles
 pub mod Jobs
 pub mod Runs
 pub mod Says

@@ -100,6 +100,12 @@ module _ {S : Type 0} (tree : S → Option Told) (weak : S → List Path) (fault
     pub closing : (s : S) → slice_index_or old n None ≡ Some s → (r : S) × (slice_index_or new n None ≡ Some r) × IsBack s r
     pub others : (i : ℕ) (d : Option S) → n < i → slice_index_or new i d ≡ slice_index_or old i d
 
+  -- where memory wants: what stands at a place is its own tree, and came back so; the closing walk's is back, and no tree behind it was touched
+  pub record AreLeft (n : ℕ) (old new : List (Option S)) : Type 0 where
+    pub own : (k : ℕ) (r : S) → slice_index_or new k None ≡ Some r → (s : S) × (slice_index_or old k None ≡ Some s) × IsBack s r
+    pub closing : (s : S) → slice_index_or old n None ≡ Some s → (r : S) × (slice_index_or new n None ≡ Some r) × IsBack s r
+    pub others : (i : ℕ) (d : Option S) → n < i → slice_index_or new i d ≡ slice_index_or old i d
+
   -- the tree of the worker k, which is thread k + 1: its count didn't rise, and only calls of this kind were made on it
   pub record IsUsedBy (kind : Kind) (threads : List Worker) (k : ℕ) (s r : S) : Type 0 where
     pub none_rose : faults r ≡ faults s
@@ -135,4 +141,4 @@ module _ {S : Type 0} (tree : S → Option Told) (weak : S → List Path) (fault
   TreesAfter walkers n old new (IndexStopped many) = AreBack n old new
   TreesAfter walkers n old new (IndexReadFault path) = AreBack n old new
   TreesAfter walkers n old new (IndexTooMany many) = AreBack n old new
-  TreesAfter walkers n old new IndexMemory = Unit {0}
+  TreesAfter walkers n old new IndexMemory = AreLeft n old new

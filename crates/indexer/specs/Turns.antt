@@ -1,19 +1,21 @@
 -- A worker between its calls, and while it has the list of directories.
-use Rattle.std.specs.Prelude.{◌≡◌, ℕ, ◌+◌, ◌≤◌, Bool, false, eqb, List, count_by, slice_set, Option, Some, All}
+use Rattle.std.specs.Prelude.{◌≡◌, ℕ, ◌+◌, ◌≤◌, Bool, false, eqb, List, [], ◌∷◌, ◌++◌, count_by, slice_set, Option, Some, All}
 use Rattle.firefly_outside.specs.Trees.{Path, Told}
 use Rattle.larch_actions.specs.declared.event.Event.{Event}
 use Rattle.larch_actions.specs.declared.event.Layout.{Layout}
 use Rattle.larch_actions.specs.declared.event.Action.{Action}
 use Rattle.larch_actions.specs.declared.event.Action.TheVariants.{Release}
 use Rattle.nub_rule.specs.Known.{Known, Shape, Holds}
+use Rattle.nub_rule.specs.Plays.{broadcast_action, event}
 use Rattle.nub.specs.Idle.{IsIdle}
 use Rattle.nub.specs.Rest.{AtRest, IsSame}
 use Rattle.word_index.specs.Index.{Index}
 use Rattle.index_findings.specs.Pieces.{IsFilesPiece}
+use Rattle.index_rule.specs.declared.value.DirsInWork.{DirsInWork}
 use Rattle.index_rule.specs.declared.value.IndexValue.{IndexValue}
 use Rattle.indexer.specs.Pieces.{IsPieceItem, AllPut, AllTaken}
 use Rattle.index_rule.specs.Shares.{Share, blank}
-use Rattle.index_rule.specs.Work.{IsBehind, IsNewTo}
+use Rattle.index_rule.specs.Work.{IsBehind, IsNewTo, dirs_of, files_of, waiting_of}
 
 abbrev pub Worker : Type 0
 Worker = Known IndexValue Share Path
@@ -62,6 +64,16 @@ pub record HasList (p : Run) (a : Worker) (x : IndexValue) (b : Worker) : Type 0
   pub kind : IsBehind 0 x
   pub new : IsNewTo p.world 0 own x
   pub times : (m : ℕ) → release_count m a.mine ≤ release_count m b.mine
+
+-- the state has what this value has
+pub record IsAs (x : IndexValue) (d : DirsInWork) : Type 0 where
+  pub waiting : d.list.waiting.items ≡ waiting_of x
+  pub dirs : d.found.dirs ≡ dirs_of x
+  pub files : d.found.files ≡ files_of x
+
+-- the last that the thread did was to wake all who wait for the list of directories
+abbrev pub HasWoken : Worker → Type 0
+HasWoken b = (es : List Event) × (b.mine ≡ es ++ event b.number (broadcast_action 0 []) ∷ [])
 
 -- the thread is between two calls
 abbrev pub IsBetween : Run → Worker → Type 0

@@ -1,10 +1,11 @@
 //! The workers, all at once.
-ghost use Rattle.std.specs.Prelude.{◌≡◌, ◌≤◌, ◌<◌, [], length, IfOk, Option};
+ghost use Rattle.std.specs.Prelude.{◌≡◌, ◌≤◌, ◌<◌, [], length, IfOk, OnErr, Option};
 ghost use Rattle.firefly_outside.specs.Trees.{Path, Told};
 ghost use Rattle.nub_rule.specs.Items.{Each};
 ghost use Rattle.package_crew.specs.Crews.{CameBack};
 ghost use Rattle.indexer.specs.Gets.{Makes, nothing};
-ghost use Rattle.indexer.specs.Jobs.{GivesTree, HasCrew, IsFresh};
+ghost use Rattle.indexer.specs.Jobs.{GivesRole, HasCrew, IsFresh};
+ghost use Rattle.indexer.specs.Says.{AreLeft};
 ghost use Rattle.indexer.specs.Turns.{HasLists, IsBetween};
 
 use crate::ending::shut_all;
@@ -41,8 +42,8 @@ fn run_jobs<R: Threads + Wait + Sync, S: Tree, G: Gate>(
     ensures jobs { IfOk result (λ r. length r.0.items ≡ length jobs.items) }
     ensures findings { IfOk result (λ r. length r.1.items ≡ length jobs.items) }
     ensures each { IfOk result (λ r. Each (λ n j. CameBack
-        (λ was left. GivesTree S.tree S.may_fail S.faults S.calls root.now p.now was.kind was.me j.me left was.tree j.tree) jobs.items
-        r.1.items n) r.0.items) }
+        (λ was left. GivesRole S.tree S.may_fail S.faults S.calls root.now p.now was.me j.me left was.role j.role) jobs.items r.1.items n)
+        r.0.items) }
 {
     at_once_beside(
         rt,
@@ -51,8 +52,8 @@ fn run_jobs<R: Threads + Wait + Sync, S: Tree, G: Gate>(
         starts as usize,
         &move |job: Job<S>| -> (Job<S>, Findings)
             requires { HasLists p.now.layout × IsFresh p.now job.me × (root.now ≡ p.now.world) }
-            ensures { GivesTree S.tree S.may_fail S.faults S.calls root.entry.now p.entry.now job.kind job.me result.0.me result.1
-                job.tree result.0.tree }
+            ensures { GivesRole S.tree S.may_fail S.faults S.calls root.entry.now p.entry.now job.me result.0.me result.1 job.role
+                result.0.role }
         { work(rt, alloc, p, root, gate, walkers, job) },
         |refused: bool| -> Thread<IndexUses>
             requires { HasLists p.now.layout × IsBetween p.now caller }
@@ -71,7 +72,8 @@ fn run_jobs<R: Threads + Wait + Sync, S: Tree, G: Gate>(
 /// each, and of these the first are walkers. It answers the threads, and what each worker came by, in the order of the threads.
 ///
 /// At most the first `starts` workers are started. Where one isn't or can't be, the list and both buffers are shut, and it is run here
-/// once all others were started; what no worker does then is for the closing walk. It blocks until each has ended. On `Err` there was no memory; the trees may be lost then.
+/// once all others were started; what no worker does then is for the closing walk. It blocks until each has ended. On `Err` there was no memory;
+/// each of the first trees is in its place or lost then.
 pub fn run_workers<R: Threads + Wait + Sync, S: Tree, G: Gate>(
     rt: &R,
     alloc: Global,
@@ -89,8 +91,9 @@ pub fn run_workers<R: Threads + Wait + Sync, S: Tree, G: Gate>(
     requires threads { Each (λ n t. IsFresh p.now t) threads.items }
     requires root { root.now ≡ p.now.world }
     requires trees { with_tree ≤ length trees.old }
-    ensures { IfOk result (λ r. HasCrew S.tree S.may_fail S.faults S.calls root.now p.now walkers with_tree threads.items trees.old
+    ensures crew { IfOk result (λ r. HasCrew S.tree S.may_fail S.faults S.calls root.now p.now walkers with_tree threads.items trees.old
         trees.new r.0.items r.1.items) }
+    ensures left { OnErr result (AreLeft S.tree S.may_fail S.faults S.calls with_tree trees.old trees.new) }
 {
     let room = Vec::with_capacity(alloc, threads.len())?;
     // The caller is thread 0.

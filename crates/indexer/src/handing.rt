@@ -1,9 +1,10 @@
 //! Trees are handed to the workers, and come back.
-ghost use Rattle.std.specs.Prelude.{◌≡◌, ◌+◌, ◌≤◌, ◌<◌, ◌∷◌, [], ℕ, List, length, map, vec_len, vec_capacity, slice_index_or, IfOk, OnErr, Option, None};
+ghost use Rattle.std.specs.Prelude.{◌≡◌, ◌+◌, ◌≤◌, ◌<◌, ◌∷◌, [], ℕ, List, length, map, vec_len, vec_capacity, slice_index_or, IfOk, OnErr, Option, Some, None};
 ghost use Rattle.indexer.specs.Jobs.{AreJobs, kind_at, tree_at};
+ghost use Rattle.indexer.specs.Roles.{tree_of};
 ghost use Rattle.indexer.specs.declared.job.Job.{Job};
 
-use crate::job::Job;
+use crate::job::{Job, role_with, tree_in};
 use firefly_outside::Kind;
 use index_rule::IndexUses;
 use nub_rule::Thread;
@@ -26,6 +27,7 @@ fn take_tree<S: Drop>(trees: &mut [Option<S>], with_tree: usize, k: usize) -> Op
     ensures tree { result ≡ tree_at with_tree trees.old k }
     ensures others { (i : ℕ) (d : Option S) → (i ≡ k → ⊥) → slice_index_or trees.new i d ≡ slice_index_or trees.old i d }
     ensures above { (i : ℕ) (d : Option S) → with_tree ≤ i → slice_index_or trees.new i d ≡ slice_index_or trees.old i d }
+    ensures left { (i : ℕ) (r : S) → slice_index_or trees.new i None ≡ Some r → slice_index_or trees.old i None ≡ Some r }
 {
     if k < with_tree {
         put_at(trees, k, None)
@@ -53,7 +55,8 @@ fn kind_of_place(walkers: usize, k: usize) -> Kind
     if k < walkers { Kind::Dir } else { Kind::File }
 }
 
-/// A job for each thread; the first of them get the trees, and the first of these are walkers.
+/// A job for each thread; the first of them get the trees, and the first of these are walkers. On `Err` there was no memory, and each tree
+/// is in its place.
 pub fn jobs_of<S: Drop>(
     alloc: Global,
     threads: Vec<Thread<IndexUses>>,
@@ -62,14 +65,15 @@ pub fn jobs_of<S: Drop>(
     with_tree: usize,
 ) -> Result<Vec<Job<S>>, AllocError>
     requires { with_tree ≤ length trees.old }
-    ensures { IfOk result (λ js. AreJobs walkers with_tree threads.items trees.old trees.new js.items) }
+    ensures jobs { IfOk result (λ js. AreJobs walkers with_tree threads.items trees.old trees.new js.items) }
+    ensures stay { OnErr result (trees.new ≡ trees.old) }
 {
     let mut jobs = Vec::with_capacity(alloc, threads.len())?;
     for me in threads {
         let k = jobs.len();
         let tree = take_tree(trees, with_tree, k);
-        let kind = kind_of_place(walkers, k);
-        jobs.push_reserved(Job { me, kind, tree });
+        let role = role_with(kind_of_place(walkers, k), tree);
+        jobs.push_reserved(Job { me, role });
     }
     Ok(jobs)
 }
@@ -87,14 +91,14 @@ pub fn put_back<S: Drop>(
     requires room { vec_len threads + vec_len jobs < vec_capacity threads }
     ensures threads { result.items ≡ caller ∷ map (λ j. j.me) jobs.items }
     ensures trees { (k : ℕ) (d : Option S) (e : Job S) → k < with_tree → k < vec_len jobs
-        → slice_index_or trees.new k d ≡ (slice_index_or jobs.items k e).tree }
+        → slice_index_or trees.new k d ≡ tree_of (slice_index_or jobs.items k e).role }
     ensures others { (i : ℕ) (d : Option S) → with_tree ≤ i → slice_index_or trees.new i d ≡ slice_index_or trees.old i d }
 {
     threads.push_reserved(caller);
     let mut k = 0;
     for job in jobs {
-        let Job { me, kind: _, tree } = job;
-        put_tree(trees, with_tree, k, tree);
+        let Job { me, role } = job;
+        put_tree(trees, with_tree, k, tree_in(role));
         k += 1;
         threads.push_reserved(me);
     }

@@ -31,7 +31,8 @@ mod work_end;
 
 pub use answer::IndexAnswer;
 pub use index_rule::{
-    DidMove, DidPut, DidShut, DidTake, IndexItem, IndexUses, IndexValue, WaitingDirs,
+    DidMove, DidPut, DidShut, DidTake, DirsInWork, FoundCounts, IndexItem, IndexUses, IndexValue,
+    WaitingDirs,
 };
 pub use indexing::{index, index_with};
 pub use package_crew::{Gate, NoGate};

@@ -1,18 +1,21 @@
 //! The package of an index run.
-ghost use Rattle.std.specs.Prelude.{◌≡◌, ◌∷◌, [], IfOk, length};
+ghost use Rattle.std.specs.Prelude.{◌≡◌, ◌-◌, ◌^◌, IfOk, length};
+ghost use Rattle.std.specs.Option.{unwrap_or};
 ghost use Rattle.nub_rule.specs.Items.{Each};
 ghost use Rattle.nub.specs.Ended.{IsFirst};
-ghost use Rattle.index_rule.specs.Opening.{IsOpening};
+ghost use Rattle.index_rule.specs.Opening.{IsFirst as IsFirstDirs, IsOpening};
 ghost use Rattle.index_rule.specs.Shares.{blank};
 ghost use Rattle.indexer.specs.Plans.{IsPlan, layout_of};
+ghost use Rattle.walker.specs.Closing.{most_dirs};
 
 use crate::plan::{Plan, index_layout};
 use bounded_buffer::Ring;
 use firefly_outside::Text;
-use index_rule::{IndexUses, IndexValue, WaitingDirs};
+use index_rule::{DirsInWork, FoundCounts, IndexUses, IndexValue, WaitingDirs};
 use nub::open_package;
 use nub_rule::{Package, Thread};
 use std::alloc::{AllocError, Global};
+use walker::MOST_DIRS;
 
 /// How many files' paths may wait to be read.
 const MOST_FILES: u32 = 256;
@@ -21,19 +24,25 @@ const MOST_FILES: u32 = 256;
 const MOST_PIECES: u32 = 8;
 
 // The list with the root alone.
-fn first_dirs(alloc: Global, root: &str, plan: &Plan) -> Result<WaitingDirs, AllocError>
-    ensures { IfOk result (λ d. d.waiting.items ≡ root.now ∷ []) }
+fn first_dirs(alloc: Global, root: &str, plan: &Plan) -> Result<DirsInWork, AllocError>
+    ensures first { IfOk result (IsFirstDirs root.now) }
+    ensures most_dirs { IfOk result (λ d. d.found.most_dirs ≡ most_dirs) }
+    ensures most_files { IfOk result (λ d. d.found.most_files ≡ unwrap_or plan.now.stop_after (2 ^ 64 - 1)) }
 {
-    let most_files = plan.stop_after.unwrap_or(u64::MAX);
     let mut waiting = Vec::new(alloc);
     waiting.push(Text::of(alloc, root)?)?;
-    Ok(WaitingDirs {
-        waiting,
-        in_work: 0,
-        shut: false,
-        dirs: 1,
-        files: 0,
-        most_files,
+    Ok(DirsInWork {
+        list: WaitingDirs {
+            waiting,
+            in_work: 0,
+            shut: false,
+        },
+        found: FoundCounts {
+            dirs: 1,
+            files: 0,
+            most_dirs: MOST_DIRS,
+            most_files: plan.stop_after.unwrap_or(u64::MAX),
+        },
         parsers: plan.parsers,
     })
 }

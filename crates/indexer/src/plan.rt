@@ -1,6 +1,7 @@
 //! How many threads make an index.
 ghost use Rattle.std.specs.Prelude.{◌≡◌};
 ghost use Rattle.larch_actions.specs.Layout.{IsLawful};
+ghost use Rattle.larch_actions.specs.declared.event.Version.TheVariants.{One};
 ghost use Rattle.indexer.specs.Plans.{IsPlan, layout_of};
 
 use larch_actions::Layout;
@@ -23,11 +24,7 @@ pub fn index_layout(plan: &Plan) -> Layout
     requires { IsPlan plan.now }
     ensures layout { result ≡ layout_of plan.now }
     ensures lawful { IsLawful result }
+    ensures version { result.version ≡ One }
 {
-    Layout {
-        threads: 1 + plan.walkers + plan.parsers + plan.mergers,
-        mutexes: 3,
-        conditions: 5,
-        semaphores: 0,
-    }
+    Layout::of(1 + plan.walkers + plan.parsers + plan.mergers, 3, 5, 0)
 }

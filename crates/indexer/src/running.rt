@@ -1,7 +1,8 @@
 //! A run of the workers in a package of its own.
-ghost use Rattle.std.specs.Prelude.{◌+◌, ◌≤◌, length, IfOk};
+ghost use Rattle.std.specs.Prelude.{◌+◌, ◌≤◌, length, IfOk, OnErr};
 ghost use Rattle.indexer.specs.Plans.{IsPlan};
 ghost use Rattle.indexer.specs.Runs.{HasRun};
+ghost use Rattle.indexer.specs.Says.{AreLeft};
 
 use crate::crew::run_workers;
 use crate::opening::open_run;
@@ -18,7 +19,7 @@ use std::thread::Threads;
 /// Lets the workers, of which at most the first `starts` are started, list and read what is under the root, in a package that is closed
 /// when all have ended, and answers what each worker came by.
 ///
-/// It blocks until all have ended. On `Err` there was no memory; the trees may be lost then.
+/// It blocks until all have ended. On `Err` there was no memory; each of the workers' trees is in its place or lost then.
 pub fn worked_run<R: Threads + Wait + Sync, S: Tree, G: Gate>(
     rt: &R,
     alloc: Global,
@@ -30,7 +31,8 @@ pub fn worked_run<R: Threads + Wait + Sync, S: Tree, G: Gate>(
 ) -> Result<(Closed<IndexUses>, Vec<Findings>), AllocError>
     requires plan { IsPlan plan.now }
     requires trees { plan.now.walkers + plan.now.parsers ≤ length trees.old }
-    ensures { IfOk result (λ r. HasRun S.tree S.may_fail S.faults S.calls root.now plan.now trees.old trees.new r.0 r.1.items) }
+    ensures run { IfOk result (λ r. HasRun S.tree S.may_fail S.faults S.calls root.now plan.now trees.old trees.new r.0 r.1.items) }
+    ensures left { OnErr result (AreLeft S.tree S.may_fail S.faults S.calls (plan.now.walkers + plan.now.parsers) trees.old trees.new) }
 {
     let (p, threads) = open_run(alloc, root, plan)?;
     let with_tree = (plan.walkers + plan.parsers) as usize;

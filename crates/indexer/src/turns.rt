@@ -1,17 +1,18 @@
 //! The calls at the list of directories.
-ghost use Rattle.std.specs.Prelude.{◌≡◌, ℕ, [], List, Option, IfSome, All, Contains, drop, length};
+ghost use Rattle.std.specs.Prelude.{◌≡◌, ◌≢◌, ℕ, [], List, Option, Some, IfSome, IsTrue, All, Contains, drop, length};
 ghost use Rattle.std.specs.Option.{option_to_list};
 ghost use Rattle.firefly_outside.specs.Trees.{Path, Told};
-ghost use Rattle.indexer.specs.Gets.{Gets, Makes, MayPutAll, OfShare, moved_more, nothing};
-ghost use Rattle.indexer.specs.Turns.{HasCalled, HasList, HasLists, IsBetween, Worker};
-ghost use Rattle.index_rule.specs.Work.{IsBehind, MovesDirs, moved, waiting_of};
+ghost use Rattle.indexer.specs.Gets.{Counts, Gets, Makes, MayPutAll, OfShare, moved_more, nothing};
+ghost use Rattle.indexer.specs.Turns.{HasCalled, HasList, HasLists, HasWoken, IsAs, IsBetween, Worker};
+ghost use Rattle.nub.specs.Rest.{AtRest};
+ghost use Rattle.index_rule.specs.Work.{MovesCounts, MovesDirs, moved_by, waiting_of};
 ghost use Rattle.index_rule.specs.declared.value.IndexValue.{IndexValue};
 
 use alert_wait::{Outcome, alert_wait};
 use condition::broadcast;
 use firefly_outside::Text;
 use index_rule::{
-    DidMove, IndexUses, IndexValue, Turn, WaitingDirs, list_in, next_turn, put_found,
+    DidMove, DirsInWork, IndexUses, IndexValue, PutDirs, Turn, dirs_in, next_turn, put_found,
 };
 use larch_actions::{CondId, MutexId};
 use nub_rule::{NoChange, Package, Thread};
@@ -24,26 +25,56 @@ const DIRS: MutexId = MutexId(0);
 /// Its condition: that there is something in the list, or that all is over.
 const MORE_DIRS: CondId = CondId(0);
 
-// Takes the list.
-fn take_list<R: Wait>(rt: &R, p: &Package<IndexUses>, me: &mut Thread<IndexUses>) -> WaitingDirs
+// Takes the list, with what was found so far.
+fn take_list<R: Wait>(rt: &R, p: &Package<IndexUses>, me: &mut Thread<IndexUses>) -> DirsInWork
     requires layout { HasLists p.now.layout }
     requires between { IsBetween p.now me.old }
     ensures { HasList p.now me.old (IndexValue.Dirs result) me.new }
 {
-    list_in(acquire(rt, p, me, DIRS))
+    dirs_in(acquire(rt, p, me, DIRS))
 }
 
-// Gives the list back: directories left its end, or new ones came there.
-fn give_list<R: Wait>(rt: &R, p: &Package<IndexUses>, me: &mut Thread<IndexUses>, list: WaitingDirs)
+// Gives the list back: directories left its end, or new ones came there and were counted.
+fn give_list<R: Wait>(rt: &R, p: &Package<IndexUses>, me: &mut Thread<IndexUses>, dirs: DirsInWork)
     requires layout { HasLists p.now.layout }
     requires has { (a : Worker) × (x : IndexValue) × (h : HasList p.now a x me.old)
-        × MovesDirs (waiting_of x) list.waiting.items h.own (moved (waiting_of x) list.waiting.items h.own) }
+        × MovesDirs (waiting_of x) dirs.list.waiting.items h.own (moved_by x (IndexValue.Dirs dirs) h.own)
+        × MovesCounts x (IndexValue.Dirs dirs) h.own (moved_by x (IndexValue.Dirs dirs) h.own) }
+    ensures rest { AtRest p.now me.new }
     ensures called { (a : Worker) (x : IndexValue) → HasList p.now a x me.old → IsBetween p.now a → (o : Option Told) (root : Path)
         → HasCalled o root [] p.now 0 1 a me.new × ((m : ℕ) → HasCalled o root [] p.now m 0 a me.new) }
     ensures gets { (a : Worker) (x : IndexValue) → HasList p.now a x me.old
-        → Gets p.now (moved_more (drop (length list.waiting.items) (waiting_of x)) (drop (length (waiting_of x)) list.waiting.items)) a me.new }
+        → Gets p.now (moved_more (drop (length dirs.list.waiting.items) (waiting_of x)) (drop (length (waiting_of x)) dirs.list.waiting.items))
+        a me.new }
+    ensures share { (a : Worker) (x : IndexValue) → (h : HasList p.now a x me.old)
+        → me.new.share ≡ Some (moved_by x (IndexValue.Dirs dirs) h.own) }
 {
-    release::<IndexUses, DidMove, R>(rt, p, me, DIRS, IndexValue::Dirs(list));
+    release::<IndexUses, DidMove, R>(rt, p, me, DIRS, IndexValue::Dirs(dirs));
+}
+
+// Gives the list back so, and where `wake` says so wakes all who wait for it.
+fn give_and_wake<R: Wait>(
+    rt: &R,
+    p: &Package<IndexUses>,
+    me: &mut Thread<IndexUses>,
+    dirs: DirsInWork,
+    wake: bool,
+)
+    requires layout { HasLists p.now.layout }
+    requires has { (a : Worker) × (x : IndexValue) × (h : HasList p.now a x me.old)
+        × MovesDirs (waiting_of x) dirs.list.waiting.items h.own (moved_by x (IndexValue.Dirs dirs) h.own)
+        × MovesCounts x (IndexValue.Dirs dirs) h.own (moved_by x (IndexValue.Dirs dirs) h.own) }
+    ensures makes { (a : Worker) (x : IndexValue) → HasList p.now a x me.old → IsBetween p.now a
+        → Makes p.now (moved_more (drop (length dirs.list.waiting.items) (waiting_of x)) (drop (length (waiting_of x)) dirs.list.waiting.items))
+        a me.new }
+    ensures share { (a : Worker) (x : IndexValue) → (h : HasList p.now a x me.old)
+        → me.new.share ≡ Some (moved_by x (IndexValue.Dirs dirs) h.own) }
+    ensures wakes { IsTrue wake → HasWoken me.new }
+{
+    give_list(rt, p, me, dirs);
+    if wake {
+        broadcast(rt, p, me, MORE_DIRS);
+    }
 }
 
 // Waits until there may be something in the list, and says whether an alert ended the wait.
@@ -51,10 +82,10 @@ fn wait_for_dirs<R: Wait>(
     rt: &R,
     p: &Package<IndexUses>,
     me: &mut Thread<IndexUses>,
-    list: WaitingDirs,
-) -> (Outcome, WaitingDirs)
+    dirs: DirsInWork,
+) -> (Outcome, DirsInWork)
     requires layout { HasLists p.now.layout }
-    requires has { (a : Worker) × (x : IndexValue) × HasList p.now a x me.old × (list.waiting.items ≡ waiting_of x) }
+    requires has { (a : Worker) × (x : IndexValue) × HasList p.now a x me.old × IsAs x dirs }
     ensures { (a : Worker) (x : IndexValue) → HasList p.now a x me.old → HasList p.now a (IndexValue.Dirs result.1) me.new }
 {
     let (outcome, value) = alert_wait::<IndexUses, NoChange, R>(
@@ -63,9 +94,9 @@ fn wait_for_dirs<R: Wait>(
         me,
         DIRS,
         MORE_DIRS,
-        IndexValue::Dirs(list),
+        IndexValue::Dirs(dirs),
     );
-    (outcome, list_in(value))
+    (outcome, dirs_in(value))
 }
 
 /// Takes a directory that is to be listed. None comes where nothing is left and nothing is in work, where the list is shut, and where
@@ -79,59 +110,61 @@ pub fn next_dir<R: Wait>(rt: &R, p: &Package<IndexUses>, me: &mut Thread<IndexUs
     ensures gets { Gets p.now (moved_more (option_to_list result) []) me.old me.new }
     ensures new { IfSome result (λ dir. OfShare me.old (λ s. ¬ Contains s.took dir)) }
 {
-    let mut list = take_list(rt, p, me);
+    let mut dirs = take_list(rt, p, me);
     for _ in rt.forever() {
-        match next_turn(&mut list) {
+        match next_turn(&mut dirs.list) {
             Turn::Now(dir) => {
-                give_list(rt, p, me, list);
+                give_list(rt, p, me, dirs);
                 return dir;
             }
             Turn::Wait => {
-                let (outcome, again) = wait_for_dirs(rt, p, me, list);
+                let (outcome, again) = wait_for_dirs(rt, p, me, dirs);
                 if outcome == Outcome::Alerted {
                     give_list(rt, p, me, again);
                     return None;
                 }
-                list = again;
+                dirs = again;
             }
         }
     }
     unreachable!()
 }
 
-/// Puts the directories found in one that is in work into the list, and counts them and the files found there. It answers whether the work may
-/// go on: no more was found than may be, and no memory wanted.
+/// Puts the directories found in one that is in work into the list, and counts them and the files found there. Where some were put and no
+/// more was found than may be, it wakes all who wait for the list; where more was found, or memory wants, the caller is to end the work.
 pub fn put_dirs<R: Wait>(
     rt: &R,
     p: &Package<IndexUses>,
     me: &mut Thread<IndexUses>,
     found: Vec<Text>,
     files: usize,
-) -> bool
+) -> PutDirs
     requires layout { HasLists p.now.layout }
     requires between { IsBetween p.now me.old }
     requires may { OfShare me.old (λ s. MayPutAll found.items s.put s) }
-    ensures { (put : List Path) × Makes p.now (moved_more [] put) me.old me.new × All (Contains found.items) put }
+    ensures made { (put : List Path) × Makes p.now (moved_more [] put) me.old me.new × All (Contains found.items) put }
+    ensures counted { result ≢ PutDirs.Memory → Counts files me.old me.new }
+    ensures wakes { result ≡ PutDirs.Within → found.items ≢ [] → HasWoken me.new }
 {
-    let mut list = take_list(rt, p, me);
-    let within = put_found(&mut list, found, files);
-    give_list(rt, p, me, list);
-    // There may be something to take.
-    broadcast(rt, p, me, MORE_DIRS);
-    within
+    let some = !found.is_empty();
+    let mut dirs = take_list(rt, p, me);
+    let end = put_found(&mut dirs, found, files);
+    // There may be something to take. Where the work is to end, all are woken when the list is shut.
+    give_and_wake(rt, p, me, dirs, some & end.is_within());
+    end
 }
 
-/// Ends the work on a directory.
+/// Ends the work on a directory, and wakes all who wait for the list.
 pub fn finish_dir<R: Wait>(rt: &R, p: &Package<IndexUses>, me: &mut Thread<IndexUses>)
     requires layout { HasLists p.now.layout }
     requires between { IsBetween p.now me.old }
-    ensures { Makes p.now nothing me.old me.new }
+    ensures made { Makes p.now nothing me.old me.new }
+    ensures wakes { HasWoken me.new }
 {
-    let mut list = take_list(rt, p, me);
-    list.in_work = list.in_work.saturating_sub(1);
-    give_list(rt, p, me, list);
+    let mut dirs = take_list(rt, p, me);
+    dirs.list.in_work = dirs.list.in_work.saturating_sub(1);
     // There may be nothing left to wait for.
-    broadcast(rt, p, me, MORE_DIRS);
+    give_and_wake(rt, p, me, dirs, true);
 }
 
 /// Notes that a parser has ended, and answers whether it was the last.
@@ -140,21 +173,21 @@ pub fn end_parser<R: Wait>(rt: &R, p: &Package<IndexUses>, me: &mut Thread<Index
     requires between { IsBetween p.now me.old }
     ensures { Makes p.now nothing me.old me.new }
 {
-    let mut list = take_list(rt, p, me);
-    list.parsers = list.parsers.saturating_sub(1);
-    let last = list.parsers == 0;
-    give_list(rt, p, me, list);
+    let mut dirs = take_list(rt, p, me);
+    dirs.parsers = dirs.parsers.saturating_sub(1);
+    let last = dirs.parsers == 0;
+    give_list(rt, p, me, dirs);
     last
 }
 
-/// Shuts the list: nobody gets a directory from now on.
+/// Shuts the list, so that nobody gets a directory from now on, and wakes all who wait for it.
 pub fn shut_dirs<R: Wait>(rt: &R, p: &Package<IndexUses>, me: &mut Thread<IndexUses>)
     requires layout { HasLists p.now.layout }
     requires between { IsBetween p.now me.old }
-    ensures { Makes p.now nothing me.old me.new }
+    ensures made { Makes p.now nothing me.old me.new }
+    ensures wakes { HasWoken me.new }
 {
-    let mut list = take_list(rt, p, me);
-    list.shut = true;
-    give_list(rt, p, me, list);
-    broadcast(rt, p, me, MORE_DIRS);
+    let mut dirs = take_list(rt, p, me);
+    dirs.list.shut = true;
+    give_and_wake(rt, p, me, dirs, true);
 }

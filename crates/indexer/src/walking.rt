@@ -63,7 +63,7 @@ fn give_found<R: Wait>(
         × All (Contains dirs.items) put × All (Contains files.items) files_put }
 {
     // Counted before a file goes through the buffer: where more was found than may be, none of these is read.
-    if !put_dirs(rt, p, me, dirs, files.len()) {
+    if !put_dirs(rt, p, me, dirs, files.len()).is_within() {
         cancel(rt, p, me);
         return false;
     }

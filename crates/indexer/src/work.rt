@@ -1,48 +1,22 @@
 //! What one worker does.
 ghost use Rattle.std.specs.Prelude.{◌≡◌, Some};
 ghost use Rattle.index_rule.specs.Shares.{blank};
-ghost use Rattle.indexer.specs.Jobs.{GivesTree};
-ghost use Rattle.indexer.specs.Turns.{HasLists, IsBetween, IsReady};
+ghost use Rattle.indexer.specs.Jobs.{GivesRole};
+ghost use Rattle.indexer.specs.Turns.{HasLists, IsBetween};
 
-use crate::job::Job;
+use crate::job::{Job, Role};
 use crate::mergers::merge_all;
 use crate::parsing::parse;
 use crate::walking::walk;
-use firefly_outside::{Kind, Tree};
+use firefly_outside::Tree;
 use index_findings::Findings;
 use index_rule::IndexUses;
-use nub_rule::{Package, Thread};
+use nub_rule::Package;
 use package_crew::Gate;
 use std::alloc::Global;
 use std::sync::Wait;
 
-// The work of a walker or of a parser. The parsers are numbered from 1; their threads come behind those of so many walkers.
-fn work_on<R: Wait, S: Tree, G: Gate>(
-    rt: &R,
-    alloc: Global,
-    p: &Package<IndexUses>,
-    root: &str,
-    gate: &G,
-    walkers: u32,
-    me: &mut Thread<IndexUses>,
-    kind: Kind,
-    tree: &mut S,
-) -> Findings
-    requires layout { HasLists p.now.layout }
-    requires ready { IsReady p.now me.old }
-    requires root { root.now ≡ p.now.world }
-    ensures { GivesTree S.tree S.may_fail S.faults S.calls root.now p.now kind me.old me.new result (Some tree.old) (Some tree.new) }
-{
-    match kind {
-        Kind::Dir => walk(rt, alloc, p, me, tree),
-        Kind::File => {
-            gate.pass(me.number().saturating_sub(walkers));
-            parse(rt, alloc, p, me, root, tree)
-        }
-    }
-}
-
-/// Does the work of one worker: one with a tree walks or parses, and one without merges.
+/// Does the work of one worker. The parsers are numbered from 1; their threads come behind those of so many walkers.
 pub fn work<R: Wait, S: Tree, G: Gate>(
     rt: &R,
     alloc: Global,
@@ -56,31 +30,25 @@ pub fn work<R: Wait, S: Tree, G: Gate>(
     requires between { IsBetween p.now job.me }
     requires first { job.me.share ≡ Some blank }
     requires root { root.now ≡ p.now.world }
-    ensures { GivesTree S.tree S.may_fail S.faults S.calls root.now p.now job.kind job.me result.0.me result.1 job.tree result.0.tree }
+    ensures { GivesRole S.tree S.may_fail S.faults S.calls root.now p.now job.me result.0.me result.1 job.role result.0.role }
 {
-    let Job { mut me, kind, tree } = job;
-    match tree {
-        Some(mut tree) => {
-            let findings = work_on(rt, alloc, p, root, gate, walkers, &mut me, kind, &mut tree);
-            (
-                Job {
-                    me,
-                    kind,
-                    tree: Some(tree),
-                },
-                findings,
-            )
+    let Job { mut me, role } = job;
+    match role {
+        Role::Walker(mut tree) => {
+            let findings = walk(rt, alloc, p, &mut me, &mut tree);
+            let role = Role::Walker(tree);
+            (Job { me, role }, findings)
         }
-        None => {
+        Role::Parser(mut tree) => {
+            gate.pass(me.number().saturating_sub(walkers));
+            let findings = parse(rt, alloc, p, &mut me, root, &mut tree);
+            let role = Role::Parser(tree);
+            (Job { me, role }, findings)
+        }
+        Role::Merger => {
             let findings = merge_all(rt, alloc, p, &mut me);
-            (
-                Job {
-                    me,
-                    kind,
-                    tree: None,
-                },
-                findings,
-            )
+            let role = Role::Merger;
+            (Job { me, role }, findings)
         }
     }
 }

@@ -11,7 +11,7 @@ use Rattle.std.proofs.lemmas.Slice.Eq.{bytes_eq-Decides}
 use Rattle.std.proofs.lemmas.Str.{IsUtf8-string_bytes}
 use Rattle.firefly_outside.specs.Trees.{Path}
 use Rattle.walker.specs.Walk.{pairs_of}
-use Rattle.walker.proofs.ListLemmas.{Distinct, HasOrigin, Contains-head, Contains-tail, Contains-nil, Contains-cons_cases, Contains-map, Contains-unmap, All-at, AllPairs-head, AllPairs-tail}
+use Rattle.walker.proofs.ListLemmas.{Distinct, Contains-head, Contains-tail, Contains-nil, Contains-cons_cases, Contains-map, Contains-unmap, All-at, AllPairs-head, AllPairs-tail}
 
 -- a test is not both
 pub never : {P : Type 0} → false ≡ true → P

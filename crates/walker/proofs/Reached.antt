@@ -1,10 +1,12 @@
 -- What a walk has found is what lies under the root.
-use Rattle.std.proofs.Common.{◌≡◌, ℕ, ◌+◌, ◌<◌, ◌≤◌, Bool, true, false, List, ◌∷◌, length, sym, ap, subst, refl, arith, inl, inr, Contains, zero, suc}
+use Rattle.std.proofs.Common.{◌≡◌, ◌≢◌, ℕ, ◌+◌, ◌<◌, ◌≤◌, Bool, true, false, List, ◌∷◌, length, sym, ap, subst, refl, arith, inl, inr, ⊎_elim, Contains, zero, suc}
 use Rattle.std.specs.Bool.{nat_eq, Decides}
+use Rattle.std.specs.Set.{is_member}
 use Rattle.std.specs.Cmp.Lexicographic.{pointwise, nat_list_eq_equiv}
 use Rattle.std.proofs.lemmas.Bool.Decides.{Decides-eqb}
 use Rattle.std.proofs.lemmas.Slice.Eq.{slice_eq-Decides}
 use Rattle.std.proofs.lemmas.List.{length-append, length-map}
+use Rattle.std.proofs.lemmas.List.Kept.{AllPairs-cons}
 use Rattle.std.proofs.lemmas.Map.Made.{IsDistinct-from_AllPairs, length-le_from_is_member, is_member-Decides}
 use Rattle.firefly_outside.specs.Trees.{Path, Told, child, slash}
 use Rattle.firefly_outside.specs.Under.{IsUnder, at_root, by_entry, AreMany}
@@ -12,7 +14,7 @@ use Rattle.firefly_outside.specs.declared.tree.Kind.{Kind}
 use Rattle.firefly_outside.specs.declared.tree.Kind.TheVariants.{File, Dir}
 use Rattle.walker.specs.Walk.{Walk, dirs_of, files_of, IsListed, IsSound, IsSeen, IsWalkOf}
 use Rattle.walker.specs.Progress.{IsListedWhole}
-use Rattle.walker.proofs.ListLemmas.{Distinct, Contains-unmap, Distinct-map}
+use Rattle.walker.proofs.ListLemmas.{Distinct, All-from, Contains-cons_cases, Contains-unmap, Distinct-map}
 use Rattle.walker.proofs.WalkLemmas.{found_listed}
 use Rattle.walker.proofs.Children.{child_name}
 
@@ -67,6 +69,20 @@ few_paths ps qs apart among = length-le_from_is_member nat_list_eq_equiv ps qs (
   where
     decides : (a b : Path) → Decides (pointwise nat_eq a b) (a ≡ b)
     decides a b = slice_eq-Decides Decides-eqb a b (pointwise nat_eq a b) refl
+
+-- as many distinct paths among those of a list are all of them
+pub all_paths : (ps qs : List Path) → Distinct ps → ((p : Path) → Contains ps p → Contains qs p) → length ps ≡ length qs → (p : Path) → Contains qs p → Contains ps p
+all_paths ps qs apart among many p h = by (is_member (pointwise nat_eq) ps p) (is_member-Decides decides ps p)
+  where
+    decides : (a b : Path) → Decides (pointwise nat_eq a b) (a ≡ b)
+    decides a b = slice_eq-Decides Decides-eqb a b (pointwise nat_eq a b) refl
+
+    by : (b : Bool) → Decides b (Contains ps p) → Contains ps p
+    by true d = d.0 refl
+    by false d =
+        let more = few_paths (p ∷ ps) qs (AllPairs-cons (λ x y. x ≢ y) p ps (All-from (λ y. p ≢ y) ps (λ y k same. (let e : false ≡ true = d.1 (subst (Contains ps) (sym same) k) in cc))) apart)
+        (λ q k. ⊎_elim (λ (is : p ≡ q). subst (Contains qs) is h) (λ (m : Contains ps q). among q m) (Contains-cons_cases p ps q k)) in
+        absurd (omega (arith, more, many))
 
 -- there are no more directories and files under the root than were found
 pub few_dirs : (t : Told) (w : Walk) (n : ℕ) → IsWalkOf w t → IsListedWhole w → length w.dirs ≤ n → ¬ AreMany t w.root Dir (n + 1)

@@ -1,5 +1,5 @@
 -- The files of a walk as they are read.
-use Rattle.std.proofs.Common.{◌≡◌, ◌≢◌, ◌∙◌, ℕ, ◌+◌, ◌<◌, List, [], ◌∷◌, ◌++◌, length, map, sym, ap, subst, refl, arith, inl, inr, ◌⊎◌, Contains, take, slice_get}
+use Rattle.std.proofs.Common.{◌≡◌, ◌≢◌, ◌∙◌, ℕ, ◌+◌, ◌<◌, List, get_or, [], ◌∷◌, ◌++◌, length, map, sym, ap, subst, refl, arith, inl, inr, ◌⊎◌, Contains, take, slice_get}
 use Rattle.std.specs.Prelude.{Option, Some, None, IfSome, Result, Ok, Err}
 use Rattle.std.proofs.lemmas.List.{append_assoc, append-nil, map-append, take_more, get_or-take, length-take, take_all}
 use Rattle.std.proofs.lemmas.List.Elements.{Contains-append_cases, Contains-append_left, Contains-append_right, Contains-push, Contains-push_cases}
@@ -20,7 +20,8 @@ use Rattle.walker.specs.declared.answer.WalkAnswer.TheVariants.{Done, Stopped, R
 use Rattle.walker.proofs.ListLemmas.{Distinct, Distinct-across, HasOrigin, Contains-nil, Contains-cons_cases, Contains-map, Contains-unmap, AllPairs-nil, AllPairs-append, All-from}
 use Rattle.walker.proofs.PileLemmas.{AllPairs-one, AreApart-push, NoMeet, pile_paths}
 use Rattle.walker.proofs.Steps.{some_at}
-use Rattle.walker.proofs.Reached.{file_reached, found_if_reached}
+use Rattle.walker.proofs.Reached.{all_paths, file_reached, found_if_reached}
+use Rattle.word_index.proofs.Searches.{not_below}
 use Rattle.std.proofs.lemmas.List.Kept.{AllPairs-cons}
 
 abbrev pub paths_of : List File → List Path
@@ -163,6 +164,10 @@ module _ (o : Option Told) (w : Walk) (covered : List Path) (start before : Call
             (more ∙ ap (λ (c : Calls). with_read c (child w.root name)) was.1 ∙ reads_push start w.root (paths_of h.files) name ∙ no_more (with_reads start w.root (paths_of h.files ++ name ∷ []))),
       )
 
+told_none : (o : Option Told) (w : Walk) (c : Calls) → IfSome o (λ t. ((f : File) → Contains [] f → IsFileAt t w.root f) × (c ≡ with_reads c w.root []))
+told_none None w c = tt
+told_none (Some t) w c = (λ f k. absurd (Contains-nil f k), ap (λ l. record c { files_read = l }) (sym (append-nil c.files_read)))
+
 -- nothing is read yet
 pub HasRead-none : (o : Option Told) (w : Walk) (covered : List Path) (c : Calls) (Kept : List File → Type 0) → Kept [] → HasRead o w covered c c 0 Kept
 HasRead-none o w covered c Kept none = record {
@@ -171,12 +176,28 @@ HasRead-none o w covered c Kept none = record {
   once = AllPairs-nil (λ p q. p ≢ q);
   early = λ p k. absurd (Contains-nil p k);
   all = λ p k. absurd (omega (arith, k.1, length-take 0 w.files));
-  told = tells o;
+  told = told_none o w c;
 }
-  where
-    tells : (q : Option Told) → IfSome q (λ t. ((f : File) → Contains [] f → IsFileAt t w.root f) × (c ≡ with_reads c w.root []))
-    tells None = tt
-    tells (Some t) = (λ f k. absurd (Contains-nil f k), ap (λ l. record c { files_read = l }) (sym (append-nil c.files_read)))
+
+-- nothing is left to be read
+pub HasRead-all : (o : Option Told) (w : Walk) (covered : List Path) (c : Calls) (Kept : List File → Type 0) → Kept [] → ((p : Path) → Contains w.files p → Contains covered p) → HasRead o w covered c c (length w.files) Kept
+HasRead-all o w covered c Kept none all = record {
+  files = [];
+  kept = none;
+  once = AllPairs-nil (λ p q. p ≢ q);
+  early = λ p k. absurd (Contains-nil p k);
+  all = λ p k. inl (all p (Contains-take (length w.files) w.files p k));
+  told = told_none o w c;
+}
+
+-- a piece of files found that covers as many as were found covers each
+pub covers_all : (o : Option Told) (w : Walk) (piece : Index) → IsPartOf o w piece → length piece.paths ≡ length w.files → (p : Path) → Contains w.files p → Contains piece.paths p
+covers_all o w piece part many = all_paths piece.paths w.files
+    (λ i j d below within same. not_below (get_or piece.paths i d) (get_or piece.paths j d) same (part.index.ordered.paths i j d below within))
+    (λ p k.
+    let f = Contains-unmap (λ (g : File). g.path) part.files p ((part.index.paths p).0 k) in
+    subst (Contains w.files) f.is (part.found f.origin f.among))
+    many
 
 -- the piece of the start meets none of the pile
 pub apart_first : (o : Option Told) (w : Walk) (first : Index) (start now : Calls) (at : ℕ) (pieces : List Index) → HasRead o w first.paths start now at (IsPileOf pieces) → AreApart pieces → AreApart (first ∷ pieces)

@@ -9,7 +9,7 @@ use Rattle.firefly_outside.specs.Under.{IsThere, IsUnder, AreMany}
 use Rattle.firefly_outside.specs.declared.tree.Kind.TheVariants.{File, Dir}
 use Rattle.walker.specs.Walk.{Walk, dirs_of, IsListed, IsUnlisted, IsSound, IsWalkOf, marked}
 use Rattle.walker.specs.Listings.{Notes, IsToldBy, ListsDir, with_listed}
-use Rattle.walker.specs.Closing.{Answers, CallsOnce, IsDone, failed_by, IsNumbered, HasRisen}
+use Rattle.walker.specs.Closing.{CallsOnce, IsDone, failed_by, IsNumbered, HasRisen}
 use Rattle.walker.specs.Progress.{IsWithinLimits, IsPassed, ListsMore, KeptLimits, StopsListing, ListsOne, ListsAt, ListsRest, IsListedBelow, IsListedWhole, Grows, StepStays}
 use Rattle.firefly_outside.specs.declared.tree.TreeError.TheVariants as TreeError
 use Rattle.std.specs.Bool.{nat_eq}

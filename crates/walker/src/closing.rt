@@ -12,7 +12,7 @@ use std::alloc::Global;
 use word_index::Piece;
 
 /// The most directories of a tree that is indexed.
-const MOST_DIRS: u64 = 1_000_000;
+pub const MOST_DIRS: u64 = 1_000_000;
 
 /// Lists what isn't listed, reads what isn't covered, and gives the index of all files under the root.
 pub fn close_walk<S: Tree>(

@@ -18,7 +18,7 @@ mod reading;
 mod walked;
 
 pub use answer::WalkAnswer;
-pub use closing::close_walk;
+pub use closing::{MOST_DIRS, close_walk};
 pub use listing::{Listing, list_dir};
 pub use paths::below;
 pub use walked::Walked;

@@ -46,7 +46,7 @@ pub fn read_rest<S: Tree>(alloc: Global, tree: &mut S, walked: &Walked, piece: P
     }
 }
 
-// Reads the files found that the piece doesn't cover, in their order.
+// Reads the files found that the piece doesn't cover, in their order. Where the piece covers as many as were found, it covers each.
 fn read_files<S: Tree>(
     alloc: Global,
     tree: &mut S,
@@ -57,6 +57,7 @@ fn read_files<S: Tree>(
     requires sound { IsSound walked.now }
     requires empty { pile.old.items ≡ [] }
     requires told { IfSome (S.tree tree.old) (IsWalkOf walked.now) }
+    requires part { IsPartOf (S.tree tree.old) walked.now piece.now }
     ensures stays { StepStays (S.tree tree.old) (S.tree tree.new) (S.may_fail tree.old) (S.may_fail tree.new) (S.faults tree.old)
         (S.faults tree.new) result }
     ensures apart { OnOk result (AreApart pile.new.items) }
@@ -64,6 +65,9 @@ fn read_files<S: Tree>(
     ensures read { IsRead (S.tree tree.old) walked.now piece.now.paths (S.may_fail tree.old) (S.calls tree.old)
         (S.calls tree.new) pile.new.items result }
 {
+    if piece.files() == walked.files_found() {
+        return Ok(());
+    }
     let mut batch = Batch::new(alloc);
     for at in 0..walked.files_found() as usize {
         match read_at(alloc, tree, walked, piece, pile, batch, at) {

@@ -2,6 +2,7 @@ use Rattle.std.proofs.Common.{List, ◌≡◌, ◌<◌, ◌∷◌, [], ◌++◌,
 use Rattle.std.specs.Vec.Iter.{into_iter_items}
 use Rattle.thread_crew.proofs.Zips.{all_yielded}
 use Rattle.indexer.specs.declared.job.Job.{Job}
+use Rattle.indexer.specs.Roles.{tree_of}
 use Rattle.indexer.specs.Turns.{Worker}
 use Rattle.indexer.proofs.Placing.{placed, map_snoc}
 use Rattle.indexer.proofs.handing.put_back.Goals as goal
@@ -23,9 +24,9 @@ loop-job-preserved g c =
       room = (let room = was.room in let cap = push.capacity in let len = push.len in let left = was.left in omega arith);
       count = (let count = was.count in let more = length-append at.yielded (x ∷ []) in omega arith);
       made = push.items ∙ (ap (λ l. l ++ x.me ∷ []) was.made ∙ (append_assoc front (map (λ j. j.me) at.yielded) (x.me ∷ []) ∙ ap (λ l. front ++ l) (sym (map_snoc (λ j. j.me) at.yielded x))));
-      back = placed (λ q. q.tree) c.args.with_tree at.yielded x at.trees c.put_tree.new.trees
+      back = placed (λ q. tree_of q.role) c.args.with_tree at.yielded x at.trees c.put_tree.new.trees
           (λ i d ne. put.others i d (λ e. ne (e ∙ was.count)))
-          (λ d h. subst (λ j. j < c.args.with_tree → get_or c.put_tree.new.trees j d ≡ x.tree) was.count (put.tree d) h)
+          (λ d h. subst (λ j. j < c.args.with_tree → get_or c.put_tree.new.trees j d ≡ tree_of x.role) was.count (λ low. put.tree d low ∙ c.tree_in.ensures) h)
           was.back;
       above = λ i d h. put.above i d h ∙ was.above i d h;
     }
@@ -44,7 +45,7 @@ loop-job-init g c =
       room = (let long = push.len in let cap = push.capacity in let room = c.requires.room in omega arith);
       count = refl;
       made = sym (append-nil c.push_reserved.new.self.items);
-      back = λ k d e h low. below_none (λ j. get_or c.args.trees.now j d ≡ e.tree) k low;
+      back = λ k d e h low. below_none (λ j. get_or c.args.trees.now j d ≡ tree_of e.role) k low;
       above = λ i d h. refl;
     }
 
@@ -62,7 +63,7 @@ returns-clause-trees g c k d e h low =
     let all = all_yielded at.yielded _ _ at.invariant.whole (sym at.invariant.left ∙ c.in-None.ensures.steps.0) ∙ c.into_iter-job-iterator.ensures.into_iter_gives.0 in
     let ok = c.args.jobs.ok in
     let ok0 = ok.0 in
-    subst (λ l. get_or at.trees k d ≡ (get_or l k e).tree) all (at.invariant.back k d e h (let long = ap length all in omega arith))
+    subst (λ l. get_or at.trees k d ≡ tree_of (get_or l k e).role) all (at.invariant.back k d e h (let long = ap length all in omega arith))
 
 pub overflow_add-k : goal.overflow_add-k
 overflow_add-k g c =

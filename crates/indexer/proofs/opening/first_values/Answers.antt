@@ -12,6 +12,6 @@ returns c =
     let three = c.push_reserved-3.ensures.items ∙ ap (λ (l : List IndexValue). l ++ Ring c.in_ok-pieces.pieces ∷ []) two in
     record {
       dirs = dirs;
-      waits = c.in_ok-dirs.ensures;
+      first = c.in_ok-dirs.ensures.first;
       is = three ∙ (ap (λ q. Dirs dirs ∷ Ring q ∷ Ring c.in_ok-pieces.pieces ∷ []) c.in_ok-files.ensures ∙ ap (λ q. Dirs dirs ∷ Ring (fresh 256) ∷ Ring q ∷ []) c.in_ok-pieces.ensures);
     }

@@ -1,4 +1,4 @@
-use Rattle.std.proofs.Common.{List, None, [], ap, sym, subst, ◌+◌, ◌∙◌, arith}
+use Rattle.std.proofs.Common.{List, None, [], ap, sym, subst, ◌+◌, ◌∙◌, ◌≤◌, arith, length}
 use lib.ListN.{get_elem?}
 use Rattle.larch_actions.specs.declared.event.Layout.{Layout}
 use Rattle.nub.specs.Ended.{IsWhole, KeepsLocks}
@@ -11,6 +11,7 @@ use Rattle.indexer.specs.Once.{IsWorkedOnce}
 use Rattle.indexer.proofs.Together.{pieces_of, visits_of}
 use Rattle.indexer.proofs.RunOnce.{all_apart, all_found, all_visits_once, worked_once}
 use Rattle.indexer.proofs.RunLaws.{first_fresh, all_many, one_fewer, all_done, all_found_by, all_pieces}
+use Rattle.indexer.proofs.TreesLaws.{left_found, on_err_if}
 use Rattle.indexer.proofs.running.worked_run.Goals as goal
 
 pub run_workers-requires-clause-threads : goal.run_workers-requires-clause-threads
@@ -24,7 +25,7 @@ run_workers-requires-clause-caller g c κs within = let count = c.in_ok-p.ensure
 
 pub close_package-requires-clause-count : goal.close_package-requires-clause-count
 close_package-requires-clause-count g c κs =
-    let crew = c.in-Ok.ensures in
+    let crew = c.in-Ok.ensures.crew in
     all_many c.in_ok-p.threads.items crew.back c.in-Ok.all.items crew.last (layout_of c.args.plan.now).threads crew.is_all crew.many c.in_ok-p.ensures.count (omega arith)
     ∙ sym (ap (λ (l : Layout). l.threads) c.in_ok-p.ensures.package.0)
 
@@ -32,13 +33,13 @@ pub close_package-requires-clause-threads : goal.close_package-requires-clause-t
 close_package-requires-clause-threads g c κs =
     let S = g.S.Tree in
     let plan = c.args.plan.now in
-    let crew = c.in-Ok.ensures in
+    let crew = c.in-Ok.ensures.crew in
     let done = all_done S.tree S.may_fail S.faults S.calls c.args.root.now c.in_ok-p.p plan.walkers (plan.walkers + plan.parsers) c.in_ok-p.threads.items crew.caller crew.last crew.back c.in-Ok.findings.items c.args.trees.now c.run_workers.new.trees
     c.in_ok-p.ensures.threads crew.is_caller (crew.called.called None [] 0) crew.worked in
     λ n x at. done n x (ap (λ (l : List Worker). get_elem? l n) (sym crew.is_all) ∙ at)
 
-pub returns : goal.returns
-returns g c =
+pub returns-clause-run : goal.returns-clause-run
+returns-clause-run g c =
     let S = g.S.Tree in
     let p = c.in_ok-p.p in
     let threads = c.in_ok-p.threads.items in
@@ -46,7 +47,7 @@ returns g c =
     let root = c.args.root.now in
     let old = c.args.trees.now in
     let new = c.run_workers.new.trees in
-    let crew = c.in-Ok.ensures in
+    let crew = c.in-Ok.ensures.crew in
     let findings = c.in-Ok.findings.items in
     let opened = c.in_ok-p.ensures.package in
     let firsts = c.in_ok-p.ensures.threads in
@@ -73,3 +74,20 @@ returns g c =
           (let count = one_fewer threads findings (layout_of plan).threads (crew.found ∙ crew.many) c.in_ok-p.ensures.count (omega arith) in let some = c.requires.plan.mergers in omega arith));
       others = crew.others;
     }
+
+pub returns-in_err-closed-clause-left : goal.returns-in_err-closed-clause-left
+returns-in_err-closed-clause-left g c =
+    let S = g.S.Tree in
+    let plan = c.args.plan.now in
+    let n = plan.walkers + plan.parsers in
+    let threads = c.in_ok-p.threads.items in
+    let crew = c.in-Ok.ensures.crew in
+    let findings = c.in-Ok.findings.items in
+    let old = c.args.trees.now in
+    let new = c.run_workers.new.trees in
+    let count = one_fewer threads findings (layout_of plan).threads (crew.found ∙ crew.many) c.in_ok-p.ensures.count (omega arith) in
+    let many : n ≤ length findings = omega arith in
+    on_err_if c.from_residual-in_err-closed.result
+    (left_found S.tree S.may_fail S.faults S.calls c.args.root.now plan.walkers n c.in-Ok.all.items findings old new many
+    (all_found_by S.tree S.may_fail S.faults S.calls c.args.root.now c.in_ok-p.p plan.walkers n threads crew.last crew.back c.in-Ok.all.items findings old new c.in_ok-p.ensures.threads crew.found crew.is_all crew.worked)
+    crew.others)

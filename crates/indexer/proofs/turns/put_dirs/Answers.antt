@@ -1,44 +1,20 @@
-use Rattle.std.proofs.Common.{[], ◌++◌, ◌≡◌, List, None, sym, append-nil, ◌∙◌, ⊎_elim}
-use Rattle.std.specs.Prelude.{All, Contains}
-use Rattle.std.proofs.lemmas.List.Elements.{All-contains_itself, All-nil}
-use Rattle.firefly_outside.specs.Trees.{Path}
 use Rattle.index_rule.specs.declared.value.IndexValue.TheVariants.{Dirs}
-use Rattle.indexer.specs.Gets.{Makes, moved_more}
-use Rattle.indexer.proofs.Getting.{gets_as, makes_before, makes_between, makes_idle, put_more, put_moves, take_more, take_moves}
+use Rattle.indexer.proofs.Getting.{list_counts, put_counted, put_goes, put_made}
 use Rattle.indexer.proofs.turns.put_dirs.Goals as goal
 
-pub give_list-requires-clause-has : goal.give_list-requires-clause-has
-give_list-requires-clause-has g c =
-    let has = c.take_list-list.ensures in
-    let xs = c.take_list-list.result.waiting.items in
-    let ys = c.put_found-within.new.list.waiting.items in (
-      c.args.me.now,
-      Dirs c.take_list-list.result,
-      has,
-      ⊎_elim
-          (λ (e : ys ≡ xs ++ c.args.found.items). put_moves xs ys c.args.found.items has.own e (c.requires.may has.own has.was))
-          (λ (e : ys ≡ xs). take_moves xs ys [] has.own (sym e ∙ sym (append-nil ys)))
-          c.put_found-within.ensures.either,
-    )
+pub give_and_wake-requires-clause-has : goal.give_and_wake-requires-clause-has
+give_and_wake-requires-clause-has g c =
+    let has = c.take_list-dirs.ensures in
+    let go = put_goes c.args.found.items c.args.files c.take_list-dirs.result c.put_found-end.new.state c.put_found-end.result has.own c.put_found-end.ensures (c.requires.may has.own has.was) in
+    (c.args.me.now, Dirs c.take_list-dirs.result, has, go.0, go.1)
 
-pub broadcast-requires-clause-rest : goal.broadcast-requires-clause-rest
-broadcast-requires-clause-rest g c κs within =
-    let between = c.requires.between in
-    let called = (c.give_list.ensures.called c.args.me.now (Dirs c.take_list-list.result) c.take_list-list.ensures between None []).1 0 in
-    (called.back between.0 between.1 between.2).1.rest
+pub returns-clause-made : goal.returns-clause-made
+returns-clause-made g c =
+    put_made c.args.p.now c.args.me.now c.give_and_wake.new.me c.args.found.items c.args.files c.take_list-dirs.result c.put_found-end.new.state c.put_found-end.result c.put_found-end.ensures
+    (c.give_and_wake.ensures.makes c.args.me.now (Dirs c.take_list-dirs.result) c.take_list-dirs.ensures c.requires.between)
 
-pub returns : goal.returns
-returns g c =
-    let p = c.args.p.now in
-    let a = c.args.me.now in
-    let b = c.give_list.new.me in
-    let x = Dirs c.take_list-list.result in
-    let has = c.take_list-list.ensures in
-    let xs = c.take_list-list.result.waiting.items in
-    let ys = c.put_found-within.new.list.waiting.items in
-    let gave = c.give_list.ensures in
-    let put : (come : List Path) × Makes p (moved_more [] come) a b × All (Contains c.args.found.items) come = ⊎_elim
-    (λ (e : ys ≡ xs ++ c.args.found.items). (c.args.found.items, record { called = λ o root. (gave.called a x has c.requires.between o root).1; gets = gets_as p _ _ a b (put_more xs ys c.args.found.items e) (gave.gets a x has) }, All-contains_itself c.args.found.items))
-    (λ (e : ys ≡ xs). ([], record { called = λ o root. (gave.called a x has c.requires.between o root).1; gets = gets_as p _ _ a b (take_more xs ys [] (sym e ∙ sym (append-nil ys))) (gave.gets a x has) }, All-nil (Contains c.args.found.items)))
-    c.put_found-within.ensures.either in
-    (put.0, makes_before p (moved_more [] put.0) a b c.broadcast.new.me put.1 (makes_idle p _ _ b c.broadcast.new.me (makes_between p (moved_more [] put.0) a b c.requires.between put.1) c.broadcast.ensures.event c.broadcast.ensures.idle), put.2)
+pub returns-clause-counted : goal.returns-clause-counted
+returns-clause-counted g c = λ ne.
+    let put = put_counted c.args.found.items c.args.files c.take_list-dirs.result c.put_found-end.new.state c.put_found-end.result c.put_found-end.ensures ne in
+    let x = Dirs c.take_list-dirs.result in
+    list_counts c.args.p.now c.args.me.now c.take_list-dirs.new.me c.give_and_wake.new.me x (Dirs c.put_found-end.new.state) c.args.files c.take_list-dirs.ensures (c.give_and_wake.ensures.share c.args.me.now x c.take_list-dirs.ensures) put.files

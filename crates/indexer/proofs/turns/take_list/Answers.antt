@@ -12,7 +12,7 @@ returns g c =
     let e = c.acquire.ensures in
     let idle = c.requires.between.2 in
     let fits = e.fits p.world c.requires.between.1 idle.world idle.share in
-    subst (λ (x : IndexValue). HasList p a x b) c.list_in.ensures (record {
+    subst (λ (x : IndexValue). HasList p a x b) c.dirs_in.ensures (record {
       rest = e.rest;
       same = e.same;
       has = e.holds;

@@ -1,6 +1,5 @@
-use Rattle.std.proofs.Common.{sym, subst, ◌∙◌, refl}
+use Rattle.std.proofs.Common.{sym, subst, ◌∙◌}
 use Rattle.index_rule.specs.declared.value.IndexValue.{IndexValue}
-use Rattle.index_rule.specs.declared.value.IndexValue.TheVariants.{Dirs}
 use Rattle.indexer.specs.Turns.{HasList}
 use Rattle.indexer.proofs.Turning.{dirs_stay, has_again}
 use Rattle.indexer.proofs.turns.wait_for_dirs.Goals as goal
@@ -9,10 +8,10 @@ pub alert_wait-outcome-requires-clause-may : goal.alert_wait-outcome-requires-cl
 alert_wait-outcome-requires-clause-may g c κs within =
     let x = c.requires.has.1 in
     let has = c.requires.has.2 in
-    (x, has.has, λ w s world share. dirs_stay w x (Dirs c.args.list) s has.kind refl c.requires.has.3)
+    (x, has.has, λ w s world share. dirs_stay w x c.args.dirs s has.kind c.requires.has.3)
 
-pub list_in-requires : goal.list_in-requires
-list_in-requires g c =
+pub dirs_in-requires : goal.dirs_in-requires
+dirs_in-requires g c =
     let x = c.requires.has.1 in
     let has = c.requires.has.2 in
     let back = c.alert_wait-outcome.ensures in
@@ -24,5 +23,5 @@ returns g c = λ a x has.
     let w = c.args.p.now.world in
     let share = back.share w has.own x has.world has.share has.has in
     let fits = back.fits w has.own (back.same.world ∙ has.world) share in
-    subst (λ (y : IndexValue). HasList c.args.p.now a y c.alert_wait-outcome.new.me) c.list_in.ensures
+    subst (λ (y : IndexValue). HasList c.args.p.now a y c.alert_wait-outcome.new.me) c.dirs_in.ensures
     (has_again c.args.p.now a c.args.me.now c.alert_wait-outcome.new.me x c.alert_wait-outcome.result.1 _ _ has back.rest back.same back.holds back.held (share ∙ sym has.share) back.event fits.kind fits.new)

@@ -10,15 +10,15 @@ pub put_dirs-requires-clause-may : goal.put_dirs-requires-clause-may
 put_dirs-requires-clause-may g c s at = (c.requires.may s at).dirs
 
 pub cancel-requires-clause-between : goal.cancel-requires-clause-between
-cancel-requires-clause-between g c = let put = c.put_dirs.ensures in makes_between c.args.p.now (moved_more [] put.0) c.args.me.now c.put_dirs.new.me c.requires.between put.1
+cancel-requires-clause-between g c = let put = c.put_dirs.ensures.made in makes_between c.args.p.now (moved_more [] put.0) c.args.me.now c.put_dirs.new.me c.requires.between put.1
 
 pub put_files-requires-clause-between : goal.put_files-requires-clause-between
-put_files-requires-clause-between g c = let put = c.put_dirs.ensures in makes_between c.args.p.now (moved_more [] put.0) c.args.me.now c.put_dirs.new.me c.requires.between put.1
+put_files-requires-clause-between g c = let put = c.put_dirs.ensures.made in makes_between c.args.p.now (moved_more [] put.0) c.args.me.now c.put_dirs.new.me c.requires.between put.1
 
 pub put_files-requires-clause-may : goal.put_files-requires-clause-may
 put_files-requires-clause-may g c =
     let p = c.args.p.now in
-    let put = c.put_dirs.ensures in
+    let put = c.put_dirs.ensures.made in
     let fs = c.args.files.items in
     of_after p (moved_more [] put.0) c.args.me.now c.put_dirs.new.me (MayGive p.world c.args.dirs.items fs) (λ (r : Share). MayPutAll fs (paths_put p.world 1 r) r) c.requires.between put.1.gets c.requires.may
     (λ s r grows may. files_later p.world fs put.0 s r grows may.files)
@@ -26,7 +26,7 @@ put_files-requires-clause-may g c =
 pub finish_dir-requires-clause-between : goal.finish_dir-requires-clause-between
 finish_dir-requires-clause-between g c =
     let p = c.args.p.now in
-    let put = c.put_dirs.ensures in
+    let put = c.put_dirs.ensures.made in
     let files = c.put_files.ensures in
     makes_between p (record nothing { put = put.0; files_put = files.0 }) c.args.me.now c.put_files.new.me c.requires.between (makes_found p put.0 files.0 c.args.me.now c.put_dirs.new.me c.put_files.new.me put.1 files.1)
 
@@ -34,20 +34,20 @@ pub test_alert-requires-clause-rest : goal.test_alert-requires-clause-rest
 test_alert-requires-clause-rest g c κs within =
     let p = c.args.p.now in
     let a = c.args.me.now in
-    let put = c.put_dirs.ensures in
+    let put = c.put_dirs.ensures.made in
     let files = c.put_files.ensures in
     let more = record nothing { put = put.0; files_put = files.0 } in
     let found = makes_found p put.0 files.0 a c.put_dirs.new.me c.put_files.new.me put.1 files.1 in
-    (makes_between p more a c.finish_dir.new.me c.requires.between (makes_before p more a c.put_files.new.me c.finish_dir.new.me found c.finish_dir.ensures)).2.rest
+    (makes_between p more a c.finish_dir.new.me c.requires.between (makes_before p more a c.put_files.new.me c.finish_dir.new.me found c.finish_dir.ensures.made)).2.rest
 
-pub returns-then-not-put_dirs : goal.returns-then-not-put_dirs
-returns-then-not-put_dirs g c =
-    let put = c.put_dirs.ensures in
+pub returns-then-not-is_within : goal.returns-then-not-is_within
+returns-then-not-is_within g c =
+    let put = c.put_dirs.ensures.made in
     (put.0, [], makes_before c.args.p.now (moved_more [] put.0) c.args.me.now c.put_dirs.new.me c.cancel.new.me put.1 c.cancel.ensures, put.2, All-nil (Contains c.args.files.items))
 
 pub returns-then-not-put_files : goal.returns-then-not-put_files
 returns-then-not-put_files g c =
-    let put = c.put_dirs.ensures in
+    let put = c.put_dirs.ensures.made in
     let files = c.put_files.ensures in
     (put.0, files.0, makes_found c.args.p.now put.0 files.0 c.args.me.now c.put_dirs.new.me c.put_files.new.me put.1 files.1, put.2, files.2)
 
@@ -55,11 +55,11 @@ pub returns : goal.returns
 returns g c =
     let p = c.args.p.now in
     let a = c.args.me.now in
-    let put = c.put_dirs.ensures in
+    let put = c.put_dirs.ensures.made in
     let files = c.put_files.ensures in
     let more = record nothing { put = put.0; files_put = files.0 } in
     let found = makes_found p put.0 files.0 a c.put_dirs.new.me c.put_files.new.me put.1 files.1 in
-    let ended = makes_before p more a c.put_files.new.me c.finish_dir.new.me found c.finish_dir.ensures in (
+    let ended = makes_before p more a c.put_files.new.me c.finish_dir.new.me found c.finish_dir.ensures.made in (
       put.0,
       files.0,
       makes_before p more a c.finish_dir.new.me c.test_alert.new.me ended

@@ -1,5 +1,5 @@
 use Rattle.word_index.specs.Index.{File}
-use Rattle.std.proofs.Common.{List, sym, subst, ◌++◌}
+use Rattle.std.proofs.Common.{List, sym, subst}
 use Rattle.walker.specs.Pile.{IsPileOf}
 use Rattle.walker.proofs.ReadLemmas.{apart_batch}
 use Rattle.walker.proofs.reading.put_batch.Goals as goal

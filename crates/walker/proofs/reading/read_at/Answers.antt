@@ -1,4 +1,4 @@
-use Rattle.std.proofs.Common.{◌≡◌, ◌∙◌, sym, refl, true, false}
+use Rattle.std.proofs.Common.{◌∙◌, sym, refl}
 use Rattle.walker.specs.declared.answer.WalkAnswer.TheVariants.{Memory}
 use Rattle.word_index.specs.Read.{read_file}
 use Rattle.walker.specs.Pile.{AreKept}

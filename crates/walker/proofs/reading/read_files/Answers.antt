@@ -1,11 +1,26 @@
-use Rattle.std.proofs.Common.{◌≡◌, ◌∙◌, ℕ, length, refl, sym, subst, arith}
+use Rattle.std.proofs.Common.{◌≡◌, ◌∙◌, ℕ, List, [], length, refl, sym, subst, arith}
+use Rattle.word_index.specs.Index.{Index}
 use Rattle.std.specs.Prelude.{Ok, Err}
 use Rattle.walker.specs.Pile.{IsPileOf, AreApart, AreKept, HasRead}
 use Rattle.walker.proofs.ListLemmas.{AllPairs-nil}
 use Rattle.walker.proofs.PileLemmas.{NoMeet}
-use Rattle.walker.proofs.ReadLemmas.{HasRead-none, HasRead-kept, reads_lost, kept_none, read_stopped, moved_read}
+use Rattle.walker.proofs.ReadLemmas.{HasRead-all, HasRead-none, HasRead-kept, covers_all, reads_lost, kept_none, read_stopped, moved_read}
 use Rattle.walker.proofs.Steps.{stays_then}
 use Rattle.walker.proofs.reading.read_files.Goals as goal
+
+pub returns-then-files-files_found-clause-apart : goal.returns-then-files-files_found-clause-apart
+returns-then-files-files_found-clause-apart g c = subst AreApart (sym c.requires.empty) (AllPairs-nil NoMeet)
+
+pub returns-then-files-files_found-clause-read : goal.returns-then-files-files_found-clause-read
+returns-then-files-files_found-clause-read g c =
+    let o = g.S.Tree.tree c.args.tree.now in
+    let walked = c.args.walked.now in
+    let piece = c.args.piece.now in
+    let many : length piece.paths ≡ length walked.files = sym c.files.ensures ∙ (c.if-files-files_found.true ∙ c.files_found.ensures.many) in
+    HasRead-all o walked piece.paths (g.S.Tree.calls c.args.tree.now) (IsPileOf c.args.pile.now.items) (subst (λ (l : List Index). IsPileOf l []) (sym c.requires.empty) refl) (covers_all o walked piece c.requires.part many)
+
+pub returns-then-files-files_found-clause-stays : goal.returns-then-files-files_found-clause-stays
+returns-then-files-files_found-clause-stays g c = record { tree = refl; weak = refl; count = refl }
 
 pub loop-at-init : goal.loop-at-init
 loop-at-init g c = record {

@@ -1,4 +1,4 @@
-use Rattle.std.proofs.Common.{rules, ◌≡◌, ◌<◌, [], length, map, get_or, ap, subst, sym, ◌∙◌, refl, arith, below_more, Contains}
+use Rattle.std.proofs.Common.{rules, ◌≡◌, ◌<◌, [], length, map, get_or, ap, subst, sym, ◌∙◌, refl, below_more, Contains}
 use Rattle.std.specs.String.{string_bytes}
 use Rattle.std.proofs.lemmas.List.{get_or_default}
 use Rattle.std.proofs.lemmas.List.Elements.{Contains-get_or}

@@ -1,0 +1,18 @@
+-- What the workers are.
+use Rattle.std.specs.Prelude.{Option, Some, None}
+use Rattle.firefly_outside.specs.declared.tree.Kind.{Kind}
+use Rattle.firefly_outside.specs.declared.tree.Kind.TheVariants.{File, Dir}
+use Rattle.indexer.specs.declared.job.Role.{Role}
+use Rattle.indexer.specs.declared.job.Role.TheVariants.{Walker, Parser, Merger}
+
+-- who lists directories on a tree walks, who reads files on one parses, and who has none merges
+abbrev pub role_of : {S : Type 0} → Kind → Option S → Role S
+role_of Dir (Some s) = Walker s
+role_of File (Some s) = Parser s
+role_of kind None = Merger
+
+-- the tree of a worker
+abbrev pub tree_of : {S : Type 0} → Role S → Option S
+tree_of (Walker s) = Some s
+tree_of (Parser s) = Some s
+tree_of Merger = None
