@@ -11,7 +11,7 @@ use Rattle.trace_core.specs.declared.line.Expect.TheVariants as expect
 use Rattle.trace_core.specs.declared.line.Line.TheVariants as line
 use Rattle.trace_core.specs.declared.progress.Progress.{Progress}
 use Rattle.trace_core.specs.declared.progress.Phase.TheVariants as phase
-use Rattle.trace_core.specs.Held.{IsEventAt, held_event}
+use Rattle.trace_core.specs.Held.{IsEventAt}
 use Rattle.trace_core.specs.Intake.{rest_of}
 use Rattle.trace_core.specs.Lines.{line_at}
 use Rattle.trace_core.specs.Standing.{standing_of}
@@ -27,14 +27,14 @@ event_line_some : (n : ℕ) (e : Event) → 0 < length (event_line n e)
 event_line_some n e = behind_some (decimal n ++ codes " t" ++ decimal e.thread.0 ++ codes " " ++ action_text e.action)
 
 -- the end of what was read lies behind its beginning, within the bytes
-pub held_size : (l : Layout) (n : ℕ) (w : List ℕ) (x : HeldEvent) → IsEventAt l n w x → (0 < x.action.end) × (x.action.end ≤ length w)
+pub held_size : (l : Layout) (n : ℕ) (w : List ℕ) (x : HeldEvent) → IsEventAt l n w x → (0 < x.end) × (x.end ≤ length w)
 held_size l n w x h =
-    let t = event_line n (held_event x) in
-    (omega (arith, event_line_some n (held_event x), ap length h.text.there, length-append t (drop x.action.end w), length-drop x.action.end w, h.text.within), h.text.within)
+    let t = event_line n x.event in
+    (omega (arith, event_line_some n x.event, ap length h.text.there, length-append t (drop x.end w), length-drop x.end w, h.text.within), h.text.within)
 
 -- it is the line that comes next
-pub held_line : (l : Layout) (n : ℕ) (w : List ℕ) (x : HeldEvent) → IsLawful l → n + 1 < 2 ^ 64 → IsEventAt l n w x → line_at (expect.Events l n) w ≡ Ok (line.Event (held_event x), drop x.action.end w)
-held_line l n w x lawful fits h = ap (line_at (expect.Events l n)) h.text.there ∙ (line_code (expect.Events l n) (lawful, fits)).again (line.Event (held_event x)) (drop x.action.end w) (h.named, h.made)
+pub held_line : (l : Layout) (n : ℕ) (w : List ℕ) (x : HeldEvent) → IsLawful l → n + 1 < 2 ^ 64 → IsEventAt l n w x → line_at (expect.Events l n) w ≡ Ok (line.Event x.event, drop x.end w)
+held_line l n w x lawful fits h = ap (line_at (expect.Events l n)) h.text.there ∙ (line_code (expect.Events l n) (lawful, fits)).again (line.Event x.event) (drop x.end w) (h.named, h.made)
 
 same_rest : (r : Option (List ℕ)) → Keeps r r
 same_rest None = tt

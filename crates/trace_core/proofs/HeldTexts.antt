@@ -1,5 +1,5 @@
 -- Texts that stand in the bytes held.
-use Rattle.std.proofs.Common.{◌≡◌, ℕ, zero, suc, ◌+◌, ◌*◌, ◌/◌, ◌%◌, ◌<◌, ◌≤◌, Bool, true, false, inl, inr, List, [], ◌∷◌, ◌++◌, length, take, drop, get_or, refl, ap, sym, subst, ◌∙◌, append_assoc, append-nil, arith}
+use Rattle.std.proofs.Common.{◌≡◌, ℕ, zero, suc, ◌+◌, ◌*◌, ◌/◌, ◌%◌, ◌<◌, ◌≤◌, ◌⊎◌, Bool, true, false, inl, inr, List, [], ◌∷◌, ◌++◌, length, take, drop, get_or, refl, ap, sym, subst, ◌∙◌, append_assoc, append-nil, arith}
 use Rattle.std.proofs.Math.Seq.{drop-cons}
 use Rattle.std.proofs.lemmas.List.{take-append-drop, drop-drop, length-take-le, length-drop, take_all}
 use Rattle.std.proofs.lemmas.Bool.Decides.{leb_tells}
@@ -75,36 +75,45 @@ pub same_word : (bytes word : List ℕ) (a n x y : ℕ) → a + n ≤ length byt
 same_word bytes word a n x y le l p q same e f =
     stands_word bytes word a n le l (bytes_from bytes p) (bytes_from word q) (sym e ∙ same ∙ f ∙ ap little (take_all n word (omega (arith, l))))
 
-two_digits : (a b : ℕ) → 1 ≤ a → a ≤ 9 → b ≤ 9 → decimal (10 * a + b) ≡ (48 + a) ∷ (48 + b) ∷ []
-two_digits a b low high small =
-    let n = 10 * a + b in
-    let q : n / 10 ≡ a = omega arith in
-    let r : n % 10 ≡ b = omega arith in
-    decimal_step n (omega arith) (omega arith) ∙ ap (λ m. decimal m ++ (48 + n % 10) ∷ []) q ∙ ap (λ l. l ++ (48 + n % 10) ∷ []) (decimal_digit a (omega arith)) ∙ ap (λ m. (48 + a) ∷ (48 + m) ∷ []) r
+-- a digit more
+further_digit : (v d : ℕ) → 1 ≤ v → v < 1000 → d ≤ 9 → decimal (10 * v + d) ≡ decimal v ++ (48 + d) ∷ []
+further_digit v d some small digit =
+    let n = 10 * v + d in
+    let q : n / 10 ≡ v = omega arith in
+    let r : n % 10 ≡ d = omega arith in
+    decimal_step n (omega arith) (omega arith) ∙ ap (λ m. decimal m ++ (48 + n % 10) ∷ []) q ∙ ap (λ m. decimal v ++ (48 + m) ∷ []) r
 
-long_name : (bytes : List ℕ) (at a b : ℕ) → at + 2 ≤ length bytes → get_or bytes at 0 ≡ 48 + a → get_or bytes (at + 1) 0 ≡ 48 + b → 1 ≤ a → a ≤ 9 → b ≤ 9 → Stands bytes at (decimal (10 * a + b) ++ []) (at + 2)
-long_name bytes at a b le x y low high small =
-    stands_end (let e : at + 1 + 1 ≡ at + 2 = omega arith in e)
-    (stands_as (sym (append-nil (decimal (10 * a + b)) ∙ two_digits a b low high small)) (stands_then (stands_byte bytes at (48 + a) (omega arith) x) (stands_byte bytes (at + 1) (48 + b) (omega arith) y)))
+pub longer_name : (bytes : List ℕ) (at v d end : ℕ) → end < length bytes → Stands bytes at (decimal v ++ []) end → get_or bytes end 0 ≡ 48 + d → 1 ≤ v → v < 1000 → d ≤ 9 → Stands bytes at (decimal (10 * v + d) ++ []) (end + 1)
+longer_name bytes at v d end lt p x some small digit =
+    stands_as (ap (λ l. l ++ (48 + d) ∷ []) (append-nil (decimal v)) ∙ sym (append-nil (decimal (10 * v + d)) ∙ further_digit v d some small digit)) (stands_then p (stands_byte bytes end (48 + d) lt x))
 
 short_name : (bytes : List ℕ) (at a : ℕ) → at + 2 ≤ length bytes → get_or bytes at 0 ≡ 48 + a → a ≤ 9 → Stands bytes at (decimal a ++ []) (at + 1)
 short_name bytes at a le x high = stands_as (sym (append-nil (decimal a) ∙ decimal_digit a (omega arith))) (stands_byte bytes at (48 + a) (omega arith) x)
 
--- a name of two digits where the second byte is one, and else of one digit
-pub name_there : (bytes : List ℕ) (at bound a b value least end : ℕ) → at + 2 ≤ length bytes → get_or bytes at 0 ≡ 48 + a → (b < 10 → get_or bytes (at + 1) 0 ≡ 48 + b) → a ≤ 9
-    → (b < 10 → (value ≡ 10 * a + b) × (least ≡ 10) × (end ≡ at + 2)) → (10 ≤ b → (value ≡ a) × (least ≡ 0) × (end ≡ at + 1)) → value < bound → least ≤ value → IsNameAt bytes at bound [] (record { value = value; end = end })
-name_there bytes at bound a b value least end le x y high long short below enough = record {
-  below = below;
-  text =
-      elim (leb_tells b 9) [
-        | inl w ↦
-            let h = long (omega (arith, w.1)) in
-            stands_end (sym h.2) (stands_as (ap (λ v. decimal v ++ []) (sym h.0)) (long_name bytes at a b le x (y (omega (arith, w.1))) (omega (arith, h.0, h.1, enough, w.1)) high w.1))
-        | inr w ↦
-            let h = short (omega (arith, w.1)) in
-            stands_end (sym h.2) (stands_as (ap (λ v. decimal v ++ []) (sym h.0)) (short_name bytes at a le x high))
-      ];
-}
+-- a name of two digits where the second byte is one and the first isn't zero, and else of one digit
+pub name_there : (bytes : List ℕ) (at bound a b value end : ℕ) → at + 2 ≤ length bytes → get_or bytes at 0 ≡ 48 + a → (b < 10 → get_or bytes (at + 1) 0 ≡ 48 + b) → a ≤ 9
+    → (0 < a → b < 10 → (value ≡ 10 * a + b) × (end ≡ at + 2)) → ((a ≡ 0) ⊎ (10 ≤ b) → (value ≡ a) × (end ≡ at + 1)) → value < bound → IsNameAt bytes at bound [] (record { value = value; end = end })
+name_there bytes at bound a b value end le x y high long short below =
+    let first = short_name bytes at a le x high in
+    let alone : (a ≡ 0) ⊎ (10 ≤ b) → Stands bytes at (decimal value ++ []) end =
+    λ w.
+    let h = short w in
+    stands_end (sym h.1) (stands_as (ap (λ v. decimal v ++ []) (sym h.0)) first)
+    in record {
+      below = below;
+      text =
+          elim (leb_tells a 0) [
+            | inl none ↦ alone (inl (omega (arith, none.1)))
+            | inr some ↦
+                elim (leb_tells b 9) [
+                  | inl w ↦
+                      let h = long (omega (arith, some.1)) (omega (arith, w.1)) in
+                      let e : at + 1 + 1 ≡ end = omega (arith, h.1) in
+                      stands_end e (stands_as (ap (λ v. decimal v ++ []) (sym h.0)) (longer_name bytes at a b (at + 1) (omega arith) first (y (omega (arith, w.1))) (omega (arith, some.1)) (omega arith) w.1))
+                  | inr w ↦ alone (inr (omega (arith, w.1)))
+                ]
+          ];
+    }
 
 nobody_from : (s : ThreadSet) (n t : ℕ) → ((k : ℕ) → in_set s k ≡ false) → members_from s t n ≡ []
 unfolding members_from

@@ -6,5 +6,5 @@ mod name;
 mod wait;
 mod word;
 
-pub use event::{HeldEvent, event_held, event_of};
+pub use event::{HeldEvent, event_held};
 pub use word::eight;

@@ -111,8 +111,18 @@ impl Place {
             self.text = self.text - 9 * self.one + self.one / 256;
             self.last += 10;
         } else {
-            *self = Place::at(self.value + 1);
+            self.step_far();
         }
+    }
+
+    // The same where more than two digits change, or the text gets longer.
+    #[cold]
+    #[inline(never)]
+    fn step_far(&mut self)
+        requires { self.old + 1 < 2 ^ 64 }
+        ensures { self.new ≡ self.old + 1 }
+    {
+        *self = Place::at(self.value + 1);
     }
 }
 

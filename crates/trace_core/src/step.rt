@@ -3,12 +3,12 @@ ghost use Rattle.std.specs.Prelude.{◌≡◌, ◌⊎◌, ◌+◌, ◌<◌, ◌�
 ghost use Rattle.trace_core.specs.declared.progress.Phase.TheVariants as phase;
 ghost use Rattle.trace_core.specs.Text.{IsTrace, IsRest, head_text, event_line};
 ghost use Rattle.larch_actions.specs.Layout.{IsLawful, HasNames};
-ghost use Rattle.trace_core.specs.Held.{IsEventAt, held_event};
+ghost use Rattle.trace_core.specs.Held.{IsEventAt};
 ghost use Rattle.trace_core.specs.Intake.{IsTold, IsUndecided};
 ghost use Rattle.trace_core.specs.Standing.{standing_of};
 ghost use Rattle.trace_core.specs.Steps.{TakesHead, TakesEvent, TakesEnd, Breaks, IsTaken};
 
-use crate::held::{HeldEvent, event_held, event_of};
+use crate::held::{HeldEvent, event_held};
 use crate::intake::{Intake, TextFault};
 use crate::parts::{take_event, take_head};
 use crate::place::Place;
@@ -66,14 +66,14 @@ fn pass_line(intake: &mut Intake, size: usize)
 
 // Takes the event whose line the window holds whole, where it has a form that is read at once.
 #[inline(always)]
-fn take_held(progress: &mut Progress) -> Option<HeldEvent>
-    ensures taken { IfSome result (λ x. IsTaken progress.old progress.new (held_event x)) }
+fn take_held(progress: &mut Progress) -> Option<Event>
+    ensures taken { IfSome result (IsTaken progress.old progress.new) }
     ensures same { IfNone result (progress.new ≡ progress.old) }
 {
     let held = event_in(&progress.intake, &progress.layout, &progress.place)?;
-    pass_line(&mut progress.intake, held.action.end);
+    pass_line(&mut progress.intake, held.end);
     progress.place.step();
-    Some(held)
+    Some(held.event)
 }
 
 /// Takes an event or the end, and notes what comes next.
@@ -92,8 +92,32 @@ pub fn go_on<I: Source>(progress: &mut Progress, input: &mut I) -> Result<Option
         (event_line progress.old.place) progress.old.intake.window }
 {
     match take_held(progress) {
-        Some(held) => Ok(Some(event_of(&held))),
-        None => go_on_slowly(progress, input),
+        Some(event) => Ok(Some(event)),
+        None => go_on_apart(progress, input),
+    }
+}
+
+// The same of any event, and of the end. What the call writes has memory of its own here, so that the event above needs none.
+#[inline(always)]
+fn go_on_apart<I: Source>(
+    progress: &mut Progress,
+    input: &mut I,
+) -> Result<Option<Event>, TextFault>
+    requires { progress.old.phase ≡ phase.Events }
+    ensures event { IfOk result (λ found. IfSome found (TakesEvent (standing_of progress.old (I.left input.old))
+        (standing_of progress.new (I.left input.new)))) }
+    ensures end { IfOk result (λ found. IfNone found (TakesEnd (standing_of progress.old (I.left input.old))
+        (standing_of progress.new (I.left input.new)))) }
+    ensures fault { IfErr result (Breaks (IsRest progress.old.layout progress.old.place) (HasNames progress.old.layout)
+        (event_line progress.old.place) (standing_of progress.old (I.left input.old)) (standing_of progress.new (I.left input.new))
+        (I.left input.new) (I.faults input.old) (I.faults input.new)) }
+    ensures told { IsTold (I.faults input.old) (I.faults input.new) result }
+    ensures asks { (input.new ≡ input.old) ⊎ IsUndecided (IsRest progress.old.layout progress.old.place) (HasNames progress.old.layout)
+        (event_line progress.old.place) progress.old.intake.window }
+{
+    match go_on_slowly(progress, input) {
+        Ok(found) => Ok(found),
+        Err(fault) => Err(fault),
     }
 }
 

@@ -1,104 +1,58 @@
 //! Actions up to the end of their lines, each by its own words and not by its row: so an event of a usual line takes some 140 instructions,
 //! and some 400 where it is read by the row (action.rt). What isn't read here is read there, so a further action needs nothing here.
-//! What is read is handed on in parts, and an action made of them at the end alone: a set of threads in it would be moved at each step.
-ghost use Rattle.std.specs.Prelude.{◌≡◌, ◌≤◌, ◌<◌, ◌+◌, length, IfSome, true, false};
-ghost use Rattle.trace_core.specs.Held.{IsActionAt, held_action};
+ghost use Rattle.std.specs.Prelude.{◌≡◌, ◌≤◌, ◌<◌, ◌+◌, length, IfSome};
+ghost use Rattle.trace_core.specs.Held.{IsActionAt};
 
-use crate::held::name::name_before;
+use crate::held::name::{name_before, thread_before};
 use crate::held::wait::{ending_held, wait_held};
 use crate::held::word::{has_byte, has_eight, has_four, has_two};
-use larch_actions::{Action, CondId, Layout, MutexId, SemId, ThreadId, ThreadSet, Word};
+use larch_actions::{Action, CondId, Layout, MutexId, SemId, ThreadId, ThreadSet};
 
-/// The parts of an action, and where its line ends: its word, the numbers of its names, and whether it returns or says yes.
+/// An action, and where its line ends.
 #[derive(Clone, Copy)]
 pub struct HeldAction {
-    pub word: Word,
-    pub first: u32,
-    pub second: u32,
-    pub yes: bool,
+    pub action: Action,
     pub end: usize,
 }
 
-/// The action of these parts, which leaves no thread.
 #[inline(always)]
-pub fn action_of(word: Word, first: u32, second: u32, yes: bool) -> Action
-    ensures { result ≡ held_action word first second yes }
-{
-    let (mutex, cond) = (MutexId(first), CondId(second));
-    match word {
-        Word::Acquire => Action::Acquire { mutex },
-        Word::Release => Action::Release { mutex },
-        Word::P => Action::P { sem: SemId(first) },
-        Word::V => Action::V { sem: SemId(first) },
-        Word::Enqueue => Action::Enqueue { mutex, cond },
-        Word::Resume => Action::Resume { mutex, cond },
-        Word::Signal => Action::Signal {
-            cond: CondId(first),
-            left: ThreadSet::empty(),
-        },
-        Word::Broadcast => Action::Broadcast {
-            cond: CondId(first),
-        },
-        Word::Alert => Action::Alert {
-            who: ThreadId(first),
-        },
-        Word::TestAlert => Action::TestAlert { yes },
-        Word::AlertEnqueue => Action::AlertEnqueue { mutex, cond },
-        Word::AlertResume => {
-            if yes {
-                Action::AlertReturn { mutex, cond }
-            } else {
-                Action::AlertRaise { mutex, cond }
-            }
-        }
-        Word::AlertP => {
-            if yes {
-                Action::AlertPReturn { sem: SemId(first) }
-            } else {
-                Action::AlertPRaise { sem: SemId(first) }
-            }
-        }
-        Word::Fork => Action::Fork {
-            who: ThreadId(first),
-        },
-        Word::End => Action::End,
-        Word::Join => Action::Join {
-            who: ThreadId(first),
-        },
-    }
-}
-
-// An acquire or a release.
-#[inline(always)]
-fn lock(bytes: &[u8], at: usize, layout: &Layout) -> Option<HeldAction>
+fn acquire(bytes: &[u8], at: usize, layout: &Layout) -> Option<HeldAction>
     requires { at + 40 ≤ length bytes.now }
     ensures { IfSome result (IsActionAt layout.now bytes.now at) }
 {
-    let takes = has_eight(bytes, at, b"acquire ");
-    let gives = has_eight(bytes, at, b"release ");
+    if !has_eight(bytes, at, b"acquire ") {
+        return None;
+    }
     if !has_byte(bytes, at + 8, b'm') {
         return None;
     }
     let m = name_before(bytes, at + 9, layout.mutexes, b'\n')?;
-    if takes {
-        return Some(HeldAction {
-            word: Word::Acquire,
-            first: m.value,
-            second: 0,
-            yes: false,
-            end: m.end,
-        });
+    Some(HeldAction {
+        action: Action::Acquire {
+            mutex: MutexId(m.value),
+        },
+        end: m.end,
+    })
+}
+
+#[inline(always)]
+fn release(bytes: &[u8], at: usize, layout: &Layout) -> Option<HeldAction>
+    requires { at + 40 ≤ length bytes.now }
+    ensures { IfSome result (IsActionAt layout.now bytes.now at) }
+{
+    if !has_eight(bytes, at, b"release ") {
+        return None;
     }
-    if gives {
-        return Some(HeldAction {
-            word: Word::Release,
-            first: m.value,
-            second: 0,
-            yes: false,
-            end: m.end,
-        });
+    if !has_byte(bytes, at + 8, b'm') {
+        return None;
     }
-    None
+    let m = name_before(bytes, at + 9, layout.mutexes, b'\n')?;
+    Some(HeldAction {
+        action: Action::Release {
+            mutex: MutexId(m.value),
+        },
+        end: m.end,
+    })
 }
 
 // A signal that leaves nobody.
@@ -118,10 +72,10 @@ fn signal(bytes: &[u8], at: usize, layout: &Layout) -> Option<HeldAction>
         return None;
     }
     Some(HeldAction {
-        word: Word::Signal,
-        first: c.value,
-        second: 0,
-        yes: false,
+        action: Action::Signal {
+            cond: CondId(c.value),
+            left: ThreadSet::empty(),
+        },
         end: c.end + 5,
     })
 }
@@ -139,10 +93,10 @@ fn enqueue(bytes: &[u8], at: usize, layout: &Layout) -> Option<HeldAction>
     }
     let wait = wait_held(bytes, at + 9, layout, b'\n')?;
     Some(HeldAction {
-        word: Word::Enqueue,
-        first: wait.mutex.0,
-        second: wait.cond.0,
-        yes: false,
+        action: Action::Enqueue {
+            mutex: wait.mutex,
+            cond: wait.cond,
+        },
         end: wait.end,
     })
 }
@@ -157,10 +111,10 @@ fn resume(bytes: &[u8], at: usize, layout: &Layout) -> Option<HeldAction>
     }
     let wait = wait_held(bytes, at + 8, layout, b'\n')?;
     Some(HeldAction {
-        word: Word::Resume,
-        first: wait.mutex.0,
-        second: wait.cond.0,
-        yes: false,
+        action: Action::Resume {
+            mutex: wait.mutex,
+            cond: wait.cond,
+        },
         end: wait.end,
     })
 }
@@ -181,10 +135,9 @@ fn broadcast(bytes: &[u8], at: usize, layout: &Layout) -> Option<HeldAction>
     }
     let c = name_before(bytes, at + 11, layout.conditions, b'\n')?;
     Some(HeldAction {
-        word: Word::Broadcast,
-        first: c.value,
-        second: 0,
-        yes: false,
+        action: Action::Broadcast {
+            cond: CondId(c.value),
+        },
         end: c.end,
     })
 }
@@ -208,10 +161,10 @@ fn alert_enqueue(bytes: &[u8], at: usize, layout: &Layout) -> Option<HeldAction>
     }
     let wait = wait_held(bytes, at + 15, layout, b'\n')?;
     Some(HeldAction {
-        word: Word::AlertEnqueue,
-        first: wait.mutex.0,
-        second: wait.cond.0,
-        yes: false,
+        action: Action::AlertEnqueue {
+            mutex: wait.mutex,
+            cond: wait.cond,
+        },
         end: wait.end,
     })
 }
@@ -232,20 +185,15 @@ fn alert_resume(bytes: &[u8], at: usize, layout: &Layout) -> Option<HeldAction>
     }
     let wait = wait_held(bytes, at + 14, layout, b' ')?;
     let ending = ending_held(bytes, wait.end)?;
+    let (mutex, cond) = (wait.mutex, wait.cond);
     if ending.returns {
         return Some(HeldAction {
-            word: Word::AlertResume,
-            first: wait.mutex.0,
-            second: wait.cond.0,
-            yes: true,
+            action: Action::AlertReturn { mutex, cond },
             end: ending.end,
         });
     }
     Some(HeldAction {
-        word: Word::AlertResume,
-        first: wait.mutex.0,
-        second: wait.cond.0,
-        yes: false,
+        action: Action::AlertRaise { mutex, cond },
         end: ending.end,
     })
 }
@@ -263,20 +211,15 @@ fn alert_p(bytes: &[u8], at: usize, layout: &Layout) -> Option<HeldAction>
     }
     let s = name_before(bytes, at + 9, layout.semaphores, b' ')?;
     let ending = ending_held(bytes, s.end)?;
+    let sem = SemId(s.value);
     if ending.returns {
         return Some(HeldAction {
-            word: Word::AlertP,
-            first: s.value,
-            second: 0,
-            yes: true,
+            action: Action::AlertPReturn { sem },
             end: ending.end,
         });
     }
     Some(HeldAction {
-        word: Word::AlertP,
-        first: s.value,
-        second: 0,
-        yes: false,
+        action: Action::AlertPRaise { sem },
         end: ending.end,
     })
 }
@@ -294,10 +237,7 @@ fn test_alert(bytes: &[u8], at: usize, layout: &Layout) -> Option<HeldAction>
     }
     if has_four(bytes, at + 10, b" no\n") {
         return Some(HeldAction {
-            word: Word::TestAlert,
-            first: 0,
-            second: 0,
-            yes: false,
+            action: Action::TestAlert { yes: false },
             end: at + 14,
         });
     }
@@ -308,10 +248,7 @@ fn test_alert(bytes: &[u8], at: usize, layout: &Layout) -> Option<HeldAction>
         return None;
     }
     Some(HeldAction {
-        word: Word::TestAlert,
-        first: 0,
-        second: 0,
-        yes: true,
+        action: Action::TestAlert { yes: true },
         end: at + 15,
     })
 }
@@ -344,10 +281,9 @@ fn p(bytes: &[u8], at: usize, layout: &Layout) -> Option<HeldAction>
     }
     let s = name_before(bytes, at + 3, layout.semaphores, b'\n')?;
     Some(HeldAction {
-        word: Word::P,
-        first: s.value,
-        second: 0,
-        yes: false,
+        action: Action::P {
+            sem: SemId(s.value),
+        },
         end: s.end,
     })
 }
@@ -365,10 +301,9 @@ fn v(bytes: &[u8], at: usize, layout: &Layout) -> Option<HeldAction>
     }
     let s = name_before(bytes, at + 3, layout.semaphores, b'\n')?;
     Some(HeldAction {
-        word: Word::V,
-        first: s.value,
-        second: 0,
-        yes: false,
+        action: Action::V {
+            sem: SemId(s.value),
+        },
         end: s.end,
     })
 }
@@ -387,12 +322,11 @@ fn alert(bytes: &[u8], at: usize, layout: &Layout) -> Option<HeldAction>
     if !has_byte(bytes, at + 6, b't') {
         return None;
     }
-    let t = name_before(bytes, at + 7, layout.threads, b'\n')?;
+    let t = thread_before(bytes, at + 7, layout.threads, b'\n')?;
     Some(HeldAction {
-        word: Word::Alert,
-        first: t.value,
-        second: 0,
-        yes: false,
+        action: Action::Alert {
+            who: ThreadId(t.value),
+        },
         end: t.end,
     })
 }
@@ -403,8 +337,11 @@ pub fn action_held(bytes: &[u8], at: usize, layout: &Layout) -> Option<HeldActio
     requires { at + 40 ≤ length bytes.now }
     ensures { IfSome result (IsActionAt layout.now bytes.now at) }
 {
-    if has_eight(bytes, at, b"acquire ") | has_eight(bytes, at, b"release ") {
-        return lock(bytes, at, layout);
+    if has_eight(bytes, at, b"acquire ") {
+        return acquire(bytes, at, layout);
+    }
+    if has_eight(bytes, at, b"release ") {
+        return release(bytes, at, layout);
     }
     if has_eight(bytes, at, b"signal c") {
         return signal(bytes, at, layout);

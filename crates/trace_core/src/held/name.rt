@@ -1,5 +1,5 @@
-//! Names of one or two digits.
-ghost use Rattle.std.specs.Prelude.{◌≡◌, ◌≤◌, ◌<◌, ◌+◌, ◌*◌, ◌^◌, ◌∷◌, [], length, IfSome};
+//! Names of one or two digits, and those of threads, of up to three.
+ghost use Rattle.std.specs.Prelude.{◌≡◌, ◌⊎◌, ◌≤◌, ◌<◌, ◌+◌, ◌*◌, ◌^◌, ◌∷◌, [], length, IfSome};
 ghost use Rattle.trace_core.specs.Held.{IsNameAt};
 
 use crate::held::word::has_byte;
@@ -11,54 +11,57 @@ pub struct HeldName {
     pub end: usize,
 }
 
-// What two digits stand for, or one.
+// What two digits stand for, or one, and where they end.
 #[derive(Clone, Copy)]
 struct Digits {
     value: u32,
-    least: u32,
     end: usize,
 }
 
-// A number of two digits where the second is one, which then is at least 10, and else of one. It makes no branch.
+// A number of two digits where the second is one and the first isn't zero, and else of one. It makes no branch.
 #[inline(always)]
 fn digits_of(first: u32, second: u32, at: usize) -> Digits
-    requires first { first < 256 }
+    requires first { first ≤ 9 }
     requires at { at + 2 < 2 ^ 64 }
-    ensures long { second < 10 → (result.value ≡ 10 * first + second) × (result.least ≡ 10) × (result.end ≡ at + 2) }
-    ensures short { 10 ≤ second → (result.value ≡ first) × (result.least ≡ 0) × (result.end ≡ at + 1) }
+    ensures long { 0 < first → second < 10 → (result.value ≡ 10 * first + second) × (result.end ≡ at + 2) }
+    ensures short { (first ≡ 0) ⊎ (10 ≤ second) → (result.value ≡ first) × (result.end ≡ at + 1) }
 {
-    if second < 10 {
+    if (first > 0) & (second < 10) {
         Digits {
             value: 10 * first + second,
-            least: 10,
             end: at + 2,
         }
     } else {
         Digits {
             value: first,
-            least: 0,
             end: at + 1,
         }
     }
 }
 
-/// The name that stands there, if it is below the bound.
+// What the byte stands for, if it is a digit, and else 10 or more.
 #[inline(always)]
-pub fn name_held(bytes: &[u8], at: usize, bound: u32) -> Option<HeldName>
+fn digit(byte: u8) -> u32
+    ensures { result < 10 → byte ≡ 48 + result }
+{
+    u32::from(byte).wrapping_sub(48)
+}
+
+/// The name of one or two digits that stands there, if it is below the bound.
+#[inline(always)]
+fn name_held(bytes: &[u8], at: usize, bound: u32) -> Option<HeldName>
     requires { at + 2 ≤ length bytes.now }
     ensures name { IfSome result (IsNameAt bytes.now at bound []) }
+    ensures small { IfSome result (λ x. x.value < 100) }
     ensures near { IfSome result (λ x. x.end ≤ at + 2) }
 {
-    let first = u32::from(bytes[at].wrapping_sub(b'0'));
-    let second = u32::from(bytes[at + 1].wrapping_sub(b'0'));
-    let digits = digits_of(first, second, at);
+    let first = digit(bytes[at]);
+    let second = digit(bytes[at + 1]);
     if first > 9 {
         return None;
     }
+    let digits = digits_of(first, second, at);
     if digits.value >= bound {
-        return None;
-    }
-    if digits.value < digits.least {
         return None;
     }
     Some(HeldName {
@@ -67,7 +70,33 @@ pub fn name_held(bytes: &[u8], at: usize, bound: u32) -> Option<HeldName>
     })
 }
 
-/// The same with this byte behind it.
+// The name that goes on with a further digit, if there is one, and it is below the bound.
+#[inline(always)]
+fn name_longer(bytes: &[u8], at: usize, bound: u32, name: HeldName) -> Option<HeldName>
+    requires name { IsNameAt bytes.now at bound [] name }
+    requires small { name.value < 100 }
+    requires within { name.end < length bytes.now }
+    ensures name { IfSome result (IsNameAt bytes.now at bound []) }
+    ensures near { IfSome result (λ x. x.end ≤ name.end + 1) }
+{
+    let next = digit(bytes[name.end]);
+    if next > 9 {
+        return None;
+    }
+    let value = 10 * name.value + next;
+    if value >= bound {
+        return None;
+    }
+    if name.value < 1 {
+        return None;
+    }
+    Some(HeldName {
+        value,
+        end: name.end + 1,
+    })
+}
+
+/// The name of one or two digits that stands there with this byte behind it, if it is below the bound.
 #[inline(always)]
 pub fn name_before(bytes: &[u8], at: usize, bound: u32, stop: u8) -> Option<HeldName>
     requires { at + 3 ≤ length bytes.now }
@@ -81,5 +110,29 @@ pub fn name_before(bytes: &[u8], at: usize, bound: u32, stop: u8) -> Option<Held
     Some(HeldName {
         value: read.value,
         end: read.end + 1,
+    })
+}
+
+/// The same of one to three digits, as threads have.
+#[inline(always)]
+pub fn thread_before(bytes: &[u8], at: usize, bound: u32, stop: u8) -> Option<HeldName>
+    requires { at + 4 ≤ length bytes.now }
+    ensures name { IfSome result (IsNameAt bytes.now at bound (stop ∷ [])) }
+    ensures near { IfSome result (λ x. x.end ≤ at + 4) }
+{
+    let read = name_held(bytes, at, bound)?;
+    if has_byte(bytes, read.end, stop) {
+        return Some(HeldName {
+            value: read.value,
+            end: read.end + 1,
+        });
+    }
+    let longer = name_longer(bytes, at, bound, read)?;
+    if !has_byte(bytes, longer.end, stop) {
+        return None;
+    }
+    Some(HeldName {
+        value: longer.value,
+        end: longer.end + 1,
     })
 }

@@ -1,6 +1,5 @@
 use Rattle.std.proofs.Common.{◌∙◌, ap, sym, refl, Ok, arith}
 use Rattle.trace_core.specs.declared.line.Line.TheVariants as line
-use Rattle.trace_core.specs.Held.{held_event}
 use Rattle.trace_core.proofs.HeldEvents.{held_line}
 use Rattle.trace_core.proofs.step.take_held.Goals as goal
 
@@ -9,7 +8,7 @@ returns-clause-taken c =
     let old = c.args.progress.now in
     let x = c.in_ok-held.held in
     let h = c.pass_line.ensures in record {
-      line = held_line old.layout old.place old.intake.window x old.lawful (omega arith) c.in_ok-held.ensures ∙ ap (λ w. Ok (line.Event (held_event x), w)) (sym h.window);
+      line = held_line old.layout old.place old.intake.window x old.lawful (omega arith) c.in_ok-held.ensures ∙ ap (λ w. Ok (line.Event x.event, w)) (sym h.window);
       lines = h.lines;
       given = h.given;
       budget = h.budget;
