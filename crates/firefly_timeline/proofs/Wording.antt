@@ -1,7 +1,7 @@
 -- What four words ask for.
 use Rattle.std.proofs.Common.{◌≡◌, inl, inr, ℕ, List, [], ◌∷◌, ◌++◌, length, get_or, sym, arith, Option, Some, None}
 use Rattle.std.specs.Prelude.{IfSome, IfNone}
-use Rattle.trace_picture.specs.declared.view.View.{View}
+use Rattle.picture_marks.specs.declared.view.View.{View}
 use Rattle.firefly_timeline.specs.Words.{AsksFor, AsksOrdered, IsPair, Wants, view_between}
 
 -- four words of which two say the first bound and two the second ask for what lies between

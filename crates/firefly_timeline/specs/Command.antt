@@ -1,7 +1,7 @@
 -- What the program answers.
 use Rattle.std.specs.Prelude.{◌≡◌, ◌≢◌}
 use Rattle.trace_check.specs.declared.checker.Verdict.{Verdict}
-use Rattle.trace_picture.specs.declared.view.View.{View}
+use Rattle.picture_marks.specs.declared.view.View.{View}
 use Rattle.trace_picture.specs.Drawn.{IsDrawn, IsCutOff}
 use Rattle.trace_events.specs.Written.{IsWritten, IsCutShort}
 use Rattle.firefly_outside.specs.Causes.{Rose}

@@ -1,6 +1,6 @@
 -- The words of the command line, and the part of a trace that they ask for.
 use Rattle.std.specs.Prelude.{◌≡◌, ◌⊎◌, ℕ, ◌+◌, ◌-◌, ◌^◌, List, [], ◌∷◌, ◌++◌, Option, Some, None, codes, decimal, min, unwrap_or, IfSome, ◌<◌, true, false}
-use Rattle.trace_picture.specs.declared.view.View.{View}
+use Rattle.picture_marks.specs.declared.view.View.{View}
 use Rattle.firefly_timeline.specs.declared.words.Request.{Request}
 use Rattle.firefly_timeline.specs.declared.words.Request.TheVariants.{Picture, Json}
 

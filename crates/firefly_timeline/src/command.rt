@@ -7,8 +7,9 @@ ghost use Rattle.firefly_timeline.specs.Command.{Fails, Shows, TellsFault, Write
 use check_command::{CHECK_BUDGET, ends_by};
 use command_endings::{Ending, Status, ends};
 use firefly_outside::{Sink, Source};
+use picture_marks::View;
 use trace_events::write_events;
-use trace_picture::{View, draw_trace};
+use trace_picture::draw_trace;
 
 /// Draws the trace that the input gives.
 pub fn timeline<I: Source, O: Sink, N: Sink>(

@@ -1,14 +1,14 @@
 //! The words of the command line.
 ghost use Rattle.std.specs.Prelude.{◌≡◌, ◌^◌, ◌<◌, ◌↔◌, ℕ, [], ◌∷◌, codes, decimal, map, IsTrue, Some, IfSome, IfNone};
 ghost use Rattle.std.specs.String.{string_bytes};
-ghost use Rattle.trace_picture.specs.declared.view.View.{View};
+ghost use Rattle.picture_marks.specs.declared.view.View.{View};
 ghost use Rattle.firefly_timeline.specs.Words.{AsksFor, AsksOrdered, IsPair, Requests, Wants};
 ghost use Rattle.firefly_timeline.specs.declared.words.Request.{Request};
 ghost use Rattle.firefly_timeline.specs.Words as asked;
 
 use decimal_numbers::read_number;
+use picture_marks::View;
 use std::string::String;
-use trace_picture::View;
 
 /// What the words ask for: a picture of a part of the trace, or its events as JSON.
 #[derive(Clone, Copy, Debug, PartialEq, Eq)]

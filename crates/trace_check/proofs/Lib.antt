@@ -3,3 +3,4 @@ pub mod Alike
 pub mod Fronts
 pub mod UnderWay
 pub mod Unique
+pub mod Exact

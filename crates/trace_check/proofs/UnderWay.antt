@@ -23,7 +23,7 @@ use Rattle.trace_core.specs.Steps.{TakesHead, TakesEvent, TakesEnd, Breaks}
 use Rattle.trace_core.specs.Text.{first_line, layout_line, head_text, event_line, end_line, values_text, rest_text, trace_text, IsTrace, IsRest}
 use Rattle.trace_core.proofs.Outcomes.{reason_behind, Consumes-trans, take_behind}
 use Rattle.trace_core.specs.Whole.{event_lines}
-use Rattle.trace_check.specs.Verdicts.{front_text, NoFault, IsCutOff, refusal, IsJust, IsLegalText, IsIllegalText}
+use Rattle.trace_check.specs.Verdicts.{front_text, NoFault, IsCutOff, refusal, IsJust, IsFrontText, IsLegalText, IsIllegalText}
 use Rattle.trace_check.specs.declared.checker.Summary.{Summary}
 use Rattle.trace_check.proofs.Runs.{leads-push, leads-split}
 use Rattle.trace_check.proofs.Alike.{AreReadable, readable, plain_all, plain_readable, leads_back}
@@ -95,6 +95,23 @@ step_on budget left₀ before now now' p p' m m' count e fits u t a same le =
 pub consumes_some : (bytes : List ℕ) (r : Option (List ℕ)) (text : List ℕ) → Consumes (Some bytes) r text → (ys : List ℕ) × (bytes ≡ text ++ ys) × (r ≡ Some ys)
 consumes_some bytes None text c = absurd c
 consumes_some bytes (Some ys) text c = (ys, c, refl)
+
+-- the events that were read stand at the front of the input
+unfoldable pub front_read : (budget : ℕ) (left₀ : Option (List ℕ)) (before now : ℕ) (p : Standing) (m : Moment) (count : ℕ) → IsUnderWay budget left₀ before p now m count
+    → (bytes : List ℕ) → left₀ ≡ Some bytes → IsFrontText budget bytes
+front_read budget left₀ before now p m count u bytes told_is =
+    let b = consumes_some bytes p.rest (front_text p.layout u.events) (subst (λ o. Consumes o p.rest (front_text p.layout u.events)) told_is u.read) in
+    record {
+      layout = p.layout;
+      events = u.events;
+      rest = b.0;
+      last = spec_of m;
+      lawful = u.lawful;
+      named = u.named;
+      text = b.1;
+      within = omega (arith, u.room);
+      run = u.run;
+    }
 
 pub Consumes-split : (a c : Option (List ℕ)) (xs ys : List ℕ) → Consumes a c (xs ++ ys) → (b : Option (List ℕ)) × Consumes a b xs × Consumes b c ys
 Consumes-split None c xs ys h = (None, tt, tt)

@@ -34,6 +34,18 @@ front_text l es = head_text l ++ event_lines 0 es
 abbrev pub NoFault : List ℕ → Type 0
 NoFault bytes = (l : Layout) (es : List Event) (more : List ℕ) → IsLawful l → AllByRecursion (HasNames l) es → bytes ≡ front_text l es ++ more → IsLegal l.version es
 
+-- The input begins with the head and the lines of these events, which are a run, within the budget.
+pub record IsFrontText (budget : ℕ) (bytes : List ℕ) : Type 0 where
+  pub layout : Layout
+  pub events : List Event
+  pub rest : List ℕ
+  pub last : Spec
+  pub lawful : IsLawful layout
+  pub named : AllByRecursion (HasNames layout) events
+  pub text : bytes ≡ front_text layout events ++ rest
+  pub within : length (front_text layout events) ≤ budget
+  pub run : IsRun layout.version events last
+
 -- the counts of the events and of the state that they lead to
 pub record Counts (l : Layout) (es : List Event) (last : Spec) (s : Summary) : Type 0 where
   pub events : s.events ≡ length es

@@ -18,11 +18,11 @@ use Rattle.trace_core.specs.Steps.{TakesHead, TakesEvent, TakesEnd}
 use Rattle.trace_check.specs.declared.checker.Summary.{Summary}
 use Rattle.trace_check.specs.declared.checker.Verdict.{Verdict}
 use Rattle.trace_check.specs.declared.checker.Verdict.TheVariants as verdict
-use Rattle.trace_check.specs.Verdicts.{front_text, refusal, IsJust}
-use Rattle.trace_check.proofs.UnderWay.{IsUnderWay, starts_on, step_on, fails_on, ends_on, consumes_some}
+use Rattle.trace_check.specs.Verdicts.{refusal, IsJust}
+use Rattle.trace_check.proofs.UnderWay.{IsUnderWay, starts_on, step_on, fails_on, ends_on, front_read}
 use Rattle.trace_check.proofs.Unique.{exact_at}
 use Rattle.trace_events.specs.Texts.{head_text, event_text, events_text, open_text, closing_text, json_text}
-use Rattle.trace_events.specs.Written.{IsFrontText, GotFront, IsWritten, IsCutShort, Answers}
+use Rattle.trace_events.specs.Written.{GotFront, IsWritten, IsCutShort, Answers}
 
 events-push : (n : ℕ) (es : List Event) (e : Event) → events_text n (es ++ e ∷ []) ≡ events_text n es ++ event_text (n + length es) e
 unfolding events_text
@@ -50,22 +50,6 @@ front_after t0 t1 t2 h0 h1 p a k = subst (AppendsFront t0 t2) a.2 (front_behind 
 if_some : (left : Option (List ℕ)) (Holds : List ℕ → Type 0) → ((bytes : List ℕ) → left ≡ Some bytes → Holds bytes) → IfSome left Holds
 if_some None Holds h = tt
 if_some (Some bytes) Holds h = h bytes refl
-
--- the events that were read stand at the front of the input
-front_read : (budget : ℕ) (left₀ : Option (List ℕ)) (before now : ℕ) (p : Standing) (m : Moment) (count : ℕ) → IsUnderWay budget left₀ before p now m count → (bytes : List ℕ) → left₀ ≡ Some bytes → IsFrontText budget bytes
-front_read budget left₀ before now p m count u bytes told_is =
-    let b = consumes_some bytes p.rest (front_text p.layout u.events) (subst (λ o. Consumes o p.rest (front_text p.layout u.events)) told_is u.read) in
-    record {
-      layout = p.layout;
-      events = u.events;
-      rest = b.0;
-      last = spec_of m;
-      lawful = u.lawful;
-      named = u.named;
-      text = b.1;
-      within = omega (arith, u.room);
-      run = u.run;
-    }
 
 -- the sink failed within the text of these events
 cut_within : (budget : ℕ) (left₀ : Option (List ℕ)) (before now : ℕ) (p : Standing) (m : Moment) (count : ℕ) (told told' : Option (List ℕ)) → (u : IsUnderWay budget left₀ before p now m count) → AppendsFront told told' (json_text p.layout u.events) → IsCutShort budget left₀ told told'

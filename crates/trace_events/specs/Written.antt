@@ -1,29 +1,14 @@
 -- What a sink got of the events.
-use Rattle.std.specs.Prelude.{◌≡◌, ◌≢◌, ℕ, ◌⊎◌, ◌≤◌, List, [], ◌++◌, length, Result, IfSome, IfOk, OnErr}
-use Rattle.std.specs.List.{AllByRecursion}
+use Rattle.std.specs.Prelude.{◌≡◌, ◌≢◌, ℕ, ◌⊎◌, ◌≤◌, List, [], Result, IfSome, IfOk, OnErr}
 use Rattle.std.specs.Io.KnownBytes.{Appends}
 use Rattle.std.specs.declared.option.Option.{Option}
 use Rattle.firefly_outside.specs.Causes.{AppendsFront, HasCause}
 use Rattle.larch_actions.specs.declared.event.Layout.{Layout}
 use Rattle.larch_actions.specs.declared.event.Event.{Event}
-use Rattle.larch_actions.specs.Layout.{IsLawful, HasNames}
-use Rattle.larch_actions.specs.Actions.{Spec, IsRun}
 use Rattle.trace_check.specs.declared.checker.Verdict.{Verdict}
 use Rattle.trace_check.specs.declared.checker.Verdict.TheVariants.{Legal, Illegal, BadLine, TooLong, ReadFault}
-use Rattle.trace_check.specs.Verdicts.{front_text, IsJust, IsLegalText, IsIllegalText}
+use Rattle.trace_check.specs.Verdicts.{IsFrontText, IsJust, IsLegalText, IsIllegalText}
 use Rattle.trace_events.specs.Texts.{json_text}
-
--- The input begins with the head and the lines of these events, which are a run, within the budget.
-pub record IsFrontText (budget : ℕ) (bytes : List ℕ) : Type 0 where
-  pub layout : Layout
-  pub events : List Event
-  pub rest : List ℕ
-  pub last : Spec
-  pub lawful : IsLawful layout
-  pub named : AllByRecursion (HasNames layout) events
-  pub text : bytes ≡ front_text layout events ++ rest
-  pub within : length (front_text layout events) ≤ budget
-  pub run : IsRun layout.version events last
 
 -- the sink got nothing, since there is no head, or the text of events at the front of the input
 abbrev pub GotFront : ℕ → List ℕ → Option (List ℕ) → Option (List ℕ) → Type 0

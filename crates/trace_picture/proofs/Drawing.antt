@@ -18,16 +18,16 @@ use Rattle.trace_core.specs.Whole.{Flows}
 use Rattle.trace_core.proofs.Flowing.{Pending, pending_flow, pending_fault}
 use Rattle.trace_check.specs.declared.checker.Summary.{Summary}
 use Rattle.trace_check.specs.declared.checker.Verdict.TheVariants as verdict
-use Rattle.trace_check.specs.Verdicts.{front_text, refusal}
-use Rattle.trace_check.proofs.UnderWay.{IsUnderWay, few, starts_on, step_on, fails_on, ends_on, consumes_some}
+use Rattle.trace_check.specs.Verdicts.{IsFrontText, refusal}
+use Rattle.trace_check.proofs.UnderWay.{IsUnderWay, few, starts_on, step_on, fails_on, ends_on, front_read}
 use Rattle.trace_board.proofs.Behind.{behind-push, length-behind}
-use Rattle.trace_picture.specs.declared.view.View.{View}
+use Rattle.picture_marks.specs.declared.view.View.{View}
 use Rattle.trace_board.specs.Kept.{Kept, nothing_kept, kept_after, kept_since, behind}
-use Rattle.trace_picture.specs.Shapes.{with_number}
+use Rattle.picture_marks.specs.Shapes.{with_number}
 use Rattle.trace_picture.specs.Bands.{step_text, failing_text}
 use Rattle.trace_picture.specs.Picture.{head_text, steps_text, front_picture, closing_if, last_closing, end_text, failed_note, failed_picture, cut_picture}
 use Rattle.trace_picture.specs.Rings.{IsEnding}
-use Rattle.trace_picture.specs.Drawn.{IsFrontText, GotCut, IsDrawn, IsAPicture, IsCutOff}
+use Rattle.trace_picture.specs.Drawn.{GotCut, IsDrawn, IsAPicture, IsCutOff}
 
 steps-push : (l : Layout) (v : View) (past es : List Event) (e : Event)
     → steps_text l v past (es ++ e ∷ []) ≡ steps_text l v past es ++ step_text l v (kept_since (behind past es)) (length (behind past es)) e
@@ -113,23 +113,6 @@ module _ (budget : ℕ) (left₀ : Option (List ℕ)) (before now : ℕ) (p : St
         kept_is = turns ∙ (λ i. kept_after (sym n i) e (d.kept_is i)) ∙ ap kept_since (sym (behind-push [] es e));
       }
 
-  -- the events that were read stand at the front of the input
-  pub front_read : (bytes : List ℕ) → left₀ ≡ Some bytes → IsFrontText budget bytes
-  front_read bytes told_is =
-      let u = d.under_way in
-      let b = consumes_some bytes p.rest (front_text p.layout u.events) (subst (λ o. Consumes o p.rest (front_text p.layout u.events)) told_is u.read) in
-      record {
-        layout = p.layout;
-        events = u.events;
-        rest = b.0;
-        last = spec_of m;
-        lawful = u.lawful;
-        named = u.named;
-        text = b.1;
-        within = omega (arith, u.room);
-        run = u.run;
-      }
-
   ends_same : (words : List ℕ) → closing_if p.layout v k count ++ end_text p.layout v k count (with_number words count)
       ≡ last_closing p.layout v d.under_way.events ++ end_text p.layout v (kept_since (behind [] d.under_way.events)) (length d.under_way.events) (with_number words (length d.under_way.events))
   ends_same words =
@@ -170,7 +153,7 @@ module _ (budget : ℕ) (left₀ : Option (List ℕ)) (before now : ℕ) (p : St
     -- a sink that failed
     pub cut_by : (text : List ℕ) → IsAPicture p.layout v d.under_way.events text → AppendsFront told₀ told' text → (bytes : List ℕ) → left₀ ≡ Some bytes → (w : IsFrontText budget bytes) × (text : List ℕ) × IsAPicture w.layout v w.events text × AppendsFront told₀ told' text
     unfolding front_read
-    cut_by text is front bytes told_is = (front_read bytes told_is, text, is, front)
+    cut_by text is front bytes told_is = (front_read budget left₀ before now p m count d.under_way bytes told_is, text, is, front)
 
 -- the verdict on a text that can't be read, with what was drawn until then
 pub refused_drawn : (budget : ℕ) (v : View) (left₀ told₀ told' : Option (List ℕ)) (f : TextFault) → IfSome left₀ (λ bytes. GotCut budget v bytes told₀ told') → IsDrawn budget v left₀ told₀ told' (refusal f)
@@ -207,7 +190,7 @@ module _ (budget : ℕ) (left₀ : Option (List ℕ)) (before now : ℕ) (p : St
   unfolding front_read
   refused_got f text a =
       let sent = pending_sent told₀ told told' end (cut_picture p.layout v d.under_way.events) (cut_pending budget left₀ before now p m count v told₀ told kept k d end told' (subst (λ x. end ≡ kept ++ (closing_if x v k count ++ end_text x v k count (with_number (codes "the input can't be read further, events: ") count))) same_l text)) a in
-      refused_drawn budget v left₀ told₀ told' f (if_some left₀ _ (λ bytes told_is. inr (front_read budget left₀ before now p m count v told₀ told kept k d bytes told_is, sent)))
+      refused_drawn budget v left₀ told₀ told' f (if_some left₀ _ (λ bytes told_is. inr (front_read budget left₀ before now p m count d.under_way bytes told_is, sent)))
 
   pub refused_cut : end ≡ kept ++ (closing_if l v k count ++ end_text l v k count (with_number (codes "the input can't be read further, events: ") count)) → AppendsFront told told' end → IsCutOff budget v left₀ told₀ told'
   refused_cut text f =

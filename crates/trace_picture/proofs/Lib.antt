@@ -1,8 +1,4 @@
-pub mod Added
-pub mod Bars
-pub mod Digits
 pub mod Drawing
-pub mod Exact
 pub mod Lines
 pub mod Ringing
 pub mod RowsSeen

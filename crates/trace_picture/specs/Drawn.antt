@@ -1,32 +1,17 @@
 -- What a sink got of a picture.
-use Rattle.std.specs.Prelude.{◌≡◌, ℕ, ◌⊎◌, ◌≤◌, List, [], ◌++◌, length, IfSome}
-use Rattle.std.specs.List.{AllByRecursion}
+use Rattle.std.specs.Prelude.{◌≡◌, ℕ, ◌⊎◌, List, [], IfSome}
 use Rattle.std.specs.Io.KnownBytes.{Appends}
 use Rattle.std.specs.declared.option.Option.{Option}
 use Rattle.firefly_outside.specs.Causes.{AppendsFront}
 use Rattle.larch_actions.specs.declared.event.Layout.{Layout}
 use Rattle.larch_actions.specs.declared.event.Event.{Event}
 use Rattle.larch_actions.specs.declared.event.Broken.{Broken}
-use Rattle.larch_actions.specs.Layout.{IsLawful, HasNames}
-use Rattle.larch_actions.specs.Actions.{Spec, IsRun}
 use Rattle.trace_check.specs.declared.checker.Verdict.{Verdict}
 use Rattle.trace_check.specs.declared.checker.Verdict.TheVariants.{Legal, Illegal, BadLine, TooLong, ReadFault}
-use Rattle.trace_check.specs.Verdicts.{front_text, IsLegalText, IsIllegalText}
-use Rattle.trace_picture.specs.declared.view.View.{View}
+use Rattle.trace_check.specs.Verdicts.{IsFrontText, IsLegalText, IsIllegalText}
+use Rattle.picture_marks.specs.declared.view.View.{View}
 use Rattle.trace_picture.specs.Picture.{failed_picture, cut_picture}
 use Rattle.trace_picture.specs.Rings.{IsLegalPicture}
-
--- The input begins with the head and the lines of these events, which are a run, within the budget.
-pub record IsFrontText (budget : ℕ) (bytes : List ℕ) : Type 0 where
-  pub layout : Layout
-  pub events : List Event
-  pub rest : List ℕ
-  pub last : Spec
-  pub lawful : IsLawful layout
-  pub named : AllByRecursion (HasNames layout) events
-  pub text : bytes ≡ front_text layout events ++ rest
-  pub within : length (front_text layout events) ≤ budget
-  pub run : IsRun layout.version events last
 
 -- the sink got nothing, since there is no head, or the picture of events at the front of the input
 abbrev pub GotCut : ℕ → View → List ℕ → Option (List ℕ) → Option (List ℕ) → Type 0

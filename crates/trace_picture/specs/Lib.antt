@@ -1,8 +1,3 @@
-pub mod Looks
-pub mod Places
-pub mod Shapes
-pub mod Legend
-pub mod Arrows
 pub mod Lives
 pub mod Overview
 pub mod Bands

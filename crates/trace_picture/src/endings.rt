@@ -4,8 +4,8 @@ ghost use Rattle.std.specs.Io.KnownBytes.{Appends};
 ghost use Rattle.firefly_outside.specs.Causes.{HasCause, AppendsFront};
 ghost use Rattle.larch_actions.specs.Layout.{IsLawful};
 ghost use Rattle.trace_board.specs.Kept.{kept_of};
-ghost use Rattle.trace_picture.specs.Places.{is_open, height_of};
-ghost use Rattle.trace_picture.specs.Shapes.{with_number, line_of, clause_word};
+ghost use Rattle.picture_marks.specs.Places.{is_open, height_of};
+ghost use Rattle.picture_marks.specs.Shapes.{with_number, line_of, clause_word};
 ghost use Rattle.trace_picture.specs.Bands.{closing, band_start};
 ghost use Rattle.trace_picture.specs.Longest.{holds_text, holds_height};
 ghost use Rattle.trace_picture.specs.Overview.{over_height, over_style};
@@ -14,11 +14,11 @@ ghost use Rattle.trace_picture.specs.Picture.{part_text, end_text, closing_if, e
 use crate::bands::{add_closing, add_failing, top_of};
 use crate::longest::{add_holds, height_of_holds};
 use crate::overview::{add_over_style, height_of_overview};
-use crate::shapes::word_of;
-use crate::tags::{add_line, add_with_number};
-use crate::view::{View, column_of, count_bands, is_band_open};
 use firefly_outside::{Sink, SinkFault, put_all};
 use larch_actions::{Broken, Event, Layout};
+use picture_marks::shapes::word_of;
+use picture_marks::tags::{add_line, add_with_number};
+use picture_marks::view::{View, column_of, count_bands, is_band_open};
 use trace_board::board::Board;
 use trace_core::add;
 

@@ -1,13 +1,13 @@
 //! The head of a picture: the first tag, the colours, and what each mark and colour means.
 ghost use Rattle.std.specs.Prelude.{◌≡◌, ◌+◌, ◌*◌, ◌≤◌, ◌++◌, length, take, codes};
 ghost use Rattle.larch_actions.specs.Layout.{IsLawful};
-ghost use Rattle.trace_picture.specs.Shapes.{each_below, painted_text};
-ghost use Rattle.trace_picture.specs.Legend.{entry_at, life_legend};
+ghost use Rattle.picture_marks.specs.Shapes.{each_below, painted_text};
+ghost use Rattle.picture_marks.specs.Legend.{entry_at, life_legend};
 ghost use Rattle.trace_picture.specs.Picture.{style_text, pattern_text, other_words, over_words, head_text};
 
-use crate::legend::{add_entries, add_life_legend};
-use crate::shapes::add_painted;
 use larch_actions::Layout;
+use picture_marks::legend::{add_entries, add_life_legend};
+use picture_marks::shapes::add_painted;
 use trace_core::add;
 
 // Adds the first tag and the colours.

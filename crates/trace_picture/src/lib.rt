@@ -3,26 +3,19 @@
 //! and the longest hold of each mutex.
 //!
 //! Promises: `draw_trace` checks the trace as `trace_check` does, and the sink gets exactly the picture that specs/Picture.antt defines.
-//! Stands on the reader and the printer of trace_core, the state of larch_actions, the lock order, and what trace_board keeps of the events. It takes
+//! Stands on picture_marks, the reader of trace_core, the state of larch_actions, the lock order, and what trace_board keeps of the events. It takes
 //! no memory.
 //! How the picture looks is no promise.
 #![tactic(auto)]
 
-mod arrows;
 mod bands;
 mod draw;
 mod endings;
 mod head;
 pub mod laws;
-mod legend;
 mod lives;
 mod longest;
-mod numbers;
 mod overview;
 mod rings;
-pub mod shapes;
-pub mod tags;
-mod view;
 
 pub use draw::draw_trace;
-pub use view::View;

@@ -13,12 +13,12 @@ ghost use Rattle.trace_picture.specs.Rings.{ring_y, ring_text, ring_if, rings_te
 
 use crate::bands::top_of;
 use crate::endings::{add_end, add_last_closing, end_with};
-use crate::shapes::{x_of, y_of};
-use crate::tags::add_with_number;
-use crate::view::{View, column_of, is_in_view};
 use firefly_outside::{Sink, SinkFault, put_all};
 use larch_actions::{Event, Layout};
 use lock_order::{Cycle, Nested, Nestings, cycle_in};
+use picture_marks::shapes::{x_of, y_of};
+use picture_marks::tags::add_with_number;
+use picture_marks::view::{View, column_of, is_in_view};
 use trace_board::board::Board;
 use trace_core::add;
 

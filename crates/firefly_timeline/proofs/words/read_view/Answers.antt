@@ -1,6 +1,6 @@
 use Rattle.std.proofs.Common.{◌≡◌, [], ◌∷◌, map, IfNone, ap, subst, sym, ◌∙◌, arith}
 use Rattle.std.specs.String.{string_bytes}
-use Rattle.trace_picture.specs.declared.view.View.{View}
+use Rattle.picture_marks.specs.declared.view.View.{View}
 use Rattle.firefly_timeline.specs.Words.{AsksFor}
 use Rattle.firefly_timeline.proofs.Wording.{two_items, four_items}
 use Rattle.firefly_timeline.proofs.words.read_view.Goals as goal

@@ -1,7 +1,7 @@
 use Rattle.std.proofs.Common.{◌≡◌, ◌∷◌, map, IfNone, ap, subst, sym, ◌∙◌, inl, inr}
 use Rattle.std.proofs.lemmas.List.{nil_from_length}
 use Rattle.std.specs.String.{string_bytes}
-use Rattle.trace_picture.specs.declared.view.View.{View}
+use Rattle.picture_marks.specs.declared.view.View.{View}
 use Rattle.firefly_timeline.specs.Words.{AsksOrdered}
 use Rattle.firefly_timeline.proofs.Wording.{wants_none}
 use Rattle.firefly_timeline.proofs.words.read_words.Goals as goal

@@ -1,5 +1,5 @@
 use Rattle.std.proofs.Common.{rules}
-use Rattle.trace_picture.proofs.Exact.{exact_if}
+use Rattle.trace_check.proofs.Exact.{exact_if}
 use Rattle.trace_explain.proofs.explanation.explain.Goals as goal
 
 pub returns-clause-exact : goal.returns-clause-exact

@@ -1,5 +1,5 @@
 use Rattle.std.proofs.Common.{◌-◌, ◌^◌, ◌<◌, arith, rules}
-use Rattle.trace_picture.proofs.Exact.{exact_if}
+use Rattle.trace_check.proofs.Exact.{exact_if}
 use Rattle.trace_picture.proofs.draw.draw_by.Goals as goal
 
 pub returns-clause-exact : goal.returns-clause-exact

@@ -1,0 +1,5 @@
+pub mod Looks
+pub mod Places
+pub mod Shapes
+pub mod Legend
+pub mod Arrows
