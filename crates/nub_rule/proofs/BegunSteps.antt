@@ -22,12 +22,12 @@ use Rattle.nub_rule.specs.declared.view.Kind.TheVariants.{Member}
 use Rattle.nub_rule.specs.Begun.{BegunWaits}
 use Rattle.nub_rule.specs.Items.{Core, Conditions, Knows}
 use Rattle.nub_rule.specs.Parts.{MayTell, counts_in, pending_of}
-use Rattle.nub_rule.specs.Places.{bit_at, count_at, alert_at, waits_at, sem_object, cond_object}
+use Rattle.nub_rule.specs.Places.{life_at, bit_at, count_at, alert_at, waits_at, sem_object, cond_object}
 use Rattle.nub_rule.specs.Plays.{Becomes, Grows, told, with_part, event, signal_action, broadcast_action, raise_waits_tells, lower_waits_tells, read_waits_tells}
 use Rattle.nub_rule.specs.Rule.{IsKept}
 use Rattle.nub_rule.proofs.Each.{each-set, at_below, put-at, put-else}
 use Rattle.nub_rule.proofs.Members.{member_steps}
-use Rattle.nub_rule.proofs.Frames.{SameCounts, other, bits-stay, spins-stay, ready-stay, shown-stay, pen-stay, spins-frame, lines-frame, shows-frame, pens-frame, holders-frame, pendings-frame, semaphores-frame, alerts-frame, alert-seen-frame, alert-seen-stays}
+use Rattle.nub_rule.proofs.Frames.{lives-frame, lived-frame, lives-stay, SameCounts, other, bits-stay, spins-stay, ready-stay, shown-stay, pen-stay, spins-frame, lines-frame, shows-frame, pens-frame, holders-frame, pendings-frame, semaphores-frame, alerts-frame, alert-seen-frame, alert-seen-stays}
 use Rattle.nub_rule.proofs.Standing.{some_none, not_true, both_ways, mem-behind, stand_some}
 use Rattle.nub_rule.proofs.Beside.{beside}
 use Rattle.nub_rule.proofs.Owing.{owes-frame}
@@ -74,10 +74,10 @@ module _ {T H W : Type 0} (l : Layout) (traced : Bool) (w : W) (begin : W → �
   recounts : (n c x : ℕ) (p : Part T H) (raised calling : Opt ℕ) (words : List ℕ) (homes : List (Option (Slot T))) (all : List (Part T H)) → get_elem? all n ≡ some p → c < 64 → (k : Core l traced w holds words homes all)
       → BegunWaits (set words (waits_at (cond_object c)) x) (set all n (record p { raised = raised; calling = calling })) → Core l traced w holds (set words (waits_at (cond_object c)) x) homes (set all n (record p { raised = raised; calling = calling }))
   recounts n c x p raised calling words homes all at low k begun = let i : ℕ = waits_at (cond_object c) in let q : Part T H = record p { raised = raised; calling = calling } in let words' : List ℕ = set words i x in
-      beside l traced w holds words words' homes homes all n p q at (length-set words i x) refl (bits-stay words i x (λ j up z. omega arith)) (λ m. refl) record { seen = refl; mine = refl; places = refl; held = refl; share = refl } k.spinner k.writer k.queue k.owed k
+      beside l traced w holds words words' homes homes all n p q at (length-set words i x) refl (bits-stay words i x (λ j up z. omega arith)) (lives-stay words i x (λ j up z. omega arith)) (λ m. refl) record { version = refl; life = refl; seen = refl; mine = refl; places = refl; held = refl; share = refl } k.spinner k.writer k.queue k.owed k
       (spins-frame all n p q at k.spinner k.queue k.owed words words' homes homes (spins-stay words i x (λ j up z. omega arith) (λ j up z. omega arith)) (λ o lo. refl) refl refl refl k.spins)
       (lines-frame all n p q at (λ o. k.owed o ++ k.queue o) words words' k.sizes.few (ready-stay words i x (λ j up z. omega arith)) refl k.lines)
-      (shows-frame all n p q at k.spinner k.queue k.owner k.spec words words' (shown-stay words i x (λ j up z. omega arith) (λ j up z. omega arith) (λ j up z. omega arith)) refl refl refl refl k.shows)
+      (shows-frame all n p q at k.spinner k.queue k.owner k.spec words words' (shown-stay words i x (λ j up z. omega arith) (λ j up z. omega arith) (λ j up z. omega arith)) refl refl refl refl refl k.shows)
       (pens-frame all n p q at traced (length k.log) k.writer words words' (pen-stay words i x (λ z. omega arith) (λ z. omega arith)) refl k.pens)
       (alert-seen-stays all n p q at words i x k.sizes.few (λ j up z. omega arith) refl k.alert_seen)
       (owes-frame k.queue words words' all n p q at (λ j lo. other words i (bit_at j) x (λ z. omega arith)) refl refl refl k.owes)
@@ -149,7 +149,7 @@ module _ {T H W : Type 0} (l : Layout) (traced : Bool) (w : W) (begin : W → �
     nobody-counts : (j : ℕ) (r : Part T H) → get_elem? all j ≡ some r → (i : ℕ) → counts_in r.wait c i ≡ false
     nobody-counts j r at i = not_true (counts_in r.wait c i) (λ is. let u = counts-some r.wait c i is in nobody-raised j r at ((k.begun.covered j r at).member u.0 i u.1 u.3 ∙ ap (λ (z : ℕ). Some z) u.2))
 
-  read_waits_at : (action : ℕ → List ℕ → Action) (f : ℕ → Bool) (slots id c : ℕ) (me : Me (Slot T) (View T H W)) → c < 64 → me.0.kind ≡ Member → me.0.part.wait ≡ None → MayTell traced me.0.part.pen → ((t : ℕ) → f t ≡ false)
+  read_waits_at : (action : ℕ → List ℕ → Action) (f : ℕ → Bool) (slots id c : ℕ) (me : Me (Slot T) (View T H W)) → c < 64 → me.0.kind ≡ Member → me.0.part.wait ≡ None → MayTell traced me.0.part.life me.0.part.pen → ((t : ℕ) → f t ≡ false)
       → ((words : List ℕ) (homes : List (Option (Slot T))) (all : List (Part T H)) (k : Core l traced w holds words homes all) → get_elem? all me.0.number ≡ some me.0.part → IsNamed l (action c []) × Acts k.spec (event me.0.number (action c [])) (record k.spec { members = put k.spec.members c f }))
       → (i : ℕ) → i ≡ waits_at (cond_object c) → Allows (IsKept l traced w begin holds) slots id me i (λ x. x) (read_waits_tells action (step slots i 0 0 none) me)
   read_waits_at action f slots id c me low kind out may none_f acts i word = let v = me.0 in let n = v.number in let p = v.part in let o : ℕ = waits_at (cond_object c) in let e = event n (action c []) in
@@ -167,7 +167,7 @@ module _ {T H W : Type 0} (l : Layout) (traced : Bool) (w : W) (begin : W → �
       let stay : (j : ℕ) → get_or words' j 0 ≡ get_or words j 0 = λ j. ap (λ (z : List ℕ). get_or z j 0) (set-get_or words o 0) in dite (ℕ_discrete r 0)
       (λ hit.
       let done = marks l traced w holds e n o r p (λ z. told p z e) words homes all k (record k.spec { members = put k.spec.members c f }) at refl (acts words homes all k at).0 may (waits-aside c low)
-      (λ z. record { seen = refl; mine = refl; places = refl; held = refl; share = refl; spin = refl; queue = refl; owed = refl; stand = refl; pen = refl })
+      (λ z. record { version = refl; seen = refl; mine = refl; places = refl; held = refl; share = refl; spin = refl; queue = refl; owed = refl; stand = refl; pen = refl })
       (acts words homes all k at).1
       (λ z. record {
         holders = holders-frame all n p (told p z e) at k.owner k.spec.holder refl k.shows.holders;
@@ -175,9 +175,10 @@ module _ {T H W : Type 0} (l : Layout) (traced : Bool) (w : W) (begin : W → �
         semaphores = semaphores-frame k.spec.avail words words' (λ j lo. stay (bit_at (sem_object j))) k.shows.semaphores;
         alerts = alerts-frame k.spec.alerts words words' (λ j lo. stay (alert_at j)) k.shows.alerts;
         conditions = conditions-quiet words words' k.spinner k.queue k.spec.members all n p (told p z e) at k.shows.conditions c f (λ j lo. stay (count_at (cond_object j))) refl refl refl refl none_f (nobody-left c words homes all k low hit) (nobody-counts c words homes all k low hit);
-        lives = k.shows.lives;
+        lives = lived-frame all n p (told p z e) at k.spec.life refl k.shows.lives;
       })
       (λ z. alert-seen-frame all n p (told p z e) at words words' k.sizes.few (λ j lo. stay (alert_at j)) refl k.alert_seen)
+      (λ z. lives-frame all n p (told p z e) at words words' k.sizes.few (λ j lo. stay (life_at j)) refl k.lives)
       (λ z. owes-frame k.queue words words' all n p (told p z e) at (λ j lo. stay (bit_at j)) refl refl refl k.owes)
       (λ z. begun-same words words' all n p (told p z e) at (λ j lo. stay (waits_at (cond_object j))) refl refl refl k.begun) in
       (done.0, keeps, tt, done.1, inl (hit, done.2, refl)))
@@ -189,12 +190,12 @@ module _ {T H W : Type 0} (l : Layout) (traced : Bool) (w : W) (begin : W → �
         inr (miss, refl, refl),
       ))))
 
-  pub read_waits_broadcast_keeps : (slots id c : ℕ) (me : Me (Slot T) (View T H W)) (i : ℕ) → i ≡ waits_at (cond_object c) → c < 64 → c < l.conditions → me.0.kind ≡ Member → me.0.part.wait ≡ None → MayTell traced me.0.part.pen
+  pub read_waits_broadcast_keeps : (slots id c : ℕ) (me : Me (Slot T) (View T H W)) (i : ℕ) → i ≡ waits_at (cond_object c) → c < 64 → c < l.conditions → me.0.kind ≡ Member → me.0.part.wait ≡ None → MayTell traced me.0.part.life me.0.part.pen
       → Allows (IsKept l traced w begin holds) slots id me i (λ x. x) (read_waits_tells broadcast_action (step slots i 0 0 none) me)
   read_waits_broadcast_keeps slots id c me i word low named kind out may = read_waits_at broadcast_action (λ _. false) slots id c me low kind out may (λ t. refl)
-      (λ words homes all k at. (named, (record { live = k.shows.lives me.0.number; order = k.shows.pendings.pends me.0.number me.0.part at ∙ ap pending_of out; requires_met = tt; when_met = tt; choice_met = tt }, refl))) i word
+      (λ words homes all k at. (named, (record { live = k.shows.lives me.0.number me.0.part at ∙ may.0; order = k.shows.pendings.pends me.0.number me.0.part at ∙ ap pending_of out; requires_met = tt; when_met = tt; choice_met = tt }, refl))) i word
 
-  pub read_waits_signal_keeps : (slots id c : ℕ) (me : Me (Slot T) (View T H W)) (i : ℕ) → i ≡ waits_at (cond_object c) → c < 64 → c < l.conditions → me.0.kind ≡ Member → me.0.part.wait ≡ None → MayTell traced me.0.part.pen
+  pub read_waits_signal_keeps : (slots id c : ℕ) (me : Me (Slot T) (View T H W)) (i : ℕ) → i ≡ waits_at (cond_object c) → c < 64 → c < l.conditions → me.0.kind ≡ Member → me.0.part.wait ≡ None → MayTell traced me.0.part.life me.0.part.pen
       → Allows (IsKept l traced w begin holds) slots id me i (λ x. x) (read_waits_tells signal_action (step slots i 0 0 none) me)
   read_waits_signal_keeps slots id c me i word low named kind out may = read_waits_at signal_action (in_set (set_of [])) slots id c me low kind out may (λ t. in_set-of t [])
-      (λ words homes all k at. ((named, λ t is. both_ways (in_set (set_of []) t) is (in_set-of t [])), (record { live = k.shows.lives me.0.number; order = k.shows.pendings.pends me.0.number me.0.part at ∙ ap pending_of out; requires_met = tt; when_met = tt; choice_met = inl (λ t. in_set-of t []) }, refl))) i word
+      (λ words homes all k at. ((named, λ t is. both_ways (in_set (set_of []) t) is (in_set-of t [])), (record { live = k.shows.lives me.0.number me.0.part at ∙ may.0; order = k.shows.pendings.pends me.0.number me.0.part at ∙ ap pending_of out; requires_met = tt; when_met = tt; choice_met = inl (λ t. in_set-of t []) }, refl))) i word

@@ -7,7 +7,7 @@ use native.Mathlib.Decide.{ℕ_discrete}
 use prog.Atomic.{either}
 use lib.ListN.{get_elem?}
 use Rattle.larch_actions.specs.declared.event.Event.{Event}
-use Rattle.larch_actions.specs.declared.event.Version.{Version}
+use Rattle.larch_actions.specs.declared.event.Life.TheVariants.{Live}
 use Rattle.larch_actions.specs.declared.event.Action.{Action}
 use Rattle.larch_actions.specs.declared.event.Action.TheVariants.{Resume, AlertReturn}
 use Rattle.larch_actions.specs.declared.event.Layout.{Layout}
@@ -33,8 +33,8 @@ use Rattle.nub_rule.specs.Plays.{with_part, told, Grows, event, acquire_event, r
 use Rattle.nub_rule.specs.Rule.{FitsAs, IsKept}
 use Rattle.nub_rule.proofs.Each.{at_within, at_below, put-here, put-else}
 use Rattle.nub_rule.proofs.Members.{Steps, member_steps}
-use Rattle.nub_rule.proofs.Runs.{leads-snoc}
-use Rattle.nub_rule.proofs.Frames.{other, sizes-frame, told-event, spins-frame, lines-frame, ready-stay, spins-stay, shown-stay, pen-stay, alert-seen-stays, alert-seen-frame}
+use Rattle.nub_rule.proofs.Runs.{run-of, leads-snoc}
+use Rattle.nub_rule.proofs.Frames.{lives-stay, lives-frame, other, sizes-frame, told-event, spins-frame, lines-frame, ready-stay, spins-stay, shown-stay, pen-stay, alert-seen-stays, alert-seen-frame}
 use Rattle.nub_rule.proofs.Standing.{not_true, stand_none, mem-behind, lines-same}
 use Rattle.nub_rule.proofs.SpinSteps.{nobody-by, one-by}
 use Rattle.nub_rule.proofs.Penning.{either_way, pens-event, numbered-by}
@@ -64,6 +64,8 @@ by_taking n m o e may = ⊎_elim
 module _ {T H : Type 0} where
   -- the part of a thread that took the mutex m with the value x, and changed nothing else that the other items read
   pub record HasTaken (m : ℕ) (x : T) (p q : Part T H) : Type 0 where
+    pub version : q.version ≡ p.version
+    pub life : q.life ≡ p.life
     pub held : q.held ≡ set p.held m (Some x)
     pub share : q.share ≡ p.share
     pub spin : q.spin ≡ p.spin
@@ -105,7 +107,7 @@ module _ {T H W : Type 0} (l : Layout) (traced : Bool) (w : W) (begin : W → �
         owed = c.owed;
         values = c.values;
         shares = c.shares;
-        sizes = sizes-frame all n p q at l words words' homes homes' (length-set words (bit_at m) 1) (length-set homes (value_at m) none) (ap length t.held ∙ length-set p.held m (Some x)) c.sizes;
+        sizes = sizes-frame all n p q at l words words' homes homes' (length-set words (bit_at m) 1) (length-set homes (value_at m) none) t.version (ap length t.held ∙ length-set p.held m (Some x)) c.sizes;
         run = run;
         told = told';
         owned = owned-take l (holds w) c.owner c.values c.shares words homes all n m p q at c.owned wide (omega arith) inside lawful x free found t.held t.share;
@@ -114,6 +116,7 @@ module _ {T H W : Type 0} (l : Layout) (traced : Bool) (w : W) (begin : W → �
         shows = shows;
         pens = pens;
         alert_seen = alert-seen-stays all n p q at words (bit_at m) 1 c.sizes.few (λ k up z. omega arith) t.alerted c.alert_seen;
+        lives = lives-frame all n p q at words words' c.sizes.few (lives-stay words (bit_at m) 1 (λ k up z. omega arith)) t.life c.lives;
         owes = owes-try c.queue words words' all n p q at m (λ k lo ne. other words (bit_at m) (bit_at k) 1 (λ z. ne (omega arith))) (λ z. let y = get_or-set_same words (bit_at m) 1 0 (omega arith) in omega arith) t.stand t.cleared t.turns c.owes;
         begun = begun-frame words words' all n p q at (waits-stay words (bit_at m) 1 (λ j lo y. omega arith)) t.raised t.counted c.begun;
       }
@@ -122,7 +125,7 @@ module _ {T H W : Type 0} (l : Layout) (traced : Bool) (w : W) (begin : W → �
   pub bit_missed : (n m : ℕ) (p : Part T H) (words : List ℕ) (homes : List (Option (Slot T))) (all : List (Part T H)) → get_elem? all n ≡ some p → m < 192 → Core l traced w holds words homes all → get_or words (bit_at m) 0 ≢ 0 → Core l traced w holds (tried_words m words) homes (set all n (loser p m))
   bit_missed n m p words homes all at far c miss = let r : ℕ = get_or words (bit_at m) 0 in let q : Part T H = loser p m in
       subst (λ b. Core l traced w holds (set words (bit_at m) (either b 1 r)) homes (set all n q)) (sym (ne_eqb r 0 miss))
-      (still l traced w holds words homes all (bit_at m) n p q at record { seen = refl; mine = refl; places = refl; held = refl; share = refl } refl refl refl refl refl refl refl c
+      (still l traced w holds words homes all (bit_at m) n p q at record { version = refl; life = refl; seen = refl; mine = refl; places = refl; held = refl; share = refl } refl refl refl refl refl refl refl c
       (lines-same (λ k. c.owed k ++ c.queue k) (λ k. c.owed k ++ c.queue k) words words all n p q at c.sizes.few (λ t lo. refl) (λ k. refl) refl c.lines)
       (alert-seen-frame all n p q at words words c.sizes.few (λ k lo. refl) refl c.alert_seen)
       (owes-try c.queue words words all n p q at m (λ k lo ne. refl) miss refl refl refl c.owes)
@@ -141,13 +144,13 @@ module _ {T H W : Type 0} (l : Layout) (traced : Bool) (w : W) (begin : W → �
   abbrev Naming : Event → ℕ → Part T H → Type 0
   Naming e n p = (words : List ℕ) (homes : List (Option (Slot T))) (all : List (Part T H)) (c : Core l traced w holds words homes all) → get_elem? all n ≡ some p → IsNamed l e.action
 
-  taking-acquire : (m n : ℕ) (p : Part T H) → p.wait ≡ None → Taking (acquire_event n m) m n p
-  taking-acquire m n p out words homes all c at free = let idle : c.spec.pending n ≡ Nothing = c.shows.pendings.pends n p at ∙ ap pending_of out in
-      (c.spec.pending, (record { live = c.shows.lives n; order = idle; requires_met = tt; when_met = c.shows.holders.free m free; choice_met = tt }, refl), idle, (λ j ne. refl), (λ k ne. ap (λ w. waits_on w k) out), λ c k. ap (λ w. counts_in w c k) out)
+  taking-acquire : (m n : ℕ) (p : Part T H) → p.life ≡ Live → p.wait ≡ None → Taking (acquire_event n m) m n p
+  taking-acquire m n p lives out words homes all c at free = let idle : c.spec.pending n ≡ Nothing = c.shows.pendings.pends n p at ∙ ap pending_of out in
+      (c.spec.pending, (record { live = c.shows.lives n p at ∙ lives; order = idle; requires_met = tt; when_met = c.shows.holders.free m free; choice_met = tt }, refl), idle, (λ j ne. refl), (λ k ne. ap (λ w. waits_on w k) out), λ c k. ap (λ w. counts_in w c k) out)
 
   -- the thread was taken out of the condition
-  taking-second : (n : ℕ) (p : Part T H) (x : Wait) → p.wait ≡ Some x → x.member ≡ None → p.stand ≡ None → Taking (event n (taken_action x.mutex.0 (Some x))) x.mutex.0 n p
-  taking-second n p x in_wait outside apart words homes all c at free = let s = c.shows.conditions in let t = s.knows n p at in
+  taking-second : (n : ℕ) (p : Part T H) (x : Wait) → p.life ≡ Live → p.wait ≡ Some x → x.member ≡ None → p.stand ≡ None → Taking (event n (taken_action x.mutex.0 (Some x))) x.mutex.0 n p
+  taking-second n p x lives in_wait outside apart words homes all c at free = let s = c.shows.conditions in let t = s.knows n p at in
       let m : ℕ = x.mutex.0 in
       let not_counted : (c k : ℕ) → counts_in p.wait c k ≡ false = λ c k. ap (λ w. counts_in w c k) in_wait ∙ counts-none x c k outside in
       let o : ℕ = cond_object x.cond.0 in
@@ -158,20 +161,20 @@ module _ {T H W : Type 0} (l : Layout) (traced : Bool) (w : W) (begin : W → �
         f,
         either_way x.alertable
             (λ is. subst (λ (a : Action). Acts c.spec (event n a) (took c.spec m n f)) (sym (ap (λ b. cond b (AlertReturn x.mutex x.cond) (Resume x.mutex x.cond)) is))
-            (record { live = c.shows.lives n; order = pends ∙ ap (λ b. cond b (AlertWaiting x.mutex x.cond) (Waiting x.mutex x.cond)) is; requires_met = tt; when_met = (c.shows.holders.free m free, out); choice_met = tt }, refl))
+            (record { live = c.shows.lives n p at ∙ lives; order = pends ∙ ap (λ b. cond b (AlertWaiting x.mutex x.cond) (Waiting x.mutex x.cond)) is; requires_met = tt; when_met = (c.shows.holders.free m free, out); choice_met = tt }, refl))
             (λ is. subst (λ (a : Action). Acts c.spec (event n a) (took c.spec m n f)) (sym (ap (λ b. cond b (AlertReturn x.mutex x.cond) (Resume x.mutex x.cond)) is))
-            (record { live = c.shows.lives n; order = pends ∙ ap (λ b. cond b (AlertWaiting x.mutex x.cond) (Waiting x.mutex x.cond)) is; requires_met = tt; when_met = (c.shows.holders.free m free, out); choice_met = tt }, refl)),
+            (record { live = c.shows.lives n p at ∙ lives; order = pends ∙ ap (λ b. cond b (AlertWaiting x.mutex x.cond) (Waiting x.mutex x.cond)) is; requires_met = tt; when_met = (c.shows.holders.free m free, out); choice_met = tt }, refl)),
         put-here c.spec.pending n Nothing,
         (λ j ne. put-else c.spec.pending n j Nothing ne),
         (λ k ne. ap (λ w. waits_on w k) in_wait ∙ ne_eqb x.mutex.0 k (λ e. ne (sym e))),
         not_counted,
       )
 
-  taking : (m n : ℕ) (p : Part T H) (e : Event) → p.stand ≡ None → MayTake n m p.wait e → Taking (event n (taken_action m p.wait)) m n p
-  taking m n p e apart may = ⊎_elim
-      (λ (t : (p.wait ≡ None) × (e ≡ acquire_event n m)). subst (λ (o : Opt Wait). Taking (event n (taken_action m o)) m n p) (sym t.0) (taking-acquire m n p t.0))
+  taking : (m n : ℕ) (p : Part T H) (e : Event) → p.life ≡ Live → p.stand ≡ None → MayTake n m p.wait e → Taking (event n (taken_action m p.wait)) m n p
+  taking m n p e lives apart may = ⊎_elim
+      (λ (t : (p.wait ≡ None) × (e ≡ acquire_event n m)). subst (λ (o : Opt Wait). Taking (event n (taken_action m o)) m n p) (sym t.0) (taking-acquire m n p lives t.0))
       (λ (t : (x : Wait) × (p.wait ≡ Some x) × (x.mutex.0 ≡ m) × (x.member ≡ None) × (e ≡ event n (taken_action m (Some x)))).
-      subst (λ (o : Opt Wait). Taking (event n (taken_action m o)) m n p) (sym t.1) (subst (λ (k : ℕ). Taking (event n (taken_action k (Some t.0))) k n p) t.2 (taking-second n p t.0 t.1 t.3 apart)))
+      subst (λ (o : Opt Wait). Taking (event n (taken_action m o)) m n p) (sym t.1) (subst (λ (k : ℕ). Taking (event n (taken_action k (Some t.0))) k n p) t.2 (taking-second n p t.0 lives t.1 t.3 apart)))
       may
 
   -- the part of the thread that wins the mutex m with the value x
@@ -185,7 +188,7 @@ module _ {T H W : Type 0} (l : Layout) (traced : Bool) (w : W) (begin : W → �
 
   module _ (fits : W → ℕ → T → ℕ → H → Type 0)
       (law : (values : List T) (shares : List H) → holds w values shares → (m : ℕ) (x : T) → get_elem? values m ≡ some x → (t : ℕ) (s : H) → get_elem? shares t ≡ some s → fits w m x t s) where
-    tries_at : (e : Event) (n m : ℕ) (p : Part T H) (cs : List (ℕ × Slot T)) → m < l.mutexes → e.thread.0 ≡ n → p.stand ≡ None → MayTell traced p.pen → Taking e m n p → Naming e n p
+    tries_at : (e : Event) (n m : ℕ) (p : Part T H) (cs : List (ℕ × Slot T)) → m < l.mutexes → e.thread.0 ≡ n → p.stand ≡ None → MayTell traced p.life p.pen → Taking e m n p → Naming e n p
         → Steps l traced w begin holds n (bit_at m) (λ x. either (eqb x 0) 1 x) p cs (λ r q ds. ((r ≡ 0) × Wins fits e m n p cs q ds) ⊎ ((r ≢ 0) × (q ≡ record p { failed = m ∷ p.failed; turns = without m p.turns }) × (ds ≡ cs)))
     tries_at e n m p cs inside by apart may taking naming words homes all c at small = let r : ℕ = get_or words (bit_at m) 0 in let lawful = c.sizes.lawful in let ws = c.sizes.words_wide in let hs = c.sizes.homes_wide in
         let far : m < 192 = omega arith in let near : m < 64 = omega arith in dite (ℕ_discrete r 0)
@@ -210,8 +213,8 @@ module _ {T H W : Type 0} (l : Layout) (traced : Bool) (w : W) (begin : W → �
           q,
           takes (value_at m) (Value (Some x)),
           o.at_home m inside x found.1 free,
-          bit_taken n m p q x words homes all at inside c hit found.1 record { held = refl; share = refl; spin = refl; queue = refl; owed = refl; stand = refl; alerted = refl; cleared = refl; turns = refl; raised = refl; counted = λ h. counted-over p q refl h refl apart } (c.log ++ e ∷ []) spec' run told'
-              (shows-wins words words' (shown-stay words (bit_at m) 1 (λ k up z. omega arith) (λ k up z. omega arith) (λ k up z. omega arith)) c.spinner c.queue c.owner c.spec all n p q at m take.0 refl refl refl take.4 take.5 take.2 take.3 c.shows)
+          bit_taken n m p q x words homes all at inside c hit found.1 record { version = refl; life = refl; held = refl; share = refl; spin = refl; queue = refl; owed = refl; stand = refl; alerted = refl; cleared = refl; turns = refl; raised = refl; counted = λ h. counted-over p q refl h refl apart } (c.log ++ e ∷ []) spec' run told'
+              (shows-wins words words' (shown-stay words (bit_at m) 1 (λ k up z. omega arith) (λ k up z. omega arith) (λ k up z. omega arith)) c.spinner c.queue c.owner c.spec all n p q at refl m take.0 refl refl refl take.4 take.5 take.2 take.3 c.shows)
               (subst (λ (z : ℕ). Pens traced z words' c.writer (set all n q)) (sym more) (pens-event traced (length c.log) words c.writer all n p q at words' (pen-stay words (bit_at m) 1 (λ z. omega arith) (λ z. omega arith)).0 (pen-stay words (bit_at m) 1 (λ z. omega arith) (λ z. omega arith)).1 may refl c.pens)),
           inl (
             hit,
@@ -220,7 +223,7 @@ module _ {T H W : Type 0} (l : Layout) (traced : Bool) (w : W) (begin : W → �
               seen.0,
               (λ s is. let u = o.shared n p at in let f : Some u.0 ≡ Some s = sym u.1 ∙ is in let g : u.0 ≡ s = cc in law c.values c.shares o.kept m x found.1 n s (u.2 ∙ ap some g)),
               record {
-                legal = (spec', subst (λ (v : Version). IsRun v ((p.seen ++ seen.0) ++ e ∷ []) spec') c.sizes.version (subst (λ (z : List Event). IsRun l.version z spec') (sym longer) run));
+                legal = (spec', run-of l.version p.version (c.sizes.versions n p at) spec' (sym longer) run);
                 own = ap (by_thread n) longer ∙ (told'.each n q (set_here all n q (at_within all n p at))).own;
                 number = λ k is. numbered-by traced (length c.log) words c.writer all n p q at c.pens k is ∙ ap (λ (z : List Event). length z) seen.1;
               },
@@ -233,7 +236,7 @@ module _ {T H W : Type 0} (l : Layout) (traced : Bool) (w : W) (begin : W → �
         ))
         (λ miss. (loser p m, keeps, tt, bit_missed n m p words homes all at far c miss, inr (miss, refl, refl)))
 
-    try_bit_at : (slots id m : ℕ) (e : Event) (me : Me (Slot T) (View T H W)) → m < l.mutexes → me.0.kind ≡ Member → me.0.part.stand ≡ None → MayTake me.0.number m me.0.part.wait e → MayTell traced me.0.part.pen
+    try_bit_at : (slots id m : ℕ) (e : Event) (me : Me (Slot T) (View T H W)) → m < l.mutexes → me.0.kind ≡ Member → me.0.part.stand ≡ None → MayTake me.0.number m me.0.part.wait e → MayTell traced me.0.part.life me.0.part.pen
         → Allows (IsKept l traced w begin holds) slots id me (bit_at m) (λ x. either (eqb x 0) 1 x) (try_bit_tells fits (step slots (bit_at m) 0 1 none) me)
     try_bit_at slots id m e me inside kind apart may pen = let v = me.0 in let n = v.number in let p = v.part in let ev = event n (taken_action m p.wait) in member_steps l traced w begin holds slots id (bit_at m) (λ x. either (eqb x 0) 1 x) v me.1
         (λ r q ds. ((r ≡ 0) × Wins fits ev m n p me.1 q ds) ⊎ ((r ≢ 0) × (q ≡ record p { failed = m ∷ p.failed; turns = without m p.turns }) × (ds ≡ me.1))) (try_bit_tells fits (step slots (bit_at m) 0 1 none) me) kind
@@ -243,10 +246,10 @@ module _ {T H W : Type 0} (l : Layout) (traced : Bool) (w : W) (begin : W → �
           λ miss. absurd (miss u.0),
         ))
         (λ (u : (r ≢ 0) × (q ≡ record p { failed = m ∷ p.failed; turns = without m p.turns }) × (ds ≡ me.1)). ((λ hit. absurd (u.0 hit)), λ _ i. (with_part v (u.1 i), u.2 i))) t))
-        (tries_at ev n m p me.1 inside refl apart pen (taking m n p e apart may) (λ words homes all c at. taken-named l traced w holds words homes all c n p at m inside p.wait refl))
+        (tries_at ev n m p me.1 inside refl apart pen (taking m n p e pen.0 apart may) (λ words homes all c at. taken-named l traced w holds words homes all c n p at m inside p.wait refl))
 
     -- the same at a word that is this place
-    pub try_bit_keeps : (slots id m : ℕ) (e : Event) (me : Me (Slot T) (View T H W)) (i : ℕ) → i ≡ bit_at m → m < l.mutexes → me.0.kind ≡ Member → me.0.part.stand ≡ None → MayTake me.0.number m me.0.part.wait e → MayTell traced me.0.part.pen
+    pub try_bit_keeps : (slots id m : ℕ) (e : Event) (me : Me (Slot T) (View T H W)) (i : ℕ) → i ≡ bit_at m → m < l.mutexes → me.0.kind ≡ Member → me.0.part.stand ≡ None → MayTake me.0.number m me.0.part.wait e → MayTell traced me.0.part.life me.0.part.pen
         → Allows (IsKept l traced w begin holds) slots id me i (λ x. either (eqb x 0) 1 x) (try_bit_tells fits (step slots i 0 1 none) me)
     try_bit_keeps slots id m e me i word inside kind apart may pen = subst (λ (i : ℕ). Allows (IsKept l traced w begin holds) slots id me i (λ x. either (eqb x 0) 1 x) (try_bit_tells fits (step slots i 0 1 none) me)) (sym word) (try_bit_at slots id m e me inside kind apart may pen)
 
@@ -257,7 +260,7 @@ module _ {T H W : Type 0} (l : Layout) (traced : Bool) (w : W) (begin : W → �
 
   module _ (allows : W → ℕ → ℕ → T → T → H → H → Type 0)
       (law : (values : List T) (shares : List H) → holds w values shares → (m : ℕ) (x y : T) → get_elem? values m ≡ some x → (t : ℕ) (s r : H) → get_elem? shares t ≡ some s → allows w m t x y s r → holds w (set values m y) (set shares t r)) where
-    frees_at : (n m : ℕ) (p : Part T H) (cs : List (ℕ × Slot T)) (x y : T) (next : H → H) → m < l.mutexes → p.wait ≡ None → p.stand ≡ None → Got p m x → cs ≡ (value_at m, Value (Some y)) ∷ rest cs → MayTell traced p.pen → ((s : H) → p.share ≡ Some s → allows w m n x y s (next s))
+    frees_at : (n m : ℕ) (p : Part T H) (cs : List (ℕ × Slot T)) (x y : T) (next : H → H) → m < l.mutexes → p.wait ≡ None → p.stand ≡ None → Got p m x → cs ≡ (value_at m, Value (Some y)) ∷ rest cs → MayTell traced p.life p.pen → ((s : H) → p.share ≡ Some s → allows w m n x y s (next s))
         → Steps l traced w begin holds n (bit_at m) (λ _. 0) p cs (λ r q ds. (r ≡ 1) × Frees next m n p cs q ds)
     frees_at n m p cs x y next inside out apart got first may allowed words homes all c at small =
         let lawful = c.sizes.lawful in let ws = c.sizes.words_wide in let hs = c.sizes.homes_wide in
@@ -277,7 +280,7 @@ module _ {T H W : Type 0} (l : Layout) (traced : Bool) (w : W) (begin : W → �
         let held : c.spec.holder m ≡ some n = c.shows.holders.holds n p at m own ∙ ap (λ w. cond (waits_on w m) none (some n)) out in
         let idle : c.spec.pending n ≡ Nothing = c.shows.pendings.pends n p at ∙ ap pending_of out in
         let spec' : Spec = record c.spec { holder = put c.spec.holder m none } in
-        let acts : Acts c.spec e spec' = (record { live = c.shows.lives n; order = idle; requires_met = held; when_met = tt; choice_met = tt }, refl) in
+        let acts : Acts c.spec e spec' = (record { live = c.shows.lives n p at ∙ may.0; order = idle; requires_met = held; when_met = tt; choice_met = tt }, refl) in
         let run = leads-snoc (at_first l.version) c.log c.spec e spec' c.run acts in
         let told' = told-event all n p q at l c.log e refl inside longer refl placed c.told in
         let words' : List ℕ = set words (bit_at m) 0 in
@@ -297,15 +300,16 @@ module _ {T H W : Type 0} (l : Layout) (traced : Bool) (w : W) (begin : W → �
             owed = c.owed;
             values = set c.values m y;
             shares = set c.shares n u;
-            sizes = sizes-frame all n p q at l words words' homes homes' (length-set words (bit_at m) 0) (length-set homes (value_at m) (some line)) (length-set p.held m None) c.sizes;
+            sizes = sizes-frame all n p q at l words words' homes homes' (length-set words (bit_at m) 0) (length-set homes (value_at m) (some line)) refl (length-set p.held m None) c.sizes;
             run = run;
             told = told';
             owned = owned-give l (holds w) c.owner c.values c.shares words homes all n m p q at o wide (omega arith) inside lawful y u own (omega arith) (at_within c.values m x here) (at_within c.shares n s mine.2) (law c.values c.shares o.kept m x y here n s u mine.2 (allowed s mine.1)) refl refl;
             spins = spins-frame all n p q at c.spinner c.queue c.owed words words' homes homes' (spins-stay words (bit_at m) 0 (λ k up z. omega arith) (λ k up z. omega arith)) (λ k lo. set_else homes (value_at m) (queue_at k) (some line) (λ z. omega arith)) refl refl refl c.spins;
             lines = lines-frame all n p q at (λ k. c.owed k ++ c.queue k) words words' c.sizes.few (ready-stay words (bit_at m) 0 (λ k up z. omega arith)) refl c.lines;
-            shows = shows-clears words words' (shown-stay words (bit_at m) 0 (λ k up z. omega arith) (λ k up z. omega arith) (λ k up z. omega arith)) c.spinner c.queue c.owner c.spec all n p q at m (put c.spec.holder m none) refl refl refl refl (put-here c.spec.holder m none) (λ k ne. put-else c.spec.holder m k none ne) c.shows;
+            shows = shows-clears words words' (shown-stay words (bit_at m) 0 (λ k up z. omega arith) (λ k up z. omega arith) (λ k up z. omega arith)) c.spinner c.queue c.owner c.spec all n p q at refl m (put c.spec.holder m none) refl refl refl refl (put-here c.spec.holder m none) (λ k ne. put-else c.spec.holder m k none ne) c.shows;
             pens = subst (λ (z : ℕ). Pens traced z words' c.writer (set all n q)) (sym more) (pens-event traced (length c.log) words c.writer all n p q at words' (pen-stay words (bit_at m) 0 (λ z. omega arith) (λ z. omega arith)).0 (pen-stay words (bit_at m) 0 (λ z. omega arith) (λ z. omega arith)).1 may refl c.pens);
             alert_seen = alert-seen-stays all n p q at words (bit_at m) 0 c.sizes.few (λ k up z. omega arith) refl c.alert_seen;
+            lives = lives-frame all n p q at words words' c.sizes.few (lives-stay words (bit_at m) 0 (λ k up z. omega arith)) refl c.lives;
             owes = owes-clear c.queue words words' all n p q at m (λ k lo ne. other words (bit_at m) (bit_at k) 0 (λ z. ne (omega arith))) apart refl refl refl c.owes;
             begun = begun-same words words' all n p q at (waits-stay words (bit_at m) 0 (λ j lo y. omega arith)) refl refl refl c.begun;
           },
@@ -316,7 +320,7 @@ module _ {T H W : Type 0} (l : Layout) (traced : Bool) (w : W) (begin : W → �
               mine.1,
               seen.0,
               record {
-                legal = (spec', subst (λ (v : Version). IsRun v ((p.seen ++ seen.0) ++ e ∷ []) spec') c.sizes.version (subst (λ (z : List Event). IsRun l.version z spec') (sym longer) run));
+                legal = (spec', run-of l.version p.version (c.sizes.versions n p at) spec' (sym longer) run);
                 own = ap (by_thread n) longer ∙ (told'.each n q (set_here all n q (at_within all n p at))).own;
                 number = λ k is. numbered-by traced (length c.log) words c.writer all n p q at c.pens k is ∙ ap (λ (z : List Event). length z) seen.1;
               },
@@ -326,10 +330,10 @@ module _ {T H W : Type 0} (l : Layout) (traced : Bool) (w : W) (begin : W → �
           ),
         )
 
-    clear_bit_at : (after : W → ℕ → ℕ → T → T → H → H) (slots id m : ℕ) (me : Me (Slot T) (View T H W)) → m < l.mutexes → me.0.kind ≡ Member → me.0.part.wait ≡ None → me.0.part.stand ≡ None → MayTell traced me.0.part.pen → MayFree allows after m me
+    clear_bit_at : (after : W → ℕ → ℕ → T → T → H → H) (slots id m : ℕ) (me : Me (Slot T) (View T H W)) → m < l.mutexes → me.0.kind ≡ Member → me.0.part.wait ≡ None → me.0.part.stand ≡ None → MayTell traced me.0.part.life me.0.part.pen → MayFree allows after m me
         → Allows (IsKept l traced w begin holds) slots id me (bit_at m) (λ _. 0) (clear_bit_tells after (step slots (bit_at m) 0 0 none) me)
     clear_bit_at after slots id m me inside kind out apart pen may st r wide at small = let v = me.0 in let n = v.number in let p = v.part in let x : T = may.0 in let y : T = may.1 in
-        let world : v.world ≡ Some w = (subst (FitsAs l.threads r.given w begin r.all r.seat_of id v) kind (r.fits id v at)).world in
+        let world : v.world ≡ Some w = (subst (FitsAs l.version l.threads r.given w begin r.all r.seat_of id v) kind (r.fits id v at)).world in
         let next = λ (s : H). after w m n x y s in
         member_steps l traced w begin holds slots id (bit_at m) (λ _. 0) v me.1 (λ r q ds. (r ≡ 1) × Frees next m n p me.1 q ds) (clear_bit_tells after (step slots (bit_at m) 0 0 none) me) kind
         (λ r q ds world' t' k is. let t = t'.1 in let same : m ≡ k = omega arith in subst (λ (k : ℕ). Freed after k me r (with_part v q, ds)) same (
@@ -351,6 +355,6 @@ module _ {T H W : Type 0} (l : Layout) (traced : Bool) (w : W) (begin : W → �
         (frees_at n m p me.1 x y next inside out apart may.2 may.3 pen (λ s is. may.4 w s world is)) st r wide at small
 
     -- the same at a word that is this place
-    pub clear_bit_keeps : (after : W → ℕ → ℕ → T → T → H → H) (slots id m : ℕ) (me : Me (Slot T) (View T H W)) (i : ℕ) → i ≡ bit_at m → m < l.mutexes → me.0.kind ≡ Member → me.0.part.wait ≡ None → me.0.part.stand ≡ None → MayTell traced me.0.part.pen → MayFree allows after m me
+    pub clear_bit_keeps : (after : W → ℕ → ℕ → T → T → H → H) (slots id m : ℕ) (me : Me (Slot T) (View T H W)) (i : ℕ) → i ≡ bit_at m → m < l.mutexes → me.0.kind ≡ Member → me.0.part.wait ≡ None → me.0.part.stand ≡ None → MayTell traced me.0.part.life me.0.part.pen → MayFree allows after m me
         → Allows (IsKept l traced w begin holds) slots id me i (λ _. 0) (clear_bit_tells after (step slots i 0 0 none) me)
     clear_bit_keeps after slots id m me i word inside kind out apart pen may = subst (λ (i : ℕ). Allows (IsKept l traced w begin holds) slots id me i (λ _. 0) (clear_bit_tells after (step slots i 0 0 none) me)) (sym word) (clear_bit_at after slots id m me inside kind out apart pen may)

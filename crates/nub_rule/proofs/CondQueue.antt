@@ -23,7 +23,7 @@ use Rattle.nub_rule.specs.Plays.{with_part, behind, front, less, unread, recount
 use Rattle.nub_rule.specs.Rule.{IsKept}
 use Rattle.nub_rule.proofs.Each.{each-set, put-here, put-else}
 use Rattle.nub_rule.proofs.Members.{member_steps}
-use Rattle.nub_rule.proofs.Frames.{SameShown, ready-stay, spins-frame, lines-frame, semaphores-frame, alerts-frame, pens-frame, alert-seen-frame}
+use Rattle.nub_rule.proofs.Frames.{lived-frame, SameShown, ready-stay, spins-frame, lines-frame, semaphores-frame, alerts-frame, pens-frame, alert-seen-frame}
 use Rattle.nub_rule.proofs.Standing.{mem-behind, distinct-behind, without-append, without-absent, less-without, lines-push, lines-leave, lines-same}
 use Rattle.nub_rule.proofs.Spinning.{only_here}
 use Rattle.nub_rule.proofs.Showing.{pendings-put}
@@ -47,14 +47,14 @@ module _ {T H : Type 0} (words words' : List ℕ) (spinner : ℕ → Option ℕ)
       }
 
   -- a step that changes at most the conditions, and of the wait neither the mutex nor what is pending
-  shows-wait : SameShown words words' → (queue' : ℕ → List ℕ) → SameOn → pending_of q.wait ≡ pending_of p.wait → Shows words spinner queue owner spec all → Conditions words' spinner queue' spec.members (set all n q) → Shows words' spinner queue' owner spec (set all n q)
-  shows-wait ws queue' same pending s c = record {
+  shows-wait : SameShown words words' → q.life ≡ p.life → (queue' : ℕ → List ℕ) → SameOn → pending_of q.wait ≡ pending_of p.wait → Shows words spinner queue owner spec all → Conditions words' spinner queue' spec.members (set all n q) → Shows words' spinner queue' owner spec (set all n q)
+  shows-wait ws ei queue' same pending s c = record {
     holders = holders-wait spec.holder same s.holders;
     pendings = pendings-put words words' spinner queue owner all n p q at spec.pending spec.pending (s.pendings.pends n p at ∙ sym pending) (λ j ne. refl) s.pendings;
     semaphores = semaphores-frame spec.avail words words' ws.sems s.semaphores;
     alerts = alerts-frame spec.alerts words words' ws.alerts s.alerts;
     conditions = c;
-    lives = s.lives;
+    lives = lived-frame all n p q at spec.life ei s.lives;
   }
 
 same-wait : (x y : Wait) → Some x ≡ Some y → x ≡ y
@@ -86,10 +86,10 @@ module _ {T H W : Type 0} (l : Layout) (traced : Bool) (w : W) (begin : W → �
         keeps,
         tt,
         subst (λ (z : List ℕ). Core l traced w holds z homes (set all n q)) (sym (set-get_or words i 0))
-            (beside l traced w holds words words homes homes all n p q at refl refl (λ m lo. refl) (λ m. refl) record { seen = refl; mine = refl; places = refl; held = refl; share = refl } k.spinner k.writer k.queue k.owed k
+            (beside l traced w holds words words homes homes all n p q at refl refl (λ m lo. refl) (λ k lo. refl) (λ m. refl) record { version = refl; life = refl; seen = refl; mine = refl; places = refl; held = refl; share = refl } k.spinner k.writer k.queue k.owed k
             (spins-frame all n p q at k.spinner k.queue k.owed words words homes homes (λ o lo. (refl, refl)) (λ o lo. refl) refl refl refl k.spins)
             (lines-frame all n p q at (λ o. k.owed o ++ k.queue o) words words k.sizes.few (λ t lo. refl) refl k.lines)
-            (shows-wait words words k.spinner k.queue k.owner k.spec all n p q at record { counts = λ m lo. refl; sems = λ m lo. refl; alerts = λ m lo. refl } k.queue (λ m. (ap (λ z. waits_on (unread z) m) before ∙ sym (ap (λ z. waits_on z m) before), ap (λ z. open_on (unread z) m) before ∙ sym (ap (λ z. open_on z m) before))) (ap (λ z. pending_of (unread z)) before ∙ sym (ap pending_of before)) k.shows
+            (shows-wait words words k.spinner k.queue k.owner k.spec all n p q at record { counts = λ m lo. refl; sems = λ m lo. refl; alerts = λ m lo. refl } refl k.queue (λ m. (ap (λ z. waits_on (unread z) m) before ∙ sym (ap (λ z. waits_on z m) before), ap (λ z. open_on (unread z) m) before ∙ sym (ap (λ z. open_on z m) before))) (ap (λ z. pending_of (unread z)) before ∙ sym (ap pending_of before)) k.shows
             (conditions-compare words words k.spinner k.queue k.spec.members all n p q at s c j x (record x { member = None }) (λ m lo. refl) low before on stood (λ e. miss (read ∙ sym e)) (ap unread before) refl refl refl refl))
             (pens-frame all n p q at traced (length k.log) k.writer words words (refl, refl) refl k.pens)
             (alert-seen-frame all n p q at words words k.sizes.few (λ m lo. refl) refl k.alert_seen)
@@ -122,9 +122,9 @@ module _ {T H W : Type 0} (l : Layout) (traced : Bool) (w : W) (begin : W → �
         q,
         keeps,
         tt,
-        requeues_by l traced w begin holds n o p q ys (k.owed o) words homes all at far here record { seen = refl; mine = refl; places = refl; held = refl; share = refl } refl refl mine.2 refl refl k
+        requeues_by l traced w begin holds n o p q ys (k.owed o) words homes all at far here record { version = refl; life = refl; seen = refl; mine = refl; places = refl; held = refl; share = refl } refl refl mine.2 refl refl k
             (lines-push line line' words words' all n p q at k.sizes.few o st (ready-stay words (length_at o) (length ys) (λ j up z. omega arith)) is (λ j ne i. put-else k.owed o j (k.owed o) ne i ++ put-else k.queue o j ys ne i) out refl refl (λ f. f) k.lines)
-            (shows-wait words words' k.spinner k.queue k.owner k.spec all n p q at ws (put k.queue o ys) (λ m. (ap (λ z. waits_on (unread z) m) before ∙ sym (ap (λ z. waits_on z m) before), ap (λ z. open_on (unread z) m) before ∙ sym (ap (λ z. open_on z m) before))) (ap (λ z. pending_of (unread z)) before ∙ sym (ap pending_of before)) k.shows
+            (shows-wait words words' k.spinner k.queue k.owner k.spec all n p q at ws refl (put k.queue o ys) (λ m. (ap (λ z. waits_on (unread z) m) before ∙ sym (ap (λ z. waits_on z m) before), ap (λ z. open_on (unread z) m) before ∙ sym (ap (λ z. open_on z m) before))) (ap (λ z. pending_of (unread z)) before ∙ sym (ap pending_of before)) k.shows
             (conditions-push words words' k.spinner k.queue k.spec.members all n p q at k.shows.conditions c me_wait x' ys ws.counts mine.0 (only_here k.spinner k.queue k.owed words homes all n p q at k.spins o here) before on stood (ap unread before) refl refl refl refl now))
             (owes-queued k.queue (put k.queue o ys) words words' all n p q at o (length-gates o far words (length ys)) (omega arith) (λ j ne. put-else k.queue o j ys ne) out st refl (λ f. f) refl refl k.owes)
             refl
@@ -157,9 +157,9 @@ module _ {T H W : Type 0} (l : Layout) (traced : Bool) (w : W) (begin : W → �
         q,
         keeps,
         tt,
-        requeues_by l traced w begin holds n o p q ys zs words homes all at far here record { seen = refl; mine = refl; places = refl; held = refl; share = refl } refl refl refl refl refl k
+        requeues_by l traced w begin holds n o p q ys zs words homes all at far here record { version = refl; life = refl; seen = refl; mine = refl; places = refl; held = refl; share = refl } refl refl refl refl refl k
             (lines-same line line' words words' all n p q at k.sizes.few (ready-stay words (length_at o) (length ys) (λ j up z. omega arith)) same refl k.lines)
-            (shows-wait words words' k.spinner k.queue k.owner k.spec all n p q at ws (put k.queue o ys) (λ m. (refl, refl)) refl k.shows (conditions-pop words words' k.spinner k.queue k.spec.members all n p q at k.shows.conditions c ys ws.counts mine.0 out refl refl refl taken))
+            (shows-wait words words' k.spinner k.queue k.owner k.spec all n p q at ws refl (put k.queue o ys) (λ m. (refl, refl)) refl k.shows (conditions-pop words words' k.spinner k.queue k.spec.members all n p q at k.shows.conditions c ys ws.counts mine.0 out refl refl refl taken))
             (owes-beside k.queue (put k.queue o ys) words words' all n p q at (length-gates o far words (length ys)) (λ j lo. put-else k.queue o j ys (λ z. omega arith)) refl refl refl k.owes)
             refl
             (λ h. counted-same p q refl h refl refl),
@@ -196,9 +196,9 @@ module _ {T H W : Type 0} (l : Layout) (traced : Bool) (w : W) (begin : W → �
         q,
         keeps,
         tt,
-        requeues_by l traced w begin holds n o p q ys (k.owed o) words homes all at far here record { seen = refl; mine = refl; places = refl; held = refl; share = refl } refl refl mine.2 refl refl k
+        requeues_by l traced w begin holds n o p q ys (k.owed o) words homes all at far here record { version = refl; life = refl; seen = refl; mine = refl; places = refl; held = refl; share = refl } refl refl mine.2 refl refl k
             (lines-leave line line' words words' all n p q at k.sizes.few o (ready-stay words (length_at o) (length ys) (λ j up z. omega arith)) is (λ j ne i. put-else k.owed o j (k.owed o) ne i ++ put-else k.queue o j ys ne i) lined refl k.lines)
-            (shows-wait words words' k.spinner k.queue k.owner k.spec all n p q at ws (put k.queue o ys) (λ m. (ap (λ z. waits_on (recounted p.count z) m) before ∙ sym (ap (λ z. waits_on z m) before), ap (λ z. open_on (recounted p.count z) m) before ∙ sym (ap (λ z. open_on z m) before))) (ap (λ z. pending_of (recounted p.count z)) before ∙ sym (ap pending_of before)) k.shows
+            (shows-wait words words' k.spinner k.queue k.owner k.spec all n p q at ws refl (put k.queue o ys) (λ m. (ap (λ z. waits_on (recounted p.count z) m) before ∙ sym (ap (λ z. waits_on z m) before), ap (λ z. open_on (recounted p.count z) m) before ∙ sym (ap (λ z. open_on z m) before))) (ap (λ z. pending_of (recounted p.count z)) before ∙ sym (ap pending_of before)) k.shows
             (conditions-leave words words' k.spinner k.queue k.spec.members all n p q at k.shows.conditions c me_wait x' ys ws.counts mine.0 (only_here k.spinner k.queue k.owed words homes all n p q at k.spins o here) before on (ap (recounted p.count) before) on refl refl refl refl mine.1 distinct queued now))
             (owes-unqueued k.queue (put k.queue o ys) words words' all n p q at o (length-gates o far words (length ys)) (omega arith) (λ j ne. put-else k.queue o j ys ne) ((k.lines.stands n p at).lined o lined).0 refl refl refl k.owes)
             refl

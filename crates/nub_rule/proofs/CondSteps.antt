@@ -22,12 +22,12 @@ use Rattle.nub_rule.specs.declared.view.Wait.{Wait}
 use Rattle.nub_rule.specs.declared.view.Kind.TheVariants.{Member}
 use Rattle.nub_rule.specs.Items.{Core, Holders, Shows, Distinct}
 use Rattle.nub_rule.specs.Parts.{Got, MayTell, pending_of, waits_on, open_on}
-use Rattle.nub_rule.specs.Places.{bit_at, count_at, alert_at, value_at, waits_at, sem_object, cond_object}
+use Rattle.nub_rule.specs.Places.{life_at, bit_at, count_at, alert_at, value_at, waits_at, sem_object, cond_object}
 use Rattle.nub_rule.specs.Plays.{Becomes, Grows, told, with_part, behind, event, begun_wait, enqueue_event, signal_action, broadcast_action, load_count_tells, know_count_tells, advance_tells}
 use Rattle.nub_rule.specs.Rule.{IsKept}
 use Rattle.nub_rule.proofs.Each.{each-set, put-here, put-else}
 use Rattle.nub_rule.proofs.Members.{Steps, member_steps}
-use Rattle.nub_rule.proofs.Frames.{SameShown, other, pendings-frame, holders-frame, semaphores-frame, alerts-frame, alert-seen-stays, alert-seen-frame}
+use Rattle.nub_rule.proofs.Frames.{lives-frame, lives-stay, lived-frame, SameShown, other, pendings-frame, holders-frame, semaphores-frame, alerts-frame, alert-seen-stays, alert-seen-frame}
 use Rattle.nub_rule.proofs.Standing.{distinct-behind, mem-behind}
 use Rattle.nub_rule.proofs.Beside.{idle}
 use Rattle.nub_rule.proofs.Owing.{owes-frame}
@@ -89,15 +89,15 @@ module _ {T H : Type 0} (words words' : List ℕ) (spinner : ℕ → Option ℕ)
 
   -- the thread n, which has the mutex m, begins the wait w with the count k of c
   shows-enter : (m c k : ℕ) (w : Wait) → c < 64 → SameShown words words' → k ≡ get_or words (count_at (cond_object c)) 0 → owner m ≡ some n → w.mutex.0 ≡ m → ((k : ℕ) → open_on (Some w) k ≡ false) → w.cond.0 ≡ c → w.member ≡ Some k
-      → p.wait ≡ None → q.wait ≡ Some w → q.left ≡ p.left → q.queue ≡ p.queue → q.count ≡ p.count → p.left ≡ p.queue
+      → q.life ≡ p.life → p.wait ≡ None → q.wait ≡ Some w → q.left ≡ p.left → q.queue ≡ p.queue → q.count ≡ p.count → p.left ≡ p.queue
       → Shows words spinner queue owner spec all → Shows words' spinner queue owner (entered spec n m c w) (set all n q)
-  shows-enter m c k w low ws read own on_mutex shut on_cond stood before ew el eq ec even s = record {
+  shows-enter m c k w low ws read own on_mutex shut on_cond stood ei before ew el eq ec even s = record {
     holders = holders-enter spec.holder m w own before ew on_mutex shut s.holders;
     pendings = pendings-put words words' spinner queue owner all n p q at spec.pending (put spec.pending n (pending_of (Some w))) (put-here spec.pending n (pending_of (Some w)) ∙ ap pending_of (sym ew)) (λ j ne. put-else spec.pending n j (pending_of (Some w)) ne) s.pendings;
     semaphores = semaphores-frame spec.avail words words' ws.sems s.semaphores;
     alerts = alerts-frame spec.alerts words words' ws.alerts s.alerts;
     conditions = conditions-enter words words' spinner queue spec.members all n p q at s.conditions c k w low ws.counts read on_cond stood before ew el eq ec even;
-    lives = s.lives;
+    lives = lived-frame all n p q at spec.life ei s.lives;
   }
 
 module _ {T H W : Type 0} (l : Layout) (traced : Bool) (w : W) (begin : W → ℕ → H) (holds : W → List T → List H → Type 0) where
@@ -105,7 +105,7 @@ module _ {T H W : Type 0} (l : Layout) (traced : Bool) (w : W) (begin : W → �
   abbrev after_load : Bool → ℕ → ℕ → ℕ → ℕ → Part T H → List Event → Part T H
   after_load alertable n m c r p z = record (told p z (enqueue_event alertable n m c)) { wait = Some (begun_wait alertable m c r) }
 
-  loads_at : (alertable : Bool) (n m c : ℕ) (p : Part T H) (cs : List (ℕ × Slot T)) (x : T) → c < 64 → (m < l.mutexes) × (c < l.conditions) → Got p m x → p.wait ≡ None → p.left ≡ p.queue → p.raised ≡ Some c → MayTell traced p.pen
+  loads_at : (alertable : Bool) (n m c : ℕ) (p : Part T H) (cs : List (ℕ × Slot T)) (x : T) → c < 64 → (m < l.mutexes) × (c < l.conditions) → Got p m x → p.wait ≡ None → p.left ≡ p.queue → p.raised ≡ Some c → MayTell traced p.life p.pen
       → Steps l traced w begin holds n (count_at (cond_object c)) (λ x. x) p cs (λ r q ds. Learns (enqueue_event alertable n m c) n p (after_load alertable n m c r p) q × (ds ≡ cs))
   loads_at alertable n m c p cs x low named got out even raised may words homes all k at small =
       let i : ℕ = count_at (cond_object c) in
@@ -119,10 +119,11 @@ module _ {T H W : Type 0} (l : Layout) (traced : Bool) (w : W) (begin : W → �
       let free : k.spec.pending n ≡ Nothing = k.shows.pendings.pends n p at ∙ ap pending_of out in
       let b = begun_wait alertable m c r in
       let done = marks l traced w holds e n i r p (after_load alertable n m c r p) words homes all k (entered k.spec n m c b) at (by_whom alertable n m c) (named_so alertable n m c named) may (count-aside c low)
-      (λ z. record { seen = refl; mine = refl; places = refl; held = refl; share = refl; spin = refl; queue = refl; owed = refl; stand = refl; pen = refl })
-      (enters alertable n m c r k.spec (k.shows.lives n) free held)
-      (λ z. shows-enter words words' k.spinner k.queue k.owner k.spec all n p (after_load alertable n m c r p z) at m c r b low (record { counts = λ j lo. stay (count_at (cond_object j)); sems = λ j lo. stay (bit_at (sem_object j)); alerts = λ j lo. stay (alert_at j) }) refl own refl (λ _. refl) refl refl out refl refl refl refl even k.shows)
+      (λ z. record { version = refl; seen = refl; mine = refl; places = refl; held = refl; share = refl; spin = refl; queue = refl; owed = refl; stand = refl; pen = refl })
+      (enters alertable n m c r k.spec (k.shows.lives n p at ∙ may.0) free held)
+      (λ z. shows-enter words words' k.spinner k.queue k.owner k.spec all n p (after_load alertable n m c r p z) at m c r b low (record { counts = λ j lo. stay (count_at (cond_object j)); sems = λ j lo. stay (bit_at (sem_object j)); alerts = λ j lo. stay (alert_at j) }) refl own refl (λ _. refl) refl refl refl out refl refl refl refl even k.shows)
       (λ z. alert-seen-frame all n p (after_load alertable n m c r p z) at words words' k.sizes.few (λ j lo. stay (alert_at j)) refl k.alert_seen)
+      (λ z. lives-frame all n p (after_load alertable n m c r p z) at words words' k.sizes.few (λ j lo. stay (life_at j)) refl k.lives)
       (λ z. owes-frame k.queue words words' all n p (after_load alertable n m c r p z) at (λ j lo. stay (bit_at j)) refl refl refl k.owes)
       (λ z. begun-frame words words' all n p (after_load alertable n m c r p z) at (λ j lo. stay (waits_at (cond_object j))) refl (λ h. counted-begun p (after_load alertable n m c r p z) refl h c b raised out refl refl refl) k.begun) in
       (done.0, keeps, tt, done.1, (done.2, refl))
@@ -134,7 +135,7 @@ module _ {T H W : Type 0} (l : Layout) (traced : Bool) (w : W) (begin : W → �
       named_so true n m c h = h
       named_so false n m c h = h
 
-  load_count_at : (alertable : Bool) (slots id m c : ℕ) (s : Slot T) (me : Me (Slot T) (View T H W)) (x : T) → c < 64 → (m < l.mutexes) × (c < l.conditions) → me.0.kind ≡ Member → me.1 ≡ (value_at m, s) ∷ rest me.1 → Got me.0.part m x → me.0.part.wait ≡ None → me.0.part.left ≡ me.0.part.queue → me.0.part.raised ≡ Some c → MayTell traced me.0.part.pen
+  load_count_at : (alertable : Bool) (slots id m c : ℕ) (s : Slot T) (me : Me (Slot T) (View T H W)) (x : T) → c < 64 → (m < l.mutexes) × (c < l.conditions) → me.0.kind ≡ Member → me.1 ≡ (value_at m, s) ∷ rest me.1 → Got me.0.part m x → me.0.part.wait ≡ None → me.0.part.left ≡ me.0.part.queue → me.0.part.raised ≡ Some c → MayTell traced me.0.part.life me.0.part.pen
       → Allows (IsKept l traced w begin holds) slots id me (count_at (cond_object c)) (λ x. x) (load_count_tells alertable (step slots (count_at (cond_object c)) 0 0 none) me)
   load_count_at alertable slots id m c s me x low named kind first got out even raised may = let v = me.0 in let n = v.number in let p = v.part in let i : ℕ = count_at (cond_object c) in
       member_steps l traced w begin holds slots id i (λ x. x) v me.1 (λ r q ds. Learns (enqueue_event alertable n m c) n p (after_load alertable n m c r p) q × (ds ≡ me.1)) (load_count_tells alertable (step slots i 0 0 none) me) kind
@@ -146,7 +147,7 @@ module _ {T H W : Type 0} (l : Layout) (traced : Bool) (w : W) (begin : W → �
       (loads_at alertable n m c p me.1 x low named got out even raised may)
 
   -- the same at a word that is this place
-  pub load_count_keeps : (alertable : Bool) (slots id m c : ℕ) (s : Slot T) (me : Me (Slot T) (View T H W)) (x : T) (i : ℕ) → i ≡ count_at (cond_object c) → c < 64 → (m < l.mutexes) × (c < l.conditions) → me.0.kind ≡ Member → me.1 ≡ (value_at m, s) ∷ rest me.1 → Got me.0.part m x → me.0.part.wait ≡ None → me.0.part.left ≡ me.0.part.queue → me.0.part.raised ≡ Some c → MayTell traced me.0.part.pen
+  pub load_count_keeps : (alertable : Bool) (slots id m c : ℕ) (s : Slot T) (me : Me (Slot T) (View T H W)) (x : T) (i : ℕ) → i ≡ count_at (cond_object c) → c < 64 → (m < l.mutexes) × (c < l.conditions) → me.0.kind ≡ Member → me.1 ≡ (value_at m, s) ∷ rest me.1 → Got me.0.part m x → me.0.part.wait ≡ None → me.0.part.left ≡ me.0.part.queue → me.0.part.raised ≡ Some c → MayTell traced me.0.part.life me.0.part.pen
       → Allows (IsKept l traced w begin holds) slots id me i (λ x. x) (load_count_tells alertable (step slots i 0 0 none) me)
   load_count_keeps alertable slots id m c s me x i word low named kind first got out even raised may = subst (λ (i : ℕ). Allows (IsKept l traced w begin holds) slots id me i (λ x. x) (load_count_tells alertable (step slots i 0 0 none) me)) (sym word) (load_count_at alertable slots id m c s me x low named kind first got out even raised may)
 
@@ -162,7 +163,7 @@ module _ {T H W : Type 0} (l : Layout) (traced : Bool) (w : W) (begin : W → �
   know_count_keeps slots id c me i word low kind here = subst (λ (i : ℕ). Allows (IsKept l traced w begin holds) slots id me i (λ x. x) (know_count_tells (step slots i 0 0 none) me)) (sym word) (know_count_at slots id c me low kind here)
 
   -- an event by which the count of c is advanced, and ys are left
-  advances_at : (n c : ℕ) (e : Event) (ys : List ℕ) (f : ℕ → Bool) (p : Part T H) (cs : List (ℕ × Slot T)) → c < 64 → p.spin ≡ Some (cond_object c) → p.wait ≡ None → p.count < 18446744073709551615 → MayTell traced p.pen → e.thread.0 ≡ n
+  advances_at : (n c : ℕ) (e : Event) (ys : List ℕ) (f : ℕ → Bool) (p : Part T H) (cs : List (ℕ × Slot T)) → c < 64 → p.spin ≡ Some (cond_object c) → p.wait ≡ None → p.count < 18446744073709551615 → MayTell traced p.life p.pen → e.thread.0 ≡ n
       → ((t : ℕ) → f t ≡ mem t ys) → ((t : ℕ) → mem t p.left ≡ false → mem t ys ≡ false)
       → ((words : List ℕ) (homes : List (Option (Slot T))) (all : List (Part T H)) (k : Core l traced w holds words homes all) → get_elem? all n ≡ some p → IsNamed l e.action × Acts k.spec e (record k.spec { members = put k.spec.members c f }))
       → Steps l traced w begin holds n (count_at (cond_object c)) (λ x. (x + 1) % 2 ^ 64) p cs (λ r q ds. (r ≡ p.count) × Distinct p.queue × Learns e n p (λ z. record (told p z e) { left = ys; count = p.count + 1; calling = None }) q × (ds ≡ cs))
@@ -178,7 +179,7 @@ module _ {T H W : Type 0} (l : Layout) (traced : Bool) (w : W) (begin : W → �
       let wide = k.sizes.words_wide in
       let after : List Event → Part T H = λ z. record (told p z e) { left = ys; count = p.count + 1; calling = None } in
       let done = marks l traced w holds e n i v p after words homes all k (record k.spec { members = put k.spec.members c f }) at by (acts words homes all k at).0 may (count-aside c low)
-      (λ z. record { seen = refl; mine = refl; places = refl; held = refl; share = refl; spin = refl; queue = refl; owed = refl; stand = refl; pen = refl })
+      (λ z. record { version = refl; seen = refl; mine = refl; places = refl; held = refl; share = refl; spin = refl; queue = refl; owed = refl; stand = refl; pen = refl })
       (acts words homes all k at).1
       (λ z. record {
         holders = holders-frame all n p (after z) at k.owner k.spec.holder refl k.shows.holders;
@@ -187,14 +188,15 @@ module _ {T H W : Type 0} (l : Layout) (traced : Bool) (w : W) (begin : W → �
         alerts = alerts-frame k.spec.alerts words words' (λ j lo. other words i (alert_at j) v (λ z. omega arith)) k.shows.alerts;
         conditions = conditions-advance words words' k.spinner k.queue k.spec.members all n p (after z) at s c ys f low (λ j lo ne. other words i (count_at (cond_object j)) v (λ z. ne (omega arith))) (get_or-set_same words i v 0 (omega arith) ∙ up)
             spins.0 (only_here k.spinner k.queue k.owed words homes all n p (after z) at k.spins (cond_object c) here) out refl refl refl is less;
-        lives = k.shows.lives;
+        lives = lived-frame all n p (after z) at k.spec.life refl k.shows.lives;
       })
       (λ z. alert-seen-stays all n p (after z) at words i v k.sizes.few (λ j lo z. omega arith) refl k.alert_seen)
+      (λ z. lives-frame all n p (after z) at words words' k.sizes.few (lives-stay words i v (λ j lo z. omega arith)) refl k.lives)
       (λ z. owes-frame k.queue words words' all n p (after z) at (λ j lo. other words i (bit_at j) v (λ z. omega arith)) refl refl refl k.owes)
       (λ z. begun-same words words' all n p (after z) at (waits-stay words i v (λ j lo y. omega arith)) refl refl refl k.begun) in
       (done.0, keeps, tt, done.1, (sym known, subst Distinct (sym spins.1) (distinct-behind (k.owed (cond_object c)) (k.queue (cond_object c)) (k.lines.distinct (cond_object c))), done.2, refl))
 
-  advance_at : (leave : List ℕ → List ℕ) (action : ℕ → List ℕ → Action) (f : ℕ → Bool) (slots id c : ℕ) (me : Me (Slot T) (View T H W)) → c < 64 → me.0.kind ≡ Member → me.0.part.spin ≡ Some (cond_object c) → me.0.part.wait ≡ None → me.0.part.count < 18446744073709551615 → MayTell traced me.0.part.pen
+  advance_at : (leave : List ℕ → List ℕ) (action : ℕ → List ℕ → Action) (f : ℕ → Bool) (slots id c : ℕ) (me : Me (Slot T) (View T H W)) → c < 64 → me.0.kind ≡ Member → me.0.part.spin ≡ Some (cond_object c) → me.0.part.wait ≡ None → me.0.part.count < 18446744073709551615 → MayTell traced me.0.part.life me.0.part.pen
       → ((t : ℕ) → f t ≡ mem t (leave me.0.part.queue)) → ((t : ℕ) → mem t me.0.part.left ≡ false → mem t (leave me.0.part.queue) ≡ false)
       → ((words : List ℕ) (homes : List (Option (Slot T))) (all : List (Part T H)) (k : Core l traced w holds words homes all) → get_elem? all me.0.number ≡ some me.0.part → IsNamed l (action c (leave me.0.part.queue)) × Acts k.spec (event me.0.number (action c (leave me.0.part.queue))) (record k.spec { members = put k.spec.members c f }))
       → (i : ℕ) → i ≡ count_at (cond_object c) → Allows (IsKept l traced w begin holds) slots id me i (λ x. (x + 1) % 2 ^ 64) (advance_tells leave action (step slots i 1 0 none) me)
@@ -207,12 +209,12 @@ module _ {T H W : Type 0} (l : Layout) (traced : Bool) (w : W) (begin : W → �
       (t.0, t.1, t.2.0, t.2.1, λ j. (with_part v (t.2.2 j), t.3 j)))
       (advances_at n c (event n (action c ys)) ys f p me.1 low here out more may refl is less acts))
 
-  pub advance_broadcast_keeps : (slots id c : ℕ) (me : Me (Slot T) (View T H W)) (i : ℕ) → i ≡ count_at (cond_object c) → c < 64 → c < l.conditions → me.0.kind ≡ Member → me.0.part.spin ≡ Some (cond_object c) → me.0.part.wait ≡ None → me.0.part.count < 18446744073709551615 → MayTell traced me.0.part.pen
+  pub advance_broadcast_keeps : (slots id c : ℕ) (me : Me (Slot T) (View T H W)) (i : ℕ) → i ≡ count_at (cond_object c) → c < 64 → c < l.conditions → me.0.kind ≡ Member → me.0.part.spin ≡ Some (cond_object c) → me.0.part.wait ≡ None → me.0.part.count < 18446744073709551615 → MayTell traced me.0.part.life me.0.part.pen
       → Allows (IsKept l traced w begin holds) slots id me i (λ x. (x + 1) % 2 ^ 64) (advance_tells (λ _. []) broadcast_action (step slots i 1 0 none) me)
   advance_broadcast_keeps slots id c me i word low named kind here out more may = advance_at (λ _. []) broadcast_action (λ _. false) slots id c me low kind here out more may (λ t. refl) (λ t is. refl)
-      (λ words homes all k at. (named, (record { live = k.shows.lives me.0.number; order = k.shows.pendings.pends me.0.number me.0.part at ∙ ap pending_of out; requires_met = tt; when_met = tt; choice_met = tt }, refl))) i word
+      (λ words homes all k at. (named, (record { live = k.shows.lives me.0.number me.0.part at ∙ may.0; order = k.shows.pendings.pends me.0.number me.0.part at ∙ ap pending_of out; requires_met = tt; when_met = tt; choice_met = tt }, refl))) i word
 
-  pub advance_signal_keeps : (slots id c : ℕ) (me : Me (Slot T) (View T H W)) (i : ℕ) → i ≡ count_at (cond_object c) → c < 64 → c < l.conditions → me.0.kind ≡ Member → me.0.part.spin ≡ Some (cond_object c) → me.0.part.wait ≡ None → me.0.part.left ≡ me.0.part.queue → me.0.part.count < 18446744073709551615 → MayTell traced me.0.part.pen
+  pub advance_signal_keeps : (slots id c : ℕ) (me : Me (Slot T) (View T H W)) (i : ℕ) → i ≡ count_at (cond_object c) → c < 64 → c < l.conditions → me.0.kind ≡ Member → me.0.part.spin ≡ Some (cond_object c) → me.0.part.wait ≡ None → me.0.part.left ≡ me.0.part.queue → me.0.part.count < 18446744073709551615 → MayTell traced me.0.part.life me.0.part.pen
       → Allows (IsKept l traced w begin holds) slots id me i (λ x. (x + 1) % 2 ^ 64) (advance_tells behind signal_action (step slots i 1 0 none) me)
   advance_signal_keeps slots id c me i word low named kind here out even more may = let n = me.0.number in let p = me.0.part in let ys : List ℕ = behind p.queue in
       advance_at behind signal_action (in_set (set_of ys)) slots id c me low kind here out more may (λ t. in_set-of t ys) (λ t off. less-behind t p.queue (ap (mem t) (sym even) ∙ off))
@@ -226,7 +228,7 @@ module _ {T H W : Type 0} (l : Layout) (traced : Bool) (w : W) (begin : W → �
         (named, people),
         (
           record {
-            live = k.shows.lives n;
+            live = k.shows.lives n p at ∙ may.0;
             order = k.shows.pendings.pends n p at ∙ ap pending_of out;
             requires_met = tt;
             when_met = tt;

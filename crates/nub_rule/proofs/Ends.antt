@@ -1,6 +1,6 @@
 -- The rule at the start, and what it leaves at the end.
 use Rattle.std.proofs.Common.{cond, Bool, false, true, Option as Opt, ◌≡◌, ◌≢◌, ℕ, zero, suc, ◌+◌, ◌-◌, ◌<◌, ◌≤◌, List, [], ◌∷◌, ◌++◌, map, length, get_or, set, replicate, refl, sym, ap, ap₂, ◌∙◌, subst, subst₂, inl, arith, length-append, append_assoc, Some, None, zero-add, ⊎_elim}
-use Rattle.std.proofs.lemmas.List.{length-replicate, replicate_more, length-map, map-append, get_or-set_other}
+use Rattle.std.proofs.lemmas.List.{length-replicate, replicate_more, length-map, map-append, get_or-set_other, get_or-set_same}
 use Rattle.std.proofs.lemmas.List.FromFn.{length-map-range_with_len}
 use mathlib.Core.Option.{Option, some, none, some-injective, some-ne-none}
 use mathlib.Core.Logic.{dite}
@@ -10,32 +10,37 @@ use native.Mathlib.Decide.{ℕ_discrete}
 use lib.ListN.{get_elem?}
 use Rattle.larch_actions.specs.declared.event.Layout.{Layout}
 use Rattle.larch_actions.specs.declared.event.Version.{Version}
-use Rattle.larch_actions.specs.declared.event.Version.TheVariants.{One}
-use Rattle.larch_actions.specs.Layout.{IsLawful}
+use Rattle.larch_actions.specs.declared.event.Version.TheVariants.{One, Two}
+use Rattle.larch_actions.specs.declared.event.Event.{Event}
+use Rattle.larch_actions.specs.declared.event.Action.{Action}
+use Rattle.larch_actions.specs.declared.event.Action.TheVariants.{Fork, End}
+use Rattle.larch_actions.specs.declared.event.ThreadId.{ThreadId}
+use Rattle.larch_actions.specs.declared.event.Life.{Life}
+use Rattle.larch_actions.specs.declared.event.Life.TheVariants.{Unborn, Live, Ended}
+use Rattle.larch_actions.specs.Layout.{IsLawful, IsNamed}
 use Rattle.larch_actions.specs.declared.event.Pending.TheVariants.{Nothing}
-use Rattle.larch_actions.specs.Actions.{at_first, lives_at_first, AreOver}
-use Rattle.larch_actions.proofs.Names.{few_in_one}
+use Rattle.larch_actions.specs.Actions.{Spec, Leads, acted, at_first, lives_at_first, AreOver}
 use Rattle.atomic_table.specs.Table.{opening, Final, Seen}
 use Rattle.atomic_table.proofs.Lists.{at_map, at_longer}
 use Rattle.nub_rule.specs.declared.rule.Slot.{Slot}
 use Rattle.nub_rule.specs.declared.rule.Slot.TheVariants.{Value, Queue}
 use Rattle.nub_rule.specs.declared.view.Part.{Part}
 use Rattle.nub_rule.specs.declared.view.View.{View}
-use Rattle.nub_rule.specs.declared.view.Kind.TheVariants.{Collector}
-use Rattle.nub_rule.specs.Items.{line_of, no_line, Knows, Spinning, Each, Chronicle, Standing, Stands, Current, Wide, Shared, PenFits}
-use Rattle.nub_rule.specs.Parts.{Got, Lacks, fresh, pending_of, waits_on, open_on}
+use Rattle.nub_rule.specs.declared.view.Kind.TheVariants.{Collector, Member}
+use Rattle.nub_rule.specs.Items.{line_of, no_line, HasVersion, Knows, Spinning, Each, Chronicle, Standing, Stands, Current, Wide, Shared, PenFits}
+use Rattle.nub_rule.specs.Parts.{Got, Lacks, first_part, fresh, number_of, pending_of, waits_on, open_on}
 use Rattle.nub_rule.specs.Owed.{SleepsSound}
 use Rattle.nub_rule.specs.Begun.{IsCounted}
-use Rattle.nub_rule.specs.Places.{most_threads, value_at, word_count, bit_at, spin_at, length_at, count_at, waits_at, alert_at, ready_at, pen_at, number_at, sem_object, cond_object}
-use Rattle.nub_rule.specs.Rule.{opening_view, member_view, FitsAs, IsKept}
+use Rattle.nub_rule.specs.Places.{most_threads, value_at, word_count, bit_at, spin_at, length_at, count_at, waits_at, alert_at, ready_at, life_at, pen_at, number_at, sem_object, cond_object}
+use Rattle.nub_rule.specs.Rule.{opening_view, FitsAs, IsKept}
 use Rattle.atomic_table.specs.Seated.{TableId}
 use Rattle.nub_rule.specs.Known.{Hands, IsThread}
 use Rattle.nub_rule.specs.Plays.{Sat}
 use Rattle.nub_rule.specs.Slots.{find, Below}
 use Rattle.nub_rule.proofs.Turns.{find-here}
 use Rattle.nub_rule.proofs.Beginning.{raisers-none}
-use Rattle.nub_rule.specs.Ends.{firsts, opening_slots, Settles, Leaves}
-use Rattle.nub_rule.proofs.Each.{at_within, at_below, same_at, at_middle, same_elements, at_firsts}
+use Rattle.nub_rule.specs.Ends.{AreFirst, firsts, living, opening_slots, Settles, Leaves}
+use Rattle.nub_rule.proofs.Each.{put-at, put-else, at_within, at_below, same_at, at_middle, same_elements, at_firsts}
 
 module _ {A : Type 0} where
   at_beyond : (xs ys : List A) (i : ℕ) → get_elem? (xs ++ ys) (length xs + i) ≡ get_elem? ys i
@@ -71,6 +76,31 @@ only_first : {A : Type 0} (x y : A) (i : ℕ) → get_elem? (x ∷ []) i ≡ som
 only_first x y zero e = (refl, some-injective x y e)
 only_first x y (suc i) e = absurd (some-ne-none y (sym e))
 
+-- an event by another, which forks another, leaves the life of a thread
+life-stays : (t n : ℕ) (old : Spec) (a : Action) → n ≢ t → ((who : ThreadId) → a ≡ Fork who → who.0 ≢ t) → (acted n old a).life t ≡ old.life t
+life-stays t n old (Fork who) ne others = put-else old.life who.0 t Live (λ e. others who refl (sym e))
+life-stays t n old End ne others = put-else old.life n t Ended (λ e. ne (sym e))
+life-stays t n old _ ne others = refl
+
+named-child : (l : Layout) (a : Action) (who : ThreadId) → a ≡ Fork who → IsNamed l a → who.0 < l.threads
+named-child l a who is named = (subst (IsNamed l) is named).1
+
+-- who is past the threads keeps its life
+lives-past : (l : Layout) (t : ℕ) → l.threads ≤ t → (s : Spec) (es : List Event) (u : Spec) → Each (λ i e. e.thread.0 < l.threads) es → Each (λ i e. IsNamed l e.action) es → Leads s es u → u.life t ≡ s.life t
+lives-past l t past s [] u people names run = ap (λ (z : Spec). z.life t) (sym run)
+lives-past l t past s (e ∷ es) u people names run =
+    let low = people 0 e refl in
+    lives-past l t past run.0 es u (λ i. people (suc i)) (λ i. names (suc i)) run.2
+    ∙ (ap (λ (z : Spec). z.life t) run.1.1 ∙ life-stays t e.thread.0 s e.action (λ z. omega arith) (λ who is z. let child = named-child l e.action who is (names 0 e refl) in omega arith))
+
+over-of : (v : Version) (life : ℕ → Life) → (v ≡ Two → (n : ℕ) → life n ≢ Live) → AreOver v life
+over-of One life h = tt
+over-of Two life h = h refl
+
+-- in version two only thread 0 lives at first
+unborn-past : (v : Version) (t : ℕ) → v ≡ Two → t ≢ 0 → lives_at_first v t ≢ Live
+unborn-past v t two ne is = let e : Unborn ≡ Live = sym (put-else (λ _. Unborn) 0 t Live ne) ∙ (ap (λ z. lives_at_first z t) (sym two) ∙ is) in cc
+
 module _ {T : Type 0} where
   slots_wide : (n : ℕ) (values : List T) → length (map some (replicate n (Queue no_line) ++ map (λ x. Value (Some x)) values)) ≡ n + length values
   slots_wide n values = length-map (replicate n (Queue no_line) ++ map (λ (x : T). Value (Some x)) values) some
@@ -101,21 +131,22 @@ module _ {T : Type 0} where
       (at_longer (replicate n (Queue no_line)) (map (λ (x : T). Value (Some x)) values) o (Queue no_line) (replicate_there n o (Queue no_line) low))
 
 module _ {T H W : Type 0} (l : Layout) (traced : Bool) (w : W) (begin : W → ℕ → H) (holds : W → List T → List H → Type 0) where
-  pub opens : (ws : List ℕ) (values : List T) → length ws ≡ word_count → ((k : ℕ) → get_or ws k 0 ≡ 0) → length values ≡ l.mutexes → IsLawful l → l.version ≡ One → holds w values (firsts (begin w) l.threads)
-      → IsKept l traced w begin holds (opening ws (opening_slots values) (opening_view w begin))
-  opens ws values wide_words zeros many lawful one first =
-      let all = firsts (λ n. fresh {T = T} (Some (begin w n))) l.threads in
-      let wide : length all ≡ l.threads = length-map-range_with_len (λ n. fresh {T = T} (Some (begin w n))) 0 l.threads in
+  pub opens : (ws : List ℕ) (values : List T) → AreFirst l ws → length values ≡ l.mutexes → IsLawful l → l.threads ≤ most_threads → holds w values (firsts (begin w) l.threads)
+      → IsKept l traced w begin holds (opening ws (opening_slots values) (opening_view l.version w begin))
+  opens ws values words many lawful low_threads first =
+      let all = firsts (λ n. first_part {T = T} l.version n (Some (begin w n))) l.threads in
+      let wide : length all ≡ l.threads = length-map-range_with_len (λ n. first_part {T = T} l.version n (Some (begin w n))) 0 l.threads in
       let none_got : (p : Part T H) → p.held ≡ replicate 64 None → (m : ℕ) (x : T) → Got p m x → ⊥ = λ p e m x g. let z : None ≡ Some x = at_replicate 64 m None (Some x) (ap (λ h. get_elem? h m) (sym e) ∙ g) in none_some x z in
-      let zero_ne_one : (k : ℕ) → get_or ws k 0 ≡ 1 → ⊥ = λ k e. let z = zeros k in absurd (omega arith) in
+      let zeros : (k : ℕ) → ((t : ℕ) → k ≢ life_at t) → get_or ws k 0 ≡ 0 = words.zeros in
+      let unready : (i : ℕ) → get_or ws (ready_at i) 0 ≡ 0 = λ i. zeros (ready_at i) (λ t e. omega arith) in
       record {
         all = all;
         seat_of = λ _. 0;
         given = 0;
         seated = omega arith;
-        fits = λ id v at. let o = only_first (opening_view {T = T} w begin) v id at in subst₂ (λ (a : ℕ) (b : View T H W). FitsAs l.threads 0 w begin all (λ _. 0) a b b.kind) (sym o.0) o.1
-            record { world = refl; first = refl; next = refl; unborn = λ n lo hi. (refl, at_firsts (λ n. fresh {T = T} (Some (begin w n))) 0 l.threads n hi ∙ ap (λ (z : ℕ). some (fresh {T = T} (Some (begin w z)))) (zero-add n)) };
-        placed = λ n lo. (opening_view {T = T} w begin, refl, omega arith);
+        fits = λ id v at. let o = only_first (opening_view {T = T} l.version w begin) v id at in subst₂ (λ (a : ℕ) (b : View T H W). FitsAs l.version l.threads 0 w begin all (λ _. 0) a b b.kind) (sym o.0) o.1
+            record { world = refl; first = refl; next = refl; of = refl; unborn = λ n lo hi. (refl, at_firsts (λ n. first_part {T = T} l.version n (Some (begin w n))) 0 l.threads n hi ∙ ap (λ (z : ℕ). some (first_part {T = T} l.version z (Some (begin w z)))) (zero-add n)) };
+        placed = λ n lo. (opening_view {T = T} l.version w begin, refl, omega arith);
         core = record {
           log = [];
           spec = at_first l.version;
@@ -127,48 +158,48 @@ module _ {T H W : Type 0} (l : Layout) (traced : Bool) (w : W) (begin : W → �
           values = values;
           shares = firsts (begin w) l.threads;
           sizes = record {
-            words_wide = wide_words;
+            words_wide = words.wide;
             homes_wide = slots_wide 192 values ∙ ap (λ (z : ℕ). 192 + z) many;
             lawful = lawful.mutexes;
-            version = one;
-            few = subst (λ (z : ℕ). z ≤ most_threads) (sym wide) (few_in_one l lawful one);
+            few = subst (λ (z : ℕ). z ≤ most_threads) (sym wide) low_threads;
             count = wide;
-            parts_wide = each-firsts Wide (λ n. fresh (Some (begin w n))) l.threads (λ i low. length-replicate {A = Opt T} 64 None);
+            parts_wide = each-firsts Wide (λ n. first_part l.version n (Some (begin w n))) l.threads (λ i low. length-replicate {A = Opt T} 64 None);
+            versions = each-firsts (HasVersion l.version) (λ n. first_part l.version n (Some (begin w n))) l.threads (λ i low. refl);
           };
           run = refl;
           told = record {
             people = λ i e at. absurd (some-ne-none e (sym at));
             names = λ i e at. absurd (some-ne-none e (sym at));
-            each = each-firsts (Chronicle []) (λ n. fresh (Some (begin w n))) l.threads (λ i low. record { begins = ([], refl); own = refl; placed = refl });
+            each = each-firsts (Chronicle []) (λ n. first_part l.version n (Some (begin w n))) l.threads (λ i low. record { begins = ([], refl); own = refl; placed = refl });
             longest = inl refl;
           };
           owned = record {
-            standing = each-firsts (Standing (λ _. none)) (λ n. fresh (Some (begin w n))) l.threads (λ i low m. ((λ has. absurd (none_got (fresh (Some (begin w i))) refl m has.0 has.1)), λ is. absurd (some-ne-none i (sym is))));
+            standing = each-firsts (Standing (λ _. none)) (λ n. first_part l.version n (Some (begin w n))) l.threads (λ i low m. ((λ has. absurd (none_got (first_part l.version i (Some (begin w i))) refl m has.0 has.1)), λ is. absurd (some-ne-none i (sym is))));
             within = λ m n is. absurd (some-ne-none n (sym is));
-            bits = λ m low. inl (zeros (bit_at m), refl);
+            bits = λ m low. inl (zeros (bit_at m) (λ t e. omega arith), refl);
             at_home = λ m low x at free. slot_there 192 values m x at;
             values_wide = many;
-            current = each-firsts (Current values) (λ n. fresh (Some (begin w n))) l.threads (λ i low m x g. absurd (none_got (fresh (Some (begin w i))) refl m x g));
+            current = each-firsts (Current values) (λ n. first_part l.version n (Some (begin w n))) l.threads (λ i low m x g. absurd (none_got (first_part l.version i (Some (begin w i))) refl m x g));
             shares_wide = length-map-range_with_len (begin w) 0 l.threads ∙ sym wide;
-            shared = each-firsts (Shared (firsts (begin w) l.threads)) (λ n. fresh (Some (begin w n))) l.threads
+            shared = each-firsts (Shared (firsts (begin w) l.threads)) (λ n. first_part l.version n (Some (begin w n))) l.threads
                 (λ i low. (begin w i, refl, at_firsts (begin w) 0 l.threads i low ∙ ap (λ (z : ℕ). some (begin w z)) (zero-add i)));
             kept = first;
           };
           spins = record {
-            spin = λ o low. inl (zeros (spin_at o), refl);
+            spin = λ o low. inl (zeros (spin_at o) (λ t e. omega arith), refl);
             within = λ o n is. absurd (some-ne-none n (sym is));
             home = λ o low free. queue_there 192 values o low;
-            measured = λ o low. zeros (length_at o);
+            measured = λ o low. zeros (length_at o) (λ t e. omega arith);
             settled = λ o free. refl;
-            spinning = each-firsts (Spinning (λ _. none) (λ _. []) (λ _. [])) (λ n. fresh (Some (begin w n))) l.threads (λ i low o. ((λ is. absurd (none_some o is)), λ is. absurd (some-ne-none i (sym is))));
+            spinning = each-firsts (Spinning (λ _. none) (λ _. []) (λ _. [])) (λ n. first_part l.version n (Some (begin w n))) l.threads (λ i low o. ((λ is. absurd (none_some o is)), λ is. absurd (some-ne-none i (sym is))));
           };
           lines = record {
             distinct = λ o. tt;
             people = λ o t is. absurd (ft is);
-            stands = each-firsts (Stands ws (λ o. [])) (λ n. fresh (Some (begin w n))) l.threads (λ i low. record {
-              flag = inl (zeros (ready_at i));
+            stands = each-firsts (Stands ws (λ o. [])) (λ n. first_part l.version n (Some (begin w n))) l.threads (λ i low. record {
+              flag = inl (unready i);
               lined = λ o is. absurd (ft is);
-              ready = λ is. absurd (zero_ne_one (ready_at i) is);
+              ready = λ is. let z = unready i in absurd (omega arith);
               kept = λ s is. absurd (none_some s is);
               found = λ s is f. absurd (none_some s is);
             });
@@ -176,53 +207,55 @@ module _ {T H W : Type 0} (l : Layout) (traced : Bool) (w : W) (begin : W → �
           shows = record {
             holders = record {
               free = λ m is. refl;
-              holds = each-firsts (λ i p. (m : ℕ) → none ≡ some i → none ≡ cond (waits_on p.wait m) none (some i)) (λ n. fresh (Some (begin w n))) l.threads (λ i low m is. is);
-              shut = each-firsts (λ i p. (m : ℕ) → none ≡ some i → open_on p.wait m ≡ false) (λ n. fresh (Some (begin w n))) l.threads (λ i low m is. refl);
+              holds = each-firsts (λ i p. (m : ℕ) → none ≡ some i → none ≡ cond (waits_on p.wait m) none (some i)) (λ n. first_part l.version n (Some (begin w n))) l.threads (λ i low m is. is);
+              shut = each-firsts (λ i p. (m : ℕ) → none ≡ some i → open_on p.wait m ≡ false) (λ n. first_part l.version n (Some (begin w n))) l.threads (λ i low m is. refl);
             };
-            pendings = record { strangers = λ t past. refl; pends = each-firsts (λ i p. Nothing ≡ pending_of p.wait) (λ n. fresh (Some (begin w n))) l.threads (λ i low. refl) };
-            semaphores = λ s low. inl (zeros (bit_at (sem_object s)), refl);
-            alerts = λ t low. inl (zeros (alert_at t), refl);
+            pendings = record { strangers = λ t past. refl; pends = each-firsts (λ i p. Nothing ≡ pending_of p.wait) (λ n. first_part l.version n (Some (begin w n))) l.threads (λ i low. refl) };
+            semaphores = λ s low. inl (zeros (bit_at (sem_object s)) (λ t e. omega arith), refl);
+            alerts = λ t low. inl (zeros (alert_at t) (λ u e. omega arith), refl);
             conditions = record {
               left = λ _. [];
               count = λ _. 0;
               counting = λ _ _. false;
               member = λ c t. refl;
-              counted = λ c low. zeros (count_at (cond_object c));
+              counted = λ c low. zeros (count_at (cond_object c)) (λ t e. omega arith);
               whole = λ c is. refl;
               queued = λ c t is. refl;
-              knows = each-firsts (Knows (λ _. none) (λ _. []) (λ _. 0) (λ _ _. false)) (λ n. fresh (Some (begin w n))) l.threads (λ i low. record { counts = λ c. refl; risen = λ c k hi. refl; inside = λ c is. absurd (some-ne-none i (sym is)); even = λ x is. absurd (none_some x is) });
+              knows = each-firsts (Knows (λ _. none) (λ _. []) (λ _. 0) (λ _ _. false)) (λ n. first_part l.version n (Some (begin w n))) l.threads (λ i low. record { counts = λ c. refl; risen = λ c k hi. refl; inside = λ c is. absurd (some-ne-none i (sym is)); even = λ x is. absurd (none_some x is) });
             };
-            lives = λ n. ap (λ v. lives_at_first v n) one;
+            lives = each-firsts (λ n p. lives_at_first l.version n ≡ p.life) (λ n. first_part l.version n (Some (begin w n))) l.threads (λ i low. refl);
           };
           pens = record {
-            flag = inl (zeros pen_at, refl);
+            flag = inl (zeros pen_at (λ t e. omega arith), refl);
             within = λ n is. absurd (some-ne-none n (sym is));
-            free = λ is free. zeros number_at;
+            free = λ is free. zeros number_at (λ t e. omega arith);
             untraced = λ is. refl;
-            pens = each-firsts (λ n p. PenFits 0 (get_or ws number_at 0) none n p.pen) (λ n. fresh (Some (begin w n))) l.threads (λ i low is. some-ne-none i (sym is));
+            pens = each-firsts (λ n p. PenFits 0 (get_or ws number_at 0) none n p.pen) (λ n. first_part l.version n (Some (begin w n))) l.threads (λ i low is. some-ne-none i (sym is));
           };
-          alert_seen = each-firsts (λ n p. p.alerted ≡ true → get_or ws (alert_at n) 0 ≡ 1) (λ n. fresh (Some (begin w n))) l.threads (λ i low is. absurd (ft is));
+          alert_seen = each-firsts (λ n p. p.alerted ≡ true → get_or ws (alert_at n) 0 ≡ 1) (λ n. first_part l.version n (Some (begin w n))) l.threads (λ i low is. absurd (ft is));
+          lives = each-firsts (λ n p. get_or ws (life_at n) 0 ≡ number_of p.life) (λ n. first_part l.version n (Some (begin w n))) l.threads (λ i low. words.lives i low);
           owes = record {
             looks = λ o low free queued. absurd (queued refl);
-            sound = each-firsts (λ n p. SleepsSound p) (λ n. fresh (Some (begin w n))) l.threads (λ i low s is asleep. absurd (none_some s is));
+            sound = each-firsts (λ n p. SleepsSound p) (λ n. first_part l.version n (Some (begin w n))) l.threads (λ i low s is asleep. absurd (none_some s is));
           };
           begun = record {
-            counted = λ c low. zeros (waits_at (cond_object c)) ∙ sym (raisers-none c all (each-firsts (λ n p. p.raised ≢ Some c) (λ n. fresh (Some (begin w n))) l.threads (λ i low is. none_some c is)));
-            covered = each-firsts (λ n p. IsCounted p) (λ n. fresh (Some (begin w n))) l.threads (λ i low. record { member = λ x k is stood. absurd (none_some x is); stander = λ s c is there. absurd (none_some s is) });
+            counted = λ c low. zeros (waits_at (cond_object c)) (λ t e. omega arith) ∙ sym (raisers-none c all (each-firsts (λ n p. p.raised ≢ Some c) (λ n. first_part l.version n (Some (begin w n))) l.threads (λ i low is. none_some c is)));
+            covered = each-firsts (λ n p. IsCounted p) (λ n. first_part l.version n (Some (begin w n))) l.threads (λ i low. record { member = λ x k is stood. absurd (none_some x is); stander = λ s c is there. absurd (none_some s is) });
           };
         };
       }
 
   -- what a collector leaves that has taken every thread back, none of which has a mutex or is in a wait
-  pub closes : (id : ℕ) (v : View T H W) (ws : List ℕ) (xs : List (Slot T)) → v.kind ≡ Collector → length v.back ≡ l.threads → ((n : ℕ) (p : Part T H) → get_elem? v.back n ≡ some p → ((m : ℕ) (x : T) → Got p m x → ⊥) × (p.wait ≡ None))
+  pub closes : (id : ℕ) (v : View T H W) (ws : List ℕ) (xs : List (Slot T)) → v.kind ≡ Collector → 1 ≤ l.threads → length v.back ≡ l.threads
+      → ((n : ℕ) (p : Part T H) → get_elem? v.back n ≡ some p → ((m : ℕ) (x : T) → Got p m x → ⊥) × (p.wait ≡ None) × (l.version ≡ Two → p.life ≢ Live))
       → Final (Seen (IsKept l traced w begin holds) id v) ws xs → Settles l (holds w) v.back xs
-  closes id v ws xs kind whole idle f =
+  closes id v ws xs kind some_there whole idle f =
       let s = f.0 in
       let r = f.1.0 in
       let c = r.core in
-      let k : FitsAs l.threads r.given w begin r.all r.seat_of id v Collector = subst (FitsAs l.threads r.given w begin r.all r.seat_of id v) kind (r.fits id v f.1.1) in
+      let k : FitsAs l.version l.threads r.given w begin r.all r.seat_of id v Collector = subst (FitsAs l.version l.threads r.given w begin r.all r.seat_of id v) kind (r.fits id v f.1.1) in
       let back : v.back ≡ r.all = same_elements v.back r.all (whole ∙ sym c.sizes.count) (λ n p at. (k.came_back n p at).1) in
-      let rest : (n : ℕ) (p : Part T H) → get_elem? r.all n ≡ some p → ((m : ℕ) (x : T) → Got p m x → ⊥) × (p.wait ≡ None) = λ n p at. idle n p (ap (λ ps. get_elem? ps n) back ∙ at) in
+      let rest : (n : ℕ) (p : Part T H) → get_elem? r.all n ≡ some p → ((m : ℕ) (x : T) → Got p m x → ⊥) × (p.wait ≡ None) × (l.version ≡ Two → p.life ≢ Live) = λ n p at. idle n p (ap (λ ps. get_elem? ps n) back ∙ at) in
       let free : (m : ℕ) → c.owner m ≡ none = λ m. nobody (c.owner m) (λ n is. let low = (c.owned.within m n is).1 in let p = at_below r.all n low in let has = (c.owned.standing n p.0 p.1 m).1 is in (rest n p.0 p.1).0 m has.0 has.1) in
       record {
         values = c.values;
@@ -231,7 +264,12 @@ module _ {T H W : Type 0} (l : Layout) (traced : Bool) (w : W) (begin : W → �
           spec = c.spec;
           shares = c.shares;
           run = c.run;
-          over = subst (λ (v : Version). AreOver v c.spec.life) (sym c.sizes.version) tt;
+          over = over-of l.version c.spec.life (λ two t is. ⊎_elim
+              (λ (low : t < length r.all). let p = at_below r.all t low in (rest t p.0 p.1).2 two (sym (c.shows.lives t p.0 p.1) ∙ is))
+              (λ (past : length r.all ≤ t). let count = c.sizes.count in
+              let people : Each (λ i e. e.thread.0 < l.threads) c.log = λ i e at. let low = c.told.people i e at in omega arith in
+              unborn-past l.version t two (λ z. omega arith) (sym (lives-past l t (omega arith) (at_first l.version) c.log c.spec people c.told.names c.run) ∙ is))
+              (cases_lt t (length r.all)));
           nothing_held = λ m. c.shows.holders.free m (free m);
           nothing_begun = λ t. ⊎_elim
               (λ (low : t < length r.all). let p = at_below r.all t low in c.shows.pendings.pends t p.0 p.1 ∙ ap pending_of (rest t p.0 p.1).1)
@@ -268,6 +306,35 @@ all_alike z (suc n) (suc k) = all_alike z n k
 pub zeros_only : (xs : List ℕ) (n : ℕ) → xs ≡ replicate n 0 → (k : ℕ) → get_or xs k 0 ≡ 0
 zeros_only xs n is k = ap (λ l. get_or l k 0) is ∙ all_alike 0 n k
 
+-- the life word of the thread n is written, after those of the threads before it
+pub lives-more : (ws vs : List ℕ) (n : ℕ) → vs ≡ set ws (life_at n) 1 → life_at n < length ws → ((t : ℕ) → t < n → get_or ws (life_at t) 0 ≡ 1) → (t : ℕ) → t < n + 1 → get_or vs (life_at t) 0 ≡ 1
+lives-more ws vs n is wide before t low = ap (λ l. get_or l (life_at t) 0) is ∙ ⊎_elim
+    (λ (e : t ≡ n). ap (λ (z : ℕ). get_or (set ws (life_at n) 1) (life_at z) 0) e ∙ get_or-set_same ws (life_at n) 1 0 wide)
+    (λ (ne : t ≢ n). get_or-set_other ws (life_at n) (life_at t) 1 0 (λ e. omega arith) ∙ before t (omega arith))
+    (cases_eq t n)
+
+pub zeros-more : (ws vs : List ℕ) (n : ℕ) → vs ≡ set ws (life_at n) 1 → ((k : ℕ) → ((t : ℕ) → t < n → k ≢ life_at t) → get_or ws k 0 ≡ 0) → (k : ℕ) → ((t : ℕ) → t < n + 1 → k ≢ life_at t) → get_or vs k 0 ≡ 0
+zeros-more ws vs n is before k none_there = ap (λ l. get_or l k 0) is
+    ∙ (get_or-set_other ws (life_at n) k 1 0 (none_there n (omega arith)) ∙ before k (λ t low. none_there t (omega arith)))
+
+pub living-low : (v : Version) (n : ℕ) → n ≤ most_threads → living v n ≤ most_threads
+living-low One n low = low
+living-low Two n low = omega arith
+
+first-word : (v : Version) (threads t word : ℕ) → t < threads → (t < living v threads → word ≡ 1) → (living v threads ≤ t → word ≡ 0) → word ≡ number_of (lives_at_first v t)
+first-word One threads t word low on off = on low
+first-word Two threads t word low on off = dite (ℕ_discrete t 0)
+    (λ e. on (omega arith) ∙ ap number_of (sym (put-at (λ _. Unborn) 0 Live t e)))
+    (λ ne. off (omega arith) ∙ ap number_of (sym (put-else (λ _. Unborn) 0 t Live ne)))
+
+-- so the words are those of the start, where the life words of all threads that live at first were written
+pub are-first : (l : Layout) (ws : List ℕ) (n : ℕ) → n ≡ living l.version l.threads → length ws ≡ word_count → ((t : ℕ) → t < n → get_or ws (life_at t) 0 ≡ 1) → ((k : ℕ) → ((t : ℕ) → t < n → k ≢ life_at t) → get_or ws k 0 ≡ 0) → AreFirst l ws
+are-first l ws n is wide on off = record {
+  wide = wide;
+  lives = λ t low. first-word l.version l.threads t (get_or ws (life_at t) 0) low (λ lo. on t (omega arith)) (λ hi. off (life_at t) (λ u lo e. omega arith));
+  zeros = λ k none_there. off k (λ t _. none_there t);
+}
+
 -- the place i is emptied, and nothing else changes
 emptied : (fs : List Bool) (i : ℕ) → get_or (set fs i false) i false ≡ false
 emptied [] i = refl
@@ -292,11 +359,16 @@ module _ {T H : Type 0} where
   leaves l holds parts xs values s many found = let same : s.values ≡ values = same_elements s.values values (s.many ∙ sym many) (λ m x at. found m x (s.values_there m x at)) in
       subst (λ (vs : List T). Leaves l holds parts vs) same s.leaves
 
+-- a list of nothings has nothing
+pub none-got : {A : Type 0} (n m : ℕ) (x : A) → get_elem? (replicate {A = Opt A} n None) m ≡ some (Some x) → ⊥
+none-got n m x e = none_some x (at_replicate n m None (Some x) e)
+
 module _ {T H W : Type 0} where
-  -- a thread that was given out fits
-  pub first_fits : (begin : W → ℕ → H) (v : View T H W) (z : TableId) (me : Sat T H W) (n : ℕ) (hand : List ℕ) (kept : List T) (room : ℕ) → me ≡ (member_view begin v, []) → v.next ≡ n → hand ≡ [] → kept ≡ [] → (n ≡ 0 → z.slots ≤ value_at room) → n < most_threads → IsThread z n hand me kept room
-  first_fits begin v z me n hand kept room is next empty bare roomy few = subst (λ (m : Sat T H W). IsThread z n hand m kept room) (sym is) record {
-    member = refl;
+  -- a thread that has done nothing fits
+  pub fresh_fits : (u : View T H W) (version : Version) (born : Life) (seen : List Event) (share : Opt H) (z : TableId) (me : Sat T H W) (n : ℕ) (hand : List ℕ) (kept : List T) (room : ℕ) → me ≡ (record u { part = fresh version born seen share }, []) → u.kind ≡ Member → u.number ≡ n
+      → hand ≡ [] → kept ≡ [] → (n ≡ 0 → z.slots ≤ value_at room) → n < most_threads → IsThread z n hand me kept room
+  fresh_fits u version born seen share z me n hand kept room is member next empty bare roomy few = subst (λ (m : Sat T H W). IsThread z n hand m kept room) (sym is) record {
+    member = member;
     numbered = next;
     keyed = sym empty;
     distinct = tt;
@@ -334,5 +406,6 @@ module _ {T H : Type 0} where
       none_some x.1 (sym gone ∙ (ap (λ (k : ℕ). find k (x ∷ xs)) e ∙ here)))
       (cases_lt x.0 192))
 
-pub push_maps : {A B C : Type 0} (f : A → C) (g : B → C) (xs zs : List A) (ys : List B) (x : A) (y : B) → map f xs ≡ map g ys → zs ≡ xs ++ x ∷ [] → f x ≡ g y → map f zs ≡ map g (ys ++ y ∷ [])
-push_maps f g xs zs ys x y e z same = ap (map f) z ∙ (map-append f xs (x ∷ []) ∙ ((λ i. e i ++ same i ∷ []) ∙ sym (map-append g ys (y ∷ []))))
+-- one more behind a mapped list
+pub maps-more : {A B : Type 0} (f : A → B) (xs zs : List B) (ys : List A) (y : A) → xs ≡ map f ys → zs ≡ xs ++ f y ∷ [] → zs ≡ map f (ys ++ y ∷ [])
+maps-more f xs zs ys y e z = z ∙ ((λ i. e i ++ f y ∷ []) ∙ sym (map-append f ys (y ∷ [])))

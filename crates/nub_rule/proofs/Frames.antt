@@ -6,6 +6,7 @@ use native.Mathlib.Decide.{ℕ_discrete}
 use lib.ListN.{get_elem?}
 use Rattle.larch_actions.specs.declared.event.Event.{Event}
 use Rattle.larch_actions.specs.declared.event.Layout.{Layout}
+use Rattle.larch_actions.specs.declared.event.Life.{Life}
 use Rattle.larch_actions.specs.declared.event.Pending.{Pending}
 use Rattle.larch_actions.specs.Actions.{Spec, StartsWith}
 use Rattle.larch_actions.specs.Layout.{IsNamed}
@@ -14,9 +15,9 @@ use Rattle.atomic_table.proofs.Lists.{set_else, set_here}
 use Rattle.nub_rule.specs.declared.rule.Slot.{Slot}
 use Rattle.nub_rule.specs.declared.view.Part.{Part}
 use Rattle.nub_rule.specs.declared.view.Pen.{Pen}
-use Rattle.nub_rule.specs.Items.{Each, Chronicle, Told, Standing, Current, Shared, Wide, Marks, Says, Owned, Spinning, Spins, Stands, Lines, Semaphores, Alerts, Holders, Pendings, Knows, Conditions, AlertSeen, Shows, PenFits, Pens, Sizes}
-use Rattle.nub_rule.specs.Parts.{waits_on, open_on, counts_in, pending_of, stands_at}
-use Rattle.nub_rule.specs.Places.{most_threads, bit_at, spin_at, length_at, count_at, alert_at, ready_at, pen_at, number_at, queue_at, value_at, sem_object, cond_object}
+use Rattle.nub_rule.specs.Items.{Each, Chronicle, Told, Standing, Current, Shared, Wide, Marks, Says, Owned, Spinning, Spins, Stands, Lines, Semaphores, Alerts, Holders, Pendings, Knows, Conditions, AlertSeen, HasVersion, Lives, Shows, PenFits, Pens, Sizes}
+use Rattle.nub_rule.specs.Parts.{waits_on, open_on, counts_in, number_of, pending_of, stands_at}
+use Rattle.nub_rule.specs.Places.{most_threads, bit_at, spin_at, length_at, count_at, alert_at, ready_at, life_at, pen_at, number_at, queue_at, value_at, sem_object, cond_object}
 use Rattle.nub_rule.proofs.Each.{each-set, each-snoc, same_at, at_within}
 use Rattle.nub_rule.proofs.Runs.{by_thread-other, by_thread-own, places-other, places-own, starts-more}
 
@@ -38,6 +39,9 @@ SameSems words words' = (s : ℕ) → s < 64 → get_or words' (bit_at (sem_obje
 
 abbrev pub SameAlerts : List ℕ → List ℕ → Type 0
 SameAlerts words words' = (t : ℕ) → t < most_threads → get_or words' (alert_at t) 0 ≡ get_or words (alert_at t) 0
+
+abbrev pub SameLives : List ℕ → List ℕ → Type 0
+SameLives words words' = (t : ℕ) → t < most_threads → get_or words' (life_at t) 0 ≡ get_or words (life_at t) 0
 
 pub record SameShown (words words' : List ℕ) : Type 0 where
   pub counts : SameCounts words words'
@@ -61,6 +65,9 @@ module _ (words : List ℕ) (i x : ℕ) where
   pub ready-stay : ((t : ℕ) → t < most_threads → ready_at t ≢ i) → SameReady words (set words i x)
   ready-stay ne t lo = other words i (ready_at t) x (ne t lo)
 
+  pub lives-stay : ((t : ℕ) → t < most_threads → life_at t ≢ i) → SameLives words (set words i x)
+  lives-stay ne t lo = other words i (life_at t) x (ne t lo)
+
   pub shown-stay : ((c : ℕ) → c < 64 → count_at (cond_object c) ≢ i) → ((s : ℕ) → s < 64 → bit_at (sem_object s) ≢ i) → ((t : ℕ) → t < most_threads → alert_at t ≢ i) → SameShown words (set words i x)
   shown-stay nc ns na = record { counts = λ c lo. other words i (count_at (cond_object c)) x (nc c lo); sems = λ s lo. other words i (bit_at (sem_object s)) x (ns s lo); alerts = λ t lo. other words i (alert_at t) x (na t lo) }
 
@@ -75,15 +82,15 @@ pub alerts-frame : (alerted : ℕ → Bool) (words words' : List ℕ) → SameAl
 alerts-frame alerted words words' ws h t lo = subst (λ (x : ℕ). Says x (alerted t)) (sym (ws t lo)) (h t lo)
 
 module _ {T H : Type 0} (all : List (Part T H)) (n : ℕ) (p q : Part T H) (at : get_elem? all n ≡ some p) where
-  pub sizes-frame : (l : Layout) (words words' : List ℕ) (homes homes' : List (Option (Slot T))) → length words' ≡ length words → length homes' ≡ length homes → length q.held ≡ length p.held → Sizes l words homes all → Sizes l words' homes' (set all n q)
-  sizes-frame l words words' homes homes' ew eh el s = record {
+  pub sizes-frame : (l : Layout) (words words' : List ℕ) (homes homes' : List (Option (Slot T))) → length words' ≡ length words → length homes' ≡ length homes → q.version ≡ p.version → length q.held ≡ length p.held → Sizes l words homes all → Sizes l words' homes' (set all n q)
+  sizes-frame l words words' homes homes' ew eh ev el s = record {
     words_wide = ew ∙ s.words_wide;
     homes_wide = eh ∙ s.homes_wide;
     lawful = s.lawful;
-    version = s.version;
     few = subst (λ (z : ℕ). z ≤ most_threads) (sym (length-set all n q)) s.few;
     count = length-set all n q ∙ s.count;
     parts_wide = each-set Wide Wide all n q (el ∙ s.parts_wide n p at) (λ k r ne at' c. c) s.parts_wide;
+    versions = each-set (HasVersion l.version) (HasVersion l.version) all n q (ev ∙ s.versions n p at) (λ k r ne at' c. c) s.versions;
   }
 
   -- HISTORY reads what was seen, the own events and their places
@@ -183,6 +190,14 @@ module _ {T H : Type 0} (all : List (Part T H)) (n : ℕ) (p q : Part T H) (at :
   pendings-frame pending ew h = let X : ℕ → Part T H → Type 0 = λ n p. pending n ≡ pending_of p.wait in
       record { strangers = λ t past. h.strangers t (subst (λ (z : ℕ). z ≤ t) (length-set all n q) past); pends = each-set X X all n q (h.pends n p at ∙ ap pending_of (sym ew)) (λ j x ne at' u. u) h.pends }
 
+  -- LIVES and what is shown of them read the life words and the lives of views
+  pub lives-frame : (words words' : List ℕ) → length all ≤ most_threads → SameLives words words' → q.life ≡ p.life → Lives words all → Lives words' (set all n q)
+  lives-frame words words' few ws ei h = let X : List ℕ → ℕ → Part T H → Type 0 = λ ws n p. get_or ws (life_at n) 0 ≡ number_of p.life in
+      each-set (X words) (X words') all n q (ws n (let z = at_within all n p at in omega arith) ∙ (h n p at ∙ ap number_of (sym ei))) (λ k r ne at' u. ws k (let z = at_within all k r at' in omega arith) ∙ u) h
+
+  pub lived-frame : (life : ℕ → Life) → q.life ≡ p.life → Each (λ n p. life n ≡ p.life) all → Each (λ n p. life n ≡ p.life) (set all n q)
+  lived-frame life ei h = let X : ℕ → Part T H → Type 0 = λ n p. life n ≡ p.life in each-set X X all n q (h n p at ∙ sym ei) (λ k r ne at' u. u) h
+
   -- CONDITIONS read the counts, and waits, queues and counts of views
   pub conditions-frame : (spinner : ℕ → Option ℕ) (queue : ℕ → List ℕ) (members : ℕ → ℕ → Bool) (words words' : List ℕ) → SameCounts words words' → q.wait ≡ p.wait → q.left ≡ p.left → q.queue ≡ p.queue → q.count ≡ p.count
       → Conditions words spinner queue members all → Conditions words' spinner queue members (set all n q)
@@ -203,15 +218,15 @@ module _ {T H : Type 0} (all : List (Part T H)) (n : ℕ) (p q : Part T H) (at :
   }
 
   -- MEANING OF THE WORDS: all of it stays
-  pub shows-frame : (spinner : ℕ → Option ℕ) (queue : ℕ → List ℕ) (owner : ℕ → Option ℕ) (spec : Spec) (words words' : List ℕ) → SameShown words words' → q.wait ≡ p.wait → q.left ≡ p.left → q.queue ≡ p.queue → q.count ≡ p.count
+  pub shows-frame : (spinner : ℕ → Option ℕ) (queue : ℕ → List ℕ) (owner : ℕ → Option ℕ) (spec : Spec) (words words' : List ℕ) → SameShown words words' → q.life ≡ p.life → q.wait ≡ p.wait → q.left ≡ p.left → q.queue ≡ p.queue → q.count ≡ p.count
       → Shows words spinner queue owner spec all → Shows words' spinner queue owner spec (set all n q)
-  shows-frame spinner queue owner spec words words' ws ew el eq ec s = record {
+  shows-frame spinner queue owner spec words words' ws ei ew el eq ec s = record {
     holders = holders-frame owner spec.holder ew s.holders;
     pendings = pendings-frame spec.pending ew s.pendings;
     semaphores = semaphores-frame spec.avail words words' ws.sems s.semaphores;
     alerts = alerts-frame spec.alerts words words' ws.alerts s.alerts;
     conditions = conditions-frame spinner queue spec.members words words' ws.counts ew el eq ec s.conditions;
-    lives = s.lives;
+    lives = lived-frame spec.life ei s.lives;
   }
 
   -- ALERT SEEN reads the alert words, and which threads saw their own set

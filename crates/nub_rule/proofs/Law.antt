@@ -23,21 +23,23 @@ use Rattle.nub_rule.specs.declared.view.Wait.{Wait}
 use Rattle.nub_rule.specs.declared.view.WaitBit.{WaitBit}
 use Rattle.nub_rule.specs.declared.view.WaitBit.TheVariants.{Closing, Open, Quiet}
 use Rattle.nub_rule.specs.declared.view.View.{View}
+use Rattle.nub_rule.specs.declared.view.Child.{Child}
+use Rattle.nub_rule.specs.declared.view.Child.TheVariants.{No as Childless, May, Forked}
 use Rattle.nub_rule.specs.declared.view.Kind.{Kind}
 use Rattle.nub_rule.specs.declared.view.Kind.TheVariants.{Root, Member, Collector, Spent}
-use Rattle.nub_rule.specs.Rule.{FitsAs, IsKept, IsWith}
+use Rattle.nub_rule.specs.Rule.{ChildFits, FitsAs, IsKept, IsOfChild, IsWith}
 use Rattle.atomic_table.specs.Table.{State}
 use Rattle.nub_rule.specs.Items.{Each, Marks, Says, PenFits, Core, line_of}
 use Rattle.nub_rule.specs.Parts.{Has, counts_in, is_at, is_open, open_on, stands_at, waits_on}
 use Rattle.nub_rule.specs.Places.{alert_at, bit_at, cond_object, count_at, number_at, pen_at, ready_at, sem_object, spin_at}
-use Rattle.nub_rule.specs.PackageRule.{AnyView, HasBitInWait, IsFlagOf, IsKnown, SaysHolds, OwesAt, Owes, History, Meaning, MutexBits, SpinWords, QueuedThreads, ReadyWords, NoWakeLost, IsReady, CountsRead, BegunWaits, ValuesAndShares, Numbering, PackageRule, AreViews}
+use Rattle.nub_rule.specs.PackageRule.{AnyView, HasBitInWait, IsFlagOf, IsKnown, SaysHolds, OwesAt, Owes, History, Meaning, MutexBits, SpinWords, QueuedThreads, ReadyWords, NoWakeLost, IsReady, CountsRead, BegunWaits, ValuesAndShares, Numbering, PackageRule, AreViews, ChildIs}
 use Rattle.nub_rule.proofs.Each.{at_below, put-at, put-else, same_at}
 use Rattle.nub_rule.proofs.Owing.{bound-nowhere, bound-asleep}
 use Rattle.nub_rule.proofs.Beginning.{counts-some, raisers-none, raisers-some}
 use Rattle.nub_rule.proofs.Standing.{both_ways, distinct-apart, distinct-behind, eqb_is, false_true, mem-append, mem-behind, not_true, stand_none, stand_same, stand_some}
 
 -- who has something is nobody or somebody
-whose : {A : Type 0} (o : Option ℕ) → (o ≡ none → A) → ((n : ℕ) → o ≡ some n → A) → A
+pub whose : {A : Type 0} (o : Option ℕ) → (o ≡ none → A) → ((n : ℕ) → o ≡ some n → A) → A
 whose none f g = f refl
 whose (some n) f g = g n refl
 
@@ -51,7 +53,7 @@ mem-either t (x ∷ xs) ys e = dite (ℕ_discrete x t)
     (λ is. inl (mem-here t x xs is))
     (λ ne. ⊎_elim (λ (l : mem t xs ≡ true). inl (mem-else t x xs ne ∙ l)) (λ (r : mem t ys ≡ true). inr r) (mem-either t xs ys (sym (mem-else t x (xs ++ ys) ne) ∙ e)))
 
-holder-of : (b : Bool) (k n : ℕ) (h : Option ℕ) → h ≡ cond b none (some k) → h ≡ some n → (b ≡ false) × (k ≡ n)
+pub holder-of : (b : Bool) (k n : ℕ) (h : Option ℕ) → h ≡ cond b none (some k) → h ≡ some n → (b ≡ false) × (k ≡ n)
 holder-of true k n h e is = absurd (some-ne-none n (sym is ∙ e))
 holder-of false k n h e is = (refl, some-injective k n (sym e ∙ is))
 
@@ -357,6 +359,7 @@ module _ {T H W : Type 0} (l : Layout) (traced : Bool) (w : W) (holds : W → Li
     ready_words = ready_words;
     no_wake_lost = no_wake_lost;
     alert_seen = c.alert_seen;
+    life_words = record { word = c.lives; life = c.shows.lives };
     counts_read = counts_read;
     begun_waits = begun_waits;
     values_and_shares = values_and_shares;
@@ -364,21 +367,33 @@ module _ {T H W : Type 0} (l : Layout) (traced : Bool) (w : W) (holds : W → Li
   }
 
 module _ {T H W : Type 0} (l : Layout) (traced : Bool) (w : W) (begin : W → ℕ → H) (holds : W → List T → List H → Type 0) (s : State (Slot T) (View T H W)) (k : IsKept l traced w begin holds s) where
-  fits-as : (id : ℕ) (v : View T H W) (kind : Kind) → get_elem? s.views id ≡ some v → v.kind ≡ kind → FitsAs l.threads k.given w begin k.all k.seat_of id v kind
-  fits-as id v kind at is = subst (FitsAs l.threads k.given w begin k.all k.seat_of id v) is (k.fits id v at)
+  fits-as : (id : ℕ) (v : View T H W) (kind : Kind) → get_elem? s.views id ≡ some v → v.kind ≡ kind → FitsAs l.version l.threads k.given w begin k.all k.seat_of id v kind
+  fits-as id v kind at is = subst (FitsAs l.version l.threads k.given w begin k.all k.seat_of id v) is (k.fits id v at)
+
+  -- a child is with the seat that says something of it
+  child-by : (id : ℕ) (v : View T H W) (c : Child) (n : ℕ) → ChildFits l.version l.threads k.given w begin k.all k.seat_of id v c → IsOfChild c n → id ≡ k.seat_of n
+  child-by id v Childless n f h = absurd h
+  child-by id v (May t) n f h = sym f.0 ∙ ap k.seat_of h
+  child-by id v (Forked t seen) n f h = sym f.0 ∙ ap k.seat_of h
+
+  child-is : (id : ℕ) (v : View T H W) (c : Child) → ChildFits l.version l.threads k.given w begin k.all k.seat_of id v c → ChildIs l.version w begin k.all c
+  child-is id v Childless f = tt
+  child-is id v (May t) f = f.3
+  child-is id v (Forked t seen) f = f.3
 
   -- a thread is with the seat that it is said to have
-  seat-by : (id : ℕ) (v : View T H W) (kind : Kind) (n : ℕ) → n < l.threads → FitsAs l.threads k.given w begin k.all k.seat_of id v kind → IsWith v kind n → id ≡ k.seat_of n
+  seat-by : (id : ℕ) (v : View T H W) (kind : Kind) (n : ℕ) → n < l.threads → FitsAs l.version l.threads k.given w begin k.all k.seat_of id v kind → IsWith v kind n → id ≡ k.seat_of n
   seat-by id v Root n lo f h = f.first ∙ sym (f.unborn n (subst (λ (z : ℕ). z ≤ n) f.next h) lo).0
-  seat-by id v Member n lo f h = sym f.sits ∙ ap k.seat_of h
+  seat-by id v Member n lo f h = ⊎_elim (λ (is : v.number ≡ n). sym f.sits ∙ ap k.seat_of is) (λ (is : IsOfChild v.child n). child-by id v v.child n f.child is) h
   seat-by id v Collector n lo f h = let o = at_below v.back n h in sym (f.came_back n o.0 o.1).0
   seat-by id v Spent n lo f h = absurd h
 
-  pub are-views : AreViews l.threads w begin s.views k.all
+  pub are-views : AreViews l.version l.threads w begin s.views k.all
   are-views = record {
     count = k.core.sizes.count;
     seated = λ id v at is. (fits-as id v Member at is).own;
     back = λ id v at is n p there. ((fits-as id v Collector at is).came_back n p there).1;
+    child = λ id v at is. child-is id v v.child (fits-as id v Member at is).child;
     each = λ n lo. let o = k.placed n lo in (k.seat_of n, o.0, o.1, o.2);
     once = λ n i j v u lo at there here too. seat-by i v v.kind n lo (k.fits i v at) here ∙ sym (seat-by j u u.kind n lo (k.fits j u there) too);
     to_come = λ id v at is n lo hi. let r = fits-as id v Root at is in (r.unborn n (subst (λ (z : ℕ). z ≤ n) r.next lo) hi).1;

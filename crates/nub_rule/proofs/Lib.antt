@@ -39,5 +39,8 @@ pub mod Having
 pub mod Room
 pub mod Seats
 pub mod Ends
+pub mod Ordering
 pub mod History
 pub mod Law
+pub mod LifeSteps
+pub mod ForkSteps

@@ -3,21 +3,20 @@ use Rattle.std.proofs.Common.{Bool, ◌≡◌, ◌≢◌, ℕ, ◌+◌, ◌<◌,
 use mathlib.Core.Option.{Option, some}
 use lib.ListN.{get_elem?}
 use Rattle.larch_actions.specs.declared.event.Event.{Event}
-use Rattle.larch_actions.specs.declared.event.Version.{Version}
 use Rattle.larch_actions.specs.declared.event.Layout.{Layout}
-use Rattle.larch_actions.specs.Actions.{Spec, at_first, Acts, IsRun, by_thread}
+use Rattle.larch_actions.specs.Actions.{Spec, at_first, Acts, by_thread}
 use Rattle.larch_actions.specs.Layout.{IsNamed}
 use Rattle.atomic_table.proofs.Lists.{set_here}
 use Rattle.nub_rule.specs.declared.rule.Slot.{Slot}
 use Rattle.nub_rule.specs.declared.view.Part.{Part}
-use Rattle.nub_rule.specs.Items.{Shows, Pens, AlertSeen, Core}
+use Rattle.nub_rule.specs.Items.{Shows, Pens, AlertSeen, Lives, Core}
 use Rattle.nub_rule.specs.Owed.{WakeOwed}
 use Rattle.nub_rule.specs.Begun.{BegunWaits}
 use Rattle.nub_rule.specs.Parts.{made, MayTell}
 use Rattle.nub_rule.specs.Places.{most_threads, bit_at, spin_at, length_at, ready_at, pen_at, number_at}
 use Rattle.nub_rule.specs.Plays.{Grows}
 use Rattle.nub_rule.proofs.Each.{at_within}
-use Rattle.nub_rule.proofs.Runs.{leads-snoc}
+use Rattle.nub_rule.proofs.Runs.{leads-snoc, run-of}
 use Rattle.nub_rule.proofs.Frames.{bits-stay, spins-stay, ready-stay, pen-stay, sizes-frame, told-event, owned-frame, spins-frame, lines-frame}
 use Rattle.nub_rule.proofs.Penning.{pens-event, numbered-by}
 
@@ -33,6 +32,7 @@ pub record Aside (i : ℕ) : Type 0 where
 module _ {T H : Type 0} where
   -- the part after an event of its thread, in which the bits, values, queues and stands are the same
   pub record IsTold (p q : Part T H) (log : List Event) (e : Event) : Type 0 where
+    pub version : q.version ≡ p.version
     pub seen : q.seen ≡ log ++ e ∷ []
     pub mine : q.mine ≡ p.mine ++ e ∷ []
     pub places : q.places ≡ p.places ++ length log ∷ []
@@ -53,10 +53,10 @@ module _ {T H W : Type 0} (l : Layout) (traced : Bool) (w : W) (holds : W → Li
   abbrev pub Marked : Event → ℕ → ℕ → ℕ → Part T H → (List Event → Part T H) → List ℕ → List (Option (Slot T)) → List (Part T H) → Type 0
   Marked e n i x p after words homes all = (q : Part T H) × Core l traced w holds (set words i x) homes (set all n q) × Learns e n p after q
 
-  pub marks : (e : Event) (n i x : ℕ) (p : Part T H) (after : List Event → Part T H) (words : List ℕ) (homes : List (Option (Slot T))) (all : List (Part T H)) (c : Core l traced w holds words homes all) (spec' : Spec) → get_elem? all n ≡ some p → e.thread.0 ≡ n → IsNamed l e.action → MayTell traced p.pen → Aside i
+  pub marks : (e : Event) (n i x : ℕ) (p : Part T H) (after : List Event → Part T H) (words : List ℕ) (homes : List (Option (Slot T))) (all : List (Part T H)) (c : Core l traced w holds words homes all) (spec' : Spec) → get_elem? all n ≡ some p → e.thread.0 ≡ n → IsNamed l e.action → MayTell traced p.life p.pen → Aside i
       → ((z : List Event) → IsTold p (after z) z e) → Acts c.spec e spec' → ((z : List Event) → Shows (set words i x) c.spinner c.queue c.owner spec' (set all n (after z)))
-      → ((z : List Event) → AlertSeen (set words i x) (set all n (after z))) → ((z : List Event) → WakeOwed c.queue (set words i x) (set all n (after z))) → ((z : List Event) → BegunWaits (set words i x) (set all n (after z))) → Marked e n i x p after words homes all
-  marks e n i x p after words homes all c spec' at by named may aside tells acts shows saw owes begun =
+      → ((z : List Event) → AlertSeen (set words i x) (set all n (after z))) → ((z : List Event) → Lives (set words i x) (set all n (after z))) → ((z : List Event) → WakeOwed c.queue (set words i x) (set all n (after z))) → ((z : List Event) → BegunWaits (set words i x) (set all n (after z))) → Marked e n i x p after words homes all
+  marks e n i x p after words homes all c spec' at by named may aside tells acts shows saw lives owes begun =
       let seen = (c.told.each n p at).begins in
       let z : List Event = p.seen ++ seen.0 in
       let q : Part T H = after z in
@@ -79,7 +79,7 @@ module _ {T H W : Type 0} (l : Layout) (traced : Bool) (w : W) (holds : W → Li
           owed = c.owed;
           values = c.values;
           shares = c.shares;
-          sizes = sizes-frame all n p q at l words words' homes homes (length-set words i x) refl (ap length t.held) c.sizes;
+          sizes = sizes-frame all n p q at l words words' homes homes (length-set words i x) refl t.version (ap length t.held) c.sizes;
           run = run;
           told = told';
           owned = owned-frame all n p q at l (holds w) c.owner c.values c.shares words words' homes homes c.sizes.lawful (bits-stay words i x aside.bits) (λ m. refl) t.held t.share c.owned;
@@ -88,13 +88,14 @@ module _ {T H W : Type 0} (l : Layout) (traced : Bool) (w : W) (holds : W → Li
           shows = shows z;
           pens = subst (λ (y : ℕ). Pens traced y words' c.writer (set all n q)) (sym more) (pens-event traced (length c.log) words c.writer all n p q at words' pen.0 pen.1 may t.pen c.pens);
           alert_seen = saw z;
+          lives = lives z;
           owes = owes z;
           begun = begun z;
         },
         (
           seen.0,
           record {
-            legal = (spec', subst (λ (v : Version). IsRun v ((p.seen ++ seen.0) ++ e ∷ []) spec') c.sizes.version (subst (λ (y : List Event). IsRun l.version y spec') (sym longer ∙ t.seen) run));
+            legal = (spec', run-of l.version p.version (c.sizes.versions n p at) spec' (sym longer ∙ t.seen) run);
             own = ap (by_thread n) (sym t.seen ∙ longer) ∙ ((told'.each n q (set_here all n q (at_within all n p at))).own ∙ t.mine);
             number = λ k is. numbered-by traced (length c.log) words c.writer all n p q at c.pens k is ∙ ap (λ (y : List Event). length y) seen.1;
           },

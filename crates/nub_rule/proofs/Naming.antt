@@ -3,9 +3,9 @@ use Rattle.std.proofs.Common.{refl, cond, ◌∷◌, List, lt-ltb, le-ltb, ◌�
 use Rattle.std.specs.Prelude.{Option as Opt}
 use Rattle.atomic_table.specs.Seated.{TableId}
 use Rattle.larch_actions.specs.declared.event.Layout.{Layout}
-use Rattle.larch_actions.specs.declared.event.Version.TheVariants.{One}
 use Rattle.larch_actions.specs.Layout.{IsLawful}
-use Rattle.larch_actions.proofs.Names.{few_in_one}
+use Rattle.larch_actions.specs.declared.kind.Kind.TheVariants as kind
+use Rattle.larch_actions.proofs.Names.{few_of}
 use Rattle.nub_rule.specs.declared.object.Object.{Object}
 use Rattle.nub_rule.specs.declared.object.Object.TheVariants.{Mutex, Sem, Cond}
 use Rattle.nub_rule.specs.declared.rule.About.{About}
@@ -42,8 +42,8 @@ module _ {W : Type 0} (z : TableId) (a : About W) (s : Shape W) (l : Layout) (v 
   pub sem_low : (m : ℕ) → m < s.layout.semaphores → m < 64
   sem_low m has = let x = lawful_now in let y = x.semaphores in omega arith
 
-  pub thread_low : (t : ℕ) → l.version ≡ One → t < s.layout.threads → t < most_threads
-  thread_low t one has = let few = few_in_one s.layout lawful_now (ap (λ x. x.layout.version) (sym v) ∙ ap (λ x. x.version) e ∙ one) in omega arith
+  pub thread_low : (t : ℕ) → t < s.layout.threads → t < most_threads
+  thread_low t has = let few = few_of s.layout lawful_now kind.Thread in omega arith
 
   pub cond_low : (m : ℕ) → m < s.layout.conditions → m < 64
   cond_low m has = let x = lawful_now in let y = x.conditions in omega arith

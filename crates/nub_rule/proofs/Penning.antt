@@ -20,7 +20,7 @@ use Rattle.nub_rule.specs.Plays.{with_part, take_pen_tells, read_number_tells, w
 use Rattle.nub_rule.specs.Rule.{IsKept}
 use Rattle.nub_rule.proofs.Each.{at_within, each-set}
 use Rattle.nub_rule.proofs.Members.{member_steps}
-use Rattle.nub_rule.proofs.Frames.{other, spins-frame, lines-frame, shows-frame, bits-stay, ready-stay, spins-stay, shown-stay, alert-seen-stays}
+use Rattle.nub_rule.proofs.Frames.{lives-stay, other, spins-frame, lines-frame, shows-frame, bits-stay, ready-stay, spins-stay, shown-stay, alert-seen-stays}
 use Rattle.nub_rule.proofs.Beginning.{waits-stay, begun-same}
 use Rattle.nub_rule.proofs.Owing.{owes-frame}
 use Rattle.nub_rule.proofs.Spinning.{taken-by}
@@ -83,10 +83,10 @@ either_way false f g = g refl
 
 module _ {T H : Type 0} (traced : Bool) (total : ℕ) (words : List ℕ) (writer : Option ℕ) (all : List (Part T H)) (n : ℕ) (p q : Part T H) (at : get_elem? all n ≡ some p) where
   -- an event by the thread n
-  pub pens-event : (words' : List ℕ) → get_or words' pen_at 0 ≡ get_or words pen_at 0 → get_or words' number_at 0 ≡ get_or words number_at 0 → MayTell traced p.pen → q.pen ≡ made p.pen → Pens traced total words writer all → Pens traced (total + 1) words' writer (set all n q)
+  pub pens-event : (words' : List ℕ) → get_or words' pen_at 0 ≡ get_or words pen_at 0 → get_or words' number_at 0 ≡ get_or words number_at 0 → MayTell traced p.life p.pen → q.pen ≡ made p.pen → Pens traced total words writer all → Pens traced (total + 1) words' writer (set all n q)
   pens-event words' ep en may is h = either_way traced
       (λ traces.
-      let r = may traces in
+      let r = may.1 traces in
       let old : PenFits total (get_or words number_at 0) writer n (Read r.0) = subst (PenFits total (get_or words number_at 0) writer n) r.1 (h.pens n p at) in
       let own : writer ≡ some n = old.0 in record {
         flag = subst (λ (x : ℕ). Marks x writer) (sym ep) h.flag;
@@ -149,15 +149,15 @@ module _ {T H : Type 0} (traced : Bool) (total : ℕ) (words : List ℕ) (writer
 
 module _ {T H W : Type 0} (l : Layout) (traced : Bool) (w : W) (begin : W → ℕ → H) (holds : W → List T → List H → Type 0) where
   alike : (p : Part T H) (x : Pen) → Alike l traced w holds p (record p { pen = x })
-  alike p x = record { seen = refl; mine = refl; places = refl; held = refl; share = refl }
+  alike p x = record { version = refl; life = refl; seen = refl; mine = refl; places = refl; held = refl; share = refl }
 
   -- a step on the pen or the number
   with_pen : (words : List ℕ) (homes : List (Option (Slot T))) (all : List (Part T H)) (n i y : ℕ) (p : Part T H) (x : Pen) (writer' : Option ℕ) → pen_at ≤ i → i ≤ number_at → get_elem? all n ≡ some p → (c : Core l traced w holds words homes all) → Pens traced (length c.log) (set words i y) writer' (set all n (record p { pen = x }))
       → Core l traced w holds (set words i y) homes (set all n (record p { pen = x }))
-  with_pen words homes all n i y p x writer' lo hi at c pens = let q : Part T H = record p { pen = x } in beside l traced w holds words (set words i y) homes homes all n p q at (length-set words i y) refl (bits-stay words i y (λ k up z. omega arith)) (λ m. refl) (alike p x) c.spinner writer' c.queue c.owed c
+  with_pen words homes all n i y p x writer' lo hi at c pens = let q : Part T H = record p { pen = x } in beside l traced w holds words (set words i y) homes homes all n p q at (length-set words i y) refl (bits-stay words i y (λ k up z. omega arith)) (lives-stay words i y (λ k up z. omega arith)) (λ m. refl) (alike p x) c.spinner writer' c.queue c.owed c
       (spins-frame all n p q at c.spinner c.queue c.owed words (set words i y) homes homes (spins-stay words i y (λ k up z. omega arith) (λ k up z. omega arith)) (λ o lo. refl) refl refl refl c.spins)
       (lines-frame all n p q at (λ o. c.owed o ++ c.queue o) words (set words i y) c.sizes.few (ready-stay words i y (λ k up z. omega arith)) refl c.lines)
-      (shows-frame all n p q at c.spinner c.queue c.owner c.spec words (set words i y) (shown-stay words i y (λ k up z. omega arith) (λ k up z. omega arith) (λ k up z. omega arith)) refl refl refl refl c.shows)
+      (shows-frame all n p q at c.spinner c.queue c.owner c.spec words (set words i y) (shown-stay words i y (λ k up z. omega arith) (λ k up z. omega arith) (λ k up z. omega arith)) refl refl refl refl refl c.shows)
       pens
       (alert-seen-stays all n p q at words i y c.sizes.few (λ k up z. omega arith) refl c.alert_seen)
       (owes-frame c.queue words (set words i y) all n p q at (λ k up. other words i (bit_at k) y (λ z. omega arith)) refl refl refl c.owes)

@@ -24,7 +24,7 @@ use Rattle.nub_rule.proofs.Members.{member_steps}
 use Rattle.nub_rule.specs.Parts.{stands_at}
 use Rattle.nub_rule.specs.Owed.{WakeOwed}
 use Rattle.nub_rule.specs.Begun.{IsCounted}
-use Rattle.nub_rule.proofs.Frames.{SameShown, other, pens-frame, bits-stay, ready-stay, shown-stay, pen-stay, alert-seen-stays, alert-seen-frame}
+use Rattle.nub_rule.proofs.Frames.{lives-stay, SameShown, other, pens-frame, bits-stay, ready-stay, shown-stay, pen-stay, alert-seen-stays, alert-seen-frame}
 use Rattle.nub_rule.proofs.Standing.{some_none, both_ways, not_true, mem-behind, distinct-apart, distinct-behind, without-append, without-absent, less-without, lines-push, lines-leave, lines-same}
 use Rattle.nub_rule.proofs.Showing.{shows-gate}
 use Rattle.nub_rule.proofs.Spinning.{only_here, spins-change}
@@ -66,7 +66,7 @@ module _ {T H W : Type 0} (l : Layout) (traced : Bool) (w : W) (begin : W → �
       → Shows (set words (length_at o) (length ys)) c.spinner (put c.queue o ys) c.owner c.spec (set all n q) → WakeOwed (put c.queue o ys) (set words (length_at o) (length ys)) (set all n q) → q.raised ≡ p.raised → (IsCounted p → IsCounted q) → Core l traced w holds (set words (length_at o) (length ys)) homes (set all n q)
   requeues_by n o p q ys zs words homes all at far here a es eq eo ep ea c lines shows owes er counted =
       let s = c.spins in let words' : List ℕ = set words (length_at o) (length ys) in let wide = c.sizes.words_wide in
-      beside l traced w holds words words' homes homes all n p q at (length-set words (length_at o) (length ys)) refl (bits-stay words (length_at o) (length ys) (λ k up z. omega arith)) (λ m. refl) a c.spinner c.writer (put c.queue o ys) (put c.owed o zs) c
+      beside l traced w holds words words' homes homes all n p q at (length-set words (length_at o) (length ys)) refl (bits-stay words (length_at o) (length ys) (λ k up z. omega arith)) (lives-stay words (length_at o) (length ys) (λ k up z. omega arith)) (λ m. refl) a c.spinner c.writer (put c.queue o ys) (put c.owed o zs) c
       (spins-change c.spinner c.queue c.owed words homes all n p q at s o ys zs (put c.queue o ys) (put c.owed o zs) words' far here es eq eo (put-here c.queue o ys) (λ k ne. put-else c.queue o k ys ne) (put-here c.owed o zs) (λ k ne. put-else c.owed o k zs ne)
       (λ k lo. other words (length_at o) (spin_at k) (length ys) (λ z. omega arith)) (get_or-set_same words (length_at o) (length ys) 0 (omega arith)) (λ k lo ne. other words (length_at o) (length_at k) (length ys) (λ z. ne (omega arith))))
       lines
@@ -86,7 +86,7 @@ module _ {T H W : Type 0} (l : Layout) (traced : Bool) (w : W) (begin : W → �
       → q.raised ≡ p.raised → (IsCounted p → IsCounted q) → Core l traced w holds (set words (length_at o) (length ys)) homes (set all n q)
   requeues n o p q ys zs words homes all at low here a es eq eo el ew ep ea c lines owes er counted = let far : o < 192 = omega arith in
       requeues_by n o p q ys zs words homes all at far here a es eq eo ep ea c lines
-      (shows-gate words (set words (length_at o) (length ys)) (length-shown o far words (length ys)) c.spinner c.queue c.owner c.spec all n p q at o ys low ew el (only_here c.spinner c.queue c.owed words homes all n p q at c.spins o here) c.shows)
+      (shows-gate words (set words (length_at o) (length ys)) (length-shown o far words (length ys)) c.spinner c.queue c.owner c.spec all n p q at a.life o ys low ew el (only_here c.spinner c.queue c.owed words homes all n p q at c.spins o here) c.shows)
       owes
       er
       counted
@@ -95,7 +95,7 @@ module _ {T H W : Type 0} (l : Layout) (traced : Bool) (w : W) (begin : W → �
   notes : (n i : ℕ) (p : Part T H) (failed turns cleared looked : List ℕ) (words : List ℕ) (homes : List (Option (Slot T))) (all : List (Part T H)) → get_elem? all n ≡ some p → (c : Core l traced w holds words homes all) → WakeOwed c.queue words (set all n (record p { failed = failed; turns = turns; cleared = cleared; looked = looked }))
       → Core l traced w holds (set words i (get_or words i 0)) homes (set all n (record p { failed = failed; turns = turns; cleared = cleared; looked = looked }))
   notes n i p failed turns cleared looked words homes all at c owes = let q : Part T H = record p { failed = failed; turns = turns; cleared = cleared; looked = looked } in
-      still l traced w holds words homes all i n p q at record { seen = refl; mine = refl; places = refl; held = refl; share = refl } refl refl refl refl refl refl refl c
+      still l traced w holds words homes all i n p q at record { version = refl; life = refl; seen = refl; mine = refl; places = refl; held = refl; share = refl } refl refl refl refl refl refl refl c
       (lines-same (λ o. c.owed o ++ c.queue o) (λ o. c.owed o ++ c.queue o) words words all n p q at c.sizes.few (λ t lo. refl) (λ o. refl) refl c.lines)
       (alert-seen-frame all n p q at words words c.sizes.few (λ k lo. refl) refl c.alert_seen)
       owes
@@ -133,7 +133,7 @@ module _ {T H W : Type 0} (l : Layout) (traced : Bool) (w : W) (begin : W → �
         q,
         keeps,
         tt,
-        requeues n o p q ys (c.owed o) words homes all at low here record { seen = refl; mine = refl; places = refl; held = refl; share = refl } refl refl mine.2 (λ e. ap (λ z. z ++ n ∷ []) e) refl refl refl c
+        requeues n o p q ys (c.owed o) words homes all at low here record { version = refl; life = refl; seen = refl; mine = refl; places = refl; held = refl; share = refl } refl refl mine.2 (λ e. ap (λ z. z ++ n ∷ []) e) refl refl refl c
             (lines-push line line' words words' all n p q at c.sizes.few o st (ready-stay words (length_at o) (length ys) (λ k up z. omega arith)) is (λ k ne i. put-else c.owed o k (c.owed o) ne i ++ put-else c.queue o k ys ne i) out refl refl (λ f. f) c.lines)
             (owes-push c.queue (put c.queue o ys) words words' all n p q at o st (length-gates o far words (length ys)) (put-here c.queue o ys ∙ ap (λ z. z ++ n ∷ []) mine.1) (λ k ne. put-else c.queue o k ys ne) out refl refl tt (λ f. f) refl refl c.owes)
             refl
@@ -166,7 +166,7 @@ module _ {T H W : Type 0} (l : Layout) (traced : Bool) (w : W) (begin : W → �
         q,
         keeps,
         tt,
-        requeues n o p q ys (c.owed o) words homes all at low here record { seen = refl; mine = refl; places = refl; held = refl; share = refl } refl refl mine.2 (λ e. ap (less n) e) refl refl refl c
+        requeues n o p q ys (c.owed o) words homes all at low here record { version = refl; life = refl; seen = refl; mine = refl; places = refl; held = refl; share = refl } refl refl mine.2 (λ e. ap (less n) e) refl refl refl c
             (lines-leave line line' words words' all n p q at c.sizes.few o (ready-stay words (length_at o) (length ys) (λ k up z. omega arith)) is (λ k ne i. put-else c.owed o k (c.owed o) ne i ++ put-else c.queue o k ys ne i) (mem-behind n (c.owed o) (c.queue o) queued) refl c.lines)
             (owes-leave c.queue (put c.queue o ys) words words' all n p q at o (length-gates o far words (length ys)) (λ k ne. put-else c.queue o k ys ne) ((c.lines.stands n p at).lined o (mem-behind n (c.owed o) (c.queue o) queued)).0 refl refl refl c.owes)
             refl
@@ -198,7 +198,7 @@ module _ {T H W : Type 0} (l : Layout) (traced : Bool) (w : W) (begin : W → �
         q,
         keeps,
         tt,
-        requeues n o p q ys zs words homes all at low here record { seen = refl; mine = refl; places = refl; held = refl; share = refl } refl refl refl (λ e. ap behind e) refl refl refl c
+        requeues n o p q ys zs words homes all at low here record { version = refl; life = refl; seen = refl; mine = refl; places = refl; held = refl; share = refl } refl refl refl (λ e. ap behind e) refl refl refl c
             (lines-same line line' words words' all n p q at c.sizes.few (ready-stay words (length_at o) (length ys) (λ k up z. omega arith)) same refl c.lines)
             (owes-pop c.queue (put c.queue o ys) words words' all n p q at o (length-gates o far words (length ys))
             (first_stands all (c.owed o) (c.queue o) words line (put c.queue o ys o) o c.lines refl (put-here c.queue o ys ∙ ap behind mine.1)) (λ e. put-here c.queue o ys ∙ (ap behind mine.1 ∙ ap behind e)) (λ k ne. put-else c.queue o k ys ne) refl refl refl c.owes)

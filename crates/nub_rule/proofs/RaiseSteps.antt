@@ -18,7 +18,7 @@ use Rattle.nub_rule.specs.Plays.{Becomes, Grows, told, with_part, alert_raise_ev
 use Rattle.nub_rule.specs.Rule.{IsKept}
 use Rattle.nub_rule.proofs.Each.{put-here, put-else}
 use Rattle.nub_rule.proofs.Members.{Steps, member_steps}
-use Rattle.nub_rule.proofs.Frames.{other, semaphores-frame}
+use Rattle.nub_rule.proofs.Frames.{lives-frame, lives-stay, lived-frame, other, semaphores-frame}
 use Rattle.nub_rule.proofs.Standing.{not_true, stand_none, mem-behind}
 use Rattle.nub_rule.proofs.Beginning.{waits-stay, begun-frame, counted-over}
 use Rattle.nub_rule.proofs.Owing.{owes-frame}
@@ -35,7 +35,7 @@ module _ {T H W : Type 0} (l : Layout) (traced : Bool) (w : W) (begin : W → �
   abbrev raised : ℕ → Wait → Part T H → List Event → Part T H
   raised n x p z = record (told p z (alert_raise_event n x.mutex.0 x.cond.0)) { wait = None; alerted = false }
 
-  raises_at : (n : ℕ) (p : Part T H) (cs : List (ℕ × Slot T)) (x : Wait) (y : T) → n < most_threads → (x.mutex.0 < l.mutexes) × (x.cond.0 < l.conditions) → p.wait ≡ Some x → x.alertable ≡ true → Got p x.mutex.0 y → p.stand ≡ None → p.alerted ≡ true → MayTell traced p.pen
+  raises_at : (n : ℕ) (p : Part T H) (cs : List (ℕ × Slot T)) (x : Wait) (y : T) → n < most_threads → (x.mutex.0 < l.mutexes) × (x.cond.0 < l.conditions) → p.wait ≡ Some x → x.alertable ≡ true → Got p x.mutex.0 y → p.stand ≡ None → p.alerted ≡ true → MayTell traced p.life p.pen
       → Steps l traced w begin holds n (alert_at n) (λ _. 0) p cs (λ r q ds. (r ≡ 1) × Learns (alert_raise_event n x.mutex.0 x.cond.0) n p (raised n x p) q × (ds ≡ cs))
   raises_at n p cs x y low named before alertable got apart seen may words homes all k at small =
       let m : ℕ = x.mutex.0 in
@@ -52,23 +52,24 @@ module _ {T H W : Type 0} (l : Layout) (traced : Bool) (w : W) (begin : W → �
       let alerted : k.spec.alerts n ≡ true = said-one (get_or words i 0) (k.spec.alerts n) (k.shows.alerts n low) one in
       let unqueued : mem n (k.queue (cond_object c)) ≡ false = not_true (mem n (k.queue (cond_object c))) (λ is. stand_none p.stand (cond_object c) apart ((k.lines.stands n p at).lined (cond_object c) (mem-behind n (k.owed (cond_object c)) (k.queue (cond_object c)) is)).0) in
       let done = marks l traced w holds e n i 0 p (raised n x p) words homes all k (acted n k.spec e.action) at refl named may (alert-aside n low)
-      (λ z. record { seen = refl; mine = refl; places = refl; held = refl; share = refl; spin = refl; queue = refl; owed = refl; stand = refl; pen = refl })
-      (record { live = k.shows.lives n; order = begun; requires_met = tt; when_met = (nobody, alerted); choice_met = tt }, refl)
+      (λ z. record { version = refl; seen = refl; mine = refl; places = refl; held = refl; share = refl; spin = refl; queue = refl; owed = refl; stand = refl; pen = refl })
+      (record { live = k.shows.lives n p at ∙ may.0; order = begun; requires_met = tt; when_met = (nobody, alerted); choice_met = tt }, refl)
       (λ z. record {
         holders = holders-take words words' k.spinner k.queue k.owner all n p (raised n x p z) at k.owner k.spec.holder m own (λ j ne. refl) refl (λ j ne. ap (λ v. waits_on v j) before ∙ ne_eqb m j (λ f. ne (sym f))) k.shows.holders;
         pendings = pendings-put words words' k.spinner k.queue k.owner all n p (raised n x p z) at k.spec.pending (put k.spec.pending n Nothing) (put-here k.spec.pending n Nothing) (λ j ne. put-else k.spec.pending n j Nothing ne) k.shows.pendings;
         semaphores = semaphores-frame k.spec.avail words words' (λ j lo. other words i (bit_at (sem_object j)) 0 (λ f. omega arith)) k.shows.semaphores;
         alerts = alerts-set words words' k.spec.alerts n false (λ j lo ne. other words i (alert_at j) 0 (λ f. ne (omega arith))) (inl (zero_now, refl)) k.shows.alerts;
         conditions = conditions-out words words' k.spinner k.queue k.spec.members all n p (raised n x p z) at k.shows.conditions c x (λ j lo. other words i (count_at (cond_object j)) 0 (λ f. omega arith)) before refl refl refl refl unqueued;
-        lives = k.shows.lives;
+        lives = lived-frame all n p (raised n x p z) at k.spec.life refl k.shows.lives;
       })
       (λ z. alert-seen-clear words 0 all n p (raised n x p z) at refl k.alert_seen)
+      (λ z. lives-frame all n p (raised n x p z) at words words' k.sizes.few (lives-stay words i 0 (λ j lo f. omega arith)) refl k.lives)
       (λ z. owes-frame k.queue words words' all n p (raised n x p z) at (λ j lo. other words i (bit_at j) 0 (λ f. omega arith)) refl refl refl k.owes)
       (λ z. begun-frame words words' all n p (raised n x p z) at (waits-stay words i 0 (λ j lo f. omega arith)) refl (λ h. counted-over p (raised n x p z) refl h refl apart) k.begun) in
       (done.0, keeps, tt, done.1, (one, done.2, refl))
 
   pub swap_alert_in_raise_keeps : (slots id m c : ℕ) (me : Me (Slot T) (View T H W)) (i : ℕ) (x : Wait) (y : T) → i ≡ alert_at me.0.number → me.0.number < most_threads → me.0.kind ≡ Member → (m < l.mutexes) × (c < l.conditions) → me.0.part.wait ≡ Some x → x.mutex.0 ≡ m → x.cond.0 ≡ c → x.alertable ≡ true
-      → Got me.0.part m y → me.0.part.stand ≡ None → me.0.part.alerted ≡ true → MayTell traced me.0.part.pen → Allows (IsKept l traced w begin holds) slots id me i (λ _. 0) (swap_alert_in_raise_tells (step slots i 0 0 none) me)
+      → Got me.0.part m y → me.0.part.stand ≡ None → me.0.part.alerted ≡ true → MayTell traced me.0.part.life me.0.part.pen → Allows (IsKept l traced w begin holds) slots id me i (λ _. 0) (swap_alert_in_raise_tells (step slots i 0 0 none) me)
   swap_alert_in_raise_keeps slots id m c me i x y word low kind named before on_mutex on_cond alertable got apart seen may = subst (λ (i : ℕ). Allows (IsKept l traced w begin holds) slots id me i (λ _. 0) (swap_alert_in_raise_tells (step slots i 0 0 none) me)) (sym word) here
     where
       here : Allows (IsKept l traced w begin holds) slots id me (alert_at me.0.number) (λ _. 0) (swap_alert_in_raise_tells (step slots (alert_at me.0.number) 0 0 none) me)

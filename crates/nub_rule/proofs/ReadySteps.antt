@@ -24,7 +24,7 @@ use Rattle.nub_rule.specs.Plays.{with_part, set_ready_tells, read_ready_tells, c
 use Rattle.nub_rule.specs.Rule.{IsKept}
 use Rattle.nub_rule.proofs.Each.{at_below, put-here, put-else}
 use Rattle.nub_rule.proofs.Members.{member_steps}
-use Rattle.nub_rule.proofs.Frames.{other, spins-frame, shows-frame, pens-frame, bits-stay, spins-stay, shown-stay, pen-stay, alert-seen-stays, alert-seen-frame}
+use Rattle.nub_rule.proofs.Frames.{lives-stay, other, spins-frame, shows-frame, pens-frame, bits-stay, spins-stay, shown-stay, pen-stay, alert-seen-stays, alert-seen-frame}
 use Rattle.nub_rule.proofs.Standing.{some_none, false_true, mem-append, distinct-apart, without-append, without-absent, lines-ready, lines-unready, lines-stage}
 use Rattle.nub_rule.proofs.Spinning.{spins-change}
 use Rattle.nub_rule.proofs.Beside.{beside, still}
@@ -60,12 +60,12 @@ module _ {T H W : Type 0} (l : Layout) (traced : Bool) (w : W) (begin : W → �
         q,
         keeps,
         tt,
-        beside l traced w holds words words' homes homes all n p q at (length-set words (ready_at t) 1) refl (bits-stay words (ready_at t) 1 (λ k up z. omega arith)) (λ m. refl) record { seen = refl; mine = refl; places = refl; held = refl; share = refl } c.spinner c.writer c.queue owed' c
+        beside l traced w holds words words' homes homes all n p q at (length-set words (ready_at t) 1) refl (bits-stay words (ready_at t) 1 (λ k up z. omega arith)) (lives-stay words (ready_at t) 1 (λ k up z. omega arith)) (λ m. refl) record { version = refl; life = refl; seen = refl; mine = refl; places = refl; held = refl; share = refl } c.spinner c.writer c.queue owed' c
             (spins-change c.spinner c.queue c.owed words homes all n p q at s o (c.queue o) zs c.queue owed' words' below here refl mine.1 (ap (without t) mine.2) refl (λ k ne. refl) (put-here c.owed o zs) (λ k ne. put-else c.owed o k zs ne)
             (λ k lo. (spins-stay words (ready_at t) 1 (λ k up z. omega arith) (λ k up z. omega arith) k lo).0) ((spins-stay words (ready_at t) 1 (λ k up z. omega arith) (λ k up z. omega arith) o below).1 ∙ s.measured o below) (λ k lo ne. (spins-stay words (ready_at t) 1 (λ k up z. omega arith) (λ k up z. omega arith) k lo).1))
             (lines-ready (λ i. c.owed i ++ c.queue i) (λ i. owed' i ++ c.queue i) words words' all n p q at c.sizes.few t o (λ k lo ne. other words (ready_at t) (ready_at k) 1 (λ z. ne (omega arith))) (get_or-set_same words (ready_at t) 1 0 (omega arith))
             is (λ k ne. ap (λ z. z ++ c.queue k) (put-else c.owed o k zs ne)) inline refl lines)
-            (shows-frame all n p q at c.spinner c.queue c.owner c.spec words words' (shown-stay words (ready_at t) 1 (λ k up z. omega arith) (λ k up z. omega arith) (λ k up z. omega arith)) refl refl refl refl c.shows)
+            (shows-frame all n p q at c.spinner c.queue c.owner c.spec words words' (shown-stay words (ready_at t) 1 (λ k up z. omega arith) (λ k up z. omega arith) (λ k up z. omega arith)) refl refl refl refl refl c.shows)
             (pens-frame all n p q at traced (length c.log) c.writer words words' (pen-stay words (ready_at t) 1 (λ z. omega arith) (λ z. omega arith)) refl c.pens)
             (alert-seen-stays all n p q at words (ready_at t) 1 c.sizes.few (λ k up z. omega arith) refl c.alert_seen)
             (owes-frame c.queue words words' all n p q at (λ k lo. other words (ready_at t) (bit_at k) 1 (λ z. omega arith)) refl refl refl c.owes)
@@ -77,7 +77,7 @@ module _ {T H W : Type 0} (l : Layout) (traced : Bool) (w : W) (begin : W → �
   restages : (n i : ℕ) (p : Part T H) (s : Stand) (g : Stage) (words : List ℕ) (homes : List (Option (Slot T))) (all : List (Part T H)) → get_elem? all n ≡ some p → p.stand ≡ Some s → (c : Core l traced w holds words homes all) → (IsFound g → get_or words (ready_at n) 0 ≡ 1) → (IsUntested s.stage → get_or words (bit_at s.at) 0 ≡ 0 → IsUntested g) → (IsAsleep g → p.cleared ≡ [])
       → Core l traced w holds (set words i (get_or words i 0)) homes (set all n (record p { stand = staged g p.stand }))
   restages n i p s g words homes all at stood c found untested asleep = let q : Part T H = record p { stand = staged g p.stand } in
-      still l traced w holds words homes all i n p q at record { seen = refl; mine = refl; places = refl; held = refl; share = refl } refl refl refl refl refl refl refl c
+      still l traced w holds words homes all i n p q at record { version = refl; life = refl; seen = refl; mine = refl; places = refl; held = refl; share = refl } refl refl refl refl refl refl refl c
       (lines-stage (λ o. c.owed o ++ c.queue o) (λ o. c.owed o ++ c.queue o) words words all n p q at c.sizes.few s (record s { stage = g }) (λ t lo. refl) (λ o. refl) stood (ap (staged g) stood) refl found c.lines)
       (alert-seen-frame all n p q at words words c.sizes.few (λ k lo. refl) refl c.alert_seen)
       (owes-stage c.queue words words all n p q at s (record s { stage = g }) (λ k lo. refl) stood (ap (staged g) stood) refl untested asleep refl refl c.owes)
@@ -116,10 +116,10 @@ module _ {T H W : Type 0} (l : Layout) (traced : Bool) (w : W) (begin : W → �
         q,
         keeps,
         tt,
-        beside l traced w holds words words' homes homes all n p q at (length-set words i 0) refl (bits-stay words (ready_at n) 0 (λ k up z. omega arith)) (λ m. refl) record { seen = refl; mine = refl; places = refl; held = refl; share = refl } c.spinner c.writer c.queue c.owed c
+        beside l traced w holds words words' homes homes all n p q at (length-set words i 0) refl (bits-stay words (ready_at n) 0 (λ k up z. omega arith)) (lives-stay words (ready_at n) 0 (λ k up z. omega arith)) (λ m. refl) record { version = refl; life = refl; seen = refl; mine = refl; places = refl; held = refl; share = refl } c.spinner c.writer c.queue c.owed c
             (spins-frame all n p q at c.spinner c.queue c.owed words words' homes homes (spins-stay words (ready_at n) 0 (λ k up z. omega arith) (λ k up z. omega arith)) (λ k lo. refl) refl refl refl c.spins)
             (lines-unready (λ k. c.owed k ++ c.queue k) (λ k. c.owed k ++ c.queue k) words words' all n p q at c.sizes.few (λ k lo ne. other words i (ready_at k) 0 (λ z. ne (omega arith))) (λ k. refl) one (get_or-set_same words i 0 0 (omega arith)) refl c.lines)
-            (shows-frame all n p q at c.spinner c.queue c.owner c.spec words words' (shown-stay words (ready_at n) 0 (λ k up z. omega arith) (λ k up z. omega arith) (λ k up z. omega arith)) refl refl refl refl c.shows)
+            (shows-frame all n p q at c.spinner c.queue c.owner c.spec words words' (shown-stay words (ready_at n) 0 (λ k up z. omega arith) (λ k up z. omega arith) (λ k up z. omega arith)) refl refl refl refl refl c.shows)
             (pens-frame all n p q at traced (length c.log) c.writer words words' (pen-stay words (ready_at n) 0 (λ z. omega arith) (λ z. omega arith)) refl c.pens)
             (alert-seen-stays all n p q at words i 0 c.sizes.few (λ k up z. omega arith) refl c.alert_seen)
             (owes-unready c.queue words words' all n p q at s (λ k lo. other words i (bit_at k) 0 (λ z. omega arith)) stood refl refl refl c.owes)

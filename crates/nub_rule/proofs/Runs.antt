@@ -1,7 +1,8 @@
 -- What one more event at the end does to a run and to the parts of the threads.
 use Rattle.std.proofs.Common.{◌≡◌, ◌≢◌, ℕ, ◌+◌, true, false, eqb, List, [], ◌∷◌, ◌++◌, length, refl, sym, ap, ◌∙◌, subst, append_assoc, eq-eqb, ne_eqb, cond, arith}
 use Rattle.larch_actions.specs.declared.event.Event.{Event}
-use Rattle.larch_actions.specs.Actions.{Spec, Acts, Leads, by_thread, StartsWith}
+use Rattle.larch_actions.specs.declared.event.Version.{Version}
+use Rattle.larch_actions.specs.Actions.{Spec, Acts, IsRun, Leads, by_thread, StartsWith}
 use Rattle.nub_rule.specs.Items.{places_from}
 
 pub leads-snoc : (s : Spec) (es : List Event) (t : Spec) (e : Event) (u : Spec) → Leads s es t → Acts t e u → Leads s (es ++ e ∷ []) u
@@ -30,3 +31,7 @@ places-own i t (x ∷ xs) e is = let h : (i + 1) + length xs ≡ i + length (x �
 
 pub starts-more : (xs ys : List Event) (e : Event) → StartsWith xs ys → StartsWith (xs ++ e ∷ []) ys
 starts-more xs ys e s = (s.0 ++ e ∷ [], ap (λ l. l ++ e ∷ []) s.1 ∙ append_assoc ys s.0 (e ∷ []))
+
+-- a run of one version, as that of the same list by another name
+pub run-of : (v w : Version) → w ≡ v → (t : Spec) {xs ys : List Event} → xs ≡ ys → IsRun v xs t → IsRun w ys t
+run-of v w ev t e run = subst (λ (z : Version × List Event). IsRun z.0 z.1 t) (λ i. (sym ev i, e i)) run

@@ -26,7 +26,7 @@ use Rattle.nub_rule.specs.Places.{bit_at, count_at, alert_at, sem_object, cond_o
 use Rattle.nub_rule.specs.Plays.{with_part, told, Grows, MayTakeSem, event, p_event, alert_p_event, p_action, v_event, try_p_tells, clear_sem_tells, Becomes}
 use Rattle.nub_rule.specs.Rule.{IsKept}
 use Rattle.nub_rule.proofs.Members.{member_steps}
-use Rattle.nub_rule.proofs.Frames.{other, alert-seen-stays, alert-seen-frame}
+use Rattle.nub_rule.proofs.Frames.{lives-frame, lives-stay, other, alert-seen-stays, alert-seen-frame}
 use Rattle.nub_rule.proofs.Standing.{lines-same}
 use Rattle.nub_rule.proofs.Beside.{still}
 use Rattle.nub_rule.specs.Owed.{WakeOwed}
@@ -63,17 +63,18 @@ p-acts false n s old lives idle free = (record { live = lives; order = idle; req
 
 module _ {T H W : Type 0} (l : Layout) (traced : Bool) (w : W) (begin : W → ℕ → H) (holds : W → List T → List H → Type 0) where
   -- an event by which the bit of the semaphore s becomes x
-  sem-marks : (e : Event) (n s x : ℕ) (b : Bool) (p : Part T H) (failed turns cleared : List ℕ) (words : List ℕ) (homes : List (Option (Slot T))) (all : List (Part T H)) (c : Core l traced w holds words homes all) → get_elem? all n ≡ some p → s < 64 → e.thread.0 ≡ n → IsNamed l e.action → MayTell traced p.pen
+  sem-marks : (e : Event) (n s x : ℕ) (b : Bool) (p : Part T H) (failed turns cleared : List ℕ) (words : List ℕ) (homes : List (Option (Slot T))) (all : List (Part T H)) (c : Core l traced w holds words homes all) → get_elem? all n ≡ some p → s < 64 → e.thread.0 ≡ n → IsNamed l e.action → MayTell traced p.life p.pen
       → Acts c.spec e (record c.spec { avail = put c.spec.avail s b }) → Says x (cond b false true)
       → ((q : Part T H) → q.stand ≡ p.stand → q.turns ≡ turns → q.cleared ≡ cleared → WakeOwed c.queue (set words (bit_at (sem_object s)) x) (set all n q))
       → Marked l traced w holds e n (bit_at (sem_object s)) x p (λ z. record (told p z e) { failed = failed; turns = turns; cleared = cleared }) words homes all
   sem-marks e n s x b p failed turns cleared words homes all c at low by named may acts says owes = let o : ℕ = sem_object s in let i = bit_at o in let wide = c.sizes.words_wide in
       marks l traced w holds e n i x p (λ z. record (told p z e) { failed = failed; turns = turns; cleared = cleared }) words homes all c (record c.spec { avail = put c.spec.avail s b }) at by named may
       record { bits = λ k up z. omega arith; spins = λ k up z. omega arith; lengths = λ k up z. omega arith; ready = λ k up z. omega arith; pen = λ z. omega arith; number = λ z. omega arith }
-      (λ z. record { seen = refl; mine = refl; places = refl; held = refl; share = refl; spin = refl; queue = refl; owed = refl; stand = refl; pen = refl }) acts
-      (λ z. shows-sem words (set words i x) c.spinner c.queue c.owner c.spec all n p (record (told p z e) { failed = failed; turns = turns; cleared = cleared }) at s b (λ k up. other words i (count_at (cond_object k)) x (λ y. omega arith)) (λ k up ne. other words i (bit_at (sem_object k)) x (λ y. ne (omega arith))) (λ k up. other words i (alert_at k) x (λ y. omega arith))
+      (λ z. record { version = refl; seen = refl; mine = refl; places = refl; held = refl; share = refl; spin = refl; queue = refl; owed = refl; stand = refl; pen = refl }) acts
+      (λ z. shows-sem words (set words i x) c.spinner c.queue c.owner c.spec all n p (record (told p z e) { failed = failed; turns = turns; cleared = cleared }) at refl s b (λ k up. other words i (count_at (cond_object k)) x (λ y. omega arith)) (λ k up ne. other words i (bit_at (sem_object k)) x (λ y. ne (omega arith))) (λ k up. other words i (alert_at k) x (λ y. omega arith))
       (subst (λ (z : ℕ). Says z (cond b false true)) (sym (get_or-set_same words i x 0 (omega arith))) says) refl refl refl refl c.shows)
       (λ z. alert-seen-stays all n p (record (told p z e) { failed = failed; turns = turns; cleared = cleared }) at words i x c.sizes.few (λ k up y. omega arith) refl c.alert_seen)
+      (λ z. lives-frame all n p (record (told p z e) { failed = failed; turns = turns; cleared = cleared }) at words (set words i x) c.sizes.few (lives-stay words i x (λ k up y. omega arith)) refl c.lives)
       (λ z. owes (record (told p z e) { failed = failed; turns = turns; cleared = cleared }) refl refl refl)
       (λ z. begun-same words (set words i x) all n p (record (told p z e) { failed = failed; turns = turns; cleared = cleared }) at (waits-stay words i x (λ j lo y. omega arith)) refl refl refl c.begun)
 
@@ -81,7 +82,7 @@ module _ {T H W : Type 0} (l : Layout) (traced : Bool) (w : W) (begin : W → �
   p-named true s low = low
   p-named false s low = low
 
-  try_p_at : (alertable : Bool) (slots id s : ℕ) (me : Me (Slot T) (View T H W)) → s < 64 → s < l.semaphores → me.0.kind ≡ Member → me.0.part.wait ≡ None → MayTell traced me.0.part.pen
+  try_p_at : (alertable : Bool) (slots id s : ℕ) (me : Me (Slot T) (View T H W)) → s < 64 → s < l.semaphores → me.0.kind ≡ Member → me.0.part.wait ≡ None → MayTell traced me.0.part.life me.0.part.pen
       → Allows (IsKept l traced w begin holds) slots id me (bit_at (sem_object s)) (λ x. either (eqb x 0) 1 x) (try_p_tells (p_action alertable) (step slots (bit_at (sem_object s)) 0 1 none) me)
   try_p_at alertable slots id s me low named kind out may = let v = me.0 in let n = v.number in let p = v.part in let o : ℕ = sem_object s in let e = event n (p_action alertable s) in
       member_steps l traced w begin holds slots id (bit_at o) (λ x. either (eqb x 0) 1 x) v me.1
@@ -96,7 +97,7 @@ module _ {T H W : Type 0} (l : Layout) (traced : Bool) (w : W) (begin : W → �
       (λ hit.
       let free = zero-shows r (c.spec.avail s) (c.shows.semaphores s low) hit in
       let idle : c.spec.pending n ≡ Nothing = c.shows.pendings.pends n p at ∙ ap pending_of out in
-      let m = sem-marks e n s 1 false p (without o p.failed) (without o p.turns) p.cleared words homes all c at low refl (p-named alertable s named) may (p-acts alertable n s c.spec (c.shows.lives n) idle free) (inr (refl, refl))
+      let m = sem-marks e n s 1 false p (without o p.failed) (without o p.turns) p.cleared words homes all c at low refl (p-named alertable s named) may (p-acts alertable n s c.spec (c.shows.lives n p at ∙ may.0) idle free) (inr (refl, refl))
       (λ q es et ec. owes-try c.queue words (set words (bit_at o) 1) all n p q at o (λ k lo ne. other words (bit_at o) (bit_at k) 1 (λ z. ne (omega arith))) (λ z. let y = get_or-set_same words (bit_at o) 1 0 (omega arith) in omega arith) es ec et c.owes) in
       (m.0, keeps, tt, subst (λ b. Core l traced w holds (set words (bit_at o) (either b 1 r)) homes (set all n m.0)) (sym (eq-eqb r 0 hit)) m.1, inl (hit, m.2, refl)))
       (λ miss. let q : Part T H = record p { failed = o ∷ p.failed; turns = without o p.turns } in (
@@ -104,7 +105,7 @@ module _ {T H W : Type 0} (l : Layout) (traced : Bool) (w : W) (begin : W → �
         keeps,
         tt,
         subst (λ b. Core l traced w holds (set words (bit_at o) (either b 1 r)) homes (set all n q)) (sym (ne_eqb r 0 miss))
-            (still l traced w holds words homes all (bit_at o) n p q at record { seen = refl; mine = refl; places = refl; held = refl; share = refl } refl refl refl refl refl refl refl c
+            (still l traced w holds words homes all (bit_at o) n p q at record { version = refl; life = refl; seen = refl; mine = refl; places = refl; held = refl; share = refl } refl refl refl refl refl refl refl c
             (lines-same (λ k. c.owed k ++ c.queue k) (λ k. c.owed k ++ c.queue k) words words all n p q at c.sizes.few (λ t lo. refl) (λ k. refl) refl c.lines)
             (alert-seen-frame all n p q at words words c.sizes.few (λ k lo. refl) refl c.alert_seen)
             (owes-try c.queue words words all n p q at o (λ k lo ne. refl) miss refl refl refl c.owes)
@@ -113,11 +114,11 @@ module _ {T H W : Type 0} (l : Layout) (traced : Bool) (w : W) (begin : W → �
       )))
 
   -- the same at a word that is this place
-  pub try_p_keeps : (alertable : Bool) (slots id s : ℕ) (me : Me (Slot T) (View T H W)) (i : ℕ) → i ≡ bit_at (sem_object s) → s < 64 → s < l.semaphores → me.0.kind ≡ Member → me.0.part.wait ≡ None → MayTell traced me.0.part.pen
+  pub try_p_keeps : (alertable : Bool) (slots id s : ℕ) (me : Me (Slot T) (View T H W)) (i : ℕ) → i ≡ bit_at (sem_object s) → s < 64 → s < l.semaphores → me.0.kind ≡ Member → me.0.part.wait ≡ None → MayTell traced me.0.part.life me.0.part.pen
       → Allows (IsKept l traced w begin holds) slots id me i (λ x. either (eqb x 0) 1 x) (try_p_tells (p_action alertable) (step slots i 0 1 none) me)
   try_p_keeps alertable slots id s me i word low named kind out may = subst (λ (i : ℕ). Allows (IsKept l traced w begin holds) slots id me i (λ x. either (eqb x 0) 1 x) (try_p_tells (p_action alertable) (step slots i 0 1 none) me)) (sym word) (try_p_at alertable slots id s me low named kind out may)
 
-  clear_sem_at : (slots id s : ℕ) (me : Me (Slot T) (View T H W)) → s < 64 → s < l.semaphores → me.0.kind ≡ Member → me.0.part.wait ≡ None → me.0.part.stand ≡ None → MayTell traced me.0.part.pen
+  clear_sem_at : (slots id s : ℕ) (me : Me (Slot T) (View T H W)) → s < 64 → s < l.semaphores → me.0.kind ≡ Member → me.0.part.wait ≡ None → me.0.part.stand ≡ None → MayTell traced me.0.part.life me.0.part.pen
       → Allows (IsKept l traced w begin holds) slots id me (bit_at (sem_object s)) (λ _. 0) (clear_sem_tells (step slots (bit_at (sem_object s)) 0 0 none) me)
   clear_sem_at slots id s me low named kind out apart may = let v = me.0 in let n = v.number in let p = v.part in let o : ℕ = sem_object s in let e = v_event n s in
       member_steps l traced w begin holds slots id (bit_at o) (λ _. 0) v me.1
@@ -126,11 +127,11 @@ module _ {T H W : Type 0} (l : Layout) (traced : Bool) (w : W) (begin : W → �
       (t.0, t.1.0, t.1.1, λ i. (with_part v (t.1.2 i), t.2 i)))
       (λ words homes all c at small.
       let idle : c.spec.pending n ≡ Nothing = c.shows.pendings.pends n p at ∙ ap pending_of out in
-      let m = sem-marks e n s 0 true p p.failed p.turns (o ∷ p.cleared) words homes all c at low refl named may (record { live = c.shows.lives n; order = idle; requires_met = tt; when_met = tt; choice_met = tt }, refl) (inl (refl, refl))
+      let m = sem-marks e n s 0 true p p.failed p.turns (o ∷ p.cleared) words homes all c at low refl named may (record { live = c.shows.lives n p at ∙ may.0; order = idle; requires_met = tt; when_met = tt; choice_met = tt }, refl) (inl (refl, refl))
       (λ q es et ec. owes-clear c.queue words (set words (bit_at o) 0) all n p q at o (λ k lo ne. other words (bit_at o) (bit_at k) 0 (λ z. ne (omega arith))) apart es ec et c.owes) in
       (m.0, keeps, tt, m.1, (says-flag (get_or words (bit_at o) 0) (cond (c.spec.avail s) false true) (c.shows.semaphores s low), m.2, refl)))
 
   -- the same at a word that is this place
-  pub clear_sem_keeps : (slots id s : ℕ) (me : Me (Slot T) (View T H W)) (i : ℕ) → i ≡ bit_at (sem_object s) → s < 64 → s < l.semaphores → me.0.kind ≡ Member → me.0.part.wait ≡ None → me.0.part.stand ≡ None → MayTell traced me.0.part.pen
+  pub clear_sem_keeps : (slots id s : ℕ) (me : Me (Slot T) (View T H W)) (i : ℕ) → i ≡ bit_at (sem_object s) → s < 64 → s < l.semaphores → me.0.kind ≡ Member → me.0.part.wait ≡ None → me.0.part.stand ≡ None → MayTell traced me.0.part.life me.0.part.pen
       → Allows (IsKept l traced w begin holds) slots id me i (λ _. 0) (clear_sem_tells (step slots i 0 0 none) me)
   clear_sem_keeps slots id s me i word low named kind out apart may = subst (λ (i : ℕ). Allows (IsKept l traced w begin holds) slots id me i (λ _. 0) (clear_sem_tells (step slots i 0 0 none) me)) (sym word) (clear_sem_at slots id s me low named kind out apart may)

@@ -13,7 +13,7 @@ use Rattle.nub_rule.specs.Items.{Says, Semaphores, Alerts, Holders, Pendings, Kn
 use Rattle.nub_rule.specs.Parts.{waits_on, open_on, counts_in, pending_of}
 use Rattle.nub_rule.specs.Places.{most_threads, alert_at, bit_at, sem_object, cond_object}
 use Rattle.nub_rule.proofs.Each.{at_within, each-set, put-here, put-else}
-use Rattle.nub_rule.proofs.Frames.{SameCounts, SameSems, SameAlerts, SameShown, holders-frame, pendings-frame, semaphores-frame, alerts-frame, conditions-frame}
+use Rattle.nub_rule.proofs.Frames.{lived-frame, SameCounts, SameSems, SameAlerts, SameShown, holders-frame, pendings-frame, semaphores-frame, alerts-frame, conditions-frame}
 use Rattle.nub_rule.proofs.Standing.{some_none}
 
 module _ {T H : Type 0} (words words' : List ℕ) (spinner : ℕ → Option ℕ) (queue : ℕ → List ℕ) (owner : ℕ → Option ℕ) (all : List (Part T H)) (n : ℕ) (p q : Part T H) (at : get_elem? all n ≡ some p) where
@@ -168,7 +168,7 @@ alerts-set words words' alerted t b as' now h i lo = dite (ℕ_discrete i t)
     (λ e. subst (λ (z : ℕ). Says (get_or words' (alert_at z) 0) (put alerted t b z)) (sym e) (subst (λ (z : Bool). Says (get_or words' (alert_at t) 0) z) (sym (put-here alerted t b)) now))
     (λ ne. subst (λ (z : ℕ × Bool). Says z.0 z.1) (λ j. (sym (as' i lo ne) j, sym (put-else alerted t i b ne) j)) (h i lo))
 
-module _ {T H : Type 0} (words words' : List ℕ) (ws : SameShown words words') (spinner : ℕ → Option ℕ) (queue : ℕ → List ℕ) (owner : ℕ → Option ℕ) (spec : Spec) (all : List (Part T H)) (n : ℕ) (p q : Part T H) (at : get_elem? all n ≡ some p) where
+module _ {T H : Type 0} (words words' : List ℕ) (ws : SameShown words words') (spinner : ℕ → Option ℕ) (queue : ℕ → List ℕ) (owner : ℕ → Option ℕ) (spec : Spec) (all : List (Part T H)) (n : ℕ) (p q : Part T H) (at : get_elem? all n ≡ some p) (ei : q.life ≡ p.life) where
   -- a step that changes at most the conditions, and no wait
   shows-but-conditions : (spinner' : ℕ → Option ℕ) (queue' : ℕ → List ℕ) → q.wait ≡ p.wait → Shows words spinner queue owner spec all → Conditions words' spinner' queue' spec.members (set all n q) → Shows words' spinner' queue' owner spec (set all n q)
   shows-but-conditions spinner' queue' ew s c = record {
@@ -177,7 +177,7 @@ module _ {T H : Type 0} (words words' : List ℕ) (ws : SameShown words words') 
     semaphores = semaphores-frame spec.avail words words' ws.sems s.semaphores;
     alerts = alerts-frame spec.alerts words words' ws.alerts s.alerts;
     conditions = c;
-    lives = s.lives;
+    lives = lived-frame all n p q at spec.life ei s.lives;
   }
 
   pub shows-spin : (o : ℕ) → q.wait ≡ p.wait → q.left ≡ queue o → q.queue ≡ queue o → spinner o ≡ none → ((k : ℕ) → spinner k ≡ some n → ⊥)
@@ -202,7 +202,7 @@ module _ {T H : Type 0} (words words' : List ℕ) (ws : SameShown words words') 
     semaphores = semaphores-frame spec.avail words words' ws.sems s.semaphores;
     alerts = alerts-frame spec.alerts words words' ws.alerts s.alerts;
     conditions = conditions-back words words' spinner queue owner all n p q at spec.members ws.counts ew el ec out s.conditions;
-    lives = s.lives;
+    lives = lived-frame all n p q at spec.life ei s.lives;
   }
 
   -- the thread n gives the mutex m back
@@ -214,10 +214,10 @@ module _ {T H : Type 0} (words words' : List ℕ) (ws : SameShown words words') 
     semaphores = semaphores-frame spec.avail words words' ws.sems s.semaphores;
     alerts = alerts-frame spec.alerts words words' ws.alerts s.alerts;
     conditions = conditions-frame all n p q at spinner queue spec.members words words' ws.counts ew el eq ec s.conditions;
-    lives = s.lives;
+    lives = lived-frame all n p q at spec.life ei s.lives;
   }
 
-module _ {T H : Type 0} (words words' : List ℕ) (spinner : ℕ → Option ℕ) (queue : ℕ → List ℕ) (owner : ℕ → Option ℕ) (spec : Spec) (all : List (Part T H)) (n : ℕ) (p q : Part T H) (at : get_elem? all n ≡ some p) where
+module _ {T H : Type 0} (words words' : List ℕ) (spinner : ℕ → Option ℕ) (queue : ℕ → List ℕ) (owner : ℕ → Option ℕ) (spec : Spec) (all : List (Part T H)) (n : ℕ) (p q : Part T H) (at : get_elem? all n ≡ some p) (ei : q.life ≡ p.life) where
   -- the bit of the semaphore s is set or cleared
   pub shows-sem : (s : ℕ) (b : Bool) → SameCounts words words' → ((i : ℕ) → i < 64 → i ≢ s → get_or words' (bit_at (sem_object i)) 0 ≡ get_or words (bit_at (sem_object i)) 0) → SameAlerts words words' → Says (get_or words' (bit_at (sem_object s)) 0) (cond b false true) → q.wait ≡ p.wait → q.left ≡ p.left → q.queue ≡ p.queue → q.count ≡ p.count
       → Shows words spinner queue owner spec all → Shows words' spinner queue owner (record spec { avail = put spec.avail s b }) (set all n q)
@@ -227,7 +227,7 @@ module _ {T H : Type 0} (words words' : List ℕ) (spinner : ℕ → Option ℕ)
     semaphores = semaphores-set words words' spec.avail s b ss now h.semaphores;
     alerts = alerts-frame spec.alerts words words' al h.alerts;
     conditions = conditions-frame all n p q at spinner queue spec.members words words' cs ew el eq ec h.conditions;
-    lives = h.lives;
+    lives = lived-frame all n p q at spec.life ei h.lives;
   }
 
   -- the alert word of the thread t is set or cleared
@@ -239,5 +239,5 @@ module _ {T H : Type 0} (words words' : List ℕ) (spinner : ℕ → Option ℕ)
     semaphores = semaphores-frame spec.avail words words' ss h.semaphores;
     alerts = alerts-set words words' spec.alerts t b as' now h.alerts;
     conditions = conditions-frame all n p q at spinner queue spec.members words words' cs ew el eq ec h.conditions;
-    lives = h.lives;
+    lives = lived-frame all n p q at spec.life ei h.lives;
   }

@@ -21,7 +21,7 @@ use Rattle.nub_rule.specs.Plays.{with_part, take_spin_tells, give_spin_tells}
 use Rattle.nub_rule.specs.Rule.{IsKept}
 use Rattle.nub_rule.proofs.Each.{at_within}
 use Rattle.nub_rule.proofs.Members.{Steps, member_steps}
-use Rattle.nub_rule.proofs.Frames.{pens-frame, other, bits-stay, ready-stay, shown-stay, pen-stay, alert-seen-stays}
+use Rattle.nub_rule.proofs.Frames.{lives-stay, pens-frame, other, bits-stay, ready-stay, shown-stay, pen-stay, alert-seen-stays}
 use Rattle.nub_rule.proofs.Standing.{no_object, not_true, stand_none, distinct-behind, mem-behind, lines-same}
 use Rattle.nub_rule.proofs.Counting.{room_to_push, small_of}
 use Rattle.nub_rule.proofs.Showing.{shows-spin, shows-unspin}
@@ -58,11 +58,11 @@ module _ {T H W : Type 0} (l : Layout) (traced : Bool) (w : W) (begin : W → �
         takes (queue_at o) (Queue (line_of xs)),
         s.home o low free,
         subst (λ b. Core l traced w holds (set words (spin_at o) (either b 1 r)) homes' (set all n q)) (sym (eq-eqb r 0 hit))
-            (beside l traced w holds words words' homes homes' all n p q at (length-set words (spin_at o) 1) (length-set homes (queue_at o) none) (bits-stay words (spin_at o) 1 (λ k up z. omega arith)) (λ m. set_else homes (queue_at o) (value_at m) none (λ z. omega arith))
-            record { seen = refl; mine = refl; places = refl; held = refl; share = refl } (put c.spinner o (some n)) c.writer c.queue c.owed c
+            (beside l traced w holds words words' homes homes' all n p q at (length-set words (spin_at o) 1) (length-set homes (queue_at o) none) (bits-stay words (spin_at o) 1 (λ k up z. omega arith)) (lives-stay words (spin_at o) 1 (λ k up z. omega arith)) (λ m. set_else homes (queue_at o) (value_at m) none (λ z. omega arith))
+            record { version = refl; life = refl; seen = refl; mine = refl; places = refl; held = refl; share = refl } (put c.spinner o (some n)) c.writer c.queue c.owed c
             (spins-take c.spinner c.queue c.owed words homes all n p q at s o low c.sizes.words_wide free idle_there refl refl refl)
             (lines-same (λ i. c.owed i ++ c.queue i) (λ i. c.owed i ++ c.queue i) words words' all n p q at few (ready-stay words (spin_at o) 1 (λ k up z. omega arith)) (λ i. refl) refl lines)
-            (shows-spin words words' (shown-stay words (spin_at o) 1 (λ k up z. omega arith) (λ k up z. omega arith) (λ k up z. omega arith)) c.spinner c.queue c.owner c.spec all n p q at o refl refl refl free (λ k is. no_object k (sym idle_there ∙ (s.spinning n p at k).1 is)) c.shows refl)
+            (shows-spin words words' (shown-stay words (spin_at o) 1 (λ k up z. omega arith) (λ k up z. omega arith) (λ k up z. omega arith)) c.spinner c.queue c.owner c.spec all n p q at refl o refl refl refl free (λ k is. no_object k (sym idle_there ∙ (s.spinning n p at k).1 is)) c.shows refl)
             (pens-frame all n p q at traced (length c.log) c.writer words words' (pen-stay words (spin_at o) 1 (λ z. omega arith) (λ z. omega arith)) refl c.pens)
             (alert-seen-stays all n p q at words (spin_at o) 1 c.sizes.few (λ k up z. omega arith) refl c.alert_seen)
             (owes-frame c.queue words words' all n p q at (λ k lo. other words (spin_at o) (bit_at k) 1 (λ z. omega arith)) refl refl refl c.owes)
@@ -114,11 +114,11 @@ module _ {T H W : Type 0} (l : Layout) (traced : Bool) (w : W) (begin : W → �
         gives,
         tt,
         subst (λ (z : List (Option (Slot T))). Core l traced w holds words' z (set all n q)) (ap (put_back homes) (sym first))
-            (beside l traced w holds words words' homes homes' all n p q at (length-set words (spin_at o) 0) (length-set homes (queue_at o) (some line)) (bits-stay words (spin_at o) 0 (λ k up z. omega arith)) (λ m. set_else homes (queue_at o) (value_at m) (some line) (λ z. omega arith))
-            record { seen = refl; mine = refl; places = refl; held = refl; share = refl } (put c.spinner o none) c.writer c.queue c.owed c
+            (beside l traced w holds words words' homes homes' all n p q at (length-set words (spin_at o) 0) (length-set homes (queue_at o) (some line)) (bits-stay words (spin_at o) 0 (λ k up z. omega arith)) (lives-stay words (spin_at o) 0 (λ k up z. omega arith)) (λ m. set_else homes (queue_at o) (value_at m) (some line) (λ z. omega arith))
+            record { version = refl; life = refl; seen = refl; mine = refl; places = refl; held = refl; share = refl } (put c.spinner o none) c.writer c.queue c.owed c
             (spins-give c.spinner c.queue c.owed words homes all n p q at s o low c.sizes.words_wide (omega arith) here none_owed refl)
             (lines-same (λ i. c.owed i ++ c.queue i) (λ i. c.owed i ++ c.queue i) words words' all n p q at c.sizes.few (ready-stay words (spin_at o) 0 (λ k up z. omega arith)) (λ i. refl) refl c.lines)
-            (shows-unspin words words' (shown-stay words (spin_at o) 0 (λ k up z. omega arith) (λ k up z. omega arith) (λ k up z. omega arith)) c.spinner c.queue c.owner c.spec all n p q at o refl refl mine.0 (only_here c.spinner c.queue c.owed words homes all n p q at s o here) (even ∙ mine.1) c.shows)
+            (shows-unspin words words' (shown-stay words (spin_at o) 0 (λ k up z. omega arith) (λ k up z. omega arith) (λ k up z. omega arith)) c.spinner c.queue c.owner c.spec all n p q at refl o refl refl mine.0 (only_here c.spinner c.queue c.owed words homes all n p q at s o here) (even ∙ mine.1) c.shows)
             (pens-frame all n p q at traced (length c.log) c.writer words words' (pen-stay words (spin_at o) 0 (λ z. omega arith) (λ z. omega arith)) refl c.pens)
             (alert-seen-stays all n p q at words (spin_at o) 0 c.sizes.few (λ k up z. omega arith) refl c.alert_seen)
             (owes-frame c.queue words words' all n p q at (λ k lo. other words (spin_at o) (bit_at k) 0 (λ z. omega arith)) refl refl refl c.owes)

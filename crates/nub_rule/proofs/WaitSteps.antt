@@ -26,7 +26,7 @@ use Rattle.nub_rule.specs.Plays.{Becomes, MayFree, WonQuietly, with_part, opened
 use Rattle.nub_rule.specs.Rule.{FitsAs, IsKept}
 use Rattle.nub_rule.proofs.Each.{at_within, at_below, each-set, put-at, put-else}
 use Rattle.nub_rule.proofs.Members.{Steps, member_steps}
-use Rattle.nub_rule.proofs.Frames.{SameShown, other, sizes-frame, told-frame, spins-frame, lines-frame, semaphores-frame, alerts-frame, pens-frame, ready-stay, spins-stay, shown-stay, pen-stay, alert-seen-stays}
+use Rattle.nub_rule.proofs.Frames.{lives-frame, lives-stay, lived-frame, SameShown, other, sizes-frame, told-frame, spins-frame, lines-frame, semaphores-frame, alerts-frame, pens-frame, ready-stay, spins-stay, shown-stay, pen-stay, alert-seen-stays}
 use Rattle.nub_rule.proofs.SpinSteps.{nobody-by, one-by}
 use Rattle.nub_rule.proofs.Owing.{owes-clear}
 use Rattle.nub_rule.proofs.Beginning.{waits-stay, begun-frame, counted-rebit}
@@ -55,9 +55,9 @@ module _ {T H : Type 0} (words words' : List ℕ) (spinner : ℕ → Option ℕ)
   }
 
   -- and of its wait the thread has changed the stage of that bit alone
-  shows-rebit : (m : ℕ) (x : Wait) (b : WaitBit) (o : Option ℕ) → ((j : ℕ) → o ≡ some j → j ≡ n) → (o ≡ some n → is_open b ≡ false) → spec.holder m ≡ none → SameShown words words' → p.wait ≡ Some x → q.wait ≡ Some (record x { bit = b }) → x.mutex.0 ≡ m → q.left ≡ p.left → q.queue ≡ p.queue → q.count ≡ p.count
+  shows-rebit : (m : ℕ) (x : Wait) (b : WaitBit) (o : Option ℕ) → ((j : ℕ) → o ≡ some j → j ≡ n) → (o ≡ some n → is_open b ≡ false) → spec.holder m ≡ none → SameShown words words' → q.life ≡ p.life → p.wait ≡ Some x → q.wait ≡ Some (record x { bit = b }) → x.mutex.0 ≡ m → q.left ≡ p.left → q.queue ≡ p.queue → q.count ≡ p.count
       → Shows words spinner queue owner spec all → Shows words' spinner queue (put owner m o) spec (set all n q)
-  shows-rebit m x b o only taken nobody ws before now on el eq ec s = record {
+  shows-rebit m x b o only taken nobody ws ei before now on el eq ec s = record {
     holders = holders-rebit spec.holder m o only nobody (ap (λ z. waits_on z m) before ∙ eq-eqb x.mutex.0 m on) (λ k. ap (λ z. waits_on z k) now ∙ sym (ap (λ z. waits_on z k) before))
         (λ k is. ap (λ z. open_on z k) now ∙ dite (ℕ_discrete k m)
         (λ e. ap (λ z. cond z (eqb x.mutex.0 k) false) (taken (sym (put-at owner m o k e) ∙ is)))
@@ -66,7 +66,7 @@ module _ {T H : Type 0} (words words' : List ℕ) (spinner : ℕ → Option ℕ)
     semaphores = semaphores-frame spec.avail words words' ws.sems s.semaphores;
     alerts = alerts-frame spec.alerts words words' ws.alerts s.alerts;
     conditions = conditions-wait words words' spinner queue spec.members all n p q at s.conditions x (record x { bit = b }) ws.counts before now refl refl el eq ec;
-    lives = s.lives;
+    lives = lived-frame all n p q at spec.life ei s.lives;
   }
 
 module _ {T H W : Type 0} (l : Layout) (traced : Bool) (w : W) (begin : W → ℕ → H) (holds : W → List T → List H → Type 0) where
@@ -105,15 +105,16 @@ module _ {T H W : Type 0} (l : Layout) (traced : Bool) (w : W) (begin : W → �
             owed = c.owed;
             values = set c.values m y;
             shares = set c.shares n u;
-            sizes = sizes-frame all n p q at l words words' homes homes' (length-set words (bit_at m) 0) (length-set homes (value_at m) (some line)) (length-set p.held m None) c.sizes;
+            sizes = sizes-frame all n p q at l words words' homes homes' (length-set words (bit_at m) 0) (length-set homes (value_at m) (some line)) refl (length-set p.held m None) c.sizes;
             run = c.run;
             told = told-frame all n p q at l c.log refl refl refl c.told;
             owned = owned-give l (holds w) c.owner c.values c.shares words homes all n m p q at o wide (omega arith) inside lawful y u own (omega arith) (at_within c.values m x here) (at_within c.shares n s mine.2) (law c.values c.shares o.kept m x y here n s u mine.2 (allowed s mine.1)) refl refl;
             spins = spins-frame all n p q at c.spinner c.queue c.owed words words' homes homes' (spins-stay words (bit_at m) 0 (λ k up z. omega arith) (λ k up z. omega arith)) (λ k lo. set_else homes (value_at m) (queue_at k) (some line) (λ z. omega arith)) refl refl refl c.spins;
             lines = lines-frame all n p q at (λ k. c.owed k ++ c.queue k) words words' c.sizes.few (ready-stay words (bit_at m) 0 (λ k up z. omega arith)) refl c.lines;
-            shows = shows-rebit words words' c.spinner c.queue c.owner c.spec all n p q at m b Open none (λ j is. absurd (some-ne-none j (sym is))) (λ is. absurd (some-ne-none n (sym is))) (c.shows.holders.holds n p at m own ∙ ap (λ z. cond z none (some n)) (ap (λ z. waits_on z m) before ∙ eq-eqb b.mutex.0 m on)) (shown-stay words (bit_at m) 0 (λ k up z. omega arith) (λ k up z. omega arith) (λ k up z. omega arith)) before (ap opened before) on refl refl refl c.shows;
+            shows = shows-rebit words words' c.spinner c.queue c.owner c.spec all n p q at m b Open none (λ j is. absurd (some-ne-none j (sym is))) (λ is. absurd (some-ne-none n (sym is))) (c.shows.holders.holds n p at m own ∙ ap (λ z. cond z none (some n)) (ap (λ z. waits_on z m) before ∙ eq-eqb b.mutex.0 m on)) (shown-stay words (bit_at m) 0 (λ k up z. omega arith) (λ k up z. omega arith) (λ k up z. omega arith)) refl before (ap opened before) on refl refl refl c.shows;
             pens = pens-frame all n p q at traced (length c.log) c.writer words words' (pen-stay words (bit_at m) 0 (λ z. omega arith) (λ z. omega arith)) refl c.pens;
             alert_seen = alert-seen-stays all n p q at words (bit_at m) 0 c.sizes.few (λ k up z. omega arith) refl c.alert_seen;
+            lives = lives-frame all n p q at words words' c.sizes.few (lives-stay words (bit_at m) 0 (λ k up z. omega arith)) refl c.lives;
             owes = owes-clear c.queue words words' all n p q at m (λ k lo ne. other words (bit_at m) (bit_at k) 0 (λ z. ne (omega arith))) apart refl refl refl c.owes;
             begun = begun-frame words words' all n p q at (waits-stay words (bit_at m) 0 (λ j lo y. omega arith)) refl (λ h. counted-rebit p q refl h b Open before (ap opened before) refl) c.begun;
           },
@@ -126,7 +127,7 @@ module _ {T H W : Type 0} (l : Layout) (traced : Bool) (w : W) (begin : W → �
       where
         here : Allows (IsKept l traced w begin holds) slots id me (bit_at m) (λ _. 0) (clear_bit_in_wait_tells after (step slots (bit_at m) 0 0 none) me)
         here st r wide at small = let v = me.0 in let n = v.number in let p = v.part in let x : T = may.0 in let y : T = may.1 in
-            let world : v.world ≡ Some w = (subst (FitsAs l.threads r.given w begin r.all r.seat_of id v) kind (r.fits id v at)).world in
+            let world : v.world ≡ Some w = (subst (FitsAs l.version l.threads r.given w begin r.all r.seat_of id v) kind (r.fits id v at)).world in
             let next = λ (s : H). after w m n x y s in
             member_steps l traced w begin holds slots id (bit_at m) (λ _. 0) v me.1 (λ r q ds. (r ≡ 1) × Closes next m p me.1 q ds) (clear_bit_in_wait_tells after (step slots (bit_at m) 0 0 none) me) kind
             (λ r q ds world' t' k is. let t = t'.1 in let same : m ≡ k = omega arith in
@@ -169,9 +170,9 @@ module _ {T H W : Type 0} (l : Layout) (traced : Bool) (w : W) (begin : W → �
           q,
           takes (value_at m) (Value (Some x)),
           o.at_home m inside x found.1 free,
-          bit_taken l traced w begin holds n m p q x words homes all at inside c hit found.1 record { held = refl; share = refl; spin = refl; queue = refl; owed = refl; stand = refl; alerted = refl; cleared = refl; turns = refl; raised = refl; counted = λ h. counted-rebit p q refl h b Quiet before (ap quieted before) refl } c.log c.spec c.run
+          bit_taken l traced w begin holds n m p q x words homes all at inside c hit found.1 record { version = refl; life = refl; held = refl; share = refl; spin = refl; queue = refl; owed = refl; stand = refl; alerted = refl; cleared = refl; turns = refl; raised = refl; counted = λ h. counted-rebit p q refl h b Quiet before (ap quieted before) refl } c.log c.spec c.run
               (told-frame all n p q at l c.log refl refl refl c.told)
-              (shows-rebit words words' c.spinner c.queue c.owner c.spec all n p q at m b Quiet (some n) (λ j is. some-injective j n (sym is)) (λ _. refl) (c.shows.holders.free m free) (shown-stay words (bit_at m) 1 (λ k up z. omega arith) (λ k up z. omega arith) (λ k up z. omega arith)) before (ap quieted before) on refl refl refl c.shows)
+              (shows-rebit words words' c.spinner c.queue c.owner c.spec all n p q at m b Quiet (some n) (λ j is. some-injective j n (sym is)) (λ _. refl) (c.shows.holders.free m free) (shown-stay words (bit_at m) 1 (λ k up z. omega arith) (λ k up z. omega arith) (λ k up z. omega arith)) refl before (ap quieted before) on refl refl refl c.shows)
               (pens-frame all n p q at traced (length c.log) c.writer words words' (pen-stay words (bit_at m) 1 (λ z. omega arith) (λ z. omega arith)) refl c.pens),
           inl (
             hit,

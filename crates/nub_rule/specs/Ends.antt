@@ -1,21 +1,36 @@
 -- What a package begins with, and what it leaves.
-use Rattle.std.specs.Prelude.{false, ◌≡◌, ℕ, List, [], ◌++◌, map, length, replicate, Some}
+use Rattle.std.specs.Prelude.{false, ◌≡◌, ◌≢◌, ℕ, ◌<◌, List, [], ◌++◌, map, length, replicate, slice_index, Option as Opt, Some}
 use Rattle.std.specs.List.{range_with_len}
 use mathlib.Core.Option.{none, some}
 use lib.ListN.{get_elem?}
 use Rattle.larch_actions.specs.declared.event.Event.{Event}
 use Rattle.larch_actions.specs.declared.event.Layout.{Layout}
+use Rattle.larch_actions.specs.declared.event.Version.{Version}
+use Rattle.larch_actions.specs.declared.event.Version.TheVariants.{One, Two}
 use Rattle.larch_actions.specs.declared.event.Pending.TheVariants.{Nothing}
-use Rattle.larch_actions.specs.Actions.{Spec, IsRun, AreOver}
+use Rattle.larch_actions.specs.Actions.{Spec, IsRun, AreOver, lives_at_first}
 use Rattle.atomic_table.specs.Seated.{TableId}
 use Rattle.nub_rule.specs.declared.rule.Slot.{Slot}
 use Rattle.nub_rule.specs.declared.rule.Slot.TheVariants.{Value, Queue}
+use Rattle.nub_rule.specs.declared.view.Child.TheVariants.{No}
 use Rattle.nub_rule.specs.declared.view.Kind.TheVariants.{Member}
 use Rattle.nub_rule.specs.declared.view.Part.{Part}
 use Rattle.nub_rule.specs.Items.{no_line, Each, Told, Shared}
-use Rattle.nub_rule.specs.Parts.{fresh}
+use Rattle.nub_rule.specs.Parts.{first_part, newborn, number_of}
 use Rattle.nub_rule.specs.Known.{Known, known_as}
-use Rattle.nub_rule.specs.Places.{value_at}
+use Rattle.nub_rule.specs.Rule.{begun}
+use Rattle.nub_rule.specs.Places.{life_at, value_at, word_count}
+
+-- how many threads of so many live at first
+abbrev pub living : Version → ℕ → ℕ
+living One threads = threads
+living Two threads = 1
+
+-- the words at the start: each is 0, but those of the threads that live from the opening on
+pub record AreFirst (l : Layout) (words : List ℕ) : Type 0 where
+  pub wide : length words ≡ word_count
+  pub lives : (t : ℕ) → t < l.threads → slice_index words (life_at t) ≡ number_of (lives_at_first l.version t)
+  pub zeros : (k : ℕ) → ((t : ℕ) → k ≢ life_at t) → slice_index words k ≡ 0
 
 -- f 0, f 1 and so on, n of them
 abbrev pub firsts : {A : Type 0} → (ℕ → A) → ℕ → List A
@@ -49,5 +64,11 @@ module _ {T H : Type 0} where
 
 module _ {T H W : Type 0} where
   -- the thread n, which has done nothing
-  abbrev pub first_known : TableId → W → (W → ℕ → H) → ℕ → Known T H W
-  first_known z w begin n = known_as z n (record { world = Some w; kind = Member; number = n; part = fresh (Some (begin w n)); next = 0; back = [] }, []) [] false 0
+  abbrev pub first_known : TableId → Version → W → (W → ℕ → H) → ℕ → Known T H W
+  first_known z version w begin n =
+      known_as z n (record { world = Some w; kind = Member; number = n; part = first_part version n (Some (begin w n)); child = No; next = 0; back = [] }, []) [] false 0
+
+  -- the thread n, which was forked with this history and has done nothing
+  abbrev pub newborn_known : TableId → Version → Opt W → (W → ℕ → H) → ℕ → List Event → Known T H W
+  newborn_known z version world begin n seen =
+      known_as z n (record { world = world; kind = Member; number = n; part = newborn version seen (begun begin n world); child = No; next = 0; back = [] }, []) [] false 0

@@ -4,10 +4,9 @@ use mathlib.Core.Option.{Option, none, some}
 use lib.ListN.{get_elem?}
 use Rattle.larch_actions.specs.declared.event.Layout.{Layout}
 use Rattle.larch_actions.specs.declared.event.Event.{Event}
-use Rattle.larch_actions.specs.declared.event.Life.TheVariants.{Live}
 use Rattle.larch_actions.specs.declared.event.Pending.{Pending}
 use Rattle.larch_actions.specs.declared.event.Pending.TheVariants.{Nothing}
-use Rattle.larch_actions.specs.declared.event.Version.TheVariants.{One}
+use Rattle.larch_actions.specs.declared.event.Version.{Version}
 use Rattle.larch_actions.specs.Actions.{Spec, IsRun, StartsWith, by_thread}
 use Rattle.larch_actions.specs.Layout.{IsNamed}
 use Rattle.larch_actions.specs.Sets.{mem}
@@ -18,10 +17,10 @@ use Rattle.nub_rule.specs.declared.view.Wait.{Wait}
 use Rattle.nub_rule.specs.declared.view.Stand.{Stand}
 use Rattle.nub_rule.specs.declared.view.Pen.{Pen}
 use Rattle.nub_rule.specs.declared.view.Pen.TheVariants.{No, Taken, Read, Made, Written}
-use Rattle.nub_rule.specs.Places.{most_threads, bit_at, spin_at, length_at, count_at, alert_at, ready_at, pen_at, number_at, word_count, queue_at, value_at, sem_object, cond_object}
+use Rattle.nub_rule.specs.Places.{most_threads, bit_at, spin_at, length_at, count_at, alert_at, ready_at, life_at, pen_at, number_at, word_count, queue_at, value_at, sem_object, cond_object}
 use Rattle.nub_rule.specs.Owed.{WakeOwed}
 use Rattle.nub_rule.specs.Begun.{BegunWaits}
-use Rattle.nub_rule.specs.Parts.{Got, Has, stands_at, IsFound, waits_on, open_on, counts_in, pending_of}
+use Rattle.nub_rule.specs.Parts.{Got, Has, stands_at, IsFound, waits_on, open_on, counts_in, number_of, pending_of}
 use Rattle.arrayvec.specs.ArrayVec.{ArrayVec}
 
 -- what is true of each element and its place
@@ -109,6 +108,9 @@ module _ {T H : Type 0} where
   abbrev pub Wide : ℕ → Part T H → Type 0
   Wide n p = length p.held ≡ 64
 
+  abbrev pub HasVersion : Version → ℕ → Part T H → Type 0
+  HasVersion version n p = p.version ≡ version
+
   -- MUTEX BITS, VALUES AND SHARES: a bit is 1 exactly where one thread has it; the lock invariant holds of the values last released and the shares
   pub record Owned (l : Layout) (holds : List T → List H → Type 0) (owner : ℕ → Option ℕ) (values : List T) (shares : List H) (words : List ℕ) (homes : List (Option (Slot T))) (all : List (Part T H)) : Type 0 where
     pub standing : Each (Standing owner) all
@@ -182,6 +184,10 @@ module _ {T H : Type 0} where
   abbrev pub AlertSeen : List ℕ → List (Part T H) → Type 0
   AlertSeen words all = Each (λ n p. p.alerted ≡ true → slice_index words (alert_at n) ≡ 1) all
 
+  -- LIVES: a life word is 0 where the thread wasn't forked, 1 where it lives, and 2 where it has ended
+  abbrev pub Lives : List ℕ → List (Part T H) → Type 0
+  Lives words all = Each (λ n p. slice_index words (life_at n) ≡ number_of p.life) all
+
   -- MEANING OF THE WORDS: what words and views show of the state of the specification
   pub record Shows (words : List ℕ) (spinner : ℕ → Option ℕ) (queue : ℕ → List ℕ) (owner : ℕ → Option ℕ) (spec : Spec) (all : List (Part T H)) : Type 0 where
     pub holders : Holders owner spec.holder all
@@ -189,8 +195,7 @@ module _ {T H : Type 0} where
     pub semaphores : Semaphores words spec.avail
     pub alerts : Alerts words spec.alerts
     pub conditions : Conditions words spinner queue spec.members all
-    -- every thread lives, from the opening on
-    pub lives : (n : ℕ) → spec.life n ≡ Live
+    pub lives : Each (λ n p. spec.life n ≡ p.life) all
 
   -- NUMBERING: one thread at most has the pen. In a traced package the number word is the number of events while the pen is free. In an untraced one nobody has it
   pub record Pens (traced : Bool) (total : ℕ) (words : List ℕ) (writer : Option ℕ) (all : List (Part T H)) : Type 0 where
@@ -205,10 +210,10 @@ module _ {T H : Type 0} where
     pub words_wide : length words ≡ word_count
     pub homes_wide : length homes ≡ 192 + l.mutexes
     pub lawful : l.mutexes ≤ 64
-    pub version : l.version ≡ One
     pub few : length all ≤ most_threads
     pub count : length all ≡ l.threads
     pub parts_wide : Each Wide all
+    pub versions : Each (HasVersion l.version) all
 
   -- all items, over the words, the slots at home and the part of each thread
   pub record Core {W : Type 0} (l : Layout) (traced : Bool) (w : W) (holds : W → List T → List H → Type 0) (words : List ℕ) (homes : List (Option (Slot T))) (all : List (Part T H)) : Type 0 where
@@ -231,5 +236,6 @@ module _ {T H : Type 0} where
     pub shows : Shows words spinner queue owner spec all
     pub pens : Pens traced (length log) words writer all
     pub alert_seen : AlertSeen words all
+    pub lives : Lives words all
     pub owes : WakeOwed queue words all
     pub begun : BegunWaits words all

@@ -5,7 +5,8 @@ use mathlib.Core.Option.{some}
 use lib.ListN.{get_elem?}
 use Rattle.larch_actions.specs.declared.event.Event.{Event}
 use Rattle.larch_actions.specs.declared.event.Layout.{Layout}
-use Rattle.larch_actions.specs.declared.event.Version.TheVariants.{One}
+use Rattle.larch_actions.specs.declared.event.Life.{Life}
+use Rattle.larch_actions.specs.declared.event.Version.{Version}
 use Rattle.larch_actions.specs.Layout.{IsLawful}
 use Rattle.atomic_table.specs.Table.{Me}
 use Rattle.atomic_table.specs.Seated.{TableId}
@@ -23,6 +24,7 @@ use Rattle.nub_rule.specs.declared.view.Part.{Part}
 use Rattle.nub_rule.specs.declared.view.Wait.{Wait}
 use Rattle.nub_rule.specs.declared.view.Stand.{Stand}
 use Rattle.nub_rule.specs.declared.view.Pen.{Pen}
+use Rattle.nub_rule.specs.declared.view.Child.{Child}
 use Rattle.nub_rule.specs.declared.view.View.{View}
 use Rattle.nub_rule.specs.declared.view.Kind.TheVariants.{Member}
 use Rattle.nub_rule.specs.Items.{line_of}
@@ -48,6 +50,7 @@ pub record Known (T H W : Type 0) : Type 0 where
   pub table_id : TableId
   pub number : ℕ
   pub world : Opt W
+  pub version : Version
   -- the history at its last event, its own events, and the place of each in the history
   pub seen : List Event
   pub mine : List Event
@@ -73,6 +76,9 @@ pub record Known (T H W : Type 0) : Type 0 where
   pub alerted : Bool
   pub calling : Opt ℕ
   pub raised : Opt ℕ
+  -- whether it was forked and has ended, and what it says of one that it forks
+  pub life : Life
+  pub child : Child
   -- for each mutex, where the thread has the bit, its value, unless it was taken out
   pub values : List (Opt (Opt T))
   -- the events that it has stored with their numbers, and whether it has lost one
@@ -96,6 +102,7 @@ module _ {T H W : Type 0} where
     table_id = z;
     number = n;
     world = me.0.world;
+    version = p.version;
     seen = p.seen;
     mine = p.mine;
     places = p.places;
@@ -116,6 +123,8 @@ module _ {T H W : Type 0} where
     alerted = p.alerted;
     calling = p.calling;
     raised = p.raised;
+    life = p.life;
+    child = me.0.child;
     values = values_of me.1;
     entries = entries;
     lost = lost;
@@ -124,6 +133,7 @@ module _ {T H W : Type 0} where
 
   abbrev pub part_of : Known T H W → Part T H
   part_of k = record {
+    version = k.version;
     seen = k.seen;
     mine = k.mine;
     places = k.places;
@@ -144,11 +154,13 @@ module _ {T H W : Type 0} where
     alerted = k.alerted;
     calling = k.calling;
     raised = k.raised;
+    life = k.life;
   }
 
   -- the thread as contracts see it, with this part and these values
   abbrev pub changed : Known T H W → Part T H → List (Opt (Opt T)) → Known T H W
   changed k p vs = record k {
+    version = p.version;
     seen = p.seen;
     mine = p.mine;
     places = p.places;
@@ -169,6 +181,7 @@ module _ {T H W : Type 0} where
     alerted = p.alerted;
     calling = p.calling;
     raised = p.raised;
+    life = p.life;
     values = vs;
   }
 
@@ -267,7 +280,6 @@ pub record IsPackage {W : Type 0} (z : TableId) (key : About W) (layout : Layout
   pub words : z.words ≡ word_count
   pub slots : z.slots ≡ value_at layout.mutexes
   pub lawful : IsLawful layout
-  pub version : layout.version ≡ One
   pub bare : shelf ≡ []
   pub roomy : layout.threads ≤ room
   pub woken : unparkers ≡ layout.threads

@@ -10,5 +10,6 @@ pub mod Plays
 pub mod Known
 pub mod Queued
 pub mod Ends
+pub mod Forks
 pub mod PackageRule
 pub mod Stored

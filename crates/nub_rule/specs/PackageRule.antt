@@ -4,6 +4,7 @@ use Rattle.std.specs.Prelude.{Bool, Option as Opt, true, false, ◌≡◌, ◌�
 use mathlib.Core.Option.{Option, some}
 use lib.ListN.{get_elem?}
 use Rattle.larch_actions.specs.declared.event.Layout.{Layout}
+use Rattle.larch_actions.specs.declared.event.Version.{Version}
 use Rattle.larch_actions.specs.declared.event.Event.{Event}
 use Rattle.larch_actions.specs.declared.event.Pending.TheVariants.{Nothing}
 use Rattle.larch_actions.specs.Actions.{Spec, IsRun, Leads, StartsWith, by_thread}
@@ -12,6 +13,8 @@ use Rattle.larch_actions.specs.Sets.{mem}
 use Rattle.atomic_table.specs.Table.{State}
 use Rattle.nub_rule.specs.declared.rule.Slot.{Slot}
 use Rattle.nub_rule.specs.declared.rule.Slot.TheVariants.{Value, Queue}
+use Rattle.nub_rule.specs.declared.view.Child.{Child}
+use Rattle.nub_rule.specs.declared.view.Child.TheVariants.{No as Childless, May, Forked}
 use Rattle.nub_rule.specs.declared.view.Kind.TheVariants.{Root, Member, Collector}
 use Rattle.nub_rule.specs.declared.view.Part.{Part}
 use Rattle.nub_rule.specs.declared.view.Pen.TheVariants.{No, Read, Made}
@@ -22,8 +25,8 @@ use Rattle.nub_rule.specs.declared.view.WaitBit.TheVariants.{Closing, Quiet}
 use Rattle.nub_rule.specs.Items.{Each, Distinct, line_of, places_from}
 use Rattle.nub_rule.specs.Begun.{raisers}
 use Rattle.nub_rule.specs.Owed.{HasTurn, IsAsleep, MustLook, SomebodyMustLook}
-use Rattle.nub_rule.specs.Parts.{Got, Has, IsFound, counts_in, fresh, pending_of, waits_on}
-use Rattle.nub_rule.specs.Places.{alert_at, bit_at, cond_object, count_at, length_at, most_threads, number_at, pen_at, queue_at, ready_at, sem_object, spin_at, value_at, waits_at}
+use Rattle.nub_rule.specs.Parts.{Got, Has, IsFound, counts_in, first_part, newborn, number_of, pending_of, unborn, waits_on}
+use Rattle.nub_rule.specs.Places.{alert_at, bit_at, cond_object, count_at, length_at, life_at, most_threads, number_at, pen_at, queue_at, ready_at, sem_object, spin_at, value_at, waits_at}
 use Rattle.nub_rule.specs.Rule.{IsKept, IsWith}
 
 -- the count of the condition c, and whether the thread n is ready
@@ -165,6 +168,11 @@ module _ {T H : Type 0} where
   abbrev pub AlertSeen : List ℕ → List (Part T H) → Type 0
   AlertSeen words views = Each (λ n p. p.alerted ≡ true → slice_index words (alert_at n) ≡ 1) views
 
+  -- LIVES: a life word is 0 where its thread wasn't forked, 1 where it lives and 2 where it has ended, as the thread's view says
+  pub record LifeWords (words : List ℕ) (views : List (Part T H)) (state : Spec) : Type 0 where
+    pub word : Each (λ n p. slice_index words (life_at n) ≡ number_of p.life) views
+    pub life : Each (λ n p. state.life n ≡ p.life) views
+
   -- COUNTS READ: a count that a view has read is at most the count now, and the holder of the condition's spin word knows the count
   pub record CountsRead (words : List ℕ) (views : List (Part T H)) : Type 0 where
     pub risen : Each (λ n p. (w : Wait) (k : ℕ) → p.wait ≡ Some w → w.member ≡ Some k → w.cond.0 < 64 → k ≤ count_now words w.cond.0) views
@@ -219,26 +227,34 @@ module _ {T H : Type 0} where
     pub ready_words : ReadyWords words views queue
     pub no_wake_lost : NoWakeLost words views queue state
     pub alert_seen : AlertSeen words views
+    pub life_words : LifeWords words views state
     pub counts_read : CountsRead words views
     pub begun_waits : BegunWaits words views state
     pub values_and_shares : ValuesAndShares l.mutexes holds homes views values shares
     pub numbering : Numbering traced log words views
 
 module _ {T H W : Type 0} where
+  -- what a thread says of a child: that hasn't begun where it took in the right to begin it, and lives and has done nothing where it has forked it
+  abbrev pub ChildIs : Version → W → (W → ℕ → H) → List (Part T H) → Child → Type 0
+  ChildIs version w begin views Childless = Unit {0}
+  ChildIs version w begin views (May t) = get_elem? views t ≡ some (unborn version (Some (begin w t)))
+  ChildIs version w begin views (Forked t seen) = get_elem? views t ≡ some (newborn version seen (Some (begin w t)))
+
   -- the views of the threads, by their numbers: those of the seats of threads, those that have come back to a collector, and new ones for the threads
-  -- that the first seat has yet to give out. Each thread is with one seat, and with no other
-  pub record AreViews (threads : ℕ) (w : W) (begin : W → ℕ → H) (seats : List (View T H W)) (views : List (Part T H)) : Type 0 where
+  -- that the first seat has yet to give out, and for those that a thread is about to begin or to hand out. Each thread is with one seat, and with no other
+  pub record AreViews (version : Version) (threads : ℕ) (w : W) (begin : W → ℕ → H) (seats : List (View T H W)) (views : List (Part T H)) : Type 0 where
     pub count : length views ≡ threads
     pub seated : (id : ℕ) (v : View T H W) → get_elem? seats id ≡ some v → v.kind ≡ Member → get_elem? views v.number ≡ some v.part
     pub back : (id : ℕ) (v : View T H W) → get_elem? seats id ≡ some v → v.kind ≡ Collector → Each (λ n p. get_elem? views n ≡ some p) v.back
-    pub to_come : (id : ℕ) (v : View T H W) → get_elem? seats id ≡ some v → v.kind ≡ Root → (n : ℕ) → v.next ≤ n → n < threads → get_elem? views n ≡ some (fresh (Some (begin w n)))
+    pub child : (id : ℕ) (v : View T H W) → get_elem? seats id ≡ some v → v.kind ≡ Member → ChildIs version w begin views v.child
+    pub to_come : (id : ℕ) (v : View T H W) → get_elem? seats id ≡ some v → v.kind ≡ Root → (n : ℕ) → v.next ≤ n → n < threads → get_elem? views n ≡ some (first_part version n (Some (begin w n)))
     pub each : (n : ℕ) → n < threads → (id : ℕ) × (v : View T H W) × (get_elem? seats id ≡ some v) × IsWith v v.kind n
     pub once : (n i j : ℕ) (v u : View T H W) → n < threads → get_elem? seats i ≡ some v → get_elem? seats j ≡ some u → IsWith v v.kind n → IsWith u u.kind n → i ≡ j
 
   -- whatever state meets the invariant, the rule holds of its words, its slots at home and the views of its threads
   abbrev pub RuleHolds : (W → ℕ → H) → (W → List T → List H → Type 0) → Type 0
   RuleHolds begin holds = (l : Layout) (traced : Bool) (w : W) (s : State (Slot T) (View T H W)) → IsKept l traced w begin holds s
-      → (views : List (Part T H)) × AreViews l.threads w begin s.views views × PackageRule l traced (holds w) s.words s.homes views
+      → (views : List (Part T H)) × AreViews l.version l.threads w begin s.views views × PackageRule l traced (holds w) s.words s.homes views
 
   -- words and views determine the history and the state: over the same views there is one of each
   abbrev pub OneHistory : (W → List T → List H → Type 0) → Type 0

@@ -2,6 +2,12 @@
 use Rattle.std.specs.Prelude.{Bool, true, false, Option as Opt, ◌≡◌, ℕ, ◌<◌, cond, eqb, ltb, List, [], ◌∷◌, replicate, Some, None}
 use mathlib.Core.Option.{some}
 use lib.ListN.{get_elem?}
+use Rattle.larch_actions.specs.declared.event.Event.{Event}
+use Rattle.larch_actions.specs.declared.event.Life.{Life}
+use Rattle.larch_actions.specs.declared.event.Life.TheVariants.{Unborn, Live, Ended}
+use Rattle.larch_actions.specs.declared.event.Version.{Version}
+use Rattle.larch_actions.specs.declared.event.Version.TheVariants.{One}
+use Rattle.larch_actions.specs.Actions.{lives_at_first}
 use Rattle.larch_actions.specs.declared.event.Pending.{Pending}
 use Rattle.larch_actions.specs.declared.event.Pending.TheVariants.{Nothing, Waiting, AlertWaiting}
 use Rattle.nub_rule.specs.declared.view.Part.{Part}
@@ -105,9 +111,15 @@ abbrev pub made : Pen → Pen
 made (Read k) = Made k
 made p = p
 
--- in a traced package an event is made with the pen, its number read and not the greatest
-abbrev pub MayTell : Bool → Pen → Type 0
-MayTell traced pen = traced ≡ true → (k : ℕ) × (pen ≡ Read k) × (k < 18446744073709551615)
+-- an event is made by a thread that lives, in a traced package with the pen, its number read and not the greatest
+abbrev pub MayTell : Bool → Life → Pen → Type 0
+MayTell traced life pen = (life ≡ Live) × (traced ≡ true → (k : ℕ) × (pen ≡ Read k) × (k < 18446744073709551615))
+
+-- the life word of a thread with this life
+abbrev pub number_of : Life → ℕ
+number_of Unborn = 0
+number_of Live = 1
+number_of Ended = 2
 
 -- the pen may be given back: no event waits for its number to be written
 abbrev pub MayGivePen : Pen → Type 0
@@ -126,6 +138,21 @@ module _ {T H : Type 0} where
   abbrev pub Lacks : Part T H → ℕ → Type 0
   Lacks p m = get_elem? p.held m ≡ some None
 
-  -- a thread that has done nothing
-  abbrev pub fresh : Opt H → Part T H
-  fresh s = record { seen = []; mine = []; places = []; held = replicate 64 None; share = s; spin = None; queue = []; owed = []; left = []; count = 0; wait = None; stand = None; failed = []; turns = []; cleared = []; looked = []; pen = No; alerted = false; calling = None; raised = None }
+  -- a thread that has done nothing, where so much was done before
+  abbrev pub fresh : Version → Life → List Event → Opt H → Part T H
+  fresh version life seen s = record { version = version; seen = seen; mine = []; places = []; held = replicate 64 None; share = s; spin = None; queue = []; owed = []; left = []; count = 0; wait = None; stand = None; failed = []; turns = []; cleared = []; looked = []; pen = No; alerted = false; calling = None; raised = None; life = life }
+
+  -- what a seat has that speaks for no thread
+  abbrev pub no_part : Part T H
+  no_part = fresh One Unborn [] None
+
+  -- the thread n when its package opens
+  abbrev pub first_part : Version → ℕ → Opt H → Part T H
+  first_part version n = fresh version (lives_at_first version n) []
+
+  -- a thread that nobody has forked, and one that was forked with this history
+  abbrev pub unborn : Version → Opt H → Part T H
+  unborn version = fresh version Unborn []
+
+  abbrev pub newborn : Version → List Event → Opt H → Part T H
+  newborn version = fresh version Live

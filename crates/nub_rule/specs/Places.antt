@@ -3,7 +3,7 @@ use Rattle.std.specs.Prelude.{ℕ, ◌+◌, ◌*◌}
 
 -- so many threads at most
 abbrev pub most_threads : ℕ
-most_threads = 64
+most_threads = 256
 
 -- objects: mutexes from 0 on, semaphores from 64 on, conditions from 128 on
 abbrev pub sem_object : ℕ → ℕ
@@ -45,6 +45,9 @@ alert_at t = 16 * t + 3088
 
 abbrev pub ready_at : ℕ → ℕ
 ready_at t = 16 * t + 3089
+
+abbrev pub life_at : ℕ → ℕ
+life_at t = 16 * t + 3090
 
 abbrev pub word_count : ℕ
 word_count = 3088 + 16 * most_threads

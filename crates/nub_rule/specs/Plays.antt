@@ -4,13 +4,14 @@ use mathlib.Core.Option.{some}
 use lib.ListN.{get_elem?}
 use Rattle.larch_actions.specs.declared.event.Event.{Event}
 use Rattle.larch_actions.specs.declared.event.Action.{Action}
-use Rattle.larch_actions.specs.declared.event.Action.TheVariants.{Acquire, Release, Enqueue, AlertEnqueue, Resume, AlertReturn, AlertRaise, Signal, Broadcast, P, V, Alert, TestAlert, AlertPReturn, AlertPRaise}
-use Rattle.larch_actions.specs.declared.event.Version.TheVariants.{One}
+use Rattle.larch_actions.specs.declared.event.Action.TheVariants.{Acquire, Release, Enqueue, AlertEnqueue, Resume, AlertReturn, AlertRaise, Signal, Broadcast, P, V, Alert, TestAlert, AlertPReturn, AlertPRaise, Fork, End, Join}
+use Rattle.larch_actions.specs.declared.event.Life.TheVariants.{Ended}
 use Rattle.larch_actions.specs.Actions.{IsLegal, by_thread}
 use Rattle.larch_actions.specs.Sets.{mem, set_of, without}
 use Rattle.atomic_table.specs.Table.{Me, Step, rest}
 use Rattle.nub_rule.specs.declared.rule.Slot.{Slot}
 use Rattle.nub_rule.specs.declared.rule.Slot.TheVariants.{Value, Queue}
+use Rattle.nub_rule.specs.declared.view.Child.TheVariants.{Forked}
 use Rattle.nub_rule.specs.declared.view.Part.{Part}
 use Rattle.nub_rule.specs.declared.view.Pen.TheVariants.{No, Taken, Read, Written}
 use Rattle.nub_rule.specs.declared.view.Stage.TheVariants.{Pushed, Clear, Tested, Asleep, Found}
@@ -20,7 +21,7 @@ use Rattle.nub_rule.specs.declared.view.Wait.{Wait}
 use Rattle.nub_rule.specs.declared.view.WaitBit.TheVariants.{Closing, Open, Quiet}
 use Rattle.nub_rule.specs.Items.{Distinct, Small, line_of}
 use Rattle.nub_rule.specs.Parts.{Got, Lacks, alerted_stand, left_turns, made, stands_at, staged, turned}
-use Rattle.nub_rule.specs.Places.{most_threads, value_at, spin_at, length_at, queue_at, alert_at, bit_at, count_at, ready_at, waits_at, sem_object, cond_object}
+use Rattle.nub_rule.specs.Places.{most_threads, value_at, spin_at, length_at, queue_at, alert_at, bit_at, count_at, ready_at, life_at, waits_at, sem_object, cond_object}
 
 abbrev pub Sat : Type 0 → Type 0 → Type 0 → Type 0
 Sat T H W = Me (Slot T) (View T H W)
@@ -67,6 +68,16 @@ alert_p_raise_event t s = event t (AlertPRaise record { 0 = s })
 -- the second part of an alertable wait on the mutex m in the condition c, where an alert has ended it
 abbrev pub alert_raise_event : ℕ → ℕ → ℕ → Event
 alert_raise_event t m c = event t (AlertRaise record { 0 = m } record { 0 = c })
+
+-- the beginning of another thread, the own end, and what waits for the end of another
+abbrev pub fork_event : ℕ → ℕ → Event
+fork_event t who = event t (Fork record { 0 = who })
+
+abbrev pub end_event : ℕ → Event
+end_event t = event t End
+
+abbrev pub join_event : ℕ → ℕ → Event
+join_event t who = event t (Join record { 0 = who })
 
 -- the action by which a semaphore is taken, by a P that an alert may end or by any other
 abbrev pub p_action : Bool → ℕ → Action
@@ -131,7 +142,7 @@ module _ {T H : Type 0} where
 
   -- the history that was seen grew to a legal one that ends with the event, and the own events are the thread's part of it
   pub record Grows (n : ℕ) (p : Part T H) (between : List Event) (e : Event) : Type 0 where
-    pub legal : IsLegal One ((p.seen ++ between) ++ e ∷ [])
+    pub legal : IsLegal p.version ((p.seen ++ between) ++ e ∷ [])
     pub own : by_thread n ((p.seen ++ between) ++ e ∷ []) ≡ p.mine ++ e ∷ []
     pub number : (k : ℕ) → p.pen ≡ Read k → k ≡ length (p.seen ++ between)
 
@@ -309,6 +320,21 @@ module _ {T H W : Type 0} where
   -- the thread left the queue of a semaphore, in which it was
   abbrev pub leave_sem_queue_tells : Step (Slot T) → Sat T H W → ℕ → Sat T H W → Type 0
   leave_sem_queue_tells st me r me' = let p = me.0.part in let n = me.0.number in Becomes me (record p { queue = less n p.queue; left = less n p.left; stand = None; turns = left_turns p.stand p.turns }) me'
+
+  -- the thread t, whose beginning is the own right, was forked
+  abbrev pub fork_life_tells : Step (Slot T) → Sat T H W → ℕ → Sat T H W → Type 0
+  fork_life_tells st me r me' = let v = me.0 in let p = v.part in (t : ℕ) → st.word ≡ life_at t → let e = fork_event v.number t in
+      (between : List Event) × Grows v.number p between e × (me' ≡ (record v { part = told p (p.seen ++ between) e; child = Forked t ((p.seen ++ between) ++ e ∷ []) }, me.1))
+
+  -- the thread ended
+  abbrev pub end_life_tells : Step (Slot T) → Sat T H W → ℕ → Sat T H W → Type 0
+  end_life_tells st me r me' = let v = me.0 in let p = v.part in let e = end_event v.number in
+      (between : List Event) × Grows v.number p between e × Becomes me (record (told p (p.seen ++ between) e) { life = Ended }) me'
+
+  -- the life word of the thread t was read: where it has ended, that is the event
+  abbrev pub read_life_tells : Step (Slot T) → Sat T H W → ℕ → Sat T H W → Type 0
+  read_life_tells st me r me' = let v = me.0 in let p = v.part in (t : ℕ) → st.word ≡ life_at t → let e = join_event v.number t in
+      (r ≡ 2 → (between : List Event) × Grows v.number p between e × Becomes me (told p (p.seen ++ between) e) me') × (r ≢ 2 → me' ≡ me)
 
   -- the pen was tried, the number read and written, and the pen given back
   abbrev pub take_pen_tells : Step (Slot T) → Sat T H W → ℕ → Sat T H W → Type 0

@@ -35,7 +35,7 @@ pub fn or_alert<U: Uses>(p: &Package<U>, me: &mut Thread<U>, t: ThreadId) -> u64
     requires of { me.old.table_id ≡ p.now.table_id }
     requires named { t.0 < p.now.layout.threads }
     requires outside { me.old.wait ≡ None }
-    requires pen { MayTell p.now.traced me.old.pen }
+    requires pen { MayTell p.now.traced me.old.life me.old.pen }
     ensures event { Makes (alert_event me.old.number t.0) me.old me.new }
     ensures alerted { me.new ≡ record (learnt me.old me.new) { pen = made me.old.pen } }
 {
@@ -49,7 +49,7 @@ pub fn or_alert<U: Uses>(p: &Package<U>, me: &mut Thread<U>, t: ThreadId) -> u64
 pub fn swap_alert<U: Uses>(p: &Package<U>, me: &mut Thread<U>) -> u64
     requires of { me.old.table_id ≡ p.now.table_id }
     requires outside { me.old.wait ≡ None }
-    requires pen { MayTell p.now.traced me.old.pen }
+    requires pen { MayTell p.now.traced me.old.life me.old.pen }
     ensures flag { (result ≡ 0) ⊎ (result ≡ 1) }
     ensures seen { me.old.alerted ≡ true → result ≡ 1 }
     ensures event { Makes (test_alert_event me.old.number (eqb result 1)) me.old me.new }
@@ -64,7 +64,7 @@ pub fn swap_alert_in_p<U: Uses>(p: &Package<U>, me: &mut Thread<U>, s: SemId) ->
     requires named { s.0 < p.now.layout.semaphores }
     requires outside { (me.old.wait ≡ None) × (me.old.stand ≡ None) }
     requires alerted { me.old.alerted ≡ true }
-    requires pen { MayTell p.now.traced me.old.pen }
+    requires pen { MayTell p.now.traced me.old.life me.old.pen }
     ensures found { result ≡ 1 }
     ensures event { Makes (alert_p_raise_event me.old.number s.0) me.old me.new }
     ensures cleared { me.new ≡ record (learnt me.old me.new) { alerted = false; pen = made me.old.pen } }
@@ -92,7 +92,7 @@ pub fn swap_alert_in_raise<U: Uses>(
     requires waits { (x : Wait) × (me.old.wait ≡ Some x) × (x.mutex.0 ≡ m.0) × (x.cond.0 ≡ c.0) × (x.alertable ≡ true) × (x.bit ≡ Quiet) }
     requires has { (x : U.Value) × Holds me.old m.0 x }
     requires alerted { me.old.alerted ≡ true }
-    requires pen { MayTell p.now.traced me.old.pen }
+    requires pen { MayTell p.now.traced me.old.life me.old.pen }
     ensures found { result ≡ 1 }
     ensures event { Makes (alert_raise_event me.old.number m.0 c.0) me.old me.new }
     ensures raised { me.new ≡ record (learnt me.old me.new) { wait = None; alerted = false; pen = made me.old.pen } }

@@ -43,7 +43,7 @@ pub fn read_waits_signal<U: Uses>(p: &Package<U>, me: &mut Thread<U>, c: CondId)
     requires of { me.old.table_id ≡ p.now.table_id }
     requires named { c.0 < p.now.layout.conditions }
     requires outside { me.old.wait ≡ None }
-    requires pen { MayTell p.now.traced me.old.pen }
+    requires pen { MayTell p.now.traced me.old.life me.old.pen }
     ensures event { result ≡ 0 → Makes (event me.old.number (signal_action c.0 [])) me.old me.new }
     ensures quiet { result ≡ 0 → me.new ≡ record (learnt me.old me.new) { pen = made me.old.pen } }
     ensures calls { result ≢ 0 → me.new ≡ record me.old { calling = Some c.0 } }
@@ -57,7 +57,7 @@ pub fn read_waits_broadcast<U: Uses>(p: &Package<U>, me: &mut Thread<U>, c: Cond
     requires of { me.old.table_id ≡ p.now.table_id }
     requires named { c.0 < p.now.layout.conditions }
     requires outside { me.old.wait ≡ None }
-    requires pen { MayTell p.now.traced me.old.pen }
+    requires pen { MayTell p.now.traced me.old.life me.old.pen }
     ensures event { result ≡ 0 → Makes (event me.old.number (broadcast_action c.0 [])) me.old me.new }
     ensures quiet { result ≡ 0 → me.new ≡ record (learnt me.old me.new) { pen = made me.old.pen } }
     ensures calls { result ≢ 0 → me.new ≡ record me.old { calling = Some c.0 } }

@@ -32,7 +32,7 @@ pub fn load_count<U: Uses>(p: &Package<U>, me: &mut Thread<U>, m: MutexId, c: Co
     requires outside { me.old.wait ≡ None }
     requires even { me.old.left ≡ me.old.queue }
     requires raised { me.old.raised ≡ Some c.0 }
-    requires pen { MayTell p.now.traced me.old.pen }
+    requires pen { MayTell p.now.traced me.old.life me.old.pen }
     ensures event { Makes (enqueue_event false me.old.number m.0 c.0) me.old me.new }
     ensures begun { me.new ≡ record (learnt me.old me.new) { wait = Some (begun_wait false m.0 c.0 result); pen = made me.old.pen } }
 {
@@ -55,7 +55,7 @@ pub fn load_count_alertable<U: Uses>(
     requires outside { me.old.wait ≡ None }
     requires even { me.old.left ≡ me.old.queue }
     requires raised { me.old.raised ≡ Some c.0 }
-    requires pen { MayTell p.now.traced me.old.pen }
+    requires pen { MayTell p.now.traced me.old.life me.old.pen }
     ensures event { Makes (enqueue_event true me.old.number m.0 c.0) me.old me.new }
     ensures begun { me.new ≡ record (learnt me.old me.new) { wait = Some (begun_wait true m.0 c.0 result); pen = made me.old.pen } }
 {
@@ -86,7 +86,7 @@ pub fn advance_signal<U: Uses>(p: &Package<U>, me: &mut Thread<U>, c: CondId) ->
     requires even { me.old.left ≡ me.old.queue }
     requires small { Small most_threads me.old.queue }
     requires room { me.old.count < 18446744073709551615 }
-    requires pen { MayTell p.now.traced me.old.pen }
+    requires pen { MayTell p.now.traced me.old.life me.old.pen }
     ensures count { result.0 ≡ me.old.count }
     ensures left { result.1 ≡ set_of (behind me.old.queue) }
     ensures distinct { Distinct me.old.queue }
@@ -112,7 +112,7 @@ pub fn advance_broadcast<U: Uses>(p: &Package<U>, me: &mut Thread<U>, c: CondId)
     requires inside { me.old.spin ≡ Some (cond_object c.0) }
     requires outside { me.old.wait ≡ None }
     requires room { me.old.count < 18446744073709551615 }
-    requires pen { MayTell p.now.traced me.old.pen }
+    requires pen { MayTell p.now.traced me.old.life me.old.pen }
     ensures count { result ≡ me.old.count }
     ensures event { Makes (event me.old.number (broadcast_action c.0 [])) me.old me.new }
     ensures advanced { me.new ≡ record (learnt me.old me.new) { left = []; count = me.old.count + 1; calling = None; pen = made me.old.pen } }

@@ -7,11 +7,15 @@
 #![tactic(auto)]
 
 mod alert;
+mod begetting;
 mod begun;
 mod cell;
 mod cond;
+mod fates;
+mod forked;
 mod hand;
 pub mod laws;
+mod life;
 mod line;
 mod mutex;
 mod object;
@@ -34,11 +38,15 @@ mod whole;
 pub use alert::{
     leave_sem_queue, or_alert, read_alert, swap_alert, swap_alert_in_p, swap_alert_in_raise,
 };
+pub use begetting::{Body, hand_out, park_for_end, take_right};
 pub use begun::{lower_waits, raise_waits, read_waits_broadcast, read_waits_signal};
 pub use cond::{
     advance_broadcast, advance_signal, compare_count, know_count, leave_cond_queue, load_count,
     load_count_alertable,
 };
+pub use fates::{Ended, Unborn};
+pub use forked::close_forked;
+pub use life::{end_life, fork_life, read_life};
 pub use mutex::{clear_bit, clear_bit_in_wait, put_value, take_bit_quiet, take_value, try_bit};
 pub use object::{Object, Why};
 pub use package::{Entry, Package, Stored, Thread};

@@ -12,14 +12,15 @@ use larch_actions::{ThreadId, ThreadSet};
 
 /// Puts t last, and answers the length.
 pub fn push_line<T>(slot: &mut Slot<T>, t: u32) -> u64
-    requires { (xs : List ℕ) × (slot.old ≡ Queue (line_of xs)) × (length xs < most_threads) }
+    requires few { t < most_threads }
+    requires room { (xs : List ℕ) × (slot.old ≡ Queue (line_of xs)) × (length xs < most_threads) }
     ensures { (xs : List ℕ) → slot.old ≡ Queue (line_of xs) → (slot.new ≡ Queue (line_of (xs ++ t ∷ [])))
         × (result ≡ length (xs ++ t ∷ [])) }
 {
     let Slot::Queue(line) = slot else {
         unreachable!()
     };
-    line.push(t);
+    line.push(t as u8);
     line.len() as u64
 }
 
@@ -36,7 +37,7 @@ pub fn pop_line<T>(slot: &mut Slot<T>) -> (Option<ThreadId>, u64)
         return (None, 0);
     }
     let first = line.remove(0);
-    (Some(ThreadId(first)), line.len() as u64)
+    (Some(ThreadId(u32::from(first))), line.len() as u64)
 }
 
 // Where t stands first.
@@ -47,7 +48,7 @@ fn place_in(line: &Line, t: u32) -> Option<usize>
         × (mem t (take i line.now.items) ≡ false) }
 {
     for i in 0..line.len() {
-        if line[i] == t {
+        if u32::from(line[i]) == t {
             return Some(i);
         }
     }
@@ -78,7 +79,7 @@ fn behind_set(line: &Line) -> ThreadSet
     let mut i = line.len();
     while i > 1 {
         i -= 1;
-        set.insert(ThreadId(line[i]));
+        set.insert(ThreadId(u32::from(line[i])));
     }
     set
 }

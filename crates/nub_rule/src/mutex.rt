@@ -25,7 +25,7 @@ pub fn try_bit<U: Uses>(p: &Package<U>, me: &mut Thread<U>, m: MutexId, e: Event
     requires named { m.0 < p.now.layout.mutexes }
     requires outside { (me.old.spin ≡ None) × (me.old.stand ≡ None) }
     requires may { MayTake me.old.number m.0 me.old.wait e }
-    requires pen { MayTell p.now.traced me.old.pen }
+    requires pen { MayTell p.now.traced me.old.life me.old.pen }
     ensures lost { result ≢ 0 → me.new ≡ record me.old { failed = m.0 ∷ me.old.failed; turns = without m.0 me.old.turns } }
     ensures event { result ≡ 0 → Makes e me.old me.new }
     ensures lacked { result ≡ 0 → get_elem? me.old.held m.0 ≡ some None }
@@ -55,7 +55,7 @@ pub fn clear_bit<U: Uses, C: Change<U>>(p: &Package<U>, me: &mut Thread<U>, m: M
     requires named { m.0 < p.now.layout.mutexes }
     requires outside { (me.old.wait ≡ None) × (me.old.stand ≡ None) }
     requires may { MayGive U.allows C.after m.0 me.old }
-    requires pen { MayTell p.now.traced me.old.pen }
+    requires pen { MayTell p.now.traced me.old.life me.old.pen }
     ensures found { result ≡ 1 }
     ensures event { Makes (release_event me.old.number m.0) me.old me.new }
     ensures gone { me.new ≡ record (learnt me.old me.new) {

@@ -1,11 +1,11 @@
 //! How many threads a package may have, and where its words and slots stand, under the names of specs/Places.antt.
 ghost use Rattle.std.specs.Prelude.{◌≡◌};
-ghost use Rattle.nub_rule.specs.Places.{alert_at, bit_at, count_at, sem_object, cond_object, ready_at, waits_at};
+ghost use Rattle.nub_rule.specs.Places.{alert_at, bit_at, count_at, life_at, sem_object, cond_object, ready_at, waits_at};
 
 use larch_actions::{CondId, MutexId, SemId};
 
 /// So many threads at most.
-pub const MOST_THREADS: usize = 64;
+pub const MOST_THREADS: usize = 256;
 
 /// So many mutexes at most.
 pub const MUTEXES: u32 = 64;
@@ -77,4 +77,12 @@ pub fn ready_word(t: u32) -> usize
     ensures { result ≡ ready_at t }
 {
     16 * t as usize + 3089
+}
+
+/// The life word of a thread.
+#[inline]
+pub fn life_word(t: u32) -> usize
+    ensures { result ≡ life_at t }
+{
+    16 * t as usize + 3090
 }

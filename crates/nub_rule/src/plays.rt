@@ -379,3 +379,30 @@ impl<U: Uses> Play<Slot<U::Value>, View<U::Value, U::Share, U::World>> for TakeB
 
     ghost then = { take_bit_quiet_tells U.fits };
 }
+
+/// Forks a thread.
+pub struct ForkLife;
+
+impl<T, H, W> Play<Slot<T>, View<T, H, W>> for ForkLife {
+    ghost use Rattle.nub_rule.specs.Plays.{fork_life_tells};
+
+    ghost then = { fork_life_tells };
+}
+
+/// Ends the own thread.
+pub struct EndLife;
+
+impl<T, H, W> Play<Slot<T>, View<T, H, W>> for EndLife {
+    ghost use Rattle.nub_rule.specs.Plays.{end_life_tells};
+
+    ghost then = { end_life_tells };
+}
+
+/// Reads whether a thread has ended.
+pub struct ReadLife;
+
+impl<T, H, W> Play<Slot<T>, View<T, H, W>> for ReadLife {
+    ghost use Rattle.nub_rule.specs.Plays.{read_life_tells};
+
+    ghost then = { read_life_tells };
+}

@@ -9,7 +9,7 @@ use std::marker::PhantomData;
 use std::snapshot::Snapshot;
 
 /// The numbers of threads in a queue.
-pub type Line = ArrayVec<u32, MOST_THREADS>;
+pub type Line = ArrayVec<u8, MOST_THREADS>;
 
 /// What a slot of the table holds.
 #[derive(Drop)]
@@ -38,7 +38,7 @@ impl<U: Uses> TableRule<Slot<U::Value>, View<U::Value, U::Share, U::World>, Abou
 
     ghost holds = { λ k. IsKept k.layout k.traced k.world.value U.begin U.holds };
 
-    ghost first = { λ k. opening_view k.world.value U.begin };
+    ghost first = { λ k. opening_view k.layout.version k.world.value U.begin };
 }
 
 /// Cuts off the view of the next thread.
@@ -73,4 +73,28 @@ impl<T, H, W> Join<View<T, H, W>> for Gather {
     ghost both = { both_views };
 
     ghost spent = { spent_view };
+}
+
+/// Takes in the right to begin a thread.
+pub struct TakeIn;
+
+impl<T, H, W> Join<View<T, H, W>> for TakeIn {
+    ghost use Rattle.nub_rule.specs.Rule.{taking_view, spent_view};
+
+    ghost both = { taking_view };
+
+    ghost spent = { spent_view };
+}
+
+/// Hands out the view of a thread that was forked.
+pub struct HandOut<U> {
+    marker: PhantomData<U>,
+}
+
+impl<U: Uses> Split<View<U::Value, U::Share, U::World>> for HandOut<U> {
+    ghost use Rattle.nub_rule.specs.Rule.{handing_view, handed_view};
+
+    ghost left = { handing_view };
+
+    ghost right = { λ v. handed_view U.begin v v.child };
 }

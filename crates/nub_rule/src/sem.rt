@@ -20,7 +20,7 @@ pub fn try_p<U: Uses>(p: &Package<U>, me: &mut Thread<U>, s: SemId, e: Event) ->
     requires named { s.0 < p.now.layout.semaphores }
     requires outside { (me.old.spin ≡ None) × (me.old.stand ≡ None) }
     requires may { (me.old.wait ≡ None) × MayTakeSem me.old.number s.0 e }
-    requires pen { MayTell p.now.traced me.old.pen }
+    requires pen { MayTell p.now.traced me.old.life me.old.pen }
     ensures lost { result ≢ 0 → me.new ≡ record me.old {
       failed = sem_object s.0 ∷ me.old.failed;
       turns = without (sem_object s.0) me.old.turns;
@@ -52,7 +52,7 @@ pub fn clear_sem<U: Uses>(p: &Package<U>, me: &mut Thread<U>, s: SemId) -> u64
     requires of { me.old.table_id ≡ p.now.table_id }
     requires named { s.0 < p.now.layout.semaphores }
     requires outside { (me.old.wait ≡ None) × (me.old.stand ≡ None) }
-    requires pen { MayTell p.now.traced me.old.pen }
+    requires pen { MayTell p.now.traced me.old.life me.old.pen }
     ensures found { (result ≡ 0) ⊎ (result ≡ 1) }
     ensures event { Makes (v_event me.old.number s.0) me.old me.new }
     ensures cleared { me.new ≡ record (learnt me.old me.new) { cleared = sem_object s.0 ∷ me.old.cleared; pen = made me.old.pen } }

@@ -1,5 +1,5 @@
 //! What a thread knows: its part of the history, what it has and where it stands in a call. No value of these types is made.
-use larch_actions::{CondId, Event, MutexId};
+use larch_actions::{CondId, Event, Life, MutexId, Version};
 use std::collections::LinkedList;
 
 /// What a thread has of the bit of its mutex between the two parts of a wait.
@@ -55,6 +55,8 @@ pub enum Pen {
 
 /// What one thread has done and where it stands.
 pub struct Part<T, H> {
+    /// Which actions its package has.
+    pub version: Version,
     /// The history as it stood at the last event of the thread.
     pub seen: LinkedList<Event>,
     /// Its own events, and the place of each in the history.
@@ -87,6 +89,17 @@ pub struct Part<T, H> {
     pub calling: Option<u64>,
     /// The condition whose begun waits the thread raised.
     pub raised: Option<u64>,
+    /// Whether it was forked, and whether it has ended.
+    pub life: Life,
+}
+
+/// What a thread says of one that it forks.
+pub enum Child {
+    No,
+    /// It took in the right to begin the thread.
+    May { who: u64 },
+    /// It made the fork, with which this history ends, and hasn't handed the thread out.
+    Forked { who: u64, seen: LinkedList<Event> },
 }
 
 /// What a seat is for.
@@ -106,6 +119,7 @@ pub struct View<T, H, W> {
     pub kind: Kind,
     pub number: u64,
     pub part: Part<T, H>,
+    pub child: Child,
     pub next: u64,
     pub back: LinkedList<Part<T, H>>,
 }

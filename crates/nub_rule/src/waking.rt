@@ -34,6 +34,13 @@ pub fn unpark<U: Uses>(p: &Package<U>, t: ThreadId) {
     }
 }
 
+/// Unparks every thread.
+pub(crate) fn unpark_all<U: Uses>(p: &Package<U>) {
+    for waker in &p.unparkers {
+        waker.unparker.unpark();
+    }
+}
+
 /// Notes the mutex with which the thread is to wait, for whoever takes it out of the condition.
 pub fn note_mutex<U: Uses>(p: &Package<U>, me: &Thread<U>, m: MutexId) {
     if let Some(waker) = p.unparkers.get(me.number as usize) {
@@ -48,10 +55,9 @@ pub fn note_mutex<U: Uses>(p: &Package<U>, me: &Thread<U>, m: MutexId) {
 pub fn note_woken<U: Uses>(p: &Package<U>, me: &mut Thread<U>, t: ThreadId)
     ensures { me.new ≡ me.old }
 {
-    if me.later.is_full() {
-        unpark(p, t);
-    } else {
-        me.later.push(t.0);
+    match u8::try_from(t.0) {
+        Ok(number) if !me.later.is_full() => me.later.push(number),
+        _ => unpark(p, t),
     }
 }
 
@@ -79,9 +85,10 @@ pub fn unpark_noted<U: Uses>(p: &Package<U>, me: &mut Thread<U>)
 {
     let mut kept = Line::new();
     for i in 0..me.later.len() {
-        let t = ThreadId(me.later[i]);
+        let number = me.later[i];
+        let t = ThreadId(u32::from(number));
         if has_mutex_of(p, me, t) && !kept.is_full() {
-            kept.push(t.0);
+            kept.push(number);
         } else {
             unpark(p, t);
         }

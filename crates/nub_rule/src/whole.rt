@@ -6,26 +6,28 @@ ghost use Rattle.std.specs.Mem.Slots.Ownership.{Filled};
 ghost use mathlib.Core.Option.{some};
 ghost use lib.ListN.{get_elem?};
 ghost use Rattle.larch_actions.specs.Layout.{IsLawful};
-ghost use Rattle.larch_actions.specs.declared.event.Version.TheVariants.{One};
+ghost use Rattle.larch_actions.specs.declared.event.Version.TheVariants.{Two};
+ghost use Rattle.larch_actions.specs.declared.event.Life.TheVariants.{Live};
+ghost use Rattle.nub_rule.specs.declared.view.Child.TheVariants.{No};
 ghost use Rattle.nub_rule.specs.declared.rule.Slot.TheVariants.{Value, Queue};
 ghost use Rattle.nub_rule.specs.declared.view.Kind.TheVariants.{Root, Collector};
 ghost use Rattle.nub_rule.specs.Items.{Each, no_line};
 ghost use Rattle.atomic_table.specs.Table.{opening, Enters, Joins, Splits};
 ghost use Rattle.nub_rule.specs.Rule.{IsKept, opening_view, left_view, member_view, collecting, both_views, spent_view};
 ghost use Rattle.nub_rule.specs.Known.{known_as, part_of, HasNone};
-ghost use Rattle.nub_rule.specs.Ends.{firsts, opening_slots, first_known, Leaves};
-ghost use Rattle.nub_rule.specs.Places.{word_count};
+ghost use Rattle.nub_rule.specs.Ends.{AreFirst, firsts, living, opening_slots, first_known, Leaves};
+ghost use Rattle.nub_rule.specs.Places.{most_threads};
 
 use crate::hand::Hand;
 use crate::package::{Package, Stored, Thread};
-use crate::places::{QUEUES, WORDS};
+use crate::places::{QUEUES, WORDS, life_word};
 use crate::rule::{About, Collect, Cut, Gather, Kept, Line, Slot};
 use crate::uses::Uses;
 use crate::view::View;
 use crate::waking::Waker;
 use atomic_table::{Closed, Seat, Shared, Table};
 use crossbeam_utils::sync::Parker;
-use larch_actions::Layout;
+use larch_actions::{Layout, Version};
 use std::alloc::{AllocError, Global};
 use std::mem;
 use std::snapshot::Snapshot;
@@ -37,11 +39,26 @@ pub struct Remains<U: Uses> {
     pub stored: Vec<Stored>,
 }
 
-fn words(alloc: Global) -> Result<Vec<u64>, AllocError>
-    ensures length { IfOk result (λ w. length w.items ≡ word_count) }
-    ensures zeros { IfOk result (λ w. (k : ℕ) → slice_index w.items k ≡ 0) }
+/// How many threads live at first.
+fn first_lives(layout: Layout) -> u32
+    ensures { result ≡ living layout.version layout.threads }
 {
-    Ok(vec![in alloc; 0; WORDS]?)
+    match layout.version {
+        Version::One => layout.threads,
+        Version::Two => 1,
+    }
+}
+
+/// The words as they are at the start.
+fn words(alloc: Global, layout: Layout) -> Result<Vec<u64>, AllocError>
+    requires few { layout.threads ≤ most_threads }
+    ensures { IfOk result (λ w. AreFirst layout w.items) }
+{
+    let mut words = vec![in alloc; 0; WORDS]?;
+    for t in 0..first_lives(layout) {
+        words[life_word(t)] = 1;
+    }
+    Ok(words)
 }
 
 /// The slots of the queues, all empty, with room for so many more.
@@ -100,12 +117,13 @@ fn cut<U: Uses>(
     requires root { root.old.me.0.kind ≡ Root }
     requires next { (root.old.me.0.next ≡ number) × (number < p.now.layout.threads) }
     requires world { root.old.me.0.world ≡ Some p.now.world }
+    requires version { root.old.me.0.part.version ≡ p.now.layout.version }
     requires empty { room.old.items ≡ [] }
     requires room { number ≡ 0 → p.now.layout.mutexes ≤ vec_capacity room.old }
     ensures of { root.new.table_id ≡ root.old.table_id }
     ensures root { root.new.me.0 ≡ left_view root.old.me.0 }
     ensures empty { room.new.items ≡ [] }
-    ensures thread { result ≡ first_known root.old.table_id p.now.world U.begin number }
+    ensures thread { result ≡ first_known root.old.table_id p.now.layout.version p.now.world U.begin number }
 {
     let seat = split_off(&p.table.shared, root);
     let hand = Hand::new();
@@ -138,11 +156,12 @@ fn cut_all<U: Uses>(
     requires of { root.table_id ≡ p.now.table_id }
     requires root { (root.me.0.kind ≡ Root) × (root.me.0.next ≡ 0) }
     requires world { root.me.0.world ≡ Some p.now.world }
+    requires version { root.me.0.part.version ≡ p.now.layout.version }
     requires parkers { length parkers.items ≡ p.now.layout.threads }
     requires room { (room.items ≡ []) × (p.now.layout.mutexes ≤ vec_capacity room) }
     requires threads { (threads.items ≡ []) × (p.now.layout.threads ≤ vec_capacity threads) }
     ensures count { length result.items ≡ p.now.layout.threads }
-    ensures threads { Each (λ n t. t ≡ first_known p.now.table_id p.now.world U.begin n) result.items }
+    ensures threads { Each (λ n t. t ≡ first_known p.now.table_id p.now.layout.version p.now.world U.begin n) result.items }
 {
     let mut number = 0;
     for parker in parkers {
@@ -216,9 +235,10 @@ fn table_of<U: Uses>(
     AllocError,
 >
     requires opens { IsKept about.layout about.traced about.world.value U.begin U.holds
-        (opening words.items slots.items (opening_view about.world.value U.begin)) }
+        (opening words.items slots.items (opening_view about.layout.version about.world.value U.begin)) }
     ensures { IfOk result (λ t. (t.0.shared.table_id.words ≡ length words.items) × (t.0.shared.table_id.slots ≡ length slots.items)
-        × (t.1.table_id ≡ t.0.shared.table_id) × (t.1.me ≡ (opening_view about.world.value U.begin, [])) × (t.0.shared.key ≡ about)) }
+        × (t.1.table_id ≡ t.0.shared.table_id) × (t.1.me ≡ (opening_view about.layout.version about.world.value U.begin, []))
+        × (t.0.shared.key ≡ about)) }
 {
     let Ok(made) = Table::new(alloc, words.as_slice(), slots, &about) else {
         return Err(AllocError);
@@ -235,14 +255,13 @@ pub fn open_package<U: Uses>(
     traced: bool,
 ) -> Result<(Package<U>, Vec<Thread<U>>), AllocError>
     requires lawful { IsLawful layout }
-    requires version { layout.version ≡ One }
     requires values { length values.items ≡ layout.mutexes }
     requires holds { U.holds world.now values.items (firsts (U.begin world.now) layout.threads) }
     ensures package { IfOk result (λ o. (o.0.layout ≡ layout) × (o.0.traced ≡ traced) × (o.0.world ≡ world.now)) }
     ensures count { IfOk result (λ o. length o.1.items ≡ layout.threads) }
-    ensures threads { IfOk result (λ o. Each (λ n t. t ≡ first_known o.0.table_id world.now U.begin n) o.1.items) }
+    ensures threads { IfOk result (λ o. Each (λ n t. t ≡ first_known o.0.table_id layout.version world.now U.begin n) o.1.items) }
 {
-    let words = words(alloc)?;
+    let words = words(alloc, layout)?;
     let slots = slots_of(alloc, layout.mutexes, values)?;
     let about = About {
         layout,
@@ -268,22 +287,22 @@ pub fn open_package<U: Uses>(
     Ok((package, threads))
 }
 
-/// What the threads give back.
-struct Gathered<U: Uses> {
-    seat: Seat<Slot<U::Value>, View<U::Value, U::Share, U::World>>,
-    stored: Vec<Stored>,
-    room: Vec<U::Value>,
+/// What the threads that have come back give, in order of their numbers.
+pub(crate) struct Gathered<U: Uses> {
+    pub(crate) seat: Seat<Slot<U::Value>, View<U::Value, U::Share, U::World>>,
+    pub(crate) stored: Vec<Stored>,
+    pub(crate) room: Vec<U::Value>,
 }
 
 /// A new seat that takes threads back.
-fn collector<U: Uses>(
+pub(crate) fn collector<U: Uses>(
     shared: &Shared<Slot<U::Value>, View<U::Value, U::Share, U::World>, About<U::World>, Kept<U>>,
 ) -> Seat<Slot<U::Value>, View<U::Value, U::Share, U::World>>
     requires inside { 0 < shared.now.table_id.words }
     requires enters { Enters (IsKept shared.now.key.layout shared.now.key.traced shared.now.key.world.value U.begin U.holds)
-        shared.now.table_id.slots 0 (λ _ v. v ≡ collecting (opening_view shared.now.key.world.value U.begin)) }
+        shared.now.table_id.slots 0 (λ _ v. v ≡ collecting (opening_view shared.now.key.layout.version shared.now.key.world.value U.begin)) }
     ensures of { result.table_id ≡ shared.now.table_id }
-    ensures view { result.me.0 ≡ collecting (opening_view shared.now.key.world.value U.begin) }
+    ensures view { result.me.0 ≡ collecting (opening_view shared.now.key.layout.version shared.now.key.world.value U.begin) }
 {
     let (_, seat) = shared.load_new_seat::<Collect>(0);
     seat
@@ -307,15 +326,58 @@ fn take_back<U: Uses>(
     shared.join_seat::<Gather>(seat, other);
 }
 
+/// Takes one more thread back, the one with the next number.
+pub(crate) fn gather<U: Uses>(
+    shared: &Shared<Slot<U::Value>, View<U::Value, U::Share, U::World>, About<U::World>, Kept<U>>,
+    all: &mut Gathered<U>,
+    thread: Thread<U>,
+)
+    requires words { 0 < shared.now.table_id.words }
+    requires of { all.old.seat.table_id ≡ shared.now.table_id }
+    requires kind { all.old.seat.me.0.kind ≡ Collector }
+    requires next { thread.number ≡ length all.old.seat.me.0.back }
+    requires thread { (thread.table_id ≡ shared.now.table_id) × (thread.spin ≡ None) × (thread.child ≡ No) × HasNone thread }
+    requires shelf { length all.old.stored.items < vec_capacity all.old.stored }
+    requires room { (all.old.room.items ≡ []) × (1 ≤ thread.number → shared.now.table_id.slots ≤ 192 + vec_capacity all.old.room) }
+    ensures of { all.new.seat.table_id ≡ all.old.seat.table_id }
+    ensures kind { all.new.seat.me.0.kind ≡ Collector }
+    ensures back { all.new.seat.me.0.back ≡ all.old.seat.me.0.back ++ part_of thread ∷ [] }
+    ensures entries { map (λ s. s.entries.items) all.new.stored.items
+        ≡ map (λ s. s.entries.items) all.old.stored.items ++ thread.entries ∷ [] }
+    ensures losses { map (λ s. s.lost) all.new.stored.items ≡ map (λ s. s.lost) all.old.stored.items ++ thread.lost ∷ [] }
+    ensures shelf { (length all.new.stored.items ≡ length all.old.stored.items + 1)
+        × (vec_capacity all.new.stored ≡ vec_capacity all.old.stored) }
+    ensures room { (all.new.room.items ≡ []) × (shared.now.table_id.slots ≤ 192 + vec_capacity all.new.room) }
+{
+    let Thread {
+        number,
+        hand: _,
+        seat: own,
+        entries,
+        lost,
+        next: _,
+        parker: _,
+        later: _,
+        patience: _,
+        room: kept,
+    } = thread;
+    take_back(shared, &mut all.seat, own);
+    all.stored.push_reserved(Stored { entries, lost });
+    if number == 0 {
+        all.room = kept;
+    }
+}
+
 /// A seat that has taken every thread back, and what they have stored.
 fn gather_all<U: Uses>(
     alloc: Global,
     shared: &Shared<Slot<U::Value>, View<U::Value, U::Share, U::World>, About<U::World>, Kept<U>>,
     threads: Vec<Thread<U>>,
-    mut stored: Vec<Stored>,
+    stored: Vec<Stored>,
 ) -> Gathered<U>
     requires words { 0 < shared.now.table_id.words }
-    requires threads { Each (λ n t. (t.number ≡ n) × (t.table_id ≡ shared.now.table_id) × (t.spin ≡ None) × HasNone t) threads.items }
+    requires threads { Each (λ n t. (t.number ≡ n) × (t.table_id ≡ shared.now.table_id) × (t.spin ≡ None) × (t.child ≡ No) × HasNone t)
+        threads.items }
     requires some { 1 ≤ length threads.items }
     requires shelf { (stored.items ≡ []) × (length threads.items ≤ vec_capacity stored) }
     ensures of { result.seat.table_id ≡ shared.now.table_id }
@@ -325,36 +387,15 @@ fn gather_all<U: Uses>(
         × (map (λ s. s.lost) result.stored.items ≡ map (λ t. t.lost) threads.items) }
     ensures room { (result.room.items ≡ []) × (shared.now.table_id.slots ≤ 192 + vec_capacity result.room) }
 {
-    let mut seat = collector(shared);
-    let mut room = Vec::new(alloc);
+    let mut all = Gathered {
+        seat: collector(shared),
+        stored,
+        room: Vec::new(alloc),
+    };
     for thread in threads {
-        let Thread {
-            number,
-            hand: _,
-            seat: own,
-            entries,
-            lost,
-            next: _,
-            parker: _,
-            later: _,
-            patience: _,
-            room: kept,
-        } = thread;
-        take_back(shared, &mut seat, own);
-        stored.push_reserved(Stored { entries, lost });
-        room = first_room(number, kept, room);
+        gather(shared, &mut all, thread);
     }
-    Gathered { seat, stored, room }
-}
-
-// The room of the first thread, whoever else has kept some.
-fn first_room<T: Drop>(number: u32, kept: Vec<T>, room: Vec<T>) -> Vec<T>
-    requires { (kept.items ≡ []) × (room.items ≡ []) }
-    ensures empty { result.items ≡ [] }
-    ensures first { number ≡ 0 → result ≡ kept }
-    ensures later { number ≢ 0 → result ≡ room }
-{
-    if number == 0 { kept } else { room }
+    all
 }
 
 /// Lets the slots of the queues go.
@@ -383,7 +424,7 @@ fn value_in<T: Drop>(slot: Slot<T>) -> T
 }
 
 /// The values in the slots.
-fn values_of<T: Drop>(mut values: Vec<T>, mut closed: Closed<Slot<T>, Global>) -> Vec<T>
+pub(crate) fn values_of<T: Drop>(mut values: Vec<T>, mut closed: Closed<Slot<T>, Global>) -> Vec<T>
     requires full { IsFull closed.slots × (192 ≤ slots_len closed.slots) }
     requires room { (values.items ≡ []) × (slots_len closed.slots ≤ 192 + vec_capacity values) }
     requires values { (m : ℕ) → 192 + m < slots_len closed.slots → (x : T)
@@ -404,8 +445,9 @@ fn values_of<T: Drop>(mut values: Vec<T>, mut closed: Closed<Slot<T>, Global>) -
 /// Closes a package whose threads have all come back, with no bit and no spin word had and no wait begun. It takes no memory.
 pub fn close_package<U: Uses>(alloc: Global, p: Package<U>, threads: Vec<Thread<U>>) -> Remains<U>
     requires count { length threads.items ≡ p.layout.threads }
-    requires threads { Each (λ n t. (t.number ≡ n) × (t.table_id ≡ p.table_id) × (t.spin ≡ None) × HasNone t) threads.items }
-    requires rest { Each (λ n t. t.wait ≡ None) threads.items }
+    requires threads { Each (λ n t. (t.number ≡ n) × (t.table_id ≡ p.table_id) × (t.spin ≡ None) × (t.child ≡ No) × HasNone t)
+        threads.items }
+    requires rest { Each (λ n t. (t.wait ≡ None) × (p.layout.version ≡ Two → t.life ≢ Live)) threads.items }
     ensures values { (length result.values.items ≡ p.layout.mutexes)
         × Leaves p.layout (U.holds p.world) (map (λ t. part_of t) threads.items) result.values.items }
     ensures stored { (map (λ s. s.entries.items) result.stored.items ≡ map (λ t. t.entries) threads.items)

@@ -1,4 +1,5 @@
 use Rattle.std.proofs.Common.{Bool, rules, arith, ◌≡◌, ◌∙◌, ◌∷◌, ◌++◌, [], ℕ, ap, sym, subst, refl}
+use Rattle.larch_actions.specs.declared.event.Life.{Life}
 use Rattle.nub_rule.specs.declared.view.Pen.{Pen}
 use Rattle.nub_rule.specs.Known.{known_as, Makes}
 use Rattle.nub_rule.specs.Parts.{made, MayTell}
@@ -10,11 +11,11 @@ use Rattle.nub_rule.proofs.AlertSteps.{or_alert_keeps}
 use Rattle.nub_rule.proofs.alert.or_alert.Goals as goal
 
 pub fetch_or-found-requires-clause-inside : goal.fetch_or-found-requires-clause-inside
-fetch_or-found-requires-clause-inside g c κs within = let near = thread_low _ _ _ _ c.p.view_is c.p.invariant.laid_out c.p.invariant.lawful c.args.t.0 c.p.invariant.version c.requires.named in let word = c.alert_word.ensures in omega arith
+fetch_or-found-requires-clause-inside g c κs within = let near = thread_low _ _ _ _ c.p.view_is c.p.invariant.laid_out c.p.invariant.lawful c.args.t.0 c.requires.named in let word = c.alert_word.ensures in omega arith
 
 pub fetch_or-found-requires-clause-allowed : goal.fetch_or-found-requires-clause-allowed
-fetch_or-found-requires-clause-allowed g c κs within = let near = thread_low _ _ _ _ c.p.view_is c.p.invariant.laid_out c.p.invariant.lawful c.args.t.0 c.p.invariant.version c.requires.named in let t : ℕ = c.args.t.0 in let traces : c.p.inside.table.shared.key.traced ≡ c.args.p.now.traced = ap (λ s. s.traced) c.p.view_is in
-    let word = c.alert_word.ensures in or_alert_keeps _ _ _ _ _ _ _ t c.me.inside.seat.me _ word near (search rules) c.me.invariant.member (ap (λ k. k.wait) c.me.view_is ∙ c.requires.outside) (subst (λ (z : Bool × Pen). MayTell z.0 z.1) (λ j. (sym traces j, ap (λ k. k.pen) (sym c.me.view_is) j)) c.requires.pen)
+fetch_or-found-requires-clause-allowed g c κs within = let near = thread_low _ _ _ _ c.p.view_is c.p.invariant.laid_out c.p.invariant.lawful c.args.t.0 c.requires.named in let t : ℕ = c.args.t.0 in let traces : c.p.inside.table.shared.key.traced ≡ c.args.p.now.traced = ap (λ s. s.traced) c.p.view_is in
+    let word = c.alert_word.ensures in or_alert_keeps _ _ _ _ _ _ _ t c.me.inside.seat.me _ word near (search rules) c.me.invariant.member (ap (λ k. k.wait) c.me.view_is ∙ c.requires.outside) (subst (λ (z : Bool × Life × Pen). MayTell z.0 z.1 z.2) (λ j. (sym traces j, ap (λ k. k.life) (sym c.me.view_is) j, ap (λ k. k.pen) (sym c.me.view_is) j)) c.requires.pen)
 
 pub invariant_of-me : goal.invariant_of-me
 invariant_of-me g c = let t : ℕ = c.args.t.0 in let i = c.me.invariant in fit_noted _ _ c.me.inside.number c.me.inside.hand c.me.inside.seat.me _ _ c.fetch_or-found.ensures.0 ((c.fetch_or-found.ensures.2 t c.alert_word.ensures).2) i refl refl refl refl refl

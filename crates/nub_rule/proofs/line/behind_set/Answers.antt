@@ -16,7 +16,7 @@ loop-i-preserved c = let d : c.deref.result.now ≡ c.args.line.now.items = sear
     let i = c.loop-i.invariant in let up : (c.loop-i.i - 1) + 1 ≡ c.loop-i.i = search rules in
     let step = dropped-step (c.loop-i.i - 1) c.args.line.now.items (search rules) in (
       search rules,
-      c.insert.ensures.list (dropped c.loop-i.i c.args.line.now.items) i.1 ∙ ap (λ l. set_of l) (sym (step ∙ (λ k. get_or (sym d k) (c.loop-i.i - 1) 0 ∷ dropped (up k) c.args.line.now.items))),
+      c.insert.ensures.list (dropped c.loop-i.i c.args.line.now.items) i.1 ∙ (λ k. set_of (c.from.ensures k ∷ dropped c.loop-i.i c.args.line.now.items)) ∙ ap (λ l. set_of l) (sym (step ∙ (λ k. get_or (sym d k) (c.loop-i.i - 1) 0 ∷ dropped (up k) c.args.line.now.items))),
       λ z. absurd (search rules),
     )
 

@@ -1,4 +1,5 @@
 use Rattle.std.proofs.Common.{rules, arith, ◌≡◌, ◌∙◌, ◌∷◌, ◌++◌, [], ℕ, ap, sym, subst, length, refl, Some, None, set}
+use Rattle.larch_actions.specs.declared.event.Life.{Life}
 use Rattle.nub_rule.specs.declared.rule.Slot.TheVariants.{Value}
 use Rattle.nub_rule.specs.Known.{known_as, Makes}
 use Rattle.nub_rule.specs.Parts.{made}
@@ -27,7 +28,7 @@ swap-requires-clause-inside g c κs within = let near = mutex_low _ _ _ _ c.p.vi
 
 pub swap-requires-clause-allowed : goal.swap-requires-clause-allowed
 swap-requires-clause-allowed g c κs within = let word = c.mutex_bit.ensures in let near = mutex_low _ _ _ _ c.p.view_is c.p.invariant.laid_out c.p.invariant.lawful c.args.m.0 c.requires.named in let m : ℕ = c.args.m.0 in let traces : c.p.inside.table.shared.key.traced ≡ c.args.p.now.traced = ap (λ s. s.traced) c.p.view_is in let i = c.me.invariant in let h = i.hands in let b = c.bring.ensures in let same = b.same.2 in let e = ap (λ v. v.part) same in clear_bit_keeps _ _ _ _ _ g.U.Uses.allows (g.U.Uses.holds_after _) g.C.Change.after _ _ m c.bring.new.seat.me _ word (search rules) (ap (λ v. v.kind) same ∙ i.member) (ap (λ p. p.wait) e ∙ (ap (λ k. k.wait) c.me.view_is ∙ c.requires.outside.0)) (ap (λ p. p.stand) e ∙ (ap (λ k. k.stand) c.me.view_is ∙ c.requires.outside.1))
-    (subst (λ (z : Bool × Pen). MayTell z.0 z.1) (λ j. (sym traces j, (ap (λ k. k.pen) (sym c.me.view_is) ∙ ap (λ p. p.pen) (sym e)) j)) c.requires.pen)
+    (subst (λ (z : Bool × Life × Pen). MayTell z.0 z.1 z.2) (λ j. (sym traces j, (ap (λ k. k.life) (sym c.me.view_is) ∙ ap (λ p. p.life) (sym e)) j, (ap (λ k. k.pen) (sym c.me.view_is) ∙ ap (λ p. p.pen) (sym e)) j)) c.requires.pen)
     (may_free g.U.Uses.allows g.C.Change.after m _ c.me.inside.number _ _ c.me.inside.seat.me c.args.me.now c.bring.new.seat.me.0 c.bring.new.seat.me.1 c.me.view_is i.numbered same b.first c.requires.may)
 
 pub invariant_of-me : goal.invariant_of-me

@@ -21,8 +21,8 @@ bring-requires-clause-there g c = (Queue (line_of c.me.inside.seat.me.0.part.que
 pub slot_mut-requires-clause-first : goal.slot_mut-requires-clause-first
 slot_mut-requires-clause-first g c = (Queue (line_of c.me.inside.seat.me.0.part.queue), (at_hand g (goal.at.slot_mut-requires-clause-first g c).After-bring).first)
 
-pub push_line-longer-requires : goal.push_line-longer-requires
-push_line-longer-requires g c = let a = at_hand g (goal.at.push_line-longer-requires g c).After-bring in
+pub push_line-longer-requires-clause-room : goal.push_line-longer-requires-clause-room
+push_line-longer-requires-clause-room g c = let a = at_hand g (goal.at.push_line-longer-requires-clause-room g c).After-bring in
     (c.me.inside.seat.me.0.part.queue, same_slot c.number-o.result _ _ _ _ c.slot_mut.ensures.value a.first, c.me.invariant.hands.room c.number-o.result a.spins (ap (λ k. k.stand) c.me.view_is ∙ c.requires.outside))
 
 pub store-requires-clause-inside : goal.store-requires-clause-inside

@@ -27,17 +27,21 @@ loop-parker-init g c = record {
   kind = c.requires.root.0;
   next = c.requires.root.1;
   world = refl;
+  version = refl;
   all = search rules;
   read = refl;
   count = ap length c.requires.threads.0;
   wide = c.requires.threads.1;
   empty = c.requires.room.0;
   room = λ _. c.requires.room.1;
-  threads = each-none (λ n t. t ≡ first_known c.args.p.now.table_id c.args.p.now.world g.U.Uses.begin n) c.args.threads.items c.requires.threads.0;
+  threads = each-none (λ n t. t ≡ first_known c.args.p.now.table_id c.args.p.now.layout.version c.args.p.now.world g.U.Uses.begin n) c.args.threads.items c.requires.threads.0;
 }
 
 pub cut-requires-clause-world : goal.cut-requires-clause-world
 cut-requires-clause-world g c = λ _ _. c.loop-parker.invariant.world ∙ c.requires.world
+
+pub cut-requires-clause-version : goal.cut-requires-clause-version
+cut-requires-clause-version g c = λ _ _. c.loop-parker.invariant.version ∙ c.requires.version
 
 pub cut-requires-clause-room : goal.cut-requires-clause-room
 cut-requires-clause-room g c = λ _ _. c.loop-parker.invariant.room
@@ -56,15 +60,16 @@ loop-parker-preserved g c = let i = c.loop-parker.invariant in let r = c.cut.ens
   kind = ap (λ v. v.kind) r ∙ i.kind;
   next = ap (λ v. v.next) r ∙ ap (λ n. n + 1) i.next;
   world = ap (λ v. v.world) r ∙ i.world;
+  version = ap (λ v. v.part.version) r ∙ i.version;
   read = one_longer c.loop-parker.yielded c.in-Some.parker c.loop-parker.number i.read;
   all = i.all ∙ (ap (λ l. c.loop-parker.yielded ++ l) c.in-Some.ensures.steps.0 ∙ sym (append_assoc c.loop-parker.yielded (c.in-Some.parker ∷ []) c.next.new.self.rest.items));
   wide = still_room _ _ _ i.wide c.push_reserved.ensures.capacity;
   count = ap length long ∙ one_longer c.loop-parker.threads.items c.cut.result c.loop-parker.number i.count;
   empty = c.cut.ensures.empty;
   room = λ z. absurd (not_none c.loop-parker.number z);
-  threads = each-snoc (λ n t. t ≡ first_known c.args.p.now.table_id c.args.p.now.world g.U.Uses.begin n)
+  threads = each-snoc (λ n t. t ≡ first_known c.args.p.now.table_id c.args.p.now.layout.version c.args.p.now.world g.U.Uses.begin n)
       c.loop-parker.threads.items c.push_reserved.new.self.items c.loop-parker.number c.cut.result long i.count
-      (c.cut.ensures.thread ∙ ap (λ z. first_known z c.args.p.now.world g.U.Uses.begin c.loop-parker.number) (i.of ∙ c.requires.of)) i.threads;
+      (c.cut.ensures.thread ∙ ap (λ z. first_known z c.args.p.now.layout.version c.args.p.now.world g.U.Uses.begin c.loop-parker.number) (i.of ∙ c.requires.of)) i.threads;
 }
 
 pub returns-clause-count : goal.returns-clause-count

@@ -5,13 +5,14 @@ use Rattle.nub_rule.proofs.whole.gather_all.Given as goal
 
 abbrev pub invariant-loop-thread : goal.invariant-loop-thread
 invariant-loop-thread g l = record {
-  of : l.seat.table_id ≡ l.initial.seat.table_id;
-  kind : l.seat.me.0.kind ≡ Collector;
-  back : l.seat.me.0.back ≡ map (λ t. part_of t) l.yielded;
+  of : l.all.seat.table_id ≡ l.initial.all.seat.table_id;
+  kind : l.all.seat.me.0.kind ≡ Collector;
+  back : l.all.seat.me.0.back ≡ map (λ t. part_of t) l.yielded;
   all : l.fn.threads.items ≡ l.yielded ++ l.thread-iterator.rest.items;
-  entries : map (λ s. s.entries.items) l.stored.items ≡ map (λ t. t.entries) l.yielded;
-  losses : map (λ s. s.lost) l.stored.items ≡ map (λ t. t.lost) l.yielded;
-  shelf : length l.fn.threads.items ≤ vec_capacity l.stored;
-  empty : l.room.items ≡ [];
-  room : 1 ≤ length l.yielded → l.shared.table_id.slots ≤ 192 + vec_capacity l.room;
+  entries : map (λ s. s.entries.items) l.all.stored.items ≡ map (λ t. t.entries) l.yielded;
+  losses : map (λ s. s.lost) l.all.stored.items ≡ map (λ t. t.lost) l.yielded;
+  count : length l.all.stored.items ≡ length l.yielded;
+  shelf : length l.fn.threads.items ≤ vec_capacity l.all.stored;
+  empty : l.all.room.items ≡ [];
+  room : 1 ≤ length l.yielded → l.shared.table_id.slots ≤ 192 + vec_capacity l.all.room;
 }
