@@ -1,33 +1,26 @@
 -- A P that an alert may end as a row of steps, each of which says what the thread knows then.
-use Rattle.std.proofs.Common.{◌≡◌, ℕ, ◌<◌, ◌≤◌, Bool, true, false, Option as Opt, None, Some, List, [], ◌∷◌, ◌++◌, length, refl, ap, ap₂, sym, subst, ◌∙◌, ⊎_elim}
-use Rattle.std.proofs.lemmas.Bool.{cases_lt}
+use Rattle.std.proofs.Common.{◌≡◌, ℕ, false, Option as Opt, None, List, [], ◌∷◌, ◌++◌, length, ap, ap₂, sym, subst, ◌∙◌}
 use Rattle.larch_actions.specs.declared.event.Event.{Event}
-use Rattle.larch_actions.specs.declared.event.Version.TheVariants.{One}
-use Rattle.larch_actions.specs.Actions.{IsLegal, by_thread}
+use Rattle.larch_actions.specs.Actions.{by_thread}
 use Rattle.larch_actions.specs.Sets.{without}
-use Rattle.nub_rule.specs.declared.view.Stage.TheVariants.{Alerted}
+use Rattle.nub.proofs.Adding.{legal_as}
 use Rattle.nub_rule.specs.declared.view.Stand.{Stand}
 use Rattle.nub_rule.specs.declared.view.Wait.{Wait}
 use Rattle.nub_rule.specs.Known.{Known, Makes, recorded}
-use Rattle.nub_rule.specs.Parts.{staged}
 use Rattle.nub.proofs.Without.{without_twice}
-
-cases : {X : Type 0} (b : Bool) → (b ≡ true → X) → (b ≡ false → X) → X
-cases true f g = f refl
-cases false f g = g refl
 
 module _ {T H W : Type 0} where
   -- an event that s made is made by o where s is o in all that the event hangs on
-  pub makes_from : (by : ℕ → Event) (o s e : Known T H W) → s.number ≡ o.number → s.seen ≡ o.seen → s.mine ≡ o.mine → s.places ≡ o.places → s.pen ≡ o.pen
+  pub makes_from : (by : ℕ → Event) (o s e : Known T H W) → s.number ≡ o.number → s.version ≡ o.version → s.seen ≡ o.seen → s.mine ≡ o.mine → s.places ≡ o.places → s.pen ≡ o.pen
       → Makes (by s.number) s e → Makes (by o.number) o e
-  makes_from by o s e number seen mine places pen made =
+  makes_from by o s e number version seen mine places pen made =
       let d = by o.number in
       let at : Makes d s e = subst (λ (n : ℕ). Makes (by n) s e) number made in
       let grows = at.1 in
       let far = ap (λ l. l ++ at.0) seen in (
         at.0,
         record {
-          legal = subst (IsLegal One) (ap (λ l. l ++ d ∷ []) far) grows.legal;
+          legal = legal_as s.version o.version ((s.seen ++ at.0) ++ d ∷ []) ((o.seen ++ at.0) ++ d ∷ []) (sym version) (ap (λ l. l ++ d ∷ []) far) grows.legal;
           own = ap₂ (λ n l. by_thread n l) (sym number) (sym (ap (λ l. l ++ d ∷ []) far)) ∙ (grows.own ∙ ap (λ l. l ++ d ∷ []) mine);
           number = λ k p. grows.number k (pen ∙ p) ∙ ap length far;
         },
@@ -95,11 +88,12 @@ module _ {T H W : Type 0} where
     pub raises : (by : ℕ → Event) (e : Known T H W) → Makes (by s.number) s e → Makes (by o.number) o e
     raises by e made =
         let number = ap (λ k. k.number) stood ∙ (ap (λ k. k.number) lost ∙ ap (λ k. k.number) same) in
+        let version = ap (λ k. k.version) stood ∙ (ap (λ k. k.version) lost ∙ ap (λ k. k.version) same) in
         let seen = ap (λ k. k.seen) stood ∙ (ap (λ k. k.seen) lost ∙ ap (λ k. k.seen) same) in
         let mine = ap (λ k. k.mine) stood ∙ (ap (λ k. k.mine) lost ∙ ap (λ k. k.mine) same) in
         let places = ap (λ k. k.places) stood ∙ (ap (λ k. k.places) lost ∙ ap (λ k. k.places) same) in
         let pen = ap (λ k. k.pen) stood ∙ (ap (λ k. k.pen) lost ∙ ap (λ k. k.pen) same) in
-        makes_from by o s e number seen mine places pen made
+        makes_from by o s e number version seen mine places pen made
 
   pub with_alerted : (a b : Known T H W) → a ≡ b → a ≡ record b { alerted = a.alerted }
   with_alerted a b is = let F : Known T H W → Known T H W = λ k. record k { alerted = a.alerted } in ap F is
@@ -111,58 +105,6 @@ module _ {T H W : Type 0} where
       let F : Known T H W → Known T H W = λ k. record (recorded k z) { count = z.count; failed = z.failed; alerted = z.alerted } in
       let G : Known T H W → Known T H W = λ k. record k { count = z.count; failed = z.failed; alerted = z.alerted } in
       ap G raised ∙ ap F is
-
-  -- the thread o has the spin word of n as i; its queue is given back with the word
-  abbrev pub Enters : ℕ → Known T H W → Known T H W → Type 0
-  Enters n o i = i ≡ record o { spin = Some n; queue = i.queue; owed = []; left = i.queue; count = i.count; failed = without n o.failed }
-
-  module _ (n : ℕ) (o i z : Known T H W) (entered : Enters n o i) (spin : o.spin ≡ None) (queue : o.queue ≡ []) (owed : o.owed ≡ []) (left : o.left ≡ []) where
-    outside_again : (q : Opt Stand) (u : List ℕ) (b : Bool) → record i { spin = None; queue = []; left = []; count = z.count; stand = q; turns = u; alerted = b } ≡ record o { count = z.count; stand = q; failed = without n o.failed; turns = u; alerted = b }
-    outside_again q u b =
-        let F : Known T H W → Known T H W = λ k. record k { spin = None; queue = []; left = []; count = z.count; stand = q; turns = u; alerted = b } in
-        let E : Opt ℕ → List ℕ → List ℕ → List ℕ → Known T H W = λ s a d f. record o { spin = s; queue = a; owed = d; left = f; count = z.count; stand = q; failed = without n o.failed; turns = u; alerted = b } in
-        ap F entered ∙ ap (λ s. E s [] [] []) (sym spin) ∙ ap (λ a. E o.spin a [] []) (sym queue) ∙ ap (λ d. E o.spin o.queue d []) (sym owed) ∙ ap (E o.spin o.queue o.owed) (sym left)
-
-    -- it found itself popped as r, left as l, and slept until it was made ready, as z
-    pub popped : (r l : Known T H W) (u : List ℕ) → r ≡ i → l ≡ record r { spin = None; queue = []; left = [] } → z ≡ record l { stand = None; turns = u }
-        → z ≡ record o { count = z.count; stand = None; failed = without n o.failed; turns = z.turns }
-    popped r l u same leaves slept =
-        let F : Known T H W → Known T H W = λ k. record k { count = z.count; stand = None; turns = z.turns; alerted = z.alerted } in
-        let G : Known T H W → Known T H W = λ k. record k { count = z.count; turns = z.turns; alerted = z.alerted } in
-        let K : Known T H W → Known T H W = λ k. record k { spin = None; queue = []; left = []; count = z.count; stand = None; turns = z.turns; alerted = z.alerted } in
-        let E : Bool → Known T H W = λ b. record o { count = z.count; stand = None; failed = without n o.failed; turns = z.turns; alerted = b } in
-        let alerted = ap (λ k. k.alerted) slept ∙ (ap (λ k. k.alerted) leaves ∙ (ap (λ k. k.alerted) same ∙ ap (λ k. k.alerted) entered)) in
-        ap G slept ∙ ap F leaves ∙ ap K same ∙ outside_again None z.turns z.alerted ∙ ap E alerted
-
-    -- it took itself out as r, and left as z
-    pub left_line : (r : Known T H W) (a d u : List ℕ) → r ≡ record i { queue = a; left = d; stand = None; turns = u } → z ≡ record r { spin = None; queue = []; left = [] }
-        → z ≡ record o { count = z.count; stand = None; failed = without n o.failed; turns = z.turns }
-    left_line r a d u out leaves =
-        let G : Known T H W → Known T H W = λ k. record k { count = z.count; turns = z.turns; alerted = z.alerted } in
-        let F : Known T H W → Known T H W = λ k. record k { spin = None; queue = []; left = []; count = z.count; turns = z.turns; alerted = z.alerted } in
-        let E : Bool → Known T H W = λ b. record o { count = z.count; stand = None; failed = without n o.failed; turns = z.turns; alerted = b } in
-        let alerted = ap (λ k. k.alerted) leaves ∙ (ap (λ k. k.alerted) out ∙ ap (λ k. k.alerted) entered) in
-        ap G leaves ∙ ap F out ∙ outside_again None z.turns z.alerted ∙ ap E alerted
-
-    -- it pushed itself as q, and tested the bit as t
-    module _ (q t : Known T H W) (a d : List ℕ) (stood tested : Opt Stand) (pushed : q ≡ record i { queue = a; left = d; stand = stood }) (tests : t ≡ record q { stand = tested }) where
-      -- it found it clear, took itself out as r, and left as z
-      pub went_on : (r : Known T H W) (e f u : List ℕ) → r ≡ record t { queue = e; left = f; stand = None; turns = u } → z ≡ record r { spin = None; queue = []; left = [] }
-          → z ≡ record o { count = z.count; stand = z.stand; failed = without n o.failed; turns = z.turns; alerted = z.alerted }
-      went_on r e f u out leaves =
-          let G : Known T H W → Known T H W = λ k. record k { count = z.count; stand = z.stand; turns = z.turns; alerted = z.alerted } in
-          let K : Known T H W → Known T H W = λ k. record k { spin = None; queue = []; left = []; count = z.count; stand = z.stand; turns = z.turns; alerted = z.alerted } in
-          ap G leaves ∙ ap K out ∙ ap K tests ∙ ap K pushed ∙ outside_again z.stand z.turns z.alerted
-
-      -- it found it set, left as l, and slept, until it was made ready or was alerted, as z
-      pub slept : (l : Known T H W) (b : Bool) → l ≡ record t { spin = None; queue = []; left = [] } → (b ≡ true → n < 128 → z ≡ record l { stand = None; turns = n ∷ l.turns })
-          → (b ≡ true → 128 ≤ n → z ≡ record l { stand = None }) → (b ≡ false → z ≡ record l { alerted = true; stand = staged Alerted l.stand })
-          → z ≡ record o { count = z.count; stand = z.stand; failed = without n o.failed; turns = z.turns; alerted = z.alerted }
-      slept l b leaves at_gate at_cond alerted =
-          let G : Known T H W → Known T H W = λ k. record k { count = z.count; stand = z.stand; turns = z.turns; alerted = z.alerted } in
-          let K : Known T H W → Known T H W = λ k. record k { spin = None; queue = []; left = []; count = z.count; stand = z.stand; turns = z.turns; alerted = z.alerted } in
-          let last : z ≡ G l = cases b (λ e. ⊎_elim (λ low. ap G (at_gate e low)) (λ high. ap G (at_cond e high)) (cases_lt n 128)) (λ e. ap G (alerted e)) in
-          last ∙ ap G leaves ∙ ap K tests ∙ ap K pushed ∙ outside_again z.stand z.turns z.alerted
 
   -- the thread o has lowered the begun waits as l, and has the mutex again as z
   pub ended_returned : (o l z : Known T H W) → l ≡ record o { raised = None } → z ≡ record (recorded l z) { held = z.held; count = z.count; wait = None; failed = z.failed; turns = z.turns; values = z.values }

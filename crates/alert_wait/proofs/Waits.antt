@@ -2,8 +2,7 @@
 use Rattle.std.proofs.Common.{◌≡◌, ℕ, Option as Opt, Some, None, List, [], ◌∷◌, ◌++◌, ap, subst, sym, ◌∙◌, append_assoc, append-nil, slice_set}
 use Rattle.std.proofs.lemmas.List.{set-set}
 use Rattle.larch_actions.specs.declared.event.Event.{Event}
-use Rattle.larch_actions.specs.declared.event.Version.TheVariants.{One}
-use Rattle.larch_actions.specs.Actions.{IsLegal, StartsWith, by_thread}
+use Rattle.larch_actions.specs.Actions.{StartsWith, by_thread}
 use Rattle.larch_actions.specs.Sets.{without}
 use Rattle.nub_rule.specs.declared.view.Pen.{Pen}
 use Rattle.nub_rule.specs.declared.view.Stand.{Stand}
@@ -11,7 +10,7 @@ use Rattle.nub_rule.specs.declared.view.Wait.{Wait}
 use Rattle.nub_rule.specs.Known.{IsOut, Known, Makes, Shape, recorded}
 use Rattle.nub_rule.specs.Plays.{opened}
 use Rattle.nub.specs.Rest.{Adds, AtRest, HasStored, IsSame}
-use Rattle.nub.proofs.Adding.{begins_on, grown}
+use Rattle.nub.proofs.Adding.{legal_as, begins_on, grown}
 use Rattle.nub.proofs.Without.{still_out}
 
 module _ {T H W : Type 0} where
@@ -82,6 +81,7 @@ module _ {T H W : Type 0} where
         left = ap (λ s. s.5) stays ∙ rest.outside.left;
         stand = ap (λ s. s.6) stays ∙ rest.outside.stand;
         pen = ap (λ s. s.7) stays ∙ rest.outside.pen;
+        live = ap (λ k. k.life) s.out ∙ (ap (λ k. k.life) s.ended ∙ (ap (λ k. k.life) s.blocked ∙ (ap (λ k. k.life) s.freed ∙ (ap (λ k. k.life) s.begun ∙ (ap (λ k. k.life) s.put ∙ rest.outside.live)))));
       };
       wait = ap (λ k. k.wait) s.out ∙ ap (λ k. k.wait) s.ended;
       raised = ap (λ k. k.raised) s.out ∙ ap (λ k. k.raised) s.ended;
@@ -91,6 +91,8 @@ module _ {T H W : Type 0} where
       looked = ap (λ k. k.looked) s.out ∙ (ap (λ k. k.looked) s.ended ∙ (ap (λ k. k.looked) s.blocked ∙ (ap (λ k. k.looked) s.freed ∙ (ap (λ k. without m k.looked) s.begun ∙ (ap (λ k. without m k.looked) s.put ∙ ap (without m) rest.looked)))));
       taken = still_out o.held z.held o.values z.values m (Some x) (Some (Some x)) (Some None) rest.taken held_then values_then (λ z e. is_out);
       stored = subst (λ k. HasStored p.traced k) (sym s.out) stored;
+      child = ap (λ k. k.child) s.out ∙ (ap (λ k. k.child) s.ended ∙ (ap (λ k. k.child) s.blocked ∙ (ap (λ k. k.child) s.freed ∙ (ap (λ k. k.child) s.begun ∙ (ap (λ k. k.child) s.put ∙ rest.child)))));
+      version = ap (λ k. k.version) s.out ∙ (ap (λ k. k.version) s.ended ∙ (ap (λ k. k.version) s.blocked ∙ (ap (λ k. k.version) s.freed ∙ (ap (λ k. k.version) s.begun ∙ (ap (λ k. k.version) s.put ∙ rest.version)))));
     }
 
     pub adds : (by : ℕ → Event) (ends : ℕ → Event) → Makes (by a.number) a b → Makes (ends k.number) k e → Adds (by o.number ∷ []) (ends o.number) o z
@@ -107,7 +109,7 @@ module _ {T H W : Type 0} where
         let mine = ap (λ k. k.mine) s.out ∙ second.3 in
         record {
           mine = mine ∙ ap (λ l. l ++ h ∷ []) (between_mine ∙ (first.3 ∙ ap (λ k. k.mine ++ d ∷ []) s.put));
-          legal = subst (IsLegal One) (sym seen) second.1.legal;
+          legal = legal_as k.version z.version ((k.seen ++ second.0) ++ h ∷ []) z.seen (ap (λ k. k.version) s.out ∙ ap (λ k. k.version) s.ended) (sym seen) second.1.legal;
           grows = begins_on o.seen k.seen z.seen (grown o.seen first.0 k.seen d (between_seen ∙ (first.2 ∙ ap (λ k. (k.seen ++ first.0) ++ d ∷ []) s.put))) (grown k.seen second.0 z.seen h seen);
           ends = (k.seen ++ second.0, seen);
           own = ap (λ n. by_thread n z.seen) (ap (λ k. k.number) s.out ∙ ap (λ k. k.number) s.ended) ∙ (ap (by_thread k.number) seen ∙ (second.1.own ∙ sym mine));

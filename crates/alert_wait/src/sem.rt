@@ -1,6 +1,6 @@
 //! A P that an alert ends.
 ghost use Rattle.std.specs.Prelude.{◌≡◌, ℕ, ◌<◌, [], None, true, false};
-ghost use Rattle.larch_actions.specs.Sets.{mem, without};
+ghost use Rattle.larch_actions.specs.declared.event.Life.TheVariants.{Live};
 ghost use Rattle.nub_rule.specs.declared.view.Pen.TheVariants.{No};
 ghost use Rattle.nub_rule.specs.Known.{Makes, StandsAs, recorded};
 ghost use Rattle.nub_rule.specs.Parts.{IsAlerted};
@@ -13,10 +13,10 @@ ghost use Rattle.alert_wait.specs.Outcomes.{p_end};
 ghost use Rattle.alert_wait.specs.declared.outcome.Outcome.TheVariants.{Returned};
 
 use crate::outcome::Outcome;
-use gate::try_take;
+use gate::{stand_in_line, try_take};
 use larch_actions::{Action, Event, SemId, ThreadId};
-use nub::{begin_event, end_event, enter, leave, push, remove, sleep};
-use nub_rule::{Object, Package, Thread, Uses, Why, swap_alert_in_p, test_again};
+use nub::{begin_event, end_event, withdraw};
+use nub_rule::{Object, Package, Thread, Uses, swap_alert_in_p};
 use std::sync::Wait;
 
 /// Makes the semaphore unavailable, once it is available, or raises where the thread was alerted, and the alert is gone then. Where both is
@@ -24,6 +24,10 @@ use std::sync::Wait;
 ///
 /// It blocks while the semaphore is unavailable and the thread isn't alerted: a `v` of the semaphore may end the wait, by any thread, and so
 /// does an `alert` of this one.
+///
+/// ```rust
+/// let outcome = alert_p(rt, pkg, me, TRIED);
+/// ```
 pub fn alert_p<U: Uses, R: Wait>(rt: &R, p: &Package<U>, me: &mut Thread<U>, s: SemId) -> Outcome
     requires rest { AtRest p.now me.old }
     requires named { s.0 < p.now.layout.semaphores }
@@ -65,7 +69,7 @@ fn take_or_raise<U: Uses, R: Wait>(rt: &R, p: &Package<U>, me: &mut Thread<U>, s
         if try_take(rt, p, me, at, e) {
             return Outcome::Returned;
         }
-        if !stand_in_line(rt, p, me, s) {
+        if !stand_in_line(rt, p, me, at, true) {
             return end_alerted(rt, p, me, s);
         }
     }
@@ -79,6 +83,7 @@ fn end_alerted<U: Uses, R: Wait>(rt: &R, p: &Package<U>, me: &mut Thread<U>, s: 
     requires of { me.old.table_id ≡ p.now.table_id }
     requires named { s.0 < p.now.layout.semaphores }
     requires outside { (me.old.spin ≡ None) × (me.old.queue ≡ []) × (me.old.owed ≡ []) × (me.old.left ≡ []) × (me.old.pen ≡ No) }
+    requires live { me.old.life ≡ Live }
     requires no_wait { me.old.wait ≡ None }
     requires turns { me.old.turns ≡ [] }
     requires looked { me.old.cleared ≡ [] }
@@ -106,6 +111,7 @@ fn take_at_last<U: Uses, R: Wait>(rt: &R, p: &Package<U>, me: &mut Thread<U>, s:
     requires of { me.old.table_id ≡ p.now.table_id }
     requires named { s.0 < p.now.layout.semaphores }
     requires outside { (me.old.spin ≡ None) × (me.old.queue ≡ []) × (me.old.owed ≡ []) × (me.old.left ≡ []) × (me.old.pen ≡ No) }
+    requires live { me.old.life ≡ Live }
     requires no_wait { me.old.wait ≡ None }
     requires turns { me.old.turns ≡ [] }
     requires looked { me.old.cleared ≡ [] }
@@ -125,7 +131,8 @@ fn take_at_last<U: Uses, R: Wait>(rt: &R, p: &Package<U>, me: &mut Thread<U>, s:
     } }
     ensures stored { HasStored p.now.traced me.new }
 {
-    if withdraw(rt, p, me, s) {
+    let at = Object::Sem(s);
+    if withdraw(rt, p, me, at) {
         return false;
     }
     // A V that popped this thread woke nobody else. So the bit is tried once more before the alert ends the call: if that fails, another
@@ -134,72 +141,7 @@ fn take_at_last<U: Uses, R: Wait>(rt: &R, p: &Package<U>, me: &mut Thread<U>, s:
         thread: ThreadId(me.number()),
         action: Action::AlertPReturn { sem: s },
     };
-    try_take(rt, p, me, Object::Sem(s), e)
-}
-
-/// Queues the thread, tests the bit again, and sleeps if it is still set. It answers true where the bit is to be tried anew, and false where
-/// the thread has found its alert word set: it stands in the queue then, unless another thread popped it. It may wait for either.
-#[cold]
-#[inline(never)]
-fn stand_in_line<U: Uses, R: Wait>(rt: &R, p: &Package<U>, me: &mut Thread<U>, s: SemId) -> bool
-    requires of { me.old.table_id ≡ p.now.table_id }
-    requires named { s.0 < p.now.layout.semaphores }
-    requires outside { IsOutside me.old }
-    requires looked { me.old.cleared ≡ [] }
-    requires tried { mem (sem_object s.0) me.old.failed ≡ true }
-    ensures rest { me.new ≡ record me.old {
-      count = me.new.count;
-      stand = me.new.stand;
-      failed = without (sem_object s.0) me.old.failed;
-      turns = me.new.turns;
-      alerted = me.new.alerted;
-    } }
-    ensures turns { without (sem_object s.0) me.new.turns ≡ without (sem_object s.0) me.old.turns }
-    ensures goes_on { result ≡ true → me.new.stand ≡ None }
-    ensures alerted { result ≡ false → StandsAs (λ x. (x.at ≡ sem_object s.0) × IsAlerted x.stage) me.new × (me.new.alerted ≡ true) }
-    ensures stays { result ≡ false → me.new.turns ≡ me.old.turns }
-{
-    let at = Object::Sem(s);
-    enter(rt, p, me, at, Why::TryFailed);
-    push(p, me, at);
-    // After the push, since whoever clears the bit reads the length of the queue after that.
-    if test_again(p, me, at) == 0 {
-        remove(p, me, at);
-        leave(rt, p, me, at);
-        true
-    } else {
-        leave(rt, p, me, at);
-        sleep(rt, p, me, true)
-    }
-}
-
-/// Takes the alerted thread out of the queue. It answers whether the thread was in it. If it wasn't, another thread has popped it and makes it
-/// ready, for which this waits.
-#[cold]
-#[inline(never)]
-fn withdraw<U: Uses, R: Wait>(rt: &R, p: &Package<U>, me: &mut Thread<U>, s: SemId) -> bool
-    requires of { me.old.table_id ≡ p.now.table_id }
-    requires named { s.0 < p.now.layout.semaphores }
-    requires outside { (me.old.spin ≡ None) × (me.old.queue ≡ []) × (me.old.owed ≡ []) × (me.old.left ≡ []) }
-    requires looked { me.old.cleared ≡ [] }
-    requires alerted { StandsAs (λ x. (x.at ≡ sem_object s.0) × IsAlerted x.stage) me.old × (me.old.alerted ≡ true) }
-    ensures rest { me.new ≡ record me.old {
-      count = me.new.count;
-      stand = None;
-      failed = without (sem_object s.0) me.old.failed;
-      turns = me.new.turns;
-    } }
-    ensures turns { without (sem_object s.0) me.new.turns ≡ without (sem_object s.0) me.old.turns }
-    ensures there { result ≡ true → me.new.turns ≡ me.old.turns }
-{
-    let at = Object::Sem(s);
-    enter(rt, p, me, at, Why::Leaving);
-    let there = remove(p, me, at);
-    leave(rt, p, me, at);
-    if !there {
-        sleep(rt, p, me, false);
-    }
-    there
+    try_take(rt, p, me, at, e)
 }
 
 /// Ends the call by the alert, which is gone then. In a traced package it may wait for the pen.

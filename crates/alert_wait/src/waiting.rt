@@ -26,6 +26,12 @@ use std::sync::Wait;
 /// the alert is gone then. Where a Signal and an alert come together, either may end it; the alert stays where it didn't.
 ///
 /// It blocks until then, and after that while another thread has the mutex.
+///
+/// ```rust
+/// let got = acquire(rt, pkg, me, m);
+/// let (outcome, again) = alert_wait::<SumUses, NoChange, R>(rt, pkg, me, m, CondId(0), got);
+/// release::<SumUses, NoChange, R>(rt, pkg, me, m, again);
+/// ```
 pub fn alert_wait<U: Uses, C: Change<U>, R: Wait>(
     rt: &R,
     p: &Package<U>,

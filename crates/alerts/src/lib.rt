@@ -18,6 +18,10 @@ use std::sync::Wait;
 /// Alerts the thread t, which may be the caller itself. A thread that waits in an alertable call, or begins one later, may end it for that.
 ///
 /// It doesn't block. In a traced package it may wait for a moment, for its turn to number the event.
+///
+/// ```rust
+/// alert(rt, pkg, me, ThreadId(1));
+/// ```
 #[inline]
 pub fn alert<U: Uses, R: Wait>(rt: &R, p: &Package<U>, me: &mut Thread<U>, t: ThreadId)
     requires rest { AtRest p.now me.old }
@@ -42,6 +46,10 @@ pub fn alert<U: Uses, R: Wait>(rt: &R, p: &Package<U>, me: &mut Thread<U>, t: Th
 /// Whether the thread was alerted; afterwards it isn't.
 ///
 /// It doesn't block. In a traced package it may wait for a moment, for its turn to number the event.
+///
+/// ```rust
+/// let still = test_alert(rt, pkg, &mut me);
+/// ```
 #[inline]
 pub fn test_alert<U: Uses, R: Wait>(rt: &R, p: &Package<U>, me: &mut Thread<U>) -> bool
     requires rest { AtRest p.now me.old }

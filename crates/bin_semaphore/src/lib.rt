@@ -20,6 +20,10 @@ use std::sync::Wait;
 /// It blocks while the semaphore is unavailable, for ever if nobody makes it available: only a `v` of the semaphore ends the wait, by
 /// any thread, and then any of those who wait may get it, or a thread that came later. Nobody owns a semaphore, so a thread may call
 /// it twice in a row, and then waits for another's `v`.
+///
+/// ```rust
+/// p(rt, pkg, &mut me, SemId(0));
+/// ```
 #[inline]
 pub fn p<U: Uses, R: Wait>(rt: &R, pkg: &Package<U>, me: &mut Thread<U>, s: SemId)
     requires rest { AtRest pkg.now me.old }
@@ -44,6 +48,10 @@ pub fn p<U: Uses, R: Wait>(rt: &R, pkg: &Package<U>, me: &mut Thread<U>, s: SemI
 ///
 /// It doesn't wait for another thread to do anything. In the package itself it may wait for a moment, as each call may: for the spin
 /// word of the semaphore, where a thread stands in the queue, and in a traced package for its turn to number the event.
+///
+/// ```rust
+/// v(rt, pkg, &mut me, SemId(0));
+/// ```
 #[inline]
 pub fn v<U: Uses, R: Wait>(rt: &R, pkg: &Package<U>, me: &mut Thread<U>, s: SemId)
     requires rest { AtRest pkg.now me.old }

@@ -25,6 +25,10 @@ use std::sync::Wait;
 ///
 /// It doesn't block. In the package itself it may wait for a moment: for the spin word of the condition, and in a traced package for its
 /// turn to number the event.
+///
+/// ```rust
+/// signal(rt, pkg, me, CondId(0));
+/// ```
 #[inline(always)]
 pub fn signal<U: Uses, R: Wait>(rt: &R, p: &Package<U>, me: &mut Thread<U>, c: CondId)
     requires rest { AtRest p.now me.old }
@@ -45,6 +49,10 @@ pub fn signal<U: Uses, R: Wait>(rt: &R, p: &Package<U>, me: &mut Thread<U>, c: C
 /// Takes all threads out of the condition, and wakes them.
 ///
 /// It doesn't block, as `signal` doesn't.
+///
+/// ```rust
+/// broadcast(rt, p, me, MORE);
+/// ```
 #[inline(always)]
 pub fn broadcast<U: Uses, R: Wait>(rt: &R, p: &Package<U>, me: &mut Thread<U>, c: CondId)
     requires rest { AtRest p.now me.old }
@@ -66,6 +74,16 @@ pub fn broadcast<U: Uses, R: Wait>(rt: &R, p: &Package<U>, me: &mut Thread<U>, c
 /// out of it; then takes the mutex again, and its value. Only the thread that has the mutex may call it.
 ///
 /// It blocks until a Signal or Broadcast takes the thread out, for ever if none does, and then while another thread has the mutex.
+///
+/// ```rust
+/// let mut value = got;
+/// for _ in rt.forever() {
+///     if test(&value) {
+///         return value;
+///     }
+///     value = wait::<U, NoChange, R>(rt, p, me, m, c, value);
+/// }
+/// ```
 pub fn wait<U: Uses, C: Change<U>, R: Wait>(
     rt: &R,
     p: &Package<U>,

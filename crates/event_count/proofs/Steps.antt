@@ -1,9 +1,9 @@
 -- What the thread knows after some steps, of plain variables.
 use Rattle.std.proofs.Common.{◌≡◌, ℕ, Option as Opt, None, Some, List, [], ◌∷◌, ◌++◌, length, ap, ap₂, sym, subst, ◌∙◌}
 use Rattle.larch_actions.specs.declared.event.Event.{Event}
-use Rattle.larch_actions.specs.declared.event.Version.TheVariants.{One}
-use Rattle.larch_actions.specs.Actions.{IsLegal, by_thread}
+use Rattle.larch_actions.specs.Actions.{by_thread}
 use Rattle.larch_actions.specs.Sets.{without}
+use Rattle.nub.proofs.Adding.{legal_as}
 use Rattle.nub_rule.specs.declared.view.Pen.{Pen}
 use Rattle.nub_rule.specs.declared.view.Pen.TheVariants.{No, Read}
 use Rattle.nub_rule.specs.declared.view.Wait.{Wait}
@@ -28,7 +28,7 @@ module _ {T H W : Type 0} where
         let far = ap (λ k. k.seen ++ at.0) began in (
           at.0,
           record {
-            legal = subst (IsLegal One) (ap (λ l. l ++ e ∷ []) far) at.1.legal;
+            legal = legal_as b.version o.version ((b.seen ++ at.0) ++ e ∷ []) ((o.seen ++ at.0) ++ e ∷ []) (sym (ap (λ k. k.version) began)) (ap (λ l. l ++ e ∷ []) far) at.1.legal;
             own = ap₂ (λ n l. by_thread n l) (sym (ap (λ k. k.number) began)) (sym (ap (λ l. l ++ e ∷ []) far)) ∙ (at.1.own ∙ ap (λ k. k.mine ++ e ∷ []) began);
             number = λ k p. absurd (no_read o.pen k pen p);
           },
@@ -55,19 +55,6 @@ module _ {T H W : Type 0} where
         let F : Known T H W → Known T H W = λ k. record k { spin = None; queue = []; left = []; count = z.count; wait = z.wait; alerted = z.alerted } in
         let E : Opt ℕ → List ℕ → List ℕ → List ℕ → Known T H W = λ p x y v. record o { spin = p; queue = x; owed = y; left = v; count = z.count; failed = without n o.failed; wait = z.wait; alerted = z.alerted } in
         ap G leaves ∙ ap F moved ∙ ap F entered
-        ∙ ap (λ p. E p [] [] []) (sym outside.0)
-        ∙ ap (λ x. E o.spin x [] []) (sym outside.1)
-        ∙ ap (λ y. E o.spin o.queue y []) (sym outside.2)
-        ∙ ap (E o.spin o.queue o.owed) (sym outside.3)
-
-    -- between, as b, it has left the queue
-    pub left_queue : (a d : List ℕ) (w : Opt Wait) → b ≡ record i { queue = a; left = d; stand = None; wait = w } → z ≡ record o { count = z.count; stand = None; failed = without n o.failed; wait = z.wait }
-    left_queue a d w out =
-        let G : Known T H W → Known T H W = λ k. record k { count = z.count; wait = z.wait } in
-        let F : Known T H W → Known T H W = λ k. record k { spin = None; queue = []; left = []; count = z.count; stand = None; wait = z.wait } in
-        let L : Known T H W → Known T H W = λ k. record k { spin = None; queue = []; left = []; count = z.count; wait = z.wait } in
-        let E : Opt ℕ → List ℕ → List ℕ → List ℕ → Known T H W = λ p x y v. record o { spin = p; queue = x; owed = y; left = v; count = z.count; stand = None; failed = without n o.failed; wait = z.wait } in
-        ap G leaves ∙ ap L out ∙ ap F entered
         ∙ ap (λ p. E p [] [] []) (sym outside.0)
         ∙ ap (λ x. E o.spin x [] []) (sym outside.1)
         ∙ ap (λ y. E o.spin o.queue y []) (sym outside.2)

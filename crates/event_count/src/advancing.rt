@@ -129,7 +129,7 @@ fn looks<U: Uses>(p: &Package<U>, me: &mut Thread<U>, c: CondId, all: bool) -> b
     requires of { me.old.table_id ≡ p.now.table_id }
     requires named { c.0 < p.now.layout.conditions }
     requires no_wait { me.old.wait ≡ None }
-    requires pen { MayTell p.now.traced me.old.pen }
+    requires pen { MayTell p.now.traced me.old.life me.old.pen }
     ensures event { result ≡ false → Makes (event me.old.number (quiet_action all c.0)) me.old me.new }
     ensures quiet { result ≡ false → me.new ≡ record (learnt me.old me.new) { pen = made me.old.pen } }
     ensures calls { result ≡ true → me.new ≡ record me.old { calling = Some c.0 } }

@@ -2,14 +2,14 @@
 ghost use Rattle.std.specs.Prelude.{◌≡◌, ◌<◌, [], Some, None, true, false};
 ghost use Rattle.larch_actions.specs.Sets.{without};
 ghost use Rattle.nub_rule.specs.declared.view.Wait.{Wait as Waiting};
-ghost use Rattle.nub_rule.specs.Known.{Holds, Makes, StandsAs, learnt, recorded};
-ghost use Rattle.nub_rule.specs.Parts.{IsAlerted, MayTell, made};
+ghost use Rattle.nub_rule.specs.Known.{Holds, Makes, learnt, recorded};
+ghost use Rattle.nub_rule.specs.Parts.{MayTell, made};
 ghost use Rattle.nub_rule.specs.Places.{cond_object};
 ghost use Rattle.nub_rule.specs.Plays.{begun_wait, enqueue_event, recounted, unread};
 ghost use Rattle.nub.specs.Rest.{HasStored, IsOutside};
 
 use larch_actions::{Action, CondId, Event, MutexId, ThreadId};
-use nub::{begin_event, end_event, enter, leave, push, remove, sleep};
+use nub::{begin_event, end_event, enter, leave, push, sleep, withdraw};
 use nub_rule::{
     Object, Package, Thread, Uses, Why, compare_count, load_count, load_count_alertable,
     note_mutex, raise_waits,
@@ -107,7 +107,7 @@ fn begin_wait<U: Uses>(
     requires no_wait { me.old.wait ≡ None }
     requires even { me.old.left ≡ me.old.queue }
     requires raised { me.old.raised ≡ Some c.0 }
-    requires pen { MayTell p.now.traced me.old.pen }
+    requires pen { MayTell p.now.traced me.old.life me.old.pen }
     ensures event { Makes (enqueue_event alertable me.old.number m.0 c.0) me.old me.new }
     ensures begun { me.new ≡ record (learnt me.old me.new) { wait = Some (begun_wait alertable m.0 c.0 result); pen = made me.old.pen } }
 {
@@ -161,34 +161,6 @@ pub fn block<U: Uses, R: Wait>(
     if sleep(rt, p, me, alertable) {
         return true;
     }
-    !withdraw(rt, p, me, c)
-}
-
-/// Takes the alerted thread out of the queue. It answers whether the thread was in it. If it wasn't, an advance has taken it out of the
-/// condition, and the thread that popped it makes it ready, for which this waits: that advance counts, and the alert stays.
-fn withdraw<U: Uses, R: Wait>(rt: &R, p: &Package<U>, me: &mut Thread<U>, c: CondId) -> bool
-    requires of { me.old.table_id ≡ p.now.table_id }
-    requires named { c.0 < p.now.layout.conditions }
-    requires outside { (me.old.spin ≡ None) × (me.old.queue ≡ []) × (me.old.owed ≡ []) × (me.old.left ≡ []) }
-    requires looked { me.old.cleared ≡ [] }
-    requires alerted { StandsAs (λ s. (s.at ≡ cond_object c.0) × IsAlerted s.stage) me.old }
-    requires seen { me.old.alerted ≡ true }
-    requires waits { (x : Waiting) × (me.old.wait ≡ Some x) × (x.cond.0 ≡ c.0) }
-    ensures rest { me.new ≡ record me.old {
-      count = me.new.count;
-      stand = None;
-      failed = without (cond_object c.0) me.old.failed;
-      wait = me.new.wait;
-    } }
-    ensures left { result ≡ true → me.new.wait ≡ recounted me.new.count me.old.wait }
-    ensures popped { result ≡ false → me.new.wait ≡ me.old.wait }
-{
-    let at = Object::Cond(c);
-    enter(rt, p, me, at, Why::Leaving);
-    let there = remove(p, me, at);
-    leave(rt, p, me, at);
-    if !there {
-        sleep(rt, p, me, false);
-    }
-    there
+    // Where it wasn't in the queue, an advance has taken it out of the condition: that advance counts, and the alert stays.
+    !withdraw(rt, p, me, at)
 }

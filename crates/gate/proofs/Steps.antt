@@ -3,8 +3,7 @@ use Rattle.std.proofs.Common.{◌≡◌, ◌≢◌, ℕ, Bool, eqb, true, false,
 use Rattle.std.proofs.lemmas.Bool.Decides.{nat_tests}
 use lib.ListN.{get_elem?}
 use Rattle.larch_actions.specs.declared.event.Event.{Event}
-use Rattle.larch_actions.specs.declared.event.Version.TheVariants.{One}
-use Rattle.larch_actions.specs.Actions.{IsLegal, by_thread}
+use Rattle.larch_actions.specs.Actions.{by_thread}
 use Rattle.larch_actions.specs.Sets.{without}
 use Rattle.nub_rule.specs.declared.object.Object.{Object}
 use Rattle.nub_rule.specs.declared.object.Object.TheVariants.{Mutex, Sem, Cond}
@@ -14,6 +13,7 @@ use Rattle.nub_rule.specs.declared.view.Pen.TheVariants.{No, Read}
 use Rattle.nub_rule.specs.declared.view.Stand.{Stand}
 use Rattle.nub_rule.specs.declared.view.Wait.{Wait}
 use Rattle.nub_rule.specs.Known.{Known, Makes, learnt, recorded}
+use Rattle.nub.proofs.Adding.{legal_as}
 use Rattle.nub.specs.Rest.{IsOutside}
 use Rattle.gate.specs.Gates.{IsTaken}
 
@@ -28,12 +28,12 @@ no_read q k is not = cc
 
 module _ {T H W : Type 0} where
   -- an event that s made is made by o where s is o in all that the event hangs on
-  pub makes_from : (e : Event) (o s z : Known T H W) → s.number ≡ o.number → s.seen ≡ o.seen → s.mine ≡ o.mine → s.places ≡ o.places → s.pen ≡ o.pen → Makes e s z → Makes e o z
-  makes_from e o s z number seen mine places pen at =
+  pub makes_from : (e : Event) (o s z : Known T H W) → s.number ≡ o.number → s.version ≡ o.version → s.seen ≡ o.seen → s.mine ≡ o.mine → s.places ≡ o.places → s.pen ≡ o.pen → Makes e s z → Makes e o z
+  makes_from e o s z number version seen mine places pen at =
       let far = ap (λ l. l ++ at.0) seen in (
         at.0,
         record {
-          legal = subst (IsLegal One) (ap (λ l. l ++ e ∷ []) far) at.1.legal;
+          legal = legal_as s.version o.version ((s.seen ++ at.0) ++ e ∷ []) ((o.seen ++ at.0) ++ e ∷ []) (sym version) (ap (λ l. l ++ e ∷ []) far) at.1.legal;
           own = ap₂ (λ n l. by_thread n l) (sym number) (sym (ap (λ l. l ++ e ∷ []) far)) ∙ (at.1.own ∙ ap (λ l. l ++ e ∷ []) mine);
           number = λ k p. at.1.number k (pen ∙ p) ∙ ap length far;
         },
@@ -81,7 +81,7 @@ module _ {T H W : Type 0} where
         ap G is ∙ ap F same
 
     pub won_event : (e : Event) → Makes e l t → Makes e o t
-    won_event e = makes_from e o l t (ap (λ k. k.number) same) (ap (λ k. k.seen) same) (ap (λ k. k.mine) same) (ap (λ k. k.places) same) (ap (λ k. k.pen) same)
+    won_event e = makes_from e o l t (ap (λ k. k.number) same) (ap (λ k. k.version) same) (ap (λ k. k.seen) same) (ap (λ k. k.mine) same) (ap (λ k. k.places) same) (ap (λ k. k.pen) same)
 
     pub won_taken : (fits : W → ℕ → T → ℕ → H → Type 0) (at : Object) → IsTaken fits at l t → IsTaken fits at o t
     won_taken fits at = taken_from fits at o l t (ap (λ k. k.number) same) (ap (λ k. k.world) same) (ap (λ k. k.held) same) (ap (λ k. k.share) same) (ap (λ k. k.values) same)
@@ -141,7 +141,7 @@ module _ {T H W : Type 0} where
         let far = ap (λ k. k.seen ++ at.0) began in (
           at.0,
           record {
-            legal = subst (IsLegal One) (ap (λ l. l ++ e ∷ []) far) at.1.legal;
+            legal = legal_as b.version o.version ((b.seen ++ at.0) ++ e ∷ []) ((o.seen ++ at.0) ++ e ∷ []) (sym (ap (λ k. k.version) began)) (ap (λ l. l ++ e ∷ []) far) at.1.legal;
             own = ap₂ (λ n l. by_thread n l) (sym (ap (λ k. k.number) began)) (sym (ap (λ l. l ++ e ∷ []) far)) ∙ (at.1.own ∙ ap (λ k. k.mine ++ e ∷ []) began);
             number = λ k p. absurd (no_read o.pen k pen p);
           },
@@ -176,21 +176,6 @@ module _ {T H W : Type 0} where
 
   -- the thread o has the spin word of n as i, and is z when it has given it back
   module _ (n : ℕ) (o i z : Known T H W) (outside : IsOutside o) (entered : i ≡ record o { spin = Some n; queue = i.queue; owed = []; left = i.queue; count = i.count; failed = without n o.failed }) where
-    -- it pushed itself as q, tested the bit as t, and took itself out as r
-    pub left_queue : (q t r : Known T H W) (a d b f u : List ℕ) (s w : Opt Stand) → q ≡ record i { queue = a; left = d; stand = s } → t ≡ record q { stand = w } → r ≡ record t { queue = b; left = f; stand = None; turns = u }
-        → z ≡ record r { spin = None; queue = []; left = [] } → z ≡ record o { count = z.count; failed = without n o.failed; turns = z.turns }
-    left_queue q t r a d b f u s w pushed tested out leaves =
-        let G : Known T H W → Known T H W = λ k. record k { count = z.count; turns = z.turns } in
-        let L : Known T H W → Known T H W = λ k. record k { spin = None; queue = []; left = []; count = z.count; turns = z.turns } in
-        let F : Known T H W → Known T H W = λ k. record k { spin = None; queue = []; left = []; count = z.count; stand = None; turns = z.turns } in
-        let E : Opt ℕ → List ℕ → List ℕ → List ℕ → Opt Stand → Known T H W = λ p x y v c. record o { spin = p; queue = x; owed = y; left = v; count = z.count; stand = c; failed = without n o.failed; turns = z.turns } in
-        ap G leaves ∙ ap L out ∙ ap F tested ∙ ap F pushed ∙ ap F entered
-        ∙ ap (λ p. E p [] [] [] None) (sym outside.spin)
-        ∙ ap (λ x. E o.spin x [] [] None) (sym outside.queue)
-        ∙ ap (λ y. E o.spin o.queue y [] None) (sym outside.owed)
-        ∙ ap (λ v. E o.spin o.queue o.owed v None) (sym outside.left)
-        ∙ ap (E o.spin o.queue o.owed o.left) (sym outside.stand)
-
     -- it popped one as q, and woke it as w, so that it owes nobody
     pub woke_one : (q w : Known T H W) (a d y : List ℕ) → q ≡ record i { queue = a; left = d; owed = q.owed; cleared = without n i.cleared; looked = without n i.looked } → w ≡ record q { owed = y } → y ≡ []
         → z ≡ record w { spin = None; queue = []; left = [] } → z ≡ record o { count = z.count; failed = without n o.failed; cleared = without n o.cleared; looked = without n o.looked }
@@ -205,3 +190,10 @@ module _ {T H W : Type 0} where
         ∙ ap (λ x. E o.spin x y []) (sym outside.queue)
         ∙ ap (λ u. E o.spin o.queue u []) (none ∙ sym outside.owed)
         ∙ ap (E o.spin o.queue o.owed) (sym outside.left)
+
+  -- the thread o has stood in line for n as s, and nothing but the bit can have ended that
+  pub stood_plainly : (n : ℕ) (o s : Known T H W) → o.stand ≡ None → s ≡ record o { count = s.count; stand = s.stand; failed = without n o.failed; turns = s.turns; alerted = s.alerted }
+      → (s.stand ≡ None) × (s.alerted ≡ o.alerted) → s ≡ record o { count = s.count; failed = without n o.failed; turns = s.turns }
+  stood_plainly n o s stand is out =
+      let E : Opt Stand → Bool → Known T H W = λ q b. record o { count = s.count; stand = q; failed = without n o.failed; turns = s.turns; alerted = b } in
+      is ∙ ap₂ E (out.0 ∙ sym stand) out.1

@@ -181,7 +181,7 @@ fn clear_gate<U: Uses, C: Change<U>>(p: &Package<U>, me: &mut Thread<U>, at: Obj
     requires named { HasObject p.now.layout at }
     requires outside { (me.old.wait ≡ None) × (me.old.stand ≡ None) }
     requires may { MayFree U.allows C.after at me.old }
-    requires pen { MayTell p.now.traced me.old.pen }
+    requires pen { MayTell p.now.traced me.old.life me.old.pen }
     ensures event { Makes (clears at me.old.number) me.old me.new }
     ensures rest { me.new ≡ record (learnt me.old me.new) {
       held = me.new.held;

@@ -8,4 +8,4 @@ mod freeing;
 mod taking;
 
 pub use freeing::free;
-pub use taking::{take, take_quiet, try_take};
+pub use taking::{stand_in_line, take, take_quiet, try_take};

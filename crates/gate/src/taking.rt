@@ -7,7 +7,7 @@ ghost use Rattle.nub_rule.specs.declared.view.Wait.{Wait as Waiting};
 ghost use Rattle.nub_rule.specs.declared.view.WaitBit.TheVariants.{Open};
 ghost use Rattle.nub_rule.specs.Known.{Makes, StandsAs, learnt, recorded};
 ghost use Rattle.nub_rule.specs.Objects.{object_of, HasObject, IsGate};
-ghost use Rattle.nub_rule.specs.Parts.{MayTell, made, HasTested};
+ghost use Rattle.nub_rule.specs.Parts.{IsAlerted, MayTell, made, HasTested};
 ghost use Rattle.nub_rule.specs.Plays.{quieted};
 ghost use Rattle.nub.specs.Rest.{HasStored, IsOutside};
 
@@ -132,7 +132,7 @@ fn try_gate<U: Uses>(p: &Package<U>, me: &mut Thread<U>, at: Object, e: Event) -
     requires named { HasObject p.now.layout at }
     requires outside { (me.old.spin ≡ None) × (me.old.stand ≡ None) }
     requires may { MayMake at me.old.number me.old.wait e }
-    requires pen { MayTell p.now.traced me.old.pen }
+    requires pen { MayTell p.now.traced me.old.life me.old.pen }
     ensures lost { result ≢ 0 → me.new ≡ record me.old {
       failed = object_of at ∷ me.old.failed;
       turns = without (object_of at) me.old.turns;
@@ -191,7 +191,7 @@ fn take_slowly<U: Uses, R: Wait>(rt: &R, p: &Package<U>, me: &mut Thread<U>, at:
         // Another was faster where looks are left. Then the thread goes on looking.
         if left == 0 {
             // After a sleep, too, the bit is tried anew: whoever woke this thread has not kept the bit for it.
-            stand_in_line(rt, p, me, at);
+            stand_in_line(rt, p, me, at, false);
             slept = true;
             left = looks_of(me);
             backoff.reset();
@@ -227,7 +227,7 @@ pub fn take_quiet<U: Uses, R: Wait>(rt: &R, p: &Package<U>, me: &mut Thread<U>, 
         if take_bit_quiet(p, me, m) == 0 {
             return;
         }
-        stand_in_line(rt, p, me, at);
+        stand_in_line(rt, p, me, at, false);
     }
     unreachable!()
 }
@@ -270,19 +270,37 @@ fn look_briefly<U: Uses>(p: &Package<U>, at: Object, looks: u32, backoff: &Backo
     0
 }
 
-/// Queues the thread, tests the bit again, and sleeps if it is still set. It may wait: it goes on when it has left the queue, by itself or
-/// popped by a thread that cleared the bit.
+/// Queues the thread, tests the bit again, and sleeps if it is still set. It answers true where the bit is to be tried anew, and false only
+/// where `alertable` is true and the thread has found its alert word set: it stands in the queue then, unless another thread popped it.
+///
+/// It may wait: it goes on when it has left the queue, by itself or popped by a thread that cleared the bit, or when it is alerted.
 #[cold]
 #[inline(never)]
-fn stand_in_line<U: Uses, R: Wait>(rt: &R, p: &Package<U>, me: &mut Thread<U>, at: Object)
+pub fn stand_in_line<U: Uses, R: Wait>(
+    rt: &R,
+    p: &Package<U>,
+    me: &mut Thread<U>,
+    at: Object,
+    alertable: bool,
+) -> bool
     requires of { me.old.table_id ≡ p.now.table_id }
     requires gate { IsGate at }
     requires named { HasObject p.now.layout at }
     requires outside { IsOutside me.old }
     requires looked { me.old.cleared ≡ [] }
     requires tried { mem (object_of at) me.old.failed ≡ true }
-    ensures rest { me.new ≡ record me.old { count = me.new.count; failed = without (object_of at) me.old.failed; turns = me.new.turns } }
+    ensures plain { alertable ≡ false → result ≡ true }
+    ensures rest { me.new ≡ record me.old {
+      count = me.new.count;
+      stand = me.new.stand;
+      failed = without (object_of at) me.old.failed;
+      turns = me.new.turns;
+      alerted = me.new.alerted;
+    } }
     ensures turns { without (object_of at) me.new.turns ≡ without (object_of at) me.old.turns }
+    ensures goes_on { result ≡ true → (me.new.stand ≡ None) × (me.new.alerted ≡ me.old.alerted) }
+    ensures alerted { result ≡ false → StandsAs (λ x. (x.at ≡ object_of at) × IsAlerted x.stage) me.new × (me.new.alerted ≡ true) }
+    ensures stays { result ≡ false → me.new.turns ≡ me.old.turns }
 {
     enter(rt, p, me, at, Why::TryFailed);
     push(p, me, at);
@@ -293,9 +311,10 @@ fn stand_in_line<U: Uses, R: Wait>(rt: &R, p: &Package<U>, me: &mut Thread<U>, a
         // Out of the queue again, under the same spin word: nobody can have popped this thread meanwhile.
         remove(p, me, at);
         leave(rt, p, me, at);
+        true
     } else {
         // The spin word is given back before the sleep: who wakes this thread needs it to pop it.
         leave(rt, p, me, at);
-        sleep(rt, p, me, false);
+        sleep(rt, p, me, alertable)
     }
 }

@@ -1,7 +1,7 @@
 -- What calls add, one after the other.
 use Rattle.std.proofs.Common.{◌≡◌, List, [], ◌∷◌, ◌++◌, ap, subst, sym, ◌∙◌, append_assoc, append-nil}
 use Rattle.larch_actions.specs.declared.event.Event.{Event}
-use Rattle.larch_actions.specs.declared.event.Version.TheVariants.{One}
+use Rattle.larch_actions.specs.declared.event.Version.{Version}
 use Rattle.larch_actions.specs.Actions.{IsLegal, StartsWith, by_thread}
 use Rattle.nub_rule.specs.Known.{Known, Makes}
 use Rattle.nub.specs.Rest.{Added, Adds}
@@ -11,6 +11,10 @@ begins_on x y z a b = (a.0 ++ b.0, b.1 ∙ ap (λ l. l ++ b.0) a.1 ∙ append_as
 
 pub grown : (x y z : List Event) (e : Event) → z ≡ (x ++ y) ++ e ∷ [] → StartsWith z x
 grown x y z e is = (y ++ e ∷ [], is ∙ append_assoc x y (e ∷ []))
+
+-- a legal history of one version, as that of the same list by another name
+pub legal_as : (v w : Version) (xs ys : List Event) → w ≡ v → xs ≡ ys → IsLegal v xs → IsLegal w ys
+legal_as v w xs ys same is legal = subst (λ (z : Version × List Event). IsLegal z.0 z.1) (λ i. (sym same i, is i)) legal
 
 module _ {W V H : Type 0} where
   pub added : (es : List Event) (e : Event) (a b : Known V H W) → Adds es e a b → Added (es ++ e ∷ []) a b
@@ -29,10 +33,10 @@ module _ {W V H : Type 0} where
   }
 
   -- what one event adds
-  pub adds_one : (e : Event) (a b : Known V H W) → Makes e a b → b.number ≡ a.number → Adds [] e a b
-  adds_one e a b made number = record {
+  pub adds_one : (e : Event) (a b : Known V H W) → Makes e a b → b.number ≡ a.number → b.version ≡ a.version → Adds [] e a b
+  adds_one e a b made number version = record {
     mine = made.3 ∙ ap (λ l. l ++ e ∷ []) (sym (append-nil a.mine));
-    legal = subst (IsLegal One) (sym made.2) made.1.legal;
+    legal = legal_as a.version b.version ((a.seen ++ made.0) ++ e ∷ []) b.seen version (sym made.2) made.1.legal;
     grows = grown a.seen made.0 b.seen e made.2;
     ends = (a.seen ++ made.0, made.2);
     own = ap (λ n. by_thread n b.seen) number ∙ (ap (by_thread a.number) made.2 ∙ (made.1.own ∙ sym made.3));

@@ -7,22 +7,26 @@ use Rattle.std.proofs.lemmas.List.{length-map, length-replicate}
 use Rattle.atomic_table.proofs.Lists.{at_map}
 use Rattle.larch_actions.specs.declared.event.Event.{Event}
 use Rattle.larch_actions.specs.declared.event.Layout.{Layout}
-use Rattle.larch_actions.specs.Actions.{by_thread}
+use Rattle.larch_actions.specs.declared.event.Life.TheVariants.{Live}
+use Rattle.larch_actions.specs.declared.event.Version.{Version}
+use Rattle.larch_actions.specs.declared.event.Version.TheVariants.{One}
+use Rattle.larch_actions.specs.Actions.{by_thread, lives_at_first}
 use Rattle.nub_rule.specs.declared.package.Entry.{Entry}
 use Rattle.nub_rule.specs.declared.package.Stored.{Stored}
 use Rattle.nub_rule.specs.declared.view.Part.{Part}
 use Rattle.nub_rule.specs.Ends.{first_known, Leaves}
 use Rattle.nub_rule.specs.Items.{Each, Told, Shared, places_from}
 use Rattle.nub_rule.specs.Known.{Known, Shape, part_of}
-use Rattle.nub.specs.Ended.{IsFirst, IsDone, IsWhole, KeepsLocks}
+use Rattle.nub.specs.Ended.{IsFirst, IsWhole, KeepsLocks}
 use Rattle.nub.specs.History.{AreStored, entries_from, entries_of}
+use Rattle.nub.specs.Rest.{HasStored}
 
-none_there : {A : Type 0} (n m : ℕ) → m < n → get_elem? (replicate {A = Opt A} n None) m ≡ some None
+pub none_there : {A : Type 0} (n m : ℕ) → m < n → get_elem? (replicate {A = Opt A} n None) m ≡ some None
 none_there zero m l = absurd (omega arith)
 none_there (suc n) zero l = refl
 none_there (suc n) (suc m) l = none_there n m (omega arith)
 
-none_held : {A : Type 0} (n m : ℕ) (x : A) → get_elem? (replicate {A = Opt A} n None) m ≡ some (Some x) → ⊥
+pub none_held : {A : Type 0} (n m : ℕ) (x : A) → get_elem? (replicate {A = Opt A} n None) m ≡ some (Some x) → ⊥
 none_held zero m x e = some-ne-none (Some x) (sym e)
 none_held (suc n) zero x e = let f = some-injective None (Some x) e in cc
 none_held (suc n) (suc m) x e = none_held n m x e
@@ -71,12 +75,13 @@ events-of t k [] = refl
 events-of t k (e ∷ es) = events-at t k e es (eqb e.thread.0 t) (events-of t (k + 1) es)
 
 module _ {T H W : Type 0} where
-  first-is : (p : Shape W) (begin : W → ℕ → H) (n : ℕ) → p.layout.mutexes ≤ 64 → IsFirst p begin n (first_known {T = T} {H = H} p.table_id p.world begin n)
-  first-is p begin n few = record {
+  -- a thread that lives from the opening on
+  pub first_living : (p : Shape W) (begin : W → ℕ → H) (version : Version) (n : ℕ) → p.layout.mutexes ≤ 64 → p.layout.version ≡ version → lives_at_first version n ≡ Live → IsFirst p begin n (first_known {T = T} {H = H} p.table_id version p.world begin n)
+  first_living p begin version n few of lives = record {
     number = refl;
     rest = record {
       of = refl;
-      outside = record { spin = refl; queue = refl; owed = refl; left = refl; stand = refl; pen = refl };
+      outside = record { spin = refl; queue = refl; owed = refl; left = refl; stand = refl; pen = refl; live = lives };
       wait = refl;
       raised = refl;
       calling = refl;
@@ -85,6 +90,8 @@ module _ {T H W : Type 0} where
       looked = refl;
       taken = λ m x h. absurd (none_held 64 m x h);
       stored = λ traced lost. (refl, refl);
+      child = refl;
+      version = sym of;
     };
     world = refl;
     seen = refl;
@@ -96,8 +103,8 @@ module _ {T H W : Type 0} where
     share = refl;
   }
 
-  pub first_is : (p : Shape W) (begin : W → ℕ → H) (n : ℕ) (t : Known T H W) → p.layout.mutexes ≤ 64 → t ≡ first_known p.table_id p.world begin n → IsFirst p begin n t
-  first_is p begin n t few e = let P : Known T H W → Type 0 = λ k. IsFirst p begin n k in subst P (sym e) (first-is p begin n few)
+  pub first_is : (p : Shape W) (begin : W → ℕ → H) (n : ℕ) (t : Known T H W) → p.layout.mutexes ≤ 64 → p.layout.version ≡ One → t ≡ first_known p.table_id One p.world begin n → IsFirst p begin n t
+  first_is p begin n t few one e = let P : Known T H W → Type 0 = λ k. IsFirst p begin n k in subst P (sym e) (first_living p begin One n few one refl)
 
   -- the same threads leave the same
   pub left_by : (layout : Layout) (holds : List T → List H → Type 0) (threads others : List (Known T H W)) (values : List T) → threads ≡ others → Leaves layout holds (map (λ t. part_of t) threads) values → Leaves layout holds (map (λ t. part_of t) others) values
@@ -143,7 +150,7 @@ module _ {T H W : Type 0} where
   }
 
   -- what the closed threads have stored, where none of it is lost, is the history
-  pub are_stored : (layout : Layout) (holds : List T → List H → Type 0) (p : Shape W) (threads : List (Known T H W)) (values : List T) (stored : List Stored) (l : Leaves layout holds (map (λ t. part_of t) threads) values) → Each (IsDone p) threads → p.traced ≡ true
+  pub are_stored : (layout : Layout) (holds : List T → List H → Type 0) (p : Shape W) (threads : List (Known T H W)) (values : List T) (stored : List Stored) (l : Leaves layout holds (map (λ t. part_of t) threads) values) → Each (λ _ t. HasStored p.traced t) threads → p.traced ≡ true
       → map (λ s. s.entries.items) stored ≡ map (λ t. t.entries) threads → map (λ s. s.lost) stored ≡ map (λ t. t.lost) threads → AreStored l.log stored
   are_stored layout holds p threads values stored l done traced entries losses =
       let n0 : length (map (λ s. s.entries.items) stored) ≡ length stored = length-map stored (λ s. s.entries.items) in
@@ -158,7 +165,7 @@ module _ {T H W : Type 0} where
             let at = at_get_or stored t d m in
             let same : s.entries.items ≡ k.entries = some-injective s.entries.items k.entries (sym (at_map (λ s. s.entries.items) stored t s at) ∙ (ap (λ xs. get_elem? xs t) entries ∙ at_map (λ t. t.entries) threads t k there.1)) in
             let lost : s.lost ≡ k.lost = some-injective s.lost k.lost (sym (at_map (λ s. s.lost) stored t s at) ∙ (ap (λ xs. get_elem? xs t) losses ∙ at_map (λ t. t.lost) threads t k there.1)) in
-            let own = (done t k there.1).rest.stored traced (sym lost ∙ whole) in
+            let own = done t k there.1 traced (sym lost ∙ whole) in
             let log = l.history.each t (part_of k) (at_map (λ t. part_of t) threads t k there.1) in
             same ∙ same_entries k.entries (entries_of t l.log) (own.0 ∙ (sym log.placed ∙ sym (numbers-of t 0 l.log))) (own.1 ∙ (sym log.own ∙ sym (events-of t 0 l.log)));
       }

@@ -1,5 +1,6 @@
 pub mod Adding
 pub mod Closing
+pub mod Begun
 pub mod Guards
 pub mod Holding
 pub mod Knowing

@@ -1,4 +1,5 @@
 pub mod Ended
+pub mod Forks
 pub mod Guarded
 pub mod History
 pub mod Holding

@@ -1,14 +1,15 @@
 -- Where a thread has no call open, and what a call adds.
 use Rattle.std.specs.Prelude.{◌≡◌, ℕ, Bool, true, false, List, [], ◌∷◌, ◌++◌, map, None}
 use Rattle.larch_actions.specs.declared.event.Event.{Event}
-use Rattle.larch_actions.specs.declared.event.Version.TheVariants.{One}
+use Rattle.larch_actions.specs.declared.event.Life.TheVariants.{Live}
 use Rattle.larch_actions.specs.Actions.{IsLegal, StartsWith, by_thread}
+use Rattle.nub_rule.specs.declared.view.Child.TheVariants as child
 use Rattle.nub_rule.specs.declared.view.Pen.TheVariants.{No}
 use Rattle.nub_rule.specs.Known.{Known, Shape, Holds, IsOut, part_of}
 use Rattle.nub_rule.specs.Owed.{MustLook}
 
 module _ {T H W : Type 0} where
-  -- the thread has no spin word and no pen, owes nobody a ready word, and stands in no queue
+  -- the thread lives, has no spin word and no pen, owes nobody a ready word, and stands in no queue
   pub record IsOutside (k : Known T H W) : Type 0 where
     pub spin : k.spin ≡ None
     pub queue : k.queue ≡ []
@@ -16,6 +17,7 @@ module _ {T H W : Type 0} where
     pub left : k.left ≡ []
     pub stand : k.stand ≡ None
     pub pen : k.pen ≡ No
+    pub live : k.life ≡ Live
 
   -- in a traced package each own event was stored with its place, unless the list is lost
   abbrev pub HasStored : Bool → Known T H W → Type 0
@@ -33,6 +35,8 @@ module _ {T H W : Type 0} where
     pub looked : k.looked ≡ []
     pub taken : (m : ℕ) (x : T) → Holds k m x → IsOut k m
     pub stored : HasStored p.traced k
+    pub child : k.child ≡ child.No
+    pub version : k.version ≡ p.layout.version
 
   -- the thread is bound to look at no mutex or semaphore, whatever its queue
   abbrev pub IsBoundNowhere : Known T H W → Type 0
@@ -41,7 +45,7 @@ module _ {T H W : Type 0} where
   -- a call added these own events and then e: the history that was seen grew to a legal one that ends with e, and the own events are the thread's part of it
   pub record Adds (es : List Event) (e : Event) (a b : Known T H W) : Type 0 where
     pub mine : b.mine ≡ (a.mine ++ es) ++ e ∷ []
-    pub legal : IsLegal One b.seen
+    pub legal : IsLegal b.version b.seen
     pub grows : StartsWith b.seen a.seen
     pub ends : (before : List Event) × (b.seen ≡ before ++ e ∷ [])
     pub own : by_thread b.number b.seen ≡ b.mine

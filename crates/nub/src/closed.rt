@@ -2,7 +2,7 @@
 ghost use Rattle.std.specs.Prelude.{◌≡◌, MatchOption};
 
 use larch_actions::{Event, Layout};
-use nub_rule::{Thread, Uses};
+use nub_rule::{Ended, Thread, Unborn, Uses};
 use std::marker::Model;
 use std::mem::ManuallyDrop;
 use std::snapshot::Snapshot;
@@ -13,16 +13,22 @@ pub struct Closed<U: Uses> {
     pub(crate) layout: Layout,
     pub(crate) values: Vec<U::Value>,
     pub(crate) trace: Option<Vec<Event>>,
-    /// Under `ManuallyDrop`, so that nobody who lets go of this has the drop of a thread to prove.
+    /// The threads of version one. Under `ManuallyDrop`, so that nobody who lets go of this has the drop of a thread to prove.
     pub(crate) threads: Snapshot<ManuallyDrop<Vec<Thread<U>>>>,
+    /// Those of version two, in any order.
+    pub(crate) over: Snapshot<ManuallyDrop<Vec<Ended<U>>>>,
+    pub(crate) never: Snapshot<ManuallyDrop<Vec<Unborn<U>>>>,
 }
 
 impl<U: Uses> Model for Closed<U> {
+    ghost use Rattle.std.specs.Prelude.{◌++◌};
+    ghost use Rattle.nub_rule.specs.Forks.{in_order};
     ghost use Rattle.nub.specs.Ended.{Ended, ended};
 
     ghost Value = { Ended U.Value U.Share U.World };
 
-    ghost view = { λ c. ended c.layout c.values c.trace c.threads.value.value.items };
+    ghost view = { λ c. ended c.layout c.values c.trace (c.threads.value.value.items
+        ++ in_order c.layout.threads (c.over.value.value.items ++ c.never.value.value.items)) };
 }
 
 impl<U: Uses> Closed<U> {
@@ -38,6 +44,21 @@ impl<U: Uses> Closed<U> {
         ensures { result.now ≡ self.now.values }
     {
         self.values.as_slice()
+    }
+
+    /// The same, by value.
+    pub fn into_values(self) -> Vec<U::Value>
+        ensures { result.items ≡ self.values }
+    {
+        let Closed {
+            layout: _,
+            values,
+            trace: _,
+            threads: _,
+            over: _,
+            never: _,
+        } = self;
+        values
     }
 
     /// The whole history of the package, where the run was traced.

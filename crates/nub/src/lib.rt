@@ -6,6 +6,7 @@
 #![tactic(auto)]
 
 mod closed;
+mod forking;
 pub mod laws;
 mod patience;
 mod pen;
@@ -14,13 +15,16 @@ mod sleeping;
 mod spin;
 mod trace_order;
 mod whole;
+mod withdrawal;
 
 pub use closed::Closed;
+pub use forking::{end_thread, fork_thread, join_thread};
 pub use larch_actions::{Action, CondId, Event, Layout, MutexId, SemId, ThreadId, Version};
-pub use nub_rule::{Change, NoChange, Package, Thread, Uses};
+pub use nub_rule::{Change, Ended, NoChange, Package, Thread, Unborn, Uses};
 pub use patience::{Look, is_patient, learn};
 pub use pen::{begin_event, end_event};
 pub use queue::{pop, push, remove, wake_from_condition};
 pub use sleeping::sleep;
 pub use spin::{enter, leave};
-pub use whole::{close_package, open_package};
+pub use whole::{close_forked, close_package, open_forked, open_package};
+pub use withdrawal::withdraw;

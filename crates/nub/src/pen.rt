@@ -1,6 +1,7 @@
 //! The pen: in a traced package a step that may be an event is made with it.
 ghost use Rattle.std.specs.Prelude.{◌≡◌, ◌≢◌, ◌<◌, ℕ, ◌++◌, ◌∷◌, [], Some, None, true, false};
 ghost use Rattle.larch_actions.specs.declared.event.Event.{Event};
+ghost use Rattle.larch_actions.specs.declared.event.Life.TheVariants.{Live};
 ghost use Rattle.nub_rule.specs.declared.view.Pen.TheVariants.{No, Taken, Read, Made};
 ghost use Rattle.nub_rule.specs.Stored.{ComesNext};
 ghost use Rattle.nub_rule.specs.Parts.{MayTell};
@@ -18,8 +19,9 @@ use std::sync::Wait;
 pub fn begin_event<U: Uses, R: Wait>(rt: &R, p: &Package<U>, me: &mut Thread<U>)
     requires of { me.old.table_id ≡ p.now.table_id }
     requires out { me.old.pen ≡ No }
+    requires live { me.old.life ≡ Live }
     ensures pen { me.new ≡ record me.old { pen = me.new.pen; next = me.new.next } }
-    ensures traced { MayTell p.now.traced me.new.pen }
+    ensures traced { MayTell p.now.traced me.new.life me.new.pen }
     ensures number { p.now.traced ≡ true → me.new.pen ≡ Read me.new.next }
     ensures untraced { p.now.traced ≡ false → me.new ≡ me.old }
 {

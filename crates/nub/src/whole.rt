@@ -1,17 +1,19 @@
 //! Opening and closing a package.
-ghost use Rattle.std.specs.Prelude.{◌≡◌, ℕ, List, Some, None, true, false, length, IfOk, is_ok};
+ghost use Rattle.std.specs.Prelude.{◌≡◌, ℕ, ◌+◌, ◌≤◌, ◌++◌, List, [], Some, None, true, false, length, vec_capacity, IfOk, is_ok};
 ghost use Rattle.larch_actions.specs.declared.event.Event.{Event};
 ghost use Rattle.larch_actions.specs.Layout.{IsLawful};
-ghost use Rattle.larch_actions.specs.declared.event.Version.TheVariants.{One};
+ghost use Rattle.larch_actions.specs.declared.event.Version.TheVariants.{One, Two};
 ghost use Rattle.nub_rule.specs.Ends.{firsts};
+ghost use Rattle.nub_rule.specs.Forks.{AreAll, IsUnborn, in_order};
 ghost use Rattle.nub_rule.specs.Items.{Each};
 ghost use Rattle.nub.specs.Ended.{IsFirst, IsDone, KeepsLocks, IsWhole, trace_of};
+ghost use Rattle.nub.specs.Forks.{IsLeft, IsRight};
 ghost use Rattle.nub.specs.History.{AreStored};
 
 use super::closed::Closed;
 use super::trace_order::in_order;
 use larch_actions::{Event, Layout};
-use nub_rule::{Package, Remains, Stored, Thread, Uses};
+use nub_rule::{Ended, Package, Remains, Stored, Thread, Unborn, Uses};
 use std::alloc::{AllocError, Global};
 use std::mem::ManuallyDrop;
 use std::snapshot::Snapshot;
@@ -36,6 +38,42 @@ pub fn open_package<U: Uses>(
     Ok((package, threads))
 }
 
+/// A package whose threads begin and end in the history: its first thread, and the right to begin each other one, in order of their
+/// numbers. Its one refusal is want of memory, and then the values are dropped.
+pub fn open_forked<U: Uses>(
+    alloc: Global,
+    layout: Layout,
+    world: &U::World,
+    values: Vec<U::Value>,
+    traced: bool,
+) -> Result<(Package<U>, Thread<U>, Vec<Unborn<U>>), AllocError>
+    requires lawful { IsLawful layout }
+    requires version { layout.version ≡ Two }
+    requires values { length values.items ≡ layout.mutexes }
+    requires holds { U.holds world.now values.items (firsts (U.begin world.now) layout.threads) }
+    ensures package { IfOk result (λ o. (o.0.layout ≡ layout) × (o.0.traced ≡ traced) × (o.0.world ≡ world.now)) }
+    ensures first { IfOk result (λ o. IsFirst o.0 U.begin 0 o.1) }
+    ensures count { IfOk result (λ o. length o.2.items + 1 ≡ layout.threads) }
+    ensures rights { IfOk result (λ o. Each (λ n k. IsRight o.0 U.begin (n + 1) k) o.2.items) }
+{
+    let room = Vec::with_capacity(alloc, layout.threads as usize)?;
+    let (package, mut threads) = nub_rule::open_package(alloc, layout, world, values, traced)?;
+    let first = threads.remove(0);
+    Ok((package, first, rights_of(threads, room)))
+}
+
+// The rights to begin these threads, put where there is room for them.
+fn rights_of<U: Uses>(threads: Vec<Thread<U>>, mut rights: Vec<Unborn<U>>) -> Vec<Unborn<U>>
+    requires unborn { Each (λ _ t. IsUnborn U.begin t) threads.items }
+    requires room { (rights.items ≡ []) × (length threads.items ≤ vec_capacity rights) }
+    ensures { result.items ≡ threads.items }
+{
+    for thread in threads {
+        rights.push_reserved(Unborn::of(thread));
+    }
+    rights
+}
+
 /// Closes a package whose threads have all come back, in order of their numbers, each at rest and without a mutex.
 ///
 /// In a traced run its one refusal is want of memory, here or before, where a thread's list lost an entry. The values are then dropped.
@@ -43,6 +81,7 @@ pub fn close_package<U: Uses>(
     p: Package<U>,
     threads: Vec<Thread<U>>,
 ) -> Result<Closed<U>, AllocError>
+    requires version { p.layout.version ≡ One }
     requires count { length threads.items ≡ p.layout.threads }
     requires threads { Each (IsDone p) threads.items }
     ensures layout { IfOk result (λ c. c.layout ≡ p.layout) }
@@ -69,6 +108,52 @@ pub fn close_package<U: Uses>(
         values,
         trace,
         threads: last,
+        over: Snapshot::of(&ManuallyDrop::new(Vec::new(alloc))),
+        never: Snapshot::of(&ManuallyDrop::new(Vec::new(alloc))),
+    })
+}
+
+/// Closes a package of `open_forked` whose threads have all come back, each once and in any order: those that have ended, and the rights
+/// to begin the others.
+///
+/// In a traced run its one refusal is want of memory, here or before, where a thread's list lost an entry. The values are then dropped.
+pub fn close_forked<U: Uses>(
+    p: Package<U>,
+    ended: Vec<Ended<U>>,
+    unborn: Vec<Unborn<U>>,
+) -> Result<Closed<U>, AllocError>
+    requires version { p.layout.version ≡ Two }
+    requires left { Each (λ _ k. IsLeft p k) (ended.items ++ unborn.items) }
+    requires all { AreAll p.layout.threads (ended.items ++ unborn.items) }
+    ensures layout { IfOk result (λ c. c.layout ≡ p.layout) }
+    ensures threads { IfOk result (λ c. c.threads ≡ in_order p.layout.threads (ended.items ++ unborn.items)) }
+    ensures values { IfOk result (λ c. (length c.values ≡ p.layout.mutexes) × KeepsLocks (U.holds p.world) c.threads c.values) }
+    ensures untraced { p.traced ≡ false → (is_ok result ≡ true) × IfOk result (λ c. c.trace ≡ None) }
+    ensures traced { p.traced ≡ true → IfOk result (λ c. (h : List Event) × (c.trace ≡ Some h) × IsWhole p.layout c.threads h) }
+{
+    let alloc = *ended.allocator();
+    let layout = p.layout();
+    let traced = p.traced();
+    let ended = ManuallyDrop::new(ended);
+    let unborn = ManuallyDrop::new(unborn);
+    let over = Snapshot::of(&ended);
+    let never = Snapshot::of(&unborn);
+    let Remains { values, stored } = nub_rule::close_forked(
+        alloc,
+        p,
+        ManuallyDrop::into_inner(ended),
+        ManuallyDrop::into_inner(unborn),
+    );
+    let told = history(alloc, traced, stored.as_slice());
+    drop(stored);
+    let trace = told?;
+    Ok(Closed {
+        layout,
+        values,
+        trace,
+        threads: Snapshot::of(&ManuallyDrop::new(Vec::new(alloc))),
+        over,
+        never,
     })
 }
 

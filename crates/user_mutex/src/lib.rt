@@ -23,6 +23,11 @@ use std::sync::Wait;
 ///
 /// It blocks while another thread has the mutex, for ever if that one never gives it back: only a `release` of the mutex ends the wait,
 /// and then any of those who wait may get it, or a thread that came later. Nobody may call it for a mutex that it has itself.
+///
+/// ```rust
+/// let got = acquire(rt, pkg, me, m);
+/// release::<SumUses, NoChange, R>(rt, pkg, me, m, got);
+/// ```
 #[inline(always)]
 pub fn acquire<U: Uses, R: Wait>(rt: &R, p: &Package<U>, me: &mut Thread<U>, m: MutexId) -> U::Value
     requires rest { AtRest p.now me.old }
@@ -50,6 +55,10 @@ pub fn acquire<U: Uses, R: Wait>(rt: &R, p: &Package<U>, me: &mut Thread<U>, m: 
 ///
 /// It doesn't wait for another thread to give anything back. In the package itself it may wait for a moment, as each call may: for the
 /// spin word of the mutex, where a thread stands in the queue, and in a traced package for its turn to number the event.
+///
+/// ```rust
+/// release::<SumUses, AddChange, R>(rt, pkg, &mut me, m, add_to(got, 5));
+/// ```
 #[inline(always)]
 pub fn release<U: Uses, C: Change<U>, R: Wait>(
     rt: &R,
@@ -84,6 +93,10 @@ pub fn release<U: Uses, C: Change<U>, R: Wait>(
 ///
 /// It blocks as `acquire` does, and for as long as f runs all others wait for the mutex. Nobody may call it for a mutex that it has
 /// itself, so f can't either: it doesn't get the thread.
+///
+/// ```rust
+/// locked::<Post, Leaves, (), _, R>(rt, p, me, MAIL, |mail| mail.senders -= 1);
+/// ```
 #[inline]
 pub fn locked<U: Uses, C: Change<U>, X, F: FnOnce(&mut U::Value) -> X, R: Wait>(
     rt: &R,

@@ -21,13 +21,15 @@ stored g c =
 rest : (g : Over) (c : After-end_event g) → AtRest c.args.p.now c.end_event.new.me
 rest g c = record {
   of = search rules;
-  outside = record { spin = search rules; queue = search rules; owed = search rules; left = search rules; stand = search rules; pen = search rules };
+  outside = record { spin = search rules; queue = search rules; owed = search rules; left = search rules; stand = search rules; pen = search rules; live = search rules };
   wait = search rules;
   raised = search rules;
   calling = search rules;
   turns = search rules;
   cleared = search rules;
   looked = search rules;
+  child = search rules;
+  version = search rules;
   taken = search rules;
   stored = stored g c;
 }

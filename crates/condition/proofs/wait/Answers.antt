@@ -63,13 +63,15 @@ rest g c =
     let values = ap (λ k. k.values) blocked ∙ (c.free.ensures.freed.1 ∙ ap (λ k. slice_set k.values m None) begun ∙ ap (λ k. slice_set k.values m None) put) in
     record {
       of = search rules;
-      outside = record { spin = search rules; queue = search rules; owed = search rules; left = search rules; stand = search rules; pen = search rules };
+      outside = record { spin = search rules; queue = search rules; owed = search rules; left = search rules; stand = search rules; pen = search rules; live = search rules };
       wait = search rules;
       raised = search rules;
       calling = search rules;
       turns = search rules;
       cleared = search rules;
       looked = search rules;
+      child = search rules;
+      version = search rules;
       taken = still_out old.held new.held old.values new.values m (Some x) (Some (Some x)) (Some None) c.requires.rest.taken
           (ap (λ k. k.held) out ∙ (taken.1 ∙ (ap (λ h. slice_set h m (Some x)) held ∙ set-set old.held m None (Some x))))
           (ap (λ k. k.values) out ∙ ap (λ v. slice_set v m (Some None)) (taken.2 ∙ (ap (λ v. slice_set v m (Some (Some x))) values ∙ (ap (λ v. slice_set v m (Some (Some x))) (set-set old.values m (Some (Some y)) None) ∙ set-set old.values m None (Some (Some x))))))

@@ -15,13 +15,15 @@ rest g c =
     let x = taken.0 in
     record {
       of = search rules;
-      outside = record { spin = search rules; queue = search rules; owed = search rules; left = search rules; stand = search rules; pen = search rules };
+      outside = record { spin = search rules; queue = search rules; owed = search rules; left = search rules; stand = search rules; pen = search rules; live = search rules };
       wait = search rules;
       raised = search rules;
       calling = search rules;
       turns = search rules;
       cleared = search rules;
       looked = search rules;
+      child = search rules;
+      version = search rules;
       taken = still_out old.held new.held old.values new.values m (Some x) (Some (Some x)) (Some None) c.requires.rest.taken (ap (λ k. k.held) c.take_value.ensures.out ∙ taken.1) (ap (λ k. k.values) c.take_value.ensures.out ∙ ap (λ vs. slice_set vs m (Some None)) taken.2) (λ y e. c.take_value.ensures.is_out);
       stored = let stored = c.take.ensures.stored in search rules;
     }

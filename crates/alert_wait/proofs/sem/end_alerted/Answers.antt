@@ -12,7 +12,7 @@ returns-then-take_at_last-clause-rest g c = with_alerted c.take_at_last.new.me _
 pub returns-clause-event : goal.returns-clause-event
 returns-clause-event g c =
     let lost = c.take_at_last.ensures.lost c.if-take_at_last.false in
-    makes_from (λ (n : ℕ). alert_p_raise_event n c.args.s.0) c.args.me.now c.take_at_last.new.me c.raise.new.me (ap (λ k. k.number) lost) (ap (λ k. k.seen) lost) (ap (λ k. k.mine) lost) (ap (λ k. k.places) lost) (ap (λ k. k.pen) lost) c.raise.ensures.event
+    makes_from (λ (n : ℕ). alert_p_raise_event n c.args.s.0) c.args.me.now c.take_at_last.new.me c.raise.new.me (ap (λ k. k.number) lost) (ap (λ k. k.version) lost) (ap (λ k. k.seen) lost) (ap (λ k. k.mine) lost) (ap (λ k. k.places) lost) (ap (λ k. k.pen) lost) c.raise.ensures.event
 
 pub returns-clause-rest : goal.returns-clause-rest
 returns-clause-rest g c = raised_last c.args.me.now c.take_at_last.new.me c.raise.new.me (c.take_at_last.ensures.lost c.if-take_at_last.false) c.raise.ensures.rest

@@ -22,7 +22,7 @@ loop-preserved g c =
     let lost = c.try_take.ensures.lost c.if-try_take.false in
     let stood = c.stand_in_line.ensures.rest in
     record {
-      same = still_tries n c.args.me.now c.loop.me c.try_take.new.me c.stand_in_line.new.me at.same at.turns lost stood c.requires.outside.stand (c.stand_in_line.ensures.goes_on c.if-not-stand_in_line.false);
+      same = still_tries n c.args.me.now c.loop.me c.try_take.new.me c.stand_in_line.new.me at.same at.turns lost stood c.requires.outside.stand (c.stand_in_line.ensures.goes_on c.if-not-stand_in_line.false).0;
       turns = still_none n c.args.me.now c.loop.me c.try_take.new.me c.stand_in_line.new.me at.same at.turns lost stood c.stand_in_line.ensures.turns;
     }
 
@@ -32,7 +32,7 @@ returns-then-try_take-clause-event g c =
     let number = ap (λ k. k.number) same in
     let by = λ (n : ℕ). p_end Returned n c.args.s.0 in
     let made = subst (λ (n : ℕ). Makes (by n) c.loop.me c.try_take.new.me) (c.number.ensures ∙ sym number) (c.try_take.ensures.event c.if-try_take.true) in
-    makes_from by c.args.me.now c.loop.me c.try_take.new.me number (ap (λ k. k.seen) same) (ap (λ k. k.mine) same) (ap (λ k. k.places) same) (ap (λ k. k.pen) same) made
+    makes_from by c.args.me.now c.loop.me c.try_take.new.me number (ap (λ k. k.version) same) (ap (λ k. k.seen) same) (ap (λ k. k.mine) same) (ap (λ k. k.places) same) (ap (λ k. k.pen) same) made
 
 pub returns-then-try_take-clause-rest : goal.returns-then-try_take-clause-rest
 returns-then-try_take-clause-rest g c =

@@ -13,7 +13,7 @@ raise-requires-clause-waits g c κs within = let x = c.requires.waits in (record
 pub returns-then-returns-clause-event : goal.returns-then-returns-clause-event
 returns-then-returns-clause-event g c =
     let l = c.lower_waits.ensures in
-    makes_from (λ (n : ℕ). wait_end Returned n c.args.m.0 c.args.c.0) c.args.me.now c.lower_waits.new.me c.take.new.me (ap (λ k. k.number) l) (ap (λ k. k.seen) l) (ap (λ k. k.mine) l) (ap (λ k. k.places) l) (ap (λ k. k.pen) l)
+    makes_from (λ (n : ℕ). wait_end Returned n c.args.m.0 c.args.c.0) c.args.me.now c.lower_waits.new.me c.take.new.me (ap (λ k. k.number) l) (ap (λ k. k.version) l) (ap (λ k. k.seen) l) (ap (λ k. k.mine) l) (ap (λ k. k.places) l) (ap (λ k. k.pen) l)
     (subst (λ (n : ℕ). Makes (wait_end Returned n c.args.m.0 c.args.c.0) c.lower_waits.new.me c.take.new.me) c.number.ensures c.take.ensures.event)
 
 pub returns-then-returns-clause-rest : goal.returns-then-returns-clause-rest

@@ -29,19 +29,19 @@ sleep-requires-clause-heard g c κs within =
     let wait = ap (λ k. k.wait) c.leave-2.ensures ∙ (ap (λ k. k.wait) (c.push.ensures.cond tt) ∙ (ap (λ k. unread k.wait) stood ∙ (ap (λ k. unread k.wait) c.enter.ensures.inside ∙ ap unread waits.1))) in
     λ x s is of_alerts stands here. inl (sym waits.4 ∙ (ap (λ (w : Wait). w.alertable) (same_wait (record waits.0 { member = None }) x (sym wait ∙ is)) ∙ of_alerts))
 
-pub withdraw-requires-clause-seen : goal.withdraw-requires-clause-seen
-withdraw-requires-clause-seen g c κs within = ap (λ k. k.alerted) (c.sleep.ensures.alerted c.if-sleep.false)
-
 pub withdraw-requires-clause-alerted : goal.withdraw-requires-clause-alerted
 withdraw-requires-clause-alerted g c κs within =
     let asleep = c.sleep.ensures.alerted c.if-sleep.false in (
-      record { at = cond_object c.args.c.0; stage = Alerted },
-      ap (λ k. k.stand) asleep ∙ (ap (λ k. staged Alerted k.stand) c.leave-2.ensures ∙ ap (λ k. staged Alerted k.stand) (c.push.ensures.cond tt)),
-      (refl, tt),
+      (
+        record { at = cond_object c.args.c.0; stage = Alerted },
+        ap (λ k. k.stand) asleep ∙ (ap (λ k. staged Alerted k.stand) c.leave-2.ensures ∙ ap (λ k. staged Alerted k.stand) (c.push.ensures.cond tt)),
+        (refl, tt),
+      ),
+      ap (λ k. k.alerted) asleep,
     )
 
-pub withdraw-requires-clause-waits : goal.withdraw-requires-clause-waits
-withdraw-requires-clause-waits g c κs within =
+pub withdraw-requires-clause-may : goal.withdraw-requires-clause-may
+withdraw-requires-clause-may g c κs within =
     let waits = c.requires.waits in
     let stood = c.compare_count.ensures.stands c.if-compare_count-count.false in
     let asleep = c.sleep.ensures.alerted c.if-sleep.false in (
@@ -75,7 +75,10 @@ returns-clause-rest g c =
     let asleep = c.sleep.ensures.alerted c.if-sleep.false in
     let count = new.count in
     let wait = new.wait in
-    let blocked = c.withdraw.ensures.rest
+    let asked = c.sleep.new.me in
+    let gone : new ≡ record asked { count = count; stand = None; failed = without o asked.failed; wait = wait }
+    = c.withdraw.ensures.rest ∙ ap (λ u. record asked { count = count; stand = None; failed = without o asked.failed; turns = u; wait = wait }) (c.withdraw.ensures.at_cond tt) in
+    let blocked = gone
     ∙ ((λ j. record (asleep j) { count = count; stand = None; failed = without o (asleep j).failed; wait = wait })
     ∙ ((λ j. record (c.leave-2.ensures j) { count = count; stand = None; failed = without o (c.leave-2.ensures j).failed; wait = wait; alerted = true })
     ∙ ((λ j. record (c.push.ensures.cond tt j) { spin = None; queue = []; left = []; count = count; stand = None; failed = without o (c.push.ensures.cond tt j).failed; wait = wait; alerted = true })

@@ -5,7 +5,7 @@ use Rattle.gate.proofs.taking.take.Goals as goal
 pub returns-then-not-try_untraced-clause-event : goal.returns-then-not-try_untraced-clause-event
 returns-then-not-try_untraced-clause-event g c =
     let lost = c.try_untraced.ensures.lost c.if-not-try_untraced.true in
-    makes_from c.args.e c.args.me.now c.try_untraced.new.me c.take_slowly.new.me (ap (λ k. k.number) lost) (ap (λ k. k.seen) lost) (ap (λ k. k.mine) lost) (ap (λ k. k.places) lost) (ap (λ k. k.pen) lost) c.take_slowly.ensures.event
+    makes_from c.args.e c.args.me.now c.try_untraced.new.me c.take_slowly.new.me (ap (λ k. k.number) lost) (ap (λ k. k.version) lost) (ap (λ k. k.seen) lost) (ap (λ k. k.mine) lost) (ap (λ k. k.places) lost) (ap (λ k. k.pen) lost) c.take_slowly.ensures.event
 
 pub returns-then-not-try_untraced-clause-rest : goal.returns-then-not-try_untraced-clause-rest
 returns-then-not-try_untraced-clause-rest g c =

@@ -1,9 +1,9 @@
-use Rattle.std.proofs.Common.{ℕ, Some, ap, ◌∷◌, ◌∙◌, slice_set}
+use Rattle.std.proofs.Common.{ℕ, Some, refl, ap, ◌∷◌, ◌∙◌, slice_set}
 use Rattle.larch_actions.specs.Sets.{without}
 use Rattle.nub_rule.specs.declared.object.Object.TheVariants.{Mutex}
 use Rattle.nub_rule.specs.Plays.{quieted}
 use Rattle.nub.proofs.Without.{without_twice}
-use Rattle.gate.proofs.Steps.{goes_on_quietly, taken_from, won_quietly}
+use Rattle.gate.proofs.Steps.{goes_on_quietly, stood_plainly, taken_from, won_quietly}
 use Rattle.gate.proofs.taking.take_quiet.Goals as goal
 
 pub loop-preserved : goal.loop-preserved
@@ -13,7 +13,7 @@ loop-preserved g c =
     let tried = c.take_bit_quiet.new.me in
     let lost = c.take_bit_quiet.ensures.lost c.if-take_bit_quiet-eq0.false in
     record {
-      same = goes_on_quietly c.args.me.now at tried c.loop.invariant.same c.stand_in_line.new.me (o ∷ at.failed) (without o tried.failed) (without o at.turns) lost c.stand_in_line.ensures.rest;
+      same = goes_on_quietly c.args.me.now at tried c.loop.invariant.same c.stand_in_line.new.me (o ∷ at.failed) (without o tried.failed) (without o at.turns) lost (stood_plainly o tried c.stand_in_line.new.me (ap (λ k. k.stand) lost ∙ (ap (λ k. k.stand) c.loop.invariant.same ∙ c.requires.outside.stand)) c.stand_in_line.ensures.rest (c.stand_in_line.ensures.goes_on (c.stand_in_line.ensures.plain refl)));
       turns = c.stand_in_line.ensures.turns ∙ (ap (λ k. without o k.turns) lost ∙ (without_twice o at.turns ∙ c.loop.invariant.turns));
     }
 

@@ -2,7 +2,7 @@ use Rattle.std.proofs.Common.{ap, refl, subst, sym, ◌∷◌, ◌∙◌}
 use Rattle.larch_actions.specs.Sets.{without}
 use Rattle.nub_rule.specs.Objects.{object_of}
 use Rattle.nub.proofs.Without.{without_twice}
-use Rattle.gate.proofs.Steps.{Tries, goes_on, won, won_event, won_taken}
+use Rattle.gate.proofs.Steps.{Tries, goes_on, stood_plainly, won, won_event, won_taken}
 use Rattle.gate.proofs.taking.take_slowly.Goals as goal
 
 pub loop-preserved-then-left-eq0 : goal.loop-preserved-then-left-eq0
@@ -13,7 +13,7 @@ loop-preserved-then-left-eq0 g c =
     let tried = c.try_take.new.me in
     let lost = c.try_take.ensures.lost c.if-try_take.false in
     record {
-      same = goes_on c.args.me.now at tried same c.stand_in_line.new.me (o ∷ at.failed) (without o tried.failed) (without o at.turns) lost c.stand_in_line.ensures.rest;
+      same = goes_on c.args.me.now at tried same c.stand_in_line.new.me (o ∷ at.failed) (without o tried.failed) (without o at.turns) lost (stood_plainly o tried c.stand_in_line.new.me (ap (λ k. k.stand) lost ∙ (ap (λ k. k.stand) same ∙ c.requires.outside.stand)) c.stand_in_line.ensures.rest (c.stand_in_line.ensures.goes_on (c.stand_in_line.ensures.plain refl)));
       turns = c.stand_in_line.ensures.turns ∙ (ap (λ k. without o k.turns) lost ∙ (without_twice o at.turns ∙ (ap (λ k. without o k.turns) c.look_and_learn-left.ensures ∙ c.loop.invariant.turns)));
     }
 

@@ -1,7 +1,9 @@
-use Rattle.std.proofs.Common.{List, length, ap, sym, subst, map, ◌∙◌}
+use Rattle.std.proofs.Common.{◌≡◌, List, length, ap, sym, subst, map, ◌∙◌}
 use lib.ListN.{get_elem?}
+use Rattle.larch_actions.specs.declared.event.Version.TheVariants.{One, Two}
 use Rattle.nub_rule.specs.declared.package.Stored.{Stored}
 use Rattle.nub.specs.History.{AreStored}
+use Rattle.nub.proofs.Begun.{threads-only}
 use Rattle.nub.proofs.Closing.{keeps_locks, whole, are_stored, left_by}
 use Rattle.nub.proofs.whole.close_package.Goals as goal
 
@@ -12,12 +14,12 @@ pub close_package-values-requires-clause-threads : goal.close_package-values-req
 close_package-values-requires-clause-threads g c κs within = λ n t e.
     let same = c.into_inner.ensures ∙ c.new-threads.ensures in
     let d = c.requires.threads n t (ap (λ ts. get_elem? ts.items n) (sym same) ∙ e) in
-    (d.number, d.rest.of, d.rest.outside.spin, d.lacks)
+    (d.number, d.rest.of, d.rest.outside.spin, d.rest.child, d.lacks)
 
 pub close_package-values-requires-clause-rest : goal.close_package-values-requires-clause-rest
 close_package-values-requires-clause-rest g c κs within = λ n t e.
     let same = c.into_inner.ensures ∙ c.new-threads.ensures in
-    (c.requires.threads n t (ap (λ ts. get_elem? ts.items n) (sym same) ∙ e)).rest.wait
+    ((c.requires.threads n t (ap (λ ts. get_elem? ts.items n) (sym same) ∙ e)).rest.wait, λ two. absurd (let z : One ≡ Two = sym c.requires.version ∙ two in cc))
 
 pub history-told-requires : goal.history-told-requires
 history-told-requires g c = λ traced.
@@ -27,11 +29,14 @@ history-told-requires g c = λ traced.
     let holds = g.U.Uses.holds c.args.p.world in
     let values = c.close_package-values.result.values.items in
     let left = left_by c.args.p.layout holds c.into_inner.result.items c.args.threads.items values same v.1 in
-    let are = are_stored c.args.p.layout holds c.args.p c.args.threads.items values c.close_package-values.result.stored.items left c.requires.threads (sym c.traced-traced.ensures ∙ traced) (s.0 ∙ ap (λ ts. map (λ t. t.entries) ts) same) (s.1 ∙ ap (λ ts. map (λ t. t.lost) ts) same) in
+    let are = are_stored c.args.p.layout holds c.args.p c.args.threads.items values c.close_package-values.result.stored.items left (λ n t at. (c.requires.threads n t at).rest.stored) (sym c.traced-traced.ensures ∙ traced) (s.0 ∙ ap (λ ts. map (λ t. t.entries) ts) same) (s.1 ∙ ap (λ ts. map (λ t. t.lost) ts) same) in
     (left.log, subst (λ (xs : List Stored). AreStored left.log xs) (sym c.as_slice.ensures.value) are)
 
 pub returns-clause-threads : goal.returns-clause-threads
-returns-clause-threads g c = ap (λ t. t.value.items) c.of-last.ensures ∙ ap (λ ts. ts.items) c.new-threads.ensures
+returns-clause-threads g c =
+    let over = ap (λ t. t.value.items) c.of.ensures ∙ (ap (λ ts. ts.items) c.new-2.ensures ∙ c.new.ensures.items) in
+    let never = ap (λ t. t.value.items) c.of-2.ensures ∙ (ap (λ ts. ts.items) c.new-4.ensures ∙ c.new-3.ensures.items) in
+    threads-only c.layout-layout.result.threads (ap (λ t. t.value.items) c.of-last.ensures ∙ ap (λ ts. ts.items) c.new-threads.ensures) over never
 
 pub returns-clause-values : goal.returns-clause-values
 returns-clause-values g c =
@@ -49,6 +54,6 @@ returns-clause-traced g c = λ traced.
     let holds = g.U.Uses.holds c.args.p.world in
     let values = c.close_package-values.result.values.items in
     let left = left_by c.args.p.layout holds c.into_inner.result.items c.args.threads.items values same v.1 in
-    let are = are_stored c.args.p.layout holds c.args.p c.args.threads.items values c.close_package-values.result.stored.items left c.requires.threads traced (s.0 ∙ ap (λ ts. map (λ t. t.entries) ts) same) (s.1 ∙ ap (λ ts. map (λ t. t.lost) ts) same) in
+    let are = are_stored c.args.p.layout holds c.args.p c.args.threads.items values c.close_package-values.result.stored.items left (λ n t at. (c.requires.threads n t at).rest.stored) traced (s.0 ∙ ap (λ ts. map (λ t. t.entries) ts) same) (s.1 ∙ ap (λ ts. map (λ t. t.lost) ts) same) in
     let given = subst (λ (xs : List Stored). AreStored left.log xs) (sym c.as_slice.ensures.value) are in
     (left.log, c.in_ok-trace.ensures.traced (c.traced-traced.ensures ∙ traced) left.log given, whole c.args.p.layout holds c.args.threads.items values left c.requires.count)

@@ -8,4 +8,6 @@ returns-clause-threads g c = λ n t e.
     let p = c.in_ok-package.package in
     let lawful = c.requires.lawful.mutexes in
     let same = ap (λ l. l.mutexes) c.in_ok-package.ensures.package.0 in
-    first_is p g.U.Uses.begin n t (omega arith) (c.in_ok-package.ensures.threads n t e ∙ ap (λ w. first_known p.table_id w g.U.Uses.begin n) (sym c.in_ok-package.ensures.package.2))
+    let one = c.requires.version in
+    first_is p g.U.Uses.begin n t (omega arith) (ap (λ l. l.version) c.in_ok-package.ensures.package.0 ∙ one)
+    (c.in_ok-package.ensures.threads n t e ∙ (λ j. first_known p.table_id (one j) (sym c.in_ok-package.ensures.package.2 j) g.U.Uses.begin n))
