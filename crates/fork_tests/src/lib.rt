@@ -1,0 +1,21 @@
+//! Tests of packages whose threads begin and end in the history: forks, ends and joins by threads that are at work at once.
+#![tactic(auto)]
+
+#[cfg(test)]
+mod chain;
+#[cfg(test)]
+mod closing;
+#[cfg(test)]
+mod family;
+#[cfg(test)]
+mod forks;
+#[cfg(test)]
+mod late;
+#[cfg(test)]
+mod lives;
+#[cfg(test)]
+mod notes;
+#[cfg(test)]
+mod run;
+#[cfg(test)]
+mod traces;
