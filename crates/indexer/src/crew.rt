@@ -45,7 +45,7 @@ fn run_jobs<R: Threads + Wait + Sync, S: Tree, G: Gate>(
         (λ was left. GivesRole S.tree S.may_fail S.faults S.calls root.now p.now was.me j.me left was.role j.role) jobs.items r.1.items n)
         r.0.items) }
 {
-    at_once_beside(
+    let done = at_once_beside(
         rt,
         alloc,
         jobs,
@@ -55,17 +55,23 @@ fn run_jobs<R: Threads + Wait + Sync, S: Tree, G: Gate>(
             ensures { GivesRole S.tree S.may_fail S.faults S.calls root.entry.now p.entry.now job.me result.0.me result.1 job.role
                 result.0.role }
         { work(rt, alloc, p, root, gate, walkers, job) },
-        |refused: bool| -> Thread<IndexUses>
+        caller,
+        |caller: Thread<IndexUses>, held: usize| -> Thread<IndexUses>
             requires { HasLists p.now.layout × IsBetween p.now caller }
             ensures { Makes p.entry.now nothing caller result }
         {
             let mut caller = caller;
+            let refused = held > 0;
             if refused {
                 shut_all(rt, p, &mut caller);
             }
             caller
         },
-    )
+    );
+    match done {
+        Ok(done) => Ok((done.threads, done.left, done.between)),
+        Err(_) => Err(AllocError),
+    }
 }
 
 /// Lets the workers work, all at once, each with a thread of those behind the first, which is the caller's; the first of them have a tree

@@ -41,10 +41,6 @@ at_set [] n x low = absurd (omega arith)
 at_set (a ∷ xs) zero x low = refl
 at_set (a ∷ xs) (suc n) x low = at_set xs n x (omega arith)
 
-pub each_append : {A : Type 0} (P : A → Type 0) (xs ys : List A) → AllByRecursion P xs → AllByRecursion P ys → AllByRecursion P (xs ++ ys)
-each_append P [] ys h k = k
-each_append P (x ∷ xs) ys h k = (h.0, each_append P xs ys h.1 k)
-
 pub each_front : {A : Type 0} (P : A → Type 0) (xs ys : List A) → AllByRecursion P (xs ++ ys) → AllByRecursion P xs
 each_front P [] ys h = tt
 each_front P (x ∷ xs) ys h = (h.0, each_front P xs ys h.1)
@@ -68,27 +64,6 @@ zip_images R S f to [] (y ∷ ys) h = absurd h
 zip_images R S f to (x ∷ xs) [] h = absurd h
 zip_images R S f to (x ∷ xs) (y ∷ ys) h = (to x y h.0, zip_images R S f to xs ys h.1)
 
--- of the images, where each has what is asked
-pub each_image : {A B : Type 0} (P : A → Type 0) (Q R : B → Type 0) (g : B → A) → ((b : B) → P (g b) → R b → Q b) → (xs : List A) (bs : List B) → map g bs ≡ xs → AllByRecursion P xs → AllByRecursion R bs → AllByRecursion Q bs
-each_image P Q R g to xs [] is p r = tt
-each_image P Q R g to [] (b ∷ bs) is p r = absurd (cc)
-each_image P Q R g to (x ∷ xs) (b ∷ bs) is p r =
-    let first : g b ≡ x = cc in
-    let rest : map g bs ≡ xs = cc in
-    (to b (subst P (sym first) p.0) r.0, each_image P Q R g to xs bs rest p.1 r.1)
-
-pub zip_image : {A B C : Type 0} (S : A → C → Type 0) (R : B → C → Type 0) (Q : B → Type 0) (g : B → A) → ((b : B) (c : C) → Q b → R b c → S (g b) c) → (xs : List A) (bs : List B) (cs : List C) → map g bs ≡ xs
-    → AllByRecursion Q bs → AllZip R bs cs → AllZip S xs cs
-zip_image S R Q g to [] [] [] is q z = tt
-zip_image S R Q g to [] [] (c ∷ cs) is q z = absurd z
-zip_image S R Q g to [] (b ∷ bs) cs is q z = absurd (cc)
-zip_image S R Q g to (x ∷ xs) [] cs is q z = absurd (cc)
-zip_image S R Q g to (x ∷ xs) (b ∷ bs) [] is q z = absurd z
-zip_image S R Q g to (x ∷ xs) (b ∷ bs) (c ∷ cs) is q z =
-    let first : g b ≡ x = cc in
-    let rest : map g bs ≡ xs = cc in
-    (subst (λ a. S a c) first (to b c q.0 z.0), zip_image S R Q g to xs bs cs rest q.1 z.1)
-
 pub if_ok_map : {A E : Type 0} (r : Result A E) (P Q : A → Type 0) → ((a : A) → P a → Q a) → IfOk r P → IfOk r Q
 if_ok_map (Ok x) P Q f h = f x h
 if_ok_map (Err e) P Q f h = tt
@@ -100,3 +75,12 @@ each_weaker P Q to (x ∷ xs) h = (to x h.0, each_weaker P Q to xs h.1)
 -- a list that was lent whole and has its length still
 pub whole_back : {A : Type 0} (n : ℕ) (xs ys : List A) → length xs ≡ length ys → n ≡ length ys → take n (xs ++ drop (length xs) ys) ≡ xs
 whole_back n xs ys long len = take-append-le n xs (drop (length xs) ys) (omega arith) ∙ take_all n xs (omega arith)
+
+pub zip_weaker : {A B : Type 0} (R S : A → B → Type 0) → ((a : A) (b : B) → R a b → S a b) → (xs : List A) (ys : List B) → AllZip R xs ys → AllZip S xs ys
+zip_weaker R S to [] [] h = tt
+zip_weaker R S to [] (y ∷ ys) h = absurd h
+zip_weaker R S to (x ∷ xs) [] h = absurd h
+zip_weaker R S to (x ∷ xs) (y ∷ ys) h = (to x y h.0, zip_weaker R S to xs ys h.1)
+
+pub zip_same : {A : Type 0} (R : A → A → Type 0) (xs ys : List A) → ((a : A) → R a a) → ys ≡ xs → AllZip R xs ys
+zip_same R xs ys same e = subst (λ l. AllZip R xs l) (sym e) (zip_refl R same xs)

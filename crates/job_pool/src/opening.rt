@@ -1,9 +1,10 @@
 //! All that a pool needs is taken before anything runs.
 ghost use Rattle.std.specs.Prelude.{◌≡◌, ◌≤◌, ◌+◌, [], None, length, IfOk, vec_capacity, false};
 ghost use Rattle.std.proofs.Common.{replicate};
+ghost use Rattle.larch_actions.specs.declared.event.Version.TheVariants.{One};
 ghost use Rattle.job_pool.specs.Working.{AreFirst, HasBuffer};
 
-use crate::item::{Pieces, Worked};
+use crate::item::Pieces;
 use bounded_buffer::Ring;
 use nub::{Layout, open_package};
 use nub_rule::{Package, Thread};
@@ -17,7 +18,8 @@ pub fn open<T: Send + Drop>(
 ) -> Result<(Package<Pieces<T>>, Vec<Thread<Pieces<T>>>), AllocError>
     requires workers { (1 ≤ workers) × (workers ≤ 8) }
     requires many { (1 ≤ many) × (many ≤ 4096) }
-    ensures package { IfOk result (λ o. HasBuffer o.0.layout × (o.0.layout.threads ≡ workers + 1) × (o.0.layout.mutexes ≡ 1) × (o.0.traced ≡ false)) }
+    ensures package { IfOk result (λ o. HasBuffer o.0.layout × (o.0.layout.threads ≡ workers + 1) × (o.0.layout.mutexes ≡ 1) × (o.0.traced ≡ false)
+        × (o.0.layout.version ≡ One)) }
     ensures count { IfOk result (λ o. length o.1.items ≡ workers + 1) }
     ensures threads { IfOk result (λ o. AreFirst o.0 0 o.1.items) }
 {
@@ -34,8 +36,6 @@ pub struct Rooms<T: Send + Drop> {
     pub row: Vec<Option<T>>,
     /// For all threads.
     pub threads: Vec<Thread<Pieces<T>>>,
-    /// For the workers, where they can't be run.
-    pub spare: Vec<Worked<T>>,
     /// For all pieces.
     pub out: Vec<T>,
 }
@@ -48,7 +48,6 @@ pub fn rooms_for<T: Send + Drop>(
 ) -> Result<Rooms<T>, AllocError>
     ensures row { IfOk result (λ r. r.row.items ≡ replicate many None) }
     ensures threads { IfOk result (λ r. (r.threads.items ≡ []) × (workers + 1 ≤ vec_capacity r.threads)) }
-    ensures spare { IfOk result (λ r. (r.spare.items ≡ []) × (workers ≤ vec_capacity r.spare)) }
     ensures out { IfOk result (λ r. (r.out.items ≡ []) × (many ≤ vec_capacity r.out)) }
 {
     let mut row = Vec::with_capacity(alloc, many)?;
@@ -56,12 +55,6 @@ pub fn rooms_for<T: Send + Drop>(
         row.push_reserved(None);
     }
     let threads = Vec::with_capacity(alloc, workers as usize + 1)?;
-    let spare = Vec::with_capacity(alloc, workers as usize)?;
     let out = Vec::with_capacity(alloc, many)?;
-    Ok(Rooms {
-        row,
-        threads,
-        spare,
-        out,
-    })
+    Ok(Rooms { row, threads, out })
 }

@@ -49,19 +49,17 @@ fn shared<J: Job, R: Threads + Wait + Sync>(
     pieces: Vec<Batch<J>>,
     row: &mut [Option<Batch<J>>],
     mut threads: Vec<Thread<Pieces<Batch<J>>>>,
-    spare: Vec<Worked<Batch<J>>>,
 ) -> Vec<Thread<Pieces<Batch<J>>>>
     requires named { HasBuffer p.now.layout }
     requires first { IsFirst p.now (λ w t. []) 0 me }
     requires workers { AreReady p.now (length pieces.items) 1 workers.items }
     requires row { row.old ≡ replicate (length pieces.items) None }
     requires threads { (threads.items ≡ []) × (vec_len workers + 1 ≤ vec_capacity threads) }
-    requires spare { (spare.items ≡ []) × (vec_len workers ≤ vec_capacity spare) }
     ensures { WasShared (MayBeWorked J.state J.gives J.next) p.now (vec_len workers + 1) pieces.items result.items row.new }
 {
     let room = pieces.len();
     put_all(rt, p, &mut me, pieces);
-    let done = run_workers(rt, alloc, p, room, workers, spare);
+    let done = run_workers(rt, alloc, p, room, workers);
     take_rest(rt, p, &mut me, row);
     threads.push_reserved(me);
     place_all(done, threads, row)
@@ -94,7 +92,6 @@ pub fn share_out<J: Job, R: Threads + Wait + Sync>(
     let Rooms {
         mut row,
         threads,
-        spare,
         out,
     } = rooms;
     let threads = shared(
@@ -106,7 +103,6 @@ pub fn share_out<J: Job, R: Threads + Wait + Sync>(
         pieces,
         row.as_mut_slice(),
         threads,
-        spare,
     );
     let Ok(closed) = close_package(p, threads) else {
         unreachable!()

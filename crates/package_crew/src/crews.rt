@@ -1,5 +1,5 @@
 //! Threads to a crew, and back.
-ghost use Rattle.std.specs.Prelude.{◌≡◌, ◌≤◌, [], map, length, IfOk, vec_len, vec_capacity, Bool};
+ghost use Rattle.std.specs.Prelude.{◌≡◌, ◌≤◌, ℕ, [], map, length, IfOk, IfErr, vec_len, vec_capacity};
 ghost use Rattle.nub_rule.specs.Items.{Each};
 ghost use Rattle.package_crew.specs.Crews.{CameBack};
 ghost use Rattle.thread_crew.specs.Crews.{Told};
@@ -7,17 +7,19 @@ ghost use Rattle.thread_crew.specs.Crews.{Told};
 use std::alloc::{AllocError, Global};
 use std::sync::Wait;
 use std::thread::Threads;
-use thread_crew::{Call, run_crew};
+use thread_crew::{Finished, NotRun, run_crew};
 
-/// Each job with the closure that does it.
-fn calls<'a, F, T: Drop>(
-    alloc: Global,
-    jobs: Vec<T>,
-    f: &'a F,
-) -> Result<Vec<Call<'a, F, T>>, AllocError>
-    ensures { IfOk result (λ v. v.items ≡ map (λ j. record { f = f.entry; job = j }) jobs.items) }
-{
-    jobs.into_iter().map(|job| Call { f, job }).collect(alloc)
+/// What threads gave that were all at work at once, beside a part of the caller's own.
+#[derive(Drop)]
+pub struct Beside<T, X, Y> {
+    /// The threads as they came back, in their order.
+    pub threads: Vec<T>,
+    /// What was left with each, in the same order.
+    pub left: Vec<X>,
+    /// How many of them weren't started, and were run on the caller.
+    pub held: usize,
+    /// What the caller's own part gave.
+    pub between: Y,
 }
 
 /// The first of each pair, and the second.
@@ -59,49 +61,84 @@ pub fn at_once<T: Send + Drop, X: Send + Drop, R: Threads + Wait, F: Fn(T) -> (T
     ensures each { IfOk result (λ r. Each (λ n t. CameBack (λ was left. F.post f.now was (t, left)) threads.items r.1.items n) r.0.items) }
 {
     let starts = threads.len();
-    let (threads, results, ()) = at_once_beside(
+    match at_once_beside(
         rt,
         alloc,
         threads,
         starts,
         f,
-        |_refused: bool| {},
-    )?;
-    Ok((threads, results))
+        (),
+        |_own: (), _held: usize| {},
+    ) {
+        Ok(done) => Ok((done.threads, done.left)),
+        Err(_) => Err(AllocError),
+    }
 }
 
 /// The same, where at most the first `starts` threads are started, and meanwhile the caller does a part of its own: `between` is called
-/// once all were started that can be, and told whether one wasn't: true where there are more threads than `starts`, and false where there
-/// is none. What isn't started is run here, as what the system refuses to start is. It also answers what `between` gave.
+/// with what that part works on once all were started that can be, and told how many weren't: at least as many as are behind the first
+/// `starts`, and at most all. Those are run here then, in order. It also answers how many these were and what `between` gave. On `Err`
+/// there was no memory: none has run, and all comes back.
 pub fn at_once_beside<
     T: Send + Drop,
     X: Send + Drop,
-    Y,
+    O: Drop,
+    Y: Drop,
     R: Threads + Wait,
     F: Fn(T) -> (T, X) + Sync,
-    M: FnOnce(bool) -> Y + Drop,
+    M: FnOnce(O, usize) -> Y + Drop,
 >(
     rt: &R,
     alloc: Global,
     threads: Vec<T>,
     starts: usize,
     f: &F,
+    own: O,
     between: M,
-) -> Result<(Vec<T>, Vec<X>, Y), AllocError>
+) -> Result<Beside<T, X, Y>, NotRun<T, O, M>>
     requires threads { Each (λ n t. F.pre f.now t) threads.items }
-    requires between { (refused : Bool) → M.pre between refused }
-    ensures threads { IfOk result (λ r. length r.0.items ≡ length threads.items) }
-    ensures results { IfOk result (λ r. length r.1.items ≡ length threads.items) }
-    ensures each { IfOk result (λ r. Each (λ n t. CameBack (λ was left. F.post f.now was (t, left)) threads.items r.1.items n) r.0.items) }
-    ensures between { IfOk result (λ r. (refused : Bool) × Told starts threads.items refused × M.post between refused r.2) }
+    requires between { (held : ℕ) → Told starts (length threads.items) held → M.pre between own held }
+    ensures threads { IfOk result (λ r. length r.threads.items ≡ length threads.items) }
+    ensures results { IfOk result (λ r. length r.left.items ≡ length threads.items) }
+    ensures each { IfOk result (λ r. Each (λ n t. CameBack (λ was left. F.post f.now was (t, left)) threads.items r.left.items n)
+        r.threads.items) }
+    ensures held { IfOk result (λ r. Told starts (length threads.items) r.held) }
+    ensures between { IfOk result (λ r. M.post between own r.held r.between) }
+    ensures threads_back { IfErr result (λ back. back.jobs.items ≡ threads.items) }
+    ensures own_back { IfErr result (λ back. back.own ≡ own) }
+    ensures between_back { IfErr result (λ back. back.between ≡ between) }
 {
     let count = threads.len();
-    let back = Vec::with_capacity(alloc, count)?;
-    let left = Vec::with_capacity(alloc, count)?;
-    let jobs = calls(alloc, threads, f)?;
-    let Ok(finished) = run_crew(rt, alloc, jobs, starts, between) else {
-        return Err(AllocError);
+    let Ok(firsts) = Vec::with_capacity(alloc, count) else {
+        return Err(NotRun {
+            jobs: threads,
+            own,
+            between,
+        });
     };
-    let (threads, results) = parted(finished.results, back, left);
-    Ok((threads, results, finished.between))
+    let Ok(seconds) = Vec::with_capacity(alloc, count) else {
+        return Err(NotRun {
+            jobs: threads,
+            own,
+            between,
+        });
+    };
+    match run_crew(rt, alloc, threads, f, starts, own, between) {
+        Ok(
+            Finished {
+                results,
+                held,
+                between,
+            },
+        ) => {
+            let (threads, left) = parted(results, firsts, seconds);
+            Ok(Beside {
+                threads,
+                left,
+                held,
+                between,
+            })
+        }
+        Err(back) => Err(back),
+    }
 }

@@ -2,8 +2,8 @@
 //!
 //! Promises: `at_once` hands every thread to a closure and answers the threads as they came back and what the closure left with each,
 //! both in the order of the threads, as the closure's own clause says, so that its answer is what closing a package asks for;
-//! `at_once_beside` does too, and lets the caller do a part of its own meanwhile. Out of memory is their one refusal, and then no closure
-//! has run. Stands on a crew of threads.
+//! `at_once_beside` does too, and lets the caller do a part of its own meanwhile, which is told how many weren't started. Out of memory is
+//! their one refusal, and then no closure has run; `at_once_beside` gives all back then. Stands on a crew of threads.
 //! It does not say that the threads ran beside each other: tests of the crew and of the package show that. Nor does it call a `Gate`: that
 //! is a name for what a thread of a run may pass before it begins.
 #![tactic(auto)]
@@ -11,5 +11,6 @@
 mod crews;
 mod passing;
 
-pub use crews::{at_once, at_once_beside};
+pub use crews::{Beside, at_once, at_once_beside};
 pub use passing::{Gate, NoGate};
+pub use thread_crew::NotRun;

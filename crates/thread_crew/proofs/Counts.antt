@@ -1,5 +1,7 @@
 -- Counts of a list that takes what an iterator yields, one by one.
-use Rattle.std.proofs.Common.{◌≡◌, ◌<◌, ◌≤◌, ◌+◌, ℕ, List, [], ◌∷◌, length, ap, arith}
+use Rattle.std.proofs.Common.{◌≡◌, ◌<◌, ◌≤◌, ◌+◌, ℕ, List, ◌∷◌, length, ap, arith, ⊎_elim}
+use Rattle.std.proofs.lemmas.Bool.{cases_lt}
+use Rattle.thread_crew.specs.Crews.{Told}
 
 module _ (len more was now : ℕ) (took : more ≡ len + 1) (gone : now + 1 ≡ was) where
   pub room_still : (capacity same : ℕ) → same ≡ capacity → len + was ≤ capacity → more + now ≤ same
@@ -21,14 +23,15 @@ all_taken len left first all count none is = omega arith
 pub fits : (len all got capacity : ℕ) → len ≡ all → got ≡ all → got ≤ capacity → len ≤ capacity
 fits len all got capacity e is h = omega arith
 
-pub at_most_before : (starts before len more : ℕ) → before ≡ len → more ≡ len + 1 → starts < more → starts ≤ before
-at_most_before starts before len more is took h = omega arith
+-- one more was started or held
+pub told_still : (before len more starts was now : ℕ) → before ≡ len → more ≡ len + 1 → len ≤ starts + was → (starts ≤ before → now ≡ was + 1) → was ≤ now → more ≤ starts + now
+told_still before len more starts was now is took told counted grows = ⊎_elim
+    (λ (h : before < starts). omega arith)
+    (λ (h : starts ≤ before). let one = counted h in omega arith)
+    (cases_lt before starts)
 
-pub is_some : (len more : ℕ) → more ≡ len + 1 → 0 < more
-is_some len more took = omega arith
-
-pub not_none : {X : Type 0} (l : List X) (len : ℕ) → len ≡ length l → l ≡ [] → 0 < len → ⊥
-not_none l len is none low = let e = ap length none in absurd (omega arith)
+pub told_of : (starts len jobs held : ℕ) → len ≡ jobs → len ≤ starts + held → held ≤ len → Told starts jobs held
+told_of starts len jobs held is told few = record { enough = omega arith; few = omega arith }
 
 -- nothing was taken yet
 module _ (len left : ℕ) (empty : len ≡ 0) where
@@ -37,6 +40,3 @@ module _ (len left : ℕ) (empty : len ≡ 0) where
 
   pub count_first : len + left ≡ left
   count_first = omega arith
-
-pub none_below : (starts len : ℕ) → len ≡ 0 → starts < len → ⊥
-none_below starts len empty h = absurd (omega arith)

@@ -1,6 +1,6 @@
 -- Lists of which each element goes with the one at its place.
-use Rattle.std.proofs.Common.{◌≡◌, List, [], ◌∷◌, ◌++◌, length, refl, sym, ◌∙◌, append-nil, arith}
-use Rattle.std.specs.List.{AllZip}
+use Rattle.std.proofs.Common.{◌≡◌, List, [], ◌∷◌, ◌++◌, length, map, refl, sym, subst, ◌∙◌, append-nil, arith}
+use Rattle.std.specs.List.{AllZip, AllByRecursion}
 use Rattle.thread_crew.specs.Crews.{Turns}
 
 pub zip_push : {A B : Type 0} (R : A → B → Type 0) (xs : List A) (ys : List B) (x : A) (y : B) → AllZip R xs ys → R x y → AllZip R (xs ++ x ∷ []) (ys ++ y ∷ [])
@@ -35,3 +35,28 @@ nothing_left (x ∷ xs) h = absurd (omega arith)
 -- all was yielded where nothing is left
 pub all_yielded : {X : Type 0} (yielded rest all : List X) → yielded ++ rest ≡ all → length rest ≡ 0 → yielded ≡ all
 all_yielded yielded rest all h none = sym (append-nil yielded) ∙ (let e = nothing_left rest none in rw e at h)
+
+pub each_append : {A : Type 0} (P : A → Type 0) (xs ys : List A) → AllByRecursion P xs → AllByRecursion P ys → AllByRecursion P (xs ++ ys)
+each_append P [] ys h k = k
+each_append P (x ∷ xs) ys h k = (h.0, each_append P xs ys h.1 k)
+
+-- of the images, where each has what is asked
+pub each_image : {A B : Type 0} (P : A → Type 0) (Q R : B → Type 0) (g : B → A) → ((b : B) → P (g b) → R b → Q b) → (xs : List A) (bs : List B) → map g bs ≡ xs → AllByRecursion P xs → AllByRecursion R bs → AllByRecursion Q bs
+each_image P Q R g to xs [] is p r = tt
+each_image P Q R g to [] (b ∷ bs) is p r = absurd (cc)
+each_image P Q R g to (x ∷ xs) (b ∷ bs) is p r =
+    let first : g b ≡ x = cc in
+    let rest : map g bs ≡ xs = cc in
+    (to b (subst P (sym first) p.0) r.0, each_image P Q R g to xs bs rest p.1 r.1)
+
+pub zip_image : {A B C : Type 0} (S : A → C → Type 0) (R : B → C → Type 0) (Q : B → Type 0) (g : B → A) → ((b : B) (c : C) → Q b → R b c → S (g b) c) → (xs : List A) (bs : List B) (cs : List C) → map g bs ≡ xs
+    → AllByRecursion Q bs → AllZip R bs cs → AllZip S xs cs
+zip_image S R Q g to [] [] [] is q z = tt
+zip_image S R Q g to [] [] (c ∷ cs) is q z = absurd z
+zip_image S R Q g to [] (b ∷ bs) cs is q z = absurd (cc)
+zip_image S R Q g to (x ∷ xs) [] cs is q z = absurd (cc)
+zip_image S R Q g to (x ∷ xs) (b ∷ bs) [] is q z = absurd z
+zip_image S R Q g to (x ∷ xs) (b ∷ bs) (c ∷ cs) is q z =
+    let first : g b ≡ x = cc in
+    let rest : map g bs ≡ xs = cc in
+    (subst (λ a. S a c) first (to b c q.0 z.0), zip_image S R Q g to xs bs cs rest q.1 z.1)

@@ -1,5 +1,5 @@
 -- What the workers of a crew do, by their jobs.
-use Rattle.std.specs.Prelude.{◌≡◌, ℕ, ◌<◌, ◌≤◌, Bool, true, false, List, [], length}
+use Rattle.std.specs.Prelude.{◌≡◌, ℕ, ◌+◌, ◌≤◌, List, []}
 use Rattle.thread_crew.specs.declared.task.Gives.{Gives}
 use Rattle.thread_crew.specs.declared.child.Child.{Child}
 use Rattle.thread_crew.specs.declared.child.Child.TheVariants.{Started, Held}
@@ -26,6 +26,7 @@ pub record HasRoom {A : Type 0} (many : ℕ) (items : List A) (capacity : ℕ) :
 abbrev pub Turns : {A B C : Type 0} → (A → B → Type 0) → (A → C → Type 0) → B → C → Type 0
 Turns {A} R S b c = (a : A) → R a b → S a c
 
--- what the caller's own part is told: that a job was not started where there are more jobs than starts, and not where there is no job
-abbrev pub Told : {T : Type 0} → ℕ → List T → Bool → Type 0
-Told starts jobs refused = (starts < length jobs → refused ≡ true) × (jobs ≡ [] → refused ≡ false)
+-- how many of the jobs weren't started: all behind so many starts, and of the others those whose thread couldn't be made
+pub record Told (starts jobs held : ℕ) : Type 0 where
+  pub enough : jobs ≤ starts + held
+  pub few : held ≤ jobs

@@ -1,5 +1,5 @@
-//! Starting the jobs of a crew, and joining them.
-ghost use Rattle.std.specs.Prelude.{◌≡◌, ◌≤◌, ◌+◌, [], List, vec_len, vec_capacity, IfOk, IfErr, IfSome, length, Bool, true};
+//! Starting the tasks of a crew, and joining them.
+ghost use Rattle.std.specs.Prelude.{◌≡◌, ◌≤◌, ◌<◌, ◌+◌, ◌^◌, ℕ, [], List, vec_len, vec_capacity, IfOk, IfErr, IfSome, length};
 ghost use Rattle.std.specs.List.{AllZip, AllByRecursion};
 ghost use Rattle.thread_crew.specs.Crews.{HasRoom, IsChildOf, IsRunning, Told, Turns};
 
@@ -67,8 +67,8 @@ fn join_all<R: Threads, T: Task<Output = X>, X: Drop>(
     results
 }
 
-/// Starts a job in a thread where less than `starts` are before it and a thread can be made. Else it holds the job's closure, and
-/// `some_held` is true then.
+/// Starts a job in a thread where less than `starts` are before it and a thread can be made. Else it holds the job's closure, and counts
+/// it.
 fn start_or_hold<
     's,
     E,
@@ -81,24 +81,26 @@ fn start_or_hold<
     work: F,
     before: usize,
     starts: usize,
-    some_held: &mut bool,
+    held: &mut usize,
 ) -> Child<X, Gives<T>, F>
     requires runs { F.pre work }
     requires gives { (r : X) → F.post work r → T.run_gives promise.task.value r }
+    requires few { held.old + 1 < 2 ^ 64 }
     ensures child { IsChildOf T.run_gives F.pre F.post promise.task.value result }
-    ensures told { starts ≤ before → some_held.new ≡ true }
-    ensures stays { some_held.old ≡ true → some_held.new ≡ true }
+    ensures counted { starts ≤ before → held.new ≡ held.old + 1 }
+    ensures more { held.old ≤ held.new }
+    ensures once { held.new ≤ held.old + 1 }
 {
     if before < starts {
         match scope.spawn_with(promise, work) {
             Ok(handle) => Child::Started(handle),
             Err(refused) => {
-                *some_held = true;
+                *held += 1;
                 Child::Held(refused.value)
             }
         }
     } else {
-        *some_held = true;
+        *held += 1;
         Child::Held(work)
     }
 }
@@ -137,27 +139,34 @@ fn finish<
     T: Task<Output = X>,
     X: Drop,
     F: FnOnce() -> X + Drop,
-    M: FnOnce(bool) -> Y,
+    O: Drop,
+    M: FnOnce(O, usize) -> Y,
     Y,
 >(
     rt: &R,
     children: Vec<Child<X, Gives<T>, F>>,
     later: Later<X, Gives<T>>,
+    own: O,
     between: M,
-    some_held: bool,
+    held: usize,
 ) -> Finished<X, Y>
     requires ready { (jobs : List T) × AllZip (IsChildOf T.run_gives F.pre F.post) jobs children.items }
     requires running { HasRoom (vec_len children) later.running.items (vec_capacity later.running) }
     requires results { HasRoom (vec_len children) later.results.items (vec_capacity later.results) }
-    requires between { M.pre between some_held }
+    requires between { M.pre between own held }
     ensures results { (jobs : List T) → AllZip (IsChildOf T.run_gives F.pre F.post) jobs children.items
         → AllZip T.run_gives jobs result.results.items }
-    ensures between { M.post between some_held result.between }
+    ensures held { result.held ≡ held }
+    ensures between { M.post between own held result.between }
 {
     let Later { running, results } = later;
-    let between = between(some_held);
+    let between = between(own, held);
     let results = join_all(rt, run_held(children, running), results);
-    Finished { results, between }
+    Finished {
+        results,
+        held,
+        between,
+    }
 }
 
 /// Starts the jobs, calls `between`, runs here what could not be started, and joins all.
@@ -167,7 +176,8 @@ fn in_scope<
     R: Threads,
     T: Task<Output = X> + Send + Drop + 's,
     X: Send + Drop + 's,
-    M: FnOnce(bool) -> Y + Drop,
+    O: Drop,
+    M: FnOnce(O, usize) -> Y + Drop,
     Y,
 >(
     scope: &'s Scope<'s, E>,
@@ -175,17 +185,18 @@ fn in_scope<
     alloc: Global,
     jobs: Vec<T>,
     starts: usize,
+    own: O,
     between: M,
-) -> Result<Finished<X, Y>, NotRun<T, M>>
-    requires { AllByRecursion T.can_run jobs.items × ((refused : Bool) → M.pre between refused) }
+) -> Result<Finished<X, Y>, NotRun<T, O, M>>
+    requires { AllByRecursion T.can_run jobs.items × ((held : ℕ) → Told starts (length jobs.items) held → M.pre between own held) }
     ensures { IfOk result (λ r. AllZip T.run_gives jobs.items r.results.items)
-        × IfOk result (λ r. (refused : Bool) × Told starts jobs.items refused × M.post between refused r.between)
-        × IfErr result (λ back. back.jobs ≡ jobs) × IfErr result (λ back. back.between ≡ between) }
+        × IfOk result (λ r. Told starts (length jobs.items) r.held × M.post between own r.held r.between)
+        × IfErr result (λ back. (back.jobs ≡ jobs) × (back.own ≡ own) × (back.between ≡ between)) }
 {
     let Some((mut children, later)) = lists_for(alloc, jobs.len()) else {
-        return Err(NotRun { jobs, between });
+        return Err(NotRun { jobs, own, between });
     };
-    let mut some_held = false;
+    let mut held = 0;
     for job in jobs {
         let promise = Gives {
             task: Snapshot::of(&job),
@@ -194,45 +205,43 @@ fn in_scope<
             requires { T.can_run job }
             ensures { T.run_gives job result }
         { job.run() };
-        let child = start_or_hold(scope, promise, work, children.len(), starts, &mut some_held);
+        let child = start_or_hold(scope, promise, work, children.len(), starts, &mut held);
         children.push_reserved(child);
     }
-    Ok(finish(rt, children, later, between, some_held))
+    Ok(finish(rt, children, later, own, between, held))
 }
 
-/// Runs each job in a thread of its own, where it is below `starts` and a thread can be made, and else here once the others were started.
-/// Before that `between` is called here, and told whether some job was not started: true where there are more jobs than `starts`, and
-/// false where there is none.
-///
-/// It blocks until each job has ended, for ever where one never does. On `Err` there was no memory, and nothing has run.
-pub fn run_crew<
+/// Runs each task, as `run_crew` does with calls.
+pub(crate) fn run_tasks<
     R: Threads + Wait,
     T: Task<Output = X> + Send + Drop,
     X: Send + Drop,
-    M: FnOnce(bool) -> Y + Drop,
+    O: Drop,
+    M: FnOnce(O, usize) -> Y + Drop,
     Y,
 >(
     rt: &R,
     alloc: Global,
     jobs: Vec<T>,
     starts: usize,
+    own: O,
     between: M,
-) -> Result<Finished<X, Y>, NotRun<T, M>>
+) -> Result<Finished<X, Y>, NotRun<T, O, M>>
     requires jobs { AllByRecursion T.can_run jobs.items }
-    requires between { (refused : Bool) → M.pre between refused }
+    requires between { (held : ℕ) → Told starts (length jobs.items) held → M.pre between own held }
     ensures done { IfOk result (λ r. AllZip T.run_gives jobs.items r.results.items) }
-    ensures between { IfOk result (λ r. (refused : Bool) × Told starts jobs.items refused × M.post between refused r.between) }
-    ensures jobs_back { IfErr result (λ back. back.jobs ≡ jobs) }
-    ensures between_back { IfErr result (λ back. back.between ≡ between) }
+    ensures between { IfOk result (λ r. Told starts (length jobs.items) r.held × M.post between own r.held r.between) }
+    ensures back { IfErr result (λ back. (back.jobs ≡ jobs) × (back.own ≡ own) × (back.between ≡ between)) }
 {
     thread::scope(
         thread::scope_env(),
         rt,
-        |scope| -> Result<Finished<X, Y>, NotRun<T, M>>
-            requires { AllByRecursion T.can_run jobs.items × ((refused : Bool) → M.pre between refused) }
+        |scope| -> Result<Finished<X, Y>, NotRun<T, O, M>>
+            requires { AllByRecursion T.can_run jobs.items
+                × ((held : ℕ) → Told starts (length jobs.items) held → M.pre between own held) }
             ensures { IfOk result (λ r. AllZip T.run_gives jobs.items r.results.items)
-                × IfOk result (λ r. (refused : Bool) × Told starts jobs.items refused × M.post between refused r.between)
-                × IfErr result (λ back. back.jobs ≡ jobs) × IfErr result (λ back. back.between ≡ between) }
-        { in_scope(scope, rt, alloc, jobs, starts, between) },
+                × IfOk result (λ r. Told starts (length jobs.items) r.held × M.post between own r.held r.between)
+                × IfErr result (λ back. (back.jobs ≡ jobs) × (back.own ≡ own) × (back.between ≡ between)) }
+        { in_scope(scope, rt, alloc, jobs, starts, own, between) },
     )
 }

@@ -1,11 +1,10 @@
 use denote.Exit.{unseen}
 use denote.Param.Send.{Quiet-if, sendable}
 use mir.Syntax.{of_param}
-use Rattle.index_findings.proofs.LotLaws.{if_ok_map}
 use Rattle.indexer.proofs.crew.run_jobs.Goals as goal
 
-pub at_once_beside-requires-clause-threads : goal.at_once_beside-requires-clause-threads
-at_once_beside-requires-clause-threads g c κs within = λ n x at. (
+pub at_once_beside-done-requires-clause-threads : goal.at_once_beside-done-requires-clause-threads
+at_once_beside-done-requires-clause-threads g c κs within = λ n x at. (
   (c.requires.layout, c.requires.jobs n x at, c.requires.root),
   (
     record { owned = c.type_bounds.send-S.owned; leaving = λ k. Quiet-if {D = g.row.S.Denot} (k (of_param 1)) unseen unseen (λ y w. tt) (λ y w. tt) },
@@ -13,6 +12,3 @@ at_once_beside-requires-clause-threads g c κs within = λ n x at. (
     search (sendable, c.type_bounds.sync-G) depth 20,
   ),
 )
-
-pub returns-clause-caller : goal.returns-clause-caller
-returns-clause-caller g c = if_ok_map c.at_once_beside.result _ _ (λ x h. h.2) c.at_once_beside.ensures.between

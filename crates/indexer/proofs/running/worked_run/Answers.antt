@@ -29,6 +29,9 @@ close_package-requires-clause-count g c κs =
     all_many c.in_ok-p.threads.items crew.back c.in-Ok.all.items crew.last (layout_of c.args.plan.now).threads crew.is_all crew.many c.in_ok-p.ensures.count (omega arith)
     ∙ sym (ap (λ (l : Layout). l.threads) c.in_ok-p.ensures.package.0)
 
+pub close_package-requires-clause-version : goal.close_package-requires-clause-version
+close_package-requires-clause-version g c κs = ap (λ (l : Layout). l.version) c.in_ok-p.ensures.package.0
+
 pub close_package-requires-clause-threads : goal.close_package-requires-clause-threads
 close_package-requires-clause-threads g c κs =
     let S = g.S.Tree in

@@ -4,6 +4,11 @@ use Rattle.indexer.specs.Turns.{HasList}
 use Rattle.indexer.proofs.Turning.{adds_keep}
 use Rattle.indexer.proofs.turns.take_list.Goals as goal
 
+pub dirs_in-requires : goal.dirs_in-requires
+dirs_in-requires g c =
+    let idle = c.requires.between.2 in
+    (c.acquire.ensures.fits c.args.p.now.world c.requires.between.1 idle.world idle.share).kind
+
 pub returns : goal.returns
 returns g c =
     let p = c.args.p.now in

@@ -1,12 +1,13 @@
+use Rattle.std.proofs.Common.{refl, inl, inr}
 use denote.Exit.{unseen}
 use denote.Param.Send.{Quiet-if, sendable}
 use mir.Syntax.{of_param}
 use Rattle.job_pool.specs.Crews.{IsReady}
-use Rattle.job_pool.proofs.Lists.{each_weaker}
+use Rattle.job_pool.proofs.Lists.{each_weaker, zip_same, zip_weaker}
 use Rattle.job_pool.proofs.crew.run_workers.Goals as goal
 
-pub all_at_once-requires-clause-seats : goal.all_at_once-requires-clause-seats
-all_at_once-requires-clause-seats g c κs within =
+pub run_crew-done-requires-clause-jobs : goal.run_crew-done-requires-clause-jobs
+run_crew-done-requires-clause-jobs g c κs within =
     each_weaker (IsReady c.args.p.now c.args.room) _
     (λ w ready. (
       ready,
@@ -16,3 +17,9 @@ all_at_once-requires-clause-seats g c κs within =
       ),
     ))
     c.args.workers.items c.requires.workers
+
+pub returns-in-Ok : goal.returns-in-Ok
+returns-in-Ok g c = zip_weaker _ _ (λ a b h. inr h) c.args.workers.items c.in-Ok.finished.results.items c.in-Ok.ensures.done
+
+pub returns-in-Err : goal.returns-in-Err
+returns-in-Err g c = zip_same _ c.args.workers.items c.in-Err.back.jobs.items (λ a. inl refl) c.in-Err.ensures.jobs_back

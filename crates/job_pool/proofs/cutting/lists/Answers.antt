@@ -1,7 +1,7 @@
 use Rattle.std.proofs.Common.{◌∷◌, [], sym, subst, arith, vec_capacity}
 use Rattle.std.specs.List.{AllByRecursion}
 use Rattle.job_pool.specs.Slots.{IsRoom}
-use Rattle.job_pool.proofs.Lists.{each_append}
+use Rattle.thread_crew.proofs.Zips.{each_append}
 use Rattle.job_pool.proofs.cutting.lists.Goals as goal
 
 pub loop-made-init : goal.loop-made-init

@@ -30,7 +30,7 @@ open_package-requires-clause-values g c κs within =
 
 pub returns-clause-package : goal.returns-clause-package
 returns-clause-package g c = if_ok_map c.open_package.result _ _
-    (λ o h. let is = h.0 ∙ c.of-layout.ensures in (subst HasBuffer (sym is) (record { mutexes = lit≤ tt; conditions = lit≤ tt }), ap (λ l. l.threads) is, ap (λ l. l.mutexes) is, h.1))
+    (λ o h. let is = h.0 ∙ c.of-layout.ensures in (subst HasBuffer (sym is) (record { mutexes = lit≤ tt; conditions = lit≤ tt }), ap (λ l. l.threads) is, ap (λ l. l.mutexes) is, h.1, ap (λ l. l.version) is))
     c.open_package.ensures.«package»
 
 pub returns-clause-count : goal.returns-clause-count

@@ -33,6 +33,9 @@ close_package-requires-clause-count g c κs within =
     let e : vec_len c.in-Ok-workers_of.workers + 1 ≡ c.args.count + 1 = omega arith in
     c.shared-threads.ensures.count ∙ (e ∙ sym c.in-Ok.ensures.«package».1)
 
+pub close_package-requires-clause-version : goal.close_package-requires-clause-version
+close_package-requires-clause-version g c κs within = c.in-Ok.ensures.«package».4
+
 pub close_package-requires-clause-threads : goal.close_package-requires-clause-threads
 close_package-requires-clause-threads g c κs within = all_done c.in-Ok.p c.shared-threads.result.items c.shared-threads.ensures.between
 

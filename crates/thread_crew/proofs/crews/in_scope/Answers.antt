@@ -1,15 +1,10 @@
-use Rattle.std.proofs.Common.{◌≡◌, ◌<◌, ◌∷◌, [], Bool, true, false, length, refl, ap, sym, subst, ◌∙◌, append_assoc}
+use Rattle.std.proofs.Common.{◌≡◌, ◌∷◌, [], arith, length, refl, ap, sym, subst, ◌∙◌, append_assoc}
 use Rattle.std.specs.Vec.Iter.{into_iter_items}
 use Rattle.std.specs.List.{AllZip, AllByRecursion}
-use Rattle.std.proofs.lemmas.Bool.{false≢true}
-use Rattle.thread_crew.specs.Crews.{IsChildOf}
-use Rattle.thread_crew.proofs.Counts.{all_taken, at_most_before, count_first, fits, has_place, is_some, none_below, not_none, one_left, room_first, room_still, same_count}
+use Rattle.thread_crew.specs.Crews.{IsChildOf, Told}
+use Rattle.thread_crew.proofs.Counts.{all_taken, count_first, fits, has_place, one_left, told_of, told_still, room_first, room_still, same_count}
 use Rattle.thread_crew.proofs.Zips.{zip_push, all_yielded}
 use Rattle.thread_crew.proofs.crews.in_scope.Goals as goal
-
-false_else : (b : Bool) → (b ≡ true → ⊥) → b ≡ false
-false_else true f = absurd (f refl)
-false_else false f = refl
 
 pub loop-job-preserved : goal.loop-job-preserved
 loop-job-preserved g c =
@@ -25,8 +20,8 @@ loop-job-preserved g c =
       left = one_left x _ _ _ _ steps gone was.left;
       room = room_still _ _ _ _ took gone _ _ c.push_reserved.ensures.capacity was.room;
       count = same_count _ _ _ _ took gone _ was.count;
-      told = λ h. c.start_or_hold-child.ensures.told (at_most_before _ _ _ _ c.len-in-loop-job.ensures took h);
-      none = λ h. is_some _ _ took;
+      told = told_still _ _ _ _ _ _ c.len-in-loop-job.ensures took was.told c.start_or_hold-child.ensures.counted c.start_or_hold-child.ensures.more;
+      few = (let few = was.few in let once = c.start_or_hold-child.ensures.once in omega arith);
       runs = runs.1;
       given = rw c.push_reserved.ensures.items (zip_push (IsChildOf g.T.Task.run_gives (λ f. g.T.Task.can_run f.0) (λ f r. g.T.Task.run_gives f.0 r)) at.yielded _ x _ was.given
           (let k = c.start_or_hold-child.ensures.child in rw c.of.ensures at k));
@@ -56,28 +51,27 @@ finish-requires-clause-results g c =
     record { empty = r.empty; room = fits _ _ _ _ taken c.len.ensures r.room }
 
 pub finish-requires-clause-between : goal.finish-requires-clause-between
-finish-requires-clause-between g c = c.requires.1 c.loop-job.some_held
+finish-requires-clause-between g c =
+    let at = c.loop-job in
+    let many = all_taken _ _ _ _ at.invariant.count c.in-None.ensures.steps.0 c.into_iter-job-iterator.ensures.into_iter_gives.1 ∙ c.args.jobs.ok.0 in
+    c.requires.1 at.held (told_of _ _ _ _ many at.invariant.told at.invariant.few)
 
 pub returns : goal.returns
 returns g c =
     let at = c.loop-job in
     let all = all_yielded at.yielded _ _ at.invariant.whole (sym at.invariant.left ∙ c.in-None.ensures.steps.0) ∙ c.into_iter-job-iterator.ensures.into_iter_gives.0 in
-    let many = all_taken _ _ _ _ at.invariant.count c.in-None.ensures.steps.0 c.into_iter-job-iterator.ensures.into_iter_gives.1 ∙ c.args.jobs.ok.0 in (
+    let many = all_taken _ _ _ _ at.invariant.count c.in-None.ensures.steps.0 c.into_iter-job-iterator.ensures.into_iter_gives.1 ∙ c.args.jobs.ok.0 in
+    let held = c.finish.ensures.held in (
       c.finish.ensures.results c.args.jobs.items (subst (λ l. AllZip (IsChildOf g.T.Task.run_gives (λ f. g.T.Task.can_run f.0) (λ f r. g.T.Task.run_gives f.0 r)) l at.children.items) all at.invariant.given),
       (
-        at.some_held,
-        (
-          λ h. at.invariant.told (subst (λ n. c.args.starts < n) (sym many) h),
-          λ e. false_else at.some_held (λ t. not_none _ _ many e (at.invariant.none t)),
-        ),
-        c.finish.ensures.between,
+        subst (Told c.args.starts (length c.args.jobs.items)) (sym held) (told_of _ _ _ _ many at.invariant.told at.invariant.few),
+        subst (λ h. g.M.FnOnce.post c.args.between (c.args.own, (h, tt)) c.finish.result.between) (sym held) c.finish.ensures.between,
       ),
-      tt,
       tt,
     )
 
 pub returns-in_default : goal.returns-in_default
-returns-in_default g c = (tt, tt, refl, refl)
+returns-in_default g c = (tt, tt, (refl, refl, refl))
 
 pub push_reserved-requires : goal.push_reserved-requires
 push_reserved-requires g c = has_place _ _ _ _ c.in-Some-job.ensures.steps.1 c.loop-job.invariant.room
@@ -92,8 +86,15 @@ loop-job-init g c =
       left = gives.1 ∙ c.args.jobs.ok.0 ∙ sym (ap length gives.0);
       room = room_first _ _ empty _ _ _ gives.1 c.len.ensures room.room;
       count = count_first _ _ empty;
-      told = λ h. absurd (none_below _ _ empty h);
-      none = λ e. absurd (false≢true e);
+      told = omega arith;
+      few = omega arith;
       runs = subst (λ l. AllByRecursion g.T.Task.can_run l) (sym gives.0) c.requires.0;
       given = subst (λ l. AllZip (IsChildOf g.T.Task.run_gives (λ f. g.T.Task.can_run f.0) (λ f r. g.T.Task.run_gives f.0 r)) [] l) (sym room.empty) tt;
     }
+
+pub start_or_hold-child-requires-clause-few : goal.start_or_hold-child-requires-clause-few
+start_or_hold-child-requires-clause-few g c κs within =
+    let few = c.loop-job.invariant.few in
+    let room = has_place _ _ _ _ c.in-Some-job.ensures.steps.1 c.loop-job.invariant.room in
+    let most = c.loop-job.children.ok in
+    omega arith

@@ -1,4 +1,4 @@
-use Rattle.std.proofs.Common.{◌≡◌, ◌<◌, ◌≤◌, true, ◌+◌, ◌++◌, length, vec_len, vec_capacity}
+use Rattle.std.proofs.Common.{◌≡◌, ◌≤◌, ◌+◌, ◌++◌, length, vec_len, vec_capacity}
 use Rattle.std.specs.Vec.Iter.{into_iter_items, into_iter_len}
 use Rattle.std.specs.List.{AllZip, AllByRecursion}
 use Rattle.thread_crew.specs.Crews.{IsChildOf}
@@ -11,8 +11,8 @@ invariant-loop-job g l =
       left : into_iter_len l.job-iterator ≡ length (into_iter_items l.job-iterator);
       room : vec_len l.children + into_iter_len l.job-iterator ≤ vec_capacity l.children;
       count : vec_len l.children + into_iter_len l.job-iterator ≡ into_iter_len l.initial.job-iterator;
-      told : l.starts < vec_len l.children → l.some_held ≡ true;
-      none : l.some_held ≡ true → 0 < vec_len l.children;
+      told : vec_len l.children ≤ l.starts + l.held;
+      few : l.held ≤ vec_len l.children;
       runs : AllByRecursion g.T.Task.can_run (into_iter_items l.job-iterator);
       given : AllZip (IsChildOf g.T.Task.run_gives (λ f. g.T.Task.can_run f.0) (λ f r. g.T.Task.run_gives f.0 r)) l.yielded l.children.items;
     }

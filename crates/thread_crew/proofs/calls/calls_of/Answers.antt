@@ -2,14 +2,14 @@ use Rattle.std.proofs.Common.{◌≡◌, ◌∷◌, [], ◌++◌, length, map, r
 use Rattle.std.specs.List.{AllByRecursion}
 use Rattle.std.proofs.lemmas.List.{map-append}
 use Rattle.thread_crew.proofs.Zips.{all_yielded}
-use Rattle.job_pool.proofs.Lists.{each_append}
-use Rattle.job_pool.proofs.crew.calls_of.Goals as goal
+use Rattle.thread_crew.proofs.Zips.{each_append}
+use Rattle.thread_crew.proofs.calls.calls_of.Goals as goal
 
 pub loop-job-init : goal.loop-job-init
 loop-job-init g c =
     let gives = c.into_iter-job-iterator.ensures.into_iter_gives in
     let all = ap length gives.0 in
-    let ok = c.args.seats.ok.0 in
+    let ok = c.args.jobs.ok.0 in
     let len = gives.1 in
     let room = c.requires.1 in
     let empty = ap length c.requires.0 in

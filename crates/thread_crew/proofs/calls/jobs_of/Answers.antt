@@ -1,7 +1,7 @@
 use Rattle.std.proofs.Common.{◌∷◌, [], ◌++◌, length, map, refl, sym, ap, ◌∙◌, arith, append_assoc}
 use Rattle.std.proofs.lemmas.List.{map-append}
 use Rattle.thread_crew.proofs.Zips.{all_yielded}
-use Rattle.job_pool.proofs.crew.seats_of.Goals as goal
+use Rattle.thread_crew.proofs.calls.jobs_of.Goals as goal
 
 pub loop-call-init : goal.loop-call-init
 loop-call-init g c =
@@ -11,7 +11,7 @@ loop-call-init g c =
     let len = gives.1 in
     let room = c.requires.1 in
     let empty = ap length c.requires.0 in
-    let none = c.args.seats.ok.0 in
+    let none = c.args.jobs.ok.0 in
     record { whole = refl; left = omega arith; room = omega arith; made = c.requires.0 }
 
 pub push_reserved-requires : goal.push_reserved-requires
