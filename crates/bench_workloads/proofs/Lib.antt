@@ -1,5 +1,4 @@
 mod Crewing
-mod Doing
 mod Inside
 mod Makers
 mod Partly

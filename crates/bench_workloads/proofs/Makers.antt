@@ -18,9 +18,15 @@ use Rattle.bounded_buffer.specs.Parts.{Used}
 use Rattle.bounded_buffer.specs.Plain.{BufferRule, Keeps, part_of, all_puts, all_takes, any_shut}
 use Rattle.bounded_buffer.specs.PlainLaws.{fits_plain}
 use Rattle.bounded_buffer.specs.Rings.{Held, fresh, put_count}
-use Rattle.bench_workloads.specs.Passing.{Both, HasMade, HasPassed, IsMaker, IsOver, IsTaker, Passer, WasRefused, items_sum, numbers_sum, said}
+use Rattle.bounded_buffer.specs.Using.{settled}
+use Rattle.bounded_buffer.proofs.Alone.{nobody_shut}
+use Rattle.bench_workloads.specs.Passing.{Both, HasMade, HasPassed, IsMaker, IsOver, IsTaker, Passer, WasRefused, items_sum, numbers_sum}
 use Rattle.bench_workloads.proofs.Crewing.{many_shares, thread_of}
 use Rattle.bench_workloads.proofs.Sums.{rows-sum, rows-length, fewer_pairs, counted-sum}
+
+-- what a share says of both buffers, but for the waits
+abbrev said : List (Note ℕ) → Both
+said s = record { numbers = settled (part_of s 0); ends = settled (part_of s 1) }
 
 -- the share of the thread n says that it has done its part, and it has counted this
 pub record Tells (makers times : ℕ) (lefts : List ℕ) (n : ℕ) (s : List (Note ℕ)) : Type 0 where
@@ -34,7 +40,9 @@ told : (makers times : ℕ) (p : Shape (Unit {0})) (lefts : List ℕ) (n : ℕ) 
 told makers times p lefts n s t share passed =
     let h = passed.2 in
     let same : h.done.share ≡ s = same_Some h.done.share s (sym h.done.idle.share ∙ share) in
-    let is : h.both ≡ said s = sym h.done.is_said ∙ ap said same in
+    let numbers = sym (h.done.said 0 h.both.numbers refl) in
+    let ends = sym (h.done.said 1 h.both.ends refl) in
+    let is : h.both ≡ said s = ap (λ u. record h.both { numbers = u }) numbers ∙ (ap (λ u. record { numbers = settled (part_of h.done.share 0); ends = u }) ends ∙ ap said same) in
     record {
       counted = λ left at. some-injective left passed.0 (sym at ∙ passed.1) ∙ (h.sum ∙ ap (λ (x : Both). items_sum x.numbers.takes % 2 ^ 64) is);
       makes = λ low. subst (λ x. IsMaker makers times n x) is (h.makes low);
@@ -44,10 +52,6 @@ told makers times p lefts n s t share passed =
 either_true : (b c : Bool) → (b || c) ≡ true → (b ≡ true) ⊎ (c ≡ true)
 either_true true c e = inl refl
 either_true false c e = inr e
-
-nobody_shut : (m : ℕ) (shares : List (List (Note ℕ))) → ((k : ℕ) (u : List (Note ℕ)) → get_elem? shares k ≡ some u → (part_of u m).shut ≡ false) → any_shut m shares ≡ false
-nobody_shut m [] none = refl
-nobody_shut m (x ∷ shares) none = ap (λ b. b || any_shut m shares) (none 0 x refl) ∙ nobody_shut m shares (λ k. none (suc k))
 
 -- who shut the ring
 pub record Shutter (m : ℕ) (shares : List (List (Note ℕ))) : Type 0 where

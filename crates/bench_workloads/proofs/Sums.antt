@@ -1,5 +1,5 @@
 -- Sums of numbers in a row, and of the items that shares speak of.
-use Rattle.std.proofs.Common.{◌≡◌, ℕ, zero, suc, ◌+◌, ◌*◌, ◌%◌, ◌<◌, ◌≤◌, List, [], ◌∷◌, ◌++◌, length, add-one, arith, sym, ap, ◌∙◌, refl}
+use Rattle.std.proofs.Common.{◌≡◌, ℕ, zero, suc, ◌+◌, ◌*◌, ◌%◌, ◌<◌, ◌≤◌, List, [], ◌∷◌, length, add-one, arith, sym, ap, ◌∙◌, refl}
 use Rattle.std.specs.List.{sum, range_with_len}
 use Rattle.std.proofs.Math.Nat.{add-mod-mod, mod-add-mod}
 use Rattle.std.proofs.lemmas.List.{map-id, length-append}
@@ -8,8 +8,8 @@ use Rattle.std.proofs.lemmas.List.Sums.{sum_by-append, sum_by-cons}
 use mathlib.Core.Option.{some, some-injective}
 use lib.ListN.{get_elem?}
 use Rattle.bounded_buffer.specs.declared.note.Note.{Note}
-use Rattle.bounded_buffer.specs.Parts.{Used}
 use Rattle.bounded_buffer.specs.Plain.{part_of, pairs_of}
+use Rattle.bounded_buffer.proofs.Alone.{nobody}
 use Rattle.bench_workloads.specs.Passing.{items_sum, numbers_sum}
 
 -- one more number
@@ -28,11 +28,6 @@ numbers-parts first a (suc b) =
     let part : numbers_sum (first + a) (suc b) ≡ numbers_sum (first + a) b + ((first + a) + b) = ap (numbers_sum (first + a)) (sym f) ∙ numbers-more (first + a) b in
     let less = numbers-parts first a b in
     whole ∙ (ap (λ n. n + (first + (a + b))) less ∙ (omega arith ∙ ap (λ n. numbers_sum first a + n) (sym part)))
-
--- of no share this has pairs
-pub nobody : (f : Used ℕ → List (ℕ × ℕ)) (m : ℕ) (shares : List (List (Note ℕ))) → ((k : ℕ) (u : List (Note ℕ)) → get_elem? shares k ≡ some u → f (part_of u m) ≡ []) → pairs_of f m shares ≡ []
-nobody f m [] none = refl
-nobody f m (x ∷ shares) none = ap (λ l. l ++ pairs_of f m shares) (none 0 x refl) ∙ nobody f m shares (λ k. none (suc k))
 
 -- each of the first shares has the numbers of its own row, and the others have none
 pub rows-sum : (times makers first : ℕ) (shares : List (List (Note ℕ))) → makers ≤ length shares

@@ -1,15 +1,12 @@
 -- What a thread has done at two buffers, and what is left of the first.
 use Rattle.std.specs.Prelude.{◌≡◌, ◌⊎◌, ℕ, ◌+◌, ◌*◌, ◌%◌, ◌^◌, ◌<◌, ◌≤◌, true, false, List, [], ◌∷◌, length}
-use Rattle.std.proofs.Common.{zero, suc}
 use Rattle.std.specs.List.{sum, sum_by, range_with_len}
 use Rattle.larch_actions.specs.declared.event.Layout.{Layout}
 use Rattle.nub_rule.specs.Known.{Known, Shape}
-use Rattle.nub.specs.Idle.{IsIdle}
-use Rattle.bounded_buffer.specs.declared.did.Did.{Did}
 use Rattle.bounded_buffer.specs.declared.note.Note.{Note}
-use Rattle.bounded_buffer.specs.Parts.{Used, unused, did}
-use Rattle.bounded_buffer.specs.Plain.{part_of}
+use Rattle.bounded_buffer.specs.Parts.{Used, unused}
 use Rattle.bounded_buffer.specs.Rings.{Held}
+use Rattle.bounded_buffer.specs.Using.{HasUsed}
 
 abbrev pub Passer : Type 0
 Passer = Known (Held ℕ) (List (Note ℕ)) (Unit {0})
@@ -24,26 +21,9 @@ pub record Both : Type 0 where
   pub numbers : Used ℕ
   pub ends : Used ℕ
 
-abbrev pub neither : Both
-neither = record { numbers = unused; ends = unused }
-
--- and this, at one of both
-abbrev pub on : ℕ → Did ℕ → Both → Both
-on zero d x = record x { numbers = did d x.numbers }
-on (suc n) d x = record x { ends = did d x.ends }
-
--- what a share says of a buffer, but for the waits
-abbrev pub settled : Used ℕ → Used ℕ
-settled u = record u { full_waits = 0; empty_waits = 0 }
-
-abbrev pub said : List (Note ℕ) → Both
-said s = record { numbers = settled (part_of s 0); ends = settled (part_of s 1) }
-
--- the thread n of the package is between two calls, and has done this
-pub record HasDone (p : Shape (Unit {0})) (n : ℕ) (x : Both) (t : Passer) : Type 0 where
-  pub share : List (Note ℕ)
-  pub idle : IsIdle p n share t
-  pub is_said : said share ≡ x
+-- the thread n of the package is between two calls, and has done this, but for the waits
+abbrev pub HasDone : Shape (Unit {0}) → ℕ → Both → Passer → Type 0
+HasDone p n x t = HasUsed p n (x.numbers ∷ x.ends ∷ []) t
 
 -- the items of pairs of number and item, added up
 abbrev pub items_sum : List (ℕ × ℕ) → ℕ

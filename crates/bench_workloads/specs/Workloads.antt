@@ -1,12 +1,10 @@
 -- What a thread has done in a workload.
-use Rattle.std.specs.Prelude.{◌≡◌, ◌≤◌, ◌<◌, ℕ, ◌+◌, ◌-◌, ◌*◌, List, length, Option as Opt, Some, None, slice_set}
-use mathlib.Core.Option.{some}
-use lib.ListN.{get_elem?}
+use Rattle.std.specs.Prelude.{◌≡◌, ◌≤◌, ℕ, ◌+◌, ◌-◌, ◌*◌, List, length}
 use Rattle.sum_uses.specs.declared.added.Added.{Added}
 use Rattle.sum_uses.specs.Sums.{IsAbove, added}
-use Rattle.nub_rule.specs.Known.{Holds, Known, Shape}
+use Rattle.nub_rule.specs.Known.{Known, Shape}
+use Rattle.nub.specs.Holding.{IsHolding}
 use Rattle.nub.specs.Idle.{IsIdle}
-use Rattle.nub.specs.Rest.{AtRest}
 
 abbrev pub Worker : Type 0
 Worker = Known ℕ (List Added) (Unit {0})
@@ -33,24 +31,11 @@ pub record HasTurned (p : Shape (Unit {0})) (times n : ℕ) (t : Worker) : Type 
   pub idle : IsIdle p n share t
   pub sum : added 0 share ≡ times
 
--- nothing is held, of so many mutexes
-pub record HoldsNone (mutexes : ℕ) (held : List (Opt ℕ)) : Type 0 where
-  pub lacks : (m : ℕ) → m < 64 → get_elem? held m ≡ some None
-  pub lacks_named : (m : ℕ) → m < mutexes → get_elem? held m ≡ some None
-  pub none : (m x : ℕ) → ¬ (get_elem? held m ≡ some (Some x))
-
--- the thread n of the package has mutex 0, whose value it got and has made y, and no other; it has added 1 so often, now or before
+-- the thread n of the package has mutex 0 and no other, whose value it got and has made y; it has added 1 so often, now or before
 pub record IsInside (p : Shape (Unit {0})) (n y times : ℕ) (t : Worker) : Type 0 where
-  pub number : t.number ≡ n
-  pub rest : AtRest p t
-  pub world : t.world ≡ Some p.world
   pub got : ℕ
-  pub holds : Holds t 0 got
-  pub before : List (Opt ℕ)
-  pub none : HoldsNone p.layout.mutexes before
-  pub held : t.held ≡ slice_set before 0 (Some got)
   pub share : List Added
-  pub is_share : t.share ≡ Some share
+  pub holding : IsHolding p n 0 share got t
   pub above : IsAbove 0 got share
   pub rises : got ≤ y
   pub sum : added 0 share + (y - got) ≡ times

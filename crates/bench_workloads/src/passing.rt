@@ -4,110 +4,25 @@ ghost use Rattle.std.specs.List.{sum};
 ghost use mathlib.Core.Option.{some};
 ghost use lib.ListN.{get_elem?};
 ghost use Rattle.nub.specs.Ended.{IsFirst};
-ghost use Rattle.bounded_buffer.specs.declared.did.Did.TheVariants.{Put, Took, Shut, SawShut, SawEnd};
-ghost use Rattle.bounded_buffer.specs.Plain.{IsPlain};
 ghost use Rattle.bounded_buffer.specs.Rings.{Held, fresh};
-ghost use Rattle.bench_workloads.specs.Passing.{Both, HasBuffers, HasDone, HasPassed, IsMaker, IsOver, IsTaker, items_sum, numbers_sum, on};
+ghost use Rattle.bench_workloads.specs.Passing.{Both, HasBuffers, HasDone, HasPassed, IsMaker, IsOver, IsTaker, items_sum, numbers_sum};
 
 use crate::numbers::{Capacity, Sides};
-use bounded_buffer::{BufferAt, PlainBuffers, PutEnd, Ring, TakeEnd, put, shut, take};
-use nub::{Closed, CondId, Layout, MutexId, Package, Thread, close_package, open_package};
+use bounded_buffer::{PlainBuffers, Ring, plain_buffer, put_anyway, shut_plain, take_anyway};
+use nub::{Closed, Layout, Package, Thread, close_package, open_package};
 use package_crew::at_once;
 use std::alloc::{AllocError, Global};
 use std::sync::Wait;
 use std::thread::Threads;
 
-/// The use of the package: two buffers of numbers.
+/// The use of the package: two buffers of numbers, of what is passed on and, behind mutex 1, of the makers that have put all their numbers.
 pub type Numbers = PlainBuffers<u64>;
-
-// The buffer of what is passed on, and the one in which each maker tells that it has put all its numbers.
-const NUMBERS: u32 = 0;
-
-const ENDS: u32 = 1;
 
 /// The package in which numbers were passed on, and the sum of what each thread has taken.
 #[derive(Drop)]
 pub struct Passed {
     pub closed: Closed<Numbers>,
     pub sums: Vec<u64>,
-}
-
-/// The buffer behind the mutex with this number.
-#[inline]
-fn buffer(number: u32) -> BufferAt
-    requires { number < 2 }
-    ensures plain { IsPlain result }
-    ensures mutex { result.mutex.0 ≡ number }
-{
-    BufferAt {
-        mutex: MutexId(number),
-        room: CondId(2 * number),
-        more: CondId(2 * number + 1),
-    }
-}
-
-/// Puts the item into the buffer, and answers its number; it is not there where the buffer was shut. An alert ends nothing here.
-#[inline]
-fn put_in<R: Wait>(
-    rt: &R,
-    shared: &Package<Numbers>,
-    me: &mut Thread<Numbers>,
-    number: u32,
-    item: u64,
-) -> Option<u64>
-    requires named { HasBuffers shared.now.layout × (number < 2) }
-    requires done { (n : ℕ) × (x : Both) × HasDone shared.now n x me.old }
-    ensures put { IfSome result (λ k. (n : ℕ) (x : Both) → HasDone shared.now n x me.old
-        → HasDone shared.now n (on number (Put k item) x) me.new) }
-    ensures refused { IfNone result ((n : ℕ) (x : Both) → HasDone shared.now n x me.old
-        → HasDone shared.now n (on number SawShut x) me.new) }
-{
-    let at = buffer(number);
-    for _ in rt.forever() {
-        match put(rt, shared, me, &at, item) {
-            Ok(place) => return Some(place),
-            Err((PutEnd::Closed, _)) => return None,
-            Err((PutEnd::Alerted, _)) => {}
-        }
-    }
-    unreachable!()
-}
-
-/// Takes the first item of the buffer, and answers it with its number; there is none where the buffer was shut and is empty. An alert ends
-/// nothing here.
-#[inline]
-fn take_from<R: Wait>(
-    rt: &R,
-    shared: &Package<Numbers>,
-    me: &mut Thread<Numbers>,
-    number: u32,
-) -> Option<(u64, u64)>
-    requires named { HasBuffers shared.now.layout × (number < 2) }
-    requires done { (n : ℕ) × (x : Both) × HasDone shared.now n x me.old }
-    ensures took { IfSome result (λ r. (n : ℕ) (x : Both) → HasDone shared.now n x me.old
-        → HasDone shared.now n (on number (Took r.0 r.1) x) me.new) }
-    ensures end { IfNone result ((n : ℕ) (x : Both) → HasDone shared.now n x me.old
-        → HasDone shared.now n (on number SawEnd x) me.new) }
-{
-    let at = buffer(number);
-    for _ in rt.forever() {
-        match take(rt, shared, me, &at) {
-            Ok(taken) => return Some(taken),
-            Err(TakeEnd::ClosedEmpty) => return None,
-            Err(TakeEnd::Alerted) => {}
-        }
-    }
-    unreachable!()
-}
-
-/// Shuts the buffer.
-fn shut_off<R: Wait>(rt: &R, shared: &Package<Numbers>, me: &mut Thread<Numbers>, number: u32)
-    requires named { HasBuffers shared.now.layout × (number < 2) }
-    requires done { (n : ℕ) × (x : Both) × HasDone shared.now n x me.old }
-    ensures { (n : ℕ) (x : Both) → HasDone shared.now n x me.old → HasDone shared.now n (on number Shut x) me.new }
-{
-    let at = buffer(number);
-    shut(rt, shared, me, &at);
 }
 
 /// Puts so many numbers, this maker's own, and then tells that it has ended. Who tells that after so many others shuts the buffer.
@@ -122,18 +37,20 @@ fn make<R: Wait>(
     requires first { IsFirst shared.now (λ w t. []) me.number me }
     ensures { (x : Both) × HasDone shared.now me.number x result × IsMaker (others + 1) times me.number x }
 {
+    let numbers = plain_buffer(0);
+    let ends = plain_buffer(1);
     let own = me.number() as u64;
     let first = own * times as u64;
     for i in 0..times {
-        let Some(_) = put_in(rt, shared, &mut me, NUMBERS, first + i as u64) else {
+        let Ok(_) = put_anyway(rt, shared, &mut me, &numbers, first + i as u64) else {
             return me;
         };
     }
-    let Some(place) = put_in(rt, shared, &mut me, ENDS, own) else {
+    let Ok(place) = put_anyway(rt, shared, &mut me, &ends, own) else {
         return me;
     };
     if place == others as u64 {
-        shut_off(rt, shared, &mut me, NUMBERS);
+        shut_plain(rt, shared, &mut me, &numbers);
         return me;
     }
     me
@@ -149,9 +66,10 @@ fn sum_all<R: Wait>(
     requires first { IsFirst shared.now (λ w t. []) me.number me }
     ensures { (x : Both) × HasDone shared.now me.number x result.0 × IsTaker x × (result.1 ≡ items_sum x.numbers.takes % 2 ^ 64) }
 {
+    let numbers = plain_buffer(0);
     let mut sum = 0u64;
     for _ in rt.forever() {
-        let Some((_, item)) = take_from(rt, shared, &mut me, NUMBERS) else {
+        let Ok((_, item)) = take_anyway(rt, shared, &mut me, &numbers) else {
             return (me, sum);
         };
         sum = sum.wrapping_add(item);

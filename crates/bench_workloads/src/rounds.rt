@@ -1,8 +1,10 @@
 //! Rounds that one thread opens for all others, each of which has the mutex all the time but while it waits.
 ghost use Rattle.std.specs.Prelude.{[], ◌≡◌, ◌<◌, ◌≤◌, ℕ, List, true, false};
 ghost use Rattle.nub_rule.specs.Plays.{event, signal_action};
-ghost use Rattle.nub.specs.Rest.{Adds, AtRest, IsSame};
+ghost use Rattle.nub.specs.Holding.{IsHolding};
+ghost use Rattle.nub.specs.Rest.{Adds, AtRest};
 ghost use Rattle.nub.specs.Ended.{IsFirst};
+ghost use Rattle.sum_uses.specs.declared.added.Added.{Added};
 ghost use Rattle.bench_workloads.specs.Workloads.{HasTurned, IsInside};
 
 use condition::{broadcast, signal, wait};
@@ -85,9 +87,7 @@ fn end_round<R: Wait>(rt: &R, shared: &Package<SumUses>, me: &mut Thread<SumUses
     ensures ends { ends ≡ true → (left : List ℕ) × Adds [] (event me.old.number (signal_action 1 left)) me.old me.new }
     ensures goes_on { ends ≡ false → me.new ≡ me.old }
     ensures rest { AtRest shared.now me.new }
-    ensures same { IsSame me.old me.new }
-    ensures held { me.new.held ≡ me.old.held }
-    ensures share { me.new.share ≡ me.old.share }
+    ensures holding { (n : ℕ) (s : List Added) (x : ℕ) → IsHolding shared.now n 0 s x me.old → IsHolding shared.now n 0 s x me.new }
 {
     if ends {
         signal(rt, shared, me, DONE);

@@ -1,2 +1,4 @@
+pub mod Alone
 pub mod Ending
 pub mod Opening
+pub mod Using

@@ -1,5 +1,6 @@
 -- The events of a call at a buffer, and the share that it leaves.
-use Rattle.std.specs.Prelude.{◌≡◌, ◌≢◌, ℕ, zero, suc, ◌+◌, true, List, [], ◌∷◌, ◌++◌, Option as Opt, Some, None, Result, Ok, Err}
+use Rattle.std.specs.Prelude.{◌≡◌, ◌≢◌, ℕ, zero, suc, ◌+◌, true, List, [], ◌∷◌, ◌++◌, Option as Opt, Some, None, IsSome, Result, Ok, Err}
+use Rattle.larch_actions.specs.declared.event.CondId.{CondId}
 use Rattle.larch_actions.specs.declared.event.Event.{Event}
 use Rattle.nub_rule.specs.Known.{Known}
 use Rattle.nub_rule.specs.Plays.{acquire_event, release_event, enqueue_event, event, signal_action, broadcast_action}
@@ -12,7 +13,7 @@ use Rattle.bounded_buffer.specs.declared.ends.PutEnd.{PutEnd}
 use Rattle.bounded_buffer.specs.declared.ends.PutEnd.TheVariants.{Closed, Alerted as PutAlerted}
 use Rattle.bounded_buffer.specs.declared.ends.TakeEnd.{TakeEnd}
 use Rattle.bounded_buffer.specs.declared.ends.TakeEnd.TheVariants.{ClosedEmpty, Alerted as TakeAlerted}
-use Rattle.bounded_buffer.specs.Parts.{Used, did}
+use Rattle.bounded_buffer.specs.Parts.{Used, KnowsShut, did}
 use Rattle.bounded_buffer.specs.Rings.{Held, Does}
 
 -- k waits of the thread t on the mutex m in the condition c, none of which an alert ended
@@ -26,6 +27,11 @@ entered t m c k = acquire_event t m ∷ waits t m c k
 -- a wait of the thread t on the mutex m in the condition c that an alert ended
 abbrev pub raise : ℕ → ℕ → ℕ → List Event
 raise t m c = enqueue_event true t m c ∷ wait_end Alerted t m c ∷ []
+
+-- a signal to who waits in the condition, where there is one
+abbrev pub tells : ℕ → List ℕ → Opt CondId → List Event
+tells t left (Some c) = event t (signal_action c.0 left) ∷ []
+tells t left None = []
 
 module _ {T : Type 0} where
   -- who put or took signals the condition o
@@ -78,6 +84,8 @@ module _ {W V H T : Type 0} (ring_in : V → Opt (Held T)) (part : H → ℕ →
     pub looking : H
     pub is_alike : alike s looking
     pub looked : Looked w m t d looking share
+    -- where the thread knew the ring to be shut it didn't wait
+    pub shut : KnowsShut (part s m) → (waited ≡ 0) × IsSome d
 
   -- the thread t took m, shut the ring, broadcast the conditions c and o, and gave m back
   pub record HasShut (w : W) (m c o t : ℕ) (s : H) (a b : Known V H W) : Type 0 where

@@ -5,4 +5,6 @@ pub mod Parts
 pub mod Plain
 pub mod PlainLaws
 pub mod Rings
+pub mod Sides
+pub mod Using
 pub mod Waiting

@@ -53,10 +53,16 @@ module _ {T : Type 0} where
   IsWait WaitedEmpty = Unit {0}
   IsWait _ = ⊥
 
-  -- the numbers of what the thread put and took are below those of the next put and the next take
+  -- the thread shut the ring, or saw it shut
+  abbrev pub KnowsShut : Used T → Type 0
+  KnowsShut u = (u.shut ≡ true) ⊎ (u.seen_shut ≡ true) ⊎ (u.seen_end ≡ true)
+
+  -- the numbers of what the thread put and took are below those of the next put and the next take; what it knows to be shut is shut, and what it saw empty then is empty
   pub record IsWithin (u : Used T) (q : Held T) : Type 0 where
     pub puts : All (λ p. p.0 < put_count q) u.puts
     pub takes : All (λ p. p.0 < q.taken) u.takes
+    pub shut : KnowsShut u → q.shut ≡ true
+    pub end : u.seen_end ≡ true → q.items ≡ []
 
   -- the waits grow from a to b by the one at the ring q, which is given back as p, or stay
   abbrev pub Waits : Did T → Held T → Held T → Bool → ℕ → ℕ → Type 0

@@ -1,5 +1,5 @@
 -- The rule of plain buffers is kept by each allowed change.
-use Rattle.std.specs.Prelude.{◌≡◌, ◌≢◌, ℕ, ◌+◌, ◌<◌, ◌≤◌, Bool, true, false, ◌||◌, cond, eqb, List, [], ◌∷◌, ◌++◌, length, take, drop, slice_set, Some}
+use Rattle.std.specs.Prelude.{◌≡◌, ◌≢◌, ◌⊎◌, ℕ, ◌+◌, ◌<◌, ◌≤◌, Bool, true, false, ◌||◌, cond, eqb, List, [], ◌∷◌, ◌++◌, length, take, drop, slice_set, Some}
 use Rattle.std.proofs.Common.{zero, suc, arith, sym, ap, subst, ◌∙◌, ⊎_elim, refl, length-append, add-one, inl, inr}
 use Rattle.std.specs.List.{All, enumerate_from}
 use Rattle.std.specs.List.Sorted.{IsPermutation}
@@ -264,6 +264,11 @@ module _ {T : Type 0} where
   all-below n k [] low = All-nil (λ p. p.0 < k)
   all-below n k (x ∷ xs) low = All-cons (λ p. p.0 < k) (n, x) (enumerate_from (n + 1) xs) (omega arith) (all-below (n + 1) k xs (omega arith))
 
+  any_at : (m : ℕ) (shares : List (List (Note T))) (t : ℕ) (s : List (Note T)) → get_elem? shares t ≡ some s → (part_of s m).shut ≡ true → any_shut m shares ≡ true
+  any_at m [] t s e is = absurd (some-ne-none s (sym e))
+  any_at m (x ∷ shares) zero s e is = ap (λ b. b || any_shut m shares) (ap (λ y. (part_of y m).shut) (some-injective x s e) ∙ is)
+  any_at m (x ∷ shares) (suc t) s e is = ap (λ b. (part_of x m).shut || b) (any_at m shares t s e is) ∙ or-true (part_of x m).shut
+
   pub fits_plain : (w : Prim.Unit {0}) (values : List (Held T)) (shares : List (List (Note T))) → Keeps values shares → (m : ℕ) (x : Held T) → get_elem? values m ≡ some x
       → (t : ℕ) (s : List (Note T)) → get_elem? shares t ≡ some s → IsWithin (part_of s m) x
   fits_plain w values shares h m x at t s there =
@@ -275,6 +280,11 @@ module _ {T : Type 0} where
       record {
         puts = all-part (λ p. p.0 < put_count x) (λ u. u.puts) m shares t s there (All-permutation (λ p. p.0 < put_count x) (enumerate_from 0 rule.log) (all_puts m shares) (IsPermutation-sym (all_puts m shares) (enumerate_from 0 rule.log) rule.puts) (all-below 0 (put_count x) rule.log (omega arith)));
         takes = all-part (λ p. p.0 < x.taken) (λ u. u.takes) m shares t s there (All-permutation (λ p. p.0 < x.taken) (enumerate_from 0 (take x.taken rule.log)) (all_takes m shares) (IsPermutation-sym (all_takes m shares) (enumerate_from 0 (take x.taken rule.log)) rule.takes) (all-below 0 x.taken (take x.taken rule.log) (omega arith)));
+        shut = λ knows. ⊎_elim
+            (λ (is : (part_of s m).shut ≡ true). rule.shut ∙ any_at m shares t s there is)
+            (λ (seen : ((part_of s m).seen_shut ≡ true) ⊎ ((part_of s m).seen_end ≡ true)). ⊎_elim (rule.seen_shut t s there) (λ (is : (part_of s m).seen_end ≡ true). (rule.seen_end t s there is).0) seen)
+            knows;
+        end = λ is. (rule.seen_end t s there is).1;
       }
 
   pub ring_fits : (w : Prim.Unit {0}) (at : BufferAt) → IsPlain at → (t : ℕ) (x : Held T) (s : List (Note T)) → IsWithin (part_of s at.mutex.0) x

@@ -1,22 +1,16 @@
--- A thread in a call at a buffer, which has the mutex; and one that gives it back.
-use Rattle.std.specs.Prelude.{◌≡◌, ◌≢◌, ℕ, true, List, [], ◌∷◌, ◌++◌, slice_set, Option as Opt, Some, None}
+-- A thread in a call at a buffer, which has the mutex.
+use Rattle.std.specs.Prelude.{◌≡◌, ◌≢◌, ℕ, List, slice_set, Option as Opt, Some}
 use Rattle.larch_actions.specs.declared.event.Event.{Event}
 use Rattle.nub_rule.specs.Known.{Known, Shape, Holds}
-use Rattle.nub_rule.specs.Plays.{release_event, enqueue_event}
-use Rattle.nub.specs.Rest.{Added, AtRest, Adds, IsSame}
-use Rattle.alert_wait.specs.declared.outcome.Outcome.{Outcome}
-use Rattle.alert_wait.specs.Outcomes.{wait_end}
+use Rattle.nub.specs.Rest.{Added, AtRest, IsSame}
 use Rattle.bounded_buffer.specs.declared.at.BufferAt.{BufferAt}
 use Rattle.bounded_buffer.specs.declared.did.Did.{Did}
+use Rattle.bounded_buffer.specs.declared.side.Side.{Side}
 use Rattle.bounded_buffer.specs.At.{IsNamed}
-use Rattle.bounded_buffer.specs.Calls.{signals, did_last, Looked}
-use Rattle.bounded_buffer.specs.Parts.{Used, did}
-use Rattle.bounded_buffer.specs.Rings.{Held}
-
-module _ {T : Type 0} where
-  abbrev pub signals_last : ℕ → ℕ → List ℕ → Opt (Did T) → List Event
-  signals_last t o left None = []
-  signals_last t o left (Some d) = signals t o left d
+use Rattle.bounded_buffer.specs.Calls.{entered}
+use Rattle.bounded_buffer.specs.Parts.{Used, HasDone, IsWait, IsWithin, KnowsShut}
+use Rattle.bounded_buffer.specs.Rings.{Held, Does}
+use Rattle.bounded_buffer.specs.Sides.{MayGo, more}
 
 module _ {W V H T : Type 0} (part : H → ℕ → Used T) (alike : H → H → Type 0) (fit : W → ℕ → V → ℕ → H → Type 0) where
   -- since a the thread took the mutex m and made these events, with k waits; it holds m with the value x
@@ -33,17 +27,15 @@ module _ {W V H T : Type 0} (part : H → ℕ → Used T) (alike : H → H → T
     pub is_alike : alike s share
     pub fits : fit p.world m x a.number share
 
-  -- the thread waited on the mutex m in the condition c, and has it again with the value x
-  pub record HasWaited (p : Shape W) (m c : ℕ) (d : Did T) (s : H) (o : Outcome) (x : V) (a b : Known V H W) : Type 0 where
-    pub events : Adds (enqueue_event true a.number m c ∷ []) (wait_end o a.number m c) a b
-    pub held : b.held ≡ slice_set a.held m (Some x)
-    pub holds : Holds b m x
-    pub share : H
-    pub is_share : b.share ≡ Some share
-    pub here : part share m ≡ did d (part s m)
-    pub elsewhere : (j : ℕ) → j ≢ m → part share j ≡ part s j
-    pub is_alike : alike s share
-    pub fits : fit p.world m x a.number share
+  -- the thread came from this side, waited in the condition c while it had to, and has the ring q
+  pub record HasEntered (ring_in : V → Opt (Held T)) (p : Shape W) (m c : ℕ) (side : Side) (s : H) (q : Held T) (a b : Known V H W) : Type 0 where
+    pub waited : ℕ
+    pub value : V
+    pub inn : IsIn p m (more side) (entered a.number m c waited) waited s value a b
+    pub ring : ring_in value ≡ Some q
+    pub within : IsWithin (part inn.share m) q
+    pub goes : MayGo side q
+    pub at_once : KnowsShut (part s m) → waited ≡ 0
 
 module _ {W V H T : Type 0} (is_buffer : W → BufferAt → Type 0) (ring_in : V → Opt (Held T)) where
   -- the thread is in a call at the buffer, and has its mutex with the value x, which is this ring
@@ -55,13 +47,8 @@ module _ {W V H T : Type 0} (is_buffer : W → BufferAt → Type 0) (ring_in : V
     pub holds : Holds me at.mutex.0 x
     pub ring : ring_in x ≡ Some q
 
-module _ {W V H T : Type 0} (ring_in : V → Opt (Held T)) (part : H → ℕ → Used T) (after : W → ℕ → ℕ → V → V → H → H) where
-  -- the thread did this last, or nothing, and gave m back
-  pub record HasGiven (w : W) (m o : ℕ) (d : Opt (Did T)) (s : H) (a b : Known V H W) : Type 0 where
-    pub left : List ℕ
-    pub events : Adds (signals_last a.number o left d) (release_event a.number m) a b
-    pub share : H
-    pub is_share : b.share ≡ Some share
-    pub here : part share m ≡ did_last d (part s m)
-    pub elsewhere : (j : ℕ) → j ≢ m → part share j ≡ part s j
-    pub looked : Looked ring_in part after w m a.number d s share
+module _ {W V H T : Type 0} (ring_in : V → Opt (Held T)) (part : H → ℕ → Used T) (alike : H → H → Type 0) (allows : W → ℕ → ℕ → V → V → H → H → Type 0) where
+  -- with the share s the thread t may do this at the ring behind m, and the change `after` says so
+  abbrev pub Lawful : (W → ℕ → ℕ → V → V → H → H) → W → ℕ → ℕ → Did T → H → Type 0
+  Lawful after w m t d s = (x y : V) (q p : Held T) → ring_in x ≡ Some q → ring_in y ≡ Some p → Does d q p
+      → allows w m t x y s (after w m t x y s) × HasDone part m d s (after w m t x y s) × (IsWait d → alike s (after w m t x y s))

@@ -1,15 +1,16 @@
-//! Getting the ring out of a value, and giving a mutex back with the ring as it was got.
-ghost use Rattle.std.specs.Prelude.{◌≡◌, None, Some, slice_set};
+//! Getting the ring out of a value, and giving a mutex back with a ring.
+ghost use Rattle.std.specs.Prelude.{◌≡◌, ◌≢◌, ◌<◌, ℕ, List, [], None, Some, IfSome, slice_set};
+ghost use Rattle.nub_rule.specs.Known.{Holds};
 ghost use Rattle.nub_rule.specs.Plays.{release_event};
-ghost use Rattle.std.specs.Prelude.{[]};
 ghost use Rattle.nub.specs.Rest.{AtRest, Adds, IsSame};
+ghost use Rattle.bounded_buffer.specs.Calls.{tells};
 ghost use Rattle.bounded_buffer.specs.Rings.{Held};
-ghost use Rattle.bounded_buffer.specs.Waiting.{HasRing};
 
-use crate::at::BufferAt;
 use crate::buffer_use::BufferUse;
 use crate::ring::Ring;
-use nub_rule::{NoChange, Package, Thread};
+use condition::signal;
+use larch_actions::{CondId, MutexId};
+use nub_rule::{Change, Package, Thread};
 use std::sync::Wait;
 use user_mutex::release;
 
@@ -30,20 +31,36 @@ pub(crate) fn keep<T, R: Wait>(rt: &R, item: T) -> T
     item
 }
 
-/// Gives the mutex back with the value that came with it.
-pub(crate) fn give_up<B: BufferUse, R: Wait>(
+/// Signals the condition, if there is one, and gives the mutex back with the ring.
+///
+/// The signal stands before the release: whoever is woken is unparked once the mutex has been given back, and finds it free.
+pub(crate) fn give<B: BufferUse, C: Change<B>, R: Wait>(
     rt: &R,
     p: &Package<B>,
     me: &mut Thread<B>,
-    at: &BufferAt,
-    value: B::Value,
+    mutex: MutexId,
+    told: Option<CondId>,
+    ring: Ring<B::Item>,
 )
-    requires { (q : Held B.Item) × HasRing B.is_buffer B.ring_in p.now at.now value q me.old }
+    requires rest { AtRest p.now me.old }
+    requires named { (mutex.0 < p.now.layout.mutexes) × IfSome told (λ c. c.0 < p.now.layout.conditions) }
+    requires world { me.old.world ≡ Some p.now.world }
+    requires may { (x : B.Value) × Holds me.old mutex.0 x
+        × ((s : B.Share) (y : B.Value) → me.old.share ≡ Some s → B.ring_in y ≡ Some ring
+        → B.allows p.now.world mutex.0 me.old.number x y s (C.after p.now.world mutex.0 me.old.number x y s)) }
     ensures rest { AtRest p.now me.new }
     ensures same { IsSame me.old me.new }
-    ensures held { me.new.held ≡ slice_set me.old.held at.now.mutex.0 None }
-    ensures share { (s : B.Share) → me.old.share ≡ Some s → me.new.share ≡ Some s }
-    ensures event { Adds [] (release_event me.old.number at.now.mutex.0) me.old me.new }
+    ensures held { me.new.held ≡ slice_set me.old.held mutex.0 None }
+    ensures event { (left : List ℕ) × Adds (tells me.old.number left told) (release_event me.old.number mutex.0) me.old me.new }
+    ensures share { (y : B.Value) × (B.ring_in y ≡ Some ring) × ((s : B.Share) (x : B.Value) → me.old.share ≡ Some s
+        → Holds me.old mutex.0 x → me.new.share ≡ Some (C.after p.now.world mutex.0 me.old.number x y s)) }
 {
-    release::<B, NoChange, R>(rt, p, me, at.mutex, value);
+    let value = B::from_ring(ring);
+    match told {
+        Some(condition) => {
+            signal(rt, p, me, condition);
+            release::<B, C, R>(rt, p, me, mutex, value);
+        }
+        None => release::<B, C, R>(rt, p, me, mutex, value),
+    }
 }

@@ -1,5 +1,5 @@
 //! What is left of plain buffers when their package is closed, and what the definitions of rings mean.
-ghost use Rattle.std.specs.Prelude.{◌≡◌, ◌≢◌, ◌≤◌, ℕ, List, length};
+ghost use Rattle.std.specs.Prelude.{◌≡◌, ◌≢◌, ◌≤◌, ℕ, List, [], false, length, take, true};
 ghost use mathlib.Core.Option.{some};
 ghost use lib.ListN.{get_elem?};
 ghost use Rattle.nub_rule.specs.Known.{Known};
@@ -8,8 +8,9 @@ ghost use Rattle.bounded_buffer.specs.declared.at.BufferAt.{BufferAt};
 ghost use Rattle.bounded_buffer.specs.declared.did.Did.TheVariants.{Put};
 ghost use Rattle.bounded_buffer.specs.declared.note.Note.{Note};
 ghost use Rattle.bounded_buffer.specs.Closing.{IsSettled};
-ghost use Rattle.bounded_buffer.specs.Plain.{IsPlain, Keeps};
+ghost use Rattle.bounded_buffer.specs.Plain.{BufferRule, IsPlain, Keeps, part_of};
 ghost use Rattle.bounded_buffer.specs.Rings.{Does, Held};
+ghost use Rattle.bounded_buffer.specs.Using.{Falls, NoneBut, Through, items_of};
 
 /// In a closed package each item that was put was taken once or is left, in order of puts. The premise is the clause on values of
 /// `close_package`.
@@ -32,4 +33,28 @@ pub fn puts_within_room<T>()
 /// The two conditions of a plain buffer are two.
 pub fn room_is_not_more()
     ensures { (at : BufferAt) → IsPlain at → at.room.0 ≢ at.more.0 }
+{}
+
+/// What one thread alone took is the front of what one thread alone put, in order: as many items as were taken from the ring. The thread i
+/// puts and the thread j takes, under rising numbers, as `HasUsed` says of each.
+pub fn in_order<T>()
+    ensures { (m : ℕ) (q : Held T) (shares : List (List (Note T))) (i j : ℕ) (s r : List (Note T)) → get_elem? shares i ≡ some s
+        → get_elem? shares j ≡ some r → Falls (part_of s m).puts → Falls (part_of r m).takes → NoneBut i (λ u. u.puts) [] m shares
+        → NoneBut j (λ u. u.takes) [] m shares → BufferRule m q shares
+        → items_of (part_of r m).takes ≡ take q.taken (items_of (part_of s m).puts) }
+{}
+
+/// All of it went through, and the ring is shut and empty, where the taker saw that.
+pub fn goes_through<T>()
+    ensures { (m : ℕ) (q : Held T) (shares : List (List (Note T))) (i j : ℕ) (s r : List (Note T)) → get_elem? shares i ≡ some s
+        → get_elem? shares j ≡ some r → Falls (part_of s m).puts → Falls (part_of r m).takes → NoneBut i (λ u. u.puts) [] m shares
+        → NoneBut j (λ u. u.takes) [] m shares → (part_of r m).seen_end ≡ true → BufferRule m q shares
+        → Through q (items_of (part_of s m).puts) (items_of (part_of r m).takes) }
+{}
+
+/// No put is refused at a ring that nobody shut.
+pub fn not_refused<T>()
+    ensures { (m : ℕ) (q : Held T) (shares : List (List (Note T)))
+        → ((k : ℕ) (u : List (Note T)) → get_elem? shares k ≡ some u → (part_of u m).shut ≡ false) → BufferRule m q shares
+        → (n : ℕ) (s : List (Note T)) → get_elem? shares n ≡ some s → (part_of s m).seen_shut ≡ true → ⊥ }
 {}

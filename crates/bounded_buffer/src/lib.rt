@@ -5,10 +5,12 @@
 //! end. Nothing is said of waiting: not that a put or a take ever returns.
 #![tactic(auto)]
 
+mod anyway;
 mod at;
 mod buffer_use;
 mod did;
 mod ends;
+mod entering;
 mod giving;
 pub mod laws;
 mod note;
@@ -16,14 +18,16 @@ mod plain;
 mod putting;
 mod ring;
 mod shutting;
+mod side;
 mod taking;
 
+pub use anyway::{Over, put_anyway, shut_plain, take_anyway};
 pub use at::BufferAt;
 pub use buffer_use::BufferUse;
 pub use did::Did;
 pub use ends::{PutEnd, TakeEnd};
 pub use note::Note;
-pub use plain::{PlainBuffers, PlainPut, PlainShut, PlainTake};
+pub use plain::{PlainBuffers, PlainPut, PlainShut, PlainTake, plain_buffer};
 pub use putting::put;
 pub use ring::Ring;
 pub use shutting::shut;

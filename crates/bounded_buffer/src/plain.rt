@@ -1,17 +1,32 @@
 //! A ring behind every mutex.
-ghost use Rattle.std.specs.Prelude.{◌≡◌, [], ◌∷◌, Some};
+ghost use Rattle.std.specs.Prelude.{◌≡◌, ◌<◌, ◌^◌, [], ◌∷◌, Some};
 ghost use Rattle.std.proofs.Common.{refl, ◌∙◌};
 ghost use Rattle.bounded_buffer.specs.declared.did.Did.TheVariants.{Shut};
 ghost use Rattle.bounded_buffer.specs.Parts.{IsWithin};
 ghost use Rattle.bounded_buffer.specs.Plain.{IsPlain, Keeps, Allowed, part_of, kept, note, put_did, take_did};
 ghost use Rattle.bounded_buffer.specs.PlainLaws.{fits_plain, keeps_after, ring_fits, plain_put, plain_take, plain_shut, plain_stay, plain_waits};
 
+use crate::at::BufferAt;
 use crate::buffer_use::BufferUse;
 use crate::note::Note;
 use crate::ring::Ring;
+use larch_actions::{CondId, MutexId};
 use nub_rule::{Change, Uses};
 use std::collections::LinkedList;
 use std::marker::PhantomData;
+
+/// The buffer behind the mutex with this number.
+pub fn plain_buffer(number: u32) -> BufferAt
+    requires { number < 2 ^ 31 }
+    ensures plain { IsPlain result }
+    ensures mutex { result.mutex.0 ≡ number }
+{
+    BufferAt {
+        mutex: MutexId(number),
+        room: CondId(2 * number),
+        more: CondId(2 * number + 1),
+    }
+}
 
 /// Each mutex m is a buffer, whose conditions are 2 m for room and 2 m + 1 for more. A share is all that its thread did, the last first.
 pub struct PlainBuffers<T> {

@@ -66,6 +66,19 @@ impl<T> Ring<T> {
         self.items.len() == self.capacity as usize
     }
 
+    /// The items, in the order in which they were put.
+    pub fn into_items(self) -> VecDeque<T>
+        ensures { result.items ≡ self.items }
+    {
+        let Ring {
+            items,
+            taken: _,
+            capacity: _,
+            shut: _,
+        } = self;
+        items
+    }
+
     /// How many items were ever taken from it.
     pub fn taken(&self) -> u64
         ensures { result ≡ self.now.taken }

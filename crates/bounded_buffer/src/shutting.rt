@@ -1,7 +1,8 @@
 //! Shutting a ring.
-ghost use Rattle.std.specs.Prelude.{◌≡◌, None, Some};
+ghost use Rattle.std.specs.Prelude.{◌≡◌, ℕ, None, Some};
 ghost use mathlib.Core.Option.{some};
 ghost use lib.ListN.{get_elem?};
+ghost use Rattle.nub.specs.Idle.{IsIdle};
 ghost use Rattle.nub.specs.Rest.{AtRest, IsSame};
 ghost use Rattle.bounded_buffer.specs.At.{IsNamed};
 ghost use Rattle.bounded_buffer.specs.Calls.{HasShut};
@@ -27,6 +28,7 @@ pub fn shut<B: BufferUse, R: Wait>(rt: &R, p: &Package<B>, me: &mut Thread<B>, a
     ensures rest { AtRest p.now me.new }
     ensures same { IsSame me.old me.new }
     ensures held { me.new.held ≡ me.old.held }
+    ensures idle { (n : ℕ) (s r : B.Share) → IsIdle p.now n s me.old → me.new.share ≡ Some r → IsIdle p.now n r me.new }
     ensures shut { (s : B.Share) → me.old.share ≡ Some s
         → HasShut B.ring_in B.part B.Shut.after p.now.world at.now.mutex.0 at.now.room.0 at.now.more.0 me.old.number s me.old me.new }
 {

@@ -1,4 +1,1 @@
-mod Alone
 mod Passing
-mod Rising
-mod Telling

@@ -6,11 +6,9 @@ ghost use lib.ListN.{get_elem?};
 ghost use Rattle.nub_rule.specs.Items.{Each};
 ghost use Rattle.nub.specs.Ended.{IsFirst};
 ghost use Rattle.bounded_buffer.specs.Rings.{Held, fresh};
-ghost use Rattle.pipeline.specs.Stages.{squared, HasEnded, HasPassed, IsOver, IsStage};
-ghost use Rattle.pipeline.specs.Tallies.{HasBuffers};
+ghost use Rattle.pipeline.specs.Stages.{squared, HasBuffers, HasEnded, HasPassed, IsOver, IsStage};
 
-use crate::calls::Numbers;
-use crate::stages::{Came, stage};
+use crate::stages::{Came, Numbers, stage};
 use bounded_buffer::Ring;
 use nub::{Closed, Layout, Thread, close_package, open_package};
 use package_crew::at_once;

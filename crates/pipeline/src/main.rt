@@ -5,7 +5,6 @@
 //! and what follows from the shares of threads of which one alone puts into a buffer and one alone takes from it.
 #![tactic(auto)]
 
-mod calls;
 mod line;
 mod stages;
 

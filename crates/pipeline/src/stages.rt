@@ -1,13 +1,15 @@
 //! What each of the three threads does.
 ghost use Rattle.std.specs.Prelude.{◌≡◌, ◌++◌, ◌∷◌, [], false};
 ghost use Rattle.nub.specs.Ended.{IsFirst};
-ghost use Rattle.pipeline.specs.Stages.{squared, HasEnded, IsMade, IsStage, IsTaken, IsWorked};
-ghost use Rattle.pipeline.specs.Tallies.{HasBuffers};
+ghost use Rattle.pipeline.specs.Stages.{squared, HasBuffers, HasEnded, IsMade, IsStage, IsTaken, IsWorked};
 
-use crate::calls::{Numbers, put_in, shut_off, take_from};
+use bounded_buffer::{PlainBuffers, plain_buffer, put_anyway, shut_plain, take_anyway};
 use nub::{Package, Thread};
 use std::alloc::Global;
 use std::sync::Wait;
+
+/// The use of the package: a buffer of numbers behind each mutex.
+pub type Numbers = PlainBuffers<u64>;
 
 /// What came out, and whether there was no memory for some of it.
 #[derive(Drop)]
@@ -55,12 +57,13 @@ fn make<R: Wait>(
     requires first { IsFirst p.now (λ w t. []) me.number me }
     ensures { HasEnded (IsMade count) p.now me.number result }
 {
+    let numbers = plain_buffer(0);
     for i in 0..count {
-        if !put_in(rt, p, &mut me, 0, i as u64) {
+        let Ok(_) = put_anyway(rt, p, &mut me, &numbers, i as u64) else {
             return me;
-        }
+        };
     }
-    shut_off(rt, p, &mut me, 0);
+    shut_plain(rt, p, &mut me, &numbers);
     me
 }
 
@@ -70,15 +73,17 @@ fn square_all<R: Wait>(rt: &R, p: &Package<Numbers>, mut me: Thread<Numbers>) ->
     requires first { IsFirst p.now (λ w t. []) me.number me }
     ensures { HasEnded IsWorked p.now me.number result }
 {
+    let numbers = plain_buffer(0);
+    let squares = plain_buffer(1);
     for _ in rt.forever() {
-        match take_from(rt, p, &mut me, 0) {
-            Ok(number) => {
-                if !put_in(rt, p, &mut me, 1, square(number)) {
+        match take_anyway(rt, p, &mut me, &numbers) {
+            Ok((_, number)) => {
+                let Ok(_) = put_anyway(rt, p, &mut me, &squares, square(number)) else {
                     return me;
-                }
+                };
             }
             Err(_) => {
-                shut_off(rt, p, &mut me, 1);
+                shut_plain(rt, p, &mut me, &squares);
                 return me;
             }
         }
@@ -97,10 +102,11 @@ fn take_all<R: Wait>(
     requires first { IsFirst p.now (λ w t. []) me.number me }
     ensures { HasEnded (IsTaken result.1) p.now me.number result.0 }
 {
+    let squares = plain_buffer(1);
     let mut came = Came::none(alloc);
     for _ in rt.forever() {
-        match take_from(rt, p, &mut me, 1) {
-            Ok(item) => came.add(item),
+        match take_anyway(rt, p, &mut me, &squares) {
+            Ok((_, item)) => came.add(item),
             Err(_) => return (me, came),
         }
     }

@@ -11,7 +11,7 @@ use Rattle.readers_writers.specs.declared.state.RwState.{RwState}
 use Rattle.readers_writers.specs.Roles.{AreRoles, one_if_reading, role_of}
 
 -- where nobody reads or writes
-pub roles_begin : (values : List RwState) (n : ℕ) → n ≤ 64 → ((m : ℕ) (q : RwState) → get_elem? values m ≡ some q → (q.readers ≡ 0) × (q.writer ≡ None)) → AreRoles values (firsts (λ t. []) n)
+pub roles_begin : (values : List RwState) (n : ℕ) → n ≤ 256 → ((m : ℕ) (q : RwState) → get_elem? values m ≡ some q → (q.readers ≡ 0) × (q.writer ≡ None)) → AreRoles values (firsts (λ t. []) n)
 roles_begin values n few new = record {
   few = let e = length-map-range_with_len {X = List Turn} (λ t. []) 0 n in omega arith;
   each = λ m q at. let none = new m q at in record {

@@ -39,12 +39,12 @@ pub record IsRole (m : ℕ) (q : RwState) (shares : List (List Turn)) : Type 0 w
 
 -- the rule of each mutex, of as many threads as a package may have
 pub record AreRoles (values : List RwState) (shares : List (List Turn)) : Type 0 where
-  pub few : length shares ≤ 64
+  pub few : length shares ≤ 256
   pub each : (m : ℕ) (q : RwState) → get_elem? values m ≡ some q → IsRole m q shares
 
 -- what a holder knows of the state and of its own share
 pub record IsKnown (m : ℕ) (q : RwState) (t : ℕ) (s : List Turn) : Type 0 where
-  pub few : q.readers ≤ 64
+  pub few : q.readers ≤ 256
   pub reads : role_of s m ≡ Reading → (1 ≤ q.readers) × (q.writer ≡ None)
   pub writes : role_of s m ≡ Writing → (q.writer ≡ Some t) × (q.readers ≡ 0)
 

@@ -52,7 +52,7 @@ pub fn end_read<R: Wait>(rt: &R, p: &Package<RwUses>, me: &mut Thread<RwUses>, a
     requires role { (s : List Turn) × (me.old.share ≡ Some s) × (role_of s at.now.mutex.0 ≡ Reading) }
     ensures rest { AtRest p.now me.new }
     ensures same { IsSame me.old me.new }
-    ensures ran { (n : ℕ) × (1 ≤ n) × (n ≤ 64) × LeavesReaders n me.old.number at.now.mutex.0 at.now.changed.0 me.old me.new }
+    ensures ran { (n : ℕ) × (1 ≤ n) × (n ≤ 256) × LeavesReaders n me.old.number at.now.mutex.0 at.now.changed.0 me.old me.new }
     ensures held { me.new.held ≡ me.old.held }
     ensures role { (s : List Turn) → me.old.share ≡ Some s → me.new.share ≡ Some (turn at.now.mutex.0 Idle ∷ s) }
     ensures idle { (n : ℕ) (s : List Turn) → IsIdle p.now n s me.old → IsIdle p.now n (turn at.now.mutex.0 Idle ∷ s) me.new }

@@ -1,4 +1,5 @@
 use Rattle.std.proofs.Common.{◌+◌, ◌*◌, [], ap, sym, subst, ◌∙◌, arith, rules, length}
+use Rattle.larch_actions.specs.declared.event.Layout.{Layout}
 use mathlib.Core.Option.{some-injective, some-ne-none}
 use lib.ListN.{get_elem?}
 use Rattle.nub_rule.proofs.Each.{at_below}
@@ -21,6 +22,9 @@ at_once-requires-after_bounds g c κs within = λ n t at.
 
 pub close_package-requires-clause-count : goal.close_package-requires-clause-count
 close_package-requires-clause-count g c κs = c.in-Ok.ensures.threads ∙ (c.first_to_begin.ensures.count ∙ c.in_ok-shared.ensures.count ∙ sym (ap (λ l. l.threads) c.in_ok-shared.ensures.package.0))
+
+pub close_package-requires-clause-version : goal.close_package-requires-clause-version
+close_package-requires-clause-version g c κs = ap (λ (l : Layout). l.version) (c.in_ok-shared.ensures.package.0 ∙ c.of-layout.ensures)
 
 pub close_package-requires-clause-threads : goal.close_package-requires-clause-threads
 close_package-requires-clause-threads g c κs = λ n t at.

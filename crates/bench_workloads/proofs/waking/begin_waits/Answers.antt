@@ -1,9 +1,8 @@
-use Rattle.std.proofs.Common.{◌≡◌, ◌+◌, [], arith, ap, lit<, refl, subst}
-use Rattle.nub.specs.Idle.{IsIdle}
+use Rattle.std.proofs.Common.{◌≡◌, ◌+◌, [], arith, ap, lit<, refl}
 use Rattle.nub.proofs.Users.{idle_first}
 use Rattle.nub_rule.specs.Plays.{acquire_event, event, release_event, signal_action}
 use Rattle.bench_workloads.specs.Waking.{raises}
-use Rattle.bench_workloads.proofs.Inside.{ended_inside, got_inside, inside_grows, one_more_inside, still_inside}
+use Rattle.bench_workloads.proofs.Inside.{ended_inside, may_inside, one_more_inside, still_inside, took_inside}
 use Rattle.bench_workloads.proofs.Raises.{raises-added}
 use Rattle.bench_workloads.proofs.waking.begin_waits.Goals as goal
 
@@ -19,27 +18,27 @@ loop-i-init g c =
     let none : raises c.args.me.mine ≡ 0 = ap raises c.requires.first.mine in
     let more = raises-added [] (acquire_event n 0) c.args.me c.acquire-value.new.me got.event in
     record {
-      inside = got_inside p n c.acquire-value.result c.args.me c.acquire-value.new.me idle got.rest got.same got.holds got.held got.share (got.fits tt [] idle.world idle.share);
+      inside = took_inside p n c.acquire-value.result 0 [] c.acquire-value.new.me (got.holding n [] idle) refl (omega arith);
       alerted = refl;
       raised = omega arith;
     }
 
 pub signal-requires-clause-rest : goal.signal-requires-clause-rest
-signal-requires-clause-rest g c κs within = c.loop-i.invariant.inside.rest
+signal-requires-clause-rest g c κs within = c.loop-i.invariant.inside.holding.rest
 
 pub wait_for_alert-value-requires-clause-inside : goal.wait_for_alert-value-requires-clause-inside
 wait_for_alert-value-requires-clause-inside g c =
     let p = c.args.shared.now in
-    let n = c.acquire-value.new.me.number in
+    let n = c.args.me.number in
     let loop = c.loop-i-test.true in
     let woken = c.signal.ensures in
     let more = one_more_inside p n c.loop-i.value c.loop-i._i c.loop-i.me c.loop-i.invariant.inside (omega arith) in
-    (n, c.loop-i._i + 1, still_inside p n (c.loop-i.value + 1) (c.loop-i._i + 1) c.loop-i.me c.signal.new.me more woken.rest woken.same woken.held woken.share)
+    (n, c.loop-i._i + 1, still_inside p n (c.loop-i.value + 1) (c.loop-i._i + 1) c.loop-i.me c.signal.new.me (woken.holding n 0) more)
 
 pub loop-i-preserved : goal.loop-i-preserved
 loop-i-preserved g c =
     let p = c.args.shared.now in
-    let n = c.acquire-value.new.me.number in
+    let n = c.args.me.number in
     let loop = c.loop-i-test.true in
     let was = c.loop-i.invariant in
     let woken = c.signal.ensures in
@@ -49,33 +48,25 @@ loop-i-preserved g c =
     let alerted = was.alerted in
     let more = one_more_inside p n c.loop-i.value c.loop-i._i c.loop-i.me was.inside (omega arith) in
     record {
-      inside = c.wait_for_alert-value.ensures.inside n (c.loop-i._i + 1) (still_inside p n (c.loop-i.value + 1) (c.loop-i._i + 1) c.loop-i.me c.signal.new.me more woken.rest woken.same woken.held woken.share);
+      inside = c.wait_for_alert-value.ensures.inside n (c.loop-i._i + 1) (still_inside p n (c.loop-i.value + 1) (c.loop-i._i + 1) c.loop-i.me c.signal.new.me (woken.holding n 0) more);
       alerted = omega arith;
       raised = omega arith;
     }
 
 pub release-requires-clause-rest : goal.release-requires-clause-rest
-release-requires-clause-rest g c κs within = c.loop-i.invariant.inside.rest
+release-requires-clause-rest g c κs within = c.loop-i.invariant.inside.holding.rest
 
 pub release-requires-clause-may : goal.release-requires-clause-may
-release-requires-clause-may g c κs within =
-    let was = c.loop-i.invariant.inside in
-    (was.got, was.holds, λ w s world share. inside_grows c.args.shared.now c.acquire-value.new.me.number c.loop-i.value c.loop-i._i c.loop-i.me was s share)
+release-requires-clause-may g c κs within = may_inside c.args.shared.now c.args.me.number c.loop-i.value c.loop-i._i c.loop-i.me c.loop-i.invariant.inside
 
 pub returns-clause-turned : goal.returns-clause-turned
 returns-clause-turned g c =
-    let p = c.args.shared.now in
+    let n = c.args.me.number in
     let was = c.loop-i.invariant.inside in
     let over = c.loop-i-test.false in
-    let ended = c.release.ensures in
-    let share = ended.share tt was.share was.got was.world was.is_share was.holds in
-    let turned = ended_inside p c.acquire-value.new.me.number c.loop-i.value c.loop-i._i c.loop-i.me c.release.new.me was ended.rest ended.same ended.held share in
+    let turned = ended_inside c.args.shared.now n c.loop-i.value c.loop-i._i c.loop-i.me c.release.new.me was (c.release.ensures.idle n was.share was.got was.holding) in
     let sum = turned.sum in
-    record {
-      share = turned.share;
-      idle = subst (λ n. IsIdle p n turned.share c.release.new.me) c.acquire-value.ensures.same.number turned.idle;
-      sum = omega arith;
-    }
+    record { share = turned.share; idle = turned.idle; sum = omega arith }
 
 pub returns-clause-alerted : goal.returns-clause-alerted
 returns-clause-alerted g c =

@@ -1,5 +1,5 @@
 use Rattle.std.proofs.Common.{refl, ◌∙◌}
-use Rattle.bench_workloads.proofs.Inside.{inside_grows, waited_inside}
+use Rattle.bench_workloads.proofs.Inside.{may_inside, waited_inside}
 use Rattle.bench_workloads.proofs.Raises.{raises-returned}
 use Rattle.bench_workloads.proofs.waking.wait_for_alert.Goals as goal
 
@@ -7,13 +7,12 @@ pub loop-init : goal.loop-init
 loop-init g c = record { raised = refl; number = refl; inside = λ n times i. i }
 
 pub alert_wait-outcome-requires-clause-rest : goal.alert_wait-outcome-requires-clause-rest
-alert_wait-outcome-requires-clause-rest g c κs within = let i = c.requires.inside in (c.loop.invariant.inside i.0 i.1 i.2).rest
+alert_wait-outcome-requires-clause-rest g c κs within = let i = c.requires.inside in (c.loop.invariant.inside i.0 i.1 i.2).holding.rest
 
 pub alert_wait-outcome-requires-clause-may : goal.alert_wait-outcome-requires-clause-may
 alert_wait-outcome-requires-clause-may g c κs within =
     let i = c.requires.inside in
-    let was = c.loop.invariant.inside i.0 i.1 i.2 in
-    (was.got, was.holds, λ w s world share. inside_grows c.args.shared.now i.0 c.loop.value i.1 c.loop.me was s share)
+    may_inside c.args.shared.now i.0 c.loop.value i.1 c.loop.me (c.loop.invariant.inside i.0 i.1 i.2)
 
 pub loop-preserved : goal.loop-preserved
 loop-preserved g c =
@@ -23,8 +22,7 @@ loop-preserved g c =
       number = w.same.number ∙ c.loop.invariant.number;
       inside = λ n times i.
           let was = c.loop.invariant.inside n times i in
-          let share = w.share tt was.share was.got was.world was.is_share was.holds in
-          waited_inside c.args.shared.now n c.loop.value c.alert_wait-outcome.result.1 times c.loop.me c.alert_wait-outcome.new.me was w.rest w.same w.holds w.held share (w.fits tt _ (w.same.world ∙ was.world) share);
+          waited_inside c.args.shared.now n c.loop.value c.alert_wait-outcome.result.1 times c.loop.me c.alert_wait-outcome.new.me was (w.holding n was.share was.got was.holding);
     }
 
 pub returns-in-Alerted-clause-number : goal.returns-in-Alerted-clause-number
@@ -34,5 +32,4 @@ pub returns-in-Alerted-clause-inside : goal.returns-in-Alerted-clause-inside
 returns-in-Alerted-clause-inside g c = λ n times i.
     let w = c.alert_wait-outcome.ensures in
     let was = c.loop.invariant.inside n times i in
-    let share = w.share tt was.share was.got was.world was.is_share was.holds in
-    waited_inside c.args.shared.now n c.loop.value c.alert_wait-outcome.result.1 times c.loop.me c.alert_wait-outcome.new.me was w.rest w.same w.holds w.held share (w.fits tt _ (w.same.world ∙ was.world) share)
+    waited_inside c.args.shared.now n c.loop.value c.alert_wait-outcome.result.1 times c.loop.me c.alert_wait-outcome.new.me was (w.holding n was.share was.got was.holding)

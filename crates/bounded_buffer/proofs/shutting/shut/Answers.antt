@@ -1,11 +1,13 @@
-use Rattle.std.proofs.Common.{◌≡◌, ℕ, [], ◌∷◌, Some, None, refl, sym, ap, subst, ◌∙◌, slice_set}
-use Rattle.std.proofs.lemmas.List.{set-set}
+use Rattle.std.proofs.Common.{◌≡◌, ℕ, [], ◌∷◌, Some, refl, sym, ap, subst, ◌∙◌}
 use Rattle.std.proofs.lemmas.Option.{same_Some}
 use lib.ListN.{get_elem?}
-use Rattle.atomic_table.proofs.Lists.{set_again}
 use Rattle.nub_rule.specs.Plays.{acquire_event, event, broadcast_action, release_event}
 use Rattle.nub.specs.Rest.{Adds}
 use Rattle.nub.proofs.Adding.{added, added_on, adds_on}
+use Rattle.nub.proofs.Holding.{held_back}
+use Rattle.nub.proofs.Users.{idle_again, same_on}
+use Rattle.bounded_buffer.proofs.shutting.shut.Given.{Over}
+use Rattle.bounded_buffer.proofs.shutting.shut.Goals.{After-release}
 use Rattle.bounded_buffer.proofs.shutting.shut.Goals as goal
 
 pub ring_of-ring-requires-after_bounds : goal.ring_of-ring-requires-after_bounds
@@ -30,11 +32,22 @@ release-requires-clause-may g c κs within =
           (g.met.B.BufferUse.shut_allowed w0 at c.requires.buffer n got.result y s c.ring_of-ring.result c.shut.new.self c.ring_of-ring.ensures c.from_ring.ensures c.shut.ensures).0,
     )
 
+held : (g : Over) (c : After-release g) → c.release.new.me.held ≡ c.args.me.now.held
+held g c =
+    held_back c.args.me.now c.broadcast-2.new.me c.release.new.me c.args.at.now.mutex.0 c.acquire-value.result c.requires.lacks (c.broadcast-2.ensures.held ∙ (c.broadcast.ensures.held ∙ c.acquire-value.ensures.held)) c.release.ensures.held
+
 pub returns-clause-held : goal.returns-clause-held
-returns-clause-held g c =
-    let m = c.args.at.now.mutex.0 in
-    let old = c.args.me.now in
-    c.release.ensures.held ∙ (ap (λ h. slice_set h m None) (c.broadcast-2.ensures.held ∙ (c.broadcast.ensures.held ∙ c.acquire-value.ensures.held)) ∙ (set-set old.held m (Some c.acquire-value.result) None ∙ set_again old.held m None c.requires.lacks))
+returns-clause-held g c = held g (goal.at.returns-clause-held g c).After-release
+
+pub returns-clause-idle : goal.returns-clause-idle
+returns-clause-idle g c = λ n s r i own.
+    let one = c.acquire-value.new.me in
+    let two = c.broadcast.new.me in
+    let three = c.broadcast-2.new.me in
+    let a = c.args.me.now in
+    let e = c.release.new.me in
+    idle_again c.args.p.now n s r a e i c.release.ensures.rest (same_on a three e (same_on a two three (same_on a one two c.acquire-value.ensures.same c.broadcast.ensures.same) c.broadcast-2.ensures.same) c.release.ensures.same)
+    (held g (goal.at.returns-clause-idle g c).After-release) own
 
 pub returns-clause-shut : goal.returns-clause-shut
 returns-clause-shut g c = λ s share.

@@ -1,12 +1,12 @@
 use Rattle.std.proofs.Common.{◌≡◌, ℕ, [], length, rules, arith, ap, sym, subst, ◌∙◌, lit≤}
+use Rattle.larch_actions.specs.declared.event.Layout.{Layout}
 use lib.ListN.{get_elem?}
 use mathlib.Core.Option.{some}
 use Rattle.nub.specs.Ended.{IsDone}
 use Rattle.nub.proofs.Users.{first_own, idle_done}
 use Rattle.bounded_buffer.proofs.Opening.{rings_begin}
 use Rattle.pipeline.specs.declared.stages.Came.{Came}
-use Rattle.pipeline.specs.Stages.{IsStage, HasEnded}
-use Rattle.pipeline.specs.Tallies.{HasBuffers, Worker}
+use Rattle.pipeline.specs.Stages.{HasBuffers, IsStage, HasEnded, Worker}
 use Rattle.pipeline.proofs.Passing.{Closes, closes, both_new}
 use Rattle.pipeline.proofs.line.run.Goals as goal
 
@@ -21,11 +21,14 @@ at_once-requires-after_bounds g c κs within = λ n t at.
 pub close_package-requires-clause-count : goal.close_package-requires-clause-count
 close_package-requires-clause-count g c κs = c.in_ok-threads.ensures.threads ∙ (c.in_ok-p.ensures.count ∙ sym (ap (λ l. l.threads) c.in_ok-p.ensures.package.0))
 
+pub close_package-requires-clause-version : goal.close_package-requires-clause-version
+close_package-requires-clause-version g c κs = ap (λ (l : Layout). l.version) (c.in_ok-p.ensures.package.0 ∙ c.of-layout.ensures)
+
 pub close_package-requires-clause-threads : goal.close_package-requires-clause-threads
 close_package-requires-clause-threads g c κs = λ n t at.
     let back = c.in_ok-threads.ensures.each n t at in
     let own : HasEnded (IsStage c.args.count back.left back.was.number) c.in_ok-p.p back.was.number t = (let goes = back.goes in search rules) in
-    subst (λ k. IsDone c.in_ok-p.p k t) (c.in_ok-p.ensures.threads n back.was back.is_was).number (idle_done c.in_ok-p.p back.was.number own.done.share t own.done.idle)
+    subst (λ k. IsDone c.in_ok-p.p k t) (c.in_ok-p.ensures.threads n back.was back.is_was).number (idle_done c.in_ok-p.p back.was.number own.used.share t own.used.idle)
 
 pub returns : goal.returns
 returns g c =

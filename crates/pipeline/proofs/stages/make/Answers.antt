@@ -1,8 +1,10 @@
-use Rattle.std.proofs.Common.{◌≡◌, ◌+◌, ℕ, false, true, ◌∷◌, [], ◌++◌, rules, arith, refl, sym, ap, subst, ◌∙◌, inl, inr}
+use Rattle.std.proofs.Common.{◌≡◌, ◌+◌, ℕ, true, List, ◌∷◌, [], ◌++◌, arith, refl, sym, ap, ◌∙◌, inl, inr}
 use Rattle.std.specs.List.{range_with_len}
 use Rattle.std.proofs.lemmas.List.{map-id}
 use Rattle.std.proofs.lemmas.List.FromFn.{map-range_with_len_more}
-use Rattle.pipeline.specs.Tallies.{Tallies, HasDone, nothing, on, saw_shut, shuts}
+use Rattle.nub.proofs.Users.{idle_first}
+use Rattle.bounded_buffer.specs.Parts.{Used, unused}
+use Rattle.bounded_buffer.proofs.Using.{plain_named, used_first}
 use Rattle.pipeline.specs.Stages.{numbers}
 use Rattle.pipeline.proofs.stages.make.Goals as goal
 
@@ -11,32 +13,61 @@ more_numbers i =
     let all = map-range_with_len_more (λ (k : ℕ). k) 0 i i (omega arith) in
     sym (sym (map-id (range_with_len 0 (i + 1))) ∙ all ∙ ap (λ l. l ++ i ∷ []) (map-id (range_with_len 0 i)))
 
-abbrev made_so_far : ℕ → Tallies
-made_so_far i = record { first = record nothing { puts = numbers i }; second = nothing }
+abbrev so_far : List (ℕ × ℕ) → List (Used ℕ)
+so_far puts = record unused { puts = puts } ∷ unused ∷ []
 
-pub returns-then-not-put_in : goal.returns-then-not-put_in
-returns-then-not-put_in g c =
-    let said : c.put_in.result ≡ false = first_of (search rules, cc, grind arith) in
+pub loop-i-init : goal.loop-i-init
+loop-i-init g c = ([], used_first c.args.p.now c.args.me.number 2 c.args.me (idle_first c.args.p.now (λ w t. []) c.args.me.number c.args.me c.requires.first), refl)
+
+pub put_anyway-requires-clause-named : goal.put_anyway-requires-clause-named
+put_anyway-requires-clause-named g c κs within =
+    let l = c.requires.named in
+    let at = c.plain_buffer-numbers in
+    let mutexes = l.mutexes in
+    let conditions = l.conditions in
+    (plain_named c.args.p.now.layout at.result 0 at.ensures.plain at.ensures.mutex (omega arith) (omega arith), at.ensures.plain)
+
+pub put_anyway-requires-clause-used : goal.put_anyway-requires-clause-used
+put_anyway-requires-clause-used g c κs within = let inv = c.loop-i.invariant in (c.args.me.number, so_far inv.0, inv.1)
+
+pub returns-in_default : goal.returns-in_default
+returns-in_default g c =
+    let inv = c.loop-i.invariant in
     record {
-      tallies = on 0 saw_shut (made_so_far c.loop-i.i);
-      done = c.put_in.ensures.refused said c.args.me.number (made_so_far c.loop-i.i) c.loop-i.invariant;
-      stage = record { takes = refl; puts = refl; others = refl; opened = refl; ends = inr (refl, refl) };
+      first = record unused { puts = inv.0; seen_shut = true };
+      second = unused;
+      used = c.in_default.ensures.refused.1 c.args.me.number 0 (so_far inv.0) c.plain_buffer-numbers.ensures.mutex inv.1;
+      stage = record { takes = refl; others = refl; ends = inr (refl, refl) };
     }
 
 pub loop-i-preserved : goal.loop-i-preserved
 loop-i-preserved g c =
-    let said : c.put_in.result ≡ true = first_of (search rules, cc, grind arith) in
-    let i = c.loop-i.i in
-    subst (λ l. HasDone c.args.p.now c.args.me.number (record { first = record nothing { puts = l }; second = nothing }) c.put_in.new.me) (more_numbers i)
-    (c.put_in.ensures.put said c.args.me.number (made_so_far i) c.loop-i.invariant)
+    let inv = c.loop-i.invariant in
+    let i = c.loop-i.i in (
+      (c.in-Ok.field-0, i) ∷ inv.0,
+      c.in-Ok.ensures.put c.args.me.number 0 (so_far inv.0) c.plain_buffer-numbers.ensures.mutex inv.1,
+      ap (λ l. l ++ i ∷ []) inv.2 ∙ more_numbers i,
+    )
+
+pub shut_plain-requires-clause-named : goal.shut_plain-requires-clause-named
+shut_plain-requires-clause-named g c κs within =
+    let l = c.requires.named in
+    let at = c.plain_buffer-numbers in
+    let mutexes = l.mutexes in
+    let conditions = l.conditions in
+    (plain_named c.args.p.now.layout at.result 0 at.ensures.plain at.ensures.mutex (omega arith) (omega arith), at.ensures.plain)
+
+pub shut_plain-requires-clause-used : goal.shut_plain-requires-clause-used
+shut_plain-requires-clause-used g c κs within = let inv = c.loop-i.invariant in (c.args.me.number, so_far inv.0, inv.1)
 
 pub returns : goal.returns
 returns g c =
-    let i = c.loop-i.i in
+    let inv = c.loop-i.invariant in
     let over = c.loop-i-test.false in
-    let same : i ≡ c.args.count = omega arith in
+    let same : c.loop-i.i ≡ c.args.count = omega arith in
     record {
-      tallies = on 0 shuts (made_so_far i);
-      done = c.shut_off.ensures c.args.me.number (made_so_far i) c.loop-i.invariant;
-      stage = record { takes = refl; puts = refl; others = refl; opened = refl; ends = inl (ap numbers same, refl) };
+      first = record unused { puts = inv.0; shut = true };
+      second = unused;
+      used = c.shut_plain.ensures c.args.me.number 0 (so_far inv.0) c.plain_buffer-numbers.ensures.mutex inv.1;
+      stage = record { takes = refl; others = refl; ends = inl (inv.2 ∙ ap numbers same, refl) };
     }

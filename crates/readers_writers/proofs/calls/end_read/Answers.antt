@@ -12,7 +12,7 @@ use Rattle.readers_writers.proofs.calls.end_read.Goals.{After-acquire-state, Aft
 use Rattle.readers_writers.proofs.calls.end_read.Goals as goal
 
 -- the thread is one of those that read
-known : (g : Over) (c : After-acquire-state g) → (1 ≤ c.acquire-state.result.readers) × (c.acquire-state.result.readers ≤ 64)
+known : (g : Over) (c : After-acquire-state g) → (1 ≤ c.acquire-state.result.readers) × (c.acquire-state.result.readers ≤ 256)
 known g c =
     let role = c.requires.role in
     let fits = c.acquire-state.ensures.fits c.args.p.now.world role.0 c.requires.world role.1 in

@@ -1,0 +1,85 @@
+//! Calls at plain buffers of a thread that keeps count of what it has done, which no alert ends.
+ghost use Rattle.std.specs.Prelude.{◌≡◌, ℕ, List, IfErr, IfOk, OnErr};
+ghost use Rattle.bounded_buffer.specs.declared.did.Did.TheVariants.{Put, SawEnd, SawShut, Shut, Took};
+ghost use Rattle.bounded_buffer.specs.At.{IsNamed};
+ghost use Rattle.bounded_buffer.specs.Parts.{Used};
+ghost use Rattle.bounded_buffer.specs.Plain.{IsPlain};
+ghost use Rattle.bounded_buffer.specs.Using.{HasUsed, did_at};
+
+use crate::at::BufferAt;
+use crate::ends::{PutEnd, TakeEnd};
+use crate::plain::PlainBuffers;
+use crate::putting::put;
+use crate::shutting::shut;
+use crate::taking::take;
+use nub_rule::{Package, Thread};
+use std::sync::Wait;
+
+/// The ring was shut and is empty.
+#[derive(Clone, Copy, Debug, PartialEq, Eq)]
+pub struct Over;
+
+/// Puts the item as `put` does, and anew where an alert ended its wait. Where the ring is shut, the item comes back.
+pub fn put_anyway<T: Send + Drop, R: Wait>(
+    rt: &R,
+    p: &Package<PlainBuffers<T>>,
+    me: &mut Thread<PlainBuffers<T>>,
+    at: &BufferAt,
+    item: T,
+) -> Result<u64, T>
+    requires named { IsNamed p.now.layout at.now × IsPlain at.now }
+    requires used { (n : ℕ) × (us : List (Used T)) × HasUsed p.now n us me.old }
+    ensures put { IfOk result (λ k. (n m : ℕ) (us : List (Used T)) → at.now.mutex.0 ≡ m → HasUsed p.now n us me.old
+        → HasUsed p.now n (did_at m (Put k item) us) me.new) }
+    ensures refused { IfErr result (λ back. (back ≡ item) × ((n m : ℕ) (us : List (Used T)) → at.now.mutex.0 ≡ m → HasUsed p.now n us me.old
+        → HasUsed p.now n (did_at m SawShut us) me.new)) }
+{
+    let mut item = item;
+    for _ in rt.forever() {
+        match put(rt, p, me, at, item) {
+            Ok(number) => return Ok(number),
+            Err((PutEnd::Closed, back)) => return Err(back),
+            Err((PutEnd::Alerted, back)) => item = back,
+        }
+    }
+    unreachable!()
+}
+
+/// Takes the first item and its number as `take` does, and anew where an alert ended its wait.
+pub fn take_anyway<T: Send + Drop, R: Wait>(
+    rt: &R,
+    p: &Package<PlainBuffers<T>>,
+    me: &mut Thread<PlainBuffers<T>>,
+    at: &BufferAt,
+) -> Result<(u64, T), Over>
+    requires named { IsNamed p.now.layout at.now × IsPlain at.now }
+    requires used { (n : ℕ) × (us : List (Used T)) × HasUsed p.now n us me.old }
+    ensures took { IfOk result (λ r. (n m : ℕ) (us : List (Used T)) → at.now.mutex.0 ≡ m → HasUsed p.now n us me.old
+        → HasUsed p.now n (did_at m (Took r.0 r.1) us) me.new) }
+    ensures over { OnErr result ((n m : ℕ) (us : List (Used T)) → at.now.mutex.0 ≡ m → HasUsed p.now n us me.old
+        → HasUsed p.now n (did_at m SawEnd us) me.new) }
+{
+    for _ in rt.forever() {
+        match take(rt, p, me, at) {
+            Ok(taken) => return Ok(taken),
+            Err(TakeEnd::ClosedEmpty) => return Err(Over),
+            Err(TakeEnd::Alerted) => {}
+        }
+    }
+    unreachable!()
+}
+
+/// Shuts the ring as `shut` does.
+pub fn shut_plain<T: Send + Drop, R: Wait>(
+    rt: &R,
+    p: &Package<PlainBuffers<T>>,
+    me: &mut Thread<PlainBuffers<T>>,
+    at: &BufferAt,
+)
+    requires named { IsNamed p.now.layout at.now × IsPlain at.now }
+    requires used { (n : ℕ) × (us : List (Used T)) × HasUsed p.now n us me.old }
+    ensures { (n m : ℕ) (us : List (Used T)) → at.now.mutex.0 ≡ m → HasUsed p.now n us me.old
+        → HasUsed p.now n (did_at m Shut us) me.new }
+{
+    shut(rt, p, me, at);
+}
