@@ -9,6 +9,8 @@ mod buffers;
 #[cfg(test)]
 mod calls;
 #[cfg(test)]
+mod coming;
+#[cfg(test)]
 mod conditions;
 #[cfg(test)]
 mod keeping;

@@ -1,4 +1,5 @@
 //! Tests of readers and writers.
+use crate::coming::run_coming;
 use crate::seen::has_numbers;
 use crate::turns::{Pair, run_four, run_two};
 use nub::Closed;
@@ -20,6 +21,16 @@ fn is_free(rt: &impl Abort, closed: &Closed<RwUses>) {
 #[test]
 fn two_threads(rt: HostRuntime) -> Result<(), Fail> {
     let closed = run_two(&rt, rt.alloc())?;
+    is_free(&rt, &closed);
+    drop(closed);
+    Ok(())
+}
+
+// A writer comes while another thread reads, 200 times, so the reader's end has to wake it: it waits, and nobody else would.
+#[test]
+fn a_reader_that_ends_wakes_the_writer(rt: HostRuntime) -> Result<(), Fail> {
+    let note = AtomicU64::new(0);
+    let closed = run_coming(&rt, rt.alloc(), 200, &note)?;
     is_free(&rt, &closed);
     drop(closed);
     Ok(())

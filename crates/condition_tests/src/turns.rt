@@ -1,5 +1,6 @@
 //! What threads of a test of readers and writers do, and packages whose threads do it.
 ghost use Rattle.std.specs.Prelude.{◌≤◌, ◌≡◌, ◌∷◌, [], IfOk, length};
+ghost use Rattle.larch_actions.specs.declared.event.Version.TheVariants.{One};
 ghost use Rattle.nub.specs.Ended.{IsDone};
 ghost use Rattle.nub_rule.specs.Items.{Each};
 ghost use Rattle.readers_writers.specs.declared.role.Role.TheVariants.{Idle};
@@ -35,12 +36,13 @@ fn one_state(alloc: Global) -> Result<Vec<RwState>, AllocError>
 }
 
 /// A package of so many threads with one state, and the threads.
-fn open_state(
+pub fn open_state(
     alloc: Global,
     threads: u32,
 ) -> Result<(Package<RwUses>, Vec<Thread<RwUses>>), AllocError>
     requires { (1 ≤ threads) × (threads ≤ 64) }
     ensures named { IfOk result (λ o. HasState o.0.layout) }
+    ensures version { IfOk result (λ o. o.0.layout.version ≡ One) }
     ensures count { IfOk result (λ o. (o.0.layout.threads ≡ threads) × (length o.1.items ≡ threads)) }
     ensures threads { IfOk result (λ o. Each (λ n t. IsActing o.0 n Idle t) o.1.items) }
 {

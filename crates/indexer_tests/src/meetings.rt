@@ -56,7 +56,7 @@ impl Gate for Meeting {
 fn two_parsers_meet_and_the_closing_walk_is_asked_nothing(rt: HostRuntime) -> Result<(), Fail> {
     let tree = project(rt.alloc())?;
     let meeting = Meeting::new();
-    let plan = plan_of(1, 2, 1);
+    let plan = plan_of(2, 2, 1);
     let paths = project_paths();
     let seen = seen_of(
         &rt,

@@ -1,12 +1,15 @@
 //! Waiting for a value, adding 1 to it, and waking who waits for the next one.
-ghost use Rattle.std.specs.Prelude.{[], ◌≡◌, ℕ, ◌<◌, ◌+◌, List, Some, true};
+ghost use Rattle.std.specs.Prelude.{◌≡◌, ℕ, ◌<◌, ◌+◌, ◌∷◌, ◌++◌, List, Some, true};
 ghost use Rattle.larch_actions.specs.declared.event.CondId.{CondId};
 ghost use Rattle.nub.specs.Holding.{IsHolding};
 ghost use Rattle.nub.specs.Idle.{IsIdle};
-ghost use Rattle.nub_rule.specs.Plays.{broadcast_action, event, signal_action};
-ghost use Rattle.nub.specs.Rest.{Adds, AtRest};
+ghost use Rattle.nub_rule.specs.Plays.{acquire_event, release_event};
+ghost use Rattle.nub.specs.Rest.{Added as Told, AtRest};
+ghost use Rattle.monitor.specs.Waits.{waits};
+ghost use Rattle.sum_turns.specs.Turns.{Wakes, ends_turn};
+ghost use Rattle.larch_actions.specs.declared.event.Event.{Event};
 ghost use Rattle.sum_turns.specs.declared.turns.Wake.{Wake};
-ghost use Rattle.sum_turns.specs.declared.turns.Wake.TheVariants.{Nobody, One, All};
+ghost use Rattle.sum_turns.specs.declared.turns.Wake.TheVariants.{One, All};
 ghost use Rattle.sum_uses.specs.declared.added.Added.{Added};
 ghost use Rattle.sum_uses.specs.Sums.{GrowsAlike, added, grown};
 
@@ -40,9 +43,7 @@ fn wake_up<R: Wait>(rt: &R, p: &Package<SumUses>, me: &mut Thread<SumUses>, whom
     requires rest { AtRest p.now me.old }
     requires one { (c : CondId) → whom ≡ One c → c.0 < p.now.layout.conditions }
     requires all { (c : CondId) → whom ≡ All c → c.0 < p.now.layout.conditions }
-    ensures nobody { whom ≡ Nobody → me.new ≡ me.old }
-    ensures signal { (c : CondId) → whom ≡ One c → (left : List ℕ) × Adds [] (event me.old.number (signal_action c.0 left)) me.old me.new }
-    ensures broadcast { (c : CondId) → whom ≡ All c → Adds [] (event me.old.number (broadcast_action c.0 [])) me.old me.new }
+    ensures woke { (es : List Event) × Wakes whom me.old.number es × Told es me.old me.new }
     ensures rest { AtRest p.now me.new }
     ensures idle { (n : ℕ) (s : List Added) → IsIdle p.now n s me.old → IsIdle p.now n s me.new }
     ensures holding { (n m : ℕ) (s : List Added) (x : ℕ) → IsHolding p.now n m s x me.old → IsHolding p.now n m s x me.new }
@@ -69,6 +70,8 @@ fn end_turn<R: Wait>(
     requires all { (c : CondId) → whom ≡ All c → c.0 < p.now.layout.conditions }
     requires holding { (n : ℕ) × (s : List Added) × (x : ℕ) × IsHolding p.now n turn.mutex.0 s x me.old
         × GrowsAlike turn.mutex.0 x value s (grown turn.mutex.0 x value s) }
+    ensures woke { (es : List Event) × Wakes whom me.old.number es
+        × Told (ends_turn turn.after (release_event me.old.number turn.mutex.0) es) me.old me.new }
     ensures idle { (n : ℕ) (s : List Added) (x : ℕ) → IsHolding p.now n turn.mutex.0 s x me.old
         → IsIdle p.now n (grown turn.mutex.0 x value s) me.new }
 {
@@ -101,7 +104,10 @@ pub fn take_turn<F: Fn(u64) -> bool, G: Fn(u64) -> Wake, R: Wait>(
     requires all { (x : ℕ) (c : CondId) → G.post part.now x (All c) → c.0 < p.now.layout.conditions }
     requires few { (s : List Added) → me.old.share ≡ Some s → added turn.mutex.0 s < 100000000000 }
     ensures goes { F.post may_go.now result true }
-    ensures part { (whom : Wake) × G.post part.now result whom }
+    ensures part { (whom : Wake) × G.post part.now result whom
+        × ((k : ℕ) × (es : List Event) × Wakes whom me.old.number es × Told (acquire_event me.old.number turn.mutex.0
+        ∷ (waits me.old.number turn.mutex.0 turn.cond.0 k ++ ends_turn turn.after (release_event me.old.number turn.mutex.0) es))
+        me.old me.new) }
     ensures idle { (n : ℕ) (s : List Added) → IsIdle p.now n s me.old → IsIdle p.now n (grown turn.mutex.0 result (result + 1) s) me.new }
 {
     let got = acquire(rt, p, me, turn.mutex);

@@ -1,4 +1,5 @@
 use Rattle.std.proofs.Common.{[], ◌<◌, ◌∙◌, arith, ap, rules, sym, subst, lit≤}
+use Rattle.larch_actions.specs.declared.event.Layout.{Layout}
 use Rattle.nub.specs.Ended.{IsDone}
 use Rattle.nub.proofs.Users.{from_at, idle_own}
 use Rattle.bounded_buffer.specs.Rings.{fresh}
@@ -24,6 +25,9 @@ at_once-requires-after_bounds g c κs within = λ n t at.
       record { share = []; idle = idle_own c.in_ok-pkg.pkg (λ w t. []) n t (c.in_ok-pkg.ensures.threads n t at) },
       omega arith,
     )
+
+pub close_package-requires-clause-version : goal.close_package-requires-clause-version
+close_package-requires-clause-version g c κs = ap (λ (l : Layout). l.version) (c.in_ok-pkg.ensures.package.0 ∙ c.of-layout.ensures)
 
 pub close_package-requires-clause-threads : goal.close_package-requires-clause-threads
 close_package-requires-clause-threads g c κs = λ n t at.

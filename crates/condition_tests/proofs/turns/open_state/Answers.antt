@@ -1,4 +1,5 @@
-use Rattle.std.proofs.Common.{None, ap, arith}
+use Rattle.std.proofs.Common.{None, ap, arith, ◌∙◌}
+use Rattle.larch_actions.specs.declared.event.Layout.{Layout}
 use Rattle.readers_writers.specs.declared.state.RwState.{RwState}
 use Rattle.readers_writers.proofs.Opening.{roles_begin}
 use Rattle.condition_tests.proofs.Freeing.{only_value}
@@ -15,3 +16,6 @@ open_package-requires-clause-holds c κs =
 
 pub returns-clause-threads : goal.returns-clause-threads
 returns-clause-threads c = λ n t at. acting_first c.in_ok-pkg.pkg n t (c.in_ok-pkg.ensures.threads n t at)
+
+pub returns-clause-version : goal.returns-clause-version
+returns-clause-version c = ap (λ (l : Layout). l.version) (c.in_ok-pkg.ensures.package.0 ∙ c.of-layout.ensures)

@@ -1,6 +1,10 @@
+use Rattle.std.proofs.Common.{ap}
 use Rattle.nub.specs.Ended.{IsDone}
 use Rattle.condition_tests.proofs.Playing.{each_of_two}
 use Rattle.condition_tests.proofs.turns.run_two.Goals as goal
+
+pub close_package-requires-clause-version : goal.close_package-requires-clause-version
+close_package-requires-clause-version g c κs = c.in_ok-pkg.ensures.version
 
 pub close_package-requires-clause-threads : goal.close_package-requires-clause-threads
 close_package-requires-clause-threads g c κs =
