@@ -2,14 +2,11 @@
 use Rattle.std.proofs.Common.{◌≡◌, ◌<◌, ℕ, List, [], ◌∷◌, length, sum, arith, sym, ap, ◌∙◌, refl, true}
 use mathlib.Core.Option.{some}
 use lib.ListN.{get_elem?}
-use Rattle.nub_rule.proofs.Each.{at_below}
-use Rattle.nub_rule.specs.Ends.{firsts}
-use Rattle.nub_rule.specs.Items.{Each}
-use Rattle.nub_rule.specs.Known.{Known}
-use Rattle.nub.specs.Ended.{KeepsLocks}
-use Rattle.nub.proofs.Guards.{one_begins, the_value}
-use Rattle.nub.proofs.Totals.{at_firsts, sum_said, total_firsts}
-use Rattle.nub.proofs.Users.{all_told, share_count}
+use Rattle.firefly_threads.specs.Laws.{all_told, at_below, at_firsts, one_begins, share_count, sum_said, the_value, total_firsts}
+use Rattle.firefly_threads.specs.Ends.{firsts}
+use Rattle.firefly_threads.specs.Items.{Each}
+use Rattle.firefly_threads.specs.Known.{Known}
+use Rattle.firefly_threads.specs.Ended.{KeepsLocks}
 use Rattle.ticket_sale.specs.declared.uses.Sold.{Sold}
 use Rattle.ticket_sale.specs.Sales.{none_sold, AreSold, IsSaid, IsSold}
 

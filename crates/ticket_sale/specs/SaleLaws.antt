@@ -3,9 +3,7 @@ use Rattle.std.specs.Prelude.{◌≡◌, ◌≢◌, ℕ, List, slice_set}
 use Rattle.std.proofs.Common.{arith, ap, ◌∙◌, ⊎_elim}
 use mathlib.Core.Option.{some}
 use lib.ListN.{get_elem?}
-use Rattle.atomic_table.proofs.Lists.{at_set}
-use Rattle.nub.proofs.Guards.{one_after}
-use Rattle.nub.proofs.Totals.{own_part, part_set}
+use Rattle.firefly_threads.specs.Laws.{at_set, one_after, own_part, part_set}
 use Rattle.ticket_sale.specs.declared.uses.Sold.{Sold}
 use Rattle.ticket_sale.specs.Sales.{AreSold, IsPart, IsSale, IsSold}
 

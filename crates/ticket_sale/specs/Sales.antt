@@ -2,9 +2,9 @@
 use Rattle.std.specs.Prelude.{◌≡◌, ℕ, ◌+◌, ◌≤◌, true, false, List, Some}
 use mathlib.Core.Option.{some}
 use lib.ListN.{get_elem?}
-use Rattle.nub_rule.specs.Known.{Known}
-use Rattle.nub.specs.Guarded.{OneValue}
-use Rattle.nub.specs.Totals.{total}
+use Rattle.firefly_threads.specs.Known.{Known}
+use Rattle.firefly_threads.specs.Guarded.{OneValue}
+use Rattle.firefly_threads.specs.Totals.{total}
 use Rattle.ticket_sale.specs.declared.uses.Sold.{Sold}
 
 -- of who has sold nothing yet

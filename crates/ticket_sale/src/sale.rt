@@ -1,16 +1,16 @@
 //! The sale.
 ghost use Rattle.std.specs.Prelude.{◌≡◌, ◌+◌, ◌<◌, ◌≤◌, ◌^◌, ◌∷◌, [], length, sum, IfOk, true, false};
-ghost use Rattle.nub_rule.specs.Items.{Each};
-ghost use Rattle.nub.specs.Ended.{IsDone, IsFirst};
+ghost use Rattle.firefly_threads.specs.Items.{Each};
+ghost use Rattle.firefly_threads.specs.Ended.{IsDone, IsFirst};
 ghost use Rattle.ticket_sale.specs.Sales.{HasSold, IsSaid, none_sold};
 
 use crate::uses::{Sale, Tickets};
-use nub::{Closed, Layout, MutexId, Package, Thread, close_package, open_package};
-use package_crew::at_once;
+use firefly_threads::{
+    Closed, Layout, MutexId, Package, Thread, at_once, close_package, locked, open_package,
+};
 use std::alloc::{AllocError, Global};
 use std::sync::Wait;
 use std::thread::Threads;
-use user_mutex::locked;
 
 /// Takes one ticket, if any is left.
 fn take_one(left: &mut u32) -> bool

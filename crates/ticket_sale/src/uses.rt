@@ -3,7 +3,7 @@ ghost use Rattle.std.specs.Prelude.{◌+◌, ◌-◌, eqb};
 ghost use Rattle.ticket_sale.specs.SaleLaws.{fits_part, after_sale};
 ghost use Rattle.ticket_sale.specs.Sales.{AreSold, IsPart, IsSale, none_sold};
 
-use nub::{Change, Uses};
+use firefly_threads::{Change, Uses};
 
 /// What a thread has sold, and whether it has seen none left.
 pub struct Sold {

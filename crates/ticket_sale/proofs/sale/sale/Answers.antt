@@ -1,8 +1,8 @@
 use Rattle.std.proofs.Common.{◌≡◌, [], ◌∷◌, sum, arith, rules, ap, sym, subst, ◌∙◌}
 use lib.ListN.{get_elem?}
-use Rattle.nub_rule.specs.Items.{Each}
-use Rattle.nub.specs.Ended.{IsDone, KeepsLocks}
-use Rattle.nub.proofs.Users.{first_own}
+use Rattle.firefly_threads.specs.Items.{Each}
+use Rattle.firefly_threads.specs.Ended.{IsDone, KeepsLocks}
+use Rattle.firefly_threads.specs.Laws.{first_own}
 use Rattle.ticket_sale.specs.Sales.{none_sold, AreSold, IsSaid, HasSold}
 use Rattle.ticket_sale.proofs.Selling.{opens, all_sold}
 use Rattle.ticket_sale.proofs.sale.sale.Given.{Over}
@@ -19,6 +19,9 @@ at_once-requires-after_bounds g c κs within = λ n t at.
 
 pub close_package-requires-clause-count : goal.close_package-requires-clause-count
 close_package-requires-clause-count g c κs = c.in_ok-threads.ensures.threads ∙ (c.in_ok-p.ensures.count ∙ sym (ap (λ l. l.threads) c.in_ok-p.ensures.package.0))
+
+pub close_package-requires-clause-version : goal.close_package-requires-clause-version
+close_package-requires-clause-version g c κs = ap (λ l. l.version) (c.in_ok-p.ensures.package.0 ∙ c.of-layout.ensures)
 
 pub close_package-requires-clause-threads : goal.close_package-requires-clause-threads
 close_package-requires-clause-threads g c κs = λ n t at.

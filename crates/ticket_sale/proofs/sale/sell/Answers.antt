@@ -1,5 +1,5 @@
 use Rattle.std.proofs.Common.{◌≡◌, ◌+◌, ◌-◌, rules, arith, ap, refl, eqb}
-use Rattle.nub.proofs.Users.{idle_first, idle_done}
+use Rattle.firefly_threads.specs.Laws.{idle_done, idle_first}
 use Rattle.ticket_sale.specs.Sales.{none_sold}
 use Rattle.ticket_sale.proofs.sale.sell.Goals as goal
 

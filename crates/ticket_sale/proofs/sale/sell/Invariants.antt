@@ -1,5 +1,5 @@
 use Rattle.std.proofs.Common.{◌≡◌}
-use Rattle.nub.specs.Idle.{IsIdle}
+use Rattle.firefly_threads.specs.Idle.{IsIdle}
 use Rattle.ticket_sale.specs.declared.uses.Sold.{Sold}
 use Rattle.ticket_sale.proofs.sale.sell.Given as goal
 

@@ -1,0 +1,16 @@
+pub mod Laws
+pub use Rattle.alert_wait.specs.Outcomes
+pub use Rattle.condition.specs.Waits
+pub use Rattle.larch_actions.specs.Layout
+pub use Rattle.nub.specs.Ended
+pub use Rattle.nub.specs.Forks
+pub use Rattle.nub.specs.Guarded
+pub use Rattle.nub.specs.Holding
+pub use Rattle.nub.specs.Idle
+pub use Rattle.nub.specs.Rest
+pub use Rattle.nub.specs.Totals
+pub use Rattle.nub_rule.specs.Ends
+pub use Rattle.nub_rule.specs.Items
+pub use Rattle.nub_rule.specs.Known
+pub use Rattle.nub_rule.specs.Plays
+pub use Rattle.package_crew.specs.Crews

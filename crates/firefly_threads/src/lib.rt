@@ -1,0 +1,18 @@
+//! The package under one name, for programs over it.
+//!
+//! It passes on what a program calls and what its contracts and proofs name, and promises nothing of its own. Buffers, readers and writers,
+//! barriers and pools of jobs are crates beside it.
+#![tactic(auto)]
+
+pub use alert_wait::{Outcome, alert_p, alert_wait};
+pub use alerts::{alert, test_alert};
+pub use bin_semaphore::{p, v};
+pub use condition::{broadcast, signal, wait};
+pub use monitor::{alert_locked_when, alert_wait_until, locked_when, wait_until};
+pub use nub::{
+    Action, Change, Closed, CondId, Ended, Event, Layout, MutexId, NoChange, Package, SemId,
+    Thread, ThreadId, Unborn, Uses, Version, close_forked, close_package, end_thread, fork_thread,
+    join_thread, open_forked, open_package,
+};
+pub use package_crew::{Beside, NotRun, at_once, at_once_beside};
+pub use user_mutex::{acquire, locked, release};

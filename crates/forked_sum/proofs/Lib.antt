@@ -1,0 +1,3 @@
+mod Closing
+mod Counting
+mod Steps
