@@ -1,4 +1,5 @@
 use Rattle.std.proofs.Common.{[], arith, rules, ap, sym, subst, ◌∙◌}
+use Rattle.larch_actions.specs.declared.event.Layout.{Layout}
 use lib.ListN.{get_elem?}
 use Rattle.larch_actions.specs.Layout.{IsLawful}
 use Rattle.larch_actions.proofs.Names.{few_in_one}
@@ -20,6 +21,9 @@ at_once-requires-after_bounds g c κs within = λ n t at.
     let two = c.requires.named.0 in
     let more = c.requires.named.1 in
     (subst (λ l. IsLawful l) (sym layout) c.requires.lawful, omega arith, omega arith, idle_own c.in_ok-pkg.pkg (λ w t. []) n t (c.in_ok-pkg.ensures.threads n t at))
+
+pub close_package-requires-clause-version : goal.close_package-requires-clause-version
+close_package-requires-clause-version g c κs = ap (λ (l : Layout). l.version) c.in_ok-pkg.ensures.package.0 ∙ c.requires.version
 
 pub close_package-requires-clause-threads : goal.close_package-requires-clause-threads
 close_package-requires-clause-threads g c κs = λ n t at.

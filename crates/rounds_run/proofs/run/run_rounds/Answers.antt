@@ -18,6 +18,9 @@ open_package-requires-clause-holds g c κs =
     let few = c.requires.threads.1 in
     begins _ c.in_ok-cells.cells.items c.of-layout.result.threads c.places.ensures c.in_ok-cells.ensures (omega arith) (omega arith) wide
 
+pub close_package-requires-clause-version : goal.close_package-requires-clause-version
+close_package-requires-clause-version g c κs = ap (λ (l : Layout). l.version) (c.in_ok-p.ensures.package.0 ∙ c.of-layout.ensures)
+
 pub close_package-requires-clause-threads : goal.close_package-requires-clause-threads
 close_package-requires-clause-threads g c κs = λ n t at. let h = c.in_ok-threads.ensures.played n t at in idle_done c.in_ok-p.p n h.share t h.between.idle
 
