@@ -1,5 +1,5 @@
 -- The numbers of the mutexes, and the status for the bytes of an input.
-use Rattle.std.proofs.Common.{◌≡◌, ◌≢◌, ◌⊎◌, ℕ, zero, suc, ◌+◌, ◌<◌, List, [], ◌∷◌, length, get_or, refl, ap, sym, ◌∙◌, subst, inl, inr, Some, IfSome, Option, arith}
+use Rattle.std.proofs.Common.{◌≡◌, ◌≢◌, ◌⊎◌, ℕ, zero, suc, ◌+◌, ◌<◌, ◌≤◌, List, [], ◌∷◌, length, get_or, refl, ap, sym, ◌∙◌, subst, inl, inr, Some, IfSome, Option, arith}
 use Rattle.larch_actions.specs.declared.event.Event.{Event}
 use Rattle.larch_actions.specs.Actions.{IsClosed, by_thread}
 use Rattle.trace_core.specs.Text.{MutexValue, ReadsAs, trace_text}
@@ -8,6 +8,7 @@ use Rattle.larch_actions.specs.declared.event.Layout.{Layout}
 use Rattle.firefly_script.specs.declared.line.Line.{Line}
 use Rattle.firefly_script.specs.declared.script.ScriptFault.{ScriptFault}
 use Rattle.firefly_script.specs.declared.script.ScriptFault.TheVariants as script
+use Rattle.firefly_script.specs.Layouts.{head_lines}
 use Rattle.firefly_script.specs.Faults.{IsBadLine, IsTooLong}
 use Rattle.firefly_script.specs.Runs.{AreEventsOf, total}
 use Rattle.firefly_script.specs.Text as text
@@ -47,7 +48,7 @@ same_some o x y p q = cc
 
 -- what a run left is its trace
 pub is_trace : (k l : Layout) (xs : List Line) (h : List Event) (vs bytes : List ℕ) → k ≡ l → length vs ≡ l.mutexes → ((m : ℕ) → m < l.mutexes → get_or vs m 0 ≡ total xs m) → ReadsAs bytes k h (numbered 0 vs) → IsClosed l.version h
-    → ((t : ℕ) → t < l.threads → AreEventsOf xs t (by_thread t h)) → IsTraceOf l xs bytes
+    → ((t : ℕ) → t < l.threads → AreEventsOf l.version xs t (by_thread t h)) → IsTraceOf l xs bytes
 is_trace k l xs h vs bytes same size each reads closed own =
     let L : Layout → Type 0 = λ z. ReadsAs bytes z h (numbered 0 vs) in
     let V : List MutexValue → Type 0 = λ z. ReadsAs bytes l h z in
@@ -62,7 +63,7 @@ is_trace k l xs h vs bytes same size each reads closed own =
 pub known : {A : Type 0} (P : A → Type 0) (o : Option A) (x : A) → o ≡ Some x → IfSome o P → P x
 known P o x e h = subst (λ z. IfSome z P) e h
 
-module _ (input out notes : Change) (l : Layout) (xs : List Line) (status : Status) (few : length xs < 100000) (whole : IfSome input.old (λ bytes. text.ReadsAs bytes l xs)) where
+module _ (input out notes : Change) (l : Layout) (xs : List Line) (status : Status) (few : head_lines l.version + length xs ≤ 100000) (whole : IfSome input.old (λ bytes. text.ReadsAs bytes l xs)) where
   ended : Runs l xs out notes status → status ≢ Memory → (status ≡ Done) ⊎ (status ≡ SinkFault)
   ended (inl (bytes, trace, inl p)) some = inl p.0
   ended (inl (bytes, trace, inr p)) some = inr p.0

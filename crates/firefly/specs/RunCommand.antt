@@ -1,5 +1,5 @@
 -- What the command `run` answers.
-use Rattle.std.specs.Prelude.{◌≡◌, ◌≢◌, ◌⊎◌, ℕ, zero, suc, ◌+◌, ◌<◌, List, [], ◌∷◌, length, Some, IfSome}
+use Rattle.std.specs.Prelude.{◌≡◌, ◌≢◌, ◌⊎◌, ℕ, zero, suc, ◌+◌, ◌<◌, ◌≤◌, List, [], ◌∷◌, length, Some, IfSome}
 use Rattle.std.specs.Io.KnownBytes.{IsAtEnd}
 use Rattle.larch_actions.specs.declared.event.Layout.{Layout}
 use Rattle.larch_actions.specs.declared.event.Event.{Event}
@@ -8,6 +8,7 @@ use Rattle.trace_core.specs.Text.{MutexValue}
 use Rattle.firefly_script.specs.declared.line.Line.{Line}
 use Rattle.firefly_script.specs.declared.script.ScriptFault.{ScriptFault}
 use Rattle.firefly_script.specs.declared.script.ScriptFault.TheVariants as script
+use Rattle.firefly_script.specs.Layouts.{head_lines}
 use Rattle.firefly_script.specs.Faults.{HasReason, IsBadLine, IsTooLong, IsShortText}
 use Rattle.firefly_script.specs.Runs.{AreEventsOf, total}
 use Rattle.firefly_script.specs.Text as text
@@ -23,18 +24,18 @@ abbrev pub totals_from : ℕ → ℕ → List Line → List MutexValue
 totals_from k zero xs = []
 totals_from k (suc n) xs = record { mutex = k; value = total xs k } ∷ totals_from (k + 1) n xs
 
--- The trace of a run of these lines: a legal and closed list of events, of which each thread's are those of its lines, in order. Each mutex has its sum.
+-- The trace of a run of these lines: a legal and closed list of events, of which each thread's are those of its lines, in order, and in version two its End. Each mutex has its sum.
 pub record IsTraceOf (l : Layout) (xs : List Line) (bytes : List ℕ) : Type 0 where
   pub events : List Event
   pub trace : IsClosedTrace l (totals_from 0 l.mutexes xs) events bytes
-  pub own : (t : ℕ) → t < l.threads → AreEventsOf xs t (by_thread t events)
+  pub own : (t : ℕ) → t < l.threads → AreEventsOf l.version xs t (by_thread t events)
 
 -- the whole input is a script, and the bytes are the trace of a run of it
 pub record IsRunOf (input : Change) (bytes : List ℕ) : Type 0 where
   pub layout : Layout
   pub lines : List Line
   pub rules : text.IsScript layout lines
-  pub few : length lines < 100000
+  pub few : head_lines layout.version + length lines ≤ 100000
   pub whole : IfSome input.old (λ given. text.ReadsAs given layout lines)
   pub end : IsAtEnd input.new
   pub trace : IsTraceOf layout lines bytes

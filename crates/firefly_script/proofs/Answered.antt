@@ -2,7 +2,7 @@
 use Rattle.std.proofs.Common.{◌≡◌, ℕ, ◌<◌, ◌⊎◌, inl, inr, List, [], ◌∷◌, ◌++◌, ap, sym, subst, ◌∙◌, append-nil, arith}
 use Rattle.std.proofs.lemmas.Bool.Decides.{eqb_tells}
 use Rattle.firefly_script.specs.Faults.{Begins, Lacks, newlines, IsBadLine, IsTooLong, IsShortText, OneAnswer}
-use Rattle.firefly_script.specs.Operations.{none_held}
+use Rattle.firefly_script.specs.Operations.{none_held, none_forked}
 use Rattle.firefly_script.specs.Text.{IsScriptText}
 use Rattle.firefly_script.proofs.Fronts.{newlines_append, newlines_script, script_end}
 use Rattle.firefly_script.proofs.Verdicts.{ends_before, fronts, last_newline}
@@ -30,7 +30,7 @@ text_not_bad input k text b =
 text_not_long : (input : List ℕ) → IsShortText input → IsTooLong input → ⊥
 text_not_long input (l, xs, r, few) t =
     let ends = script_end l xs in
-    let n = newlines_script l none_held xs r.script.lawful r.script.follow in
+    let n = newlines_script l none_held none_forked xs r.script.lawful r.script.follow in
     let last = last_newline t.before t.rest ends.0 (sym t.split ∙ (r.text ∙ ends.1)) t.more in
     omega (arith, ap newlines (sym t.split ∙ r.text), newlines_append t.before t.rest, t.counted)
 

@@ -4,9 +4,11 @@ use Rattle.std.proofs.lemmas.Fmt.{decimal_injective}
 use Rattle.std.proofs.lemmas.List.{append_cancel_left}
 use Rattle.std.specs.Prelude.{codes, decimal}
 use Rattle.larch_actions.specs.declared.event.Layout.{Layout}
-use Rattle.larch_actions.specs.Layout.{layout_text, most_objects}
-use Rattle.firefly_script.specs.Layouts.{IsScriptLayout}
-use Rattle.firefly_script.proofs.Layouts.{few_threads}
+use Rattle.larch_actions.specs.declared.event.Version.{Version}
+use Rattle.larch_actions.specs.Layout.{layout_text, most_objects, most_in}
+use Rattle.larch_actions.proofs.Names.{few_threads as few_in}
+use Rattle.firefly_script.specs.Layouts.{IsLayoutIn}
+use Rattle.firefly_script.proofs.Layouts.{threads_within}
 use Rattle.firefly_script.specs.Parsing.{IsField}
 use Rattle.firefly_script.proofs.Pieces.{cut_same, lacks_decimal}
 
@@ -29,9 +31,10 @@ conditions_tail l = codes "conditions " ++ (decimal l.conditions ++ 32 ∷ semap
 abbrev pub mutexes_tail : Layout → List ℕ
 mutexes_tail l = codes "mutexes " ++ (decimal l.mutexes ++ 32 ∷ conditions_tail l)
 
-module _ (l : Layout) (ok : IsScriptLayout l) (bytes : List ℕ) where
-  pub behind_threads : (n : ℕ) (y : List ℕ) → IsField 64 bytes (codes "threads ") n y → bytes ≡ layout_text l → (n ≡ l.threads) × (y ≡ mutexes_tail l)
-  behind_threads n y f e = field_is 64 (codes "threads ") bytes y (mutexes_tail l) n l.threads (omega arith) f (few_threads l ok) e
+module _ (v : Version) (l : Layout) (ok : IsLayoutIn v l) (bytes : List ℕ) where
+  pub behind_threads : (most n : ℕ) (y : List ℕ) → most ≡ most_in v → IsField most bytes (codes "threads ") n y → bytes ≡ layout_text l → (n ≡ l.threads) × (y ≡ mutexes_tail l)
+  behind_threads most n y is f e =
+      field_is most (codes "threads ") bytes y (mutexes_tail l) n l.threads (omega (arith, is, few_in v)) f (omega (arith, is, threads_within v l ok)) e
 
   pub behind_mutexes : (n : ℕ) (y : List ℕ) → IsField most_objects bytes (codes "mutexes ") n y → bytes ≡ mutexes_tail l → (n ≡ l.mutexes) × (y ≡ conditions_tail l)
   behind_mutexes n y f e = field_is most_objects (codes "mutexes ") bytes y (conditions_tail l) n l.mutexes (omega arith) f ok.lawful.mutexes e
@@ -40,9 +43,9 @@ module _ (l : Layout) (ok : IsScriptLayout l) (bytes : List ℕ) where
   behind_conditions n y f e = field_is most_objects (codes "conditions ") bytes y (semaphores_tail l) n l.conditions (omega arith) f ok.lawful.conditions e
 
 -- three fields and the last number are the text of the layout
-pub layout_of_fields : (l : Layout) (bytes b1 b2 b3 b4 : List ℕ) → IsField 64 bytes (codes "threads ") l.threads b1 → IsField most_objects b1 (codes "mutexes ") l.mutexes b2 → IsField most_objects b2 (codes "conditions ") l.conditions b3
+pub layout_of_fields : (l : Layout) (most : ℕ) (bytes b1 b2 b3 b4 : List ℕ) → IsField most bytes (codes "threads ") l.threads b1 → IsField most_objects b1 (codes "mutexes ") l.mutexes b2 → IsField most_objects b2 (codes "conditions ") l.conditions b3
     → b3 ≡ codes "semaphores " ++ b4 → b4 ≡ decimal l.semaphores → bytes ≡ layout_text l
-layout_of_fields l bytes b1 b2 b3 b4 f1 f2 f3 e4 e5 =
+layout_of_fields l most bytes b1 b2 b3 b4 f1 f2 f3 e4 e5 =
     let e3 : b3 ≡ semaphores_tail l = e4 ∙ ap (λ b. codes "semaphores " ++ b) e5 in
     let e2 : b2 ≡ conditions_tail l = f3.text ∙ ap (λ b. codes "conditions " ++ (decimal l.conditions ++ 32 ∷ b)) e3 in
     let e1 : b1 ≡ mutexes_tail l = f2.text ∙ ap (λ b. codes "mutexes " ++ (decimal l.mutexes ++ 32 ∷ b)) e2 in

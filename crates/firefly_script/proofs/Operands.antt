@@ -4,7 +4,7 @@ use Rattle.std.proofs.lemmas.Fmt.{decimal_injective}
 use Rattle.std.proofs.lemmas.List.{append_cancel_left, take_all}
 use Rattle.std.specs.Prelude.{decimal}
 use Rattle.larch_actions.specs.declared.event.Layout.{Layout}
-use Rattle.firefly_script.specs.Layouts.{IsScriptLayout}
+use Rattle.larch_actions.specs.Layout.{IsLawful}
 use Rattle.larch_actions.proofs.Names.{few_of, letter_high}
 use Rattle.firefly_script.specs.declared.table.Operand.{Operand}
 use Rattle.firefly_script.specs.declared.table.Operand.TheVariants.{Name, Amount, Count}
@@ -48,14 +48,14 @@ take_two (i ∷ []) a b e few = refl
 take_two (i ∷ j ∷ []) a b e few = refl
 take_two (i ∷ j ∷ k ∷ ks) a b e few = absurd (omega arith)
 
-module _ (l : Layout) (ok : IsScriptLayout l) where
+module _ (l : Layout) (ok : IsLawful l) where
   within_fits : (k : Operand) (n : ℕ) → IsWithin l k n → n < 2 ^ 64
-  within_fits (Name k) n h = omega (arith, few_of l ok.lawful k)
+  within_fits (Name k) n h = omega (arith, few_of l ok k)
   within_fits Amount n h = omega arith
   within_fits Count n h = omega arith
 
   within_small : (k : Operand) (n : ℕ) → IsWithin l k n → IsSmall k n
-  within_small (Name k) n h = omega (arith, few_of l ok.lawful k)
+  within_small (Name k) n h = omega (arith, few_of l ok k)
   within_small Amount n h = h
   within_small Count n h = h
 

@@ -4,16 +4,18 @@ use Rattle.std.specs.Prelude.{codes}
 use Rattle.std.specs.Str.{bytes_eq}
 use Rattle.larch_actions.specs.declared.event.Layout.{Layout}
 use Rattle.firefly_script.specs.declared.line.Operation.{Operation}
-use Rattle.firefly_script.specs.declared.line.Operation.TheVariants.{Acquire, Release, Wait, AlertWait, Signal, Broadcast, P, V, Alert, TestAlert, AlertP, Add, Until, AlertUntil}
+use Rattle.firefly_script.specs.declared.line.Operation.TheVariants.{Acquire, Release, Wait, AlertWait, Signal, Broadcast, P, V, Alert, TestAlert, AlertP, Add, Until, AlertUntil, Fork, Join}
 use Rattle.firefly_script.specs.declared.table.Word.{Word}
 use Rattle.firefly_script.specs.declared.table.Word.TheVariants as word
 use Rattle.firefly_script.specs.declared.table.Numbers.{Numbers}
 use Rattle.firefly_script.specs.declared.table.Use.{Use}
 use Rattle.firefly_script.specs.declared.table.Use.TheVariants.{Takes, Gives, Needs, Nothing}
+use Rattle.firefly_script.specs.declared.table.Fate.{Fate}
+use Rattle.firefly_script.specs.declared.table.Fate.TheVariants as fate
 use Rattle.firefly_script.specs.Faults.{Lacks}
 use Rattle.firefly_script.specs.Operations.{IsNamed}
 use Rattle.firefly_script.specs.Parsing.{AreParted, Are, first_of}
-use Rattle.firefly_script.specs.Table.{word_text, kinds_of, made, word_of, numbers_of, use_of, operands_text, AreWithin, listed}
+use Rattle.firefly_script.specs.Table.{word_text, kinds_of, made, word_of, numbers_of, use_of, fate_of, operands_text, AreWithin, listed}
 use Rattle.firefly_script.specs.Text.{operation_text}
 use Rattle.firefly_script.proofs.Operands.{part_same, operands_behind}
 use Rattle.firefly_script.proofs.Pieces.{is_lacking, lacks_from}
@@ -43,6 +45,8 @@ fits word.AlertP = fit word.AlertP refl refl (omega arith) (omega arith)
 fits word.Add = fit word.Add refl refl (omega arith) (omega arith)
 fits word.Until = fit word.Until refl refl (omega arith) (omega arith)
 fits word.AlertUntil = fit word.AlertUntil refl refl (omega arith) (omega arith)
+fits word.Fork = fit word.Fork refl refl (omega arith) (omega arith)
+fits word.Join = fit word.Join refl refl (omega arith) (omega arith)
 
 -- the word with this text
 abbrev word_from : List ℕ → Word
@@ -60,7 +64,9 @@ word_from bytes =
     (cond (bytes_eq bytes (codes "alert-p")) word.AlertP
     (cond (bytes_eq bytes (codes "add")) word.Add
     (cond (bytes_eq bytes (codes "until")) word.Until
-    word.AlertUntil))))))))))))
+    (cond (bytes_eq bytes (codes "alert-until")) word.AlertUntil
+    (cond (bytes_eq bytes (codes "fork")) word.Fork
+    word.Join))))))))))))))
 
 word_back : (w : Word) → word_from (word_text w) ≡ w
 word_back word.Acquire = refl
@@ -77,6 +83,8 @@ word_back word.AlertP = refl
 word_back word.Add = refl
 word_back word.Until = refl
 word_back word.AlertUntil = refl
+word_back word.Fork = refl
+word_back word.Join = refl
 
 pub word_same : (v w : Word) → word_text v ≡ word_text w → v ≡ w
 word_same v w e = sym (word_back v) ∙ ap word_from e ∙ word_back w
@@ -97,6 +105,8 @@ built (AlertP s) = refl
 built (Add m n) = refl
 built (Until m c n) = refl
 built (AlertUntil m c n) = refl
+built (Fork u) = refl
+built (Join u) = refl
 
 -- the operation that is made of a word has this word, and the numbers that stand behind it
 made_word : (w : Word) (ns : List ℕ) → word_of (made w ns) ≡ w
@@ -114,6 +124,8 @@ made_word word.AlertP ns = refl
 made_word word.Add ns = refl
 made_word word.Until ns = refl
 made_word word.AlertUntil ns = refl
+made_word word.Fork ns = refl
+made_word word.Join ns = refl
 
 made_numbers : (w : Word) (x : Numbers) → numbers_of (made w (listed x)) ≡ first_of (kinds_of w) x
 made_numbers word.Acquire x = refl
@@ -130,6 +142,8 @@ made_numbers word.AlertP x = refl
 made_numbers word.Add x = refl
 made_numbers word.Until x = refl
 made_numbers word.AlertUntil x = refl
+made_numbers word.Fork x = refl
+made_numbers word.Join x = refl
 
 -- the operation that is made of a word and the numbers behind it
 pub made_of : (l : Layout) (w : Word) (x : Numbers) (bytes front behind : List ℕ) → AreParted bytes front behind → front ≡ word_text w → Are l (kinds_of w) behind (first_of (kinds_of w) x) → IsNamed l (made w (listed x)) × (bytes ≡ operation_text (made w (listed x)))
@@ -166,6 +180,19 @@ named_use l (AlertP s) n = tt
 named_use l (Add m k) n = n.0
 named_use l (Until m c k) n = n.0
 named_use l (AlertUntil m c k) n = n.0
+named_use l (Fork u) n = tt
+named_use l (Join u) n = tt
+
+-- so is the thread that begins or is awaited
+abbrev pub FateIn : Layout → Fate → Type 0
+FateIn l (fate.Begins u) = u.0 < l.threads
+FateIn l (fate.Awaits u) = u.0 < l.threads
+FateIn l fate.Nothing = Unit {0}
+
+pub named_fate : (l : Layout) (o : Operation) → IsNamed l o → FateIn l (fate_of o)
+named_fate l (Fork u) n = n.0
+named_fate l (Join u) n = n.0
+named_fate l _ n = tt
 
 -- the word of an operation's text, and what stands behind it
 pub word_parts : (o : Operation) (bytes front behind : List ℕ) → AreParted bytes front behind → bytes ≡ operation_text o → (front ≡ word_text (word_of o)) × (behind ≡ operands_text (kinds_of (word_of o)) (numbers_of o))

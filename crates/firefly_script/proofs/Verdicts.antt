@@ -3,23 +3,27 @@ use Rattle.std.proofs.Common.{◌≡◌, ℕ, ◌+◌, ◌<◌, ◌≤◌, ◌�
 use Rattle.std.proofs.lemmas.Bool.Decides.{eqb_tells}
 use Rattle.std.specs.Io.KnownBytes.{Consumes}
 use Rattle.larch_actions.specs.declared.event.Layout.{Layout}
-use Rattle.larch_actions.specs.Layout.{layout_text}
-use Rattle.firefly_script.specs.Layouts.{IsScriptLayout}
+use Rattle.larch_actions.specs.declared.event.Version.{Version}
+use Rattle.larch_actions.specs.declared.event.Version.TheVariants.{One, Two}
+use Rattle.std.proofs.lemmas.List.{append_cancel_left}
+use Rattle.firefly_script.specs.Layouts.{head_lines}
+use Rattle.firefly_script.proofs.Layouts.{some_head}
+use Rattle.larch_actions.specs.Layout.{IsLawful, layout_text}
 use Rattle.firefly_outside.specs.Causes.{Rose}
 use Rattle.firefly_script.specs.declared.line.Line.{Line}
 use Rattle.firefly_script.specs.declared.script.ScriptFault.{ScriptFault}
 use Rattle.firefly_script.specs.declared.script.ScriptFault.TheVariants.{Memory, BadLine, TooLong, Read}
-use Rattle.firefly_script.specs.Drafts.{NoneIs, NoLayoutIs, FirstIsNone, HeadFault, LineFault, LaterFault}
+use Rattle.firefly_script.specs.Drafts.{NoneIs, NoLayoutIs, NoFirstIs, FirstIsNone, FirstFault, SecondFault, HeadReason, LineFault, LaterFault}
 use Rattle.firefly_script.specs.Faults.{Begins, Lacks, newlines, IsGoodFront, IsBadLine, IsTooLong, IsUndecided, HasReason}
-use Rattle.firefly_script.specs.Operations.{none_held, held_after, MayFollow, AllFree}
-use Rattle.firefly_script.specs.Text.{line_text, lines_text, script_text, IsScriptText, IsScript, ReadsAs}
+use Rattle.firefly_script.specs.Operations.{none_held, none_forked, held_after, forked_after, MayFollow, AllFree}
+use Rattle.firefly_script.specs.Text.{line_text, lines_text, second_version, first_line, script_text, IsScriptText, IsScript, ReadsAs}
 use Rattle.firefly_script.proofs.Firsts.{consumes_trans}
 use Rattle.firefly_script.proofs.Follow.{follow_split, held_append}
-use Rattle.firefly_script.proofs.Fronts.{script_behind, layout_flat, line_flat, newlines_append, newlines_script, script_end}
-use Rattle.firefly_script.proofs.Pieces.{cut_same, lacks_not}
-use Rattle.firefly_script.proofs.Releases.{script_begins, nothing_begins}
+use Rattle.firefly_script.proofs.Fronts.{script_behind, layout_flat, line_flat, no_layout_line, newlines_append, newlines_flat, newlines_script, script_end}
+use Rattle.firefly_script.proofs.Pieces.{cut_same, lacks_not, lacks_from}
+use Rattle.firefly_script.proofs.Releases.{script_begins, nothing_begins, second_begins}
 
-pub good_front : (l : Layout) (xs : List Line) → IsScriptLayout l → MayFollow l none_held xs → IsGoodFront (script_text l xs)
+pub good_front : (l : Layout) (xs : List Line) → IsLawful l → MayFollow l none_held none_forked xs → IsGoodFront (script_text l xs)
 good_front l xs ok p = record { begins = script_begins l xs ok p; ended = λ some. script_end l xs }
 
 pub no_front : IsGoodFront []
@@ -89,37 +93,37 @@ not_longer front full ends t =
     let n = last_newline t.before t.rest ends.0 (sym t.split ∙ ends.1) t.more in
     omega (arith, ap newlines t.split, newlines_append t.before t.rest, t.counted)
 
-module _ (l : Layout) (xs : List Line) (ok : IsScriptLayout l) (p : MayFollow l none_held xs) where
+module _ (l : Layout) (xs : List Line) (ok : IsLawful l) (p : MayFollow l none_held none_forked xs) where
   -- what goes on from the lines is lines
-  behind : (rest : List ℕ) → IsScriptText (script_text l xs ++ rest) → (zs : List Line) × MayFollow l (held_after none_held xs) zs × AllFree (held_after (held_after none_held xs) zs) × (rest ≡ lines_text zs)
+  behind : (rest : List ℕ) → IsScriptText (script_text l xs ++ rest) → (zs : List Line) × MayFollow l (held_after none_held xs) (forked_after none_forked xs) zs × AllFree (held_after (held_after none_held xs) zs) × (rest ≡ lines_text zs)
   behind rest (k, ys, r) =
-      let b = script_behind k l none_held xs ys rest r.script.lawful ok p r.script.follow r.text in
-      let P : Layout → Type 0 = λ z. MayFollow z none_held ys in
-      let Q : List Line → Type 0 = λ zs. MayFollow l none_held zs in
+      let b = script_behind k l none_held none_forked xs ys rest r.script.lawful ok p r.script.follow r.text in
+      let P : Layout → Type 0 = λ z. MayFollow z none_held none_forked ys in
+      let Q : List Line → Type 0 = λ zs. MayFollow l none_held none_forked zs in
       let R : List Line → Type 0 = λ zs. AllFree (held_after none_held zs) in
-      let s = follow_split l none_held xs b.1.0 (subst Q b.1.1 (subst P b.0 r.script.follow)) in
+      let s = follow_split l none_held none_forked xs b.1.0 (subst Q b.1.1 (subst P b.0 r.script.follow)) in
       (b.1.0, s.1, subst AllFree (held_append none_held xs b.1.0) (subst R b.1.1 r.script.free), b.1.2)
 
-  first_line : (zs : List Line) (line more : List ℕ) → Lacks 10 line → MayFollow l (held_after none_held xs) zs → line ++ 10 ∷ more ≡ lines_text zs → NoneIs l xs line → ⊥
-  first_line [] line more flat q e none = lacks_not 10 line more (subst (Lacks 10) (sym e) tt)
-  first_line (z ∷ zs) line more flat q e none =
-      none z q.0 (cut_same 10 line (line_text z) more (lines_text zs) flat (line_flat l (held_after none_held xs) z ok q.0) e).0
+  first_is : (zs : List Line) (line more : List ℕ) → Lacks 10 line → MayFollow l (held_after none_held xs) (forked_after none_forked xs) zs → line ++ 10 ∷ more ≡ lines_text zs → NoneIs l xs line → ⊥
+  first_is [] line more flat q e none = lacks_not 10 line more (subst (Lacks 10) (sym e) tt)
+  first_is (z ∷ zs) line more flat q e none =
+      none z q.0 (cut_same 10 line (line_text z) more (lines_text zs) flat (line_flat l (held_after none_held xs) (forked_after none_forked xs) z ok q.0) e).0
 
   next_bad : (rest : List ℕ) → FirstIsNone (NoneIs l xs) rest → NextIsBad (script_text l xs) rest
   next_bad rest none line after flat e b =
       let split : (script_text l xs ++ (line ++ 10 ∷ [])) ++ b.0 ≡ script_text l xs ++ (line ++ 10 ∷ b.0) = append_assoc (script_text l xs) (line ++ 10 ∷ []) b.0 ∙ ap (λ r. script_text l xs ++ r) (append_assoc line (10 ∷ []) b.0) in
       let z = behind (line ++ 10 ∷ b.0) (subst IsScriptText split b.1) in
-      first_line z.0 line b.0 flat z.1 z.3 (none line after flat e)
+      first_is z.0 line b.0 flat z.1 z.3 (none line after flat e)
 
   -- bytes with no newline behind the lines are nothing, where the whole is a script text
   open_text : (rest : List ℕ) → Lacks 10 rest → (zs : List Line) → rest ≡ lines_text zs → AllFree (held_after (held_after none_held xs) zs) → (rest ≡ []) × AllFree (held_after none_held xs)
   open_text rest flat [] e free = (e, free)
   open_text rest flat (z ∷ zs) e free = absurd (lacks_not 10 (line_text z) (lines_text zs) (subst (Lacks 10) e flat))
 
-  pub bad_line : (rest : List ℕ) (k : ℕ) → length xs ≤ 99999 → k ≡ length xs + 2 → FirstIsNone (NoneIs l xs) rest → (length xs ≡ 99999 → rest ≡ []) → (rest ≡ [] → AllFree (held_after none_held xs) → ⊥)
+  pub bad_line : (rest : List ℕ) (k : ℕ) → head_lines l.version + length xs ≤ 100000 → k ≡ head_lines l.version + length xs + 1 → FirstIsNone (NoneIs l xs) rest → (head_lines l.version + length xs ≡ 100000 → rest ≡ []) → (rest ≡ [] → AllFree (held_after none_held xs) → ⊥)
       → IsBadLine (script_text l xs ++ rest) k × (IsTooLong (script_text l xs ++ rest) → ⊥)
   bad_line rest k few e none full held =
-      let n = newlines_script l none_held xs ok p in (
+      let n = newlines_script l none_held none_forked xs ok p in (
         record {
           before = script_text l xs;
           rest = rest;
@@ -129,25 +133,25 @@ module _ (l : Layout) (xs : List Line) (ok : IsScriptLayout l) (p : MayFollow l 
           broken = next_bad rest none;
           no_text = λ flat t. let z = behind rest t in let o = open_text rest flat z.0 z.3 z.2 in held o.0 o.1;
         },
-        elim (eqb_tells (length xs) 99999) [
+        elim (eqb_tells (head_lines l.version + length xs) 100000) [
           | inl q ↦ λ t. not_longer (script_text l xs) (omega (arith, q.1)) (script_end l xs) (subst IsTooLong (ap (λ r. script_text l xs ++ r) (full q.1) ∙ append-nil (script_text l xs)) t)
           | inr q ↦ let ne = q.1 in not_long (script_text l xs) rest (omega arith) (next_bad rest none)
         ],
       )
 
-  pub too_long : (rest : List ℕ) → length xs ≡ 99999 → 0 < length rest → IsTooLong (script_text l xs ++ rest)
+  pub too_long : (rest : List ℕ) → head_lines l.version + length xs ≡ 100000 → 0 < length rest → IsTooLong (script_text l xs ++ rest)
   too_long rest full some = record {
     before = script_text l xs;
     rest = rest;
     split = refl;
     front = good_front l xs ok p;
-    counted = omega (arith, newlines_script l none_held xs ok p);
+    counted = omega (arith, newlines_script l none_held none_forked xs ok p);
     more = some;
   }
 
-  pub undecided : (given : List ℕ) → length xs ≤ 99999 → Lacks 10 given → length given ≤ 256 → (length xs ≡ 99999 → given ≡ []) → IsUndecided (script_text l xs ++ given)
+  pub undecided : (given : List ℕ) → head_lines l.version + length xs ≤ 100000 → Lacks 10 given → length given ≤ 256 → (head_lines l.version + length xs ≡ 100000 → given ≡ []) → IsUndecided (script_text l xs ++ given)
   undecided given few flat short full =
-      let n = newlines_script l none_held xs ok p in record {
+      let n = newlines_script l none_held none_forked xs ok p in record {
         before = script_text l xs;
         rest = given;
         split = refl;
@@ -158,7 +162,7 @@ module _ (l : Layout) (xs : List Line) (ok : IsScriptLayout l) (p : MayFollow l 
         full = λ e. full (omega arith);
       }
 
-  pub line_reason : (r rest left' : Option (List ℕ)) (before now : ℕ) (fault : ScriptFault) → Consumes r rest (script_text l xs) → length xs ≤ 99999 → LineFault l xs rest left' before now fault → HasReason r left' before now fault
+  pub line_reason : (r rest left' : Option (List ℕ)) (before now : ℕ) (fault : ScriptFault) → Consumes r rest (script_text l xs) → head_lines l.version + length xs ≤ 100000 → LineFault l xs rest left' before now fault → HasReason r left' before now fault
   line_reason r rest left' before now Memory c few f = tt
   line_reason None rest left' before now (BadLine k) c few f = tt
   line_reason (Some input) None left' before now (BadLine k) c few f = absurd c
@@ -181,48 +185,96 @@ reason_since r left' first before now (BadLine k) le h = h
 reason_since r left' first before now TooLong le h = h
 reason_since r left' first before now Read le h = (rose_since first before now le h.0, h.1)
 
--- a layout line that is none
-head_bad : (input : List ℕ) → FirstIsNone NoLayoutIs input → NextIsBad [] input
-head_bad input none line after flat e (more, (l, xs, r)) =
-    let first : line ++ 10 ∷ more ≡ layout_text l ++ 10 ∷ lines_text xs = sym (append_assoc line (10 ∷ []) more) ∙ r.text in
-    none line after flat e l r.script.lawful (cut_same 10 line (layout_text l) more (lines_text xs) flat (layout_flat l r.script.lawful) first).0
+-- the line behind good lines is bad, and there aren't too many
+at_head : (front rest : List ℕ) (k : ℕ) → IsGoodFront front → k ≡ newlines front + 1 → newlines front < 100000 → NextIsBad front rest → (Lacks 10 rest → IsScriptText (front ++ rest) → ⊥) → IsBadLine (front ++ rest) k × (IsTooLong (front ++ rest) → ⊥)
+at_head front rest k good counted few bad none =
+    (record { before = front; rest = rest; split = refl; front = good; counted = counted; broken = bad; no_text = none }, not_long front rest few bad)
 
+-- a first line that is none
+no_first : (l : Layout) (v : Version) (line a b : List ℕ) → l.version ≡ v → IsLawful l → Lacks 10 line → NoFirstIs line → line ++ 10 ∷ a ≡ first_line v ++ (layout_text l ++ 10 ∷ b) → ⊥
+no_first l One line a b is ok flat none e = none.1 l (record { lawful = ok; version = is }) (cut_same 10 line (layout_text l) a b flat (layout_flat l ok) e).0
+no_first l Two line a b is ok flat none e = none.0 (cut_same 10 line second_version a (layout_text l ++ 10 ∷ b) flat (lacks_from 10 second_version refl) e).0
+
+first_bad : (input : List ℕ) → FirstIsNone NoFirstIs input → NextIsBad [] input
+first_bad input none line after flat e (more, (l, xs, r)) =
+    no_first l l.version line more (lines_text xs) refl r.script.lawful flat (none line after flat e) (sym (append_assoc line (10 ∷ []) more) ∙ r.text)
+
+-- a script text ends its first line
 text_ends : (input : List ℕ) → Lacks 10 input → IsScriptText input → ⊥
-text_ends input flat (l, xs, r) = lacks_not 10 (layout_text l) (lines_text xs) (subst (Lacks 10) r.text flat)
+text_ends input flat (l, xs, r) = let n = newlines_script l none_held none_forked xs r.script.lawful r.script.follow in let z = newlines_flat input flat in let h = some_head l.version in omega (arith, ap newlines r.text)
 
-head_line : (input : List ℕ) → FirstIsNone NoLayoutIs input → IsBadLine input 1 × (IsTooLong input → ⊥)
-head_line input none = (
-  record {
-    before = [];
-    rest = input;
-    split = refl;
-    front = no_front;
-    counted = omega arith;
-    broken = head_bad input none;
-    no_text = text_ends input;
-  },
-  not_long [] input (omega arith) (head_bad input none),
-)
+first_line_bad : (input : List ℕ) → FirstIsNone NoFirstIs input → IsBadLine input 1 × (IsTooLong input → ⊥)
+first_line_bad input none = at_head [] input 1 no_front refl (omega arith) (first_bad input none) (text_ends input)
 
-pub head_reason : (r left' : Option (List ℕ)) (before now : ℕ) (fault : ScriptFault) → HeadFault r left' before now fault → HasReason r left' before now fault
-head_reason r left' before now Memory f = absurd f
-head_reason None left' before now (BadLine k) f = tt
-head_reason (Some input) left' before now (BadLine k) f =
+-- behind the first line of version two stands a layout line of that version
+no_second : (l : Layout) (v : Version) (line a b : List ℕ) → l.version ≡ v → IsLawful l → Lacks 10 line → NoLayoutIs Two line → first_line Two ++ (line ++ 10 ∷ a) ≡ first_line v ++ (layout_text l ++ 10 ∷ b) → ⊥
+no_second l One line a b is ok flat none e = no_layout_line l (10 ∷ (line ++ 10 ∷ a)) (10 ∷ b) e
+no_second l Two line a b is ok flat none e = none l (record { lawful = ok; version = is }) (cut_same 10 line (layout_text l) a b flat (layout_flat l ok) (append_cancel_left (first_line Two) _ _ e)).0
+
+second_bad : (rest : List ℕ) → FirstIsNone (NoLayoutIs Two) rest → NextIsBad (first_line Two) rest
+second_bad rest none line after flat e (more, (l, xs, r)) =
+    let split : (first_line Two ++ (line ++ 10 ∷ [])) ++ more ≡ first_line Two ++ (line ++ 10 ∷ more) = append_assoc (first_line Two) (line ++ 10 ∷ []) more ∙ ap (λ b. first_line Two ++ b) (append_assoc line (10 ∷ []) more) in
+    no_second l l.version line more (lines_text xs) refl r.script.lawful flat (none line after flat e) (sym split ∙ r.text)
+
+-- it ends that line too
+second_ends : (l : Layout) (v : Version) (rest b : List ℕ) → l.version ≡ v → Lacks 10 rest → first_line Two ++ rest ≡ first_line v ++ (layout_text l ++ 10 ∷ b) → ⊥
+second_ends l One rest b is flat e = no_layout_line l (10 ∷ rest) (10 ∷ b) e
+second_ends l Two rest b is flat e = lacks_not 10 (layout_text l) b (subst (Lacks 10) (append_cancel_left (first_line Two) _ _ e) flat)
+
+pub second_front : IsGoodFront (first_line Two)
+second_front = record { begins = second_begins; ended = λ some. (second_version, refl) }
+
+second_line_bad : (rest : List ℕ) → FirstIsNone (NoLayoutIs Two) rest → IsBadLine (first_line Two ++ rest) 2 × (IsTooLong (first_line Two ++ rest) → ⊥)
+second_line_bad rest none =
+    at_head (first_line Two) rest 2 second_front refl (omega arith) (second_bad rest none) (λ flat t. second_ends t.0 t.0.version rest (lines_text t.1) refl flat t.2.text)
+
+open_head : (front given : List ℕ) → IsGoodFront front → newlines front < 100000 → Lacks 10 given → length given ≤ 256 → IsUndecided (front ++ given)
+open_head front given good few flat short =
+    record { before = front; rest = given; split = refl; front = good; few = omega arith; open_line = flat; short = short; full = λ e. absurd (omega arith) }
+
+first_reason : (r left' : Option (List ℕ)) (before now : ℕ) (fault : ScriptFault) → FirstFault r left' before now fault → HasReason r left' before now fault
+first_reason r left' before now Memory f = absurd f
+first_reason None left' before now (BadLine k) f = tt
+first_reason (Some input) left' before now (BadLine k) f =
     let P : ℕ → Type 0 = λ i. IsBadLine input i × (IsTooLong input → ⊥) in
-    subst P (sym f.0) (head_line input f.1)
-head_reason r left' before now TooLong f = absurd f
-head_reason r left' before now Read f =
-    (f.1.rose, (f.0, f.1.consumed, record { before = []; rest = f.0; split = refl; front = no_front; few = omega arith; open_line = f.1.open_line; short = f.1.short; full = λ e. absurd (omega arith) }))
+    subst P (sym f.0) (first_line_bad input f.1)
+first_reason r left' before now TooLong f = absurd f
+first_reason r left' before now Read f = (f.1.rose, (f.0, f.1.consumed, open_head [] f.0 no_front (omega arith) f.1.open_line f.1.short))
 
-pub later_reason : (l : Layout) (r rest left' : Option (List ℕ)) (first before now : ℕ) (fault : ScriptFault) → IsScriptLayout l → Consumes r rest (layout_text l ++ 10 ∷ []) → first ≤ before → LaterFault l rest left' before now fault → HasReason r left' first now fault
+pub second_since : (r left' : Option (List ℕ)) (first before now : ℕ) (fault : ScriptFault) → first ≤ before → SecondFault r left' before now fault → SecondFault r left' first now fault
+second_since r left' first before now Memory le f = f
+second_since r left' first before now (BadLine k) le f = f
+second_since r left' first before now TooLong le f = f
+second_since r left' first before now Read le f = (f.0, record { rose = rose_since first before now le f.1.rose; consumed = f.1.consumed; open_line = f.1.open_line; short = f.1.short })
+
+second_reason : (r rest left' : Option (List ℕ)) (before now : ℕ) (fault : ScriptFault) → Consumes r rest (first_line Two) → SecondFault rest left' before now fault → HasReason r left' before now fault
+second_reason r rest left' before now Memory c f = absurd f
+second_reason None rest left' before now (BadLine k) c f = tt
+second_reason (Some input) None left' before now (BadLine k) c f = absurd c
+second_reason (Some input) (Some bytes) left' before now (BadLine k) c f =
+    let P : ℕ → List ℕ → Type 0 = λ i b. IsBadLine b i × (IsTooLong b → ⊥) in
+    subst (P k) (sym c) (subst (λ i. P i (first_line Two ++ bytes)) (sym f.0) (second_line_bad bytes f.1))
+second_reason r rest left' before now TooLong c f = absurd f
+second_reason r rest left' before now Read c f =
+    (f.1.rose, (first_line Two ++ f.0, consumes_trans r rest left' (first_line Two) f.0 c f.1.consumed, open_head (first_line Two) f.0 second_front (omega arith) f.1.open_line f.1.short))
+
+pub head_reason : (r left' : Option (List ℕ)) (before now : ℕ) (fault : ScriptFault) → HeadReason r left' before now fault → HasReason r left' before now fault
+head_reason r left' before now fault (inl f) = first_reason r left' before now fault f
+head_reason r left' before now fault (inr f) = second_reason r f.0 left' before now fault f.1 f.2
+
+-- all that stands before the lines, and the lines
+head_lines_text : (l : Layout) (xs : List Line) → (first_line l.version ++ (layout_text l ++ 10 ∷ [])) ++ lines_text xs ≡ script_text l xs
+head_lines_text l xs = append_assoc (first_line l.version) (layout_text l ++ 10 ∷ []) (lines_text xs) ∙ ap (λ b. first_line l.version ++ b) (append_assoc (layout_text l) (10 ∷ []) (lines_text xs))
+
+pub later_reason : (l : Layout) (r rest left' : Option (List ℕ)) (first before now : ℕ) (fault : ScriptFault) → IsLawful l → Consumes r rest (first_line l.version ++ (layout_text l ++ 10 ∷ [])) → first ≤ before → LaterFault l rest left' before now fault → HasReason r left' first now fault
 later_reason l r rest left' first before now fault ok c le f =
-    let all = consumes_trans r rest f.left (layout_text l ++ 10 ∷ []) (lines_text f.lines) c f.consumed in
-    let whole : Consumes r f.left (script_text l f.lines) = subst (Consumes r f.left) (append_assoc (layout_text l) (10 ∷ []) (lines_text f.lines)) all in
+    let all = consumes_trans r rest f.left (first_line l.version ++ (layout_text l ++ 10 ∷ [])) (lines_text f.lines) c f.consumed in
+    let whole : Consumes r f.left (script_text l f.lines) = subst (Consumes r f.left) (head_lines_text l f.lines) all in
     reason_since r left' first before now fault le (line_reason l f.lines ok f.follow r f.left left' before now fault whole f.few f.reason)
 
--- the layout line and the lines are the text
-pub whole_text : (l k : Layout) (xs : List Line) (r rest : Option (List ℕ)) → k ≡ l → Consumes r rest (layout_text l ++ 10 ∷ []) → IfSome rest (λ bytes. bytes ≡ lines_text xs) → IsScript k xs → IfSome r (λ bytes. ReadsAs bytes k xs)
+-- what stands before the lines, and the lines, are the text
+pub whole_text : (l k : Layout) (xs : List Line) (r rest : Option (List ℕ)) → k ≡ l → Consumes r rest (first_line l.version ++ (layout_text l ++ 10 ∷ [])) → IfSome rest (λ bytes. bytes ≡ lines_text xs) → IsScript k xs → IfSome r (λ bytes. ReadsAs bytes k xs)
 whole_text l k xs None rest same c t s = tt
 whole_text l k xs (Some input) None same c t s = absurd c
 whole_text l k xs (Some input) (Some bytes) same c t s =
-    record { script = s; text = c ∙ append_assoc (layout_text l) (10 ∷ []) bytes ∙ ap (λ b. layout_text l ++ 10 ∷ b) t ∙ ap (λ z. script_text z xs) (sym same) }
+    record { script = s; text = c ∙ ap (λ b. (first_line l.version ++ (layout_text l ++ 10 ∷ [])) ++ b) t ∙ head_lines_text l xs ∙ ap (λ z. script_text z xs) (sym same) }

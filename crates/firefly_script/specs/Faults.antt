@@ -7,6 +7,7 @@ use Rattle.firefly_script.specs.declared.script.ScriptFault.{ScriptFault}
 use Rattle.firefly_script.specs.declared.script.ScriptFault.TheVariants.{Memory, BadLine, TooLong, Read}
 use Rattle.larch_actions.specs.declared.event.Layout.{Layout}
 use Rattle.firefly_script.specs.declared.line.Line.{Line}
+use Rattle.firefly_script.specs.Layouts.{head_lines}
 use Rattle.firefly_script.specs.Text.{IsScriptText, ReadsAs}
 
 -- some script text begins with the bytes
@@ -68,7 +69,7 @@ HasReason left left' before now Read = Rose before now × ((given : List ℕ) ×
 
 -- the bytes are the text of a script of at most 100,000 lines
 abbrev pub IsShortText : List ℕ → Type 0
-IsShortText bytes = (l : Layout) × (xs : List Line) × ReadsAs bytes l xs × (length xs < 100000)
+IsShortText bytes = (l : Layout) × (xs : List Line) × ReadsAs bytes l xs × (head_lines l.version + length xs ≤ 100000)
 
 -- Of an input at most one of these holds: it is a script of at most 100,000 lines, a line of it is bad, it is too long. It has at most one bad line.
 pub record OneAnswer : Type 0 where

@@ -1,11 +1,15 @@
 -- What the lines of a script say, and which line may come next.
-use Rattle.std.specs.Prelude.{◌≡◌, ℕ, ◌<◌, Bool, true, false, cond, eqb, List, [], ◌∷◌}
+use Rattle.std.specs.Prelude.{◌≡◌, ◌≢◌, ℕ, ◌<◌, Bool, true, false, cond, eqb, List, [], ◌∷◌}
+use Rattle.larch_actions.specs.declared.event.Version.{Version}
+use Rattle.larch_actions.specs.declared.event.Version.TheVariants.{One, Two}
 use Rattle.larch_actions.specs.declared.event.Layout.{Layout}
 use Rattle.firefly_script.specs.declared.line.Operation.{Operation}
 use Rattle.firefly_script.specs.declared.line.Line.{Line}
 use Rattle.firefly_script.specs.declared.table.Use.{Use}
 use Rattle.firefly_script.specs.declared.table.Use.TheVariants.{Takes, Gives, Needs, Nothing}
-use Rattle.firefly_script.specs.Table.{word_of, kinds_of, numbers_of, use_of, AreWithin}
+use Rattle.firefly_script.specs.declared.table.Fate.{Fate}
+use Rattle.firefly_script.specs.declared.table.Fate.TheVariants as fate
+use Rattle.firefly_script.specs.Table.{word_of, kinds_of, numbers_of, use_of, fate_of, AreWithin}
 
 -- each name is below the count of its kind, and no number is too large
 abbrev pub IsNamed : Layout → Operation → Type 0
@@ -42,20 +46,52 @@ MayDo h t o = MayUse h t (use_of o)
 abbrev pub holding_after : Holding → ℕ → Operation → Holding
 holding_after h t o = holding_with h t (use_of o)
 
+-- which threads a line has forked
+abbrev pub Forked : Type 0
+Forked = ℕ → Bool
+
+abbrev pub none_forked : Forked
+none_forked t = false
+
+-- thread 0, or one that was forked
+abbrev pub is_born : Forked → ℕ → Bool
+is_born f t = cond (eqb t 0) true (f t)
+
+-- a thread may begin another once, and may await another that was forked
+abbrev pub MayMeet : Forked → ℕ → Fate → Type 0
+MayMeet f t (fate.Begins u) = is_born f u.0 ≡ false
+MayMeet f t (fate.Awaits u) = (u.0 ≢ t) × (f u.0 ≡ true)
+MayMeet f t fate.Nothing = Unit {0}
+
+-- the thread t may have a line that does this: in version one each thread, and none begins or is awaited
+abbrev pub MayLive : Version → Forked → ℕ → Fate → Type 0
+MayLive One f t x = x ≡ fate.Nothing
+MayLive Two f t x = (is_born f t ≡ true) × MayMeet f t x
+
+abbrev pub forked_with : Forked → Fate → Forked
+forked_with f (fate.Begins u) t = cond (eqb u.0 t) true (f t)
+forked_with f (fate.Awaits u) t = f t
+forked_with f fate.Nothing t = f t
+
+abbrev pub forked_after : Forked → List Line → Forked
+forked_after f [] = f
+forked_after f (x ∷ xs) = forked_after (forked_with f (fate_of x.operation)) xs
+
 -- the line may come next
-pub record MayCome (l : Layout) (h : Holding) (x : Line) : Type 0 where
+pub record MayCome (l : Layout) (h : Holding) (f : Forked) (x : Line) : Type 0 where
   pub thread : x.thread.0 < l.threads
   pub named : IsNamed l x.operation
   pub may : MayDo h x.thread.0 x.operation
+  pub live : MayLive l.version f x.thread.0 (fate_of x.operation)
 
 abbrev pub held_after : Holding → List Line → Holding
 held_after h [] = h
 held_after h (x ∷ xs) = held_after (holding_after h x.thread.0 x.operation) xs
 
 -- the lines may come one after another
-abbrev pub MayFollow : Layout → Holding → List Line → Type 0
-MayFollow l h [] = Unit {0}
-MayFollow l h (x ∷ xs) = MayCome l h x × MayFollow l (holding_after h x.thread.0 x.operation) xs
+abbrev pub MayFollow : Layout → Holding → Forked → List Line → Type 0
+MayFollow l h f [] = Unit {0}
+MayFollow l h f (x ∷ xs) = MayCome l h f x × MayFollow l (holding_after h x.thread.0 x.operation) (forked_with f (fate_of x.operation)) xs
 
 -- no thread holds a mutex
 abbrev pub AllFree : Holding → Type 0

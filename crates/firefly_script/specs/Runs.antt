@@ -1,5 +1,7 @@
 -- What the run of a script leaves.
-use Rattle.std.specs.Prelude.{◌≡◌, ◌⊎◌, ℕ, zero, suc, ◌+◌, Bool, cond, eqb, List, [], ◌∷◌, ◌++◌}
+use Rattle.std.specs.Prelude.{◌≡◌, ◌⊎◌, ℕ, zero, suc, ◌+◌, Bool, true, false, cond, eqb, List, [], ◌∷◌, ◌++◌}
+use Rattle.larch_actions.specs.declared.event.Version.{Version}
+use Rattle.larch_actions.specs.declared.event.Version.TheVariants.{One, Two}
 use Rattle.larch_actions.specs.declared.thread_set.ThreadSet.{ThreadSet}
 use Rattle.larch_actions.specs.declared.event.CondId.{CondId}
 use Rattle.larch_actions.specs.declared.event.MutexId.{MutexId}
@@ -7,8 +9,9 @@ use Rattle.larch_actions.specs.declared.event.Event.{Event}
 use Rattle.larch_actions.specs.declared.event.Action.{Action}
 use Rattle.larch_actions.specs.declared.event.Action.TheVariants as action
 use Rattle.firefly_script.specs.declared.line.Operation.{Operation}
-use Rattle.firefly_script.specs.declared.line.Operation.TheVariants.{Acquire, Release, Wait, AlertWait, Signal, Broadcast, P, V, Alert, TestAlert, AlertP, Add, Until, AlertUntil}
+use Rattle.firefly_script.specs.declared.line.Operation.TheVariants.{Acquire, Release, Wait, AlertWait, Signal, Broadcast, P, V, Alert, TestAlert, AlertP, Add, Until, AlertUntil, Fork, Join}
 use Rattle.firefly_script.specs.declared.line.Line.{Line}
+use Rattle.firefly_script.specs.Operations.{is_born, none_forked, forked_after}
 
 abbrev pub event : ℕ → Action → Event
 event t a = record { thread = record { 0 = t }; action = a }
@@ -44,6 +47,8 @@ IsRow t (AlertP s) es = (es ≡ event t (action.AlertPReturn s) ∷ []) ⊎ (es 
 IsRow t (Add m n) es = es ≡ []
 IsRow t (Until m c n) es = (k : ℕ) × (es ≡ times k (waited t m c))
 IsRow t (AlertUntil m c n) es = (k : ℕ) × ((es ≡ times k (returned t m c)) ⊎ (es ≡ times k (returned t m c) ++ raised t m c))
+IsRow t (Fork u) es = es ≡ event t (action.Fork u) ∷ []
+IsRow t (Join u) es = es ≡ event t (action.Join u) ∷ []
 
 -- the lines of one thread, in order
 abbrev pub lines_of : ℕ → List Line → List Line
@@ -55,9 +60,19 @@ abbrev pub AreRows : ℕ → List Line → List Event → Type 0
 AreRows t [] es = es ≡ []
 AreRows t (x ∷ xs) es = (a b : List Event) × IsRow t x.operation a × AreRows t xs b × (es ≡ a ++ b)
 
--- the list is one that the thread t may make in a run of the script with these lines
-abbrev pub AreEventsOf : List Line → ℕ → List Event → Type 0
-AreEventsOf xs t es = AreRows t (lines_of t xs) es
+-- the list is those of the lines of the thread t
+abbrev pub AreCallsOf : List Line → ℕ → List Event → Type 0
+AreCallsOf xs t es = AreRows t (lines_of t xs) es
+
+-- behind them End, where the thread is one that was there; else there is nothing
+abbrev pub AreCallsAndEnd : Bool → List Line → ℕ → List Event → Type 0
+AreCallsAndEnd true xs t es = (calls : List Event) × AreCallsOf xs t calls × (es ≡ calls ++ event t action.End ∷ [])
+AreCallsAndEnd false xs t es = es ≡ []
+
+-- the list is one that the thread t may make in a run of the script of the version with these lines
+abbrev pub AreEventsOf : Version → List Line → ℕ → List Event → Type 0
+AreEventsOf One xs t es = AreCallsOf xs t es
+AreEventsOf Two xs t es = AreCallsAndEnd (is_born (forked_after none_forked xs) t) xs t es
 
 -- what the call adds to the number of the mutex m
 abbrev pub added_by : Operation → ℕ → ℕ

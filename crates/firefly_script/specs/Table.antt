@@ -1,8 +1,8 @@
--- The table of operations: for each its word, what stands behind the word, and what it does with a mutex.
+-- The table of operations: for each its word, what stands behind the word, and what it does with a mutex or a thread.
 use Rattle.std.specs.Prelude.{ℕ, ◌^◌, ◌<◌, ◌≤◌, List, [], ◌∷◌, ◌++◌, codes, decimal, slice_index}
 use Rattle.larch_actions.specs.declared.event.Layout.{Layout}
 use Rattle.firefly_script.specs.declared.line.Operation.{Operation}
-use Rattle.firefly_script.specs.declared.line.Operation.TheVariants.{Acquire, Release, Wait, AlertWait, Signal, Broadcast, P, V, Alert, TestAlert, AlertP, Add, Until, AlertUntil}
+use Rattle.firefly_script.specs.declared.line.Operation.TheVariants.{Acquire, Release, Wait, AlertWait, Signal, Broadcast, P, V, Alert, TestAlert, AlertP, Add, Until, AlertUntil, Fork, Join}
 use Rattle.firefly_script.specs.declared.table.Word.{Word}
 use Rattle.firefly_script.specs.declared.table.Word.TheVariants as word
 use Rattle.larch_actions.specs.declared.kind.Kind.TheVariants.{Mutex, Condition, Semaphore, Thread}
@@ -12,6 +12,8 @@ use Rattle.firefly_script.specs.declared.table.Operand.TheVariants.{Name, Amount
 use Rattle.firefly_script.specs.declared.table.Numbers.{Numbers}
 use Rattle.firefly_script.specs.declared.table.Use.{Use}
 use Rattle.firefly_script.specs.declared.table.Use.TheVariants.{Takes, Gives, Needs, Nothing}
+use Rattle.firefly_script.specs.declared.table.Fate.{Fate}
+use Rattle.firefly_script.specs.declared.table.Fate.TheVariants as fate
 
 -- a word as it is spelt
 abbrev pub word_text : Word → List ℕ
@@ -29,6 +31,8 @@ word_text word.AlertP = codes "alert-p"
 word_text word.Add = codes "add"
 word_text word.Until = codes "until"
 word_text word.AlertUntil = codes "alert-until"
+word_text word.Fork = codes "fork"
+word_text word.Join = codes "join"
 
 -- what stands behind it
 abbrev pub kinds_of : Word → List Operand
@@ -46,6 +50,8 @@ kinds_of word.AlertP = Name Semaphore ∷ []
 kinds_of word.Add = Name Mutex ∷ Amount ∷ []
 kinds_of word.Until = Name Mutex ∷ Name Condition ∷ Count ∷ []
 kinds_of word.AlertUntil = Name Mutex ∷ Name Condition ∷ Count ∷ []
+kinds_of word.Fork = Name Thread ∷ []
+kinds_of word.Join = Name Thread ∷ []
 
 -- the operation with these numbers
 abbrev pub made : Word → List ℕ → Operation
@@ -63,6 +69,8 @@ made word.AlertP ns = AlertP (record { 0 = slice_index ns 0 })
 made word.Add ns = Add (record { 0 = slice_index ns 0 }) (slice_index ns 1)
 made word.Until ns = Until (record { 0 = slice_index ns 0 }) (record { 0 = slice_index ns 1 }) (slice_index ns 2)
 made word.AlertUntil ns = AlertUntil (record { 0 = slice_index ns 0 }) (record { 0 = slice_index ns 1 }) (slice_index ns 2)
+made word.Fork ns = Fork (record { 0 = slice_index ns 0 })
+made word.Join ns = Join (record { 0 = slice_index ns 0 })
 
 -- the word of an operation, and the numbers behind it
 abbrev pub word_of : Operation → Word
@@ -80,6 +88,8 @@ word_of (AlertP s) = word.AlertP
 word_of (Add m n) = word.Add
 word_of (Until m c n) = word.Until
 word_of (AlertUntil m c n) = word.AlertUntil
+word_of (Fork u) = word.Fork
+word_of (Join u) = word.Join
 
 abbrev pub numbers_of : Operation → List ℕ
 numbers_of (Acquire m) = m.0 ∷ []
@@ -96,6 +106,8 @@ numbers_of (AlertP s) = s.0 ∷ []
 numbers_of (Add m n) = m.0 ∷ n ∷ []
 numbers_of (Until m c n) = m.0 ∷ c.0 ∷ n ∷ []
 numbers_of (AlertUntil m c n) = m.0 ∷ c.0 ∷ n ∷ []
+numbers_of (Fork u) = u.0 ∷ []
+numbers_of (Join u) = u.0 ∷ []
 
 -- what it does with a mutex
 abbrev pub use_of : Operation → Use
@@ -113,6 +125,14 @@ use_of (AlertP s) = Nothing
 use_of (Add m n) = Needs m
 use_of (Until m c n) = Needs m
 use_of (AlertUntil m c n) = Needs m
+use_of (Fork u) = Nothing
+use_of (Join u) = Nothing
+
+-- what it does with a thread
+abbrev pub fate_of : Operation → Fate
+fate_of (Fork u) = fate.Begins u
+fate_of (Join u) = fate.Awaits u
+fate_of _ = fate.Nothing
 
 -- the letter of a name; a number has none
 abbrev pub front_text : Operand → List ℕ

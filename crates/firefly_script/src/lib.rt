@@ -1,5 +1,6 @@
 //! Scripts of the threads package: what they say, their texts, and what a run of one leaves.
 //!
+//! A script is of version one, or of version two, in which lines fork and join threads.
 //! Promises: `read_script` gives the script of the text exactly where the whole input is one of at most 100,000 lines, and else names
 //! the first bad line, that the input is too long, a failed read or want of memory. A whole bad line wins over a later failed read.
 //! Stands on firefly_outside and larch_actions. The input is never held whole: a window of 64 KiB, and what was read.

@@ -61,6 +61,14 @@ pub enum Operation {
         cond: CondId,
         number: u64,
     },
+    /// Begins a thread.
+    Fork {
+        who: ThreadId,
+    },
+    /// Waits until the thread has ended.
+    Join {
+        who: ThreadId,
+    },
 }
 
 /// A call by a thread.

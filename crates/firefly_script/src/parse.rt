@@ -1,7 +1,7 @@
 //! What stands in the bytes of one line.
 ghost use Rattle.std.specs.Prelude.{◌≡◌, ◌<◌, ◌≤◌, ◌++◌, ◌∷◌, List, ℕ, codes, decimal, length, MatchOption};
-ghost use Rattle.larch_actions.specs.Layout.{layout_text};
-ghost use Rattle.firefly_script.specs.Layouts.{IsScriptLayout};
+ghost use Rattle.larch_actions.specs.Layout.{IsLawful, layout_text};
+ghost use Rattle.firefly_script.specs.Layouts.{IsLayoutIn};
 ghost use Rattle.firefly_script.specs.Faults.{Lacks};
 ghost use Rattle.firefly_script.specs.Operations.{IsNamed};
 ghost use Rattle.firefly_script.specs.Table.{IsWithin, operand_text};
@@ -11,12 +11,9 @@ ghost use Rattle.firefly_script.specs.Parsing.{Parses, IsField, AreParted, Are, 
 use crate::line::{Line, Operation};
 use crate::table::{Numbers, Operand, kinds, known_word, make};
 use itoa::Buffer;
-use larch_actions::{Layout, MOST_OBJECTS, ThreadId};
+use larch_actions::{Layout, MOST_OBJECTS, ThreadId, Version};
 use memchr::memchr;
 use std::str;
-
-// The greatest number of threads of a layout of version one.
-const MOST_THREADS: u32 = 64;
 
 /// The greatest number that an `add` may have.
 pub const MOST_ADDED: u64 = 1_000_000;
@@ -95,7 +92,7 @@ fn operand(bytes: &[u8], what: Operand, layout: &Layout) -> Option<u64>
 
 // All that stands behind a word, each behind a space.
 fn operands(bytes: &[u8], kinds: &[Operand], layout: &Layout) -> Option<Numbers>
-    requires lawful { IsScriptLayout layout.now }
+    requires lawful { IsLawful layout.now }
     requires few { length kinds.now ≤ 3 }
     ensures { MatchOption result (NoneAre layout.now kinds.now bytes.now) (λ x. Are layout.now kinds.now bytes.now (first_of kinds.now x)) }
 {
@@ -128,7 +125,7 @@ fn operands(bytes: &[u8], kinds: &[Operand], layout: &Layout) -> Option<Numbers>
 
 // An operation.
 fn operation(bytes: &[u8], layout: &Layout) -> Option<Operation>
-    requires { IsScriptLayout layout.now }
+    requires { IsLawful layout.now }
     ensures { Parses (IsNamed layout.now) operation_text bytes.now result }
 {
     let (word, behind) = parted(bytes);
@@ -143,7 +140,7 @@ fn operation(bytes: &[u8], layout: &Layout) -> Option<Operation>
 
 /// The line that the bytes are, without its newline.
 pub fn line(bytes: &[u8], layout: &Layout) -> Option<Line>
-    requires { IsScriptLayout layout.now }
+    requires { IsLawful layout.now }
     ensures { Parses (IsLineOf layout.now) line_text bytes.now result }
 {
     let Some((thread, behind)) = cut(bytes, b' ') else {
@@ -176,11 +173,11 @@ fn field<'b>(bytes: &'b [u8], word: &[u8], most: u32) -> Option<(u32, &'b [u8])>
     Some((number as u32, behind))
 }
 
-/// The layout that the bytes are, without the newline of its line.
-pub fn layout(bytes: &[u8]) -> Option<Layout>
-    ensures { Parses IsScriptLayout layout_text bytes.now result }
+/// The layout of the version that the bytes are, without the newline of its line.
+pub fn layout(bytes: &[u8], version: Version) -> Option<Layout>
+    ensures { Parses (IsLayoutIn version) layout_text bytes.now result }
 {
-    let Some((threads, behind)) = field(bytes, b"threads ", MOST_THREADS) else {
+    let Some((threads, behind)) = field(bytes, b"threads ", version.most_threads()) else {
         return None;
     };
     let Some((mutexes, behind)) = field(behind, b"mutexes ", MOST_OBJECTS) else {
@@ -195,6 +192,6 @@ pub fn layout(bytes: &[u8]) -> Option<Layout>
     let Some(semaphores) = number(digits, u64::from(MOST_OBJECTS)) else {
         return None;
     };
-    let layout = Layout::of(threads, mutexes, conditions, semaphores as u32);
+    let layout = Layout::of_version(version, threads, mutexes, conditions, semaphores as u32);
     if layout.lawful() { Some(layout) } else { None }
 }

@@ -1,40 +1,64 @@
 //! Reading scripts.
-ghost use Rattle.std.specs.Prelude.{◌≡◌, ◌+◌, ◌<◌, ◌≤◌, ◌++◌, ◌∷◌, [], List, ℕ, Ok, true, false, length, take, drop, Some, IfSome, IfOk, IfErr, OnOk, OnErr, MatchResult};
+ghost use Rattle.std.specs.Prelude.{◌≡◌, ◌+◌, ◌<◌, ◌≤◌, ◌++◌, ◌∷◌, [], List, ℕ, Ok, true, false, length, take, drop, Some, IfSome, IfOk, IfErr, OnOk, OnErr, MatchOption, MatchResult};
 ghost use Rattle.std.specs.Io.KnownBytes.{Consumes, IsAtEnd, prepend_known};
-ghost use Rattle.larch_actions.specs.Layout.{layout_text};
-ghost use Rattle.firefly_script.specs.Layouts.{IsScriptLayout};
+ghost use Rattle.larch_actions.specs.declared.event.Version.TheVariants.{Two};
+ghost use Rattle.larch_actions.specs.Layout.{IsLawful, layout_text};
+ghost use Rattle.firefly_script.specs.Layouts.{IsLayoutIn, head_lines};
 ghost use Rattle.firefly_script.specs.declared.line.Line.{Line};
-ghost use Rattle.firefly_script.specs.Operations.{MayFollow, none_held, held_after, AllFree};
-ghost use Rattle.firefly_script.specs.Text.{line_text, lines_text, IsScript, ReadsAs};
+ghost use Rattle.firefly_script.specs.Operations.{none_held, held_after, AllFree};
+ghost use Rattle.firefly_script.specs.Text.{line_text, first_line, IsScript, ReadsAs};
 ghost use Rattle.firefly_script.specs.Faults.{HasReason};
-ghost use Rattle.firefly_script.specs.Drafts.{IsDraft, Takes, HeadFault, TakeFault, EndFault, LineFault, LaterFault, IsDone, IsFinished};
+ghost use Rattle.firefly_script.specs.Drafts.{IsDraft, Takes, NoFirstIs, IsStart, HeadReason, FirstFault, SecondFault, TakeFault, EndFault, LineFault, LaterFault, IsDone, IsFinished};
 
 use crate::draft::Draft;
 use crate::next::{Found, next};
 use crate::parse;
 use crate::script::{Script, ScriptFault};
 use firefly_outside::{Source, Window};
-use larch_actions::Layout;
+use larch_actions::{Layout, Version};
 use std::alloc::Global;
 
-/// How many lines a script has at most, the layout line included.
+/// How many lines a script has at most, with those before the lines of the threads.
 pub const MOST_LINES: usize = 100_000;
 
-// Takes the layout line.
-fn head<I: Source>(window: &mut Window, input: &mut I) -> Result<Layout, ScriptFault>
-    ensures layout { IfOk result (λ l. IsScriptLayout l × Consumes (prepend_known window.old (I.left input.old))
-        (prepend_known window.new (I.left input.new)) (layout_text l ++ 10 ∷ [])) }
-    ensures fault { IfErr result (HeadFault (prepend_known window.old (I.left input.old)) (I.left input.new)
+// The first line of a script of version two.
+const SECOND_VERSION: &[u8] = b"firefly-script 2";
+
+// What a first line says.
+#[derive(Clone, Copy)]
+enum Start {
+    // the layout of version one
+    Layout(Layout),
+    // version two, whose layout comes next
+    Second,
+}
+
+// What the first line says, where it is one.
+fn start_of(bytes: &[u8]) -> Option<Start>
+    ensures { MatchOption result (NoFirstIs bytes.now) (IsStart bytes.now) }
+{
+    if bytes == SECOND_VERSION {
+        return Some(Start::Second);
+    }
+    let layout = parse::layout(bytes, Version::One)?;
+    Some(Start::Layout(layout))
+}
+
+// Takes the first line.
+fn first<I: Source>(window: &mut Window, input: &mut I) -> Result<Start, ScriptFault>
+    ensures start { IfOk result (λ s. (line : List ℕ) × IsStart line s × Consumes (prepend_known window.old (I.left input.old))
+        (prepend_known window.new (I.left input.new)) (line ++ 10 ∷ [])) }
+    ensures fault { IfErr result (FirstFault (prepend_known window.old (I.left input.old)) (I.left input.new)
         (I.faults input.old) (I.faults input.new)) }
     ensures later { I.faults input.old ≤ I.faults input.new }
 {
     match next(window, input) {
         Ok(Found::Whole { length }) => {
-            let Some(layout) = parse::layout(&window.bytes()[..length]) else {
+            let Some(start) = start_of(&window.bytes()[..length]) else {
                 return Err(ScriptFault::BadLine(1));
             };
             window.skip(length + 1);
-            Ok(layout)
+            Ok(start)
         }
         Ok(Found::Long) => Err(ScriptFault::BadLine(1)),
         Ok(Found::Open) => Err(ScriptFault::BadLine(1)),
@@ -43,23 +67,62 @@ fn head<I: Source>(window: &mut Window, input: &mut I) -> Result<Layout, ScriptF
     }
 }
 
+// Takes the layout line of version two, the second line.
+fn second<I: Source>(window: &mut Window, input: &mut I) -> Result<Layout, ScriptFault>
+    ensures layout { IfOk result (λ l. IsLayoutIn Two l × Consumes (prepend_known window.old (I.left input.old))
+        (prepend_known window.new (I.left input.new)) (layout_text l ++ 10 ∷ [])) }
+    ensures fault { IfErr result (SecondFault (prepend_known window.old (I.left input.old)) (I.left input.new)
+        (I.faults input.old) (I.faults input.new)) }
+    ensures later { I.faults input.old ≤ I.faults input.new }
+{
+    match next(window, input) {
+        Ok(Found::Whole { length }) => {
+            let Some(layout) = parse::layout(&window.bytes()[..length], Version::Two) else {
+                return Err(ScriptFault::BadLine(2));
+            };
+            window.skip(length + 1);
+            Ok(layout)
+        }
+        Ok(Found::Long) => Err(ScriptFault::BadLine(2)),
+        Ok(Found::Open) => Err(ScriptFault::BadLine(2)),
+        Ok(Found::End) => Err(ScriptFault::BadLine(2)),
+        Err(_) => Err(ScriptFault::Read),
+    }
+}
+
+// Takes all that stands before the lines of the threads.
+fn head<I: Source>(window: &mut Window, input: &mut I) -> Result<Layout, ScriptFault>
+    ensures layout { IfOk result (λ l. IsLawful l × Consumes (prepend_known window.old (I.left input.old))
+        (prepend_known window.new (I.left input.new)) (first_line l.version ++ (layout_text l ++ 10 ∷ []))) }
+    ensures fault { IfErr result (HeadReason (prepend_known window.old (I.left input.old)) (I.left input.new)
+        (I.faults input.old) (I.faults input.new)) }
+    ensures later { I.faults input.old ≤ I.faults input.new }
+{
+    match first(window, input) {
+        Ok(Start::Layout(layout)) => Ok(layout),
+        Ok(Start::Second) => second(window, input),
+        Err(fault) => Err(fault),
+    }
+}
+
 // The end of the input, behind these lines.
 fn end(draft: &Draft) -> Result<(), ScriptFault>
     requires draft { IsDraft draft.now }
-    requires few { length draft.now.lines.items ≤ 99999 }
-    ensures { MatchResult result (λ _. AllFree (held_after none_held draft.now.lines.items)) (EndFault draft.now.lines.items) }
+    requires few { head_lines draft.now.layout.version + length draft.now.lines.items ≤ 100000 }
+    ensures { MatchResult result (λ _. AllFree (held_after none_held draft.now.lines.items))
+        (EndFault draft.now.layout.version draft.now.lines.items) }
 {
     if draft.is_free() {
         Ok(())
     } else {
-        Err(ScriptFault::BadLine(draft.lines.len() as u64 + 2))
+        Err(ScriptFault::BadLine(draft.lines_read() as u64 + 1))
     }
 }
 
 // Takes the line of so many bytes that stands first in the window.
 fn take(window: &mut Window, size: usize, draft: &mut Draft) -> Result<(), ScriptFault>
     requires draft { IsDraft draft.old }
-    requires few { length draft.old.lines.items < 99999 }
+    requires few { head_lines draft.old.layout.version + length draft.old.lines.items < 100000 }
     requires whole { size < length window.old }
     ensures line { OnOk result ((x : Line) × (take size window.old ≡ line_text x) × Takes draft.old draft.new x
         × (window.new ≡ drop (size + 1) window.old)) }
@@ -67,7 +130,7 @@ fn take(window: &mut Window, size: usize, draft: &mut Draft) -> Result<(), Scrip
     ensures same { OnErr result (window.new ≡ window.old) }
     ensures layout { draft.new.layout ≡ draft.old.layout }
 {
-    let line = draft.lines.len() as u64 + 2;
+    let line = draft.lines_read() as u64 + 1;
     match draft.take(&window.bytes()[..size]) {
         Ok(true) => {
             window.skip(size + 1);
@@ -85,7 +148,7 @@ fn one<I: Source>(
     draft: &mut Draft,
 ) -> Result<bool, ScriptFault>
     requires draft { IsDraft draft.old }
-    requires few { length draft.old.lines.items < 99999 }
+    requires few { head_lines draft.old.layout.version + length draft.old.lines.items < 100000 }
     ensures line { result ≡ Ok true → (x : Line) × Takes draft.old draft.new x
         × Consumes (prepend_known window.old (I.left input.old)) (prepend_known window.new (I.left input.new))
         (line_text x ++ 10 ∷ []) }
@@ -96,7 +159,7 @@ fn one<I: Source>(
         (I.left input.new) (I.faults input.old) (I.faults input.new)) }
     ensures later { I.faults input.old ≤ I.faults input.new }
 {
-    let line = draft.lines.len() as u64 + 2;
+    let line = draft.lines_read() as u64 + 1;
     match next(window, input) {
         Ok(Found::Whole { length }) => match take(window, length, draft) {
             Ok(()) => Ok(true),
@@ -115,7 +178,7 @@ fn one<I: Source>(
 // Takes the end of the input behind the last line that there may be.
 fn full<I: Source>(window: &mut Window, input: &mut I, draft: &Draft) -> Result<(), ScriptFault>
     requires draft { IsDraft draft.now }
-    requires full { length draft.now.lines.items ≡ 99999 }
+    requires full { head_lines draft.now.layout.version + length draft.now.lines.items ≡ 100000 }
     ensures end { OnOk result (IsDone draft.now.lines.items (prepend_known window.old (I.left input.old)) (I.left input.new)) }
     ensures fault { IfErr result (LineFault draft.now.layout draft.now.lines.items (prepend_known window.old (I.left input.old))
         (I.left input.new) (I.faults input.old) (I.faults input.new)) }
@@ -146,7 +209,7 @@ fn lines<I: Source>(
     ensures later { I.faults input.old ≤ I.faults input.new }
 {
     loop {
-        if draft.lines.len() == MOST_LINES - 1 {
+        if draft.lines_read() == MOST_LINES {
             return full(window, input, draft);
         }
         match one(window, input, draft) {
@@ -161,7 +224,7 @@ fn lines<I: Source>(
 pub fn read_script<I: Source>(alloc: Global, input: &mut I) -> Result<Script, ScriptFault>
     ensures script { IfOk result (λ s. IfSome (I.left input.old) (λ bytes. ReadsAs bytes s.layout s.lines)) }
     ensures rules { IfOk result (λ s. IsScript s.layout s.lines) }
-    ensures few { IfOk result (λ s. length s.lines < 100000) }
+    ensures few { IfOk result (λ s. head_lines s.layout.version + length s.lines ≤ 100000) }
     ensures end { OnOk result (IsAtEnd (I.left input.new)) }
     ensures fault { IfErr result (HasReason (I.left input.old) (I.left input.new) (I.faults input.old) (I.faults input.new)) }
     ensures later { I.faults input.old ≤ I.faults input.new }
@@ -180,6 +243,7 @@ pub fn read_script<I: Source>(alloc: Global, input: &mut I) -> Result<Script, Sc
         layout,
         lines,
         held: _,
+        forked: _,
     } = draft;
     Ok(Script::new(layout, lines))
 }

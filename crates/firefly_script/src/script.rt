@@ -35,7 +35,6 @@ impl Model for Script {
 
 impl Script {
     ghost use Rattle.larch_actions.specs.Layout.{IsLawful};
-    ghost use Rattle.larch_actions.specs.declared.event.Version.TheVariants.{One};
     ghost use Rattle.firefly_script.specs.Text.{IsScript};
 
     /// A script of these lines.
@@ -48,11 +47,10 @@ impl Script {
         Script { layout, lines }
     }
 
-    /// How many threads, mutexes, conditions and semaphores it has.
+    /// Its version, and how many threads, mutexes, conditions and semaphores it has.
     pub fn layout(&self) -> Layout
         ensures layout { result ≡ self.now.layout }
         ensures lawful { IsLawful result }
-        ensures version { result.version ≡ One }
     {
         self.layout
     }

@@ -1,9 +1,9 @@
-//! The table of operations: for each its word, what stands behind the word, and what it does with a mutex.
+//! The table of operations: for each its word, what stands behind the word, and what it does with a mutex or a thread.
 //!
 //! A further operation is a row in each function here and in specs/Table.antt. Texts and their reading follow from the rows.
 ghost use Rattle.std.specs.Prelude.{◌≡◌, ◌<◌, ◌^◌, ◌↔◌, IsTrue};
 ghost use Rattle.firefly_script.specs.Parsing.{Parses};
-ghost use Rattle.firefly_script.specs.Table.{word_text, kinds_of, made, use_of, listed, AreSmall};
+ghost use Rattle.firefly_script.specs.Table.{word_text, kinds_of, made, use_of, fate_of, listed, AreSmall};
 
 use crate::line::Operation;
 use larch_actions::{CondId, Kind, MutexId, SemId, ThreadId};
@@ -25,6 +25,8 @@ pub enum Word {
     Add,
     Until,
     AlertUntil,
+    Fork,
+    Join,
 }
 
 /// What may stand behind a word.
@@ -56,6 +58,16 @@ pub enum Use {
     /// The thread holds it, and still does then.
     Needs(MutexId),
     /// It asks nothing.
+    Nothing,
+}
+
+/// What an operation does with a thread.
+#[derive(Clone, Copy)]
+pub enum Fate {
+    /// The thread begins.
+    Begins(ThreadId),
+    /// It waits for the thread's end.
+    Awaits(ThreadId),
     Nothing,
 }
 
@@ -99,6 +111,10 @@ pub fn known_word(bytes: &[u8]) -> Option<Word>
         Some(Word::Until)
     } else if are(bytes, b"alert-until") {
         Some(Word::AlertUntil)
+    } else if are(bytes, b"fork") {
+        Some(Word::Fork)
+    } else if are(bytes, b"join") {
+        Some(Word::Join)
     } else {
         None
     }
@@ -131,6 +147,8 @@ pub fn kinds(word: Word) -> &'static [Operand]
             Operand::Name(Kind::Condition),
             Operand::Count,
         ],
+        Word::Fork => &[Operand::Name(Kind::Thread)],
+        Word::Join => &[Operand::Name(Kind::Thread)],
     }
 }
 
@@ -187,6 +205,12 @@ pub fn make(word: Word, numbers: Numbers) -> Operation
             cond: CondId(numbers.second as u32),
             number: numbers.third,
         },
+        Word::Fork => Operation::Fork {
+            who: ThreadId(numbers.first as u32),
+        },
+        Word::Join => Operation::Join {
+            who: ThreadId(numbers.first as u32),
+        },
     }
 }
 
@@ -217,5 +241,18 @@ pub fn mutex_use(operation: &Operation) -> Use
             cond: _,
             number: _,
         } => Use::Needs(*mutex),
+        Operation::Fork { who: _ } => Use::Nothing,
+        Operation::Join { who: _ } => Use::Nothing,
+    }
+}
+
+/// What the operation does with a thread.
+pub fn thread_fate(operation: &Operation) -> Fate
+    ensures { result ≡ fate_of operation.now }
+{
+    match operation {
+        Operation::Fork { who } => Fate::Begins(*who),
+        Operation::Join { who } => Fate::Awaits(*who),
+        _ => Fate::Nothing,
     }
 }

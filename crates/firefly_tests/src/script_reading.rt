@@ -28,9 +28,9 @@ fn script_of(alloc: Global, text: &str) -> Result<Script, Fail> {
     }
 }
 
-// The script has these lines for 12 threads.
-fn has_lines(rt: &impl Abort, script: &Script, lines: &[Line]) {
-    same(rt, &script.layout().threads, &12);
+// The script has these lines for so many threads.
+fn has_lines(rt: &impl Abort, script: &Script, threads: u32, lines: &[Line]) {
+    same(rt, &script.layout().threads, &threads);
     same(rt, &script.lines(), &lines);
 }
 
@@ -59,7 +59,26 @@ fn lines_are_read_in_order(rt: HostRuntime) -> Result<(), Fail> {
     let text =
         "threads 12 mutexes 2 conditions 0 semaphores 1\nt0 p s0\nt11 acquire m1\nt11 add m1 1000000\nt11 release m1\nt0 v s0\n";
     let script = script_of(rt.alloc(), text)?;
-    has_lines(&rt, &script, &five_lines());
+    has_lines(&rt, &script, 12, &five_lines());
+    Ok(())
+}
+
+// The lines of the text below.
+fn forked_lines() -> [Line; 3] {
+    let who = ThreadId(255);
+    [
+        line(0, Operation::Fork { who }),
+        line(255, Operation::TestAlert),
+        line(0, Operation::Join { who }),
+    ]
+}
+
+#[test]
+fn forks_and_joins_are_read(rt: HostRuntime) -> Result<(), Fail> {
+    let text =
+        "firefly-script 2\nthreads 256 mutexes 0 conditions 0 semaphores 0\nt0 fork t255\nt255 test-alert\nt0 join t255\n";
+    let script = script_of(rt.alloc(), text)?;
+    has_lines(&rt, &script, 256, &forked_lines());
     Ok(())
 }
 

@@ -1,5 +1,5 @@
 -- The calls of a line.
-use Rattle.std.proofs.Common.{◌≡◌, ℕ, zero, suc, ◌+◌, ◌-◌, ◌^◌, ◌<◌, ◌≤◌, List, [], ◌∷◌, ◌++◌, append_assoc, length, get_or, refl, ap, sym, subst, ◌∙◌, append-nil, Bool, true, false, Some, None, arith}
+use Rattle.std.proofs.Common.{◌≡◌, ℕ, zero, suc, ◌+◌, ◌-◌, ◌^◌, ◌<◌, ◌≤◌, List, [], ◌∷◌, ◌++◌, length, get_or, refl, ap, sym, subst, ◌∙◌, append-nil, Bool, true, false, Some, None, arith}
 use mathlib.Core.Option.{some, some-ne-none}
 use lib.ListN.{get_elem?, set}
 use Rattle.std.proofs.lemmas.List.{length-set}
@@ -15,12 +15,15 @@ use Rattle.firefly_script.specs.declared.line.Operation.{Operation}
 use Rattle.firefly_script.specs.declared.line.Operation.TheVariants.{Acquire, Release, Add}
 use Rattle.firefly_script.specs.declared.line.Line.{Line}
 use Rattle.firefly_script.specs.declared.table.Use.{Use}
-use Rattle.firefly_script.specs.declared.table.Use.TheVariants.{Takes, Gives, Needs, Nothing}
-use Rattle.firefly_script.specs.Operations.{Holding, IsNamed, MayDo, MayUse, none_held, held_after, holding_with, holding_after, held_if, MayFollow}
-use Rattle.firefly_script.specs.Table.{use_of}
-use Rattle.script_run.specs.Playing.{Player, HasNumber, IsPlaying, HasMutex}
+use Rattle.firefly_script.specs.declared.table.Use.TheVariants.{Needs, Nothing}
+use Rattle.firefly_script.specs.Operations.{Holding, IsNamed, MayDo, MayUse, none_held, held_after, holding_with, holding_after, held_if, MayFollow, none_forked, Forked, MayCome, MayLive}
+use Rattle.larch_actions.specs.declared.event.Version.{Version}
+use Rattle.larch_actions.specs.declared.event.Version.TheVariants.{One}
+use Rattle.firefly_script.specs.declared.table.Fate.TheVariants as fate
+use Rattle.firefly_script.specs.Table.{use_of, fate_of}
+use Rattle.script_run.specs.Playing.{Player, HasNumber, IsPlaying, IsWide, HasMutex}
 use Rattle.firefly_script.specs.Runs.{IsRow, lines_of, total, added_by, event}
-use Rattle.script_run.proofs.Plays.{Stays, played, acquired, released, may_release, untouched, added_to, number_small, waited_for}
+use Rattle.script_run.proofs.Plays.{Stays, wide_set, played, acquired, released, may_release, untouched, added_to, number_small}
 use Rattle.script_run.proofs.Rows.{total_small}
 
 -- what the thread may do, at its own number and this operation
@@ -28,8 +31,8 @@ pub may_own : (h : Holding) (u t : ℕ) (o q : Operation) → u ≡ t → o ≡ 
 may_own h u t o q e f m = let P : ℕ → Type 0 = λ v. MayDo h v q in subst P e (let Q : Operation → Type 0 = λ r. MayDo h u r in subst Q f m)
 
 -- the sums of fewer than 99,999 lines are small
-pub sums_small : (l : Layout) (t m : ℕ) (xs : List Line) → MayFollow l none_held xs → length xs < 99999 → total (lines_of t xs) m ≤ 100000000000
-sums_small l t m xs f few = let s = total_small l none_held t m xs f in omega arith
+pub sums_small : (l : Layout) (t m : ℕ) (xs : List Line) → MayFollow l none_held none_forked xs → length xs < 99999 → total (lines_of t xs) m ≤ 100000000000
+sums_small l t m xs f few = let s = total_small l none_held none_forked t m xs f in omega arith
 
 -- the value got with a mutex that is held
 pub got : (held : List _) (m number : ℕ) (share : List Added) (sum : ℕ) (b : Bool) → b ≡ true → HasNumber b held m number share sum → (x : ℕ) × (get_elem? held m ≡ some (Some x))
@@ -43,17 +46,17 @@ module _ (p : Shape (Prim.Unit {0})) (xs : List Line) (numbers : List ℕ) (a : 
   abbrev h : Holding
   h = held_after none_held xs
 
-  stays : (b : Player) → AtRest p b → IsSame a b → length b.held ≡ 64 → Stays p a.number xs b
+  stays : (b : Player) → AtRest p b → IsSame a b → IsWide b.held → Stays p a.number xs b
   stays b rest same size = record { rest = rest; number = same.number; world = same.world ∙ s.world; held_size = size }
 
   -- the line finds its mutex held
-  pub has_mutex : (o : Operation) (m : MutexId) (l : Layout) → line.operation ≡ o → use_of o ≡ Needs m → MayDo h line.thread.0 line.operation → MayFollow l none_held xs → length xs < 99999 → HasMutex l a.number xs m.0
+  pub has_mutex : (o : Operation) (m : MutexId) (l : Layout) → line.operation ≡ o → use_of o ≡ Needs m → MayDo h line.thread.0 line.operation → MayFollow l none_held none_forked xs → length xs < 99999 → HasMutex l a.number xs m.0
   has_mutex o m l is uses may follow few =
       let U : Use → Type 0 = λ u. MayUse h a.number u in
       record { held = subst U uses (may_own h line.thread.0 a.number line.operation o own is may); follow = follow; few = few }
 
   -- after an event of its own
-  after_event : (o : Operation) (e : Event) (numbers' : List ℕ) (b : Player) (share : List Added) → line.operation ≡ o → IsRow a.number o (e ∷ []) → AtRest p b → IsSame a b → Adds [] e a b → length b.held ≡ 64 → length numbers' ≡ 64 → b.share ≡ Some share
+  after_event : (o : Operation) (e : Event) (numbers' : List ℕ) (b : Player) (share : List Added) → line.operation ≡ o → IsRow a.number o (e ∷ []) → AtRest p b → IsSame a b → Adds [] e a b → IsWide b.held → length numbers' ≡ 64 → b.share ≡ Some share
       → ((m : ℕ) → m < 64 → HasNumber (holding_after h a.number o a.number m) b.held m (get_or numbers' m 0) share (sums m + added_by o m))
       → IsPlaying p a.number (xs ++ line ∷ []) [] numbers' b
   after_event o e numbers' b share is row rest same adds held_size size is_share each =
@@ -66,7 +69,7 @@ module _ (p : Shape (Prim.Unit {0})) (xs : List Line) (numbers : List ℕ) (a : 
   after_acquire m x b is low may rest same adds held share above =
       let free = may_own h line.thread.0 a.number line.operation (Acquire m) own is may in
       let P : List _ → Type 0 = λ l. (k : ℕ) → k < 64 → HasNumber (held_if true h a.number m.0 a.number k) l k (get_or (set numbers m.0 x) k 0) s.share (sums k + 0) in
-      after_event (Acquire m) (event a.number (action.Acquire m)) (set numbers m.0 x) b s.share is refl rest same adds (ap length held ∙ length-set a.held m.0 (Some x) ∙ s.held_size) (length-set numbers m.0 x ∙ s.size) (share ∙ s.is_share)
+      after_event (Acquire m) (event a.number (action.Acquire m)) (set numbers m.0 x) b s.share is refl rest same adds (subst IsWide (sym held) (wide_set a.held m.0 (Some x) low s.held_size)) (length-set numbers m.0 x ∙ s.size) (share ∙ s.is_share)
       (subst P (sym held) (acquired h a.number m.0 a.held numbers s.share sums low s.size s.held_size s.each x free above))
 
   pub after_release : (m : MutexId) (x : ℕ) (b : Player) → line.operation ≡ Release m → m.0 < 64 → MayDo h line.thread.0 line.operation → get_elem? a.held m.0 ≡ some (Some x) → AtRest p b → IsSame a b → Adds [] (event a.number (action.Release m)) a b → b.held ≡ set a.held m.0 None
@@ -74,7 +77,7 @@ module _ (p : Shape (Prim.Unit {0})) (xs : List Line) (numbers : List ℕ) (a : 
   after_release m x b is low may has rest same adds held share =
       let mine = may_own h line.thread.0 a.number line.operation (Release m) own is may in
       let P : List _ → Type 0 = λ l. (k : ℕ) → k < 64 → HasNumber (held_if false h a.number m.0 a.number k) l k (get_or numbers k 0) (record { mutex = m.0; amount = get_or numbers m.0 0 - x } ∷ s.share) (sums k + 0) in
-      after_event (Release m) (event a.number (action.Release m)) numbers b (record { mutex = m.0; amount = get_or numbers m.0 0 - x } ∷ s.share) is refl rest same adds (ap length held ∙ length-set a.held m.0 None ∙ s.held_size) s.size share
+      after_event (Release m) (event a.number (action.Release m)) numbers b (record { mutex = m.0; amount = get_or numbers m.0 0 - x } ∷ s.share) is refl rest same adds (subst IsWide (sym held) (wide_set a.held m.0 None low s.held_size)) s.size share
       (subst P (sym held) (released h a.number m.0 a.held numbers s.share sums low s.size s.held_size s.each x mine has))
 
   -- an event that uses no mutex
@@ -83,7 +86,7 @@ module _ (p : Shape (Prim.Unit {0})) (xs : List Line) (numbers : List ℕ) (a : 
   after_quiet o e b is row none adds_none rest same adds held share =
       let Q : List _ → Type 0 = λ l. (m : ℕ) → m < 64 → HasNumber (h a.number m) l m (get_or numbers m 0) s.share (sums m + 0) in
       let each = subst Q (sym held) (untouched h a.number 0 a.held numbers s.share sums (omega arith) s.size s.held_size s.each) in
-      after_event o e numbers b s.share is row rest same adds (ap length held ∙ s.held_size) s.size (share ∙ s.is_share)
+      after_event o e numbers b s.share is row rest same adds (subst IsWide (sym held) s.held_size) s.size (share ∙ s.is_share)
       (λ m low.
       let U : Use → Type 0 = λ u. HasNumber (holding_with h a.number u a.number m) b.held m (get_or numbers m 0) s.share (sums m + added_by o m) in
       let N : ℕ → Type 0 = λ n. HasNumber (h a.number m) b.held m (get_or numbers m 0) s.share (sums m + n) in
@@ -99,14 +102,14 @@ module _ (p : Shape (Prim.Unit {0})) (xs : List Line) (numbers : List ℕ) (a : 
       (subst E (sym is) (added_to h a.number m.0 a.held numbers s.share sums low s.size s.held_size s.each n mine))
 
   -- what a release needs
-  pub release_needs : (m : MutexId) (l : Layout) → line.operation ≡ Release m → m.0 < 64 → MayDo h line.thread.0 line.operation → MayFollow l none_held xs → length xs < 99999
+  pub release_needs : (m : MutexId) (l : Layout) → line.operation ≡ Release m → m.0 < 64 → MayDo h line.thread.0 line.operation → MayFollow l none_held none_forked xs → length xs < 99999
       → (x : ℕ) × (get_elem? a.held m.0 ≡ some (Some x)) × GrowsAlike m.0 x (get_or numbers m.0 0) s.share (record { mutex = m.0; amount = get_or numbers m.0 0 - x } ∷ s.share)
   release_needs m l is low may follow few =
       let mine = may_own h line.thread.0 a.number line.operation (Release m) own is may in
       let x = got a.held m.0 (get_or numbers m.0 0) s.share (sums m.0) (h a.number m.0) mine (s.each m.0 low) in
       (x.0, x.1, may_release h a.number m.0 a.held numbers s.share sums low s.size s.held_size s.each x.0 mine x.1 (sums_small l a.number m.0 xs follow few))
 
-  pub add_fits : (m : MutexId) (n : ℕ) (l : Layout) → line.operation ≡ Add m n → n ≤ 1000000 → m.0 < 64 → MayDo h line.thread.0 line.operation → MayFollow l none_held xs → length xs < 99999 → get_or numbers m.0 0 + n < 2 ^ 64
+  pub add_fits : (m : MutexId) (n : ℕ) (l : Layout) → line.operation ≡ Add m n → n ≤ 1000000 → m.0 < 64 → MayDo h line.thread.0 line.operation → MayFollow l none_held none_forked xs → length xs < 99999 → get_or numbers m.0 0 + n < 2 ^ 64
   add_fits m n l is small low may follow few =
       let mine = may_own h line.thread.0 a.number line.operation (Add m n) own is may in
       let k = number_small h a.number m.0 a.held numbers s.share sums low s.size s.held_size s.each mine (sums_small l a.number m.0 xs follow few) in
@@ -119,3 +122,9 @@ elem_low (y ∷ l) (suc i) x e = let ih = elem_low l i x e in omega arith
 
 pub named_own : (l : Layout) (o q : Operation) → o ≡ q → IsNamed l o → IsNamed l q
 named_own l o q e n = let P : Operation → Type 0 = λ r. IsNamed l r in subst P e n
+
+-- in version one no line does anything with a thread
+pub no_fate : (l : Layout) (h : Holding) (f : Forked) (x : Line) (o : Operation) → l.version ≡ One → MayCome l h f x → x.operation ≡ o → (fate_of o ≡ fate.Nothing → ⊥) → ⊥
+no_fate l h f x o one may is other =
+    let P : Version → Type 0 = λ v. MayLive v f x.thread.0 (fate_of x.operation) in
+    other (ap fate_of (sym is) ∙ subst P one may.live)

@@ -1,8 +1,15 @@
+pub mod Births
 pub mod Calls
 pub mod Closing
 pub mod Crew
+pub mod Gathering
+pub mod Members
+pub mod Orders
+pub mod Parting
 pub mod Plays
+pub mod Putting
 pub mod Rows
+pub mod Starts
 pub mod Sums
 pub mod Waiting
 pub mod Whole

@@ -17,10 +17,17 @@ use Rattle.firefly_script.specs.declared.table.Use.TheVariants.{Takes, Gives, Ne
 use Rattle.firefly_script.specs.Table.{use_of}
 use Rattle.firefly_script.specs.declared.line.Line.{Line}
 use Rattle.firefly_script.specs.Operations.{Holding, none_held, held_after, holding_with, holding_after, held_if}
-use Rattle.script_run.specs.Playing.{Player, HasNumber, IsPlaying}
-use Rattle.firefly_script.specs.Runs.{IsRow, AreRows, AreEventsOf, lines_of, total, added_by}
+use Rattle.script_run.specs.Playing.{Player, HasNumber, IsPlaying, IsWide}
+use Rattle.firefly_script.specs.Runs.{AreCallsOf, IsRow, AreRows, lines_of, total, added_by}
 use Rattle.firefly_script.proofs.Follow.{held_append}
 use Rattle.script_run.proofs.Rows.{other_line, events_own, total_own}
+
+-- a number below 64 may change
+pub wide_set : (held : List (Opt ℕ)) (m : ℕ) (v : Opt ℕ) → m < 64 → IsWide held → IsWide (set held m v)
+wide_set held m v low w = record {
+  room = omega (arith, length-set held m v, w.room);
+  none = λ k x high at. w.none k x high (sym (set_else held m k v (λ e. absurd (omega arith))) ∙ at);
+}
 
 module _ (p : Shape (Prim.Unit {0})) (t : ℕ) (xs : List Line) where
   -- what stays true of the thread itself
@@ -28,10 +35,10 @@ module _ (p : Shape (Prim.Unit {0})) (t : ℕ) (xs : List Line) where
     pub rest : AtRest p b
     pub number : b.number ≡ t
     pub world : b.world ≡ Some tt
-    pub held_size : length b.held ≡ 64
+    pub held_size : IsWide b.held
 
   -- the thread after a line of its own
-  pub played : (x : Line) (numbers : List ℕ) (es a : List Event) (b : Player) (share : List Added) → x.thread.0 ≡ t → Stays b → length numbers ≡ 64 → AreEventsOf xs t es → IsRow t x.operation a → b.mine ≡ es ++ a → b.share ≡ Some share
+  pub played : (x : Line) (numbers : List ℕ) (es a : List Event) (b : Player) (share : List Added) → x.thread.0 ≡ t → Stays b → length numbers ≡ 64 → AreCallsOf xs t es → IsRow t x.operation a → b.mine ≡ es ++ a → b.share ≡ Some share
       → ((m : ℕ) → m < 64 → HasNumber (holding_after (held_after none_held xs) t x.operation t m) b.held m (get_or numbers m 0) share (total (lines_of t xs) m + added_by x.operation m))
       → IsPlaying p t (xs ++ x ∷ []) [] numbers b
   played x numbers es a b share own s size events row mine is_share each = record {
@@ -92,7 +99,7 @@ at_else : (b : Bool) (h : Holding) (t m k : ℕ) → (m ≡ k → ⊥) → held_
 at_else b h t m k ne = rw (eq-eqb t t refl, ne_eqb m k ne) refl
 
 -- what each kind of call makes of the numbers
-module _ (h : Holding) (t m : ℕ) (held : List (Opt ℕ)) (numbers : List ℕ) (share : List Added) (sums : ℕ → ℕ) (low : m < 64) (size : length numbers ≡ 64) (held_size : length held ≡ 64)
+module _ (h : Holding) (t m : ℕ) (held : List (Opt ℕ)) (numbers : List ℕ) (share : List Added) (sums : ℕ → ℕ) (low : m < 64) (size : length numbers ≡ 64) (held_size : IsWide held)
     (each : (k : ℕ) → k < 64 → HasNumber (h t k) held k (get_or numbers k 0) share (sums k)) where
   acquired_here : (x : ℕ) → h t m ≡ false → IsAbove m x share → HasNumber (held_if true h t m t m) (set held m (Some x)) m (get_or (set numbers m x) m 0) share (sums m + 0)
   acquired_here x free above =
@@ -101,7 +108,7 @@ module _ (h : Holding) (t m : ℕ) (held : List (Opt ℕ)) (numbers : List ℕ) 
       let was = subst Q free (each m low) in
       let now : get_or (set numbers m x) m 0 ≡ x = get_or-set_same numbers m x 0 (omega arith) in
       let e = was.1 in
-      subst P (sym (at_same true h t m)) (x, set_here held m (Some x) (omega arith), omega arith, above.small, omega arith)
+      subst P (sym (at_same true h t m)) (x, set_here held m (Some x) (omega (arith, held_size.room)), omega arith, above.small, omega arith)
 
   pub acquired : (x : ℕ) → h t m ≡ false → IsAbove m x share → (k : ℕ) → k < 64 → HasNumber (held_if true h t m t k) (set held m (Some x)) k (get_or (set numbers m x) k 0) share (sums k + 0)
   acquired x free above k lk =
@@ -140,7 +147,7 @@ module _ (h : Holding) (t m : ℕ) (held : List (Opt ℕ)) (numbers : List ℕ) 
       let le = was.2 in
       let e = was.4 in
       let here : added m (record { mutex = m; amount = get_or numbers m 0 - x } ∷ share) ≡ (get_or numbers m 0 - x) + added m share = rw (eq-eqb m m refl) refl in
-      subst P (sym (at_same false h t m)) (set_here held m None (omega arith), omega arith)
+      subst P (sym (at_same false h t m)) (set_here held m None (omega (arith, held_size.room)), omega arith)
 
   pub released : (x : ℕ) → h t m ≡ true → get_elem? held m ≡ some (Some x) → (k : ℕ) → k < 64 → HasNumber (held_if false h t m t k) (set held m None) k (get_or numbers k 0) (record { mutex = m; amount = get_or numbers m 0 - x } ∷ share) (sums k + 0)
   released x own got k lk =
@@ -202,13 +209,13 @@ taken_again h t m k own =
     ]
 
 -- a wait gives the number back that was got as x, and gets y
-pub waited_for : (h : Holding) (t m : ℕ) (held : List (Opt ℕ)) (numbers : List ℕ) (share : List Added) (sums : ℕ → ℕ) → m < 64 → length numbers ≡ 64 → length held ≡ 64 → ((k : ℕ) → k < 64 → HasNumber (h t k) held k (get_or numbers k 0) share (sums k))
+pub waited_for : (h : Holding) (t m : ℕ) (held : List (Opt ℕ)) (numbers : List ℕ) (share : List Added) (sums : ℕ → ℕ) → m < 64 → length numbers ≡ 64 → IsWide held → ((k : ℕ) → k < 64 → HasNumber (h t k) held k (get_or numbers k 0) share (sums k))
     → (x y : ℕ) → h t m ≡ true → get_elem? held m ≡ some (Some x) → IsAbove m y (record { mutex = m; amount = get_or numbers m 0 - x } ∷ share)
     → (k : ℕ) → k < 64 → HasNumber (h t k) (set held m (Some y)) k (get_or (set numbers m y) k 0) (record { mutex = m; amount = get_or numbers m 0 - x } ∷ share) (sums k)
 waited_for h t m held numbers share sums low size held_size each x y own got above k lk =
     let given : List Added = record { mutex = m; amount = get_or numbers m 0 - x } ∷ share in
     let free = released h t m held numbers share sums low size held_size each x own got in
-    let again = acquired (held_if false h t m) t m (set held m None) numbers given (λ i. sums i + 0) low size (length-set held m None ∙ held_size) free y (at_same false h t m) above k lk in
+    let again = acquired (held_if false h t m) t m (set held m None) numbers given (λ i. sums i + 0) low size (wide_set held m None low held_size) free y (at_same false h t m) above k lk in
     let plain : sums k + 0 + 0 ≡ sums k = omega arith in
     let B : Bool → Type 0 = λ b. HasNumber b (set held m (Some y)) k (get_or (set numbers m y) k 0) given (sums k) in
     let L : List (Opt ℕ) → Type 0 = λ l. HasNumber (held_if true (held_if false h t m) t m t k) l k (get_or (set numbers m y) k 0) given (sums k) in

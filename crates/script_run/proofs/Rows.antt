@@ -7,8 +7,9 @@ use Rattle.larch_actions.specs.declared.event.Event.{Event}
 use Rattle.firefly_script.specs.declared.line.Operation.{Operation}
 use Rattle.firefly_script.specs.declared.line.Operation.TheVariants.{Add}
 use Rattle.firefly_script.specs.declared.line.Line.{Line}
-use Rattle.firefly_script.specs.Operations.{Holding, IsNamed, holding_after, MayFollow}
-use Rattle.firefly_script.specs.Runs.{IsRow, AreRows, AreEventsOf, lines_of, added_by, total}
+use Rattle.firefly_script.specs.Operations.{Holding, Forked, IsNamed, holding_after, forked_with, MayFollow}
+use Rattle.firefly_script.specs.Table.{fate_of}
+use Rattle.firefly_script.specs.Runs.{AreCallsOf, IsRow, AreRows, lines_of, added_by, total}
 
 pub lines_append : (t : ℕ) (xs ys : List Line) → lines_of t (xs ++ ys) ≡ lines_of t xs ++ lines_of t ys
 lines_append t [] ys = refl
@@ -29,7 +30,7 @@ rows_snoc t [] y es a r row = (a, [], row, refl, ap (λ l. l ++ a) r ∙ sym (ap
 rows_snoc t (x ∷ ys) y es a r row =
     (r.0, r.1 ++ a, r.2, rows_snoc t ys y r.1 a r.3 row, ap (λ l. l ++ a) r.4 ∙ append_assoc r.0 r.1 a)
 
-pub events_own : (t : ℕ) (xs : List Line) (x : Line) (es a : List Event) → x.thread.0 ≡ t → AreEventsOf xs t es → IsRow t x.operation a → AreEventsOf (xs ++ x ∷ []) t (es ++ a)
+pub events_own : (t : ℕ) (xs : List Line) (x : Line) (es a : List Event) → x.thread.0 ≡ t → AreCallsOf xs t es → IsRow t x.operation a → AreCallsOf (xs ++ x ∷ []) t (es ++ a)
 events_own t xs x es a e r row =
     let P : List Line → Type 0 = λ ys. AreRows t ys (es ++ a) in
     subst P (sym (own_line t xs x e)) (rows_snoc t (lines_of t xs) x es a r row)
@@ -45,10 +46,10 @@ added_small : (l : Layout) (o : Operation) (m : ℕ) → IsNamed l o → added_b
 added_small l (Add k n) m h = elim (eqb_tells k.0 m) [ inl p ↦ rw p.0 h.1.0 | inr p ↦ rw p.0 (omega arith) ]
 added_small l _ m h = omega arith
 
-pub total_small : (l : Layout) (h : Holding) (t m : ℕ) (xs : List Line) → MayFollow l h xs → total (lines_of t xs) m ≤ length xs * 1000000
-total_small l h t m [] f = omega arith
-total_small l h t m (x ∷ xs) f =
-    let ih = total_small l (holding_after h x.thread.0 x.operation) t m xs f.1 in
+pub total_small : (l : Layout) (h : Holding) (g : Forked) (t m : ℕ) (xs : List Line) → MayFollow l h g xs → total (lines_of t xs) m ≤ length xs * 1000000
+total_small l h g t m [] f = omega arith
+total_small l h g t m (x ∷ xs) f =
+    let ih = total_small l (holding_after h x.thread.0 x.operation) (forked_with g (fate_of x.operation)) t m xs f.1 in
     let a = added_small l x.operation m f.0.named in
     elim (eqb_tells x.thread.0 t) [
       | inl p ↦ rw p.0 (omega arith)

@@ -12,7 +12,8 @@ use Rattle.nub_rule.specs.Known.{Shape}
 use Rattle.sum_uses.specs.declared.added.Added.{Added}
 use Rattle.sum_uses.specs.Sums.{added, total as share_total, AreSums}
 use Rattle.firefly_script.specs.declared.line.Line.{Line}
-use Rattle.firefly_script.specs.Operations.{Holding, holding_after, MayFollow}
+use Rattle.firefly_script.specs.Operations.{Holding, Forked, holding_after, forked_with, MayFollow}
+use Rattle.firefly_script.specs.Table.{fate_of}
 use Rattle.script_run.specs.Playing.{Player, IsPlayed}
 use Rattle.firefly_script.specs.Runs.{lines_of, total, added_by}
 
@@ -54,33 +55,44 @@ span_in k (suc n) m x xs low high =
           rw p.0 (omega (arith, span_in (k + 1) n m x xs (above k x.thread.0 low (λ e. ne (sym e))) (omega arith)))
     ]
 
-span_total : (l : Layout) (h : Holding) (m : ℕ) (xs : List Line) → MayFollow l h xs → span 0 l.threads m xs ≡ total xs m
-span_total l h m [] f = span_nothing 0 l.threads m
-span_total l h m (x ∷ xs) f =
-    span_in 0 l.threads m x xs (omega arith) (omega (arith, f.0.thread)) ∙ ap (λ s. added_by x.operation m + s) (span_total l (holding_after h x.thread.0 x.operation) m xs f.1)
+span_total : (l : Layout) (h : Holding) (g : Forked) (m : ℕ) (xs : List Line) → MayFollow l h g xs → span 0 l.threads m xs ≡ total xs m
+span_total l h g m [] f = span_nothing 0 l.threads m
+span_total l h g m (x ∷ xs) f =
+    span_in 0 l.threads m x xs (omega arith) (omega (arith, f.0.thread)) ∙ ap (λ s. added_by x.operation m + s) (span_total l (holding_after h x.thread.0 x.operation) (forked_with g (fate_of x.operation)) m xs f.1)
 
-shares_span : (p : Shape (Prim.Unit {0})) (xs : List Line) (m k : ℕ) (threads : List Player) (shares : List (List Added)) → m < 64 → ((n : ℕ) (t : Player) → get_elem? threads n ≡ some t → IsPlayed p xs (k + n) t)
+-- what the thread t has added is what its lines add
+pub record HasSums (xs : List Line) (t : ℕ) (me : Player) : Type 0 where
+  pub share : List Added
+  pub is_share : me.share ≡ Some share
+  pub sums : (m : ℕ) → m < 64 → added m share ≡ total (lines_of t xs) m
+
+shares_span : (xs : List Line) (m k : ℕ) (threads : List Player) (shares : List (List Added)) → m < 64 → ((n : ℕ) (t : Player) → get_elem? threads n ≡ some t → HasSums xs (k + n) t)
     → map (λ t. t.share) threads ≡ map (λ s. Some s) shares → share_total m shares ≡ span k (length threads) m xs
 unfolding span
-shares_span p xs m k [] [] low each e = refl
-shares_span p xs m k [] (s ∷ shares) low each e = absurd (cc)
-shares_span p xs m k (t ∷ threads) [] low each e = absurd (cc)
-shares_span p xs m k (t ∷ threads) (s ∷ shares) low each e =
+shares_span xs m k [] [] low each e = refl
+shares_span xs m k [] (s ∷ shares) low each e = absurd (cc)
+shares_span xs m k (t ∷ threads) [] low each e = absurd (cc)
+shares_span xs m k (t ∷ threads) (s ∷ shares) low each e =
     let head : t.share ≡ Some s = cc in
     let tail : map (λ t. t.share) threads ≡ map (λ s. Some s) shares = cc in
     let first = each 0 t refl in
     let same = some_same first.share s (sym first.is_share ∙ head) in
     let here : added m s ≡ total (lines_of (k + 0) xs) m = ap (added m) (sym same) ∙ first.sums m low in
     let at : total (lines_of (k + 0) xs) m ≡ total (lines_of k xs) m = let z : k + 0 ≡ k = omega arith in ap (λ i. total (lines_of i xs) m) z in
-    let ih = shares_span p xs m (k + 1) threads shares low (λ n u h. let q : k + 1 + n ≡ k + suc n = omega arith in let P : ℕ → Type 0 = λ i. IsPlayed p xs i u in subst P (sym q) (each (suc n) u h)) tail in
+    let ih = shares_span xs m (k + 1) threads shares low (λ n u h. let q : k + 1 + n ≡ k + suc n = omega arith in let P : ℕ → Type 0 = λ i. HasSums xs i u in subst P (sym q) (each (suc n) u h)) tail in
     let sum : added m s ≡ total (lines_of k xs) m = here ∙ at in
     omega (arith, sum, ih)
 
-pub shares_total : (p : Shape (Prim.Unit {0})) (l : Layout) (h : Holding) (xs : List Line) (m : ℕ) (threads : List Player) (shares : List (List Added)) → MayFollow l h xs → m < 64 → length threads ≡ l.threads
+pub sums_total : (l : Layout) (h : Holding) (g : Forked) (xs : List Line) (m : ℕ) (threads : List Player) (shares : List (List Added)) → MayFollow l h g xs → m < 64 → length threads ≡ l.threads
+    → ((n : ℕ) (t : Player) → get_elem? threads n ≡ some t → HasSums xs n t) → map (λ t. t.share) threads ≡ map (λ s. Some s) shares → share_total m shares ≡ total xs m
+sums_total l h g xs m threads shares f low count each e =
+    shares_span xs m 0 threads shares low (λ n t g. let q : 0 + n ≡ n = omega arith in let P : ℕ → Type 0 = λ i. HasSums xs i t in subst P (sym q) (each n t g)) e
+    ∙ ap (λ n. span 0 n m xs) count ∙ span_total l h g m xs f
+
+pub shares_total : (p : Shape (Prim.Unit {0})) (l : Layout) (h : Holding) (g : Forked) (xs : List Line) (m : ℕ) (threads : List Player) (shares : List (List Added)) → MayFollow l h g xs → m < 64 → length threads ≡ l.threads
     → ((n : ℕ) (t : Player) → get_elem? threads n ≡ some t → IsPlayed p xs n t) → map (λ t. t.share) threads ≡ map (λ s. Some s) shares → share_total m shares ≡ total xs m
-shares_total p l h xs m threads shares f low count each e =
-    shares_span p xs m 0 threads shares low (λ n t g. let q : 0 + n ≡ n = omega arith in let P : ℕ → Type 0 = λ i. IsPlayed p xs i t in subst P (sym q) (each n t g)) e
-    ∙ ap (λ n. span 0 n m xs) count ∙ span_total l h m xs f
+shares_total p l h g xs m threads shares f low count each e =
+    sums_total l h g xs m threads shares f low count (λ n t at. let b = each n t at in record { share = b.share; is_share = b.is_share; sums = b.sums }) e
 
 length-firsts : (n : ℕ) → length (firsts (λ i. let s : List Added = [] in s) n) ≡ n
 length-firsts n = length-map-range_with_len (λ i. let s : List Added = [] in s) 0 n

@@ -1,5 +1,5 @@
 -- Waits within a line.
-use Rattle.std.proofs.Common.{◌≡◌, ℕ, zero, suc, ◌+◌, ◌<◌, ◌≤◌, inl, inr, List, [], ◌∷◌, ◌++◌, append_assoc, append-nil, length, get_or, refl, ap, sym, subst, ◌∙◌, true, Some, arith}
+use Rattle.std.proofs.Common.{◌≡◌, ℕ, zero, suc, ◌+◌, ◌<◌, ◌≤◌, inl, inr, List, [], ◌∷◌, ◌++◌, append_assoc, append-nil, get_or, refl, ap, sym, subst, ◌∙◌, true, Some, arith}
 use mathlib.Core.Option.{some}
 use lib.ListN.{get_elem?, set}
 use Rattle.std.proofs.lemmas.List.{length-set}
@@ -23,9 +23,9 @@ use Rattle.firefly_script.specs.declared.table.Use.TheVariants.{Needs}
 use Rattle.firefly_script.specs.Operations.{none_held, held_after, holding_with}
 use Rattle.firefly_script.specs.Runs.{IsRow, added_by, lines_of, returned, times, total}
 use Rattle.firefly_script.specs.Table.{use_of}
-use Rattle.script_run.specs.Playing.{Player, HasNumber, IsPlaying, HasMutex, alertable, given_up}
+use Rattle.script_run.specs.Playing.{Player, HasNumber, IsPlaying, IsWide, HasMutex, alertable, given_up}
 use Rattle.script_run.proofs.Calls.{got, sums_small}
-use Rattle.script_run.proofs.Plays.{played, may_release, untouched, waited_for}
+use Rattle.script_run.proofs.Plays.{wide_set, played, may_release, untouched, waited_for}
 
 module _ (p : Shape (Prim.Unit {0})) (l : Layout) (xs : List Line) (es : List Event) (numbers : List ℕ) (a : Player) (s : IsPlaying p a.number xs es numbers a) (m : ℕ) (low : m < 64) (has : HasMutex l a.number xs m) where
   -- the number that was got, and that it may be given back as the number now
@@ -47,7 +47,7 @@ module _ (p : Shape (Prim.Unit {0})) (l : Layout) (xs : List Line) (es : List Ev
         number = same.number;
         world = same.world ∙ s.world;
         size = length-set numbers m y ∙ s.size;
-        held_size = ap length held ∙ length-set a.held m (Some y) ∙ s.held_size;
+        held_size = subst IsWide (sym held) (wide_set a.held m (Some y) low s.held_size);
         before = s.before;
         events = s.events;
         mine = adds.mine ∙ ap (λ q. (q ++ first ∷ []) ++ last ∷ []) s.mine ∙ append_assoc (s.before ++ es) (first ∷ []) (last ∷ []) ∙ append_assoc s.before es (first ∷ last ∷ []);

@@ -1,1 +1,4 @@
+pub mod Placing
 pub mod Playing
+pub mod Regions
+pub mod Slots

@@ -14,8 +14,8 @@ use Rattle.sum_uses.specs.Sums.{added}
 use Rattle.firefly_script.specs.declared.line.Line.{Line}
 use Rattle.alert_wait.specs.declared.outcome.Outcome.{Outcome}
 use Rattle.alert_wait.specs.declared.outcome.Outcome.TheVariants.{Returned, Alerted}
-use Rattle.firefly_script.specs.Operations.{none_held, held_after, MayFollow}
-use Rattle.firefly_script.specs.Runs.{AreEventsOf, lines_of, total, returned, raised}
+use Rattle.firefly_script.specs.Operations.{none_held, held_after, MayFollow, none_forked}
+use Rattle.firefly_script.specs.Runs.{AreCallsOf, lines_of, total, returned, raised}
 
 abbrev pub Player : Type 0
 Player = Known ℕ (List Added) (Prim.Unit {0})
@@ -25,15 +25,20 @@ abbrev pub HasNumber : Bool → List (Opt ℕ) → ℕ → ℕ → List Added �
 HasNumber true held m number share sum = (x : ℕ) × (get_elem? held m ≡ some (Some x)) × (x ≤ number) × (x ≤ 25600000000000) × (added m share + number ≡ sum + x)
 HasNumber false held m number share sum = (get_elem? held m ≡ some None) × (added m share ≡ sum)
 
+-- there is room for the numbers of all mutexes, and none beyond
+pub record IsWide (held : List (Opt ℕ)) : Type 0 where
+  pub room : 64 ≤ length held
+  pub none : (m x : ℕ) → 64 ≤ m → get_elem? held m ≡ some (Some x) → ⊥
+
 -- The thread t has played its lines of these, and in a further one has made the events es; no call of it is open.
 pub record IsPlaying (p : Shape (Prim.Unit {0})) (t : ℕ) (xs : List Line) (es : List Event) (numbers : List ℕ) (me : Player) : Type 0 where
   pub rest : AtRest p me
   pub number : me.number ≡ t
   pub world : me.world ≡ Some tt
   pub size : length numbers ≡ 64
-  pub held_size : length me.held ≡ 64
+  pub held_size : IsWide me.held
   pub before : List Event
-  pub events : AreEventsOf xs t before
+  pub events : AreCallsOf xs t before
   pub mine : me.mine ≡ before ++ es
   pub share : List Added
   pub is_share : me.share ≡ Some share
@@ -42,7 +47,7 @@ pub record IsPlaying (p : Shape (Prim.Unit {0})) (t : ℕ) (xs : List Line) (es 
 -- after these lines, of which there are few, the thread t has the mutex m
 pub record HasMutex (l : Layout) (t : ℕ) (xs : List Line) (m : ℕ) : Type 0 where
   pub held : held_after none_held xs t m ≡ true
-  pub follow : MayFollow l none_held xs
+  pub follow : MayFollow l none_held none_forked xs
   pub few : length xs < 99999
 
 -- the events of an alertable wait that ends so; what follows the waits that returned, where the last ended so
@@ -57,7 +62,7 @@ given_up Alerted t m c = raised t m c
 -- the thread t has played all its lines of these
 pub record IsPlayed (p : Shape (Prim.Unit {0})) (xs : List Line) (t : ℕ) (me : Player) : Type 0 where
   pub done : IsDone p t me
-  pub events : AreEventsOf xs t me.mine
+  pub events : AreCallsOf xs t me.mine
   pub share : List Added
   pub is_share : me.share ≡ Some share
   pub sums : (m : ℕ) → m < 64 → added m share ≡ total (lines_of t xs) m

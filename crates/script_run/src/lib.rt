@@ -6,8 +6,13 @@
 //! and that the threads ran beside each other is shown by runs alone.
 #![tactic(auto)]
 
+mod forked;
+mod parts;
+mod placing;
 mod play;
+mod regions;
 mod run;
+mod slots;
 mod waits;
 
 pub use run::run_script;

@@ -1,8 +1,11 @@
 //! The part of one thread in the run of a script.
-ghost use Rattle.std.specs.Prelude.{◌≡◌, ◌<◌, ◌∷◌, ◌++◌, [], List, length};
+ghost use Rattle.std.specs.Prelude.{◌≡◌, ◌≢◌, ◌<◌, ◌∷◌, ◌++◌, [], List, length};
+ghost use Rattle.larch_actions.specs.declared.event.Version.TheVariants.{One};
 ghost use Rattle.larch_actions.specs.Layout.{IsLawful};
+ghost use Rattle.larch_actions.specs.declared.event.ThreadId.{ThreadId};
 ghost use Rattle.firefly_script.specs.declared.line.Line.{Line};
-ghost use Rattle.firefly_script.specs.Operations.{none_held, held_after, MayCome, MayFollow};
+ghost use Rattle.firefly_script.specs.declared.line.Operation.TheVariants.{Fork};
+ghost use Rattle.firefly_script.specs.Operations.{none_held, held_after, MayCome, MayFollow, none_forked, forked_after};
 ghost use Rattle.firefly_script.specs.Text.{IsScript};
 ghost use Rattle.script_run.specs.Playing.{IsPlaying, IsPlayed};
 ghost use Rattle.nub.specs.Ended.{IsFirst};
@@ -13,13 +16,14 @@ use alerts::{alert, test_alert};
 use bin_semaphore::{p, v};
 use condition::{broadcast, signal};
 use firefly_script::{Line, Operation};
+use nub::join_thread;
 use nub_rule::{Package, Thread};
 use std::sync::Wait;
 use sum_uses::{AddChange, SumUses};
 use user_mutex::{acquire, release};
 
-// Makes the call of one line of the thread.
-fn play_line<R: Wait>(
+/// Makes the call of one line of the thread that forks none.
+pub fn play_line<R: Wait>(
     rt: &R,
     pkg: &Package<SumUses>,
     me: &mut Thread<SumUses>,
@@ -27,12 +31,14 @@ fn play_line<R: Wait>(
     line: &Line,
 )
     requires lawful { IsLawful pkg.now.layout }
+    requires no_fork { (u : ThreadId) → line.now.operation ≢ Fork u }
     requires own { line.now.thread.0 ≡ me.old.number }
     requires playing { (xs : List Line) × IsPlaying pkg.now me.old.number xs [] numbers.old me.old
-        × MayCome pkg.now.layout (held_after none_held xs) line.now × MayFollow pkg.now.layout none_held xs
-        × (length xs < 99999) }
+        × MayCome pkg.now.layout (held_after none_held xs) (forked_after none_forked xs) line.now
+        × MayFollow pkg.now.layout none_held none_forked xs × (length xs < 99999) }
     ensures { (xs : List Line) → IsPlaying pkg.now me.old.number xs [] numbers.old me.old
-        → MayCome pkg.now.layout (held_after none_held xs) line.now → MayFollow pkg.now.layout none_held xs → length xs < 99999
+        → MayCome pkg.now.layout (held_after none_held xs) (forked_after none_forked xs) line.now
+        → MayFollow pkg.now.layout none_held none_forked xs → length xs < 99999
         → IsPlaying pkg.now me.old.number (xs ++ line.now ∷ []) [] numbers.new me.new }
 {
     match &line.operation {
@@ -73,6 +79,8 @@ fn play_line<R: Wait>(
         } => {
             let _ = alert_until(rt, pkg, me, numbers, *mutex, *cond, *number);
         }
+        Operation::Fork { who: _ } => unreachable!(),
+        Operation::Join { who } => join_thread(rt, pkg, me, *who),
     }
 }
 
@@ -83,6 +91,7 @@ pub fn play<R: Wait>(
     me: Thread<SumUses>,
     lines: &[Line],
 ) -> Thread<SumUses>
+    requires version { pkg.now.layout.version ≡ One }
     requires script { IsScript pkg.now.layout lines.now }
     requires few { length lines.now < 100000 }
     requires first { IsFirst pkg.now (λ w t. []) me.number me }

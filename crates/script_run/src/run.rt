@@ -2,6 +2,7 @@
 ghost use Rattle.std.specs.Prelude.{◌≡◌, ◌<◌, ◌≤◌, ℕ, List, [], map, replicate, length, slice_index, IfOk, Some};
 ghost use Rattle.std.specs.List.{AllByRecursion};
 ghost use Rattle.larch_actions.specs.declared.event.Event.{Event};
+ghost use Rattle.larch_actions.specs.declared.event.Version.TheVariants.{One};
 ghost use Rattle.larch_actions.specs.Layout.{HasNames};
 ghost use Rattle.larch_actions.specs.Actions.{IsClosed, by_thread};
 ghost use Rattle.nub_rule.specs.Items.{Each};
@@ -10,8 +11,10 @@ ghost use Rattle.firefly_script.specs.Text.{IsScript};
 ghost use Rattle.firefly_script.specs.Runs.{AreEventsOf, total};
 ghost use Rattle.script_run.specs.Playing.{IsPlayed};
 
+use crate::forked::run_forked;
 use crate::play::play;
 use firefly_script::{Line, Operation, Script};
+use larch_actions::Version;
 use nub::{Closed, close_package, open_package};
 use nub_rule::{Package, Thread};
 use package_crew::{Gate, at_once};
@@ -20,8 +23,8 @@ use std::sync::Wait;
 use std::thread::Threads;
 use sum_uses::SumUses;
 
-// The numbers behind the mutexes at first.
-fn zeros(alloc: Global, count: u32) -> Result<Vec<u64>, AllocError>
+/// The numbers behind the mutexes at first.
+pub fn zeros(alloc: Global, count: u32) -> Result<Vec<u64>, AllocError>
     ensures { IfOk result (λ v. v.items ≡ replicate count 0) }
 {
     vec![in alloc; 0; count as usize]
@@ -52,9 +55,10 @@ fn call_events(operation: &Operation) -> usize
     }
 }
 
-// How many events the thread's own lines make.
-fn own_events(lines: &[Line], number: u32) -> usize
+/// How many events the thread's own lines make.
+pub fn own_events(lines: &[Line], number: u32) -> usize
     requires { length lines.now < 100000 }
+    ensures { result < 200000 }
 {
     let mut events = 0;
     for line in lines {
@@ -89,6 +93,7 @@ fn play_all<R: Threads + Wait + Sync, G: Gate>(
     lines: &[Line],
     gate: &G,
 ) -> Result<Vec<Thread<SumUses>>, AllocError>
+    requires version { pkg.now.layout.version ≡ One }
     requires script { IsScript pkg.now.layout lines.now }
     requires few { length lines.now < 100000 }
     requires threads { Each (IsFirst pkg.now (λ w t. [])) threads.items }
@@ -100,7 +105,8 @@ fn play_all<R: Threads + Wait + Sync, G: Gate>(
         alloc,
         threads,
         &|me: Thread<SumUses>| -> (Thread<SumUses>, ())
-            requires { IsFirst pkg.now (λ w t. []) me.number me × IsScript pkg.now.layout lines.now × (length lines.now < 100000) }
+            requires { IsFirst pkg.now (λ w t. []) me.number me × (pkg.now.layout.version ≡ One) × IsScript pkg.now.layout lines.now
+                × (length lines.now < 100000) }
             ensures { IsPlayed pkg.entry.now lines.entry.now me.number result.0 }
         {
             gate.pass(me.number());
@@ -110,12 +116,14 @@ fn play_all<R: Threads + Wait + Sync, G: Gate>(
     Ok(threads)
 }
 
-/// Runs a script: a thread for each number in a traced package of its own, which is closed when all have ended. Each thread passes the
-/// gate once, with its number, before its first line.
+/// Runs a script in a traced package of its own, which is closed when all threads have ended: in version one a thread for each number; in
+/// version two thread 0, and each that a line forks, which is started at that line. Each thread passes the gate once, with its number,
+/// before its first line.
 ///
-/// Room for the events is taken before the first thread starts, with one wait for each `until` and `alert-until`. Where these wait oftener
-/// and there is no memory for it, the run goes on to its end and is refused then. Where a thread can't be started, its lines are played
-/// here once all others were started. A run may wait for ever.
+/// Room for the events is taken before the first thread starts, or at its fork, with one wait for each `until` and `alert-until`. Where
+/// these wait oftener and there is no memory for it, the run goes on to its end and is refused then. Where a thread can't be started, its
+/// lines are played here: in version one once all others were started, and in version two before the rest of the lines of the thread that
+/// forks it. A run may wait for ever.
 pub fn run_script<R: Threads + Wait + Sync, G: Gate>(
     rt: &R,
     alloc: Global,
@@ -125,7 +133,28 @@ pub fn run_script<R: Threads + Wait + Sync, G: Gate>(
     ensures layout { IfOk result (λ c. c.layout ≡ script.now.layout) }
     ensures trace { IfOk result (λ c. (h : List Event) × (c.trace ≡ Some h) × IsClosed script.now.layout.version h
         × AllByRecursion (HasNames script.now.layout) h × ((t : ℕ) → t < script.now.layout.threads
-        → AreEventsOf script.now.lines t (by_thread t h))) }
+        → AreEventsOf script.now.layout.version script.now.lines t (by_thread t h))) }
+    ensures count { IfOk result (λ c. length c.values ≡ script.now.layout.mutexes) }
+    ensures values { IfOk result (λ c. (m : ℕ) → m < script.now.layout.mutexes → slice_index c.values m ≡ total script.now.lines m) }
+{
+    match script.layout().version {
+        Version::One => run_all(rt, alloc, script, gate),
+        Version::Two => run_forked(rt, alloc, script, gate),
+    }
+}
+
+// Runs a script of version one.
+fn run_all<R: Threads + Wait + Sync, G: Gate>(
+    rt: &R,
+    alloc: Global,
+    script: &Script,
+    gate: &G,
+) -> Result<Closed<SumUses>, AllocError>
+    requires version { script.now.layout.version ≡ One }
+    ensures layout { IfOk result (λ c. c.layout ≡ script.now.layout) }
+    ensures trace { IfOk result (λ c. (h : List Event) × (c.trace ≡ Some h) × IsClosed script.now.layout.version h
+        × AllByRecursion (HasNames script.now.layout) h × ((t : ℕ) → t < script.now.layout.threads
+        → AreEventsOf script.now.layout.version script.now.lines t (by_thread t h))) }
     ensures count { IfOk result (λ c. length c.values ≡ script.now.layout.mutexes) }
     ensures values { IfOk result (λ c. (m : ℕ) → m < script.now.layout.mutexes → slice_index c.values m ≡ total script.now.lines m) }
 {

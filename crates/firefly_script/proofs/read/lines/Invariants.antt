@@ -1,5 +1,6 @@
-use Rattle.std.proofs.Common.{◌≡◌, ◌-◌, ◌≤◌, length}
+use Rattle.std.proofs.Common.{◌≡◌, ◌+◌, ◌-◌, ◌≤◌, length}
 use Rattle.std.specs.Io.KnownBytes.{Consumes, prepend_known}
+use Rattle.firefly_script.specs.Layouts.{head_lines}
 use Rattle.firefly_script.specs.Drafts.{IsDraft}
 use Rattle.firefly_script.specs.Text.{lines_text}
 use Rattle.firefly_script.proofs.read.lines.Given as goal
@@ -8,10 +9,10 @@ abbrev pub invariant-loop-window : goal.invariant-loop-window
 invariant-loop-window g l = record {
   draft : IsDraft l.draft;
   layout : l.draft.layout ≡ l.initial.draft.layout;
-  few : length l.draft.lines.items ≤ 99999;
+  few : head_lines l.draft.layout.version + length l.draft.lines.items ≤ 100000;
   consumed : Consumes (prepend_known l.initial.window (g.I.Source.left l.initial.input)) (prepend_known l.window (g.I.Source.left l.input)) (lines_text l.draft.lines.items);
   later : g.I.Source.faults l.initial.input ≤ g.I.Source.faults l.input;
 }
 
 abbrev pub decreases-loop-window : goal.decreases-loop-window
-decreases-loop-window g l = 99999 - length l.draft.lines.items
+decreases-loop-window g l = 100000 - length l.draft.lines.items

@@ -20,13 +20,13 @@ pub returns-in-Ok-Long-clause-fault : goal.returns-in-Ok-Long-clause-fault
 returns-in-Ok-Long-clause-fault g c =
     let f = rw c.in-Ok-Long.field-0-is at c.in-Ok-Long.ensures.found in
     let d = c.args.draft.now in
-    long_bad d.layout d.lines.items _ (g.I.Source.left c.next.new.input) c.next.new.window (g.I.Source.faults c.args.input.now) (g.I.Source.faults c.next.new.input) (c.len.result + 2) c.requires.draft.lawful c.in-Ok-Long.ensures.kept (omega (arith, c.len.ensures)) c.requires.few f.0 f.1
+    long_bad d.layout d.lines.items _ (g.I.Source.left c.next.new.input) c.next.new.window (g.I.Source.faults c.args.input.now) (g.I.Source.faults c.next.new.input) (c.lines_read.result + 1) c.requires.draft.lawful c.in-Ok-Long.ensures.kept (omega (arith, c.lines_read.ensures)) c.requires.few f.0 f.1
 
 pub returns-in-Ok-Open-clause-fault : goal.returns-in-Ok-Open-clause-fault
 returns-in-Ok-Open-clause-fault g c =
     let f = rw c.in-Ok-Open.field-0-is at c.in-Ok-Open.ensures.found in
     let d = c.args.draft.now in
-    open_bad d.layout d.lines.items _ (g.I.Source.left c.next.new.input) c.next.new.window (g.I.Source.faults c.args.input.now) (g.I.Source.faults c.next.new.input) (c.len.result + 2) c.in-Ok-Open.ensures.kept (omega (arith, c.len.ensures)) c.requires.few f.0 f.1 f.2
+    open_bad d.layout d.lines.items _ (g.I.Source.left c.next.new.input) c.next.new.window (g.I.Source.faults c.args.input.now) (g.I.Source.faults c.next.new.input) (c.lines_read.result + 1) c.in-Ok-Open.ensures.kept (omega (arith, c.lines_read.ensures)) c.requires.few f.0 f.1 f.2
 
 pub returns-in-Ok-clause-end : goal.returns-in-Ok-clause-end
 returns-in-Ok-clause-end g c e = not_false e

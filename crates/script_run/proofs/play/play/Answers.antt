@@ -3,6 +3,8 @@ use Rattle.std.proofs.lemmas.List.{take_all, take_more}
 use Rattle.script_run.specs.Playing.{IsPlaying}
 use Rattle.script_run.proofs.Plays.{passed}
 use Rattle.script_run.proofs.Whole.{moved, comes_at, begins, ends}
+use Rattle.firefly_script.specs.declared.line.Operation.TheVariants.{Fork}
+use Rattle.script_run.proofs.Calls.{no_fate}
 use Rattle.script_run.proofs.play.play.Goals as goal
 use Rattle.script_run.proofs.play.play.Goals.{then-line-number, else-line-number}
 
@@ -49,3 +51,8 @@ returns g c =
     let all = take_all i c.args.lines.now high in
     ends c.args.pkg.now c.args.pkg.now.layout c.args.me.number c.args.lines.now c.loop-line.numbers c.loop-line.me c.requires.script
     (moved c.args.pkg.now c.number-number.result c.args.me.number (take i c.args.lines.now) c.args.lines.now c.loop-line.numbers c.loop-line.numbers c.loop-line.me c.loop-line.me c.number-number.ensures all refl refl c.loop-line.invariant)
+
+pub play_line-requires-clause-no_fork : goal.play_line-requires-clause-no_fork
+play_line-requires-clause-no_fork g c u is =
+    let at = comes_at c.args.pkg.now.layout c.args.lines.now c.loop-line.line-index _ c.requires.script.follow c.loop-line-test.true in
+    no_fate c.args.pkg.now.layout _ _ _ (Fork u) c.requires.version at.1 is (λ z. absurd (cc))

@@ -1,7 +1,7 @@
 use Rattle.std.proofs.Common.{◌≡◌, ◌-◌, [], ◌∷◌, ◌++◌, List, Some, Option, slice_index_or, refl, sym, subst, ◌∙◌, arith}
 use Rattle.sum_uses.specs.declared.added.Added.{Added}
 use Rattle.sum_uses.specs.Sums.{GrowsAlike}
-use Rattle.firefly_script.specs.declared.line.Operation.TheVariants.{Acquire, Release, Wait, AlertWait, Signal, Broadcast, P, V, Alert, TestAlert, AlertP, Add, Until, AlertUntil}
+use Rattle.firefly_script.specs.declared.line.Operation.TheVariants.{Acquire, Release, Wait, AlertWait, Signal, Broadcast, P, V, Alert, TestAlert, AlertP, Add, Until, AlertUntil, Join}
 use Rattle.larch_actions.specs.declared.event.Action.TheVariants as action
 use Rattle.firefly_script.specs.Runs.{event, returned, times, waited}
 use Rattle.larch_actions.specs.Sets.{set_of}
@@ -200,3 +200,9 @@ returns-in-AlertP g c xs s may follow few =
     let e = c.alert_p.ensures in
     let t = c.args.me.now.number in
     after_quiet c.args.pkg.now xs c.args.numbers.now c.args.me.now c.args.line.now s c.requires.own (AlertP c.in-AlertP.sem) (p_end c.alert_p.result t c.in-AlertP.sem.0) c.alert_p.new.me c.in-AlertP.is (p_row c.alert_p.result t c.in-AlertP.sem) refl (λ m. refl) e.rest e.same e.event e.held e.share
+
+pub returns-in-Join : goal.returns-in-Join
+returns-in-Join g c xs s may follow few =
+    let e = c.join_thread.ensures in
+    let t = c.args.me.now.number in
+    after_quiet c.args.pkg.now xs c.args.numbers.now c.args.me.now c.args.line.now s c.requires.own (Join c.in-Join.who) (event t (action.Join c.in-Join.who)) c.join_thread.new.me c.in-Join.is refl refl (λ m. refl) e.rest e.same e.event e.held e.share

@@ -4,7 +4,7 @@ use Rattle.script_run.proofs.Crew.{own_first}
 use Rattle.script_run.proofs.run.play_all.Goals as goal
 
 pub at_once-requires-after_bounds : goal.at_once-requires-after_bounds
-at_once-requires-after_bounds g c κs within = λ n t got. ((own_first c.args.pkg.now n t (c.requires.threads n t got), c.requires.script, c.requires.few), search rules)
+at_once-requires-after_bounds g c κs within = λ n t got. ((own_first c.args.pkg.now n t (c.requires.threads n t got), c.requires.version, c.requires.script, c.requires.few), search rules)
 
 pub returns-clause-played : goal.returns-clause-played
 returns-clause-played g c = λ n x got.

@@ -1,11 +1,11 @@
-use Rattle.std.proofs.Common.{◌≡◌, ◌<◌, ◌∷◌, ◌++◌, List, true, Some, Option, slice_index_or, sym, subst, ◌∙◌, ap, arith}
+use Rattle.std.proofs.Common.{◌≡◌, ◌<◌, ◌++◌, List, true, Some, Option, slice_index_or, sym, subst, ◌∙◌, arith}
 use lib.ListN.{set}
 use Rattle.larch_actions.specs.declared.event.Event.{Event}
 use Rattle.sum_uses.specs.declared.added.Added.{Added}
 use Rattle.sum_uses.specs.Sums.{GrowsAlike, grown}
 use Rattle.nub_rule.specs.Plays.{enqueue_event}
 use Rattle.alert_wait.specs.Outcomes.{wait_end}
-use Rattle.script_run.specs.Playing.{IsPlaying, alertable}
+use Rattle.script_run.specs.Playing.{IsPlaying}
 use Rattle.script_run.proofs.Waiting.{may_wait, after_wait, alertable_is}
 use Rattle.script_run.proofs.waits.alert_wait_once.Goals as goal
 

@@ -1,5 +1,4 @@
-use Rattle.std.proofs.Common.{◌≡◌, ◌<◌, ◌∷◌, List, false, Some, Option, slice_index_or, sym, subst, ◌∙◌, ap, arith}
-use Rattle.larch_actions.specs.declared.event.Event.{Event}
+use Rattle.std.proofs.Common.{◌≡◌, ◌<◌, List, false, Some, Option, slice_index_or, sym, subst, ◌∙◌, arith}
 use Rattle.sum_uses.specs.declared.added.Added.{Added}
 use Rattle.sum_uses.specs.Sums.{GrowsAlike, grown}
 use Rattle.nub_rule.specs.Plays.{enqueue_event}

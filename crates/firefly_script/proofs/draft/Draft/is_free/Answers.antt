@@ -1,5 +1,5 @@
 use Rattle.std.proofs.Common.{◌≡◌, ℕ, ◌<◌, true, sym, ◌∙◌, arith}
-use Rattle.firefly_script.specs.Operations.{held_after, none_held}
+use Rattle.firefly_script.specs.Operations.{held_after, none_held, none_forked}
 use Rattle.firefly_script.proofs.Layouts.{few_threads}
 use Rattle.firefly_script.proofs.Tables.{free_from, free_to, held_within, none_within}
 use Rattle.firefly_script.proofs.draft.Draft.is_free.Goals as goal
@@ -8,10 +8,10 @@ pub returns : goal.returns
 returns c =
     let d = c.args.self.now in
     let h = held_after none_held d.lines.items in
-    let within : (t m : ℕ) → h t m ≡ true → (t < 64) × (m < 64) =
+    let within : (t m : ℕ) → h t m ≡ true → (t < 256) × (m < 64) =
     λ t m e.
-    let r = held_within d.layout none_held d.lines.items c.requires.follow (none_within d.layout) t m e in
-    (omega (arith, r.0, few_threads d.layout c.requires.lawful), omega (arith, r.1, c.requires.lawful.lawful.mutexes))
+    let r = held_within d.layout none_held none_forked d.lines.items c.requires.follow (none_within d.layout) t m e in
+    (omega (arith, r.0, few_threads d.layout c.requires.lawful), omega (arith, r.1, c.requires.lawful.mutexes))
     in (
       λ e. free_from d.held h c.requires.shows within (sym c.none_set.ensures ∙ e),
       λ f. c.none_set.ensures ∙ free_to d.held h c.requires.shows f,

@@ -1,8 +1,9 @@
 use Rattle.std.proofs.Common.{◌∷◌, [], refl, sym, subst, ◌∙◌}
 use Rattle.std.proofs.lemmas.Bool.{false≢true}
 use Rattle.firefly_script.specs.declared.line.Line.{Line}
-use Rattle.firefly_script.specs.Operations.{held_after, none_held, MayDo, MayCome}
-use Rattle.firefly_script.proofs.Follow.{held_append, follow_append}
+use Rattle.firefly_script.specs.Operations.{held_after, none_held, none_forked, forked_after, MayDo, MayLive, MayCome}
+use Rattle.firefly_script.specs.Table.{fate_of}
+use Rattle.firefly_script.proofs.Follow.{held_append, forked_append, follow_append}
 use Rattle.firefly_script.proofs.Injective.{line_same}
 use Rattle.firefly_script.proofs.Results.{not_true}
 use Rattle.firefly_script.proofs.draft.Draft.take.Goals as goal
@@ -17,14 +18,26 @@ returns-then-not-step-clause-refused c e x may is =
     let k = (c.step.ensures.may h c.requires.shows).1 (subst P same may.may) in
     absurd (false≢true (sym c.if-not-step.true ∙ k))
 
+pub returns-then-not-live-clause-refused : goal.returns-then-not-live-clause-refused
+returns-then-not-live-clause-refused c e x may is =
+    let d = c.args.self.now in
+    let g = forked_after none_forked d.lines.items in
+    let n = c.in-Some.ensures in
+    let same = line_same d.layout c.requires.lawful x c.in-Some.line (may.thread, may.named) n.0 (sym is ∙ n.1) in
+    let P : Line → Type 0 = λ y. MayLive d.layout.version g y.thread.0 (fate_of y.operation) in
+    let k = (c.live.ensures.may g c.requires.marks).1 (subst P same may.live) in
+    absurd (false≢true (sym c.if-not-live.true ∙ k))
+
 pub returns-clause-taken : goal.returns-clause-taken
 returns-clause-taken c e =
     let d = c.args.self.now in
     let x = c.in-Some.line in
     let h = held_after none_held d.lines.items in
     let n = c.in-Some.ensures in
+    let g = forked_after none_forked d.lines.items in
     let f = c.if-not-step.false in
-    let may : MayCome d.layout h x = record { thread = n.0.0; named = n.0.1; may = (c.step.ensures.may h c.requires.shows).0 f } in
+    let k = c.if-not-live.false in
+    let may : MayCome d.layout h g x = record { thread = n.0.0; named = n.0.1; may = (c.step.ensures.may h c.requires.shows).0 f; live = (c.live.ensures.may g c.requires.marks).0 k } in
     let items = c.in_ok-push.ensures.items in (
       x,
       n.1,
@@ -34,11 +47,15 @@ returns-clause-taken c e =
         lines = items;
         draft = record {
           lawful = c.requires.lawful;
-          follow = rw items (follow_append d.layout none_held d.lines.items (x ∷ []) c.requires.follow (may, tt));
+          follow = rw items (follow_append d.layout none_held none_forked d.lines.items (x ∷ []) c.requires.follow (may, tt));
           shows = rw (items, held_append none_held d.lines.items (x ∷ [])) (c.step.ensures.after h c.requires.shows f);
+          marks = rw (items, forked_append none_forked d.lines.items (x ∷ [])) (c.live.ensures.after g c.requires.marks k);
         };
       },
     )
 
 pub returns-then-not-step-clause-taken : goal.returns-then-not-step-clause-taken
 returns-then-not-step-clause-taken c e = not_true e
+
+pub returns-then-not-live-clause-taken : goal.returns-then-not-live-clause-taken
+returns-then-not-live-clause-taken c e = not_true e

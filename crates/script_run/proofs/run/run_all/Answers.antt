@@ -1,20 +1,21 @@
-use Rattle.std.proofs.Common.{◌≡◌, ◌<◌, ℕ, List, length, get_or, ap, sym, subst, ◌∙◌, arith}
+use Rattle.std.proofs.Common.{◌≡◌, ◌<◌, ℕ, List, length, get_or, ap, sym, subst, ◌∙◌}
 use lib.ListN.{get_elem?}
 use Rattle.std.proofs.lemmas.List.{length-replicate}
 use Rattle.std.proofs.lemmas.List.Elements.{recursion_from_All}
 use Rattle.std.specs.List.{All}
 use Rattle.larch_actions.specs.declared.event.Layout.{Layout}
+use Rattle.larch_actions.specs.declared.event.Version.{Version}
 use Rattle.larch_actions.specs.Actions.{IsClosed, by_thread}
 use Rattle.larch_actions.specs.Layout.{HasNames}
 use Rattle.larch_actions.proofs.Names.{few_of}
 use Rattle.larch_actions.specs.declared.kind.Kind.TheVariants.{Thread}
 use Rattle.firefly_script.specs.declared.line.Line.{Line}
-use Rattle.firefly_script.specs.Operations.{none_held, MayFollow}
-use Rattle.firefly_script.specs.Runs.{AreEventsOf, total}
+use Rattle.firefly_script.specs.Operations.{none_held, MayFollow, none_forked}
+use Rattle.firefly_script.specs.Runs.{AreCallsOf, AreEventsOf, total}
 use Rattle.firefly_script.specs.Text.{IsScript}
 use Rattle.script_run.proofs.Closing.{if_ok, rows_of, values_of}
 use Rattle.script_run.proofs.Sums.{first_sums}
-use Rattle.script_run.proofs.run.run_script.Goals as goal
+use Rattle.script_run.proofs.run.run_all.Goals as goal
 
 pub open_package-requires-clause-holds : goal.open_package-requires-clause-holds
 open_package-requires-clause-holds g c κs =
@@ -37,6 +38,9 @@ play_all-requires-clause-few g c κs within = subst (λ (xs : List Line). length
 pub play_all-requires-clause-threads : goal.play_all-requires-clause-threads
 play_all-requires-clause-threads g c κs within n x got =
     c.in_ok-pkg.ensures.threads n x (ap (λ l. get_elem? l n) (sym c.in_ok-roomy.ensures) ∙ got)
+
+pub close_package-requires-clause-version : goal.close_package-requires-clause-version
+close_package-requires-clause-version g c κs = ap (λ (l : Layout). l.version) (c.in_ok-pkg.ensures.package.0 ∙ c.layout-layout.ensures.layout) ∙ c.requires.version
 
 pub close_package-requires-clause-count : goal.close_package-requires-clause-count
 close_package-requires-clause-count g c κs =
@@ -61,9 +65,9 @@ returns-clause-trace g c =
     let count = c.in_ok-threads.ensures.count ∙ ap length c.in_ok-roomy.ensures ∙ c.in_ok-pkg.ensures.count ∙ ap (λ l. l.threads) layout in
     if_ok c.close_package.result _ _
     (λ r w.
-    let own : (t : ℕ) → t < c.args.script.now.layout.threads → AreEventsOf c.args.script.now.lines t (by_thread t w.0) = λ t low.
-    let Q : List Line → Type 0 = λ xs. AreEventsOf xs t (by_thread t w.0) in
-    subst Q lines (rows_of c.in_ok-pkg.pkg.layout c.in_ok-pkg.pkg c.lines-2.result.now c.in_ok-threads.threads.items c.args.script.now.layout.threads w.0 count played w.2 t low) in (
+    let own : (t : ℕ) → t < c.args.script.now.layout.threads → AreEventsOf c.args.script.now.layout.version c.args.script.now.lines t (by_thread t w.0) = λ t low.
+    let Q : List Line → Type 0 = λ xs. AreCallsOf xs t (by_thread t w.0) in
+    subst (λ (v : Version). AreEventsOf v c.args.script.now.lines t (by_thread t w.0)) (sym c.requires.version) (subst Q lines (rows_of c.in_ok-pkg.pkg.layout c.in_ok-pkg.pkg c.lines-2.result.now c.in_ok-threads.threads.items c.args.script.now.layout.threads w.0 count played w.2 t low)) in (
       w.0,
       w.1,
       subst (λ (l : Layout). IsClosed l.version w.0) (c.in_ok-pkg.ensures.package.0 ∙ layout) w.2.closed,
@@ -80,9 +84,9 @@ returns-clause-values g c =
     let played = c.in_ok-threads.ensures.played in
     let count = c.in_ok-threads.ensures.count ∙ ap length c.in_ok-roomy.ensures ∙ c.in_ok-pkg.ensures.count ∙ ap (λ l. l.threads) layout in
     let script = c.lines-2.ensures.script in
-    let F : List Line → Type 0 = λ xs. MayFollow c.args.script.now.layout none_held xs in
+    let F : List Line → Type 0 = λ xs. MayFollow c.args.script.now.layout none_held none_forked xs in
     if_ok c.close_package.result _ _
     (λ r w m low.
     let Q : List Line → Type 0 = λ xs. get_or r.values m 0 ≡ total xs m in
-    subst Q lines (values_of c.in_ok-pkg.pkg c.args.script.now.layout c.lines-2.result.now c.in_ok-threads.threads.items r.values script.lawful.lawful (subst F (sym lines) script.follow) count played w.1 (w.0 ∙ ap (λ l. l.mutexes) same) m low))
+    subst Q lines (values_of c.in_ok-pkg.pkg c.args.script.now.layout c.lines-2.result.now c.in_ok-threads.threads.items r.values script.lawful (subst F (sym lines) script.follow) count played w.1 (w.0 ∙ ap (λ l. l.mutexes) same) m low))
     c.close_package.ensures.values

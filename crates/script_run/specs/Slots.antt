@@ -1,0 +1,87 @@
+-- The slots of a run of version two: where its threads stand before their forks, in their parts and after their ends.
+use Rattle.std.specs.Prelude.{◌≡◌, ℕ, ◌<◌, ◌≤◌, List, [], ◌∷◌, ◌++◌, map, drop, take, length, Some}
+use Rattle.larch_actions.specs.declared.event.Event.{Event}
+use Rattle.larch_actions.specs.declared.event.Action.TheVariants as action
+use Rattle.larch_actions.specs.declared.event.Version.TheVariants.{Two}
+use Rattle.nub_rule.specs.Items.{Each}
+use Rattle.nub_rule.specs.Known.{Shape}
+use Rattle.nub.specs.Forks.{IsLeft, IsRight}
+use Rattle.sum_uses.specs.declared.added.Added.{Added}
+use Rattle.sum_uses.specs.Sums.{added}
+use Rattle.firefly_script.specs.declared.line.Line.{Line}
+use Rattle.firefly_script.specs.Text.{IsScript}
+use Rattle.firefly_script.specs.Runs.{AreCallsOf, event, lines_of, total}
+use Rattle.script_run.specs.declared.slots.Slot.{Slot}
+use Rattle.script_run.specs.declared.slots.Slot.TheVariants as slot
+use Rattle.script_run.specs.Playing.{Player, IsPlaying}
+use Rattle.script_run.specs.Regions.{below, region}
+
+abbrev pub slot_number : Slot → ℕ
+slot_number (slot.Unborn k) = k.number
+slot_number (slot.Live w) = w.me.number
+slot_number (slot.Ended k) = k.number
+slot_number slot.Taken = 0
+
+-- the right to begin a thread, which has added nothing
+abbrev pub IsWaiting : Shape (Prim.Unit {0}) → Slot → Type 0
+IsWaiting p (slot.Unborn k) = IsRight p (λ w n. let s : List Added = [] in s) k.number k
+IsWaiting p _ = ⊥
+
+-- the thread t, which has played its lines of these
+abbrev pub IsLive : Shape (Prim.Unit {0}) → List Line → ℕ → Slot → Type 0
+IsLive p xs t (slot.Live w) = IsPlaying p t xs [] w.numbers w.me
+IsLive p xs t _ = ⊥
+
+-- the thread has played all its lines of these, and then ended
+pub record HasEnded (p : Shape (Prim.Unit {0})) (xs : List Line) (k : Player) : Type 0 where
+  pub left : IsLeft p k
+  pub calls : List Event
+  pub are_calls : AreCallsOf xs k.number calls
+  pub mine : k.mine ≡ calls ++ event k.number action.End ∷ []
+  pub share : List Added
+  pub is_share : k.share ≡ Some share
+  pub sums : (m : ℕ) → m < 64 → added m share ≡ total (lines_of k.number xs) m
+
+abbrev pub IsOver : Shape (Prim.Unit {0}) → List Line → Slot → Type 0
+IsOver p xs (slot.Ended k) = HasEnded p xs k
+IsOver p xs _ = ⊥
+
+-- The thread t in the last slot has played its lines before the line i.
+-- The others have the rights to begin those that the lines from there on fork below it.
+pub record AreReady (p : Shape (Prim.Unit {0})) (xs : List Line) (i t : ℕ) (slots : List Slot) : Type 0 where
+  pub numbers : map slot_number slots ≡ region (drop i xs) t
+  pub front : List Slot
+  pub last : Slot
+  pub split : slots ≡ front ++ last ∷ []
+  pub waiting : Each (λ n s. IsWaiting p s) front
+  pub live : IsLive p (take i xs) t last
+
+-- all have ended, each in its place
+pub record AreOver (p : Shape (Prim.Unit {0})) (xs : List Line) (order : List ℕ) (slots : List Slot) : Type 0 where
+  pub numbers : map slot_number slots ≡ order
+  pub over : Each (λ n s. IsOver p xs s) slots
+
+-- the lines are those of a script of version two, and its threads in these slots may go on at the line i
+pub record MayPlay (p : Shape (Prim.Unit {0})) (xs : List Line) (i : ℕ) (slots : List Slot) : Type 0 where
+  pub script : IsScript p.layout xs
+  pub version : p.layout.version ≡ Two
+  pub few : length xs < 100000
+  pub within : i ≤ length xs
+  pub ready : (t : ℕ) × AreReady p xs i t slots
+
+-- from the line i on, the thread t has played its lines before the line k, which fork none
+pub record IsAhead (p : Shape (Prim.Unit {0})) (xs : List Line) (t i k : ℕ) (numbers : List ℕ) (me : Player) : Type 0 where
+  pub playing : IsPlaying p t (take k xs) [] numbers me
+  pub none : below (drop i xs) t ≡ below (drop k xs) t
+
+-- The thread t in the last slot has forked the thread u, whose region is the first so many slots.
+-- Both have played their lines before the line i.
+pub record AreForked (p : Shape (Prim.Unit {0})) (xs : List Line) (i u width : ℕ) (before slots : List Slot) : Type 0 where
+  pub within : i ≤ length xs
+  pub any : 0 < width
+  pub fewer : width < length slots
+  pub child : AreReady p xs i u (take width slots)
+  pub t : ℕ
+  pub parent : AreReady p xs i t (drop width slots)
+  pub numbers : map slot_number slots ≡ map slot_number before
+  pub size : length slots ≡ length before

@@ -1,0 +1,32 @@
+//! Which threads are forked below which.
+ghost use Rattle.std.specs.Prelude.{◌≡◌, ◌≤◌, ◌++◌, [], length, drop, OnOk, IfOk};
+ghost use Rattle.script_run.specs.Regions.{region};
+
+use firefly_script::{Line, Operation};
+use std::alloc::{AllocError, Global};
+
+// Adds the threads that the lines from this one on fork below the thread, and then the thread.
+fn add(lines: &[Line], at: usize, thread: u32, order: &mut Vec<u32>) -> Result<(), AllocError>
+    requires { at ≤ length lines.now }
+    ensures { OnOk result (order.new.items ≡ order.old.items ++ region (drop at lines.now) thread) }
+{
+    for next in at..lines.len() {
+        let line = lines[next];
+        if line.thread.0 == thread {
+            if let Operation::Fork { who } = line.operation {
+                add(lines, next + 1, who.0, order)?;
+            }
+        }
+    }
+    order.push(thread)?;
+    Ok(())
+}
+
+/// All threads that are there in the run of a script of version two, each behind all that are forked below it: the last is thread 0.
+pub fn order_of(alloc: Global, lines: &[Line]) -> Result<Vec<u32>, AllocError>
+    ensures { IfOk result (λ v. v.items ≡ region lines.now 0) }
+{
+    let mut order = Vec::with_capacity(alloc, 256)?;
+    add(lines, 0, 0, &mut order)?;
+    Ok(order)
+}
