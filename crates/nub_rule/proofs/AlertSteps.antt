@@ -1,5 +1,5 @@
 -- The steps on an alert word, and leaving a semaphore's queue by an alert, keep the rule.
-use Rattle.std.proofs.Common.{Bool, true, false, eqb, ◌≡◌, ◌≢◌, ℕ, ◌*◌, ◌<◌, ◌⊎◌, List, ◌∷◌, ◌++◌, length, get_or, set, refl, sym, ap, ◌∙◌, subst, inl, inr, ⊎_elim, arith, get_or-set_same, Some, None}
+use Rattle.std.proofs.Common.{Bool, true, false, eqb, ◌≡◌, ◌≢◌, ℕ, ◌*◌, ◌<◌, ◌≤◌, ◌⊎◌, List, ◌∷◌, ◌++◌, length, get_or, set, refl, sym, ap, ◌∙◌, subst, inl, inr, ⊎_elim, arith, get_or-set_same, Some, None}
 use Rattle.std.specs.Prelude.{Option as Opt}
 use Rattle.std.specs.Int.RustNames.{bit_and, bit_or}
 use Rattle.std.proofs.lemmas.Grind.{numeral_and}
@@ -28,7 +28,8 @@ use Rattle.nub_rule.specs.Parts.{IsFound, IsUntested, HasTested, MayTell, alerte
 use Rattle.nub_rule.specs.Places.{most_threads, bit_at, count_at, length_at, alert_at, sem_object, cond_object}
 use Rattle.nub_rule.specs.Plays.{Becomes, Grows, told, with_part, alert_event, alert_p_raise_event, test_alert_event, less, read_alert_tells, or_alert_tells, swap_alert_tells, swap_alert_in_p_tells, leave_sem_queue_tells}
 use Rattle.nub_rule.specs.Rule.{IsKept}
-use Rattle.nub_rule.proofs.Each.{each-set, put-here, put-else}
+use Rattle.nub_rule.proofs.Apart.{thread-of}
+use Rattle.nub_rule.proofs.Each.{at_within, each-set, put-here, put-else}
 use Rattle.nub_rule.proofs.Members.{member_steps}
 use Rattle.nub_rule.proofs.Frames.{lives-frame, lives-stay, other, ready-stay}
 use Rattle.nub_rule.proofs.Standing.{some_none, distinct-behind, less-without, lines-leave, lines-same, lines-stage, mem-behind, without-absent, without-append}
@@ -101,19 +102,19 @@ alert-aside t low = record { bits = λ k up z. omega arith; spins = λ k up z. o
 
 module _ {T H : Type 0} (words : List ℕ) (x : ℕ) (all : List (Part T H)) (n : ℕ) (p q : Part T H) (at : get_elem? all n ≡ some p) where
   -- the alert word of the thread t is set: whoever saw its own set finds it so
-  alert-seen-set : (t : ℕ) → get_or (set words (alert_at t) x) (alert_at t) 0 ≡ 1 → q.alerted ≡ p.alerted → AlertSeen words all → AlertSeen (set words (alert_at t) x) (set all n q)
-  alert-seen-set t one ea h = let words' : List ℕ = set words (alert_at t) x in
-      let moved : (k : ℕ) → get_or words (alert_at k) 0 ≡ 1 → get_or words' (alert_at k) 0 ≡ 1 = λ k was. dite (ℕ_discrete k t)
+  alert-seen-set : (t : ℕ) → length all ≤ most_threads → t < most_threads → get_or (set words (alert_at t) x) (alert_at t) 0 ≡ 1 → q.alerted ≡ p.alerted → AlertSeen words all → AlertSeen (set words (alert_at t) x) (set all n q)
+  alert-seen-set t few low one ea h = let words' : List ℕ = set words (alert_at t) x in
+      let moved : (k : ℕ) → k < most_threads → get_or words (alert_at k) 0 ≡ 1 → get_or words' (alert_at k) 0 ≡ 1 = λ k below was. dite (ℕ_discrete k t)
       (λ e. (λ i. get_or words' (alert_at (e i)) 0) ∙ one)
-      (λ ne. other words (alert_at t) (alert_at k) x (λ z. ne (omega arith)) ∙ was) in
-      each-set (λ k r. r.alerted ≡ true → get_or words (alert_at k) 0 ≡ 1) (λ k r. r.alerted ≡ true → get_or words' (alert_at k) 0 ≡ 1) all n q (λ is. moved n (h n p at (sym ea ∙ is))) (λ k r ne at' s is. moved k (s is)) h
+      (λ ne. other words (alert_at t) (alert_at k) x (λ z. ne (thread-of k t below low (omega arith))) ∙ was) in
+      each-set (λ k r. r.alerted ≡ true → get_or words (alert_at k) 0 ≡ 1) (λ k r. r.alerted ≡ true → get_or words' (alert_at k) 0 ≡ 1) all n q (λ is. moved n (let y = at_within all n p at in omega arith) (h n p at (sym ea ∙ is))) (λ k r ne at' s is. moved k (let y = at_within all k r at' in omega arith) (s is)) h
 
   -- the thread n has cleared its own, and forgets that it saw it set
-  pub alert-seen-clear : q.alerted ≡ false → AlertSeen words all → AlertSeen (set words (alert_at n) x) (set all n q)
-  alert-seen-clear out h = let words' : List ℕ = set words (alert_at n) x in
+  pub alert-seen-clear : length all ≤ most_threads → q.alerted ≡ false → AlertSeen words all → AlertSeen (set words (alert_at n) x) (set all n q)
+  alert-seen-clear few out h = let words' : List ℕ = set words (alert_at n) x in
       each-set (λ k r. r.alerted ≡ true → get_or words (alert_at k) 0 ≡ 1) (λ k r. r.alerted ≡ true → get_or words' (alert_at k) 0 ≡ 1) all n q
       (λ is. absurd (let z : true ≡ false = sym is ∙ out in cc))
-      (λ k r ne at' s is. other words (alert_at n) (alert_at k) x (λ z. ne (omega arith)) ∙ s is) h
+      (λ k r ne at' s is. other words (alert_at n) (alert_at k) x (λ z. ne (thread-of k n (let y = at_within all k r at' in omega arith) (let y = at_within all n p at in omega arith) (omega arith))) ∙ s is) h
 
   -- the thread n saw its own set
   alert-seen-own : get_or words (alert_at n) 0 ≡ 1 → AlertSeen words all → AlertSeen words (set all n q)
@@ -130,7 +131,7 @@ module _ {T H W : Type 0} (l : Layout) (traced : Bool) (w : W) (begin : W → �
       let after : List Event → Part T H = λ z. record (told p z e) { alerted = saw } in
       marks l traced w holds e n i x p after words homes all c (record c.spec { alerts = put c.spec.alerts t b }) at by named may (alert-aside t low)
       (λ z. record { version = refl; seen = refl; mine = refl; places = refl; held = refl; share = refl; spin = refl; queue = refl; owed = refl; stand = refl; pen = refl }) acts
-      (λ z. shows-alert words (set words i x) c.spinner c.queue c.owner c.spec all n p (after z) at refl t b (λ k up. other words i (count_at (cond_object k)) x (λ y. omega arith)) (λ k up. other words i (bit_at (sem_object k)) x (λ y. omega arith)) (λ k up ne. other words i (alert_at k) x (λ y. ne (omega arith)))
+      (λ z. shows-alert words (set words i x) c.spinner c.queue c.owner c.spec all n p (after z) at refl t b (λ k up. other words i (count_at (cond_object k)) x (λ y. omega arith)) (λ k up. other words i (bit_at (sem_object k)) x (λ y. omega arith)) (λ k up ne. other words i (alert_at k) x (λ y. ne (thread-of k t up low (omega arith))))
       (subst (λ (z : ℕ). Says z b) (sym now) says) refl refl refl refl c.shows)
       (λ z. seen (after z) refl now)
       (λ z. lives-frame all n p (after z) at words (set words i x) c.sizes.few (lives-stay words i x (λ k lo y. omega arith)) refl c.lives)
@@ -141,13 +142,13 @@ module _ {T H W : Type 0} (l : Layout) (traced : Bool) (w : W) (begin : W → �
       → Allows (IsKept l traced w begin holds) slots id me (alert_at t) (λ x. bit_or x 1) (or_alert_tells (step slots (alert_at t) 1 0 none) me)
   or_alert_at slots id t me low named kind out may = let v = me.0 in let n = v.number in let p = v.part in let i = alert_at t in let e = alert_event n t in
       member_steps l traced w begin holds slots id i (λ x. bit_or x 1) v me.1 (λ r q ds. Learns e n p (λ z. record (told p z e) { alerted = p.alerted }) q × (ds ≡ me.1)) (or_alert_tells (step slots i 1 0 none) me) kind
-      (λ r q ds world u k is. let same : t ≡ k = omega arith in subst (λ (k : ℕ). (between : List Event) × Grows n p between (alert_event n k) × Becomes me (told p (p.seen ++ between) (alert_event n k)) (with_part v q, ds)) same
+      (λ r q ds world u k few is. let same : t ≡ k = thread-of t k low few (omega arith) in subst (λ (k : ℕ). (between : List Event) × Grows n p between (alert_event n k) × Becomes me (told p (p.seen ++ between) (alert_event n k)) (with_part v q, ds)) same
       (u.0.0, u.0.1, λ j. (with_part v (u.0.2 j), u.1 j)))
       (λ words homes all c at small.
       let r : ℕ = get_or words i 0 in
       let idle_now : c.spec.pending n ≡ Nothing = c.shows.pendings.pends n p at ∙ ap pending_of out in
       let up : bit_or r 1 ≡ 1 = one-in r (zero-one r (c.spec.alerts t) (c.shows.alerts t low)) in
-      let m = alert-marks e n t 1 true p p.alerted words homes all c at low refl named may (record { live = c.shows.lives n p at ∙ may.0; order = idle_now; requires_met = tt; when_met = tt; choice_met = tt }, refl) (inr (refl, refl)) (λ q ea one. alert-seen-set words 1 all n p q at t one ea c.alert_seen) in
+      let m = alert-marks e n t 1 true p p.alerted words homes all c at low refl named may (record { live = c.shows.lives n p at ∙ may.0; order = idle_now; requires_met = tt; when_met = tt; choice_met = tt }, refl) (inr (refl, refl)) (λ q ea one. alert-seen-set words 1 all n p q at t c.sizes.few low one ea c.alert_seen) in
       (m.0, keeps, tt, subst (λ (y : ℕ). Core l traced w holds (set words i y) homes (set all n m.0)) (sym up) m.1, (m.2, refl)))
 
   -- the same at a word that is this place
@@ -166,7 +167,7 @@ module _ {T H W : Type 0} (l : Layout) (traced : Bool) (w : W) (begin : W → �
       let e = test_alert_event n (eqb r 1) in
       let says = c.shows.alerts n low in
       let idle_now : c.spec.pending n ≡ Nothing = c.shows.pendings.pends n p at ∙ ap pending_of out in
-      let m = alert-marks e n n 0 false p false words homes all c at low refl tt may (record { live = c.shows.lives n p at ∙ may.0; order = idle_now; requires_met = tt; when_met = tt; choice_met = answer-is r (c.spec.alerts n) says }, refl) (inl (refl, refl)) (λ q ea zero. alert-seen-clear words 0 all n p q at ea c.alert_seen) in
+      let m = alert-marks e n n 0 false p false words homes all c at low refl tt may (record { live = c.shows.lives n p at ∙ may.0; order = idle_now; requires_met = tt; when_met = tt; choice_met = answer-is r (c.spec.alerts n) says }, refl) (inl (refl, refl)) (λ q ea zero. alert-seen-clear words 0 all n p q at c.sizes.few ea c.alert_seen) in
       (m.0, keeps, tt, m.1, (zero-one r (c.spec.alerts n) says, c.alert_seen n p at, m.2, refl)))
 
   -- the same at a word that is this place
@@ -185,7 +186,7 @@ module _ {T H W : Type 0} (l : Layout) (traced : Bool) (w : W) (begin : W → �
       let r : ℕ = get_or words i 0 in
       let one : r ≡ 1 = c.alert_seen n p at seen in
       let idle_now : c.spec.pending n ≡ Nothing = c.shows.pendings.pends n p at ∙ ap pending_of out in
-      let m = alert-marks e n n 0 false p false words homes all c at low refl named may (record { live = c.shows.lives n p at ∙ may.0; order = idle_now; requires_met = tt; when_met = said-one r (c.spec.alerts n) (c.shows.alerts n low) one; choice_met = tt }, refl) (inl (refl, refl)) (λ q ea zero. alert-seen-clear words 0 all n p q at ea c.alert_seen) in
+      let m = alert-marks e n n 0 false p false words homes all c at low refl named may (record { live = c.shows.lives n p at ∙ may.0; order = idle_now; requires_met = tt; when_met = said-one r (c.spec.alerts n) (c.shows.alerts n low) one; choice_met = tt }, refl) (inl (refl, refl)) (λ q ea zero. alert-seen-clear words 0 all n p q at c.sizes.few ea c.alert_seen) in
       (m.0, keeps, tt, subst (λ (y : ℕ). Core l traced w holds (set words i y) homes (set all n m.0)) (sym (one-out r s one)) m.1, (one, m.2, refl)))
 
   -- the same at a word that is this place, with this mask

@@ -37,6 +37,7 @@ use Rattle.atomic_table.specs.Seated.{TableId}
 use Rattle.nub_rule.specs.Known.{Hands, IsThread}
 use Rattle.nub_rule.specs.Plays.{Sat}
 use Rattle.nub_rule.specs.Slots.{find, Below}
+use Rattle.nub_rule.proofs.Apart.{thread-of}
 use Rattle.nub_rule.proofs.Turns.{find-here}
 use Rattle.nub_rule.proofs.Beginning.{raisers-none}
 use Rattle.nub_rule.specs.Ends.{AreFirst, firsts, living, opening_slots, Settles, Leaves}
@@ -307,10 +308,10 @@ pub zeros_only : (xs : List ℕ) (n : ℕ) → xs ≡ replicate n 0 → (k : ℕ
 zeros_only xs n is k = ap (λ l. get_or l k 0) is ∙ all_alike 0 n k
 
 -- the life word of the thread n is written, after those of the threads before it
-pub lives-more : (ws vs : List ℕ) (n : ℕ) → vs ≡ set ws (life_at n) 1 → life_at n < length ws → ((t : ℕ) → t < n → get_or ws (life_at t) 0 ≡ 1) → (t : ℕ) → t < n + 1 → get_or vs (life_at t) 0 ≡ 1
-lives-more ws vs n is wide before t low = ap (λ l. get_or l (life_at t) 0) is ∙ ⊎_elim
+pub lives-more : (ws vs : List ℕ) (n : ℕ) → n < most_threads → vs ≡ set ws (life_at n) 1 → life_at n < length ws → ((t : ℕ) → t < n → get_or ws (life_at t) 0 ≡ 1) → (t : ℕ) → t < n + 1 → get_or vs (life_at t) 0 ≡ 1
+lives-more ws vs n few is wide before t low = ap (λ l. get_or l (life_at t) 0) is ∙ ⊎_elim
     (λ (e : t ≡ n). ap (λ (z : ℕ). get_or (set ws (life_at n) 1) (life_at z) 0) e ∙ get_or-set_same ws (life_at n) 1 0 wide)
-    (λ (ne : t ≢ n). get_or-set_other ws (life_at n) (life_at t) 1 0 (λ e. omega arith) ∙ before t (omega arith))
+    (λ (ne : t ≢ n). get_or-set_other ws (life_at n) (life_at t) 1 0 (λ e. ne (thread-of t n (omega arith) few (omega arith))) ∙ before t (omega arith))
     (cases_eq t n)
 
 pub zeros-more : (ws vs : List ℕ) (n : ℕ) → vs ≡ set ws (life_at n) 1 → ((k : ℕ) → ((t : ℕ) → t < n → k ≢ life_at t) → get_or ws k 0 ≡ 0) → (k : ℕ) → ((t : ℕ) → t < n + 1 → k ≢ life_at t) → get_or vs k 0 ≡ 0
@@ -328,10 +329,10 @@ first-word Two threads t word low on off = dite (ℕ_discrete t 0)
     (λ ne. off (omega arith) ∙ ap number_of (sym (put-else (λ _. Unborn) 0 t Live ne)))
 
 -- so the words are those of the start, where the life words of all threads that live at first were written
-pub are-first : (l : Layout) (ws : List ℕ) (n : ℕ) → n ≡ living l.version l.threads → length ws ≡ word_count → ((t : ℕ) → t < n → get_or ws (life_at t) 0 ≡ 1) → ((k : ℕ) → ((t : ℕ) → t < n → k ≢ life_at t) → get_or ws k 0 ≡ 0) → AreFirst l ws
-are-first l ws n is wide on off = record {
+pub are-first : (l : Layout) (ws : List ℕ) (n : ℕ) → l.threads ≤ most_threads → n ≡ living l.version l.threads → length ws ≡ word_count → ((t : ℕ) → t < n → get_or ws (life_at t) 0 ≡ 1) → ((k : ℕ) → ((t : ℕ) → t < n → k ≢ life_at t) → get_or ws k 0 ≡ 0) → AreFirst l ws
+are-first l ws n few is wide on off = record {
   wide = wide;
-  lives = λ t low. first-word l.version l.threads t (get_or ws (life_at t) 0) low (λ lo. on t (omega arith)) (λ hi. off (life_at t) (λ u lo e. omega arith));
+  lives = λ t low. first-word l.version l.threads t (get_or ws (life_at t) 0) low (λ lo. on t (omega arith)) (λ hi. off (life_at t) (λ u lo e. let same : t ≡ u = thread-of t u (omega arith) (omega arith) (omega arith) in omega arith));
   zeros = λ k none_there. off k (λ t _. none_there t);
 }
 

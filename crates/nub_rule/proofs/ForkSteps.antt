@@ -24,6 +24,7 @@ use Rattle.atomic_table.specs.Seated.{TableId}
 use Rattle.nub_rule.specs.Known.{IsThread}
 use Rattle.nub_rule.specs.Plays.{Grows, Sat, told, with_part, fork_event, fork_life_tells}
 use Rattle.nub_rule.specs.Rule.{ChildFits, FitsAs, SeatFits, IsKept, IsOfChild}
+use Rattle.nub_rule.proofs.Apart.{thread-of}
 use Rattle.nub_rule.proofs.Each.{at_within, each-set}
 use Rattle.nub_rule.proofs.Runs.{leads-snoc, run-of}
 use Rattle.nub_rule.proofs.Members.{others_fit, placed-set}
@@ -111,7 +112,7 @@ module _ {T H W : Type 0} (l : Layout) (traced : Bool) (w : W) (holds : W → Li
           pens = pens-frame all' t old new there' traced (length (c.log ++ e ∷ [])) c.writer words' words' (refl, refl) refl
               (subst (λ (y : ℕ). Pens traced y words' c.writer all') (sym more) (pens-event traced (length c.log) words c.writer all n p q at words' pen.0 pen.1 may refl c.pens));
           alert_seen = alert-seen-frame all' t old new there' words' words' few' (λ k lo. refl) refl (alert-seen-stays all n p q at words i 1 few (λ k up y. omega arith) refl c.alert_seen);
-          lives = lives-own words 1 all' t old new there' (get_or-set_same words i 1 0 (omega arith)) (lives-frame all n p q at words words few (λ k lo. refl) refl c.lives);
+          lives = lives-own words 1 all' t old new there' few' (get_or-set_same words i 1 0 (omega arith)) (lives-frame all n p q at words words few (λ k lo. refl) refl c.lives);
           owes = owes-frame c.queue words' words' all' t old new there' (λ j lo. refl) refl refl refl (owes-frame c.queue words words' all n p q at (λ j lo. other words i (bit_at j) 1 (λ y. omega arith)) refl refl refl c.owes);
           begun = begun-same words' words' all' t old new there' (λ j lo. refl) refl refl refl (begun-same words words' all n p q at (waits-stay words i 1 (λ j lo y. omega arith)) refl refl refl c.begun);
         };
@@ -124,6 +125,7 @@ module _ {T H W : Type 0} (l : Layout) (traced : Bool) (w : W) (begin : W → �
       let v = me.0 in let n = v.number in let p = v.part in
       let own : FitsAs l.version l.threads r.given w begin r.all r.seat_of id v Member = subst (FitsAs l.version l.threads r.given w begin r.all r.seat_of id v) kind (r.fits id v at) in
       let right : ChildFits l.version l.threads r.given w begin r.all r.seat_of id v (May t) = subst (ChildFits l.version l.threads r.given w begin r.all r.seat_of id v) child own.child in
+      let low : t < most_threads = let few = r.core.sizes.few in let there = at_within r.all t (unborn l.version (Some (begin w t))) right.3 in omega arith in
       let f = forks-of l traced w holds n t p (Some (begin w t)) s.words s.homes r.all r.core own.own right.3 right.1 out may in
       let log : List Event = (p.seen ++ f.between) ++ fork_event n t ∷ [] in
       let q : Part T H = told p (p.seen ++ f.between) (fork_event n t) in
@@ -149,7 +151,7 @@ module _ {T H W : Type 0} (l : Layout) (traced : Bool) (w : W) (begin : W → �
           placed = λ k lo. placed-set s.views id (r.seat_of k) k v v' Member Member at kind kind (⊎_elim (λ (is : n ≡ k). inl is) (λ (is : IsOfChild v.child k). inr (subst (λ (x : Child). IsOfChild x k) child is))) (r.placed k lo);
           core = f.core;
         },
-        λ k is. let same : t ≡ k = omega arith in
+        λ k few is. let same : t ≡ k = thread-of t k low few (omega arith) in
             subst (λ (k : ℕ). (between : List Event) × Grows n p between (fork_event n k)
             × ((let y : Me (Slot T) (View T H W) = (v', me.1) in y) ≡ (record v { part = told p (p.seen ++ between) (fork_event n k); child = Forked k ((p.seen ++ between) ++ fork_event n k ∷ []) }, me.1))) same (f.between, f.grows, refl),
       )

@@ -1,4 +1,5 @@
 pub mod Each
+pub mod Apart
 pub mod Members
 pub mod Runs
 pub mod Frames

@@ -1,5 +1,5 @@
 -- The own end and the reading of a life word keep the rule.
-use Rattle.std.proofs.Common.{Bool, ◌≡◌, ◌≢◌, ℕ, suc, ◌<◌, ◌⊎◌, List, [], ◌∷◌, ◌++◌, get_or, set, refl, sym, ap, ◌∙◌, subst, inl, inr, ⊎_elim, arith, get_or-set_same, None}
+use Rattle.std.proofs.Common.{Bool, ◌≡◌, ◌≢◌, ℕ, suc, ◌<◌, ◌≤◌, ◌⊎◌, List, [], ◌∷◌, ◌++◌, length, get_or, set, refl, sym, ap, ◌∙◌, subst, inl, inr, ⊎_elim, arith, get_or-set_same, None}
 use mathlib.Core.Logic.{dite}
 use mathlib.Core.Option.{Option, some, none, some-ne-none}
 use native.Mathlib.Decide.{ℕ_discrete}
@@ -26,6 +26,7 @@ use Rattle.nub_rule.specs.Parts.{Got, MayTell, number_of, pending_of, waits_on}
 use Rattle.nub_rule.specs.Places.{most_threads, alert_at, bit_at, count_at, life_at, cond_object, sem_object, waits_at}
 use Rattle.nub_rule.specs.Plays.{Becomes, Grows, told, with_part, end_event, join_event, end_life_tells, read_life_tells}
 use Rattle.nub_rule.specs.Rule.{IsKept}
+use Rattle.nub_rule.proofs.Apart.{thread-of}
 use Rattle.nub_rule.proofs.Each.{at_below, at_within, each-set, put-here, put-else, same_at}
 use Rattle.nub_rule.proofs.Members.{Steps, member_steps}
 use Rattle.nub_rule.proofs.Frames.{SameShown, other, alert-seen-frame, alert-seen-stays, alerts-frame, conditions-frame, holders-frame, lives-frame, pendings-frame, semaphores-frame, shown-stay, shows-frame}
@@ -55,9 +56,9 @@ ended-of Ended e = refl
 
 module _ {T H : Type 0} (words : List ℕ) (x : ℕ) (all : List (Part T H)) (n : ℕ) (p q : Part T H) (at : get_elem? all n ≡ some p) where
   -- the life word of the thread n, and its life, become others
-  pub lives-own : get_or (set words (life_at n) x) (life_at n) 0 ≡ number_of q.life → Lives words all → Lives (set words (life_at n) x) (set all n q)
-  lives-own now h = let X : List ℕ → ℕ → Part T H → Type 0 = λ ws k r. get_or ws (life_at k) 0 ≡ number_of r.life in
-      each-set (X words) (X (set words (life_at n) x)) all n q now (λ k r ne at' u. other words (life_at n) (life_at k) x (λ z. ne (omega arith)) ∙ u) h
+  pub lives-own : length all ≤ most_threads → get_or (set words (life_at n) x) (life_at n) 0 ≡ number_of q.life → Lives words all → Lives (set words (life_at n) x) (set all n q)
+  lives-own few now h = let low : n < most_threads = let z = at_within all n p at in omega arith in let X : List ℕ → ℕ → Part T H → Type 0 = λ ws k r. get_or ws (life_at k) 0 ≡ number_of r.life in
+      each-set (X words) (X (set words (life_at n) x)) all n q now (λ k r ne at' u. other words (life_at n) (life_at k) x (λ z. ne (thread-of k n (let y = at_within all k r at' in omega arith) low (omega arith))) ∙ u) h
 
 module _ {T H : Type 0} (words words' : List ℕ) (ws : SameShown words words') (spinner : ℕ → Option ℕ) (queue : ℕ → List ℕ) (owner : ℕ → Option ℕ) (spec : Spec) (all : List (Part T H)) (n : ℕ) (p q : Part T H) (at : get_elem? all n ≡ some p) where
   -- the life of the thread n, and no other, becomes that of its view
@@ -108,7 +109,7 @@ module _ {T H W : Type 0} (l : Layout) (traced : Bool) (w : W) (begin : W → �
       (record { live = k.shows.lives n p at ∙ may.0; order = idle_now; requires_met = unheld l traced w holds words homes all k n p at lacks; when_met = tt; choice_met = tt }, refl)
       (λ z. shows-life words words' (shown-stay words i 2 (λ j up f. omega arith) (λ j up f. omega arith) (λ j up f. omega arith)) k.spinner k.queue k.owner k.spec all n p (ended n p z) at refl refl refl refl k.shows)
       (λ z. alert-seen-stays all n p (ended n p z) at words i 2 few (λ j up f. omega arith) refl k.alert_seen)
-      (λ z. lives-own words 2 all n p (ended n p z) at (get_or-set_same words i 2 0 (omega arith)) k.lives)
+      (λ z. lives-own words 2 all n p (ended n p z) at few (get_or-set_same words i 2 0 (omega arith)) k.lives)
       (λ z. owes-frame k.queue words words' all n p (ended n p z) at (λ j lo. other words i (bit_at j) 2 (λ f. omega arith)) refl refl refl k.owes)
       (λ z. begun-same words words' all n p (ended n p z) at (waits-stay words i 2 (λ j lo f. omega arith)) refl refl refl k.begun) in
       (done.0, keeps, tt, done.1, (done.2, refl))
@@ -152,12 +153,12 @@ module _ {T H W : Type 0} (l : Layout) (traced : Bool) (w : W) (begin : W → �
       (done.0, keeps, tt, done.1, inl (hit, done.2, refl)))
       (λ miss. (p, keeps, tt, idle l traced w holds words homes all i n p at k, inr (miss, refl, refl)))
 
-  read_life_at : (slots id t : ℕ) (me : Me (Slot T) (View T H W)) → t < l.threads → me.0.kind ≡ Member → me.0.part.wait ≡ None → MayTell traced me.0.part.life me.0.part.pen
+  read_life_at : (slots id t : ℕ) (me : Me (Slot T) (View T H W)) → t < most_threads → t < l.threads → me.0.kind ≡ Member → me.0.part.wait ≡ None → MayTell traced me.0.part.life me.0.part.pen
       → Allows (IsKept l traced w begin holds) slots id me (life_at t) (λ x. x) (read_life_tells (step slots (life_at t) 0 0 none) me)
-  read_life_at slots id t me named kind out may = let v = me.0 in let n = v.number in let p = v.part in let e = join_event n t in
+  read_life_at slots id t me low named kind out may = let v = me.0 in let n = v.number in let p = v.part in let e = join_event n t in
       member_steps l traced w begin holds slots id (life_at t) (λ x. x) v me.1
       (λ r q ds. ((r ≡ 2) × Learns e n p (λ z. told p z e) q × (ds ≡ me.1)) ⊎ ((r ≢ 2) × (q ≡ p) × (ds ≡ me.1))) (read_life_tells (step slots (life_at t) 0 0 none) me) kind
-      (λ r q ds world u k is. let same : t ≡ k = omega arith in
+      (λ r q ds world u k few is. let same : t ≡ k = thread-of t k low few (omega arith) in
       subst (λ (k : ℕ). (r ≡ 2 → (between : List Event) × Grows n p between (join_event n k) × Becomes me (told p (p.seen ++ between) (join_event n k)) (with_part v q, ds)) × (r ≢ 2 → (let z : Me (Slot T) (View T H W) = (with_part v q, ds) in z) ≡ me)) same
       (⊎_elim
       (λ (u : (r ≡ 2) × Learns e n p (λ z. told p z e) q × (ds ≡ me.1)). ((λ _. (u.1.0, u.1.1, λ j. (with_part v (u.1.2 j), u.2 j))), λ miss. absurd (miss u.0)))
@@ -165,6 +166,6 @@ module _ {T H W : Type 0} (l : Layout) (traced : Bool) (w : W) (begin : W → �
       (reads_at n t p me.1 named out may)
 
   -- the same at a word that is this place
-  pub read_life_keeps : (slots id t : ℕ) (me : Me (Slot T) (View T H W)) (i : ℕ) → i ≡ life_at t → t < l.threads → me.0.kind ≡ Member → me.0.part.wait ≡ None → MayTell traced me.0.part.life me.0.part.pen
+  pub read_life_keeps : (slots id t : ℕ) (me : Me (Slot T) (View T H W)) (i : ℕ) → i ≡ life_at t → t < most_threads → t < l.threads → me.0.kind ≡ Member → me.0.part.wait ≡ None → MayTell traced me.0.part.life me.0.part.pen
       → Allows (IsKept l traced w begin holds) slots id me i (λ x. x) (read_life_tells (step slots i 0 0 none) me)
-  read_life_keeps slots id t me i word named kind out may = subst (λ (i : ℕ). Allows (IsKept l traced w begin holds) slots id me i (λ x. x) (read_life_tells (step slots i 0 0 none) me)) (sym word) (read_life_at slots id t me named kind out may)
+  read_life_keeps slots id t me i word low named kind out may = subst (λ (i : ℕ). Allows (IsKept l traced w begin holds) slots id me i (λ x. x) (read_life_tells (step slots i 0 0 none) me)) (sym word) (read_life_at slots id t me low named kind out may)

@@ -16,6 +16,7 @@ use Rattle.nub_rule.specs.Parts.{Got, MayTell, pending_of, waits_on}
 use Rattle.nub_rule.specs.Places.{most_threads, alert_at, bit_at, count_at, sem_object, cond_object}
 use Rattle.nub_rule.specs.Plays.{Becomes, Grows, told, with_part, alert_raise_event, swap_alert_in_raise_tells}
 use Rattle.nub_rule.specs.Rule.{IsKept}
+use Rattle.nub_rule.proofs.Apart.{thread-of}
 use Rattle.nub_rule.proofs.Each.{put-here, put-else}
 use Rattle.nub_rule.proofs.Members.{Steps, member_steps}
 use Rattle.nub_rule.proofs.Frames.{lives-frame, lives-stay, lived-frame, other, semaphores-frame}
@@ -58,11 +59,11 @@ module _ {T H W : Type 0} (l : Layout) (traced : Bool) (w : W) (begin : W → �
         holders = holders-take words words' k.spinner k.queue k.owner all n p (raised n x p z) at k.owner k.spec.holder m own (λ j ne. refl) refl (λ j ne. ap (λ v. waits_on v j) before ∙ ne_eqb m j (λ f. ne (sym f))) k.shows.holders;
         pendings = pendings-put words words' k.spinner k.queue k.owner all n p (raised n x p z) at k.spec.pending (put k.spec.pending n Nothing) (put-here k.spec.pending n Nothing) (λ j ne. put-else k.spec.pending n j Nothing ne) k.shows.pendings;
         semaphores = semaphores-frame k.spec.avail words words' (λ j lo. other words i (bit_at (sem_object j)) 0 (λ f. omega arith)) k.shows.semaphores;
-        alerts = alerts-set words words' k.spec.alerts n false (λ j lo ne. other words i (alert_at j) 0 (λ f. ne (omega arith))) (inl (zero_now, refl)) k.shows.alerts;
+        alerts = alerts-set words words' k.spec.alerts n false (λ j lo ne. other words i (alert_at j) 0 (λ f. ne (thread-of j n lo low (omega arith)))) (inl (zero_now, refl)) k.shows.alerts;
         conditions = conditions-out words words' k.spinner k.queue k.spec.members all n p (raised n x p z) at k.shows.conditions c x (λ j lo. other words i (count_at (cond_object j)) 0 (λ f. omega arith)) before refl refl refl refl unqueued;
         lives = lived-frame all n p (raised n x p z) at k.spec.life refl k.shows.lives;
       })
-      (λ z. alert-seen-clear words 0 all n p (raised n x p z) at refl k.alert_seen)
+      (λ z. alert-seen-clear words 0 all n p (raised n x p z) at k.sizes.few refl k.alert_seen)
       (λ z. lives-frame all n p (raised n x p z) at words words' k.sizes.few (lives-stay words i 0 (λ j lo f. omega arith)) refl k.lives)
       (λ z. owes-frame k.queue words words' all n p (raised n x p z) at (λ j lo. other words i (bit_at j) 0 (λ f. omega arith)) refl refl refl k.owes)
       (λ z. begun-frame words words' all n p (raised n x p z) at (waits-stay words i 0 (λ j lo f. omega arith)) refl (λ h. counted-over p (raised n x p z) refl h refl apart) k.begun) in

@@ -22,6 +22,7 @@ use Rattle.nub_rule.specs.Places.{most_threads, bit_at, ready_at}
 use Rattle.nub_rule.specs.Owed.{IsAsleep}
 use Rattle.nub_rule.specs.Plays.{with_part, set_ready_tells, read_ready_tells, clear_ready_tells}
 use Rattle.nub_rule.specs.Rule.{IsKept}
+use Rattle.nub_rule.proofs.Apart.{thread-of}
 use Rattle.nub_rule.proofs.Each.{at_below, put-here, put-else}
 use Rattle.nub_rule.proofs.Members.{member_steps}
 use Rattle.nub_rule.proofs.Frames.{lives-stay, other, spins-frame, shows-frame, pens-frame, bits-stay, spins-stay, shown-stay, pen-stay, alert-seen-stays, alert-seen-frame}
@@ -42,7 +43,7 @@ module _ {T H W : Type 0} (l : Layout) (traced : Bool) (w : W) (begin : W → �
   set_ready_at slots id t me low kind settled inside there = let v = me.0 in let n = v.number in let p = v.part in let q : Part T H = record p { owed = without t p.owed } in
       let spins = inside_of p.spin p.owed t settled there in let o = spins.0 in let here = spins.1 in let below = inside o here in
       member_steps l traced w begin holds slots id (ready_at t) (λ _. 1) v me.1 (λ r s ds. (r ≡ 0) × (s ≡ q) × (ds ≡ me.1)) (set_ready_tells (step slots (ready_at t) 1 0 none) me) kind
-      (λ r s ds world u k is. let e : t ≡ k = omega arith in (u.0, (λ i. (with_part v (u.1 i), u.2 i)) ∙ (λ i. (with_part v (record p { owed = without (e i) p.owed }), me.1))))
+      (λ r s ds world u k few is. let e : t ≡ k = thread-of t k low few (omega arith) in (u.0, (λ i. (with_part v (u.1 i), u.2 i)) ∙ (λ i. (with_part v (record p { owed = without (e i) p.owed }), me.1))))
       (λ words homes all c at small.
       let s = c.spins in
       let lines = c.lines in
@@ -63,7 +64,7 @@ module _ {T H W : Type 0} (l : Layout) (traced : Bool) (w : W) (begin : W → �
         beside l traced w holds words words' homes homes all n p q at (length-set words (ready_at t) 1) refl (bits-stay words (ready_at t) 1 (λ k up z. omega arith)) (lives-stay words (ready_at t) 1 (λ k up z. omega arith)) (λ m. refl) record { version = refl; life = refl; seen = refl; mine = refl; places = refl; held = refl; share = refl } c.spinner c.writer c.queue owed' c
             (spins-change c.spinner c.queue c.owed words homes all n p q at s o (c.queue o) zs c.queue owed' words' below here refl mine.1 (ap (without t) mine.2) refl (λ k ne. refl) (put-here c.owed o zs) (λ k ne. put-else c.owed o k zs ne)
             (λ k lo. (spins-stay words (ready_at t) 1 (λ k up z. omega arith) (λ k up z. omega arith) k lo).0) ((spins-stay words (ready_at t) 1 (λ k up z. omega arith) (λ k up z. omega arith) o below).1 ∙ s.measured o below) (λ k lo ne. (spins-stay words (ready_at t) 1 (λ k up z. omega arith) (λ k up z. omega arith) k lo).1))
-            (lines-ready (λ i. c.owed i ++ c.queue i) (λ i. owed' i ++ c.queue i) words words' all n p q at c.sizes.few t o (λ k lo ne. other words (ready_at t) (ready_at k) 1 (λ z. ne (omega arith))) (get_or-set_same words (ready_at t) 1 0 (omega arith))
+            (lines-ready (λ i. c.owed i ++ c.queue i) (λ i. owed' i ++ c.queue i) words words' all n p q at c.sizes.few t o (λ k lo ne. other words (ready_at t) (ready_at k) 1 (λ z. ne (thread-of k t lo low (omega arith)))) (get_or-set_same words (ready_at t) 1 0 (omega arith))
             is (λ k ne. ap (λ z. z ++ c.queue k) (put-else c.owed o k zs ne)) inline refl lines)
             (shows-frame all n p q at c.spinner c.queue c.owner c.spec words words' (shown-stay words (ready_at t) 1 (λ k up z. omega arith) (λ k up z. omega arith) (λ k up z. omega arith)) refl refl refl refl refl c.shows)
             (pens-frame all n p q at traced (length c.log) c.writer words words' (pen-stay words (ready_at t) 1 (λ z. omega arith) (λ z. omega arith)) refl c.pens)
@@ -118,7 +119,7 @@ module _ {T H W : Type 0} (l : Layout) (traced : Bool) (w : W) (begin : W → �
         tt,
         beside l traced w holds words words' homes homes all n p q at (length-set words i 0) refl (bits-stay words (ready_at n) 0 (λ k up z. omega arith)) (lives-stay words (ready_at n) 0 (λ k up z. omega arith)) (λ m. refl) record { version = refl; life = refl; seen = refl; mine = refl; places = refl; held = refl; share = refl } c.spinner c.writer c.queue c.owed c
             (spins-frame all n p q at c.spinner c.queue c.owed words words' homes homes (spins-stay words (ready_at n) 0 (λ k up z. omega arith) (λ k up z. omega arith)) (λ k lo. refl) refl refl refl c.spins)
-            (lines-unready (λ k. c.owed k ++ c.queue k) (λ k. c.owed k ++ c.queue k) words words' all n p q at c.sizes.few (λ k lo ne. other words i (ready_at k) 0 (λ z. ne (omega arith))) (λ k. refl) one (get_or-set_same words i 0 0 (omega arith)) refl c.lines)
+            (lines-unready (λ k. c.owed k ++ c.queue k) (λ k. c.owed k ++ c.queue k) words words' all n p q at c.sizes.few (λ k lo ne. other words i (ready_at k) 0 (λ z. ne (thread-of k n lo low (omega arith)))) (λ k. refl) one (get_or-set_same words i 0 0 (omega arith)) refl c.lines)
             (shows-frame all n p q at c.spinner c.queue c.owner c.spec words words' (shown-stay words (ready_at n) 0 (λ k up z. omega arith) (λ k up z. omega arith) (λ k up z. omega arith)) refl refl refl refl refl c.shows)
             (pens-frame all n p q at traced (length c.log) c.writer words words' (pen-stay words (ready_at n) 0 (λ z. omega arith) (λ z. omega arith)) refl c.pens)
             (alert-seen-stays all n p q at words i 0 c.sizes.few (λ k up z. omega arith) refl c.alert_seen)

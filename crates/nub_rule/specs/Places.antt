@@ -1,5 +1,6 @@
--- Where the words and the slots of a table stand, whatever the layout. Words of different objects and threads are on different cache lines.
-use Rattle.std.specs.Prelude.{ℕ, ◌+◌, ◌*◌}
+-- Where the words and the slots of a table stand, whatever the layout. Words of different objects, and of different threads below 64, are on different cache
+-- lines; a thread from 64 on shares the line of the thread below 64 whose number is its own modulo 64.
+use Rattle.std.specs.Prelude.{ℕ, ◌+◌, ◌*◌, ◌/◌, ◌%◌}
 
 -- so many threads at most
 abbrev pub most_threads : ℕ
@@ -39,18 +40,21 @@ pen_at = 3072
 abbrev pub number_at : ℕ
 number_at = 3073
 
--- the words of a thread, which come last, so that more threads only make the table longer
+-- the words of a thread, which come last: 64 lines, of four threads each
+abbrev pub thread_at : ℕ → ℕ
+thread_at t = 16 * (t % 64) + 4 * (t / 64) + 3088
+
 abbrev pub alert_at : ℕ → ℕ
-alert_at t = 16 * t + 3088
+alert_at t = thread_at t
 
 abbrev pub ready_at : ℕ → ℕ
-ready_at t = 16 * t + 3089
+ready_at t = thread_at t + 1
 
 abbrev pub life_at : ℕ → ℕ
-life_at t = 16 * t + 3090
+life_at t = thread_at t + 2
 
 abbrev pub word_count : ℕ
-word_count = 3088 + 16 * most_threads
+word_count = 3088 + 16 * 64
 
 -- the slot of an object's queue
 abbrev pub queue_at : ℕ → ℕ

@@ -165,7 +165,7 @@ module _ {T H W : Type 0} where
 
   -- a thread that is owed was made ready
   abbrev pub set_ready_tells : Step (Slot T) → Sat T H W → ℕ → Sat T H W → Type 0
-  set_ready_tells st me r me' = let p = me.0.part in (t : ℕ) → st.word ≡ ready_at t → (r ≡ 0) × Becomes me (record p { owed = without t p.owed }) me'
+  set_ready_tells st me r me' = let p = me.0.part in (t : ℕ) → t < most_threads → st.word ≡ ready_at t → (r ≡ 0) × Becomes me (record p { owed = without t p.owed }) me'
 
   -- the own ready word was read
   abbrev pub read_ready_tells : Step (Slot T) → Sat T H W → ℕ → Sat T H W → Type 0
@@ -299,7 +299,7 @@ module _ {T H W : Type 0} where
 
   -- the thread t was alerted
   abbrev pub or_alert_tells : Step (Slot T) → Sat T H W → ℕ → Sat T H W → Type 0
-  or_alert_tells st me r me' = let v = me.0 in let p = v.part in (t : ℕ) → st.word ≡ alert_at t → let e = alert_event v.number t in
+  or_alert_tells st me r me' = let v = me.0 in let p = v.part in (t : ℕ) → t < most_threads → st.word ≡ alert_at t → let e = alert_event v.number t in
       (between : List Event) × Grows v.number p between e × Becomes me (told p (p.seen ++ between) e) me'
 
   -- the own alert word was cleared, by the event that tells what it was
@@ -323,7 +323,7 @@ module _ {T H W : Type 0} where
 
   -- the thread t, whose beginning is the own right, was forked
   abbrev pub fork_life_tells : Step (Slot T) → Sat T H W → ℕ → Sat T H W → Type 0
-  fork_life_tells st me r me' = let v = me.0 in let p = v.part in (t : ℕ) → st.word ≡ life_at t → let e = fork_event v.number t in
+  fork_life_tells st me r me' = let v = me.0 in let p = v.part in (t : ℕ) → t < most_threads → st.word ≡ life_at t → let e = fork_event v.number t in
       (between : List Event) × Grows v.number p between e × (me' ≡ (record v { part = told p (p.seen ++ between) e; child = Forked t ((p.seen ++ between) ++ e ∷ []) }, me.1))
 
   -- the thread ended
@@ -333,7 +333,7 @@ module _ {T H W : Type 0} where
 
   -- the life word of the thread t was read: where it has ended, that is the event
   abbrev pub read_life_tells : Step (Slot T) → Sat T H W → ℕ → Sat T H W → Type 0
-  read_life_tells st me r me' = let v = me.0 in let p = v.part in (t : ℕ) → st.word ≡ life_at t → let e = join_event v.number t in
+  read_life_tells st me r me' = let v = me.0 in let p = v.part in (t : ℕ) → t < most_threads → st.word ≡ life_at t → let e = join_event v.number t in
       (r ≡ 2 → (between : List Event) × Grows v.number p between e × Becomes me (told p (p.seen ++ between) e) me') × (r ≢ 2 → me' ≡ me)
 
   -- the pen was tried, the number read and written, and the pen given back

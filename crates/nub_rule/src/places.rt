@@ -1,6 +1,6 @@
 //! How many threads a package may have, and where its words and slots stand, under the names of specs/Places.antt.
 ghost use Rattle.std.specs.Prelude.{◌≡◌};
-ghost use Rattle.nub_rule.specs.Places.{alert_at, bit_at, count_at, life_at, sem_object, cond_object, ready_at, waits_at};
+ghost use Rattle.nub_rule.specs.Places.{alert_at, bit_at, count_at, life_at, sem_object, cond_object, ready_at, thread_at, waits_at};
 
 use larch_actions::{CondId, MutexId, SemId};
 
@@ -29,7 +29,7 @@ pub const PEN: usize = 3072;
 pub const NUMBER: usize = 3073;
 
 /// So many words.
-pub const WORDS: usize = 3088 + 16 * MOST_THREADS;
+pub const WORDS: usize = 3088 + 16 * 64;
 
 /// The bit of a mutex.
 #[inline]
@@ -63,12 +63,20 @@ pub fn waits_word(c: CondId) -> usize
     16 * (CONDITIONS + c.0 as usize) + 4
 }
 
+/// The first word of a thread. Up to 64 threads have a cache line each; in a larger package four share one, so that a small one is no larger.
+#[inline]
+fn thread_words(t: u32) -> usize
+    ensures { result ≡ thread_at t }
+{
+    16 * (t as usize % 64) + 4 * (t as usize / 64) + 3088
+}
+
 /// The alert word of a thread.
 #[inline]
 pub fn alert_word(t: u32) -> usize
     ensures { result ≡ alert_at t }
 {
-    16 * t as usize + 3088
+    thread_words(t)
 }
 
 /// The ready word of a thread.
@@ -76,7 +84,7 @@ pub fn alert_word(t: u32) -> usize
 pub fn ready_word(t: u32) -> usize
     ensures { result ≡ ready_at t }
 {
-    16 * t as usize + 3089
+    thread_words(t) + 1
 }
 
 /// The life word of a thread.
@@ -84,5 +92,5 @@ pub fn ready_word(t: u32) -> usize
 pub fn life_word(t: u32) -> usize
     ensures { result ≡ life_at t }
 {
-    16 * t as usize + 3090
+    thread_words(t) + 2
 }

@@ -18,12 +18,12 @@ fetch_or-found-requires-clause-allowed g c κs within = let near = thread_low _ 
     let word = c.alert_word.ensures in or_alert_keeps _ _ _ _ _ _ _ t c.me.inside.seat.me _ word near (search rules) c.me.invariant.member (ap (λ k. k.wait) c.me.view_is ∙ c.requires.outside) (subst (λ (z : Bool × Life × Pen). MayTell z.0 z.1 z.2) (λ j. (sym traces j, ap (λ k. k.life) (sym c.me.view_is) j, ap (λ k. k.pen) (sym c.me.view_is) j)) c.requires.pen)
 
 pub invariant_of-me : goal.invariant_of-me
-invariant_of-me g c = let t : ℕ = c.args.t.0 in let i = c.me.invariant in fit_noted _ _ c.me.inside.number c.me.inside.hand c.me.inside.seat.me _ _ c.fetch_or-found.ensures.0 ((c.fetch_or-found.ensures.2 t c.alert_word.ensures).2) i refl refl refl refl refl
+invariant_of-me g c = let t : ℕ = c.args.t.0 in let i = c.me.invariant in fit_noted _ _ c.me.inside.number c.me.inside.hand c.me.inside.seat.me _ _ c.fetch_or-found.ensures.0 ((c.fetch_or-found.ensures.2 t (thread_low _ _ _ _ c.p.view_is c.p.invariant.laid_out c.p.invariant.lawful t c.requires.named) c.alert_word.ensures).2) i refl refl refl refl refl
 
 pub returns-clause-event : goal.returns-clause-event
-returns-clause-event g c = let t : ℕ = c.args.t.0 in let i = c.me.invariant in let u = (c.fetch_or-found.ensures.2 t c.alert_word.ensures) in
+returns-clause-event g c = let t : ℕ = c.args.t.0 in let i = c.me.invariant in let u = (c.fetch_or-found.ensures.2 t (thread_low _ _ _ _ c.p.view_is c.p.invariant.laid_out c.p.invariant.lawful t c.requires.named) c.alert_word.ensures) in
     as_known (λ z m a. Makes (alert_event a.number t) a (known_as z c.me.inside.number m c.me.inside.entries.items c.me.inside.lost c.me.inside.next)) _ _ _ _ _ c.me.inside.seat.me _ _ _ c.me.view_is c.fetch_or-found.ensures.0 u.2
     (u.0, subst (λ (n : ℕ). Grows n c.me.inside.seat.me.0.part u.0 (alert_event n t)) i.numbered u.1, (λ j. (c.me.inside.seat.me.0.part.seen ++ u.0) ++ alert_event (i.numbered j) t ∷ []), (λ j. c.me.inside.seat.me.0.part.mine ++ alert_event (i.numbered j) t ∷ []), refl)
 
 pub returns-clause-alerted : goal.returns-clause-alerted
-returns-clause-alerted g c = let t : ℕ = c.args.t.0 in as_known (λ z m a. let k = known_as z c.me.inside.number m c.me.inside.entries.items c.me.inside.lost c.me.inside.next in k ≡ record a { seen = k.seen; mine = k.mine; places = k.places; pen = made a.pen }) _ _ _ _ _ c.me.inside.seat.me _ _ _ c.me.view_is c.fetch_or-found.ensures.0 (c.fetch_or-found.ensures.2 t c.alert_word.ensures).2 refl
+returns-clause-alerted g c = let t : ℕ = c.args.t.0 in as_known (λ z m a. let k = known_as z c.me.inside.number m c.me.inside.entries.items c.me.inside.lost c.me.inside.next in k ≡ record a { seen = k.seen; mine = k.mine; places = k.places; pen = made a.pen }) _ _ _ _ _ c.me.inside.seat.me _ _ _ c.me.view_is c.fetch_or-found.ensures.0 (c.fetch_or-found.ensures.2 t (thread_low _ _ _ _ c.p.view_is c.p.invariant.laid_out c.p.invariant.lawful t c.requires.named) c.alert_word.ensures).2 refl

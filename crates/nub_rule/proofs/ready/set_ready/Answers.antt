@@ -13,10 +13,10 @@ pub swap-requires-clause-allowed : goal.swap-requires-clause-allowed
 swap-requires-clause-allowed g c κs within = let i = c.me.invariant in let h = i.hands in set_ready_keeps _ _ _ _ _ _ _ _ _ _ c.ready_word.ensures c.requires.named i.member h.settled h.below (ap (λ k. mem c.args.t.0 k.owed) c.me.view_is ∙ c.requires.owed)
 
 pub invariant_of-me : goal.invariant_of-me
-invariant_of-me g c = let i = c.me.invariant in let h = i.hands in fit_still _ _ c.me.inside.number c.me.inside.hand c.me.inside.seat.me _ _ c.swap.ensures.0 ((c.swap.ensures.2 c.args.t.0 c.ready_word.ensures).1) i refl (hands-same c.me.inside.seat.me.0.part _ c.me.inside.seat.me.1 _ (λ k. refl) refl refl refl h.room (λ z. ap (without c.args.t.0) (h.settled z)) h)
+invariant_of-me g c = let i = c.me.invariant in let h = i.hands in fit_still _ _ c.me.inside.number c.me.inside.hand c.me.inside.seat.me _ _ c.swap.ensures.0 ((c.swap.ensures.2 c.args.t.0 c.requires.named c.ready_word.ensures).1) i refl (hands-same c.me.inside.seat.me.0.part _ c.me.inside.seat.me.1 _ (λ k. refl) refl refl refl h.room (λ z. ap (without c.args.t.0) (h.settled z)) h)
 
 pub returns-clause-found : goal.returns-clause-found
-returns-clause-found g c = (c.swap.ensures.2 c.args.t.0 c.ready_word.ensures).0
+returns-clause-found g c = (c.swap.ensures.2 c.args.t.0 c.requires.named c.ready_word.ensures).0
 
 pub returns-clause-owes : goal.returns-clause-owes
-returns-clause-owes g c = noted (λ _ p. record p { owed = without c.args.t.0 p.owed }) _ _ _ _ _ c.me.inside.seat.me _ _ c.me.view_is c.swap.ensures.0 ((c.swap.ensures.2 c.args.t.0 c.ready_word.ensures).1)
+returns-clause-owes g c = noted (λ _ p. record p { owed = without c.args.t.0 p.owed }) _ _ _ _ _ c.me.inside.seat.me _ _ c.me.view_is c.swap.ensures.0 ((c.swap.ensures.2 c.args.t.0 c.requires.named c.ready_word.ensures).1)

@@ -20,10 +20,10 @@ loop-t-preserved c = let i = c.loop-t.invariant in let ws = c.loop-t.words.items
     let low = living-low c.args.layout.version c.args.layout.threads c.requires.few in
     let wide : life_at c.loop-t.t < length ws = omega (arith, c.loop-t-test.true, c.first_lives-t-end.ensures, i.wide) in record {
       wide = length-set ws c.life_word.result 1 ∙ i.wide;
-      lives = lives-more ws _ c.loop-t.t (λ j. set ws (at j) 1) wide i.lives;
+      lives = lives-more ws _ c.loop-t.t (omega (arith, c.loop-t-test.true, c.first_lives-t-end.ensures)) (λ j. set ws (at j) 1) wide i.lives;
       zeros = zeros-more ws _ c.loop-t.t (λ j. set ws (at j) 1) i.zeros;
     }
 
 pub returns : goal.returns
 returns c = let i = c.loop-t.invariant in
-    are-first c.args.layout c.loop-t.words.items c.loop-t.t (let e = c.first_lives-t-end.ensures in let a = c.loop-t-test.false in let b = c.loop-t.auto.t-end in omega arith) i.wide i.lives i.zeros
+    are-first c.args.layout c.loop-t.words.items c.loop-t.t c.requires.few (let e = c.first_lives-t-end.ensures in let a = c.loop-t-test.false in let b = c.loop-t.auto.t-end in omega arith) i.wide i.lives i.zeros
