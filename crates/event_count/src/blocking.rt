@@ -68,9 +68,36 @@ fn read_raised<U: Uses, R: Wait>(
 {
     // For who wakes this thread, before anybody can.
     note_mutex(p, me, m);
+    if p.traced() {
+        return read_traced(rt, p, me, m, c, alertable);
+    }
+    begin_wait(p, me, m, c, alertable)
+}
+
+/// The same with the pen, in a traced package. The event is built here alone, where it is stored.
+#[cold]
+#[inline(never)]
+fn read_traced<U: Uses, R: Wait>(
+    rt: &R,
+    p: &Package<U>,
+    me: &mut Thread<U>,
+    m: MutexId,
+    c: CondId,
+    alertable: bool,
+) -> u64
+    requires of { me.old.table_id ≡ p.now.table_id }
+    requires named { (m.0 < p.now.layout.mutexes) × (c.0 < p.now.layout.conditions) }
+    requires has { (x : U.Value) × Holds me.old m.0 x }
+    requires outside { IsOutside me.old }
+    requires no_wait { me.old.wait ≡ None }
+    requires raised { me.old.raised ≡ Some c.0 }
+    requires stored { HasStored p.now.traced me.old }
+    ensures event { Makes (enqueue_event alertable me.old.number m.0 c.0) me.old me.new }
+    ensures begun { me.new ≡ record (recorded me.old me.new) { wait = Some (begun_wait alertable m.0 c.0 result) } }
+    ensures stored { HasStored p.now.traced me.new }
+{
     let e = beginning(me.number(), m, c, alertable);
     begin_event(rt, p, me);
-    // From this load on the thread is in the condition: an advance between here and its blocking takes it out again.
     let count = begin_wait(p, me, m, c, alertable);
     end_event(p, me, Some(e));
     count
@@ -94,6 +121,7 @@ fn beginning(number: u32, mutex: MutexId, cond: CondId, alertable: bool) -> Even
     }
 }
 
+/// Reads the count. From this load on the thread is in the condition: an advance between here and its blocking takes it out again.
 fn begin_wait<U: Uses>(
     p: &Package<U>,
     me: &mut Thread<U>,

@@ -122,8 +122,8 @@ fn free_in_wait<U: Uses, C: Change<U>, R: Wait>(
     }
 }
 
-/// Makes the event by clearing the bit, with the pen. The event is built here: passing 16 bytes through a cold call would make the
-/// processor wait for its own store.
+/// Makes the event by clearing the bit, with the pen. The event is built here: built by the caller it would be filled with zeros in each
+/// release, and passed through memory.
 #[cold]
 #[inline(never)]
 fn clear_traced<U: Uses, C: Change<U>, R: Wait>(

@@ -12,7 +12,7 @@ ghost use Rattle.nub_rule.specs.Plays.{quieted};
 ghost use Rattle.nub.specs.Rest.{HasStored, IsOutside};
 
 use crossbeam_utils::Backoff;
-use larch_actions::{Event, MutexId};
+use larch_actions::{Action, Event, MutexId};
 use nub::{Look, begin_event, end_event, enter, is_patient, learn, leave, push, remove, sleep};
 use nub_rule::{
     Object, Package, Thread, Uses, Why, peek_bit, take_bit_quiet, test_again, try_bit, try_p,
@@ -117,11 +117,31 @@ pub fn try_take<U: Uses, R: Wait>(
     // The pen is taken before the bit is known to be free, since the try may be the event and its number must be read by then.
     begin_event(rt, p, me);
     if try_gate(p, me, at, e) == 0 {
-        end_event(p, me, Some(e));
+        end_event(p, me, Some(built_anew(e)));
         true
     } else {
         end_event(p, me, None);
         false
+    }
+}
+
+/// The same event, built from the few words that tell it. An event has room for a set of threads, which each call would fill with zeros on its
+/// way if what it was given were stored. So the room is filled where the event is stored, in a traced package alone.
+#[inline(always)]
+fn built_anew(e: Event) -> Event
+    ensures { result ≡ e }
+{
+    let action = match e.action {
+        Action::Acquire { mutex } => Action::Acquire { mutex },
+        Action::Resume { mutex, cond } => Action::Resume { mutex, cond },
+        Action::AlertReturn { mutex, cond } => Action::AlertReturn { mutex, cond },
+        Action::P { sem } => Action::P { sem },
+        Action::AlertPReturn { sem } => Action::AlertPReturn { sem },
+        other => other,
+    };
+    Event {
+        thread: e.thread,
+        action,
     }
 }
 
@@ -155,8 +175,8 @@ fn try_gate<U: Uses>(p: &Package<U>, me: &mut Thread<U>, at: Object, e: Event) -
     }
 }
 
-/// The way through the Nub, after a failed try. What it calls is out of line, and takes no event: an event of 16 bytes that is stored to
-/// be passed and loaded again at once would stall the processor.
+/// The way through the Nub, after a failed try. What it calls is out of line, and takes no event: one that is stored to be passed,
+/// and loaded again at once, would stall the processor.
 #[inline(always)]
 fn take_slowly<U: Uses, R: Wait>(rt: &R, p: &Package<U>, me: &mut Thread<U>, at: Object, e: Event)
     requires of { me.old.table_id ≡ p.now.table_id }
