@@ -1,44 +1,39 @@
 -- The rule of plain buffers holds at first.
-use Rattle.std.proofs.Common.{◌≡◌, ℕ, zero, suc, Bool, true, false, List, [], ◌∷◌, ◌++◌, map, arith, sym, ap, subst, ◌∙◌, refl}
-use Rattle.std.specs.List.{range_with_len}
+use Rattle.std.proofs.Common.{◌≡◌, ℕ, zero, suc, List, [], ◌∷◌, arith, sym, ap, subst, refl}
 use Rattle.std.specs.List.Sorted.{IsPermutation}
 use Rattle.std.proofs.lemmas.List.Sorted.{IsPermutation-refl}
-use mathlib.Core.Option.{some, some-injective, some-ne-none}
+use mathlib.Core.Option.{some, some-injective}
 use lib.ListN.{get_elem?}
 use Rattle.nub_rule.specs.Ends.{firsts}
+use Rattle.nub_rule.specs.Items.{Each}
+use Rattle.nub.proofs.Totals.{at_firsts}
 use Rattle.bounded_buffer.specs.declared.note.Note.{Note}
 use Rattle.bounded_buffer.specs.Parts.{Used, unused}
-use Rattle.bounded_buffer.specs.Plain.{BufferRule, Keeps, pairs_of, any_shut, part_of}
+use Rattle.bounded_buffer.specs.Plain.{BufferRule, Keeps, part_of}
 use Rattle.bounded_buffer.specs.Rings.{Held, fresh}
+use Rattle.bounded_buffer.proofs.Alone.{nobody, nobody_shut}
 
-none-shut : (T : Type 0) (m : ℕ) (ns : List ℕ) → any_shut {T = T} m (map (λ t. []) ns) ≡ false
-none-shut T m [] = refl
-none-shut T m (n ∷ ns) = none-shut T m ns
+-- what is so of the first, and at one place further of the others, is so of each
+pub first_then : {A : Type 0} (P : ℕ → A → Type 0) (x : A) (xs : List A) → P 0 x → Each (λ n. P (suc n)) xs → Each P (x ∷ xs)
+first_then P x xs own rest zero y e = subst (P 0) (some-injective x y e) own
+first_then P x xs own rest (suc n) y e = rest n y e
 
 module _ {T : Type 0} where
-  no-pairs : (f : Used T → List (ℕ × T)) → f unused ≡ [] → (m : ℕ) (ns : List ℕ) → pairs_of f m (map (λ t. []) ns) ≡ []
-  no-pairs f e m [] = refl
-  no-pairs f e m (n ∷ ns) = ap (λ l. l ++ pairs_of f m (map (λ t. []) ns)) e ∙ no-pairs f e m ns
-
-  no-marks : (ns : List ℕ) (t : ℕ) (s : List (Note T)) → get_elem? (map (λ t. []) ns) t ≡ some s → s ≡ []
-  no-marks [] t s e = absurd (some-ne-none s (sym e))
-  no-marks (n ∷ ns) zero s e = sym (some-injective [] s e)
-  no-marks (n ∷ ns) (suc t) s e = no-marks ns t s e
-
-  unmarked : (f : Used T → Bool) → f unused ≡ false → (m : ℕ) (s : List (Note T)) → s ≡ [] → f (part_of s m) ≡ true → ⊥
-  unmarked f e m s none is = let x : f (part_of s m) ≡ false = ap (λ (l : List (Note T)). f (part_of l m)) none ∙ e in cc
+  -- at first each share says nothing of any buffer
+  nothing : {A : Type 0} (f : Used T → A) (m n t : ℕ) (s : List (Note T)) → get_elem? (firsts (λ k. []) n) t ≡ some s → f (part_of s m) ≡ f unused
+  nothing f m n t s e = ap (λ (l : List (Note T)). f (part_of l m)) (sym (at_firsts [] n t s e))
 
   pub rule_begins : (m c n : ℕ) → BufferRule {T = T} m (fresh c) (firsts (λ t. []) n)
-  rule_begins m c n = let ns = range_with_len 0 n in record {
+  rule_begins m c n = let shares : List (List (Note T)) = firsts (λ t. []) n in record {
     log = [];
-    puts = subst (λ l. IsPermutation l []) (sym (no-pairs (λ u. u.puts) refl m ns)) (IsPermutation-refl []);
-    takes = subst (λ l. IsPermutation l []) (sym (no-pairs (λ u. u.takes) refl m ns)) (IsPermutation-refl []);
+    puts = subst (λ l. IsPermutation l []) (sym (nobody (λ u. u.puts) m shares (nothing (λ u. u.puts) m n))) (IsPermutation-refl []);
+    takes = subst (λ l. IsPermutation l []) (sym (nobody (λ u. u.takes) m shares (nothing (λ u. u.takes) m n))) (IsPermutation-refl []);
     taken = omega arith;
     left = refl;
     room = omega arith;
-    shut = sym (none-shut T m ns);
-    seen_shut = λ t s e is. absurd (unmarked (λ u. u.seen_shut) refl m s (no-marks ns t s e) is);
-    seen_end = λ t s e is. absurd (unmarked (λ u. u.seen_end) refl m s (no-marks ns t s e) is);
+    shut = sym (nobody_shut m shares (nothing (λ u. u.shut) m n));
+    seen_shut = λ t s e is. let not = nothing (λ u. u.seen_shut) m n t s e in absurd (cc);
+    seen_end = λ t s e is. let not = nothing (λ u. u.seen_end) m n t s e in absurd (cc);
   }
 
   -- where each ring is new

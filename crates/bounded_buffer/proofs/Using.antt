@@ -1,5 +1,5 @@
 -- A call at a plain buffer adds one thing to what its thread has done there.
-use Rattle.std.proofs.Common.{◌≡◌, ◌≢◌, ◌⊎◌, ℕ, zero, suc, ◌+◌, ◌*◌, ◌<◌, List, [], ◌∷◌, replicate, arith, ap, sym, subst, ◌∙◌, refl, inl, inr, ⊎_elim}
+use Rattle.std.proofs.Common.{◌≡◌, ◌≢◌, ◌⊎◌, ℕ, zero, suc, ◌+◌, ◌*◌, ◌<◌, List, [], ◌∷◌, Option as Opt, Some, None, replicate, arith, ap, sym, subst, ◌∙◌, refl, inl, inr, ⊎_elim}
 use Rattle.std.proofs.lemmas.Bool.{cases_eq}
 use mathlib.Core.Option.{some, some-injective, some-ne-none}
 use lib.ListN.{get_elem?}
@@ -10,6 +10,7 @@ use Rattle.bounded_buffer.specs.declared.at.BufferAt.{BufferAt}
 use Rattle.bounded_buffer.specs.declared.did.Did.{Did}
 use Rattle.bounded_buffer.specs.declared.note.Note.{Note}
 use Rattle.bounded_buffer.specs.At.{IsNamed}
+use Rattle.bounded_buffer.specs.Calls.{Ran, did_last, wait_count}
 use Rattle.bounded_buffer.specs.Parts.{Used, did, unused}
 use Rattle.bounded_buffer.specs.Plain.{IsPlain, part_of}
 use Rattle.bounded_buffer.specs.Rings.{Held}
@@ -28,36 +29,42 @@ module _ {T : Type 0} where
       (λ (h : (k ≢ m) × (get_elem? us k ≡ some u)). inr ((λ is. h.0 (let z = is in omega arith)), h.1))
       (at_did m d us k u e)
 
-  ordered_on : (m : ℕ) (s r : List (Note T)) → ((k : ℕ) → Falls (part_of s k).puts × Falls (part_of s k).takes) → Falls (part_of r m).puts → Falls (part_of r m).takes
-      → ((k : ℕ) → k ≢ m → part_of r k ≡ part_of s k) → (k : ℕ) → Falls (part_of r k).puts × Falls (part_of r k).takes
-  ordered_on m s r was puts takes there k = ⊎_elim
-      (λ (e : k ≡ m). subst (λ j. Falls (part_of r j).puts × Falls (part_of r j).takes) (sym e) (puts, takes))
-      (λ (n : k ≢ m). subst (λ u. Falls u.puts × Falls u.takes) (sym (there k n)) (was k))
-      (cases_eq k m)
+  -- this was done too, if anything was
+  abbrev pub done_at : ℕ → Opt (Did T) → List (Used T) → List (Used T)
+  done_at m None us = us
+  done_at m (Some d) us = did_at m d us
 
-  module _ {W : Type 0} (p : Shape W) (n m : ℕ) (us : List (Used T)) (a b : Known (Held T) (List (Note T)) W) (was : HasUsed p n us a) (r : List (Note T)) (idle : IsIdle p n r b)
-      (there : (k : ℕ) → k ≢ m → part_of r k ≡ part_of was.share k) (puts : Falls (part_of r m).puts) (takes : Falls (part_of r m).takes) where
-    pub used_on : (d : Did T) → settled (part_of r m) ≡ did d (settled (part_of was.share m)) → HasUsed p n (did_at m d us) b
-    used_on d here = record {
+  module _ {W : Type 0} {p : Shape W} {n : ℕ} {us : List (Used T)} {a : Known (Held T) (List (Note T)) W} (was : HasUsed p n us a) (m : ℕ) (r : List (Note T)) (there : (k : ℕ) → k ≢ m → part_of r k ≡ part_of was.share k) where
+    said_on : (d : Opt (Did T)) → settled (part_of r m) ≡ did_last d (settled (part_of was.share m)) → (k : ℕ) (u : Used T) → get_elem? (done_at m d us) k ≡ some u → settled (part_of r k) ≡ u
+    said_on None here k u at = ⊎_elim
+        (λ (e : k ≡ m). ap (λ j. settled (part_of r j)) e ∙ (here ∙ (ap (λ j. settled (part_of was.share j)) (sym e) ∙ was.said k u at)))
+        (λ (h : k ≢ m). ap settled (there k h) ∙ was.said k u at)
+        (cases_eq k m)
+    said_on (Some d) here k u at = ⊎_elim
+        (λ (h : (k ≡ m) × (v : Used T) × (get_elem? us m ≡ some v) × (did d v ≡ u)). ap (λ j. settled (part_of r j)) h.0 ∙ (here ∙ (ap (did d) (was.said m h.1 h.2) ∙ h.3)))
+        (λ (h : (k ≢ m) × (get_elem? us k ≡ some u)). ap settled (there k h.0) ∙ was.said k u h.1)
+        (at_did m d us k u at)
+
+    -- where the share has changed at one buffer
+    pub used_on : {b : Known (Held T) (List (Note T)) W} (d : Opt (Did T)) → IsIdle p n r b → settled (part_of r m) ≡ did_last d (settled (part_of was.share m)) → Falls (part_of r m).puts × Falls (part_of r m).takes → HasUsed p n (done_at m d us) b
+    used_on d idle here falls = record {
       share = r;
       idle = idle;
-      said = λ k u at. ⊎_elim
-          (λ (h : (k ≡ m) × (v : Used T) × (get_elem? us m ≡ some v) × (did d v ≡ u)). ap (λ j. settled (part_of r j)) h.0 ∙ (here ∙ (ap (did d) (was.said m h.1 h.2) ∙ h.3)))
-          (λ (h : (k ≢ m) × (get_elem? us k ≡ some u)). ap settled (there k h.0) ∙ was.said k u h.1)
-          (at_did m d us k u at);
-      ordered = ordered_on m was.share r was.ordered puts takes there;
-    }
-
-    pub used_still : settled (part_of r m) ≡ settled (part_of was.share m) → HasUsed p n us b
-    used_still here = record {
-      share = r;
-      idle = idle;
-      said = λ k u at. ⊎_elim
-          (λ (e : k ≡ m). ap (λ j. settled (part_of r j)) e ∙ (here ∙ (ap (λ j. settled (part_of was.share j)) (sym e) ∙ was.said k u at)))
-          (λ (h : k ≢ m). ap settled (there k h) ∙ was.said k u at)
+      said = said_on d here;
+      ordered = λ k. ⊎_elim
+          (λ (e : k ≡ m). subst (λ j. Falls (part_of r j).puts × Falls (part_of r j).takes) (sym e) falls)
+          (λ (h : k ≢ m). subst (λ u. Falls u.puts × Falls u.takes) (sym (there k h)) (was.ordered k))
           (cases_eq k m);
-      ordered = ordered_on m was.share r was.ordered puts takes there;
     }
+
+  -- after a call that put or took, or was refused or alerted
+  pub used_ran : {W : Type 0} {p : Shape W} {n : ℕ} {us : List (Used T)} {a b : Known (Held T) (List (Note T)) W} (was : HasUsed p n us a) → ((r : List (Note T)) → b.share ≡ Some r → IsIdle p n r b)
+      → {ring_in : Held T → Opt (Held T)} {after : W → ℕ → ℕ → Held T → Held T → List (Note T) → List (Note T)} {alike : List (Note T) → List (Note T) → Type 0} {w : W} {m c o t : ℕ} {more : ℕ → Used T → Used T} {d : Opt (Did T)}
+      → Ran ring_in part_of after alike w m c o t more d was.share a b → ((k : ℕ) (u : Used T) → settled (did_last d (more k u)) ≡ did_last d (settled u))
+      → ((k : ℕ) → Falls (did_last d (more k (part_of was.share m))).puts × Falls (did_last d (more k (part_of was.share m))).takes) → HasUsed p n (done_at m d us) b
+  used_ran was idle {m = m} {d = d} ran settles falls =
+      let k = wait_count d ran.waited in
+      used_on was m ran.share ran.elsewhere d (idle ran.share ran.is_share) (ap settled ran.here ∙ settles k (part_of was.share m)) (subst (λ u. Falls u.puts × Falls u.takes) (sym ran.here) (falls k))
 
   at_none : (c k : ℕ) (u : Used T) → get_elem? (replicate c unused) k ≡ some u → unused ≡ u
   at_none zero k u e = absurd (some-ne-none u (sym e))

@@ -1,5 +1,5 @@
 -- The events of a call at a buffer, and the share that it leaves.
-use Rattle.std.specs.Prelude.{◌≡◌, ◌≢◌, ℕ, zero, suc, ◌+◌, true, List, [], ◌∷◌, ◌++◌, Option as Opt, Some, None, IsSome, Result, Ok, Err}
+use Rattle.std.specs.Prelude.{◌≡◌, ◌≢◌, ℕ, zero, suc, ◌+◌, Bool, true, false, cond, List, [], ◌∷◌, ◌++◌, Option as Opt, Some, None, IsSome, Result, Ok, Err}
 use Rattle.larch_actions.specs.declared.event.CondId.{CondId}
 use Rattle.larch_actions.specs.declared.event.Event.{Event}
 use Rattle.nub_rule.specs.Known.{Known}
@@ -34,11 +34,15 @@ tells t left (Some c) = event t (signal_action c.0 left) ∷ []
 tells t left None = []
 
 module _ {T : Type 0} where
+  -- the other side hears of it
+  abbrev pub is_told : Did T → Bool
+  is_told (Put n i) = true
+  is_told (Took n i) = true
+  is_told _ = false
+
   -- who put or took signals the condition o
   abbrev pub signals : ℕ → ℕ → List ℕ → Did T → List Event
-  signals t o left (Put n i) = event t (signal_action o left) ∷ []
-  signals t o left (Took n i) = event t (signal_action o left) ∷ []
-  signals t o left _ = []
+  signals t o left d = cond (is_told d) (event t (signal_action o left) ∷ []) []
 
   -- what comes between the waits of the thread t and its Release: it did something, or was alerted
   abbrev pub finish : ℕ → ℕ → ℕ → ℕ → List ℕ → Opt (Did T) → List Event
@@ -95,3 +99,11 @@ module _ {W V H T : Type 0} (ring_in : V → Opt (Held T)) (part : H → ℕ →
     pub here : part share m ≡ did Shut (part s m)
     pub elsewhere : (k : ℕ) → k ≢ m → part share k ≡ part s k
     pub looked : Looked w m t (Some Shut) s share
+
+-- what was done at the ring q, as its answer tells: it turned q into p
+pub record Answers {T : Type 0} (answered : Opt (Did T)) (kind : Did T → Type 0) (good : Bool) (q p : Held T) : Type 0 where
+  pub did : Did T
+  pub is : answered ≡ Some did
+  pub of : kind did
+  pub told : good ≡ is_told did
+  pub does : Does did q p

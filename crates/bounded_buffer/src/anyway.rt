@@ -14,9 +14,11 @@ use crate::shutting::shut;
 use crate::taking::take;
 use nub_rule::{Package, Thread};
 use std::sync::Wait;
+use thiserror::Error;
 
 /// The ring was shut and is empty.
-#[derive(Clone, Copy, Debug, PartialEq, Eq)]
+#[derive(Clone, Copy, Debug, PartialEq, Eq, Error)]
+#[error("the buffer is shut and empty")]
 pub struct Over;
 
 /// Puts the item as `put` does, and anew where an alert ended its wait. Where the ring is shut, the item comes back.

@@ -1,19 +1,24 @@
 //! How a put or a take ends without an item's number.
+use thiserror::Error;
 
 /// Why a put gave its item back.
-#[derive(Clone, Copy, Debug, PartialEq, Eq)]
+#[derive(Clone, Copy, Debug, PartialEq, Eq, Error)]
 pub enum PutEnd {
     /// The ring was shut.
+    #[error("the buffer is shut")]
     Closed,
     /// The thread was alerted while it waited.
+    #[error("the thread was alerted")]
     Alerted,
 }
 
 /// Why a take gave no item.
-#[derive(Clone, Copy, Debug, PartialEq, Eq)]
+#[derive(Clone, Copy, Debug, PartialEq, Eq, Error)]
 pub enum TakeEnd {
     /// The ring was shut and empty.
+    #[error("the buffer is shut and empty")]
     ClosedEmpty,
     /// The thread was alerted while it waited.
+    #[error("the thread was alerted")]
     Alerted,
 }

@@ -14,7 +14,7 @@ use crate::at::BufferAt;
 use crate::buffer_use::BufferUse;
 use crate::ends::PutEnd;
 use crate::entering::enter;
-use crate::giving::{give, keep};
+use crate::leaving::{give, keep, leave};
 use crate::side::Side;
 use nub_rule::{NoChange, Package, Thread};
 use std::sync::Wait;
@@ -53,16 +53,12 @@ pub fn put<B: BufferUse, R: Wait>(
     let Some(mut ring) = entered else {
         return Err((PutEnd::Alerted, item));
     };
-    if ring.is_shut() {
-        give::<B, B::Put, R>(rt, p, me, at.mutex, None, ring);
-        return Err((PutEnd::Closed, item));
-    }
     if ring.is_at_end() {
         give::<B, NoChange, R>(rt, p, me, at.mutex, None, ring);
         let _item = keep(rt, item);
         unreachable!()
     }
-    let number = ring.push(item);
-    give::<B, B::Put, R>(rt, p, me, at.mutex, Some(at.more), ring);
-    Ok(number)
+    let answer = ring.offer(item);
+    leave::<B, B::Put, R>(rt, p, me, at.mutex, at.more, answer.is_ok(), ring);
+    answer
 }

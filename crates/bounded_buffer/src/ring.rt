@@ -1,7 +1,14 @@
 //! A ring of items.
-ghost use Rattle.std.specs.Prelude.{◌≡◌, ◌+◌, ◌<◌, ◌≤◌, ◌^◌, ◌∷◌, true, false, [], length, IfOk};
-ghost use Rattle.bounded_buffer.specs.Rings.{Held, fresh, put_count, with_last, without_first, shut_now};
+ghost use Rattle.std.specs.Prelude.{◌≡◌, ◌+◌, ◌<◌, ◌≤◌, ◌^◌, ◌∷◌, true, false, [], length, IfOk, IfErr, Err, is_ok};
+ghost use Rattle.bounded_buffer.specs.declared.ends.PutEnd.TheVariants.{Closed};
+ghost use Rattle.bounded_buffer.specs.declared.ends.TakeEnd.TheVariants.{ClosedEmpty};
+ghost use Rattle.bounded_buffer.specs.declared.side.Side.TheVariants.{Putting, Taking};
+ghost use Rattle.bounded_buffer.specs.Calls.{Answers, put_did, take_did};
+ghost use Rattle.bounded_buffer.specs.Parts.{IsOfPut, IsOfTake};
+ghost use Rattle.bounded_buffer.specs.Rings.{Held, fresh, put_count, shut_now};
+ghost use Rattle.bounded_buffer.specs.Sides.{MayGo};
 
+use crate::ends::{PutEnd, TakeEnd};
 use std::alloc::{AllocError, Global};
 use std::collections::VecDeque;
 use std::marker::Model;
@@ -93,38 +100,43 @@ impl<T> Ring<T> {
         self.shut
     }
 
-    /// Whether the number of items that were ever put is the greatest that there is.
+    /// Whether it is open, and the number of items that were ever put is the greatest that there is.
     pub(crate) fn is_at_end(&self) -> bool
-        ensures end { result ≡ false → put_count self.now + 1 < 2 ^ 64 }
+        ensures end { result ≡ false → self.now.shut ≡ false → put_count self.now + 1 < 2 ^ 64 }
     {
-        self.taken == u64::MAX - self.items.len() as u64
+        !self.shut && self.taken == u64::MAX - self.items.len() as u64
     }
 
-    /// Puts the item last, and answers its number.
-    pub(crate) fn push(&mut self, item: T) -> u64
-        requires room { length self.old.items < self.old.capacity }
-        requires few { put_count self.old + 1 < 2 ^ 64 }
-        ensures number { result ≡ put_count self.old }
-        ensures ring { self.new ≡ with_last self.old item }
+    /// Puts the item last, where the ring is open, and answers its number.
+    pub(crate) fn offer(&mut self, item: T) -> Result<u64, (PutEnd, T)>
+        requires room { MayGo Putting self.old }
+        requires few { self.old.shut ≡ false → put_count self.old + 1 < 2 ^ 64 }
+        ensures did { Answers (put_did item result) (IsOfPut (λ i. i ≡ item)) (is_ok result) self.old self.new }
+        ensures number { IfOk result (λ n. n ≡ put_count self.old) }
+        ensures closed { self.old.shut ≡ true → result ≡ Err (Closed, item) }
+        ensures back { IfErr result (λ e. e.1 ≡ item) }
     {
+        if self.shut {
+            return Err((PutEnd::Closed, item));
+        }
         let number = self.taken + self.items.len() as u64;
         self.items.push_back_reserved(item);
-        number
+        Ok(number)
     }
 
-    /// Takes the first item, and answers its number too.
-    pub(crate) fn pop(&mut self) -> (u64, T)
-        requires { 0 < length self.old.items }
-        ensures number { result.0 ≡ self.old.taken }
-        ensures first { self.old.items ≡ result.1 ∷ self.new.items }
-        ensures ring { self.new ≡ without_first self.old self.new.items }
+    /// Takes the first item, where there is one, and answers its number too.
+    pub(crate) fn poll(&mut self) -> Result<(u64, T), TakeEnd>
+        requires { MayGo Taking self.old }
+        ensures did { Answers (take_did result) IsOfTake (is_ok result) self.old self.new }
+        ensures first { IfOk result (λ r. (r.0 ≡ self.old.taken) × (self.old.items ≡ r.1 ∷ self.new.items)) }
+        ensures over { self.old.items ≡ [] → result ≡ Err ClosedEmpty }
     {
         let Some(item) = self.items.pop_front() else {
-            unreachable!()
+            return Err(TakeEnd::ClosedEmpty);
         };
         let number = self.taken;
         self.taken += 1;
-        (number, item)
+        Ok((number, item))
     }
 
     /// Shuts it.

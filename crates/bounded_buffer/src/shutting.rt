@@ -9,11 +9,11 @@ ghost use Rattle.bounded_buffer.specs.Calls.{HasShut};
 
 use crate::at::BufferAt;
 use crate::buffer_use::BufferUse;
-use crate::giving::ring_of;
+use crate::entering::acquire_ring;
+use crate::leaving::give;
 use condition::broadcast;
 use nub_rule::{Package, Thread};
 use std::sync::Wait;
-use user_mutex::{acquire, release};
 
 /// Shuts the ring, and wakes all who wait for room or for more. Where it is shut already it stays as it is.
 ///
@@ -32,10 +32,9 @@ pub fn shut<B: BufferUse, R: Wait>(rt: &R, p: &Package<B>, me: &mut Thread<B>, a
     ensures shut { (s : B.Share) → me.old.share ≡ Some s
         → HasShut B.ring_in B.part B.Shut.after p.now.world at.now.mutex.0 at.now.room.0 at.now.more.0 me.old.number s me.old me.new }
 {
-    let value = acquire(rt, p, me, at.mutex);
-    let mut ring = ring_of::<B>(value);
+    let mut ring = acquire_ring(rt, p, me, at);
     ring.shut();
     broadcast(rt, p, me, at.room);
     broadcast(rt, p, me, at.more);
-    release::<B, B::Shut, R>(rt, p, me, at.mutex, B::from_ring(ring));
+    give::<B, B::Shut, R>(rt, p, me, at.mutex, None, ring);
 }

@@ -14,7 +14,7 @@ use crate::at::BufferAt;
 use crate::buffer_use::BufferUse;
 use crate::ends::TakeEnd;
 use crate::entering::enter;
-use crate::giving::give;
+use crate::leaving::leave;
 use crate::side::Side;
 use nub_rule::{Package, Thread};
 use std::sync::Wait;
@@ -50,11 +50,7 @@ pub fn take<B: BufferUse, R: Wait>(
     let Some(mut ring) = entered else {
         return Err(TakeEnd::Alerted);
     };
-    if ring.is_empty() {
-        give::<B, B::Take, R>(rt, p, me, at.mutex, None, ring);
-        return Err(TakeEnd::ClosedEmpty);
-    }
-    let first = ring.pop();
-    give::<B, B::Take, R>(rt, p, me, at.mutex, Some(at.room), ring);
-    Ok(first)
+    let answer = ring.poll();
+    leave::<B, B::Take, R>(rt, p, me, at.mutex, at.room, answer.is_ok(), ring);
+    answer
 }

@@ -1,9 +1,11 @@
 //! What each of the three threads does.
-ghost use Rattle.std.specs.Prelude.{◌≡◌, ◌++◌, ◌∷◌, [], false};
+ghost use Rattle.std.specs.Prelude.{◌≡◌, ◌<◌, ◌++◌, ◌∷◌, [], false};
 ghost use Rattle.nub.specs.Ended.{IsFirst};
+ghost use Rattle.bounded_buffer.specs.At.{IsNamed};
+ghost use Rattle.bounded_buffer.specs.Plain.{IsPlain};
 ghost use Rattle.pipeline.specs.Stages.{squared, HasBuffers, HasEnded, IsMade, IsStage, IsTaken, IsWorked};
 
-use bounded_buffer::{PlainBuffers, plain_buffer, put_anyway, shut_plain, take_anyway};
+use bounded_buffer::{BufferAt, PlainBuffers, plain_buffer, put_anyway, shut_plain, take_anyway};
 use nub::{Package, Thread};
 use std::alloc::Global;
 use std::sync::Wait;
@@ -46,6 +48,16 @@ fn square(number: u64) -> u64
     number.wrapping_mul(number)
 }
 
+/// The first buffer, of numbers, or the second, of squares.
+fn buffer(p: &Package<Numbers>, number: u32) -> BufferAt
+    requires few { number < 2 }
+    requires two { HasBuffers p.now.layout }
+    ensures named { IsNamed p.now.layout result × IsPlain result }
+    ensures mutex { result.mutex.0 ≡ number }
+{
+    plain_buffer(number)
+}
+
 /// The maker: puts the numbers below `count` into the first buffer, and shuts it.
 fn make<R: Wait>(
     rt: &R,
@@ -57,7 +69,7 @@ fn make<R: Wait>(
     requires first { IsFirst p.now (λ w t. []) me.number me }
     ensures { HasEnded (IsMade count) p.now me.number result }
 {
-    let numbers = plain_buffer(0);
+    let numbers = buffer(p, 0);
     for i in 0..count {
         let Ok(_) = put_anyway(rt, p, &mut me, &numbers, i as u64) else {
             return me;
@@ -73,8 +85,8 @@ fn square_all<R: Wait>(rt: &R, p: &Package<Numbers>, mut me: Thread<Numbers>) ->
     requires first { IsFirst p.now (λ w t. []) me.number me }
     ensures { HasEnded IsWorked p.now me.number result }
 {
-    let numbers = plain_buffer(0);
-    let squares = plain_buffer(1);
+    let numbers = buffer(p, 0);
+    let squares = buffer(p, 1);
     for _ in rt.forever() {
         match take_anyway(rt, p, &mut me, &numbers) {
             Ok((_, number)) => {
@@ -102,7 +114,7 @@ fn take_all<R: Wait>(
     requires first { IsFirst p.now (λ w t. []) me.number me }
     ensures { HasEnded (IsTaken result.1) p.now me.number result.0 }
 {
-    let squares = plain_buffer(1);
+    let squares = buffer(p, 1);
     let mut came = Came::none(alloc);
     for _ in rt.forever() {
         match take_anyway(rt, p, &mut me, &squares) {

@@ -1,12 +1,8 @@
-use Rattle.std.proofs.Common.{◌≡◌, ℕ, Some}
-use Rattle.bounded_buffer.specs.Calls.{entered}
-use Rattle.bounded_buffer.specs.Parts.{KnowsShut}
-use Rattle.bounded_buffer.specs.Sides.{more}
-use Rattle.bounded_buffer.specs.Waiting.{IsIn}
+use Rattle.std.proofs.Common.{◌≡◌, Some}
+use Rattle.nub.specs.Rest.{AtRest, IsSame}
+use Rattle.bounded_buffer.specs.Waiting.{HasEntered}
 use Rattle.bounded_buffer.proofs.entering.enter.Given as goal
 
--- the thread has the mutex with the value, after it waited k times
+-- the thread has the ring, after it waited some times
 abbrev pub invariant-loop : goal.invariant-loop
-invariant-loop g l = let m = l.at.mutex.0 in
-    (k : ℕ) × (s : g.row.B-Share.Denot) × (l.fn.me.share ≡ Some s)
-    × IsIn g.B.BufferUse.part g.B.BufferUse.alike g.B.Uses.fits l.p m (more l.side) (entered l.fn.me.number m l.c.0 k) k s l.value l.fn.me l.me × (KnowsShut (g.B.BufferUse.part s m) → k ≡ 0)
+invariant-loop g l = AtRest l.p l.me × IsSame l.fn.me l.me × ((s : g.row.B-Share.Denot) → l.fn.me.share ≡ Some s → HasEntered g.B.BufferUse.ring_in g.B.BufferUse.part g.B.BufferUse.alike g.B.Uses.fits l.p l.at.mutex.0 l.c.0 l.side s l.ring l.fn.me l.me)

@@ -4,7 +4,7 @@ use Rattle.std.proofs.lemmas.List.{map-id}
 use Rattle.std.proofs.lemmas.List.FromFn.{map-range_with_len_more}
 use Rattle.nub.proofs.Users.{idle_first}
 use Rattle.bounded_buffer.specs.Parts.{Used, unused}
-use Rattle.bounded_buffer.proofs.Using.{plain_named, used_first}
+use Rattle.bounded_buffer.proofs.Using.{used_first}
 use Rattle.pipeline.specs.Stages.{numbers}
 use Rattle.pipeline.proofs.stages.make.Goals as goal
 
@@ -19,14 +19,6 @@ so_far puts = record unused { puts = puts } ∷ unused ∷ []
 pub loop-i-init : goal.loop-i-init
 loop-i-init g c = ([], used_first c.args.p.now c.args.me.number 2 c.args.me (idle_first c.args.p.now (λ w t. []) c.args.me.number c.args.me c.requires.first), refl)
 
-pub put_anyway-requires-clause-named : goal.put_anyway-requires-clause-named
-put_anyway-requires-clause-named g c κs within =
-    let l = c.requires.named in
-    let at = c.plain_buffer-numbers in
-    let mutexes = l.mutexes in
-    let conditions = l.conditions in
-    (plain_named c.args.p.now.layout at.result 0 at.ensures.plain at.ensures.mutex (omega arith) (omega arith), at.ensures.plain)
-
 pub put_anyway-requires-clause-used : goal.put_anyway-requires-clause-used
 put_anyway-requires-clause-used g c κs within = let inv = c.loop-i.invariant in (c.args.me.number, so_far inv.0, inv.1)
 
@@ -36,7 +28,7 @@ returns-in_default g c =
     record {
       first = record unused { puts = inv.0; seen_shut = true };
       second = unused;
-      used = c.in_default.ensures.refused.1 c.args.me.number 0 (so_far inv.0) c.plain_buffer-numbers.ensures.mutex inv.1;
+      used = c.in_default.ensures.refused.1 c.args.me.number 0 (so_far inv.0) c.buffer-numbers.ensures.mutex inv.1;
       stage = record { takes = refl; others = refl; ends = inr (refl, refl) };
     }
 
@@ -45,17 +37,9 @@ loop-i-preserved g c =
     let inv = c.loop-i.invariant in
     let i = c.loop-i.i in (
       (c.in-Ok.field-0, i) ∷ inv.0,
-      c.in-Ok.ensures.put c.args.me.number 0 (so_far inv.0) c.plain_buffer-numbers.ensures.mutex inv.1,
+      c.in-Ok.ensures.put c.args.me.number 0 (so_far inv.0) c.buffer-numbers.ensures.mutex inv.1,
       ap (λ l. l ++ i ∷ []) inv.2 ∙ more_numbers i,
     )
-
-pub shut_plain-requires-clause-named : goal.shut_plain-requires-clause-named
-shut_plain-requires-clause-named g c κs within =
-    let l = c.requires.named in
-    let at = c.plain_buffer-numbers in
-    let mutexes = l.mutexes in
-    let conditions = l.conditions in
-    (plain_named c.args.p.now.layout at.result 0 at.ensures.plain at.ensures.mutex (omega arith) (omega arith), at.ensures.plain)
 
 pub shut_plain-requires-clause-used : goal.shut_plain-requires-clause-used
 shut_plain-requires-clause-used g c κs within = let inv = c.loop-i.invariant in (c.args.me.number, so_far inv.0, inv.1)
@@ -68,6 +52,6 @@ returns g c =
     record {
       first = record unused { puts = inv.0; shut = true };
       second = unused;
-      used = c.shut_plain.ensures c.args.me.number 0 (so_far inv.0) c.plain_buffer-numbers.ensures.mutex inv.1;
+      used = c.shut_plain.ensures c.args.me.number 0 (so_far inv.0) c.buffer-numbers.ensures.mutex inv.1;
       stage = record { takes = refl; others = refl; ends = inl (inv.2 ∙ ap numbers same, refl) };
     }

@@ -1,10 +1,13 @@
 //! Getting the ring out of a value, and giving a mutex back with a ring.
-ghost use Rattle.std.specs.Prelude.{◌≡◌, ◌≢◌, ◌<◌, ℕ, List, [], None, Some, IfSome, slice_set};
-ghost use Rattle.nub_rule.specs.Known.{Holds};
+ghost use Rattle.std.specs.Prelude.{◌≡◌, ◌<◌, ℕ, List, None, Some, IfSome, slice_set};
+ghost use Rattle.nub_rule.specs.Known.{Holds, Known};
 ghost use Rattle.nub_rule.specs.Plays.{release_event};
 ghost use Rattle.nub.specs.Rest.{AtRest, Adds, IsSame};
+ghost use Rattle.bounded_buffer.specs.declared.did.Did.{Did};
+ghost use Rattle.bounded_buffer.specs.declared.side.Side.{Side};
 ghost use Rattle.bounded_buffer.specs.Calls.{tells};
 ghost use Rattle.bounded_buffer.specs.Rings.{Held};
+ghost use Rattle.bounded_buffer.specs.Waiting.{Ended, Visits};
 
 use crate::buffer_use::BufferUse;
 use crate::ring::Ring;
@@ -63,4 +66,28 @@ pub(crate) fn give<B: BufferUse, C: Change<B>, R: Wait>(
         }
         None => release::<B, C, R>(rt, p, me, mutex, value),
     }
+}
+
+/// Ends a call at a ring: signals the condition, where the other side is to be told, and gives the mutex back with the ring.
+pub(crate) fn leave<B: BufferUse, C: Change<B>, R: Wait>(
+    rt: &R,
+    p: &Package<B>,
+    me: &mut Thread<B>,
+    mutex: MutexId,
+    other: CondId,
+    told: bool,
+    ring: Ring<B::Item>,
+)
+    requires named { (mutex.0 < p.now.layout.mutexes) × (other.0 < p.now.layout.conditions) }
+    requires world { me.old.world ≡ Some p.now.world }
+    requires visits { (c : ℕ) × (side : Side) × (s : B.Share) × (q : Held B.Item) × (d : Did B.Item)
+        × (a : Known B.Value B.Share B.World) × Visits B.ring_in B.part B.alike B.fits p.now mutex.0 c side B.allows C.after told s q
+        ring d a me.old }
+    ensures rest { AtRest p.now me.new }
+    ensures same { IsSame me.old me.new }
+    ensures ended { (c : ℕ) (side : Side) (s : B.Share) (q : Held B.Item) (d : Did B.Item) (a : Known B.Value B.Share B.World)
+        → Visits B.ring_in B.part B.alike B.fits p.now mutex.0 c side B.allows C.after told s q ring d a me.old
+        → Ended B.ring_in B.part B.alike p.now mutex.0 c other.0 side C.after (Some d) s a me.new }
+{
+    give::<B, C, R>(rt, p, me, mutex, told.then_some(other), ring);
 }
