@@ -1,7 +1,5 @@
 mod Crewing
 mod Inside
 mod Makers
-mod Partly
-mod Raises
 mod Roles
-mod Sums
+mod Totals

@@ -1,31 +1,45 @@
 -- The parts that the threads of a package of sums may do, and what a package leaves whose threads have done theirs.
-use Rattle.std.specs.Prelude.{◌≡◌, ℕ, ◌<◌, List, [], length}
-use Rattle.larch_actions.specs.declared.event.Layout.{Layout}
+use Rattle.std.specs.Prelude.{◌≡◌, ℕ, ◌*◌, Bool, true, false, cond, List, [], ◌∷◌, length}
 use Rattle.nub_rule.specs.Known.{Shape}
 use Rattle.nub_rule.specs.Items.{Each}
-use Rattle.nub.specs.Ended.{Ended, KeepsLocks}
+use Rattle.nub.specs.Ended.{Ended}
 use Rattle.sum_uses.specs.declared.added.Added.{Added}
-use Rattle.sum_uses.specs.Sums.{AreSums}
 use Rattle.bench_workloads.specs.declared.parts.Part.{Part}
-use Rattle.bench_workloads.specs.declared.parts.Part.TheVariants.{Add, Call, Turns}
-use Rattle.bench_workloads.specs.Workloads.{HasAdded, HasCalled, HasTurned, Worker}
+use Rattle.bench_workloads.specs.declared.parts.Part.TheVariants.{Add, Call, Pass, Turns, Wake}
+use Rattle.bench_workloads.specs.Workloads.{HasMade, HasPassed, HasWoken, HasWorked, Worker, first_calls}
 
--- the layout has what the part names
-abbrev pub HasNamed : Part → Layout → Type 0
-HasNamed (Add times outside) l = 0 < l.mutexes
-HasNamed (Call all times) l = 0 < l.conditions
-HasNamed (Turns what threads times) l = (0 < l.mutexes) × (1 < l.conditions)
+-- semaphores are passed on
+abbrev pub is_pass : Part → Bool
+is_pass (Pass alone times) = true
+is_pass _ = false
 
--- the thread n of the package has done the part
-abbrev pub HasDonePart : Part → Shape (Unit {0}) → ℕ → Worker → Type 0
-HasDonePart (Add times outside) p n t = HasAdded p times n t
-HasDonePart (Call all times) p n t = HasCalled p [] times n t
-HasDonePart (Turns what threads times) p n t = HasTurned p times n t
+-- how many calls the thread n has made before the part
+abbrev pub begun : Part → ℕ → ℕ
+begun part n = cond (is_pass part) (first_calls n) 0
 
--- a package of this layout was closed with these threads and values, and each thread has done the part
-pub record HasRun (layout : Layout) (part : Part) (e : Ended ℕ (List Added) (Unit {0})) : Type 0 where
-  pub shape : Shape (Unit {0})
-  pub count : length e.threads ≡ layout.threads
-  pub each : Each (HasDonePart part shape) e.threads
-  pub long : length e.values ≡ layout.mutexes
-  pub locks : KeepsLocks (λ values shares. AreSums values shares) e.threads e.values
+-- how much each thread adds
+abbrev pub adds : Part → ℕ
+adds (Add times outside) = times
+adds (Turns what threads times) = times
+adds (Wake times) = times
+adds _ = 0
+
+-- what the events of the thread n show when it has done the part, and the number that it has left
+abbrev pub Shows : Part → ℕ → ℕ → Worker → Type 0
+Shows (Add times outside) n left t = HasMade (2 * times) t
+Shows (Call all times) n left t = HasMade times t
+Shows (Pass alone times) n left t = HasPassed times n left t
+Shows (Turns what threads times) n left t = Unit {0}
+Shows (Wake times) n left t = HasWoken times n left t
+
+-- the thread n of the package has done the part, and has left this number
+abbrev pub HasDonePart : Part → Shape (Unit {0}) → ℕ → ℕ → Worker → Type 0
+HasDonePart part p n left t = HasWorked p n (adds part) (Shows part n left) t
+
+-- so many threads have done the part in a package that was closed, and have left these numbers
+pub record HasRun (threads : ℕ) (part : Part) (e : Ended ℕ (List Added) (Unit {0})) (lefts : List ℕ) : Type 0 where
+  pub count : length e.threads ≡ threads
+  pub lefts_count : length lefts ≡ threads
+  pub each : Each (λ n t. (left : ℕ) × Shows part n left t) e.threads
+  pub each_left : Each (λ n left. (t : Worker) × Shows part n left t) lefts
+  pub value : e.values ≡ (threads * adds part) ∷ []

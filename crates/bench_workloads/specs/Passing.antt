@@ -4,7 +4,7 @@ use Rattle.std.specs.List.{sum, sum_by, range_with_len}
 use Rattle.larch_actions.specs.declared.event.Layout.{Layout}
 use Rattle.nub_rule.specs.Known.{Known, Shape}
 use Rattle.bounded_buffer.specs.declared.note.Note.{Note}
-use Rattle.bounded_buffer.specs.Parts.{Used, unused}
+use Rattle.bounded_buffer.specs.Parts.{Used}
 use Rattle.bounded_buffer.specs.Rings.{Held}
 use Rattle.bounded_buffer.specs.Using.{HasUsed}
 
@@ -33,40 +33,35 @@ items_sum ps = sum_by (λ p. p.1) ps
 abbrev pub numbers_sum : ℕ → ℕ → ℕ
 numbers_sum first count = sum (range_with_len first count)
 
--- the maker n has put all its numbers, and then told of its end, as one of the makers; if it was the last, it may have shut the buffer of numbers
-pub record HasMade (makers times n : ℕ) (x : Both) : Type 0 where
-  pub sum : items_sum x.numbers.puts ≡ numbers_sum (n * times) times
-  pub count : length x.numbers.puts ≡ times
-  pub place : ℕ
-  pub told : x.ends.puts ≡ (place, n) ∷ []
-  pub last : x.numbers.shut ≡ true → place + 1 ≡ makers
+-- the items of the pairs are as many as these numbers, and add up to as much
+pub record IsRow (first many : ℕ) (ps : List (ℕ × ℕ)) : Type 0 where
+  pub sum : items_sum ps ≡ numbers_sum first many
+  pub count : length ps ≡ many
 
--- a maker has seen a buffer shut, before it told of its end, and shut none
+-- a maker has seen a buffer shut before it told of its end
 pub record WasRefused (x : Both) : Type 0 where
   pub told : x.ends.puts ≡ []
-  pub opened : x.numbers.shut ≡ false
   pub seen : (x.numbers.seen_shut ≡ true) ⊎ (x.ends.seen_shut ≡ true)
 
--- what the maker n has done at its end
-pub record IsMaker (makers times n : ℕ) (x : Both) : Type 0 where
-  pub takes : x.numbers.takes ≡ []
-  pub opened : x.ends.shut ≡ false
-  pub ends : HasMade makers times n x ⊎ WasRefused x
-
--- what a taker has done at its end, which saw the buffer of numbers shut and empty
+-- a taker has put nothing, and seen the buffer of numbers shut and empty
 pub record IsTaker (x : Both) : Type 0 where
   pub puts : x.numbers.puts ≡ []
-  pub opened : x.numbers.shut ≡ false
-  pub none : x.ends ≡ unused
+  pub told : x.ends.puts ≡ []
   pub end : x.numbers.seen_end ≡ true
 
--- the thread n of the package has done its part, with this sum modulo 2^64 of what it has taken: the first threads make, and the others take
-pub record HasPassed (p : Shape (Unit {0})) (makers times n summed : ℕ) (t : Passer) : Type 0 where
-  pub both : Both
-  pub done : HasDone p n both t
-  pub sum : summed ≡ items_sum both.numbers.takes % 2 ^ 64
-  pub makes : n < makers → IsMaker makers times n both
-  pub takes : makers ≤ n → IsTaker both
+-- the thread n has done its part, with this sum modulo 2^64 of what it has taken: the first threads put a row of numbers each, and tell of their end once; the last of them to do
+-- that may have shut the buffer of numbers; the others take
+pub record HasEnded (makers times n summed : ℕ) (x : Both) : Type 0 where
+  pub sum : summed ≡ items_sum x.numbers.takes % 2 ^ 64
+  pub opened : x.ends.shut ≡ false
+  pub once : length x.ends.puts ≤ 1
+  pub last : x.numbers.shut ≡ true → (place : ℕ) × (x.ends.puts ≡ (place, n) ∷ []) × (place + 1 ≡ makers)
+  pub makes : n < makers → IsRow (n * times) times x.numbers.puts ⊎ WasRefused x
+  pub takes : makers ≤ n → IsTaker x
+
+-- the thread n of the package has done its part
+abbrev pub HasPassed : Shape (Unit {0}) → ℕ → ℕ → ℕ → ℕ → Passer → Type 0
+HasPassed p makers times n summed t = (x : Both) × HasDone p n x t × HasEnded makers times n summed x
 
 -- the ring is shut and empty, and so many items were taken from it
 pub record IsOver (count : ℕ) (q : Held ℕ) : Type 0 where

@@ -1,5 +1,5 @@
 -- Turns of readers and writers.
-use Rattle.std.specs.Prelude.{◌≡◌, ◌≤◌, ℕ, cond, List, [], ◌∷◌, Some}
+use Rattle.std.specs.Prelude.{◌≡◌, ◌≤◌, ℕ, Bool, cond, List, [], ◌∷◌, Some}
 use Rattle.std.proofs.Common.{zero, suc}
 use Rattle.std.specs.Bool.{nat_lt}
 use Rattle.larch_actions.specs.declared.event.Layout.{Layout}
@@ -24,9 +24,12 @@ abbrev pub turns : Role → ℕ → List Turn
 turns role zero = []
 turns role (suc n) = turn 0 Idle ∷ turn 0 role ∷ turns role n
 
+abbrev pub role_if : Bool → Role
+role_if reads = cond reads Reading Writing
+
 -- the first threads read, so many of them, and the others write
 abbrev pub role_by : ℕ → ℕ → Role
-role_by readers n = cond (nat_lt n readers) Reading Writing
+role_by readers n = role_if (nat_lt n readers)
 
 -- so many turns of the thread n are writes
 abbrev pub writes_by : ℕ → ℕ → ℕ → ℕ
@@ -37,6 +40,5 @@ abbrev pub HasPlayed : ℕ → ℕ → ℕ → Player → Type 0
 HasPlayed readers times n t = t.share ≡ Some (turns (role_by readers n) times)
 
 -- the thread n of the package has taken so many turns, and counted this many writes
-pub record HasCounted (p : Shape (Unit {0})) (readers times n writes : ℕ) (t : Player) : Type 0 where
-  pub idle : IsIdle p n (turns (role_by readers n) times) t
-  pub counted : writes ≡ writes_by readers times n
+abbrev pub HasCounted : Shape (Unit {0}) → ℕ → ℕ → ℕ → ℕ → Player → Type 0
+HasCounted p readers times n writes t = IsIdle p n (turns (role_by readers n) times) t × (writes ≡ writes_by readers times n)

@@ -1,38 +1,56 @@
 -- What a thread has done in a workload.
-use Rattle.std.specs.Prelude.{◌≡◌, ◌≤◌, ℕ, ◌+◌, ◌-◌, ◌*◌, List, length}
+use Rattle.std.specs.Prelude.{◌≡◌, ◌≢◌, ◌≤◌, ℕ, ◌+◌, ◌-◌, ◌*◌, cond, eqb, List, length}
+use Rattle.larch_actions.specs.declared.event.Layout.{Layout}
 use Rattle.sum_uses.specs.declared.added.Added.{Added}
 use Rattle.sum_uses.specs.Sums.{IsAbove, added}
 use Rattle.nub_rule.specs.Known.{Known, Shape}
 use Rattle.nub.specs.Holding.{IsHolding}
 use Rattle.nub.specs.Idle.{IsIdle}
+use Rattle.bench_workloads.specs.Waking.{raises}
 
 abbrev pub Worker : Type 0
 Worker = Known ℕ (List Added) (Unit {0})
+
+-- there are a mutex, two conditions, two semaphores and a thread
+pub record HasObjects (l : Layout) : Type 0 where
+  pub threads : 1 ≤ l.threads
+  pub mutexes : 1 ≤ l.mutexes
+  pub conditions : 2 ≤ l.conditions
+  pub semaphores : 2 ≤ l.semaphores
 
 -- the thread has made this many calls, each with one event of its own
 abbrev pub HasMade : ℕ → Worker → Type 0
 HasMade count t = length t.mine ≡ count
 
--- the thread n of the package has added 1 under mutex 0 so often, by an acquire and a release each
-pub record HasAdded (p : Shape (Unit {0})) (times n : ℕ) (t : Worker) : Type 0 where
+-- where semaphores are passed on the second thread has made a call before, by which it took its own
+abbrev pub first_calls : ℕ → ℕ
+first_calls n = cond (eqb n 1) 1 0
+
+-- the thread n has passed them on so often, and counted that
+abbrev pub HasPassed : ℕ → ℕ → ℕ → Worker → Type 0
+HasPassed times n counted t = HasMade (first_calls n + 2 * times) t × (counted ≡ times)
+
+-- alerts have ended this many waits of the thread
+abbrev pub HasRaised : ℕ → Worker → Type 0
+HasRaised count t = raises t.mine ≡ count
+
+-- the first thread has begun so many waits, each of which an alert has ended, and counted them, and the others none
+abbrev pub HasWoken : ℕ → ℕ → ℕ → Worker → Type 0
+HasWoken times n counted t = (n ≡ 0 → (counted ≡ times) × HasRaised times t) × (n ≢ 0 → counted ≡ 0)
+
+-- the thread n of the package is between two calls, has added so much under mutex 0, and is so
+pub record HasWorked (p : Shape (Unit {0})) (n total : ℕ) (Is : Worker → Type 0) (t : Worker) : Type 0 where
   pub share : List Added
   pub idle : IsIdle p n share t
-  pub sum : added 0 share ≡ times
-  pub made : HasMade (2 * times) t
+  pub sum : added 0 share ≡ total
+  pub is : Is t
 
--- the thread n of the package has added nothing, and made this many calls
-pub record HasCalled (p : Shape (Unit {0})) (share : List Added) (count n : ℕ) (t : Worker) : Type 0 where
-  pub idle : IsIdle p n share t
-  pub made : HasMade count t
+-- it has added 1 so often
+abbrev pub HasTurned : Shape (Unit {0}) → ℕ → ℕ → Worker → Type 0
+HasTurned p n times t = HasWorked p n times (λ u. Unit {0}) t
 
--- the thread n of the package has added 1 under mutex 0 so often
-pub record HasTurned (p : Shape (Unit {0})) (times n : ℕ) (t : Worker) : Type 0 where
-  pub share : List Added
-  pub idle : IsIdle p n share t
-  pub sum : added 0 share ≡ times
-
--- the thread n of the package has mutex 0 and no other, whose value it got and has made y; it has added 1 so often, now or before
-pub record IsInside (p : Shape (Unit {0})) (n y times : ℕ) (t : Worker) : Type 0 where
+-- the thread n of the package has mutex 0 and no other, whose value it got and has made y; it has added 1 so often, now or before, and alerts have ended so many of its waits
+pub record IsInside (p : Shape (Unit {0})) (n y times alerts : ℕ) (t : Worker) : Type 0 where
   pub got : ℕ
   pub share : List Added
   pub holding : IsHolding p n 0 share got t
@@ -40,3 +58,8 @@ pub record IsInside (p : Shape (Unit {0})) (n y times : ℕ) (t : Worker) : Type
   pub rises : got ≤ y
   pub sum : added 0 share + (y - got) ≡ times
   pub few : times ≤ 100000000000
+  pub raised : HasRaised alerts t
+
+-- from a to b it stays so: its value went from x to y by what others have added
+abbrev pub StaysInside : Shape (Unit {0}) → ℕ → ℕ → Worker → Worker → Type 0
+StaysInside p x y a b = (n times alerts : ℕ) → IsInside p n x times alerts a → IsInside p n y times alerts b

@@ -1,12 +1,11 @@
 //! Threads that add under one mutex.
-ghost use Rattle.std.specs.Prelude.{[], ◌∷◌, length, IfOk, ◌≡◌, ◌<◌, ◌*◌};
+ghost use Rattle.std.specs.Prelude.{[], ◌∷◌, length, IfOk, ◌≡◌, ◌*◌};
 ghost use Rattle.nub_rule.specs.Items.{Each};
-ghost use Rattle.nub.specs.Ended.{IsFirst};
-ghost use Rattle.bench_workloads.specs.Workloads.{HasAdded, HasMade};
+ghost use Rattle.bench_workloads.specs.Workloads.{HasMade, HasObjects, HasWorked};
 
 use crate::numbers::Count;
 use crate::parts::{Part, run_part};
-use nub::{Closed, Layout, MutexId, Package, Thread};
+use nub::{Closed, MutexId, Package, Thread};
 use std::alloc::{AllocError, Global};
 use std::sync::Wait;
 use std::thread::Threads;
@@ -40,9 +39,9 @@ pub fn add_many<R: Wait>(
     times: u32,
     outside: u32,
 ) -> (Thread<SumUses>, u64)
-    requires named { 0 < shared.now.layout.mutexes }
-    requires first { IsFirst shared.now (λ w t. []) me.number me }
-    ensures { HasAdded shared.now times me.number result.0 }
+    requires named { HasObjects shared.now.layout }
+    requires begun { HasWorked shared.now me.number 0 (HasMade 0) me }
+    ensures { HasWorked shared.now me.number times (HasMade (2 * times)) result.0 }
 {
     let mut number = me.number() as u64 + 1;
     for _i in 0..times {
@@ -64,7 +63,6 @@ pub fn add_at_once<R: Threads + Wait + Sync>(
     ensures count { IfOk result (λ r. length r.closed.threads ≡ threads.number) }
     ensures each { IfOk result (λ r. Each (λ n t. HasMade (2 * times) t) r.closed.threads) }
 {
-    let layout = Layout::of(threads.number, 1, 0, 0);
-    let (closed, own) = run_part(rt, alloc, layout, Part::Add { times, outside })?;
+    let (closed, own) = run_part(rt, alloc, threads, Part::Add { times, outside })?;
     Ok(Added { closed, own })
 }

@@ -2,34 +2,44 @@
 ghost use Rattle.std.specs.Prelude.{[], IfOk, List, ◌≡◌, ◌<◌, ◌+◌, ℕ, length, true, false};
 ghost use Rattle.nub_rule.specs.Items.{Each};
 ghost use Rattle.nub_rule.specs.Plays.{broadcast_action, event, signal_action};
-ghost use Rattle.nub.specs.Ended.{IsFirst};
+ghost use Rattle.nub.specs.Holding.{IsHolding};
 ghost use Rattle.nub.specs.Idle.{IsIdle};
-ghost use Rattle.nub.specs.Rest.{Adds};
+ghost use Rattle.nub.specs.Rest.{Adds, AtRest};
 ghost use Rattle.sum_uses.specs.declared.added.Added.{Added};
-ghost use Rattle.bench_workloads.specs.Workloads.{HasCalled, HasMade};
+ghost use Rattle.bench_workloads.specs.Waking.{raises};
+ghost use Rattle.bench_workloads.specs.Workloads.{HasMade, HasObjects, HasWorked};
 
+use crate::numbers::Count;
 use crate::parts::{Part, run_part};
 use condition::{broadcast, signal};
-use nub::{Closed, CondId, Layout, Package, Thread};
+use nub::{Closed, CondId, Package, Thread};
 use std::alloc::{AllocError, Global};
 use std::sync::Wait;
 use std::thread::Threads;
 use sum_uses::SumUses;
 
-/// One Signal or Broadcast.
+/// One Broadcast or Signal of the condition.
 #[inline]
-fn call<R: Wait>(rt: &R, shared: &Package<SumUses>, me: &mut Thread<SumUses>, all: bool)
-    requires named { 0 < shared.now.layout.conditions }
-    requires idle { IsIdle shared.now me.old.number [] me.old }
-    ensures idle { (n : ℕ) (s : List Added) → IsIdle shared.now n s me.old → IsIdle shared.now n s me.new }
-    ensures all { all ≡ true → Adds [] (event me.old.number (broadcast_action 0 [])) me.old me.new }
-    ensures one { all ≡ false → (left : List ℕ) × Adds [] (event me.old.number (signal_action 0 left)) me.old me.new }
+pub fn call<R: Wait>(
+    rt: &R,
+    shared: &Package<SumUses>,
+    me: &mut Thread<SumUses>,
+    c: CondId,
+    all: bool,
+)
+    requires named { c.0 < shared.now.layout.conditions }
+    requires rest { AtRest shared.now me.old }
+    ensures all { all ≡ true → Adds [] (event me.old.number (broadcast_action c.0 [])) me.old me.new }
+    ensures one { all ≡ false → (left : List ℕ) × Adds [] (event me.old.number (signal_action c.0 left)) me.old me.new }
     ensures made { length me.new.mine ≡ length me.old.mine + 1 }
+    ensures raised { raises me.new.mine ≡ raises me.old.mine }
+    ensures idle { (n : ℕ) (s : List Added) → IsIdle shared.now n s me.old → IsIdle shared.now n s me.new }
+    ensures holding { (n m : ℕ) (s : List Added) (x : ℕ) → IsHolding shared.now n m s x me.old → IsHolding shared.now n m s x me.new }
 {
     if all {
-        broadcast(rt, shared, me, CondId(0));
+        broadcast(rt, shared, me, c);
     } else {
-        signal(rt, shared, me, CondId(0));
+        signal(rt, shared, me, c);
     }
 }
 
@@ -41,12 +51,12 @@ pub fn call_many<R: Wait>(
     all: bool,
     times: u32,
 ) -> Thread<SumUses>
-    requires named { 0 < shared.now.layout.conditions }
-    requires first { IsFirst shared.now (λ w t. []) me.number me }
-    ensures { HasCalled shared.now [] times me.number result }
+    requires named { HasObjects shared.now.layout }
+    requires begun { HasWorked shared.now me.number 0 (HasMade 0) me }
+    ensures { HasWorked shared.now me.number 0 (HasMade times) result }
 {
     for _i in 0..times {
-        call(rt, shared, &mut me, all);
+        call(rt, shared, &mut me, CondId(0), all);
     }
     me
 }
@@ -61,7 +71,6 @@ pub fn call_alone<R: Threads + Wait + Sync>(
     ensures count { IfOk result (λ r. length r.threads ≡ 1) }
     ensures each { IfOk result (λ r. Each (λ n t. HasMade times t) r.threads) }
 {
-    let layout = Layout::of(1, 0, 1, 0);
-    let (closed, _) = run_part(rt, alloc, layout, Part::Call { all, times })?;
+    let (closed, _) = run_part(rt, alloc, Count { number: 1 }, Part::Call { all, times })?;
     Ok(closed)
 }

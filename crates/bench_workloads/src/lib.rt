@@ -23,4 +23,4 @@ pub use passing::{Numbers, Passed, pass_at_once};
 pub use playing::{Play, play_at_once};
 pub use reading::{Pair, Played, read_at_once};
 pub use turning::{Turned, turn_at_once};
-pub use waking::{Adds, Woken, WokenSums, alert_at_once};
+pub use waking::{Woken, alert_at_once};

@@ -1,15 +1,18 @@
 //! Packages of sums whose threads all do one part.
-ghost use Rattle.std.specs.Prelude.{[], ◌≡◌, ◌<◌, IfOk, length, replicate};
-ghost use Rattle.larch_actions.specs.Layout.{IsLawful};
-ghost use Rattle.larch_actions.specs.declared.event.Version.TheVariants.{One};
+ghost use Rattle.std.specs.Prelude.{[], ◌∷◌, ◌≡◌, ◌+◌, ◌*◌, ◌≤◌, ℕ, length, IfOk};
+ghost use Rattle.nub_rule.specs.Items.{Each};
 ghost use Rattle.nub.specs.Ended.{IsFirst};
-ghost use Rattle.bench_workloads.specs.Parts.{HasDonePart, HasNamed, HasRun};
+ghost use Rattle.bench_workloads.specs.Parts.{HasDonePart, HasRun, begun, is_pass};
+ghost use Rattle.bench_workloads.specs.Workloads.{HasMade, HasObjects, HasWorked};
 
 use crate::adding::add_many;
 use crate::calling::call_many;
 use crate::numbers::Count;
 use crate::playing::{Play, take_turns};
-use nub::{Closed, Layout, Package, Thread, close_package, open_package};
+use crate::turning::turn;
+use crate::waking::wake;
+use bin_semaphore::p;
+use nub::{Closed, Layout, Package, SemId, Thread, close_package, open_package};
 use package_crew::at_once;
 use std::alloc::{AllocError, Global};
 use std::sync::Wait;
@@ -29,65 +32,95 @@ pub enum Part {
         all: bool,
         times: u32,
     },
+    /// Takes its semaphore and gives the other thread's free, or its own where it is alone.
+    Pass {
+        alone: bool,
+        times: u32,
+    },
     /// Takes turns with the others, who are so many with it.
     Turns {
         what: Play,
         threads: Count,
         times: u32,
     },
+    /// Waits for alerts, if it is the first, and gives them otherwise.
+    Wake {
+        times: u32,
+    },
 }
 
-/// Does the part, and answers the number that it has turned, where it has.
+/// Does the part, and answers the number that it has turned or counted, where it has.
 fn do_part<R: Wait>(
     rt: &R,
     shared: &Package<SumUses>,
     me: Thread<SumUses>,
     part: Part,
 ) -> (Thread<SumUses>, u64)
-    requires named { HasNamed part shared.now.layout }
-    requires first { IsFirst shared.now (λ w t. []) me.number me }
-    ensures { HasDonePart part shared.now me.number result.0 }
+    requires named { HasObjects shared.now.layout }
+    requires begun { HasWorked shared.now me.number 0 (HasMade (begun part me.number)) me }
+    ensures { HasDonePart part shared.now me.number result.1 result.0 }
 {
     match part {
         Part::Add { times, outside } => add_many(rt, shared, me, times, outside),
         Part::Call { all, times } => (call_many(rt, shared, me, all, times), 0),
+        Part::Pass { alone, times } => turn(rt, shared, me, alone, times),
         Part::Turns {
             what,
             threads,
             times,
-        } => (take_turns(rt, shared, me, what, threads, times), 0),
+        } => take_turns(rt, shared, me, what, threads, times),
+        Part::Wake { times } => wake(rt, shared, me, times),
     }
 }
 
-/// A 0 behind each mutex.
-fn zeros(alloc: Global, count: u32) -> Result<Vec<u64>, AllocError>
-    ensures { IfOk result (λ v. v.items ≡ replicate count 0) }
+/// Whether semaphores are passed on.
+fn passes(part: Part) -> bool
+    ensures { result ≡ is_pass part }
 {
-    vec![in alloc; 0; count as usize]
+    matches!(part, Part::Pass { .. })
 }
 
-/// Opens a package in which all numbers are 0, lets each of its threads do the part, all at once, and closes it. It also answers what
-/// number each thread has turned.
+/// Where semaphores are passed on the second thread, if there is one, takes its own, so that the first begins.
+fn begin_part<R: Wait>(
+    rt: &R,
+    shared: &Package<SumUses>,
+    threads: &mut Vec<Thread<SumUses>>,
+    part: Part,
+)
+    requires named { HasObjects shared.now.layout }
+    requires first { Each (IsFirst shared.now (λ w t. [])) threads.old.items }
+    ensures count { length threads.new.items ≡ length threads.old.items }
+    ensures begun { Each (λ n t. HasWorked shared.now n 0 (HasMade (begun part n)) t) threads.new.items }
+{
+    if !passes(part) {
+        return;
+    }
+    if let Some(second) = threads.get_mut(1) {
+        p(rt, shared, second, SemId(1));
+    }
+}
+
+/// Opens a package of so many threads with one number, which is 0, two conditions and two semaphores, lets each thread do the part, all at
+/// once, and closes it. It also answers what number each thread has turned or counted.
 pub fn run_part<R: Threads + Wait + Sync>(
     rt: &R,
     alloc: Global,
-    layout: Layout,
+    threads: Count,
     part: Part,
 ) -> Result<(Closed<SumUses>, Vec<u64>), AllocError>
-    requires lawful { IsLawful layout }
-    requires version { layout.version ≡ One }
-    requires named { HasNamed part layout }
-    ensures { IfOk result (λ r. HasRun layout part r.0) }
+    ensures { IfOk result (λ r. HasRun threads.number part r.0 r.1.items) }
 {
-    let values = zeros(alloc, layout.mutexes)?;
-    let (shared, threads) = open_package::<SumUses>(alloc, layout, &(), values, false)?;
+    let layout = Layout::of(threads.number, 1, 2, 2);
+    let values = vec![in alloc; 0u64]?;
+    let (shared, mut threads) = open_package::<SumUses>(alloc, layout, &(), values, false)?;
+    begin_part(rt, &shared, &mut threads, part);
     let Ok((threads, own)) = at_once(
         rt,
         alloc,
         threads,
         &|me: Thread<SumUses>| -> (Thread<SumUses>, u64)
-            requires { HasNamed part shared.layout × IsFirst shared (λ w t. []) me.number me }
-            ensures { HasDonePart part shared me.number result.0 }
+            requires { HasObjects shared.layout × HasWorked shared me.number 0 (HasMade (begun part me.number)) me }
+            ensures { HasDonePart part shared me.number result.1 result.0 }
         { do_part(rt, &shared, me, part) },
     ) else {
         drop(shared);

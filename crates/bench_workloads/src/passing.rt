@@ -3,9 +3,10 @@ ghost use Rattle.std.specs.Prelude.{[], ◌∷◌, ◌≡◌, ◌<◌, ◌≤◌
 ghost use Rattle.std.specs.List.{sum};
 ghost use mathlib.Core.Option.{some};
 ghost use lib.ListN.{get_elem?};
-ghost use Rattle.nub.specs.Ended.{IsFirst};
+ghost use Rattle.bounded_buffer.specs.Parts.{unused};
 ghost use Rattle.bounded_buffer.specs.Rings.{Held, fresh};
-ghost use Rattle.bench_workloads.specs.Passing.{Both, HasBuffers, HasDone, HasPassed, IsMaker, IsOver, IsTaker, items_sum, numbers_sum};
+ghost use Rattle.bounded_buffer.specs.Using.{HasUsed};
+ghost use Rattle.bench_workloads.specs.Passing.{HasBuffers, HasPassed, IsOver, numbers_sum};
 
 use crate::numbers::{Capacity, Sides};
 use bounded_buffer::{PlainBuffers, Ring, plain_buffer, put_anyway, shut_plain, take_anyway};
@@ -25,18 +26,21 @@ pub struct Passed {
     pub sums: Vec<u64>,
 }
 
-/// Puts so many numbers, this maker's own, and then tells that it has ended. Who tells that after so many others shuts the buffer.
+/// Puts so many numbers, this maker's own, and then tells that it has ended. Who tells that after all others shuts the buffer.
+#[tactic(auto, using(bounded_buffer::proofs::Using::plain_named))]
 fn make<R: Wait>(
     rt: &R,
     shared: &Package<Numbers>,
     mut me: Thread<Numbers>,
-    others: u32,
+    makers: u32,
     times: u32,
 ) -> Thread<Numbers>
     requires named { HasBuffers shared.now.layout }
-    requires first { IsFirst shared.now (λ w t. []) me.number me }
-    ensures { (x : Both) × HasDone shared.now me.number x result × IsMaker (others + 1) times me.number x }
+    requires begun { HasUsed shared.now me.number (unused ∷ unused ∷ []) me }
+    requires maker { me.number < makers }
+    ensures { HasPassed shared.now makers times me.number 0 result }
 {
+    let others = makers - 1;
     let numbers = plain_buffer(0);
     let ends = plain_buffer(1);
     let own = me.number() as u64;
@@ -57,14 +61,15 @@ fn make<R: Wait>(
 }
 
 /// Takes all until the buffer is shut and empty, and answers the sum, modulo 2^64.
+#[tactic(auto, using(bounded_buffer::proofs::Using::plain_named))]
 fn sum_all<R: Wait>(
     rt: &R,
     shared: &Package<Numbers>,
     mut me: Thread<Numbers>,
 ) -> (Thread<Numbers>, u64)
     requires named { HasBuffers shared.now.layout }
-    requires first { IsFirst shared.now (λ w t. []) me.number me }
-    ensures { (x : Both) × HasDone shared.now me.number x result.0 × IsTaker x × (result.1 ≡ items_sum x.numbers.takes % 2 ^ 64) }
+    requires begun { HasUsed shared.now me.number (unused ∷ unused ∷ []) me }
+    ensures { (makers times : ℕ) → makers ≤ me.number → HasPassed shared.now makers times me.number result.1 result.0 }
 {
     let numbers = plain_buffer(0);
     let mut sum = 0u64;
@@ -86,11 +91,11 @@ fn pass<R: Wait>(
     times: u32,
 ) -> (Thread<Numbers>, u64)
     requires named { HasBuffers shared.now.layout }
-    requires first { IsFirst shared.now (λ w t. []) me.number me }
+    requires begun { HasUsed shared.now me.number (unused ∷ unused ∷ []) me }
     ensures { HasPassed shared.now sides.first times me.number result.1 result.0 }
 {
     if me.number() < sides.first {
-        (make(rt, shared, me, sides.first - 1, times), 0)
+        (make(rt, shared, me, sides.first, times), 0)
     } else {
         sum_all(rt, shared, me)
     }
@@ -127,7 +132,7 @@ pub fn pass_at_once<R: Threads + Wait + Sync>(
         alloc,
         threads,
         &|me: Thread<Numbers>| -> (Thread<Numbers>, u64)
-            requires { HasBuffers shared.layout × IsFirst shared (λ w t. []) me.number me }
+            requires { HasBuffers shared.layout × HasUsed shared me.number (unused ∷ unused ∷ []) me }
             ensures { HasPassed shared sides.first times me.number result.1 result.0 }
         { pass(rt, &shared, me, sides, times) },
     ) else {

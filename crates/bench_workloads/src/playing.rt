@@ -1,12 +1,17 @@
 //! Threads that take turns by a mutex and two conditions.
-ghost use Rattle.std.specs.Prelude.{[], ◌∷◌, IfOk, ◌≡◌, ◌<◌, ◌*◌};
-ghost use Rattle.nub.specs.Ended.{IsFirst};
-ghost use Rattle.bench_workloads.specs.Workloads.{HasTurned};
+ghost use Rattle.std.specs.Prelude.{[], ◌∷◌, IfOk, List, ℕ, ◌≡◌, ◌<◌, ◌*◌};
+ghost use Rattle.larch_actions.specs.declared.event.CondId.{CondId};
+ghost use Rattle.nub.specs.Idle.{IsIdle};
+ghost use Rattle.nub.specs.Rest.{AtRest};
+ghost use Rattle.sum_turns.specs.declared.turns.Wake.TheVariants.{All, One};
+ghost use Rattle.sum_uses.specs.declared.added.Added.{Added};
+ghost use Rattle.bench_workloads.specs.Workloads.{HasMade, HasObjects, HasTurned, HasWorked};
 
 use crate::numbers::Count;
 use crate::parts::{Part, run_part};
-use crate::rounds::{count_rounds, open_rounds};
-use nub::{Closed, CondId, Layout, MutexId, Package, Thread};
+use crate::rounds::{Round, hold_rounds};
+use alerts::alert;
+use nub::{Closed, CondId, MutexId, Package, Thread, ThreadId};
 use std::alloc::{AllocError, Global};
 use std::sync::Wait;
 use std::thread::Threads;
@@ -24,20 +29,47 @@ pub enum Play {
     Rounds,
 }
 
-/// In turns with the other thread, this many times: waits until the sum has the thread's parity, and signals to the other.
-fn alternate<R: Wait>(
+/// Whom the thread of this parity signals to: the other, or nobody where it alerts it.
+fn other_of(own: u32, alerts: bool) -> Wake
+    requires { own < 2 }
+    ensures one { (c : CondId) → result ≡ One c → c.0 < 2 }
+    ensures all { (c : CondId) → result ≡ All c → c.0 < 2 }
+{
+    if alerts {
+        Wake::Nobody
+    } else {
+        Wake::One(CondId(1 - own))
+    }
+}
+
+/// Alerts the first thread, where it is to.
+#[inline]
+fn alert_first<R: Wait>(rt: &R, shared: &Package<SumUses>, me: &mut Thread<SumUses>, alerts: bool)
+    requires named { HasObjects shared.now.layout }
+    requires rest { AtRest shared.now me.old }
+    ensures { (n : ℕ) (s : List Added) → IsIdle shared.now n s me.old → IsIdle shared.now n s me.new }
+{
+    if alerts {
+        alert(rt, shared, me, ThreadId(0));
+    }
+}
+
+/// In turns with the other thread, this many times: waits until the sum has the thread's parity, adds 1, and signals to the other, before
+/// or after it gives the mutex back, or alerts it then.
+pub fn alternate<R: Wait>(
     rt: &R,
     shared: &Package<SumUses>,
     mut me: Thread<SumUses>,
     after: bool,
+    alerts: bool,
     times: u32,
 ) -> Thread<SumUses>
-    requires named { (0 < shared.now.layout.mutexes) × (1 < shared.now.layout.conditions) }
-    requires first { IsFirst shared.now (λ w t. []) me.number me }
-    ensures { HasTurned shared.now times me.number result }
+    requires named { HasObjects shared.now.layout }
+    requires begun { HasWorked shared.now me.number 0 (HasMade 0) me }
+    ensures { HasTurned shared.now me.number times result }
 {
     let own = me.number() % 2;
-    let other = CondId(1 - own);
+    let whom = other_of(own, alerts);
     let turn = Turn {
         mutex: MutexId(0),
         cond: CondId(own),
@@ -51,8 +83,9 @@ fn alternate<R: Wait>(
             &mut me,
             turn,
             &|x: u64| -> bool { x % 2 == parity },
-            &|_x: u64| -> Wake { Wake::One(other) },
+            &|_x: u64| -> Wake { whom },
         );
+        alert_first(rt, shared, &mut me, alerts);
     }
     me
 }
@@ -65,21 +98,21 @@ pub fn take_turns<R: Wait>(
     what: Play,
     threads: Count,
     times: u32,
-) -> Thread<SumUses>
-    requires named { (0 < shared.now.layout.mutexes) × (1 < shared.now.layout.conditions) }
-    requires first { IsFirst shared.now (λ w t. []) me.number me }
-    ensures { HasTurned shared.now times me.number result }
+) -> (Thread<SumUses>, u64)
+    requires named { HasObjects shared.now.layout }
+    requires begun { HasWorked shared.now me.number 0 (HasMade 0) me }
+    ensures { HasTurned shared.now me.number times result.0 }
 {
     match what {
-        Play::Before => alternate(rt, shared, me, false, times),
-        Play::After => alternate(rt, shared, me, true, times),
+        Play::Before => (alternate(rt, shared, me, false, false, times), 0),
+        Play::After => (alternate(rt, shared, me, true, false, times), 0),
         Play::Rounds => {
-            let all = threads.number as u64;
-            if me.number() == threads.number - 1 {
-                open_rounds(rt, shared, me, all, times)
+            let round = if me.number() == threads.number - 1 {
+                Round::Opens { threads }
             } else {
-                count_rounds(rt, shared, me, all, times)
-            }
+                Round::Counts { threads }
+            };
+            hold_rounds(rt, shared, me, round, times)
         }
     }
 }
@@ -94,12 +127,11 @@ pub fn play_at_once<R: Threads + Wait + Sync>(
 ) -> Result<Closed<SumUses>, AllocError>
     ensures value { IfOk result (λ r. r.values ≡ (threads.number * times) ∷ []) }
 {
-    let layout = Layout::of(threads.number, 1, 2, 0);
     let part = Part::Turns {
         what,
         threads,
         times,
     };
-    let (closed, _) = run_part(rt, alloc, layout, part)?;
+    let (closed, _) = run_part(rt, alloc, threads, part)?;
     Ok(closed)
 }

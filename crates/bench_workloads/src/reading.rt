@@ -4,8 +4,7 @@ ghost use Rattle.std.specs.List.{sum};
 ghost use Rattle.nub_rule.specs.Items.{Each};
 ghost use Rattle.nub.specs.Ended.{IsFirst};
 ghost use Rattle.nub.specs.Idle.{IsIdle};
-ghost use Rattle.readers_writers.specs.declared.role.Role.TheVariants.{Reading, Writing};
-ghost use Rattle.bench_workloads.specs.Reading.{HasCounted, HasPlayed, HasState, turns};
+ghost use Rattle.bench_workloads.specs.Reading.{HasCounted, HasPlayed, HasState, role_if, turns};
 
 use crate::numbers::Sides;
 use nub::{Closed, CondId, Layout, MutexId, Package, Thread, close_package, open_package};
@@ -72,56 +71,37 @@ impl Pair {
     }
 }
 
-/// Reads so often, and notes in the pair how often the numbers differed.
-fn read_often<R: Wait>(
+/// One turn: reads, and answers 1 where the numbers differ, or writes.
+#[inline]
+fn take_turn<R: Wait>(
     rt: &R,
     shared: &Package<RwUses>,
-    mut me: Thread<RwUses>,
-    times: u32,
+    me: &mut Thread<RwUses>,
+    reads: bool,
     pair: &Pair,
-) -> Thread<RwUses>
+) -> u64
     requires named { HasState shared.now.layout }
-    requires first { IsFirst shared.now (λ w t. []) me.number me }
-    ensures { IsIdle shared.now me.number (turns Reading times) result }
+    requires idle { (n : ℕ) × (i : ℕ) × IsIdle shared.now n (turns (role_if reads) i) me.old }
+    ensures { (n i : ℕ) → IsIdle shared.now n (turns (role_if reads) i) me.old → IsIdle shared.now n (turns (role_if reads) (i + 1)) me.new }
 {
-    let mut torn = 0u64;
-    for _i in 0..times {
-        begin_read(rt, shared, &mut me, &AT);
-        torn = torn.wrapping_add(pair.differ());
-        end_read(rt, shared, &mut me, &AT);
-    }
-    pair.torn.fetch_add(torn, Ordering::SeqCst);
-    me
-}
-
-/// Writes so often, and answers how often it has.
-fn write_often<R: Wait>(
-    rt: &R,
-    shared: &Package<RwUses>,
-    mut me: Thread<RwUses>,
-    times: u32,
-    pair: &Pair,
-) -> (Thread<RwUses>, u64)
-    requires named { HasState shared.now.layout }
-    requires first { IsFirst shared.now (λ w t. []) me.number me }
-    ensures turns { IsIdle shared.now me.number (turns Writing times) result.0 }
-    ensures writes { result.1 ≡ times }
-{
-    let mut writes = 0u64;
-    for _i in 0..times {
-        begin_write(rt, shared, &mut me, &AT);
+    if reads {
+        begin_read(rt, shared, me, &AT);
+        let torn = pair.differ();
+        end_read(rt, shared, me, &AT);
+        torn
+    } else {
+        begin_write(rt, shared, me, &AT);
         pair.add_one();
-        end_write(rt, shared, &mut me, &AT);
-        writes += 1;
+        end_write(rt, shared, me, &AT);
+        0
     }
-    (me, writes)
 }
 
-/// Reads or writes, by the thread's number.
+/// Reads or writes so often, by the thread's number, notes in the pair how often the numbers differed, and answers how often it has written.
 fn play<R: Wait>(
     rt: &R,
     shared: &Package<RwUses>,
-    me: Thread<RwUses>,
+    mut me: Thread<RwUses>,
     readers: u32,
     times: u32,
     pair: &Pair,
@@ -130,11 +110,15 @@ fn play<R: Wait>(
     requires first { IsFirst shared.now (λ w t. []) me.number me }
     ensures { HasCounted shared.now readers times me.number result.1 result.0 }
 {
-    if me.number() < readers {
-        (read_often(rt, shared, me, times, pair), 0)
-    } else {
-        write_often(rt, shared, me, times, pair)
+    let reads = me.number() < readers;
+    let mut torn = 0u64;
+    let mut writes = 0u64;
+    for _i in 0..times {
+        torn = torn.wrapping_add(take_turn(rt, shared, &mut me, reads, pair));
+        writes += (!reads) as u64;
     }
+    pair.torn.fetch_add(torn, Ordering::SeqCst);
+    (me, writes)
 }
 
 /// One state: nobody reads or writes.

@@ -1,19 +1,29 @@
-//! Rounds that one thread opens for all others, each of which has the mutex all the time but while it waits.
-ghost use Rattle.std.specs.Prelude.{[], ◌≡◌, ◌<◌, ◌≤◌, ℕ, List, true, false};
-ghost use Rattle.nub_rule.specs.Plays.{event, signal_action};
-ghost use Rattle.nub.specs.Holding.{IsHolding};
-ghost use Rattle.nub.specs.Rest.{Adds, AtRest};
-ghost use Rattle.nub.specs.Ended.{IsFirst};
-ghost use Rattle.sum_uses.specs.declared.added.Added.{Added};
-ghost use Rattle.bench_workloads.specs.Workloads.{HasTurned, IsInside};
+//! Rounds of a thread that has the mutex all the time but while it waits.
+ghost use Rattle.std.specs.Prelude.{◌<◌, ◌+◌, ℕ, true};
+ghost use Rattle.bench_workloads.specs.Rounds.{HasHeld, alerts_in};
+ghost use Rattle.bench_workloads.specs.Workloads.{HasMade, HasObjects, HasWorked, IsInside, StaysInside};
 
-use condition::{broadcast, signal, wait};
+use crate::calling::call;
+use crate::numbers::Count;
+use crate::waking::wait_for_alert;
+use condition::wait;
 use nub::{CondId, MutexId, Package, Thread};
 use std::sync::Wait;
 use sum_uses::{AddChange, SumUses};
 use user_mutex::{acquire, release};
 
-// In which all but one wait for the next round, and in which that one waits for the end of a round.
+/// What a thread does in each of its rounds.
+#[derive(Clone, Copy)]
+pub enum Round {
+    /// Opens it for all others, who are so many with it: adds 1, wakes them, and waits until the value has grown by as much.
+    Opens { threads: Count },
+    /// Adds 1 once it is open, and wakes who opens them where that ends the round.
+    Counts { threads: Count },
+    /// Adds 1, says so, and waits until an alert ends a wait.
+    Begins,
+}
+
+// In which all but one wait for the next round, and in which that one waits for its end, or another for its begin.
 const GO: CondId = CondId(0);
 
 const DONE: CondId = CondId(1);
@@ -31,12 +41,11 @@ fn wait_inside<F: Fn(u64) -> bool, R: Wait>(
     mine: u64,
     may_go: &F,
 ) -> u64
-    requires named { (0 < shared.now.layout.mutexes) × (c.0 < shared.now.layout.conditions) }
+    requires named { HasObjects shared.now.layout × (c.0 < shared.now.layout.conditions) }
     requires callable { F.IsAlwaysCallable may_go.now }
-    requires inside { (n : ℕ) × (times : ℕ) × IsInside shared.now n mine times me.old }
+    requires inside { (n : ℕ) × (times : ℕ) × (alerts : ℕ) × IsInside shared.now n mine times alerts me.old }
     ensures goes { F.post may_go.now result true }
-    ensures number { me.new.number ≡ me.old.number }
-    ensures inside { (n times : ℕ) → IsInside shared.now n mine times me.old → IsInside shared.now n result times me.new }
+    ensures stays { StaysInside shared.now mine result me.old me.new }
 {
     let mut value = mine;
     for _ in rt.forever() {
@@ -48,79 +57,84 @@ fn wait_inside<F: Fn(u64) -> bool, R: Wait>(
     unreachable!()
 }
 
-/// Opens so many rounds, in each of which the value grows by `all`: adds 1, wakes all others, and waits for the end of the round.
-pub fn open_rounds<R: Wait>(
-    rt: &R,
-    shared: &Package<SumUses>,
-    mut me: Thread<SumUses>,
-    all: u64,
-    times: u32,
-) -> Thread<SumUses>
-    requires named { (0 < shared.now.layout.mutexes) × (1 < shared.now.layout.conditions) }
-    requires all { all ≤ 64 }
-    requires first { IsFirst shared.now (λ w t. []) me.number me }
-    ensures { HasTurned shared.now times me.number result }
-{
-    let mut value = acquire(rt, shared, &mut me, MutexId(0));
-    for i in 0..times {
-        value += 1;
-        broadcast(rt, shared, &mut me, GO);
-        let end = (i as u64 + 1) * all;
-        value = wait_inside(
-            rt,
-            shared,
-            &mut me,
-            DONE,
-            value,
-            &|x: u64| -> bool { x == end },
-        );
-    }
-    release::<SumUses, AddChange, R>(rt, shared, &mut me, MutexId(0), value);
-    me
-}
-
 /// Wakes who opens the rounds, where this was the last addition of one.
 #[inline]
-fn end_round<R: Wait>(rt: &R, shared: &Package<SumUses>, me: &mut Thread<SumUses>, ends: bool)
-    requires named { 1 < shared.now.layout.conditions }
-    requires rest { AtRest shared.now me.old }
-    ensures ends { ends ≡ true → (left : List ℕ) × Adds [] (event me.old.number (signal_action 1 left)) me.old me.new }
-    ensures goes_on { ends ≡ false → me.new ≡ me.old }
-    ensures rest { AtRest shared.now me.new }
-    ensures holding { (n : ℕ) (s : List Added) (x : ℕ) → IsHolding shared.now n 0 s x me.old → IsHolding shared.now n 0 s x me.new }
+fn end_round<R: Wait>(
+    rt: &R,
+    shared: &Package<SumUses>,
+    me: &mut Thread<SumUses>,
+    mine: u64,
+    end: u64,
+)
+    requires named { HasObjects shared.now.layout }
+    requires inside { (n : ℕ) × (times : ℕ) × (alerts : ℕ) × IsInside shared.now n mine times alerts me.old }
+    ensures { StaysInside shared.now mine mine me.old me.new }
 {
-    if ends {
-        signal(rt, shared, me, DONE);
+    if mine == end {
+        call(rt, shared, me, DONE, false);
     }
 }
 
-/// Adds 1 in each of so many rounds, once it is open, and wakes who opens them where that ends the round.
-pub fn count_rounds<R: Wait>(
+/// One round, which so many came before, and answers the value that the thread has made.
+#[inline]
+fn one_round<R: Wait>(
+    rt: &R,
+    shared: &Package<SumUses>,
+    me: &mut Thread<SumUses>,
+    round: Round,
+    before: u32,
+    mine: u64,
+) -> u64
+    requires named { HasObjects shared.now.layout }
+    requires inside { (n : ℕ) × IsInside shared.now n mine before (alerts_in round before) me.old }
+    ensures { (n : ℕ) → IsInside shared.now n mine before (alerts_in round before) me.old
+        → IsInside shared.now n result (before + 1) (alerts_in round (before + 1)) me.new }
+{
+    match round {
+        Round::Opens { threads } => {
+            call(rt, shared, me, GO, true);
+            let end = (before as u64 + 1) * threads.number as u64;
+            wait_inside(
+                rt,
+                shared,
+                me,
+                DONE,
+                mine + 1,
+                &|x: u64| -> bool { x == end },
+            )
+        }
+        Round::Counts { threads } => {
+            let begin = before as u64 * threads.number as u64;
+            let begun = wait_inside(rt, shared, me, GO, mine, &|x: u64| -> bool { x > begin });
+            let value = begun + 1;
+            end_round(rt, shared, me, value, begin + threads.number as u64);
+            value
+        }
+        Round::Begins => {
+            call(rt, shared, me, DONE, false);
+            wait_for_alert(rt, shared, me, GO, mine + 1)
+        }
+    }
+}
+
+/// So many rounds, and answers how many it has held.
+pub fn hold_rounds<R: Wait>(
     rt: &R,
     shared: &Package<SumUses>,
     mut me: Thread<SumUses>,
-    all: u64,
+    round: Round,
     times: u32,
-) -> Thread<SumUses>
-    requires named { (0 < shared.now.layout.mutexes) × (1 < shared.now.layout.conditions) }
-    requires all { all ≤ 64 }
-    requires first { IsFirst shared.now (λ w t. []) me.number me }
-    ensures { HasTurned shared.now times me.number result }
+) -> (Thread<SumUses>, u64)
+    requires named { HasObjects shared.now.layout }
+    requires begun { HasWorked shared.now me.number 0 (HasMade 0) me }
+    ensures { HasWorked shared.now me.number times (HasHeld round times result.1) result.0 }
 {
+    let mut held = 0u64;
     let mut value = acquire(rt, shared, &mut me, MutexId(0));
     for i in 0..times {
-        let begin = i as u64 * all;
-        value = wait_inside(
-            rt,
-            shared,
-            &mut me,
-            GO,
-            value,
-            &|x: u64| -> bool { x > begin },
-        );
-        value += 1;
-        end_round(rt, shared, &mut me, value == begin + all);
+        value = one_round(rt, shared, &mut me, round, i, value);
+        held += 1;
     }
     release::<SumUses, AddChange, R>(rt, shared, &mut me, MutexId(0), value);
-    me
+    (me, held)
 }

@@ -1,13 +1,12 @@
 //! Threads that take turns by semaphores.
-ghost use Rattle.std.specs.Prelude.{[], length, IfOk, ◌≡◌, ◌<◌, ◌≤◌, ◌+◌, ◌*◌};
-ghost use Rattle.std.specs.List.{All};
+ghost use Rattle.std.specs.Prelude.{length, IfOk, ◌≡◌, ◌≤◌, ◌+◌, ◌*◌};
 ghost use Rattle.nub_rule.specs.Items.{Each};
-ghost use Rattle.nub.specs.Ended.{IsFirst};
-ghost use Rattle.bench_workloads.specs.Workloads.{HasCalled, HasMade};
+ghost use Rattle.bench_workloads.specs.Workloads.{HasMade, HasObjects, HasPassed, HasWorked, first_calls};
 
+use crate::numbers::Count;
+use crate::parts::{Part, run_part};
 use bin_semaphore::{p, v};
-use nub::{Closed, Layout, Package, SemId, Thread, close_package, open_package};
-use package_crew::at_once;
+use nub::{Closed, Package, SemId, Thread};
 use std::alloc::{AllocError, Global};
 use std::sync::Wait;
 use std::thread::Threads;
@@ -21,38 +20,26 @@ pub struct Turned {
 }
 
 /// P of the own semaphore, add 1, V of the other, this many times. No value stands behind a semaphore, so the number is the thread's own.
-fn turn<R: Wait>(
+pub fn turn<R: Wait>(
     rt: &R,
     shared: &Package<SumUses>,
     mut me: Thread<SumUses>,
-    other: SemId,
+    alone: bool,
     times: u32,
 ) -> (Thread<SumUses>, u64)
-    requires named { (me.number < shared.now.layout.semaphores) × (other.0 < shared.now.layout.semaphores) }
-    requires called { HasCalled shared.now [] me.number me.number me }
-    ensures called { HasCalled shared.now [] (me.number + 2 * times) me.number result.0 }
-    ensures number { result.1 ≡ times }
+    requires named { HasObjects shared.now.layout }
+    requires begun { HasWorked shared.now me.number 0 (HasMade (first_calls me.number)) me }
+    ensures { HasWorked shared.now me.number 0 (HasPassed times me.number result.1) result.0 }
 {
-    let own = SemId(me.number());
+    let own = me.number() % 2;
+    let other = if alone { own } else { 1 - own };
     let mut number = 0u64;
     for _i in 0..times {
-        p(rt, shared, &mut me, own);
+        p(rt, shared, &mut me, SemId(own));
         number += 1;
-        v(rt, shared, &mut me, other);
+        v(rt, shared, &mut me, SemId(other));
     }
     (me, number)
-}
-
-/// The second thread, if there is one, takes its semaphore, so that the first begins.
-fn first_to_begin<R: Wait>(rt: &R, shared: &Package<SumUses>, threads: &mut Vec<Thread<SumUses>>)
-    requires named { (length threads.old.items ≤ 2) × (length threads.old.items ≤ shared.now.layout.semaphores) }
-    requires first { Each (IsFirst shared.now (λ w t. [])) threads.old.items }
-    ensures count { length threads.new.items ≡ length threads.old.items }
-    ensures called { Each (λ n t. HasCalled shared.now [] n n t) threads.new.items }
-{
-    if let Some(second) = threads.get_mut(1) {
-        p(rt, shared, second, SemId(1));
-    }
 }
 
 /// One thread alone, or two in turns, each this many times: its P is of its own semaphore and its V of the next one's. The second of two
@@ -68,30 +55,10 @@ pub fn turn_at_once<R: Threads + Wait + Sync>(
     ensures turns { IfOk result (λ r. Each (λ n k. k ≡ times) r.turns.items) }
     ensures each { IfOk result (λ r. Each (λ n t. HasMade (n + 2 * times) t) r.closed.threads) }
 {
-    let layout = Layout::of(count, 0, 0, count);
-    let (shared, mut threads) = open_package::<SumUses>(
-        alloc,
-        layout,
-        &(),
-        Vec::new(alloc),
-        false,
-    )?;
-    first_to_begin(rt, &shared, &mut threads);
-    let Ok((threads, turns)) = at_once(
-        rt,
-        alloc,
-        threads,
-        &|me: Thread<SumUses>| -> (Thread<SumUses>, u64)
-            requires { (1 ≤ count) × (shared.layout.semaphores ≡ count) × (me.number < count) × HasCalled shared [] me.number me.number me }
-            ensures { HasCalled shared [] (me.number + 2 * times) me.number result.0 × (result.1 ≡ times) }
-        {
-            let other = SemId((me.number() + 1) % count);
-            turn(rt, &shared, me, other, times)
-        },
-    ) else {
-        drop(shared);
-        return Err(AllocError);
+    let part = Part::Pass {
+        alone: count == 1,
+        times,
     };
-    let closed = close_package(shared, threads)?;
+    let (closed, turns) = run_part(rt, alloc, Count { number: count }, part)?;
     Ok(Turned { closed, turns })
 }

@@ -1,47 +1,30 @@
-use Rattle.std.proofs.Common.{◌≡◌, ◌+◌, [], length, refl, rules, arith, ap, sym, ◌∙◌}
-use Rattle.std.proofs.lemmas.Option.{same_Some}
-use Rattle.nub.proofs.Users.{idle_first}
-use Rattle.sum_uses.specs.Sums.{added, grown}
-use Rattle.sum_uses.proofs.Adding.{adding_grows, added_own}
-use Rattle.bench_workloads.proofs.Crewing.{two_more}
+use Rattle.std.proofs.Common.{◌≡◌, ◌+◌, ◌*◌, length, rules, arith, ap, ◌∙◌}
+use Rattle.sum_uses.proofs.Adding.{adding_grows}
+use Rattle.bench_workloads.specs.Workloads.{HasMade, HasWorked}
+use Rattle.bench_workloads.proofs.Crewing.{at_end, said, two_more, worked_more}
 use Rattle.bench_workloads.proofs.adding.add_many.Goals as goal
-
-pub loop-i-init : goal.loop-i-init
-loop-i-init g c = ([], idle_first c.args.shared.now (λ w t. []) c.args.me.number c.args.me c.requires.first, refl, ap length c.requires.first.mine)
 
 pub locked-requires-clause-callable : goal.locked-requires-clause-callable
 locked-requires-clause-callable g c κs within = λ x fits l r n same here.
     let own = c.loop-i.invariant in
-    let small = (fits tt own.0 own.1.world own.1.share).small in
+    let small = (fits tt own.share own.idle.world own.idle.share).small in
     omega arith
 
 pub locked-requires-clause-may : goal.locked-requires-clause-may
 locked-requires-clause-may g c κs within = λ x y r w s world share fits returns.
-    let own = c.loop-i.invariant in
-    let same : own.0 ≡ s = same_Some own.0 s (sym own.1.share ∙ share) in
-    let now : added 0 s ≡ c.loop-i._i = ap (added 0) (sym same) ∙ own.2 in
+    let now = said c.args.shared.now c.args.me.number c.loop-i._i (HasMade (2 * c.loop-i._i)) c.loop-i.me c.loop-i.invariant s share in
     let up : y ≡ x + 1 = search rules in
     let loop = c.loop-i-test.true in
     adding_grows 0 x y s (omega arith) (omega arith)
 
 pub loop-i-preserved : goal.loop-i-preserved
 loop-i-preserved g c =
+    let n = c.args.me.number in
+    let i = c.loop-i._i in
     let own = c.loop-i.invariant in
-    let answer = c.locked.ensures.idle c.args.me.number own.0 own.1 in
-    let x = answer.0 in
-    let y = answer.1 in
+    let answer = c.locked.ensures.idle n own.share own.idle in
     let returns = answer.2 in
-    let up : y ≡ x + 1 = search rules in
-    let more = added_own 0 x y own.0 in
-    let now = own.2 in
-    let made = own.3 in
+    let up : answer.1 ≡ answer.0 + 1 = search rules in
+    let made = own.is in
     let two = ap length c.locked.ensures.event.mine ∙ two_more c.loop-i.me.mine _ _ in
-    (grown 0 x y own.0, answer.4, omega arith, omega arith)
-
-pub returns : goal.returns
-returns g c =
-    let own = c.loop-i.invariant in
-    let sum = own.2 in
-    let made = own.3 in
-    let over = c.loop-i-test.false in
-    record { share = own.0; idle = own.1; sum = omega arith; made = omega arith }
+    worked_more c.args.shared.now n i (HasMade (2 * i)) c.loop-i.me own (HasMade (2 * (i + 1))) answer.0 answer.1 c.locked.new.me up answer.4 (omega arith)

@@ -1,8 +1,5 @@
-use Rattle.std.proofs.Common.{◌≡◌, List}
-use Rattle.sum_uses.specs.declared.added.Added.{Added}
-use Rattle.sum_uses.specs.Sums.{added}
-use Rattle.nub.specs.Idle.{IsIdle}
+use Rattle.bench_workloads.specs.Workloads.{HasTurned}
 use Rattle.bench_workloads.proofs.playing.alternate.Given as goal
 
 abbrev pub invariant-loop-i : goal.invariant-loop-i
-invariant-loop-i g l = (s : List Added) × IsIdle l.shared l.initial.me.number s l.me × (added 0 s ≡ l._i)
+invariant-loop-i g l = HasTurned l.shared l.initial.me.number l._i l.me

@@ -1,24 +1,22 @@
-use Rattle.std.proofs.Common.{◌≡◌, ◌+◌, ℕ, [], length, None, rules, arith, ap, sym, subst, ◌∙◌, lit≤}
+use Rattle.std.proofs.Common.{◌≡◌, ◌+◌, ℕ, [], length, None, arith, ap, sym, subst, ◌∙◌, lit≤}
 use Rattle.larch_actions.specs.declared.event.Layout.{Layout}
 use mathlib.Core.Option.{some, some-injective}
 use lib.ListN.{get_elem?}
-use Rattle.nub.specs.Ended.{IsDone}
 use Rattle.nub_rule.proofs.Each.{at_below}
 use Rattle.nub.proofs.Users.{first_own, idle_done, from_at}
 use Rattle.readers_writers.specs.declared.state.RwState.{RwState}
 use Rattle.readers_writers.proofs.Opening.{roles_begin}
-use Rattle.bench_workloads.specs.Reading.{HasCounted, HasState, Player, role_by, turns}
-use Rattle.bench_workloads.proofs.Crewing.{only_value}
-use Rattle.bench_workloads.proofs.Roles.{left_free, writes-sum, writes_none, writes_all}
+use Rattle.bench_workloads.specs.Reading.{HasCounted, HasState, Player, role_by, turns, writes_by}
+use Rattle.bench_workloads.proofs.Crewing.{came_back, only_value}
+use Rattle.bench_workloads.proofs.Roles.{left_free, writes-sum}
 use Rattle.bench_workloads.proofs.reading.read_at_once.Goals as goal
 
 pub open_package-requires-clause-holds : goal.open_package-requires-clause-holds
 open_package-requires-clause-holds g c κs =
-    let state : RwState = record { readers = 0; writer = None } in
-    let values = c.in_ok-values.values.items in
     let few = c.args.sides.in_package.2 in
     let wide = ap (λ l. l.threads) c.of-layout.ensures in
-    roles_begin values c.of-layout.result.threads (omega arith) (λ m q at. let same = only_value values state c.in_ok-values.ensures m q at in (ap (λ (x : RwState). x.readers) same, ap (λ (x : RwState). x.writer) same))
+    let new = only_value c.in_ok-values.values.items (record { readers = 0; writer = None }) c.in_ok-values.ensures in
+    roles_begin c.in_ok-values.values.items c.of-layout.result.threads (omega arith) (λ m q at. (ap (λ (x : RwState). x.readers) (new m q at), ap (λ (x : RwState). x.writer) (new m q at)))
 
 pub at_once-requires-after_bounds : goal.at_once-requires-after_bounds
 at_once-requires-after_bounds g c κs within = λ n t at.
@@ -34,10 +32,9 @@ close_package-requires-clause-version g c κs = ap (λ (l : Layout). l.version) 
 pub close_package-requires-clause-threads : goal.close_package-requires-clause-threads
 close_package-requires-clause-threads g c κs = λ n t at.
     let p = c.in_ok-shared.shared in
-    let back = c.in-Ok.ensures.each n t at in
     let readers = c.args.sides.first in
-    let own : HasCounted p readers c.args.times back.was.number back.left t = (let goes = back.goes in search rules) in
-    subst (λ k. IsDone p k t) (c.in_ok-shared.ensures.threads n back.was back.is_was).number (idle_done p back.was.number (turns (role_by readers back.was.number) c.args.times) t own.idle)
+    let back = came_back (HasCounted p readers c.args.times) c.in_ok-shared.threads.items c.in-Ok.writes.items n t (λ k x is. (c.in_ok-shared.ensures.threads k x is).number) (c.in-Ok.ensures.each n t at) in
+    idle_done p n (turns (role_by readers n) c.args.times) t back.2.0
 
 pub returns : goal.returns
 returns g c =
@@ -46,30 +43,21 @@ returns g c =
     let times = c.args.times in
     let threads = c.in-Ok.threads.items in
     let writes = c.in-Ok.writes.items in
-    let values = c.in_ok-closed.closed.values in
-    let played : (n : ℕ) (t : Player) → get_elem? threads n ≡ some t → (left : ℕ) × (get_elem? writes n ≡ some left) × HasCounted p readers times n left t = λ n t at.
-    let back = c.in-Ok.ensures.each n t at in
-    let own : HasCounted p readers times back.was.number back.left t = (let goes = back.goes in search rules) in
-    (back.left, back.is_left, subst (λ k. HasCounted p readers times k back.left t) (c.in_ok-shared.ensures.threads n back.was back.is_was).number own) in
+    let played : (n : ℕ) (t : Player) → get_elem? threads n ≡ some t → (left : ℕ) × (get_elem? writes n ≡ some left) × HasCounted p readers times n left t
+    = λ n t at. came_back (HasCounted p readers times) c.in_ok-shared.threads.items writes n t (λ k x is. (c.in_ok-shared.ensures.threads k x is).number) (c.in-Ok.ensures.each n t at) in
     let was = c.in_ok-shared.ensures.count ∙ ap (λ l. l.threads) c.of-layout.ensures in
-    let mutexes = ap (λ l. l.mutexes) (c.in_ok-shared.ensures.package.0 ∙ c.of-layout.ensures) in
     let many = c.in-Ok.ensures.threads in
     let results = c.in-Ok.ensures.results in
     let all : length threads ≡ readers + c.args.sides.second = omega arith in
-    let wide = c.in_ok-closed.ensures.values.0 in
-    let one : length values ≡ 1 = omega arith in
-    let locks = c.in_ok-closed.ensures.values.1 in
+    let one = c.in_ok-closed.ensures.values.0 ∙ ap (λ l. l.mutexes) (c.in_ok-shared.ensures.package.0 ∙ c.of-layout.ensures) in
     let same = c.in_ok-closed.ensures.threads in
-    let counts : (k w : ℕ) → get_elem? writes k ≡ some w → (t : Player) × HasCounted p readers times k w t = λ k w at.
-    let low = (from_at writes k w at).0 in
-    let t = at_below threads k (omega arith) in
-    let h = played k t.0 t.1 in
-    (t.0, subst (λ n. HasCounted p readers times k n t.0) (some-injective h.0 w (sym h.1 ∙ at)) h.2) in
     record {
-      free = left_free readers times threads locks.shares values locks.each_share (λ n t at. (played n t at).2.idle.share) locks.kept one;
+      free = left_free readers times threads c.in_ok-closed.closed.values c.in_ok-closed.ensures.values.1 (λ n t at. (played n t at).2.0.share) one;
       count = ap length same ∙ all;
-      each = λ n t there. (played n t (ap (λ l. get_elem? l n) (sym same) ∙ there)).2.idle.share;
-      sum = writes-sum readers c.args.sides.second times writes (omega arith)
-          (λ k w at low. (counts k w at).1.counted ∙ writes_none readers times k low)
-          (λ k w at high. (counts k w at).1.counted ∙ writes_all readers times k high);
+      each = λ n t there. (played n t (ap (λ l. get_elem? l n) (sym same) ∙ there)).2.0.share;
+      sum = writes-sum readers c.args.sides.second times writes (omega arith) (λ k w at.
+          let low = (from_at writes k w at).0 in
+          let t = at_below threads k (omega arith) in
+          let h = played k t.0 t.1 in
+          some-injective w h.0 (sym at ∙ h.1) ∙ h.2.1);
     }
