@@ -100,7 +100,7 @@ no_child : (o : Operation) (rest : ℕ → List ℕ) (own : List ℕ) → ((u : 
 no_child (Fork u) rest own none = absurd (none u refl)
 no_child _ rest own none = refl
 
-below_else : (x : Line) (xs : List Line) (t : ℕ) → (x.thread.0 ≡ t → (u : ThreadId) → x.operation ≡ Fork u → ⊥) → below (x ∷ xs) t ≡ below xs t
+pub below_else : (x : Line) (xs : List Line) (t : ℕ) → (x.thread.0 ≡ t → (u : ThreadId) → x.operation ≡ Fork u → ⊥) → below (x ∷ xs) t ≡ below xs t
 below_else x xs t none =
     elim (eqb_tells x.thread.0 t) [
       | inl p ↦ rw p.0 (no_child x.operation (below xs) (below xs t) (none p.1))

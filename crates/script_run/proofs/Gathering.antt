@@ -83,9 +83,9 @@ pub ready_first : (p : Shape (Prim.Unit {0})) (xs : List Line) (first : Player) 
 ready_first p xs first rights order slots others placed is f each = let t = placed.taken in record {
   numbers =
       let front : map slot_number placed.front ≡ below xs 0 = ap (map slot_number) t.are ∙ (unborn_numbers t.taken ∙ (t.numbers ∙ is)) in
-      ap (map slot_number) placed.are ∙ (map-append slot_number placed.front (slot.Live (record { me = first; numbers = placed.numbers }) ∷ []) ∙ (λ j. front j ++ f.number j ∷ []));
+      ap (map slot_number) placed.are ∙ (map-append slot_number placed.front (slot.Live (record { me = first; numbers = placed.numbers }) 0 true ∷ []) ∙ (λ j. front j ++ f.number j ∷ []));
   front = placed.front;
-  last = slot.Live (record { me = first; numbers = placed.numbers });
+  last = slot.Live (record { me = first; numbers = placed.numbers }) 0 true;
   split = placed.are;
   waiting =
       let rights_of : Each (λ _ k. IsRightOf p k) rights = λ n k at. own_right p (n + 1) k (each n k at) in
@@ -93,13 +93,13 @@ ready_first p xs first rights order slots others placed is f each = let t = plac
       let own : Each (λ _ k. IsRightOf p k) t.taken = each_first (IsRightOf p) t.taken others all in
       let P : List Slot → Type 0 = λ l. Each (λ n s. IsWaiting p s) l in
       subst P (sym t.are) (each-map (λ (k : Player). slot.Unborn k) (λ n s. IsWaiting p s) t.taken own);
-  live = begins p 0 placed.numbers first placed.size f;
+  live = (refl, begins p 0 placed.numbers first placed.size f);
 }
 
 is_ended : (p : Shape (Prim.Unit {0})) (xs : List Line) (s : Slot) → IsOver p xs s → (k : Player) × (s ≡ slot.Ended k)
 is_ended p xs (slot.Ended k) e = (k, refl)
 is_ended p xs (slot.Unborn k) e = absurd e
-is_ended p xs (slot.Live w) e = absurd e
+is_ended p xs (slot.Live w i b) e = absurd e
 is_ended p xs slot.Taken e = absurd e
 
 pub all_ended : (p : Shape (Prim.Unit {0})) (xs : List Line) (order : List ℕ) (slots : List Slot) → AreOver p xs order slots → Each (λ n s. (k : Player) × (s ≡ slot.Ended k)) slots

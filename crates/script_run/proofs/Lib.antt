@@ -2,10 +2,12 @@ pub mod Births
 pub mod Calls
 pub mod Closing
 pub mod Crew
+pub mod Forking
 pub mod Gathering
 pub mod Members
 pub mod Orders
 pub mod Parting
+pub mod Pieces
 pub mod Plays
 pub mod Putting
 pub mod Rows

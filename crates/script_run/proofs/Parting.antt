@@ -1,5 +1,5 @@
 -- The slots before a fork and after it.
-use Rattle.std.proofs.Common.{◌≡◌, ◌≢◌, ℕ, zero, suc, ◌+◌, ◌-◌, ◌<◌, ◌≤◌, inl, inr, ◌⊎◌, List, [], ◌∷◌, ◌++◌, append_assoc, map, length, get_or, take, drop, set, refl, ap, ap₂, sym, subst, ◌∙◌, Some, arith}
+use Rattle.std.proofs.Common.{◌≡◌, ◌≢◌, ℕ, zero, suc, ◌+◌, ◌-◌, ◌<◌, ◌≤◌, inl, inr, ◌⊎◌, List, [], ◌∷◌, ◌++◌, append_assoc, map, length, get_or, take, drop, set, refl, ap, ap₂, sym, subst, ◌∙◌, Bool, Some, arith}
 use Rattle.std.specs.Prelude.{slice_get}
 use Rattle.std.proofs.Math.Seq.{get_or-append_seam, set-append_seam, take-append_seam, drop-append_seam}
 use Rattle.std.proofs.lemmas.List.{map-append, length-map, length-set, length-append}
@@ -18,7 +18,7 @@ use Rattle.script_run.specs.declared.slots.Slot.{Slot}
 use Rattle.script_run.specs.declared.slots.Slot.TheVariants as slot
 use Rattle.script_run.specs.Playing.{Player, IsPlaying}
 use Rattle.script_run.specs.Regions.{below}
-use Rattle.script_run.specs.Slots.{slot_number, IsWaiting, IsLive, IsOver, AreReady, AreForked, AreOver}
+use Rattle.script_run.specs.Slots.{slot_number, IsWaiting, IsLive, IsOver, AreReady, IsRegion, AreForked, AreOver}
 use Rattle.script_run.proofs.Births.{Lacks, fork_line, below_fork}
 
 module _ {A : Type 0} where
@@ -122,7 +122,7 @@ pub record Parted (p : Shape (Prim.Unit {0})) (xs : List Line) (i t u : ℕ) (sl
 -- a slot that waits has a right
 waits : (p : Shape (Prim.Unit {0})) (s : Slot) (n : ℕ) → IsWaiting p s → slot_number s ≡ n → (k : Player) × (s ≡ slot.Unborn k) × (k.number ≡ n) × IsRight p (λ w i. let z : List Added = [] in z) k.number k
 waits p (slot.Unborn k) n h e = (k, refl, e, h)
-waits p (slot.Live w) n h e = absurd h
+waits p (slot.Live w i b) n h e = absurd h
 waits p (slot.Ended k) n h e = absurd h
 waits p slot.Taken n h e = absurd h
 
@@ -186,7 +186,7 @@ module _ (p : Shape (Prim.Unit {0})) (xs : List Line) (i t u : ℕ) (slots : Lis
       first_is (map slot_number d.upper) (map slot_number (d.lower ++ b ∷ [])) u k (subst (Lacks u) (sym d.upper_numbers) lacks) (subst F (numbers_are b) first) (subst N (numbers_are b) at)
       ∙ length-map d.upper slot_number
 
-  upper_ready : (j : ℕ) (a : Slot) → j ≡ i + 1 → slot_number a ≡ u → IsLive p (take j xs) u a → AreReady p xs j u (d.upper ++ a ∷ [])
+  upper_ready : (j : ℕ) (a : Slot) → j ≡ i + 1 → slot_number a ≡ u → IsLive p xs j u a → AreReady p xs j u (d.upper ++ a ∷ [])
   upper_ready j a e number live = record {
     numbers = map-append slot_number d.upper (a ∷ []) ∙ ap₂ (λ ns n. ns ++ n ∷ []) (d.upper_numbers ∙ ap (λ n. below (drop n xs) u) (sym e)) number;
     front = d.upper;
@@ -196,7 +196,7 @@ module _ (p : Shape (Prim.Unit {0})) (xs : List Line) (i t u : ℕ) (slots : Lis
     live = live;
   }
 
-  lower_ready : (j : ℕ) (b : Slot) → j ≡ i + 1 → slot_number b ≡ t → IsLive p (take j xs) t b → AreReady p xs j t (d.lower ++ b ∷ [])
+  lower_ready : (j : ℕ) (b : Slot) → j ≡ i + 1 → slot_number b ≡ t → IsLive p xs j t b → AreReady p xs j t (d.lower ++ b ∷ [])
   lower_ready j b e number live = record {
     numbers = map-append slot_number d.lower (b ∷ []) ∙ ap₂ (λ ns n. ns ++ n ∷ []) (d.lower_numbers ∙ ap (λ n. below (drop n xs) t) (sym e)) number;
     front = d.lower;
@@ -213,21 +213,18 @@ module _ (p : Shape (Prim.Unit {0})) (xs : List Line) (i t u : ℕ) (slots : Lis
       parts a b ∙ ap₂ (λ m n. (map slot_number d.upper ++ m ∷ []) ++ (map slot_number d.lower ++ n ∷ [])) (ea ∙ sym d.number) (eb ∙ sym d.last_number) ∙ sym (parts (slot.Unborn d.right) d.last) ∙ ap (map slot_number) (sym d.is)
 
   -- once u was forked, and both play
-  pub are_forked : (j width : ℕ) (a b : Slot) (after : List Slot) → j ≡ i + 1 → j ≤ length xs → width ≡ length d.upper + 1 → after ≡ shaped a b → slot_number a ≡ u → slot_number b ≡ t → IsLive p (take j xs) u a → IsLive p (take j xs) t b
-      → AreForked p xs j u width slots after
+  pub are_forked : (j width : ℕ) (a b : Slot) (after : List Slot) → j ≡ i + 1 → j ≤ length xs → width ≡ length d.upper + 1 → after ≡ shaped a b → slot_number a ≡ u → slot_number b ≡ t → IsLive p xs j u a → IsLive p xs j t b
+      → AreForked p xs width slots after
   are_forked j width a b after e within wide is ua tb live_a live_b =
       let l = long in
       let size : width ≡ length (d.upper ++ a ∷ []) = omega (arith, length-append d.upper (a ∷ [])) in
-      let Q : List Slot → Type 0 = λ s. AreForked p xs j u width slots s in
+      let Q : List Slot → Type 0 = λ s. AreForked p xs width slots s in
       subst Q (sym is) record {
-        within = within;
         any = omega arith;
         fewer = omega (arith, length-append (d.upper ++ a ∷ []) (d.lower ++ b ∷ []), length-append d.lower (b ∷ []));
-        child = subst (λ (s : List Slot). AreReady p xs j u s) (sym (ap (λ n. take n (shaped a b)) size ∙ take-append_seam (d.upper ++ a ∷ []) (d.lower ++ b ∷ []))) (upper_ready j a e ua live_a);
-        t = t;
-        parent = subst (λ (s : List Slot). AreReady p xs j t s) (sym (ap (λ n. drop n (shaped a b)) size ∙ drop-append_seam (d.upper ++ a ∷ []) (d.lower ++ b ∷ []))) (lower_ready j b e tb live_b);
+        child = subst (λ (s : List Slot). IsRegion p xs s) (sym (ap (λ n. take n (shaped a b)) size ∙ take-append_seam (d.upper ++ a ∷ []) (d.lower ++ b ∷ []))) (record { at = j; t = u; within = within; ready = upper_ready j a e ua live_a });
+        parent = subst (λ (s : List Slot). IsRegion p xs s) (sym (ap (λ n. drop n (shaped a b)) size ∙ drop-append_seam (d.upper ++ a ∷ []) (d.lower ++ b ∷ []))) (record { at = j; t = t; within = within; ready = lower_ready j b e tb live_b });
         numbers = same_numbers a b ua tb;
-        size = omega (arith, length-append (d.upper ++ a ∷ []) (d.lower ++ b ∷ []), length-append d.upper (a ∷ []), length-append d.lower (b ∷ []));
       }
 
   -- the last slot was taken out
@@ -264,10 +261,17 @@ last_read p xs at t slots r read is =
     let size : length slots - 1 ≡ length r.front = omega (arith, ap length r.split, length-append r.front (r.last ∷ [])) in
     (is ∙ ap₂ (λ l n. get_or l n read) r.split size ∙ get_or-append_seam r.front r.last [] read, omega (arith, ap length r.split, length-append r.front (r.last ∷ [])))
 
+-- the thread in it goes on where it says
+pub region_at : (p : Shape (Prim.Unit {0})) (xs : List Line) (slots : List Slot) (h : IsRegion p xs slots) (read : Slot) (w : Playing) (n : ℕ) (b : Bool) → read ≡ get_or slots (length slots - 1) read → read ≡ slot.Live w n b
+    → (n ≤ length xs) × ((t : ℕ) × AreReady p xs n t slots)
+region_at p xs slots h read w n b is live =
+    let same = subst (λ (s : Slot). IsLive p xs h.at h.t s) (sym (last_read p xs h.at h.t slots h.ready read is).0 ∙ live) h.ready.live in
+    (subst (λ (i : ℕ). i ≤ length xs) (sym same.0) h.within, (h.t, subst (λ (i : ℕ). AreReady p xs i h.t slots) (sym same.0) h.ready))
+
 -- the thread that was taken out of it
-pub was_live : (p : Shape (Prim.Unit {0})) (xs : List Line) (at : ℕ) (slots : List Slot) (r : (t : ℕ) × AreReady p xs at t slots) (read : Slot) (w : Playing) → read ≡ get_or slots (length slots - 1) read → read ≡ slot.Live w
+pub was_live : (p : Shape (Prim.Unit {0})) (xs : List Line) (at : ℕ) (slots : List Slot) (r : (t : ℕ) × AreReady p xs at t slots) (read : Slot) (w : Playing) (n : ℕ) (b : Bool) → read ≡ get_or slots (length slots - 1) read → read ≡ slot.Live w n b
     → IsPlaying p r.0 (take at xs) [] w.numbers w.me
-was_live p xs at slots r read w is live = subst (λ (s : Slot). IsLive p (take at xs) r.0 s) (sym (last_read p xs at r.0 slots r.1 read is).0 ∙ live) r.1.live
+was_live p xs at slots r read w n b is live = (subst (λ (s : Slot). IsLive p xs at r.0 s) (sym (last_read p xs at r.0 slots r.1 read is).0 ∙ live) r.1.live).1
 
 pub fork_is : (xs : List Line) (i t : ℕ) (d : Line) (u v : ThreadId) → slice_get xs i ≡ Some (record { thread = record { 0 = t }; operation = Fork u }) → (get_or xs i d).operation ≡ Fork v → slice_get xs i ≡ Some (fork_line t v.0)
 fork_is xs i t d u v at is =
@@ -276,10 +280,10 @@ fork_is xs i t d u v at is =
     at ∙ ap (λ o. Some (let y : Line = record { thread = record { 0 = t }; operation = o } in y)) same
 
 -- its fork
-pub at_fork : (p : Shape (Prim.Unit {0})) (xs : List Line) (at i : ℕ) (slots : List Slot) (r : (t : ℕ) × AreReady p xs at t slots) (read : Slot) (w : Playing) (d : Line) (u v : ThreadId) → read ≡ get_or slots (length slots - 1) read → read ≡ slot.Live w
+pub at_fork : (p : Shape (Prim.Unit {0})) (xs : List Line) (at i : ℕ) (slots : List Slot) (r : (t : ℕ) × AreReady p xs at t slots) (read : Slot) (w : Playing) (n : ℕ) (b : Bool) (d : Line) (u v : ThreadId) → read ≡ get_or slots (length slots - 1) read → read ≡ slot.Live w n b
     → below (drop at xs) w.me.number ≡ below (drop i xs) w.me.number → slice_get xs i ≡ Some (record { thread = record { 0 = w.me.number }; operation = Fork u }) → (get_or xs i d).operation ≡ Fork v → Parted p xs i w.me.number v.0 slots
-at_fork p xs at i slots r read w d u v is live none fork operation =
-    let number = (was_live p xs at slots r read w is live).number in
+at_fork p xs at i slots r read w n b d u v is live none fork operation =
+    let number = (was_live p xs at slots r read w n b is live).number in
     parted p xs at i w.me.number v.0 slots (subst (λ (t : ℕ). AreReady p xs at t slots) (sym number) r.1) none (fork_is xs i w.me.number d u v fork operation)
 
 -- two parts that are over are over together

@@ -1,5 +1,5 @@
 -- The threads of a run of version two, put into their places at first and taken out of them at last.
-use Rattle.std.specs.Prelude.{◌≡◌, ℕ, ◌+◌, cond, eqb, List, [], ◌∷◌, ◌++◌, map, length}
+use Rattle.std.specs.Prelude.{◌≡◌, ℕ, ◌+◌, cond, eqb, true, List, [], ◌∷◌, ◌++◌, map, length}
 use Rattle.nub_rule.specs.Forks.{with_number}
 use Rattle.script_run.specs.declared.slots.Slot.{Slot}
 use Rattle.script_run.specs.declared.slots.Slot.TheVariants as slot
@@ -32,4 +32,4 @@ pub record ArePlaced (first : Player) (rights : List Player) (order : List ℕ) 
   pub taken : AreTaken rights order front others
   pub numbers : List ℕ
   pub size : length numbers ≡ 64
-  pub are : slots ≡ front ++ slot.Live (record { me = first; numbers = numbers }) ∷ []
+  pub are : slots ≡ front ++ slot.Live (record { me = first; numbers = numbers }) 0 true ∷ []

@@ -1,5 +1,6 @@
 -- Which threads the lines of a script fork below which.
-use Rattle.std.specs.Prelude.{ℕ, cond, eqb, List, [], ◌∷◌, ◌++◌}
+use Rattle.std.specs.Prelude.{ℕ, Bool, true, false, cond, eqb, List, [], ◌∷◌, ◌++◌}
+use Rattle.std.specs.List.{filter}
 use Rattle.firefly_script.specs.declared.line.Line.{Line}
 use Rattle.firefly_script.specs.declared.table.Fate.{Fate}
 use Rattle.firefly_script.specs.declared.table.Fate.TheVariants.{Begins, Awaits, Nothing}
@@ -19,3 +20,12 @@ below (x ∷ xs) t = cond (eqb x.thread.0 t) (with_child (fate_of x.operation) (
 -- and behind them t
 abbrev pub region : List Line → ℕ → List ℕ
 region xs t = below xs t ++ t ∷ []
+
+abbrev pub begins : Fate → Bool
+begins (Begins u) = true
+begins (Awaits u) = false
+begins Nothing = false
+
+-- the lines that fork threads
+abbrev pub forking : List Line → List Line
+forking xs = filter (λ x. begins (fate_of x.operation)) xs

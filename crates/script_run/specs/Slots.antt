@@ -1,5 +1,6 @@
 -- The slots of a run of version two: where its threads stand before their forks, in their parts and after their ends.
-use Rattle.std.specs.Prelude.{◌≡◌, ℕ, ◌<◌, ◌≤◌, List, [], ◌∷◌, ◌++◌, map, drop, take, length, Some}
+use Rattle.std.specs.Prelude.{◌≡◌, ℕ, ◌<◌, ◌≤◌, Bool, true, false, List, [], ◌∷◌, ◌++◌, map, drop, take, length, Some}
+use Rattle.std.specs.List.{AllByRecursion}
 use Rattle.larch_actions.specs.declared.event.Event.{Event}
 use Rattle.larch_actions.specs.declared.event.Action.TheVariants as action
 use Rattle.larch_actions.specs.declared.event.Version.TheVariants.{Two}
@@ -16,21 +17,30 @@ use Rattle.script_run.specs.declared.slots.Slot.TheVariants as slot
 use Rattle.script_run.specs.Playing.{Player, IsPlaying}
 use Rattle.script_run.specs.Regions.{below, region}
 
+-- the lists, one behind the other
+abbrev pub joined : List (List Slot) → List Slot
+joined [] = []
+joined (r ∷ rs) = r ++ joined rs
+
 abbrev pub slot_number : Slot → ℕ
 slot_number (slot.Unborn k) = k.number
-slot_number (slot.Live w) = w.me.number
+slot_number (slot.Live w i b) = w.me.number
 slot_number (slot.Ended k) = k.number
 slot_number slot.Taken = 0
+
+abbrev pub is_live : Slot → Bool
+is_live (slot.Live w i b) = true
+is_live _ = false
 
 -- the right to begin a thread, which has added nothing
 abbrev pub IsWaiting : Shape (Prim.Unit {0}) → Slot → Type 0
 IsWaiting p (slot.Unborn k) = IsRight p (λ w n. let s : List Added = [] in s) k.number k
 IsWaiting p _ = ⊥
 
--- the thread t, which has played its lines of these
-abbrev pub IsLive : Shape (Prim.Unit {0}) → List Line → ℕ → Slot → Type 0
-IsLive p xs t (slot.Live w) = IsPlaying p t xs [] w.numbers w.me
-IsLive p xs t _ = ⊥
+-- the thread t, which has played its lines before the line i, and goes on there
+abbrev pub IsLive : Shape (Prim.Unit {0}) → List Line → ℕ → ℕ → Slot → Type 0
+IsLive p xs i t (slot.Live w next b) = (next ≡ i) × IsPlaying p t (take i xs) [] w.numbers w.me
+IsLive p xs i t _ = ⊥
 
 -- the thread has played all its lines of these, and then ended
 pub record HasEnded (p : Shape (Prim.Unit {0})) (xs : List Line) (k : Player) : Type 0 where
@@ -54,34 +64,63 @@ pub record AreReady (p : Shape (Prim.Unit {0})) (xs : List Line) (i t : ℕ) (sl
   pub last : Slot
   pub split : slots ≡ front ++ last ∷ []
   pub waiting : Each (λ n s. IsWaiting p s) front
-  pub live : IsLive p (take i xs) t last
+  pub live : IsLive p xs i t last
+
+-- the slots of one thread, which may go on, and of those that are forked below it from there on
+pub record IsRegion (p : Shape (Prim.Unit {0})) (xs : List Line) (slots : List Slot) : Type 0 where
+  pub at : ℕ
+  pub t : ℕ
+  pub within : at ≤ length xs
+  pub ready : AreReady p xs at t slots
+
+-- the slots of some such threads, one behind the other
+pub record AreRegions (p : Shape (Prim.Unit {0})) (xs : List Line) (slots : List Slot) : Type 0 where
+  pub regions : List (List Slot)
+  pub each : AllByRecursion (IsRegion p xs) regions
+  pub are : slots ≡ joined regions
 
 -- all have ended, each in its place
 pub record AreOver (p : Shape (Prim.Unit {0})) (xs : List Line) (order : List ℕ) (slots : List Slot) : Type 0 where
   pub numbers : map slot_number slots ≡ order
   pub over : Each (λ n s. IsOver p xs s) slots
 
--- the lines are those of a script of version two, and its threads in these slots may go on at the line i
-pub record MayPlay (p : Shape (Prim.Unit {0})) (xs : List Line) (i : ℕ) (slots : List Slot) : Type 0 where
+-- the lines are those of a script of version two, and its threads in these slots may go on
+pub record MayPlay (p : Shape (Prim.Unit {0})) (xs : List Line) (slots : List Slot) : Type 0 where
   pub script : IsScript p.layout xs
   pub version : p.layout.version ≡ Two
   pub few : length xs < 100000
-  pub within : i ≤ length xs
-  pub ready : (t : ℕ) × AreReady p xs i t slots
+  pub any : 0 < length slots
+  pub regions : AreRegions p xs slots
 
 -- from the line i on, the thread t has played its lines before the line k, which fork none
 pub record IsAhead (p : Shape (Prim.Unit {0})) (xs : List Line) (t i k : ℕ) (numbers : List ℕ) (me : Player) : Type 0 where
   pub playing : IsPlaying p t (take k xs) [] numbers me
   pub none : below (drop i xs) t ≡ below (drop k xs) t
 
--- The thread t in the last slot has forked the thread u, whose region is the first so many slots.
--- Both have played their lines before the line i.
-pub record AreForked (p : Shape (Prim.Unit {0})) (xs : List Line) (i u width : ℕ) (before slots : List Slot) : Type 0 where
-  pub within : i ≤ length xs
+-- the thread in the last slot has forked another, whose region is the first so many slots, and both may go on
+pub record AreForked (p : Shape (Prim.Unit {0})) (xs : List Line) (width : ℕ) (before slots : List Slot) : Type 0 where
   pub any : 0 < width
   pub fewer : width < length slots
-  pub child : AreReady p xs i u (take width slots)
-  pub t : ℕ
-  pub parent : AreReady p xs i t (drop width slots)
+  pub child : IsRegion p xs (take width slots)
+  pub parent : IsRegion p xs (drop width slots)
   pub numbers : map slot_number slots ≡ map slot_number before
-  pub size : length slots ≡ length before
+
+-- the last of the slots may go on
+pub record EndsLive (slots : List Slot) : Type 0 where
+  pub front : List Slot
+  pub last : Slot
+  pub split : slots ≡ front ++ last ∷ []
+  pub live : is_live last ≡ true
+
+-- these are over, or may go on
+abbrev pub AreOverOrGoOn : Shape (Prim.Unit {0}) → List Line → Bool → List Slot → Type 0
+AreOverOrGoOn p xs true slots = AreOver p xs (map slot_number slots) slots
+AreOverOrGoOn p xs false slots = AreRegions p xs slots
+
+-- the slots are cut in two: the threads of the first part may go on, those of the rest may too, or have ended
+pub record IsCut (p : Shape (Prim.Unit {0})) (xs : List Line) (at : ℕ) (over : Bool) (before slots : List Slot) : Type 0 where
+  pub any : over ≡ false → 0 < at
+  pub fewer : at < length slots
+  pub first : AreRegions p xs (take at slots)
+  pub rest : AreOverOrGoOn p xs over (drop at slots)
+  pub numbers : map slot_number slots ≡ map slot_number before

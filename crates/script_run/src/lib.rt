@@ -6,6 +6,7 @@
 //! and that the threads ran beside each other is shown by runs alone.
 #![tactic(auto)]
 
+mod cutting;
 mod forked;
 mod parts;
 mod placing;

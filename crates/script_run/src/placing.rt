@@ -42,10 +42,14 @@ pub fn placed(
         let place = place_of(&rights, order[at]);
         slots.push_reserved(Slot::Unborn(rights.remove(place)));
     }
-    slots.push_reserved(Slot::Live(Playing {
-        me: first,
-        numbers: [0; 64],
-    }));
+    slots.push_reserved(Slot::Live {
+        playing: Playing {
+            me: first,
+            numbers: [0; 64],
+        },
+        next: 0,
+        at_gate: true,
+    });
     Ok((slots, rights))
 }
 

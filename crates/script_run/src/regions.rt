@@ -1,6 +1,6 @@
 //! Which threads are forked below which.
 ghost use Rattle.std.specs.Prelude.{◌≡◌, ◌≤◌, ◌++◌, [], length, drop, OnOk, IfOk};
-ghost use Rattle.script_run.specs.Regions.{region};
+ghost use Rattle.script_run.specs.Regions.{forking, region};
 
 use firefly_script::{Line, Operation};
 use std::alloc::{AllocError, Global};
@@ -22,11 +22,25 @@ fn add(lines: &[Line], at: usize, thread: u32, order: &mut Vec<u32>) -> Result<(
     Ok(())
 }
 
+// The lines that fork threads, in order: few, so that each thread looks through them alone.
+fn forks_of(alloc: Global, lines: &[Line]) -> Result<Vec<Line>, AllocError>
+    ensures { IfOk result (λ v. v.items ≡ forking lines.now) }
+{
+    let mut forks = Vec::with_capacity(alloc, 256)?;
+    for line in lines {
+        if let Operation::Fork { who: _ } = line.operation {
+            forks.push(*line)?;
+        }
+    }
+    Ok(forks)
+}
+
 /// All threads that are there in the run of a script of version two, each behind all that are forked below it: the last is thread 0.
 pub fn order_of(alloc: Global, lines: &[Line]) -> Result<Vec<u32>, AllocError>
     ensures { IfOk result (λ v. v.items ≡ region lines.now 0) }
 {
+    let forks = forks_of(alloc, lines)?;
     let mut order = Vec::with_capacity(alloc, 256)?;
-    add(lines, 0, 0, &mut order)?;
+    add(&forks, 0, 0, &mut order)?;
     Ok(order)
 }

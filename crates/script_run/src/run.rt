@@ -117,8 +117,8 @@ fn play_all<R: Threads + Wait + Sync, G: Gate>(
 }
 
 /// Runs a script in a traced package of its own, which is closed when all threads have ended: in version one a thread for each number; in
-/// version two thread 0, and each that a line forks, which is started at that line. Each thread passes the gate once, with its number,
-/// before its first line.
+/// version two thread 0, and each that a line forks, which is started behind that line and the forks that follow it at once. Each thread
+/// passes the gate once, with its number, before its first line.
 ///
 /// Room for the events is taken before the first thread starts, or at its fork, with one wait for each `until` and `alert-until`. Where
 /// these wait oftener and there is no memory for it, the run goes on to its end and is refused then. Where a thread can't be started, its

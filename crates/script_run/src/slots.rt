@@ -1,6 +1,6 @@
 //! Where the threads of a run of version two stand, before, in and after their parts.
-ghost use Rattle.std.specs.Prelude.{◌≡◌};
-ghost use Rattle.script_run.specs.Slots.{slot_number};
+ghost use Rattle.std.specs.Prelude.{◌≡◌, ◌<◌, ℕ, take, length};
+ghost use Rattle.script_run.specs.Slots.{EndsLive, is_live, slot_number};
 
 use nub_rule::{Ended, Thread, Unborn};
 use sum_uses::SumUses;
@@ -16,7 +16,13 @@ pub struct Playing {
 #[derive(Drop)]
 pub enum Slot {
     Unborn(Unborn<SumUses>),
-    Live(Playing),
+    Live {
+        playing: Playing,
+        /// How many lines of the script are behind it.
+        next: usize,
+        /// Whether it has yet to pass the gate.
+        at_gate: bool,
+    },
     Ended(Ended<SumUses>),
     /// What stood here was taken out, and the next is put in at once.
     Taken,
@@ -29,9 +35,42 @@ impl Slot {
     {
         match self {
             Slot::Unborn(right) => right.number(),
-            Slot::Live(playing) => playing.me.number(),
+            Slot::Live {
+                playing,
+                next: _,
+                at_gate: _,
+            } => playing.me.number(),
             Slot::Ended(end) => end.number(),
             Slot::Taken => 0,
         }
     }
+
+    /// Whether its thread may go on.
+    pub fn is_live(&self) -> bool
+        ensures { result ≡ is_live self.now }
+    {
+        match self {
+            Slot::Live {
+                playing: _,
+                next: _,
+                at_gate: _,
+            } => true,
+            _ => false,
+        }
+    }
+}
+
+/// Behind the last thread that may go on, before the one in the last slot. 0 where there is none.
+pub fn boundary(slots: &[Slot]) -> usize
+    ensures within { 0 < result → result < length slots.now }
+    ensures live { 0 < result → EndsLive (take result slots.now) }
+    ensures last { (n : ℕ) → result < n → n < length slots.now → EndsLive (take n slots.now) → ⊥ }
+{
+    let mut found = 0;
+    for end in 1..slots.len() {
+        if slots[end - 1].is_live() {
+            found = end;
+        }
+    }
+    found
 }

@@ -24,10 +24,11 @@ use Rattle.script_run.specs.Regions.{region}
 use Rattle.script_run.specs.Slots.{AreOver, AreReady, slot_number}
 use Rattle.script_run.proofs.Gathering.{AreBack, enough_rights, ready_first, all_ended, are_back, back_left, back_all, events_of, totals_of, below_of, over_moved, long_over}
 use Rattle.script_run.proofs.Members.{written}
+use Rattle.script_run.proofs.Pieces.{one_region}
 use Rattle.script_run.proofs.Sums.{first_sums}
 use Rattle.script_run.proofs.forked.run_forked.Given.{Over}
 use Rattle.script_run.proofs.forked.run_forked.Goals as goal
-use Rattle.script_run.proofs.forked.run_forked.Goals.{After-as_mut_slice, After-play_from, After-ends}
+use Rattle.script_run.proofs.forked.run_forked.Goals.{After-as_mut_slice, After-play_all, After-ends}
 
 pub open_forked-requires-clause-holds : goal.open_forked-requires-clause-holds
 open_forked-requires-clause-holds g c κs =
@@ -58,35 +59,37 @@ ready g c =
     subst (λ (z : List Slot). AreReady c.in_ok-pkg.pkg xs 0 0 z) (sym c.as_mut_slice.ensures.value)
     (ready_first c.in_ok-pkg.pkg xs c.reserve.new.self c.in_ok-pkg.rights.items (take (c.len-2.result - 1) c.deref.result.now) c.in_ok-slots.slots.items c.in_ok-slots.others.items c.in_ok-slots.ensures order first c.in_ok-pkg.ensures.rights)
 
-pub play_from-requires-clause-ready : goal.play_from-requires-clause-ready
-play_from-requires-clause-ready g c κs within = (0, ready g c)
+pub play_all-requires-clause-regions : goal.play_all-requires-clause-regions
+play_all-requires-clause-regions g c κs within =
+    let r = ready g c in
+    one_region c.in_ok-pkg.pkg c.lines-lines.result.now c.as_mut_slice.result.now (record { at = 0; t = 0; within = omega arith; ready = r })
 
 -- the slots that are written back
-all_written : (g : Over) (c : After-play_from g) → take c.in_ok-slots.slots.len (c.play_from.new.slots ++ drop (length c.play_from.new.slots) c.in_ok-slots.slots.items) ≡ c.play_from.new.slots
+all_written : (g : Over) (c : After-play_all g) → take c.in_ok-slots.slots.len (c.play_all.new.slots ++ drop (length c.play_all.new.slots) c.in_ok-slots.slots.items) ≡ c.play_all.new.slots
 all_written g c =
-    written c.in_ok-slots.slots.len c.play_from.new.slots c.in_ok-slots.slots.items c.in_ok-slots.slots.ok.0 (long_over c.in_ok-pkg.pkg c.lines-lines.result.now c.as_mut_slice.result.now c.play_from.new.slots c.play_from.ensures ∙ ap length c.as_mut_slice.ensures.value)
+    written c.in_ok-slots.slots.len c.play_all.new.slots c.in_ok-slots.slots.items c.in_ok-slots.slots.ok.0 (long_over c.in_ok-pkg.pkg c.lines-lines.result.now c.as_mut_slice.result.now c.play_all.new.slots c.play_all.ensures ∙ ap length c.as_mut_slice.ensures.value)
 
-abbrev Ends : (g : Over) → After-play_from g → Type 0
-Ends g c = AreOver c.in_ok-pkg.pkg c.lines-lines.result.now (region c.lines-lines.result.now 0) (take c.in_ok-slots.slots.len (c.play_from.new.slots ++ drop (length c.play_from.new.slots) c.in_ok-slots.slots.items))
+abbrev Ends : (g : Over) → After-play_all g → Type 0
+Ends g c = AreOver c.in_ok-pkg.pkg c.lines-lines.result.now (region c.lines-lines.result.now 0) (take c.in_ok-slots.slots.len (c.play_all.new.slots ++ drop (length c.play_all.new.slots) c.in_ok-slots.slots.items))
 
-over : (g : Over) (c : After-play_from g) → map slot_number c.as_mut_slice.result.now ≡ region c.lines-lines.result.now 0 → Ends g c
+over : (g : Over) (c : After-play_all g) → map slot_number c.as_mut_slice.result.now ≡ region c.lines-lines.result.now 0 → Ends g c
 over g c numbers =
-    over_moved c.in_ok-pkg.pkg c.lines-lines.result.now (map slot_number c.as_mut_slice.result.now) (region c.lines-lines.result.now 0) c.play_from.new.slots _ numbers (sym (all_written g c)) c.play_from.ensures
+    over_moved c.in_ok-pkg.pkg c.lines-lines.result.now (map slot_number c.as_mut_slice.result.now) (region c.lines-lines.result.now 0) c.play_all.new.slots _ numbers (sym (all_written g c)) c.play_all.ensures
 
 pub ends-requires-clause-over : goal.ends-requires-clause-over
 ends-requires-clause-over g c =
     let a = goal.at.ends-requires-clause-over g c in
-    all_ended c.in_ok-pkg.pkg c.lines-lines.result.now (region c.lines-lines.result.now 0) _ (over g a.After-play_from (ready g a.After-as_mut_slice).numbers)
+    all_ended c.in_ok-pkg.pkg c.lines-lines.result.now (region c.lines-lines.result.now 0) _ (over g a.After-play_all (ready g a.After-as_mut_slice).numbers)
 
 pub ends-requires-clause-room : goal.ends-requires-clause-room
 ends-requires-clause-room g c =
     let a = goal.at.ends-requires-clause-room g c in
-    let o = over g a.After-play_from (ready g a.After-as_mut_slice).numbers in
+    let o = over g a.After-play_all (ready g a.After-as_mut_slice).numbers in
     let long = ap length (o.numbers ∙ sym c.in_ok-order.ensures) in
-    let same = length-map (take c.in_ok-slots.slots.len (c.play_from.new.slots ++ drop (length c.play_from.new.slots) c.in_ok-slots.slots.items)) slot_number in
+    let same = length-map (take c.in_ok-slots.slots.len (c.play_all.new.slots ++ drop (length c.play_all.new.slots) c.in_ok-slots.slots.items)) slot_number in
     (c.in_ok-over.ensures.items, omega (arith, long, same, c.in_ok-over.ensures.capacity, c.len.ensures, c.in_ok-order.order.ok.0))
 
-back : (g : Over) (c : After-ends g) → map slot_number c.as_mut_slice.result.now ≡ region c.lines-lines.result.now 0 → AreOver c.in_ok-pkg.pkg c.lines-lines.result.now (region c.lines-lines.result.now 0) (take c.in_ok-slots.slots.len (c.play_from.new.slots ++ drop (length c.play_from.new.slots) c.in_ok-slots.slots.items)) → AreBack c.in_ok-pkg.pkg c.in_ok-pkg.pkg.layout c.lines-lines.result.now c.ends.result.items c.in_ok-slots.others.items
+back : (g : Over) (c : After-ends g) → map slot_number c.as_mut_slice.result.now ≡ region c.lines-lines.result.now 0 → AreOver c.in_ok-pkg.pkg c.lines-lines.result.now (region c.lines-lines.result.now 0) (take c.in_ok-slots.slots.len (c.play_all.new.slots ++ drop (length c.play_all.new.slots) c.in_ok-slots.slots.items)) → AreBack c.in_ok-pkg.pkg c.in_ok-pkg.pkg.layout c.lines-lines.result.now c.ends.result.items c.in_ok-slots.others.items
 back g c numbers over =
     let p = c.in_ok-pkg.pkg in
     let l = p.layout in
@@ -103,19 +106,19 @@ pub close_forked-requires-clause-left : goal.close_forked-requires-clause-left
 close_forked-requires-clause-left g c κs =
     let a = goal.at.close_forked-requires-clause-left g c in
     let r = (ready g a.After-as_mut_slice).numbers in
-    back_left c.in_ok-pkg.pkg c.in_ok-pkg.pkg.layout c.lines-lines.result.now c.ends.result.items c.in_ok-slots.others.items (back g a.After-ends r (over g a.After-play_from r))
+    back_left c.in_ok-pkg.pkg c.in_ok-pkg.pkg.layout c.lines-lines.result.now c.ends.result.items c.in_ok-slots.others.items (back g a.After-ends r (over g a.After-play_all r))
 
 pub close_forked-requires-clause-all : goal.close_forked-requires-clause-all
 close_forked-requires-clause-all g c κs =
     let a = goal.at.close_forked-requires-clause-all g c in
     let r = (ready g a.After-as_mut_slice).numbers in
-    back_all c.in_ok-pkg.pkg c.in_ok-pkg.pkg.layout c.lines-lines.result.now c.ends.result.items c.in_ok-slots.others.items (back g a.After-ends r (over g a.After-play_from r))
+    back_all c.in_ok-pkg.pkg c.in_ok-pkg.pkg.layout c.lines-lines.result.now c.ends.result.items c.in_ok-slots.others.items (back g a.After-ends r (over g a.After-play_all r))
 
 pub returns-clause-trace : goal.returns-clause-trace
 returns-clause-trace g c =
     let a = goal.at.returns-clause-trace g c in
     let r = (ready g a.After-as_mut_slice).numbers in
-    let b = back g a.After-ends r (over g a.After-play_from r) in
+    let b = back g a.After-ends r (over g a.After-play_all r) in
     let p = c.in_ok-pkg.pkg in
     let l = p.layout in
     let xs = c.lines-lines.result.now in
@@ -140,7 +143,7 @@ pub returns-clause-values : goal.returns-clause-values
 returns-clause-values g c =
     let a = goal.at.returns-clause-values g c in
     let r = (ready g a.After-as_mut_slice).numbers in
-    let b = back g a.After-ends r (over g a.After-play_from r) in
+    let b = back g a.After-ends r (over g a.After-play_all r) in
     let p = c.in_ok-pkg.pkg in
     let l = p.layout in
     let xs = c.lines-lines.result.now in

@@ -1,4 +1,4 @@
-use Rattle.std.proofs.Common.{◌≡◌, ◌+◌, ◌-◌, ◌<◌, List, [], length, get_or, take, set, refl, ap, ap₂, sym, subst, ◌∙◌, Some, arith, ℕ}
+use Rattle.std.proofs.Common.{◌≡◌, ◌+◌, ◌-◌, ◌<◌, ◌≤◌, List, [], length, get_or, take, set, refl, ap, ap₂, sym, subst, ◌∙◌, Some, true, false, arith, ℕ}
 use Rattle.std.specs.Prelude.{slice_get}
 use Rattle.script_run.specs.declared.slots.Slot.{Slot}
 use Rattle.script_run.specs.declared.slots.Slot.TheVariants as slot
@@ -6,11 +6,12 @@ use Rattle.script_run.specs.Playing.{Player, IsPlaying}
 use Rattle.nub.specs.Forks.{IsRight}
 use Rattle.sum_uses.specs.declared.added.Added.{Added}
 use Rattle.script_run.proofs.Births.{fork_line}
-use Rattle.script_run.proofs.Parting.{Parted, at_fork, fork_is, last_read, there, width_is, right_there, filled, are_forked}
+use Rattle.script_run.specs.Slots.{AreReady}
+use Rattle.script_run.proofs.Parting.{Parted, region_at, at_fork, fork_is, last_read, there, width_is, right_there, filled, are_forked}
 use Rattle.script_run.proofs.Starts.{not_again}
-use Rattle.script_run.proofs.forked.advance.Given.{Over}
-use Rattle.script_run.proofs.forked.advance.Goals.{In-Fork, After-width-width}
-use Rattle.script_run.proofs.forked.advance.Goals as goal
+use Rattle.script_run.proofs.cutting.advance.Given.{Over}
+use Rattle.script_run.proofs.cutting.advance.Goals.{In-Fork, After-width-width}
+use Rattle.script_run.proofs.cutting.advance.Goals as goal
 
 low : (g : Over) (c : In-Fork g) → c.play_to_fork-playing.result.1 < length c.args.lines.now
 low g c = let w = c.play_to_fork-playing.ensures.within.1 in let ne = c.if-next-lines.false in omega arith
@@ -18,11 +19,14 @@ low g c = let w = c.play_to_fork-playing.ensures.within.1 in let ne = c.if-next-
 read : (g : Over) (c : In-Fork g) → c.replace.result ≡ c.index-slots-last.result
 read g c = c.replace.ensures.value ∙ sym c.index-slots-last.is
 
-live : (g : Over) (c : In-Fork g) → c.index-slots-last.result ≡ slot.Live c.in-Live.playing
+live : (g : Over) (c : In-Fork g) → c.index-slots-last.result ≡ slot.Live c.in-Live.playing c.in-Live.at c.in-Live.at_gate
 live g c = sym (read g c) ∙ c.in-Live.is
 
+ready : (g : Over) (c : In-Fork g) → (c.in-Live.at ≤ length c.args.lines.now) × ((t : ℕ) × AreReady c.args.pkg.now c.args.lines.now c.in-Live.at t c.args.slots.now)
+ready g c = region_at c.args.pkg.now c.args.lines.now c.args.slots.now c.requires.region c.index-slots-last.result c.in-Live.playing c.in-Live.at c.in-Live.at_gate c.index-slots-last.is (live g c)
+
 last : (g : Over) (c : In-Fork g) → length c.args.slots.now - 1 + 1 ≡ length c.args.slots.now
-last g c = (last_read c.args.pkg.now c.args.lines.now c.args.at c.requires.ready.0 c.args.slots.now c.requires.ready.1 c.index-slots-last.result c.index-slots-last.is).1
+last g c = (last_read c.args.pkg.now c.args.lines.now c.requires.region.at c.requires.region.t c.args.slots.now c.requires.region.ready c.index-slots-last.result c.index-slots-last.is).1
 
 forks : (g : Over) (c : In-Fork g) → slice_get c.args.lines.now c.play_to_fork-playing.result.1 ≡ Some (fork_line c.in-Live.playing.me.number c.in-Fork.who.0)
 forks g c =
@@ -32,7 +36,7 @@ forks g c =
 parts : (g : Over) (c : In-Fork g) → Parted c.args.pkg.now c.args.lines.now c.play_to_fork-playing.result.1 c.in-Live.playing.me.number c.in-Fork.who.0 c.args.slots.now
 parts g c =
     let f = c.play_to_fork-playing.ensures.fork (low g c) in
-    at_fork c.args.pkg.now c.args.lines.now c.args.at c.play_to_fork-playing.result.1 c.args.slots.now c.requires.ready c.index-slots-last.result c.in-Live.playing _ f.0 c.in-Fork.who c.index-slots-last.is (live g c) c.play_to_fork-playing.ensures.none f.1 c.in-Fork.is
+    at_fork c.args.pkg.now c.args.lines.now c.in-Live.at c.play_to_fork-playing.result.1 c.args.slots.now (ready g c).1 c.index-slots-last.result c.in-Live.playing c.in-Live.at c.in-Live.at_gate _ f.0 c.in-Fork.who c.index-slots-last.is (live g c) c.play_to_fork-playing.ensures.none f.1 c.in-Fork.is
 
 pub width-width-requires : goal.width-width-requires
 width-width-requires g c =
@@ -89,6 +93,6 @@ returns-clause-forked g c =
     let parent = subst (λ (n : ℕ). IsPlaying p n (take (i + 1) xs) [] c.start-parent.result.0.numbers c.start-parent.result.0.me) c.play_to_fork-playing.ensures.playing.number c.start-parent.ensures.parent in
     let child = subst (λ (n : ℕ). IsPlaying p n (take (i + 1) xs) [] c.start-parent.result.1.numbers c.start-parent.result.1.me) other c.start-parent.ensures.child in
     let within = low g b.before in
-    are_forked p xs i t u c.args.slots.now d (i + 1) c.width-width.result (slot.Live c.start-parent.result.1) (slot.Live c.start-parent.result.0) _ refl (omega arith) (wide g b)
-    (filled p xs i t u c.args.slots.now d c.replace.new.dest c.replace-2.new.dest (slot.Live c.start-parent.result.1) (slot.Live c.start-parent.result.0) (length c.args.slots.now - 1) (c.width-width.result - 1) (last g b.before) (place g b))
-    child.number parent.number child parent
+    are_forked p xs i t u c.args.slots.now d (i + 1) c.width-width.result (slot.Live c.start-parent.result.1 (i + 1) true) (slot.Live c.start-parent.result.0 (i + 1) false) _ refl (omega arith) (wide g b)
+    (filled p xs i t u c.args.slots.now d c.replace.new.dest c.replace-2.new.dest (slot.Live c.start-parent.result.1 (i + 1) true) (slot.Live c.start-parent.result.0 (i + 1) false) (length c.args.slots.now - 1) (c.width-width.result - 1) (last g b.before) (place g b))
+    child.number parent.number (refl, child) (refl, parent)

@@ -2,7 +2,7 @@ use Rattle.std.proofs.Common.{◌≡◌, ◌-◌, ◌+◌, map, Some, sym, ap, �
 use Rattle.std.specs.Prelude.{slice_get}
 use Rattle.script_run.proofs.Putting.{number_at, none_more}
 use Rattle.script_run.specs.Slots.{slot_number}
-use Rattle.script_run.proofs.forked.width.Goals as goal
+use Rattle.script_run.proofs.cutting.width.Goals as goal
 
 pub returns-then-number-who-clause-at : goal.returns-then-number-who-clause-at
 returns-then-number-who-clause-at c =
