@@ -20,7 +20,7 @@ AreRead tree files = All (λ r. IsRead tree r.path r.file) files
 
 -- pieces are to be made of the lot: it has files, and enough of them or of their bytes, or no more are to come
 abbrev pub IsDue : Lot → Bool → Type 0
-IsDue lot last = (0 < vec_len lot.files) × (IsTrue last ⊎ (2048 ≤ vec_len lot.files) ⊎ (1048576 ≤ lot.bytes))
+IsDue lot last = (0 < vec_len lot.files) × (IsTrue last ⊎ (8192 ≤ vec_len lot.files) ⊎ (1048576 ≤ lot.bytes))
 
 -- the file of one of these lies at this path below the root
 pub record IsReadAt (root : Path) (files : List ReadFile) (path : Path) : Type 0 where

@@ -17,7 +17,7 @@ use word_index::{Batch, Piece};
 const MOST_BYTES: usize = 1_048_576;
 
 /// How many files are.
-const MOST_FILES: usize = 2048;
+const MOST_FILES: usize = 8192;
 
 /// A file that was read, with its whole path.
 #[derive(Drop)]

@@ -8,6 +8,10 @@ use Rattle.word_index.specs.Index.{Hit, Row, Index}
 abbrev pub word_line : Row → List ℕ
 word_line row = row.word ++ codes " " ++ decimal (length row.hits) ++ newline
 
+-- the same without its end
+abbrev pub word_start : Row → List ℕ
+word_start row = row.word ++ codes " " ++ decimal (length row.hits)
+
 -- how often a file has the word, and on which line first
 abbrev pub hit_front : ℕ → ℕ → List ℕ
 hit_front count line = codes "  " ++ decimal count ++ codes " " ++ decimal line ++ codes " "
@@ -15,6 +19,14 @@ hit_front count line = codes "  " ++ decimal count ++ codes " " ++ decimal line 
 -- a file that has the word: the count, the first line and the path
 abbrev pub hit_line : Hit → List ℕ
 hit_line hit = hit_front hit.count hit.line ++ escaped hit.path ++ newline
+
+-- the end of the line before, and what stands before the path
+abbrev pub hit_lead : ℕ → ℕ → List ℕ
+hit_lead count line = newline ++ hit_front count line
+
+-- a file's line without its end, behind the end of the line before
+abbrev pub hit_after : Hit → List ℕ
+hit_after hit = hit_lead hit.count hit.line ++ escaped hit.path
 
 abbrev pub row_text : Row → List ℕ
 row_text row = word_line row ++ flat_map hit_line row.hits

@@ -6,16 +6,14 @@ ghost use Rattle.firefly_outside.specs.Causes.{HasCause, AppendsFront};
 ghost use Rattle.word_index.specs.Index.{row_at, hit_at};
 ghost use Rattle.text_output.specs.Sent.{Puts};
 ghost use Rattle.index_print.specs.Plain.{ArePlain};
-ghost use Rattle.index_print.specs.Text.{word_line, hit_line, row_text, skipped_line, index_text};
+ghost use Rattle.index_print.specs.Text.{word_start, hit_after, row_text, skipped_line, index_text};
 
-use crate::front::{ROOM, write_front};
+use crate::front::put_lead;
 use firefly_outside::{Sink, SinkFault};
-use text_output::{
-    Held, flush, is_plain, put, put_known_path_line, put_path_line, put_with_number,
-};
+use text_output::{Held, flush, is_plain, put, put_known_path, put_path_line, put_with_number};
 use word_index::Piece;
 
-// Puts the line of a word.
+// Puts the line of a word, without its end.
 fn put_word<O: Sink>(
     held: &mut Held,
     piece: &Piece,
@@ -23,15 +21,15 @@ fn put_word<O: Sink>(
     out: &mut O,
 ) -> Result<(), SinkFault>
     requires { at < length piece.now.rows }
-    ensures text { Puts (O.held out.old) held.old.items (word_line (row_at piece.now at)) result (O.held out.new) held.new.items }
+    ensures text { Puts (O.held out.old) held.old.items (word_start (row_at piece.now at)) result (O.held out.new) held.new.items }
     ensures cause { HasCause (O.faults out.old) (O.faults out.new) result }
 {
     put(held, piece.word(at), out)?;
-    put_with_number(held, b" ", piece.hits(at) as u64, out)?;
-    put(held, b"\n", out)
+    put_with_number(held, b" ", piece.hits(at) as u64, out)
 }
 
-// Puts the line of a file that has a word.
+// Ends the line before, and puts the line of a file that has a word, without its end.
+#[inline(always)]
 fn put_hit<O: Sink>(
     held: &mut Held,
     piece: &Piece,
@@ -43,18 +41,16 @@ fn put_hit<O: Sink>(
     requires row { at < length piece.now.rows }
     requires hit { number < length (row_at piece.now at).hits }
     requires plain { IsTrue are_plain → ArePlain piece.now.paths }
-    ensures text { Puts (O.held out.old) held.old.items (hit_line (hit_at (row_at piece.now at) number)) result
+    ensures text { Puts (O.held out.old) held.old.items (hit_after (hit_at (row_at piece.now at) number)) result
         (O.held out.new) held.new.items }
     ensures cause { HasCause (O.faults out.old) (O.faults out.new) result }
 {
     let found = piece.hit(at, number);
-    let mut text = [0; ROOM];
-    let start = write_front(&mut text, found.count as u64, found.line as u64);
-    put(held, &text[start..], out)?;
-    put_known_path_line(held, found.path, are_plain, out)
+    put_lead(held, found.count, found.line, out)?;
+    put_known_path(held, found.path, are_plain, out)
 }
 
-// Puts the lines of the files that have a word.
+// Puts the lines of the files that have a word, each behind the end of the line before.
 fn put_hits<O: Sink>(
     held: &mut Held,
     piece: &Piece,
@@ -64,7 +60,7 @@ fn put_hits<O: Sink>(
 ) -> Result<(), SinkFault>
     requires row { at < length piece.now.rows }
     requires plain { IsTrue are_plain → ArePlain piece.now.paths }
-    ensures text { Puts (O.held out.old) held.old.items (flat_map hit_line (row_at piece.now at).hits) result
+    ensures text { Puts (O.held out.old) held.old.items (flat_map hit_after (row_at piece.now at).hits) result
         (O.held out.new) held.new.items }
     ensures cause { HasCause (O.faults out.old) (O.faults out.new) result }
 {
@@ -88,7 +84,8 @@ fn put_row<O: Sink>(
     ensures cause { HasCause (O.faults out.old) (O.faults out.new) result }
 {
     put_word(held, piece, at, out)?;
-    put_hits(held, piece, at, are_plain, out)
+    put_hits(held, piece, at, are_plain, out)?;
+    put(held, b"\n", out)
 }
 
 // Puts the line of a skipped file.

@@ -9,4 +9,5 @@ Sends told held piece told' held' = (sent : List ℕ) × Appends told told' sent
 
 -- the whole piece was sent or held, or a front of what was held and the piece was sent
 abbrev pub Puts : {E : Type 0} → Option (List ℕ) → List ℕ → List ℕ → Result (Unit {0}) E → Option (List ℕ) → List ℕ → Type 0
-Puts told held piece result told' held' = MatchResult result (λ _. Sends told held piece told' held') (λ _. AppendsFront told told' (held ++ piece))
+Puts told held piece result told' held' =
+    MatchResult result (λ _. Sends told held piece told' held') (λ _. AppendsFront told told' (held ++ piece))

@@ -27,7 +27,7 @@ pub fn flush<O: Sink>(held: &mut Held, out: &mut O) -> Result<(), SinkFault>
     }
 }
 
-// Puts what is held and then the piece.
+// Puts what is held, and holds the piece, or puts it too where it is longer than all that may be held.
 #[cold]
 #[inline(never)]
 fn put_both<O: Sink>(held: &mut Held, piece: &[u8], out: &mut O) -> Result<(), SinkFault>
@@ -35,11 +35,17 @@ fn put_both<O: Sink>(held: &mut Held, piece: &[u8], out: &mut O) -> Result<(), S
     ensures cause { HasCause (O.faults out.old) (O.faults out.new) result }
 {
     flush(held, out)?;
-    put_all(out, piece)
+    if piece.len() > 16384 - held.len() {
+        return put_all(out, piece);
+    }
+    match held.try_extend_from_slice(piece) {
+        Ok(()) => Ok(()),
+        Err(_) => unreachable!(),
+    }
 }
 
 /// Holds the piece, or puts what is held and the piece where there is no room.
-#[inline]
+#[inline(always)]
 pub fn put<O: Sink>(held: &mut Held, piece: &[u8], out: &mut O) -> Result<(), SinkFault>
     ensures text { Puts (O.held out.old) held.old.items piece.now result (O.held out.new) held.new.items }
     ensures cause { HasCause (O.faults out.old) (O.faults out.new) result }

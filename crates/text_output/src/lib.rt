@@ -12,4 +12,4 @@ mod paths;
 
 pub use held::{Held, flush, put, put_with_number};
 pub use line::push_with_number;
-pub use paths::{is_plain, print_path, put_known_path_line, put_path, put_path_line};
+pub use paths::{is_plain, print_path, put_known_path, put_path, put_path_line};

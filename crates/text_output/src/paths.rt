@@ -61,22 +61,22 @@ pub fn put_path_line<O: Sink>(held: &mut Held, path: &[u8], out: &mut O) -> Resu
     put(held, b"\n", out)
 }
 
-/// Puts a path as it stands on a line, and ends the line. The bytes of a path that is known to be plain aren't looked at.
-pub fn put_known_path_line<O: Sink>(
+/// Puts a path as it stands on a line. The bytes of a path that is known to be plain aren't looked at.
+#[inline(always)]
+pub fn put_known_path<O: Sink>(
     held: &mut Held,
     path: &[u8],
     is_known_plain: bool,
     out: &mut O,
 ) -> Result<(), SinkFault>
     requires known { IsTrue is_known_plain → list_all is_plain_byte path.now ≡ true }
-    ensures text { Puts (O.held out.old) held.old.items (escaped path.now ++ newline) result (O.held out.new) held.new.items }
+    ensures text { Puts (O.held out.old) held.old.items (escaped path.now) result (O.held out.new) held.new.items }
     ensures cause { HasCause (O.faults out.old) (O.faults out.new) result }
 {
     if is_known_plain {
-        put(held, path, out)?;
-        put(held, b"\n", out)
+        put(held, path, out)
     } else {
-        put_path_line(held, path, out)
+        put_path(held, path, out)
     }
 }
 

@@ -1,20 +1,21 @@
--- Maps of texts, seen as lists of paths.
-use Rattle.std.proofs.Common.{◌≡◌, ◌∙◌, Bool, true, false, List, [], ◌∷◌, ◌++◌, length, map, sym, ap, subst, refl, arith, suc, inl, inr, Contains}
-use Rattle.std.specs.Prelude.{None}
+-- What a walk has found, seen as lists of paths.
+use Rattle.std.proofs.Common.{◌≡◌, ◌∙◌, ℕ, ◌<◌, get_or, Bool, true, false, List, [], ◌∷◌, ◌++◌, length, drop, map, sym, ap, subst, refl, arith, suc, inl, inr, Contains}
+use Rattle.std.specs.Prelude.{None, Some, slice_get}
+use Rattle.std.specs.Option.{option_map}
+use Rattle.std.proofs.lemmas.Option.{slice_get-get_or, slice_get-map}
 use Rattle.std.specs.String.{string_bytes, string_eq}
 use Rattle.std.specs.declared.string.String.{String}
 use Rattle.std.specs.Str.{bytes_eq}
-use Rattle.std.specs.List.{list_any, AllByRecursion, IsDistinct}
+use Rattle.std.specs.List.{AllByRecursion, IsDistinct}
 use Rattle.std.specs.Map.{lookup, set_value, keys_of}
 use Rattle.std.proofs.lemmas.Bool.{cases_Bool}
 use Rattle.std.proofs.lemmas.Slice.Eq.{bytes_eq-Decides}
 use Rattle.std.proofs.Math.Bool.{or-true, or-false}
-use Rattle.std.proofs.Math.Seq.{get_or-append_seam}
+use Rattle.std.proofs.Math.Seq.{drop-append_seam, get_or-append_seam}
 use Rattle.std.proofs.lemmas.List.{get_or_append_left, append_assoc, length-append}
 use Rattle.std.proofs.lemmas.List.Elements.{Contains-append_cases, Contains-append_right}
-use Rattle.indexmap.specs.IndexSet.{insert_key}
-use Rattle.firefly_outside.specs.Trees.{Path}
-use Rattle.walker.specs.Found.{AreNew}
+use Rattle.firefly_outside.specs.Trees.{Path, child, slash}
+use Rattle.walker.specs.Found.{AreBelow, AreNew, IsBelow, name_in, names_in}
 use Rattle.walker.specs.Walk.{pairs_of, marked}
 
 -- an element at the front, and one behind it
@@ -31,17 +32,6 @@ absent-lookup (e ∷ es) k none = elim (cases_Bool (string_eq k e.0)) [
   | inl t ↦ absurd (none (subst (λ p. Contains (string_bytes e.0 ∷ map (λ d. d.0) (pairs_of es)) p) (sym ((bytes_eq-Decides (string_bytes k) (string_bytes e.0)).0 t)) (Contains-head _ _)))
   | inr f ↦ rw f (absent-lookup es k (λ h. none (Contains-tail _ _ _ h)))
 ]
-
-pub absent-any : {A : Type 0} (ks : List (String A)) (k : String A) → ¬ Contains (map string_bytes ks) (string_bytes k) → list_any (string_eq k) ks ≡ false
-absent-any [] k none = refl
-absent-any (x ∷ ks) k none = elim (cases_Bool (string_eq k x)) [
-  | inl t ↦ absurd (none (subst (λ p. Contains (string_bytes x ∷ map string_bytes ks) p) (sym ((bytes_eq-Decides (string_bytes k) (string_bytes x)).0 t)) (Contains-head _ _)))
-  | inr f ↦ rw f (absent-any ks k (λ h. none (Contains-tail _ _ _ h)))
-]
-
--- a key that isn't there goes last
-pub insert_key-new : {A : Type 0} (ks : List (String A)) (k : String A) → ¬ Contains (map string_bytes ks) (string_bytes k) → insert_key string_eq ks k ≡ ks ++ k ∷ []
-insert_key-new ks k none = rw (absent-any ks k none) refl
 
 pub pairs-push : {A : Type 0} (es : List (String A × Bool)) (k : String A) (b : Bool) → pairs_of (es ++ (k, b) ∷ []) ≡ pairs_of es ++ (string_bytes k, b) ∷ []
 pairs-push [] k b = refl
@@ -88,3 +78,28 @@ names-append (d ∷ pairs) front = ap (λ l. d.0 ∷ l) (names-append pairs fron
 -- the step of a loop that adds what is left
 pub more_left : {X : Type 0} (front : List X) (x : X) (rest all left : List X) → left ≡ x ∷ rest → front ++ left ≡ all → (front ++ x ∷ []) ++ rest ≡ all
 more_left front x rest all left is whole = append_assoc front (x ∷ []) rest ∙ ap (λ l. front ++ l) (sym is) ∙ whole
+
+-- a path below the root is its name below it
+pub name_of_child : (root name : Path) → name_in root (child root name) ≡ name
+name_of_child root name = ap (drop (length (root ++ slash ∷ []))) (sym (append_assoc root (slash ∷ []) name)) ∙ drop-append_seam (root ++ slash ∷ []) name
+
+pub whole_name : (root path : Path) → IsBelow root path → child root (name_in root path) ≡ path
+whole_name root path below = ap (child root) (ap (name_in root) below.1 ∙ name_of_child root below.0) ∙ sym below.1
+
+pub whole_names : (root : Path) (paths : List Path) → AreBelow root paths → map (child root) (names_in root paths) ≡ paths
+whole_names root [] below = refl
+whole_names root (p ∷ paths) below =
+    let here : child root (name_in root p) ≡ p = whole_name root p (below p (Contains-head p paths)) in
+    let more : map (child root) (names_in root paths) ≡ paths = whole_names root paths (λ q h. below q (Contains-tail p paths q h)) in
+    λ i. here i ∷ more i
+
+pub below_both : (root : Path) (was more : List Path) → AreBelow root was → AreBelow root more → AreBelow root (was ++ more)
+below_both root was more a b p h = elim (Contains-append_cases was more p h) [ inl k ↦ a p k | inr k ↦ b p k ]
+
+-- the name of the file at a place
+pub name_found : (root : Path) (files : List Path) (at : ℕ) (file name : Path) → at < length files → get_or files at file ≡ file → child root name ≡ file
+    → slice_get (names_in root files) at ≡ Some name
+name_found root files at file name within here is =
+    let there : slice_get files at ≡ Some file = slice_get-get_or files at file within ∙ ap (λ (p : Path). Some p) here in
+    let short : name_in root file ≡ name = ap (name_in root) (sym is) ∙ name_of_child root name in
+    slice_get-map (name_in root) files at ∙ ap (option_map (name_in root)) there ∙ ap (λ (p : Path). Some p) short

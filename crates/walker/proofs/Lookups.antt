@@ -1,17 +1,16 @@
 -- What looking up a path in the maps of a walk answers.
-use Rattle.std.proofs.Common.{◌≡◌, ◌≢◌, ◌∙◌, ◌↔◌, Bool, true, false, not, IsTrue, List, [], ◌∷◌, map, sym, ap, subst, refl, inl, inr, Contains}
-use Rattle.std.specs.Prelude.{Some, None}
+use Rattle.std.proofs.Common.{◌≡◌, ◌≢◌, ◌∙◌, ◌↔◌, Bool, true, false, not, IsTrue, ℕ, ◌<◌, ◌≤◌, length, arith, List, [], ◌∷◌, map, sym, ap, subst, refl, inl, inr, Contains}
+use Rattle.std.specs.Prelude.{Some, None, slice_get}
 use Rattle.std.specs.String.{string_bytes}
 use Rattle.std.specs.declared.string.String.{String}
-use Rattle.std.specs.Str.{bytes_eq, IsUtf8}
-use Rattle.std.specs.List.{list_any}
+use Rattle.std.specs.Str.{bytes_eq}
 use Rattle.std.specs.Map.{lookup}
 use Rattle.std.proofs.lemmas.Bool.{cases_Bool}
 use Rattle.std.proofs.lemmas.Slice.Eq.{bytes_eq-Decides}
-use Rattle.std.proofs.lemmas.Str.{IsUtf8-string_bytes}
+use Rattle.std.proofs.lemmas.Option.{slice_get_within, get_or_from_slice_get, slice_get-get_or}
 use Rattle.firefly_outside.specs.Trees.{Path}
 use Rattle.walker.specs.Walk.{pairs_of}
-use Rattle.walker.proofs.ListLemmas.{Distinct, Contains-head, Contains-tail, Contains-nil, Contains-cons_cases, Contains-map, Contains-unmap, All-at, AllPairs-head, AllPairs-tail}
+use Rattle.walker.proofs.ListLemmas.{Distinct, Contains-head, Contains-tail, Contains-nil, Contains-cons_cases, Contains-map, All-at, AllPairs-head, AllPairs-tail}
 
 -- a test is not both
 pub never : {P : Type 0} → false ≡ true → P
@@ -42,29 +41,6 @@ entry_at (e ∷ es) dir b once h = elim (Contains-cons_cases _ _ _ h) [
   ]
 ]
 
--- a name that is found is that of a file
-pub file_from : {A : Type 0} (ks : List (String A)) (name : Path) → list_any (λ k. bytes_eq name (string_bytes k)) ks ≡ true → Contains (map string_bytes ks) name
-file_from [] name h = absurd (let bad : false ≡ true = h in cc)
-file_from (k ∷ ks) name h = elim (cases_Bool (bytes_eq name (string_bytes k))) [
-  | inl t ↦ subst (λ (p : Path). Contains (map string_bytes (k ∷ ks)) p) (sym ((bytes_eq-Decides name (string_bytes k)).0 t)) (Contains-head _ _)
-  | inr f ↦ (let rest = rw f at h in Contains-tail _ _ _ (file_from ks name rest))
-]
-
--- the name of a file is found
-pub file_at : {A : Type 0} (ks : List (String A)) (name : Path) → Contains (map string_bytes ks) name → list_any (λ k. bytes_eq name (string_bytes k)) ks ≡ true
-file_at [] name h = absurd (Contains-nil _ h)
-file_at (k ∷ ks) name h = elim (cases_Bool (bytes_eq name (string_bytes k))) [
-  | inl t ↦ rw t refl
-  | inr f ↦ elim (Contains-cons_cases _ _ _ h) [
-    | inl is ↦ (let t : bytes_eq name (string_bytes k) ≡ true = (bytes_eq-Decides name (string_bytes k)).1 (sym is) in cc)
-    | inr later ↦ rw f (file_at ks name later)
-  ]
-]
-
--- the name of a file is text
-pub file_text : {A : Type 0} (ks : List (String A)) (name : Path) → Contains (map string_bytes ks) name → IsUtf8 name
-file_text ks name h = let o = Contains-unmap string_bytes ks name h in subst IsUtf8 o.is (IsUtf8-string_bytes o.origin)
-
 -- what the map says of a directory that is found, and of one that isn't
 pub unlisted_some : {A : Type 0} (es : List (String A × Bool)) (dir : Path) (b : Bool) → Distinct (map (λ d. d.0) (pairs_of es)) → Some b ≡ lookup (λ k. bytes_eq dir (string_bytes k)) es → IsTrue (not b) ↔ Contains (pairs_of es) (dir, false)
 unlisted_some es dir false once is = ((λ yes. entry_from es dir false (sym is)), (λ here. refl))
@@ -73,9 +49,11 @@ unlisted_some es dir true once is = ((λ no. absurd (cc)), (λ here. let at : lo
 pub unlisted_none : {A : Type 0} (es : List (String A × Bool)) (dir : Path) → Distinct (map (λ d. d.0) (pairs_of es)) → None ≡ lookup (λ k. bytes_eq dir (string_bytes k)) es → IsTrue false ↔ Contains (pairs_of es) (dir, false)
 unlisted_none es dir once is = ((λ no. absurd (cc)), (λ here. let at : lookup (λ k. bytes_eq dir (string_bytes k)) es ≡ Some false = entry_at es dir false once here in let bad : None ≡ Some false = is ∙ at in absurd (cc)))
 
--- what the set of files says of a name that is text
-pub file_text_is : {A : Type 0} (ks : List (String A)) (name text : Path) (b : Bool) → text ≡ name → b ≡ list_any (λ k. bytes_eq text (string_bytes k)) ks → IsTrue b ↔ Contains (map string_bytes ks) name
-file_text_is ks name text b same is = (
-  (λ yes. subst (λ (p : Path). Contains (map string_bytes ks) p) same (file_from ks text (sym is ∙ yes))),
-  (λ here. is ∙ file_at ks text (subst (λ (p : Path). Contains (map string_bytes ks) p) (sym same) here)),
-)
+-- a path at a place is among the others, and one that is at none isn't
+pub found_at : (files : List Path) (at : ℕ) (file name : Path) → slice_get files at ≡ Some file → bytes_eq file name ≡ true → Contains files name
+found_at files at file name here same =
+    let is : file ≡ name = (bytes_eq-Decides file name).0 same in
+    subst (Contains files) is (at, slice_get_within files at file here, get_or_from_slice_get files at file file here)
+
+pub none_below : (files : List Path) (at : ℕ) (name : Path) → length files ≤ at → ((k : ℕ) → k < at → slice_get files k ≡ Some name → ⊥) → Contains files name → ⊥
+none_below files at name all none h = none h.0 (let within = h.1 in omega arith) (slice_get-get_or files h.0 name h.1 ∙ ap (λ (x : Path). Some x) h.2)

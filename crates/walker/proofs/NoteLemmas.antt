@@ -137,11 +137,6 @@ pub is_new : (root name : Path) (dirs : List (Path × Bool)) (files : List Path)
     → new_walk root ≡ record { root = name; dirs = dirs; files = files }
 is_new root name dirs files e f g = λ i. record { root = sym e i; dirs = sym f i; files = sym g i }
 
--- texts as paths, and these below a root
-pub map-below : {A : Type 0} (root : Path) (ss : List (String A)) → map (child root) (map string_bytes ss) ≡ map (λ s. child root (string_bytes s)) ss
-map-below root [] = refl
-map-below root (s ∷ ss) = ap (λ l. child root (string_bytes s) ∷ l) (map-below root ss)
-
 -- the lists of a walk after the steps that note a listing
 pub is_noted : (root dir : Path) (before marks after : List (Path × Bool)) (was now dirs names : List Path) → marks ≡ marked dir before → after ≡ marks ++ map (λ p. (p, false)) dirs → now ≡ was ++ names
     → noted (record { root = root; dirs = before; files = was }) dir dirs names ≡ record { root = root; dirs = after; files = now }

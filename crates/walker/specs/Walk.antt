@@ -5,7 +5,7 @@ use Rattle.std.specs.Bool.{nat_eq}
 use Rattle.std.specs.String.{string_bytes}
 use Rattle.std.specs.declared.string.String.{String}
 use Rattle.indexmap.specs.IndexMap.{IndexMap}
-use Rattle.indexmap.specs.IndexSet.{IndexSet}
+use Rattle.walker.specs.Found.{names_in}
 use Rattle.firefly_outside.specs.Trees.{Path, Told, Directory, child, IsChild}
 use Rattle.firefly_outside.specs.declared.tree.Entry.{Entry}
 use Rattle.firefly_outside.specs.declared.tree.Kind.{Kind}
@@ -21,13 +21,13 @@ pub record Walk : Type 0 where
 abbrev pub pairs_of : {A : Type 0} → List (String A × Bool) → List (Path × Bool)
 pairs_of es = map (λ e. (string_bytes e.0, e.1)) es
 
--- the walk that a root's path, a map of directories and a set of files are
-abbrev pub walk_at : {A S Z : Type 0} → Path → IndexMap (String A) Bool S → IndexSet (String A) Z → Walk
-walk_at root dirs files = record { root = root; dirs = pairs_of dirs.entries; files = map string_bytes files.keys }
+-- the walk that a root's path, a map of directories and the whole paths of files are
+abbrev pub walk_at : {A S : Type 0} → Path → IndexMap (String A) Bool S → List Path → Walk
+walk_at root dirs files = record { root = root; dirs = pairs_of dirs.entries; files = names_in root files }
 
--- the walk that a root, a map of directories and a set of files are
-abbrev pub walk_of : {A S Z : Type 0} → String A → IndexMap (String A) Bool S → IndexSet (String A) Z → Walk
-walk_of root dirs files = record { root = string_bytes root; dirs = pairs_of dirs.entries; files = map string_bytes files.keys }
+-- the walk that a root, a map of directories and the whole paths of files are
+abbrev pub walk_of : {A S : Type 0} → String A → IndexMap (String A) Bool S → List Path → Walk
+walk_of root dirs files = walk_at (string_bytes root) dirs files
 
 -- the directories found
 abbrev pub dirs_of : Walk → List Path

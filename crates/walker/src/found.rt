@@ -1,20 +1,19 @@
-//! The maps of what a walk has found.
-ghost use Rattle.std.specs.Prelude.{◌≡◌, ◌≢◌, ◌↔◌, ◌++◌, ◌∷◌, [], ◌+◌, ◌≤◌, ◌<◌, ℕ, false, List, length, map, IfOk, OnOk, IsTrue, Contains, AllPairs, vec_len};
+//! What a walk has found: a map of directories, and the whole paths of files.
+ghost use Rattle.std.specs.Prelude.{◌≡◌, ◌≢◌, ◌↔◌, ◌++◌, ◌∷◌, [], ◌+◌, ◌≤◌, ◌<◌, ℕ, false, List, length, map, IfOk, OnOk, IsTrue, Contains, AllPairs, vec_len, vec_capacity, slice_get, Some};
 ghost use Rattle.std.specs.String.{string_bytes};
-ghost use Rattle.indexmap.specs.IndexMap.{spare as map_spare, IsUnchanged as SameMap};
-ghost use Rattle.indexmap.specs.IndexSet.{spare as set_spare, IsUnchanged as SameSet};
+ghost use Rattle.indexmap.specs.IndexMap.{spare as map_spare};
 ghost use Rattle.firefly_outside.specs.Trees.{Path, child};
 ghost use Rattle.walker.specs.Walk.{pairs_of, marked};
-ghost use Rattle.walker.specs.Found.{IsBelow, AreBelow, AreNew};
+ghost use Rattle.walker.specs.Found.{IsBelow, AreBelow, AreNew, names_in};
 
 use crate::paths::below;
 use firefly_outside::Text;
-use indexmap::{IndexMap, IndexSet};
+use indexmap::IndexMap;
 use std::alloc::{AllocError, Global};
 
 pub type Dirs = IndexMap<String, bool>;
 
-pub type Files = IndexSet<String>;
+pub type Files = Vec<Text>;
 
 // The path without the root and the slash behind it.
 fn name_below<'a>(root: &str, path: &'a str) -> &'a str
@@ -27,17 +26,13 @@ fn name_below<'a>(root: &str, path: &'a str) -> &'a str
     }
 }
 
-/// The paths without the root and the slash behind it.
-pub fn names_below(alloc: Global, root: &str, files: &Vec<Text>) -> Result<Vec<String>, AllocError>
-    requires { AreBelow root.now files.now.items }
-    ensures { IfOk result (λ v. map (λ s. child root.now (string_bytes s)) v.items ≡ files.now.items) }
+/// The path below the root of the file at this place.
+pub fn name_at<'a>(root: &str, files: &'a Files, at: usize) -> &'a str
+    requires within { at < length files.now.items }
+    requires below { AreBelow root.now files.now.items }
+    ensures { slice_get (names_in root.now files.now.items) at ≡ Some result.now }
 {
-    let mut names = Vec::with_capacity(alloc, files.len())?;
-    for file in files {
-        let name = String::from_str(alloc, name_below(root, file.as_str()))?;
-        names.push_reserved(name);
-    }
-    Ok(names)
+    name_below(root, files[at].as_str())
 }
 
 /// Marks the directory as listed.
@@ -62,14 +57,17 @@ pub fn has_unlisted(dirs: &Dirs, dir: &str) -> bool
     }
 }
 
-/// Whether a file of these bytes for its name was found. What is no text is the name of none.
-pub fn has_file(files: &Files, name: &[u8]) -> bool
-    ensures { IsTrue result ↔ Contains (map string_bytes files.now.keys) name.now }
+/// Whether a file of these bytes for its name was found. It looks at one after the other.
+pub fn has_file(root: &str, files: &Files, name: &[u8]) -> bool
+    requires { AreBelow root.now files.now.items }
+    ensures { IsTrue result ↔ Contains (names_in root.now files.now.items) name.now }
 {
-    match str::from_utf8(name) {
-        Ok(name) => files.contains(name),
-        Err(_) => false,
+    for at in 0..files.len() {
+        if name_at(root, files, at).as_bytes() == name {
+            return true;
+        }
     }
+    false
 }
 
 /// The map of the root alone, which isn't listed.
@@ -113,26 +111,12 @@ pub fn add_dirs(dirs: &mut Dirs, more: Vec<Text>)
     }
 }
 
-// Adds a file for which there is room.
-fn add_file(files: &mut Files, file: String)
-    requires room { 0 < set_spare files.old }
-    requires new { ¬ Contains (map string_bytes files.old.keys) (string_bytes file) }
-    ensures added { map string_bytes files.new.keys ≡ map string_bytes files.old.keys ++ string_bytes file ∷ [] }
-    ensures spare { set_spare files.old ≤ set_spare files.new + 1 }
-{
-    match files.insert(file) {
-        Ok(_) => {}
-        Err(_) => unreachable!(),
-    }
-}
-
 /// Adds files for which there is room.
-pub fn add_files(files: &mut Files, more: Vec<String>)
-    requires room { vec_len more ≤ set_spare files.old }
-    requires new { AreNew (map string_bytes files.old.keys) (map string_bytes more.items) }
-    ensures { map string_bytes files.new.keys ≡ map string_bytes files.old.keys ++ map string_bytes more.items }
+pub fn add_files(files: &mut Files, more: Vec<Text>)
+    requires { vec_len files.old + vec_len more ≤ vec_capacity files.old }
+    ensures { files.new.items ≡ files.old.items ++ more.items }
 {
     for file in more {
-        add_file(files, file);
+        files.push_reserved(file);
     }
 }

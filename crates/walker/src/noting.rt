@@ -1,61 +1,51 @@
-//! The listing of a directory is put into the maps of a walk.
-ghost use Rattle.std.specs.Prelude.{◌≡◌, ◌≤◌, IfOk, IfErr, OnOk, map, vec_len};
-ghost use Rattle.std.specs.String.{string_bytes};
+//! The listing of a directory is put into what a walk has found.
+ghost use Rattle.std.specs.Prelude.{◌≡◌, ◌≤◌, ◌+◌, IfErr, OnOk, vec_len, vec_capacity};
 ghost use Rattle.indexmap.specs.IndexMap.{spare as map_spare};
-ghost use Rattle.indexmap.specs.IndexSet.{spare as set_spare};
-ghost use Rattle.firefly_outside.specs.Trees.{Told, child};
+ghost use Rattle.firefly_outside.specs.Trees.{Told};
 ghost use Rattle.walker.specs.Walk.{IsSound, IsUnlisted, IsWalkOf, walk_at};
 ghost use Rattle.walker.specs.Listings.{IsListingOf, IsToldBy, Notes};
 ghost use Rattle.walker.specs.Found.{AreBelow};
 
 use crate::Listing;
-use crate::found::{Dirs, Files, add_dirs, add_files, mark, names_below};
-use std::alloc::{AllocError, Global};
+use crate::found::{Dirs, Files, add_dirs, add_files, mark};
+use std::alloc::AllocError;
 
 /// Takes a listing of a directory. Where memory wants, the listing comes back and nothing changes.
 pub fn note_in(
-    alloc: Global,
     root: &str,
     dirs: &mut Dirs,
     files: &mut Files,
     dir: &str,
     listing: Listing,
 ) -> Result<(), Listing>
-    requires sound { IsSound (walk_at root.now dirs.old files.old) }
-    requires unlisted { IsUnlisted (walk_at root.now dirs.old files.old) dir.now }
+    requires below { AreBelow root.now files.old.items }
+    requires sound { IsSound (walk_at root.now dirs.old files.old.items) }
+    requires unlisted { IsUnlisted (walk_at root.now dirs.old files.old.items) dir.now }
     requires lawful { IsListingOf dir.now listing }
-    ensures ok { OnOk result (Notes (walk_at root.now dirs.old files.old) (walk_at root.now dirs.new files.new) dir.now listing) }
-    ensures err { IfErr result (λ l. (l ≡ listing) × (walk_at root.now dirs.new files.new ≡ walk_at root.now dirs.old files.old)) }
-    ensures sound { IsSound (walk_at root.now dirs.new files.new) }
-    ensures told { OnOk result ((t : Told) → IsWalkOf (walk_at root.now dirs.old files.old) t → IsToldBy t dir.now listing
-        → IsWalkOf (walk_at root.now dirs.new files.new) t) }
+    ensures ok { OnOk result (Notes (walk_at root.now dirs.old files.old.items) (walk_at root.now dirs.new files.new.items) dir.now listing) }
+    ensures err { IfErr result (λ l. (l ≡ listing) × (walk_at root.now dirs.new files.new.items ≡ walk_at root.now dirs.old files.old.items)) }
+    ensures below { AreBelow root.now files.new.items }
+    ensures sound { IsSound (walk_at root.now dirs.new files.new.items) }
+    ensures told { OnOk result ((t : Told) → IsWalkOf (walk_at root.now dirs.old files.old.items) t → IsToldBy t dir.now listing
+        → IsWalkOf (walk_at root.now dirs.new files.new.items) t) }
 {
-    let Ok(names) = room_for(alloc, root, dirs, files, &listing) else {
+    let Ok(()) = room_for(dirs, files, &listing) else {
         return Err(listing);
     };
     mark(dirs, dir);
     add_dirs(dirs, listing.dirs);
-    add_files(files, names);
+    add_files(files, listing.files);
     Ok(())
 }
 
-// The paths of the listing's files below the root, and room for all that it tells. What the maps hold stays.
-fn room_for(
-    alloc: Global,
-    root: &str,
-    dirs: &mut Dirs,
-    files: &mut Files,
-    listing: &Listing,
-) -> Result<Vec<String>, AllocError>
-    requires { AreBelow root.now listing.now.files.items }
-    ensures names { IfOk result (λ v. map (λ s. child root.now (string_bytes s)) v.items ≡ listing.now.files.items) }
+// Room for all that the listing tells. What was found stays.
+fn room_for(dirs: &mut Dirs, files: &mut Files, listing: &Listing) -> Result<(), AllocError>
     ensures dirs_stay { dirs.new.entries ≡ dirs.old.entries }
-    ensures files_stay { files.new.keys ≡ files.old.keys }
+    ensures files_stay { files.new.items ≡ files.old.items }
     ensures dirs_room { OnOk result (vec_len listing.now.dirs ≤ map_spare dirs.new) }
-    ensures files_room { OnOk result (vec_len listing.now.files ≤ set_spare files.new) }
+    ensures files_room { OnOk result (vec_len files.new + vec_len listing.now.files ≤ vec_capacity files.new) }
 {
-    let names = names_below(alloc, root, &listing.files)?;
     dirs.reserve(listing.dirs.len())?;
     files.reserve(listing.files.len())?;
-    Ok(names)
+    Ok(())
 }

@@ -5,7 +5,7 @@ ghost use Rattle.walker.specs.Walk.{new_walk, IsUnlisted, IsWalkOf, IsSound};
 ghost use Rattle.walker.specs.Listings.{IsListingOf, IsToldBy, Notes};
 
 use crate::Listing;
-use crate::found::{Dirs, Files, first_dirs, has_file, has_unlisted};
+use crate::found::{Dirs, Files, first_dirs, has_file, has_unlisted, name_at};
 use crate::noting::note_in;
 use std::alloc::{AllocError, Global};
 use std::marker::Model;
@@ -14,22 +14,21 @@ use word_index::Piece;
 /// The directories found, those of them that were listed, and the files found.
 #[derive(Drop)]
 pub struct Walked {
-    alloc: Global,
     root: String,
     dirs: Dirs,
     files: Files,
 }
 
 impl Model for Walked {
-    ghost use Rattle.std.specs.Prelude.{map};
     ghost use Rattle.std.specs.String.{string_bytes};
     ghost use Rattle.walker.specs.Walk.{Walk, IsSound, walk_of};
+    ghost use Rattle.walker.specs.Found.{AreBelow};
 
     ghost Value = { Walk };
 
-    ghost view = { λ w. walk_of w.root w.dirs w.files };
+    ghost view = { λ w. walk_of w.root w.dirs w.files.items };
 
-    ghost invariant = { λ w. IsSound (walk_of w.root w.dirs w.files) };
+    ghost invariant = { λ w. IsSound (walk_of w.root w.dirs w.files.items) × AreBelow (string_bytes w.root) w.files.items };
 }
 
 impl Walked {
@@ -41,10 +40,9 @@ impl Walked {
         let name = String::from_str(alloc, root)?;
         let dirs = first_dirs(alloc, root)?;
         Ok(Walked {
-            alloc,
             root: name,
             dirs,
-            files: Files::new(alloc),
+            files: Vec::new(alloc),
         })
     }
 
@@ -71,12 +69,12 @@ impl Walked {
         has_unlisted(&self.dirs, dir)
     }
 
-    /// Whether each path that the piece covers is that of a file found.
+    /// Whether each path that the piece covers is that of a file found. Each is looked for among all.
     pub fn all_found(&self, piece: &Piece) -> bool
         ensures { IsTrue result ↔ ((p : Path) → Contains piece.now.paths p → Contains self.now.files p) }
     {
         for at in 0..piece.files() as usize {
-            if !has_file(&self.files, piece.path(at)) {
+            if !has_file(self.root.as_str(), &self.files, piece.path(at)) {
                 return false;
             }
         }
@@ -94,7 +92,6 @@ impl Walked {
         ensures told { OnOk result ((t : Told) → IsWalkOf self.old t → IsToldBy t dir.now listing → IsWalkOf self.new t) }
     {
         note_in(
-            self.alloc,
             self.root.as_str(),
             &mut self.dirs,
             &mut self.files,
@@ -120,10 +117,7 @@ impl Walked {
         requires { at < length self.now.files }
         ensures { slice_get self.now.files at ≡ Some result.now }
     {
-        match self.files.get_index(at) {
-            Some(name) => name.as_str(),
-            None => unreachable!(),
-        }
+        name_at(self.root.as_str(), &self.files, at)
     }
 
     /// The root.

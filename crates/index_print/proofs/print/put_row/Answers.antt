@@ -1,11 +1,35 @@
-use Rattle.text_output.proofs.Pieces.{puts_then, puts_failed, front_of_two}
+use Rattle.std.proofs.Common.{◌++◌}
+use Rattle.std.specs.List.{flat_map}
+use Rattle.text_output.specs.Paths.{newline}
+use Rattle.text_output.proofs.Fronts.{sends_then, fails_then}
+use Rattle.text_output.proofs.Pieces.{puts_then, puts_failed, front_of_two, front_of_three}
+use Rattle.word_index.specs.Index.{row_at}
+use Rattle.index_print.specs.Text.{hit_after, word_start}
+use Rattle.index_print.proofs.Written.{ends_moved}
 use Rattle.index_print.proofs.print.put_row.Goals as goal
 
 pub returns-in_err-put_word-clause-text : goal.returns-in_err-put_word-clause-text
 returns-in_err-put_word-clause-text g c =
-    puts_failed c.from_residual.result (g.O.Sink.held c.args.out.now) _ c.args.held.now.items _ _ c.from_residual.ensures.0
-    (front_of_two (g.O.Sink.held c.args.out.now) _ c.args.held.now.items _ _ c.in_err-put_word.ensures.text)
+    let told = g.O.Sink.held c.args.out.now in
+    let held = c.args.held.now.items in
+    let row = row_at c.args.piece.now c.args.at in
+    rw (← ends_moved (word_start row) row.hits) (puts_failed c.from_residual.result told _ held _ _ c.from_residual.ensures.0
+    (front_of_three told _ held (word_start row) (flat_map hit_after row.hits) newline c.in_err-put_word.ensures.text))
+
+pub returns-in_err-put_hits-clause-text : goal.returns-in_err-put_hits-clause-text
+returns-in_err-put_hits-clause-text g c =
+    let told = g.O.Sink.held c.args.out.now in
+    let held = c.args.held.now.items in
+    let row = row_at c.args.piece.now c.args.at in
+    rw (← ends_moved (word_start row) row.hits) (puts_failed c.from_residual-in_err-put_hits.result told _ held _ _ c.from_residual-in_err-put_hits.ensures.0
+    (front_of_two told _ held (word_start row ++ flat_map hit_after row.hits) newline
+    (fails_then told _ _ held _ (word_start row) (flat_map hit_after row.hits) c.in_ok-put_word.ensures.text c.in_err-put_hits.ensures.text)))
 
 pub returns-clause-text : goal.returns-clause-text
 returns-clause-text g c =
-    puts_then c.put_hits.result (g.O.Sink.held c.args.out.now) _ _ c.args.held.now.items _ _ _ _ c.in_ok-put_word.ensures.text c.put_hits.ensures.text
+    let told = g.O.Sink.held c.args.out.now in
+    let held = c.args.held.now.items in
+    let row = row_at c.args.piece.now c.args.at in
+    rw (← ends_moved (word_start row) row.hits)
+    (puts_then c.put.result told _ _ held _ _ (word_start row ++ flat_map hit_after row.hits) newline
+    (sends_then told _ _ held _ _ (word_start row) (flat_map hit_after row.hits) c.in_ok-put_word.ensures.text c.in_ok-put_hits.ensures.text) c.put.ensures.text)
