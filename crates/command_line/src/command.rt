@@ -7,6 +7,7 @@ ghost use Rattle.command_line.specs.Tasks.{task_of};
 use crate::options::read_options;
 use decimal_numbers::read_number;
 use std::alloc::Global;
+use thiserror::Error;
 
 /// What follows `index` or `trace`. The directory is lent by the words.
 #[derive(Clone, Copy, Debug, PartialEq)]
@@ -33,9 +34,11 @@ pub enum Command<'a> {
 }
 
 /// Why words were not read: they say no command, or memory ran out.
-#[derive(Clone, Copy, Debug, PartialEq)]
+#[derive(Clone, Copy, Debug, PartialEq, Error)]
 pub enum WordsFault {
+    #[error("the words are no command")]
     Usage,
+    #[error("out of memory")]
     Memory,
 }
 

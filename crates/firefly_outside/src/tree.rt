@@ -5,6 +5,7 @@ ghost use Rattle.firefly_outside.specs.Trees.{IsShown};
 
 use crate::Text;
 use std::alloc::{AllocError, Global};
+use thiserror::Error;
 
 /// A child of a directory.
 #[derive(Debug, Drop)]
@@ -39,9 +40,11 @@ pub struct FileBytes {
 }
 
 /// Why a tree doesn't answer.
-#[derive(Clone, Copy, Debug, PartialEq, Eq)]
+#[derive(Clone, Copy, Debug, PartialEq, Eq, Error)]
 pub enum TreeError {
+    #[error("out of memory")]
     Memory,
+    #[error("the path could not be read")]
     Failed,
 }
 

@@ -86,7 +86,8 @@ HeadReason rest left' before now fault =
 abbrev pub LineFault : Layout → List Line → Option (List ℕ) → Option (List ℕ) → ℕ → ℕ → ScriptFault → Type 0
 LineFault l xs rest left' before now Memory = Unit {0}
 LineFault l xs rest left' before now (BadLine k) =
-    (k ≡ head_lines l.version + length xs + 1) × IfSome rest (λ bytes. FirstIsNone (NoneIs l xs) bytes × (head_lines l.version + length xs ≡ 100000 → bytes ≡ []) × (bytes ≡ [] → AllFree (held_after none_held xs) → ⊥))
+    (k ≡ head_lines l.version + length xs + 1) × IfSome rest (λ bytes. FirstIsNone (NoneIs l xs) bytes
+    × (head_lines l.version + length xs ≡ 100000 → bytes ≡ []) × (bytes ≡ [] → AllFree (held_after none_held xs) → ⊥))
 LineFault l xs rest left' before now TooLong = (head_lines l.version + length xs ≡ 100000) × IfSome rest (λ bytes. 0 < length bytes)
 LineFault l xs rest left' before now Read =
     (given : List ℕ) × BreaksOff rest left' before now given × (head_lines l.version + length xs ≡ 100000 → given ≡ [])

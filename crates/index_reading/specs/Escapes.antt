@@ -14,5 +14,6 @@ Unescapes bytes out Broken = (path_of bytes ≡ None) × (front_of bytes ≡ Non
 -- what the next byte does, whatever follows it
 abbrev pub IsStep : Bool → ℕ → Step → Type 0
 IsStep pending b Wait = (end : Option (List ℕ)) (rest : List ℕ) → unescaped end pending (b ∷ rest) ≡ unescaped end true rest
-IsStep pending b (Put byte) = (end : Option (List ℕ)) (rest : List ℕ) → unescaped end pending (b ∷ rest) ≡ put byte (unescaped end false rest)
+IsStep pending b (Put byte) =
+    (end : Option (List ℕ)) (rest : List ℕ) → unescaped end pending (b ∷ rest) ≡ put byte (unescaped end false rest)
 IsStep pending b Fail = (end : Option (List ℕ)) (rest : List ℕ) → unescaped end pending (b ∷ rest) ≡ None

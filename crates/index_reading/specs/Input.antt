@@ -9,7 +9,8 @@ use Rattle.index_reading.specs.Faults.{budget, HasReason}
 
 -- what the source gave next was added, or it has ended, or the call failed
 abbrev pub Takes : Option (List ℕ) → Option (List ℕ) → ℕ → ℕ → List ℕ → List ℕ → Result Bool IndexFault → Type 0
-Takes left left' before now old new (Ok true) = (piece : List ℕ) × Consumes left left' piece × (0 < length piece) × (new ≡ old ++ piece) × (now ≡ before)
+Takes left left' before now old new (Ok true) =
+    (piece : List ℕ) × Consumes left left' piece × (0 < length piece) × (new ≡ old ++ piece) × (now ≡ before)
 Takes left left' before now old new (Ok false) = Keeps left left' × IsAtEnd left' × (new ≡ old) × (now ≡ before)
 Takes left left' before now old new (Err Read) = Rose before now
 Takes left left' before now old new (Err Memory) = Unit {0}

@@ -17,11 +17,13 @@ pub record AreFiles (files : List File) : Type 0 where
 
 -- the text of an index of files reads as its rows and skipped paths
 abbrev pub IndexTextsAreRead : Type 0
-IndexTextsAreRead = (files : List File) (index : Index) → AreFiles files → IsIndexOf files index → ReadsAs (index_text index) index.rows index.skipped
+IndexTextsAreRead =
+    (files : List File) (index : Index) → AreFiles files → IsIndexOf files index → ReadsAs (index_text index) index.rows index.skipped
 
 -- a text reads as one index only
 abbrev pub TextsReadAsOne : Type 0
-TextsReadAsOne = (bytes : List ℕ) (rs qs : List Row) (ps ss : List (List ℕ)) → ReadsAs bytes rs ps → ReadsAs bytes qs ss → (rs ≡ qs) × (ps ≡ ss)
+TextsReadAsOne =
+    (bytes : List ℕ) (rs qs : List Row) (ps ss : List (List ℕ)) → ReadsAs bytes rs ps → ReadsAs bytes qs ss → (rs ≡ qs) × (ps ≡ ss)
 
 -- where each row has fewer files than 2 to the power of 64, the text is the one that is printed
 abbrev pub TextsArePrinted : Type 0

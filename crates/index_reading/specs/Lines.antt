@@ -38,7 +38,8 @@ is_good_word last word = nat_lt 0 (length word) && nat_le (length word) 64 && is
 abbrev pub may_be_word : Option (List ℕ) → List ℕ → Bool
 may_be_word None word = nat_le (length word) 64
 may_be_word (Some last) word = nat_le (length word) 64
-    && (is_lt (slice_cmp nat_cmp last word) || (is_front word last && (nat_lt (length last) 64 || list_any (λ b. nat_lt b 122) (drop (length word) last))))
+    && (is_lt (slice_cmp nat_cmp last word) || (is_front word last && (nat_lt (length last) 64 || list_any (λ b. nat_lt b 122)
+    (drop (length word) last))))
 
 -- a word above the last one, and the space behind it
 abbrev pub key_at : Option (List ℕ) → Reader (List ℕ)
@@ -97,7 +98,8 @@ plain bytes = unwrap_or (path_of bytes) []
 
 -- a path above the last one, and the end of its line
 abbrev pub path_at : Option (List ℕ) → Reader (List ℕ)
-path_at last = as_value plain (token_from is_no_newline (λ bytes. is_path last (path_of bytes)) (λ bytes. is_path_front last (front_of bytes)) 10 [])
+path_at last =
+    as_value plain (token_from is_no_newline (λ bytes. is_path last (path_of bytes)) (λ bytes. is_path_front last (front_of bytes)) 10 [])
 
 abbrev pub figure_at : ℕ → Reader ℕ
 figure_at stop = number_at 1 (2 ^ 64) stop

@@ -53,12 +53,15 @@ halt_of Dead line = halts.Bad line
 
 -- the line of a file was taken
 abbrev pub TakesHit : Drafted → Drafted → List ℕ → Result (Bor (List ℕ)) Stop → Type 0
-TakesHit old new bytes (Ok rest) = (hit : Hit) × (hit_at (last_path old) bytes ≡ Ok (hit, rest.now)) × (new ≡ record old { hits = old.hits ++ hit ∷ [] })
+TakesHit old new bytes (Ok rest) =
+    (hit : Hit) × (hit_at (last_path old) bytes ≡ Ok (hit, rest.now)) × (new ≡ record old { hits = old.hits ++ hit ∷ [] })
 TakesHit old new bytes (Err stop) = Stops (hit_at (last_path old) bytes) stop
 
 -- the line of a skipped path was taken
 abbrev pub TakesSkipped : Drafted → Drafted → List ℕ → Result (Bor (List ℕ)) Stop → Type 0
-TakesSkipped old new bytes (Ok rest) = (path : List ℕ) × (skipped_at (last_skipped old) bytes ≡ Ok (path, rest.now)) × (new ≡ record old { skipped = old.skipped ++ path ∷ [] })
+TakesSkipped old new bytes (Ok rest) =
+    (path : List ℕ) × (skipped_at (last_skipped old) bytes ≡ Ok (path, rest.now))
+    × (new ≡ record old { skipped = old.skipped ++ path ∷ [] })
 TakesSkipped old new bytes (Err stop) = Stops (skipped_at (last_skipped old) bytes) stop
 
 -- the bytes are the text of rows above the last word, and of skipped paths
@@ -67,7 +70,9 @@ IsRowsText last bytes = (rows : List Row) × (paths : List (List ℕ)) × AreRow
 
 -- so many hits above the last path, and then rows above this word
 abbrev pub IsHitsText : List ℕ → ℕ → Option (List ℕ) → List ℕ → Type 0
-IsHitsText w many last bytes = (hits : List Hit) × (rest : List ℕ) × (length hits ≡ many) × AreHits last hits × IsRowsText (Some w) rest × (bytes ≡ flat_map hit_line hits ++ rest)
+IsHitsText w many last bytes =
+    (hits : List Hit) × (rest : List ℕ) × (length hits ≡ many) × AreHits last hits × IsRowsText (Some w) rest
+    × (bytes ≡ flat_map hit_line hits ++ rest)
 
 abbrev pub IsSkippedText : Option (List ℕ) → List ℕ → Type 0
 IsSkippedText last bytes = (paths : List (List ℕ)) × ArePaths last paths × (bytes ≡ flat_map skipped_line paths)
@@ -80,18 +85,23 @@ Halts Text lines bytes (halts.Bad k) = (lines < k) × IsBrokenAt Text bytes (k -
 
 -- so many hits of a row were taken
 abbrev pub TakesHits : List ℕ → ℕ → ℕ → Drafted → Drafted → List ℕ → Result (Bor (List ℕ)) Halt → Type 0
-TakesHits w many lines old new bytes (Ok rest) = (hits : List Hit) × (length hits ≡ many) × AreHits None hits × (bytes ≡ flat_map hit_line hits ++ rest.now) × (new ≡ record old { hits = hits })
+TakesHits w many lines old new bytes (Ok rest) =
+    (hits : List Hit) × (length hits ≡ many) × AreHits None hits × (bytes ≡ flat_map hit_line hits ++ rest.now)
+    × (new ≡ record old { hits = hits })
 TakesHits w many lines old new bytes (Err halt) = Halts (IsHitsText w many None) lines bytes halt
 
 -- a row was taken behind its first line
 abbrev pub TakesRow : List ℕ → ℕ → ℕ → Drafted → Drafted → List ℕ → Result (Bor (List ℕ)) Halt → Type 0
-TakesRow w many lines old new bytes (Ok rest) = (hits : List Hit) × (length hits ≡ many) × AreHits None hits × (bytes ≡ flat_map hit_line hits ++ rest.now)
+TakesRow w many lines old new bytes (Ok rest) =
+    (hits : List Hit) × (length hits ≡ many) × AreHits None hits × (bytes ≡ flat_map hit_line hits ++ rest.now)
     × (new ≡ record { rows = old.rows ++ record { word = w; hits = hits } ∷ []; hits = []; skipped = old.skipped })
 TakesRow w many lines old new bytes (Err halt) = Halts (IsHitsText w many None) lines bytes halt
 
 -- the skipped paths were taken up to the end
 abbrev pub TakesPaths : ℕ → Drafted → Drafted → List ℕ → Result (Unit {0}) Halt → Type 0
-TakesPaths lines old new bytes (Ok u) = (paths : List (List ℕ)) × ArePaths (last_skipped old) paths × (bytes ≡ flat_map skipped_line paths) × (new ≡ record old { skipped = old.skipped ++ paths })
+TakesPaths lines old new bytes (Ok u) =
+    (paths : List (List ℕ)) × ArePaths (last_skipped old) paths × (bytes ≡ flat_map skipped_line paths)
+    × (new ≡ record old { skipped = old.skipped ++ paths })
 TakesPaths lines old new bytes (Err halt) = Halts (IsSkippedText (last_skipped old)) lines bytes halt
 
 -- rows and skipped paths were taken up to the end

@@ -1,11 +1,16 @@
 //! Why nothing was read.
+use thiserror::Error;
 
 /// Why an index was not read.
-#[derive(Clone, Copy, Debug, PartialEq, Eq)]
+#[derive(Clone, Copy, Debug, PartialEq, Eq, Error)]
 pub enum IndexFault {
+    #[error("out of memory")]
     Memory,
+    #[error("bad line {0}")]
     BadLine(u64),
+    #[error("input too long")]
     TooLong,
+    #[error("input could not be read")]
     Read,
 }
 

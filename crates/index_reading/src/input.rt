@@ -20,7 +20,8 @@ fn take_piece<I: Source>(
     bytes: &mut Vec<u8>,
 ) -> Result<bool, IndexFault>
     requires { 0 < length piece.old }
-    ensures taken { Takes (I.left input.old) (I.left input.new) (I.faults input.old) (I.faults input.new) bytes.old.items bytes.new.items result }
+    ensures taken { Takes (I.left input.old) (I.left input.new) (I.faults input.old) (I.faults input.new) bytes.old.items
+        bytes.new.items result }
     ensures told { IsTold (I.faults input.old) (I.faults input.new) result }
     ensures piece { length piece.new ≡ length piece.old }
 {

@@ -1,4 +1,5 @@
 //! What a line says.
+use thiserror::Error;
 
 /// A job.
 #[derive(Clone, Copy, Debug, PartialEq, Eq)]
@@ -10,10 +11,14 @@ pub enum JobLine {
 }
 
 /// Why the lines were not read.
-#[derive(Clone, Copy, Debug, PartialEq, Eq)]
+#[derive(Clone, Copy, Debug, PartialEq, Eq, Error)]
 pub enum JobsFault {
+    #[error("out of memory")]
     Memory,
+    #[error("bad line {0}")]
     BadLine(u64),
+    #[error("input too long")]
     TooLong,
+    #[error("input could not be read")]
     Read,
 }

@@ -16,7 +16,8 @@ pub const MOST_LINES: usize = 100_000;
 
 // Whether nothing stands behind the last line that there may be.
 fn past<I: Source>(window: &mut Window, input: &mut I) -> Result<(), JobsFault>
-    ensures past { IsPast (prepend_known window.old (I.left input.old)) (I.left input.new) (I.faults input.old) (I.faults input.new) result }
+    ensures past { IsPast (prepend_known window.old (I.left input.old)) (I.left input.new) (I.faults input.old) (I.faults input.new)
+        result }
     ensures told { IsTold (I.faults input.old) (I.faults input.new) result }
 {
     if window.len() > 0 {

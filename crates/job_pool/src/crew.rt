@@ -45,7 +45,8 @@ pub fn run_workers<J: Job, R: Threads + Wait + Sync>(
     workers: Vec<Worked<Batch<J>>>,
 ) -> Vec<Worked<Batch<J>>>
     requires workers { AllByRecursion (IsReady p.now room) workers.items }
-    ensures { AllZip (λ w r. (r ≡ w) ⊎ HasWorked (MayBeWorked J.state J.gives J.next) p.now w.0.number r.1.items r.0) workers.items result.items }
+    ensures { AllZip (λ w r. (r ≡ w) ⊎ HasWorked (MayBeWorked J.state J.gives J.next) p.now w.0.number r.1.items r.0)
+        workers.items result.items }
 {
     let starts = workers.len();
     let done = run_crew(

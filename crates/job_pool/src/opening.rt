@@ -18,8 +18,8 @@ pub fn open<T: Send + Drop>(
 ) -> Result<(Package<Pieces<T>>, Vec<Thread<Pieces<T>>>), AllocError>
     requires workers { (1 ≤ workers) × (workers ≤ 8) }
     requires many { (1 ≤ many) × (many ≤ 4096) }
-    ensures package { IfOk result (λ o. HasBuffer o.0.layout × (o.0.layout.threads ≡ workers + 1) × (o.0.layout.mutexes ≡ 1) × (o.0.traced ≡ false)
-        × (o.0.layout.version ≡ One)) }
+    ensures package { IfOk result (λ o. HasBuffer o.0.layout × (o.0.layout.threads ≡ workers + 1) × (o.0.layout.mutexes ≡ 1)
+        × (o.0.traced ≡ false) × (o.0.layout.version ≡ One)) }
     ensures count { IfOk result (λ o. length o.1.items ≡ workers + 1) }
     ensures threads { IfOk result (λ o. AreFirst o.0 0 o.1.items) }
 {

@@ -64,7 +64,8 @@ fn rooms_for<J: Job>(
     size: usize,
     many: usize,
 ) -> Result<Rooms<J>, AllocError>
-    ensures lists { IfOk result (λ r. (vec_len r.lists ≡ count) × AllByRecursion (λ l. IsRoom size l.items (vec_capacity l)) r.lists.items) }
+    ensures lists { IfOk result (λ r. (vec_len r.lists ≡ count)
+        × AllByRecursion (λ l. IsRoom size l.items (vec_capacity l)) r.lists.items) }
     ensures batches { IfOk result (λ r. IsRoom count r.batches.items (vec_capacity r.batches)) }
     ensures slots { IfOk result (λ r. IsRoom many r.slots.items (vec_capacity r.slots)) }
     ensures back { IfOk result (λ r. IsRoom many r.back.items (vec_capacity r.back)) }

@@ -1,4 +1,5 @@
 //! How a pool ends.
+use std::fmt;
 
 /// What came of all jobs.
 #[derive(Debug, Drop)]
@@ -9,4 +10,14 @@ pub enum PoolEnd {
     Stopped(u64),
     /// There was no memory, and no job has run.
     Memory,
+}
+
+impl fmt::Display for PoolEnd {
+    fn fmt<W: fmt::Write>(&self, f: &mut fmt::Formatter<W>) -> fmt::Result {
+        match self {
+            PoolEnd::Done(_) => write!(f, "all jobs are done"),
+            PoolEnd::Stopped(job) => write!(f, "stopped by job {job}"),
+            PoolEnd::Memory => write!(f, "out of memory, no job has run"),
+        }
+    }
 }

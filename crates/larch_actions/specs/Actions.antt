@@ -39,7 +39,14 @@ lives_at_first Two = put (λ _. Unborn) 0 Live
 
 abbrev pub at_first : Version → Spec
 at_first version =
-    record { holder = λ _. none; members = λ _ _. false; avail = λ _. true; alerts = λ _. false; pending = λ _. Nothing; life = lives_at_first version }
+    record {
+      holder = λ _. none;
+      members = λ _ _. false;
+      avail = λ _. true;
+      alerts = λ _. false;
+      pending = λ _. Nothing;
+      life = lives_at_first version;
+    }
 
 -- Order, of a thread that lives: in a wait it makes the second part of this wait next, and else no second part
 abbrev pub KeepsOrder : Pending → Action → Type 0
@@ -86,11 +93,27 @@ without_member old c t = put old.members c (put (old.members c) t false)
 abbrev pub acted : ℕ → Spec → Action → Spec
 acted t old (Acquire m) = record old { holder = put old.holder m.0 (some t) }
 acted t old (Release m) = record old { holder = put old.holder m.0 none }
-acted t old (Enqueue m c) = record old { holder = put old.holder m.0 none; members = put old.members c.0 (put (old.members c.0) t true); pending = put old.pending t (Waiting m c) }
+acted t old (Enqueue m c) =
+    record old {
+      holder = put old.holder m.0 none;
+      members = put old.members c.0 (put (old.members c.0) t true);
+      pending = put old.pending t (Waiting m c);
+    }
 acted t old (Resume m c) = record old { holder = put old.holder m.0 (some t); pending = put old.pending t Nothing }
-acted t old (AlertEnqueue m c) = record old { holder = put old.holder m.0 none; members = put old.members c.0 (put (old.members c.0) t true); pending = put old.pending t (AlertWaiting m c) }
+acted t old (AlertEnqueue m c) =
+    record old {
+      holder = put old.holder m.0 none;
+      members = put old.members c.0 (put (old.members c.0) t true);
+      pending = put old.pending t (AlertWaiting m c);
+    }
 acted t old (AlertReturn m c) = record old { holder = put old.holder m.0 (some t); pending = put old.pending t Nothing }
-acted t old (AlertRaise m c) = record old { holder = put old.holder m.0 (some t); members = without_member old c.0 t; alerts = put old.alerts t false; pending = put old.pending t Nothing }
+acted t old (AlertRaise m c) =
+    record old {
+      holder = put old.holder m.0 (some t);
+      members = without_member old c.0 t;
+      alerts = put old.alerts t false;
+      pending = put old.pending t Nothing;
+    }
 acted t old (Signal c left) = record old { members = put old.members c.0 (in_set left) }
 acted t old (Broadcast c) = record old { members = put old.members c.0 (λ _. false) }
 acted t old (P s) = record old { avail = put old.avail s.0 false }
@@ -123,7 +146,8 @@ abbrev pub Fails : Spec → Event → Broken → Type 0
 Fails old e broken.Order = ¬ IsInOrder old e
 Fails old e broken.Requires = IsInOrder old e × ¬ MeetsRequires e.thread.0 old e.action
 Fails old e broken.When = IsInOrder old e × MeetsRequires e.thread.0 old e.action × ¬ MeetsWhen e.thread.0 old e.action
-Fails old e broken.Ensures = IsInOrder old e × MeetsRequires e.thread.0 old e.action × MeetsWhen e.thread.0 old e.action × ¬ MeetsChoice e.thread.0 old e.action
+Fails old e broken.Ensures =
+    IsInOrder old e × MeetsRequires e.thread.0 old e.action × MeetsWhen e.thread.0 old e.action × ¬ MeetsChoice e.thread.0 old e.action
 
 -- the events lead from the first state to the second
 abbrev pub Leads : Spec → List Event → Spec → Type 0
@@ -143,7 +167,8 @@ AreOver Two life = (n : ℕ) → life n ≢ Live
 
 -- a legal list after which nothing is held, nothing is pending, and in version two no thread lives
 abbrev pub IsClosed : Version → List Event → Type 0
-IsClosed version es = (t : Spec) × IsRun version es t × ((m : ℕ) → t.holder m ≡ none) × ((n : ℕ) → t.pending n ≡ Nothing) × AreOver version t.life
+IsClosed version es =
+    (t : Spec) × IsRun version es t × ((m : ℕ) → t.holder m ≡ none) × ((n : ℕ) → t.pending n ≡ Nothing) × AreOver version t.life
 
 -- all events before the place are a run, and the event there fails this clause first
 abbrev pub FirstFault : Version → List Event → List Event → Event → Broken → Type 0

@@ -91,4 +91,5 @@ HasNames l e = (e.thread.0 < l.threads) × IsNamed l e.action
 -- the layout line, without its newline
 abbrev pub layout_text : Layout → List ℕ
 layout_text l =
-    codes "threads " ++ (decimal l.threads ++ (codes " mutexes " ++ (decimal l.mutexes ++ (codes " conditions " ++ (decimal l.conditions ++ (codes " semaphores " ++ decimal l.semaphores))))))
+    codes "threads " ++ (decimal l.threads ++ (codes " mutexes " ++ (decimal l.mutexes
+    ++ (codes " conditions " ++ (decimal l.conditions ++ (codes " semaphores " ++ decimal l.semaphores))))))

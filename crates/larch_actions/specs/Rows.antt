@@ -21,7 +21,8 @@ use Rattle.larch_actions.specs.Sets.{set_of}
 -- all words
 abbrev pub words : List Word
 words =
-    word.Acquire ∷ word.Release ∷ word.P ∷ word.V ∷ word.Enqueue ∷ word.Resume ∷ word.Signal ∷ word.Broadcast ∷ word.Alert ∷ word.TestAlert ∷ word.AlertEnqueue ∷ word.AlertResume ∷ word.AlertP ∷ word.Fork ∷ word.End ∷ word.Join ∷ []
+    word.Acquire ∷ word.Release ∷ word.P ∷ word.V ∷ word.Enqueue ∷ word.Resume ∷ word.Signal ∷ word.Broadcast ∷ word.Alert ∷ word.TestAlert
+    ∷ word.AlertEnqueue ∷ word.AlertResume ∷ word.AlertP ∷ word.Fork ∷ word.End ∷ word.Join ∷ []
 
 -- a word as it is spelt
 abbrev pub word_text : Word → List ℕ
@@ -139,7 +140,9 @@ made word.Broadcast x e = Broadcast (record { 0 = x.first })
 made word.Alert x e = Alert (record { 0 = x.first })
 made word.TestAlert x e = TestAlert (is_yes e)
 made word.AlertEnqueue x e = AlertEnqueue (record { 0 = x.first }) (record { 0 = x.second })
-made word.AlertResume x e = if is_raised e then AlertRaise (record { 0 = x.first }) (record { 0 = x.second }) else AlertReturn (record { 0 = x.first }) (record { 0 = x.second })
+made word.AlertResume x e =
+    if is_raised e then AlertRaise (record { 0 = x.first }) (record { 0 = x.second })
+    else AlertReturn (record { 0 = x.first }) (record { 0 = x.second })
 made word.AlertP x e = if is_raised e then AlertPRaise (record { 0 = x.first }) else AlertPReturn (record { 0 = x.first })
 made word.Fork x e = Fork (record { 0 = x.first })
 made word.End x e = End

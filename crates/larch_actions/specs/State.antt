@@ -78,7 +78,8 @@ HasBegun s t what = (s.life t ≡ Live) × (s.pending t ≡ what)
 -- the step of the event was made, or the event fails this clause first and the state is as before
 abbrev pub Answers : {X : Type 0} → Moment → Moment → Event → Result X Broken → Type 0
 Answers old new e result =
-    MatchResult result (λ _. Acts (spec_of old) e (spec_of new) × (new.layout ≡ old.layout)) (λ why. Fails (spec_of old) e why × (new ≡ old))
+    MatchResult result (λ _. Acts (spec_of old) e (spec_of new) × (new.layout ≡ old.layout))
+    (λ why. Fails (spec_of old) e why × (new ≡ old))
 
 -- how many of the numbers below n pass the test
 abbrev pub count_below : (ℕ → Bool) → ℕ → ℕ

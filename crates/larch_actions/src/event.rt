@@ -2,6 +2,7 @@
 ghost use Rattle.std.specs.Prelude.{◌≡◌, ◌↔◌, IsTrue};
 
 use crate::{Kind, ThreadSet};
+use thiserror::Error;
 
 /// How many threads there are at most, in any version.
 pub const MOST_THREADS: u32 = 256;
@@ -156,11 +157,15 @@ pub struct Event {
 }
 
 /// Which clause an event that isn't allowed fails first, in this order.
-#[derive(Clone, Copy, Debug, PartialEq, Eq)]
+#[derive(Clone, Copy, Debug, PartialEq, Eq, Error)]
 pub enum Broken {
+    #[error("the event comes out of its thread's order")]
     Order,
+    #[error("the event fails a REQUIRES clause")]
     Requires,
+    #[error("the event fails a WHEN clause")]
     When,
+    #[error("the event fails an ENSURES clause")]
     Ensures,
 }
 

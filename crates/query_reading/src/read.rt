@@ -6,13 +6,16 @@ ghost use Rattle.query_reading.specs.Answers.{IsAnswer};
 use crate::query::{Query, Step};
 use crate::taking::{Pending, end_part, take};
 use std::alloc::{AllocError, Global};
+use thiserror::Error;
 
 /// Why there is no query.
-#[derive(Clone, Copy, Debug, PartialEq, Eq)]
+#[derive(Clone, Copy, Debug, PartialEq, Eq, Error)]
 pub enum QueryFault {
     /// Memory ran out.
+    #[error("out of memory")]
     Memory,
     /// The words are no query.
+    #[error("the words are no query")]
     NotAQuery,
 }
 

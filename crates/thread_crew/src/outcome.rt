@@ -1,4 +1,6 @@
 //! What running a crew answers.
+use std::fmt;
+
 /// What a crew gave.
 #[derive(Drop)]
 pub struct Finished<X, Y> {
@@ -16,4 +18,10 @@ pub struct NotRun<T, O, M> {
     pub jobs: Vec<T>,
     pub own: O,
     pub between: M,
+}
+
+impl<T, O, M> fmt::Display for NotRun<T, O, M> {
+    fn fmt<W: fmt::Write>(&self, f: &mut fmt::Formatter<W>) -> fmt::Result {
+        write!(f, "out of memory, nothing has run")
+    }
 }
