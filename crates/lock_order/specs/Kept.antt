@@ -100,5 +100,6 @@ IsOrderOf es _ = ⊥
 
 -- of a legal trace it is kept what its events nest
 abbrev pub IsNoted : ℕ → Known (List ℕ) → Verdict → Nestings → Type 0
-IsNoted budget left (Legal s) k = (es : List Event) × (now : Spec) × IsKept es now k × (s.events ≡ length es) × IfSome left (λ bytes. IsLegalTrace budget bytes es)
+IsNoted budget left (Legal s) k =
+    (es : List Event) × (now : Spec) × IsKept es now k × (s.events ≡ length es) × IfSome left (λ bytes. IsLegalTrace budget bytes es)
 IsNoted budget left _ k = Unit {0}

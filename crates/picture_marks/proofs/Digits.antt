@@ -60,12 +60,6 @@ spelled (suc many) n xs t (suc k) j ys h ej ey =
 pub short_at : (n : ℕ) → n < 1300 → take (length (decimal n)) (drop (4 * n) SHORT) ≡ decimal n
 short_at n h = subst (λ (t : List ℕ). take (length t) (drop (4 * n) SHORT) ≡ t) (few_is n (omega arith)) (spelled 1300 0 SHORT tt n n (drop (4 * n) SHORT) h (omega arith) refl)
 
-pub length_one : (n : ℕ) → n < 10 → length (decimal n) ≡ 1
-length_one n h = ap length (decimal_digit n h)
-
-pub length_more : (n : ℕ) → 10 ≤ n → n < 2 ^ 64 → length (decimal n) ≡ length (decimal (n / 10)) + 1
-length_more n lo hi = ap length (decimal_step n lo hi) ∙ length-append _ _
-
 -- the first bytes of a piece stay
 pub cut_short : (new before piece text : List ℕ) (at d : ℕ) → length before ≡ at → d ≡ length text → d ≤ 4 → take d piece ≡ text → take (at + 4) new ≡ before ++ piece → take (at + d) new ≡ before ++ text
 cut_short new before piece text at d size count few is e =

@@ -2,8 +2,8 @@
 use Rattle.std.specs.Prelude.{ℕ, ◌+◌, ◌-◌, ◌==◌, nat_lt, nat_le, if◌then◌else◌, List, [], ◌++◌, codes, min, Some, None}
 use Rattle.std.specs.declared.option.Option.{Option}
 use Rattle.trace_board.specs.declared.history.Origin.{Origin}
-use Rattle.trace_board.specs.declared.history.Turn.{Turn}
-use Rattle.trace_board.specs.declared.history.Turn.TheVariants.{Begins, Ends, Stays}
+use Rattle.trace_board.specs.declared.history.Effect.{Effect}
+use Rattle.trace_board.specs.declared.history.Effect.TheVariants.{Begins, Ends, Stays}
 use Rattle.picture_marks.specs.Places.{column_x, row_y}
 use Rattle.picture_marks.specs.Shapes.{with_number}
 
@@ -21,7 +21,9 @@ abbrev pub bow_x : ℕ → ℕ → Origin → ℕ
 bow_x start n o = if nat_le start o.place then column_x (min o.place n - start) + 5 else column_x (n - start) - 11
 
 abbrev pub bow_y : ℕ → ℕ → Origin → ℕ
-bow_y start t o = if nat_le start o.place then (if nat_lt o.thread.0 t then row_y o.thread.0 + 11 else row_y o.thread.0) else (if nat_lt o.thread.0 t then row_y t - 4 else row_y t + 16)
+bow_y start t o =
+    if nat_le start o.place then (if nat_lt o.thread.0 t then row_y o.thread.0 + 11 else row_y o.thread.0)
+    else (if nat_lt o.thread.0 t then row_y t - 4 else row_y t + 16)
 
 -- an event, by its place and its thread
 abbrev pub origin_text : Origin → List ℕ
@@ -43,7 +45,8 @@ arrow_if start n t (Some o) = if o.thread.0 == t then [] else arrow_text start n
 -- the line to the event n of the thread t, by which it takes the mutex m, from the event o that gave it back
 unfoldable pub line_text : ℕ → ℕ → ℕ → ℕ → Origin → List ℕ
 line_text start n t m o =
-    (point_text (codes "<path class='l' d='M") (bow_x start n o) (bow_y start t o) ++ point_text (codes "L") (column_x (n - start) - 1) (row_y t + 8)) ++ origin_text o
+    (point_text (codes "<path class='l' d='M") (bow_x start n o) (bow_y start t o)
+    ++ point_text (codes "L") (column_x (n - start) - 1) (row_y t + 8)) ++ origin_text o
     ++ (with_number (codes " hands on m") m ++ with_number (codes " to t") t) ++ codes "</title></path>\n"
 
 -- the line, where another thread gave the mutex back
@@ -52,7 +55,7 @@ line_if start n t m None = []
 line_if start n t m (Some o) = if o.thread.0 == t then [] else line_text start n t m o
 
 -- the line, where the event takes a mutex
-abbrev pub handed : ℕ → ℕ → ℕ → (ℕ → Option Origin) → Turn → List ℕ
+abbrev pub handed : ℕ → ℕ → ℕ → (ℕ → Option Origin) → Effect → List ℕ
 handed start n t given (Begins m) = line_if start n t m (given m)
 handed start n t given (Ends m) = []
 handed start n t given Stays = []

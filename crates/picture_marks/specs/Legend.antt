@@ -35,7 +35,8 @@ unfoldable pub life_style : List ℕ
 life_style = codes "<style>.j{fill:#cfe8cf;stroke:#222;stroke-width:.7}.z{fill:#fff}</style>\n"
 
 unfoldable pub life_words : List ℕ
-life_words = codes "<text x='644' y='125'>a row goes from its thread's fork to its end; arrows: from the fork on, and from the end to the join</text>\n"
+life_words =
+    codes "<text x='644' y='125'>a row goes from its thread's fork to its end; arrows: from the fork on, and from the end to the join</text>\n"
 
 -- the line that the legend has more in version two
 unfoldable pub life_line : List ℕ

@@ -58,4 +58,5 @@ words_of Failed = codes "event that fails"
 -- all marks of version one, in the order of the legend
 abbrev pub all_marks : List Mark
 all_marks =
-    Acquire ∷ Release ∷ Enqueue ∷ Resume ∷ Signal ∷ Broadcast ∷ P ∷ V ∷ Alert ∷ TestAlert ∷ AlertEnqueue ∷ AlertReturn ∷ AlertRaise ∷ AlertPReturn ∷ AlertPRaise ∷ Failed ∷ []
+    Acquire ∷ Release ∷ Enqueue ∷ Resume ∷ Signal ∷ Broadcast ∷ P ∷ V ∷ Alert ∷ TestAlert ∷ AlertEnqueue ∷ AlertReturn ∷ AlertRaise
+    ∷ AlertPReturn ∷ AlertPRaise ∷ Failed ∷ []

@@ -8,7 +8,7 @@ ghost use Rattle.picture_marks.specs.Arrows.{point_text, bow_text, bow_x, bow_y,
 use crate::shapes::{x_of, y_of};
 use crate::tags::add_with_number;
 use larch_actions::ThreadId;
-use trace_board::history::{Origin, Table, Turn};
+use trace_board::history::{Effect, Origin, Table};
 use trace_core::add;
 
 // Adds a point of a line.
@@ -210,17 +210,17 @@ pub fn add_handed(
     place: u64,
     t: ThreadId,
     given: &Table,
-    turn: Turn,
+    effect: Effect,
 ) -> usize
-    requires within { IsWithin turn }
+    requires within { IsWithin effect }
     requires room { at + 400 ≤ length buf.old }
     requires place { place < 2 ^ 41 }
-    ensures text { take result buf.new ≡ take at buf.old ++ handed start place t.0 (entry_of given.now) turn }
+    ensures text { take result buf.new ≡ take at buf.old ++ handed start place t.0 (entry_of given.now) effect }
     ensures near { result ≤ at + 400 }
 {
-    match turn {
-        Turn::Begins(m) => add_line_if(buf, at, start, place, t, m, given.at(m)),
-        Turn::Ends(_) => at,
-        Turn::Stays => at,
+    match effect {
+        Effect::Begins(m) => add_line_if(buf, at, start, place, t, m, given.at(m)),
+        Effect::Ends(_) => at,
+        Effect::Stays => at,
     }
 }

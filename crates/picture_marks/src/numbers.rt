@@ -1,7 +1,7 @@
 //! Numbers below a bound from a table of their digits: coordinates mostly are.
 ghost use Rattle.std.specs.Prelude.{◌≡◌, ◌+◌, ◌<◌, ◌≤◌, ◌++◌, length, take, decimal};
 
-use trace_core::add;
+use trace_core::{add, few_digits};
 
 // The digits of each number below 1300, four bytes each.
 static SHORT: [u8; 5200] =
@@ -47,24 +47,6 @@ static SHORT: [u8; 5200] =
     12481249125012511252125312541255125612571258125912601261126212631264126512661267126812691270127112721273127412751276127712781279\
     12801281128212831284128512861287128812891290129112921293129412951296129712981299";
 
-// How many digits a number below 10000 has.
-#[inline(always)]
-fn count_digits(n: u64) -> usize
-    requires { n < 10000 }
-    ensures count { result ≡ length (decimal n) }
-    ensures few { result ≤ 4 }
-{
-    if n < 10 {
-        1
-    } else if n < 100 {
-        2
-    } else if n < 1000 {
-        3
-    } else {
-        4
-    }
-}
-
 // Adds a number of the table: four bytes, of which its digits stay.
 #[inline(always)]
 fn add_short(buf: &mut [u8], at: usize, n: u64) -> usize
@@ -74,7 +56,7 @@ fn add_short(buf: &mut [u8], at: usize, n: u64) -> usize
     ensures near { result ≤ at + 4 }
 {
     let from = n as usize * 4;
-    let count = count_digits(n);
+    let count = few_digits(n);
     add(buf, at, &SHORT[from..from + 4]);
     at + count
 }

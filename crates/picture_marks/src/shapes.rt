@@ -9,7 +9,7 @@ use crate::legend::look_of;
 use crate::tags::{add_box, add_line, add_place, add_with_number};
 use crate::view::{View, column_of};
 use larch_actions::{Broken, Event};
-use trace_board::history::{Origin, Turn};
+use trace_board::history::{Effect, Origin};
 use trace_board::marks::{Mark, Marks};
 use trace_core::add;
 
@@ -132,9 +132,9 @@ pub fn add_object_if(
     ensures near { result ≤ at + 120 }
 {
     match shown.wait {
-        Turn::Begins(_) => at,
-        Turn::Ends(_) => at,
-        Turn::Stays => add_object(buf, at, view, place, e, shown),
+        Effect::Begins(_) => at,
+        Effect::Ends(_) => at,
+        Effect::Stays => add_object(buf, at, view, place, e, shown),
     }
 }
 

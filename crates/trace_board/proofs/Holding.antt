@@ -9,8 +9,8 @@ use Rattle.larch_actions.specs.declared.event.Action.{Action}
 use Rattle.larch_actions.specs.declared.event.Action.TheVariants.{Acquire, Release, Enqueue, Resume, AlertEnqueue, AlertReturn, AlertRaise, Signal, Broadcast, P, V, Alert, TestAlert, AlertPReturn, AlertPRaise, Fork, End, Join}
 use Rattle.larch_actions.specs.Actions.{Spec, acted, Leads, at_first}
 use Rattle.trace_board.specs.declared.history.Origin.{Origin}
-use Rattle.trace_board.specs.declared.history.Turn.{Turn}
-use Rattle.trace_board.specs.declared.history.Turn.TheVariants.{Begins, Ends, Stays}
+use Rattle.trace_board.specs.declared.history.Effect.{Effect}
+use Rattle.trace_board.specs.declared.history.Effect.TheVariants.{Begins, Ends, Stays}
 use Rattle.trace_board.specs.History.{changed, origin_of}
 use Rattle.trace_board.specs.Marks.{marks, marks_of}
 use Rattle.trace_board.specs.declared.rows.Bar.{Bar}
@@ -142,7 +142,7 @@ since_ends b k e past x t h = dite (ℕ_discrete (number_of b) k)
     begins_no : (m k : ℕ) → Begins m ≡ Ends k → ⊥
     begins_no m k u = cc
 
-since_turn : (b : Bar) (e : Event) (past : List Event) (f : ℕ → Option Origin) (t : Turn) → turn_of b e ≡ t → Since b past (f (number_of b)) → Since b (e ∷ past) (changed t (origin_of (length past) e) f (number_of b))
+since_turn : (b : Bar) (e : Event) (past : List Event) (f : ℕ → Option Origin) (t : Effect) → turn_of b e ≡ t → Since b past (f (number_of b)) → Since b (e ∷ past) (changed t (origin_of (length past) e) f (number_of b))
 since_turn b e past f (Begins k) t h = since_begins b k e past (f (number_of b)) t h
 since_turn b e past f (Ends k) t h = since_ends b k e past (f (number_of b)) t h
 since_turn b e past f Stays t h = stays b e past (f (number_of b)) (λ u. begins_no (number_of b) (sym u ∙ t), λ u. ends_no (number_of b) (sym u ∙ t)) h

@@ -9,8 +9,8 @@ use Rattle.std.proofs.lemmas.Bool.{cond_both}
 use Rattle.std.proofs.lemmas.Bool.Decides.{nat_tests}
 use Rattle.larch_actions.specs.declared.event.Event.{Event}
 use Rattle.trace_board.specs.declared.history.Origin.{Origin}
-use Rattle.trace_board.specs.declared.history.Turn.{Turn}
-use Rattle.trace_board.specs.declared.history.Turn.TheVariants.{Begins, Ends, Stays}
+use Rattle.trace_board.specs.declared.history.Effect.{Effect}
+use Rattle.trace_board.specs.declared.history.Effect.TheVariants.{Begins, Ends, Stays}
 use Rattle.trace_board.specs.declared.holds.Hold.{Hold}
 use Rattle.trace_board.specs.declared.rows.Bar.TheVariants.{Mutex}
 use Rattle.trace_board.specs.Marks.{marks}
@@ -74,7 +74,7 @@ some_same : (o p : Origin) → Some o ≡ Some p → o ≡ p
 some_same o p e = cc
 
 -- what an event leaves is as before
-turn_other : (m : ℕ) (o : Origin) (f : ℕ → Option Origin) (t : Turn) → t ≢ Begins m → t ≢ Ends m → changed t o f m ≡ f m
+turn_other : (m : ℕ) (o : Origin) (f : ℕ → Option Origin) (t : Effect) → t ≢ Begins m → t ≢ Ends m → changed t o f m ≡ f m
 turn_other m o f (Begins k) a b = ap (λ i. cond i (Some o) (f m)) (ne_eqb m k (λ e. a (ap Begins (sym e))))
 turn_other m o f (Ends k) a b = ap (λ i. cond i None (f m)) (ne_eqb m k (λ e. b (ap Ends (sym e))))
 turn_other m o f Stays a b = refl
@@ -170,7 +170,7 @@ module _ (m : ℕ) (e : Event) (past : List Event) (b : Best (IsBack m past) ((k
           at (inl i) = inl i
           at (inr i) = inr i.1
 
-  step : (t : Turn) → (marks e).mutex ≡ t → Best (IsBack m (e ∷ past)) (lengthened t (length past) (kept_since past).held (kept_since past).longest m)
+  step : (t : Effect) → (marks e).mutex ≡ t → Best (IsBack m (e ∷ past)) (lengthened t (length past) (kept_since past).held (kept_since past).longest m)
   step (Begins k) is = other (λ u. let bad : Begins k ≡ Ends m = sym is ∙ u in cc)
   step Stays is = other (λ u. let bad : Stays ≡ Ends m = sym is ∙ u in cc)
   step (Ends k) is = dite (ℕ_discrete m k)

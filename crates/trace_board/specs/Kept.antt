@@ -8,7 +8,7 @@ use Rattle.larch_actions.specs.declared.event.Life.TheVariants.{Live, Ended}
 use Rattle.larch_actions.specs.Actions.{lives_at_first}
 use Rattle.larch_actions.specs.Layout.{most_threads}
 use Rattle.trace_board.specs.declared.history.Origin.{Origin}
-use Rattle.trace_board.specs.declared.history.Turn.TheVariants.{Begins}
+use Rattle.trace_board.specs.declared.history.Effect.TheVariants.{Begins}
 use Rattle.trace_board.specs.declared.causes.Cause.{Cause}
 use Rattle.trace_board.specs.declared.causes.Cause.TheVariants.{Never, Awaited, By}
 use Rattle.trace_board.specs.declared.rows.Row.{Row}
@@ -49,7 +49,21 @@ pub record Kept : Type 0 where
   pub over : ℕ → Option Origin
 
 abbrev pub nothing_kept : Kept
-nothing_kept = record { held = λ (k : ℕ). None; waits = λ (k : ℕ). None; stands = λ (k : ℕ). Never; opens = λ (k : ℕ). Never; alerts = λ (k : ℕ). Never; rows = λ (k : ℕ). empty_row; given = λ (k : ℕ). None; taken = λ (k : ℕ). None; longest = λ (k : ℕ). None; latest = λ (k : ℕ). None; born = λ (k : ℕ). None; over = λ (k : ℕ). None }
+nothing_kept =
+    record {
+      held = λ (k : ℕ). None;
+      waits = λ (k : ℕ). None;
+      stands = λ (k : ℕ). Never;
+      opens = λ (k : ℕ). Never;
+      alerts = λ (k : ℕ). Never;
+      rows = λ (k : ℕ). empty_row;
+      given = λ (k : ℕ). None;
+      taken = λ (k : ℕ). None;
+      longest = λ (k : ℕ). None;
+      latest = λ (k : ℕ). None;
+      born = λ (k : ℕ). None;
+      over = λ (k : ℕ). None;
+    }
 
 -- what is kept after the event at the place n
 abbrev pub kept_after : ℕ → Event → Kept → Kept
@@ -148,4 +162,18 @@ let_on_by k Nobody = None
 
 -- what the tables say
 abbrev pub kept_of : Board → Kept
-kept_of b = record { held = entry_of b.held; waits = entry_of b.waits; stands = cause_of b.stands; opens = cause_of b.opens; alerts = cause_of b.alerts; rows = row_of b.rows; given = entry_of b.given; taken = entry_of b.taken; longest = longest_of b.longest; latest = entry_of b.latest; born = entry_of b.lives.born; over = entry_of b.lives.over }
+kept_of b =
+    record {
+      held = entry_of b.held;
+      waits = entry_of b.waits;
+      stands = cause_of b.stands;
+      opens = cause_of b.opens;
+      alerts = cause_of b.alerts;
+      rows = row_of b.rows;
+      given = entry_of b.given;
+      taken = entry_of b.taken;
+      longest = longest_of b.longest;
+      latest = entry_of b.latest;
+      born = entry_of b.lives.born;
+      over = entry_of b.lives.over;
+    }

@@ -10,8 +10,8 @@ use Rattle.larch_actions.specs.declared.event.Life.{Life}
 use Rattle.larch_actions.specs.declared.event.Life.TheVariants.{Live, Ended}
 use Rattle.larch_actions.specs.Actions.{Spec, IsRun, Leads, Acts, MayAct, acted}
 use Rattle.trace_board.specs.declared.history.Origin.{Origin}
-use Rattle.trace_board.specs.declared.history.Turn.{Turn}
-use Rattle.trace_board.specs.declared.history.Turn.TheVariants.{Begins, Ends}
+use Rattle.trace_board.specs.declared.history.Effect.{Effect}
+use Rattle.trace_board.specs.declared.history.Effect.TheVariants.{Begins, Ends}
 use Rattle.trace_board.specs.declared.holds.Hold.{Hold}
 use Rattle.trace_board.specs.declared.rows.Bar.{Bar}
 use Rattle.trace_board.specs.declared.rows.Bar.TheVariants.{Mutex, Semaphore}
@@ -27,7 +27,7 @@ abbrev pub number_of : Bar → ℕ
 number_of (Mutex m) = m
 number_of (Semaphore s) = s
 
-abbrev pub turn_of : Bar → Event → Turn
+abbrev pub turn_of : Bar → Event → Effect
 turn_of (Mutex m) e = (marks e).mutex
 turn_of (Semaphore s) e = (marks e).semaphore
 
@@ -49,13 +49,17 @@ pub record IsSince (b : Bar) (o : Origin) (past : List Event) : Type 0 where
 -- and this bar goes from the event that took the mutex, since when no event took it or gave it back.
 abbrev pub BarsAreHolds : Type 0
 BarsAreHolds =
-    (version : Version) (es : List Event) (s : Spec) → IsRun version es s → (m : ℕ) → MatchOption ((kept_since (behind [] es)).held m) (s.holder m ≡ none) (λ o. (s.holder m ≡ some o.thread.0) × IsSince (Mutex m) o (behind [] es))
+    (version : Version) (es : List Event) (s : Spec) → IsRun version es s → (m : ℕ)
+    → MatchOption ((kept_since (behind [] es)).held m) (s.holder m ≡ none)
+    (λ o. (s.holder m ≡ some o.thread.0) × IsSince (Mutex m) o (behind [] es))
 
 -- After each run a semaphore isn't available exactly where a bar of it is under way, and this bar goes from the event that took the semaphore, in the
 -- row of the thread that did so, since when no event took it or made it available.
 abbrev pub BarsAreTakings : Type 0
 BarsAreTakings =
-    (version : Version) (es : List Event) (s : Spec) → IsRun version es s → (n : ℕ) → MatchOption ((kept_since (behind [] es)).taken n) (s.avail n ≡ true) (λ o. (s.avail n ≡ false) × IsSince (Semaphore n) o (behind [] es))
+    (version : Version) (es : List Event) (s : Spec) → IsRun version es s → (n : ℕ)
+    → MatchOption ((kept_since (behind [] es)).taken n) (s.avail n ≡ true)
+    (λ o. (s.avail n ≡ false) × IsSince (Semaphore n) o (behind [] es))
 
 -- Two bars have one lane of a row only where that is the last, and a bar keeps its lane while others begin and end.
 abbrev pub LanesAreOwn : Type 0
@@ -80,7 +84,8 @@ IsHold n m h past = ((h.ended ≡ true) × IsGivenBack m h past) ⊎ ((h.ended �
 -- What is told as the longest hold of a mutex is one of its holds, and none is longer; where nothing is told there is none.
 abbrev pub HoldsAreLongest : Type 0
 HoldsAreLongest =
-    (past : List Event) (n m : ℕ) → MatchOption (longest_in (kept_since past) n m) ((h : Hold) → IsHold n m h past → ⊥) (λ h. IsHold n m h past × ((j : Hold) → IsHold n m j past → held_for j ≤ held_for h))
+    (past : List Event) (n m : ℕ) → MatchOption (longest_in (kept_since past) n m) ((h : Hold) → IsHold n m h past → ⊥)
+    (λ h. IsHold n m h past × ((j : Hold) → IsHold n m j past → held_for j ≤ held_for h))
 
 -- an event of the thread t, from the event `start` on
 pub record HasEvent (t start : ℕ) (past : List Event) : Type 0 where
@@ -93,7 +98,9 @@ pub record HasEvent (t start : ℕ) (past : List Event) : Type 0 where
 
 -- A thread is told to have run since an event exactly where one of the events from that one on is its own.
 abbrev pub RunsAreSeen : Type 0
-RunsAreSeen = (past : List Event) (start t : ℕ) → (has_run (kept_since past) start t ≡ true → HasEvent t start past) × (HasEvent t start past → has_run (kept_since past) start t ≡ true)
+RunsAreSeen =
+    (past : List Event) (start t : ℕ) → (has_run (kept_since past) start t ≡ true → HasEvent t start past)
+    × (HasEvent t start past → has_run (kept_since past) start t ≡ true)
 
 -- After each run a thread is unborn, lives or has ended as the picture has its row: none yet, one from its fork on where one is kept, and up to the event
 -- that is kept as its end.
@@ -146,12 +153,14 @@ pub record IsMadeBy (version : Version) (test : Spec → Bool) (es : List Event)
 -- event waits for, which has held since.
 abbrev pub ArrowsAreCauses : Type 0
 ArrowsAreCauses =
-    (version : Version) (es : List Event) (s : Spec) → IsRun version es s → (e : Event) → MayAct s e → (o : Origin) → let_on_by (kept_since (behind [] es)) (marks e).waker ≡ Some o
+    (version : Version) (es : List Event) (s : Spec) → IsRun version es s → (e : Event) → MayAct s e → (o : Origin)
+    → let_on_by (kept_since (behind [] es)) (marks e).waker ≡ Some o
     → IsMadeBy version (awaited_by e.thread.0 e.action) es s o
 
 -- Where an event may follow a run, the picture has its thread begin to go on by an event of the run only where it is its thread's first, and that event made
 -- the thread live, as it has since.
 abbrev pub ForksAreBirths : Type 0
 ForksAreBirths =
-    (version : Version) (es : List Event) (s : Spec) → IsRun version es s → (e : Event) → MayAct s e → (o : Origin) → forked_by (kept_since (behind [] es)) e.thread.0 ≡ Some o
+    (version : Version) (es : List Event) (s : Spec) → IsRun version es s → (e : Event) → MayAct s e → (o : Origin)
+    → forked_by (kept_since (behind [] es)) e.thread.0 ≡ Some o
     → IsMadeBy version (λ z. is_live (z.life e.thread.0)) es s o × (HasEvent e.thread.0 0 (behind [] es) → ⊥)

@@ -5,7 +5,7 @@ ghost use Rattle.larch_actions.specs.Layout.{most_threads};
 ghost use Rattle.trace_board.specs.Kept.{nothing_kept, kept_after, kept_of, came, let_on_by, is_from, has_run, was_held, forked_by, life_by, life_in, IsNoted, IsNear};
 
 use crate::causes::{Cause, Causes};
-use crate::history::{Lives, Origin, Table, Turn, turned_about};
+use crate::history::{Effect, Lives, Origin, Table, turned_about};
 use crate::holds::Longest;
 use crate::marks::marks_of;
 use crate::rows::Rows;
@@ -193,7 +193,7 @@ impl Board {
         self.alerts.note(marks.alert, by);
         self.given.note(turned_about(marks.mutex), by);
         self.taken.note(marks.semaphore, by);
-        self.latest.note(Turn::Begins(e.thread.0), by);
+        self.latest.note(Effect::Begins(e.thread.0), by);
         self.lives.note(marks.life, by);
     }
 }

@@ -16,21 +16,21 @@ pub struct Origin {
 
 /// What an event does to a thing of this number.
 #[derive(Clone, Copy)]
-pub enum Turn {
+pub enum Effect {
     Begins(u32),
     Ends(u32),
     Stays,
 }
 
-/// The turn of what is taken where the other isn't.
+/// The effect on what is taken where the other isn't.
 #[inline(always)]
-pub fn turned_about(turn: Turn) -> Turn
-    ensures { result ≡ turned_about turn }
+pub fn turned_about(effect: Effect) -> Effect
+    ensures { result ≡ turned_about effect }
 {
-    match turn {
-        Turn::Begins(k) => Turn::Ends(k),
-        Turn::Ends(k) => Turn::Begins(k),
-        Turn::Stays => Turn::Stays,
+    match effect {
+        Effect::Begins(k) => Effect::Ends(k),
+        Effect::Ends(k) => Effect::Begins(k),
+        Effect::Stays => Effect::Stays,
     }
 }
 
@@ -58,15 +58,15 @@ impl Table {
         self.entries[k as usize]
     }
 
-    /// Notes the turn, by this event.
-    pub fn note(&mut self, turn: Turn, by: Origin)
-        requires { IsWithin turn }
-        ensures { entry_of self.new ≡ changed turn by (entry_of self.old) }
+    /// Notes the effect, by this event.
+    pub fn note(&mut self, effect: Effect, by: Origin)
+        requires { IsWithin effect }
+        ensures { entry_of self.new ≡ changed effect by (entry_of self.old) }
     {
-        match turn {
-            Turn::Begins(k) => self.entries[k as usize] = Some(by),
-            Turn::Ends(k) => self.entries[k as usize] = None,
-            Turn::Stays => {}
+        match effect {
+            Effect::Begins(k) => self.entries[k as usize] = Some(by),
+            Effect::Ends(k) => self.entries[k as usize] = None,
+            Effect::Stays => {}
         }
     }
 }
@@ -89,17 +89,17 @@ impl Lives {
         Lives { born, over }
     }
 
-    /// Notes the turn of a thread's life, by this event.
+    /// Notes the effect on a thread's life, by this event.
     #[inline(always)]
-    pub fn note(&mut self, turn: Turn, by: Origin)
-        requires { IsWithin turn }
-        ensures born { entry_of self.new.born ≡ changed (begun_by turn) by (entry_of self.old.born) }
-        ensures over { entry_of self.new.over ≡ changed (ended_by turn) by (entry_of self.old.over) }
+    pub fn note(&mut self, effect: Effect, by: Origin)
+        requires { IsWithin effect }
+        ensures born { entry_of self.new.born ≡ changed (begun_by effect) by (entry_of self.old.born) }
+        ensures over { entry_of self.new.over ≡ changed (ended_by effect) by (entry_of self.old.over) }
     {
-        match turn {
-            Turn::Begins(k) => self.born.note(Turn::Begins(k), by),
-            Turn::Ends(k) => self.over.note(Turn::Begins(k), by),
-            Turn::Stays => {}
+        match effect {
+            Effect::Begins(k) => self.born.note(Effect::Begins(k), by),
+            Effect::Ends(k) => self.over.note(Effect::Begins(k), by),
+            Effect::Stays => {}
         }
     }
 }

@@ -6,7 +6,7 @@ ghost use Rattle.trace_board.specs.Marks.{plain, begun, ended, raised, semaphore
 
 use crate::board::Waker;
 use crate::causes::Move;
-use crate::history::Turn;
+use crate::history::Effect;
 use larch_actions::{Action, CondId, MutexId, SemId, ThreadId, ThreadSet};
 
 /// The mark of an event.
@@ -43,13 +43,13 @@ pub struct Marks {
     /// asks or ends.
     pub object: u32,
     /// Which mutex it takes or gives back.
-    pub mutex: Turn,
+    pub mutex: Effect,
     /// Which semaphore it takes or makes available.
-    pub semaphore: Turn,
+    pub semaphore: Effect,
     /// Whether it begins or ends a wait of its thread.
-    pub wait: Turn,
+    pub wait: Effect,
     /// Which thread it forks or ends.
-    pub life: Turn,
+    pub life: Effect,
     /// What it does to those who stand in conditions.
     pub stand: Move,
     /// What it does to semaphores.
@@ -68,10 +68,10 @@ fn plain(mark: Mark, object: u32) -> Marks
     Marks {
         mark,
         object,
-        mutex: Turn::Stays,
-        semaphore: Turn::Stays,
-        wait: Turn::Stays,
-        life: Turn::Stays,
+        mutex: Effect::Stays,
+        semaphore: Effect::Stays,
+        wait: Effect::Stays,
+        life: Effect::Stays,
         stand: Move::Stays,
         avail: Move::Stays,
         alert: Move::Stays,
@@ -85,8 +85,8 @@ fn begun(mark: Mark, t: ThreadId, held: MutexId, cond: CondId) -> Marks
     ensures { result ≡ begun mark t.0 held.0 cond.0 }
 {
     Marks {
-        mutex: Turn::Ends(held.0),
-        wait: Turn::Begins(t.0),
+        mutex: Effect::Ends(held.0),
+        wait: Effect::Begins(t.0),
         stand: Move::Awaits(t.0, cond.0),
         ..plain(mark, cond.0)
     }
@@ -98,8 +98,8 @@ fn ended(mark: Mark, t: ThreadId, mutex: MutexId, cond: CondId) -> Marks
     ensures { result ≡ ended mark t.0 mutex.0 cond.0 }
 {
     Marks {
-        mutex: Turn::Begins(mutex.0),
-        wait: Turn::Ends(t.0),
+        mutex: Effect::Begins(mutex.0),
+        wait: Effect::Ends(t.0),
         stand: Move::Ends(t.0),
         waker: Waker::Condition(t.0),
         ..plain(mark, cond.0)
@@ -112,8 +112,8 @@ fn raised(mark: Mark, t: ThreadId, mutex: MutexId, cond: CondId) -> Marks
     ensures { result ≡ raised mark t.0 mutex.0 cond.0 }
 {
     Marks {
-        mutex: Turn::Begins(mutex.0),
-        wait: Turn::Ends(t.0),
+        mutex: Effect::Begins(mutex.0),
+        wait: Effect::Ends(t.0),
         stand: Move::Ends(t.0),
         alert: Move::Ends(t.0),
         waker: Waker::Alarm(t.0),
@@ -127,7 +127,7 @@ fn taken(mark: Mark, sem: SemId) -> Marks
     ensures { result ≡ semaphore_taken mark sem.0 }
 {
     Marks {
-        semaphore: Turn::Begins(sem.0),
+        semaphore: Effect::Begins(sem.0),
         avail: Move::Awaits(sem.0, sem.0),
         waker: Waker::Semaphore(sem.0),
         ..plain(mark, sem.0)
@@ -153,11 +153,11 @@ pub fn marks_of(t: ThreadId, action: &Action) -> Marks
 {
     match *action {
         Action::Acquire { mutex } => Marks {
-            mutex: Turn::Begins(mutex.0),
+            mutex: Effect::Begins(mutex.0),
             ..plain(Mark::Acquire, mutex.0)
         },
         Action::Release { mutex } => Marks {
-            mutex: Turn::Ends(mutex.0),
+            mutex: Effect::Ends(mutex.0),
             ..plain(Mark::Release, mutex.0)
         },
         Action::Enqueue { mutex, cond } => begun(Mark::Enqueue, t, mutex, cond),
@@ -175,7 +175,7 @@ pub fn marks_of(t: ThreadId, action: &Action) -> Marks
         },
         Action::P { sem } => taken(Mark::P, sem),
         Action::V { sem } => Marks {
-            semaphore: Turn::Ends(sem.0),
+            semaphore: Effect::Ends(sem.0),
             avail: Move::Opens(sem.0),
             ..plain(Mark::V, sem.0)
         },
@@ -187,11 +187,11 @@ pub fn marks_of(t: ThreadId, action: &Action) -> Marks
         Action::AlertPReturn { sem } => taken(Mark::AlertPReturn, sem),
         Action::AlertPRaise { sem } => heard(Mark::AlertPRaise, t, sem.0),
         Action::Fork { who } => Marks {
-            life: Turn::Begins(who.0),
+            life: Effect::Begins(who.0),
             ..plain(Mark::Fork, who.0)
         },
         Action::End => Marks {
-            life: Turn::Ends(t.0),
+            life: Effect::Ends(t.0),
             ..plain(Mark::End, t.0)
         },
         Action::Join { who } => Marks {

@@ -12,7 +12,7 @@ use Rattle.larch_actions.specs.Actions.{Spec, Acts, Fails, IsRun, at_first}
 use Rattle.larch_actions.specs.State.{Moment, spec_of, held, waiting, alerted}
 use Rattle.trace_core.specs.declared.intake.TextFault.{TextFault}
 use Rattle.trace_core.specs.declared.intake.TextFault.TheVariants as fault
-use Rattle.trace_core.specs.declared.progress.Phase.TheVariants as phase
+use Rattle.trace_core.specs.declared.reader_state.Phase.TheVariants as phase
 use Rattle.trace_core.specs.declared.line.Line.TheVariants as line
 use Rattle.trace_core.specs.declared.line.Expect.TheVariants as expect
 use Rattle.trace_core.specs.Prefixes.{Begins}

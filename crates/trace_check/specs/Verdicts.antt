@@ -32,7 +32,9 @@ front_text l es = head_text l ++ event_lines 0 es
 
 -- whole lines of events at the front of the bytes are those of a legal list
 abbrev pub NoFault : List ℕ → Type 0
-NoFault bytes = (l : Layout) (es : List Event) (more : List ℕ) → IsLawful l → AllByRecursion (HasNames l) es → bytes ≡ front_text l es ++ more → IsLegal l.version es
+NoFault bytes =
+    (l : Layout) (es : List Event) (more : List ℕ) → IsLawful l → AllByRecursion (HasNames l) es → bytes ≡ front_text l es ++ more
+    → IsLegal l.version es
 
 -- The input begins with the head and the lines of these events, which are a run, within the budget.
 pub record IsFrontText (budget : ℕ) (bytes : List ℕ) : Type 0 where
@@ -79,17 +81,21 @@ pub record IsIllegalText (budget : ℕ) (bytes : List ℕ) (place : ℕ) (why : 
 
 -- what was given until reading failed is the front of a trace text, and shows no event that fails
 abbrev pub IsCutOff : ℕ → List ℕ → Option (List ℕ) → Type 0
-IsCutOff budget bytes left' = (given : List ℕ) × Consumes (Some bytes) left' given × Begins IsTrace given × (length given ≤ budget) × NoFault given
+IsCutOff budget bytes left' =
+    (given : List ℕ) × Consumes (Some bytes) left' given × Begins IsTrace given × (length given ≤ budget) × NoFault given
 
 -- the verdict is just, for an input of these bytes
 abbrev pub IsJust : ℕ → Option (List ℕ) → Option (List ℕ) → ℕ → ℕ → Verdict → Type 0
 IsJust budget left left' before now (Legal s) = IfSome left (λ bytes. IsLegalText budget bytes s)
 IsJust budget left left' before now (Illegal place why) = IfSome left (λ bytes. IsIllegalText budget bytes place why)
 IsJust budget left left' before now (BadLine k) = IfSome left (λ bytes. IsShown IsTrace budget bytes k × NoFault (take budget bytes))
-IsJust budget left left' before now TooLong = IfSome left (λ bytes. (budget < length bytes) × Begins IsTrace (take budget bytes) × NoFault (take budget bytes))
+IsJust budget left left' before now TooLong =
+    IfSome left (λ bytes. (budget < length bytes) × Begins IsTrace (take budget bytes) × NoFault (take budget bytes))
 IsJust budget left left' before now ReadFault = Rose before now × IfSome left (λ bytes. IsCutOff budget bytes left')
 
 -- For an input of these bytes, at most one verdict other than a failed read is just.
 abbrev pub OneVerdict : Type 0
-OneVerdict = (budget : ℕ) (bytes : List ℕ) (left left' : Option (List ℕ)) (before now before' now' : ℕ) (v w : Verdict) → budget < 2 ^ 64 - 1 → v ≢ ReadFault → w ≢ ReadFault
+OneVerdict =
+    (budget : ℕ) (bytes : List ℕ) (left left' : Option (List ℕ)) (before now before' now' : ℕ) (v w : Verdict) → budget < 2 ^ 64 - 1
+    → v ≢ ReadFault → w ≢ ReadFault
     → IsJust budget (Some bytes) left before now v → IsJust budget (Some bytes) left' before' now' w → v ≡ w

@@ -1,6 +1,6 @@
 //! The check of a trace text.
 ghost use Rattle.std.specs.Prelude.{◌≡◌, ◌≢◌, ◌≤◌, ◌^◌, ◌-◌, ◌<◌, List, ℕ, Some};
-ghost use Rattle.trace_core.specs.declared.progress.Phase.TheVariants as phase;
+ghost use Rattle.trace_core.specs.declared.reader_state.Phase.TheVariants as phase;
 ghost use Rattle.trace_core.specs.Reader.{standing, input_of};
 ghost use Rattle.trace_check.specs.Verdicts.{IsJust, refusal};
 

@@ -28,6 +28,6 @@ pub mod InPlace
 pub mod Flowing
 pub mod Wholes
 pub mod Grammar
-pub mod HeldTexts
+pub mod UsualTexts
 pub mod Spelling
-pub mod HeldEvents
+pub mod UsualEvents

@@ -7,9 +7,9 @@ use Rattle.std.proofs.lemmas.List.{take-append-drop, length-take-le}
 use Rattle.std.proofs.lemmas.Nat.{pow-add, and_mask, mod-mul-add, one_shl}
 use Rattle.std.specs.Int.Bits.{bit_and}
 use Rattle.std.specs.Prelude.{decimal}
-use Rattle.trace_core.specs.Held.{Stands, little}
+use Rattle.trace_core.specs.Usual.{Stands, little}
 use Rattle.trace_core.specs.Spelled.{IsShort, IsSpelled}
-use Rattle.trace_core.proofs.HeldTexts.{AreBytes, bytes_from, take_bytes, little_injective}
+use Rattle.trace_core.proofs.UsualTexts.{AreBytes, bytes_from, take_bytes, little_injective}
 
 -- 256 ^ n, byte by byte
 abbrev pub worth : ℕ → ℕ

@@ -23,10 +23,13 @@ SameBudget old new = (new.budget ≡ old.budget) × (new.lines ≡ old.lines)
 
 -- what one more piece does
 abbrev pub IsFilled : Intake → Intake → Option (List ℕ) → Option (List ℕ) → ℕ → ℕ → Result Bool TextFault → Type 0
-IsFilled old new left left' before now (Ok true) = SameBudget old new × (old.given < new.given) × (room_of new ≡ room_of old) × Keeps (rest_of old left) (rest_of new left')
-IsFilled old new left left' before now (Ok false) = SameBudget old new × (new.window ≡ old.window) × (room_of new ≡ room_of old) × Keeps left left' × IsAtEnd left'
+IsFilled old new left left' before now (Ok true) =
+    SameBudget old new × (old.given < new.given) × (room_of new ≡ room_of old) × Keeps (rest_of old left) (rest_of new left')
+IsFilled old new left left' before now (Ok false) =
+    SameBudget old new × (new.window ≡ old.window) × (room_of new ≡ room_of old) × Keeps left left' × IsAtEnd left'
 IsFilled old new left left' before now (Err (BadLine k)) = ⊥
-IsFilled old new left left' before now (Err TooLong) = (old.given ≡ old.budget) × ((piece : List ℕ) × Consumes left left' piece × (0 < length piece))
+IsFilled old new left left' before now (Err TooLong) =
+    (old.given ≡ old.budget) × ((piece : List ℕ) × Consumes left left' piece × (0 < length piece))
 IsFilled old new left left' before now (Err Read) = Rose before now × Keeps left left'
 
 -- A question that fails is told: the count of faults never falls, and rises only where the call tells a failed read.
@@ -37,7 +40,8 @@ pub record IsTold {T : Type 0} (before now : ℕ) (result : Result T TextFault) 
 
 -- whether a byte is held, or else what one more piece does
 abbrev pub IsAsked : Intake → Intake → Option (List ℕ) → Option (List ℕ) → ℕ → ℕ → Result Bool TextFault → Type 0
-IsAsked old new left left' before now (Ok true) = SameBudget old new × (room_of new ≡ room_of old) × Keeps (rest_of old left) (rest_of new left') × (0 < length new.window)
+IsAsked old new left left' before now (Ok true) =
+    SameBudget old new × (room_of new ≡ room_of old) × Keeps (rest_of old left) (rest_of new left') × (0 < length new.window)
 IsAsked old new left left' before now (Ok false) = SameBudget old new × (old.window ≡ []) × Keeps left left' × IsAtEnd left'
 IsAsked old new left left' before now (Err fault) = (old.window ≡ []) × IsFilled old new left left' before now (Err fault)
 
@@ -49,7 +53,8 @@ IsShown Text room input k = IsBrokenAt Text (take room input) k ⊎ ((length inp
 abbrev pub HasReason : (List ℕ → Type 0) → ℕ → ℕ → Option (List ℕ) → Option (List ℕ) → ℕ → ℕ → TextFault → Type 0
 HasReason Text lines room rest left' before now (BadLine k) = (lines < k) × IfSome rest (λ input. IsShown Text room input (k - lines))
 HasReason Text lines room rest left' before now TooLong = IfSome rest (λ input. (room < length input) × Begins Text (take room input))
-HasReason Text lines room rest left' before now Read = Rose before now × ((given : List ℕ) × Consumes rest left' given × Begins Text given × (length given ≤ room))
+HasReason Text lines room rest left' before now Read =
+    Rose before now × ((given : List ℕ) × Consumes rest left' given × Begins Text given × (length given ≤ room))
 
 -- none of the texts of the lawful values stands at the front of the bytes
 abbrev pub Misses : {X : Type 0} → (X → Type 0) → (X → List ℕ) → List ℕ → Type 0

@@ -5,7 +5,7 @@ pub mod Reading
 pub mod Names
 pub mod Made
 pub mod Lines
-pub mod Held
+pub mod Usual
 pub mod Spelled
 pub mod Intake
 pub mod Standing

@@ -68,7 +68,8 @@ name_at l k stop = after_word (letter k ∷ []) (number_at 0 (count_of l k) stop
 abbrev pub behind_at : Layout → Kinds → Endings → Reader (Numbers × Ending)
 behind_at l kinds.Nothing es = as_value (λ e. (none, e)) (ending_at l es)
 behind_at l (kinds.One k) es = as_value (λ p. (one p.0, p.1)) (both (name_at l k (stop_of es)) (λ _. ending_at l es))
-behind_at l (kinds.Two k j) es = as_value (λ p. (two p.0 p.1.0, p.1.1)) (both (name_at l k 32) (λ _. both (name_at l j (stop_of es)) (λ _. ending_at l es)))
+behind_at l (kinds.Two k j) es =
+    as_value (λ p. (two p.0 p.1.0, p.1.1)) (both (name_at l k 32) (λ _. both (name_at l j (stop_of es)) (λ _. ending_at l es)))
 
 -- there are things of each kind
 abbrev pub are_some : Layout → Kinds → Bool
@@ -89,7 +90,8 @@ may_stand l w = is_in (since w) l.version && are_some l (kinds_of w)
 -- an action with this word up to the end of its line
 abbrev pub row_at : Layout → Word → Reader Action
 row_at l w =
-    as_value (λ p. made w p.0 p.1) (only_if (may_stand l w) (after_word (word_text w) (after_word (gap_of (kinds_of w) (endings_of w) ∷ []) (behind_at l (kinds_of w) (endings_of w)))))
+    as_value (λ p. made w p.0 p.1) (only_if (may_stand l w) (after_word (word_text w)
+    (after_word (gap_of (kinds_of w) (endings_of w) ∷ []) (behind_at l (kinds_of w) (endings_of w)))))
 
 -- an action with one of these words
 abbrev pub rows_at : Layout → List Word → Reader Action
@@ -137,7 +139,8 @@ value_of p = line.Value p.0.0 p.1
 
 -- the value line of a mutex from least on
 abbrev pub value_at : Layout → ℕ → Reader Line
-value_at l least = as_value value_of (after_word (codes "value m") (both (number_from false least l.mutexes) (λ _. number_at 0 (2 ^ 64) 10)))
+value_at l least =
+    as_value value_of (after_word (codes "value m") (both (number_from false least l.mutexes) (λ _. number_at 0 (2 ^ 64) 10)))
 
 -- the line that comes next
 abbrev pub line_at : Expect → Reader Line

@@ -11,7 +11,8 @@ meets least bound v n = nat_lt v bound && nat_lt least (v + n)
 
 -- a number from least on and below the bound, which is at most 1000, can begin with the digits of v
 abbrev pub reaches : ℕ → ℕ → ℕ → Bool
-reaches least bound v = nat_lt v bound && (nat_le least v || (nat_lt 0 v && (meets least bound (10 * v) 10 || meets least bound (100 * v) 100)))
+reaches least bound v =
+    nat_lt v bound && (nat_le least v || (nat_lt 0 v && (meets least bound (10 * v) 10 || meets least bound (100 * v) 100)))
 
 abbrev pub is_digit : ℕ → Bool
 is_digit c = nat_le 48 c && nat_le c 57
@@ -24,13 +25,15 @@ abbrev pub digits_from : Bool → ℕ → ℕ → ℕ → Reader (ℕ × ℕ)
 digits_from several least bound v [] = Err More
 digits_from several least bound v (c ∷ bytes) =
     if may_stop several bound v c && nat_le least v then Ok ((v, c), bytes)
-    else if is_digit c && (nat_lt 0 v && reaches least bound (10 * v + (c - 48))) then digits_from several least bound (10 * v + (c - 48)) bytes
+    else if is_digit c && (nat_lt 0 v && reaches least bound (10 * v + (c - 48)))
+    then digits_from several least bound (10 * v + (c - 48)) bytes
     else Err Dead
 
 -- a number from least on and below the bound, with the byte that stops it
 abbrev pub number_from : Bool → ℕ → ℕ → Reader (ℕ × ℕ)
 number_from several least bound [] = Err More
-number_from several least bound (c ∷ bytes) = if is_digit c && reaches least bound (c - 48) then digits_from several least bound (c - 48) bytes else Err Dead
+number_from several least bound (c ∷ bytes) =
+    if is_digit c && reaches least bound (c - 48) then digits_from several least bound (c - 48) bytes else Err Dead
 
 abbrev pub IsStopped : Bool → ℕ → ℕ → ℕ × ℕ → Type 0
 IsStopped several least bound p = (least ≤ p.0) × (p.0 < bound) × (may_stop several bound p.0 p.1 ≡ true)
@@ -44,7 +47,8 @@ IsRising least bound (t ∷ ts) = (least ≤ t) × (t < bound) × IsRising (t + 
 abbrev pub tail_at : ℕ → ℕ → ℕ → Reader (List ℕ)
 tail_at zero least bound bytes = Err Dead
 tail_at (suc fuel) least bound bytes =
-    as_value (λ p. p.0.0 ∷ p.1) (both (number_from true least bound) (λ p. if p.1 == 10 then (λ rest. Ok ([], rest)) else after_word (codes "t") (tail_at fuel (p.0 + 1) bound))) bytes
+    as_value (λ p. p.0.0 ∷ p.1) (both (number_from true least bound) (λ p. if p.1 == 10 then (λ rest. Ok ([], rest))
+    else after_word (codes "t") (tail_at fuel (p.0 + 1) bound))) bytes
 
 -- the names up to the end of the line, each behind ` t`
 abbrev pub names_at : ℕ → Reader (List ℕ)

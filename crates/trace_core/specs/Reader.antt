@@ -3,7 +3,7 @@ use Rattle.std.specs.Prelude.{◌≡◌, ℕ, List, []}
 use Rattle.std.specs.Borrow.{MutBor}
 use Rattle.std.specs.declared.option.Option.{Option}
 use Rattle.trace_core.specs.declared.reader.EventReader.{EventReader}
-use Rattle.trace_core.specs.declared.progress.Phase.TheVariants as phase
+use Rattle.trace_core.specs.declared.reader_state.Phase.TheVariants as phase
 use Rattle.trace_core.specs.Standing.{Standing, standing_of}
 
 -- the source that is read from

@@ -1,6 +1,6 @@
 -- Places that are kept with their text.
 use Rattle.std.specs.Prelude.{◌≡◌, ℕ, ◌+◌, ◌-◌, ◌*◌, ◌/◌, ◌^◌, ◌<◌, ◌≤◌, length, decimal}
-use Rattle.trace_core.specs.Held.{little}
+use Rattle.trace_core.specs.Usual.{little}
 
 -- The text of a number of at most eight digits as a number, its bits, what one more adds to it, the last number of its ten, and where
 -- it has two digits that of its hundred.

@@ -2,8 +2,8 @@
 use Rattle.std.specs.Prelude.{ℕ, List}
 use Rattle.std.specs.declared.option.Option.{Option}
 use Rattle.larch_actions.specs.declared.event.Layout.{Layout}
-use Rattle.trace_core.specs.declared.progress.Progress.{Progress}
-use Rattle.trace_core.specs.declared.progress.Phase.{Phase}
+use Rattle.trace_core.specs.declared.reader_state.Progress.{Progress}
+use Rattle.trace_core.specs.declared.reader_state.Phase.{Phase}
 use Rattle.trace_core.specs.Intake.{rest_of, room_of}
 
 pub record Standing : Type 0 where
@@ -19,4 +19,12 @@ pub record Standing : Type 0 where
   pub place : ℕ
 
 abbrev pub standing_of : Progress → Option (List ℕ) → Standing
-standing_of p left = record { rest = rest_of p.intake left; room = room_of p.intake; lines = p.intake.lines; phase = p.phase; layout = p.layout; place = p.place }
+standing_of p left =
+    record {
+      rest = rest_of p.intake left;
+      room = room_of p.intake;
+      lines = p.intake.lines;
+      phase = p.phase;
+      layout = p.layout;
+      place = p.place;
+    }

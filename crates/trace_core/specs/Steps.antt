@@ -1,20 +1,21 @@
 -- What the steps of a reader do.
-use Rattle.std.specs.Prelude.{◌≡◌, ℕ, ◌+◌, ◌≤◌, List, ◌++◌, length, Ok, IfSome}
+use Rattle.std.specs.Prelude.{◌≡◌, ℕ, ◌+◌, ◌≤◌, List, ◌++◌, length, Ok, Err, Some, None, IfSome}
 use Rattle.std.specs.Io.KnownBytes.{Consumes}
 use Rattle.std.specs.declared.option.Option.{Option}
+use Rattle.std.specs.declared.result.Result.{Result}
 use Rattle.larch_actions.specs.declared.event.Layout.{Layout}
 use Rattle.larch_actions.specs.declared.event.Event.{Event}
 use Rattle.larch_actions.specs.Layout.{IsLawful, HasNames}
 use Rattle.trace_core.specs.declared.intake.TextFault.{TextFault}
 use Rattle.trace_core.specs.declared.line.Expect.TheVariants as expect
 use Rattle.trace_core.specs.declared.line.Line.TheVariants as line
-use Rattle.trace_core.specs.declared.progress.Progress.{Progress}
-use Rattle.trace_core.specs.declared.progress.Phase.TheVariants as phase
-use Rattle.trace_core.specs.Intake.{HasReason, LacksAt}
+use Rattle.trace_core.specs.declared.reader_state.Progress.{Progress}
+use Rattle.trace_core.specs.declared.reader_state.Phase.TheVariants as phase
+use Rattle.trace_core.specs.Intake.{HasReason, LacksAt, IsUndecided}
 use Rattle.trace_core.specs.Lines.{line_at}
 use Rattle.trace_core.specs.Made.{IsMade}
 use Rattle.trace_core.specs.Standing.{Standing}
-use Rattle.trace_core.specs.Text.{MutexValue, AreValues, head_text, event_line, end_line, values_text}
+use Rattle.trace_core.specs.Text.{MutexValue, AreValues, IsRest, head_text, event_line, end_line, values_text}
 
 -- the bytes of the text were read
 pub record Passes (old new : Standing) (text : List ℕ) (count : ℕ) : Type 0 where
@@ -59,7 +60,19 @@ pub record TakesEnd (old new : Standing) : Type 0 where
   pub phase : new.phase ≡ phase.Ended
 
 -- The fault has its reason, and stays. None of the texts of the lawful values was there to be given.
-pub record Breaks {X : Type 0} (Text : List ℕ → Type 0) (lawful : X → Type 0) (text : X → List ℕ) (old new : Standing) (left' : Option (List ℕ)) (before now : ℕ) (fault : TextFault) : Type 0 where
+pub record Breaks {X : Type 0} (Text : List ℕ → Type 0) (lawful : X → Type 0) (text : X → List ℕ) (old new : Standing)
+    (left' : Option (List ℕ)) (before now : ℕ) (fault : TextFault) : Type 0 where
   pub reason : HasReason Text old.lines old.room old.rest left' before now fault
   pub lacks : LacksAt lawful text old.room old.rest left' fault
   pub phase : new.phase ≡ phase.Failed fault
+
+-- among the events the one in its place was read, or the end, or there is a fault
+abbrev pub GoesOn : Standing → Standing → Option (List ℕ) → ℕ → ℕ → Result (Option Event) TextFault → Type 0
+GoesOn old new left' before now (Ok (Some event)) = TakesEvent old new event
+GoesOn old new left' before now (Ok None) = TakesEnd old new
+GoesOn old new left' before now (Err fault) =
+    Breaks (IsRest old.layout old.place) (HasNames old.layout) (event_line old.place) old new left' before now fault
+
+-- the bytes held don't decide the line in the next event's place
+abbrev pub IsEventOpen : Progress → Type 0
+IsEventOpen p = IsUndecided (IsRest p.layout p.place) (HasNames p.layout) (event_line p.place) p.intake.window

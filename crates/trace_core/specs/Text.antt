@@ -123,7 +123,9 @@ IsValues l least bytes = (vs : List MutexValue) × AreValues l least vs × (byte
 
 -- the rest of a trace text from the event at place n on
 abbrev pub IsRest : Layout → ℕ → List ℕ → Type 0
-IsRest l n bytes = (es : List Event) × (vs : List MutexValue) × AllByRecursion (HasNames l) es × (n + length es < 2 ^ 64) × AreValues l 0 vs × (bytes ≡ rest_text n es vs)
+IsRest l n bytes =
+    (es : List Event) × (vs : List MutexValue) × AllByRecursion (HasNames l) es × (n + length es < 2 ^ 64) × AreValues l 0 vs
+    × (bytes ≡ rest_text n es vs)
 
 -- the rest of a trace text of the version from the layout line on
 abbrev pub IsLaid : Version → List ℕ → Type 0

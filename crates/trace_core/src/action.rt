@@ -1,4 +1,4 @@
-//! Reading actions up to the end of their lines, by their rows. The usual lines are read another way (held/action.rt).
+//! Reading actions up to the end of their lines, by their rows. The usual lines are read another way (usual/action.rt).
 ghost use Rattle.std.specs.Prelude.{◌≡◌, ◌<◌, true, Err};
 ghost use Rattle.larch_actions.specs.Rows.{word_text};
 ghost use Rattle.larch_actions.specs.Layout.{IsLawful};

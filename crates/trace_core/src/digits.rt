@@ -3,9 +3,9 @@ ghost use Rattle.std.specs.Prelude.{◌≡◌, ◌+◌, ◌<◌, ◌≤◌, ◌+
 
 use itoa::write_digits;
 
-// The digits of a number of at most four.
+/// How many digits a number of at most four has.
 #[inline(always)]
-fn few_digits(n: u64) -> usize
+pub fn few_digits(n: u64) -> usize
     requires { n < 10000 }
     ensures count { result ≡ length (decimal n) }
     ensures few { result ≤ 4 }
@@ -21,7 +21,7 @@ fn few_digits(n: u64) -> usize
     }
 }
 
-// The digits of a number of at most eight.
+// How many digits a number of at most eight has.
 #[inline(always)]
 fn digits(n: u64) -> usize
     requires { n < 100000000 }

@@ -6,24 +6,25 @@
 #![tactic(auto)]
 
 mod action;
-mod compose;
 mod digits;
-mod held;
 mod intake;
 pub mod laws;
 mod line;
+mod line_texts;
 mod names;
-mod parts;
+mod next_line;
+mod phases;
 mod place;
 mod print;
-mod progress;
 mod reader;
-mod step;
-mod take;
+mod reader_state;
+mod sections;
 mod token;
-mod whole;
+mod usual;
+mod whole_texts;
 
-pub use compose::{add, add_event, add_number};
+pub use digits::few_digits;
 pub use intake::TextFault;
+pub use line_texts::{add, add_event, add_number};
 pub use print::{print_end, print_event, print_head, print_value};
 pub use reader::EventReader;

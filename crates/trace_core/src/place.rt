@@ -1,8 +1,8 @@
 //! The place of the next event, kept with its text.
 ghost use Rattle.std.specs.Prelude.{◌≡◌, ◌+◌, ◌*◌, ◌/◌, ◌^◌, ◌<◌, ◌≤◌, length, decimal, IfSome, ℕ};
-ghost use Rattle.trace_core.specs.Held.{Stands, little};
+ghost use Rattle.trace_core.specs.Usual.{Stands, little};
 
-use crate::held::eight;
+use crate::usual::eight;
 use itoa::Buffer;
 use std::marker::Model;
 

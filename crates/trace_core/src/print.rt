@@ -4,7 +4,7 @@ ghost use Rattle.std.specs.Io.KnownBytes.{Appends};
 ghost use Rattle.firefly_outside.specs.Causes.{HasCause, AppendsFront};
 ghost use Rattle.trace_core.specs.Text.{head_text, event_line, end_line, value_line};
 
-use crate::compose::{add_end, add_event, add_head, add_value};
+use crate::line_texts::{add_end, add_event, add_head, add_value};
 use firefly_outside::{Sink, SinkFault, put_all};
 use larch_actions::{Event, Layout, MutexId};
 

@@ -1,7 +1,7 @@
 //! A reader of trace texts.
 ghost use Rattle.std.specs.Prelude.{◌≡◌, ◌≢◌, ◌⊎◌, ◌≤◌, ◌++◌, ◌^◌, ◌-◌, ◌<◌, IfOk, IfErr, IfSome, IfNone, OnOk};
 ghost use Rattle.trace_core.specs.declared.intake.TextFault.{TextFault};
-ghost use Rattle.trace_core.specs.declared.progress.Phase.TheVariants as phase;
+ghost use Rattle.trace_core.specs.declared.reader_state.Phase.TheVariants as phase;
 ghost use Rattle.trace_core.specs.Text.{IsTrace, IsRest, head_text, event_line};
 ghost use Rattle.larch_actions.specs.Layout.{IsLawful, HasNames};
 ghost use Rattle.trace_core.specs.Steps.{TakesHead, TakesEvent, TakesEnd, Breaks};
@@ -9,9 +9,9 @@ ghost use Rattle.trace_core.specs.Intake.{IsUndecided};
 ghost use Rattle.trace_core.specs.Reader.{IsFresh, standing, input_of, held_of};
 
 use crate::intake::{Intake, TextFault};
+use crate::phases::{begin, go_on};
 use crate::place::Place;
-use crate::progress::{Phase, Progress};
-use crate::step::{begin, go_on};
+use crate::reader_state::{Phase, Progress};
 use firefly_outside::Source;
 use larch_actions::{Event, Layout};
 

@@ -26,11 +26,16 @@ is_wait (Some (Semaphore s)) = false
 abbrev pub InTurn : (Event → Bool) → (Event → Bool) → Bool → List Event → Type 0
 InTurn ends begins is_open [] = Unit {0}
 InTurn ends begins is_open (e ∷ es) =
-    (ends e ≡ true → is_open ≡ true) × (begins e ≡ true → is_open ≡ false) × InTurn ends begins (cond (begins e) true (cond (ends e) false is_open)) es
+    (ends e ≡ true → is_open ≡ true) × (begins e ≡ true → is_open ≡ false)
+    × InTurn ends begins (cond (begins e) true (cond (ends e) false is_open)) es
 
 abbrev pub MutexesInTurn : Type 0
-MutexesInTurn = (version : Version) (es : List Event) (s : Spec) → IsRun version es s → (m : ℕ) → InTurn (λ e. is_mutex m (ended_by e.action)) (λ e. is_mutex m (begun_by e.action)) false es
+MutexesInTurn =
+    (version : Version) (es : List Event) (s : Spec) → IsRun version es s → (m : ℕ)
+    → InTurn (λ e. is_mutex m (ended_by e.action)) (λ e. is_mutex m (begun_by e.action)) false es
 
 -- the waits of the thread t
 abbrev pub WaitsInTurn : Type 0
-WaitsInTurn = (version : Version) (es : List Event) (s : Spec) → IsRun version es s → (t : ℕ) → InTurn (λ e. eqb t e.thread.0 && is_wait (ended_by e.action)) (λ e. eqb t e.thread.0 && is_wait (begun_by e.action)) false es
+WaitsInTurn =
+    (version : Version) (es : List Event) (s : Spec) → IsRun version es s → (t : ℕ)
+    → InTurn (λ e. eqb t e.thread.0 && is_wait (ended_by e.action)) (λ e. eqb t e.thread.0 && is_wait (begun_by e.action)) false es

@@ -14,13 +14,15 @@ with_number words n = words ++ decimal n
 
 -- What begins the text: the name of the only process. Each later item of the list begins with its comma.
 unfoldable pub opening_text : List ℕ
-opening_text = codes "{\"displayTimeUnit\":\"ms\",\"traceEvents\":[\n{\"ph\":\"M\",\"pid\":0,\"name\":\"process_name\",\"args\":{\"name\":\"firefly\"}}"
+opening_text =
+    codes "{\"displayTimeUnit\":\"ms\",\"traceEvents\":[\n{\"ph\":\"M\",\"pid\":0,\"name\":\"process_name\",\"args\":{\"name\":\"firefly\"}}"
 
 -- the row of a thread: its name, and that rows stand in the order of their threads
 unfoldable pub row_text : ℕ → List ℕ
 row_text t =
     with_number (codes ",\n{\"ph\":\"M\",\"pid\":0,\"tid\":") t ++ with_number (codes ",\"name\":\"thread_name\",\"args\":{\"name\":\"t") t
-    ++ with_number (codes "\"}},\n{\"ph\":\"M\",\"pid\":0,\"tid\":") t ++ with_number (codes ",\"name\":\"thread_sort_index\",\"args\":{\"sort_index\":") t ++ codes "}}"
+    ++ with_number (codes "\"}},\n{\"ph\":\"M\",\"pid\":0,\"tid\":") t
+    ++ with_number (codes ",\"name\":\"thread_sort_index\",\"args\":{\"sort_index\":") t ++ codes "}}"
 
 -- the rows of the threads below n
 unfoldable pub rows_text : ℕ → List ℕ
@@ -36,7 +38,8 @@ place_text n t = with_number (codes ",\"pid\":0,\"tid\":") t ++ with_number (cod
 
 -- the event n as an instant, with its action as its name
 unfoldable pub instant_text : ℕ → Event → List ℕ
-instant_text n e = codes ",\n{\"ph\":\"i\",\"s\":\"t\"" ++ place_text n e.thread.0 ++ codes ",\"name\":\"" ++ action_text e.action ++ codes "\"}"
+instant_text n e =
+    codes ",\n{\"ph\":\"i\",\"s\":\"t\"" ++ place_text n e.thread.0 ++ codes ",\"name\":\"" ++ action_text e.action ++ codes "\"}"
 
 -- which span of which kind: of one kind those with one id follow one another
 unfoldable pub span_name : ℕ → Span → List ℕ
@@ -47,7 +50,8 @@ span_name t (Semaphore s) = with_number (codes "\",\"cat\":\"semaphore\",\"id\":
 -- the event n of the thread t ends (`e`) or begins (`b`) a span
 unfoldable pub turn_text : ℕ → ℕ → ℕ → Span → List ℕ
 turn_text side n t x =
-    (codes ",\n{\"ph\":\"" ++ side ∷ []) ++ span_name t x ++ (codes "\"" ++ place_text n t) ++ (with_number (codes ",\"args\":{\"thread\":\"t") t ++ codes "\"}}")
+    (codes ",\n{\"ph\":\"" ++ side ∷ []) ++ span_name t x ++ (codes "\"" ++ place_text n t)
+    ++ (with_number (codes ",\"args\":{\"thread\":\"t") t ++ codes "\"}}")
 
 -- where there is such a span
 abbrev pub turn_if : ℕ → ℕ → ℕ → Option Span → List ℕ

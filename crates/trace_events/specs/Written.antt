@@ -12,12 +12,14 @@ use Rattle.trace_events.specs.Texts.{json_text}
 
 -- the sink got nothing, since there is no head, or the text of events at the front of the input
 abbrev pub GotFront : ℕ → List ℕ → Option (List ℕ) → Option (List ℕ) → Type 0
-GotFront budget bytes told told' = Appends told told' [] ⊎ ((w : IsFrontText budget bytes) × Appends told told' (json_text w.layout w.events))
+GotFront budget bytes told told' =
+    Appends told told' [] ⊎ ((w : IsFrontText budget bytes) × Appends told told' (json_text w.layout w.events))
 
 -- the sink got the text that this verdict asks for: of all events, or of those before the one that fails
 abbrev pub Got : ℕ → List ℕ → Option (List ℕ) → Option (List ℕ) → Verdict → Type 0
 Got budget bytes told told' (Legal s) = (w : IsLegalText budget bytes s) × Appends told told' (json_text w.layout w.events)
-Got budget bytes told told' (Illegal place why) = (w : IsIllegalText budget bytes place why) × Appends told told' (json_text w.layout w.events)
+Got budget bytes told told' (Illegal place why) =
+    (w : IsIllegalText budget bytes place why) × Appends told told' (json_text w.layout w.events)
 Got budget bytes told told' (BadLine k) = GotFront budget bytes told told'
 Got budget bytes told told' TooLong = GotFront budget bytes told told'
 Got budget bytes told told' ReadFault = GotFront budget bytes told told'
@@ -27,10 +29,12 @@ IsWritten budget left told told' v = IfSome left (λ bytes. Got budget bytes tol
 
 -- the sink failed, and got a proper front of the text of events at the front of the input
 abbrev pub IsCutShort : ℕ → Option (List ℕ) → Option (List ℕ) → Option (List ℕ) → Type 0
-IsCutShort budget left told told' = IfSome left (λ bytes. (w : IsFrontText budget bytes) × AppendsFront told told' (json_text w.layout w.events))
+IsCutShort budget left told told' =
+    IfSome left (λ bytes. (w : IsFrontText budget bytes) × AppendsFront told told' (json_text w.layout w.events))
 
 -- what a call answers, and what it did to its input and its sink
-pub record Answers {E : Type 0} (budget : ℕ) (left left' : Option (List ℕ)) (before now : ℕ) (told told' : Option (List ℕ)) (sunk sunk' : ℕ) (r : Result Verdict E) : Type 0 where
+pub record Answers {E : Type 0} (budget : ℕ) (left left' : Option (List ℕ)) (before now : ℕ) (told told' : Option (List ℕ)) (sunk sunk' : ℕ)
+    (r : Result Verdict E) : Type 0 where
   pub just : IfOk r (λ v. IsJust budget left left' before now v)
   pub written : IfOk r (λ v. IsWritten budget left told told' v)
   pub cut_short : OnErr r (IsCutShort budget left told told')

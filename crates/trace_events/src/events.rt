@@ -4,7 +4,7 @@ ghost use Rattle.std.specs.Io.KnownBytes.{Appends};
 ghost use Rattle.firefly_outside.specs.Causes.{HasCause, AppendsFront};
 ghost use Rattle.larch_actions.specs.Layout.{IsLawful};
 ghost use Rattle.text_output.specs.Sent.{Puts};
-ghost use Rattle.trace_core.specs.declared.progress.Phase.TheVariants as phase;
+ghost use Rattle.trace_core.specs.declared.reader_state.Phase.TheVariants as phase;
 ghost use Rattle.trace_core.specs.Reader.{standing, input_of};
 ghost use Rattle.trace_check.specs.declared.checker.Verdict.{Verdict};
 ghost use Rattle.trace_check.specs.declared.checker.Verdict.TheVariants as verdict;

@@ -5,8 +5,8 @@ use Rattle.larch_actions.specs.declared.event.Version.{Version}
 use Rattle.larch_actions.specs.declared.event.Version.TheVariants.{One, Two}
 use Rattle.larch_actions.specs.declared.event.Event.{Event}
 use Rattle.trace_board.specs.declared.history.Origin.{Origin}
-use Rattle.trace_board.specs.declared.history.Turn.{Turn}
-use Rattle.trace_board.specs.declared.history.Turn.TheVariants as turn
+use Rattle.trace_board.specs.declared.history.Effect.{Effect}
+use Rattle.trace_board.specs.declared.history.Effect.TheVariants as effect
 use Rattle.trace_board.specs.declared.causes.Cause.{Cause}
 use Rattle.trace_board.specs.declared.causes.Cause.TheVariants.{Never, Awaited, By}
 use Rattle.trace_board.specs.declared.causes.Move.{Move}
@@ -76,16 +76,16 @@ own_fact One k t = []
 own_fact Two k t = life_text t (k.born t) (k.over t)
 
 -- the thread that is forked, and what the one that ends holds
-abbrev pub life_fact : Kept → Turn → List ℕ
-life_fact k (turn.Begins t) = life_text t (k.born t) (k.over t)
-life_fact k (turn.Ends t) = holdings k t
-life_fact k turn.Stays = []
+abbrev pub life_fact : Kept → Effect → List ℕ
+life_fact k (effect.Begins t) = life_text t (k.born t) (k.over t)
+life_fact k (effect.Ends t) = holdings k t
+life_fact k effect.Stays = []
 
 -- the mutex that the action takes or gives back
-abbrev pub mutex_fact : Kept → Turn → List ℕ
-mutex_fact k (turn.Begins m) = held_text m (k.held m)
-mutex_fact k (turn.Ends m) = held_text m (k.held m)
-mutex_fact k turn.Stays = []
+abbrev pub mutex_fact : Kept → Effect → List ℕ
+mutex_fact k (effect.Begins m) = held_text m (k.held m)
+mutex_fact k (effect.Ends m) = held_text m (k.held m)
+mutex_fact k effect.Stays = []
 
 -- the condition that the action lets threads out of
 abbrev pub stand_fact : Kept → Move → List ℕ
@@ -107,5 +107,6 @@ waker_fact k _ = []
 -- all that the order and the action's row speak of
 unfoldable pub facts : Version → Kept → Event → List ℕ
 facts version k e =
-    own_fact version k e.thread.0 ++ wait_text e.thread.0 (k.stands e.thread.0) ++ life_fact k (marks_of e.thread.0 e.action).life ++ mutex_fact k (marks_of e.thread.0 e.action).mutex ++ stand_fact k (marks_of e.thread.0 e.action).stand
+    own_fact version k e.thread.0 ++ wait_text e.thread.0 (k.stands e.thread.0) ++ life_fact k (marks_of e.thread.0 e.action).life
+    ++ mutex_fact k (marks_of e.thread.0 e.action).mutex ++ stand_fact k (marks_of e.thread.0 e.action).stand
     ++ open_fact k (marks_of e.thread.0 e.action).avail ++ waker_fact k (marks_of e.thread.0 e.action).waker

@@ -65,7 +65,8 @@ pub record AreSo (version : Version) (k : Kept) (s : Spec) (es : List Event) : T
   pub alerts : (t : ℕ) → AlertedSo s t (k.alerts t)
   -- by which event a thread was taken out of its condition, a semaphore became available, a thread became alerted, was forked and lives, has ended; and it
   -- has been so since
-  pub taken_out_by : (t c : ℕ) (o : Origin) → k.stands t ≡ By o → IsWaitOn c (s.pending t) → IsMadeBy version (λ z. not (z.members c t)) es s o
+  pub taken_out_by : (t c : ℕ) (o : Origin) → k.stands t ≡ By o → IsWaitOn c (s.pending t)
+      → IsMadeBy version (λ z. not (z.members c t)) es s o
   pub opened_by : (n : ℕ) (o : Origin) → k.opens n ≡ By o → IsMadeBy version (λ z. z.avail n) es s o
   pub alerted_by : (t : ℕ) (o : Origin) → k.alerts t ≡ By o → IsMadeBy version (λ z. z.alerts t) es s o
   pub forked_by : (t : ℕ) (o : Origin) → k.born t ≡ Some o → s.life t ≡ Live → IsMadeBy version (λ z. is_live (z.life t)) es s o

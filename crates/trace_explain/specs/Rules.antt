@@ -9,8 +9,10 @@ use Rattle.larch_actions.specs.declared.event.Broken.TheVariants as broken
 
 -- what the order asks
 abbrev pub order_rule : Version → List ℕ
-order_rule One = codes "after the first part of a wait a thread's next event is the second part of that wait, and no other thread makes a second part"
-order_rule Two = codes "a thread makes events from its fork to its end alone; after the first part of a wait its next event is the second part of that wait, and no other thread makes a second part"
+order_rule One =
+    codes "after the first part of a wait a thread's next event is the second part of that wait, and no other thread makes a second part"
+order_rule Two =
+    codes "a thread makes events from its fork to its end alone; after the first part of a wait its next event is the second part of that wait, and no other thread makes a second part"
 
 -- what the row of an action says
 abbrev pub row_of : Action → List ℕ
@@ -20,7 +22,8 @@ row_of (Enqueue m c) = codes "REQUIRES the holder of m is SELF; ENSURES SELF is 
 row_of (Resume m c) = codes "WHEN the holder of m is NIL and SELF is not in c; ENSURES the holder of m is SELF"
 row_of (AlertEnqueue m c) = codes "REQUIRES the holder of m is SELF; ENSURES SELF is in c and the holder of m is NIL"
 row_of (AlertReturn m c) = codes "WHEN the holder of m is NIL and SELF is not in c; ENSURES the holder of m is SELF"
-row_of (AlertRaise m c) = codes "WHEN the holder of m is NIL and SELF is alerted; ENSURES the holder of m is SELF, and SELF is neither in c nor alerted"
+row_of (AlertRaise m c) =
+    codes "WHEN the holder of m is NIL and SELF is alerted; ENSURES the holder of m is SELF, and SELF is neither in c nor alerted"
 row_of (Signal c left) = codes "ENSURES c is what is left, which is empty or a proper subset of c before"
 row_of (Broadcast c) = codes "ENSURES c is empty"
 row_of (P s) = codes "WHEN s is available; ENSURES s is not available"

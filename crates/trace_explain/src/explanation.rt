@@ -1,7 +1,7 @@
 //! The explanation of a verdict.
 ghost use Rattle.std.specs.Prelude.{◌≡◌, ◌≢◌, ◌-◌, ◌<◌, ◌≤◌, ◌^◌, List, ℕ, Some, IfOk, OnErr};
 ghost use Rattle.firefly_outside.specs.Causes.{HasCause};
-ghost use Rattle.trace_core.specs.declared.progress.Phase.TheVariants as phase;
+ghost use Rattle.trace_core.specs.declared.reader_state.Phase.TheVariants as phase;
 ghost use Rattle.trace_core.specs.Reader.{standing, input_of};
 ghost use Rattle.trace_check.specs.declared.checker.Verdict.{Verdict};
 ghost use Rattle.trace_check.specs.declared.checker.Verdict.TheVariants as verdict;
@@ -51,7 +51,8 @@ fn explain_all<I: Source, O: Sink>(
     requires fits { (standing I.left reader.old).room < 2 ^ 64 - 1 }
     ensures just { IfOk result (λ v. IsJust (standing I.left reader.old).room (standing I.left reader.old).rest
         (I.left (input_of reader.new).now) (I.faults (input_of reader.old).now) (I.faults (input_of reader.new).now) v) }
-    ensures ok { IfOk result (λ v. GotText (standing I.left reader.old).room (standing I.left reader.old).rest (O.held out.old) (O.held out.new) v) }
+    ensures ok { IfOk result (λ v. GotText (standing I.left reader.old).room (standing I.left reader.old).rest (O.held out.old)
+        (O.held out.new) v) }
     ensures err { OnErr result (GotFront (standing I.left reader.old).room (standing I.left reader.old).rest
         (I.left (input_of reader.new).now) (I.faults (input_of reader.old).now) (I.faults (input_of reader.new).now)
         (O.held out.old) (O.held out.new)) }

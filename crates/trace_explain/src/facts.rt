@@ -11,7 +11,7 @@ use larch_actions::{Event, Version};
 use picture_marks::tags::add_with_number;
 use trace_board::board::{Board, Waker};
 use trace_board::causes::{Cause, Causes, Move};
-use trace_board::history::{Origin, Table, Turn};
+use trace_board::history::{Effect, Origin, Table};
 use trace_board::marks::marks_of;
 use trace_core::add;
 
@@ -207,30 +207,30 @@ fn add_own(buf: &mut [u8], at: usize, version: Version, board: &Board, t: u32) -
 }
 
 // Adds how it stands with the thread that is forked, or what the one that ends holds.
-fn add_life_fact(buf: &mut [u8], at: usize, board: &Board, turn: Turn) -> usize
-    requires within { IsWithin turn }
+fn add_life_fact(buf: &mut [u8], at: usize, board: &Board, effect: Effect) -> usize
+    requires within { IsWithin effect }
     requires room { at + 3000 ≤ length buf.old }
-    ensures text { take result buf.new ≡ take at buf.old ++ life_fact (kept_of board.now) turn }
+    ensures text { take result buf.new ≡ take at buf.old ++ life_fact (kept_of board.now) effect }
     ensures near { result ≤ at + 3000 }
 {
-    match turn {
-        Turn::Begins(t) => add_life_of(buf, at, board, t),
-        Turn::Ends(t) => add_holdings(buf, at, t, board),
-        Turn::Stays => at,
+    match effect {
+        Effect::Begins(t) => add_life_of(buf, at, board, t),
+        Effect::Ends(t) => add_holdings(buf, at, t, board),
+        Effect::Stays => at,
     }
 }
 
 // Adds who has the mutex that is taken or given back.
-fn add_mutex_fact(buf: &mut [u8], at: usize, board: &Board, turn: Turn) -> usize
-    requires within { IsWithin turn }
+fn add_mutex_fact(buf: &mut [u8], at: usize, board: &Board, effect: Effect) -> usize
+    requires within { IsWithin effect }
     requires room { at + 160 ≤ length buf.old }
-    ensures text { take result buf.new ≡ take at buf.old ++ mutex_fact (kept_of board.now) turn }
+    ensures text { take result buf.new ≡ take at buf.old ++ mutex_fact (kept_of board.now) effect }
     ensures near { result ≤ at + 160 }
 {
-    match turn {
-        Turn::Begins(m) => add_held(buf, at, m, board.held.at(m)),
-        Turn::Ends(m) => add_held(buf, at, m, board.held.at(m)),
-        Turn::Stays => at,
+    match effect {
+        Effect::Begins(m) => add_held(buf, at, m, board.held.at(m)),
+        Effect::Ends(m) => add_held(buf, at, m, board.held.at(m)),
+        Effect::Stays => at,
     }
 }
 

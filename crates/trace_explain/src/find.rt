@@ -1,6 +1,6 @@
 //! What a check finds, with the event that fails.
 ghost use Rattle.std.specs.Prelude.{◌≡◌, ◌≢◌, ◌-◌, ◌<◌, ◌≤◌, ◌^◌};
-ghost use Rattle.trace_core.specs.declared.progress.Phase.TheVariants as phase;
+ghost use Rattle.trace_core.specs.declared.reader_state.Phase.TheVariants as phase;
 ghost use Rattle.trace_core.specs.Reader.{standing, input_of};
 ghost use Rattle.trace_check.specs.declared.checker.Verdict.TheVariants as verdict;
 ghost use Rattle.trace_check.specs.Verdicts.{IsJust};

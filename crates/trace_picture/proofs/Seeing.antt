@@ -11,7 +11,7 @@ use Rattle.larch_actions.specs.declared.event.Action.{Action}
 use Rattle.larch_actions.specs.declared.event.Action.TheVariants.{Acquire, Release, Enqueue, Resume, AlertEnqueue, AlertReturn, AlertRaise, Signal, Broadcast, P, V, Alert, TestAlert, AlertPReturn, AlertPRaise, Fork, End, Join}
 use Rattle.larch_actions.specs.Actions.{Spec, MeetsRequires}
 use Rattle.trace_board.specs.declared.history.Origin.{Origin}
-use Rattle.trace_board.specs.declared.history.Turn.TheVariants.{Begins, Ends, Stays}
+use Rattle.trace_board.specs.declared.history.Effect.TheVariants.{Begins, Ends, Stays}
 use Rattle.trace_board.specs.declared.rows.Bar.{Bar}
 use Rattle.trace_board.specs.declared.rows.Bar.TheVariants.{Mutex, Semaphore}
 use Rattle.picture_marks.specs.declared.view.View.{View}
@@ -133,7 +133,7 @@ module _ (l : Layout) (v : View) (k : Kept) (n : ℕ) (e : Event) (seen : in_vie
   -- of a mutex
   bar_there : (marks e).mutex ≡ Ends m → k.held m ≡ Some o → HasText (step_text l v k n e) (with_number (codes "<rect class='m") m ++ box_at (lane_in (k.rows o.thread.0) (Mutex m)))
   unfolding step_text event_shapes bar_text
-  bar_there turn held =
+  bar_there effect held =
       let op = opening l v k n in
       let num = number_text v n in
       let life = life_row v n (marks e).life in
@@ -147,7 +147,7 @@ module _ (l : Layout) (v : View) (k : Kept) (n : ℕ) (e : Event) (seen : in_vie
       let span = span_text o true (n + 1) in
       let lane = lane_in (k.rows o.thread.0) (Mutex m) in
       let is : bar_ended start n k.rows k.held (marks e).mutex ≡ name ++ box_at lane ++ height ++ by ++ span =
-      ap (λ t. bar_ended start n k.rows k.held t) turn ∙ ap (λ h. bar_if start true (n + 1) k.rows m h) held ∙ ap (λ z. name ++ z ++ height ++ by ++ span) (box_is lane)
+      ap (λ t. bar_ended start n k.rows k.held t) effect ∙ ap (λ h. bar_if start true (n + 1) k.rows m h) held ∙ ap (λ z. name ++ z ++ height ++ by ++ span) (box_is lane)
       in
       record {
         before = op ++ num ++ life ++ mark ++ object;
@@ -161,7 +161,7 @@ module _ (l : Layout) (v : View) (k : Kept) (n : ℕ) (e : Event) (seen : in_vie
   -- of a semaphore
   taking_there : (marks e).semaphore ≡ Ends m → k.taken m ≡ Some o → HasText (step_text l v k n e) (codes "<rect class='e" ++ box_at (lane_in (k.rows o.thread.0) (Semaphore m)))
   unfolding step_text event_shapes taken_text
-  taking_there turn since =
+  taking_there effect since =
       let op = opening l v k n in
       let num = number_text v n in
       let life = life_row v n (marks e).life in
@@ -176,7 +176,7 @@ module _ (l : Layout) (v : View) (k : Kept) (n : ℕ) (e : Event) (seen : in_vie
       let span = span_text o true (n + 1) in
       let lane = lane_in (k.rows o.thread.0) (Semaphore m) in
       let is : taken ≡ name ++ box_at lane ++ height ++ by ++ span =
-      ap (λ t. taken_ended start n k.rows k.taken t) turn ∙ ap (λ h. taken_if start true (n + 1) k.rows m h) since ∙ ap (λ z. name ++ z ++ height ++ by ++ span) (box_is lane)
+      ap (λ t. taken_ended start n k.rows k.taken t) effect ∙ ap (λ h. taken_if start true (n + 1) k.rows m h) since ∙ ap (λ z. name ++ z ++ height ++ by ++ span) (box_is lane)
       in
       record {
         before = op ++ num ++ life ++ mark ++ object ++ bars;
@@ -261,13 +261,13 @@ since_near : (b : Bar) (o : Origin) (es : List Event) → IsSince b o (behind []
 since_near b o es h = omega (arith, h.place, ap length h.split, length-append h.later (h.taking ∷ h.earlier), length-behind [] es)
 
 pub bars_are_drawn : BarsAreDrawn
-bars_are_drawn = λ l v es s r e may m turn seen.
+bars_are_drawn = λ l v es s r e may m effect seen.
     let past = behind [] es in
     let k = kept_since past in
     let n = length es in
     let t = e.thread.0 in
     let start = band_start v n in
-    let h = held_since m t past (k.held m) (s.holder m) (gives_own t e.action s m turn may.requires_met) (holding.bars_are_holds l.version es s r m) in
+    let h = held_since m t past (k.held m) (s.holder m) (gives_own t e.action s m effect may.requires_met) (holding.bars_are_holds l.version es s r m) in
     let o = h.0 in
     let near : o.place < n = since_near (Mutex m) o es h.3 in
     let first : start ≤ n = omega arith in (
@@ -275,7 +275,7 @@ bars_are_drawn = λ l v es s r e may m turn seen.
         o = o;
         lane = lane_in (k.rows o.thread.0) (Mutex m);
         since = h.3;
-        drawn = bar_there l v k n e seen m o turn h.1;
+        drawn = bar_there l v k n e seen m o effect h.1;
         from_taking = λ le. left_here start n o (omega arith) le;
         from_before = λ lt. left_before start n o first lt;
         ends = right_edge start n o first (omega arith);
@@ -284,7 +284,7 @@ bars_are_drawn = λ l v es s r e may m turn seen.
     )
 
 pub takings_are_drawn : TakingsAreDrawn
-takings_are_drawn = λ l v es s r e m turn shut seen.
+takings_are_drawn = λ l v es s r e m effect shut seen.
     let past = behind [] es in
     let k = kept_since past in
     let n = length es in
@@ -297,7 +297,7 @@ takings_are_drawn = λ l v es s r e m turn shut seen.
       o = o;
       lane = lane_in (k.rows o.thread.0) (Semaphore m);
       since = h.2;
-      drawn = taking_there l v k n e seen m o turn h.1;
+      drawn = taking_there l v k n e seen m o effect h.1;
       from_taking = λ le. left_here start n o (omega arith) le;
       from_before = λ lt. left_before start n o first lt;
       ends = right_edge start n o first (omega arith);

@@ -15,12 +15,15 @@ use Rattle.trace_picture.specs.Rings.{IsLegalPicture}
 
 -- the sink got nothing, since there is no head, or the picture of events at the front of the input
 abbrev pub GotCut : ℕ → View → List ℕ → Option (List ℕ) → Option (List ℕ) → Type 0
-GotCut budget v bytes told told' = Appends told told' [] ⊎ ((w : IsFrontText budget bytes) × Appends told told' (cut_picture w.layout v w.events))
+GotCut budget v bytes told told' =
+    Appends told told' [] ⊎ ((w : IsFrontText budget bytes) × Appends told told' (cut_picture w.layout v w.events))
 
 -- the sink got the picture that this verdict asks for
 abbrev pub Got : ℕ → View → List ℕ → Option (List ℕ) → Option (List ℕ) → Verdict → Type 0
-Got budget v bytes told told' (Legal s) = (w : IsLegalText budget bytes s) × (text : List ℕ) × IsLegalPicture w.layout v w.events text × Appends told told' text
-Got budget v bytes told told' (Illegal place why) = (w : IsIllegalText budget bytes place why) × Appends told told' (failed_picture w.layout v w.events w.event why)
+Got budget v bytes told told' (Legal s) =
+    (w : IsLegalText budget bytes s) × (text : List ℕ) × IsLegalPicture w.layout v w.events text × Appends told told' text
+Got budget v bytes told told' (Illegal place why) =
+    (w : IsIllegalText budget bytes place why) × Appends told told' (failed_picture w.layout v w.events w.event why)
 Got budget v bytes told told' (BadLine k) = GotCut budget v bytes told told'
 Got budget v bytes told told' TooLong = GotCut budget v bytes told told'
 Got budget v bytes told told' ReadFault = GotCut budget v bytes told told'
@@ -30,9 +33,11 @@ IsDrawn budget v left told told' verdict = IfSome left (λ bytes. Got budget v b
 
 -- the text is one of the pictures of these events
 abbrev pub IsAPicture : Layout → View → List Event → List ℕ → Type 0
-IsAPicture l v es text = IsLegalPicture l v es text ⊎ (text ≡ cut_picture l v es) ⊎ ((e : Event) × (why : Broken) × (text ≡ failed_picture l v es e why))
+IsAPicture l v es text =
+    IsLegalPicture l v es text ⊎ (text ≡ cut_picture l v es) ⊎ ((e : Event) × (why : Broken) × (text ≡ failed_picture l v es e why))
 
 -- the sink failed, and got a proper front of a picture of events at the front of the input
 abbrev pub IsCutOff : ℕ → View → Option (List ℕ) → Option (List ℕ) → Option (List ℕ) → Type 0
 IsCutOff budget v left told told' =
-    IfSome left (λ bytes. (w : IsFrontText budget bytes) × (text : List ℕ) × IsAPicture w.layout v w.events text × AppendsFront told told' text)
+    IfSome left (λ bytes. (w : IsFrontText budget bytes) × (text : List ℕ) × IsAPicture w.layout v w.events text
+    × AppendsFront told told' text)

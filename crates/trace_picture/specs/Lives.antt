@@ -4,8 +4,8 @@ use Rattle.std.specs.declared.option.Option.{Option}
 use Rattle.larch_actions.specs.declared.event.Version.{Version}
 use Rattle.larch_actions.specs.declared.event.Version.TheVariants.{One, Two}
 use Rattle.trace_board.specs.declared.history.Origin.{Origin}
-use Rattle.trace_board.specs.declared.history.Turn.{Turn}
-use Rattle.trace_board.specs.declared.history.Turn.TheVariants.{Begins, Ends, Stays}
+use Rattle.trace_board.specs.declared.history.Effect.{Effect}
+use Rattle.trace_board.specs.declared.history.Effect.TheVariants.{Begins, Ends, Stays}
 use Rattle.trace_board.specs.Kept.{Kept, life_in, forked_by}
 use Rattle.trace_board.specs.Laws.{is_live}
 use Rattle.picture_marks.specs.declared.view.View.{View}
@@ -24,16 +24,18 @@ row_if version k t = if has_row version k t then row_text t else []
 -- the row of a thread from this point on, with its name
 unfoldable pub row_from : ℕ → ℕ → List ℕ
 row_from x t =
-    with_number (codes "<rect class='r' height='32' width='") (1248 - x) ++ place_text x (row_y t) ++ with_number (codes "'/><text x='6' y='") (20 + row_y t) ++ with_number (codes "'>t") t
+    with_number (codes "<rect class='r' height='32' width='") (1248 - x) ++ place_text x (row_y t)
+    ++ with_number (codes "'/><text x='6' y='") (20 + row_y t) ++ with_number (codes "'>t") t
     ++ codes "</text>\n"
 
 -- what is no more of the row of a thread, from this point on
 unfoldable pub row_until : ℕ → ℕ → List ℕ
 row_until x t =
-    with_number (codes "<rect class='z' height='32' width='") (1248 - x) ++ place_text x (row_y t) ++ with_number (codes "'><title>t") t ++ codes " has ended</title></rect>\n"
+    with_number (codes "<rect class='z' height='32' width='") (1248 - x) ++ place_text x (row_y t) ++ with_number (codes "'><title>t") t
+    ++ codes " has ended</title></rect>\n"
 
 -- what the event n does to a row: it begins in its column, or ends behind it
-abbrev pub life_row : View → ℕ → Turn → List ℕ
+abbrev pub life_row : View → ℕ → Effect → List ℕ
 life_row v n (Begins t) = row_from (column_x (column v n)) t
 life_row v n (Ends t) = row_until (column_x (column v n) + 12) t
 life_row v n Stays = []

@@ -12,7 +12,9 @@ hold_end h = if h.ended then with_number (codes " to ") h.last else codes " on"
 
 -- by whom, for how many events, and from which event to which a mutex was held
 unfoldable pub hold_text : Hold → List ℕ
-hold_text h = with_number (codes " longest held by t") h.since.thread.0 ++ with_number (codes ", events: ") (held_for h) ++ with_number (codes ", from ") h.since.place ++ hold_end h
+hold_text h =
+    with_number (codes " longest held by t") h.since.thread.0 ++ with_number (codes ", events: ") (held_for h)
+    ++ with_number (codes ", from ") h.since.place ++ hold_end h
 
 abbrev pub told_hold : Option Hold → List ℕ
 told_hold None = codes " never held"

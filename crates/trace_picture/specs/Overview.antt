@@ -32,7 +32,9 @@ held_cell k start x y m = if was_held k start m then with_number (codes "<rect c
 
 -- the link of a column to its band, and which events those are
 unfoldable pub link_text : ℕ → ℕ → ℕ → List ℕ
-link_text band start to = with_number (codes "<a class='u' href='#b") band ++ with_number (codes "'><title>events ") start ++ with_number (codes " to ") (to - 1) ++ codes "</title>\n"
+link_text band start to =
+    with_number (codes "<a class='u' href='#b") band ++ with_number (codes "'><title>events ") start ++ with_number (codes " to ") (to - 1)
+    ++ codes "</title>\n"
 
 -- the column of the band that begins at `start`, up to the event before `to`
 unfoldable pub column_text : Layout → Kept → ℕ → ℕ → ℕ → List ℕ
@@ -48,5 +50,7 @@ over_height l v n = if nat_lt 10 (bands v n) then (bands v n + 99) / 100 * colum
 abbrev pub over_style : Layout → View → ℕ → List ℕ
 over_style l v n =
     if nat_lt 10 (bands v n) then
-    with_number (codes "px}.w{transform:translate(0,") (over_height l v n) ++ with_number (codes "px)}.u{display:inline;transform:translate(0,calc(136px - ") (over_height l v n) ++ codes "px))}</style>\n</svg>\n"
+    with_number (codes "px}.w{transform:translate(0,") (over_height l v n)
+    ++ with_number (codes "px)}.u{display:inline;transform:translate(0,calc(136px - ") (over_height l v n)
+    ++ codes "px))}</style>\n</svg>\n"
     else codes "px}</style>\n</svg>\n"

@@ -28,7 +28,8 @@ ring_y l v n = band_top l ((n.place - v.first) / 100) + row_y n.thread.0 + 5
 unfoldable pub ring_text : Layout → View → Nested → List ℕ
 ring_text l v n =
     with_number (codes "<circle class='c' r='8' cx='") (ring_x v n) ++ with_number (codes ".5' cy='") (ring_y l v n)
-    ++ with_number (codes ".5' fill='none' stroke='#c00' stroke-width='2'><title>m") n.outer.0 ++ with_number (codes " then m") n.inner.0 ++ codes "</title></circle>\n"
+    ++ with_number (codes ".5' fill='none' stroke='#c00' stroke-width='2'><title>m") n.outer.0 ++ with_number (codes " then m") n.inner.0
+    ++ codes "</title></circle>\n"
 
 -- the ring, where the event is drawn
 abbrev pub ring_if : Layout → View → Nested → List ℕ

@@ -8,7 +8,7 @@ use Rattle.larch_actions.specs.declared.event.Action.{Action}
 use Rattle.larch_actions.specs.declared.event.Action.TheVariants.{Acquire, Release, Enqueue, Resume, AlertEnqueue, AlertReturn, AlertRaise, Signal, Broadcast, P, V, Alert, TestAlert, AlertPReturn, AlertPRaise, Fork, End, Join}
 use Rattle.larch_actions.specs.Actions.{Spec, IsRun, MayAct}
 use Rattle.trace_board.specs.declared.history.Origin.{Origin}
-use Rattle.trace_board.specs.declared.history.Turn.TheVariants.{Ends}
+use Rattle.trace_board.specs.declared.history.Effect.TheVariants.{Ends}
 use Rattle.trace_board.specs.declared.rows.Bar.{Bar}
 use Rattle.trace_board.specs.declared.rows.Bar.TheVariants.{Mutex, Semaphore}
 use Rattle.picture_marks.specs.declared.view.View.{View}
@@ -47,7 +47,8 @@ kind_of (Join who) = 17
 abbrev pub MarksDiffer : Type 0
 MarksDiffer =
     (t u : ℕ) (a b : Action) → kind_of a ≢ kind_of b
-    → ((look_of (marks_of t a).mark).letter ≢ (look_of (marks_of u b).mark).letter) × ((look_of (marks_of t a).mark).shown ≢ (look_of (marks_of u b).mark).shown)
+    → ((look_of (marks_of t a).mark).letter ≢ (look_of (marks_of u b).mark).letter)
+    × ((look_of (marks_of t a).mark).shown ≢ (look_of (marks_of u b).mark).shown)
 
 -- what an event adds has this text in it
 pub record HasText (whole part : List ℕ) : Type 0 where
@@ -59,7 +60,8 @@ pub record HasText (whole part : List ℕ) : Type 0 where
 abbrev pub EventsAreMarked : Type 0
 EventsAreMarked =
     (l : Layout) (v : View) (k : Kept) (n : ℕ) (e : Event) → in_view v n ≡ true
-    → HasText (step_text l v k n e) ((codes "<use href='#" ++ (look_of (marks e).mark).letter ∷ []) ++ place_text (44 + 12 * ((n - v.first) % 100)) (18 + 34 * e.thread.0))
+    → HasText (step_text l v k n e) ((codes "<use href='#" ++ (look_of (marks e).mark).letter ∷ [])
+    ++ place_text (44 + 12 * ((n - v.first) % 100)) (18 + 34 * e.thread.0))
 
 -- The bar that ends with the event at the place n, in the band from `start`, as a tag that begins so: it goes from the event that took what the bar is
 -- of, in the row of the thread that did, from the column of the taking, or the band's first, to that of the event, but for the gaps.
@@ -75,44 +77,55 @@ pub record IsBarTo (whole : List ℕ) (past : List Event) (name : List ℕ) (b :
 -- Each event of a run that gives a mutex back ends its bar, in the row of its thread, where the event is in view.
 abbrev pub BarsAreDrawn : Type 0
 BarsAreDrawn =
-    (l : Layout) (v : View) (es : List Event) (s : Spec) → IsRun l.version es s → (e : Event) → MayAct s e → (m : ℕ) → (marks e).mutex ≡ Ends m → in_view v (length es) ≡ true
-    → (w : IsBarTo (step_text l v (kept_since (behind [] es)) (length es) e) (behind [] es) (with_number (codes "<rect class='m") m) (Mutex m) (band_start v (length es)) (length es)) × (w.o.thread.0 ≡ e.thread.0)
+    (l : Layout) (v : View) (es : List Event) (s : Spec) → IsRun l.version es s → (e : Event) → MayAct s e → (m : ℕ)
+    → (marks e).mutex ≡ Ends m → in_view v (length es) ≡ true
+    → (w : IsBarTo (step_text l v (kept_since (behind [] es)) (length es) e) (behind [] es) (with_number (codes "<rect class='m") m)
+    (Mutex m) (band_start v (length es)) (length es)) × (w.o.thread.0 ≡ e.thread.0)
 
 -- Each event that makes a semaphore available which wasn't ends its bar, in the row of the thread that took it, where the event is in view.
 abbrev pub TakingsAreDrawn : Type 0
 TakingsAreDrawn =
-    (l : Layout) (v : View) (es : List Event) (s : Spec) → IsRun l.version es s → (e : Event) → (k : ℕ) → (marks e).semaphore ≡ Ends k → s.avail k ≡ false → in_view v (length es) ≡ true
-    → IsBarTo (step_text l v (kept_since (behind [] es)) (length es) e) (behind [] es) (codes "<rect class='e") (Semaphore k) (band_start v (length es)) (length es)
+    (l : Layout) (v : View) (es : List Event) (s : Spec) → IsRun l.version es s → (e : Event) → (k : ℕ) → (marks e).semaphore ≡ Ends k
+    → s.avail k ≡ false → in_view v (length es) ≡ true
+    → IsBarTo (step_text l v (kept_since (behind [] es)) (length es) e) (behind [] es) (codes "<rect class='e") (Semaphore k)
+    (band_start v (length es)) (length es)
 
 -- In version two a band begins with the rows of the threads that live, and with no others.
 abbrev pub RowsStand : Type 0
 RowsStand =
     (l : Layout) (v : View) (es : List Event) (s : Spec) → l.version ≡ Two → IsRun l.version es s → column v (length es) ≡ 0
-    → HasText (opening l v (kept_since (behind [] es)) (length es)) (each_below (λ t. if is_live (s.life t) then row_text t else []) l.threads)
+    → HasText (opening l v (kept_since (behind [] es)) (length es)) (each_below
+    (λ t. if is_live (s.life t) then row_text t else []) l.threads)
 
 -- Each fork in view begins the row of the thread that it forks, in its own column, up to the right edge.
 abbrev pub RowsBegin : Type 0
 RowsBegin =
     (l : Layout) (v : View) (k : Kept) (n : ℕ) (e : Event) (who : ThreadId) → e.action ≡ Fork who → in_view v n ≡ true
-    → HasText (step_text l v k n e) (with_number (codes "<rect class='r' height='32' width='") (1204 - 12 * ((n - v.first) % 100)) ++ place_text (44 + 12 * ((n - v.first) % 100)) (18 + 34 * who.0))
+    → HasText (step_text l v k n e) (with_number (codes "<rect class='r' height='32' width='") (1204 - 12 * ((n - v.first) % 100))
+    ++ place_text (44 + 12 * ((n - v.first) % 100)) (18 + 34 * who.0))
 
 -- Each end in view cuts the row of its thread off behind its own column, up to the right edge.
 abbrev pub RowsEnd : Type 0
 RowsEnd =
     (l : Layout) (v : View) (k : Kept) (n : ℕ) (e : Event) → e.action ≡ End → in_view v n ≡ true
-    → HasText (step_text l v k n e) (with_number (codes "<rect class='z' height='32' width='") (1192 - 12 * ((n - v.first) % 100)) ++ place_text (56 + 12 * ((n - v.first) % 100)) (18 + 34 * e.thread.0))
+    → HasText (step_text l v k n e) (with_number (codes "<rect class='z' height='32' width='") (1192 - 12 * ((n - v.first) % 100))
+    ++ place_text (56 + 12 * ((n - v.first) % 100)) (18 + 34 * e.thread.0))
 
 -- Each join in view has an arrow from the end of the thread that it joins.
 abbrev pub JoinsAreDrawn : Type 0
 JoinsAreDrawn =
-    (l : Layout) (v : View) (es : List Event) (s : Spec) → IsRun l.version es s → (e : Event) → MayAct s e → (who : ThreadId) → e.action ≡ Join who → in_view v (length es) ≡ true
-    → (o : Origin) × IsMadeBy l.version (λ z. is_ended (z.life who.0)) es s o × HasText (step_text l v (kept_since (behind [] es)) (length es) e) (arrow_text (band_start v (length es)) (length es) e.thread.0 o)
+    (l : Layout) (v : View) (es : List Event) (s : Spec) → IsRun l.version es s → (e : Event) → MayAct s e → (who : ThreadId)
+    → e.action ≡ Join who → in_view v (length es) ≡ true
+    → (o : Origin) × IsMadeBy l.version (λ z. is_ended (z.life who.0)) es s o
+    × HasText (step_text l v (kept_since (behind [] es)) (length es) e) (arrow_text (band_start v (length es)) (length es) e.thread.0 o)
 
 -- The first event of each thread that was forked has, in view, an arrow from its fork.
 abbrev pub ForksAreDrawn : Type 0
 ForksAreDrawn =
-    (l : Layout) (v : View) (es : List Event) (s : Spec) → IsRun l.version es s → (e : Event) → MayAct s e → (o : Origin) → forked_by (kept_since (behind [] es)) e.thread.0 ≡ Some o → in_view v (length es) ≡ true
-    → IsMadeBy l.version (λ z. is_live (z.life e.thread.0)) es s o × (HasEvent e.thread.0 0 (behind [] es) → ⊥) × HasText (step_text l v (kept_since (behind [] es)) (length es) e) (arrow_text (band_start v (length es)) (length es) e.thread.0 o)
+    (l : Layout) (v : View) (es : List Event) (s : Spec) → IsRun l.version es s → (e : Event) → MayAct s e → (o : Origin)
+    → forked_by (kept_since (behind [] es)) e.thread.0 ≡ Some o → in_view v (length es) ≡ true
+    → IsMadeBy l.version (λ z. is_live (z.life e.thread.0)) es s o × (HasEvent e.thread.0 0 (behind [] es) → ⊥)
+    × HasText (step_text l v (kept_since (behind [] es)) (length es) e) (arrow_text (band_start v (length es)) (length es) e.thread.0 o)
 
 -- The last lines of a picture tell the longest hold of each mutex: by whom, how many events, from which event to which, or that there is none.
 abbrev pub HoldsAreTold : Type 0
@@ -120,5 +133,7 @@ HoldsAreTold =
     (l : Layout) (v : View) (past : List Event) (n : ℕ) (note : List ℕ) (m : ℕ) → m < l.mutexes
     → MatchOption (longest_in (kept_since past) n m)
     (HasText (end_text l v (kept_since past) n note) (with_number (codes "'>m") m ++ codes " never held"))
-    (λ h. HasText (end_text l v (kept_since past) n note) (with_number (codes "'>m") m ++ (with_number (codes " longest held by t") h.since.thread.0 ++ with_number (codes ", events: ") (h.last - h.since.place) ++ with_number (codes ", from ") h.since.place
+    (λ h. HasText (end_text l v (kept_since past) n note) (with_number (codes "'>m") m
+    ++ (with_number (codes " longest held by t") h.since.thread.0 ++ with_number (codes ", events: ") (h.last - h.since.place)
+    ++ with_number (codes ", from ") h.since.place
     ++ (if h.ended then with_number (codes " to ") h.last else codes " on"))))

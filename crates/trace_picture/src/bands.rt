@@ -19,7 +19,7 @@ use picture_marks::shapes::{
 use picture_marks::tags::add_with_number;
 use picture_marks::view::{View, column_of, is_band_open, is_in_view};
 use trace_board::board::Board;
-use trace_board::history::{Origin, Table, Turn};
+use trace_board::history::{Effect, Origin, Table};
 use trace_board::marks::{Marks, marks_of};
 use trace_board::rows::{Bar, Rows};
 use trace_core::add;
@@ -285,18 +285,18 @@ fn add_bar_ended(
     place: u64,
     rows: &Rows,
     held: &Table,
-    turn: Turn,
+    effect: Effect,
 ) -> usize
-    requires within { IsWithin turn }
+    requires within { IsWithin effect }
     requires few { place < 2 ^ 41 }
     requires room { at + 350 ≤ length buf.old }
-    ensures text { take result buf.new ≡ take at buf.old ++ bar_ended start place (row_of rows.now) (entry_of held.now) turn }
+    ensures text { take result buf.new ≡ take at buf.old ++ bar_ended start place (row_of rows.now) (entry_of held.now) effect }
     ensures near { result ≤ at + 350 }
 {
-    match turn {
-        Turn::Ends(k) => add_bar_if(buf, at, start, true, place + 1, rows, k, held.at(k)),
-        Turn::Begins(_) => at,
-        Turn::Stays => at,
+    match effect {
+        Effect::Ends(k) => add_bar_if(buf, at, start, true, place + 1, rows, k, held.at(k)),
+        Effect::Begins(_) => at,
+        Effect::Stays => at,
     }
 }
 
@@ -308,18 +308,18 @@ fn add_taken_ended(
     place: u64,
     rows: &Rows,
     taken: &Table,
-    turn: Turn,
+    effect: Effect,
 ) -> usize
-    requires within { IsWithin turn }
+    requires within { IsWithin effect }
     requires few { place < 2 ^ 41 }
     requires room { at + 350 ≤ length buf.old }
-    ensures text { take result buf.new ≡ take at buf.old ++ taken_ended start place (row_of rows.now) (entry_of taken.now) turn }
+    ensures text { take result buf.new ≡ take at buf.old ++ taken_ended start place (row_of rows.now) (entry_of taken.now) effect }
     ensures near { result ≤ at + 350 }
 {
-    match turn {
-        Turn::Ends(k) => add_taken_if(buf, at, start, true, place + 1, rows, k, taken.at(k)),
-        Turn::Begins(_) => at,
-        Turn::Stays => at,
+    match effect {
+        Effect::Ends(k) => add_taken_if(buf, at, start, true, place + 1, rows, k, taken.at(k)),
+        Effect::Begins(_) => at,
+        Effect::Stays => at,
     }
 }
 
@@ -330,18 +330,18 @@ fn add_wait_ended(
     start: u64,
     place: u64,
     waits: &Table,
-    turn: Turn,
+    effect: Effect,
 ) -> usize
-    requires within { IsWithin turn }
+    requires within { IsWithin effect }
     requires few { place < 2 ^ 41 }
     requires room { at + 450 ≤ length buf.old }
-    ensures text { take result buf.new ≡ take at buf.old ++ wait_ended start place (entry_of waits.now) turn }
+    ensures text { take result buf.new ≡ take at buf.old ++ wait_ended start place (entry_of waits.now) effect }
     ensures near { result ≤ at + 450 }
 {
-    match turn {
-        Turn::Ends(k) => add_wait_if(buf, at, start, true, place + 1, waits.at(k)),
-        Turn::Begins(_) => at,
-        Turn::Stays => at,
+    match effect {
+        Effect::Ends(k) => add_wait_if(buf, at, start, true, place + 1, waits.at(k)),
+        Effect::Begins(_) => at,
+        Effect::Stays => at,
     }
 }
 

@@ -2,7 +2,7 @@
 ghost use Rattle.std.specs.Prelude.{◌≡◌, ◌≢◌, ◌+◌, ◌-◌, ◌<◌, ◌≤◌, ◌^◌, ◌++◌, List, ℕ, [], length, take, Some, IfOk, OnOk, OnErr};
 ghost use Rattle.std.specs.Io.KnownBytes.{Appends};
 ghost use Rattle.firefly_outside.specs.Causes.{HasCause, AppendsFront};
-ghost use Rattle.trace_core.specs.declared.progress.Phase.TheVariants as phase;
+ghost use Rattle.trace_core.specs.declared.reader_state.Phase.TheVariants as phase;
 ghost use Rattle.trace_core.specs.Reader.{standing, input_of};
 ghost use Rattle.trace_core.specs.Whole.{Flows};
 ghost use Rattle.trace_check.specs.declared.checker.Verdict.{Verdict};

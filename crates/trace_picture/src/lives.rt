@@ -11,7 +11,7 @@ use picture_marks::shapes::{add_row, x_of, y_of};
 use picture_marks::tags::{add_place, add_with_number};
 use picture_marks::view::{View, column_of};
 use trace_board::board::Board;
-use trace_board::history::{Origin, Turn};
+use trace_board::history::{Effect, Origin};
 use trace_core::add;
 
 // Whether this is the life of one that lives.
@@ -102,15 +102,15 @@ fn add_row_until(buf: &mut [u8], at: usize, x: u64, t: u32) -> usize
 }
 
 /// Adds what an event does to a row.
-pub fn add_life_row(buf: &mut [u8], at: usize, view: &View, place: u64, turn: Turn) -> usize
+pub fn add_life_row(buf: &mut [u8], at: usize, view: &View, place: u64, effect: Effect) -> usize
     requires { at + 250 ≤ length buf.old }
-    ensures text { take result buf.new ≡ take at buf.old ++ life_row view.now place turn }
+    ensures text { take result buf.new ≡ take at buf.old ++ life_row view.now place effect }
     ensures near { result ≤ at + 250 }
 {
-    match turn {
-        Turn::Begins(t) => add_row_from(buf, at, x_of(column_of(view, place)), t),
-        Turn::Ends(t) => add_row_until(buf, at, x_of(column_of(view, place)) + 12, t),
-        Turn::Stays => at,
+    match effect {
+        Effect::Begins(t) => add_row_from(buf, at, x_of(column_of(view, place)), t),
+        Effect::Ends(t) => add_row_until(buf, at, x_of(column_of(view, place)) + 12, t),
+        Effect::Stays => at,
     }
 }
 
@@ -171,7 +171,8 @@ fn add_each_birth(
     requires few { threads ≤ 256 }
     requires place { to < 2 ^ 42 }
     requires room { at + 350 * threads ≤ length buf.old }
-    ensures text { take result buf.new ≡ take at buf.old ++ each_below (λ t. birth_if start to t (forked_by (kept_of board.now) t)) threads }
+    ensures text { take result buf.new
+        ≡ take at buf.old ++ each_below (λ t. birth_if start to t (forked_by (kept_of board.now) t)) threads }
     ensures near { result ≤ at + 350 * threads }
 {
     let mut last = at;

@@ -1,5 +1,5 @@
 use Rattle.std.proofs.Common.{drop, length-drop, arith}
-use Rattle.trace_core.proofs.HeldTexts.{bytes_from, drop_bytes}
+use Rattle.trace_core.proofs.UsualTexts.{bytes_from, drop_bytes}
 use Rattle.trace_core.proofs.Spelling.{little_below}
 use Rattle.trace_core.proofs.place.number_of.Goals as goal
 

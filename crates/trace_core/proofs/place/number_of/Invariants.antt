@@ -1,5 +1,5 @@
 use Rattle.std.proofs.Common.{◌≡◌, ◌≤◌, length, drop}
-use Rattle.trace_core.specs.Held.{little}
+use Rattle.trace_core.specs.Usual.{little}
 use Rattle.trace_core.proofs.place.number_of.Given as goal
 
 abbrev pub invariant-loop-at : goal.invariant-loop-at

@@ -1,5 +1,5 @@
 use Rattle.std.proofs.Common.{◌≡◌}
-use Rattle.trace_core.specs.declared.progress.Phase.TheVariants as phase
+use Rattle.trace_core.specs.declared.reader_state.Phase.TheVariants as phase
 use Rattle.trace_core.specs.Reader.{standing}
 use Rattle.trace_tests.proofs.lines.count_events.Given as goal
 

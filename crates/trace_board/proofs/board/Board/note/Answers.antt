@@ -3,14 +3,14 @@ use Rattle.trace_board.specs.declared.history.Origin.{Origin}
 use Rattle.trace_board.specs.declared.marks.Marks.{Marks}
 use Rattle.trace_board.specs.History.{changed, turned_about, begun_by, ended_by, entry_of, IsWithin}
 use Rattle.trace_board.specs.Causes.{moved, cause_of}
-use Rattle.trace_board.specs.declared.history.Turn.{Turn}
-use Rattle.trace_board.specs.declared.history.Turn.TheVariants.{Begins, Ends, Stays}
+use Rattle.trace_board.specs.declared.history.Effect.{Effect}
+use Rattle.trace_board.specs.declared.history.Effect.TheVariants.{Begins, Ends, Stays}
 use Rattle.trace_board.specs.Marks.{marks}
 use Rattle.trace_board.specs.Rows.{turned, turned_by_semaphore, row_of}
 use Rattle.trace_board.specs.Holds.{lengthened, longest_of}
 use Rattle.trace_board.proofs.board.Board.note.Goals as goal
 
-within_about : (turn : Turn) → IsWithin turn → IsWithin (turned_about turn)
+within_about : (effect : Effect) → IsWithin effect → IsWithin (turned_about effect)
 within_about (Begins k) h = h
 within_about (Ends k) h = h
 within_about Stays h = h

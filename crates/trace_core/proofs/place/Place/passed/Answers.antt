@@ -1,6 +1,6 @@
 use Rattle.std.proofs.Common.{ap, arith}
 use Rattle.std.specs.Prelude.{decimal}
-use Rattle.trace_core.proofs.HeldTexts.{stands_as}
+use Rattle.trace_core.proofs.UsualTexts.{stands_as}
 use Rattle.trace_core.proofs.Spelling.{place_there}
 use Rattle.trace_core.proofs.place.Place.passed.Goals as goal
 

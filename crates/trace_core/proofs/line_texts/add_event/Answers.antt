@@ -1,0 +1,5 @@
+use Rattle.trace_core.proofs.Added.{added_five}
+use Rattle.trace_core.proofs.line_texts.add_event.Goals as goal
+
+pub returns-clause-text : goal.returns-clause-text
+returns-clause-text c = added_five _ _ _ _ _ _ _ _ _ _ _ _ c.add_number-at.ensures.text c.add_named-at.ensures.text c.add-at.ensures.text c.add_action-at.ensures.text c.add.ensures.text
