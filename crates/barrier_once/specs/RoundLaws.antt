@@ -78,7 +78,8 @@ has_not : (n : ℕ) (s : RoundShare) → s.arrivals ≢ n → has n s ≡ 0
 has_not n s e = ap (λ b. cond b 1 0) (ne_eqb s.arrivals n e)
 
 -- more of shares: how a change of one changes what is counted
-arrivals_set : (n : ℕ) (shares : List RoundShare) (t : ℕ) (s r : RoundShare) → get_elem? shares t ≡ some s → with_arrivals n (slice_set shares t r) + has n s ≡ with_arrivals n shares + has n r
+arrivals_set : (n : ℕ) (shares : List RoundShare) (t : ℕ) (s r : RoundShare) → get_elem? shares t ≡ some s
+    → with_arrivals n (slice_set shares t r) + has n s ≡ with_arrivals n shares + has n r
 arrivals_set n [] t s r e = absurd (some-ne-none s (sym e))
 arrivals_set n (x ∷ xs) zero s r e = let h : has n x ≡ has n s = ap (has n) (some-injective x s e) in omega arith
 arrivals_set n (x ∷ xs) (suc t) s r e = let h = arrivals_set n xs t s r e in omega arith
@@ -90,34 +91,43 @@ arrivals_few n (x ∷ xs) = let h = arrivals_few n xs in let o = has_few n x in 
 -- where all are counted, each is
 all_counted : (n : ℕ) (shares : List RoundShare) → with_arrivals n shares ≡ length shares → Each (λ t s. s.arrivals ≡ n) shares
 all_counted n [] e t s at = absurd (some-ne-none s (sym at))
-all_counted n (x ∷ xs) e zero s at = let few = arrivals_few n xs in counted n s (let h : has n x ≡ has n s = ap (has n) (some-injective x s at) in let o = has_few n x in omega arith)
+all_counted n (x ∷ xs) e zero s at =
+    let few = arrivals_few n xs in
+    counted n s (let h : has n x ≡ has n s = ap (has n) (some-injective x s at) in let o = has_few n x in omega arith)
 all_counted n (x ∷ xs) e (suc t) s at = let few = arrivals_few n xs in let o = has_few n x in all_counted n xs (omega arith) t s at
 
 pub none_counted : (n : ℕ) (shares : List RoundShare) → Each (λ t s. s.arrivals ≢ n) shares → with_arrivals n shares ≡ 0
 none_counted n [] each = refl
 none_counted n (x ∷ xs) each = let a = has_not n x (each 0 x refl) in let h = none_counted n xs (λ t. each (suc t)) in omega arith
 
-added_set : (shares : List RoundShare) (t : ℕ) (s r : RoundShare) → get_elem? shares t ≡ some s → added_by (slice_set shares t r) + s.added ≡ added_by shares + r.added
+added_set : (shares : List RoundShare) (t : ℕ) (s r : RoundShare) → get_elem? shares t ≡ some s
+    → added_by (slice_set shares t r) + s.added ≡ added_by shares + r.added
 added_set [] t s r e = absurd (some-ne-none s (sym e))
 added_set (x ∷ xs) zero s r e = let h : x.added ≡ s.added = ap (λ (u : RoundShare). u.added) (some-injective x s e) in omega arith
 added_set (x ∷ xs) (suc t) s r e = let h = added_set xs t s r e in omega arith
 
 added_few : (most : ℕ) (shares : List RoundShare) → Each (λ t s. s.added ≤ most) shares → added_by shares ≤ length shares * most
 added_few most [] each = omega arith
-added_few most (x ∷ xs) each = let a = each 0 x refl in let h = added_few most xs (λ t. each (suc t)) in let m : (1 + length xs) * most ≡ 1 * most + length xs * most = add-mul 1 (length xs) most in omega arith
+added_few most (x ∷ xs) each =
+    let a = each 0 x refl in
+    let h = added_few most xs (λ t. each (suc t)) in
+    let m : (1 + length xs) * most ≡ 1 * most + length xs * most = add-mul 1 (length xs) most in omega arith
 
 -- where each of them has added its number and 1 c times, from the number i on
-pub all_added : (c i : ℕ) (shares : List RoundShare) → Each (λ t s. s.added ≡ c * (t + i + 1)) shares → added_by shares + c * triangle i ≡ c * triangle (length shares + i)
+pub all_added : (c i : ℕ) (shares : List RoundShare) → Each (λ t s. s.added ≡ c * (t + i + 1)) shares
+    → added_by shares + c * triangle i ≡ c * triangle (length shares + i)
 all_added c i [] each = zero_plus (c * triangle i) ∙ ap (λ n. c * triangle n) (sym (zero_plus i))
 all_added c i (x ∷ xs) each =
     let a : x.added ≡ c * (0 + i + 1) = each 0 x refl in
     let h = all_added c (i + 1) xs (λ t s at. let e = each (suc t) s at in e ∙ ap (λ n. c * n) (turned t i)) in
     let next : c * triangle (i + 1) ≡ c * triangle i + c * (i + 1) = ap (λ n. c * n) (triangle_next i) ∙ mul-add c (triangle i) (i + 1) in
     let same : c * (0 + i + 1) ≡ c * (i + 1) = ap (λ n. c * n) (zero_first i) in
-    let last : c * triangle (length xs + (i + 1)) ≡ c * triangle (suc (length xs) + i) = ap (λ n. c * triangle n) (one_over (length xs) i) in
+    let last : c * triangle (length xs + (i + 1)) ≡ c * triangle (suc (length xs) + i) =
+    ap (λ n. c * triangle n) (one_over (length xs) i) in
     omega arith
 
-each_set : (P : ℕ → RoundShare → Type 0) (shares : List RoundShare) (t : ℕ) (r : RoundShare) → Each P shares → P t r → Each P (slice_set shares t r)
+each_set : (P : ℕ → RoundShare → Type 0) (shares : List RoundShare) (t : ℕ) (r : RoundShare) → Each P shares → P t r
+    → Each P (slice_set shares t r)
 each_set P shares t r each own k u e = ⊎_elim
     (λ (p : (k ≡ t) × (r ≡ u)). subst (λ v. P k v) p.1 (subst (λ j. P j r) (sym p.0) own))
     (λ (p : (k ≢ t) × (get_elem? shares k ≡ some u)). each k u p.1)
@@ -131,10 +141,13 @@ same_at values m k x y at e there = some-injective x y (sym at ∙ (ap (get_elem
 apart : (values : List Cell) (m k : ℕ) (x y : Cell) → get_elem? values m ≡ some x → get_elem? values k ≡ some y → (x ≡ y → ⊥) → m ≢ k
 apart values m k x y at there n e = n (same_at values m k x y at e there)
 
-here : (values : List Cell) (m k : ℕ) (x y z : Cell) → get_elem? values m ≡ some x → m ≡ k → y ≡ z → get_elem? (slice_set values m y) k ≡ some z
-here values m k x y z at e is = subst (λ j. get_elem? (slice_set values m y) j ≡ some z) e (set_here values m y (from_at values m x at).0 ∙ ap some is)
+here : (values : List Cell) (m k : ℕ) (x y z : Cell) → get_elem? values m ≡ some x → m ≡ k → y ≡ z
+    → get_elem? (slice_set values m y) k ≡ some z
+here values m k x y z at e is =
+    subst (λ j. get_elem? (slice_set values m y) j ≡ some z) e (set_here values m y (from_at values m x at).0 ∙ ap some is)
 
-there_of : (values : List Cell) (m k j : ℕ) (y : Cell) → m ≡ k → k ≢ j → (z : Cell) → get_elem? values j ≡ some z → get_elem? (slice_set values m y) j ≡ some z
+there_of : (values : List Cell) (m k j : ℕ) (y : Cell) → m ≡ k → k ≢ j → (z : Cell) → get_elem? values j ≡ some z
+    → get_elem? (slice_set values m y) j ≡ some z
 there_of values m k j y e n z at = set_else values m j y (λ h. n (sym e ∙ sym h)) ∙ at
 
 bar_sum : (r a n : ℕ) → Bar r a ≡ Sum n → ⊥
@@ -149,7 +162,8 @@ sum_once n o e = cc
 -- what a holder knows
 
 -- in a round with an odd number, each has added once for each round that was begun
-in_odd : (j r : ℕ) (shares : List RoundShare) → r ≡ 2 * j + 1 → Each (IsParty r) shares → Each (λ t s. s.added ≡ (j + 1) * (t + 0 + 1)) shares
+in_odd : (j r : ℕ) (shares : List RoundShare) → r ≡ 2 * j + 1 → Each (IsParty r) shares
+    → Each (λ t s. s.added ≡ (j + 1) * (t + 0 + 1)) shares
 in_odd j r shares odd each t s at =
     let h = each t s at in
     let left = h.left in
@@ -162,10 +176,13 @@ in_odd j r shares odd each t s at =
     (h.even (j + 1) (omega arith)))
     h.arrivals
 
-total_of : (w : RoundWorld) (j r : ℕ) (shares : List RoundShare) → r ≡ 2 * j + 1 → length shares ≡ w.parties → Each (IsParty r) shares → added_by shares ≡ (j + 1) * triangle w.parties
+total_of : (w : RoundWorld) (j r : ℕ) (shares : List RoundShare) → r ≡ 2 * j + 1 → length shares ≡ w.parties → Each (IsParty r) shares
+    → added_by shares ≡ (j + 1) * triangle w.parties
 total_of w j r shares odd parties each =
-    let h : added_by shares + (j + 1) * 0 ≡ (j + 1) * triangle (length shares + 0) = all_added (j + 1) 0 shares (in_odd j r shares odd each) in
-    let n : (j + 1) * triangle (length shares + 0) ≡ (j + 1) * triangle w.parties = ap (λ k. (j + 1) * triangle k) (zero_last (length shares) ∙ parties) in
+    let h : added_by shares + (j + 1) * 0 ≡ (j + 1) * triangle (length shares + 0) =
+    all_added (j + 1) 0 shares (in_odd j r shares odd each) in
+    let n : (j + 1) * triangle (length shares + 0) ≡ (j + 1) * triangle w.parties =
+    ap (λ k. (j + 1) * triangle k) (zero_last (length shares) ∙ parties) in
     omega arith
 
 -- what a thread adds is small
@@ -173,50 +190,70 @@ adds_few : (r t : ℕ) (s : RoundShare) → IsParty r t s → t < 64 → s.added
 adds_few r t s h low = let few = h.few in ⊎_elim
     (λ (p : (j : ℕ) × (s.arrivals ≡ 2 * j)). let e = p.1 in ⊎_elim
     (λ (a : s.added ≡ p.0 * (t + 1)). let b = mul-le p.0 (t + 1) 1001 64 (omega arith) (omega arith) in omega arith)
-    (λ (q : (s.left ≡ 2 * p.0) × (s.added ≡ (p.0 + 1) * (t + 1))). let a = q.1 in let b = mul-le (p.0 + 1) (t + 1) 1001 64 (omega arith) (omega arith) in omega arith)
+    (λ (q : (s.left ≡ 2 * p.0) × (s.added ≡ (p.0 + 1) * (t + 1))). let a = q.1 in
+    let b = mul-le (p.0 + 1) (t + 1) 1001 64 (omega arith) (omega arith) in omega arith)
     (h.even p.0 e))
-    (λ (p : (j : ℕ) × (s.arrivals ≡ 2 * j + 1)). let e = p.1 in let a = h.odd p.0 e in let b = mul-le (p.0 + 1) (t + 1) 1001 64 (omega arith) (omega arith) in omega arith)
+    (λ (p : (j : ℕ) × (s.arrivals ≡ 2 * j + 1)). let e = p.1 in let a = h.odd p.0 e in
+    let b = mul-le (p.0 + 1) (t + 1) 1001 64 (omega arith) (omega arith) in omega arith)
     (parity s.arrivals)
 
-knows_bar : (w : RoundWorld) (values : List Cell) (shares : List RoundShare) (h : AreRounds w values shares) (t : ℕ) (s : RoundShare) → IsParty h.round t s → KnowsBar w (Bar h.round h.arrived) s
-knows_bar w values shares h t s own = record { is = refl; arrivals = own.arrivals; few = own.few; left = own.left; below = h.below; parties = h.few }
+knows_bar : (w : RoundWorld) (values : List Cell) (shares : List RoundShare) (h : AreRounds w values shares) (t : ℕ) (s : RoundShare)
+    → IsParty h.round t s → KnowsBar w (Bar h.round h.arrived) s
+knows_bar w values shares h t s own =
+    record { is = refl; arrivals = own.arrivals; few = own.few; left = own.left; below = h.below; parties = h.few }
 
-knows_sum : (w : RoundWorld) (values : List Cell) (shares : List RoundShare) (h : AreRounds w values shares) (t : ℕ) (s : RoundShare) → IsParty h.round t s → KnowsSum w (Sum (added_by shares)) s
+knows_sum : (w : RoundWorld) (values : List Cell) (shares : List RoundShare) (h : AreRounds w values shares) (t : ℕ) (s : RoundShare)
+    → IsParty h.round t s → KnowsSum w (Sum (added_by shares)) s
 knows_sum w values shares h t s own =
     let parties = h.parties in
     let few = h.few in
-    let all = added_few 64064 shares (λ k u at. adds_few h.round k u (h.each k u at) (let low = (from_at shares k u at).0 in omega arith)) in
+    let all =
+    added_few 64064 shares (λ k u at. adds_few h.round k u (h.each k u at) (let low = (from_at shares k u at).0 in omega arith)) in
     let product = mul-le (length shares) 64064 64 64064 (omega arith) (omega arith) in
     record {
       is = refl;
       small = omega arith;
-      total = λ j odd left. total_of w j h.round shares (let l = own.left in ⊎_elim (λ (e : s.arrivals ≡ h.round). omega arith) (λ (e : s.arrivals ≡ h.round + 1). absurd (omega arith)) own.arrivals) h.parties h.each;
+      total =
+          λ j odd left. total_of w j h.round shares (let l = own.left in
+          ⊎_elim (λ (e : s.arrivals ≡ h.round). omega arith) (λ (e : s.arrivals ≡ h.round + 1). absurd
+          (omega arith)) own.arrivals) h.parties h.each;
     }
 
-knows_once : (w : RoundWorld) (values : List Cell) (shares : List RoundShare) (h : AreRounds w values shares) (t : ℕ) (s : RoundShare) → get_elem? shares t ≡ some s → KnowsOnce w (Once h.value) s
+knows_once : (w : RoundWorld) (values : List Cell) (shares : List RoundShare) (h : AreRounds w values shares) (t : ℕ) (s : RoundShare)
+    → get_elem? shares t ≡ some s → KnowsOnce w (Once h.value) s
 knows_once w values shares h t s at = record { is = refl; same = h.agreed.same t s at; within = h.agreed.within }
 
-pub fits_known : (w : RoundWorld) (values : List Cell) (shares : List RoundShare) → AreRounds w values shares → (m : ℕ) (x : Cell) → get_elem? values m ≡ some x
+pub fits_known : (w : RoundWorld) (values : List Cell) (shares : List RoundShare) → AreRounds w values shares → (m : ℕ) (x : Cell)
+    → get_elem? values m ≡ some x
     → (t : ℕ) (s : RoundShare) → get_elem? shares t ≡ some s → IsKnown w m x t s
 fits_known w values shares h m x at t s there =
     let own = h.each t s there in
     record {
-      bar = λ e. subst (λ c. KnowsBar w c s) (sym (same_at values m w.at.bar.0 x (Bar h.round h.arrived) at e h.bar)) (knows_bar w values shares h t s own);
-      sum = λ e. subst (λ c. KnowsSum w c s) (sym (same_at values m w.at.sum.0 x (Sum (added_by shares)) at e h.sum)) (knows_sum w values shares h t s own);
-      once = λ e. subst (λ c. KnowsOnce w c s) (sym (same_at values m w.at.once.0 x (Once h.value) at e h.once)) (knows_once w values shares h t s there);
+      bar =
+          λ e. subst (λ c. KnowsBar w c s) (sym (same_at values m w.at.bar.0 x (Bar h.round h.arrived) at e h.bar))
+          (knows_bar w values shares h t s own);
+      sum =
+          λ e. subst (λ c. KnowsSum w c s) (sym (same_at values m w.at.sum.0 x (Sum (added_by shares)) at e h.sum))
+          (knows_sum w values shares h t s own);
+      once =
+          λ e. subst (λ c. KnowsOnce w c s) (sym (same_at values m w.at.once.0 x (Once h.value) at e h.once))
+          (knows_once w values shares h t s there);
     }
 
 -- the steps at the bar
 
-agreed_after : (most : ℕ) (value : Opt ℕ) (shares : List RoundShare) (t : ℕ) (s r : RoundShare) → get_elem? shares t ≡ some s → r.agreed ≡ s.agreed → AreAgreed most value shares → AreAgreed most value (slice_set shares t r)
+agreed_after : (most : ℕ) (value : Opt ℕ) (shares : List RoundShare) (t : ℕ) (s r : RoundShare) → get_elem? shares t ≡ some s
+    → r.agreed ≡ s.agreed → AreAgreed most value shares → AreAgreed most value (slice_set shares t r)
 agreed_after most value shares t s r at e h = record {
   same = each_set (λ k u. (v : ℕ) → u.agreed ≡ Some v → value ≡ Some v) shares t r h.same (λ v is. h.same t s at v (sym e ∙ is));
   within = h.within;
 }
 
-bar_after : (w : RoundWorld) (values : List Cell) (shares : List RoundShare) → (h : AreRounds w values shares) → (m : ℕ) (x y : Cell) → get_elem? values m ≡ some x → m ≡ w.at.bar.0
+bar_after : (w : RoundWorld) (values : List Cell) (shares : List RoundShare) → (h : AreRounds w values shares) → (m : ℕ) (x y : Cell)
+    → get_elem? values m ≡ some x → m ≡ w.at.bar.0
     → (t : ℕ) (s r : RoundShare) → get_elem? shares t ≡ some s → r.added ≡ s.added → r.agreed ≡ s.agreed
-    → (round arrived : ℕ) → y ≡ Bar round arrived → Each (IsParty round) (slice_set shares t r) → arrived ≡ with_arrivals (round + 1) (slice_set shares t r) → arrived < w.parties
+    → (round arrived : ℕ) → y ≡ Bar round arrived → Each (IsParty round) (slice_set shares t r)
+    → arrived ≡ with_arrivals (round + 1) (slice_set shares t r) → arrived < w.parties
     → AreRounds w (slice_set values m y) (slice_set shares t r)
 bar_after w values shares h m x y at mutex t s r there added agreed round arrived now each count below =
     let sum = added_set shares t s r there in
@@ -228,8 +265,13 @@ bar_after w values shares h m x y at mutex t s r there added agreed round arrive
       parties = length-set shares t r ∙ h.parties;
       few = h.few;
       bar = here values m w.at.bar.0 x y (Bar round arrived) at mutex now;
-      sum = there_of values m w.at.bar.0 w.at.sum.0 y mutex (apart values w.at.bar.0 w.at.sum.0 _ _ h.bar h.sum (bar_sum h.round h.arrived (added_by shares))) (Sum (added_by (slice_set shares t r))) (h.sum ∙ ap (λ n. some (Sum n)) (sym same));
-      once = there_of values m w.at.bar.0 w.at.once.0 y mutex (apart values w.at.bar.0 w.at.once.0 _ _ h.bar h.once (bar_once h.round h.arrived h.value)) (Once h.value) h.once;
+      sum =
+          there_of values m w.at.bar.0 w.at.sum.0 y mutex (apart values w.at.bar.0 w.at.sum.0 _ _ h.bar h.sum
+          (bar_sum h.round h.arrived (added_by shares))) (Sum (added_by (slice_set shares t r)))
+          (h.sum ∙ ap (λ n. some (Sum n)) (sym same));
+      once =
+          there_of values m w.at.bar.0 w.at.once.0 y mutex (apart values w.at.bar.0 w.at.once.0 _ _ h.bar h.once
+          (bar_once h.round h.arrived h.value)) (Once h.value) h.once;
       each = each;
       count = count;
       below = below;
@@ -251,7 +293,8 @@ party_arrives round t s h may is = let few = may.few in let left = may.left in r
   even = λ j e. inl (arrived_odd s.arrivals t s.added h.odd j e);
 }
 
-party_passes : (round t : ℕ) (s : RoundShare) → IsParty round t s → MayArrive t s → s.arrivals ≡ round → IsParty (round + 1) t (passed_share s)
+party_passes : (round t : ℕ) (s : RoundShare) → IsParty round t s → MayArrive t s → s.arrivals ≡ round
+    → IsParty (round + 1) t (passed_share s)
 party_passes round t s h may is = let few = may.few in let left = may.left in record {
   arrivals = inl (omega arith);
   few = omega arith;
@@ -262,9 +305,11 @@ party_passes round t s h may is = let few = may.few in let left = may.left in re
 }
 
 party_next : (round t : ℕ) (s : RoundShare) → IsParty round t s → s.arrivals ≡ round + 1 → IsParty (round + 1) t s
-party_next round t s h is = let left = h.left in record { arrivals = inl is; few = h.few; left = omega arith; leaves = h.leaves; odd = h.odd; even = h.even }
+party_next round t s h is =
+    let left = h.left in record { arrivals = inl is; few = h.few; left = omega arith; leaves = h.leaves; odd = h.odd; even = h.even }
 
-party_leaves : (round t : ℕ) (s : RoundShare) → IsParty round t s → s.left + 1 ≡ s.arrivals → s.arrivals ≤ round → IsParty round t (record s { left = s.left + 1 })
+party_leaves : (round t : ℕ) (s : RoundShare) → IsParty round t s → s.left + 1 ≡ s.arrivals → s.arrivals ≤ round
+    → IsParty round t (record s { left = s.left + 1 })
 party_leaves round t s h behind over = record {
   arrivals = h.arrivals;
   few = h.few;
@@ -294,7 +339,8 @@ party_agrees : (round t : ℕ) (s : RoundShare) (value : Opt ℕ) → IsParty ro
 party_agrees round t s value h = record { arrivals = h.arrivals; few = h.few; left = h.left; leaves = h.leaves; odd = h.odd; even = h.even }
 
 -- where one has arrived that hadn't
-one_counted : (round : ℕ) (shares : List RoundShare) (t : ℕ) (s r : RoundShare) → get_elem? shares t ≡ some s → s.arrivals ≡ round → r.arrivals ≡ round + 1
+one_counted : (round : ℕ) (shares : List RoundShare) (t : ℕ) (s r : RoundShare) → get_elem? shares t ≡ some s → s.arrivals ≡ round
+    → r.arrivals ≡ round + 1
     → with_arrivals (round + 1) (slice_set shares t r) ≡ with_arrivals (round + 1) shares + 1
 one_counted round shares t s r there was now =
     let sum = arrivals_set (round + 1) shares t s r there in
@@ -305,7 +351,8 @@ one_counted round shares t s r there was now =
 still_agreed : (found : Opt ℕ) (value v : ℕ) → (found ≡ None) ⊎ (found ≡ Some value) → found ≡ Some v → Some value ≡ Some v
 still_agreed found value v stays e = ⊎_elim (λ (n : found ≡ None). absurd (cc)) (λ (k : found ≡ Some value). sym k ∙ e) stays
 
-module _ (w : RoundWorld) (values : List Cell) (shares : List RoundShare) (h : AreRounds w values shares) (m : ℕ) (x y : Cell) (at : get_elem? values m ≡ some x) (t : ℕ) (s r : RoundShare) (there : get_elem? shares t ≡ some s) where
+module _ (w : RoundWorld) (values : List Cell) (shares : List RoundShare) (h : AreRounds w values shares) (m : ℕ) (x y : Cell)
+    (at : get_elem? values m ≡ some x) (t : ℕ) (s r : RoundShare) (there : get_elem? shares t ≡ some s) where
   after_arrival : IsArrival w m t x y s r → AreRounds w (slice_set values m y) (slice_set shares t r)
   after_arrival o =
       let is : x ≡ Bar h.round h.arrived = same_at values m w.at.bar.0 x _ at o.mutex h.bar in
@@ -316,7 +363,8 @@ module _ (w : RoundWorld) (values : List Cell) (shares : List RoundShare) (h : A
       let one = one_counted h.round shares t s r there round (omega arith) in
       let count = h.count in
       let more_come : h.arrived + 1 < w.parties = subst (λ c. arrived_of c + 1 < w.parties) is o.more_come in
-      bar_after w values shares h m x y at o.mutex t s r there (ap (λ (u : RoundShare). u.added) o.share) (ap (λ (u : RoundShare). u.agreed) o.share) h.round (h.arrived + 1) now
+      bar_after w values shares h m x y at o.mutex t s r there (ap (λ (u : RoundShare). u.added) o.share)
+      (ap (λ (u : RoundShare). u.agreed) o.share) h.round (h.arrived + 1) now
       (each_set (IsParty h.round) shares t r h.each (subst (IsParty h.round t) (sym o.share) own)) (omega arith) more_come
 
   after_last : IsLast w m t x y s r → AreRounds w (slice_set values m y) (slice_set shares t r)
@@ -333,12 +381,15 @@ module _ (w : RoundWorld) (values : List Cell) (shares : List RoundShare) (h : A
       let all : h.arrived + 1 ≡ w.parties = ap (λ c. arrived_of c + 1) (sym is) ∙ o.all in
       let long = length-set shares t r in
       let each = all_counted (h.round + 1) (slice_set shares t r) (omega arith) in
-      bar_after w values shares h m x y at o.mutex t s r there (ap (λ (u : RoundShare). u.added) o.share) (ap (λ (u : RoundShare). u.agreed) o.share) (h.round + 1) 0 now
+      bar_after w values shares h m x y at o.mutex t s r there (ap (λ (u : RoundShare). u.added) o.share)
+      (ap (λ (u : RoundShare). u.agreed) o.share) (h.round + 1) 0 now
       (λ k u e. ⊎_elim
-      (λ (p : (k ≡ t) × (r ≡ u)). subst (λ v. IsParty (h.round + 1) k v) (sym o.share ∙ p.1) (subst (λ j. IsParty (h.round + 1) j (passed_share s)) (sym p.0) own))
+      (λ (p : (k ≡ t) × (r ≡ u)). subst (λ v. IsParty (h.round + 1) k v) (sym o.share ∙ p.1)
+      (subst (λ j. IsParty (h.round + 1) j (passed_share s)) (sym p.0) own))
       (λ (p : (k ≢ t) × (get_elem? shares k ≡ some u)). party_next h.round k u (h.each k u p.1) (each k u e))
       (at_set shares t k r u e))
-      (sym (none_counted (h.round + 1 + 1) (slice_set shares t r) (λ k u e same. let was = each k u e in absurd (omega arith)))) (omega arith)
+      (sym (none_counted (h.round + 1 + 1) (slice_set shares t r) (λ k u e same. let was = each k u e in absurd (omega arith))))
+      (omega arith)
 
   after_leave : IsLeave w m x y s r → AreRounds w (slice_set values m y) (slice_set shares t r)
   after_leave o =
@@ -349,7 +400,8 @@ module _ (w : RoundWorld) (values : List Cell) (shares : List RoundShare) (h : A
       let sum = arrivals_set (h.round + 1) shares t s r there in
       let same : has (h.round + 1) r ≡ has (h.round + 1) s = ap (λ k. cond (eqb k (h.round + 1)) 1 0) arrivals in
       let count = h.count in
-      bar_after w values shares h m x y at o.mutex t s r there (ap (λ (u : RoundShare). u.added) o.share) (ap (λ (u : RoundShare). u.agreed) o.share) h.round h.arrived (o.now ∙ is)
+      bar_after w values shares h m x y at o.mutex t s r there (ap (λ (u : RoundShare). u.added) o.share)
+      (ap (λ (u : RoundShare). u.agreed) o.share) h.round h.arrived (o.now ∙ is)
       (each_set (IsParty h.round) shares t r h.each (subst (IsParty h.round t) (sym o.share) own)) (omega arith) h.below
 
   after_addition : IsAddition w m t x y s r → AreRounds w (slice_set values m y) (slice_set shares t r)
@@ -370,9 +422,13 @@ module _ (w : RoundWorld) (values : List Cell) (shares : List RoundShare) (h : A
         value = h.value;
         parties = length-set shares t r ∙ h.parties;
         few = h.few;
-        bar = there_of values m w.at.sum.0 w.at.bar.0 y o.mutex (apart values w.at.sum.0 w.at.bar.0 _ _ h.sum h.bar (λ e. bar_sum h.round h.arrived (added_by shares) (sym e))) _ h.bar;
+        bar =
+            there_of values m w.at.sum.0 w.at.bar.0 y o.mutex (apart values w.at.sum.0 w.at.bar.0 _ _ h.sum h.bar
+            (λ e. bar_sum h.round h.arrived (added_by shares) (sym e))) _ h.bar;
         sum = here values m w.at.sum.0 x y _ at o.mutex now;
-        once = there_of values m w.at.sum.0 w.at.once.0 y o.mutex (apart values w.at.sum.0 w.at.once.0 _ _ h.sum h.once (sum_once (added_by shares) h.value)) _ h.once;
+        once =
+            there_of values m w.at.sum.0 w.at.once.0 y o.mutex (apart values w.at.sum.0 w.at.once.0 _ _ h.sum h.once
+            (sum_once (added_by shares) h.value)) _ h.once;
         each = each_set (IsParty h.round) shares t r h.each (subst (IsParty h.round t) (sym o.share) own);
         count = omega arith;
         below = h.below;
@@ -396,10 +452,16 @@ module _ (w : RoundWorld) (values : List Cell) (shares : List RoundShare) (h : A
         value = Some o.value;
         parties = length-set shares t r ∙ h.parties;
         few = h.few;
-        bar = there_of values m w.at.once.0 w.at.bar.0 y o.mutex (apart values w.at.once.0 w.at.bar.0 _ _ h.once h.bar (λ e. bar_once h.round h.arrived h.value (sym e))) _ h.bar;
-        sum = there_of values m w.at.once.0 w.at.sum.0 y o.mutex (apart values w.at.once.0 w.at.sum.0 _ _ h.once h.sum (λ e. sum_once (added_by shares) h.value (sym e))) _ (h.sum ∙ ap (λ n. some (Sum n)) (sym all));
+        bar =
+            there_of values m w.at.once.0 w.at.bar.0 y o.mutex (apart values w.at.once.0 w.at.bar.0 _ _ h.once h.bar
+            (λ e. bar_once h.round h.arrived h.value (sym e))) _ h.bar;
+        sum =
+            there_of values m w.at.once.0 w.at.sum.0 y o.mutex (apart values w.at.once.0 w.at.sum.0 _ _ h.once h.sum
+            (λ e. sum_once (added_by shares) h.value (sym e))) _ (h.sum ∙ ap (λ n. some (Sum n)) (sym all));
         once = here values m w.at.once.0 x y _ at o.mutex o.now;
-        each = each_set (IsParty h.round) shares t r h.each (subst (IsParty h.round t) (sym o.share) (party_agrees h.round t s (Some o.value) (h.each t s there)));
+        each =
+            each_set (IsParty h.round) shares t r h.each (subst (IsParty h.round t) (sym o.share)
+            (party_agrees h.round t s (Some o.value) (h.each t s there)));
         count = omega arith;
         below = h.below;
         agreed = record {
@@ -416,8 +478,10 @@ module _ (w : RoundWorld) (values : List Cell) (shares : List RoundShare) (h : A
       let same : slice_set shares t r ≡ shares = ap (λ u. slice_set shares t u) o.1 ∙ set_again shares t s there in
       subst (λ u. AreRounds w (slice_set values m y) u) (sym same) (subst (λ v. AreRounds w v shares) (sym kept) h)
 
-pub rounds_after : (w : RoundWorld) (values : List Cell) (shares : List RoundShare) → AreRounds w values shares → (m : ℕ) (x y : Cell) → get_elem? values m ≡ some x
-    → (t : ℕ) (s r : RoundShare) → get_elem? shares t ≡ some s → Allowed w m t x y s r → AreRounds w (slice_set values m y) (slice_set shares t r)
+pub rounds_after : (w : RoundWorld) (values : List Cell) (shares : List RoundShare) → AreRounds w values shares → (m : ℕ) (x y : Cell)
+    → get_elem? values m ≡ some x
+    → (t : ℕ) (s r : RoundShare) → get_elem? shares t ≡ some s → Allowed w m t x y s r
+    → AreRounds w (slice_set values m y) (slice_set shares t r)
 rounds_after w values shares h m x y at t s r there ok = ⊎_elim
     (after_nothing w values shares h m x y at t s r there)
     (⊎_elim (after_arrival w values shares h m x y at t s r there)

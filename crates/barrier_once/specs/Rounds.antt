@@ -154,4 +154,6 @@ pub record IsAgreement (w : RoundWorld) (m : ℕ) (x y : Cell) (s r : RoundShare
 
 -- nothing changes, or it is one of these steps
 abbrev pub Allowed : RoundWorld → ℕ → ℕ → Cell → Cell → RoundShare → RoundShare → Type 0
-Allowed w m t x y s r = ((y ≡ x) × (r ≡ s)) ⊎ (IsArrival w m t x y s r ⊎ (IsLast w m t x y s r ⊎ (IsLeave w m x y s r ⊎ (IsAddition w m t x y s r ⊎ IsAgreement w m x y s r))))
+Allowed w m t x y s r =
+    ((y ≡ x) × (r ≡ s)) ⊎ (IsArrival w m t x y s r ⊎ (IsLast w m t x y s r
+    ⊎ (IsLeave w m x y s r ⊎ (IsAddition w m t x y s r ⊎ IsAgreement w m x y s r))))

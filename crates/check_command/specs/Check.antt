@@ -20,7 +20,8 @@ IsVerdict input line =
 -- each status by its cause
 abbrev pub CheckAnswers : Change → Change → Change → Status → Type 0
 CheckAnswers input out notes Done = (s : Summary) × Finds input (verdict.Legal s) × Gets out (legal_line s) × IsStill notes
-CheckAnswers input out notes Illegal = (place : ℕ) × (why : Broken) × Finds input (verdict.Illegal place why) × Gets out (illegal_line place why) × IsStill notes
+CheckAnswers input out notes Illegal =
+    (place : ℕ) × (why : Broken) × Finds input (verdict.Illegal place why) × Gets out (illegal_line place why) × IsStill notes
 CheckAnswers input out notes BadText = (k : ℕ) × Finds input (verdict.BadLine k) × IsStill out × Notes notes (bad_line_message k)
 CheckAnswers input out notes TooLong = Finds input verdict.TooLong × IsStill out × Notes notes too_long_message
 CheckAnswers input out notes ReadFault = Finds input verdict.ReadFault × IsStill out × Notes notes input_fault_message

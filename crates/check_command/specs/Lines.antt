@@ -5,7 +5,9 @@ use Rattle.larch_actions.specs.declared.event.Broken.TheVariants.{Order, Require
 use Rattle.trace_check.specs.declared.checker.Summary.{Summary}
 
 abbrev pub legal_line : Summary → List ℕ
-legal_line s = codes "legal " ++ decimal s.events ++ codes " held " ++ decimal s.held ++ codes " waiting " ++ decimal s.waiting ++ codes " alerted " ++ decimal s.alerted ++ codes "\n"
+legal_line s =
+    codes "legal " ++ decimal s.events ++ codes " held " ++ decimal s.held ++ codes " waiting " ++ decimal s.waiting ++ codes " alerted "
+    ++ decimal s.alerted ++ codes "\n"
 
 abbrev pub clause_word : Broken → List ℕ
 clause_word Order = codes "order"

@@ -35,4 +35,5 @@ NotesFor notes verdict.ReadFault = Notes notes input_fault_message
 -- where the input tells its bytes and no read failed, the status is that of each verdict that is just, unless the sink failed
 abbrev pub Found : Change → Status → Type 0
 Found input status =
-    (bytes : List ℕ) (v : Verdict) → input.old ≡ Some bytes → status ≢ ReadFault → v ≢ verdict.ReadFault → Finds input v → (status ≡ status_of v) ⊎ (status ≡ SinkFault)
+    (bytes : List ℕ) (v : Verdict) → input.old ≡ Some bytes → status ≢ ReadFault → v ≢ verdict.ReadFault → Finds input v
+    → (status ≡ status_of v) ⊎ (status ≡ SinkFault)

@@ -3,7 +3,8 @@ use Rattle.std.specs.Prelude.{ℕ, List, ◌++◌, codes, decimal}
 use Rattle.text_output.specs.Paths.{escaped}
 
 abbrev pub usage_message : List ℕ
-usage_message = codes "usage: firefly check | run | index DIR [options] | trace DIR [options] | sample SEED FILES | jobs WORKERS | find QUERY | order | rounds THREADS ROUNDS\n"
+usage_message =
+    codes "usage: firefly check | run | index DIR [options] | trace DIR [options] | sample SEED FILES | jobs WORKERS | find QUERY | order | rounds THREADS ROUNDS\n"
 
 abbrev pub input_fault_message : List ℕ
 input_fault_message = codes "firefly: input could not be read\n"
@@ -16,7 +17,8 @@ bad_line_message k = codes "firefly: bad line " ++ decimal k ++ codes "\n"
 
 -- so many files were found, and fewer are allowed
 abbrev pub stopped_message : ℕ → ℕ → List ℕ
-stopped_message found allowed = codes "firefly: stopped, " ++ decimal found ++ codes " files found, " ++ decimal allowed ++ codes " allowed\n"
+stopped_message found allowed =
+    codes "firefly: stopped, " ++ decimal found ++ codes " files found, " ++ decimal allowed ++ codes " allowed\n"
 
 -- the job at this place has stopped all others
 abbrev pub stopped_by_message : ℕ → List ℕ

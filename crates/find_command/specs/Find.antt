@@ -71,5 +71,7 @@ IsDue bytes status = ⊥
 
 -- where the input tells its bytes, the tokens are a query, memory sufficed and no read failed, the status is the one that is due, unless the sink failed
 abbrev pub Decided : List Token → Change → Status → Type 0
-Decided tokens input status = (tree : Tree) (bytes : List ℕ) (due : Status) → Reads tokens tree → input.old ≡ Some bytes → status ≢ Memory → status ≢ ReadFault → IsDue bytes due
+Decided tokens input status =
+    (tree : Tree) (bytes : List ℕ) (due : Status) → Reads tokens tree → input.old ≡ Some bytes → status ≢ Memory → status ≢ ReadFault
+    → IsDue bytes due
     → (status ≡ due) ⊎ ((due ≡ Done) × (status ≡ SinkFault))

@@ -12,8 +12,11 @@ use Rattle.command_endings.specs.Messages.{output_fault_message}
 
 -- each status by its cause
 abbrev pub IndexAnswers : Options → List (Option Look) → List (Option Look) → Change → Change → Status → Type 0
-IndexAnswers o old new out notes Done = (piece : Index) × IsTheIndex o old piece × NoneRose old new × AreAskedOnce o old new × Gets out (index_text piece) × IsStill notes
-IndexAnswers o old new out notes SinkFault = (piece : Index) × IsTheIndex o old piece × NoneRose old new × AreAskedOnce o old new × GetsFront out (index_text piece) × Notes notes output_fault_message
+IndexAnswers o old new out notes Done =
+    (piece : Index) × IsTheIndex o old piece × NoneRose old new × AreAskedOnce o old new × Gets out (index_text piece) × IsStill notes
+IndexAnswers o old new out notes SinkFault =
+    (piece : Index) × IsTheIndex o old piece × NoneRose old new × AreAskedOnce o old new × GetsFront out (index_text piece)
+    × Notes notes output_fault_message
 IndexAnswers o old new out notes Stopped = NoIndex o old new notes Stopped × IsStill out
 IndexAnswers o old new out notes TooMany = NoIndex o old new notes TooMany × IsStill out
 IndexAnswers o old new out notes ReadFault = NoIndex o old new notes ReadFault × IsStill out

@@ -66,7 +66,9 @@ pub record IsAt (old new : List (Option Look)) (place : ℕ) (before now : Look)
 
 -- What the trees tell of the workers is in the history. The worker k is thread k + 1, and works on the tree k.
 abbrev pub ShowsWork : Options → List (Option Look) → List (Option Look) → List Event → Type 0
-ShowsWork o old new events = (k : ℕ) (a b : Look) → k < o.walkers + o.parsers → IsAt old new k a b → IfSome a.told (λ t. CallsOf (kind_of_worker o k) a.calls b.calls (by_thread (suc k) events))
+ShowsWork o old new events =
+    (k : ℕ) (a b : Look) → k < o.walkers + o.parsers → IsAt old new k a b
+    → IfSome a.told (λ t. CallsOf (kind_of_worker o k) a.calls b.calls (by_thread (suc k) events))
 
 -- a call on one of the trees failed at this path: its count rose, and where it tells, the path failed in this call, is reached from the
 -- directory, and may fail or isn't in the tree as what its entry says
@@ -79,7 +81,9 @@ pub record FailedAt (o : Options) (old new : List (Option Look)) (path : Path) :
 
 -- why there is no index: each status by its cause
 abbrev pub NoIndex : Options → List (Option Look) → List (Option Look) → Change → Status → Type 0
-NoIndex o old new notes Stopped = (n : ℕ) × (o.stop_after ≡ Some n) × IfSome (told_by old) (λ t. AreMany t o.directory File (n + 1)) × Notes notes (stopped_message (n + 1) n)
+NoIndex o old new notes Stopped =
+    (n : ℕ) × (o.stop_after ≡ Some n) × IfSome (told_by old) (λ t. AreMany t o.directory File (n + 1))
+    × Notes notes (stopped_message (n + 1) n)
 NoIndex o old new notes TooMany = IfSome (told_by old) (λ t. AreMany t o.directory Dir (most_dirs + 1)) × Notes notes too_many_message
 NoIndex o old new notes ReadFault = (path : Path) × FailedAt o old new path × Notes notes (unreadable_message path)
 NoIndex o old new notes Memory = Notes notes memory_message

@@ -27,7 +27,8 @@ pub record IsIndexTrace (o : Options) (old new : List (Option Look)) (bytes : Li
 -- each status by its cause
 abbrev pub TraceAnswers : Options → List (Option Look) → List (Option Look) → Change → Change → Status → Type 0
 TraceAnswers o old new out notes Done = (bytes : List ℕ) × IsIndexTrace o old new bytes × Gets out bytes × IsStill notes
-TraceAnswers o old new out notes SinkFault = (bytes : List ℕ) × IsIndexTrace o old new bytes × GetsFront out bytes × Notes notes output_fault_message
+TraceAnswers o old new out notes SinkFault =
+    (bytes : List ℕ) × IsIndexTrace o old new bytes × GetsFront out bytes × Notes notes output_fault_message
 TraceAnswers o old new out notes Stopped = NoIndex o old new notes Stopped × IsStill out
 TraceAnswers o old new out notes TooMany = NoIndex o old new notes TooMany × IsStill out
 TraceAnswers o old new out notes ReadFault = NoIndex o old new notes ReadFault × IsStill out

@@ -21,9 +21,11 @@ NotesFor notes verdict.ReadFault = Notes notes input_fault_message
 -- the verdict is just, the output got its explanation, and the status and the notes are the verdict's
 abbrev pub Tells : Change → Change → Change → Status → Type 0
 Tells input out notes status =
-    (found : Verdict) × Finds input found × GotText budget input.old out.old out.new found × NotesFor notes found × (status ≡ status_of found) × (found ≢ verdict.ReadFault → input.now ≡ input.before)
+    (found : Verdict) × Finds input found × GotText budget input.old out.old out.new found × NotesFor notes found
+    × (status ≡ status_of found) × (found ≢ verdict.ReadFault → input.now ≡ input.before)
 
 -- the output failed, and got a front of the explanation of a verdict that is just
 abbrev pub Fails : Change → Change → Change → Status → Type 0
 Fails input out notes status =
-    (status ≡ SinkFault) × Rose out.before out.now × GotFront budget input.old input.new input.before input.now out.old out.new × Notes notes output_fault_message
+    (status ≡ SinkFault) × Rose out.before out.now × GotFront budget input.old input.new input.before input.now out.old out.new
+    × Notes notes output_fault_message

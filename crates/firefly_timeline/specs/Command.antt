@@ -13,19 +13,25 @@ use Rattle.check_command.specs.VerdictEndings.{budget, Finds, NotesFor, status_o
 
 -- the verdict is just, the picture is drawn, and the status and the notes are the verdict's
 abbrev pub Shows : View → Change → Change → Change → Status → Type 0
-Shows v input out notes status = (found : Verdict) × Finds input found × IsDrawn budget v input.old out.old out.new found × NotesFor notes found × (status ≡ status_of found)
+Shows v input out notes status =
+    (found : Verdict) × Finds input found × IsDrawn budget v input.old out.old out.new found × NotesFor notes found
+    × (status ≡ status_of found)
 
 -- the output failed, and got a front of a picture
 abbrev pub Fails : View → Change → Change → Change → Status → Type 0
-Fails v input out notes status = (status ≡ SinkFault) × Rose out.before out.now × IsCutOff budget v input.old out.old out.new × Notes notes output_fault_message
+Fails v input out notes status =
+    (status ≡ SinkFault) × Rose out.before out.now × IsCutOff budget v input.old out.old out.new × Notes notes output_fault_message
 
 -- the verdict is just, the events are written, and the status and the notes are the verdict's
 abbrev pub Writes : Change → Change → Change → Status → Type 0
-Writes input out notes status = (found : Verdict) × Finds input found × IsWritten budget input.old out.old out.new found × NotesFor notes found × (status ≡ status_of found)
+Writes input out notes status =
+    (found : Verdict) × Finds input found × IsWritten budget input.old out.old out.new found × NotesFor notes found
+    × (status ≡ status_of found)
 
 -- the output failed, and got a front of the text of events
 abbrev pub WriteFails : Change → Change → Change → Status → Type 0
-WriteFails input out notes status = (status ≡ SinkFault) × Rose out.before out.now × IsCutShort budget input.old out.old out.new × Notes notes output_fault_message
+WriteFails input out notes status =
+    (status ≡ SinkFault) × Rose out.before out.now × IsCutShort budget input.old out.old out.new × Notes notes output_fault_message
 
 -- A failed read is told, unless the output failed too. One can fail only where no verdict is due yet, so from the byte that decides on
 -- nothing is read.

@@ -11,7 +11,8 @@ bound_words name (Some n) = name ∷ decimal n ∷ []
 
 -- the words say these bounds: each at most once and in either order, in decimal, below 2^64
 pub record Asks (words : List (List ℕ)) (from to : Option ℕ) : Type 0 where
-  pub spelt : (words ≡ bound_words (codes "--from") from ++ bound_words (codes "--to") to) ⊎ (words ≡ bound_words (codes "--to") to ++ bound_words (codes "--from") from)
+  pub spelt : (words ≡ bound_words (codes "--from") from ++ bound_words (codes "--to") to)
+      ⊎ (words ≡ bound_words (codes "--to") to ++ bound_words (codes "--from") from)
   pub first : IfSome from (λ k. k < 2 ^ 64)
   pub last : IfSome to (λ k. k < 2 ^ 64)
 

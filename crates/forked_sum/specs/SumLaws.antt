@@ -9,7 +9,8 @@ use Rattle.nub.proofs.Guards.{one_after}
 use Rattle.nub.proofs.Totals.{part_set, total_most}
 use Rattle.forked_sum.specs.Sums.{AreSums, IsAdded, IsSum}
 
-pub fits_sum : (w : Prim.Unit {0}) (values shares : List ℕ) → AreSums values shares → (m x : ℕ) → get_elem? values m ≡ some x → (t s : ℕ) → get_elem? shares t ≡ some s → x ≤ 2 ^ 63
+pub fits_sum : (w : Prim.Unit {0}) (values shares : List ℕ) → AreSums values shares → (m x : ℕ) → get_elem? values m ≡ some x → (t s : ℕ)
+    → get_elem? shares t ≡ some s → x ≤ 2 ^ 63
 fits_sum w values shares h m x at t s there =
     let was = h.each m x at in
     let few = was.few in
@@ -17,7 +18,8 @@ fits_sum w values shares h m x at t s there =
     let most = total_most (λ (r : ℕ). r) 36028797018963968 shares was.small in
     omega arith
 
-pub after_sum : (w : Prim.Unit {0}) (values shares : List ℕ) → AreSums values shares → (m x y : ℕ) → get_elem? values m ≡ some x → (t s r : ℕ) → get_elem? shares t ≡ some s → IsAdded x y s r
+pub after_sum : (w : Prim.Unit {0}) (values shares : List ℕ) → AreSums values shares → (m x y : ℕ) → get_elem? values m ≡ some x
+    → (t s r : ℕ) → get_elem? shares t ≡ some s → IsAdded x y s r
     → AreSums (slice_set values m y) (slice_set shares t r)
 after_sum w values shares h m x y at t s r there ok = one_after IsSum values shares (slice_set shares t r) m x y h at (λ was.
     let long = length-set shares t r in

@@ -70,7 +70,8 @@ impl Draft {
 
     /// Adds a file to the row under way: its path, how often it has the word, and on which line first.
     pub fn hit(&mut self, path: &str, count: u64, line: u64) -> Result<(), AllocError>
-        ensures added { OnOk result (self.new ≡ record self.old { hits = self.old.hits ++ record { path = path.now; count = count; line = line } ∷ [] }) }
+        ensures added { OnOk result (self.new
+            ≡ record self.old { hits = self.old.hits ++ record { path = path.now; count = count; line = line } ∷ [] }) }
         ensures kept { OnErr result (self.new ≡ self.old) }
     {
         self.numbers.reserve(1)?;

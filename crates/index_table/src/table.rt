@@ -36,7 +36,8 @@ impl Model for Index {
       paths = texts i.paths.entries;
     } };
 
-    ghost invariant = { λ i. let rows = rows_of (texts i.paths.entries) i.words i.numbers.items i.figures.items i.ends.items (length i.numbers.items) in
+    ghost invariant = { λ i.
+        let rows = rows_of (texts i.paths.entries) i.words i.numbers.items i.figures.items i.ends.items (length i.numbers.items) in
         AreColumns (length i.paths.entries) i.words i.numbers.items i.figures.items i.ends.items (length i.numbers.items)
         × AreOrdered rows × ArePathsOf rows (texts i.paths.entries) };
 }

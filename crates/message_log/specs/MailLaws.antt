@@ -10,11 +10,14 @@ use Rattle.message_log.specs.declared.mail.Deeds.{Deeds}
 use Rattle.message_log.specs.declared.mail.Mail.{Mail}
 use Rattle.message_log.specs.Mails.{AreKept, IsKept, IsKnown, Moves, times}
 
-pub fits_known : (w : Prim.Unit {0}) (values : List Mail) (shares : List Deeds) → AreKept values shares → (m : ℕ) (x : Mail) → get_elem? values m ≡ some x
+pub fits_known : (w : Prim.Unit {0}) (values : List Mail) (shares : List Deeds) → AreKept values shares → (m : ℕ) (x : Mail)
+    → get_elem? values m ≡ some x
     → (t : ℕ) (s : Deeds) → get_elem? shares t ≡ some s → IsKnown x s
-fits_known w values shares h m x at t s there = let a = own_part (λ (r : Deeds). r.sends) shares t s there in let b = (h.each m x at).senders in record { senders = omega arith }
+fits_known w values shares h m x at t s there =
+    let a = own_part (λ (r : Deeds). r.sends) shares t s there in let b = (h.each m x at).senders in record { senders = omega arith }
 
-pub kept_after : (w : Prim.Unit {0}) (values : List Mail) (shares : List Deeds) → AreKept values shares → (m : ℕ) (x y : Mail) → get_elem? values m ≡ some x
+pub kept_after : (w : Prim.Unit {0}) (values : List Mail) (shares : List Deeds) → AreKept values shares → (m : ℕ) (x y : Mail)
+    → get_elem? values m ≡ some x
     → (t : ℕ) (s r : Deeds) → get_elem? shares t ≡ some s → Moves x y s r → AreKept (slice_set values m y) (slice_set shares t r)
 kept_after w values shares h m x y at t s r there ok = one_after IsKept values shares (slice_set shares t r) m x y h at (λ was. record {
   all = λ v.

@@ -50,7 +50,8 @@ pub record IsKnown (q : Mail) (s : Deeds) : Type 0 where
 
 -- a message is moved and none is lost, who may send is counted, what is over stays so, and who sees the end sees what is over
 pub record Moves (x y : Mail) (s r : Deeds) : Type 0 where
-  pub all : (v : ℕ) → times v (in_slot y.slot) + times v r.received + times v s.sent ≡ times v (in_slot x.slot) + times v s.received + times v r.sent
+  pub all : (v : ℕ) → times v (in_slot y.slot) + times v r.received + times v s.sent ≡ times v
+      (in_slot x.slot) + times v s.received + times v r.sent
   pub senders : y.senders + s.sends ≡ x.senders + r.sends
   pub over : IsOver x → IsOver y
   pub end : s.ended < r.ended → IsOver y

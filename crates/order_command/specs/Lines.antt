@@ -8,7 +8,9 @@ no_cycle_line events = codes "no cycle " ++ decimal events ++ codes "\n"
 
 -- the outer mutex, the inner one, the thread and the place
 abbrev pub nested_line : Nested → List ℕ
-nested_line n = codes "m" ++ decimal n.outer.0 ++ codes " m" ++ decimal n.inner.0 ++ codes " t" ++ decimal n.thread.0 ++ codes " " ++ decimal n.place ++ codes "\n"
+nested_line n =
+    codes "m" ++ decimal n.outer.0 ++ codes " m" ++ decimal n.inner.0 ++ codes " t" ++ decimal n.thread.0 ++ codes " " ++ decimal n.place
+    ++ codes "\n"
 
 -- how many mutexes the cycle has, and a line for each
 abbrev pub cycle_text : List Nested → List ℕ

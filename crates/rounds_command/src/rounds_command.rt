@@ -41,7 +41,8 @@ fn print<O: Sink, N: Sink>(closed: &Closed<RoundUses>, out: &mut O, notes: &mut 
         → Prints (trace_text closed.now.layout h (numbered 0 (round ∷ sum ∷ value ∷ []))) Status.Done
         (change_of O.held O.faults out.old out.new) (change_of N.held N.faults notes.old notes.new) result }
     ensures reads { (h : List Event) (round sum value : ℕ) → closed.now.trace ≡ Some h → AreThree round sum value closed.now.values
-        → ReadsAs (trace_text closed.now.layout h (numbered 0 (round ∷ sum ∷ value ∷ []))) closed.now.layout h (numbered 0 (round ∷ sum ∷ value ∷ [])) }
+        → ReadsAs (trace_text closed.now.layout h (numbered 0 (round ∷ sum ∷ value ∷ []))) closed.now.layout h
+        (numbered 0 (round ∷ sum ∷ value ∷ [])) }
 {
     let (round, sum, value) = numbers_of(closed.values());
     let Some(events) = closed.trace() else {
@@ -64,7 +65,8 @@ pub fn write_rounds<R: Threads + Wait + Sync, O: Sink, N: Sink>(
 ) -> Status
     requires threads { (1 ≤ threads) × (threads ≤ 64) }
     requires rounds { (1 ≤ rounds) × (rounds ≤ 1000) }
-    ensures { RoundsAnswers threads rounds (change_of O.held O.faults out.old out.new) (change_of N.held N.faults notes.old notes.new) result }
+    ensures { RoundsAnswers threads rounds (change_of O.held O.faults out.old out.new) (change_of N.held N.faults notes.old notes.new)
+        result }
 {
     match run_rounds(rt, alloc, threads, rounds) {
         Ok(left) => {

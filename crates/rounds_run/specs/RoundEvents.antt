@@ -18,7 +18,9 @@ asked t = cond (eqb t 0) (visit t 1) []
 
 -- one round of the thread t: it adds, arrives, asks, and arrives again
 abbrev pub IsRoundOf : ℕ → List Event → Type 0
-IsRoundOf t es = (first : List Event) × (second : List Event) × IsArrivalOf t first × IsArrivalOf t second × (es ≡ ((visit t 1 ++ first) ++ asked t) ++ second)
+IsRoundOf t es =
+    (first : List Event) × (second : List Event) × IsArrivalOf t first × IsArrivalOf t second
+    × (es ≡ ((visit t 1 ++ first) ++ asked t) ++ second)
 
 -- so many rounds of the thread t
 abbrev pub AreRoundsOf : ℕ → ℕ → List Event → Type 0

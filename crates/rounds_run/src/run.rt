@@ -51,7 +51,8 @@ fn play_all<R: Threads + Wait + Sync>(
         alloc,
         threads,
         &|me: Thread<RoundUses>| -> (Thread<RoundUses>, Option<Vec<u64>>)
-            requires { IsTable p.now × (me.number < p.now.world.parties) × (rounds ≤ 1000) × IsFirst p.now (λ w t. fresh_share) me.number me }
+            requires { IsTable p.now × (me.number < p.now.world.parties) × (rounds ≤ 1000)
+                × IsFirst p.now (λ w t. fresh_share) me.number me }
             ensures { IsPlaying p.entry.now me.number rounds result.0
                 × (me.number ≡ 0 → IfSome result.1 (λ v. AreTotals p.entry.now.world.parties rounds v.items)) }
         { play(rt, alloc, p, me, rounds) },
