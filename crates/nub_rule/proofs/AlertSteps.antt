@@ -32,7 +32,7 @@ use Rattle.nub_rule.proofs.Apart.{thread-of}
 use Rattle.nub_rule.proofs.Each.{at_within, each-set, put-here, put-else}
 use Rattle.nub_rule.proofs.Members.{member_steps}
 use Rattle.nub_rule.proofs.Frames.{lives-frame, lives-stay, other, ready-stay}
-use Rattle.nub_rule.proofs.Standing.{some_none, distinct-behind, less-without, lines-leave, lines-same, lines-stage, mem-behind, without-absent, without-append}
+use Rattle.nub_rule.proofs.Lines.{some_none, distinct-behind, less-without, lines-leave, lines-same, lines-stage, mem-behind, without-absent, without-append}
 use Rattle.nub_rule.proofs.Beside.{idle, still}
 use Rattle.nub_rule.proofs.Beginning.{waits-stay, begun-frame, begun-same, counted-stands}
 use Rattle.nub_rule.proofs.Owing.{owes-frame, owes-leave, owes-leave-tested, owes-stage}

@@ -12,7 +12,7 @@ use Rattle.nub_rule.specs.declared.rule.Slot.{Slot}
 use Rattle.nub_rule.specs.declared.rule.Slot.TheVariants.{Value, Queue}
 use Rattle.nub_rule.specs.declared.view.Part.{Part}
 use Rattle.nub_rule.specs.declared.view.View.{View}
-use Rattle.nub_rule.specs.Items.{line_of}
+use Rattle.nub_rule.specs.Items.{queue_of}
 use Rattle.nub_rule.specs.Parts.{Got}
 use Rattle.nub_rule.specs.Known.{Known, changed, known_as, part_of, values_of, value_in, IsThread, Makes, PicksShare}
 use Rattle.nub_rule.specs.Places.{most_threads, queue_at, value_at}
@@ -50,25 +50,25 @@ module _ {T H W : Type 0} where
     pub far : o < 192
     pub spins : me.0.part.spin ≡ Some o
     pub same : front.0 ≡ me.0
-    pub first : front.1 ≡ (queue_at o, Queue (line_of me.0.part.queue)) ∷ rest front.1
-    pub refill : (zs : List ℕ) → Refilled (queue_at o) (Queue (line_of zs)) hand me.1 ((queue_at o, Queue (line_of zs)) ∷ rest front.1)
+    pub first : front.1 ≡ (queue_at o, Queue (queue_of me.0.part.queue)) ∷ rest front.1
+    pub refill : (zs : List ℕ) → Refilled (queue_at o) (Queue (queue_of zs)) hand me.1 ((queue_at o, Queue (queue_of zs)) ∷ rest front.1)
 
   pub queue_at_hand : (z : TableId) (n : ℕ) (hand hand' : List ℕ) (me front : Sat T H W) (o : ℕ) {kept : List T} {room : ℕ} → IsThread z n hand me kept room → me.0.part.spin ≡ Some o
       → front.0 ≡ me.0 → keys front.1 ≡ hand' → IsDistinct front.1 → Below 256 front.1 → ((k : ℕ) → find k front.1 ≡ find k me.1) → ((x : Slot T) → find o me.1 ≡ Some x → front.1 ≡ (o, x) ∷ rest front.1) → QueueAtHand me front hand' o
-  queue_at_hand z n hand hand' me front o i here same keyed distinct below found first = let at = first (Queue (line_of me.0.part.queue)) (i.hands.queue_in o here) in record {
+  queue_at_hand z n hand hand' me front o i here same keyed distinct below found first = let at = first (Queue (queue_of me.0.part.queue)) (i.hands.queue_in o here) in record {
     far = i.hands.below o here;
     spins = here;
     same = same;
     first = at;
-    refill = λ zs. refilled o (Queue (line_of me.0.part.queue)) (Queue (line_of zs)) hand' me.1 front.1 at found keyed distinct below;
+    refill = λ zs. refilled o (Queue (queue_of me.0.part.queue)) (Queue (queue_of zs)) hand' me.1 front.1 at found keyed distinct below;
   }
 
   -- what contracts see of a thread after the queue became zs, by a step that changed the part by f
-  pub requeued_seen : (f : ℕ → Part T H → Part T H) (zs : List ℕ) (s : Slot T) (z z' : TableId) (n : ℕ) (hand hand' : List ℕ) (me front me' : Sat T H W) (o : ℕ) {kept : List T} {room : ℕ} → IsThread z n hand me kept room → QueueAtHand me front hand' o → z' ≡ z → s ≡ Queue (line_of zs)
+  pub requeued_seen : (f : ℕ → Part T H → Part T H) (zs : List ℕ) (s : Slot T) (z z' : TableId) (n : ℕ) (hand hand' : List ℕ) (me front me' : Sat T H W) (o : ℕ) {kept : List T} {room : ℕ} → IsThread z n hand me kept room → QueueAtHand me front hand' o → z' ≡ z → s ≡ Queue (queue_of zs)
       → me' ≡ (with_part front.0 (f front.0.number front.0.part), (queue_at o, s) ∷ rest front.1)
       → (es : List Entry) (lo : Bool) (nx : ℕ) (a : Known T H W) → known_as z n me es lo nx ≡ a → known_as z' n me' es lo nx ≡ changed a (f a.number (part_of a)) a.values
   requeued_seen f zs s z z' n hand hand' me front me' o i at ez is em es lo nx a v =
-      let ds : List (ℕ × Slot T) = (queue_at o, Queue (line_of zs)) ∷ rest front.1 in
+      let ds : List (ℕ × Slot T) = (queue_at o, Queue (queue_of zs)) ∷ rest front.1 in
       let r = at.refill zs in
       let far = at.far in
       let number : front.0.number ≡ n = ap (λ v. v.number) at.same ∙ i.numbered in
@@ -76,12 +76,12 @@ module _ {T H W : Type 0} where
       seen_as f (λ vs. vs) z z' n es lo me me' ds a v ez now (values-same me.1 ds (λ m. r.elsewhere (value_at m) (λ e. omega arith)))
 
   -- after the queue became zs, by a step that changed the part by f
-  pub requeued : (f : ℕ → Part T H → Part T H) (zs : List ℕ) (s : Slot T) (z z' : TableId) (n : ℕ) (hand hand' : List ℕ) (me front me' : Sat T H W) (o : ℕ) {kept : List T} {room : ℕ} → IsThread z n hand me kept room → QueueAtHand me front hand' o → z' ≡ z → s ≡ Queue (line_of zs)
+  pub requeued : (f : ℕ → Part T H → Part T H) (zs : List ℕ) (s : Slot T) (z z' : TableId) (n : ℕ) (hand hand' : List ℕ) (me front me' : Sat T H W) (o : ℕ) {kept : List T} {room : ℕ} → IsThread z n hand me kept room → QueueAtHand me front hand' o → z' ≡ z → s ≡ Queue (queue_of zs)
       → me' ≡ (with_part front.0 (f front.0.number front.0.part), (queue_at o, s) ∷ rest front.1) → (f n me.0.part).held ≡ me.0.part.held → (f n me.0.part).spin ≡ me.0.part.spin → (f n me.0.part).queue ≡ zs → ((f n me.0.part).stand ≡ None → length zs < most_threads)
       → After f (λ vs. vs) z z' n hand' me me' kept room
   requeued f zs s z z' n hand hand' me front me' o i at ez is em eh es eq space =
       let q = f n me.0.part in
-      let ds : List (ℕ × Slot T) = (queue_at o, Queue (line_of zs)) ∷ rest front.1 in
+      let ds : List (ℕ × Slot T) = (queue_at o, Queue (queue_of zs)) ∷ rest front.1 in
       let r = at.refill zs in
       let far = at.far in
       let number : front.0.number ≡ n = ap (λ v. v.number) at.same ∙ i.numbered in

@@ -16,7 +16,7 @@ use Rattle.nub_rule.specs.Places.{cond_object, waits_at}
 use Rattle.nub_rule.specs.Plays.{unread}
 use Rattle.nub_rule.proofs.Each.{each-set}
 use Rattle.nub_rule.proofs.Frames.{other}
-use Rattle.nub_rule.proofs.Standing.{some_none, stand_some, false_true, eqb_is}
+use Rattle.nub_rule.proofs.Lines.{some_none, stand_some, false_true, eqb_is}
 
 -- the begun waits of conditions stay
 abbrev pub SameWaits : List ℕ → List ℕ → Type 0

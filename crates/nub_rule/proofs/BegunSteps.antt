@@ -28,7 +28,7 @@ use Rattle.nub_rule.specs.Rule.{IsKept}
 use Rattle.nub_rule.proofs.Each.{each-set, at_below, put-at, put-else}
 use Rattle.nub_rule.proofs.Members.{member_steps}
 use Rattle.nub_rule.proofs.Frames.{lives-frame, lived-frame, lives-stay, SameCounts, other, bits-stay, spins-stay, ready-stay, shown-stay, pen-stay, spins-frame, lines-frame, shows-frame, pens-frame, holders-frame, pendings-frame, semaphores-frame, alerts-frame, alert-seen-frame, alert-seen-stays}
-use Rattle.nub_rule.proofs.Standing.{some_none, not_true, both_ways, mem-behind, stand_some}
+use Rattle.nub_rule.proofs.Lines.{some_none, not_true, both_ways, mem-behind, stand_some}
 use Rattle.nub_rule.proofs.Beside.{beside}
 use Rattle.nub_rule.proofs.Owing.{owes-frame}
 use Rattle.nub_rule.proofs.Beginning.{raisers-few, raisers-some, begun-same, begun-raise, begun-lower, counts-some}

@@ -35,7 +35,7 @@ use Rattle.nub_rule.proofs.Each.{at_within, at_below, put-here, put-else}
 use Rattle.nub_rule.proofs.Members.{Steps, member_steps}
 use Rattle.nub_rule.proofs.Runs.{run-of, leads-snoc}
 use Rattle.nub_rule.proofs.Frames.{lives-stay, lives-frame, other, sizes-frame, told-event, spins-frame, lines-frame, ready-stay, spins-stay, shown-stay, pen-stay, alert-seen-stays, alert-seen-frame}
-use Rattle.nub_rule.proofs.Standing.{not_true, stand_none, mem-behind, lines-same}
+use Rattle.nub_rule.proofs.Lines.{not_true, stand_none, mem-behind, lines-same}
 use Rattle.nub_rule.proofs.SpinSteps.{nobody-by, one-by}
 use Rattle.nub_rule.proofs.Penning.{either_way, pens-event, numbered-by}
 use Rattle.nub_rule.proofs.Beside.{still}

@@ -24,7 +24,7 @@ use Rattle.nub_rule.specs.Rule.{IsKept}
 use Rattle.nub_rule.proofs.Each.{each-set, put-here, put-else}
 use Rattle.nub_rule.proofs.Members.{member_steps}
 use Rattle.nub_rule.proofs.Frames.{lived-frame, SameShown, ready-stay, spins-frame, lines-frame, semaphores-frame, alerts-frame, pens-frame, alert-seen-frame}
-use Rattle.nub_rule.proofs.Standing.{mem-behind, distinct-behind, without-append, without-absent, less-without, lines-push, lines-leave, lines-same}
+use Rattle.nub_rule.proofs.Lines.{mem-behind, distinct-behind, without-append, without-absent, less-without, lines-push, lines-leave, lines-same}
 use Rattle.nub_rule.proofs.Spinning.{only_here}
 use Rattle.nub_rule.proofs.Showing.{pendings-put}
 use Rattle.nub_rule.proofs.Conditioning.{conditions-compare, conditions-push, conditions-leave, conditions-pop}

@@ -28,7 +28,7 @@ use Rattle.nub_rule.specs.Rule.{IsKept}
 use Rattle.nub_rule.proofs.Each.{each-set, put-here, put-else}
 use Rattle.nub_rule.proofs.Members.{Steps, member_steps}
 use Rattle.nub_rule.proofs.Frames.{lives-frame, lives-stay, lived-frame, SameShown, other, pendings-frame, holders-frame, semaphores-frame, alerts-frame, alert-seen-stays, alert-seen-frame}
-use Rattle.nub_rule.proofs.Standing.{distinct-behind, mem-behind}
+use Rattle.nub_rule.proofs.Lines.{distinct-behind, mem-behind}
 use Rattle.nub_rule.proofs.Beside.{idle}
 use Rattle.nub_rule.proofs.Owing.{owes-frame}
 use Rattle.nub_rule.proofs.Beginning.{waits-stay, begun-frame, begun-same, counted-begun}

@@ -15,7 +15,7 @@ use Rattle.nub_rule.specs.Places.{count_at, cond_object}
 use Rattle.nub_rule.specs.Plays.{less}
 use Rattle.nub_rule.proofs.Each.{each-set, put-here, put-else, put-at}
 use Rattle.nub_rule.proofs.Frames.{SameCounts}
-use Rattle.nub_rule.proofs.Standing.{some_none, false_true, less-without}
+use Rattle.nub_rule.proofs.Lines.{some_none, false_true, less-without}
 
 both_false : (b : Bool) → cond b false false ≡ false
 both_false true = refl

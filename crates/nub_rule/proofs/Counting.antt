@@ -5,7 +5,7 @@ use native.Mathlib.Decide.{ℕ_discrete}
 use Rattle.larch_actions.specs.Sets.{mem, without}
 use Rattle.larch_actions.proofs.Sets.{mem-here, mem-else, mem-gone, mem-without}
 use Rattle.nub_rule.specs.Items.{Distinct, Small}
-use Rattle.nub_rule.proofs.Standing.{false_true, without-absent, distinct-without}
+use Rattle.nub_rule.proofs.Lines.{false_true, without-absent, distinct-without}
 
 always : (b : Bool) → cond b true true ≡ true
 always true = refl

@@ -27,7 +27,7 @@ use Rattle.nub_rule.specs.declared.rule.Slot.TheVariants.{Value, Queue}
 use Rattle.nub_rule.specs.declared.view.Part.{Part}
 use Rattle.nub_rule.specs.declared.view.View.{View}
 use Rattle.nub_rule.specs.declared.view.Kind.TheVariants.{Collector, Member}
-use Rattle.nub_rule.specs.Items.{line_of, no_line, HasVersion, Knows, Spinning, Each, Chronicle, Standing, Stands, Current, Wide, Shared, PenFits}
+use Rattle.nub_rule.specs.Items.{queue_of, no_queue, HasVersion, Knows, Spinning, Each, Chronicle, Owns, Stands, Current, Wide, Shared, PenFits}
 use Rattle.nub_rule.specs.Parts.{Got, Lacks, first_part, fresh, number_of, pending_of, waits_on, open_on}
 use Rattle.nub_rule.specs.Owed.{SleepsSound}
 use Rattle.nub_rule.specs.Begun.{IsCounted}
@@ -103,33 +103,33 @@ unborn-past : (v : Version) (t : ℕ) → v ≡ Two → t ≢ 0 → lives_at_fir
 unborn-past v t two ne is = let e : Unborn ≡ Live = sym (put-else (λ _. Unborn) 0 t Live ne) ∙ (ap (λ z. lives_at_first z t) (sym two) ∙ is) in cc
 
 module _ {T : Type 0} where
-  slots_wide : (n : ℕ) (values : List T) → length (map some (replicate n (Queue no_line) ++ map (λ x. Value (Some x)) values)) ≡ n + length values
-  slots_wide n values = length-map (replicate n (Queue no_line) ++ map (λ (x : T). Value (Some x)) values) some
-      ∙ (length-append (replicate n (Queue no_line)) (map (λ (x : T). Value (Some x)) values) ∙ (λ i. length-replicate {A = Slot T} n (Queue no_line) i + length-map values (λ (x : T). Value (Some x)) i))
+  slots_wide : (n : ℕ) (values : List T) → length (map some (replicate n (Queue no_queue) ++ map (λ x. Value (Some x)) values)) ≡ n + length values
+  slots_wide n values = length-map (replicate n (Queue no_queue) ++ map (λ (x : T). Value (Some x)) values) some
+      ∙ (length-append (replicate n (Queue no_queue)) (map (λ (x : T). Value (Some x)) values) ∙ (λ i. length-replicate {A = Slot T} n (Queue no_queue) i + length-map values (λ (x : T). Value (Some x)) i))
 
   pub opening_wide : (values : List T) → length (opening_slots values) ≡ value_at (length values)
-  opening_wide values = length-append (replicate 192 (Queue no_line)) (map (λ (x : T). Value (Some x)) values) ∙ (λ i. length-replicate {A = Slot T} 192 (Queue no_line) i + length-map values (λ (x : T). Value (Some x)) i)
+  opening_wide values = length-append (replicate 192 (Queue no_queue)) (map (λ (x : T). Value (Some x)) values) ∙ (λ i. length-replicate {A = Slot T} 192 (Queue no_queue) i + length-map values (λ (x : T). Value (Some x)) i)
 
   -- one more empty queue
-  pub queues_more : (slots next : List (Slot T)) (n : ℕ) (z : List ℕ) → slots ≡ replicate n (Queue no_line) → z ≡ [] → next ≡ slots ++ Queue (line_of z) ∷ [] → next ≡ replicate (n + 1) (Queue no_line)
-  queues_more slots next n z is empty more = more ∙ (ap₂ (λ l y. l ++ Queue (line_of y) ∷ []) is empty ∙ replicate_more n (Queue no_line))
+  pub queues_more : (slots next : List (Slot T)) (n : ℕ) (z : List ℕ) → slots ≡ replicate n (Queue no_queue) → z ≡ [] → next ≡ slots ++ Queue (queue_of z) ∷ [] → next ≡ replicate (n + 1) (Queue no_queue)
+  queues_more slots next n z is empty more = more ∙ (ap₂ (λ l y. l ++ Queue (queue_of y) ∷ []) is empty ∙ replicate_more n (Queue no_queue))
 
   -- the slots when all queues and the values ys are there
   module _ (slots begun : List (Slot T)) (ys : List T) (is : slots ≡ begun ++ map (λ x. Value (Some x)) ys) where
-    pub slots_long : begun ≡ replicate 192 (Queue no_line) → length slots ≡ value_at (length ys)
+    pub slots_long : begun ≡ replicate 192 (Queue no_queue) → length slots ≡ value_at (length ys)
     slots_long queues = ap length (is ∙ ap (λ l. l ++ map (λ x. Value (Some x)) ys) queues) ∙ opening_wide ys
 
     pub slots_more : (next : List (Slot T)) (x : T) → next ≡ slots ++ Value (Some x) ∷ [] → next ≡ begun ++ map (λ x. Value (Some x)) (ys ++ x ∷ [])
     slots_more next x more = more ∙ (ap (λ l. l ++ Value (Some x) ∷ []) is ∙ (append_assoc begun (map (λ x. Value (Some x)) ys) (Value (Some x) ∷ []) ∙ ap (λ l. begun ++ l) (sym (map-append (λ (x : T). Value (Some x)) ys (x ∷ [])))))
 
-  slot_there : (n : ℕ) (values : List T) (m : ℕ) (x : T) → get_elem? values m ≡ some x → get_elem? (map some (replicate n (Queue no_line) ++ map (λ x. Value (Some x)) values)) (n + m) ≡ some (some (Value (Some x)))
-  slot_there n values m x at = at_map some (replicate n (Queue no_line) ++ map (λ (x : T). Value (Some x)) values) (n + m) (Value (Some x))
-      (ap (λ (z : ℕ). get_elem? (replicate n (Queue no_line) ++ map (λ (x : T). Value (Some x)) values) (z + m)) (sym (length-replicate {A = Slot T} n (Queue no_line)))
-      ∙ (at_beyond (replicate n (Queue no_line)) (map (λ (x : T). Value (Some x)) values) m ∙ at_map (λ (x : T). Value (Some x)) values m x at))
+  slot_there : (n : ℕ) (values : List T) (m : ℕ) (x : T) → get_elem? values m ≡ some x → get_elem? (map some (replicate n (Queue no_queue) ++ map (λ x. Value (Some x)) values)) (n + m) ≡ some (some (Value (Some x)))
+  slot_there n values m x at = at_map some (replicate n (Queue no_queue) ++ map (λ (x : T). Value (Some x)) values) (n + m) (Value (Some x))
+      (ap (λ (z : ℕ). get_elem? (replicate n (Queue no_queue) ++ map (λ (x : T). Value (Some x)) values) (z + m)) (sym (length-replicate {A = Slot T} n (Queue no_queue)))
+      ∙ (at_beyond (replicate n (Queue no_queue)) (map (λ (x : T). Value (Some x)) values) m ∙ at_map (λ (x : T). Value (Some x)) values m x at))
 
-  queue_there : (n : ℕ) (values : List T) (o : ℕ) → o < n → get_elem? (map some (replicate n (Queue no_line) ++ map (λ x. Value (Some x)) values)) o ≡ some (some (Queue no_line))
-  queue_there n values o low = at_map some (replicate n (Queue no_line) ++ map (λ (x : T). Value (Some x)) values) o (Queue no_line)
-      (at_longer (replicate n (Queue no_line)) (map (λ (x : T). Value (Some x)) values) o (Queue no_line) (replicate_there n o (Queue no_line) low))
+  queue_there : (n : ℕ) (values : List T) (o : ℕ) → o < n → get_elem? (map some (replicate n (Queue no_queue) ++ map (λ x. Value (Some x)) values)) o ≡ some (some (Queue no_queue))
+  queue_there n values o low = at_map some (replicate n (Queue no_queue) ++ map (λ (x : T). Value (Some x)) values) o (Queue no_queue)
+      (at_longer (replicate n (Queue no_queue)) (map (λ (x : T). Value (Some x)) values) o (Queue no_queue) (replicate_there n o (Queue no_queue) low))
 
 module _ {T H W : Type 0} (l : Layout) (traced : Bool) (w : W) (begin : W → ℕ → H) (holds : W → List T → List H → Type 0) where
   pub opens : (ws : List ℕ) (values : List T) → AreFirst l ws → length values ≡ l.mutexes → IsLawful l → l.threads ≤ most_threads → holds w values (firsts (begin w) l.threads)
@@ -175,7 +175,7 @@ module _ {T H W : Type 0} (l : Layout) (traced : Bool) (w : W) (begin : W → �
             longest = inl refl;
           };
           owned = record {
-            standing = each-firsts (Standing (λ _. none)) (λ n. first_part l.version n (Some (begin w n))) l.threads (λ i low m. ((λ has. absurd (none_got (first_part l.version i (Some (begin w i))) refl m has.0 has.1)), λ is. absurd (some-ne-none i (sym is))));
+            standing = each-firsts (Owns (λ _. none)) (λ n. first_part l.version n (Some (begin w n))) l.threads (λ i low m. ((λ has. absurd (none_got (first_part l.version i (Some (begin w i))) refl m has.0 has.1)), λ is. absurd (some-ne-none i (sym is))));
             within = λ m n is. absurd (some-ne-none n (sym is));
             bits = λ m low. inl (zeros (bit_at m) (λ t e. omega arith), refl);
             at_home = λ m low x at free. slot_there 192 values m x at;

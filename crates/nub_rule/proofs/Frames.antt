@@ -15,7 +15,7 @@ use Rattle.atomic_table.proofs.Lists.{set_else, set_here}
 use Rattle.nub_rule.specs.declared.rule.Slot.{Slot}
 use Rattle.nub_rule.specs.declared.view.Part.{Part}
 use Rattle.nub_rule.specs.declared.view.Pen.{Pen}
-use Rattle.nub_rule.specs.Items.{Each, Chronicle, Told, Standing, Current, Shared, Wide, Marks, Says, Owned, Spinning, Spins, Stands, Lines, Semaphores, Alerts, Holders, Pendings, Knows, Conditions, AlertSeen, HasVersion, Lives, Shows, PenFits, Pens, Sizes}
+use Rattle.nub_rule.specs.Items.{Each, Chronicle, Told, Owns, Current, Shared, Wide, Marks, Says, Owned, Spinning, Spins, Stands, Lines, Semaphores, Alerts, Holders, Pendings, Knows, Conditions, AlertSeen, HasVersion, Lives, Shows, PenFits, Pens, Sizes}
 use Rattle.nub_rule.specs.Parts.{waits_on, open_on, counts_in, number_of, pending_of, stands_at}
 use Rattle.nub_rule.specs.Places.{most_threads, bit_at, spin_at, length_at, count_at, alert_at, ready_at, life_at, pen_at, number_at, queue_at, value_at, sem_object, cond_object}
 use Rattle.nub_rule.proofs.Each.{each-set, each-snoc, same_at, at_within}
@@ -125,8 +125,8 @@ module _ {T H : Type 0} (all : List (Part T H)) (n : ℕ) (p q : Part T H) (at :
     longest = inr (n, q, set_here all n q (at_within all n p at), seen);
   }
 
-  pub standing-frame : (owner : ℕ → Option ℕ) → q.held ≡ p.held → Each (Standing owner) all → Each (Standing owner) (set all n q)
-  standing-frame owner same h = each-set (Standing owner) (Standing owner) all n q
+  pub standing-frame : (owner : ℕ → Option ℕ) → q.held ≡ p.held → Each (Owns owner) all → Each (Owns owner) (set all n q)
+  standing-frame owner same h = each-set (Owns owner) (Owns owner) all n q
       (λ m. let c = h n p at m in ((λ has. c.0 (has.0, ap (λ l. get_elem? l m) (sym same) ∙ has.1)), λ is. let has = c.1 is in (has.0, ap (λ l. get_elem? l m) same ∙ has.1))) (λ k r ne at' c. c) h
 
   pub shared-frame : (shares : List H) → q.share ≡ p.share → Each (Shared shares) all → Each (Shared shares) (set all n q)

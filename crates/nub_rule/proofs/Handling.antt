@@ -12,12 +12,12 @@ use Rattle.atomic_table.proofs.Lists.{set_else, set_here}
 use Rattle.nub_rule.specs.declared.rule.Slot.{Slot}
 use Rattle.nub_rule.specs.declared.rule.Slot.TheVariants.{Value, Queue}
 use Rattle.nub_rule.specs.declared.view.Part.{Part}
-use Rattle.nub_rule.specs.Items.{line_of}
+use Rattle.nub_rule.specs.Items.{queue_of}
 use Rattle.nub_rule.specs.Known.{value_in, values_of, Hands}
 use Rattle.nub_rule.specs.Places.{most_threads, queue_at, value_at}
 use Rattle.nub_rule.specs.Slots.{find, IsDistinct, Below}
 use Rattle.nub_rule.proofs.Each.{at_within, same_elements, at_firsts}
-use Rattle.nub_rule.proofs.Standing.{same_object, some_none}
+use Rattle.nub_rule.proofs.Lines.{same_object, some_none}
 use Rattle.nub_rule.proofs.Turns.{find-here, find-else, keys}
 
 head_is : {A : Type 0} (x y : A) (xs ys : List A) → x ∷ xs ≡ y ∷ ys → x ≡ y
@@ -63,7 +63,7 @@ module _ {T H : Type 0} (p q : Part T H) (xs ys : List (ℕ × Slot T)) where
   pub hands-same : ((k : ℕ) → find k ys ≡ find k xs) → q.spin ≡ p.spin → q.queue ≡ p.queue → q.held ≡ p.held → ((o : ℕ) → q.spin ≡ Some o → q.stand ≡ None → length q.queue < most_threads) → (q.spin ≡ None → q.owed ≡ []) → Hands p xs → Hands q ys
   hands-same f es eq eh room settled h = record {
     below = λ o is. h.below o (sym es ∙ is);
-    queue_in = λ o is. f (queue_at o) ∙ (h.queue_in o (sym es ∙ is) ∙ ap (λ (l : List ℕ). Some (Queue (line_of l))) (sym eq));
+    queue_in = λ o is. f (queue_at o) ∙ (h.queue_in o (sym es ∙ is) ∙ ap (λ (l : List ℕ). Some (Queue (queue_of l))) (sym eq));
     queue_out = λ o lo out. f (queue_at o) ∙ h.queue_out o lo (λ z. out (es ∙ z));
     value_got = λ m x g. let u = h.value_got m x (ap (λ l. get_elem? l m) (sym eh) ∙ g) in (u.0, f (value_at m) ∙ u.1);
     value_lacked = λ m g. f (value_at m) ∙ h.value_lacked m (ap (λ l. get_elem? l m) (sym eh) ∙ g);
@@ -72,11 +72,11 @@ module _ {T H : Type 0} (p q : Part T H) (xs ys : List (ℕ × Slot T)) where
   }
 
   -- a spin word was taken, with its queue
-  pub hands-spun : (o : ℕ) (zs : List ℕ) → o < 192 → ys ≡ (queue_at o, Queue (line_of zs)) ∷ xs → p.spin ≡ None → q.spin ≡ Some o → q.queue ≡ zs → q.held ≡ p.held → q.stand ≡ p.stand → (p.stand ≡ None → length zs < most_threads) → Hands p xs → Hands q ys
+  pub hands-spun : (o : ℕ) (zs : List ℕ) → o < 192 → ys ≡ (queue_at o, Queue (queue_of zs)) ∷ xs → p.spin ≡ None → q.spin ≡ Some o → q.queue ≡ zs → q.held ≡ p.held → q.stand ≡ p.stand → (p.stand ≡ None → length zs < most_threads) → Hands p xs → Hands q ys
   hands-spun o zs low is out now eq eh est room h =
-      let old : (k : ℕ) → k ≢ o → find k ys ≡ find k xs = λ k ne. ap (find k) is ∙ find-else k (queue_at o, Queue (line_of zs)) xs (λ z. ne (sym z)) in record {
+      let old : (k : ℕ) → k ≢ o → find k ys ≡ find k xs = λ k ne. ap (find k) is ∙ find-else k (queue_at o, Queue (queue_of zs)) xs (λ z. ne (sym z)) in record {
         below = λ k there. let e : o ≡ k = same_object o k (sym now ∙ there) in omega arith;
-        queue_in = λ k there. let e : o ≡ k = same_object o k (sym now ∙ there) in ap (find (queue_at k)) is ∙ (find-here (queue_at k) (queue_at o, Queue (line_of zs)) xs e ∙ ap (λ (l : List ℕ). Some (Queue (line_of l))) (sym eq));
+        queue_in = λ k there. let e : o ≡ k = same_object o k (sym now ∙ there) in ap (find (queue_at k)) is ∙ (find-here (queue_at k) (queue_at o, Queue (queue_of zs)) xs e ∙ ap (λ (l : List ℕ). Some (Queue (queue_of l))) (sym eq));
         queue_out = λ k lo away. dite (ℕ_discrete k o) (λ e. absurd (away (now ∙ ap (λ (z : ℕ). Some z) (sym e)))) (λ ne. old k ne ∙ h.queue_out k lo (λ z. some_none p.spin k out z));
         value_got = λ m x g. let u = h.value_got m x (ap (λ l. get_elem? l m) (sym eh) ∙ g) in (u.0, old (value_at m) (λ z. omega arith) ∙ u.1);
         value_lacked = λ m g. old (value_at m) (λ z. omega arith) ∙ h.value_lacked m (ap (λ l. get_elem? l m) (sym eh) ∙ g);
@@ -99,10 +99,10 @@ module _ {T H : Type 0} (p q : Part T H) (xs ys : List (ℕ × Slot T)) where
       }
 
   -- the queue at hand has changed
-  pub hands-queue : (o : ℕ) (zs : List ℕ) → o < 192 → find (queue_at o) ys ≡ Some (Queue (line_of zs)) → ((k : ℕ) → k ≢ queue_at o → find k ys ≡ find k xs) → p.spin ≡ Some o → q.spin ≡ p.spin → q.queue ≡ zs → q.held ≡ p.held → (q.stand ≡ None → length zs < most_threads) → Hands p xs → Hands q ys
+  pub hands-queue : (o : ℕ) (zs : List ℕ) → o < 192 → find (queue_at o) ys ≡ Some (Queue (queue_of zs)) → ((k : ℕ) → k ≢ queue_at o → find k ys ≡ find k xs) → p.spin ≡ Some o → q.spin ≡ p.spin → q.queue ≡ zs → q.held ≡ p.held → (q.stand ≡ None → length zs < most_threads) → Hands p xs → Hands q ys
   hands-queue o zs low now f was es eq eh room h = record {
     below = λ k there. h.below k (sym es ∙ there);
-    queue_in = λ k there. let e : o ≡ k = same_object o k (sym was ∙ (sym es ∙ there)) in (λ i. find (sym e i) ys) ∙ (now ∙ ap (λ (l : List ℕ). Some (Queue (line_of l))) (sym eq));
+    queue_in = λ k there. let e : o ≡ k = same_object o k (sym was ∙ (sym es ∙ there)) in (λ i. find (sym e i) ys) ∙ (now ∙ ap (λ (l : List ℕ). Some (Queue (queue_of l))) (sym eq));
     queue_out = λ k lo away. dite (ℕ_discrete k o) (λ e. absurd (away (es ∙ (was ∙ ap (λ (z : ℕ). Some z) (sym e))))) (λ ne. f k ne ∙ h.queue_out k lo (λ z. away (es ∙ z)));
     value_got = λ m x g. let u = h.value_got m x (ap (λ l. get_elem? l m) (sym eh) ∙ g) in (u.0, f (value_at m) (λ z. omega arith) ∙ u.1);
     value_lacked = λ m g. f (value_at m) (λ z. omega arith) ∙ h.value_lacked m (ap (λ l. get_elem? l m) (sym eh) ∙ g);
@@ -134,7 +134,7 @@ module _ {T H : Type 0} (p q : Part T H) (xs ys : List (ℕ × Slot T)) where
       let old : (k : ℕ) → k ≢ value_at m → find k ys ≡ find k xs = λ k ne. ap (find k) is ∙ g.1 k ne in
       let before : (k : ℕ) → k ≢ m → get_elem? q.held k ≡ get_elem? p.held k = λ k ne. ap (λ l. get_elem? l k) eh ∙ set_else p.held m k None ne in record {
         below = λ o there. h.below o (sym es ∙ there);
-        queue_in = λ o there. old o (λ z. let lo = h.below o (sym es ∙ there) in omega arith) ∙ (h.queue_in o (sym es ∙ there) ∙ ap (λ (l : List ℕ). Some (Queue (line_of l))) (sym eq));
+        queue_in = λ o there. old o (λ z. let lo = h.below o (sym es ∙ there) in omega arith) ∙ (h.queue_in o (sym es ∙ there) ∙ ap (λ (l : List ℕ). Some (Queue (queue_of l))) (sym eq));
         queue_out = λ o lo away. old (queue_at o) (λ z. omega arith) ∙ h.queue_out o lo (λ z. away (es ∙ z));
         value_got = λ k y got. dite (ℕ_discrete k m)
             (λ e. let z : None ≡ Some y = some-injective None (Some y) (sym (set_here p.held m None (omega arith)) ∙ ((λ i. get_elem? (set p.held m None) (sym e i)) ∙ (ap (λ l. get_elem? l k) (sym eh) ∙ got))) in absurd cc)

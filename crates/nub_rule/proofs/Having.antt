@@ -17,7 +17,7 @@ use Rattle.nub_rule.specs.Places.{value_at}
 use Rattle.nub_rule.specs.Slots.{find, hand_of}
 use Rattle.nub_rule.proofs.Each.{at_below, none_past}
 use Rattle.nub_rule.proofs.Lessening.{less-at}
-use Rattle.nub_rule.proofs.Standing.{both_ways}
+use Rattle.nub_rule.proofs.Lines.{both_ways}
 use Rattle.nub_rule.proofs.Turns.{find-here, find-else, keys}
 
 mem-end : (t x : ℕ) (xs : List ℕ) → mem t (xs ++ x ∷ []) ≡ mem t (x ∷ xs)

@@ -29,14 +29,14 @@ use Rattle.nub_rule.specs.declared.view.Kind.{Kind}
 use Rattle.nub_rule.specs.declared.view.Kind.TheVariants.{Root, Member, Collector, Spent}
 use Rattle.nub_rule.specs.Rule.{ChildFits, FitsAs, IsKept, IsOfChild, IsWith}
 use Rattle.atomic_table.specs.Table.{State}
-use Rattle.nub_rule.specs.Items.{Each, Marks, Says, PenFits, Core, line_of}
+use Rattle.nub_rule.specs.Items.{Each, Marks, Says, PenFits, Core, queue_of}
 use Rattle.nub_rule.specs.Parts.{Has, counts_in, is_at, is_open, open_on, stands_at, waits_on}
 use Rattle.nub_rule.specs.Places.{alert_at, bit_at, cond_object, count_at, number_at, pen_at, ready_at, sem_object, spin_at}
 use Rattle.nub_rule.specs.PackageRule.{AnyView, HasBitInWait, IsFlagOf, IsKnown, SaysHolds, OwesAt, Owes, History, Meaning, MutexBits, SpinWords, QueuedThreads, ReadyWords, NoWakeLost, IsReady, CountsRead, BegunWaits, ValuesAndShares, Numbering, PackageRule, AreViews, ChildIs}
 use Rattle.nub_rule.proofs.Each.{at_below, put-at, put-else, same_at}
 use Rattle.nub_rule.proofs.Owing.{bound-nowhere, bound-asleep}
 use Rattle.nub_rule.proofs.Beginning.{counts-some, raisers-none, raisers-some}
-use Rattle.nub_rule.proofs.Standing.{both_ways, distinct-apart, distinct-behind, eqb_is, false_true, mem-append, mem-behind, not_true, stand_none, stand_same, stand_some}
+use Rattle.nub_rule.proofs.Lines.{both_ways, distinct-apart, distinct-behind, eqb_is, false_true, mem-append, mem-behind, not_true, stand_none, stand_same, stand_some}
 
 -- who has something is nobody or somebody
 pub whose : {A : Type 0} (o : Option ℕ) → (o ≡ none → A) → ((n : ℕ) → o ≡ some n → A) → A
@@ -167,7 +167,7 @@ module _ {T H W : Type 0} (l : Layout) (traced : Bool) (w : W) (holds : W → Li
 
   known : (of : Part T H → List ℕ) (o : ℕ) (xs : List ℕ) → o < 192 → ((n : ℕ) (p : Part T H) → get_elem? all n ≡ some p → c.spinner o ≡ some n → of p ≡ xs) → (c.spinner o ≡ none → c.queue o ≡ xs) → IsKnown of homes all o xs
   known of o xs low has free = whose (c.spinner o)
-      (λ e. inr ((λ n p at is. some-ne-none n (sym ((c.spins.spinning n p at o).0 is).0 ∙ e)), c.spins.home o low e ∙ ap (λ (z : List ℕ). some (some (Queue (line_of z)))) (free e)))
+      (λ e. inr ((λ n p at is. some-ne-none n (sym ((c.spins.spinning n p at o).0 is).0 ∙ e)), c.spins.home o low e ∙ ap (λ (z : List ℕ). some (some (Queue (queue_of z)))) (free e)))
       (λ n e. let v = spins-at o n e in inl (n, v.0, v.1, (v.2, has n v.0 v.1 e)))
 
   out-of-all : (d n : ℕ) → length all ≤ n → c.spec.members d n ≡ false

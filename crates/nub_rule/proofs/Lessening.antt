@@ -7,9 +7,9 @@ use Rattle.larch_actions.proofs.Sets.{mem-here, mem-else}
 use Rattle.arrayvec.specs.ArrayVec.{ArrayVec}
 use Rattle.nub_rule.specs.declared.rule.Slot.{Slot}
 use Rattle.nub_rule.specs.declared.rule.Slot.TheVariants.{Queue}
-use Rattle.nub_rule.specs.Items.{line_of}
+use Rattle.nub_rule.specs.Items.{queue_of}
 use Rattle.nub_rule.specs.Plays.{behind, front, less}
-use Rattle.nub_rule.proofs.Standing.{both_ways}
+use Rattle.nub_rule.proofs.Lines.{both_ways}
 
 pub some_is : (i j : ℕ) → Some i ≡ Some j → i ≡ j
 some_is i j e = cc
@@ -40,8 +40,8 @@ less-at t (suc i) (x ∷ xs) low is out = dite (ℕ_discrete x t)
     (λ apart. let r = less-at t i xs (omega arith) is (sym (mem-else t x (take i xs) apart) ∙ out) in
     (ap (λ l. x ∷ l) r.0 ∙ sym (ap (λ b. cond b xs (x ∷ less t xs)) (ne_eqb x t apart)), mem-else t x xs apart ∙ r.1))
 
-pub queue_is : {T : Type 0} (a : ArrayVec ℕ) (xs : List ℕ) → (let s : Slot T = Queue a in s) ≡ Queue (line_of xs) → a.items ≡ xs
-queue_is a xs e = let f : a ≡ line_of xs = cc in ap (λ (z : ArrayVec ℕ). z.items) f
+pub queue_is : {T : Type 0} (a : ArrayVec ℕ) (xs : List ℕ) → (let s : Slot T = Queue a in s) ≡ Queue (queue_of xs) → a.items ≡ xs
+queue_is a xs e = let f : a ≡ queue_of xs = cc in ap (λ (z : ArrayVec ℕ). z.items) f
 
 pub length-less : (t : ℕ) (xs : List ℕ) → length (less t xs) ≤ length xs
 length-less t [] = omega arith

@@ -6,7 +6,7 @@ pub mod Frames
 pub mod Beside
 pub mod Penning
 pub mod Marking
-pub mod Standing
+pub mod Lines
 pub mod Counting
 pub mod Showing
 pub mod Conditioning

@@ -18,7 +18,7 @@ use Rattle.nub_rule.specs.Parts.{stands_at, IsUntested, HasTested, turned}
 use Rattle.nub_rule.specs.Places.{bit_at}
 use Rattle.nub_rule.proofs.Each.{at_within, same_at, each-set}
 use Rattle.nub_rule.proofs.Naming.{turned-gate, turned-cond}
-use Rattle.nub_rule.proofs.Standing.{false_true, some_none, stand_none, stand_some, stand_same, stand_at}
+use Rattle.nub_rule.proofs.Lines.{false_true, some_none, stand_none, stand_some, stand_same, stand_at}
 
 -- the bits of gates stay
 abbrev pub SameGates : List ℕ → List ℕ → Type 0

@@ -11,7 +11,7 @@ use Rattle.atomic_table.proofs.Lists.{set_else, set_here}
 use Rattle.nub_rule.specs.declared.rule.Slot.{Slot}
 use Rattle.nub_rule.specs.declared.rule.Slot.TheVariants.{Value}
 use Rattle.nub_rule.specs.declared.view.Part.{Part}
-use Rattle.nub_rule.specs.Items.{Marks, Flag, Standing, Current, Shared, Owned}
+use Rattle.nub_rule.specs.Items.{Marks, Flag, Owns, Current, Shared, Owned}
 use Rattle.nub_rule.specs.Parts.{Has, Lacks}
 use Rattle.nub_rule.specs.Places.{bit_at, value_at}
 use Rattle.nub_rule.proofs.Each.{at_within, at_below, each-set, put-here, put-else}
@@ -31,7 +31,7 @@ module _ {T H : Type 0} (l : Layout) (holds : List T → List H → Type 0) (own
   pub owned-take : (x : T) → owner m ≡ none → get_elem? values m ≡ some x → q.held ≡ set p.held m (Some x) → q.share ≡ p.share
       → Owned l holds (put owner m (some n)) values shares (set words (bit_at m) 1) (set homes (value_at m) none) (set all n q)
   owned-take x free here is share = let owner' = put owner m (some n) in let now : owner' m ≡ some n = put-here owner m (some n) in record {
-    standing = each-set (Standing owner) (Standing owner') all n q
+    standing = each-set (Owns owner) (Owns owner') all n q
         (λ k. dite (ℕ_discrete k m)
         (λ e. ((λ _. ap owner' e ∙ now), λ _. (x, ap (λ l. get_elem? l k) is ∙ (ap (get_elem? (set p.held m (Some x))) e ∙ set_here p.held m (Some x) (omega arith)))))
         (λ ne. let c = o.standing n p at k in let same = ap (λ l. get_elem? l k) is ∙ set_else p.held m k (Some x) ne in let same_owner = put-else owner m k (some n) ne in
@@ -67,7 +67,7 @@ module _ {T H : Type 0} (l : Layout) (holds : List T → List H → Type 0) (own
   pub owned-give : (y : T) (u : H) → owner m ≡ some n → value_at m < length homes → m < length values → n < length shares → holds (set values m y) (set shares n u) → q.held ≡ set p.held m None → q.share ≡ Some u
       → Owned l holds (put owner m none) (set values m y) (set shares n u) (set words (bit_at m) 0) (set homes (value_at m) (some (Value (Some y)))) (set all n q)
   owned-give y u own room room' room'' law is share = let owner' = put owner m none in let now : owner' m ≡ none = put-here owner m none in record {
-    standing = each-set (Standing owner) (Standing owner') all n q
+    standing = each-set (Owns owner) (Owns owner') all n q
         (λ k. dite (ℕ_discrete k m)
         (λ e. (
           (λ has. let z : None ≡ Some has.0 = some-injective None (Some has.0) (sym (set_here p.held m None (omega arith)) ∙ (ap (get_elem? (set p.held m None)) (sym e) ∙ (ap (λ l. get_elem? l k) (sym is) ∙ has.1))) in absurd cc),

@@ -25,7 +25,7 @@ use Rattle.nub_rule.specs.Parts.{stands_at}
 use Rattle.nub_rule.specs.Owed.{WakeOwed}
 use Rattle.nub_rule.specs.Begun.{IsCounted}
 use Rattle.nub_rule.proofs.Frames.{lives-stay, SameShown, other, pens-frame, bits-stay, ready-stay, shown-stay, pen-stay, alert-seen-stays, alert-seen-frame}
-use Rattle.nub_rule.proofs.Standing.{some_none, both_ways, not_true, mem-behind, distinct-apart, distinct-behind, without-append, without-absent, less-without, lines-push, lines-leave, lines-same}
+use Rattle.nub_rule.proofs.Lines.{some_none, both_ways, not_true, mem-behind, distinct-apart, distinct-behind, without-append, without-absent, less-without, lines-push, lines-leave, lines-same}
 use Rattle.nub_rule.proofs.Showing.{shows-gate}
 use Rattle.nub_rule.proofs.Spinning.{only_here, spins-change}
 use Rattle.nub_rule.proofs.Beginning.{waits-stay, begun-frame, begun-same, counted-same, counted-stands, same-stand}

@@ -20,7 +20,7 @@ use Rattle.nub_rule.proofs.Apart.{thread-of}
 use Rattle.nub_rule.proofs.Each.{put-here, put-else}
 use Rattle.nub_rule.proofs.Members.{Steps, member_steps}
 use Rattle.nub_rule.proofs.Frames.{lives-frame, lives-stay, lived-frame, other, semaphores-frame}
-use Rattle.nub_rule.proofs.Standing.{not_true, stand_none, mem-behind}
+use Rattle.nub_rule.proofs.Lines.{not_true, stand_none, mem-behind}
 use Rattle.nub_rule.proofs.Beginning.{waits-stay, begun-frame, counted-over}
 use Rattle.nub_rule.proofs.Owing.{owes-frame}
 use Rattle.nub_rule.proofs.Showing.{holders-take, pendings-put, alerts-set}

@@ -26,7 +26,7 @@ use Rattle.nub_rule.proofs.Apart.{thread-of}
 use Rattle.nub_rule.proofs.Each.{at_below, put-here, put-else}
 use Rattle.nub_rule.proofs.Members.{member_steps}
 use Rattle.nub_rule.proofs.Frames.{lives-stay, other, spins-frame, shows-frame, pens-frame, bits-stay, spins-stay, shown-stay, pen-stay, alert-seen-stays, alert-seen-frame}
-use Rattle.nub_rule.proofs.Standing.{some_none, false_true, mem-append, distinct-apart, without-append, without-absent, lines-ready, lines-unready, lines-stage}
+use Rattle.nub_rule.proofs.Lines.{some_none, false_true, mem-append, distinct-apart, without-append, without-absent, lines-ready, lines-unready, lines-stage}
 use Rattle.nub_rule.proofs.Spinning.{spins-change}
 use Rattle.nub_rule.proofs.Beside.{beside, still}
 use Rattle.nub_rule.proofs.Beginning.{waits-stay, begun-frame, begun-same, counted-stands}

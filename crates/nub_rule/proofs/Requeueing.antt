@@ -21,7 +21,7 @@ use Rattle.nub_rule.specs.declared.view.Stage.TheVariants.{Pushed, Tested}
 use Rattle.nub_rule.specs.declared.view.Stand.{Stand}
 use Rattle.nub_rule.specs.declared.view.View.{View}
 use Rattle.nub_rule.specs.declared.view.Wait.{Wait}
-use Rattle.nub_rule.specs.Items.{line_of}
+use Rattle.nub_rule.specs.Items.{queue_of}
 use Rattle.nub_rule.specs.Known.{Known, Shape, MayPop, MayPush, known_as, shape_of, IsThread}
 use Rattle.nub_rule.specs.Objects.{object_of, HasObject, IsCond, IsGate}
 use Rattle.nub_rule.specs.Parts.{left_turns}
@@ -68,7 +68,7 @@ module _ {T H W : Type 0} where
         (m.allowed law slots id (front.0, xs) (ap (λ v. v.kind) at.same ∙ t.member) (ap (λ v. v.number) at.same ∙ t.numbered) (ap (λ v. v.part) at.same))
 
     -- the thread is one still after the step
-    pub written : (s : Slot T) (z' : TableId) (hand hand' : List ℕ) (front me' : Sat T H W) {kept : List T} {room : ℕ} (st : Step (Slot T)) (r : ℕ) → IsThread z n hand me kept room → QueueAtHand me front hand' o → z' ≡ z → s ≡ Queue (line_of zs)
+    pub written : (s : Slot T) (z' : TableId) (hand hand' : List ℕ) (front me' : Sat T H W) {kept : List T} {room : ℕ} (st : Step (Slot T)) (r : ℕ) → IsThread z n hand me kept room → QueueAtHand me front hand' o → z' ≡ z → s ≡ Queue (queue_of zs)
         → tells st (front.0, (queue_at o, s) ∷ rest front.1) r me' → st.word ≡ length_at o → (nowhere → length zs < most_threads) → After m.change (λ vs. vs) z z' n hand' me me' kept room
     written s z' hand hand' front me' st r t at ez is told word few = requeued m.change zs s z z' n hand hand' me front me' o t at ez is (m.told st (front.0, (queue_at o, s) ∷ rest front.1) r me' word told) m.held m.spin m.queue (λ e. few (m.stand e))
 

@@ -27,7 +27,7 @@ use Rattle.nub_rule.specs.Plays.{with_part, told, Grows, MayTakeSem, event, p_ev
 use Rattle.nub_rule.specs.Rule.{IsKept}
 use Rattle.nub_rule.proofs.Members.{member_steps}
 use Rattle.nub_rule.proofs.Frames.{lives-frame, lives-stay, other, alert-seen-stays, alert-seen-frame}
-use Rattle.nub_rule.proofs.Standing.{lines-same}
+use Rattle.nub_rule.proofs.Lines.{lines-same}
 use Rattle.nub_rule.proofs.Beside.{still}
 use Rattle.nub_rule.specs.Owed.{WakeOwed}
 use Rattle.nub_rule.proofs.Beginning.{waits-stay, begun-same}

@@ -14,7 +14,7 @@ use Rattle.nub_rule.specs.Parts.{waits_on, open_on, counts_in, pending_of}
 use Rattle.nub_rule.specs.Places.{most_threads, alert_at, bit_at, sem_object, cond_object}
 use Rattle.nub_rule.proofs.Each.{at_within, each-set, put-here, put-else}
 use Rattle.nub_rule.proofs.Frames.{lived-frame, SameCounts, SameSems, SameAlerts, SameShown, holders-frame, pendings-frame, semaphores-frame, alerts-frame, conditions-frame}
-use Rattle.nub_rule.proofs.Standing.{some_none}
+use Rattle.nub_rule.proofs.Lines.{some_none}
 
 module _ {T H : Type 0} (words words' : List ℕ) (spinner : ℕ → Option ℕ) (queue : ℕ → List ℕ) (owner : ℕ → Option ℕ) (all : List (Part T H)) (n : ℕ) (p q : Part T H) (at : get_elem? all n ≡ some p) where
   -- the thread n takes the spin word of o

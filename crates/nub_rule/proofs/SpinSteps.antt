@@ -14,7 +14,7 @@ use Rattle.nub_rule.specs.declared.rule.Slot.TheVariants.{Queue}
 use Rattle.nub_rule.specs.declared.view.Part.{Part}
 use Rattle.nub_rule.specs.declared.view.View.{View}
 use Rattle.nub_rule.specs.declared.view.Kind.TheVariants.{Member}
-use Rattle.nub_rule.specs.Items.{Small, line_of, Marks, Core}
+use Rattle.nub_rule.specs.Items.{Small, queue_of, Marks, Core}
 use Rattle.nub_rule.specs.Parts.{stands_at}
 use Rattle.nub_rule.specs.Places.{most_threads, bit_at, spin_at, queue_at, value_at}
 use Rattle.nub_rule.specs.Plays.{with_part, take_spin_tells, give_spin_tells}
@@ -22,7 +22,7 @@ use Rattle.nub_rule.specs.Rule.{IsKept}
 use Rattle.nub_rule.proofs.Each.{at_within}
 use Rattle.nub_rule.proofs.Members.{Steps, member_steps}
 use Rattle.nub_rule.proofs.Frames.{lives-stay, pens-frame, other, bits-stay, ready-stay, shown-stay, pen-stay, alert-seen-stays}
-use Rattle.nub_rule.proofs.Standing.{no_object, not_true, stand_none, distinct-behind, mem-behind, lines-same}
+use Rattle.nub_rule.proofs.Lines.{no_object, not_true, stand_none, distinct-behind, mem-behind, lines-same}
 use Rattle.nub_rule.proofs.Counting.{room_to_push, small_of}
 use Rattle.nub_rule.proofs.Showing.{shows-spin, shows-unspin}
 use Rattle.nub_rule.proofs.Spinning.{only_here, taken-by, spins-take, spins-give}
@@ -39,7 +39,7 @@ one-by x n owner m own = ⊎_elim (λ (t : (x ≡ 0) × (owner ≡ none)). absur
 module _ {T H W : Type 0} (l : Layout) (traced : Bool) (w : W) (begin : W → ℕ → H) (holds : W → List T → List H → Type 0) where
   -- the winner of a spin word learns the queue
   abbrev Spun : ℕ → ℕ → Part T H → List (ℕ × Slot T) → Part T H → List (ℕ × Slot T) → Type 0
-  Spun n o p cs q ds = (xs : List ℕ) × (k : ℕ) × (p.stand ≡ None → length xs < most_threads) × Small most_threads xs × (mem n xs ≡ true → stands_at p.stand o ≡ true) × (q ≡ record p { spin = Some o; queue = xs; owed = []; left = xs; count = k; failed = without o p.failed }) × (ds ≡ (queue_at o, Queue (line_of xs)) ∷ cs)
+  Spun n o p cs q ds = (xs : List ℕ) × (k : ℕ) × (p.stand ≡ None → length xs < most_threads) × Small most_threads xs × (mem n xs ≡ true → stands_at p.stand o ≡ true) × (q ≡ record p { spin = Some o; queue = xs; owed = []; left = xs; count = k; failed = without o p.failed }) × (ds ≡ (queue_at o, Queue (queue_of xs)) ∷ cs)
 
   spins_at : (n o : ℕ) (p : Part T H) (cs : List (ℕ × Slot T)) → o < 192 → p.spin ≡ None
       → Steps l traced w begin holds n (spin_at o) (λ x. either (eqb x 0) 1 x) p cs (λ r q ds. ((r ≡ 0) × Spun n o p cs q ds) ⊎ ((r ≡ 1) × (q ≡ p) × (ds ≡ cs)))
@@ -55,7 +55,7 @@ module _ {T H W : Type 0} (l : Layout) (traced : Bool) (w : W) (begin : W → �
       let inside : (t : ℕ) → mem t xs ≡ true → mem t (c.owed o ++ c.queue o) ≡ true = λ t there. mem-behind t (c.owed o) xs there in
       let there : mem n xs ≡ true → stands_at p.stand o ≡ true = λ is. ((lines.stands n p at).lined o (inside n is)).0 in (
         q,
-        takes (queue_at o) (Queue (line_of xs)),
+        takes (queue_at o) (Queue (queue_of xs)),
         s.home o low free,
         subst (λ b. Core l traced w holds (set words (spin_at o) (either b 1 r)) homes' (set all n q)) (sym (eq-eqb r 0 hit))
             (beside l traced w holds words words' homes homes' all n p q at (length-set words (spin_at o) 1) (length-set homes (queue_at o) none) (bits-stay words (spin_at o) 1 (λ k up z. omega arith)) (lives-stay words (spin_at o) 1 (λ k up z. omega arith)) (λ m. set_else homes (queue_at o) (value_at m) none (λ z. omega arith))
@@ -88,7 +88,7 @@ module _ {T H W : Type 0} (l : Layout) (traced : Bool) (w : W) (begin : W → �
       (λ r q ds world t. ⊎_elim
       (λ (u : (r ≡ 0) × Spun n o p me.1 q ds). (
         (λ k is hit. let e : o ≡ k = omega arith in
-            let x = u.1 in (x.0, x.1, x.2, x.3, (λ there. (λ i. stands_at p.stand (sym e i)) ∙ x.4 there), (λ i. (with_part v (x.5 i), x.6 i)) ∙ (λ i. (with_part v (record p { spin = Some (e i); queue = x.0; owed = []; left = x.0; count = x.1; failed = without (e i) p.failed }), (queue_at (e i), Queue (line_of x.0)) ∷ me.1)))),
+            let x = u.1 in (x.0, x.1, x.2, x.3, (λ there. (λ i. stands_at p.stand (sym e i)) ∙ x.4 there), (λ i. (with_part v (x.5 i), x.6 i)) ∙ (λ i. (with_part v (record p { spin = Some (e i); queue = x.0; owed = []; left = x.0; count = x.1; failed = without (e i) p.failed }), (queue_at (e i), Queue (queue_of x.0)) ∷ me.1)))),
         λ miss. absurd (miss u.0),
       ))
       (λ (u : (r ≡ 1) × (q ≡ p) × (ds ≡ me.1)). ((λ k is hit. let one = u.0 in absurd (omega arith)), λ _. (u.0, λ i. (with_part v (u.1 i), u.2 i)))) t)
@@ -98,7 +98,7 @@ module _ {T H W : Type 0} (l : Layout) (traced : Bool) (w : W) (begin : W → �
   pub take_spin_keeps : (slots id o : ℕ) (me : Me (Slot T) (View T H W)) (i : ℕ) → i ≡ spin_at o → o < 192 → me.0.kind ≡ Member → me.0.part.spin ≡ None → Allows (IsKept l traced w begin holds) slots id me i (λ x. either (eqb x 0) 1 x) (take_spin_tells (step slots i 0 1 none) me)
   take_spin_keeps slots id o me i word low kind idle_there = subst (λ (i : ℕ). Allows (IsKept l traced w begin holds) slots id me i (λ x. either (eqb x 0) 1 x) (take_spin_tells (step slots i 0 1 none) me)) (sym word) (take_spin_at slots id o me low kind idle_there)
 
-  give_spin_at : (slots id o : ℕ) (me : Me (Slot T) (View T H W)) → o < 192 → me.0.kind ≡ Member → me.0.part.spin ≡ Some o → me.0.part.owed ≡ [] → me.0.part.left ≡ me.0.part.queue → me.1 ≡ (queue_at o, Queue (line_of me.0.part.queue)) ∷ rest me.1
+  give_spin_at : (slots id o : ℕ) (me : Me (Slot T) (View T H W)) → o < 192 → me.0.kind ≡ Member → me.0.part.spin ≡ Some o → me.0.part.owed ≡ [] → me.0.part.left ≡ me.0.part.queue → me.1 ≡ (queue_at o, Queue (queue_of me.0.part.queue)) ∷ rest me.1
       → Allows (IsKept l traced w begin holds) slots id me (spin_at o) (λ _. 0) (give_spin_tells (step slots (spin_at o) 0 0 none) me)
   give_spin_at slots id o me low kind here none_owed even first = let v = me.0 in let n = v.number in let p = v.part in let q : Part T H = record p { spin = None; queue = []; left = [] } in
       member_steps l traced w begin holds slots id (spin_at o) (λ _. 0) v me.1 (λ r s ds. (r ≡ 1) × (s ≡ q) × (ds ≡ rest me.1)) (give_spin_tells (step slots (spin_at o) 0 0 none) me) kind
@@ -106,7 +106,7 @@ module _ {T H W : Type 0} (l : Layout) (traced : Bool) (w : W) (begin : W → �
       (λ words homes all c at small.
       let s = c.spins in
       let mine = (s.spinning n p at o).0 here in
-      let line : Slot T = Queue (line_of p.queue) in
+      let line : Slot T = Queue (queue_of p.queue) in
       let words' : List ℕ = set words (spin_at o) 0 in
       let homes' : List (Option (Slot T)) = set homes (queue_at o) (some line) in
       let hs = c.sizes.homes_wide in (
@@ -127,6 +127,6 @@ module _ {T H W : Type 0} (l : Layout) (traced : Bool) (w : W) (begin : W → �
       ))
 
   -- the same at a word that is this place
-  pub give_spin_keeps : (slots id o : ℕ) (me : Me (Slot T) (View T H W)) (i : ℕ) → i ≡ spin_at o → o < 192 → me.0.kind ≡ Member → me.0.part.spin ≡ Some o → me.0.part.owed ≡ [] → me.0.part.left ≡ me.0.part.queue → me.1 ≡ (queue_at o, Queue (line_of me.0.part.queue)) ∷ rest me.1
+  pub give_spin_keeps : (slots id o : ℕ) (me : Me (Slot T) (View T H W)) (i : ℕ) → i ≡ spin_at o → o < 192 → me.0.kind ≡ Member → me.0.part.spin ≡ Some o → me.0.part.owed ≡ [] → me.0.part.left ≡ me.0.part.queue → me.1 ≡ (queue_at o, Queue (queue_of me.0.part.queue)) ∷ rest me.1
       → Allows (IsKept l traced w begin holds) slots id me i (λ _. 0) (give_spin_tells (step slots i 0 0 none) me)
   give_spin_keeps slots id o me i word low kind here none_owed even first = subst (λ (i : ℕ). Allows (IsKept l traced w begin holds) slots id me i (λ _. 0) (give_spin_tells (step slots i 0 0 none) me)) (sym word) (give_spin_at slots id o me low kind here none_owed even first)

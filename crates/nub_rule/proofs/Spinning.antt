@@ -9,11 +9,11 @@ use Rattle.atomic_table.proofs.Lists.{set_else, set_here}
 use Rattle.nub_rule.specs.declared.rule.Slot.{Slot}
 use Rattle.nub_rule.specs.declared.rule.Slot.TheVariants.{Queue}
 use Rattle.nub_rule.specs.declared.view.Part.{Part}
-use Rattle.nub_rule.specs.Items.{Marks, Flag, Spinning, Spins, line_of}
+use Rattle.nub_rule.specs.Items.{Marks, Flag, Spinning, Spins, queue_of}
 use Rattle.nub_rule.specs.Places.{spin_at, length_at, queue_at, word_count}
 use Rattle.nub_rule.proofs.Each.{at_within, each-set, put-here, put-else}
 use Rattle.nub_rule.proofs.Frames.{other}
-use Rattle.nub_rule.proofs.Standing.{same_object, no_object}
+use Rattle.nub_rule.proofs.Lines.{same_object, no_object}
 
 other_object : (o k : ℕ) → o ≢ k → Some o ≡ Some k → ⊥
 other_object o k ne e = ne (same_object o k e)
@@ -57,9 +57,9 @@ module _ {T H : Type 0} (spinner : ℕ → Option ℕ) (queue owed : ℕ → Lis
 
   -- the thread n gives the spin word of o back, with its queue
   pub spins-give : (o : ℕ) → o < 192 → length words ≡ word_count → queue_at o < length homes → p.spin ≡ Some o → p.owed ≡ [] → q.spin ≡ None
-      → Spins (put spinner o none) queue owed (set words (spin_at o) 0) (set homes (queue_at o) (some (Queue (line_of p.queue)))) (set all n q)
+      → Spins (put spinner o none) queue owed (set words (spin_at o) 0) (set homes (queue_at o) (some (Queue (queue_of p.queue)))) (set all n q)
   spins-give o low wide long here none_owed es =
-      let line : Slot T = Queue (line_of p.queue) in let words' : List ℕ = set words (spin_at o) 0 in let homes' : List (Option (Slot T)) = set homes (queue_at o) (some line) in let spinner' = put spinner o none in
+      let line : Slot T = Queue (queue_of p.queue) in let words' : List ℕ = set words (spin_at o) 0 in let homes' : List (Option (Slot T)) = set homes (queue_at o) (some line) in let spinner' = put spinner o none in
       let mine = (s.spinning n p at o).0 here in
       let now : spinner' o ≡ none = put-here spinner o none in record {
         spin = λ k lo. dite (ℕ_discrete k o)
@@ -69,8 +69,8 @@ module _ {T H : Type 0} (spinner : ℕ → Option ℕ) (queue owed : ℕ → Lis
             (λ e. absurd (some-ne-none j (sym is ∙ (ap spinner' e ∙ now))))
             (λ ne. s.within k j (sym (put-else spinner o k none ne) ∙ is)));
         home = λ k lo free. dite (ℕ_discrete k o)
-            (λ e. subst (λ (z : ℕ). get_elem? homes' (queue_at z) ≡ some (some (Queue (line_of (queue z))))) (sym e)
-            (set_here homes (queue_at o) (some line) long ∙ ap (λ (z : List ℕ). some (some (Queue (line_of z)))) mine.1))
+            (λ e. subst (λ (z : ℕ). get_elem? homes' (queue_at z) ≡ some (some (Queue (queue_of (queue z))))) (sym e)
+            (set_here homes (queue_at o) (some line) long ∙ ap (λ (z : List ℕ). some (some (Queue (queue_of z)))) mine.1))
             (λ ne. set_else homes (queue_at o) (queue_at k) (some line) ne ∙ s.home k lo (sym (put-else spinner o k none ne) ∙ free));
         measured = λ k lo. other words (spin_at o) (length_at k) 0 (λ z. omega arith) ∙ s.measured k lo;
         settled = λ k free. dite (ℕ_discrete k o)
@@ -100,7 +100,7 @@ module _ {T H : Type 0} (spinner : ℕ → Option ℕ) (queue owed : ℕ → Lis
         within = λ k j is. subst (λ (z : ℕ). j < z) (sym (length-set all n q)) (s.within k j is);
         home = λ k lo free. dite (ℕ_discrete k o)
             (λ e. absurd (some-ne-none n (sym own ∙ (ap spinner (sym e) ∙ free))))
-            (λ ne. s.home k lo free ∙ ap (λ (z : List ℕ). some (some (Queue (line_of z)))) (sym (qe k ne)));
+            (λ ne. s.home k lo free ∙ ap (λ (z : List ℕ). some (some (Queue (queue_of z)))) (sym (qe k ne)));
         measured = λ k lo. dite (ℕ_discrete k o)
             (λ e. subst (λ (z : ℕ). get_or words' (length_at z) 0 ≡ length (queue' z)) (sym e) (long ∙ ap (λ (z : List ℕ). length z) (sym qh)))
             (λ ne. ls k lo ne ∙ (s.measured k lo ∙ ap (λ (z : List ℕ). length z) (sym (qe k ne))));

@@ -21,7 +21,8 @@ module _ {T H : Type 0} where
   -- who is in a condition by a count, or stands there, has raised its begun waits; and who stands there is in a wait there
   pub record IsCounted (p : Part T H) : Type 0 where
     pub member : (w : Wait) (k : ℕ) → p.wait ≡ Some w → w.member ≡ Some k → p.raised ≡ Some w.cond.0
-    pub stander : (s : Stand) (c : ℕ) → p.stand ≡ Some s → s.at ≡ cond_object c → (p.raised ≡ Some c) × (w : Wait) × (p.wait ≡ Some w) × (w.cond.0 ≡ c)
+    pub stander : (s : Stand) (c : ℕ) → p.stand ≡ Some s → s.at ≡ cond_object c → (p.raised ≡ Some c) × (w : Wait) × (p.wait ≡ Some w)
+        × (w.cond.0 ≡ c)
 
   -- BEGUN WAITS: the word of a condition counts the threads that have raised it and haven't lowered it, and whoever is in the condition is one of these
   pub record BegunWaits (words : List ℕ) (all : List (Part T H)) : Type 0 where

@@ -15,7 +15,7 @@ use Rattle.nub_rule.specs.declared.rule.Slot.TheVariants.{Value, Queue}
 use Rattle.nub_rule.specs.declared.view.Child.TheVariants.{No}
 use Rattle.nub_rule.specs.declared.view.Kind.TheVariants.{Member}
 use Rattle.nub_rule.specs.declared.view.Part.{Part}
-use Rattle.nub_rule.specs.Items.{no_line, Each, Told, Shared}
+use Rattle.nub_rule.specs.Items.{no_queue, Each, Told, Shared}
 use Rattle.nub_rule.specs.Parts.{first_part, newborn, number_of}
 use Rattle.nub_rule.specs.Known.{Known, known_as}
 use Rattle.nub_rule.specs.Rule.{begun}
@@ -38,7 +38,7 @@ firsts f n = map f (range_with_len 0 n)
 
 -- a slot for the queue of each object, and then one for each value
 abbrev pub opening_slots : {T : Type 0} → List T → List (Slot T)
-opening_slots {T} values = replicate 192 (Queue no_line) ++ map (λ x. Value (Some x)) values
+opening_slots {T} values = replicate 192 (Queue no_queue) ++ map (λ x. Value (Some x)) values
 
 module _ {T H : Type 0} where
   -- with the shares of these threads the values keep the lock invariant, and one list of events is legal and closed and has the parts of all of them
@@ -66,9 +66,33 @@ module _ {T H W : Type 0} where
   -- the thread n, which has done nothing
   abbrev pub first_known : TableId → Version → W → (W → ℕ → H) → ℕ → Known T H W
   first_known z version w begin n =
-      known_as z n (record { world = Some w; kind = Member; number = n; part = first_part version n (Some (begin w n)); child = No; next = 0; back = [] }, []) [] false 0
+      known_as z n (
+        record {
+          world = Some w;
+          kind = Member;
+          number = n;
+          part = first_part version n (Some (begin w n));
+          child = No;
+          next =
+              0;
+          back = [];
+        },
+        [],
+      ) [] false 0
 
   -- the thread n, which was forked with this history and has done nothing
   abbrev pub newborn_known : TableId → Version → Opt W → (W → ℕ → H) → ℕ → List Event → Known T H W
   newborn_known z version world begin n seen =
-      known_as z n (record { world = world; kind = Member; number = n; part = newborn version seen (begun begin n world); child = No; next = 0; back = [] }, []) [] false 0
+      known_as z n (
+        record {
+          world = world;
+          kind = Member;
+          number = n;
+          part = newborn version seen (begun begin n world);
+          child = No;
+          next =
+              0;
+          back = [];
+        },
+        [],
+      ) [] false 0

@@ -13,7 +13,19 @@ module _ {T H W : Type 0} where
   -- the thread n, which nobody has forked
   abbrev pub unborn_known : TableId → Version → W → (W → ℕ → H) → ℕ → Known T H W
   unborn_known z version w begin n =
-      known_as z n (record { world = Some w; kind = Member; number = n; part = unborn version (Some (begin w n)); child = Childless; next = 0; back = [] }, []) [] false 0
+      known_as z n (
+        record {
+          world = Some w;
+          kind = Member;
+          number = n;
+          part = unborn version (Some (begin w n));
+          child = Childless;
+          next =
+              0;
+          back = [];
+        },
+        [],
+      ) [] false 0
 
   -- the right to begin a thread: that isn't the first, and has done nothing
   pub record IsUnborn (begin : W → ℕ → H) (k : Known T H W) : Type 0 where

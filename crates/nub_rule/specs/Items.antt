@@ -27,11 +27,11 @@ use Rattle.arrayvec.specs.ArrayVec.{ArrayVec}
 abbrev pub Each : {A : Type 0} → (ℕ → A → Type 0) → List A → Type 0
 Each P xs = (n : ℕ) (x : _) → get_elem? xs n ≡ some x → P n x
 
-abbrev pub line_of : List ℕ → ArrayVec ℕ
-line_of xs = record { items = xs }
+abbrev pub queue_of : List ℕ → ArrayVec ℕ
+queue_of xs = record { items = xs }
 
-abbrev pub no_line : ArrayVec ℕ
-no_line = line_of []
+abbrev pub no_queue : ArrayVec ℕ
+no_queue = queue_of []
 
 -- a number is 1 exactly where there is an owner, else 0
 abbrev pub Marks : ℕ → Option ℕ → Type 0
@@ -61,7 +61,8 @@ places_from i t (e ∷ es) = cond (eqb e.thread.0 t) (i ∷ places_from (i + 1) 
 
 -- the value of a mutex whose bit nobody has is at home
 abbrev pub AtHome : {T : Type 0} → List (Option (Slot T)) → List T → (ℕ → Option ℕ) → ℕ → Type 0
-AtHome {T} homes values owner m = (x : T) → get_elem? values m ≡ some x → owner m ≡ none → get_elem? homes (value_at m) ≡ some (some (Value (Some x)))
+AtHome {T} homes values owner m = (x : T) → get_elem? values m ≡ some x → owner m ≡ none
+    → get_elem? homes (value_at m) ≡ some (some (Value (Some x)))
 
 -- of the pen of the thread n, where there are so many events and the number word is this
 abbrev pub PenFits : ℕ → ℕ → Option ℕ → ℕ → Pen → Type 0
@@ -94,8 +95,8 @@ module _ {T H : Type 0} where
     pub longest : (log ≡ []) ⊎ ((n : ℕ) × (p : Part T H) × (get_elem? all n ≡ some p) × (p.seen ≡ log))
 
   -- the thread has the bit of a mutex exactly where it is its owner
-  abbrev pub Standing : (ℕ → Option ℕ) → ℕ → Part T H → Type 0
-  Standing owner n p = (m : ℕ) → (Has p m → owner m ≡ some n) × (owner m ≡ some n → Has p m)
+  abbrev pub Owns : (ℕ → Option ℕ) → ℕ → Part T H → Type 0
+  Owns owner n p = (m : ℕ) → (Has p m → owner m ≡ some n) × (owner m ≡ some n → Has p m)
 
   -- the value got is the value last released
   abbrev pub Current : List T → ℕ → Part T H → Type 0
@@ -112,8 +113,9 @@ module _ {T H : Type 0} where
   HasVersion version n p = p.version ≡ version
 
   -- MUTEX BITS, VALUES AND SHARES: a bit is 1 exactly where one thread has it; the lock invariant holds of the values last released and the shares
-  pub record Owned (l : Layout) (holds : List T → List H → Type 0) (owner : ℕ → Option ℕ) (values : List T) (shares : List H) (words : List ℕ) (homes : List (Option (Slot T))) (all : List (Part T H)) : Type 0 where
-    pub standing : Each (Standing owner) all
+  pub record Owned (l : Layout) (holds : List T → List H → Type 0) (owner : ℕ → Option ℕ) (values : List T) (shares : List H)
+      (words : List ℕ) (homes : List (Option (Slot T))) (all : List (Part T H)) : Type 0 where
+    pub standing : Each (Owns owner) all
     pub within : (m n : ℕ) → owner m ≡ some n → (m < l.mutexes) × (n < length all)
     pub bits : (m : ℕ) → m < l.mutexes → Flag words (bit_at m) (owner m)
     pub at_home : (m : ℕ) → m < l.mutexes → AtHome homes values owner m
@@ -125,13 +127,15 @@ module _ {T H : Type 0} where
 
   -- the thread has the spin word of an object exactly where it spins there, and knows the queue and whom it owes
   abbrev pub Spinning : (ℕ → Option ℕ) → (ℕ → List ℕ) → (ℕ → List ℕ) → ℕ → Part T H → Type 0
-  Spinning spinner queue owed n p = (o : ℕ) → (p.spin ≡ Some o → (spinner o ≡ some n) × (p.queue ≡ queue o) × (p.owed ≡ owed o)) × (spinner o ≡ some n → p.spin ≡ Some o)
+  Spinning spinner queue owed n p = (o : ℕ) → (p.spin ≡ Some o → (spinner o ≡ some n) × (p.queue ≡ queue o) × (p.owed ≡ owed o))
+      × (spinner o ≡ some n → p.spin ≡ Some o)
 
   -- SPIN WORDS AND QUEUES: a spin word is 1 exactly where one thread has it, the queue is at home where nobody has, and the length word is its length
-  pub record Spins (spinner : ℕ → Option ℕ) (queue owed : ℕ → List ℕ) (words : List ℕ) (homes : List (Option (Slot T))) (all : List (Part T H)) : Type 0 where
+  pub record Spins (spinner : ℕ → Option ℕ) (queue owed : ℕ → List ℕ) (words : List ℕ) (homes : List (Option (Slot T)))
+      (all : List (Part T H)) : Type 0 where
     pub spin : (o : ℕ) → o < 192 → Flag words (spin_at o) (spinner o)
     pub within : (o n : ℕ) → spinner o ≡ some n → n < length all
-    pub home : (o : ℕ) → o < 192 → spinner o ≡ none → get_elem? homes (queue_at o) ≡ some (some (Queue (line_of (queue o))))
+    pub home : (o : ℕ) → o < 192 → spinner o ≡ none → get_elem? homes (queue_at o) ≡ some (some (Queue (queue_of (queue o))))
     pub measured : (o : ℕ) → o < 192 → slice_index words (length_at o) ≡ length (queue o)
     pub settled : (o : ℕ) → spinner o ≡ none → owed o ≡ []
     pub spinning : Each (Spinning spinner queue owed) all
@@ -163,14 +167,16 @@ module _ {T H : Type 0} where
     pub pends : Each (λ n p. pending n ≡ pending_of p.wait) all
 
   -- what the thread n knows of the conditions
-  pub record Knows (spinner : ℕ → Option ℕ) (left : ℕ → List ℕ) (count : ℕ → ℕ) (counting : ℕ → ℕ → Bool) (n : ℕ) (p : Part T H) : Type 0 where
-    pub counts : (c : ℕ) → counting c n ≡ counts_in p.wait c (count c)
-    pub risen : (c k : ℕ) → count c < k → counts_in p.wait c k ≡ false
-    pub inside : (c : ℕ) → spinner (cond_object c) ≡ some n → (p.left ≡ left c) × (p.count ≡ count c)
-    pub even : (w : Wait) → p.wait ≡ Some w → p.left ≡ p.queue
+  pub record Knows (spinner : ℕ → Option ℕ) (left : ℕ → List ℕ) (count : ℕ → ℕ) (counting : ℕ → ℕ → Bool) (n : ℕ) (p : Part T H) : Type 0
+    where
+      pub counts : (c : ℕ) → counting c n ≡ counts_in p.wait c (count c)
+      pub risen : (c k : ℕ) → count c < k → counts_in p.wait c k ≡ false
+      pub inside : (c : ℕ) → spinner (cond_object c) ≡ some n → (p.left ≡ left c) × (p.count ≡ count c)
+      pub even : (w : Wait) → p.wait ≡ Some w → p.left ≡ p.queue
 
   -- CONDITIONS, AND THE COUNTS READ: in a condition are those of its queue that no advance has taken, and those whose view says so where the count is still the one that they read
-  pub record Conditions (words : List ℕ) (spinner : ℕ → Option ℕ) (queue : ℕ → List ℕ) (members : ℕ → ℕ → Bool) (all : List (Part T H)) : Type 0 where
+  pub record Conditions (words : List ℕ) (spinner : ℕ → Option ℕ) (queue : ℕ → List ℕ) (members : ℕ → ℕ → Bool) (all : List (Part T H)) :
+      Type 0 where
     pub left : ℕ → List ℕ
     pub count : ℕ → ℕ
     pub counting : ℕ → ℕ → Bool
@@ -189,7 +195,8 @@ module _ {T H : Type 0} where
   Lives words all = Each (λ n p. slice_index words (life_at n) ≡ number_of p.life) all
 
   -- MEANING OF THE WORDS: what words and views show of the state of the specification
-  pub record Shows (words : List ℕ) (spinner : ℕ → Option ℕ) (queue : ℕ → List ℕ) (owner : ℕ → Option ℕ) (spec : Spec) (all : List (Part T H)) : Type 0 where
+  pub record Shows (words : List ℕ) (spinner : ℕ → Option ℕ) (queue : ℕ → List ℕ) (owner : ℕ → Option ℕ) (spec : Spec)
+      (all : List (Part T H)) : Type 0 where
     pub holders : Holders owner spec.holder all
     pub pendings : Pendings spec.pending all
     pub semaphores : Semaphores words spec.avail
@@ -216,7 +223,8 @@ module _ {T H : Type 0} where
     pub versions : Each (HasVersion l.version) all
 
   -- all items, over the words, the slots at home and the part of each thread
-  pub record Core {W : Type 0} (l : Layout) (traced : Bool) (w : W) (holds : W → List T → List H → Type 0) (words : List ℕ) (homes : List (Option (Slot T))) (all : List (Part T H)) : Type 0 where
+  pub record Core {W : Type 0} (l : Layout) (traced : Bool) (w : W) (holds : W → List T → List H → Type 0) (words : List ℕ)
+      (homes : List (Option (Slot T))) (all : List (Part T H)) : Type 0 where
     pub log : List Event
     pub spec : Spec
     -- who has each mutex's bit, each spin word and the pen, each queue, and who is owed

@@ -27,7 +27,7 @@ use Rattle.nub_rule.specs.declared.view.Pen.{Pen}
 use Rattle.nub_rule.specs.declared.view.Child.{Child}
 use Rattle.nub_rule.specs.declared.view.View.{View}
 use Rattle.nub_rule.specs.declared.view.Kind.TheVariants.{Member}
-use Rattle.nub_rule.specs.Items.{line_of}
+use Rattle.nub_rule.specs.Items.{queue_of}
 use Rattle.nub_rule.specs.Objects.{object_of, IsGate}
 use Rattle.nub_rule.specs.Parts.{Got, IsAlerted, IsClear, Lacks, left_turns}
 use Rattle.nub_rule.specs.Places.{most_threads, value_at, queue_at, sem_object, cond_object, word_count}
@@ -207,15 +207,18 @@ module _ {T H W : Type 0} where
 
   -- an event was made: the history that was seen grew to a legal one that ends with it, and the own events are the thread's part of that. In a traced package its place is the number that was read
   abbrev pub Makes : Event → Known T H W → Known T H W → Type 0
-  Makes e a b = (between : List Event) × Grows a.number (part_of a) between e × (b.seen ≡ (a.seen ++ between) ++ e ∷ []) × (b.mine ≡ a.mine ++ e ∷ []) × (b.places ≡ a.places ++ length (a.seen ++ between) ∷ [])
+  Makes e a b = (between : List Event) × Grows a.number (part_of a) between e × (b.seen ≡ (a.seen ++ between) ++ e ∷ [])
+      × (b.mine ≡ a.mine ++ e ∷ []) × (b.places ≡ a.places ++ length (a.seen ++ between) ∷ [])
 
   -- the thread may give the mutex back: it has it, and its slot has a value that the picked share allows
   abbrev pub MayGive : (W → ℕ → ℕ → T → T → H → H → Type 0) → (W → ℕ → ℕ → T → T → H → H) → ℕ → Known T H W → Type 0
-  MayGive allows after m k = (x : T) × (y : T) × Holds k m x × IsIn k m y × ((w : W) (s : H) → k.world ≡ Some w → k.share ≡ Some s → allows w m k.number x y s (after w m k.number x y s))
+  MayGive allows after m k = (x : T) × (y : T) × Holds k m x × IsIn k m y
+      × ((w : W) (s : H) → k.world ≡ Some w → k.share ≡ Some s → allows w m k.number x y s (after w m k.number x y s))
 
   -- the share afterwards is the one that was picked
   abbrev pub PicksShare : (W → ℕ → ℕ → T → T → H → H) → ℕ → Known T H W → Known T H W → Type 0
-  PicksShare after m a b = (w : W) (s : H) (x y : T) → a.world ≡ Some w → a.share ≡ Some s → Holds a m x → IsIn a m y → b.share ≡ Some (after w m a.number x y s)
+  PicksShare after m a b = (w : W) (s : H) (x y : T) → a.world ≡ Some w → a.share ≡ Some s → Holds a m x → IsIn a m y
+      → b.share ≡ Some (after w m a.number x y s)
 
   -- the thread is in a wait at the condition, and has read its count and not blocked yet
   abbrev pub HasCounted : Object → Known T H W → Type 0
@@ -256,8 +259,15 @@ module _ {T H W : Type 0} where
 
   -- the thread took itself out of the queue: at a gate it has its turn to try the bit, unless it had found it set since its push; at a condition it is in the condition by the count that stands
   abbrev pub HasLeft : Object → Known T H W → Known T H W → Type 0
-  HasLeft (Cond c) a b = b ≡ record a { queue = less a.number a.queue; left = less a.number a.left; stand = None; wait = recounted a.count a.wait }
-  HasLeft _ a b = b ≡ record a { queue = less a.number a.queue; left = less a.number a.left; stand = None; turns = left_turns a.stand a.turns }
+  HasLeft (Cond c) a b = b ≡ record a
+      { queue = less a.number a.queue; left = less a.number a.left; stand = None; wait = recounted a.count a.wait }
+  HasLeft _ a b = b ≡ record a {
+    queue = less a.number a.queue;
+    left = less a.number a.left;
+    stand = None;
+    turns =
+        left_turns a.stand a.turns;
+  }
 
   -- the thread has no mutex's bit
   abbrev pub HasNone : Known T H W → Type 0
@@ -267,7 +277,7 @@ module _ {T H : Type 0} where
   -- the slots at hand are the values of the mutexes whose bits the thread has, and the queue of the object whose spin word it has
   pub record Hands (p : Part T H) (slots : List (ℕ × Slot T)) : Type 0 where
     pub below : (o : ℕ) → p.spin ≡ Some o → o < 192
-    pub queue_in : (o : ℕ) → p.spin ≡ Some o → find (queue_at o) slots ≡ Some (Queue (line_of p.queue))
+    pub queue_in : (o : ℕ) → p.spin ≡ Some o → find (queue_at o) slots ≡ Some (Queue (queue_of p.queue))
     pub queue_out : (o : ℕ) → o < 192 → (p.spin ≡ Some o → ⊥) → find (queue_at o) slots ≡ None
     pub value_got : (m : ℕ) (x : T) → Got p m x → (y : Opt T) × (find (value_at m) slots ≡ Some (Value y))
     pub value_lacked : (m : ℕ) → Lacks p m → find (value_at m) slots ≡ None
@@ -276,7 +286,8 @@ module _ {T H : Type 0} where
     pub room : (o : ℕ) → p.spin ≡ Some o → p.stand ≡ None → length p.queue < most_threads
 
 -- what is true of each package: the table has the words and slots of its layout, its key tells the layout and whether it is traced, and the shelf has room for what each thread has stored
-pub record IsPackage {W : Type 0} (z : TableId) (key : About W) (layout : Layout) (traced : Bool) (shelf : List Stored) (room unparkers : ℕ) : Type 0 where
+pub record IsPackage {W : Type 0} (z : TableId) (key : About W) (layout : Layout) (traced : Bool) (shelf : List Stored)
+    (room unparkers : ℕ) : Type 0 where
   pub words : z.words ≡ word_count
   pub slots : z.slots ≡ value_at layout.mutexes
   pub lawful : IsLawful layout

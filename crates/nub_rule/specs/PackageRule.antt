@@ -22,7 +22,7 @@ use Rattle.nub_rule.specs.declared.view.Stand.{Stand}
 use Rattle.nub_rule.specs.declared.view.View.{View}
 use Rattle.nub_rule.specs.declared.view.Wait.{Wait}
 use Rattle.nub_rule.specs.declared.view.WaitBit.TheVariants.{Closing, Quiet}
-use Rattle.nub_rule.specs.Items.{Each, Distinct, line_of, places_from}
+use Rattle.nub_rule.specs.Items.{Each, Distinct, queue_of, places_from}
 use Rattle.nub_rule.specs.Begun.{raisers}
 use Rattle.nub_rule.specs.Owed.{HasTurn, IsAsleep, MustLook, SomebodyMustLook}
 use Rattle.nub_rule.specs.Parts.{Got, Has, IsFound, counts_in, first_part, newborn, number_of, pending_of, unborn, waits_on}
@@ -83,7 +83,7 @@ module _ {T H : Type 0} where
   -- the list is what the holder of the object's spin word has in its view, or where nobody has that word the queue at home
   abbrev pub IsKnown : (Part T H → List ℕ) → List (Option (Slot T)) → List (Part T H) → ℕ → List ℕ → Type 0
   IsKnown known homes views o xs = AnyView (λ p. (p.spin ≡ Some o) × (known p ≡ xs)) views
-      ⊎ (NoView (λ p. p.spin ≡ Some o) views × (get_elem? homes (queue_at o) ≡ some (some (Queue (line_of xs)))))
+      ⊎ (NoView (λ p. p.spin ≡ Some o) views × (get_elem? homes (queue_at o) ≡ some (some (Queue (queue_of xs)))))
 
   -- HISTORY: one list, the longest that any thread has seen; each has seen a beginning of it, and its part by each thread is that thread's own events
   pub record History (l : Layout) (log : List Event) (views : List (Part T H)) : Type 0 where
@@ -94,7 +94,8 @@ module _ {T H : Type 0} where
     pub names : Each (λ i e. IsNamed l e.action) log
 
   -- MEANING OF THE WORDS: the state of the specification for which words, slots and views stand
-  pub record Meaning (words : List ℕ) (homes : List (Option (Slot T))) (views : List (Part T H)) (queue left : ℕ → List ℕ) (state : Spec) : Type 0 where
+  pub record Meaning (words : List ℕ) (homes : List (Option (Slot T))) (views : List (Part T H)) (queue left : ℕ → List ℕ) (state : Spec) :
+      Type 0 where
     -- a mutex is held by the thread whose view says so, else by nobody
     pub holder : (m n : ℕ) → (state.holder m ≡ some n) ↔ ViewIs views n (λ p. SaysHolds p m)
     -- a semaphore is available exactly where its bit is 0, and a thread is alerted exactly where its alert word is 1
@@ -109,7 +110,8 @@ module _ {T H : Type 0} where
     -- the holder of a condition's spin word knows whom no advance has taken: some of its queue. A thread in a wait has taken nobody
     pub left_known : (c : ℕ) → c < 64 → IsKnown (λ p. p.left) homes views (cond_object c) (left c)
     pub left_in : (c t : ℕ) → mem t (left c) ≡ true → mem t (queue (cond_object c)) ≡ true
-    pub none_taken : Each (λ n p. (w : Wait) (c : ℕ) → p.wait ≡ Some w → p.spin ≡ Some (cond_object c) → left c ≡ queue (cond_object c)) views
+    pub none_taken : Each (λ n p. (w : Wait) (c : ℕ) → p.wait ≡ Some w → p.spin ≡ Some (cond_object c)
+        → left c ≡ queue (cond_object c)) views
 
   -- MUTEX BITS: the bit is 1 exactly where one view has the mutex. A holder has it, and who has it and isn't its holder is in a wait on it, in which it
   -- has yet to clear the bit, or has taken it again without an event
@@ -133,13 +135,15 @@ module _ {T H : Type 0} where
   pub record QueuedThreads (words : List ℕ) (views : List (Part T H)) (queue : ℕ → List ℕ) : Type 0 where
     pub waits : Each (λ n p. (o : ℕ) → mem n (queue o) ≡ true → (s : Stand) × (p.stand ≡ Some s) × (s.at ≡ o)) views
     pub waits_in : Each (λ n p. (c : ℕ) → mem n (queue (cond_object c)) ≡ true → (w : Wait) × (p.wait ≡ Some w) × (w.cond.0 ≡ c)) views
-    pub elsewhere : Each (λ n p. p.stand ≡ None → IsInNone queue n × (slice_index words (ready_at n) ≡ 0) × NoView (λ q. Owes q n) views) views
+    pub elsewhere : Each (λ n p. p.stand ≡ None → IsInNone queue n × (slice_index words (ready_at n) ≡ 0)
+        × NoView (λ q. Owes q n) views) views
 
   -- READY WORDS: a ready word is 0 or 1
   pub record ReadyWords (words : List ℕ) (views : List (Part T H)) (queue : ℕ → List ℕ) : Type 0 where
     pub flag : Each (λ n p. (slice_index words (ready_at n) ≡ 0) ⊎ IsReady words n) views
     -- who stands at an object is in its queue, or is ready, or is owed its ready word by the holder of the spin word who popped it
-    pub kept : Each (λ n p. (s : Stand) → p.stand ≡ Some s → (mem n (queue s.at) ≡ true) ⊎ (IsReady words n ⊎ AnyView (λ q. OwesAt s.at q n) views)) views
+    pub kept : Each (λ n p. (s : Stand) → p.stand ≡ Some s → (mem n (queue s.at) ≡ true)
+        ⊎ (IsReady words n ⊎ AnyView (λ q. OwesAt s.at q n) views)) views
     -- who is ready, or is owed its ready word, is in no queue, and has pushed itself since it last cleared its ready word or took itself out
     pub ready : Each (λ n p. (IsReady words n ⊎ AnyView (λ q. Owes q n) views) → IsInNone queue n × StandsSomewhere p.stand) views
     -- nobody owes a ready word that is 1, and at most one thread owes a thread its ready word
@@ -155,10 +159,12 @@ module _ {T H : Type 0} where
     pub looks : (o : ℕ) → o < 128 → slice_index words (bit_at o) ≡ 0 → queue o ≢ [] → SomebodyMustLook o (queue o) views
     -- a thread at rest is bound nowhere, and one that sleeps only by having left a queue
     pub at_rest : Each (λ n p. p.stand ≡ None → p.turns ≡ [] → p.cleared ≡ [] → (o : ℕ) → ¬ MustLook o (queue o) n p) views
-    pub asleep : Each (λ n p. (s : Stand) → p.stand ≡ Some s → IsAsleep s.stage → (o : ℕ) → MustLook o (queue o) n p → HasTurn o (queue o) n p) views
+    pub asleep : Each (λ n p. (s : Stand) → p.stand ≡ Some s → IsAsleep s.stage → (o : ℕ) → MustLook o (queue o) n p
+        → HasTurn o (queue o) n p) views
     -- so whoever stands at a gate is ready, or the holder of its spin word owes it its ready word, or the bit is set, or somebody is bound to look
     pub waits : Each (λ n p. (s : Stand) → p.stand ≡ Some s → s.at < 128
-        → IsReady words n ⊎ (AnyView (λ q. OwesAt s.at q n) views ⊎ ((slice_index words (bit_at s.at) ≢ 0) ⊎ SomebodyMustLook s.at (queue s.at) views))) views
+        → IsReady words n ⊎ (AnyView (λ q. OwesAt s.at q n) views
+        ⊎ ((slice_index words (bit_at s.at) ≢ 0) ⊎ SomebodyMustLook s.at (queue s.at) views))) views
     -- Then the conditions: whoever stands at one and isn't in it is ready, or the holder of its spin word owes it its ready word, or has taken it by an
     -- advance
     pub waits_in : Each (λ n p. (c : ℕ) (s : Stand) → c < 64 → p.stand ≡ Some s → s.at ≡ cond_object c → state.members c n ≡ false
@@ -187,7 +193,8 @@ module _ {T H : Type 0} where
 
   -- VALUES AND SHARES: the lock invariant holds of the values last released and all shares. The value got with a mutex is the one last released;
   -- of a mutex that nobody has it is at home
-  pub record ValuesAndShares (mutexes : ℕ) (holds : List T → List H → Type 0) (homes : List (Option (Slot T))) (views : List (Part T H)) (values : List T) (shares : List H) : Type 0 where
+  pub record ValuesAndShares (mutexes : ℕ) (holds : List T → List H → Type 0) (homes : List (Option (Slot T))) (views : List (Part T H))
+      (values : List T) (shares : List H) : Type 0 where
     pub kept : holds values shares
     pub each_value : length values ≡ mutexes
     pub got : Each (λ n p. (m : ℕ) (x : T) → Got p m x → get_elem? values m ≡ some x) views
@@ -208,7 +215,8 @@ module _ {T H : Type 0} where
     pub places : Each (λ n p. places_from 0 n log ≡ p.places) views
 
   -- all items
-  pub record PackageRule (l : Layout) (traced : Bool) (holds : List T → List H → Type 0) (words : List ℕ) (homes : List (Option (Slot T))) (views : List (Part T H)) : Type 0 where
+  pub record PackageRule (l : Layout) (traced : Bool) (holds : List T → List H → Type 0) (words : List ℕ) (homes : List (Option (Slot T)))
+      (views : List (Part T H)) : Type 0 where
     -- the history and the state to which it leads
     pub log : List Event
     pub state : Spec
@@ -242,28 +250,37 @@ module _ {T H W : Type 0} where
 
   -- the views of the threads, by their numbers: those of the seats of threads, those that have come back to a collector, and new ones for the threads
   -- that the first seat has yet to give out, and for those that a thread is about to begin or to hand out. Each thread is with one seat, and with no other
-  pub record AreViews (version : Version) (threads : ℕ) (w : W) (begin : W → ℕ → H) (seats : List (View T H W)) (views : List (Part T H)) : Type 0 where
+  pub record AreViews (version : Version) (threads : ℕ) (w : W) (begin : W → ℕ → H) (seats : List (View T H W)) (views : List (Part T H)) :
+      Type 0 where
     pub count : length views ≡ threads
     pub seated : (id : ℕ) (v : View T H W) → get_elem? seats id ≡ some v → v.kind ≡ Member → get_elem? views v.number ≡ some v.part
-    pub back : (id : ℕ) (v : View T H W) → get_elem? seats id ≡ some v → v.kind ≡ Collector → Each (λ n p. get_elem? views n ≡ some p) v.back
+    pub back : (id : ℕ) (v : View T H W) → get_elem? seats id ≡ some v → v.kind ≡ Collector
+        → Each (λ n p. get_elem? views n ≡ some p) v.back
     pub child : (id : ℕ) (v : View T H W) → get_elem? seats id ≡ some v → v.kind ≡ Member → ChildIs version w begin views v.child
-    pub to_come : (id : ℕ) (v : View T H W) → get_elem? seats id ≡ some v → v.kind ≡ Root → (n : ℕ) → v.next ≤ n → n < threads → get_elem? views n ≡ some (first_part version n (Some (begin w n)))
+    pub to_come : (id : ℕ) (v : View T H W) → get_elem? seats id ≡ some v → v.kind ≡ Root → (n : ℕ) → v.next ≤ n → n < threads
+        → get_elem? views n ≡ some (first_part version n (Some (begin w n)))
     pub each : (n : ℕ) → n < threads → (id : ℕ) × (v : View T H W) × (get_elem? seats id ≡ some v) × IsWith v v.kind n
-    pub once : (n i j : ℕ) (v u : View T H W) → n < threads → get_elem? seats i ≡ some v → get_elem? seats j ≡ some u → IsWith v v.kind n → IsWith u u.kind n → i ≡ j
+    pub once : (n i j : ℕ) (v u : View T H W) → n < threads → get_elem? seats i ≡ some v → get_elem? seats j ≡ some u → IsWith v v.kind n
+        → IsWith u u.kind n → i ≡ j
 
   -- whatever state meets the invariant, the rule holds of its words, its slots at home and the views of its threads
   abbrev pub RuleHolds : (W → ℕ → H) → (W → List T → List H → Type 0) → Type 0
   RuleHolds begin holds = (l : Layout) (traced : Bool) (w : W) (s : State (Slot T) (View T H W)) → IsKept l traced w begin holds s
-      → (views : List (Part T H)) × AreViews l.version l.threads w begin s.views views × PackageRule l traced (holds w) s.words s.homes views
+      → (views : List (Part T H)) × AreViews l.version l.threads w begin s.views views
+      × PackageRule l traced (holds w) s.words s.homes views
 
   -- words and views determine the history and the state: over the same views there is one of each
   abbrev pub OneHistory : (W → List T → List H → Type 0) → Type 0
-  OneHistory holds = (l : Layout) (traced : Bool) (w : W) (words words' : List ℕ) (homes homes' : List (Option (Slot T))) (views : List (Part T H))
-      → (r : PackageRule l traced (holds w) words homes views) (r' : PackageRule l traced (holds w) words' homes' views) → (r'.log ≡ r.log) × (r'.state ≡ r.state)
+  OneHistory holds = (l : Layout) (traced : Bool) (w : W) (words words' : List ℕ) (homes homes' : List (Option (Slot T)))
+      (views : List (Part T H))
+      → (r : PackageRule l traced (holds w) words homes views) (r' : PackageRule l traced (holds w) words' homes' views) → (r'.log ≡ r.log)
+      × (r'.state ≡ r.state)
 
   -- where one thread's view changed and that thread's own events grew by these, the history grew by them, and they lead from the state before to the
   -- state after. With one event this is that event's action; with none the history and the state are what they were
   abbrev pub EachStep : (W → List T → List H → Type 0) → Type 0
-  EachStep holds = (l : Layout) (traced : Bool) (w : W) (words words' : List ℕ) (homes homes' : List (Option (Slot T))) (views : List (Part T H)) (n : ℕ) (p q : Part T H) (es : List Event)
+  EachStep holds = (l : Layout) (traced : Bool) (w : W) (words words' : List ℕ) (homes homes' : List (Option (Slot T)))
+      (views : List (Part T H)) (n : ℕ) (p q : Part T H) (es : List Event)
       → get_elem? views n ≡ some p → StartsWith q.seen p.seen → q.mine ≡ p.mine ++ es
-      → (r : PackageRule l traced (holds w) words homes views) (r' : PackageRule l traced (holds w) words' homes' (slice_set views n q)) → (r'.log ≡ r.log ++ es) × Leads r.state es r'.state
+      → (r : PackageRule l traced (holds w) words homes views) (r' : PackageRule l traced (holds w) words' homes' (slice_set views n q))
+      → (r'.log ≡ r.log ++ es) × Leads r.state es r'.state

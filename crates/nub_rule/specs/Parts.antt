@@ -140,7 +140,32 @@ module _ {T H : Type 0} where
 
   -- a thread that has done nothing, where so much was done before
   abbrev pub fresh : Version → Life → List Event → Opt H → Part T H
-  fresh version life seen s = record { version = version; seen = seen; mine = []; places = []; held = replicate 64 None; share = s; spin = None; queue = []; owed = []; left = []; count = 0; wait = None; stand = None; failed = []; turns = []; cleared = []; looked = []; pen = No; alerted = false; calling = None; raised = None; life = life }
+  fresh version life seen s = record {
+    version = version;
+    seen = seen;
+    mine = [];
+    places = [];
+    held = replicate 64 None;
+    share = s;
+    spin =
+        None;
+    queue = [];
+    owed = [];
+    left = [];
+    count = 0;
+    wait = None;
+    stand = None;
+    failed = [];
+    turns = [];
+    cleared = [];
+    looked =
+        [];
+    pen = No;
+    alerted = false;
+    calling = None;
+    raised = None;
+    life = life;
+  }
 
   -- what a seat has that speaks for no thread
   abbrev pub no_part : Part T H

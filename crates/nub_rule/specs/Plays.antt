@@ -19,7 +19,7 @@ use Rattle.nub_rule.specs.declared.view.Stand.{Stand}
 use Rattle.nub_rule.specs.declared.view.View.{View}
 use Rattle.nub_rule.specs.declared.view.Wait.{Wait}
 use Rattle.nub_rule.specs.declared.view.WaitBit.TheVariants.{Closing, Open, Quiet}
-use Rattle.nub_rule.specs.Items.{Distinct, Small, line_of}
+use Rattle.nub_rule.specs.Items.{Distinct, Small, queue_of}
 use Rattle.nub_rule.specs.Parts.{Got, Lacks, alerted_stand, left_turns, made, stands_at, staged, turned}
 use Rattle.nub_rule.specs.Places.{most_threads, value_at, spin_at, length_at, queue_at, alert_at, bit_at, count_at, ready_at, life_at, waits_at, sem_object, cond_object}
 
@@ -43,7 +43,8 @@ v_event t s = event t (V record { 0 = s })
 
 -- the first part of a wait on the mutex m in the condition c
 abbrev pub enqueue_event : Bool → ℕ → ℕ → ℕ → Event
-enqueue_event alertable t m c = event t (cond alertable (AlertEnqueue record { 0 = m } record { 0 = c }) (Enqueue record { 0 = m } record { 0 = c }))
+enqueue_event alertable t m c =
+    event t (cond alertable (AlertEnqueue record { 0 = m } record { 0 = c }) (Enqueue record { 0 = m } record { 0 = c }))
 
 abbrev pub signal_action : ℕ → List ℕ → Action
 signal_action c left = Signal record { 0 = c } (set_of left)
@@ -90,7 +91,14 @@ MayTakeSem n s e = (e ≡ p_event n s) ⊎ (e ≡ alert_p_event n s)
 
 -- the wait that was begun with the count k
 abbrev pub begun_wait : Bool → ℕ → ℕ → ℕ → Wait
-begun_wait alertable m c k = record { mutex = record { 0 = m }; cond = record { 0 = c }; alertable = alertable; bit = Closing; member = Some k }
+begun_wait alertable m c k = record {
+  mutex = record { 0 = m };
+  cond = record { 0 = c };
+  alertable = alertable;
+  bit = Closing;
+  member =
+      Some k;
+}
 
 -- the wait of a thread that is in the condition by no count
 abbrev pub unread : Opt Wait → Opt Wait
@@ -119,7 +127,8 @@ taken_action m (Some w) = cond w.alertable (AlertReturn w.mutex w.cond) (Resume 
 
 -- the thread n may take the mutex m by the event e: it has begun nothing, or a wait on m, and has left the condition
 abbrev pub MayTake : ℕ → ℕ → Opt Wait → Event → Type 0
-MayTake n m wait e = ((wait ≡ None) × (e ≡ acquire_event n m)) ⊎ ((w : Wait) × (wait ≡ Some w) × (w.mutex.0 ≡ m) × (w.member ≡ None) × (e ≡ event n (taken_action m (Some w))))
+MayTake n m wait e = ((wait ≡ None) × (e ≡ acquire_event n m))
+    ⊎ ((w : Wait) × (wait ≡ Some w) × (w.mutex.0 ≡ m) × (w.member ≡ None) × (e ≡ event n (taken_action m (Some w))))
 
 -- all but the first, and the first alone
 abbrev pub behind : List ℕ → List ℕ
@@ -156,8 +165,13 @@ module _ {T H W : Type 0} where
 
   -- the spin word of an object was tried: who wins gets the queue, and is in it only if it stands there
   abbrev pub take_spin_tells : Step (Slot T) → Sat T H W → ℕ → Sat T H W → Type 0
-  take_spin_tells st me r me' = let p = me.0.part in ((o : ℕ) → st.word ≡ spin_at o → r ≡ 0 → (xs : List ℕ) × (k : ℕ) × (p.stand ≡ None → length xs < most_threads) × Small most_threads xs × (mem me.0.number xs ≡ true → stands_at p.stand o ≡ true)
-      × (me' ≡ (with_part me.0 (record p { spin = Some o; queue = xs; owed = []; left = xs; count = k; failed = without o p.failed }), (queue_at o, Queue (line_of xs)) ∷ me.1))) × (r ≢ 0 → (r ≡ 1) × (me' ≡ me))
+  take_spin_tells st me r me' = let p = me.0.part in
+      ((o : ℕ) → st.word ≡ spin_at o → r ≡ 0 → (xs : List ℕ) × (k : ℕ) × (p.stand ≡ None → length xs < most_threads) × Small most_threads xs
+      × (mem me.0.number xs ≡ true → stands_at p.stand o ≡ true)
+      × (me' ≡ (
+        with_part me.0 (record p { spin = Some o; queue = xs; owed = []; left = xs; count = k; failed = without o p.failed }),
+        (queue_at o, Queue (queue_of xs)) ∷ me.1,
+      ))) × (r ≢ 0 → (r ≡ 1) × (me' ≡ me))
 
   -- the spin word was given back
   abbrev pub give_spin_tells : Step (Slot T) → Sat T H W → ℕ → Sat T H W → Type 0
@@ -165,11 +179,14 @@ module _ {T H W : Type 0} where
 
   -- a thread that is owed was made ready
   abbrev pub set_ready_tells : Step (Slot T) → Sat T H W → ℕ → Sat T H W → Type 0
-  set_ready_tells st me r me' = let p = me.0.part in (t : ℕ) → t < most_threads → st.word ≡ ready_at t → (r ≡ 0) × Becomes me (record p { owed = without t p.owed }) me'
+  set_ready_tells st me r me' = let p = me.0.part in
+      (t : ℕ) → t < most_threads → st.word ≡ ready_at t → (r ≡ 0) × Becomes me (record p { owed = without t p.owed }) me'
 
   -- the own ready word was read
   abbrev pub read_ready_tells : Step (Slot T) → Sat T H W → ℕ → Sat T H W → Type 0
-  read_ready_tells st me r me' = let p = me.0.part in (r ≡ 0 → Becomes me (record p { stand = staged Asleep p.stand }) me') × (r ≢ 0 → (r ≡ 1) × Becomes me (record p { stand = staged Found p.stand }) me')
+  read_ready_tells st me r me' = let p = me.0.part in
+      (r ≡ 0 → Becomes me (record p { stand = staged Asleep p.stand }) me')
+      × (r ≢ 0 → (r ≡ 1) × Becomes me (record p { stand = staged Found p.stand }) me')
 
   -- the own ready word was cleared
   abbrev pub clear_ready_tells : Step (Slot T) → Sat T H W → ℕ → Sat T H W → Type 0
@@ -178,29 +195,47 @@ module _ {T H W : Type 0} where
   -- the mutex m was taken, with its value
   abbrev pub Won : (W → ℕ → T → ℕ → H → Type 0) → ℕ → Sat T H W → Sat T H W → Type 0
   Won fits m me me' = let v = me.0 in let p = v.part in let e = event v.number (taken_action m p.wait) in
-      (x : T) × (between : List Event) × ((w : W) (s : H) → v.world ≡ Some w → p.share ≡ Some s → fits w m x v.number s) × Grows v.number p between e × Lacks p m × (get_elem? (slice_set p.held m (Some x)) m ≡ some (Some x))
-      × (me' ≡ (with_part v (record (told p (p.seen ++ between) e) { held = slice_set p.held m (Some x); wait = None; failed = without m p.failed; turns = without m p.turns }), (value_at m, Value (Some x)) ∷ me.1))
+      (x : T) × (between : List Event) × ((w : W) (s : H) → v.world ≡ Some w → p.share ≡ Some s → fits w m x v.number s)
+      × Grows v.number p between e × Lacks p m × (get_elem? (slice_set p.held m (Some x)) m ≡ some (Some x))
+      × (me' ≡ (
+        with_part v (record (told p (p.seen ++ between) e)
+            { held = slice_set p.held m (Some x); wait = None; failed = without m p.failed; turns = without m p.turns }),
+        (value_at m, Value (Some x)) ∷ me.1,
+      ))
 
   -- the bit of a mutex was tried
   abbrev pub try_bit_tells : (W → ℕ → T → ℕ → H → Type 0) → Step (Slot T) → Sat T H W → ℕ → Sat T H W → Type 0
-  try_bit_tells fits st me r me' = let p = me.0.part in (m : ℕ) → st.word ≡ bit_at m → (r ≡ 0 → Won fits m me me') × (r ≢ 0 → Becomes me (record p { failed = m ∷ p.failed; turns = without m p.turns }) me')
+  try_bit_tells fits st me r me' = let p = me.0.part in
+      (m : ℕ) → st.word ≡ bit_at m → (r ≡ 0 → Won fits m me me')
+      × (r ≢ 0 → Becomes me (record p { failed = m ∷ p.failed; turns = without m p.turns }) me')
 
   -- the mutex m was taken with its value, in a wait and without an event
   abbrev pub WonQuietly : (W → ℕ → T → ℕ → H → Type 0) → ℕ → Sat T H W → Sat T H W → Type 0
   WonQuietly fits m me me' = let v = me.0 in let p = v.part in
-      (x : T) × ((w : W) (s : H) → v.world ≡ Some w → p.share ≡ Some s → fits w m x v.number s) × Lacks p m × (get_elem? (slice_set p.held m (Some x)) m ≡ some (Some x))
-      × (me' ≡ (with_part v (record p { held = slice_set p.held m (Some x); wait = quieted p.wait; failed = without m p.failed; turns = without m p.turns }), (value_at m, Value (Some x)) ∷ me.1))
+      (x : T) × ((w : W) (s : H) → v.world ≡ Some w → p.share ≡ Some s → fits w m x v.number s) × Lacks p m
+      × (get_elem? (slice_set p.held m (Some x)) m ≡ some (Some x))
+      × (me' ≡ (
+        with_part v (record p
+            { held = slice_set p.held m (Some x); wait = quieted p.wait; failed = without m p.failed; turns = without m p.turns }),
+        (value_at m, Value (Some x)) ∷ me.1,
+      ))
 
   -- the bit of a mutex was tried in a wait, for no event
   abbrev pub take_bit_quiet_tells : (W → ℕ → T → ℕ → H → Type 0) → Step (Slot T) → Sat T H W → ℕ → Sat T H W → Type 0
-  take_bit_quiet_tells fits st me r me' = let p = me.0.part in (m : ℕ) → st.word ≡ bit_at m → (r ≡ 0 → WonQuietly fits m me me') × (r ≢ 0 → Becomes me (record p { failed = m ∷ p.failed; turns = without m p.turns }) me')
+  take_bit_quiet_tells fits st me r me' = let p = me.0.part in
+      (m : ℕ) → st.word ≡ bit_at m → (r ≡ 0 → WonQuietly fits m me me')
+      × (r ≢ 0 → Becomes me (record p { failed = m ∷ p.failed; turns = without m p.turns }) me')
 
   -- the mutex m was given back, with its value
   abbrev pub Freed : (W → ℕ → ℕ → T → T → H → H) → ℕ → Sat T H W → ℕ → Sat T H W → Type 0
   Freed after m me r me' = let v = me.0 in let p = v.part in let e = release_event v.number m in
       (r ≡ 1) × (between : List Event) × (u : Opt H) × Grows v.number p between e
-      × (me' ≡ (with_part v (record (told p (p.seen ++ between) e) { held = slice_set p.held m None; share = u; cleared = m ∷ p.cleared }), rest me.1))
-      × ((w : W) (s : H) (x y : T) → v.world ≡ Some w → p.share ≡ Some s → Got p m x → me.1 ≡ (value_at m, Value (Some y)) ∷ rest me.1 → u ≡ Some (after w m v.number x y s))
+      × (me' ≡ (
+        with_part v (record (told p (p.seen ++ between) e) { held = slice_set p.held m None; share = u; cleared = m ∷ p.cleared }),
+        rest me.1,
+      ))
+      × ((w : W) (s : H) (x y : T) → v.world ≡ Some w → p.share ≡ Some s → Got p m x → me.1 ≡ (value_at m, Value (Some y)) ∷ rest me.1
+      → u ≡ Some (after w m v.number x y s))
 
   abbrev pub clear_bit_tells : (W → ℕ → ℕ → T → T → H → H) → Step (Slot T) → Sat T H W → ℕ → Sat T H W → Type 0
   clear_bit_tells after st me r me' = (m : ℕ) → st.word ≡ bit_at m → Freed after m me r me'
@@ -208,51 +243,78 @@ module _ {T H W : Type 0} where
   -- the thread has the mutex and its slot first, with a value that the new share allows
   abbrev pub MayFree : (W → ℕ → ℕ → T → T → H → H → Type 0) → (W → ℕ → ℕ → T → T → H → H) → ℕ → Sat T H W → Type 0
   MayFree allows after m me = let v = me.0 in let p = v.part in
-      (x : T) × (y : T) × Got p m x × (me.1 ≡ (value_at m, Value (Some y)) ∷ rest me.1) × ((w : W) (s : H) → v.world ≡ Some w → p.share ≡ Some s → allows w m v.number x y s (after w m v.number x y s))
+      (x : T) × (y : T) × Got p m x × (me.1 ≡ (value_at m, Value (Some y)) ∷ rest me.1)
+      × ((w : W) (s : H) → v.world ≡ Some w → p.share ≡ Some s → allows w m v.number x y s (after w m v.number x y s))
 
   -- the length of a queue was read
   abbrev pub read_length_tells : Step (Slot T) → Sat T H W → ℕ → Sat T H W → Type 0
-  read_length_tells st me r me' = let p = me.0.part in (o : ℕ) → st.word ≡ length_at o → (r ≡ 0 → Becomes me (record p { cleared = without o p.cleared; looked = without o p.looked }) me')
-      × (r ≢ 0 → mem o p.cleared ≡ true → Becomes me (record p { looked = o ∷ p.looked }) me') × (r ≢ 0 → mem o p.cleared ≡ false → me' ≡ me)
+  read_length_tells st me r me' = let p = me.0.part in
+      (o : ℕ) → st.word ≡ length_at o → (r ≡ 0 → Becomes me (record p { cleared = without o p.cleared; looked = without o p.looked }) me')
+      × (r ≢ 0 → mem o p.cleared ≡ true → Becomes me (record p { looked = o ∷ p.looked }) me')
+      × (r ≢ 0 → mem o p.cleared ≡ false → me' ≡ me)
 
   -- the thread was put last into the queue of a gate
   abbrev pub push_gate_tells : Step (Slot T) → Sat T H W → ℕ → Sat T H W → Type 0
-  push_gate_tells st me r me' = let p = me.0.part in let n = me.0.number in (o : ℕ) → st.word ≡ length_at o → Becomes me (record p { queue = p.queue ++ n ∷ []; left = p.left ++ n ∷ []; stand = Some record { at = o; stage = Pushed } }) me'
+  push_gate_tells st me r me' = let p = me.0.part in let n = me.0.number in
+      (o : ℕ) → st.word ≡ length_at o
+      → Becomes me (record p { queue = p.queue ++ n ∷ []; left = p.left ++ n ∷ []; stand = Some record { at = o; stage = Pushed } }) me'
 
   -- the bit of the object at which the thread stands was read after the push
   abbrev pub test_again_tells : Step (Slot T) → Sat T H W → ℕ → Sat T H W → Type 0
-  test_again_tells st me r me' = let p = me.0.part in (s : Stand) → p.stand ≡ Some s → st.word ≡ bit_at s.at → (r ≡ 0 → Becomes me (record p { stand = staged Clear p.stand }) me') × (r ≢ 0 → Becomes me (record p { stand = staged Tested p.stand }) me')
+  test_again_tells st me r me' = let p = me.0.part in
+      (s : Stand) → p.stand ≡ Some s → st.word ≡ bit_at s.at → (r ≡ 0 → Becomes me (record p { stand = staged Clear p.stand }) me')
+      × (r ≢ 0 → Becomes me (record p { stand = staged Tested p.stand }) me')
 
   -- the thread left the queue of a gate, in which it was
   abbrev pub take_out_tells : Step (Slot T) → Sat T H W → ℕ → Sat T H W → Type 0
-  take_out_tells st me r me' = let p = me.0.part in let n = me.0.number in (o : ℕ) → st.word ≡ length_at o → Becomes me (record p { queue = less n p.queue; left = less n p.left; stand = None; turns = o ∷ p.turns }) me'
+  take_out_tells st me r me' = let p = me.0.part in let n = me.0.number in
+      (o : ℕ) → st.word ≡ length_at o
+      → Becomes me (record p { queue = less n p.queue; left = less n p.left; stand = None; turns = o ∷ p.turns }) me'
 
   -- the first, if there is one, left the queue of a gate, and is owed its ready word
   abbrev pub pop_gate_tells : Step (Slot T) → Sat T H W → ℕ → Sat T H W → Type 0
   pop_gate_tells st me r me' = let p = me.0.part in (o : ℕ) → st.word ≡ length_at o
-      → Becomes me (record p { queue = behind p.queue; owed = p.owed ++ front p.queue; left = behind p.left; cleared = without o p.cleared; looked = without o p.looked }) me'
+      → Becomes me (record p {
+        queue = behind p.queue;
+        owed = p.owed ++ front p.queue;
+        left = behind p.left;
+        cleared =
+            without o p.cleared;
+        looked = without o p.looked;
+      }) me'
 
   -- the bit of a semaphore was tried, by an event with this action
   abbrev pub try_p_tells : (ℕ → Action) → Step (Slot T) → Sat T H W → ℕ → Sat T H W → Type 0
-  try_p_tells action st me r me' = let v = me.0 in let p = v.part in (s : ℕ) → st.word ≡ bit_at (sem_object s) → let o = sem_object s in let e = event v.number (action s) in
-      (r ≡ 0 → (between : List Event) × Grows v.number p between e × Becomes me (record (told p (p.seen ++ between) e) { failed = without o p.failed; turns = without o p.turns }) me')
+  try_p_tells action st me r me' = let v = me.0 in let p = v.part in (s : ℕ) → st.word ≡ bit_at (sem_object s) → let o = sem_object s in
+      let e = event v.number (action s) in
+      (r ≡ 0 → (between : List Event) × Grows v.number p between e
+      × Becomes me (record (told p (p.seen ++ between) e) { failed = without o p.failed; turns = without o p.turns }) me')
       × (r ≢ 0 → Becomes me (record p { failed = o ∷ p.failed; turns = without o p.turns }) me')
 
   -- the bit of a semaphore was cleared
   abbrev pub clear_sem_tells : Step (Slot T) → Sat T H W → ℕ → Sat T H W → Type 0
   clear_sem_tells st me r me' = let v = me.0 in let p = v.part in (s : ℕ) → st.word ≡ bit_at (sem_object s) → let e = v_event v.number s in
-      ((r ≡ 0) ⊎ (r ≡ 1)) × (between : List Event) × Grows v.number p between e × Becomes me (record (told p (p.seen ++ between) e) { cleared = sem_object s ∷ p.cleared }) me'
+      ((r ≡ 0) ⊎ (r ≡ 1)) × (between : List Event) × Grows v.number p between e
+      × Becomes me (record (told p (p.seen ++ between) e) { cleared = sem_object s ∷ p.cleared }) me'
 
   -- the bit of the mutex m was cleared in a wait, and the value given back: nobody holds m since the wait began
   abbrev pub clear_bit_in_wait_tells : (W → ℕ → ℕ → T → T → H → H) → Step (Slot T) → Sat T H W → ℕ → Sat T H W → Type 0
   clear_bit_in_wait_tells after st me r me' = let v = me.0 in let p = v.part in (m : ℕ) → st.word ≡ bit_at m
-      → (r ≡ 1) × (u : Opt H) × (me' ≡ (with_part v (record p { held = slice_set p.held m None; share = u; wait = opened p.wait; cleared = m ∷ p.cleared }), rest me.1))
-      × ((w : W) (s : H) (x y : T) → v.world ≡ Some w → p.share ≡ Some s → Got p m x → me.1 ≡ (value_at m, Value (Some y)) ∷ rest me.1 → u ≡ Some (after w m v.number x y s))
+      → (r ≡ 1) × (u : Opt H) × (me'
+      ≡ (
+        with_part v (record p { held = slice_set p.held m None; share = u; wait = opened p.wait; cleared = m ∷ p.cleared }),
+        rest me.1,
+      ))
+      × ((w : W) (s : H) (x y : T) → v.world ≡ Some w → p.share ≡ Some s → Got p m x → me.1 ≡ (value_at m, Value (Some y)) ∷ rest me.1
+      → u ≡ Some (after w m v.number x y s))
 
   -- the count of the condition c was read to begin a wait, by a thread whose slot of the mutex m stands first
   abbrev pub load_count_tells : Bool → Step (Slot T) → Sat T H W → ℕ → Sat T H W → Type 0
-  load_count_tells alertable st me r me' = let v = me.0 in let p = v.part in (m c : ℕ) (s : Slot T) → st.word ≡ count_at (cond_object c) → me.1 ≡ (value_at m, s) ∷ rest me.1 → let e = enqueue_event alertable v.number m c in
-      (between : List Event) × Grows v.number p between e × Becomes me (record (told p (p.seen ++ between) e) { wait = Some (begun_wait alertable m c r) }) me'
+  load_count_tells alertable st me r me' = let v = me.0 in let p = v.part in
+      (m c : ℕ) (s : Slot T) → st.word ≡ count_at (cond_object c) → me.1 ≡ (value_at m, s) ∷ rest me.1
+      → let e = enqueue_event alertable v.number m c in
+      (between : List Event) × Grows v.number p between e
+      × Becomes me (record (told p (p.seen ++ between) e) { wait = Some (begun_wait alertable m c r) }) me'
 
   -- the count was read under the spin word
   abbrev pub know_count_tells : Step (Slot T) → Sat T H W → ℕ → Sat T H W → Type 0
@@ -260,12 +322,20 @@ module _ {T H W : Type 0} where
 
   -- the count was read under the spin word in a wait, to compare it with the one that the wait began with
   abbrev pub compare_count_tells : Step (Slot T) → Sat T H W → ℕ → Sat T H W → Type 0
-  compare_count_tells st me r me' = let p = me.0.part in (r ≡ p.count) × ((x : Wait) (k : ℕ) → p.wait ≡ Some x → x.member ≡ Some k → (r ≡ k → me' ≡ me) × (r ≢ k → Becomes me (record p { wait = unread p.wait }) me'))
+  compare_count_tells st me r me' = let p = me.0.part in
+      (r ≡ p.count) × ((x : Wait) (k : ℕ) → p.wait ≡ Some x → x.member ≡ Some k → (r ≡ k → me' ≡ me)
+      × (r ≢ k → Becomes me (record p { wait = unread p.wait }) me'))
 
   -- the thread, whose count still stands, was put last into the queue of a condition, where there is no bit to test
   abbrev pub push_cond_tells : Step (Slot T) → Sat T H W → ℕ → Sat T H W → Type 0
   push_cond_tells st me r me' = let p = me.0.part in let n = me.0.number in (o : ℕ) → st.word ≡ length_at o
-      → Becomes me (record p { queue = p.queue ++ n ∷ []; left = p.left ++ n ∷ []; stand = Some record { at = o; stage = Tested }; wait = unread p.wait }) me'
+      → Becomes me (record p {
+        queue = p.queue ++ n ∷ [];
+        left = p.left ++ n ∷ [];
+        stand = Some record { at = o; stage = Tested };
+        wait =
+            unread p.wait;
+      }) me'
 
   -- the first, if there is one, left the queue of a condition, and is owed its ready word: an advance had taken it out of the condition
   abbrev pub pop_cond_tells : Step (Slot T) → Sat T H W → ℕ → Sat T H W → Type 0
@@ -273,12 +343,15 @@ module _ {T H W : Type 0} where
 
   -- the thread left the queue of a condition, in which it was, and is in the condition by the count that stands
   abbrev pub leave_cond_queue_tells : Step (Slot T) → Sat T H W → ℕ → Sat T H W → Type 0
-  leave_cond_queue_tells st me r me' = let p = me.0.part in let n = me.0.number in Becomes me (record p { queue = less n p.queue; left = less n p.left; stand = None; wait = recounted p.count p.wait }) me'
+  leave_cond_queue_tells st me r me' = let p = me.0.part in let n = me.0.number in
+      Becomes me (record p { queue = less n p.queue; left = less n p.left; stand = None; wait = recounted p.count p.wait }) me'
 
   -- the count was advanced under the spin word, by an event with this action, and of the queue these were left in the condition
   abbrev pub advance_tells : (List ℕ → List ℕ) → (ℕ → List ℕ → Action) → Step (Slot T) → Sat T H W → ℕ → Sat T H W → Type 0
-  advance_tells leave action st me r me' = let v = me.0 in let p = v.part in (c : ℕ) → st.word ≡ count_at (cond_object c) → let ys = leave p.queue in let e = event v.number (action c ys) in
-      (r ≡ p.count) × Distinct p.queue × (between : List Event) × Grows v.number p between e × Becomes me (record (told p (p.seen ++ between) e) { left = ys; count = p.count + 1; calling = None }) me'
+  advance_tells leave action st me r me' = let v = me.0 in let p = v.part in
+      (c : ℕ) → st.word ≡ count_at (cond_object c) → let ys = leave p.queue in let e = event v.number (action c ys) in
+      (r ≡ p.count) × Distinct p.queue × (between : List Event) × Grows v.number p between e
+      × Becomes me (record (told p (p.seen ++ between) e) { left = ys; count = p.count + 1; calling = None }) me'
 
   -- the begun waits of the condition c were raised
   abbrev pub raise_waits_tells : Step (Slot T) → Sat T H W → ℕ → Sat T H W → Type 0
@@ -290,41 +363,54 @@ module _ {T H W : Type 0} where
 
   -- the begun waits of the condition c were read: if there are none, that is the event, which leaves nobody, and else a Signal or Broadcast is under way
   abbrev pub read_waits_tells : (ℕ → List ℕ → Action) → Step (Slot T) → Sat T H W → ℕ → Sat T H W → Type 0
-  read_waits_tells action st me r me' = let v = me.0 in let p = v.part in (c : ℕ) → st.word ≡ waits_at (cond_object c) → let e = event v.number (action c []) in
-      (r ≡ 0 → (between : List Event) × Grows v.number p between e × Becomes me (told p (p.seen ++ between) e) me') × (r ≢ 0 → Becomes me (record p { calling = Some c }) me')
+  read_waits_tells action st me r me' = let v = me.0 in let p = v.part in
+      (c : ℕ) → st.word ≡ waits_at (cond_object c) → let e = event v.number (action c []) in
+      (r ≡ 0 → (between : List Event) × Grows v.number p between e × Becomes me (told p (p.seen ++ between) e) me')
+      × (r ≢ 0 → Becomes me (record p { calling = Some c }) me')
 
   -- the own alert word was read
   abbrev pub read_alert_tells : Step (Slot T) → Sat T H W → ℕ → Sat T H W → Type 0
-  read_alert_tells st me r me' = let p = me.0.part in (p.alerted ≡ true → r ≡ 1) × (r ≡ 0 → me' ≡ me) × (r ≢ 0 → (r ≡ 1) × Becomes me (record p { alerted = true; stand = alerted_stand p.stand }) me')
+  read_alert_tells st me r me' = let p = me.0.part in
+      (p.alerted ≡ true → r ≡ 1) × (r ≡ 0 → me' ≡ me)
+      × (r ≢ 0 → (r ≡ 1) × Becomes me (record p { alerted = true; stand = alerted_stand p.stand }) me')
 
   -- the thread t was alerted
   abbrev pub or_alert_tells : Step (Slot T) → Sat T H W → ℕ → Sat T H W → Type 0
-  or_alert_tells st me r me' = let v = me.0 in let p = v.part in (t : ℕ) → t < most_threads → st.word ≡ alert_at t → let e = alert_event v.number t in
+  or_alert_tells st me r me' = let v = me.0 in let p = v.part in
+      (t : ℕ) → t < most_threads → st.word ≡ alert_at t → let e = alert_event v.number t in
       (between : List Event) × Grows v.number p between e × Becomes me (told p (p.seen ++ between) e) me'
 
   -- the own alert word was cleared, by the event that tells what it was
   abbrev pub swap_alert_tells : Step (Slot T) → Sat T H W → ℕ → Sat T H W → Type 0
   swap_alert_tells st me r me' = let v = me.0 in let p = v.part in let e = test_alert_event v.number (eqb r 1) in
-      ((r ≡ 0) ⊎ (r ≡ 1)) × (p.alerted ≡ true → r ≡ 1) × (between : List Event) × Grows v.number p between e × Becomes me (record (told p (p.seen ++ between) e) { alerted = false }) me'
+      ((r ≡ 0) ⊎ (r ≡ 1)) × (p.alerted ≡ true → r ≡ 1) × (between : List Event) × Grows v.number p between e
+      × Becomes me (record (told p (p.seen ++ between) e) { alerted = false }) me'
 
   -- the own alert word was cleared to raise out of a P of the semaphore s, which the mask tells
   abbrev pub swap_alert_in_p_tells : Step (Slot T) → Sat T H W → ℕ → Sat T H W → Type 0
-  swap_alert_in_p_tells st me r me' = let v = me.0 in let p = v.part in (s : ℕ) → st.first ≡ 2 * s → let e = alert_p_raise_event v.number s in
-      (r ≡ 1) × (between : List Event) × Grows v.number p between e × Becomes me (record (told p (p.seen ++ between) e) { alerted = false }) me'
+  swap_alert_in_p_tells st me r me' = let v = me.0 in let p = v.part in
+      (s : ℕ) → st.first ≡ 2 * s → let e = alert_p_raise_event v.number s in
+      (r ≡ 1) × (between : List Event) × Grows v.number p between e
+      × Becomes me (record (told p (p.seen ++ between) e) { alerted = false }) me'
 
   -- the own alert word was cleared to raise out of an alertable wait, with the bit of its mutex taken
   abbrev pub swap_alert_in_raise_tells : Step (Slot T) → Sat T H W → ℕ → Sat T H W → Type 0
-  swap_alert_in_raise_tells st me r me' = let v = me.0 in let p = v.part in (x : Wait) → p.wait ≡ Some x → let e = alert_raise_event v.number x.mutex.0 x.cond.0 in
-      (r ≡ 1) × (between : List Event) × Grows v.number p between e × Becomes me (record (told p (p.seen ++ between) e) { wait = None; alerted = false }) me'
+  swap_alert_in_raise_tells st me r me' = let v = me.0 in let p = v.part in
+      (x : Wait) → p.wait ≡ Some x → let e = alert_raise_event v.number x.mutex.0 x.cond.0 in
+      (r ≡ 1) × (between : List Event) × Grows v.number p between e
+      × Becomes me (record (told p (p.seen ++ between) e) { wait = None; alerted = false }) me'
 
   -- the thread left the queue of a semaphore, in which it was
   abbrev pub leave_sem_queue_tells : Step (Slot T) → Sat T H W → ℕ → Sat T H W → Type 0
-  leave_sem_queue_tells st me r me' = let p = me.0.part in let n = me.0.number in Becomes me (record p { queue = less n p.queue; left = less n p.left; stand = None; turns = left_turns p.stand p.turns }) me'
+  leave_sem_queue_tells st me r me' = let p = me.0.part in let n = me.0.number in
+      Becomes me (record p { queue = less n p.queue; left = less n p.left; stand = None; turns = left_turns p.stand p.turns }) me'
 
   -- the thread t, whose beginning is the own right, was forked
   abbrev pub fork_life_tells : Step (Slot T) → Sat T H W → ℕ → Sat T H W → Type 0
-  fork_life_tells st me r me' = let v = me.0 in let p = v.part in (t : ℕ) → t < most_threads → st.word ≡ life_at t → let e = fork_event v.number t in
-      (between : List Event) × Grows v.number p between e × (me' ≡ (record v { part = told p (p.seen ++ between) e; child = Forked t ((p.seen ++ between) ++ e ∷ []) }, me.1))
+  fork_life_tells st me r me' = let v = me.0 in let p = v.part in
+      (t : ℕ) → t < most_threads → st.word ≡ life_at t → let e = fork_event v.number t in
+      (between : List Event) × Grows v.number p between e
+      × (me' ≡ (record v { part = told p (p.seen ++ between) e; child = Forked t ((p.seen ++ between) ++ e ∷ []) }, me.1))
 
   -- the thread ended
   abbrev pub end_life_tells : Step (Slot T) → Sat T H W → ℕ → Sat T H W → Type 0
@@ -333,7 +419,8 @@ module _ {T H W : Type 0} where
 
   -- the life word of the thread t was read: where it has ended, that is the event
   abbrev pub read_life_tells : Step (Slot T) → Sat T H W → ℕ → Sat T H W → Type 0
-  read_life_tells st me r me' = let v = me.0 in let p = v.part in (t : ℕ) → t < most_threads → st.word ≡ life_at t → let e = join_event v.number t in
+  read_life_tells st me r me' = let v = me.0 in let p = v.part in
+      (t : ℕ) → t < most_threads → st.word ≡ life_at t → let e = join_event v.number t in
       (r ≡ 2 → (between : List Event) × Grows v.number p between e × Becomes me (told p (p.seen ++ between) e) me') × (r ≢ 2 → me' ≡ me)
 
   -- the pen was tried, the number read and written, and the pen given back

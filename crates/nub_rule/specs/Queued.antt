@@ -15,11 +15,14 @@ use Rattle.nub_rule.specs.Plays.{Sat, Becomes}
 module _ {T H W : Type 0} where
   -- a step on the length word of the object o tells that the part was changed by f
   abbrev pub Tells : (Step (Slot T) → Sat T H W → ℕ → Sat T H W → Type 0) → ℕ → (ℕ → Part T H → Part T H) → Type 0
-  Tells tells o f = (st : Step (Slot T)) (me : Sat T H W) (r : ℕ) (me' : Sat T H W) → st.word ≡ length_at o → tells st me r me' → Becomes me (f me.0.number me.0.part) me'
+  Tells tells o f = (st : Step (Slot T)) (me : Sat T H W) (r : ℕ) (me' : Sat T H W) → st.word ≡ length_at o → tells st me r me'
+      → Becomes me (f me.0.number me.0.part) me'
 
   -- a thread that contracts see as k may write the length of zs, which the queue of the object o has become, and has changed nothing then by which it has slots. Where it stands nowhere then, this is true
-  pub record MayRequeue (rule : State (Slot T) (View T H W) → Type 0) (tells : Step (Slot T) → Sat T H W → ℕ → Sat T H W → Type 0) (l : Layout) (k : Known T H W) (o : ℕ) (zs : List ℕ) (nowhere : Type 0) : Type 0 where
-    pub allowed : IsLawful l → (slots id : ℕ) (me : Sat T H W) → me.0.kind ≡ Member → me.0.number ≡ k.number → me.0.part ≡ part_of k → Allows rule slots id me (length_at o) (λ _. length zs) (λ _. tells (step slots (length_at o) (length zs) 0 none) me (length zs))
+  pub record MayRequeue (rule : State (Slot T) (View T H W) → Type 0) (tells : Step (Slot T) → Sat T H W → ℕ → Sat T H W → Type 0)
+      (l : Layout) (k : Known T H W) (o : ℕ) (zs : List ℕ) (nowhere : Type 0) : Type 0 where
+    pub allowed : IsLawful l → (slots id : ℕ) (me : Sat T H W) → me.0.kind ≡ Member → me.0.number ≡ k.number → me.0.part ≡ part_of k
+        → Allows rule slots id me (length_at o) (λ _. length zs) (λ _. tells (step slots (length_at o) (length zs) 0 none) me (length zs))
     pub change : ℕ → Part T H → Part T H
     pub told : Tells tells o change
     pub held : (change k.number (part_of k)).held ≡ k.held

@@ -40,7 +40,8 @@ module _ {T H W : Type 0} where
     abbrev pub ChildFits : View T H W → Child → Type 0
     ChildFits v No = Unit {0}
     ChildFits v (May t) = (seat_of t ≡ id) × (t ≢ v.number) × (t < given) × (get_elem? all t ≡ some (unborn version (Some (begin w t))))
-    ChildFits v (Forked t seen) = (seat_of t ≡ id) × (t ≢ v.number) × (t < given) × (get_elem? all t ≡ some (newborn version seen (Some (begin w t))))
+    ChildFits v (Forked t seen) = (seat_of t ≡ id) × (t ≢ v.number) × (t < given)
+        × (get_elem? all t ≡ some (newborn version seen (Some (begin w t))))
 
     -- it is the seat of a thread, and its view has the thread's part
     pub record IsMember (v : View T H W) : Type 0 where
@@ -75,7 +76,8 @@ module _ {T H W : Type 0} where
   IsWith v Spent n = ⊥
 
   abbrev pub opening_view : Version → W → (W → ℕ → H) → View T H W
-  opening_view version w begin = record { world = Some w; kind = Root; number = 0; part = first_part version 0 (Some (begin w 0)); child = No; next = 0; back = [] }
+  opening_view version w begin =
+      record { world = Some w; kind = Root; number = 0; part = first_part version 0 (Some (begin w 0)); child = No; next = 0; back = [] }
 
   -- the root, after it has given out the next number
   abbrev pub left_view : View T H W → View T H W
@@ -83,7 +85,8 @@ module _ {T H W : Type 0} where
 
   -- the new seat, for the next number
   abbrev pub member_view : (W → ℕ → H) → View T H W → View T H W
-  member_view begin v = record v { kind = Member; number = v.next; part = first_part v.part.version v.next (begun begin v.next v.world); child = No }
+  member_view begin v = record v
+      { kind = Member; number = v.next; part = first_part v.part.version v.next (begun begin v.next v.world); child = No }
 
   -- a thread, after it took in the right to begin the one with this seat
   abbrev pub taking_view : View T H W → View T H W → View T H W
@@ -111,7 +114,8 @@ module _ {T H W : Type 0} where
   abbrev pub spent_view : View T H W
   spent_view = record { world = None; kind = Spent; number = 0; part = no_part; child = No; next = 0; back = [] }
 
-  pub record IsKept (l : Layout) (traced : Bool) (w : W) (begin : W → ℕ → H) (holds : W → List T → List H → Type 0) (s : State (Slot T) (View T H W)) : Type 0 where
+  pub record IsKept (l : Layout) (traced : Bool) (w : W) (begin : W → ℕ → H) (holds : W → List T → List H → Type 0)
+      (s : State (Slot T) (View T H W)) : Type 0 where
     pub all : List (Part T H)
     pub seat_of : ℕ → ℕ
     pub given : ℕ

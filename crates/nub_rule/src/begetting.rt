@@ -9,7 +9,7 @@ ghost use Rattle.nub_rule.specs.declared.view.Pen.TheVariants.{No as Penless};
 
 use crate::hand::Hand;
 use crate::package::{Entry, Package, Thread};
-use crate::rule::{HandOut, Line, TakeIn};
+use crate::rule::{HandOut, Queue, TakeIn};
 use crate::uses::Uses;
 use crossbeam_utils::sync::Parker;
 use std::marker::Model;
@@ -88,7 +88,7 @@ pub fn hand_out<U: Uses>(p: &Package<U>, me: &mut Thread<U>, body: Body) -> Thre
         lost: false,
         next: 0,
         parker,
-        later: Line::new(),
+        later: Queue::new(),
         patience: 0,
         room,
     }

@@ -9,7 +9,6 @@ ghost use Rattle.nub_rule.specs.Places.{cond_object, most_threads};
 ghost use Rattle.nub_rule.specs.Plays.{begun_wait, behind, broadcast_action, enqueue_event, event, less, recounted, signal_action, unread};
 
 use crate::hand::bring;
-use crate::line::set_behind;
 use crate::object::Object;
 use crate::package::{Package, Thread};
 use crate::places::{CONDITIONS, VALUES, count_word};
@@ -18,6 +17,7 @@ use crate::plays::{
     LoadCountAlertable,
 };
 use crate::queueing::leave;
+use crate::slot::set_behind;
 use crate::stepping::{fetch_add, load, slot_mut};
 use crate::uses::Uses;
 use larch_actions::{CondId, MutexId, ThreadSet};
@@ -115,7 +115,8 @@ pub fn advance_broadcast<U: Uses>(p: &Package<U>, me: &mut Thread<U>, c: CondId)
     requires pen { MayTell p.now.traced me.old.life me.old.pen }
     ensures count { result ≡ me.old.count }
     ensures event { Makes (event me.old.number (broadcast_action c.0 [])) me.old me.new }
-    ensures advanced { me.new ≡ record (learnt me.old me.new) { left = []; count = me.old.count + 1; calling = None; pen = made me.old.pen } }
+    ensures advanced { me.new ≡ record (learnt me.old me.new)
+        { left = []; count = me.old.count + 1; calling = None; pen = made me.old.pen } }
 {
     fetch_add::<AdvanceBroadcast, U>(&p.table, &mut me.seat, count_word(c), 1)
 }

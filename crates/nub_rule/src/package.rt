@@ -3,7 +3,7 @@ ghost use Rattle.std.specs.Prelude.{◌≡◌};
 
 use crate::hand::Hand;
 use crate::places::{MUTEXES, VALUES};
-use crate::rule::{About, Kept, Line, Slot};
+use crate::rule::{About, Kept, Queue, Slot};
 use crate::uses::Uses;
 use crate::view::View;
 use crate::waking::Waker;
@@ -70,7 +70,7 @@ pub struct Thread<U: Uses> {
     pub(crate) next: u64,
     pub(crate) parker: Parker,
     /// Those that are to be unparked when it gives a mutex back.
-    pub(crate) later: Line,
+    pub(crate) later: Queue,
     /// A number that the Nub keeps: how often looking before a sleep was in time of late.
     pub(crate) patience: u64,
     /// With the first thread, room for the values of all mutexes.

@@ -8,10 +8,10 @@ ghost use Rattle.nub_rule.specs.Queued.{MayRequeue, Requeued};
 ghost use Rattle.nub_rule.specs.Rule.{IsKept};
 
 use crate::hand::bring;
-use crate::line::{leave_line, pop_line, push_line};
 use crate::object::Object;
 use crate::package::{Package, Thread};
 use crate::rule::Slot;
+use crate::slot::{leave_slot, pop_slot, push_slot};
 use crate::stepping::{slot_mut, store};
 use crate::uses::Uses;
 use crate::view::View;
@@ -34,7 +34,7 @@ pub(crate) fn push<M: Play<Slot<U::Value>, View<U::Value, U::Share, U::World>>, 
 {
     let o = at.number();
     bring(&mut me.hand, &mut me.seat, o as u16);
-    let longer = push_line(slot_mut(&mut me.seat, &p.table.shared, o), me.number);
+    let longer = push_slot(slot_mut(&mut me.seat, &p.table.shared, o), me.number);
     store::<M, U>(&p.table, &mut me.seat, at.length_word(), longer);
 }
 
@@ -54,7 +54,7 @@ pub(crate) fn pop<M: Play<Slot<U::Value>, View<U::Value, U::Share, U::World>>, U
 {
     let o = at.number();
     bring(&mut me.hand, &mut me.seat, o as u16);
-    let (first, shorter) = pop_line(slot_mut(&mut me.seat, &p.table.shared, o));
+    let (first, shorter) = pop_slot(slot_mut(&mut me.seat, &p.table.shared, o));
     store::<M, U>(&p.table, &mut me.seat, at.length_word(), shorter);
     first
 }
@@ -76,7 +76,7 @@ pub(crate) fn leave<M: Play<Slot<U::Value>, View<U::Value, U::Share, U::World>>,
 {
     let o = at.number();
     bring(&mut me.hand, &mut me.seat, o as u16);
-    let Some(length) = leave_line(slot_mut(&mut me.seat, &p.table.shared, o), me.number) else {
+    let Some(length) = leave_slot(slot_mut(&mut me.seat, &p.table.shared, o), me.number) else {
         return false;
     };
     store::<M, U>(&p.table, &mut me.seat, at.length_word(), length);

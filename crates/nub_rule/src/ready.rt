@@ -46,7 +46,7 @@ pub fn clear_ready<U: Uses>(p: &Package<U>, me: &mut Thread<U>) -> u64
     requires outside { me.old.spin ≡ None }
     requires ready { StandsAs (λ s. IsFound s.stage) me.old }
     ensures found { result ≡ 1 }
-    ensures at_gate { (s : Stand) → me.old.stand ≡ Some s → s.at < 128 → me.new ≡ record me.old {
+    ensures is_new { (s : Stand) → me.old.stand ≡ Some s → s.at < 128 → me.new ≡ record me.old {
       stand = None;
       turns = s.at ∷ me.old.turns;
     } }

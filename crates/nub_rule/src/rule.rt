@@ -9,7 +9,7 @@ use std::marker::PhantomData;
 use std::snapshot::Snapshot;
 
 /// The numbers of threads in a queue.
-pub type Line = ArrayVec<u8, MOST_THREADS>;
+pub type Queue = ArrayVec<u8, MOST_THREADS>;
 
 /// What a slot of the table holds.
 #[derive(Drop)]
@@ -17,7 +17,7 @@ pub enum Slot<T> {
     /// The value of a mutex, unless its holder has moved it out.
     Value(Option<T>),
     /// The threads that wait for an object, the first first.
-    Queue(Line),
+    Queue(Queue),
 }
 
 /// What the table is told when it is made.

@@ -31,7 +31,8 @@ pub(crate) fn load<M: Play<Slot<U::Value>, View<U::Value, U::Share, U::World>>, 
 ) -> u64
     requires of { seat.old.table_id ≡ table.now.shared.table_id }
     requires inside { word < table.now.shared.table_id.words }
-    requires allowed { Allows (IsKept table.now.shared.key.layout table.now.shared.key.traced table.now.shared.key.world.value U.begin U.holds)
+    requires allowed { Allows (IsKept table.now.shared.key.layout table.now.shared.key.traced table.now.shared.key.world.value U.begin
+        U.holds)
         table.now.shared.table_id.slots seat.old.id seat.old.me word (λ n. n)
         (M.then (step table.now.shared.table_id.slots word 0 0 none) seat.old.me) }
     ensures { (seat.new.table_id ≡ seat.old.table_id) × (seat.new.id ≡ seat.old.id)
@@ -56,7 +57,8 @@ pub(crate) fn store<M: Play<Slot<U::Value>, View<U::Value, U::Share, U::World>>,
 )
     requires of { seat.old.table_id ≡ table.now.shared.table_id }
     requires inside { word < table.now.shared.table_id.words }
-    requires allowed { Allows (IsKept table.now.shared.key.layout table.now.shared.key.traced table.now.shared.key.world.value U.begin U.holds)
+    requires allowed { Allows (IsKept table.now.shared.key.layout table.now.shared.key.traced table.now.shared.key.world.value U.begin
+        U.holds)
         table.now.shared.table_id.slots seat.old.id seat.old.me word (λ _. new)
         (λ _. M.then (step table.now.shared.table_id.slots word new 0 none) seat.old.me new) }
     ensures { (seat.new.table_id ≡ seat.old.table_id) × (seat.new.id ≡ seat.old.id)
@@ -81,7 +83,8 @@ pub(crate) fn swap<M: Play<Slot<U::Value>, View<U::Value, U::Share, U::World>>, 
 ) -> u64
     requires of { seat.old.table_id ≡ table.now.shared.table_id }
     requires inside { word < table.now.shared.table_id.words }
-    requires allowed { Allows (IsKept table.now.shared.key.layout table.now.shared.key.traced table.now.shared.key.world.value U.begin U.holds)
+    requires allowed { Allows (IsKept table.now.shared.key.layout table.now.shared.key.traced table.now.shared.key.world.value U.begin
+        U.holds)
         table.now.shared.table_id.slots seat.old.id seat.old.me word (λ _. new)
         (M.then (step table.now.shared.table_id.slots word new 0 none) seat.old.me) }
     ensures { (seat.new.table_id ≡ seat.old.table_id) × (seat.new.id ≡ seat.old.id)
@@ -106,7 +109,8 @@ pub(crate) fn fetch_add<M: Play<Slot<U::Value>, View<U::Value, U::Share, U::Worl
 ) -> u64
     requires of { seat.old.table_id ≡ table.now.shared.table_id }
     requires inside { word < table.now.shared.table_id.words }
-    requires allowed { Allows (IsKept table.now.shared.key.layout table.now.shared.key.traced table.now.shared.key.world.value U.begin U.holds)
+    requires allowed { Allows (IsKept table.now.shared.key.layout table.now.shared.key.traced table.now.shared.key.world.value U.begin
+        U.holds)
         table.now.shared.table_id.slots seat.old.id seat.old.me word (λ n. (n + k) % 2 ^ 64)
         (M.then (step table.now.shared.table_id.slots word k 0 none) seat.old.me) }
     ensures { (seat.new.table_id ≡ seat.old.table_id) × (seat.new.id ≡ seat.old.id)
@@ -131,7 +135,8 @@ pub(crate) fn fetch_sub<M: Play<Slot<U::Value>, View<U::Value, U::Share, U::Worl
 ) -> u64
     requires of { seat.old.table_id ≡ table.now.shared.table_id }
     requires inside { word < table.now.shared.table_id.words }
-    requires allowed { Allows (IsKept table.now.shared.key.layout table.now.shared.key.traced table.now.shared.key.world.value U.begin U.holds)
+    requires allowed { Allows (IsKept table.now.shared.key.layout table.now.shared.key.traced table.now.shared.key.world.value U.begin
+        U.holds)
         table.now.shared.table_id.slots seat.old.id seat.old.me word (λ n. (n + (2 ^ 64 - k)) % 2 ^ 64)
         (M.then (step table.now.shared.table_id.slots word k 0 none) seat.old.me) }
     ensures { (seat.new.table_id ≡ seat.old.table_id) × (seat.new.id ≡ seat.old.id)
@@ -156,7 +161,8 @@ pub(crate) fn fetch_and<M: Play<Slot<U::Value>, View<U::Value, U::Share, U::Worl
 ) -> u64
     requires of { seat.old.table_id ≡ table.now.shared.table_id }
     requires inside { word < table.now.shared.table_id.words }
-    requires allowed { Allows (IsKept table.now.shared.key.layout table.now.shared.key.traced table.now.shared.key.world.value U.begin U.holds)
+    requires allowed { Allows (IsKept table.now.shared.key.layout table.now.shared.key.traced table.now.shared.key.world.value U.begin
+        U.holds)
         table.now.shared.table_id.slots seat.old.id seat.old.me word (λ n. bit_and n k)
         (M.then (step table.now.shared.table_id.slots word k 0 none) seat.old.me) }
     ensures { (seat.new.table_id ≡ seat.old.table_id) × (seat.new.id ≡ seat.old.id)
@@ -181,7 +187,8 @@ pub(crate) fn fetch_or<M: Play<Slot<U::Value>, View<U::Value, U::Share, U::World
 ) -> u64
     requires of { seat.old.table_id ≡ table.now.shared.table_id }
     requires inside { word < table.now.shared.table_id.words }
-    requires allowed { Allows (IsKept table.now.shared.key.layout table.now.shared.key.traced table.now.shared.key.world.value U.begin U.holds)
+    requires allowed { Allows (IsKept table.now.shared.key.layout table.now.shared.key.traced table.now.shared.key.world.value U.begin
+        U.holds)
         table.now.shared.table_id.slots seat.old.id seat.old.me word (λ n. bit_or n k)
         (M.then (step table.now.shared.table_id.slots word k 0 none) seat.old.me) }
     ensures { (seat.new.table_id ≡ seat.old.table_id) × (seat.new.id ≡ seat.old.id)
@@ -210,7 +217,8 @@ pub(crate) fn compare_exchange<
 ) -> u64
     requires of { seat.old.table_id ≡ table.now.shared.table_id }
     requires inside { word < table.now.shared.table_id.words }
-    requires allowed { Allows (IsKept table.now.shared.key.layout table.now.shared.key.traced table.now.shared.key.world.value U.begin U.holds)
+    requires allowed { Allows (IsKept table.now.shared.key.layout table.now.shared.key.traced table.now.shared.key.world.value U.begin
+        U.holds)
         table.now.shared.table_id.slots seat.old.id seat.old.me word (λ n. either (n == old) new n)
         (M.then (step table.now.shared.table_id.slots word old new none) seat.old.me) }
     ensures { (seat.new.table_id ≡ seat.old.table_id) × (seat.new.id ≡ seat.old.id)

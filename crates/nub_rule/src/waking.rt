@@ -4,7 +4,7 @@
 ghost use Rattle.std.specs.Prelude.{◌≡◌};
 
 use crate::package::{Package, Thread};
-use crate::rule::Line;
+use crate::rule::Queue;
 use crate::uses::Uses;
 use crossbeam_utils::sync::Unparker;
 use larch_actions::{MutexId, ThreadId};
@@ -83,7 +83,7 @@ pub fn owes_unparking<U: Uses>(me: &Thread<U>) -> bool {
 pub fn unpark_noted<U: Uses>(p: &Package<U>, me: &mut Thread<U>)
     ensures { me.new ≡ me.old }
 {
-    let mut kept = Line::new();
+    let mut kept = Queue::new();
     for i in 0..me.later.len() {
         let number = me.later[i];
         let t = ThreadId(u32::from(number));

@@ -11,7 +11,7 @@ ghost use Rattle.larch_actions.specs.declared.event.Life.TheVariants.{Live};
 ghost use Rattle.nub_rule.specs.declared.view.Child.TheVariants.{No};
 ghost use Rattle.nub_rule.specs.declared.rule.Slot.TheVariants.{Value, Queue};
 ghost use Rattle.nub_rule.specs.declared.view.Kind.TheVariants.{Root, Collector};
-ghost use Rattle.nub_rule.specs.Items.{Each, no_line};
+ghost use Rattle.nub_rule.specs.Items.{Each, no_queue};
 ghost use Rattle.atomic_table.specs.Table.{opening, Enters, Joins, Splits};
 ghost use Rattle.nub_rule.specs.Rule.{IsKept, opening_view, left_view, member_view, collecting, both_views, spent_view};
 ghost use Rattle.nub_rule.specs.Known.{known_as, part_of, HasNone};
@@ -21,7 +21,7 @@ ghost use Rattle.nub_rule.specs.Places.{most_threads};
 use crate::hand::Hand;
 use crate::package::{Package, Stored, Thread};
 use crate::places::{QUEUES, WORDS, life_word};
-use crate::rule::{About, Collect, Cut, Gather, Kept, Line, Slot};
+use crate::rule::{About, Collect, Cut, Gather, Kept, Queue, Slot};
 use crate::uses::Uses;
 use crate::view::View;
 use crate::waking::Waker;
@@ -63,11 +63,11 @@ fn words(alloc: Global, layout: Layout) -> Result<Vec<u64>, AllocError>
 
 /// The slots of the queues, all empty, with room for so many more.
 fn queue_slots<T: Drop>(alloc: Global, further: u32) -> Result<Vec<Slot<T>>, AllocError>
-    ensures { IfOk result (λ s. (s.items ≡ replicate 192 (Queue no_line)) × (192 + further ≤ vec_capacity s)) }
+    ensures { IfOk result (λ s. (s.items ≡ replicate 192 (Queue no_queue)) × (192 + further ≤ vec_capacity s)) }
 {
     let mut slots = Vec::with_capacity(alloc, QUEUES + further as usize)?;
     for _i in 0..QUEUES {
-        slots.push_reserved(Slot::Queue(Line::new()));
+        slots.push_reserved(Slot::Queue(Queue::new()));
     }
     Ok(slots)
 }
@@ -138,7 +138,7 @@ fn cut<U: Uses>(
         lost: false,
         next: 0,
         parker,
-        later: Line::new(),
+        later: Queue::new(),
         patience: 0,
         room: own,
     }
@@ -204,7 +204,8 @@ struct Means<R, T> {
 
 /// All of that, or want of memory.
 fn means_of<R: Drop, T: Drop>(alloc: Global, layout: Layout) -> Result<Means<R, T>, AllocError>
-    ensures { IfOk result (λ m. (m.threads.items ≡ []) × (layout.threads ≤ vec_capacity m.threads) × (length m.parkers.items ≡ layout.threads)
+    ensures { IfOk result (λ m. (m.threads.items ≡ []) × (layout.threads ≤ vec_capacity m.threads)
+        × (length m.parkers.items ≡ layout.threads)
         × (vec_len m.unparkers ≡ layout.threads) × (m.room.items ≡ []) × (layout.mutexes ≤ vec_capacity m.room) × (m.shelf.items ≡ [])
         × (layout.threads ≤ vec_capacity m.shelf)) }
 {
@@ -300,7 +301,8 @@ pub(crate) fn collector<U: Uses>(
 ) -> Seat<Slot<U::Value>, View<U::Value, U::Share, U::World>>
     requires inside { 0 < shared.now.table_id.words }
     requires enters { Enters (IsKept shared.now.key.layout shared.now.key.traced shared.now.key.world.value U.begin U.holds)
-        shared.now.table_id.slots 0 (λ _ v. v ≡ collecting (opening_view shared.now.key.layout.version shared.now.key.world.value U.begin)) }
+        shared.now.table_id.slots 0 (λ _ v.
+        v ≡ collecting (opening_view shared.now.key.layout.version shared.now.key.world.value U.begin)) }
     ensures of { result.table_id ≡ shared.now.table_id }
     ensures view { result.me.0 ≡ collecting (opening_view shared.now.key.layout.version shared.now.key.world.value U.begin) }
 {

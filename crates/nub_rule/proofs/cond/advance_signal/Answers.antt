@@ -2,7 +2,7 @@ use Rattle.std.proofs.Common.{Bool, rules, arith, ◌≡◌, ◌<◌, ◌+◌, �
 use Rattle.larch_actions.specs.declared.event.Life.{Life}
 use Rattle.nub_rule.specs.declared.rule.Slot.TheVariants.{Queue}
 use Rattle.nub_rule.specs.declared.view.Pen.{Pen}
-use Rattle.nub_rule.specs.Items.{Distinct, Small, line_of}
+use Rattle.nub_rule.specs.Items.{Distinct, Small, queue_of}
 use Rattle.nub_rule.specs.Parts.{made, MayTell}
 use Rattle.nub_rule.specs.Places.{most_threads, cond_object}
 use Rattle.nub_rule.specs.Plays.{told, behind, event, signal_action}
@@ -19,10 +19,10 @@ at_hand : (g : Over) (c : After-bring g) → QueueAtHand c.me.inside.seat.me c.b
 at_hand g c = let b = c.bring.ensures in queue_at_hand _ _ _ _ _ _ _ c.me.invariant (ap (λ k. k.spin) c.me.view_is ∙ c.requires.inside) b.same.2 b.keys b.distinct b.below b.hand b.first
 
 pub bring-requires-clause-there : goal.bring-requires-clause-there
-bring-requires-clause-there g c = (Queue (line_of c.me.inside.seat.me.0.part.queue), c.me.invariant.hands.queue_in (cond_object c.args.c.0) (ap (λ k. k.spin) c.me.view_is ∙ c.requires.inside))
+bring-requires-clause-there g c = (Queue (queue_of c.me.inside.seat.me.0.part.queue), c.me.invariant.hands.queue_in (cond_object c.args.c.0) (ap (λ k. k.spin) c.me.view_is ∙ c.requires.inside))
 
 pub slot_mut-requires-clause-first : goal.slot_mut-requires-clause-first
-slot_mut-requires-clause-first g c = (Queue (line_of c.me.inside.seat.me.0.part.queue), (at_hand g (goal.at.slot_mut-requires-clause-first g c).After-bring).first)
+slot_mut-requires-clause-first g c = (Queue (queue_of c.me.inside.seat.me.0.part.queue), (at_hand g (goal.at.slot_mut-requires-clause-first g c).After-bring).first)
 
 pub set_behind-left-requires : goal.set_behind-left-requires
 set_behind-left-requires g c = let a = at_hand g (goal.at.set_behind-left-requires g c).After-bring in

@@ -3,7 +3,7 @@ use mathlib.Core.Option.{some}
 use lib.ListN.{get_elem?}
 use Rattle.larch_actions.specs.Sets.{without}
 use Rattle.nub_rule.specs.declared.rule.Slot.TheVariants.{Value, Queue}
-use Rattle.nub_rule.specs.Items.{no_line}
+use Rattle.nub_rule.specs.Items.{no_queue}
 use Rattle.nub_rule.specs.Known.{known_as, value_in}
 use Rattle.nub_rule.specs.Places.{value_at}
 use Rattle.nub_rule.specs.Plays.{quieted}
@@ -25,7 +25,7 @@ compare_exchange-found-requires-clause-allowed g c κs within = let near = mutex
 
 pub take-requires : goal.take-requires
 take-requires g c = let near = mutex_low _ _ _ _ c.p.view_is c.p.invariant.laid_out c.p.invariant.lawful c.args.m.0 c.requires.named in let m : ℕ = c.args.m.0 in let i = c.me.invariant in let u = (c.compare_exchange-found.ensures.2 m c.mutex_bit.ensures).0 c.if-found-eq0.true in
-    room_for 256 (value_at m) (Queue no_line) c.me.inside.seat.me.1 c.me.inside.hand i.distinct i.below (omega arith) (i.hands.value_lacked m u.2) i.keyed
+    room_for 256 (value_at m) (Queue no_queue) c.me.inside.seat.me.1 c.me.inside.hand i.distinct i.below (omega arith) (i.hands.value_lacked m u.2) i.keyed
 
 pub invariant_of-me : goal.invariant_of-me
 invariant_of-me g c = let near = mutex_low _ _ _ _ c.p.view_is c.p.invariant.laid_out c.p.invariant.lawful c.args.m.0 c.requires.named in let m : ℕ = c.args.m.0 in let out : c.me.inside.seat.me.0.part.spin ≡ None = ap (λ k. k.spin) c.me.view_is ∙ c.requires.outside.0 in let i = c.me.invariant in let h = i.hands in let u = (c.compare_exchange-found.ensures.2 m c.mutex_bit.ensures).0 c.if-found-eq0.true in

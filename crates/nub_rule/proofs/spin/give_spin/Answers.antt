@@ -1,7 +1,7 @@
 use Rattle.std.proofs.Common.{arith, ◌≡◌, ◌≤◌, ◌<◌, ◌∙◌, ◌∷◌, [], ℕ, List, ap, sym, subst, length, refl, Some, None, vec_capacity}
 use Rattle.atomic_table.specs.Seated.{TableId}
 use Rattle.nub_rule.specs.declared.rule.Slot.TheVariants.{Queue}
-use Rattle.nub_rule.specs.Items.{line_of}
+use Rattle.nub_rule.specs.Items.{queue_of}
 use Rattle.nub_rule.specs.Known.{known_as}
 use Rattle.nub_rule.specs.Places.{most_threads, value_at}
 use Rattle.nub_rule.specs.Plays.{with_part}
@@ -14,7 +14,7 @@ use Rattle.nub_rule.proofs.SpinSteps.{give_spin_keeps}
 use Rattle.nub_rule.proofs.spin.give_spin.Goals as goal
 
 pub bring-requires-clause-there : goal.bring-requires-clause-there
-bring-requires-clause-there g c = let is = c.number-o.ensures in let o : ℕ = c.number-o.result in let here : c.me.inside.seat.me.0.part.spin ≡ Some o = ap (λ k. k.spin) c.me.view_is ∙ (c.requires.inside ∙ ap (λ (z : ℕ). Some z) (sym is)) in (Queue (line_of c.me.inside.seat.me.0.part.queue), c.me.invariant.hands.queue_in o here)
+bring-requires-clause-there g c = let is = c.number-o.ensures in let o : ℕ = c.number-o.result in let here : c.me.inside.seat.me.0.part.spin ≡ Some o = ap (λ k. k.spin) c.me.view_is ∙ (c.requires.inside ∙ ap (λ (z : ℕ). Some z) (sym is)) in (Queue (queue_of c.me.inside.seat.me.0.part.queue), c.me.invariant.hands.queue_in o here)
 
 pub swap-requires-clause-inside : goal.swap-requires-clause-inside
 swap-requires-clause-inside g c κs within = let low = object_low _ _ _ _ c.p.view_is c.p.invariant.laid_out c.p.invariant.lawful c.args.at c.requires.named in let word = c.spin_word.ensures in omega arith
@@ -23,7 +23,7 @@ pub swap-requires-clause-allowed : goal.swap-requires-clause-allowed
 swap-requires-clause-allowed g c κs within = let low = object_low _ _ _ _ c.p.view_is c.p.invariant.laid_out c.p.invariant.lawful c.args.at c.requires.named in let is = c.number-o.ensures in let o : ℕ = c.number-o.result in let here : c.me.inside.seat.me.0.part.spin ≡ Some o = ap (λ k. k.spin) c.me.view_is ∙ (c.requires.inside ∙ ap (λ (z : ℕ). Some z) (sym is)) in let word = c.spin_word.ensures ∙ ap spin_at (sym is) in let same = c.bring.ensures.same.2 in let q = ap (λ v. v.part) same in
     let first = c.bring.ensures.first _ (c.me.invariant.hands.queue_in o here) in give_spin_keeps _ _ _ _ _ _ _ o c.bring.new.seat.me _ word (omega arith) (ap (λ v. v.kind) same ∙ c.me.invariant.member) (ap (λ p. p.spin) q ∙ here) (ap (λ p. p.owed) q ∙ (ap (λ k. k.owed) c.me.view_is ∙ c.requires.owes_none))
     (ap (λ p. p.left) q ∙ (ap (λ k. k.left) c.me.view_is ∙ (c.requires.even ∙ (ap (λ k. k.queue) (sym c.me.view_is) ∙ ap (λ p. p.queue) (sym q)))))
-    (first ∙ (λ j. (o, Queue (line_of (ap (λ p. p.queue) (sym q) j))) ∷ rest c.bring.new.seat.me.1))
+    (first ∙ (λ j. (o, Queue (queue_of (ap (λ p. p.queue) (sym q) j))) ∷ rest c.bring.new.seat.me.1))
 
 pub invariant_of-me : goal.invariant_of-me
 invariant_of-me g c = let low = object_low _ _ _ _ c.p.view_is c.p.invariant.laid_out c.p.invariant.lawful c.args.at c.requires.named in let is = c.number-o.ensures in let o : ℕ = c.number-o.result in let here : c.me.inside.seat.me.0.part.spin ≡ Some o = ap (λ k. k.spin) c.me.view_is ∙ (c.requires.inside ∙ ap (λ (z : ℕ). Some z) (sym is)) in let same = c.bring.ensures.same.2 in let q = ap (λ v. v.part) same in let i = c.me.invariant in let h = i.hands in let far : o < 192 = omega arith in
