@@ -1,34 +1,14 @@
 -- A P that an alert may end as a row of steps, each of which says what the thread knows then.
-use Rattle.std.proofs.Common.{◌≡◌, ℕ, false, Option as Opt, None, List, [], ◌∷◌, ◌++◌, length, ap, ap₂, sym, subst, ◌∙◌}
+use Rattle.std.proofs.Common.{◌≡◌, ℕ, false, Option as Opt, None, List, [], ◌∷◌, ap, sym, ◌∙◌}
 use Rattle.larch_actions.specs.declared.event.Event.{Event}
-use Rattle.larch_actions.specs.Actions.{by_thread}
 use Rattle.larch_actions.specs.Sets.{without}
-use Rattle.nub.proofs.Adding.{legal_as}
+use Rattle.nub.proofs.Making.{makes_by}
 use Rattle.nub_rule.specs.declared.view.Stand.{Stand}
 use Rattle.nub_rule.specs.declared.view.Wait.{Wait}
 use Rattle.nub_rule.specs.Known.{Known, Makes, recorded}
 use Rattle.nub.proofs.Without.{without_twice}
 
 module _ {T H W : Type 0} where
-  -- an event that s made is made by o where s is o in all that the event hangs on
-  pub makes_from : (by : ℕ → Event) (o s e : Known T H W) → s.number ≡ o.number → s.version ≡ o.version → s.seen ≡ o.seen → s.mine ≡ o.mine → s.places ≡ o.places → s.pen ≡ o.pen
-      → Makes (by s.number) s e → Makes (by o.number) o e
-  makes_from by o s e number version seen mine places pen made =
-      let d = by o.number in
-      let at : Makes d s e = subst (λ (n : ℕ). Makes (by n) s e) number made in
-      let grows = at.1 in
-      let far = ap (λ l. l ++ at.0) seen in (
-        at.0,
-        record {
-          legal = legal_as s.version o.version ((s.seen ++ at.0) ++ d ∷ []) ((o.seen ++ at.0) ++ d ∷ []) (sym version) (ap (λ l. l ++ d ∷ []) far) grows.legal;
-          own = ap₂ (λ n l. by_thread n l) (sym number) (sym (ap (λ l. l ++ d ∷ []) far)) ∙ (grows.own ∙ ap (λ l. l ++ d ∷ []) mine);
-          number = λ k p. grows.number k (pen ∙ p) ∙ ap length far;
-        },
-        at.2 ∙ ap (λ l. l ++ d ∷ []) far,
-        at.3 ∙ ap (λ l. l ++ d ∷ []) mine,
-        at.4 ∙ ap₂ (λ l m. l ++ length m ∷ []) places far,
-      )
-
   -- the thread o is l after tries that failed
   abbrev pub Tries : Known T H W → Known T H W → Type 0
   Tries o l = l ≡ record o { count = l.count; failed = l.failed; turns = l.turns; alerted = l.alerted; next = l.next }
@@ -93,7 +73,7 @@ module _ {T H W : Type 0} where
         let mine = ap (λ k. k.mine) stood ∙ (ap (λ k. k.mine) lost ∙ ap (λ k. k.mine) same) in
         let places = ap (λ k. k.places) stood ∙ (ap (λ k. k.places) lost ∙ ap (λ k. k.places) same) in
         let pen = ap (λ k. k.pen) stood ∙ (ap (λ k. k.pen) lost ∙ ap (λ k. k.pen) same) in
-        makes_from by o s e number version seen mine places pen made
+        makes_by by o s e number version seen mine places pen made
 
   pub with_alerted : (a b : Known T H W) → a ≡ b → a ≡ record b { alerted = a.alerted }
   with_alerted a b is = let F : Known T H W → Known T H W = λ k. record k { alerted = a.alerted } in ap F is

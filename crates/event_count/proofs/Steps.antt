@@ -1,16 +1,11 @@
 -- What the thread knows after some steps, of plain variables.
-use Rattle.std.proofs.Common.{◌≡◌, ℕ, Option as Opt, None, Some, List, [], ◌∷◌, ◌++◌, length, ap, ap₂, sym, subst, ◌∙◌}
+use Rattle.std.proofs.Common.{◌≡◌, ℕ, Option as Opt, None, Some, List, [], ap, sym, subst, ◌∙◌}
 use Rattle.larch_actions.specs.declared.event.Event.{Event}
-use Rattle.larch_actions.specs.Actions.{by_thread}
 use Rattle.larch_actions.specs.Sets.{without}
-use Rattle.nub.proofs.Adding.{legal_as}
 use Rattle.nub_rule.specs.declared.view.Pen.{Pen}
-use Rattle.nub_rule.specs.declared.view.Pen.TheVariants.{No, Read}
+use Rattle.nub_rule.specs.declared.view.Pen.TheVariants.{No}
 use Rattle.nub_rule.specs.declared.view.Wait.{Wait}
 use Rattle.nub_rule.specs.Known.{Known, Makes, learnt, recorded}
-
-no_read : (q : Pen) (k : ℕ) → q ≡ No → q ≡ Read k → ⊥
-no_read q k is not = cc
 
 module _ {T H W : Type 0} where
   -- the thread o has raised the begun waits of c as r, and has begun its wait as z
@@ -23,20 +18,6 @@ module _ {T H W : Type 0} where
 
   -- the thread o has read its number as b, has begun its wait as u, and has given the pen back as z
   module _ (o b u z : Known T H W) (pen : o.pen ≡ No) (began : b ≡ record o { pen = b.pen; next = b.next }) (told : z ≡ record u { pen = No; entries = z.entries; lost = z.lost }) where
-    pub made_traced : (e : Event) → Makes e b u → Makes e o z
-    made_traced e at =
-        let far = ap (λ k. k.seen ++ at.0) began in (
-          at.0,
-          record {
-            legal = legal_as b.version o.version ((b.seen ++ at.0) ++ e ∷ []) ((o.seen ++ at.0) ++ e ∷ []) (sym (ap (λ k. k.version) began)) (ap (λ l. l ++ e ∷ []) far) at.1.legal;
-            own = ap₂ (λ n l. by_thread n l) (sym (ap (λ k. k.number) began)) (sym (ap (λ l. l ++ e ∷ []) far)) ∙ (at.1.own ∙ ap (λ k. k.mine ++ e ∷ []) began);
-            number = λ k p. absurd (no_read o.pen k pen p);
-          },
-          ap (λ k. k.seen) told ∙ (at.2 ∙ ap (λ l. l ++ e ∷ []) far),
-          ap (λ k. k.mine) told ∙ (at.3 ∙ ap (λ k. k.mine ++ e ∷ []) began),
-          ap (λ k. k.places) told ∙ (at.4 ∙ ap₂ (λ l m. l ++ length m ∷ []) (ap (λ k. k.places) began) far),
-        )
-
     pub begun_traced : (w : Opt Wait) (q : Pen) → u ≡ record (learnt b u) { wait = w; pen = q } → z ≡ record (recorded o z) { wait = w }
     begun_traced w q begun =
         let G : Known T H W → Known T H W = λ k. record k { seen = z.seen; mine = z.mine; places = z.places; next = z.next } in

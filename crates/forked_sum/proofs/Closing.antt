@@ -12,12 +12,14 @@ use Rattle.nub_rule.specs.Items.{Each}
 use Rattle.nub.specs.Ended.{IsFirst, KeepsLocks}
 use Rattle.nub.specs.Forks.{IsLeft, IsRight}
 use Rattle.nub.proofs.Guards.{one_begins, the_value}
+use Rattle.nub.specs.Totals.{times}
 use Rattle.nub.proofs.Totals.{at_firsts, total_firsts}
 use Rattle.nub.proofs.Users.{from_at, idle_own}
 use Rattle.larch_actions.specs.declared.event.Version.TheVariants.{Two}
 use Rattle.forked_sum.specs.Sums.{AreSums, IsSum}
-use Rattle.forked_sum.specs.Trees.{Adder, Adders, HaveAdded, IsBack, IsSpare, MayAdd, added_by, amount, times}
-use Rattle.forked_sum.proofs.Counting.{one_with, shares_added, times_opened, total_in_order}
+use Rattle.forked_sum.specs.Trees.{Adder, Adders, HaveAdded, IsBack, IsSpare, MayAdd, added_by, amount}
+use Rattle.forked_sum.proofs.Counting.{shares_added}
+use Rattle.nub.proofs.Numbered.{one_with, times_opened, total_in_order}
 
 -- at first nothing is added
 pub opens : (n : ℕ) (values : List ℕ) → n ≤ 256 → values ≡ 0 ∷ [] → AreSums values (firsts (λ t. 0) n)

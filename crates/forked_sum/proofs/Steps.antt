@@ -4,10 +4,10 @@ use Rattle.std.specs.List.{All}
 use Rattle.std.proofs.lemmas.Bool.{eq-eqb}
 use Rattle.std.proofs.lemmas.List.Elements.{All-append, All-cons, All-head, All-nil, All-same, All-tail, All-weaker}
 use Rattle.nub.specs.Idle.{IsIdle}
-use Rattle.nub.specs.Totals.{total}
+use Rattle.nub.specs.Totals.{is_number, times, total}
 use Rattle.nub.specs.Forks.{IsLeft}
-use Rattle.forked_sum.specs.Trees.{Adder, Adders, HaveAdded, IsBack, IsSpare, MayAdd, added_by, amount, is_number, times}
-use Rattle.forked_sum.proofs.Counting.{total_both}
+use Rattle.forked_sum.specs.Trees.{Adder, Adders, HaveAdded, IsBack, IsSpare, MayAdd, added_by, amount}
+use Rattle.nub.proofs.Numbered.{total_both}
 
 module _ {A : Type 0} (P : A → Type 0) where
   all-front : (xs ys : List A) → All P (xs ++ ys) → All P xs

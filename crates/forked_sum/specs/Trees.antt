@@ -1,11 +1,11 @@
 -- What threads have added, and the threads that one has forked.
-use Rattle.std.specs.Prelude.{◌≡◌, ℕ, ◌<◌, ◌≤◌, ◌^◌, cond, eqb, sum, List, ◌∷◌, Option as Opt, Some, None}
+use Rattle.std.specs.Prelude.{◌≡◌, ℕ, ◌<◌, ◌≤◌, ◌^◌, sum, List, ◌∷◌, Option as Opt, Some, None}
 use Rattle.std.specs.List.{All}
 use Rattle.larch_actions.specs.declared.event.Version.TheVariants.{Two}
 use Rattle.nub_rule.specs.Known.{Known, Shape}
 use Rattle.nub.specs.Forks.{IsLeft}
 use Rattle.nub.specs.Idle.{IsIdle}
-use Rattle.nub.specs.Totals.{total}
+use Rattle.nub.specs.Totals.{times, total}
 
 -- a thread as contracts see it, and the package
 abbrev pub Adder : Type 0
@@ -21,14 +21,6 @@ amount (Some s) = s
 -- what the threads have added
 abbrev pub added_by : List Adder → ℕ
 added_by ks = total (λ k. amount k.share) ks
-
--- 1 where the thread has the number n
-abbrev pub is_number : ℕ → Adder → ℕ
-is_number n k = cond (eqb k.number n) 1 0
-
--- how many of the threads have the number n
-abbrev pub times : ℕ → List Adder → ℕ
-times n ks = total (is_number n) ks
 
 -- the thread is one of the package, and may come back to it
 pub record IsBack (p : Adders) (k : Adder) : Type 0 where

@@ -1,19 +1,18 @@
 -- What the thread knows after some steps, of plain variables: the steps before change nothing that the last ones tell.
-use Rattle.std.proofs.Common.{◌≡◌, ◌≢◌, ℕ, Bool, eqb, true, false, Option as Opt, None, Some, List, ◌∷◌, ◌++◌, [], length, slice_set, arith, ap, ap₂, sym, subst, ◌∙◌}
+use Rattle.std.proofs.Common.{◌≡◌, ◌≢◌, ℕ, Bool, eqb, true, false, Option as Opt, None, Some, List, [], slice_set, arith, ap, ap₂, sym, subst, ◌∙◌}
 use Rattle.std.proofs.lemmas.Bool.Decides.{nat_tests}
 use lib.ListN.{get_elem?}
 use Rattle.larch_actions.specs.declared.event.Event.{Event}
-use Rattle.larch_actions.specs.Actions.{by_thread}
 use Rattle.larch_actions.specs.Sets.{without}
 use Rattle.nub_rule.specs.declared.object.Object.{Object}
 use Rattle.nub_rule.specs.declared.object.Object.TheVariants.{Mutex, Sem, Cond}
 use Rattle.nub_rule.specs.declared.package.Entry.{Entry}
 use Rattle.nub_rule.specs.declared.view.Pen.{Pen}
-use Rattle.nub_rule.specs.declared.view.Pen.TheVariants.{No, Read}
+use Rattle.nub_rule.specs.declared.view.Pen.TheVariants.{No}
 use Rattle.nub_rule.specs.declared.view.Stand.{Stand}
 use Rattle.nub_rule.specs.declared.view.Wait.{Wait}
 use Rattle.nub_rule.specs.Known.{Known, Makes, learnt, recorded}
-use Rattle.nub.proofs.Adding.{legal_as}
+use Rattle.nub.proofs.Making.{makes_from}
 use Rattle.nub.specs.Rest.{IsOutside}
 use Rattle.gate.specs.Gates.{IsTaken}
 
@@ -23,25 +22,7 @@ zero_from_test n test = grind (arith, nat_tests)
 pub more_from_test : (n : ℕ) → eqb n 0 ≡ false → n ≢ 0
 more_from_test n test = grind (arith, nat_tests)
 
-no_read : (q : Pen) (k : ℕ) → q ≡ No → q ≡ Read k → ⊥
-no_read q k is not = cc
-
 module _ {T H W : Type 0} where
-  -- an event that s made is made by o where s is o in all that the event hangs on
-  pub makes_from : (e : Event) (o s z : Known T H W) → s.number ≡ o.number → s.version ≡ o.version → s.seen ≡ o.seen → s.mine ≡ o.mine → s.places ≡ o.places → s.pen ≡ o.pen → Makes e s z → Makes e o z
-  makes_from e o s z number version seen mine places pen at =
-      let far = ap (λ l. l ++ at.0) seen in (
-        at.0,
-        record {
-          legal = legal_as s.version o.version ((s.seen ++ at.0) ++ e ∷ []) ((o.seen ++ at.0) ++ e ∷ []) (sym version) (ap (λ l. l ++ e ∷ []) far) at.1.legal;
-          own = ap₂ (λ n l. by_thread n l) (sym number) (sym (ap (λ l. l ++ e ∷ []) far)) ∙ (at.1.own ∙ ap (λ l. l ++ e ∷ []) mine);
-          number = λ k p. at.1.number k (pen ∙ p) ∙ ap length far;
-        },
-        at.2 ∙ ap (λ l. l ++ e ∷ []) far,
-        at.3 ∙ ap (λ l. l ++ e ∷ []) mine,
-        at.4 ∙ ap₂ (λ l m. l ++ length m ∷ []) places far,
-      )
-
   -- what z got with the bit it got from o too, where s is o in all that this hangs on
   pub taken_from : (fits : W → ℕ → T → ℕ → H → Type 0) (at : Object) (o s z : Known T H W) → s.number ≡ o.number → s.world ≡ o.world → s.held ≡ o.held → s.share ≡ o.share → s.values ≡ o.values
       → IsTaken fits at s z → IsTaken fits at o z
@@ -136,20 +117,6 @@ module _ {T H W : Type 0} where
 
   -- the thread o has read its number as b, has tried the bit as u, and has given the pen back as z
   module _ (o b u z : Known T H W) (pen : o.pen ≡ No) (began : b ≡ record o { pen = b.pen; next = b.next }) (told : z ≡ record u { pen = No; entries = z.entries; lost = z.lost }) where
-    pub made_traced : (e : Event) → Makes e b u → Makes e o z
-    made_traced e at =
-        let far = ap (λ k. k.seen ++ at.0) began in (
-          at.0,
-          record {
-            legal = legal_as b.version o.version ((b.seen ++ at.0) ++ e ∷ []) ((o.seen ++ at.0) ++ e ∷ []) (sym (ap (λ k. k.version) began)) (ap (λ l. l ++ e ∷ []) far) at.1.legal;
-            own = ap₂ (λ n l. by_thread n l) (sym (ap (λ k. k.number) began)) (sym (ap (λ l. l ++ e ∷ []) far)) ∙ (at.1.own ∙ ap (λ k. k.mine ++ e ∷ []) began);
-            number = λ k p. absurd (no_read o.pen k pen p);
-          },
-          ap (λ k. k.seen) told ∙ (at.2 ∙ ap (λ l. l ++ e ∷ []) far),
-          ap (λ k. k.mine) told ∙ (at.3 ∙ ap (λ k. k.mine ++ e ∷ []) began),
-          ap (λ k. k.places) told ∙ (at.4 ∙ ap₂ (λ l m. l ++ length m ∷ []) (ap (λ k. k.places) began) far),
-        )
-
     pub won_traced : (f t : List ℕ → List ℕ) (q : Pen) → u ≡ record (learnt b u) { held = u.held; wait = None; failed = f b.failed; turns = t b.turns; pen = q; values = u.values }
         → z ≡ record (recorded o z) { held = z.held; wait = None; failed = f o.failed; turns = t o.turns; values = z.values }
     won_traced f t q won =

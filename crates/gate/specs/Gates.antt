@@ -33,7 +33,8 @@ MayClear at t wait (Some e) = (wait ≡ None) × (e ≡ clears at t)
 module _ {T H W : Type 0} where
   -- who takes a mutex has its value, which fits
   abbrev pub IsTaken : (W → ℕ → T → ℕ → H → Type 0) → Object → Known T H W → Known T H W → Type 0
-  IsTaken fits (Mutex m) a b = (x : T) × (b.held ≡ slice_set a.held m.0 (Some x)) × (b.values ≡ slice_set a.values m.0 (Some (Some x))) × Holds b m.0 x × IsIn b m.0 x
+  IsTaken fits (Mutex m) a b = (x : T) × (b.held ≡ slice_set a.held m.0 (Some x)) × (b.values ≡ slice_set a.values m.0 (Some (Some x)))
+      × Holds b m.0 x × IsIn b m.0 x
       × ((w : W) (s : H) → a.world ≡ Some w → a.share ≡ Some s → fits w m.0 x a.number s)
   IsTaken fits (Sem s) a b = (b.held ≡ a.held) × (b.values ≡ a.values)
   IsTaken fits (Cond c) a b = ⊥

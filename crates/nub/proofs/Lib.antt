@@ -4,6 +4,8 @@ pub mod Begun
 pub mod Guards
 pub mod Holding
 pub mod Knowing
+pub mod Making
+pub mod Numbered
 pub mod Places
 pub mod Totals
 pub mod Users

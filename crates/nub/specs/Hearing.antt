@@ -10,7 +10,8 @@ use Rattle.nub_rule.specs.Places.{cond_object}
 module _ {T H W : Type 0} where
   -- in the condition of an alertable wait an alert may end the sleep too, unless the thread has found its alert word set already
   abbrev pub HearsAlerts : Bool → Known T H W → Type 0
-  HearsAlerts alertable k = (x : Wait) (s : Stand) → k.wait ≡ Some x → x.alertable ≡ true → k.stand ≡ Some s → s.at ≡ cond_object x.cond.0 → (alertable ≡ true) ⊎ (k.alerted ≡ true)
+  HearsAlerts alertable k = (x : Wait) (s : Stand) → k.wait ≡ Some x → x.alertable ≡ true → k.stand ≡ Some s → s.at ≡ cond_object x.cond.0
+      → (alertable ≡ true) ⊎ (k.alerted ≡ true)
 
   -- an alert ends no wait for a mutex; in the queue of a condition stands who waits in it
   abbrev pub MayWithdraw : Object → Known T H W → Type 0

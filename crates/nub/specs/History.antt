@@ -8,7 +8,8 @@ use Rattle.nub_rule.specs.declared.package.Stored.{Stored}
 -- the events by the thread t with their places, counted from k
 abbrev pub entries_from : ℕ → ℕ → List Event → List Entry
 entries_from t k [] = []
-entries_from t k (e ∷ es) = cond (eqb e.thread.0 t) (record { number = k; event = e } ∷ entries_from t (k + 1) es) (entries_from t (k + 1) es)
+entries_from t k (e ∷ es) = cond (eqb e.thread.0 t) (record { number = k; event = e } ∷ entries_from t (k + 1) es)
+    (entries_from t (k + 1) es)
 
 -- the events by the thread t with their places in the history
 abbrev pub entries_of : ℕ → List Event → List Entry
@@ -17,7 +18,8 @@ entries_of t h = entries_from t 0 h
 -- the threads of h are those of the lists, and the list at t is what the thread t stores of h, unless it is lost
 pub record AreStored (h : List Event) (lists : List Stored) : Type 0 where
   pub threads : All (λ e. e.thread.0 < length lists) h
-  pub each : (t : ℕ) (d : Stored) → t < length lists → (slice_index_or lists t d).lost ≡ false → (slice_index_or lists t d).entries.items ≡ entries_of t h
+  pub each : (t : ℕ) (d : Stored) → t < length lists → (slice_index_or lists t d).lost ≡ false
+      → (slice_index_or lists t d).entries.items ≡ entries_of t h
 
 -- the entry's event stands in h at its place
 abbrev pub IsOf : List Event → Entry → Type 0

@@ -25,7 +25,7 @@ pub fn sleep<U: Uses, R: Wait>(rt: &R, p: &Package<U>, me: &mut Thread<U>, alert
     requires looked { me.old.cleared ≡ [] }
     requires heard { HearsAlerts alertable me.old }
     ensures plain { alertable ≡ false → result ≡ true }
-    ensures at_gate { result ≡ true → (s : Stand) → me.old.stand ≡ Some s → s.at < 128 → me.new ≡ record me.old {
+    ensures is_new { result ≡ true → (s : Stand) → me.old.stand ≡ Some s → s.at < 128 → me.new ≡ record me.old {
       stand = None;
       turns = s.at ∷ me.old.turns;
     } }

@@ -31,7 +31,7 @@ pub fn withdraw<U: Uses, R: Wait>(rt: &R, p: &Package<U>, me: &mut Thread<U>, at
       turns = me.new.turns;
       wait = me.new.wait;
     } }
-    ensures at_gate { IsGate at → me.new.wait ≡ me.old.wait }
+    ensures is_new { IsGate at → me.new.wait ≡ me.old.wait }
     ensures turns { without (object_of at) me.new.turns ≡ without (object_of at) me.old.turns }
     ensures there { result ≡ true → me.new.turns ≡ me.old.turns }
     ensures at_cond { IsCond at → me.new.turns ≡ me.old.turns }

@@ -4,7 +4,8 @@ use Rattle.nub_rule.specs.Places.{sem_object}
 use Rattle.nub_rule.specs.Plays.{alert_p_event}
 use Rattle.alert_wait.specs.Outcomes.{p_end}
 use Rattle.alert_wait.specs.declared.outcome.Outcome.TheVariants.{Returned}
-use Rattle.alert_wait.proofs.Raises.{makes_from, raised, raises, still_none, still_tries, won}
+use Rattle.nub.proofs.Making.{makes_by}
+use Rattle.alert_wait.proofs.Raises.{raised, raises, still_none, still_tries, won}
 use Rattle.alert_wait.proofs.sem.take_or_raise.Goals as goal
 
 pub try_take-requires-clause-may : goal.try_take-requires-clause-may
@@ -32,7 +33,7 @@ returns-then-try_take-clause-event g c =
     let number = ap (λ k. k.number) same in
     let by = λ (n : ℕ). p_end Returned n c.args.s.0 in
     let made = subst (λ (n : ℕ). Makes (by n) c.loop.me c.try_take.new.me) (c.number.ensures ∙ sym number) (c.try_take.ensures.event c.if-try_take.true) in
-    makes_from by c.args.me.now c.loop.me c.try_take.new.me number (ap (λ k. k.version) same) (ap (λ k. k.seen) same) (ap (λ k. k.mine) same) (ap (λ k. k.places) same) (ap (λ k. k.pen) same) made
+    makes_by by c.args.me.now c.loop.me c.try_take.new.me number (ap (λ k. k.version) same) (ap (λ k. k.seen) same) (ap (λ k. k.mine) same) (ap (λ k. k.places) same) (ap (λ k. k.pen) same) made
 
 pub returns-then-try_take-clause-rest : goal.returns-then-try_take-clause-rest
 returns-then-try_take-clause-rest g c =

@@ -4,7 +4,8 @@ use Rattle.nub_rule.specs.Known.{Makes}
 use Rattle.nub_rule.specs.Plays.{quieted}
 use Rattle.alert_wait.specs.Outcomes.{wait_end}
 use Rattle.alert_wait.specs.declared.outcome.Outcome.TheVariants.{Returned}
-use Rattle.alert_wait.proofs.Raises.{ended_returned, makes_from}
+use Rattle.nub.proofs.Making.{makes_by}
+use Rattle.alert_wait.proofs.Raises.{ended_returned}
 use Rattle.alert_wait.proofs.waiting.end_wait.Goals as goal
 
 pub raise-requires-clause-waits : goal.raise-requires-clause-waits
@@ -13,7 +14,7 @@ raise-requires-clause-waits g c κs within = let x = c.requires.waits in (record
 pub returns-then-returns-clause-event : goal.returns-then-returns-clause-event
 returns-then-returns-clause-event g c =
     let l = c.lower_waits.ensures in
-    makes_from (λ (n : ℕ). wait_end Returned n c.args.m.0 c.args.c.0) c.args.me.now c.lower_waits.new.me c.take.new.me (ap (λ k. k.number) l) (ap (λ k. k.version) l) (ap (λ k. k.seen) l) (ap (λ k. k.mine) l) (ap (λ k. k.places) l) (ap (λ k. k.pen) l)
+    makes_by (λ (n : ℕ). wait_end Returned n c.args.m.0 c.args.c.0) c.args.me.now c.lower_waits.new.me c.take.new.me (ap (λ k. k.number) l) (ap (λ k. k.version) l) (ap (λ k. k.seen) l) (ap (λ k. k.mine) l) (ap (λ k. k.places) l) (ap (λ k. k.pen) l)
     (subst (λ (n : ℕ). Makes (wait_end Returned n c.args.m.0 c.args.c.0) c.lower_waits.new.me c.take.new.me) c.number.ensures c.take.ensures.event)
 
 pub returns-then-returns-clause-rest : goal.returns-then-returns-clause-rest

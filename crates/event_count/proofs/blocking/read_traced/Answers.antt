@@ -4,7 +4,8 @@ use Rattle.nub_rule.specs.Known.{Makes}
 use Rattle.nub_rule.specs.Plays.{enqueue_event}
 use Rattle.nub_rule.specs.Stored.{ComesNext}
 use Rattle.nub.proofs.Without.{comes_next, stored_by}
-use Rattle.event_count.proofs.Steps.{begun_traced, made_traced}
+use Rattle.nub.proofs.Making.{made_traced}
+use Rattle.event_count.proofs.Steps.{begun_traced}
 use Rattle.event_count.proofs.blocking.read_traced.Goals as goal
 
 some_event : (e d : Event) → Some e ≡ Some d → e ≡ d

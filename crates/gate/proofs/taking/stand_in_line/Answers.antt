@@ -65,7 +65,7 @@ returns-else-test_again-eq0 g c =
     let left = c.leave-else-test_again-eq0.ensures in
     let s : Stand = record { at = o; stage = Tested } in
     let stands : l.stand ≡ Some s = ap (λ k. k.stand) left ∙ (ap (λ k. k.stand) tested ∙ ap (λ k. staged Tested k.stand) pushed) in
-    let woke = λ (e : c.sleep.result ≡ true). woken l z o (c.sleep.ensures.at_gate e s stands) (c.sleep.ensures.at_cond e s stands) in
+    let woke = λ (e : c.sleep.result ≡ true). woken l z o (c.sleep.ensures.is_new e s stands) (c.sleep.ensures.at_cond e s stands) in
     let turns = ap (λ k. k.turns) left ∙ (ap (λ k. k.turns) tested ∙ (ap (λ k. k.turns) pushed ∙ ap (λ k. k.turns) c.enter.ensures.inside)) in
     let alerted = ap (λ k. k.alerted) left ∙ (ap (λ k. k.alerted) tested ∙ (ap (λ k. k.alerted) pushed ∙ ap (λ k. k.alerted) c.enter.ensures.inside)) in
     record {
@@ -73,7 +73,7 @@ returns-else-test_again-eq0 g c =
       rest = slept o c.args.me.now i z c.enter.ensures.inside outside.spin outside.queue outside.owed outside.left c.push.new.me t _ _ (Some record { at = o; stage = Pushed }) (staged Tested c.push.new.me.stand) pushed tested
           l c.sleep.result left woke c.sleep.ensures.alerted;
       turns = by_answer c.sleep.result
-          (λ e. woken_turns l z o (c.sleep.ensures.at_gate e s stands) (c.sleep.ensures.at_cond e s stands) ∙ ap (without o) turns)
+          (λ e. woken_turns l z o (c.sleep.ensures.is_new e s stands) (c.sleep.ensures.at_cond e s stands) ∙ ap (without o) turns)
           (λ e. ap (λ k. without o k.turns) (c.sleep.ensures.alerted e) ∙ ap (without o) turns);
       goes_on = λ e. (ap (λ k. k.stand) (woke e), ap (λ k. k.alerted) (woke e) ∙ alerted);
       alerted = λ e. ((record { at = o; stage = Alerted }, ap (λ k. k.stand) (c.sleep.ensures.alerted e) ∙ ap (staged Alerted) stands, (refl, tt)), ap (λ k. k.alerted) (c.sleep.ensures.alerted e));

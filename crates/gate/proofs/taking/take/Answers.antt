@@ -1,5 +1,6 @@
 use Rattle.std.proofs.Common.{ap, ◌∙◌}
-use Rattle.gate.proofs.Steps.{makes_from, taken_from, won_at_once, won_later}
+use Rattle.nub.proofs.Making.{makes_from}
+use Rattle.gate.proofs.Steps.{taken_from, won_at_once, won_later}
 use Rattle.gate.proofs.taking.take.Goals as goal
 
 pub returns-then-not-try_untraced-clause-event : goal.returns-then-not-try_untraced-clause-event

@@ -5,7 +5,8 @@ use Rattle.nub_rule.specs.Objects.{object_of}
 use Rattle.nub_rule.specs.Parts.{made}
 use Rattle.nub_rule.specs.Stored.{ComesNext}
 use Rattle.nub.proofs.Without.{comes_next, stored_by}
-use Rattle.gate.proofs.Steps.{lost_traced, lost_untraced, made_traced, more_from_test, taken_traced, won_traced, won_untraced, zero_from_test}
+use Rattle.nub.proofs.Making.{made_traced}
+use Rattle.gate.proofs.Steps.{lost_traced, lost_untraced, more_from_test, taken_traced, won_traced, won_untraced, zero_from_test}
 use Rattle.gate.proofs.taking.try_take.Goals as goal
 
 some_event : (e d : Event) → Some e ≡ Some d → e ≡ d

@@ -18,9 +18,9 @@ clear_ready-requires-clause-ready g c κs within = let i = c.loop.invariant in
 pub returns-then-read_ready-ne0-clause-plain : goal.returns-then-read_ready-ne0-clause-plain
 returns-then-read_ready-ne0-clause-plain g c = λ _. refl
 
-pub returns-then-read_ready-ne0-clause-at_gate : goal.returns-then-read_ready-ne0-clause-at_gate
-returns-then-read_ready-ne0-clause-at_gate g c = λ _. let i = c.loop.invariant in λ s stood low. c.learn.ensures
-    ∙ woken_at_gate c.args.me.now c.loop.me c.read_ready.new.me i.0 i.1 i.2 i.4 c.clear_ready.new.me (c.read_ready.ensures.found c.if-read_ready-ne0.true) c.clear_ready.ensures.at_gate s stood low
+pub returns-then-read_ready-ne0-clause-is_new : goal.returns-then-read_ready-ne0-clause-is_new
+returns-then-read_ready-ne0-clause-is_new g c = λ _. let i = c.loop.invariant in λ s stood low. c.learn.ensures
+    ∙ woken_at_gate c.args.me.now c.loop.me c.read_ready.new.me i.0 i.1 i.2 i.4 c.clear_ready.new.me (c.read_ready.ensures.found c.if-read_ready-ne0.true) c.clear_ready.ensures.is_new s stood low
 
 pub returns-then-read_ready-ne0-clause-at_cond : goal.returns-then-read_ready-ne0-clause-at_cond
 returns-then-read_ready-ne0-clause-at_cond g c = λ _. let i = c.loop.invariant in λ s stood low. c.learn.ensures
@@ -32,8 +32,8 @@ returns-then-read_ready-ne0-clause-alerted g c = λ e. absurd (true≢false e)
 pub returns-then-read_alert-ne0-clause-plain : goal.returns-then-read_alert-ne0-clause-plain
 returns-then-read_alert-ne0-clause-plain g c = λ e. absurd (true≢false (sym c.if-alertable.true ∙ e))
 
-pub returns-then-read_alert-ne0-clause-at_gate : goal.returns-then-read_alert-ne0-clause-at_gate
-returns-then-read_alert-ne0-clause-at_gate g c = λ e. absurd (true≢false (sym e))
+pub returns-then-read_alert-ne0-clause-is_new : goal.returns-then-read_alert-ne0-clause-is_new
+returns-then-read_alert-ne0-clause-is_new g c = λ e. absurd (true≢false (sym e))
 
 pub returns-then-read_alert-ne0-clause-at_cond : goal.returns-then-read_alert-ne0-clause-at_cond
 returns-then-read_alert-ne0-clause-at_cond g c = λ e. absurd (true≢false (sym e))
