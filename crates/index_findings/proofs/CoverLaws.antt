@@ -14,7 +14,7 @@ use Rattle.word_index.specs.Read.{read_file}
 use Rattle.index_findings.specs.declared.lots.ReadFile.{ReadFile}
 use Rattle.index_findings.specs.Lots.{AreRead, IsHeldAt, IsRead, IsReadAt}
 use Rattle.index_findings.specs.Pieces.{IsCovered}
-use Rattle.index_findings.proofs.PieceLaws.{covered_cases, covered_front, covered_last}
+use Rattle.index_findings.proofs.PieceLaws.{covered_cases, covered_prefix, covered_last}
 
 -- where no tree tells, all were read so
 pub none_told : (files : List ReadFile) → AreRead None files
@@ -28,7 +28,7 @@ batch_covered b piece old new fs holds index is path = (
     | inr last ↦ inr (subst (λ (ps : List Path). Contains ps path) (sym holds.paths) ((index.paths path).0 last))
   ]),
   (λ h. subst (λ (l : List Index). IsCovered l path) (sym is) (elim h [
-    | inl first ↦ covered_front old piece path first
+    | inl first ↦ covered_prefix old piece path first
     | inr last ↦ covered_last old piece path ((index.paths path).1 (subst (λ (ps : List Path). Contains ps path) holds.paths last))
   ])),
 )

@@ -163,8 +163,8 @@ merged_none pieces piece none index = subst (λ (l : List Index). AreMergedFrom 
 })
 
 -- all but the last, and the last
-pub all_front : (P : Index → Type 0) (xs : List Index) (x : Index) → All P (xs ++ x ∷ []) → All P xs
-all_front P xs x all = All-from P xs (λ y h. All-at P (xs ++ x ∷ []) y all (Contains-append_left xs (x ∷ []) y h))
+pub all_prefix : (P : Index → Type 0) (xs : List Index) (x : Index) → All P (xs ++ x ∷ []) → All P xs
+all_prefix P xs x all = All-from P xs (λ y h. All-at P (xs ++ x ∷ []) y all (Contains-append_left xs (x ∷ []) y h))
 
 pub all_last : (P : Index → Type 0) (xs : List Index) (x : Index) → All P (xs ++ x ∷ []) → P x
 all_last P xs x all = All-at P (xs ++ x ∷ []) x all (Contains-append_right xs (x ∷ []) x (Contains-head x []))
@@ -172,8 +172,8 @@ all_last P xs x all = All-at P (xs ++ x ∷ []) x all (Contains-append_right xs 
 pub all_more : (P : Index → Type 0) (xs : List Index) (x : Index) → All P xs → P x → All P (xs ++ x ∷ [])
 all_more P xs x all one = All-append P xs (x ∷ []) all (All-cons P x [] one (All-nil P))
 
-pub covered_front : (xs : List Index) (x : Index) (path : Path) → IsCovered xs path → IsCovered (xs ++ x ∷ []) path
-covered_front xs x path h = record { piece = h.piece; among = Contains-append_left xs (x ∷ []) h.piece h.among; covers = h.covers }
+pub covered_prefix : (xs : List Index) (x : Index) (path : Path) → IsCovered xs path → IsCovered (xs ++ x ∷ []) path
+covered_prefix xs x path h = record { piece = h.piece; among = Contains-append_left xs (x ∷ []) h.piece h.among; covers = h.covers }
 
 pub covered_last : (xs : List Index) (x : Index) (path : Path) → Contains x.paths path → IsCovered (xs ++ x ∷ []) path
 covered_last xs x path h = record { piece = x; among = Contains-append_right xs (x ∷ []) x (Contains-head x []); covers = h }

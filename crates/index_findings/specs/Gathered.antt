@@ -16,13 +16,15 @@ first_fault [] = None
 first_fault (f ∷ fs) = option_or f.fault (first_fault fs)
 
 -- what is answered where a worker's path failed: the path, which lies under the root as what failed there, or want of memory, and no more calls are made
-pub record EndsByFault (tree : Option Told) (root : Path) (fault : Fault) (count then_count : ℕ) (before now : Calls) (answer : WalkAnswer) : Type 0 where
+pub record EndsByFault (tree : Option Told) (root : Path) (fault : Fault) (count then_count : ℕ) (before now : Calls)
+    (answer : WalkAnswer) : Type 0 where
   pub cases : (answer ≡ Memory) ⊎ ((answer ≡ ReadFault (path_of fault)) × IfSome tree (λ t. IsUnder t root (kind_of fault) (path_of fault)))
   pub count_stays : then_count ≡ count
   pub no_calls : now ≡ before
 
 -- what is answered where none failed: what the closing walk answers
-pub record EndsByWalk (tree : Option Told) (weak : List Path) (root : Path) (stop : Option ℕ) (count then_count : ℕ) (before now : Calls) (answer : WalkAnswer) : Type 0 where
+pub record EndsByWalk (tree : Option Told) (weak : List Path) (root : Path) (stop : Option ℕ) (count then_count : ℕ) (before now : Calls)
+    (answer : WalkAnswer) : Type 0 where
   pub rises : HasRisen count then_count answer
   pub numbers : IsNumbered stop answer
   pub answers : IfSome tree (Answers root stop weak answer)

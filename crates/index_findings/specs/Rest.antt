@@ -19,7 +19,8 @@ pub record IsCoveredFile (root : Path) (pieces : List Index) (path : Path) : Typ
 
 -- what no listing has listed was listed, and what no piece covers was read, each once; where the index is answered, these and those are all
 -- that lies under the root
-pub record CallsRest (t : Told) (root : Path) (visits : List Visit) (pieces : List Index) (before now : Calls) (answer : WalkAnswer) : Type 0 where
+pub record CallsRest (t : Told) (root : Path) (visits : List Visit) (pieces : List Index) (before now : Calls) (answer : WalkAnswer) :
+    Type 0 where
   pub dirs : List Path
   pub listed : now.listed ≡ before.listed ++ dirs
   pub dirs_once : AllPairs (λ p q. p ≢ q) dirs

@@ -82,7 +82,8 @@ fn put_batch(pieces: &mut Vec<Piece>, batch: Batch) -> Result<(), AllocError>
         → All (IsFilesPiece o root) pieces.new.items) }
     ensures covers { OnOk result ((files : List File) → HoldsFiles files batch → (path : Path)
         → IsCovered pieces.new.items path ↔ IsHeldAt pieces.old.items batch path) }
-    ensures apart { OnOk result ((files : List File) → HoldsFiles files batch → AreHeldOnce pieces.old.items batch → AreApart pieces.new.items) }
+    ensures apart { OnOk result ((files : List File) → HoldsFiles files batch → AreHeldOnce pieces.old.items batch
+        → AreApart pieces.new.items) }
 {
     let piece = batch.into_piece()?;
     pieces.push(piece)?;

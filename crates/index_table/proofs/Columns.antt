@@ -91,9 +91,9 @@ module _ (ps : List (List ℕ)) {many : ℕ} {words : List (List ℕ)} {ns : Lis
       let hs = hits_of ps ns fs in
       let all : hits_of qs (ns ++ n ∷ []) (fs ++ f ∷ []) ≡ hs ++ hit_at qs n f ∷ [] = hits_push qs ns fs n f are.same ∙ ap (λ l. l ++ hit_at qs n f ∷ []) (hits_grown ps qs ns fs same) in
       let fits : closed ≤ length hs = omega (arith, are.inside, long) in
-      let front = ap (take closed) all ∙ take-append-le closed hs (hit_at qs n f ∷ []) fits in
+      let prefix = ap (take closed) all ∙ take-append-le closed hs (hit_at qs n f ∷ []) fits in
       let back = ap (drop closed) all ∙ drop-append-le closed hs (hit_at qs n f ∷ []) fits in
-      λ i. record { rows = rows_with words (parts (front i) 0 ends); hits = back i; skipped = skips }
+      λ i. record { rows = rows_with words (parts (prefix i) 0 ends); hits = back i; skipped = skips }
 
   -- the row under way ends
   pub columns_row : (w : List ℕ) → AreColumns many (words ++ w ∷ []) ns fs (ends ++ length ns ∷ []) (length ns)
@@ -113,16 +113,16 @@ module _ (ps : List (List ℕ)) {many : ℕ} {words : List (List ℕ)} {ns : Lis
   view_row w skips =
       let hs = hits_of ps ns fs in
       let fits : closed ≤ length hs = omega (arith, are.inside, long) in
-      let front = take closed hs in
+      let prefix = take closed hs in
       let back = drop closed hs in
-      let whole : front ++ back ≡ hs = take-append-drop closed hs in
-      let total : length front + length back ≡ length ns = sym (length-append front back) ∙ ap length whole ∙ long in
-      let same : length (take closed ns) ≡ length front = length-take closed ns ∙ ap (λ n. min closed n) (sym long) ∙ sym (length-take closed hs) in
-      let fit : AreEnds front 0 ends = ends_same (take closed ns) front 0 ends same are.fit in
-      let all : take (length ns) hs ≡ front ++ back = take_all (length ns) hs (omega (arith, long)) ∙ sym whole in
-      let cut : parts (take (length ns) hs) 0 (ends ++ length ns ∷ []) ≡ parts front 0 ends ++ back ∷ [] =
-      ap (λ l. parts l 0 (ends ++ length ns ∷ [])) all ∙ ap (λ t. parts (front ++ back) 0 (ends ++ t ∷ [])) (sym total) ∙ parts_push front back 0 ends fit in
-      let rows = ap (rows_with (words ++ w ∷ [])) cut ∙ rows_push words (parts front 0 ends) w back (are.each ∙ sym (length_parts front 0 ends)) in
+      let whole : prefix ++ back ≡ hs = take-append-drop closed hs in
+      let total : length prefix + length back ≡ length ns = sym (length-append prefix back) ∙ ap length whole ∙ long in
+      let same : length (take closed ns) ≡ length prefix = length-take closed ns ∙ ap (λ n. min closed n) (sym long) ∙ sym (length-take closed hs) in
+      let fit : AreEnds prefix 0 ends = ends_same (take closed ns) prefix 0 ends same are.fit in
+      let all : take (length ns) hs ≡ prefix ++ back = take_all (length ns) hs (omega (arith, long)) ∙ sym whole in
+      let cut : parts (take (length ns) hs) 0 (ends ++ length ns ∷ []) ≡ parts prefix 0 ends ++ back ∷ [] =
+      ap (λ l. parts l 0 (ends ++ length ns ∷ [])) all ∙ ap (λ t. parts (prefix ++ back) 0 (ends ++ t ∷ [])) (sym total) ∙ parts_push prefix back 0 ends fit in
+      let rows = ap (rows_with (words ++ w ∷ [])) cut ∙ rows_push words (parts prefix 0 ends) w back (are.each ∙ sym (length_parts prefix 0 ends)) in
       let none = drop_all (length ns) hs (omega (arith, long)) in
       λ i. record { rows = rows i; hits = none i; skipped = skips }
 

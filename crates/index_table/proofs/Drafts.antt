@@ -157,12 +157,12 @@ module _ {A : Type 0} {old new : List (String A × ℕ)} {ns ms : List ℕ} (r :
   pub sorted_paths : AreUsed (length old) ns → ArePathsOf (rows_of (texts old) words ns fs ends closed) (texts new)
   sorted_paths used =
       let hs = hits_of (texts old) ns fs in
-      let front = take closed hs in
-      let whole : front ≡ hs = take_all closed hs (omega (arith, closed_is, length_hits (texts old) ns fs are.same)) in
-      let same : length (take closed ns) ≡ length front = ap length (take_all closed ns (omega (arith, closed_is))) ∙ sym (length_hits (texts old) ns fs are.same) ∙ sym (ap length whole) in
-      let fit : AreEnds front 0 ends = ends_same (take closed ns) front 0 ends same are.fit in
-      let cuts = parts front 0 ends in
-      let joined = parts_joined front 0 ends fit ∙ whole in
+      let prefix = take closed hs in
+      let whole : prefix ≡ hs = take_all closed hs (omega (arith, closed_is, length_hits (texts old) ns fs are.same)) in
+      let same : length (take closed ns) ≡ length prefix = ap length (take_all closed ns (omega (arith, closed_is))) ∙ sym (length_hits (texts old) ns fs are.same) ∙ sym (ap length whole) in
+      let fit : AreEnds prefix 0 ends = ends_same (take closed ns) prefix 0 ends same are.fit in
+      let cuts = parts prefix 0 ends in
+      let joined = parts_joined prefix 0 ends fit ∙ whole in
       let paths = ap paths_of joined ∙ paths_hits (texts old) ns fs are.same in
       let nth = λ (n : ℕ). get_or (texts old) n [] in
       record {
@@ -173,7 +173,7 @@ module _ {A : Type 0} {old new : List (String A × ℕ)} {ns ms : List ℕ} (r :
               let inside : there.0 < length old = omega (arith, there.1, length-map old (λ (e : String A × ℕ). string_bytes e.0)) in
               let at : nth there.0 ≡ p = found (texts old) p there in
               let among : Contains (map nth ns) p = subst (Contains (map nth ns)) at (to_map nth ns there.0 (used there.0 inside)) in
-              paths_from words cuts p (are.each ∙ sym (length_parts front 0 ends)) (subst (λ l. Contains l p) (sym paths) among)),
+              paths_from words cuts p (are.each ∙ sym (length_parts prefix 0 ends)) (subst (λ l. Contains l p) (sym paths) among)),
           (λ has.
               let among = subst (λ l. Contains l p) paths (paths_to words cuts p has) in
               let n = from_map nth ns p among in

@@ -4,12 +4,11 @@ ghost use Rattle.std.specs.Option.{option_copied};
 ghost use Rattle.word_index.specs.Index.{Row, Hit};
 ghost use Rattle.index_table.specs.Rows.{words_of, paths_of, AreOrdered};
 
-use crate::keyed::Keyed;
 use crate::paths::{Paths, place_path, sort_paths};
-use crate::strings::Strings;
 use crate::table::Index;
 use std::alloc::{AllocError, Global};
 use std::marker::Model;
+use word_index::{Keyed, Strings};
 
 /// How often a file has a word, and on which line first.
 #[derive(Clone, Copy)]

@@ -5,14 +5,11 @@
 //!
 //! Promises: the table has exactly the rows and skipped paths that the draft was given, and the paths of the rows, rising and each once.
 //! `files_with` gives the places of the files that have a word, and no others. Want of memory is the one refusal. Stands on `word_index`
-//! for its definitions and on `indexmap`. Nothing is said of the time that a call takes.
+//! for its definitions and lists, and on `indexmap`. Nothing is said of the time that a call takes.
 #![tactic(auto)]
 
-mod blocks;
 mod draft;
-mod keyed;
 mod paths;
-mod strings;
 mod table;
 
 pub use draft::Draft;

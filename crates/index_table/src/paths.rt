@@ -3,22 +3,12 @@ ghost use Rattle.std.specs.Prelude.{◌≡◌, ◌<◌, ℕ, [], List, length, m
 ghost use Rattle.std.specs.List.{All};
 ghost use Rattle.index_table.specs.Paths.{texts, values, AreNumbered, Grows, AreRanks, IsRanked};
 
-use crate::keyed::Keyed;
 use indexmap::IndexMap;
 use std::alloc::{AllocError, Global};
+use word_index::{Keyed, number_of};
 
 /// Paths with their numbers.
 pub type Paths = IndexMap<String, u32, Keyed>;
-
-// The number as one of 32 bits. A list has no more.
-fn number_of(n: usize) -> Result<u32, AllocError>
-    ensures { IfOk result (λ m. m ≡ n) }
-{
-    match u32::try_from(n) {
-        Ok(m) => Ok(m),
-        Err(_) => Err(AllocError),
-    }
-}
 
 /// The number of the path, which is added where it isn't there.
 pub fn place_path(alloc: Global, paths: &mut Paths, path: &str) -> Result<u32, AllocError>

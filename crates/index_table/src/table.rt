@@ -2,12 +2,11 @@
 ghost use Rattle.std.specs.Prelude.{◌≡◌, ◌<◌, [], length, slice_index_or};
 ghost use Rattle.index_table.specs.Rows.{ArePathsOf, AreFilesWith};
 
-use crate::blocks::part_of;
 use crate::draft::Figures;
 use crate::paths::Paths;
-use crate::strings::Strings;
 use std::cmp::Ordering;
 use std::marker::Model;
+use word_index::{Strings, part_of};
 
 /// An index: rows of words with their files, and skipped paths.
 #[derive(Drop)]

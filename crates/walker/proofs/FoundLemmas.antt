@@ -62,22 +62,22 @@ marked-present (e ∷ es) dir unique = elim (cases_Bool (bytes_eq dir (string_by
 ]
 
 -- what isn't among the old ones or before it
-pub not_yet : (old front : List Path) (p : Path) (rest : List Path) → AreNew old (front ++ p ∷ rest) → ¬ Contains (old ++ front) p
-not_yet old front p rest new among = elim (Contains-append_cases old front p among) [
-  | inl was ↦ new.fresh p (Contains-append_right front (p ∷ rest) p (Contains-head p rest)) was
-  | inr before ↦ new.distinct before.0 (length front) p before.1 (omega (arith, length-append front (p ∷ rest)))
-      (get_or_append_left front (p ∷ rest) p before.0 before.1 ∙ before.2 ∙ sym (get_or-append_seam front p rest p))
+pub not_yet : (old prefix : List Path) (p : Path) (rest : List Path) → AreNew old (prefix ++ p ∷ rest) → ¬ Contains (old ++ prefix) p
+not_yet old prefix p rest new among = elim (Contains-append_cases old prefix p among) [
+  | inl was ↦ new.fresh p (Contains-append_right prefix (p ∷ rest) p (Contains-head p rest)) was
+  | inr before ↦ new.distinct before.0 (length prefix) p before.1 (omega (arith, length-append prefix (p ∷ rest)))
+      (get_or_append_left prefix (p ∷ rest) p before.0 before.1 ∙ before.2 ∙ sym (get_or-append_seam prefix p rest p))
 ]
 
 -- the paths of directories with unlisted ones behind them
-pub names-append : (pairs : List (Path × Bool)) (front : List Path) → map (λ d. d.0) (pairs ++ map (λ p. (p, false)) front) ≡ map (λ d. d.0) pairs ++ front
+pub names-append : (pairs : List (Path × Bool)) (prefix : List Path) → map (λ d. d.0) (pairs ++ map (λ p. (p, false)) prefix) ≡ map (λ d. d.0) pairs ++ prefix
 names-append [] [] = refl
-names-append [] (p ∷ front) = ap (λ l. p ∷ l) (names-append [] front)
-names-append (d ∷ pairs) front = ap (λ l. d.0 ∷ l) (names-append pairs front)
+names-append [] (p ∷ prefix) = ap (λ l. p ∷ l) (names-append [] prefix)
+names-append (d ∷ pairs) prefix = ap (λ l. d.0 ∷ l) (names-append pairs prefix)
 
 -- the step of a loop that adds what is left
-pub more_left : {X : Type 0} (front : List X) (x : X) (rest all left : List X) → left ≡ x ∷ rest → front ++ left ≡ all → (front ++ x ∷ []) ++ rest ≡ all
-more_left front x rest all left is whole = append_assoc front (x ∷ []) rest ∙ ap (λ l. front ++ l) (sym is) ∙ whole
+pub more_left : {X : Type 0} (prefix : List X) (x : X) (rest all left : List X) → left ≡ x ∷ rest → prefix ++ left ≡ all → (prefix ++ x ∷ []) ++ rest ≡ all
+more_left prefix x rest all left is whole = append_assoc prefix (x ∷ []) rest ∙ ap (λ l. prefix ++ l) (sym is) ∙ whole
 
 -- a path below the root is its name below it
 pub name_of_child : (root name : Path) → name_in root (child root name) ≡ name

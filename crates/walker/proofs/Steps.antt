@@ -183,10 +183,10 @@ pub below_next : (old new : Walk) (dir : Path) (l : Listing) (at : ℕ) → Note
 below_next old new dir l at n here below p h =
     let s = some_at old.dirs at (dir, false) here in
     let long : at + 1 ≤ length (marked dir old.dirs) = omega (arith, s.0, length-map {B = Path × Bool} old.dirs (λ (d : Path × Bool). (d.0, d.1 || pointwise nat_eq dir d.0))) in
-    let front : take (at + 1) new.dirs ≡ marked dir (take at old.dirs ++ (dir, false) ∷ []) =
+    let prefix : take (at + 1) new.dirs ≡ marked dir (take at old.dirs ++ (dir, false) ∷ []) =
     ap (take (at + 1)) n.dirs ∙ take-append-le (at + 1) (marked dir old.dirs) (map (λ p. (p, false)) l.dirs.items) long ∙ take-mark dir (at + 1) old.dirs
     ∙ ap (marked dir) (take_more old.dirs at (dir, false) s.0 ∙ ap (λ (e : Path × Bool). take at old.dirs ++ e ∷ []) s.1) in
-    from (Contains-unmap (λ (d : Path × Bool). (d.0, d.1 || pointwise nat_eq dir d.0)) (take at old.dirs ++ (dir, false) ∷ []) (p, false) (subst (λ (ds : List (Path × Bool)). Contains ds (p, false)) front h))
+    from (Contains-unmap (λ (d : Path × Bool). (d.0, d.1 || pointwise nat_eq dir d.0)) (take at old.dirs ++ (dir, false) ∷ []) (p, false) (subst (λ (ds : List (Path × Bool)). Contains ds (p, false)) prefix h))
   where
     no : (b : Bool) (q : Path) → Contains (take at old.dirs ++ (dir, false) ∷ []) (q, b) → (b || pointwise nat_eq dir q) ≡ false → ⊥
     no true q among off = cc

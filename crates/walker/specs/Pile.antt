@@ -18,7 +18,8 @@ AreApart pieces = AllPairs (λ a b. ¬ Meet a b) pieces
 -- the pieces are the indexes of these files, one after the other
 abbrev pub IsPileOf : List Index → List File → Type 0
 IsPileOf [] files = files ≡ []
-IsPileOf (piece ∷ pieces) files = (part : List File) × (rest : List File) × IsIndexOf part piece × IsPileOf pieces rest × (files ≡ part ++ rest)
+IsPileOf (piece ∷ pieces) files = (part : List File) × (rest : List File) × IsIndexOf part piece × IsPileOf pieces rest
+    × (files ≡ part ++ rest)
 
 -- reading ends with the index, a fault or want of memory
 abbrev pub IsReadEnd : WalkAnswer → Type 0
@@ -48,7 +49,8 @@ abbrev pub ReadsNext : {T : Type 0} → Path → Path → List Path → Calls �
 ReadsNext root name weak before now (Ok piece) t = now ≡ with_read before (child root name)
 ReadsNext root name weak before now (Err (Done piece)) t = ⊥
 ReadsNext root name weak before now (Err (Stopped many)) t = ⊥
-ReadsNext root name weak before now (Err (ReadFault path)) t = (path ≡ child root name) × IsFault weak (child root name) (IsThere t a_file (child root name)) before now
+ReadsNext root name weak before now (Err (ReadFault path)) t = (path ≡ child root name)
+    × IsFault weak (child root name) (IsThere t a_file (child root name)) before now
 ReadsNext root name weak before now (Err (TooMany many)) t = ⊥
 ReadsNext root name weak before now (Err Memory) t = (now ≡ before) ⊎ (now ≡ with_read before (child root name))
 
@@ -57,13 +59,15 @@ abbrev pub with_reads : Calls → Path → List Path → Calls
 with_reads c root names = record c { files_read = c.files_read ++ map (child root) names }
 
 -- the files found before this place that aren't covered were read, each once, and are kept so
-pub record HasRead (tree : Option Told) (w : Walk) (covered : List Path) (before now : Calls) (at : ℕ) (Kept : List File → Type 0) : Type 0 where
-  pub files : List File
-  pub kept : Kept files
-  pub once : AreDistinct files
-  pub early : (p : Path) → Contains (map (λ f. f.path) files) p → Contains (take at w.files) p × (¬ Contains covered p)
-  pub all : (p : Path) → Contains (take at w.files) p → Contains covered p ⊎ Contains (map (λ f. f.path) files) p
-  pub told : IfSome tree (λ t. ((f : File) → Contains files f → IsFileAt t w.root f) × (now ≡ with_reads before w.root (map (λ f. f.path) files)))
+pub record HasRead (tree : Option Told) (w : Walk) (covered : List Path) (before now : Calls) (at : ℕ) (Kept : List File → Type 0) : Type 0
+  where
+    pub files : List File
+    pub kept : Kept files
+    pub once : AreDistinct files
+    pub early : (p : Path) → Contains (map (λ f. f.path) files) p → Contains (take at w.files) p × (¬ Contains covered p)
+    pub all : (p : Path) → Contains (take at w.files) p → Contains covered p ⊎ Contains (map (λ f. f.path) files) p
+    pub told : IfSome tree (λ t. ((f : File) → Contains files f → IsFileAt t w.root f)
+        × (now ≡ with_reads before w.root (map (λ f. f.path) files)))
 
 -- the calls of a walk that stops while it reads
 pub record ReadsSome (w : Walk) (covered : List Path) (before now : Calls) (answer : WalkAnswer) : Type 0 where
@@ -87,7 +91,8 @@ StopsReading w weak Memory t = Unit {0}
 -- what reading the files answers
 abbrev pub IsRead : {T : Type 0} → Option Told → Walk → List Path → List Path → Calls → Calls → List Index → Result T WalkAnswer → Type 0
 IsRead tree w covered weak before now pieces (Ok v) = HasRead tree w covered before now (length w.files) (IsPileOf pieces)
-IsRead tree w covered weak before now pieces (Err answer) = IfSome tree (λ t. StopsReading w weak answer t × ReadsSome w covered before now answer)
+IsRead tree w covered weak before now pieces (Err answer) =
+    IfSome tree (λ t. StopsReading w weak answer t × ReadsSome w covered before now answer)
 
 -- what reading the rest tells
 abbrev pub ReadsRest : Walk → List Path → List Path → Calls → Calls → WalkAnswer → Told → Type 0
@@ -98,6 +103,9 @@ ReadsRest w covered weak before now (TooMany many) t = ⊥
 ReadsRest w covered weak before now Memory t = ReadsSome w covered before now Memory
 
 -- what the step at one place answers
-abbrev pub ReadsAt : Option Told → Walk → List Path → ℕ → List Path → Calls → Calls → (List File → Type 0) → (Held → List File → Type 0) → Result Held WalkAnswer → Type 0
-ReadsAt tree w covered at weak before now old new (Ok held) = (start : Calls) → HasRead tree w covered start before at old → HasRead tree w covered start now (at + 1) (new held)
-ReadsAt tree w covered at weak before now old new (Err answer) = (start : Calls) → HasRead tree w covered start before at old → IfSome tree (λ t. IsWalkOf w t → StopsReading w weak answer t × ReadsSome w covered start now answer)
+abbrev pub ReadsAt : Option Told → Walk → List Path → ℕ → List Path → Calls → Calls → (List File → Type 0) → (Held → List File → Type 0)
+    → Result Held WalkAnswer → Type 0
+ReadsAt tree w covered at weak before now old new (Ok held) = (start : Calls) → HasRead tree w covered start before at old
+    → HasRead tree w covered start now (at + 1) (new held)
+ReadsAt tree w covered at weak before now old new (Err answer) = (start : Calls) → HasRead tree w covered start before at old
+    → IfSome tree (λ t. IsWalkOf w t → StopsReading w weak answer t × ReadsSome w covered start now answer)

@@ -25,10 +25,11 @@ StepCounts before now (Ok v) = now ≡ before
 StepCounts before now (Err answer) = HasRisen before now answer
 
 -- a step leaves what the tree tells and which paths may fail, and the count as it may be after it
-pub record StepStays {T : Type 0} (old new : Option Told) (may might : List Path) (before now : ℕ) (result : Result T WalkAnswer) : Type 0 where
-  pub tree : new ≡ old
-  pub weak : might ≡ may
-  pub count : StepCounts before now result
+pub record StepStays {T : Type 0} (old new : Option Told) (may might : List Path) (before now : ℕ) (result : Result T WalkAnswer) : Type 0
+  where
+    pub tree : new ≡ old
+    pub weak : might ≡ may
+    pub count : StepCounts before now result
 
 -- only listings were made, each of a directory that wasn't listed, once
 pub record ListsMore (first w : Walk) (before now : Calls) : Type 0 where
@@ -84,8 +85,10 @@ EndsPassed first stop before now Memory t = Unit {0}
 
 -- a walk that stops while it lists: what the answer says of the tree, and which calls were made since the start
 abbrev pub StopsListing : Walk → List Path → Calls → Calls → WalkAnswer → Told → Type 0
-StopsListing old weak before now answer t = IsSound old → IsWalkOf old t → (first : Walk) (start : Calls) → first.root ≡ old.root → ListsMore first old start before
-    → (stop : Option ℕ) → Answers first.root stop weak answer t × ((covered : List Path) → CallsOnce t first covered start now answer) × (IsWithinLimits old stop → EndsPassed first stop start now answer t)
+StopsListing old weak before now answer t = IsSound old → IsWalkOf old t → (first : Walk) (start : Calls) → first.root ≡ old.root
+    → ListsMore first old start before
+    → (stop : Option ℕ) → Answers first.root stop weak answer t × ((covered : List Path) → CallsOnce t first covered start now answer)
+    × (IsWithinLimits old stop → EndsPassed first stop start now answer t)
 
 -- one listing was made, or none and nothing changed
 abbrev pub ListsOne : Walk → Walk → Calls → Calls → Type 0
@@ -93,13 +96,16 @@ ListsOne old new before now = ((new ≡ old) × (now ≡ before)) ⊎ ((dir : Pa
 
 -- what one step of listing tells
 abbrev pub ListsAt : {T : Type 0} → Walk → Walk → List Path → Calls → Calls → Result T WalkAnswer → Told → Type 0
-ListsAt old new weak before now (Ok v) t = (IsWalkOf old t → IsWalkOf new t) × (IsSound old → (first : Walk) (start : Calls) → ListsMore first old start before → ListsMore first new start now) × ListsOne old new before now
+ListsAt old new weak before now (Ok v) t = (IsWalkOf old t → IsWalkOf new t)
+    × (IsSound old → (first : Walk) (start : Calls) → ListsMore first old start before → ListsMore first new start now)
+    × ListsOne old new before now
 ListsAt old new weak before now (Err answer) t = StopsListing old weak before now answer t
 
 -- what listing the rest tells
 abbrev pub ListsRest : {T : Type 0} → Walk → Walk → Option ℕ → List Path → Calls → Calls → Result T WalkAnswer → Told → Type 0
 ListsRest first w stop weak before now (Ok v) t = IsWalkOf w t × ListsMore first w before now
-ListsRest first w stop weak before now (Err answer) t = Answers first.root stop weak answer t × ((covered : List Path) → CallsOnce t first covered before now answer) × EndsPassed first stop before now answer t
+ListsRest first w stop weak before now (Err answer) t = Answers first.root stop weak answer t
+    × ((covered : List Path) → CallsOnce t first covered before now answer) × EndsPassed first stop before now answer t
 
 -- each directory found is listed
 abbrev pub IsListedWhole : Walk → Type 0

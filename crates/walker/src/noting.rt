@@ -22,8 +22,10 @@ pub fn note_in(
     requires sound { IsSound (walk_at root.now dirs.old files.old.items) }
     requires unlisted { IsUnlisted (walk_at root.now dirs.old files.old.items) dir.now }
     requires lawful { IsListingOf dir.now listing }
-    ensures ok { OnOk result (Notes (walk_at root.now dirs.old files.old.items) (walk_at root.now dirs.new files.new.items) dir.now listing) }
-    ensures err { IfErr result (λ l. (l ≡ listing) × (walk_at root.now dirs.new files.new.items ≡ walk_at root.now dirs.old files.old.items)) }
+    ensures ok { OnOk result (Notes (walk_at root.now dirs.old files.old.items) (walk_at root.now dirs.new files.new.items) dir.now
+        listing) }
+    ensures err { IfErr result (λ l. (l ≡ listing)
+        × (walk_at root.now dirs.new files.new.items ≡ walk_at root.now dirs.old files.old.items)) }
     ensures below { AreBelow root.now files.new.items }
     ensures sound { IsSound (walk_at root.now dirs.new files.new.items) }
     ensures told { OnOk result ((t : Told) → IsWalkOf (walk_at root.now dirs.old files.old.items) t → IsToldBy t dir.now listing

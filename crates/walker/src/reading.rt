@@ -1,7 +1,7 @@
 //! The files of a walk that was listed whole.
 ghost use Rattle.std.specs.Prelude.{◌≡◌, ◌++◌, ◌∷◌, [], ◌+◌, ◌≤◌, ◌<◌, ℕ, List, Option, Some, length, IfSome, IfOk, OnOk, IfErr, AllPairs, Contains, map, take};
 ghost use Rattle.firefly_outside.specs.Trees.{Calls};
-ghost use Rattle.word_index.specs.Index.{File, Index, Meet, IsIndexOf, IsUnion};
+ghost use Rattle.word_index.specs.Index.{File, Index, Meet, IsIndexOf};
 ghost use Rattle.walker.specs.Walk.{IsWalkOf, IsSound};
 ghost use Rattle.walker.specs.TreeIndex.{IsPartOf, IsFileAt};
 ghost use Rattle.walker.specs.Closing.{HasRisen};
@@ -13,7 +13,7 @@ use crate::listing::child_path;
 use crate::{WalkAnswer, Walked};
 use firefly_outside::{FileBytes, Tree, TreeError};
 use std::alloc::{AllocError, Global};
-use word_index::{Batch, Piece, merge};
+use word_index::{Batch, Piece, merge_or_drop};
 
 /// Reads what the piece doesn't cover, and gives the index of it all.
 pub fn read_rest<S: Tree>(alloc: Global, tree: &mut S, walked: &Walked, piece: Piece) -> WalkAnswer
@@ -189,7 +189,7 @@ fn add_piece(pile: &mut Vec<Piece>, next: Piece) -> Result<(), AllocError>
         if below.files() > top.files() {
             return put_both(pile, below, top);
         }
-        top = merged(below, top)?;
+        top = merge_or_drop(below, top)?;
     }
     put_on(pile, top)
 }
@@ -238,7 +238,7 @@ fn merged_onto(pile: &mut Vec<Piece>, last: Piece) -> Result<Piece, AllocError>
 {
     let mut top = last;
     while let Some(below) = pile.pop() {
-        top = merged(below, top)?;
+        top = merge_or_drop(below, top)?;
     }
     Ok(top)
 }
@@ -256,21 +256,5 @@ fn merge_first(first: Piece, rest: Piece) -> Result<Piece, AllocError>
         drop(rest);
         return Ok(first);
     }
-    merged(first, rest)
-}
-
-// Merges two pieces. Where memory wants, both are dropped.
-fn merged(a: Piece, b: Piece) -> Result<Piece, AllocError>
-    requires { ¬ Meet a b }
-    ensures union { IfOk result (IsUnion a b) }
-    ensures index { IfOk result (λ p. (fs gs : List File) → IsIndexOf fs a → IsIndexOf gs b → IsIndexOf (fs ++ gs) p) }
-{
-    match merge(a, b) {
-        Ok(piece) => Ok(piece),
-        Err((a, b)) => {
-            drop(a);
-            drop(b);
-            Err(AllocError)
-        }
-    }
+    merge_or_drop(first, rest)
 }

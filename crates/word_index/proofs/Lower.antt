@@ -12,18 +12,18 @@ word_byte_lower b = grind (arith, nat_tests)
 newline_lower : (b : ℕ) → (lower b == 10) ≡ (b == 10)
 newline_lower b = grind (arith, nat_tests)
 
--- the longest front of word bytes, in lower case
-front_lower : (bs : List ℕ) → prefix_len is_word_byte (map lower bs) ≡ prefix_len is_word_byte bs
-front_lower [] = refl
-front_lower (b ∷ bs) = λ i. cond (word_byte_lower b i) (1 + front_lower bs i) 0
+-- the longest prefix of word bytes, in lower case
+prefix_lower : (bs : List ℕ) → prefix_len is_word_byte (map lower bs) ≡ prefix_len is_word_byte bs
+prefix_lower [] = refl
+prefix_lower (b ∷ bs) = λ i. cond (word_byte_lower b i) (1 + prefix_lower bs i) 0
 
 take_map : (n : ℕ) (bs : List ℕ) → take n (map lower bs) ≡ map lower (take n bs)
 take_map zero bs = refl
 take_map (suc n) [] = refl
 take_map (suc n) (b ∷ bs) = ap (λ l. lower b ∷ l) (take_map n bs)
 
-front_same : (bs : List ℕ) → take_while is_word_byte (map lower bs) ≡ map lower (take_while is_word_byte bs)
-front_same bs = ap (λ n. take n (map lower bs)) (front_lower bs) ∙ take_map (prefix_len is_word_byte bs) bs
+prefix_same : (bs : List ℕ) → take_while is_word_byte (map lower bs) ≡ map lower (take_while is_word_byte bs)
+prefix_same bs = ap (λ n. take n (map lower bs)) (prefix_lower bs) ∙ take_map (prefix_len is_word_byte bs) bs
 
 map_cond : (t : Bool) (xs ys : List (List ℕ × ℕ)) → cond t (map lowered xs) (map lowered ys) ≡ map lowered (cond t xs ys)
 map_cond true xs ys = refl
@@ -35,7 +35,7 @@ runs_lower inside line (b ∷ bs) =
     let more = runs_lower true line bs in
     let behind = ap (λ t. runs false (cond t (line + 1) line) (map lower bs)) (newline_lower b) ∙ runs_lower false (line_after line b) bs in
     let run = take_while is_word_byte (b ∷ bs) in
-    let first = front_same (b ∷ bs) in
+    let first = prefix_same (b ∷ bs) in
     (λ i. cond (word_byte_lower b i) (cond inside (more i) ((first i, line) ∷ more i)) (behind i))
     ∙ ap (λ l. cond (is_word_byte b) l (map lowered (runs false (line_after line b) bs))) (map_cond inside (runs true line bs) ((run, line) ∷ runs true line bs))
     ∙ map_cond (is_word_byte b) (cond inside (runs true line bs) ((run, line) ∷ runs true line bs)) (runs false (line_after line b) bs)

@@ -29,14 +29,14 @@ pub record IsSide (all : List (List ℕ)) (s : Side) : Type 0 where
   pub finds : IsNumbered s.paths all s.numbers (length s.paths)
 
 -- the entries of the first rows
-abbrev pub front : Side → ℕ → List Entry
-front s i = flat_map row_entries (take i (rows_of s.paths s.words s.rows))
+abbrev pub prefix : Side → ℕ → List Entry
+prefix s i = flat_map row_entries (take i (rows_of s.paths s.words s.rows))
 
 pub record TablesJoined (all : List (List ℕ)) (a b : Side) (i j : ℕ) (words : List (List ℕ)) (rows : List (List Place)) : Type 0 where
   pub order : Joins IsBelow [] a.words b.words i j words
   pub many : length words ≡ length rows
   pub each : All (IsRow (length all)) rows
-  pub same : IsPermutation (front a i ++ front b j) (flat_map row_entries (rows_of all words rows))
+  pub same : IsPermutation (prefix a i ++ prefix b j) (flat_map row_entries (rows_of all words rows))
 
 module _ {all : List (List ℕ)} where
   pub tables_none : (a b : Side) → TablesJoined all a b 0 0 [] []
@@ -52,7 +52,7 @@ module _ {all : List (List ℕ)} where
     order = flip below_trans t.order;
     many = t.many;
     each = t.each;
-    same = IsPermutation-trans _ _ _ (IsPermutation-append_comm (front b j) (front a i)) t.same;
+    same = IsPermutation-trans _ _ _ (IsPermutation-append_comm (prefix b j) (prefix a i)) t.same;
   }
 
   -- the row of a side at a place, as it is moved
@@ -78,7 +78,7 @@ module _ {all : List (List ℕ)} where
         many = omega (arith, old.many, length_push words w, length_push rows (map (moved a.numbers) r));
         each = All-push (IsRow (length all)) rows (map (moved a.numbers) r) old.each (row_moved is_a.finds r is);
         same = rw (entries_more a.paths a.words a.rows i is_a.many here, entries_push all words rows w (map (moved a.numbers) r) old.many, entries_moved is_a.finds w r is.within)
-            (permuted_first (front a i) (front b j) (flat_map row_entries (rows_of all words rows)) (row_entries (row_of a.paths w r)) old.same);
+            (permuted_first (prefix a i) (prefix b j) (flat_map row_entries (rows_of all words rows)) (row_entries (row_of a.paths w r)) old.same);
       }
 
   pub tables_second : {a b : Side} → IsSide all b → {i j : ℕ} {words : List (List ℕ)} {rows : List (List Place)} → TablesJoined all a b i j words rows
@@ -103,7 +103,7 @@ module _ {all : List (List ℕ)} where
         many = omega (arith, old.many, length_push words w, length_push rows row);
         each = All-push (IsRow (length all)) rows row old.each (row_merged (length all) _ _ row (row_moved is_a.finds x is_x) (row_moved is_b.finds y is_y) merged);
         same = rw (entries_more a.paths a.words a.rows i is_a.many here, entries_more b.paths b.words b.rows j is_b.many there, ← equal, entries_push all words rows w row old.many)
-            (permuted_both (front a i) (front b j) (flat_map row_entries (rows_of all words rows)) (row_entries (row_of a.paths w x)) (row_entries (row_of b.paths w y)) (row_entries (row_of all w row)) old.same both);
+            (permuted_both (prefix a i) (prefix b j) (flat_map row_entries (rows_of all words rows)) (row_entries (row_of a.paths w x)) (row_entries (row_of b.paths w y)) (row_entries (row_of all w row)) old.same both);
       }
 
   pub tables_all : {a b : Side} → IsSide all a → IsSide all b → {i j : ℕ} {words : List (List ℕ)} {rows : List (List Place)} → length a.words ≤ i → length b.words ≤ j → TablesJoined all a b i j words rows

@@ -12,7 +12,9 @@ use Rattle.word_index.specs.Counts.{Seen, seen_in}
 -- the places of the first n links that hang together, from the last to the first
 pub data IsChain (links : List Link) : ℕ → List Place → Type 0 where
   at_end : (n : ℕ) (ps : List Place) → n ≡ 0 → ps ≡ [] → IsChain links n ps
-  at_link : (n : ℕ) (ps : List Place) (k : ℕ) (link : Link) (rest : List Place) → n ≡ k + 1 → k < length links → slice_index_or links k link ≡ link → link.earlier ≤ k → IsChain links link.earlier rest → ps ≡ link.place ∷ rest → IsChain links n ps
+  at_link : (n : ℕ) (ps : List Place) (k : ℕ) (link : Link) (rest : List Place) → n ≡ k + 1 → k < length links
+      → slice_index_or links k link ≡ link → link.earlier ≤ k → IsChain links link.earlier rest → ps ≡ link.place ∷ rest
+      → IsChain links n ps
 
 -- the place of a link and those before it
 pub record IsLinked (links : List Link) (link : Link) (ps : List Place) : Type 0 where
@@ -38,7 +40,8 @@ first_place path line = record { path = path; count = 1; line = line }
 -- one more occurrence in the file of this number
 abbrev pub bumped : ℕ → ℕ → List Place → List Place
 bumped path line [] = first_place path line ∷ []
-bumped path line (p ∷ ps) = if p.path == path then record { path = path; count = p.count + 1; line = min p.line line } ∷ ps else first_place path line ∷ p ∷ ps
+bumped path line (p ∷ ps) = if p.path == path then record { path = path; count = p.count + 1; line = min p.line line } ∷ ps else first_place
+    path line ∷ p ∷ ps
 
 -- none, or the place of the link and those before it
 abbrev pub HasPlaces : List Link → Option Link → List Place → Type 0

@@ -1,6 +1,6 @@
-//! How a map hashes the words of some texts: by a key that all bytes of these texts make.
+//! How a map hashes the words or paths of some texts: by a key that all bytes of these texts make.
 //!
-//! Which words collide depends on the key, and each byte that is written beside them makes another key. So no words can be written down
+//! Which words collide depends on the key, and each byte that is written beside them makes another key. So none can be written down
 //! beforehand that collide wherever they stand, as they can under a fixed key.
 use std::hash::{BuildHasher, DefaultHasher, FoldHasher, Hasher};
 

@@ -125,3 +125,20 @@ pub fn merge(a: Piece, b: Piece) -> Result<Piece, (Piece, Piece)>
         Err(_) => Err((a, b)),
     }
 }
+
+/// The index of the files of both. Where memory fails, both are dropped.
+pub fn merge_or_drop(a: Piece, b: Piece) -> Result<Piece, AllocError>
+    requires { ¬ Meet a b }
+    ensures union { IfOk result (IsUnion a b) }
+    ensures index { IfOk result (λ p. (fs gs : List File) →
+        IsIndexOf fs a → IsIndexOf gs b → IsIndexOf (fs ++ gs) p) }
+{
+    match merge(a, b) {
+        Ok(piece) => Ok(piece),
+        Err((a, b)) => {
+            drop(a);
+            drop(b);
+            Err(AllocError)
+        }
+    }
+}

@@ -1,5 +1,5 @@
 //! Byte strings in one block of memory.
-ghost use Rattle.std.specs.Prelude.{◌≡◌, ◌+◌, ◌<◌, ◌≤◌, ℕ, List, [], ◌∷◌, ◌++◌, length, map, take, IfOk, OnOk, slice_index, slice_index_or};
+ghost use Rattle.std.specs.Prelude.{◌≡◌, ◌+◌, ◌<◌, ◌≤◌, ℕ, List, [], ◌∷◌, ◌++◌, length, map, take, IfOk, OnOk, OnErr, slice_index, slice_index_or};
 ghost use Rattle.word_index.specs.Words.{lower};
 
 use crate::blocks::{end_part, part_of};
@@ -52,6 +52,7 @@ impl Model for Strings {
 }
 
 impl Strings {
+    /// No strings.
     pub fn new(alloc: Global) -> Strings
         ensures { result ≡ [] }
     {
@@ -62,7 +63,7 @@ impl Strings {
     }
 
     /// Strings with room for so many of so many bytes in all.
-    pub fn with_room(alloc: Global, bytes: usize, many: usize) -> Result<Strings, AllocError>
+    pub(crate) fn with_room(alloc: Global, bytes: usize, many: usize) -> Result<Strings, AllocError>
         ensures { IfOk result (λ s. s ≡ []) }
     {
         Ok(Strings {
@@ -71,6 +72,7 @@ impl Strings {
         })
     }
 
+    /// How many there are.
     #[inline(always)]
     pub fn len(&self) -> usize
         ensures { result ≡ length self.now }
@@ -79,15 +81,16 @@ impl Strings {
     }
 
     /// The number of bytes of all.
-    pub fn bytes(&self) -> usize {
+    pub(crate) fn bytes(&self) -> usize {
         self.text.len()
     }
 
     /// The bytes of all, one behind the other.
-    pub fn text(&self) -> &[u8] {
+    pub(crate) fn text(&self) -> &[u8] {
         self.text.as_slice()
     }
 
+    /// The string at this place.
     #[inline(always)]
     pub fn get(&self, at: usize) -> &[u8]
         requires { at < length self.now }
@@ -98,22 +101,18 @@ impl Strings {
 
     /// Adds a string at the end.
     pub fn push(&mut self, s: &[u8]) -> Result<(), AllocError>
-        ensures { OnOk result (self.new ≡ self.old ++ s.now ∷ []) }
+        ensures added { OnOk result (self.new ≡ self.old ++ s.now ∷ []) }
+        ensures kept { OnErr result (self.new ≡ self.old) }
     {
-        let start = self.text.len();
+        self.ends.reserve(1)?;
         self.text.extend_from_slice(s)?;
         let end = self.text.len();
-        match self.ends.push(end) {
-            Ok(()) => Ok(()),
-            Err(_) => {
-                self.text.truncate(start);
-                Err(AllocError)
-            }
-        }
+        self.ends.push_reserved(end);
+        Ok(())
     }
 
     /// Adds the string with its letters in lower case.
-    pub fn push_lower(&mut self, s: &[u8]) -> Result<(), AllocError>
+    pub(crate) fn push_lower(&mut self, s: &[u8]) -> Result<(), AllocError>
         ensures { OnOk result (self.new ≡ self.old ++ map lower s.now ∷ []) }
     {
         let start = self.text.len();

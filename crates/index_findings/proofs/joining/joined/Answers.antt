@@ -12,8 +12,8 @@ returns-in_default c = merged_none c.args.kept.items c.empty.result (none_left c
 pub loop-piece-init : goal.loop-piece-init
 loop-piece-init c = merged_same c.args.kept.items (c.pop.new.self.items ++ c.in-Some.whole ∷ []) c.in-Some.ensures.items
 
-pub joined_two-requires : goal.joined_two-requires
-joined_two-requires c =
+pub merge_or_drop-requires : goal.merge_or_drop-requires
+merge_or_drop-requires c =
     last_apart c.pop-in-loop-piece.new.self.items c.in-Some-pop.piece c.loop-piece.whole
     (subst (λ (l : List Index). AreApart (l ++ c.loop-piece.whole ∷ [])) c.in-Some-pop.ensures.items (c.loop-piece.invariant.apart c.requires))
 

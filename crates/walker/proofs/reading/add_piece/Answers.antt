@@ -13,8 +13,8 @@ returns-then-files-clause-apart c = OnOk-map c.put_both.result _ _
     (λ is. subst AreApart (ap (λ (l : List Index). l ++ c.loop-below.top ∷ []) c.in-Some.ensures.items ∙ sym is) c.loop-below.invariant.apart)
     c.put_both.ensures
 
-pub merged-requires : goal.merged-requires
-merged-requires c = apart_top c.pop.new.self.items c.in-Some.below c.loop-below.top (subst (λ (l : List Index). AreApart (l ++ c.loop-below.top ∷ [])) c.in-Some.ensures.items c.loop-below.invariant.apart)
+pub merge_or_drop-requires : goal.merge_or_drop-requires
+merge_or_drop-requires c = apart_top c.pop.new.self.items c.in-Some.below c.loop-below.top (subst (λ (l : List Index). AreApart (l ++ c.loop-below.top ∷ [])) c.in-Some.ensures.items c.loop-below.invariant.apart)
 
 pub loop-below-preserved : goal.loop-below-preserved
 loop-below-preserved c = record {

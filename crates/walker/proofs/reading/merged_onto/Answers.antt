@@ -13,8 +13,8 @@ loop-below-init c = record {
   index = λ files pile. pile;
 }
 
-pub merged-requires : goal.merged-requires
-merged-requires c = apart_top c.pop.new.self.items c.in-Some.below c.loop-below.top (subst (λ (l : List Index). AreApart (l ++ c.loop-below.top ∷ [])) c.in-Some.ensures.items c.loop-below.invariant.apart)
+pub merge_or_drop-requires : goal.merge_or_drop-requires
+merge_or_drop-requires c = apart_top c.pop.new.self.items c.in-Some.below c.loop-below.top (subst (λ (l : List Index). AreApart (l ++ c.loop-below.top ∷ [])) c.in-Some.ensures.items c.loop-below.invariant.apart)
 
 pub loop-below-preserved : goal.loop-below-preserved
 loop-below-preserved c = record {

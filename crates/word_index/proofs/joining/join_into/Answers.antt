@@ -13,7 +13,7 @@ loop-i-init c = record { joined = rw (c.requires.none, c.requires.none_of_a, c.r
 
 pub loop-i-preserved-in-Less : goal.loop-i-preserved-in-Less
 loop-i-preserved-in-Less c = let i = c.loop-i.invariant in let less = c.in-Less.ensures.less refl in record {
-  joined = rw (c.in_ok-push-in-Less.ensures, c.push_reserved.ensures.items, c.in_ok-place.ensures, c.len.ensures, c.get.ensures)
+  joined = rw (c.in_ok-push-in-Less.ensures.added, c.push_reserved.ensures.items, c.in_ok-place.ensures, c.len.ensures, c.get.ensures)
       (joined_first c.requires.a_rises c.requires.b_rises i.joined less.0 less.1);
   room_of_a = still_room _ _ _ i.room_of_a c.push_reserved.ensures.capacity;
   room_of_b = i.room_of_b;
@@ -21,7 +21,7 @@ loop-i-preserved-in-Less c = let i = c.loop-i.invariant in let less = c.in-Less.
 
 pub loop-i-preserved-in-Greater : goal.loop-i-preserved-in-Greater
 loop-i-preserved-in-Greater c = let i = c.loop-i.invariant in let greater = c.in-Greater.ensures.greater refl in record {
-  joined = rw (c.in_ok-push-in-Greater.ensures, c.push_reserved-in-Greater.ensures.items, c.in_ok-place.ensures, c.len.ensures, c.get-in-Greater.ensures)
+  joined = rw (c.in_ok-push-in-Greater.ensures.added, c.push_reserved-in-Greater.ensures.items, c.in_ok-place.ensures, c.len.ensures, c.get-in-Greater.ensures)
       (joined_second c.requires.a_rises c.requires.b_rises i.joined greater.0 greater.1);
   room_of_a = i.room_of_a;
   room_of_b = still_room _ _ _ i.room_of_b c.push_reserved-in-Greater.ensures.capacity;
@@ -29,7 +29,7 @@ loop-i-preserved-in-Greater c = let i = c.loop-i.invariant in let greater = c.in
 
 pub loop-i-preserved : goal.loop-i-preserved
 loop-i-preserved c = let i = c.loop-i.invariant in let equal = c.in-Equal.ensures.equal refl in record {
-  joined = rw (c.in_ok-push-in-Equal.ensures, c.push_reserved-in-Equal.ensures.items, c.push_reserved-in-Equal-2.ensures.items, c.in_ok-place.ensures, c.len.ensures, c.get-in-Equal.ensures)
+  joined = rw (c.in_ok-push-in-Equal.ensures.added, c.push_reserved-in-Equal.ensures.items, c.push_reserved-in-Equal-2.ensures.items, c.in_ok-place.ensures, c.len.ensures, c.get-in-Equal.ensures)
       (joined_both c.requires.a_rises c.requires.b_rises i.joined equal.0 equal.1 equal.2);
   room_of_a = still_room _ _ _ i.room_of_a c.push_reserved-in-Equal.ensures.capacity;
   room_of_b = still_room _ _ _ i.room_of_b c.push_reserved-in-Equal-2.ensures.capacity;

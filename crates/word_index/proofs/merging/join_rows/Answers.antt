@@ -1,12 +1,4 @@
-use Rattle.std.proofs.Common.{◌≡◌, ◌<◌, ◌≤◌, List, ℕ, [], ◌++◌, length, map, get_or, refl, sym, ap, subst, arith}
-use Rattle.std.specs.List.{AllPairs, flat_map}
-use Rattle.std.proofs.lemmas.List.Elements.{All-get_or}
-use Rattle.word_index.specs.Index.{row_entries, entries}
-use Rattle.word_index.specs.Piece.{IsRow}
-use Rattle.word_index.specs.Numbered.{moved}
-use Rattle.word_index.specs.Merged.{IsPathBelow}
-use Rattle.word_index.specs.Table.{IsTable}
-use Rattle.word_index.proofs.Sides.{row_moved}
+use Rattle.std.proofs.Common.{refl, arith}
 use Rattle.word_index.proofs.Tables.{row_numbered, row_rises, tables_none, tables_first, tables_second, tables_both, tables_all}
 use Rattle.word_index.proofs.merging.join_rows.Goals as goal
 
@@ -15,7 +7,7 @@ loop-i-preserved-in-Less c =
     let less = c.in-Less.ensures.less refl in
     let s = c.a.invariant in
     let finds = rw (← c.a.view_is) at c.requires.first in
-    rw (c.in_ok-push-in-Less.ensures, c.in_ok-push_moved-in-Less.ensures, c.get.ensures, c.get-in-Less.ensures, c.deref.ensures.value)
+    rw (c.in_ok-push-in-Less.ensures.added, c.in_ok-push_moved-in-Less.ensures, c.get.ensures, c.get-in-Less.ensures, c.deref.ensures.value)
     (tables_first (record { words = s.words; many = s.many; each = s.each; finds = finds }) c.loop-i.invariant less.0 less.1)
 
 pub loop-i-preserved-in-Greater : goal.loop-i-preserved-in-Greater
@@ -23,7 +15,7 @@ loop-i-preserved-in-Greater c =
     let greater = c.in-Greater.ensures.greater refl in
     let s = c.b.invariant in
     let finds = rw (← c.b.view_is) at c.requires.second in
-    rw (c.in_ok-push-in-Greater.ensures, c.in_ok-push_moved-in-Greater.ensures, c.get-in-Greater.ensures, c.get-in-Greater-2.ensures, c.deref-in-Greater.ensures.value)
+    rw (c.in_ok-push-in-Greater.ensures.added, c.in_ok-push_moved-in-Greater.ensures, c.get-in-Greater.ensures, c.get-in-Greater-2.ensures, c.deref-in-Greater.ensures.value)
     (tables_second (record { words = s.words; many = s.many; each = s.each; finds = finds }) c.loop-i.invariant greater.0 greater.1)
 
 pub push_moved-requires : goal.push_moved-requires
@@ -110,7 +102,7 @@ loop-i-preserved c =
     let finds_b = rw (← c.b.view_is) at c.requires.second in
     let pushed = c.in_ok-push_merged-in-Equal.ensures in
     let merged = rw (c.get-in-Equal-2.ensures, c.get-in-Equal-3.ensures, c.deref-in-Equal.ensures.value, c.deref-in-Equal-2.ensures.value) at pushed.merged in
-    rw (c.in_ok-push-in-Equal.ensures, pushed.is, c.get-in-Equal.ensures)
+    rw (c.in_ok-push-in-Equal.ensures.added, pushed.is, c.get-in-Equal.ensures)
     (tables_both (record { words = a.words; many = a.many; each = a.each; finds = finds_a }) (record { words = b.words; many = b.many; each = b.each; finds = finds_b }) c.loop-i.invariant equal.0 equal.1 equal.2 pushed.row merged)
 
 pub returns : goal.returns

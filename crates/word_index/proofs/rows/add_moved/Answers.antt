@@ -10,9 +10,9 @@ moved_next : (numbers : List ℕ) (old out now row : List Place) (k : ℕ) (d y 
     → now ≡ out ++ y ∷ [] → y ≡ moved numbers (get_or row k d) → now ≡ old ++ map (moved numbers) (take (k + 1) row)
 moved_next numbers old out now row k d y here was pushed is =
     let f = moved numbers in
-    let front = map f (take k row) in
-    pushed ∙ (ap (λ (l : List Place). l ++ y ∷ []) was ∙ (append_assoc old front (y ∷ []) ∙ ap (λ (l : List Place). old ++ l)
-    (ap (λ (z : Place). front ++ z ∷ []) is ∙ (sym (map-append f (take k row) (get_or row k d ∷ [])) ∙ ap (map f) (sym (take_more row k d here))))))
+    let prefix = map f (take k row) in
+    pushed ∙ (ap (λ (l : List Place). l ++ y ∷ []) was ∙ (append_assoc old prefix (y ∷ []) ∙ ap (λ (l : List Place). old ++ l)
+    (ap (λ (z : Place). prefix ++ z ∷ []) is ∙ (sym (map-append f (take k row) (get_or row k d ∷ [])) ∙ ap (map f) (sym (take_more row k d here))))))
 
 pub returns-in_err-reserve-clause-kept : goal.returns-in_err-reserve-clause-kept
 returns-in_err-reserve-clause-kept c = ap (take (length c.args.out.now.items)) c.reserve.ensures.items ∙ take-length c.args.out.now.items

@@ -1,6 +1,6 @@
-use Rattle.std.proofs.Common.{◌≡◌, ◌≤◌, ◌∙◌, List, length, sym, subst, arith, Option, Some}
+use Rattle.std.proofs.Common.{◌∙◌, sym, subst, arith, Option}
 use Rattle.word_index.specs.declared.links.Link.{Link}
-use Rattle.word_index.specs.Links.{HasPlaces, link_at}
+use Rattle.word_index.specs.Links.{HasPlaces}
 use Rattle.word_index.proofs.WordLists.{lists_none, lists_next, lists_all, texts_keys}
 use Rattle.word_index.proofs.table.list_into.Goals as goal
 
@@ -16,7 +16,7 @@ push_linked-requires c =
 pub loop-at-preserved : goal.loop-at-preserved
 loop-at-preserved c =
     let p = c.in_ok-push_linked-in-Some.ensures in
-    rw (c.in_ok-push-in-Some.ensures, p.is) (lists_next c.loop-at.invariant c.in-Some.word.now c.in-Some.last.now p.row (sym c.in-Some.ensures.entry) c.in-Some.ensures.value p.linked)
+    rw (c.in_ok-push-in-Some.ensures.added, p.is) (lists_next c.loop-at.invariant c.in-Some.word.now c.in-Some.last.now p.row (sym c.in-Some.ensures.entry) c.in-Some.ensures.value p.linked)
 
 pub returns-clause-words : goal.returns-clause-words
 returns-clause-words c = lists_all c.loop-at.invariant (omega (arith, c.loop-at-test.false, c.len-many.ensures.len)) ∙ sym (texts_keys c.args.words.now.entries)
