@@ -11,23 +11,23 @@ use Rattle.std.proofs.lemmas.List.{take_all, length-drop, take-append-drop}
 use Rattle.trace_core.specs.declared.line.Stop.{Stop}
 use Rattle.trace_core.specs.declared.line.Stop.TheVariants.{More, Dead}
 use Rattle.trace_core.specs.Reading.{◌>>=◌}
-use Rattle.index_reading.specs.Lines.{is_front, unescaped, put, token_from, path_at, path_of, front_of, plain, is_path, is_path_front, is_no_newline, is_above}
+use Rattle.index_reading.specs.Lines.{is_prefix, unescaped, put, token_from, path_at, path_of, prefix_of, plain, is_path, is_path_prefix, is_no_newline, is_above}
 use Rattle.index_reading.proofs.Tokens.{either_bool, token_over}
 use Rattle.index_reading.proofs.Escaping.{before}
 
-pub front_long : (xs ys : List ℕ) → length ys < length xs → false ≡ is_front xs ys
-front_long [] ys h = absurd (omega (arith, h))
-front_long (x ∷ xs) [] h = refl
-front_long (x ∷ xs) (y ∷ ys) h = sym (ap (λ b. (x == y) && b) (sym (front_long xs ys (omega (arith, h)))) ∙ never (x == y))
+pub prefix_long : (xs ys : List ℕ) → length ys < length xs → false ≡ is_prefix xs ys
+prefix_long [] ys h = absurd (omega (arith, h))
+prefix_long (x ∷ xs) [] h = refl
+prefix_long (x ∷ xs) (y ∷ ys) h = sym (ap (λ b. (x == y) && b) (sym (prefix_long xs ys (omega (arith, h)))) ∙ never (x == y))
   where
     never : (b : Bool) → (b && false) ≡ false
     never true = refl
     never false = refl
 
-pub front_step : (xs ys : List ℕ) (i : ℕ) → i < length xs → i < length ys → is_front (drop i xs) (drop i ys) ≡ ((get_or xs i 0 == get_or ys i 0) && is_front (drop (i + 1) xs) (drop (i + 1) ys))
-front_step xs ys i h k =
+pub prefix_step : (xs ys : List ℕ) (i : ℕ) → i < length xs → i < length ys → is_prefix (drop i xs) (drop i ys) ≡ ((get_or xs i 0 == get_or ys i 0) && is_prefix (drop (i + 1) xs) (drop (i + 1) ys))
+prefix_step xs ys i h k =
     let next : suc i ≡ i + 1 = omega arith in
-    (λ j. is_front (drop-cons xs i 0 h j) (drop-cons ys i 0 k j)) ∙ ap (λ n. (get_or xs i 0 == get_or ys i 0) && is_front (drop n xs) (drop n ys)) next
+    (λ j. is_prefix (drop-cons xs i 0 h j) (drop-cons ys i 0 k j)) ∙ ap (λ n. (get_or xs i 0 == get_or ys i 0) && is_prefix (drop n xs) (drop n ys)) next
 
 pub is_text : {T E : Type 0} (r : Result T E) (bs : List ℕ) (P : T → Type 0) (Q : E → Type 0) → MatchResult r (λ s. P s × IsUtf8 bs) (λ e. (IsUtf8 bs → ⊥) × Q e) → is_ok r ≡ is_utf8 bs
 is_text (Ok s) bs P Q h = sym (is_utf8-from_IsUtf8 bs h.1)
@@ -67,10 +67,10 @@ Read = Result (List ℕ × List ℕ) Stop
 abbrev plainly : Read → Read
 plainly r = r >>= λ x. let y : List ℕ × List ℕ = (plain x.0, x.1) in Ok y
 
-pub path_end : (last : Option (List ℕ)) (bytes : List ℕ) (at : ℕ) → at ≡ length bytes → AllByRecursion (λ b. is_no_newline b ≡ true) (take at bytes) → path_at last bytes ≡ cond (is_path_front last (front_of bytes)) (Err More) (Err Dead)
+pub path_end : (last : Option (List ℕ)) (bytes : List ℕ) (at : ℕ) → at ≡ length bytes → AllByRecursion (λ b. is_no_newline b ≡ true) (take at bytes) → path_at last bytes ≡ cond (is_path_prefix last (prefix_of bytes)) (Err More) (Err Dead)
 path_end last bytes at e h =
-    ap plainly (token_end is_no_newline (λ l. is_path last (path_of l)) (λ l. is_path_front last (front_of l)) 10 bytes at e h)
-    ∙ by (is_path_front last (front_of bytes))
+    ap plainly (token_end is_no_newline (λ l. is_path last (path_of l)) (λ l. is_path_prefix last (prefix_of l)) 10 bytes at e h)
+    ∙ by (is_path_prefix last (prefix_of bytes))
   where
     by : (b : Bool) → plainly (cond b (Err More) (Err Dead)) ≡ cond b (Err More) (Err Dead)
     by true = refl
@@ -81,7 +81,7 @@ pub path_stop : (last : Option (List ℕ)) (bytes : List ℕ) (at : ℕ) → at 
 path_stop last bytes at h p ten =
     let no : is_no_newline (get_or bytes at 0) ≡ false = ap is_no_newline ten in
     let same : ((get_or bytes at 0 == 10) && is_path last (path_of (take at bytes))) ≡ is_path last (path_of (take at bytes)) = ap (λ b. (b == 10) && is_path last (path_of (take at bytes))) ten in
-    ap plainly (token_stop is_no_newline (λ l. is_path last (path_of l)) (λ l. is_path_front last (front_of l)) 10 bytes at h p no ∙ ap (λ b. cond b (Ok (take at bytes, drop (at + 1) bytes)) (Err Dead)) same)
+    ap plainly (token_stop is_no_newline (λ l. is_path last (path_of l)) (λ l. is_path_prefix last (prefix_of l)) 10 bytes at h p no ∙ ap (λ b. cond b (Ok (take at bytes, drop (at + 1) bytes)) (Err Dead)) same)
     ∙ by (is_path last (path_of (take at bytes)))
   where
     by : (b : Bool) → plainly (cond b (Ok (take at bytes, drop (at + 1) bytes)) (Err Dead)) ≡ cond b (Ok (plain (take at bytes), drop (at + 1) bytes)) (Err Dead)

@@ -8,7 +8,7 @@ use Rattle.word_index.specs.Index.{Row}
 use Rattle.index_reading.specs.declared.fault.IndexFault.TheVariants.{TooLong}
 use Rattle.index_reading.specs.declared.fault.Halt.{Halt}
 use Rattle.index_reading.specs.declared.fault.Halt.TheVariants as halts
-use Rattle.index_reading.specs.Faults.{budget, whole_fault_of, front_fault_of}
+use Rattle.index_reading.specs.Faults.{budget, whole_fault_of, prefix_fault_of}
 use Rattle.index_reading.specs.Input.{IsTaken, IsDue}
 use Rattle.index_reading.specs.Steps.{Halts}
 use Rattle.index_reading.specs.Texts.{IsIndexText, ReadsAs}
@@ -19,9 +19,9 @@ all_taken taken bytes few (inl is) = is
 all_taken taken bytes few (inr more) = absurd (omega (arith, few, more.0))
 
 -- the first of them are the first taken
-pub front_taken : (taken bytes : List ℕ) → budget < length taken → IsTaken taken bytes → (budget < length bytes) × (take budget bytes ≡ take budget taken)
-front_taken taken bytes many (inl is) = (subst (λ l. budget < length l) (sym is) many, ap (take budget) is)
-front_taken taken bytes many (inr more) = (
+pub prefix_taken : (taken bytes : List ℕ) → budget < length taken → IsTaken taken bytes → (budget < length bytes) × (take budget bytes ≡ take budget taken)
+prefix_taken taken bytes many (inl is) = (subst (λ l. budget < length l) (sym is) many, ap (take budget) is)
+prefix_taken taken bytes many (inr more) = (
   subst (λ l. budget < length l) (sym more.1.1) (omega (arith, many, length-append taken more.1.0)),
   ap (take budget) more.1.1 ∙ take-append-le budget taken more.1.0 (omega (arith, many)),
 )
@@ -52,16 +52,16 @@ whole_due taken (halts.Bad k) few h (Some bytes) before now is =
 
 begins_so : (taken bytes : List ℕ) → budget < length taken → IsTaken taken bytes → Begins IsIndexText (take budget taken) → (budget < length bytes) × Begins IsIndexText (take budget bytes)
 begins_so taken bytes many is b =
-    let f = front_taken taken bytes many is in
+    let f = prefix_taken taken bytes many is in
     (f.0, subst (Begins IsIndexText) (sym f.1) b)
 
-pub front_due : (taken : List ℕ) (halt : Halt) → budget < length taken → Halts IsIndexText 0 (take budget taken) halt → IsDue taken (front_fault_of halt)
-front_due taken halts.Memory many h left before now is = tt
-front_due taken (halts.Cut k) many h None before now is = tt
-front_due taken (halts.Cut k) many h (Some bytes) before now is = begins_so taken bytes many is h.1.front
-front_due taken (halts.Bad k) many h None before now is = tt
-front_due taken (halts.Bad k) many h (Some bytes) before now is =
-    let f = front_taken taken bytes many is in
+pub prefix_due : (taken : List ℕ) (halt : Halt) → budget < length taken → Halts IsIndexText 0 (take budget taken) halt → IsDue taken (prefix_fault_of halt)
+prefix_due taken halts.Memory many h left before now is = tt
+prefix_due taken (halts.Cut k) many h None before now is = tt
+prefix_due taken (halts.Cut k) many h (Some bytes) before now is = begins_so taken bytes many is h.1.prefix
+prefix_due taken (halts.Bad k) many h None before now is = tt
+prefix_due taken (halts.Bad k) many h (Some bytes) before now is =
+    let f = prefix_taken taken bytes many is in
     inl (subst (λ l. IsBrokenAt IsIndexText l k) (sym f.1) (broken_at (take budget taken) k h.1))
 
 pub long_due : (taken : List ℕ) (rows : List Row) (paths : List (List ℕ)) → budget < length taken → ReadsAs (take budget taken) rows paths → IsDue taken TooLong

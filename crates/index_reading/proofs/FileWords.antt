@@ -19,12 +19,12 @@ take_one_more : (b : ℕ) (bs : List ℕ) (m : ℕ) → take (1 + m) (b ∷ bs) 
 take_one_more b bs m = subst (λ k. take k (b ∷ bs) ≡ b ∷ take m bs) {x = suc m} (omega arith) refl
 
 -- a run begins with its word byte
-front_word : (b : ℕ) (bs : List ℕ) → is_word_byte b ≡ true → take_while is_word_byte (b ∷ bs) ≡ b ∷ take_while is_word_byte bs
-front_word b bs e = ap (λ t. take (cond t (1 + prefix_len is_word_byte bs) 0) (b ∷ bs)) e ∙ take_one_more b bs (prefix_len is_word_byte bs)
+prefix_word : (b : ℕ) (bs : List ℕ) → is_word_byte b ≡ true → take_while is_word_byte (b ∷ bs) ≡ b ∷ take_while is_word_byte bs
+prefix_word b bs e = ap (λ t. take (cond t (1 + prefix_len is_word_byte bs) 0) (b ∷ bs)) e ∙ take_one_more b bs (prefix_len is_word_byte bs)
 
-front_passes : (bs : List ℕ) → AreWordBytes (take_while is_word_byte bs)
-front_passes [] = tt
-front_passes (b ∷ bs) = by (is_word_byte b) refl (front_passes bs)
+prefix_passes : (bs : List ℕ) → AreWordBytes (take_while is_word_byte bs)
+prefix_passes [] = tt
+prefix_passes (b ∷ bs) = by (is_word_byte b) refl (prefix_passes bs)
   where
     by : (t : Bool) → is_word_byte b ≡ t → AreWordBytes (take_while is_word_byte bs) → AreWordBytes (take (cond t (1 + prefix_len is_word_byte bs) 0) (b ∷ bs))
     by true e h = subst AreWordBytes (sym (take_one_more b bs (prefix_len is_word_byte bs))) (e, h)
@@ -50,8 +50,8 @@ line_near line b = by (b == 10)
 
 run_here : (line b : ℕ) (bs : List ℕ) → is_word_byte b ≡ true → IsRun line (suc (length bs)) (take_while is_word_byte (b ∷ bs), line)
 run_here line b bs e = record {
-  some = omega (arith, ap length (front_word b bs e));
-  bytes = front_passes (b ∷ bs);
+  some = omega (arith, ap length (prefix_word b bs e));
+  bytes = prefix_passes (b ∷ bs);
   least = omega arith;
   most = omega arith;
 }

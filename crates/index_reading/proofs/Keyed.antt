@@ -9,7 +9,7 @@ use Rattle.trace_core.specs.Reading.{◌>>=◌}
 use Rattle.index_reading.specs.declared.fault.Stop.{Stop}
 use Rattle.index_reading.specs.declared.fault.Stop.TheVariants.{Memory, More, Dead}
 use Rattle.index_reading.specs.Texts.{is_key_byte}
-use Rattle.index_reading.specs.Lines.{key_at, is_good_word, may_be_word, path_at, path_of, front_of, is_path, is_path_front, is_no_newline}
+use Rattle.index_reading.specs.Lines.{key_at, is_good_word, may_be_word, path_at, path_of, prefix_of, is_path, is_path_prefix, is_no_newline}
 use Rattle.index_reading.specs.Steps.{Gives}
 use Rattle.index_reading.proofs.Bytes.{token_end, token_stop, slice_behind, path_end, path_good, path_bad}
 
@@ -41,10 +41,10 @@ module _ (last : Option (List ℕ)) (bytes : List ℕ) (at : ℕ) where
     pub key_bad : get_or bytes at 0 ≡ 32 → false ≡ is_good_word last (take at bytes) → key_at last bytes ≡ Err stops.Dead
     key_bad e good = spaced e ∙ ap (λ b. cond b (Ok (take at bytes, drop (at + 1) bytes)) (Err stops.Dead)) (sym good)
 
-  pub path_more : at ≡ length bytes → Passed is_no_newline at bytes → true ≡ is_path_front last (front_of bytes) → path_at last bytes ≡ Err stops.More
+  pub path_more : at ≡ length bytes → Passed is_no_newline at bytes → true ≡ is_path_prefix last (prefix_of bytes) → path_at last bytes ≡ Err stops.More
   path_more e h may = path_end last bytes at e h ∙ ap (λ b. cond b (Err stops.More) (Err stops.Dead)) (sym may)
 
-  pub path_gone : at ≡ length bytes → Passed is_no_newline at bytes → false ≡ is_path_front last (front_of bytes) → path_at last bytes ≡ Err stops.Dead
+  pub path_gone : at ≡ length bytes → Passed is_no_newline at bytes → false ≡ is_path_prefix last (prefix_of bytes) → path_at last bytes ≡ Err stops.Dead
   path_gone e h may = path_end last bytes at e h ∙ ap (λ b. cond b (Err stops.More) (Err stops.Dead)) (sym may)
 
   module _ (h : at < length bytes) (p : Passed is_no_newline at bytes) (ten : get_or bytes at 0 ≡ 10) where

@@ -88,8 +88,8 @@ heading_code last ok =
 pub hit_code : (last : Option (List ℕ)) → IsLastPath last → IsCode (IsHit last) hit_line (hit_at last)
 hit_code last ok =
     let numbers = then_code (figure_code 32 (omega arith)) (λ _ n. IsFigure n) (λ _ n. decimal n ++ 32 ∷ []) _ (λ _ _. figure_code 32 (omega arith)) (λ _ _. (1, one_figure)) in
-    let front = word_code numbers (codes "  ") ((1, 1), (one_figure, one_figure)) in
-    as_code (then_code front (λ _ p. IsNext last p) (λ _ p. path_text p) _ (λ _ _. path_code last ok) (λ _ _. some_next last ok)) hit_from (IsHit last) hit_line
+    let prefix = word_code numbers (codes "  ") ((1, 1), (one_figure, one_figure)) in
+    as_code (then_code prefix (λ _ p. IsNext last p) (λ _ p. path_text p) _ (λ _ _. path_code last ok) (λ _ _. some_next last ok)) hit_from (IsHit last) hit_line
     (λ x h. (record { path = h.1.0; above = h.1.1; count = h.0.0; line = h.0.1 }, line_text x.0.0 x.0.1 x.1))
     (λ h k. (((h.count, h.line), h.path), ((k.count, k.line), (k.path, k.above)), refl))
   where

@@ -9,7 +9,7 @@ use Rattle.word_index.specs.Index.{Hit}
 use Rattle.index_reading.specs.declared.fault.Stop.{Stop}
 use Rattle.index_reading.specs.declared.fault.Stop.TheVariants.{Memory, More, Dead}
 use Rattle.index_reading.specs.Numerals.{capped, numeral_at}
-use Rattle.index_reading.specs.Lines.{Heading, word, skipped, capped_line, capped_heading, key_at, path_at, skipped_at, key_line_at, heading_at, hit_front_at, hit_at}
+use Rattle.index_reading.specs.Lines.{Heading, word, skipped, capped_line, capped_heading, key_at, path_at, skipped_at, key_line_at, heading_at, hit_prefix_at, hit_at}
 use Rattle.index_reading.specs.Steps.{Stops}
 
 -- a value under another form was not read: nor was it under its own
@@ -57,17 +57,17 @@ skipped_stops last bytes Memory h = tt
 skipped_stops last bytes More h = rw h refl
 skipped_stops last bytes Dead h = rw h refl
 
-pub indent_stops : (bytes : List ℕ) (s : Stop) → Stops (word_at (codes "  ") bytes) s → Stops (hit_front_at bytes) s
+pub indent_stops : (bytes : List ℕ) (s : Stop) → Stops (word_at (codes "  ") bytes) s → Stops (hit_prefix_at bytes) s
 indent_stops bytes Memory h = tt
 indent_stops bytes More h = rw h refl
 indent_stops bytes Dead h = rw h refl
 
-pub count_stops : (bytes rest : List ℕ) → word_at (codes "  ") bytes ≡ Ok rest → (s : Stop) → Stops (number_at 1 (2 ^ 64) 32 rest) s → Stops (hit_front_at bytes) s
+pub count_stops : (bytes rest : List ℕ) → word_at (codes "  ") bytes ≡ Ok rest → (s : Stop) → Stops (number_at 1 (2 ^ 64) 32 rest) s → Stops (hit_prefix_at bytes) s
 count_stops bytes rest k Memory h = tt
 count_stops bytes rest k More h = rw (k, h) refl
 count_stops bytes rest k Dead h = rw (k, h) refl
 
-pub line_stops : (bytes rest after : List ℕ) (n : ℕ) → word_at (codes "  ") bytes ≡ Ok rest → number_at 1 (2 ^ 64) 32 rest ≡ Ok (n, after) → (s : Stop) → Stops (number_at 1 (2 ^ 64) 32 after) s → Stops (hit_front_at bytes) s
+pub line_stops : (bytes rest after : List ℕ) (n : ℕ) → word_at (codes "  ") bytes ≡ Ok rest → number_at 1 (2 ^ 64) 32 rest ≡ Ok (n, after) → (s : Stop) → Stops (number_at 1 (2 ^ 64) 32 after) s → Stops (hit_prefix_at bytes) s
 line_stops bytes rest after n k m Memory h = tt
 line_stops bytes rest after n k m More h = rw (k, m, h) refl
 line_stops bytes rest after n k m Dead h = rw (k, m, h) refl
@@ -115,15 +115,15 @@ skipped_read last bytes path rest e = let r = under_ok capped_heading (heading_a
     by (word v n) is same = absurd (cc)
     by (skipped p) is same = let name : p ≡ path = cc in is ∙ ap (λ x. Ok (skipped x, rest)) name
 
-pub front_stops : (last : Option (List ℕ)) (bytes : List ℕ) (s : Stop) → Stops (hit_front_at bytes) s → Stops (hit_at last bytes) s
-front_stops last bytes Memory h = tt
-front_stops last bytes More h = rw h refl
-front_stops last bytes Dead h = rw h refl
+pub prefix_stops : (last : Option (List ℕ)) (bytes : List ℕ) (s : Stop) → Stops (hit_prefix_at bytes) s → Stops (hit_at last bytes) s
+prefix_stops last bytes Memory h = tt
+prefix_stops last bytes More h = rw h refl
+prefix_stops last bytes Dead h = rw h refl
 
-pub hit_path_stops : (last : Option (List ℕ)) (bytes rest : List ℕ) (x : ℕ × ℕ) → hit_front_at bytes ≡ Ok (x, rest) → (s : Stop) → Stops (path_at last rest) s → Stops (hit_at last bytes) s
+pub hit_path_stops : (last : Option (List ℕ)) (bytes rest : List ℕ) (x : ℕ × ℕ) → hit_prefix_at bytes ≡ Ok (x, rest) → (s : Stop) → Stops (path_at last rest) s → Stops (hit_at last bytes) s
 hit_path_stops last bytes rest x k Memory h = tt
 hit_path_stops last bytes rest x k More h = rw (k, h) refl
 hit_path_stops last bytes rest x k Dead h = rw (k, h) refl
 
-pub hit_read : (last : Option (List ℕ)) (bytes rest after p : List ℕ) (n m : ℕ) (h : Hit) → h ≡ record { path = p; count = n; line = m } → hit_front_at bytes ≡ Ok ((n, m), rest) → path_at last rest ≡ Ok (p, after) → hit_at last bytes ≡ Ok (h, after)
+pub hit_read : (last : Option (List ℕ)) (bytes rest after p : List ℕ) (n m : ℕ) (h : Hit) → h ≡ record { path = p; count = n; line = m } → hit_prefix_at bytes ≡ Ok ((n, m), rest) → path_at last rest ≡ Ok (p, after) → hit_at last bytes ≡ Ok (h, after)
 hit_read last bytes rest after p n m h e k l = rw (k, l) (ap (λ x. Ok (x, after)) (sym e))

@@ -56,7 +56,7 @@ reach_some {S} {T} some back (c ∷ input) h = record {
 pub reach_same : {S T : List ℕ → Type 0} → ((bytes : List ℕ) → T bytes → S bytes) → ((bytes : List ℕ) → S bytes → T bytes) → (bytes : List ℕ) → Reaches T bytes S bytes 0
 reach_same {S} {T} to from bytes = record {
   broken = λ k b. let e : k ≡ k + 0 = omega arith in subst (IsBrokenAt T bytes) e (record { counted = b.counted; before = (b.before.0, from _ b.before.1); broken = λ t. b.broken (t.0, to _ t.1) });
-  cut = λ k b. let e : k ≡ k + 0 = omega arith in subst (IsCutShortAt T bytes) e (record { front = (b.front.0, from _ b.front.1); no_text = λ t. b.no_text (to _ t); last = b.last });
+  cut = λ k b. let e : k ≡ k + 0 = omega arith in subst (IsCutShortAt T bytes) e (record { prefix = (b.prefix.0, from _ b.prefix.1); no_text = λ t. b.no_text (to _ t); last = b.last });
 }
 
 -- the last path of some hits, and so on

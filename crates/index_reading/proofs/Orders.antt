@@ -1,4 +1,4 @@
--- Bytes in order, and fronts of them.
+-- Bytes in order, and prefixes of them.
 use Rattle.std.proofs.Common.{◌≡◌, ◌⊎◌, inl, inr, ℕ, ◌<◌, true, List, [], ◌∷◌, ◌++◌, arith, refl, sym, ap, subst, ◌∙◌, ⊎_elim, nat_cmp}
 use Rattle.std.specs.Prelude.{◌&&◌}
 use Rattle.std.specs.declared.cmp.Ordering.{Ordering}
@@ -9,7 +9,7 @@ use Rattle.std.proofs.lemmas.Cmp.{ranked, nat_cmp_total, tied_itself}
 use Rattle.std.proofs.lemmas.Bool.{eq-eqb}
 use Rattle.std.proofs.lemmas.Bool.Decides.{eqb_tells}
 use Rattle.word_index.specs.Index.{IsBelow}
-use Rattle.index_reading.specs.Lines.{is_front}
+use Rattle.index_reading.specs.Lines.{is_prefix}
 
 then_less : (x y : ℕ) (r : Ordering) → ordering_then (nat_cmp x y) r ≡ Less → (x < y) ⊎ ((x ≡ y) × (r ≡ Less))
 then_less x y r h = by (nat_cmp x y) refl h (ranked x y (nat_cmp x y) refl)
@@ -36,10 +36,10 @@ below_first x y xs ys h = ap (λ o. ordering_then o (slice_cmp nat_cmp xs ys)) (
 pub below_rest : (x : ℕ) (xs ys : List ℕ) → IsBelow xs ys → IsBelow (x ∷ xs) (x ∷ ys)
 below_rest x xs ys h = ap (λ o. ordering_then o (slice_cmp nat_cmp xs ys)) (tied_itself nat_cmp_total x) ∙ h
 
--- the same front before both
-pub below_front : (w xs ys : List ℕ) → IsBelow xs ys → IsBelow (w ++ xs) (w ++ ys)
-below_front [] xs ys h = h
-below_front (x ∷ w) xs ys h = below_rest x (w ++ xs) (w ++ ys) (below_front w xs ys h)
+-- the same prefix before both
+pub below_prefix : (w xs ys : List ℕ) → IsBelow xs ys → IsBelow (w ++ xs) (w ++ ys)
+below_prefix [] xs ys h = h
+below_prefix (x ∷ w) xs ys h = below_rest x (w ++ xs) (w ++ ys) (below_prefix w xs ys h)
 
 pub below_cancel : (w xs ys : List ℕ) → IsBelow (w ++ xs) (w ++ ys) → IsBelow xs ys
 below_cancel [] xs ys h = h
@@ -58,26 +58,26 @@ below_more (x ∷ xs) (y ∷ ys) more h = ⊎_elim
     (λ (p : (x ≡ y) × IsBelow xs ys). subst (λ z. IsBelow (x ∷ xs) (z ∷ (ys ++ more))) p.0 (below_rest x xs (ys ++ more) (below_more xs ys more p.1)))
     (below_cons x y xs ys h)
 
-pub front_rest : (xs ys : List ℕ) → is_front xs ys ≡ true → (rest : List ℕ) × (ys ≡ xs ++ rest)
-front_rest [] ys h = (ys, refl)
-front_rest (x ∷ xs) [] h = absurd (cc)
-front_rest (x ∷ xs) (y ∷ ys) h = elim (eqb_tells x y) [
-  | inl p ↦ let r = front_rest xs ys (sym (ap (λ b. b && is_front xs ys) p.0) ∙ h) in (r.0, (λ i. sym p.1 i ∷ r.1 i))
-  | inr p ↦ let no = sym (ap (λ b. b && is_front xs ys) p.0) ∙ h in absurd (cc)
+pub prefix_rest : (xs ys : List ℕ) → is_prefix xs ys ≡ true → (rest : List ℕ) × (ys ≡ xs ++ rest)
+prefix_rest [] ys h = (ys, refl)
+prefix_rest (x ∷ xs) [] h = absurd (cc)
+prefix_rest (x ∷ xs) (y ∷ ys) h = elim (eqb_tells x y) [
+  | inl p ↦ let r = prefix_rest xs ys (sym (ap (λ b. b && is_prefix xs ys) p.0) ∙ h) in (r.0, (λ i. sym p.1 i ∷ r.1 i))
+  | inr p ↦ let no = sym (ap (λ b. b && is_prefix xs ys) p.0) ∙ h in absurd (cc)
 ]
 
-pub front_is : (xs rest : List ℕ) → is_front xs (xs ++ rest) ≡ true
-front_is [] rest = refl
-front_is (x ∷ xs) rest = ap (λ b. b && is_front xs (xs ++ rest)) (eq-eqb x x refl) ∙ front_is xs rest
+pub prefix_is : (xs rest : List ℕ) → is_prefix xs (xs ++ rest) ≡ true
+prefix_is [] rest = refl
+prefix_is (x ∷ xs) rest = ap (λ b. b && is_prefix xs (xs ++ rest)) (eq-eqb x x refl) ∙ prefix_is xs rest
 
--- what is below a longer text is below its front, or begins with it
-pub below_or_front : (xs ys more : List ℕ) → IsBelow xs (ys ++ more) → IsBelow xs ys ⊎ (is_front ys xs ≡ true)
-below_or_front xs [] more h = inr refl
-below_or_front [] (y ∷ ys) more h = inl refl
-below_or_front (x ∷ xs) (y ∷ ys) more h = ⊎_elim
+-- what is below a longer text is below its prefix, or begins with it
+pub below_or_prefix : (xs ys more : List ℕ) → IsBelow xs (ys ++ more) → IsBelow xs ys ⊎ (is_prefix ys xs ≡ true)
+below_or_prefix xs [] more h = inr refl
+below_or_prefix [] (y ∷ ys) more h = inl refl
+below_or_prefix (x ∷ xs) (y ∷ ys) more h = ⊎_elim
     (λ (lt : x < y). inl (below_first x y xs ys lt))
     (λ (p : (x ≡ y) × IsBelow xs (ys ++ more)). ⊎_elim
     (λ (b : IsBelow xs ys). inl (subst (λ z. IsBelow (x ∷ xs) (z ∷ ys)) p.0 (below_rest x xs ys b)))
-    (λ (f : is_front ys xs ≡ true). inr (ap (λ b. b && is_front ys xs) (eq-eqb y x (sym p.0)) ∙ f))
-    (below_or_front xs ys more p.1))
+    (λ (f : is_prefix ys xs ≡ true). inr (ap (λ b. b && is_prefix ys xs) (eq-eqb y x (sym p.0)) ∙ f))
+    (below_or_prefix xs ys more p.1))
     (below_cons x y xs (ys ++ more) h)

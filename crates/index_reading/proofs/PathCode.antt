@@ -13,12 +13,12 @@ use Rattle.trace_core.proofs.CodeLaws.{as_code}
 use Rattle.text_output.specs.Paths.{escaped, newline}
 use Rattle.word_index.specs.Index.{IsBelow}
 use Rattle.index_reading.specs.Texts.{IsPath, IsAbove}
-use Rattle.index_reading.specs.Lines.{unescaped, put, path_of, front_of, plain, is_no_newline, is_above, is_path, is_path_front, may_be_path, begins_last, path_at}
-use Rattle.index_reading.proofs.Orders.{below_cons, below_first, below_front, below_cancel, below_longer, below_more, below_or_front, front_rest}
+use Rattle.index_reading.specs.Lines.{unescaped, put, path_of, prefix_of, plain, is_no_newline, is_above, is_path, is_path_prefix, may_be_path, begins_last, path_at}
+use Rattle.index_reading.proofs.Orders.{below_cons, below_first, below_prefix, below_cancel, below_longer, below_more, below_or_prefix, prefix_rest}
 use Rattle.index_reading.proofs.Tokens.{token_code, both_true}
 use Rattle.index_reading.proofs.WordCode.{above_is, is_above-from, either_true, or_left, or_right}
 use Rattle.index_reading.proofs.Escaping.{before, GoesOn, Fails, goes, unescapes, escaped_back, escaped_passes}
-use Rattle.index_reading.proofs.Utf8.{IsTried, none, letter, one, two, three, after_e0, after_f0, front_completes}
+use Rattle.index_reading.proofs.Utf8.{IsTried, none, letter, one, two, three, after_e0, after_f0, prefix_completes}
 
 -- the last path, if there is one, is a path
 abbrev pub IsLastPath : Option (List ℕ) → Type 0
@@ -51,7 +51,7 @@ letter_text = (97 ∷ [], (refl, refl))
 last_grows : (last : Option (List ℕ)) → IsLastPath last → (q : List ℕ) → begins_last last q ≡ true → Grows last q
 last_grows None ok q h = absurd (cc)
 last_grows (Some l) ok q h =
-    let f = front_rest q l h in
+    let f = prefix_rest q l h in
     let more = f.0 ++ 97 ∷ [] in
     let same : l ++ 97 ∷ [] ≡ q ++ more = ap (λ x. x ++ 97 ∷ []) f.1 ∙ append_assoc q f.0 (97 ∷ []) in
     let next : IsNext (Some l) (l ++ 97 ∷ []) = (record { some = omega (arith, length-append l (97 ∷ []), ok.some); text = IsUtf8-append l (97 ∷ []) ok.text letter_text }, below_longer l 97 []) in
@@ -79,8 +79,8 @@ abbrev t6 : Option (List ℕ) → List ℕ → Bool
 t6 last q = t5 last q || try last q (160 ∷ 128 ∷ [])
 
 -- what is tried grows to a path
-pub front_sound : (last : Option (List ℕ)) → IsLastPath last → (q : List ℕ) → may_be_path last q ≡ true → Grows last q
-front_sound last ok q h =
+pub prefix_sound : (last : Option (List ℕ)) → IsLastPath last → (q : List ℕ) → may_be_path last q ≡ true → Grows last q
+prefix_sound last ok q h =
     elim (either_true (t6 last q) (try last q (144 ∷ 128 ∷ 128 ∷ [])) h) [
       | inr k ↦ tried last q (144 ∷ 128 ∷ 128 ∷ []) k
       | inl h ↦ elim (either_true (t5 last q) (try last q (160 ∷ 128 ∷ [])) h) [
@@ -126,7 +126,7 @@ above_grown (Some l) q e h = below_more l q e h
 
 complete_above : (last : Option (List ℕ)) (q m : List ℕ) → IsUtf8 (q ++ m) → IsAbove last q → 0 < length q → may_be_path last q ≡ true
 complete_above last q m text above some =
-    let c = front_completes q m text in
+    let c = prefix_completes q m text in
     one_tried last q c.0 c.1 (next_from last (q ++ c.0) (record { some = omega (arith, some, length-append q c.0); text = c.2 }, above_grown last q c.0 above))
 
 below_long : (l w : List ℕ) → IsBelow l w → 0 < length w
@@ -134,12 +134,12 @@ below_long [] [] h = absurd (cc)
 below_long (x ∷ l) [] h = absurd (cc)
 below_long l (x ∷ w) h = omega arith
 
--- the fronts of paths are found by the tries
-pub front_whole : (last : Option (List ℕ)) (q m : List ℕ) → IsNext last (q ++ m) → may_be_path last q ≡ true
-front_whole None [] m h = one_tried None [] (97 ∷ []) letter (next_from None (97 ∷ []) (record { some = omega arith; text = letter_text }, tt))
-front_whole None (x ∷ q) m h = complete_above None (x ∷ q) m h.0.text tt (omega arith)
-front_whole (Some l) q m h =
-    elim (below_or_front l q m h.1) [
+-- the prefixes of paths are found by the tries
+pub prefix_whole : (last : Option (List ℕ)) (q m : List ℕ) → IsNext last (q ++ m) → may_be_path last q ≡ true
+prefix_whole None [] m h = one_tried None [] (97 ∷ []) letter (next_from None (97 ∷ []) (record { some = omega arith; text = letter_text }, tt))
+prefix_whole None (x ∷ q) m h = complete_above None (x ∷ q) m h.0.text tt (omega arith)
+prefix_whole (Some l) q m h =
+    elim (below_or_prefix l q m h.1) [
       | inl b ↦ complete_above (Some l) q m h.0.text b (below_long l q b)
       | inr f ↦ begun (Some l) q f
     ]
@@ -164,12 +164,12 @@ back_text q m u =
 back_above : (last : Option (List ℕ)) (q m : List ℕ) → IsAbove last (q ++ 10 ∷ m) → IsAbove last (q ++ 92 ∷ [])
 back_above None q m h = tt
 back_above (Some l) q m h =
-    elim (below_or_front l q (10 ∷ m) h) [
+    elim (below_or_prefix l q (10 ∷ m) h) [
       | inl b ↦ below_more l q (92 ∷ []) b
       | inr f ↦
-          let r = front_rest q l f in
+          let r = prefix_rest q l f in
           let less = below_cancel q r.0 (10 ∷ m) (subst (λ x. IsBelow x (q ++ 10 ∷ m)) r.1 h) in
-          subst (λ x. IsBelow x (q ++ 92 ∷ [])) (sym r.1) (below_front q r.0 (92 ∷ []) (lower r.0 m less))
+          subst (λ x. IsBelow x (q ++ 92 ∷ [])) (sym r.1) (below_prefix q r.0 (92 ∷ []) (lower r.0 m less))
     ]
   where
     lower : (r m : List ℕ) → IsBelow r (10 ∷ m) → IsBelow r (92 ∷ [])
@@ -182,7 +182,7 @@ back_above (Some l) q m h =
 pub back_whole : (last : Option (List ℕ)) (q m : List ℕ) → IsNext last (q ++ 10 ∷ m) → may_be_path last (q ++ 92 ∷ []) ≡ true
 back_whole last q m h =
     let next : IsNext last (q ++ 92 ∷ []) = (record { some = omega (arith, length-append q (92 ∷ [])); text = back_text q m h.0.text }, back_above last q m h.1) in
-    front_whole last (q ++ 92 ∷ []) [] (subst (IsNext last) (sym (append-nil (q ++ 92 ∷ []))) next)
+    prefix_whole last (q ++ 92 ∷ []) [] (subst (IsNext last) (sym (append-nil (q ++ 92 ∷ []))) next)
 
 abbrev Flat : List ℕ → Type 0
 Flat w = AllByRecursion (λ b. is_no_newline b ≡ true) w
@@ -191,28 +191,28 @@ abbrev Good : Option (List ℕ) → List ℕ → Bool
 Good last w = is_path last (path_of w)
 
 abbrev Grow : Option (List ℕ) → List ℕ → Bool
-Grow last w = is_path_front last (front_of w)
+Grow last w = is_path_prefix last (prefix_of w)
 
 path_sound : (last : Option (List ℕ)) → IsLastPath last → (w : List ℕ) → Flat w → Grow last w ≡ true → (more : List ℕ) × Flat more × (Good last (w ++ more) ≡ true)
 path_sound last ok w flat h = by (goes false w)
   where
     by : GoesOn false w ⊎ Fails false w → (more : List ℕ) × Flat more × (Good last (w ++ more) ≡ true)
     by (inr f) =
-        let gone : front_of w ≡ None = ap (unescaped (Some (92 ∷ [])) false) (sym (append-nil w)) ∙ f (Some (92 ∷ [])) [] in
-        let no = ap (is_path_front last) (sym gone) ∙ h in
+        let gone : prefix_of w ≡ None = ap (unescaped (Some (92 ∷ [])) false) (sym (append-nil w)) ∙ f (Some (92 ∷ [])) [] in
+        let no = ap (is_path_prefix last) (sym gone) ∙ h in
         absurd (cc)
     by (inl g) = ended g.open_end refl
       where
         ended : (b : Bool) → g.open_end ≡ b → (more : List ℕ) × Flat more × (Good last (w ++ more) ≡ true)
         ended false e =
-            let front : front_of w ≡ Some (g.text ++ []) = ap (unescaped (Some (92 ∷ [])) false) (sym (append-nil w)) ∙ g.is (Some (92 ∷ [])) [] ∙ ap (λ b. before g.text (unescaped (Some (92 ∷ [])) b [])) e in
-            let may : may_be_path last g.text ≡ true = subst (λ l. may_be_path last l ≡ true) (append-nil g.text) (ap (is_path_front last) (sym front) ∙ h) in
-            let x = front_sound last ok g.text may in
+            let prefix : prefix_of w ≡ Some (g.text ++ []) = ap (unescaped (Some (92 ∷ [])) false) (sym (append-nil w)) ∙ g.is (Some (92 ∷ [])) [] ∙ ap (λ b. before g.text (unescaped (Some (92 ∷ [])) b [])) e in
+            let may : may_be_path last g.text ≡ true = subst (λ l. may_be_path last l ≡ true) (append-nil g.text) (ap (is_path_prefix last) (sym prefix) ∙ h) in
+            let x = prefix_sound last ok g.text may in
             let whole : path_of (w ++ escaped x.0) ≡ Some (g.text ++ x.0) = g.is None (escaped x.0) ∙ ap (λ b. before g.text (unescaped None b (escaped x.0))) e ∙ ap (before g.text) (unescapes x.0 None) in
             (escaped x.0, escaped_passes x.0, ap (is_path last) whole ∙ x.1)
         ended true e =
-            let front : front_of w ≡ Some (g.text ++ 92 ∷ []) = ap (unescaped (Some (92 ∷ [])) false) (sym (append-nil w)) ∙ g.is (Some (92 ∷ [])) [] ∙ ap (λ b. before g.text (unescaped (Some (92 ∷ [])) b [])) e in
-            let x = front_sound last ok (g.text ++ 92 ∷ []) (ap (is_path_front last) (sym front) ∙ h) in
+            let prefix : prefix_of w ≡ Some (g.text ++ 92 ∷ []) = ap (unescaped (Some (92 ∷ [])) false) (sym (append-nil w)) ∙ g.is (Some (92 ∷ [])) [] ∙ ap (λ b. before g.text (unescaped (Some (92 ∷ [])) b [])) e in
+            let x = prefix_sound last ok (g.text ++ 92 ∷ []) (ap (is_path_prefix last) (sym prefix) ∙ h) in
             let whole : path_of (w ++ 92 ∷ escaped x.0) ≡ Some (g.text ++ 92 ∷ x.0) = g.is None (92 ∷ escaped x.0) ∙ ap (λ b. before g.text (unescaped None b (92 ∷ escaped x.0))) e ∙ ap (λ o. before g.text (put 92 o)) (unescapes x.0 None) in
             (92 ∷ escaped x.0, (refl, escaped_passes x.0), ap (is_path last) (whole ∙ ap Some (sym (append_assoc g.text (92 ∷ []) x.0))) ∙ x.1)
 
@@ -223,16 +223,16 @@ path_whole last w more flat h = by (goes false w)
     by (inr f) = let bad = ap (is_path last) (sym (f None more)) ∙ h in absurd (cc)
     by (inl g) = ended g.open_end refl
       where
-        front_is_text : (b : Bool) → g.open_end ≡ b → front_of w ≡ before g.text (unescaped (Some (92 ∷ [])) b [])
-        front_is_text b e = ap (unescaped (Some (92 ∷ [])) false) (sym (append-nil w)) ∙ g.is (Some (92 ∷ [])) [] ∙ ap (λ b. before g.text (unescaped (Some (92 ∷ [])) b [])) e
+        prefix_is_text : (b : Bool) → g.open_end ≡ b → prefix_of w ≡ before g.text (unescaped (Some (92 ∷ [])) b [])
+        prefix_is_text b e = ap (unescaped (Some (92 ∷ [])) false) (sym (append-nil w)) ∙ g.is (Some (92 ∷ [])) [] ∙ ap (λ b. before g.text (unescaped (Some (92 ∷ [])) b [])) e
 
         closed : (o : Option (List ℕ)) → is_path last (before g.text o) ≡ true → may_be_path last g.text ≡ true
         closed None k = absurd (cc)
-        closed (Some m) k = front_whole last g.text m (next_facts last (g.text ++ m) k)
+        closed (Some m) k = prefix_whole last g.text m (next_facts last (g.text ++ m) k)
 
         backed : (o : Option (List ℕ)) → is_path last (before g.text (put 92 o)) ≡ true → may_be_path last (g.text ++ 92 ∷ []) ≡ true
         backed None k = absurd (cc)
-        backed (Some m) k = front_whole last (g.text ++ 92 ∷ []) m (next_facts last ((g.text ++ 92 ∷ []) ++ m) (subst (λ l. is_path last (Some l) ≡ true) (sym (append_assoc g.text (92 ∷ []) m)) k))
+        backed (Some m) k = prefix_whole last (g.text ++ 92 ∷ []) m (next_facts last ((g.text ++ 92 ∷ []) ++ m) (subst (λ l. is_path last (Some l) ≡ true) (sym (append_assoc g.text (92 ∷ []) m)) k))
 
         newlined : (o : Option (List ℕ)) → is_path last (before g.text (put 10 o)) ≡ true → may_be_path last (g.text ++ 92 ∷ []) ≡ true
         newlined None k = absurd (cc)
@@ -254,10 +254,10 @@ path_whole last w more flat h = by (goes false w)
         ended : (b : Bool) → g.open_end ≡ b → Grow last w ≡ true
         ended false e =
             let all = ap (is_path last) (sym (g.is None more ∙ ap (λ b. before g.text (unescaped None b more)) e)) ∙ h in
-            ap (is_path_front last) (front_is_text false e ∙ ap Some (append-nil g.text)) ∙ closed (path_of more) all
+            ap (is_path_prefix last) (prefix_is_text false e ∙ ap Some (append-nil g.text)) ∙ closed (path_of more) all
         ended true e =
             let all = ap (is_path last) (sym (g.is None more ∙ ap (λ b. before g.text (unescaped None b more)) e)) ∙ h in
-            ap (is_path_front last) (front_is_text true e) ∙ after more all
+            ap (is_path_prefix last) (prefix_is_text true e) ∙ after more all
 
 some_path : (last : Option (List ℕ)) (o : Option (List ℕ)) → is_path last o ≡ true → (p : List ℕ) × (o ≡ Some p)
 some_path last None h = absurd (cc)

@@ -158,12 +158,12 @@ rows_back last bytes t = by t.heading t.lawful t.next t.is
         let ps = rows.1 in
         let tail = flat_map row_text rs ++ flat_map skipped_line ps in
         let many : 1 ≤ length hits = omega (arith, n.2, l.1) in
-        let front : heading_text (word w m) ≡ word_line r = ap (λ k. w ++ codes " " ++ numeral k ++ newline) (sym n.2) in (
+        let prefix : heading_text (word w m) ≡ word_line r = ap (λ k. w ++ codes " " ++ numeral k ++ newline) (sym n.2) in (
           r ∷ rs,
           ps,
           (record { word = l.0.0; above = l.0.1; many = many; hits = n.3 }, rows.2),
           rows.3,
-          is ∙ (λ i. front i ++ n.5 i) ∙ ap (λ x. word_line r ++ (flat_map hit_line hits ++ x)) rows.4 ∙ sym (append_assoc (word_line r) (flat_map hit_line hits) tail) ∙ sym (append_assoc (row_text r) (flat_map row_text rs) (flat_map skipped_line ps)),
+          is ∙ (λ i. prefix i ++ n.5 i) ∙ ap (λ x. word_line r ++ (flat_map hit_line hits ++ x)) rows.4 ∙ sym (append_assoc (word_line r) (flat_map hit_line hits) tail) ∙ sym (append_assoc (row_text r) (flat_map row_text rs) (flat_map skipped_line ps)),
         )
 
 pub skipped_some : (last : Option (List ℕ)) (bytes : List ℕ) → IsSkippedText last bytes → (bytes ≡ []) ⊎ SomeSkipped last bytes
@@ -191,7 +191,7 @@ module _ {S T : List ℕ → Type 0} (some : (bytes : List ℕ) → T bytes → 
 
   pub cut_some : (c : ℕ) (input : List ℕ) (k : ℕ) → IsCutShortAt S (c ∷ input) k → IsCutShortAt T (c ∷ input) k
   cut_some c input k b = record {
-    front = (b.front.0, back _ b.front.1);
+    prefix = (b.prefix.0, back _ b.prefix.1);
     no_text = λ t. elim (some _ t) [
       | inl e ↦ cc
       | inr s ↦ b.no_text s

@@ -13,7 +13,7 @@ use Rattle.index_reading.specs.declared.fault.Halt.{Halt}
 use Rattle.index_reading.specs.Numerals.{numeral, capped}
 use Rattle.index_reading.specs.Texts.{AreHits, AreRows, ArePaths, IsAbove, word_line, row_text}
 use Rattle.index_reading.specs.Lines.{Heading, word, skipped, heading_at, hit_at, skipped_at}
-use Rattle.index_reading.specs.Steps.{IsRowsText, IsHitsText, IsSkippedText, Halts, halt_of, Stops, TakesHit, TakesSkipped, TakesHits, TakesPaths, TakesRow, TakesRows, last_word, last_skipped}
+use Rattle.index_reading.specs.Steps.{IsRowsText, IsHitsText, IsSkippedText, Halts, halt_of, Stops, TakesHit, TakesSkipped, TakesPaths, TakesRow, TakesRows, last_word, last_skipped}
 use Rattle.std.specs.Prelude.{codes}
 use Rattle.text_output.specs.Paths.{newline}
 use Rattle.index_reading.proofs.States.{Behind}
@@ -75,12 +75,19 @@ hits_next {bytes} {many} {lines} {old} {now} {left} {line} {rest} t new after h 
     }
 
 -- so many hits as a counter can't count have no room in the bytes
-pub hits_end : {bytes : List ℕ} {many lines : ℕ} {old now : Drafted} {left line : ℕ} {rest : List ℕ} → TakenHits bytes many lines old now left line rest
-    → (w : List ℕ) (r : Bor (List ℕ)) → r.now ≡ rest → left ≡ 0 → length bytes + 1 < 2 ^ 64 → (n : ℕ) → many ≡ capped n → TakesHits w n lines old now bytes (Ok r)
-hits_end {bytes} {many} {lines} {old} {now} t w r e none short n c = (now.hits, omega (arith, t.count, none, t.room, short, c), t.are, t.text ∙ ap (λ l. flat_map hit_line now.hits ++ l) (sym e), t.kept)
+pub row_end : {bytes : List ℕ} {many lines : ℕ} {old now : Drafted} {left line : ℕ} {rest : List ℕ} → TakenHits bytes many lines old now left line rest
+    → (w : List ℕ) (new : Drafted) (r : Bor (List ℕ)) → new ≡ record { rows = now.rows ++ record { word = w; hits = now.hits } ∷ []; hits = []; skipped = now.skipped }
+    → r.now ≡ rest → left ≡ 0 → length bytes + 1 < 2 ^ 64 → (n : ℕ) → many ≡ capped n → TakesRow w n lines old new bytes (Ok r)
+row_end {bytes} {many} {lines} {old} {now} t w new r is e none short n c = (
+  now.hits,
+  omega (arith, t.count, none, t.room, short, c),
+  t.are,
+  t.text ∙ ap (λ l. flat_map hit_line now.hits ++ l) (sym e),
+  is ∙ ap (λ (d : Drafted). record { rows = d.rows ++ record { word = w; hits = d.hits } ∷ []; hits = []; skipped = d.skipped }) t.kept,
+)
 
 pub hits_stop : {bytes : List ℕ} {many lines : ℕ} {old now : Drafted} {left line : ℕ} {rest : List ℕ} → TakenHits bytes many lines old now left line rest
-    → (w : List ℕ) (new last : Drafted) (stop : Stop) → TakesHit now new rest (Err stop) → 0 < left → (n : ℕ) → many ≡ capped n → TakesHits w n lines old last bytes (Err (halt_of stop (line + 1)))
+    → (w : List ℕ) (new last : Drafted) (stop : Stop) → TakesHit now new rest (Err stop) → 0 < left → (n : ℕ) → many ≡ capped n → TakesRow w n lines old last bytes (Err (halt_of stop (line + 1)))
 hits_stop {bytes} {many} {lines} {old} {now} {left} {line} {rest} t w new last stop h some n c =
     let e = end_path_is now.hits in
     let end = end_path None now.hits in
@@ -224,18 +231,18 @@ rows_next {bytes} {now} {line} {rest} t w after n e new end h many c short =
     let rows : new.rows ≡ now.rows ++ row ∷ [] = ap (λ (d : Drafted). d.rows) h.4 in
     let above = subst (λ o. IsAbove o w) (sym (end_word_is now.rows)) r.lawful.0.1 in
     let room = hits_room h.0 after end.now h.3 in
-    let front_room = heading_room (word w n) rest after r.is in
-    let counted : many ≡ length h.0 = omega (arith, c, h.1, room, front_room, t.room, short) in
+    let prefix_room = heading_room (word w n) rest after r.is in
+    let counted : many ≡ length h.0 = omega (arith, c, h.1, room, prefix_room, t.room, short) in
     let some : 1 ≤ length h.0 = omega (arith, h.1, r.lawful.1) in
-    let front : heading_text (word w n) ≡ word_line row = ap (λ k. w ++ codes " " ++ numeral k ++ newline) (sym h.1) in
-    let text : rest ≡ row_text row ++ end.now = r.is ∙ (λ i. front i ++ h.3 i) ∙ sym (append_assoc (word_line row) (flat_map hit_line h.0) end.now) in
+    let prefix : heading_text (word w n) ≡ word_line row = ap (λ k. w ++ codes " " ++ numeral k ++ newline) (sym h.1) in
+    let text : rest ≡ row_text row ++ end.now = r.is ∙ (λ i. prefix i ++ h.3 i) ∙ sym (append_assoc (word_line row) (flat_map hit_line h.0) end.now) in
     record {
       are = subst (AreRows None) (sym rows) (rows_push None now.rows row t.are (record { word = r.lawful.0.0; above = above; many = some; hits = h.2 }));
       hits = ap (λ (d : Drafted). d.hits) h.4;
       skips = ap (λ (d : Drafted). d.skipped) h.4 ∙ t.skips;
       text = t.text ∙ ap (λ l. flat_map row_text now.rows ++ l) text ∙ sym (lines_append row_text now.rows row end.now) ∙ ap (λ l. flat_map row_text l ++ end.now) (sym rows);
       lined = omega (arith, t.lined, lines_push now.rows row, ap lines_of rows, counted);
-      room = omega (arith, t.room, front_room, room, counted);
+      room = omega (arith, t.room, prefix_room, room, counted);
     }
 
 pub rows_end : {bytes : List ℕ} {now : Drafted} {line : ℕ} {rest : List ℕ} → TakenRows bytes now line rest → length rest ≡ 0 → TakesRows now bytes (Ok tt)

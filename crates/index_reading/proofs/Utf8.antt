@@ -1,4 +1,4 @@
--- A front of a text is made one by some few bytes.
+-- A prefix of a text is made one by some few bytes.
 use Rattle.std.proofs.Common.{◌≡◌, ◌⊎◌, inl, inr, ℕ, ◌+◌, ◌*◌, ◌/◌, ◌%◌, ◌<◌, ◌≤◌, true, List, [], ◌∷◌, ◌++◌, length, arith, refl, sym, ap, subst, ◌∙◌, ⊎_elim, append_assoc, append-nil, length-append, lt-ltb, le-ltb, le-leb}
 use Rattle.std.specs.Prelude.{◌&&◌}
 use Rattle.std.specs.Str.{IsUtf8}
@@ -23,18 +23,18 @@ Completes q = (e : List ℕ) × IsTried e × IsUtf8 (q ++ e)
 -- two ways to cut the same bytes
 pub record IsLonger (xs ys zs ws : List ℕ) : Type 0 where
   pub rest : List ℕ
-  pub front : xs ≡ zs ++ rest
+  pub prefix : xs ≡ zs ++ rest
   pub back : ws ≡ rest ++ ys
 
 pub two_cuts : (xs ys zs ws : List ℕ) → xs ++ ys ≡ zs ++ ws → IsLonger xs ys zs ws ⊎ IsLonger zs ws xs ys
-two_cuts xs ys [] ws e = inl (record { rest = xs; front = refl; back = sym e })
-two_cuts [] ys (z ∷ zs) ws e = inr (record { rest = z ∷ zs; front = refl; back = e })
+two_cuts xs ys [] ws e = inl (record { rest = xs; prefix = refl; back = sym e })
+two_cuts [] ys (z ∷ zs) ws e = inr (record { rest = z ∷ zs; prefix = refl; back = e })
 two_cuts (x ∷ xs) ys (z ∷ zs) ws e =
     let head : x ≡ z = cc in
     let tail : xs ++ ys ≡ zs ++ ws = cc in
     elim (two_cuts xs ys zs ws tail) [
-      | inl l ↦ inl (record { rest = l.rest; front = λ i. head i ∷ l.front i; back = l.back })
-      | inr l ↦ inr (record { rest = l.rest; front = λ i. sym head i ∷ l.front i; back = l.back })
+      | inl l ↦ inl (record { rest = l.rest; prefix = λ i. head i ∷ l.prefix i; back = l.back })
+      | inr l ↦ inr (record { rest = l.rest; prefix = λ i. sym head i ∷ l.prefix i; back = l.back })
     ]
 
 utf8_char : (c : ℕ) (bs : List ℕ) → scalar c ≡ true → encode c ≡ bs → IsUtf8 bs
@@ -157,7 +157,7 @@ four_part c (a ∷ b ∷ b' ∷ b'' ∷ q) y rest s low high e = absurd (omega (
 top : (c : ℕ) → scalar c ≡ true → c < 1114112
 top c s = elim (scalar_cases c s) [ inl l ↦ omega (arith, l) | inr h ↦ h.1 ]
 
--- a front of the bytes of a character
+-- a prefix of the bytes of a character
 part_completes : (c : ℕ) (q rest : List ℕ) → scalar c ≡ true → encode c ≡ q ++ rest → Completes q
 part_completes c q [] s e = ([], none, utf8_char c (q ++ []) s e)
 part_completes c q (y ∷ rest) s e = ⊎_elim
@@ -181,11 +181,11 @@ completes [] (x ∷ q) m s e = absurd (cc)
 completes (c ∷ cs) q m s e =
     let t = both_true (scalar c) (scalars cs) s in
     elim (two_cuts (encode c) (encodes cs) q m e) [
-      | inl l ↦ part_completes c q l.rest t.0 l.front
+      | inl l ↦ part_completes c q l.rest t.0 l.prefix
       | inr l ↦
           let r = completes cs l.rest m t.1 l.back in
-          (r.0, r.1, subst IsUtf8 (sym (append_assoc (encode c) l.rest r.0) ∙ ap (λ x. x ++ r.0) (sym l.front)) (IsUtf8-append (encode c) (l.rest ++ r.0) (utf8_char c (encode c) t.0 refl) r.2))
+          (r.0, r.1, subst IsUtf8 (sym (append_assoc (encode c) l.rest r.0) ∙ ap (λ x. x ++ r.0) (sym l.prefix)) (IsUtf8-append (encode c) (l.rest ++ r.0) (utf8_char c (encode c) t.0 refl) r.2))
     ]
 
-pub front_completes : (q m : List ℕ) → IsUtf8 (q ++ m) → Completes q
-front_completes q m u = completes u.0 q m u.1.0 u.1.1
+pub prefix_completes : (q m : List ℕ) → IsUtf8 (q ++ m) → Completes q
+prefix_completes q m u = completes u.0 q m u.1.0 u.1.1

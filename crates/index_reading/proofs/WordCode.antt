@@ -11,8 +11,8 @@ use Rattle.trace_core.specs.Codes.{IsCode}
 use Rattle.trace_core.proofs.CodeLaws.{same_code}
 use Rattle.word_index.specs.Index.{IsBelow}
 use Rattle.index_reading.specs.Texts.{is_key_byte, IsWord, IsAbove}
-use Rattle.index_reading.specs.Lines.{is_good_word, may_be_word, key_at, is_above, is_front}
-use Rattle.index_reading.proofs.Orders.{below_cons, below_first, below_rest, below_front, below_cancel, below_longer, below_or_front, front_rest}
+use Rattle.index_reading.specs.Lines.{is_good_word, may_be_word, key_at, is_above, is_prefix}
+use Rattle.index_reading.proofs.Orders.{below_cons, below_first, below_rest, below_prefix, below_cancel, below_longer, below_or_prefix, prefix_rest}
 use Rattle.index_reading.proofs.Tokens.{token_code, both_true}
 
 abbrev pub Keys : List ℕ → Type 0
@@ -125,8 +125,8 @@ key_sound (Some l) ok w k h =
     elim (either_true (is_lt (slice_cmp nat_cmp l w)) _ a.1) [
       | inl q ↦ let less = lt_less (slice_cmp nat_cmp l w) q in extends_alone (Some l) w (below_some l w less) short less
       | inr q ↦
-          let b = both_true (is_front w l) _ q in
-          let f = front_rest w l b.0 in
+          let b = both_true (is_prefix w l) _ q in
+          let f = prefix_rest w l b.0 in
           let r = f.0 in
           let keys = (keys_split w r (subst Keys f.1 ok.bytes)).1 in
           let long : length l ≡ length w + length r = ap length f.1 ∙ length-append w r in
@@ -140,7 +140,7 @@ key_sound (Some l) ok w k h =
             | inr t ↦
                 let room : has_room r ≡ true = subst (λ x. has_room x ≡ true) (ap (drop (length w)) f.1 ∙ drop-append_seam w r) t in
                 let m = raises r keys room in
-                let above : IsBelow l (w ++ m.more) = subst (λ x. IsBelow x (w ++ m.more)) (sym f.1) (below_front w r m.more m.above) in
+                let above : IsBelow l (w ++ m.more) = subst (λ x. IsBelow x (w ++ m.more)) (sym f.1) (below_prefix w r m.more m.above) in
                 let size : length (w ++ m.more) ≡ length w + length m.more = length-append w m.more in
                 (m.more, m.keys, good_from (Some l) (w ++ m.more) (below_some l (w ++ m.more) above) (omega (arith, size, long, m.short, ok.short)) above)
           ]
@@ -153,12 +153,12 @@ key_whole None ok w more k h =
 key_whole (Some l) ok w more k h =
     let g = good_facts (Some l) (w ++ more) h in
     let short : length w ≤ 64 = omega (arith, g.0.1, length-append w more) in
-    let tail = is_lt (slice_cmp nat_cmp l w) || (is_front w l && (nat_lt (length l) 64 || has_room (drop (length w) l))) in
+    let tail = is_lt (slice_cmp nat_cmp l w) || (is_prefix w l && (nat_lt (length l) 64 || has_room (drop (length w) l))) in
     let rest : tail ≡ true =
-    elim (below_or_front l w more g.1) [
+    elim (below_or_prefix l w more g.1) [
       | inl b ↦ or_left _ _ (ap is_lt b)
       | inr f ↦
-          let r = front_rest w l f in
+          let r = prefix_rest w l f in
           let less : IsBelow r.0 more = below_cancel w r.0 more (subst (λ x. IsBelow x (w ++ more)) r.1 g.1) in
           let long : length l ≡ length w + length r.0 = ap length r.1 ∙ length-append w r.0 in
           let back : drop (length w) l ≡ r.0 = ap (drop (length w)) r.1 ∙ drop-append_seam w r.0 in

@@ -4,12 +4,12 @@ use Rattle.index_reading.specs.declared.path.Ending.{Ending}
 use Rattle.index_reading.specs.declared.path.Ending.TheVariants.{Whole, Open, Broken}
 use Rattle.index_reading.specs.declared.path.Step.{Step}
 use Rattle.index_reading.specs.declared.path.Step.TheVariants.{Wait, Put, Fail}
-use Rattle.index_reading.specs.Lines.{path_of, front_of, unescaped, put}
+use Rattle.index_reading.specs.Lines.{path_of, prefix_of, unescaped, put}
 
 abbrev pub Unescapes : List ℕ → List ℕ → Ending → Type 0
-Unescapes bytes out Whole = (path_of bytes ≡ Some out) × (front_of bytes ≡ Some out)
-Unescapes bytes out Open = (path_of bytes ≡ None) × (front_of bytes ≡ Some (out ++ 92 ∷ []))
-Unescapes bytes out Broken = (path_of bytes ≡ None) × (front_of bytes ≡ None)
+Unescapes bytes out Whole = (path_of bytes ≡ Some out) × (prefix_of bytes ≡ Some out)
+Unescapes bytes out Open = (path_of bytes ≡ None) × (prefix_of bytes ≡ Some (out ++ 92 ∷ []))
+Unescapes bytes out Broken = (path_of bytes ≡ None) × (prefix_of bytes ≡ None)
 
 -- what the next byte does, whatever follows it
 abbrev pub IsStep : Bool → ℕ → Step → Type 0

@@ -34,7 +34,7 @@ whole_fault_of (halts.Cut k) = BadLine k
 whole_fault_of (halts.Bad k) = BadLine k
 
 -- and in the first bytes of an input that is too long
-abbrev pub front_fault_of : Halt → IndexFault
-front_fault_of halts.Memory = Memory
-front_fault_of (halts.Cut k) = TooLong
-front_fault_of (halts.Bad k) = BadLine k
+abbrev pub prefix_fault_of : Halt → IndexFault
+prefix_fault_of halts.Memory = Memory
+prefix_fault_of (halts.Cut k) = TooLong
+prefix_fault_of (halts.Bad k) = BadLine k

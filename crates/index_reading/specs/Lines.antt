@@ -26,10 +26,10 @@ is_above None text = true
 is_above (Some last) text = is_lt (slice_cmp nat_cmp last text)
 
 -- the one begins the other
-abbrev pub is_front : List ℕ → List ℕ → Bool
-is_front [] ys = true
-is_front (x ∷ xs) [] = false
-is_front (x ∷ xs) (y ∷ ys) = (x == y) && is_front xs ys
+abbrev pub is_prefix : List ℕ → List ℕ → Bool
+is_prefix [] ys = true
+is_prefix (x ∷ xs) [] = false
+is_prefix (x ∷ xs) (y ∷ ys) = (x == y) && is_prefix xs ys
 
 abbrev pub is_good_word : Option (List ℕ) → List ℕ → Bool
 is_good_word last word = nat_lt 0 (length word) && nat_le (length word) 64 && is_above last word
@@ -38,7 +38,7 @@ is_good_word last word = nat_lt 0 (length word) && nat_le (length word) 64 && is
 abbrev pub may_be_word : Option (List ℕ) → List ℕ → Bool
 may_be_word None word = nat_le (length word) 64
 may_be_word (Some last) word = nat_le (length word) 64
-    && (is_lt (slice_cmp nat_cmp last word) || (is_front word last && (nat_lt (length last) 64 || list_any (λ b. nat_lt b 122)
+    && (is_lt (slice_cmp nat_cmp last word) || (is_prefix word last && (nat_lt (length last) 64 || list_any (λ b. nat_lt b 122)
     (drop (length word) last))))
 
 -- a word above the last one, and the space behind it
@@ -58,12 +58,12 @@ unescaped end true (b ∷ bytes) =
     else if b == 110 then put 10 (unescaped end false bytes)
     else None
 
--- the bytes of the path, or of its front
+-- the bytes of the path, or of its prefix
 abbrev pub path_of : List ℕ → Option (List ℕ)
 path_of bytes = unescaped None false bytes
 
-abbrev pub front_of : List ℕ → Option (List ℕ)
-front_of bytes = unescaped (Some (92 ∷ [])) false bytes
+abbrev pub prefix_of : List ℕ → Option (List ℕ)
+prefix_of bytes = unescaped (Some (92 ∷ [])) false bytes
 
 abbrev pub is_path : Option (List ℕ) → Option (List ℕ) → Bool
 is_path last None = false
@@ -71,23 +71,23 @@ is_path last (Some path) = nat_lt 0 (length path) && is_utf8 path && is_above la
 
 -- the last path begins with it
 abbrev pub begins_last : Option (List ℕ) → List ℕ → Bool
-begins_last None front = false
-begins_last (Some last) front = is_front front last
+begins_last None prefix = false
+begins_last (Some last) prefix = is_prefix prefix last
 
 -- a path above the last one begins so: the last one does, or these bytes end the character within which it ends
 abbrev pub may_be_path : Option (List ℕ) → List ℕ → Bool
-may_be_path last front = begins_last last front
-    || is_path last (Some front)
-    || is_path last (Some (front ++ 97 ∷ []))
-    || is_path last (Some (front ++ 128 ∷ []))
-    || is_path last (Some (front ++ 128 ∷ 128 ∷ []))
-    || is_path last (Some (front ++ 128 ∷ 128 ∷ 128 ∷ []))
-    || is_path last (Some (front ++ 160 ∷ 128 ∷ []))
-    || is_path last (Some (front ++ 144 ∷ 128 ∷ 128 ∷ []))
+may_be_path last prefix = begins_last last prefix
+    || is_path last (Some prefix)
+    || is_path last (Some (prefix ++ 97 ∷ []))
+    || is_path last (Some (prefix ++ 128 ∷ []))
+    || is_path last (Some (prefix ++ 128 ∷ 128 ∷ []))
+    || is_path last (Some (prefix ++ 128 ∷ 128 ∷ 128 ∷ []))
+    || is_path last (Some (prefix ++ 160 ∷ 128 ∷ []))
+    || is_path last (Some (prefix ++ 144 ∷ 128 ∷ 128 ∷ []))
 
-abbrev pub is_path_front : Option (List ℕ) → Option (List ℕ) → Bool
-is_path_front last None = false
-is_path_front last (Some front) = may_be_path last front
+abbrev pub is_path_prefix : Option (List ℕ) → Option (List ℕ) → Bool
+is_path_prefix last None = false
+is_path_prefix last (Some prefix) = may_be_path last prefix
 
 abbrev pub is_no_newline : ℕ → Bool
 is_no_newline b = not (b == 10)
@@ -99,7 +99,7 @@ plain bytes = unwrap_or (path_of bytes) []
 -- a path above the last one, and the end of its line
 abbrev pub path_at : Option (List ℕ) → Reader (List ℕ)
 path_at last =
-    as_value plain (token_from is_no_newline (λ bytes. is_path last (path_of bytes)) (λ bytes. is_path_front last (front_of bytes)) 10 [])
+    as_value plain (token_from is_no_newline (λ bytes. is_path last (path_of bytes)) (λ bytes. is_path_prefix last (prefix_of bytes)) 10 [])
 
 abbrev pub figure_at : ℕ → Reader ℕ
 figure_at stop = number_at 1 (2 ^ 64) stop
@@ -108,12 +108,12 @@ abbrev pub hit_from : (ℕ × ℕ) × List ℕ → Hit
 hit_from p = record { path = p.1; count = p.0.0; line = p.0.1 }
 
 -- the numbers of the line of a file
-abbrev pub hit_front_at : Reader (ℕ × ℕ)
-hit_front_at = after_word (codes "  ") (both (figure_at 32) (λ _. figure_at 32))
+abbrev pub hit_prefix_at : Reader (ℕ × ℕ)
+hit_prefix_at = after_word (codes "  ") (both (figure_at 32) (λ _. figure_at 32))
 
 -- the line of a file with a path above the last one
 abbrev pub hit_at : Option (List ℕ) → Reader Hit
-hit_at last = as_value hit_from (both hit_front_at (λ _. path_at last))
+hit_at last = as_value hit_from (both hit_prefix_at (λ _. path_at last))
 
 abbrev pub skipped_at : Option (List ℕ) → Reader (List ℕ)
 skipped_at last = after_word (codes "skipped: ") (path_at last)

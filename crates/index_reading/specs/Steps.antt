@@ -12,8 +12,8 @@ use Rattle.index_reading.specs.declared.fault.Stop.{Stop}
 use Rattle.index_reading.specs.declared.fault.Stop.TheVariants.{Memory, More, Dead}
 use Rattle.index_reading.specs.declared.fault.Halt.{Halt}
 use Rattle.index_reading.specs.declared.fault.Halt.TheVariants as halts
-use Rattle.index_reading.specs.declared.lines.Front.{Front}
-use Rattle.index_reading.specs.declared.lines.Front.TheVariants as fronts
+use Rattle.index_reading.specs.declared.lines.Prefix.{Prefix}
+use Rattle.index_reading.specs.declared.lines.Prefix.TheVariants as prefixes
 use Rattle.index_reading.specs.Texts.{AreHits, AreRows, ArePaths, text_of}
 use Rattle.index_reading.specs.Lines.{Heading, word, skipped, hit_at, skipped_at}
 
@@ -38,9 +38,9 @@ abbrev pub last_skipped : Drafted → Option (List ℕ)
 last_skipped d = slice_get d.skipped (length d.skipped - 1)
 
 -- the word and its number, or the path that was laid down
-abbrev pub heading_of : List ℕ → Front → Heading
-heading_of path (fronts.Word w many) = word w.now many
-heading_of path fronts.Skipped = skipped path
+abbrev pub heading_of : List ℕ → Prefix → Heading
+heading_of path (prefixes.Word w many) = word w.now many
+heading_of path prefixes.Skipped = skipped path
 
 -- all of the first bytes pass the test
 abbrev pub IsPassed : (ℕ → Bool) → List ℕ → ℕ → Type 0
@@ -82,13 +82,6 @@ abbrev pub Halts : (List ℕ → Type 0) → ℕ → List ℕ → Halt → Type 
 Halts Text lines bytes halts.Memory = Unit {0}
 Halts Text lines bytes (halts.Cut k) = (lines < k) × IsCutShortAt Text bytes (k - lines)
 Halts Text lines bytes (halts.Bad k) = (lines < k) × IsBrokenAt Text bytes (k - lines)
-
--- so many hits of a row were taken
-abbrev pub TakesHits : List ℕ → ℕ → ℕ → Drafted → Drafted → List ℕ → Result (Bor (List ℕ)) Halt → Type 0
-TakesHits w many lines old new bytes (Ok rest) =
-    (hits : List Hit) × (length hits ≡ many) × AreHits None hits × (bytes ≡ flat_map hit_line hits ++ rest.now)
-    × (new ≡ record old { hits = hits })
-TakesHits w many lines old new bytes (Err halt) = Halts (IsHitsText w many None) lines bytes halt
 
 -- a row was taken behind its first line
 abbrev pub TakesRow : List ℕ → ℕ → ℕ → Drafted → Drafted → List ℕ → Result (Bor (List ℕ)) Halt → Type 0

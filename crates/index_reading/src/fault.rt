@@ -14,7 +14,7 @@ pub enum IndexFault {
     Read,
 }
 
-/// Why a part of a line was not read: want of memory, or the bytes are only a front of what could be read, or no front of it.
+/// Why a part of a line was not read: want of memory, or the bytes are only a prefix of what could be read, or no prefix of it.
 #[derive(Clone, Copy)]
 pub enum Stop {
     Memory,
@@ -22,7 +22,7 @@ pub enum Stop {
     Dead,
 }
 
-/// Why a text was not read: want of memory, or this line is only a front of one that could be read, or no front of it.
+/// Why a text was not read: want of memory, or this line is only a prefix of one that could be read, or no prefix of it.
 #[derive(Clone, Copy)]
 pub enum Halt {
     Memory,

@@ -3,7 +3,7 @@ ghost use Rattle.std.specs.Prelude.{◌≡◌, ◌<◌, ◌≤◌, false, length
 ghost use Rattle.std.specs.List.{list_any};
 ghost use Rattle.std.specs.Option.{option_copied};
 ghost use Rattle.index_reading.specs.Texts.{is_key_byte};
-ghost use Rattle.index_reading.specs.Lines.{is_front, is_good_word, may_be_word, key_at, is_above};
+ghost use Rattle.index_reading.specs.Lines.{is_prefix, is_good_word, may_be_word, key_at, is_above};
 ghost use Rattle.index_reading.specs.Steps.{Gives, IsPassed};
 
 use crate::fault::Stop;
@@ -31,7 +31,7 @@ pub fn above(last: Option<&[u8]>, text: &[u8]) -> bool
 
 /// Whether the one begins the other.
 pub fn begins(one: &[u8], other: &[u8]) -> bool
-    ensures { result ≡ is_front one.now other.now }
+    ensures { result ≡ is_prefix one.now other.now }
 {
     if other.len() < one.len() {
         return false;

@@ -2,7 +2,7 @@
 ghost use Rattle.std.specs.Prelude.{◌≡◌, ◌∷◌, ◌++◌, [], OnOk};
 ghost use Rattle.std.specs.Option.{option_copied};
 ghost use Rattle.trace_core.specs.Reading.{as_value};
-ghost use Rattle.index_reading.specs.Lines.{capped_heading, capped_line, heading_at, key_line_at, skipped_at, hit_front_at};
+ghost use Rattle.index_reading.specs.Lines.{capped_heading, capped_line, heading_at, key_line_at, skipped_at, hit_prefix_at};
 ghost use Rattle.index_reading.specs.Steps.{Gives, TakesHit, TakesSkipped, heading_of};
 
 use crate::fault::Stop;
@@ -13,9 +13,9 @@ use index_table::Draft;
 use std::alloc::AllocError;
 use std::str::from_utf8;
 
-/// The front of a row with its number of files as far as a counter goes, or a skipped path.
+/// The prefix of a row with its number of files as far as a counter goes, or a skipped path.
 #[derive(Clone, Copy)]
-pub enum Front<'b> {
+pub enum Prefix<'b> {
     Word { word: &'b [u8], many: u64 },
     Skipped,
 }
@@ -64,7 +64,7 @@ pub fn heading<'b>(
     bytes: &'b [u8],
     last: Option<&[u8]>,
     out: &mut Vec<u8>,
-) -> Result<(Front<'b>, &'b [u8]), Stop>
+) -> Result<(Prefix<'b>, &'b [u8]), Stop>
     ensures { Gives (λ x. (heading_of out.new.items x.0, x.1.now)) result
         (as_value capped_heading (heading_at (option_copied last.entry)) bytes.now) }
 {
@@ -72,10 +72,10 @@ pub fn heading<'b>(
         Err(Stop::Dead) => {}
         Err(Stop::More) => return Err(Stop::More),
         Err(Stop::Memory) => return Err(Stop::Memory),
-        Ok((word, many, rest)) => return Ok((Front::Word { word, many }, rest)),
+        Ok((word, many, rest)) => return Ok((Prefix::Word { word, many }, rest)),
     }
     match skipped_line(bytes, None, out) {
-        Ok(rest) => Ok((Front::Skipped, rest)),
+        Ok(rest) => Ok((Prefix::Skipped, rest)),
         Err(stop) => Err(stop),
     }
 }
@@ -112,8 +112,8 @@ pub fn take_skipped<'b>(
 }
 
 // Reads the numbers of the line of a file.
-fn hit_front(bytes: &[u8]) -> Result<(u64, u64, &[u8]), Stop>
-    ensures { Gives (λ x. ((x.0, x.1), x.2.now)) result (hit_front_at bytes.now) }
+fn hit_prefix(bytes: &[u8]) -> Result<(u64, u64, &[u8]), Stop>
+    ensures { Gives (λ x. ((x.0, x.1), x.2.now)) result (hit_prefix_at bytes.now) }
 {
     let rest = match word(bytes, b"  ") {
         Ok(rest) => rest,
@@ -133,7 +133,7 @@ fn hit_front(bytes: &[u8]) -> Result<(u64, u64, &[u8]), Stop>
 pub fn take_hit<'b>(bytes: &'b [u8], draft: &mut Draft, out: &mut Vec<u8>) -> Result<&'b [u8], Stop>
     ensures { TakesHit draft.old draft.new bytes.now result }
 {
-    let (count, line, rest) = match hit_front(bytes) {
+    let (count, line, rest) = match hit_prefix(bytes) {
         Ok(read) => read,
         Err(stop) => return Err(stop),
     };

@@ -2,10 +2,10 @@
 ghost use Rattle.std.specs.Prelude.{◌≡◌, ℕ, ◌+◌, ◌<◌, ◌≤◌, ◌^◌, [], length, None, IfOk, IfErr};
 ghost use Rattle.index_reading.specs.Numerals.{capped};
 ghost use Rattle.index_reading.specs.Texts.{ReadsAs, IsIndexText, ArePaths};
-ghost use Rattle.index_reading.specs.Steps.{Halts, TakesHits, TakesPaths, TakesRow, TakesRows, halt_of};
+ghost use Rattle.index_reading.specs.Steps.{Halts, TakesPaths, TakesRow, TakesRows, halt_of};
 
 use crate::fault::{Halt, Stop};
-use crate::lines::{Front, add_skipped, heading, take_hit, take_skipped};
+use crate::lines::{Prefix, add_skipped, heading, take_hit, take_skipped};
 use index_table::{Draft, Index};
 use std::alloc::Global;
 
@@ -20,36 +20,8 @@ fn halt_at(stop: Stop, line: u64) -> Halt
     }
 }
 
-// Takes so many hits of a row, behind so many lines. The greatest number of 64 bits stands for every greater one too: the bytes end first.
-fn take_hits<'b>(
-    bytes: &'b [u8],
-    word: &[u8],
-    many: u64,
-    lines: u64,
-    draft: &mut Draft,
-    out: &mut Vec<u8>,
-) -> Result<&'b [u8], Halt>
-    requires none { draft.old.hits ≡ [] }
-    requires many { 1 ≤ many }
-    requires short { lines + length bytes.now + 1 < 2 ^ 64 }
-    ensures { (n : ℕ) → many ≡ capped n → TakesHits word.now n lines draft.old draft.new bytes.now result }
-{
-    let _ = word;
-    let mut rest = bytes;
-    let mut left = many;
-    let mut line = lines;
-    while left > 0 {
-        match take_hit(rest, draft, out) {
-            Ok(after) => rest = after,
-            Err(stop) => return Err(halt_at(stop, line + 1)),
-        }
-        left -= 1;
-        line += 1;
-    }
-    Ok(rest)
-}
-
-// Takes a row of so many hits behind its first line and so many lines.
+// Takes a row of so many hits behind its first line and so many lines. The greatest number of 64 bits stands for every greater one too: the
+// bytes end first.
 fn take_row<'b>(
     bytes: &'b [u8],
     word: &[u8],
@@ -63,12 +35,20 @@ fn take_row<'b>(
     requires short { lines + length bytes.now + 1 < 2 ^ 64 }
     ensures { (n : ℕ) → many ≡ capped n → TakesRow word.now n lines draft.old draft.new bytes.now result }
 {
-    match take_hits(bytes, word, many, lines, draft, out) {
-        Ok(rest) => match draft.end_row(word) {
-            Ok(()) => Ok(rest),
-            Err(_) => Err(Halt::Memory),
-        },
-        Err(halt) => Err(halt),
+    let mut rest = bytes;
+    let mut left = many;
+    let mut line = lines;
+    while left > 0 {
+        match take_hit(rest, draft, out) {
+            Ok(after) => rest = after,
+            Err(stop) => return Err(halt_at(stop, line + 1)),
+        }
+        left -= 1;
+        line += 1;
+    }
+    match draft.end_row(word) {
+        Ok(()) => Ok(rest),
+        Err(_) => Err(Halt::Memory),
     }
 }
 
@@ -99,20 +79,20 @@ fn take_rows(bytes: &[u8], draft: &mut Draft, out: &mut Vec<u8>) -> Result<(), H
     let mut rest = bytes;
     let mut line = 0u64;
     while rest.len() > 0 {
-        let (front, after) = match heading(rest, draft.last_word(), out) {
+        let (prefix, after) = match heading(rest, draft.last_word(), out) {
             Ok(read) => read,
             Err(stop) => return Err(halt_at(stop, line + 1)),
         };
         line += 1;
-        match front {
-            Front::Word { word, many } => {
+        match prefix {
+            Prefix::Word { word, many } => {
                 match take_row(after, word, many, line, draft, out) {
                     Ok(behind) => rest = behind,
                     Err(halt) => return Err(halt),
                 }
                 line += many;
             }
-            Front::Skipped => {
+            Prefix::Skipped => {
                 match add_skipped(draft, out) {
                     Ok(()) => {}
                     Err(_) => return Err(Halt::Memory),

@@ -1,7 +1,7 @@
 //! Paths above the last one.
 ghost use Rattle.std.specs.Prelude.{◌≡◌, ◌<◌, ◌≤◌, ◌++◌, length, Some, IfOk, OnOk, slice_index, if◌then◌else◌};
 ghost use Rattle.std.specs.Option.{option_copied};
-ghost use Rattle.index_reading.specs.Lines.{path_at, front_of, is_path, is_path_front, is_no_newline, begins_last};
+ghost use Rattle.index_reading.specs.Lines.{path_at, prefix_of, is_path, is_path_prefix, is_no_newline, begins_last};
 ghost use Rattle.index_reading.specs.Escapes.{Unescapes, IsStep};
 ghost use Rattle.index_reading.specs.Steps.{Gives, IsPassed};
 
@@ -94,49 +94,49 @@ fn good(last: Option<&[u8]>, path: &[u8]) -> bool
 }
 
 // Whether it is a path above the last one with these bytes behind it.
-fn completes(last: Option<&[u8]>, front: &mut Vec<u8>, more: &[u8]) -> Result<bool, AllocError>
-    ensures tells { IfOk result (λ b. b ≡ is_path (option_copied last.entry) (Some (front.old.items ++ more.now))) }
-    ensures kept { OnOk result (front.new.items ≡ front.old.items) }
+fn completes(last: Option<&[u8]>, prefix: &mut Vec<u8>, more: &[u8]) -> Result<bool, AllocError>
+    ensures tells { IfOk result (λ b. b ≡ is_path (option_copied last.entry) (Some (prefix.old.items ++ more.now))) }
+    ensures kept { OnOk result (prefix.new.items ≡ prefix.old.items) }
 {
-    let start = front.len();
-    front.extend_from_slice(more)?;
-    let answer = good(last, front);
-    front.truncate(start);
+    let start = prefix.len();
+    prefix.extend_from_slice(more)?;
+    let answer = good(last, prefix);
+    prefix.truncate(start);
     Ok(answer)
 }
 
 // Whether the last path begins so.
-fn last_begins(last: Option<&[u8]>, front: &[u8]) -> bool
-    ensures { result ≡ begins_last (option_copied last.entry) front.now }
+fn last_begins(last: Option<&[u8]>, prefix: &[u8]) -> bool
+    ensures { result ≡ begins_last (option_copied last.entry) prefix.now }
 {
     match last {
         None => false,
-        Some(last) => begins(front, last),
+        Some(last) => begins(prefix, last),
     }
 }
 
 // Whether a path above the last one begins so. The bytes of a character that has begun are tried.
 #[cold]
-fn may_be(last: Option<&[u8]>, front: &mut Vec<u8>) -> Result<bool, AllocError>
-    ensures { IfOk result (λ b. b ≡ is_path_front (option_copied last.entry) (Some front.old.items)) }
+fn may_be(last: Option<&[u8]>, prefix: &mut Vec<u8>) -> Result<bool, AllocError>
+    ensures { IfOk result (λ b. b ≡ is_path_prefix (option_copied last.entry) (Some prefix.old.items)) }
 {
-    if last_begins(last, front) || good(last, front) {
+    if last_begins(last, prefix) || good(last, prefix) {
         return Ok(true);
     }
     Ok(
-        completes(last, front, b"a")?
-            || completes(last, front, b"\x80")?
-            || completes(last, front, b"\x80\x80")?
-            || completes(last, front, b"\x80\x80\x80")?
-            || completes(last, front, b"\xa0\x80")?
-            || completes(last, front, b"\x90\x80\x80")?,
+        completes(last, prefix, b"a")?
+            || completes(last, prefix, b"\x80")?
+            || completes(last, prefix, b"\x80\x80")?
+            || completes(last, prefix, b"\x80\x80\x80")?
+            || completes(last, prefix, b"\xa0\x80")?
+            || completes(last, prefix, b"\x90\x80\x80")?,
     )
 }
 
-// Reads the front of a path, which has no end.
+// Reads the prefix of a path, which has no end.
 #[cold]
 fn cut_path(bytes: &[u8], last: Option<&[u8]>, out: &mut Vec<u8>) -> Result<bool, AllocError>
-    ensures { IfOk result (λ b. b ≡ is_path_front (option_copied last.entry) (front_of bytes.now)) }
+    ensures { IfOk result (λ b. b ≡ is_path_prefix (option_copied last.entry) (prefix_of bytes.now)) }
 {
     match unescape(bytes, out)? {
         Ending::Broken => Ok(false),

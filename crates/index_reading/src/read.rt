@@ -1,6 +1,6 @@
 //! An index from a source.
 ghost use Rattle.std.specs.Prelude.{◌≡◌, ◌<◌, ◌≤◌, length, IfOk, IfErr, IfSome};
-ghost use Rattle.index_reading.specs.Faults.{budget, HasReason, IsTold, whole_fault_of, front_fault_of};
+ghost use Rattle.index_reading.specs.Faults.{budget, HasReason, IsTold, whole_fault_of, prefix_fault_of};
 ghost use Rattle.index_reading.specs.Input.{IsDue};
 ghost use Rattle.index_reading.specs.Texts.{ReadsAs};
 
@@ -23,8 +23,8 @@ fn whole_fault(halt: Halt) -> IndexFault
 }
 
 // The fault of the first bytes of an input that is too long.
-fn front_fault(halt: Halt) -> IndexFault
-    ensures { result ≡ front_fault_of halt }
+fn prefix_fault(halt: Halt) -> IndexFault
+    ensures { result ≡ prefix_fault_of halt }
 {
     match halt {
         Halt::Memory => IndexFault::Memory,
@@ -46,7 +46,7 @@ fn read_whole(alloc: Global, bytes: &[u8]) -> Result<Index, IndexFault>
 }
 
 // Why nothing is read of a source that has more bytes than a text may have, of which these are the first.
-fn front_reason(alloc: Global, bytes: &[u8]) -> IndexFault
+fn prefix_reason(alloc: Global, bytes: &[u8]) -> IndexFault
     requires { budget < length bytes.now }
     ensures { IsDue bytes.now result }
 {
@@ -54,12 +54,12 @@ fn front_reason(alloc: Global, bytes: &[u8]) -> IndexFault
         Ok(_) => return IndexFault::TooLong,
         Err(halt) => halt,
     };
-    front_fault(halt)
+    prefix_fault(halt)
 }
 
 /// Reads the index text that the source gives, which has at most 67,108,864 bytes.
 ///
-/// A bad line is the first at which the input is no front of an index text; where it ends too early, the line that was to go on.
+/// A bad line is the first at which the input is no prefix of an index text; where it ends too early, the line that was to go on.
 /// It is told where the first 67,108,864 bytes show it, or the end of the input within them. `TooLong` says that more bytes come and
 /// that these begin an index text. `Read` says that the source failed; with any other answer it did not.
 pub fn read_index<I: Source>(alloc: Global, input: &mut I) -> Result<Index, IndexFault>
@@ -71,6 +71,6 @@ pub fn read_index<I: Source>(alloc: Global, input: &mut I) -> Result<Index, Inde
     if bytes.len() <= BUDGET {
         read_whole(alloc, &bytes)
     } else {
-        Err(front_reason(alloc, &bytes))
+        Err(prefix_reason(alloc, &bytes))
     }
 }

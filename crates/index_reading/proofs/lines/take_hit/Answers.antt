@@ -2,12 +2,12 @@ use Rattle.std.proofs.Common.{◌≡◌, ◌∙◌, subst, Ok}
 use Rattle.word_index.specs.Index.{Hit}
 use Rattle.index_reading.specs.Lines.{path_at}
 use Rattle.index_reading.specs.Steps.{last_path}
-use Rattle.index_reading.proofs.LineReads.{front_stops, hit_path_stops, hit_read}
+use Rattle.index_reading.proofs.LineReads.{prefix_stops, hit_path_stops, hit_read}
 use Rattle.index_reading.specs.Steps.{Stops}
 use Rattle.index_reading.proofs.lines.take_hit.Goals as goal
 
 pub returns-in-Err : goal.returns-in-Err
-returns-in-Err c = front_stops (last_path c.args.draft.now) c.args.bytes.now c.in-Err.stop c.in-Err.ensures
+returns-in-Err c = prefix_stops (last_path c.args.draft.now) c.args.bytes.now c.in-Err.stop c.in-Err.ensures
 
 pub returns-in-Ok-hit : goal.returns-in-Ok-hit
 returns-in-Ok-hit c =

@@ -1,5 +1,5 @@
 use Rattle.std.proofs.Common.{◌≡◌, subst, arith, Ok, List, ℕ, ◌++◌, ◌∷◌, []}
-use Rattle.index_reading.specs.declared.lines.Front.{Front}
+use Rattle.index_reading.specs.declared.lines.Prefix.{Prefix}
 use Rattle.trace_core.specs.Reading.{as_value}
 use Rattle.index_reading.specs.Lines.{word, skipped, heading_at, capped_heading}
 use Rattle.index_reading.specs.Steps.{Stops, heading_of, last_word}
@@ -29,7 +29,7 @@ take_row-requires-clause-many c =
     let after = c.in-Ok.read.1.now in
     let out = c.heading.new.out.items in
     let a = subst (λ l. as_value capped_heading (heading_at l) rest ≡ Ok (heading_of out c.in-Ok.read.0, after)) c.last_word.ensures c.in-Ok.ensures in
-    let b = subst (λ (f : Front). as_value capped_heading (heading_at (last_word c.loop-rest.draft)) rest ≡ Ok (heading_of out f, after)) c.in-Word.is a in
+    let b = subst (λ (f : Prefix). as_value capped_heading (heading_at (last_word c.loop-rest.draft)) rest ≡ Ok (heading_of out f, after)) c.in-Word.is a in
     let e = word_read (last_word c.loop-rest.draft) rest c.in-Word.word.now c.in-Word.many after b in
     let some = (heading_read c.loop-rest.draft (word c.in-Word.word.now e.count) rest after c.loop-rest.invariant.are e.read).lawful.1 in
     omega (arith, some, e.most)
@@ -40,7 +40,7 @@ take_row-requires-clause-short c =
     let after = c.in-Ok.read.1.now in
     let out = c.heading.new.out.items in
     let a = subst (λ l. as_value capped_heading (heading_at l) rest ≡ Ok (heading_of out c.in-Ok.read.0, after)) c.last_word.ensures c.in-Ok.ensures in
-    let b = subst (λ (f : Front). as_value capped_heading (heading_at (last_word c.loop-rest.draft)) rest ≡ Ok (heading_of out f, after)) c.in-Word.is a in
+    let b = subst (λ (f : Prefix). as_value capped_heading (heading_at (last_word c.loop-rest.draft)) rest ≡ Ok (heading_of out f, after)) c.in-Word.is a in
     let e = word_read (last_word c.loop-rest.draft) rest c.in-Word.word.now c.in-Word.many after b in
     let x = word c.in-Word.word.now e.count in
     let room = heading_room x rest after (heading_read c.loop-rest.draft x rest after c.loop-rest.invariant.are e.read).is in
@@ -52,7 +52,7 @@ returns-in-Err-take_row c =
     let after = c.in-Ok.read.1.now in
     let out = c.heading.new.out.items in
     let a = subst (λ l. as_value capped_heading (heading_at l) rest ≡ Ok (heading_of out c.in-Ok.read.0, after)) c.last_word.ensures c.in-Ok.ensures in
-    let b = subst (λ (f : Front). as_value capped_heading (heading_at (last_word c.loop-rest.draft)) rest ≡ Ok (heading_of out f, after)) c.in-Word.is a in
+    let b = subst (λ (f : Prefix). as_value capped_heading (heading_at (last_word c.loop-rest.draft)) rest ≡ Ok (heading_of out f, after)) c.in-Word.is a in
     let e = word_read (last_word c.loop-rest.draft) rest c.in-Word.word.now c.in-Word.many after b in
     rows_behind c.loop-rest.invariant (word c.in-Word.word.now e.count) after e.read c.take_row.new.draft c.in-Err-take_row.halt (c.in-Err-take_row.ensures e.count e.most)
 
@@ -62,7 +62,7 @@ overflow_add-line-in-Word c =
     let after = c.in-Ok.read.1.now in
     let out = c.heading.new.out.items in
     let a = subst (λ l. as_value capped_heading (heading_at l) rest ≡ Ok (heading_of out c.in-Ok.read.0, after)) c.last_word.ensures c.in-Ok.ensures in
-    let b = subst (λ (f : Front). as_value capped_heading (heading_at (last_word c.loop-rest.draft)) rest ≡ Ok (heading_of out f, after)) c.in-Word.is a in
+    let b = subst (λ (f : Prefix). as_value capped_heading (heading_at (last_word c.loop-rest.draft)) rest ≡ Ok (heading_of out f, after)) c.in-Word.is a in
     let e = word_read (last_word c.loop-rest.draft) rest c.in-Word.word.now c.in-Word.many after b in
     let t = rows_next c.loop-rest.invariant c.in-Word.word.now after e.count e.read c.take_row.new.draft c.in-Ok-take_row.behind (c.in-Ok-take_row.ensures e.count e.most) c.in-Word.many e.most c.requires.short in
     omega (arith, t.room, c.requires.short)
@@ -73,7 +73,7 @@ loop-rest-smaller c =
     let after = c.in-Ok.read.1.now in
     let out = c.heading.new.out.items in
     let a = subst (λ l. as_value capped_heading (heading_at l) rest ≡ Ok (heading_of out c.in-Ok.read.0, after)) c.last_word.ensures c.in-Ok.ensures in
-    let b = subst (λ (f : Front). as_value capped_heading (heading_at (last_word c.loop-rest.draft)) rest ≡ Ok (heading_of out f, after)) c.in-Word.is a in
+    let b = subst (λ (f : Prefix). as_value capped_heading (heading_at (last_word c.loop-rest.draft)) rest ≡ Ok (heading_of out f, after)) c.in-Word.is a in
     let e = word_read (last_word c.loop-rest.draft) rest c.in-Word.word.now c.in-Word.many after b in
     row_shorter c.loop-rest.invariant c.in-Word.word.now after e.count e.read c.take_row.new.draft c.in-Ok-take_row.behind (c.in-Ok-take_row.ensures e.count e.most)
 
@@ -83,7 +83,7 @@ loop-rest-preserved c =
     let after = c.in-Ok.read.1.now in
     let out = c.heading.new.out.items in
     let a = subst (λ l. as_value capped_heading (heading_at l) rest ≡ Ok (heading_of out c.in-Ok.read.0, after)) c.last_word.ensures c.in-Ok.ensures in
-    let b = subst (λ (f : Front). as_value capped_heading (heading_at (last_word c.loop-rest.draft)) rest ≡ Ok (heading_of out f, after)) c.in-Word.is a in
+    let b = subst (λ (f : Prefix). as_value capped_heading (heading_at (last_word c.loop-rest.draft)) rest ≡ Ok (heading_of out f, after)) c.in-Word.is a in
     let e = word_read (last_word c.loop-rest.draft) rest c.in-Word.word.now c.in-Word.many after b in
     rows_next c.loop-rest.invariant c.in-Word.word.now after e.count e.read c.take_row.new.draft c.in-Ok-take_row.behind (c.in-Ok-take_row.ensures e.count e.most) c.in-Word.many e.most c.requires.short
 
@@ -93,7 +93,7 @@ take_paths-requires-clause-short c =
     let after = c.in-Ok.read.1.now in
     let out = c.heading.new.out.items in
     let a = subst (λ l. as_value capped_heading (heading_at l) rest ≡ Ok (heading_of out c.in-Ok.read.0, after)) c.last_word.ensures c.in-Ok.ensures in
-    let b = subst (λ (f : Front). as_value capped_heading (heading_at (last_word c.loop-rest.draft)) rest ≡ Ok (heading_of out f, after)) c.in-Skipped.is a in
+    let b = subst (λ (f : Prefix). as_value capped_heading (heading_at (last_word c.loop-rest.draft)) rest ≡ Ok (heading_of out f, after)) c.in-Skipped.is a in
     let e = skipped_read (last_word c.loop-rest.draft) rest out after b in
     let room = heading_room (skipped out) rest after (heading_read c.loop-rest.draft (skipped out) rest after c.loop-rest.invariant.are e).is in
     omega (arith, room, c.loop-rest.invariant.room, c.requires.short)
@@ -104,7 +104,7 @@ take_paths-requires-clause-before c =
     let after = c.in-Ok.read.1.now in
     let out = c.heading.new.out.items in
     let a = subst (λ l. as_value capped_heading (heading_at l) rest ≡ Ok (heading_of out c.in-Ok.read.0, after)) c.last_word.ensures c.in-Ok.ensures in
-    let b = subst (λ (f : Front). as_value capped_heading (heading_at (last_word c.loop-rest.draft)) rest ≡ Ok (heading_of out f, after)) c.in-Skipped.is a in
+    let b = subst (λ (f : Prefix). as_value capped_heading (heading_at (last_word c.loop-rest.draft)) rest ≡ Ok (heading_of out f, after)) c.in-Skipped.is a in
     let e = skipped_read (last_word c.loop-rest.draft) rest out after b in
     let m = subst (λ (p : List ℕ). c.add_skipped.new.draft ≡ record c.loop-rest.draft { skipped = c.loop-rest.draft.skipped ++ p ∷ [] }) c.deref.ensures.value c.in-Ok-add_skipped.ensures in
     first_skipped c.loop-rest.invariant out after e c.add_skipped.new.draft m
@@ -115,7 +115,7 @@ returns-in-Skipped c =
     let after = c.in-Ok.read.1.now in
     let out = c.heading.new.out.items in
     let a = subst (λ l. as_value capped_heading (heading_at l) rest ≡ Ok (heading_of out c.in-Ok.read.0, after)) c.last_word.ensures c.in-Ok.ensures in
-    let b = subst (λ (f : Front). as_value capped_heading (heading_at (last_word c.loop-rest.draft)) rest ≡ Ok (heading_of out f, after)) c.in-Skipped.is a in
+    let b = subst (λ (f : Prefix). as_value capped_heading (heading_at (last_word c.loop-rest.draft)) rest ≡ Ok (heading_of out f, after)) c.in-Skipped.is a in
     let e = skipped_read (last_word c.loop-rest.draft) rest out after b in
     let m = subst (λ (p : List ℕ). c.add_skipped.new.draft ≡ record c.loop-rest.draft { skipped = c.loop-rest.draft.skipped ++ p ∷ [] }) c.deref.ensures.value c.in-Ok-add_skipped.ensures in
     rows_last c.loop-rest.invariant out after e c.add_skipped.new.draft c.take_paths.new.draft m c.take_paths.result c.take_paths.ensures

@@ -10,4 +10,4 @@ returns-clause-tells c = subst (λ l. c.good-answer.result ≡ is_path (option_c
 pub returns-clause-kept : goal.returns-clause-kept
 returns-clause-kept c =
     c.truncate.ensures.items ∙ ap (take c.len-start.result) c.in_ok-extend_from_slice.ensures.items
-    ∙ take_at c.args.front.now.items c.args.more.now c.len-start.result (sym (c.len-start.ensures ∙ c.args.front.now.ok.0))
+    ∙ take_at c.args.prefix.now.items c.args.more.now c.len-start.result (sym (c.len-start.ensures ∙ c.args.prefix.now.ok.0))

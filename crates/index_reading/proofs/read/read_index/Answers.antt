@@ -20,10 +20,10 @@ returns-then-len-le-BUDGET-clause-fault g c =
     (λ f due. (rw c.deref.ensures.value at due) (g.I.Source.left c.args.input.now) (g.I.Source.faults c.args.input.now) (g.I.Source.faults c.take_input.new.input) c.in_ok-bytes.ensures.bytes)
     c.read_whole.ensures.fault
 
-pub front_reason-requires : goal.front_reason-requires
-front_reason-requires g c = rw c.deref-else-len-le-BUDGET.ensures.value (omega (arith, c.if-len-le-BUDGET.false, c.len.ensures))
+pub prefix_reason-requires : goal.prefix_reason-requires
+prefix_reason-requires g c = rw c.deref-else-len-le-BUDGET.ensures.value (omega (arith, c.if-len-le-BUDGET.false, c.len.ensures))
 
 pub returns-clause-fault : goal.returns-clause-fault
 returns-clause-fault g c =
-    (rw c.deref-else-len-le-BUDGET.ensures.value at c.front_reason.ensures) (g.I.Source.left c.args.input.now) (g.I.Source.faults c.args.input.now) (g.I.Source.faults c.take_input.new.input)
+    (rw c.deref-else-len-le-BUDGET.ensures.value at c.prefix_reason.ensures) (g.I.Source.left c.args.input.now) (g.I.Source.faults c.args.input.now) (g.I.Source.faults c.take_input.new.input)
     c.in_ok-bytes.ensures.bytes

@@ -1,6 +1,6 @@
 use Rattle.std.proofs.Common.{refl}
 use Rattle.index_reading.proofs.LineReads.{indent_stops, count_stops, line_stops}
-use Rattle.index_reading.proofs.lines.hit_front.Goals as goal
+use Rattle.index_reading.proofs.lines.hit_prefix.Goals as goal
 
 pub returns-in-Err : goal.returns-in-Err
 returns-in-Err c = indent_stops c.args.bytes.now c.in-Err.stop c.in-Err.ensures
