@@ -11,7 +11,7 @@ use Rattle.nub.proofs.Totals.{sum_said, total_most}
 use Rattle.nub.proofs.Users.{all_told}
 use Rattle.readers_writers.specs.declared.role.Role.{Role}
 use Rattle.readers_writers.specs.declared.role.Role.TheVariants.{Idle, Reading, Writing}
-use Rattle.readers_writers.specs.declared.role.Turn.{Turn}
+use Rattle.readers_writers.specs.declared.role.RoleChange.{RoleChange}
 use Rattle.readers_writers.specs.declared.state.RwState.{RwState}
 use Rattle.readers_writers.specs.Roles.{AreRoles, IsRole, one_if_reading, role_of, turn}
 use Rattle.bench_workloads.specs.Reading.{HasPlayed, Player, role_by, turns, writes_by}
@@ -23,7 +23,7 @@ idle_after role zero = refl
 idle_after role (suc n) = refl
 
 -- after one more
-pub turned_on : (role now : Role) (i : ℕ) (P : List Turn → Type 0) → now ≡ role → P (turn 0 Idle ∷ turn 0 now ∷ turns role i) → P (turns role (i + 1))
+pub turned_on : (role now : Role) (i : ℕ) (P : List RoleChange → Type 0) → now ≡ role → P (turn 0 Idle ∷ turn 0 now ∷ turns role i) → P (turns role (i + 1))
 turned_on role now i P is so = subst (λ k. P (turns role k)) (sym (add-one i)) (subst (λ r. P (turn 0 Idle ∷ turn 0 r ∷ turns role i)) is so)
 
 -- what is so of a reader, and of a writer
@@ -41,9 +41,9 @@ idle_writes : (a : Role) → a ≡ Idle → a ≡ Writing → ⊥
 idle_writes a x y = cc
 
 -- where all are idle nobody reads or writes
-all_idle : (q : RwState) (shares : List (List Turn)) → IsRole 0 q shares → Each (λ k u. role_of u 0 ≡ Idle) shares → q ≡ record { readers = 0; writer = None }
+all_idle : (q : RwState) (shares : List (List RoleChange)) → IsRole 0 q shares → Each (λ k u. role_of u 0 ≡ Idle) shares → q ≡ record { readers = 0; writer = None }
 all_idle q shares rule idle =
-    let none = total_most (λ (s : List Turn). one_if_reading (role_of s 0)) 0 shares (λ k u at. let e = ap one_if_reading (idle k u at) in omega arith) in
+    let none = total_most (λ (s : List RoleChange). one_if_reading (role_of s 0)) 0 shares (λ k u at. let e = ap one_if_reading (idle k u at) in omega arith) in
     let counted = rule.readers in
     let readers : q.readers ≡ 0 = omega arith in
     let writer : q.writer ≡ None = no_one q.writer (λ t is. let w = rule.writes t is in idle_writes (role_of w.0 0) (idle t w.0 w.1) w.2) in

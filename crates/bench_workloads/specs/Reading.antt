@@ -7,12 +7,12 @@ use Rattle.nub_rule.specs.Known.{Known, Shape}
 use Rattle.nub.specs.Idle.{IsIdle}
 use Rattle.readers_writers.specs.declared.role.Role.{Role}
 use Rattle.readers_writers.specs.declared.role.Role.TheVariants.{Idle, Reading, Writing}
-use Rattle.readers_writers.specs.declared.role.Turn.{Turn}
+use Rattle.readers_writers.specs.declared.role.RoleChange.{RoleChange}
 use Rattle.readers_writers.specs.declared.state.RwState.{RwState}
 use Rattle.readers_writers.specs.Roles.{turn}
 
 abbrev pub Player : Type 0
-Player = Known RwState (List Turn) (Unit {0})
+Player = Known RwState (List RoleChange) (Unit {0})
 
 -- there is a state, and a condition for it
 pub record HasState (l : Layout) : Type 0 where
@@ -20,7 +20,7 @@ pub record HasState (l : Layout) : Type 0 where
   pub conditions : 1 ≤ l.conditions
 
 -- so many turns, in each of which a thread had this role and was idle again, the last first
-abbrev pub turns : Role → ℕ → List Turn
+abbrev pub turns : Role → ℕ → List RoleChange
 turns role zero = []
 turns role (suc n) = turn 0 Idle ∷ turn 0 role ∷ turns role n
 

@@ -82,7 +82,8 @@ fn take_turn<R: Wait>(
 ) -> u64
     requires named { HasState shared.now.layout }
     requires idle { (n : ℕ) × (i : ℕ) × IsIdle shared.now n (turns (role_if reads) i) me.old }
-    ensures { (n i : ℕ) → IsIdle shared.now n (turns (role_if reads) i) me.old → IsIdle shared.now n (turns (role_if reads) (i + 1)) me.new }
+    ensures { (n i : ℕ) → IsIdle shared.now n (turns (role_if reads) i) me.old
+        → IsIdle shared.now n (turns (role_if reads) (i + 1)) me.new }
 {
     if reads {
         begin_read(rt, shared, me, &AT);

@@ -37,7 +37,8 @@ pub fn wait_for_alert<R: Wait>(
 ) -> u64
     requires named { HasObjects shared.now.layout × (c.0 < shared.now.layout.conditions) }
     requires inside { (n : ℕ) × (times : ℕ) × (alerts : ℕ) × IsInside shared.now n mine times alerts me.old }
-    ensures { (n times alerts : ℕ) → IsInside shared.now n mine times alerts me.old → IsInside shared.now n result times (alerts + 1) me.new }
+    ensures { (n times alerts : ℕ) → IsInside shared.now n mine times alerts me.old
+        → IsInside shared.now n result times (alerts + 1) me.new }
 {
     let mut value = mine;
     for _ in rt.forever() {

@@ -5,7 +5,7 @@ use Rattle.index_print.specs.Text.{index_text}
 use Rattle.command_line.specs.Grammar.{Options}
 use Rattle.command_endings.specs.declared.status.Status.{Status}
 use Rattle.command_endings.specs.declared.status.Status.TheVariants.{Done, Usage, ReadFault, SinkFault, Stopped, Memory, Illegal, BadText, TooMany, TooLong}
-use Rattle.command_endings.specs.Changes.{Change, IsStill, Gets, GetsFront, Notes}
+use Rattle.command_endings.specs.Changes.{Change, IsStill, Gets, GetsPrefix, Notes}
 use Rattle.firefly.specs.IndexRun.{AreAskedOnce, IsTheIndex, NoIndex, NoneRose}
 use Rattle.firefly.specs.Looks.{Look}
 use Rattle.command_endings.specs.Messages.{output_fault_message}
@@ -15,7 +15,7 @@ abbrev pub IndexAnswers : Options → List (Option Look) → List (Option Look) 
 IndexAnswers o old new out notes Done =
     (piece : Index) × IsTheIndex o old piece × NoneRose old new × AreAskedOnce o old new × Gets out (index_text piece) × IsStill notes
 IndexAnswers o old new out notes SinkFault =
-    (piece : Index) × IsTheIndex o old piece × NoneRose old new × AreAskedOnce o old new × GetsFront out (index_text piece)
+    (piece : Index) × IsTheIndex o old piece × NoneRose old new × AreAskedOnce o old new × GetsPrefix out (index_text piece)
     × Notes notes output_fault_message
 IndexAnswers o old new out notes Stopped = NoIndex o old new notes Stopped × IsStill out
 IndexAnswers o old new out notes TooMany = NoIndex o old new notes TooMany × IsStill out

@@ -14,7 +14,7 @@ use Rattle.firefly_script.specs.Runs.{AreEventsOf, total}
 use Rattle.firefly_script.specs.Text as text
 use Rattle.command_endings.specs.declared.status.Status.{Status}
 use Rattle.command_endings.specs.declared.status.Status.TheVariants.{Done, Usage, ReadFault, SinkFault, Stopped, Memory, Illegal, BadText, TooMany, TooLong}
-use Rattle.command_endings.specs.Changes.{Change, IsStill, Gets, GetsFront, Notes}
+use Rattle.command_endings.specs.Changes.{Change, IsStill, Gets, GetsPrefix, Notes}
 use Rattle.command_endings.specs.Printing.{Prints}
 use Rattle.check_command.specs.Traces.{IsClosedTrace}
 use Rattle.command_endings.specs.Messages.{input_fault_message, output_fault_message, bad_line_message, memory_message, too_long_message}
@@ -60,7 +60,7 @@ Runs l xs out notes answer =
 -- each status by its cause
 abbrev pub RunAnswers : Change → Change → Change → Status → Type 0
 RunAnswers input out notes Done = (bytes : List ℕ) × IsRunOf input bytes × Gets out bytes × IsStill notes
-RunAnswers input out notes SinkFault = (bytes : List ℕ) × IsRunOf input bytes × GetsFront out bytes × Notes notes output_fault_message
+RunAnswers input out notes SinkFault = (bytes : List ℕ) × IsRunOf input bytes × GetsPrefix out bytes × Notes notes output_fault_message
 RunAnswers input out notes BadText = (k : ℕ) × Refuses input (script.BadLine k) × IsStill out × Notes notes (bad_line_message k)
 RunAnswers input out notes TooLong = Refuses input script.TooLong × IsStill out × Notes notes too_long_message
 RunAnswers input out notes ReadFault = Refuses input script.Read × IsStill out × Notes notes input_fault_message

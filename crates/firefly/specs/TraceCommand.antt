@@ -6,7 +6,7 @@ use Rattle.indexer.specs.Plans.{layout_of}
 use Rattle.command_line.specs.Grammar.{Options}
 use Rattle.command_endings.specs.declared.status.Status.{Status}
 use Rattle.command_endings.specs.declared.status.Status.TheVariants.{Done, Usage, ReadFault, SinkFault, Stopped, Memory, Illegal, BadText, TooMany, TooLong}
-use Rattle.command_endings.specs.Changes.{Change, IsStill, Gets, GetsFront, Notes}
+use Rattle.command_endings.specs.Changes.{Change, IsStill, Gets, GetsPrefix, Notes}
 use Rattle.firefly.specs.IndexRun.{AreAskedOnce, IsTheIndex, NoIndex, NoneRose, ShowsWork, plan_of}
 use Rattle.firefly.specs.Looks.{Look}
 use Rattle.command_endings.specs.Messages.{output_fault_message}
@@ -28,7 +28,7 @@ pub record IsIndexTrace (o : Options) (old new : List (Option Look)) (bytes : Li
 abbrev pub TraceAnswers : Options → List (Option Look) → List (Option Look) → Change → Change → Status → Type 0
 TraceAnswers o old new out notes Done = (bytes : List ℕ) × IsIndexTrace o old new bytes × Gets out bytes × IsStill notes
 TraceAnswers o old new out notes SinkFault =
-    (bytes : List ℕ) × IsIndexTrace o old new bytes × GetsFront out bytes × Notes notes output_fault_message
+    (bytes : List ℕ) × IsIndexTrace o old new bytes × GetsPrefix out bytes × Notes notes output_fault_message
 TraceAnswers o old new out notes Stopped = NoIndex o old new notes Stopped × IsStill out
 TraceAnswers o old new out notes TooMany = NoIndex o old new notes TooMany × IsStill out
 TraceAnswers o old new out notes ReadFault = NoIndex o old new notes ReadFault × IsStill out

@@ -12,7 +12,7 @@ ghost use Rattle.firefly.specs.Looks.{Agree, AreOwn, KeepTrees, look_of, looks_o
 use command_endings::{Ending, Status, ends};
 use command_line::IndexOptions;
 use firefly_outside::{Sink, Tree};
-use indexer::{IndexAnswer, IndexUses, NoGate, Plan, index};
+use indexer::{BeginsAtOnce, IndexAnswer, IndexUses, Plan, index};
 use nub::Closed;
 use std::alloc::Global;
 use std::sync::Wait;
@@ -68,7 +68,7 @@ pub fn index_by<R: Threads + Wait + Sync, S: Tree, N: Sink>(
         (looks_of (look_of S.tree S.may_fail S.calls S.faults) trees.new) }
 {
     let plan = plan_by(options, traced);
-    match index(rt, alloc, options.dir, &plan, trees, &NoGate) {
+    match index(rt, alloc, options.dir, &plan, trees, &BeginsAtOnce) {
         IndexAnswer::Stopped(found) => Err(ends(
             notes,
             Ending::Stopped {

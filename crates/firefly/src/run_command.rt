@@ -7,7 +7,7 @@ use crate::print_trace::print_trace;
 use command_endings::{Ending, Status, ends};
 use firefly_outside::{Sink, Source};
 use firefly_script::{Script, ScriptFault, read_script};
-use package_crew::NoGate;
+use package_crew::BeginsAtOnce;
 use script_run::run_script;
 use std::alloc::Global;
 use std::sync::Wait;
@@ -25,7 +25,7 @@ fn run_read<R: Threads + Wait + Sync, O: Sink, N: Sink>(
     ensures { Runs script.now.layout script.now.lines (change_of O.held O.faults out.old out.new)
         (change_of N.held N.faults notes.old notes.new) result }
 {
-    match run_script(rt, alloc, script, &NoGate) {
+    match run_script(rt, alloc, script, &BeginsAtOnce) {
         Ok(closed) => {
             let status = print_trace(&closed, closed.values(), out, notes);
             drop(closed);

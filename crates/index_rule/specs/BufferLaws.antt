@@ -32,7 +32,8 @@ is_plain at = record { room = refl; more = refl }
 
 -- a buffer is behind mutex 1 or 2
 one_or_two : (at : BufferAt) → IsBuffer at → (at.mutex.0 ≡ 1) ⊎ (at.mutex.0 ≡ 2)
-one_or_two at is = ⊎_elim (λ (e : at ≡ files_at). inl (ap (λ (b : BufferAt). b.mutex.0) e)) (λ (e : at ≡ pieces_at). inr (ap (λ (b : BufferAt). b.mutex.0) e)) is
+one_or_two at is = ⊎_elim (λ (e : at ≡ files_at). inl (ap (λ (b : BufferAt). b.mutex.0) e))
+    (λ (e : at ≡ pieces_at). inr (ap (λ (b : BufferAt). b.mutex.0) e)) is
 
 not_first : (at : BufferAt) → IsBuffer at → at.mutex.0 ≢ 0
 not_first at is zero = ⊎_elim (λ (e : at.mutex.0 ≡ 1). omega arith) (λ (e : at.mutex.0 ≡ 2). omega arith) (one_or_two at is)
@@ -60,24 +61,34 @@ work_ring root at is t (Dirs d) s fits = absurd (not_first at is fits.kind)
 work_ring root at is t (Ring r) s fits = (r, refl, fits.within)
 
 -- the first of the items that are new to the thread is new to it
-first_new : (root : Path) (i : IndexItem) (rest items : List IndexItem) (taken : List Path) → items ≡ i ∷ rest → AreDistinct (flat_map (paths_of root) items ++ taken) → AreDistinct (paths_of root i ++ taken)
+first_new : (root : Path) (i : IndexItem) (rest items : List IndexItem) (taken : List Path) → items ≡ i ∷ rest
+    → AreDistinct (flat_map (paths_of root) items ++ taken) → AreDistinct (paths_of root i ++ taken)
 first_new root i rest items taken first apart = times_distinct (paths_of root i ++ taken) (λ p.
-    let most = distinct_times p (flat_map (paths_of root) (i ∷ rest) ++ taken) (subst (λ l. AreDistinct (flat_map (paths_of root) l ++ taken)) first apart) in
+    let most = distinct_times p (flat_map (paths_of root) (i ∷ rest) ++ taken)
+    (subst (λ l. AreDistinct (flat_map (paths_of root) l ++ taken)) first apart) in
     let all = times-append p (flat_map (paths_of root) (i ∷ rest)) taken in
     let both = times-append p (paths_of root i) (flat_map (paths_of root) rest) in
     let one = times-append p (paths_of root i) taken in
     omega arith)
 
-first_below : (root : Path) (i : IndexItem) (rest items : List IndexItem) → items ≡ i ∷ rest → All (IsBelow root) (flat_map (paths_of root) items) → All (IsBelow root) (paths_of root i)
+first_below : (root : Path) (i : IndexItem) (rest items : List IndexItem) → items ≡ i ∷ rest
+    → All (IsBelow root) (flat_map (paths_of root) items) → All (IsBelow root) (paths_of root i)
 first_below root i rest items first below = all_from (IsBelow root) (paths_of root i) (λ p h.
-    all_at (IsBelow root) (flat_map (paths_of root) (i ∷ rest)) p (subst (λ l. All (IsBelow root) (flat_map (paths_of root) l)) first below) (Contains-append_left (paths_of root i) (flat_map (paths_of root) rest) p h))
+    all_at (IsBelow root) (flat_map (paths_of root) (i ∷ rest)) p (subst (λ l. All (IsBelow root) (flat_map (paths_of root) l)) first below)
+    (Contains-append_left (paths_of root i) (flat_map (paths_of root) rest) p h))
 
 pub work_first : (root : Path) (at : BufferAt) → IsBuffer at → (t : ℕ) (x : IndexValue) (s : Share) → FitsWork root at.mutex.0 x s
-    → (q : Held IndexItem) → ring_in x ≡ Some q → (i : IndexItem) (rest : List IndexItem) → q.items ≡ i ∷ rest → ItemFits root at.mutex.0 i s
+    → (q : Held IndexItem) → ring_in x ≡ Some q → (i : IndexItem) (rest : List IndexItem) → q.items ≡ i ∷ rest
+    → ItemFits root at.mutex.0 i s
 work_first root at is t x s fits q e i rest first =
     let there = subst (λ v. IsNewTo root at.mutex.0 s v) (same_ring x q e) fits.new in
     let new = there.1 (one_or_two at is) in
-    record { kind = All-head (IsItemAt at.mutex.0) i rest (subst (All (IsItemAt at.mutex.0)) first there.0); new = first_new root i rest q.items (paths_taken root at.mutex.0 s) first new.0; below = first_below root i rest q.items first new.1 }
+    record {
+      kind = All-head (IsItemAt at.mutex.0) i rest (subst (All (IsItemAt at.mutex.0)) first there.0);
+      new =
+          first_new root i rest q.items (paths_taken root at.mutex.0 s) first new.0;
+      below = first_below root i rest q.items first new.1;
+    }
 
 -- what a put or a take did, by the ring before and after
 is_put : (P : IndexItem → Type 0) (d : Did IndexItem) (x y : Held IndexItem) → Does d x y → IsOfPut P d → put_did x y ≡ d
@@ -87,9 +98,11 @@ is_put P (Put n i) x y does of =
     ap (put_by x) behind ∙ ap (λ k. Put k i) (sym does.2)
 is_put P (Took n i) x y does of = absurd of
 is_put P Shut x y does of = absurd of
-is_put P SawShut x y does of = ap (put_by x) (ap (λ (v : Held IndexItem). drop (length x.items) v.items) does.1 ∙ drop-length x.items) ∙ ap (λ b. cond b SawShut WaitedFull) does.0
+is_put P SawShut x y does of = ap (put_by x) (ap (λ (v : Held IndexItem). drop (length x.items) v.items) does.1 ∙ drop-length x.items)
+    ∙ ap (λ b. cond b SawShut WaitedFull) does.0
 is_put P SawEnd x y does of = absurd of
-is_put P WaitedFull x y does of = ap (put_by x) (ap (λ (v : Held IndexItem). drop (length x.items) v.items) does.2 ∙ drop-length x.items) ∙ ap (λ b. cond b SawShut WaitedFull) does.0
+is_put P WaitedFull x y does of = ap (put_by x) (ap (λ (v : Held IndexItem). drop (length x.items) v.items) does.2 ∙ drop-length x.items)
+    ∙ ap (λ b. cond b SawShut WaitedFull) does.0
 is_put P WaitedEmpty x y does of = absurd of
 
 is_take : (d : Did IndexItem) (x y : Held IndexItem) → Does d x y → IsOfTake d → take_did x ≡ d
@@ -129,7 +142,8 @@ may_take root m s WaitedFull of = tt
 may_take root m s WaitedEmpty of = tt
 
 -- something that may be done was done at a ring
-ring_did : (root : Path) (m : ℕ) (x y : IndexValue) (s : Share) (q p : Held IndexItem) (d e : Did IndexItem) → ring_in x ≡ Some q → ring_in y ≡ Some p → m ≢ 0 → Does d q p → MayDo root m d s → e ≡ d
+ring_did : (root : Path) (m : ℕ) (x y : IndexValue) (s : Share) (q p : Held IndexItem) (d e : Did IndexItem) → ring_in x ≡ Some q
+    → ring_in y ≡ Some p → m ≢ 0 → Does d q p → MayDo root m d s → e ≡ d
     → MayChange root m x y s (noted m e s)
 ring_did root m x y s q p d e a b n does may same =
     subst (λ v. MayChange root m v y s (noted m e s)) (sym (same_ring x q a))
@@ -137,12 +151,15 @@ ring_did root m x y s q p d e a b n does may same =
     (record { kind = n; moves = inr (d, does, may, ap (λ c. noted m c s) same) }))
 
 -- rings that stand for values are these
-does_of : (x y : IndexValue) (q p : Held IndexItem) (d : Did IndexItem) → ring_in x ≡ Some q → ring_in y ≡ Some p → Does d q p → Does d (ring_of x) (ring_of y)
+does_of : (x y : IndexValue) (q p : Held IndexItem) (d : Did IndexItem) → ring_in x ≡ Some q → ring_in y ≡ Some p → Does d q p
+    → Does d (ring_of x) (ring_of y)
 does_of (Dirs c) y q p d a b does = absurd (no_ring q a)
 does_of (Ring r) (Dirs c) q p d a b does = absurd (no_ring p b)
-does_of (Ring r) (Ring u) q p d a b does = let e : q ≡ r = cc in let f : p ≡ u = cc in subst (λ v. Does d v u) e (subst (λ v. Does d q v) f does)
+does_of (Ring r) (Ring u) q p d a b does = let e : q ≡ r = cc in let f : p ≡ u = cc in
+    subst (λ v. Does d v u) e (subst (λ v. Does d q v) f does)
 
-pub work_put : (root : Path) (at : BufferAt) → IsBuffer at → (t : ℕ) (x y : IndexValue) (s : Share) (q p : Held IndexItem) (d : Did IndexItem)
+pub work_put : (root : Path) (at : BufferAt) → IsBuffer at
+    → (t : ℕ) (x y : IndexValue) (s : Share) (q p : Held IndexItem) (d : Did IndexItem)
     → ring_in x ≡ Some q → ring_in y ≡ Some p → Does d q p → IsOfPut (λ i. MayPut root at.mutex.0 i s) d
     → MayChange root at.mutex.0 x y s (noted at.mutex.0 (put_did (ring_of x) (ring_of y)) s)
     × HasDone (λ (u : Share) m. part_of u.notes m) at.mutex.0 d s (noted at.mutex.0 (put_did (ring_of x) (ring_of y)) s)
@@ -150,13 +167,15 @@ pub work_put : (root : Path) (at : BufferAt) → IsBuffer at → (t : ℕ) (x y 
 work_put root at is t x y s q p d a b does of =
     let m = at.mutex.0 in
     let same = is_put (λ i. MayPut root m i s) d (ring_of x) (ring_of y) (does_of x y q p d a b does) of in
-    let plain = plain_put tt (as_plain at) (is_plain at) t (ring_of x) (ring_of y) s.notes q p d (ring_is x q a) (ring_is y p b) does (plain_of (λ i. MayPut root m i s) d of) in (
+    let plain = plain_put tt (as_plain at) (is_plain at) t (ring_of x) (ring_of y) s.notes q p d (ring_is x q a) (ring_is y p b) does
+    (plain_of (λ i. MayPut root m i s) d of) in (
       ring_did root m x y s q p d (put_did (ring_of x) (ring_of y)) a b (not_first at is) does (may_put root m s d of) same,
       record { here = plain.1.here; elsewhere = plain.1.elsewhere },
       (λ waits. record { took = refl; put = refl; files = refl; notes = plain.2 waits }),
     )
 
-pub work_take : (root : Path) (at : BufferAt) → IsBuffer at → (t : ℕ) (x y : IndexValue) (s : Share) (q p : Held IndexItem) (d : Did IndexItem)
+pub work_take : (root : Path) (at : BufferAt) → IsBuffer at
+    → (t : ℕ) (x y : IndexValue) (s : Share) (q p : Held IndexItem) (d : Did IndexItem)
     → ring_in x ≡ Some q → ring_in y ≡ Some p → Does d q p → IsOfTake d
     → MayChange root at.mutex.0 x y s (noted at.mutex.0 (take_did (ring_of x)) s)
     × HasDone (λ (u : Share) m. part_of u.notes m) at.mutex.0 d s (noted at.mutex.0 (take_did (ring_of x)) s)
@@ -164,7 +183,8 @@ pub work_take : (root : Path) (at : BufferAt) → IsBuffer at → (t : ℕ) (x y
 work_take root at is t x y s q p d a b does of =
     let m = at.mutex.0 in
     let same = is_take d (ring_of x) (ring_of y) (does_of x y q p d a b does) of in
-    let plain = plain_take tt (as_plain at) (is_plain at) t (ring_of x) (ring_of y) s.notes q p d (ring_is x q a) (ring_is y p b) does of in (
+    let plain = plain_take tt (as_plain at) (is_plain at) t (ring_of x) (ring_of y) s.notes q p d (ring_is x q a)
+    (ring_is y p b) does of in (
       ring_did root m x y s q p d (take_did (ring_of x)) a b (not_first at is) does (may_take root m s d of) same,
       record { here = plain.1.here; elsewhere = plain.1.elsewhere },
       (λ waits. record { took = refl; put = refl; files = refl; notes = plain.2 waits }),
@@ -172,23 +192,28 @@ work_take root at is t x y s q p d a b does of =
 
 pub work_shut : (root : Path) (at : BufferAt) → IsBuffer at → (t : ℕ) (x y : IndexValue) (s : Share) (q p : Held IndexItem)
     → ring_in x ≡ Some q → ring_in y ≡ Some p → Does Shut q p
-    → MayChange root at.mutex.0 x y s (noted at.mutex.0 Shut s) × HasDone (λ (u : Share) m. part_of u.notes m) at.mutex.0 Shut s (noted at.mutex.0 Shut s)
+    → MayChange root at.mutex.0 x y s (noted at.mutex.0 Shut s)
+    × HasDone (λ (u : Share) m. part_of u.notes m) at.mutex.0 Shut s (noted at.mutex.0 Shut s)
 work_shut root at is t x y s q p a b does =
-    let plain = plain_shut tt (as_plain at) (is_plain at) t (ring_of x) (ring_of y) s.notes q p (ring_is x q a) (ring_is y p b) does in
-    (ring_did root at.mutex.0 x y s q p Shut Shut a b (not_first at is) does tt refl, record { here = plain.1.here; elsewhere = plain.1.elsewhere })
+    let plain = plain_shut tt (as_plain at) (is_plain at) t (ring_of x) (ring_of y) s.notes q p (ring_is x q a) (ring_is y p b) does in (
+      ring_did root at.mutex.0 x y s q p Shut Shut a b (not_first at is) does tt refl,
+      record { here = plain.1.here; elsewhere = plain.1.elsewhere },
+    )
 
 pub work_stay : (root : Path) (at : BufferAt) → IsBuffer at → (t : ℕ) (x y : IndexValue) (s : Share) (q : Held IndexItem)
     → ring_in x ≡ Some q → ring_in y ≡ Some q → MayChange root at.mutex.0 x y s s
 work_stay root at is t x y s q a b =
     subst (λ v. MayChange root at.mutex.0 v y s s) (sym (same_ring x q a))
-    (subst (λ v. MayChange root at.mutex.0 (Ring q) v s s) (sym (same_ring y q b)) (record { kind = not_first at is; moves = inl (refl, refl) }))
+    (subst (λ v. MayChange root at.mutex.0 (Ring q) v s s) (sym (same_ring y q b))
+    (record { kind = not_first at is; moves = inl (refl, refl) }))
 
 pub work_waits : (root : Path) (at : BufferAt) → IsBuffer at → (t : ℕ) (x y : IndexValue) (s r : Share) (q p : Held IndexItem)
     → ring_in x ≡ Some q → ring_in y ≡ Some p → MayChange root at.mutex.0 x y s r
     → (k : ℕ) → Waits WaitedFull q p (eqb k at.mutex.0) (part_of s.notes k).full_waits (part_of r.notes k).full_waits
     × Waits WaitedEmpty q p (eqb k at.mutex.0) (part_of s.notes k).empty_waits (part_of r.notes k).empty_waits
 work_waits root at is t x y s r q p a b ok k =
-    plain_waits tt (as_plain at) (is_plain at) t (ring_of x) (ring_of y) s.notes r.notes q p (ring_is x q a) (ring_is y p b) (allowed root at.mutex.0 x y s r ok.moves) k
+    plain_waits tt (as_plain at) (is_plain at) t (ring_of x) (ring_of y) s.notes r.notes q p (ring_is x q a) (ring_is y p b)
+    (allowed root at.mutex.0 x y s r ok.moves) k
 
 pub alike_self : (s : Share) → AreAlike s s
 alike_self s = record { took = refl; put = refl; files = refl; notes = refl }

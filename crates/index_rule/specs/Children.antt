@@ -12,7 +12,8 @@ abbrev pub IsBelow : Path → Path → Type 0
 IsBelow root path = (rest : Path) × (path ≡ child root rest)
 
 pub one_parent : (p a b : Path) → IsChildOf p a → IsChildOf p b → a ≡ b
-one_parent p a b first second = (child-unique a b first.0 second.0 (sym first.1.is ∙ second.1.is) first.1.lawful.plain second.1.lawful.plain).0
+one_parent p a b first second =
+    (child-unique a b first.0 second.0 (sym first.1.is ∙ second.1.is) first.1.lawful.plain second.1.lawful.plain).0
 
 pub child_longer : (p dir : Path) → IsChildOf p dir → length dir < length p
 child_longer p dir h = let e = ap length h.1.is in let l = length-append dir (slash ∷ h.0) in omega arith

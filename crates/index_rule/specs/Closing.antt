@@ -31,15 +31,18 @@ module _ (root : Path) (values : List IndexValue) (shares : List Share) (k : Kee
   took_distinct i s at = distinct_part (λ (u : Share). u.took) [] shares i s at (took_once root values shares k)
 
   -- and no two took the same
-  pub took_by_one : (i j : ℕ) (s r : Share) (p : Path) → get_elem? shares i ≡ some s → get_elem? shares j ≡ some r → Contains s.took p → Contains r.took p → i ≡ j
+  pub took_by_one : (i j : ℕ) (s r : Share) (p : Path) → get_elem? shares i ≡ some s → get_elem? shares j ≡ some r → Contains s.took p
+      → Contains r.took p → i ≡ j
   took_by_one i j s r p a b h g = one_place (λ (u : Share). u.took) shares i j s r p (took_once root values shares k) a b h g
 
   -- what was taken is the root, or some thread put it
-  pub took_from : (i : ℕ) (s : Share) (p : Path) → get_elem? shares i ≡ some s → Contains s.took p → (p ≡ root) ⊎ IsInSome (λ u. u.put) shares p
+  pub took_from : (i : ℕ) (s : Share) (p : Path) → get_elem? shares i ≡ some s → Contains s.took p → (p ≡ root)
+      ⊎ IsInSome (λ u. u.put) shares p
   took_from i s p at h = ⊎_elim
       (λ (is : p ≡ root). inl is)
       (λ put. inr (at_one (λ (u : Share). u.put) shares p put))
-      (took_or_root root values shares k p (Contains-append_right (waiting_in values) (all_took shares) p (of_all (λ (u : Share). u.took) shares i s p at h)))
+      (took_or_root root values shares k p
+      (Contains-append_right (waiting_in values) (all_took shares) p (of_all (λ (u : Share). u.took) shares i s p at h)))
 
   module _ (many : 2 < length values) where
     files_once : AreDistinct (flat_map (paths_taken root 1) shares)
@@ -49,33 +52,44 @@ module _ (root : Path) (values : List IndexValue) (shares : List Share) (k : Kee
     pub files_distinct : (i : ℕ) (s : Share) → get_elem? shares i ≡ some s → AreDistinct (paths_taken root 1 s)
     files_distinct i s at = distinct_part (paths_taken root 1) [] shares i s at files_once
 
-    pub files_by_one : (i j : ℕ) (s r : Share) (p : Path) → get_elem? shares i ≡ some s → get_elem? shares j ≡ some r → Contains (paths_taken root 1 s) p → Contains (paths_taken root 1 r) p → i ≡ j
+    pub files_by_one : (i j : ℕ) (s r : Share) (p : Path) → get_elem? shares i ≡ some s → get_elem? shares j ≡ some r
+        → Contains (paths_taken root 1 s) p → Contains (paths_taken root 1 r) p → i ≡ j
     files_by_one i j s r p a b h g = one_place (paths_taken root 1) shares i j s r p files_once a b h g
 
-    pub files_from : (i : ℕ) (s : Share) (p : Path) → get_elem? shares i ≡ some s → Contains (paths_taken root 1 s) p → IsInSome (paths_put root 1) shares p
-    files_from i s p at h = let v = some_at values 1 (omega arith) in at_one (paths_put root 1) shares p (file_from root values shares k v.0 v.1 p (of_all (paths_taken root 1) shares i s p at h))
+    pub files_from : (i : ℕ) (s : Share) (p : Path) → get_elem? shares i ≡ some s → Contains (paths_taken root 1 s) p
+        → IsInSome (paths_put root 1) shares p
+    files_from i s p at h = let v = some_at values 1 (omega arith) in
+        at_one (paths_put root 1) shares p (file_from root values shares k v.0 v.1 p (of_all (paths_taken root 1) shares i s p at h))
 
     -- who put a piece took its files
-    pub pieces_read : (i : ℕ) (s : Share) (p : Path) → get_elem? shares i ≡ some s → Contains (paths_put root 2 s) p → Contains (paths_taken root 1 s) p
+    pub pieces_read : (i : ℕ) (s : Share) (p : Path) → get_elem? shares i ≡ some s → Contains (paths_put root 2 s) p
+        → Contains (paths_taken root 1 s) p
     pieces_read i s p at h = all_at (Contains (paths_taken root 1 s)) (paths_put root 2 s) p (own_of root values shares k i s at).pieces h
 
     -- a piece that was taken was put by the thread that took its files
-    pub pieces_from : (i : ℕ) (s : Share) (p : Path) → get_elem? shares i ≡ some s → Contains (paths_taken root 2 s) p → IsInSome (paths_put root 2) shares p
+    pub pieces_from : (i : ℕ) (s : Share) (p : Path) → get_elem? shares i ≡ some s → Contains (paths_taken root 2 s) p
+        → IsInSome (paths_put root 2) shares p
     pieces_from i s p at h =
         let v = some_at values 2 many in
-        at_one (paths_put root 2) shares p (was_put root values shares k 2 v.0 p v.1 (Contains-append_right (paths_at root (ring_of v.0)) (flat_map (paths_taken root 2) shares) p (of_all (paths_taken root 2) shares i s p at h)))
+        at_one (paths_put root 2) shares p
+        (was_put root values shares k 2 v.0 p v.1
+        (Contains-append_right (paths_at root (ring_of v.0)) (flat_map (paths_taken root 2) shares) p
+        (of_all (paths_taken root 2) shares i s p at h)))
 
     pieces_once : AreDistinct (flat_map (paths_taken root 2) shares)
     pieces_once =
         let v = some_at values 1 (omega arith) in
         let w = some_at values 2 many in
-        distinct_right (paths_at root (ring_of w.0)) (flat_map (paths_taken root 2) shares) (taken_once root values shares k 2 w.0 w.1 (pieces_put_once root values shares k v.0 v.1))
+        distinct_right (paths_at root (ring_of w.0)) (flat_map (paths_taken root 2) shares)
+        (taken_once root values shares k 2 w.0 w.1 (pieces_put_once root values shares k v.0 v.1))
 
-    taken_by_one : (i j : ℕ) (s r : Share) (p : Path) → get_elem? shares i ≡ some s → get_elem? shares j ≡ some r → Contains (paths_taken root 2 s) p → Contains (paths_taken root 2 r) p → i ≡ j
+    taken_by_one : (i j : ℕ) (s r : Share) (p : Path) → get_elem? shares i ≡ some s → get_elem? shares j ≡ some r
+        → Contains (paths_taken root 2 s) p → Contains (paths_taken root 2 r) p → i ≡ j
     taken_by_one i j s r p a b h g = one_place (paths_taken root 2) shares i j s r p pieces_once a b h g
 
     -- a piece of the file is with one thread, or the file itself is with another that made no piece of it: not both
-    not_both : (i j : ℕ) (s r : Share) (p : Path) → get_elem? shares i ≡ some s → get_elem? shares j ≡ some r → Contains (paths_taken root 2 s) p → Contains (paths_taken root 1 r) p → ¬ Contains (paths_put root 2 r) p → ⊥
+    not_both : (i j : ℕ) (s r : Share) (p : Path) → get_elem? shares i ≡ some s → get_elem? shares j ≡ some r
+        → Contains (paths_taken root 2 s) p → Contains (paths_taken root 1 r) p → ¬ Contains (paths_put root 2 r) p → ⊥
     not_both i j s r p a b h g none =
         let o = pieces_from i s p a h in
         let place = files_by_one o.place j o.one r p o.at b (pieces_read o.place o.one p o.at o.is) g in
@@ -83,7 +97,8 @@ module _ (root : Path) (values : List IndexValue) (shares : List Share) (k : Kee
         none (subst (λ (u : Share). Contains (paths_put root 2 u) p) one o.is)
 
     -- each file is in the hands of one thread
-    pub held_by_one : (i j : ℕ) (s r : Share) (p : Path) → get_elem? shares i ≡ some s → get_elem? shares j ≡ some r → IsHeldBy root s p → IsHeldBy root r p → i ≡ j
+    pub held_by_one : (i j : ℕ) (s r : Share) (p : Path) → get_elem? shares i ≡ some s → get_elem? shares j ≡ some r → IsHeldBy root s p
+        → IsHeldBy root r p → i ≡ j
     held_by_one i j s r p a b h g = ⊎_elim
         (λ (x : Contains (paths_taken root 2 s) p). ⊎_elim
         (λ (y : Contains (paths_taken root 2 r) p). taken_by_one i j s r p a b x y)
@@ -96,7 +111,8 @@ module _ (root : Path) (values : List IndexValue) (shares : List Share) (k : Kee
         h
 
     -- where some thread saw the buffer of pieces shut and empty, each piece that was put was taken
-    pub all_pieces_taken : (i j : ℕ) (s r : Share) (p : Path) → get_elem? shares i ≡ some s → get_elem? shares j ≡ some r → (part_of s.notes 2).seen_end ≡ true → Contains (paths_put root 2 r) p
+    pub all_pieces_taken : (i j : ℕ) (s r : Share) (p : Path) → get_elem? shares i ≡ some s → get_elem? shares j ≡ some r
+        → (part_of s.notes 2).seen_end ≡ true → Contains (paths_put root 2 r) p
         → IsInSome (paths_taken root 2) shares p
     all_pieces_taken i j s r p a b seen h =
         let v = some_at values 2 many in
@@ -108,9 +124,12 @@ module _ (root : Path) (values : List IndexValue) (shares : List Share) (k : Kee
         at_one (paths_taken root 2) shares p (times_contains p (flat_map (paths_taken root 2) shares) (omega arith))
 
   -- where each item that some thread put at a buffer is such an item, so is each that a thread took there
-  pub taken_fit : (fits : IndexItem → Type 0) (m : ℕ) → m < length values → ((t : ℕ) (s : Share) → get_elem? shares t ≡ some s → All (λ p. fits p.1) (part_of s.notes m).puts)
+  pub taken_fit : (fits : IndexItem → Type 0) (m : ℕ) → m < length values
+      → ((t : ℕ) (s : Share) → get_elem? shares t ≡ some s → All (λ p. fits p.1) (part_of s.notes m).puts)
       → (t : ℕ) (s : Share) → get_elem? shares t ≡ some s → All (λ p. fits p.1) (part_of s.notes m).takes
   taken_fit fits m within puts t s there =
       let v = some_at values m within in
       takes_fit fits m (ring_of v.0) (notes_of shares) (rule_at root values shares k m v.0 v.1)
-      (λ j n e. let u = at_unmap (λ (r : Share). r.notes) shares j n e in subst (λ l. All (λ p. fits p.1) (part_of l m).puts) u.2 (puts j u.0 u.1)) t s.notes (at_map (λ (r : Share). r.notes) shares t s there)
+      (λ j n e. let u = at_unmap (λ (r : Share). r.notes) shares j n e in
+      subst (λ l. All (λ p. fits p.1) (part_of l m).puts) u.2 (puts j u.0 u.1)) t s.notes
+      (at_map (λ (r : Share). r.notes) shares t s there)

@@ -51,7 +51,8 @@ pub distinct_tail : {X : Type 0} (x : X) (xs : List X) → AreDistinct (x ∷ xs
 distinct_tail x xs apart i j d below within = apart (suc i) (suc j) d (omega (arith, below)) (omega (arith, within))
 
 pub distinct_cons : {X : Type 0} (x : X) (xs : List X) → ¬ Contains xs x → AreDistinct xs → AreDistinct (x ∷ xs)
-distinct_cons x xs new apart = AllPairs-cons (λ y z. y ≢ z) x xs (all_from (λ y. x ≢ y) xs (λ y h same. new (subst (Contains xs) (sym same) h))) apart
+distinct_cons x xs new apart =
+    AllPairs-cons (λ y z. y ≢ z) x xs (all_from (λ y. x ≢ y) xs (λ y h same. new (subst (Contains xs) (sym same) h))) apart
 
 -- how often the path stands in the list
 abbrev pub times : Path → List Path → ℕ
@@ -118,20 +119,26 @@ times-permutation p ps qs moved = sum_by-IsPermutation (λ q. cond (pointwise na
 
 pub times-flat_map : {X : Type 0} (p : Path) (f : X → List Path) (xs : List X) → times p (flat_map f xs) ≡ sum_by (λ x. times p (f x)) xs
 times-flat_map p f [] = refl
-times-flat_map p f (x ∷ xs) = times-append p (f x) (flat_map f xs) ∙ (ap (λ n. times p (f x) + n) (times-flat_map p f xs) ∙ sym (sum_by-cons (λ y. times p (f y)) x xs))
+times-flat_map p f (x ∷ xs) = times-append p (f x) (flat_map f xs)
+    ∙ (ap (λ n. times p (f x) + n) (times-flat_map p f xs) ∙ sym (sum_by-cons (λ y. times p (f y)) x xs))
 
 -- the lists that a function gives at elements in another order have each path as often
-pub times-flat_map-permutation : {X : Type 0} (p : Path) (f : X → List Path) (xs ys : List X) → IsPermutation xs ys → times p (flat_map f ys) ≡ times p (flat_map f xs)
-times-flat_map-permutation p f xs ys moved = times-flat_map p f ys ∙ (sum_by-IsPermutation (λ x. times p (f x)) xs ys moved ∙ sym (times-flat_map p f xs))
+pub times-flat_map-permutation : {X : Type 0} (p : Path) (f : X → List Path) (xs ys : List X) → IsPermutation xs ys
+    → times p (flat_map f ys) ≡ times p (flat_map f xs)
+times-flat_map-permutation p f xs ys moved = times-flat_map p f ys
+    ∙ (sum_by-IsPermutation (λ x. times p (f x)) xs ys moved ∙ sym (times-flat_map p f xs))
 
 pub distinct_permutation : (ps qs : List Path) → IsPermutation ps qs → AreDistinct ps → AreDistinct qs
-distinct_permutation ps qs moved apart = times_distinct qs (λ p. let e = times-permutation p ps qs moved in let most = distinct_times p ps apart in omega arith)
+distinct_permutation ps qs moved apart = times_distinct qs (λ p. let e = times-permutation p ps qs moved in
+    let most = distinct_times p ps apart in omega arith)
 
 pub distinct_left : (ps qs : List Path) → AreDistinct (ps ++ qs) → AreDistinct ps
-distinct_left ps qs apart = times_distinct ps (λ p. let e = times-append p ps qs in let most = distinct_times p (ps ++ qs) apart in omega arith)
+distinct_left ps qs apart = times_distinct ps (λ p. let e = times-append p ps qs in let most = distinct_times p (ps ++ qs) apart in
+    omega arith)
 
 pub distinct_right : (ps qs : List Path) → AreDistinct (ps ++ qs) → AreDistinct qs
-distinct_right ps qs apart = times_distinct qs (λ p. let e = times-append p ps qs in let most = distinct_times p (ps ++ qs) apart in omega arith)
+distinct_right ps qs apart = times_distinct qs (λ p. let e = times-append p ps qs in let most = distinct_times p (ps ++ qs) apart in
+    omega arith)
 
 pub distinct_across : (ps qs : List Path) (p : Path) → AreDistinct (ps ++ qs) → Contains ps p → ¬ Contains qs p
 distinct_across ps qs p apart here there =
@@ -141,11 +148,13 @@ distinct_across ps qs p apart here there =
     let two = contains_times p qs there in
     omega arith
 
-pub distinct_append : (ps qs : List Path) → AreDistinct ps → AreDistinct qs → ((p : Path) → Contains ps p → ¬ Contains qs p) → AreDistinct (ps ++ qs)
+pub distinct_append : (ps qs : List Path) → AreDistinct ps → AreDistinct qs → ((p : Path) → Contains ps p → ¬ Contains qs p)
+    → AreDistinct (ps ++ qs)
 distinct_append [] qs first second across = second
 distinct_append (p ∷ ps) qs first second across =
     distinct_cons p (ps ++ qs)
-    (λ h. ⊎_elim (λ (k : Contains ps p). distinct_head p ps first k) (λ (k : Contains qs p). across p (contains_head p ps) k) (Contains-append_cases ps qs p h))
+    (λ h. ⊎_elim (λ (k : Contains ps p). distinct_head p ps first k) (λ (k : Contains qs p). across p (contains_head p ps) k)
+    (Contains-append_cases ps qs p h))
     (distinct_append ps qs (distinct_tail p ps first) second (λ q k. across q (contains_tail p ps q k)))
 
 pub in_one : {X Y : Type 0} (f : X → List Y) (xs : List X) (y : Y) → Contains (flat_map f xs) y → IsOfOne f xs y
@@ -172,7 +181,8 @@ pub record IsOwned {X : Type 0} (Of : Path → Path → Type 0) (f things : X �
   pub distinct : AreDistinct (f x)
   pub belong : All (BelongsTo Of (things x)) (f x)
 
-pub distinct_over : {X : Type 0} (Of : Path → Path → Type 0) → ((p a b : Path) → Of p a → Of p b → a ≡ b) → (f things : X → List Path) (xs : List X)
+pub distinct_over : {X : Type 0} (Of : Path → Path → Type 0) → ((p a b : Path) → Of p a → Of p b → a ≡ b)
+    → (f things : X → List Path) (xs : List X)
     → All (IsOwned Of f things) xs → AreDistinct (flat_map things xs) → AreDistinct (flat_map f xs)
 distinct_over Of unique f things [] owned apart = distinct_nil
 distinct_over Of unique f things (x ∷ xs) owned apart =

@@ -4,13 +4,13 @@ use Rattle.std.specs.Option.{option_to_list}
 use Rattle.firefly_outside.specs.Trees.{Path}
 use Rattle.index_rule.specs.declared.dirs.PutDirs.{PutDirs}
 use Rattle.index_rule.specs.declared.dirs.PutDirs.TheVariants.{Within, Passed, Memory}
-use Rattle.index_rule.specs.declared.dirs.Turn.{Turn}
-use Rattle.index_rule.specs.declared.dirs.Turn.TheVariants.{Now, Wait}
+use Rattle.index_rule.specs.declared.dirs.NextDir.{NextDir}
+use Rattle.index_rule.specs.declared.dirs.NextDir.TheVariants.{Now, Wait}
 use Rattle.index_rule.specs.declared.value.DirsInWork.{DirsInWork}
 use Rattle.index_rule.specs.declared.value.FoundCounts.{FoundCounts}
 
 -- the directory that a walker got
-abbrev pub got_in : Turn → List Path
+abbrev pub got_in : NextDir → List Path
 got_in (Now dir) = option_to_list dir
 got_in Wait = []
 

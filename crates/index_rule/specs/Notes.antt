@@ -17,21 +17,25 @@ use Rattle.index_rule.specs.declared.value.IndexItem.TheVariants.{File, Piece}
 clash : {P : Type 0} → false ≡ true → P
 clash e = absurd (cc)
 
-module _ (f : Used IndexItem → List (ℕ × IndexItem)) (waits : (d : Did IndexItem) (u : Used IndexItem) → is_wait d ≡ true → f (did d u) ≡ f u)
+module _ (f : Used IndexItem → List (ℕ × IndexItem)) (waits : (d : Did IndexItem) (u : Used IndexItem) → is_wait d ≡ true
+    → f (did d u) ≡ f u)
     (steps : (d : Did IndexItem) (u v : Used IndexItem) → f u ≡ f v → f (did d u) ≡ f (did d v)) where
-  one : (w b : Bool) (d : Did IndexItem) (u v : Used IndexItem) → is_wait d ≡ w → f v ≡ f u → f (cond w v (cond b (did d v) v)) ≡ f (cond b (did d u) u)
+  one : (w b : Bool) (d : Did IndexItem) (u v : Used IndexItem) → is_wait d ≡ w → f v ≡ f u
+      → f (cond w v (cond b (did d v) v)) ≡ f (cond b (did d u) u)
   one true true d u v w e = e ∙ sym (waits d u w)
   one true false d u v w e = e
   one false true d u v w e = steps d v u e
   one false false d u v w e = e
 
-  apart : (w : Bool) (n : Note IndexItem) (s : List (Note IndexItem)) (m : ℕ) → part_of (cond w s (n ∷ s)) m ≡ cond w (part_of s m) (part_of (n ∷ s) m)
+  apart : (w : Bool) (n : Note IndexItem) (s : List (Note IndexItem)) (m : ℕ)
+      → part_of (cond w s (n ∷ s)) m ≡ cond w (part_of s m) (part_of (n ∷ s) m)
   apart true n s m = refl
   apart false n s m = refl
 
   without_waits : (s : List (Note IndexItem)) (m : ℕ) → f (part_of (kept s) m) ≡ f (part_of s m)
   without_waits [] m = refl
-  without_waits (n ∷ s) m = ap f (apart (is_wait n.did) n (kept s) m) ∙ one (is_wait n.did) (eqb n.mutex m) n.did (part_of s m) (part_of (kept s) m) refl (without_waits s m)
+  without_waits (n ∷ s) m = ap f (apart (is_wait n.did) n (kept s) m)
+      ∙ one (is_wait n.did) (eqb n.mutex m) n.did (part_of s m) (part_of (kept s) m) refl (without_waits s m)
 
   pub parts_alike : (s r : List (Note IndexItem)) (m : ℕ) → kept s ≡ kept r → f (part_of s m) ≡ f (part_of r m)
   parts_alike s r m e = sym (without_waits s m) ∙ (ap (λ l. f (part_of l m)) e ∙ without_waits r m)
@@ -99,22 +103,33 @@ may_alike root m i s r h may = record {
 }
 
 pub fits_alike : (root : Path) (m : ℕ) (i : IndexItem) (s r : Share) → AreAlike s r → ItemFits root m i s → ItemFits root m i r
-fits_alike root m i s r h fits = record { kind = fits.kind; new = subst (λ l. AreDistinct (paths_of root i ++ l)) (taken_alike root m s r h) fits.new; below = fits.below }
+fits_alike root m i s r h fits =
+    record {
+      kind = fits.kind;
+      new = subst (λ l. AreDistinct (paths_of root i ++ l)) (taken_alike root m s r h) fits.new;
+      below =
+          fits.below;
+    }
 
 -- a share with more keeps the rule of shares where what is more may be there
-pub own_more : (root : Path) (s r : Share) (dirs files pieces : List Path) → KeepsOwn root s → ((m : ℕ) → All (λ p. IsItemAt m p.1) (part_of r.notes m).puts)
-    → ((d : Path) → Contains s.took d → Contains r.took d) → ((p : Path) → Contains (paths_taken root 1 s) p → Contains (paths_taken root 1 r) p)
+pub own_more : (root : Path) (s r : Share) (dirs files pieces : List Path) → KeepsOwn root s
+    → ((m : ℕ) → All (λ p. IsItemAt m p.1) (part_of r.notes m).puts)
+    → ((d : Path) → Contains s.took d → Contains r.took d)
+    → ((p : Path) → Contains (paths_taken root 1 s) p → Contains (paths_taken root 1 r) p)
     → r.put ≡ dirs ++ s.put → paths_put root 1 r ≡ files ++ paths_put root 1 s → paths_put root 2 r ≡ pieces ++ paths_put root 2 s
     → All (IsChildOfTook s) dirs → All (IsChildOfTook s) files → AreDistinct (files ++ paths_put root 1 s)
     → All (Contains (paths_taken root 1 s)) pieces → AreDistinct (pieces ++ paths_put root 2 s) → KeepsOwn root r
 own_more root s r dirs files pieces own kinds took taken put put1 put2 of_dirs of_files new_files of_pieces new_pieces = record {
   kinds = kinds;
   dirs = subst (All (IsChildOfTook r)) (sym put)
-      (All-weaker (IsChildOfTook s) (IsChildOfTook r) (child_more s r took) (dirs ++ s.put) (All-append (IsChildOfTook s) dirs s.put of_dirs own.dirs));
+      (All-weaker (IsChildOfTook s) (IsChildOfTook r) (child_more s r took) (dirs ++ s.put)
+      (All-append (IsChildOfTook s) dirs s.put of_dirs own.dirs));
   files = subst (All (IsChildOfTook r)) (sym put1)
-      (All-weaker (IsChildOfTook s) (IsChildOfTook r) (child_more s r took) (files ++ paths_put root 1 s) (All-append (IsChildOfTook s) files (paths_put root 1 s) of_files own.files));
+      (All-weaker (IsChildOfTook s) (IsChildOfTook r) (child_more s r took) (files ++ paths_put root 1 s)
+      (All-append (IsChildOfTook s) files (paths_put root 1 s) of_files own.files));
   files_once = subst AreDistinct (sym put1) new_files;
   pieces = subst (All (Contains (paths_taken root 1 r))) (sym put2)
-      (All-weaker (Contains (paths_taken root 1 s)) (Contains (paths_taken root 1 r)) taken (pieces ++ paths_put root 2 s) (All-append (Contains (paths_taken root 1 s)) pieces (paths_put root 2 s) of_pieces own.pieces));
+      (All-weaker (Contains (paths_taken root 1 s)) (Contains (paths_taken root 1 r)) taken (pieces ++ paths_put root 2 s)
+      (All-append (Contains (paths_taken root 1 s)) pieces (paths_put root 2 s) of_pieces own.pieces));
   pieces_once = subst AreDistinct (sym put2) new_pieces;
 }

@@ -28,10 +28,11 @@ module _ (root : Path) (values : List IndexValue) (shares : List Share) (k : Kee
 
   -- a directory that was taken is the root, or was put
   pub took_or_root : (d : Path) → Contains (waiting_in values ++ all_took shares) d → (d ≡ root) ⊎ Contains (all_put shares) d
-  took_or_root d h = elim (contains_cons_cases root (all_put shares) d (Contains-permutation (waiting_in values ++ all_took shares) (root ∷ all_put shares) d k.dirs h)) [
-    | inl is ↦ inl (sym is)
-    | inr put ↦ inr put
-  ]
+  took_or_root d h = elim (contains_cons_cases root (all_put shares) d
+      (Contains-permutation (waiting_in values ++ all_took shares) (root ∷ all_put shares) d k.dirs h)) [
+        | inl is ↦ inl (sym is)
+        | inr put ↦ inr put
+      ]
 
   -- each is the root or lies below it
   within : (n : ℕ) (d : Path) → length d < n → (d ≡ root) ⊎ Contains (all_put shares) d → (d ≡ root) ⊎ IsBelow root d
@@ -42,12 +43,14 @@ module _ (root : Path) (values : List IndexValue) (shares : List Share) (k : Kee
         let o = at_one (λ (s : Share). s.put) shares d put in
         let c = all_at (IsChildOfTook o.one) o.one.put d (own_of o.place o.one o.at).dirs o.is in
         let longer = child_longer d c.dir c.is in
-        let above = Contains-append_right (waiting_in values) (all_took shares) c.dir (of_all (λ (s : Share). s.took) shares o.place o.one c.dir o.at c.took) in
+        let above = Contains-append_right (waiting_in values) (all_took shares) c.dir
+        (of_all (λ (s : Share). s.took) shares o.place o.one c.dir o.at c.took) in
         inr (child_below root c.dir d c.is (within n c.dir (omega arith) (took_or_root c.dir above))))
   ]
 
   pub dir_within : (d : Path) → Contains (all_took shares) d → (d ≡ root) ⊎ IsBelow root d
-  dir_within d h = within (suc (length d)) d (omega arith) (took_or_root d (Contains-append_right (waiting_in values) (all_took shares) d h))
+  dir_within d h = within (suc (length d)) d (omega arith)
+      (took_or_root d (Contains-append_right (waiting_in values) (all_took shares) d h))
 
   -- a child of a directory that a thread took lies below the root
   pub child_within : (t : ℕ) (s : Share) (p : Path) → get_elem? shares t ≡ some s → IsChildOfTook s p → IsBelow root p
@@ -57,18 +60,21 @@ module _ (root : Path) (values : List IndexValue) (shares : List Share) (k : Kee
   files_put_once = distinct_over IsChildOf one_parent (paths_put root 1) (λ s. s.took) shares
       (All-weaker (KeepsOwn root) (IsOwned IsChildOf (paths_put root 1) (λ s. s.took)) (λ s own. record {
         distinct = own.files_once;
-        belong = All-weaker (IsChildOfTook s) (BelongsTo IsChildOf s.took) (λ p c. record { thing = c.dir; among = c.took; is = c.is }) (paths_put root 1 s) own.files;
+        belong = All-weaker (IsChildOfTook s) (BelongsTo IsChildOf s.took) (λ p c. record { thing = c.dir; among = c.took; is = c.is })
+            (paths_put root 1 s) own.files;
       }) shares k.own) took_once
 
   -- what is at a buffer, and what was taken there: once where it was put once, and it was put
-  pub taken_once : (m : ℕ) (v : IndexValue) → get_elem? values m ≡ some v → AreDistinct (flat_map (paths_put root m) shares) → AreDistinct (paths_at root (ring_of v) ++ flat_map (paths_taken root m) shares)
+  pub taken_once : (m : ℕ) (v : IndexValue) → get_elem? values m ≡ some v → AreDistinct (flat_map (paths_put root m) shares)
+      → AreDistinct (paths_at root (ring_of v) ++ flat_map (paths_taken root m) shares)
   taken_once m v e apart = times_distinct (paths_at root (ring_of v) ++ flat_map (paths_taken root m) shares) (λ p.
       let most = distinct_times p (flat_map (paths_put root m) shares) apart in
       let same = counted root m (ring_of v) shares (rule_at m v e) p in
       let both = times-append p (paths_at root (ring_of v)) (flat_map (paths_taken root m) shares) in
       omega arith)
 
-  pub was_put : (m : ℕ) (v : IndexValue) (p : Path) → get_elem? values m ≡ some v → Contains (paths_at root (ring_of v) ++ flat_map (paths_taken root m) shares) p → Contains (flat_map (paths_put root m) shares) p
+  pub was_put : (m : ℕ) (v : IndexValue) (p : Path) → get_elem? values m ≡ some v
+      → Contains (paths_at root (ring_of v) ++ flat_map (paths_taken root m) shares) p → Contains (flat_map (paths_put root m) shares) p
   was_put m v p e h =
       let one = contains_times p (paths_at root (ring_of v) ++ flat_map (paths_taken root m) shares) h in
       let same = counted root m (ring_of v) shares (rule_at m v e) p in
@@ -93,7 +99,8 @@ module _ (root : Path) (values : List IndexValue) (shares : List Share) (k : Kee
     pieces_put_once = distinct_over (λ p q. p ≡ q) (λ p a b h j. sym h ∙ j) (paths_put root 2) (paths_taken root 1) shares
         (All-weaker (KeepsOwn root) (IsOwned (λ p q. p ≡ q) (paths_put root 2) (paths_taken root 1)) (λ s own. record {
           distinct = own.pieces_once;
-          belong = All-weaker (Contains (paths_taken root 1 s)) (BelongsTo (λ p q. p ≡ q) (paths_taken root 1 s)) (λ p c. record { thing = p; among = c; is = refl }) (paths_put root 2 s) own.pieces;
+          belong = All-weaker (Contains (paths_taken root 1 s)) (BelongsTo (λ p q. p ≡ q) (paths_taken root 1 s))
+              (λ p c. record { thing = p; among = c; is = refl }) (paths_put root 2 s) own.pieces;
         }) shares k.own) files_taken_once
 
     -- each file of a piece that was put was taken, and lies below the root

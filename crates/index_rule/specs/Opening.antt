@@ -59,8 +59,10 @@ none_done [] t s e = absurd (some-ne-none s (sym e))
 none_done (n ∷ ns) zero s e = some-injective [] s e
 none_done (n ∷ ns) (suc t) s e = none_done ns t s e
 
-no_mark : {P : Type 0} (f : Used IndexItem → Bool) (m : ℕ) (ns : List ℕ) → f unused ≡ false → (t : ℕ) (s : List (Note IndexItem)) → get_elem? (notes_of (blanks ns)) t ≡ some s → f (part_of s m) ≡ true → P
-no_mark f m ns none t s at is = let e : f unused ≡ f (part_of s m) = ap (λ (r : List (Note IndexItem)). f (part_of r m)) (none_done ns t s at) in let bad : false ≡ true = sym none ∙ (e ∙ is) in absurd (cc)
+no_mark : {P : Type 0} (f : Used IndexItem → Bool) (m : ℕ) (ns : List ℕ) → f unused ≡ false → (t : ℕ) (s : List (Note IndexItem))
+    → get_elem? (notes_of (blanks ns)) t ≡ some s → f (part_of s m) ≡ true → P
+no_mark f m ns none t s at is = let e : f unused ≡ f (part_of s m) =
+    ap (λ (r : List (Note IndexItem)). f (part_of r m)) (none_done ns t s at) in let bad : false ≡ true = sym none ∙ (e ∙ is) in absurd (cc)
 
 -- an empty ring at which nothing was done keeps the rule of buffers
 blank_rule : (m c : ℕ) (ns : List ℕ) → BufferRule m (fresh c) (notes_of (blanks ns))
@@ -94,7 +96,8 @@ pub opens : (root : Path) (values : List IndexValue) (ns : List ℕ) → IsOpeni
 opens root values ns is = subst (λ vs. KeepsWork root vs (blanks ns)) (sym is.is) (record {
   kinds = kinds;
   rings = rings;
-  dirs = subst (λ l. IsPermutation l (root ∷ all_put (blanks ns))) (sym waits) (subst (λ l. IsPermutation (root ∷ []) (root ∷ l)) (sym (none_of (λ s. s.put) ns refl)) (IsPermutation-refl (root ∷ [])));
+  dirs = subst (λ l. IsPermutation l (root ∷ all_put (blanks ns))) (sym waits)
+      (subst (λ l. IsPermutation (root ∷ []) (root ∷ l)) (sym (none_of (λ s. s.put) ns refl)) (IsPermutation-refl (root ∷ [])));
   once = subst AreDistinct (sym waits) (distinct_cons root [] (contains_nil root) distinct_nil);
   dirs_counted = is.first.one ∙ ap (λ (l : List Path). 1 + length l) (sym (none_of (λ s. s.put) ns refl));
   files_counted = is.first.none ∙ sym (none_counted ns);
@@ -114,7 +117,10 @@ opens root values ns is = subst (λ vs. KeepsWork root vs (blanks ns)) (sym is.i
     kinds (suc (suc (suc m))) v e = absurd (some-ne-none v (sym e))
 
     rings : (m : ℕ) (q : Held IndexItem) → get_elem? (map ring_of list) m ≡ some q → BufferRule m q (notes_of (blanks ns))
-    rings zero q e = subst (λ (r : Held IndexItem). BufferRule 0 r (notes_of (blanks ns))) (some-injective (fresh 1) q e) (blank_rule 0 1 ns)
-    rings (suc zero) q e = subst (λ (r : Held IndexItem). BufferRule 1 r (notes_of (blanks ns))) (some-injective (fresh 256) q e) (blank_rule 1 256 ns)
-    rings (suc (suc zero)) q e = subst (λ (r : Held IndexItem). BufferRule 2 r (notes_of (blanks ns))) (some-injective (fresh 8) q e) (blank_rule 2 8 ns)
+    rings zero q e = subst (λ (r : Held IndexItem). BufferRule 0 r (notes_of (blanks ns))) (some-injective (fresh 1) q e)
+        (blank_rule 0 1 ns)
+    rings (suc zero) q e = subst (λ (r : Held IndexItem). BufferRule 1 r (notes_of (blanks ns))) (some-injective (fresh 256) q e)
+        (blank_rule 1 256 ns)
+    rings (suc (suc zero)) q e = subst (λ (r : Held IndexItem). BufferRule 2 r (notes_of (blanks ns))) (some-injective (fresh 8) q e)
+        (blank_rule 2 8 ns)
     rings (suc (suc (suc m))) q e = absurd (some-ne-none q (sym e))

@@ -43,7 +43,8 @@ module _ {X : Type 0} where
   at_map f (y ∷ xs) zero x e = ap (λ z. some (f z)) (some-injective y x e)
   at_map f (y ∷ xs) (suc t) x e = at_map f xs t x e
 
-  pub at_unmap : {Y : Type 0} (f : X → Y) (xs : List X) (t : ℕ) (y : Y) → get_elem? (map f xs) t ≡ some y → (x : X) × (get_elem? xs t ≡ some x) × (f x ≡ y)
+  pub at_unmap : {Y : Type 0} (f : X → Y) (xs : List X) (t : ℕ) (y : Y) → get_elem? (map f xs) t ≡ some y → (x : X)
+      × (get_elem? xs t ≡ some x) × (f x ≡ y)
   at_unmap f [] t y e = absurd (some-ne-none y (sym e))
   at_unmap f (x ∷ xs) zero y e = (x, refl, some-injective (f x) y e)
   at_unmap f (x ∷ xs) (suc t) y e = at_unmap f xs t y e
@@ -77,11 +78,13 @@ module _ {X Y : Type 0} (f : X → List Y) where
   set_same (z ∷ xs) zero x r e same = ap (λ l. l ++ flat_map f xs) (same ∙ ap f (sym (some-injective z x e)))
   set_same (z ∷ xs) (suc t) x r e same = ap (λ l. f z ++ l) (set_same xs t x r e same)
 
-  pub set_more : (xs : List X) (t : ℕ) (x r : X) (more : List Y) → get_elem? xs t ≡ some x → f r ≡ more ++ f x → IsPermutation (flat_map f (slice_set xs t r)) (more ++ flat_map f xs)
+  pub set_more : (xs : List X) (t : ℕ) (x r : X) (more : List Y) → get_elem? xs t ≡ some x → f r ≡ more ++ f x
+      → IsPermutation (flat_map f (slice_set xs t r)) (more ++ flat_map f xs)
   set_more [] t x r more e grows = absurd (some-ne-none x (sym e))
   set_more (z ∷ xs) zero x r more e grows =
       subst (λ l. IsPermutation l (more ++ flat_map f (z ∷ xs)))
-      (sym (ap (λ l. l ++ flat_map f xs) (grows ∙ ap (λ y. more ++ f y) (sym (some-injective z x e))) ∙ append_assoc more (f z) (flat_map f xs)))
+      (sym (ap (λ l. l ++ flat_map f xs) (grows ∙ ap (λ y. more ++ f y) (sym (some-injective z x e)))
+      ∙ append_assoc more (f z) (flat_map f xs)))
       (IsPermutation-refl (more ++ flat_map f (z ∷ xs)))
   set_more (z ∷ xs) (suc t) x r more e grows =
       let rest = flat_map f xs in
@@ -95,10 +98,12 @@ module _ {X : Type 0} (f : X → List Path) where
   -- no more often in one list than in all
   pub times_part : (p : Path) (xs : List X) (t : ℕ) (x : X) → get_elem? xs t ≡ some x → times p (f x) ≤ times p (flat_map f xs)
   times_part p [] t x e = absurd (some-ne-none x (sym e))
-  times_part p (z ∷ xs) zero x e = let both = times-append p (f z) (flat_map f xs) in let same = ap (λ y. times p (f y)) (some-injective z x e) in omega arith
+  times_part p (z ∷ xs) zero x e = let both = times-append p (f z) (flat_map f xs) in
+      let same = ap (λ y. times p (f y)) (some-injective z x e) in omega arith
   times_part p (z ∷ xs) (suc t) x e = let both = times-append p (f z) (flat_map f xs) in let rest = times_part p xs t x e in omega arith
 
-  pub distinct_part : (ys : List Path) (xs : List X) (t : ℕ) (x : X) → get_elem? xs t ≡ some x → AreDistinct (ys ++ flat_map f xs) → AreDistinct (ys ++ f x)
+  pub distinct_part : (ys : List Path) (xs : List X) (t : ℕ) (x : X) → get_elem? xs t ≡ some x → AreDistinct (ys ++ flat_map f xs)
+      → AreDistinct (ys ++ f x)
   distinct_part ys xs t x e apart = times_distinct (ys ++ f x) (λ p.
       let one = times-append p ys (f x) in
       let all = times-append p ys (flat_map f xs) in
@@ -107,14 +112,18 @@ module _ {X : Type 0} (f : X → List Path) where
       omega arith)
 
   -- a path is in one of the lists alone
-  pub one_place : (xs : List X) (i j : ℕ) (x y : X) (p : Path) → AreDistinct (flat_map f xs) → get_elem? xs i ≡ some x → get_elem? xs j ≡ some y → Contains (f x) p → Contains (f y) p → i ≡ j
+  pub one_place : (xs : List X) (i j : ℕ) (x y : X) (p : Path) → AreDistinct (flat_map f xs) → get_elem? xs i ≡ some x
+      → get_elem? xs j ≡ some y → Contains (f x) p → Contains (f y) p → i ≡ j
   one_place [] i j x y p apart a b h k = absurd (some-ne-none x (sym a))
   one_place (z ∷ xs) zero zero x y p apart a b h k = refl
   one_place (z ∷ xs) zero (suc j) x y p apart a b h k =
-      absurd (distinct_across (f z) (flat_map f xs) p apart (subst (λ w. Contains (f w) p) (sym (some-injective z x a)) h) (of_all f xs j y p b k))
+      absurd (distinct_across (f z) (flat_map f xs) p apart (subst (λ w. Contains (f w) p) (sym (some-injective z x a)) h)
+      (of_all f xs j y p b k))
   one_place (z ∷ xs) (suc i) zero x y p apart a b h k =
-      absurd (distinct_across (f z) (flat_map f xs) p apart (subst (λ w. Contains (f w) p) (sym (some-injective z y b)) k) (of_all f xs i x p a h))
-  one_place (z ∷ xs) (suc i) (suc j) x y p apart a b h k = ap suc (one_place xs i j x y p (distinct_right (f z) (flat_map f xs) apart) a b h k)
+      absurd (distinct_across (f z) (flat_map f xs) p apart (subst (λ w. Contains (f w) p) (sym (some-injective z y b)) k)
+      (of_all f xs i x p a h))
+  one_place (z ∷ xs) (suc i) (suc j) x y p apart a b h k =
+      ap suc (one_place xs i j x y p (distinct_right (f z) (flat_map f xs) apart) a b h k)
 
 -- the files that all items at a buffer are about
 paths_over : (root : Path) (f : Used IndexItem → List (ℕ × IndexItem)) (m : ℕ) (shares : List Share)
@@ -134,18 +143,23 @@ pub counted : (root : Path) (m : ℕ) (q : Held IndexItem) (shares : List Share)
 counted root m q shares rule p =
     let pair : ℕ × IndexItem → List Path = λ x. paths_of root x.1 in
     let notes = notes_of shares in
-    let front = take q.taken rule.log in
+    let prefix = take q.taken rule.log in
     let back = drop q.taken rule.log in
     let puts : times p (flat_map (paths_put root m) shares) ≡ times p (flat_map (paths_of root) rule.log) =
     ap (times p) (sym (paths_over root (λ u. u.puts) m shares))
-    ∙ (sym (times-flat_map-permutation p pair (all_puts m notes) (enumerate_from 0 rule.log) rule.puts) ∙ ap (times p) (numbered root 0 rule.log)) in
-    let takes : times p (flat_map (paths_taken root m) shares) ≡ times p (flat_map (paths_of root) front) =
+    ∙ (sym (times-flat_map-permutation p pair (all_puts m notes) (enumerate_from 0 rule.log) rule.puts)
+    ∙ ap (times p) (numbered root 0 rule.log)) in
+    let takes : times p (flat_map (paths_taken root m) shares) ≡ times p (flat_map (paths_of root) prefix) =
     ap (times p) (sym (paths_over root (λ u. u.takes) m shares))
-    ∙ (sym (times-flat_map-permutation p pair (all_takes m notes) (enumerate_from 0 front) rule.takes) ∙ ap (times p) (numbered root 0 front)) in
-    let split : times p (flat_map (paths_of root) rule.log) ≡ times p (flat_map (paths_of root) front) + times p (flat_map (paths_of root) back) =
+    ∙ (sym (times-flat_map-permutation p pair (all_takes m notes) (enumerate_from 0 prefix) rule.takes)
+    ∙ ap (times p) (numbered root 0 prefix)) in
+    let split : times p (flat_map (paths_of root) rule.log) ≡ times p (flat_map (paths_of root) prefix)
+    + times p (flat_map (paths_of root) back) =
     ap (λ l. times p (flat_map (paths_of root) l)) (sym (take-append-drop q.taken rule.log))
-    ∙ (ap (times p) (flat_map-append (paths_of root) front back) ∙ times-append p (flat_map (paths_of root) front) (flat_map (paths_of root) back)) in
-    let left : times p (paths_at root q) ≡ times p (flat_map (paths_of root) back) = ap (λ l. times p (flat_map (paths_of root) l)) rule.left in
+    ∙ (ap (times p) (flat_map-append (paths_of root) prefix back)
+    ∙ times-append p (flat_map (paths_of root) prefix) (flat_map (paths_of root) back)) in
+    let left : times p (paths_at root q) ≡ times p (flat_map (paths_of root) back) =
+    ap (λ l. times p (flat_map (paths_of root) l)) rule.left in
     omega arith
 
 -- where each item that some thread put at a buffer is such an item, so is each that is there, and each that a thread took there
@@ -153,32 +167,50 @@ module _ (fits : IndexItem → Type 0) where
   abbrev Fits : ℕ × IndexItem → Type 0
   Fits p = fits p.1
 
-  of_pairs : (f : Used IndexItem → List (ℕ × IndexItem)) (m : ℕ) (notes : List (List (Note IndexItem))) → ((t : ℕ) (s : List (Note IndexItem)) → get_elem? notes t ≡ some s → All Fits (f (part_of s m))) → All Fits (pairs_of f m notes)
+  of_pairs : (f : Used IndexItem → List (ℕ × IndexItem)) (m : ℕ) (notes : List (List (Note IndexItem)))
+      → ((t : ℕ) (s : List (Note IndexItem)) → get_elem? notes t ≡ some s → All Fits (f (part_of s m))) → All Fits (pairs_of f m notes)
   of_pairs f m [] each = All-nil Fits
-  of_pairs f m (s ∷ notes) each = All-append Fits (f (part_of s m)) (pairs_of f m notes) (each 0 s refl) (of_pairs f m notes (λ t u e. each (suc t) u e))
+  of_pairs f m (s ∷ notes) each =
+      All-append Fits (f (part_of s m)) (pairs_of f m notes) (each 0 s refl) (of_pairs f m notes (λ t u e. each (suc t) u e))
 
-  each_pair : (f : Used IndexItem → List (ℕ × IndexItem)) (m : ℕ) (notes : List (List (Note IndexItem))) → All Fits (pairs_of f m notes) → (t : ℕ) (s : List (Note IndexItem)) → get_elem? notes t ≡ some s → All Fits (f (part_of s m))
+  each_pair : (f : Used IndexItem → List (ℕ × IndexItem)) (m : ℕ) (notes : List (List (Note IndexItem))) → All Fits (pairs_of f m notes)
+      → (t : ℕ) (s : List (Note IndexItem)) → get_elem? notes t ≡ some s → All Fits (f (part_of s m))
   each_pair f m [] all t s e = absurd (some-ne-none s (sym e))
-  each_pair f m (u ∷ notes) all zero s e = subst (λ v. All Fits (f (part_of v m))) (some-injective u s e) (all_from Fits (f (part_of u m)) (λ p h. all_at Fits (pairs_of f m (u ∷ notes)) p all (Contains-append_left (f (part_of u m)) (pairs_of f m notes) p h)))
-  each_pair f m (u ∷ notes) all (suc t) s e = each_pair f m notes (all_from Fits (pairs_of f m notes) (λ p h. all_at Fits (pairs_of f m (u ∷ notes)) p all (Contains-append_right (f (part_of u m)) (pairs_of f m notes) p h))) t s e
+  each_pair f m (u ∷ notes) all zero s e =
+      subst (λ v. All Fits (f (part_of v m))) (some-injective u s e)
+      (all_from Fits (f (part_of u m))
+      (λ p h. all_at Fits (pairs_of f m (u ∷ notes)) p all (Contains-append_left (f (part_of u m)) (pairs_of f m notes) p h)))
+  each_pair f m (u ∷ notes) all (suc t) s e =
+      each_pair f m notes (all_from Fits (pairs_of f m notes)
+      (λ p h. all_at Fits (pairs_of f m (u ∷ notes)) p all (Contains-append_right (f (part_of u m)) (pairs_of f m notes) p h))) t s e
 
   without_numbers : (n : ℕ) (items : List IndexItem) → All Fits (enumerate_from n items) → All fits items
   without_numbers n [] all = All-nil fits
-  without_numbers n (i ∷ items) all = All-cons fits i items (All-head Fits (n, i) (enumerate_from (n + 1) items) all) (without_numbers (n + 1) items (All-tail Fits (n, i) (enumerate_from (n + 1) items) all))
+  without_numbers n (i ∷ items) all =
+      All-cons fits i items (All-head Fits (n, i) (enumerate_from (n + 1) items) all)
+      (without_numbers (n + 1) items (All-tail Fits (n, i) (enumerate_from (n + 1) items) all))
 
   with_numbers : (n : ℕ) (items : List IndexItem) → All fits items → All Fits (enumerate_from n items)
   with_numbers n [] all = All-nil Fits
-  with_numbers n (i ∷ items) all = All-cons Fits (n, i) (enumerate_from (n + 1) items) (All-head fits i items all) (with_numbers (n + 1) items (All-tail fits i items all))
+  with_numbers n (i ∷ items) all =
+      All-cons Fits (n, i) (enumerate_from (n + 1) items) (All-head fits i items all)
+      (with_numbers (n + 1) items (All-tail fits i items all))
 
-  logged : (m : ℕ) (q : Held IndexItem) (notes : List (List (Note IndexItem))) (rule : BufferRule m q notes) → ((t : ℕ) (s : List (Note IndexItem)) → get_elem? notes t ≡ some s → All Fits (part_of s m).puts) → All fits rule.log
-  logged m q notes rule puts = without_numbers 0 rule.log (All-permutation Fits (all_puts m notes) (enumerate_from 0 rule.log) rule.puts (of_pairs (λ u. u.puts) m notes puts))
+  logged : (m : ℕ) (q : Held IndexItem) (notes : List (List (Note IndexItem))) (rule : BufferRule m q notes)
+      → ((t : ℕ) (s : List (Note IndexItem)) → get_elem? notes t ≡ some s → All Fits (part_of s m).puts) → All fits rule.log
+  logged m q notes rule puts = without_numbers 0 rule.log
+      (All-permutation Fits (all_puts m notes) (enumerate_from 0 rule.log) rule.puts (of_pairs (λ u. u.puts) m notes puts))
 
-  pub items_fit : (m : ℕ) (q : Held IndexItem) (notes : List (List (Note IndexItem))) → BufferRule m q notes → ((t : ℕ) (s : List (Note IndexItem)) → get_elem? notes t ≡ some s → All Fits (part_of s m).puts) → All fits q.items
+  pub items_fit : (m : ℕ) (q : Held IndexItem) (notes : List (List (Note IndexItem))) → BufferRule m q notes
+      → ((t : ℕ) (s : List (Note IndexItem)) → get_elem? notes t ≡ some s → All Fits (part_of s m).puts) → All fits q.items
   items_fit m q notes rule puts = subst (All fits) (sym rule.left) (All-drop fits q.taken rule.log (logged m q notes rule puts))
 
-  pub takes_fit : (m : ℕ) (q : Held IndexItem) (notes : List (List (Note IndexItem))) → BufferRule m q notes → ((t : ℕ) (s : List (Note IndexItem)) → get_elem? notes t ≡ some s → All Fits (part_of s m).puts)
+  pub takes_fit : (m : ℕ) (q : Held IndexItem) (notes : List (List (Note IndexItem))) → BufferRule m q notes
+      → ((t : ℕ) (s : List (Note IndexItem)) → get_elem? notes t ≡ some s → All Fits (part_of s m).puts)
       → (t : ℕ) (s : List (Note IndexItem)) → get_elem? notes t ≡ some s → All Fits (part_of s m).takes
   takes_fit m q notes rule puts t s there =
       let first = take q.taken rule.log in
-      each_pair (λ u. u.takes) m notes (All-permutation Fits (enumerate_from 0 first) (all_takes m notes) (IsPermutation-sym (all_takes m notes) (enumerate_from 0 first) rule.takes)
+      each_pair (λ u. u.takes) m notes
+      (All-permutation Fits (enumerate_from 0 first) (all_takes m notes)
+      (IsPermutation-sym (all_takes m notes) (enumerate_from 0 first) rule.takes)
       (with_numbers 0 first (All-take fits q.taken rule.log (logged m q notes rule puts)))) t s there

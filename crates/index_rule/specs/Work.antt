@@ -87,7 +87,8 @@ paths_at root q = flat_map (paths_of root) q.items
 -- what is there belongs there, and is new to the thread
 abbrev pub IsNewTo : Path → ℕ → Share → IndexValue → Type 0
 IsNewTo root m s (Dirs d) = AreDistinct (d.list.waiting.items ++ s.took)
-IsNewTo root m s (Ring q) = All (IsItemAt m) q.items × ((m ≡ 1) ⊎ (m ≡ 2) → AreDistinct (paths_at root q ++ paths_taken root m s) × All (IsBelow root) (paths_at root q))
+IsNewTo root m s (Ring q) = All (IsItemAt m) q.items
+    × ((m ≡ 1) ⊎ (m ≡ 2) → AreDistinct (paths_at root q ++ paths_taken root m s) × All (IsBelow root) (paths_at root q))
 
 pub record FitsWork (root : Path) (m : ℕ) (v : IndexValue) (s : Share) : Type 0 where
   pub kind : IsBehind m v

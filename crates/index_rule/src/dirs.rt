@@ -9,7 +9,7 @@ use firefly_outside::Text;
 
 /// What the list has for a walker.
 #[derive(Drop)]
-pub enum Turn {
+pub enum NextDir {
     /// A directory to be listed, or none where there is nothing any more.
     Now(Option<Text>),
     /// Nothing now, but directories are in work.
@@ -53,23 +53,23 @@ pub fn dirs_in(value: IndexValue) -> DirsInWork
 }
 
 /// Takes the last directory, which is in work from now on; all others stay.
-pub fn next_turn(list: &mut WaitingDirs) -> Turn
+pub fn take_dir(list: &mut WaitingDirs) -> NextDir
     ensures { list.old.waiting.items ≡ list.new.waiting.items ++ got_in result }
 {
     if list.shut {
-        return Turn::Now(None);
+        return NextDir::Now(None);
     }
     match list.waiting.pop() {
         Some(dir) => {
             // There are no more in work than walkers.
             list.in_work = list.in_work.saturating_add(1);
-            Turn::Now(Some(dir))
+            NextDir::Now(Some(dir))
         }
         None => {
             if list.in_work == 0 {
-                Turn::Now(None)
+                NextDir::Now(None)
             } else {
-                Turn::Wait
+                NextDir::Wait
             }
         }
     }

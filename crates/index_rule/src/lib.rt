@@ -12,6 +12,6 @@ mod dirs;
 mod uses;
 mod value;
 
-pub use dirs::{PutDirs, Turn, dirs_in, next_turn, put_found};
+pub use dirs::{NextDir, PutDirs, dirs_in, put_found, take_dir};
 pub use uses::{DidMove, DidPut, DidShut, DidTake, IndexShare, IndexUses};
 pub use value::{DirsInWork, FoundCounts, IndexItem, IndexValue, WaitingDirs};

@@ -2,7 +2,7 @@
 ghost use Rattle.std.specs.Prelude.{◌≡◌, ◌≤◌, ◌+◌, ◌++◌, length, OnOk, OnErr, decimal};
 ghost use Rattle.std.specs.Io.KnownBytes.{Appends};
 ghost use Rattle.arrayvec.specs.ArrayString.{array_string_len};
-ghost use Rattle.firefly_outside.specs.Causes.{HasCause, AppendsFront};
+ghost use Rattle.firefly_outside.specs.Causes.{HasCause, AppendsPrefix};
 ghost use Rattle.index_sample.specs.Text.{summary_text};
 
 use arrayvec::ArrayString;
@@ -52,7 +52,7 @@ fn lines_of(sums: &SampleSums) -> Lines
 /// Writes the five lines. It takes no memory.
 pub fn print_summary<O: Sink>(sums: &SampleSums, out: &mut O) -> Result<(), SinkFault>
     ensures ok { OnOk result (Appends (O.held out.old) (O.held out.new) (summary_text sums.now)) }
-    ensures err { OnErr result (AppendsFront (O.held out.old) (O.held out.new) (summary_text sums.now)) }
+    ensures err { OnErr result (AppendsPrefix (O.held out.old) (O.held out.new) (summary_text sums.now)) }
     ensures cause { HasCause (O.faults out.old) (O.faults out.new) result }
 {
     put_all(out, lines_of(sums).as_str().as_bytes())

@@ -5,7 +5,7 @@ ghost use Rattle.index_sample.specs.Sums.{Sums, IsDoneOrMemory, SumsAnswer};
 
 use crate::SampleSums;
 use crate::trees::five_trees;
-use indexer::{IndexAnswer, NoGate, Plan, index};
+use indexer::{BeginsAtOnce, IndexAnswer, Plan, index};
 use std::alloc::{AllocError, Global};
 use std::sync::Wait;
 use std::thread::Threads;
@@ -60,7 +60,14 @@ pub fn index_summary<R: Threads + Wait + Sync>(
         traced: false,
     };
     let mut trees = five_trees(alloc, seed, files)?;
-    let answer = index(rt, alloc, "sample", &plan, trees.as_mut_slice(), &NoGate);
+    let answer = index(
+        rt,
+        alloc,
+        "sample",
+        &plan,
+        trees.as_mut_slice(),
+        &BeginsAtOnce,
+    );
     drop(trees);
     summed(answer, files)
 }

@@ -42,12 +42,14 @@ module _ {S : Type 0} (tree : S → Option Told) (weak : S → List Path) (fault
   -- the worker came from a to b with these findings, as its share says: the tree that it got came back, with calls of its kind; without a tree
   -- it took and merged pieces, and unless it lost one it saw the end of their buffer
   abbrev pub GivesTree : Run → Kind → Worker → Worker → Findings → Option S → Option S → Type 0
-  GivesTree p kind a b f None None = ((o : Option Told) → HasCalled o root f.pieces.items p 0 0 a b) × (f.visits.items ≡ []) × (f.fault ≡ None)
+  GivesTree p kind a b f None None = ((o : Option Told) → HasCalled o root f.pieces.items p 0 0 a b) × (f.visits.items ≡ [])
+      × (f.fault ≡ None)
       × OfShare b (IsLeft p.world [] f) × (f.lost ≡ false → OfShare b (λ u. (part_of u.notes 2).seen_end ≡ true))
   GivesTree p kind a b f (Some s) (Some r) = (tree r ≡ tree s) × (weak r ≡ weak s)
       × HasDone kind (tree s) root (weak s) (faults s) (faults r) (calls s) (calls r) p 0 a b f.visits.items f.pieces.items f.fault f.lost
       × ((files : List Path) × OfShare b (IsLeft p.world files f)
-      × IfSome (tree s) (λ t. ((calls r).files_read ≡ (calls s).files_read ++ files) × (f.lost ≡ false → (calls r).listed ≡ (calls s).listed ++ dirs_listed f.visits.items)))
+      × IfSome (tree s) (λ t. ((calls r).files_read ≡ (calls s).files_read ++ files)
+      × (f.lost ≡ false → (calls r).listed ≡ (calls s).listed ++ dirs_listed f.visits.items)))
   GivesTree p kind a b f None (Some r) = ⊥
   GivesTree p kind a b f (Some s) None = ⊥
 
@@ -59,7 +61,8 @@ module _ {S : Type 0} (tree : S → Option Told) (weak : S → List Path) (fault
   GivesRole p a b f x y = ⊥
 
   -- the thread at this place came back with the findings at this place, and so did its tree; of those with a tree, which are the first n, the walkers come first
-  pub record HasWorked (p : Run) (walkers n : ℕ) (threads : List Worker) (findings : List Findings) (old new : List (Option S)) (k : ℕ) (t : Worker) : Type 0 where
+  pub record HasWorked (p : Run) (walkers n : ℕ) (threads : List Worker) (findings : List Findings) (old new : List (Option S)) (k : ℕ)
+      (t : Worker) : Type 0 where
     pub was : Worker
     pub is_was : get_elem? threads k ≡ some was
     pub found : Findings
@@ -67,7 +70,8 @@ module _ {S : Type 0} (tree : S → Option Told) (weak : S → List Path) (fault
     pub gives : GivesTree p (kind_at walkers k) was t found (tree_at n old k) (tree_at n new k)
 
   -- the first thread called, and the others worked; this is what they came back as, the first ahead, and what they came by
-  pub record HasCrew (p : Run) (walkers n : ℕ) (threads : List Worker) (old new : List (Option S)) (all : List Worker) (findings : List Findings) : Type 0 where
+  pub record HasCrew (p : Run) (walkers n : ℕ) (threads : List Worker) (old new : List (Option S)) (all : List Worker)
+      (findings : List Findings) : Type 0 where
     pub caller : Worker
     pub is_caller : get_elem? threads 0 ≡ some caller
     pub last : Worker

@@ -16,17 +16,20 @@ pub record HasGiven (tree : Option Told) (root : Path) (p : Run) (m : ℕ) (old 
   pub kept : All (IsFilesPiece tree root) old → All (IsFilesPiece tree root) new
 
 -- these were pieces of the files of a lot, which has these files now
-pub record HasPassed (tree : Option Told) (root : Path) (p : Run) (m : ℕ) (files : List ReadFile) (old new : List Index) (a b : Worker) : Type 0 where
+pub record HasPassed (tree : Option Told) (root : Path) (p : Run) (m : ℕ) (files : List ReadFile) (old new : List Index) (a b : Worker) :
+    Type 0 where
   pub read : AreRead tree files
   pub given : HasGiven tree root p m old new a b
 
 module _ {S : Type 0} (tree : S → Option Told) (weak : S → List Path) (faults : S → ℕ) (calls : S → Calls) (root : Path) where
   -- a parser took files, read them with the tree into a lot, which has these now, and made pieces of others, which it gave on or kept;
   -- this failed, if something did, and something may be lost
-  pub record HasParsed (p : Run) (old new : S) (files : List ReadFile) (held more : List Index) (a b : Worker) (fault : Option Fault) (lost : Bool) : Type 0 where
+  pub record HasParsed (p : Run) (old new : S) (files : List ReadFile) (held more : List Index) (a b : Worker) (fault : Option Fault)
+      (lost : Bool) : Type 0 where
     pub tree_stays : tree new ≡ tree old
     pub weak_stays : weak new ≡ weak old
     pub read : AreRead (tree old) files
     pub kept : All (IsFilesPiece (tree old) root) held → All (IsFilesPiece (tree old) root) more
-    pub done : (count : ℕ) (before : Calls) (c : Worker) → HasDone FileKind (tree old) root (weak old) count (faults old) before (calls old) p 0 c a [] [] None false
+    pub done : (count : ℕ) (before : Calls) (c : Worker)
+        → HasDone FileKind (tree old) root (weak old) count (faults old) before (calls old) p 0 c a [] [] None false
         → HasDone FileKind (tree old) root (weak old) count (faults new) before (calls new) p 0 c b [] [] fault lost

@@ -22,7 +22,8 @@ module _ {S : Type 0} (calls : S → Calls) where
   -- a list of paths for each of the first n trees and the next: those that were listed on it since, or read
   pub record AreSince (of : Calls → List Path) (n : ℕ) (old new : List (Option S)) (lists : List (List Path)) : Type 0 where
     pub many : length lists ≡ suc n
-    pub since : (k : ℕ) (s r : S) (paths : List Path) → slice_index_or old k None ≡ Some s → slice_index_or new k None ≡ Some r → get_elem? lists k ≡ some paths → of (calls r) ≡ of (calls s) ++ paths
+    pub since : (k : ℕ) (s r : S) (paths : List Path) → slice_index_or old k None ≡ Some s → slice_index_or new k None ≡ Some r
+        → get_elem? lists k ≡ some paths → of (calls r) ≡ of (calls s) ++ paths
 
   -- over these trees together the directories under the root were listed since, each once, and the files under it were read, each once
   pub record IsEachOnce (t : Told) (root : Path) (n : ℕ) (old new : List (Option S)) : Type 0 where
@@ -40,12 +41,14 @@ module _ {S : Type 0} (calls : S → Calls) where
   pub record IsWorkedOnce (root : Path) (n : ℕ) (old new : List (Option S)) (visits : List Visit) (pieces : List Index) : Type 0 where
     pub listed : List (List Path)
     pub listed_many : length listed ≡ n
-    pub listed_since : (k : ℕ) (s r : S) (paths : List Path) → k < n → slice_index_or old k None ≡ Some s → slice_index_or new k None ≡ Some r → get_elem? listed k ≡ some paths → (calls r).listed ≡ (calls s).listed ++ paths
+    pub listed_since : (k : ℕ) (s r : S) (paths : List Path) → k < n → slice_index_or old k None ≡ Some s
+        → slice_index_or new k None ≡ Some r → get_elem? listed k ≡ some paths → (calls r).listed ≡ (calls s).listed ++ paths
     pub listed_once : AllPairs (λ p q. p ≢ q) (joined listed)
     pub listed_all : (p : Path) → Contains (dirs_listed visits) p ↔ Contains (joined listed) p
     pub read : List (List Path)
     pub read_many : length read ≡ n
-    pub read_since : (k : ℕ) (s r : S) (paths : List Path) → k < n → slice_index_or old k None ≡ Some s → slice_index_or new k None ≡ Some r → get_elem? read k ≡ some paths → (calls r).files_read ≡ (calls s).files_read ++ paths
+    pub read_since : (k : ℕ) (s r : S) (paths : List Path) → k < n → slice_index_or old k None ≡ Some s → slice_index_or new k None ≡ Some r
+        → get_elem? read k ≡ some paths → (calls r).files_read ≡ (calls s).files_read ++ paths
     pub read_once : AllPairs (λ p q. p ≢ q) (joined read)
     pub read_all : (p : Path) → IsCoveredFile root pieces p ↔ Contains (joined read) p
 

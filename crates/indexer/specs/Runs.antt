@@ -32,16 +32,18 @@ module _ {S : Type 0} (tree : S → Option Told) (weak : S → List Path) (fault
     pub gives : GivesTree tree weak faults calls root run (kind_at walkers k) first last found (tree_at n old k) (tree_at n new k)
 
   -- the package of the plan was closed so when its workers had ended, and this is what they came by
-  pub record HasRun (plan : Plan) (old new : List (Option S)) (closed : Ended IndexValue Share Path) (findings : List Findings) : Type 0 where
-    pub layout : closed.layout ≡ layout_of plan
-    pub untraced : plan.traced ≡ false → closed.trace ≡ None
-    pub traced : plan.traced ≡ true → (h : List Event) × (closed.trace ≡ Some h) × IsWhole (layout_of plan) closed.threads h
-    pub count : length findings + 1 ≡ (layout_of plan).threads
-    pub found : Each (IsFoundBy plan.walkers (plan.walkers + plan.parsers) closed.threads old new) findings
-    pub pieces : (o : Option Told) → AllTell tree o old → All (IsFilesPiece o root) (flat_map (λ f. f.pieces.items) findings)
-    pub visits : AreVisits root (flat_map (λ f. f.visits.items) findings)
-    pub apart : AreApart (flat_map (λ f. f.pieces.items) findings)
-    pub covered : AreFound root (flat_map (λ f. f.visits.items) findings) (flat_map (λ f. f.pieces.items) findings)
-    pub once : (t : Told) → AllTell tree (Some t) old → list_any (λ f. f.lost) findings ≡ false
-        → IsWorkedOnce calls root (plan.walkers + plan.parsers) old new (flat_map (λ f. f.visits.items) findings) (flat_map (λ f. f.pieces.items) findings)
-    pub others : (i : ℕ) (d : Option S) → plan.walkers + plan.parsers ≤ i → slice_index_or new i d ≡ slice_index_or old i d
+  pub record HasRun (plan : Plan) (old new : List (Option S)) (closed : Ended IndexValue Share Path) (findings : List Findings) : Type 0
+    where
+      pub layout : closed.layout ≡ layout_of plan
+      pub untraced : plan.traced ≡ false → closed.trace ≡ None
+      pub traced : plan.traced ≡ true → (h : List Event) × (closed.trace ≡ Some h) × IsWhole (layout_of plan) closed.threads h
+      pub count : length findings + 1 ≡ (layout_of plan).threads
+      pub found : Each (IsFoundBy plan.walkers (plan.walkers + plan.parsers) closed.threads old new) findings
+      pub pieces : (o : Option Told) → AllTell tree o old → All (IsFilesPiece o root) (flat_map (λ f. f.pieces.items) findings)
+      pub visits : AreVisits root (flat_map (λ f. f.visits.items) findings)
+      pub apart : AreApart (flat_map (λ f. f.pieces.items) findings)
+      pub covered : AreFound root (flat_map (λ f. f.visits.items) findings) (flat_map (λ f. f.pieces.items) findings)
+      pub once : (t : Told) → AllTell tree (Some t) old → list_any (λ f. f.lost) findings ≡ false
+          → IsWorkedOnce calls root (plan.walkers + plan.parsers) old new (flat_map (λ f. f.visits.items) findings)
+          (flat_map (λ f. f.pieces.items) findings)
+      pub others : (i : ℕ) (d : Option S) → plan.walkers + plan.parsers ≤ i → slice_index_or new i d ≡ slice_index_or old i d

@@ -115,7 +115,8 @@ module _ {S : Type 0} (tree : S → Option Told) (weak : S → List Path) (fault
 
   -- no count rose; the trees of the walkers, who come first, were only listed, and those of the parsers only read
   pub record AreUsed (walkers n : ℕ) (threads : List Worker) (old new : List (Option S)) : Type 0 where
-    pub workers : (k : ℕ) (s r : S) → k < n → slice_index_or old k None ≡ Some s → slice_index_or new k None ≡ Some r → IsUsedBy (kind_at walkers k) threads k s r
+    pub workers : (k : ℕ) (s r : S) → k < n → slice_index_or old k None ≡ Some s → slice_index_or new k None ≡ Some r
+        → IsUsedBy (kind_at walkers k) threads k s r
     pub closing : (s r : S) → slice_index_or old n None ≡ Some s → slice_index_or new n None ≡ Some r → faults r ≡ faults s
 
   -- a tree's count rose, and where it tells, a call on it failed at this path since: it lies under the root, and may fail or isn't there as its entry says

@@ -56,7 +56,8 @@ pub record HasGathered (root : Path) (lot : List Path) (kept : List Index) (file
 pub record IsPassedOn (root : Path) (new put : List Path) (old kept : List Index) (all : Bool) : Type 0 where
   pub among : All (Contains new) put
   pub most : (p : Path) → times p (flat_map (covered root) kept) + times p put ≤ times p new + times p (flat_map (covered root) old)
-  pub same : all ≡ true → (p : Path) → times p (flat_map (covered root) kept) + times p put ≡ times p new + times p (flat_map (covered root) old)
+  pub same : all ≡ true → (p : Path)
+      → times p (flat_map (covered root) kept) + times p put ≡ times p new + times p (flat_map (covered root) old)
 
 -- pieces that may be put: the thread took each of their files, and they have none twice, and none that was put
 pub record MayPutPieces (root : Path) (pieces : List Index) (s : Share) : Type 0 where
@@ -66,7 +67,8 @@ pub record MayPutPieces (root : Path) (pieces : List Index) (s : Share) : Type 0
 
 -- a file was read into a lot; or it wasn't read, or it was read and lost
 abbrev pub ReadsInto : Path → List Path → List Path → List Path → Bool → Type 0
-ReadsInto path old new more lost = ((more ≡ path ∷ []) × (new ≡ old ++ path ∷ [])) ⊎ ((new ≡ old) × ((more ≡ []) ⊎ ((more ≡ path ∷ []) × (lost ≡ true))))
+ReadsInto path old new more lost = ((more ≡ path ∷ []) × (new ≡ old ++ path ∷ []))
+    ⊎ ((new ≡ old) × ((more ≡ []) ⊎ ((more ≡ path ∷ []) × (lost ≡ true))))
 
 abbrev pub lot_paths : List ReadFile → List Path
 lot_paths files = map (λ f. f.path) files

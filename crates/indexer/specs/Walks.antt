@@ -49,7 +49,8 @@ HasKept File paths visits = Unit {0}
 
 -- directories were listed, or files read, and nothing else was done, but that this failed, if something did; the mutex was released for
 -- each of them before, and so many times more; and where nothing was lost, each listing was kept
-pub record CalledOnly (kind : Kind) (weak : List Path) (before now : Calls) (visits : List Visit) (fault : Option Fault) (lost : Bool) (spare : ℕ) (a b : Worker) (t : Told) : Type 0 where
+pub record CalledOnly (kind : Kind) (weak : List Path) (before now : Calls) (visits : List Visit) (fault : Option Fault) (lost : Bool)
+    (spare : ℕ) (a b : Worker) (t : Told) : Type 0 where
   pub paths : List Path
   pub kept : lost ≡ false → HasKept kind paths visits
   pub made : now ≡ calls_with kind paths (paths_of fault) before
@@ -58,7 +59,8 @@ pub record CalledOnly (kind : Kind) (weak : List Path) (before now : Calls) (vis
 
 -- the worker came from a to b by calls of one kind on its tree, and has these listings and pieces; this failed, if something did, and
 -- something may be lost
-pub record HasDone (kind : Kind) (tree : Option Told) (root : Path) (weak : List Path) (count then_count : ℕ) (before now : Calls) (p : Run) (spare : ℕ) (a b : Worker)
+pub record HasDone (kind : Kind) (tree : Option Told) (root : Path) (weak : List Path) (count then_count : ℕ) (before now : Calls) (p : Run)
+    (spare : ℕ) (a b : Worker)
     (visits : List Visit) (pieces : List Index) (fault : Option Fault) (lost : Bool) : Type 0 where
   pub back : ComesBack tree root pieces p a b
   pub each : All (IsVisit tree) visits

@@ -2,6 +2,7 @@
 use firefly_outside::Text;
 use index_rule::IndexUses;
 use nub::Closed;
+use std::fmt;
 use word_index::Piece;
 
 /// The index of all files, with the closed package of its run; or why there is none.
@@ -17,4 +18,23 @@ pub enum IndexAnswer {
     TooMany(u64),
     /// Memory wants.
     Memory,
+}
+
+impl fmt::Display for IndexAnswer {
+    fn fmt<W: fmt::Write>(&self, f: &mut fmt::Formatter<W>) -> fmt::Result {
+        match self {
+            IndexAnswer::Done(_, _) => write!(f, "done"),
+            IndexAnswer::Stopped(many) => write!(f, "{many} files, one more than are allowed"),
+            IndexAnswer::ReadFault(path) => write!(
+                f,
+                "{} could not be listed or read",
+                path.as_str()
+            ),
+            IndexAnswer::TooMany(many) => write!(
+                f,
+                "{many} directories, one more than are allowed"
+            ),
+            IndexAnswer::Memory => write!(f, "out of memory"),
+        }
+    }
 }

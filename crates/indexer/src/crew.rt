@@ -16,14 +16,14 @@ use firefly_outside::Tree;
 use index_findings::Findings;
 use index_rule::IndexUses;
 use nub_rule::{Package, Thread};
-use package_crew::{Gate, at_once_beside};
+use package_crew::{BeforeStart, at_once_beside};
 use std::alloc::{AllocError, Global};
 use std::sync::Wait;
 use std::thread::Threads;
 
 // Lets each job be worked on, all at once, at most the first `starts` in threads. Where a worker wasn't started, the caller meanwhile shuts
 // all, since that worker will be run here when the others have ended.
-fn run_jobs<R: Threads + Wait + Sync, S: Tree, G: Gate>(
+fn run_jobs<R: Threads + Wait + Sync, S: Tree, G: BeforeStart>(
     rt: &R,
     alloc: Global,
     p: &Package<IndexUses>,
@@ -32,7 +32,7 @@ fn run_jobs<R: Threads + Wait + Sync, S: Tree, G: Gate>(
     root: &str,
     walkers: u32,
     starts: u32,
-    gate: &G,
+    before_start: &G,
 ) -> Result<(Vec<Job<S>>, Vec<Findings>, Thread<IndexUses>), AllocError>
     requires layout { HasLists p.now.layout }
     requires caller { IsBetween p.now caller }
@@ -54,7 +54,7 @@ fn run_jobs<R: Threads + Wait + Sync, S: Tree, G: Gate>(
             requires { HasLists p.now.layout × IsFresh p.now job.me × (root.now ≡ p.now.world) }
             ensures { GivesRole S.tree S.may_fail S.faults S.calls root.entry.now p.entry.now job.me result.0.me result.1 job.role
                 result.0.role }
-        { work(rt, alloc, p, root, gate, walkers, job) },
+        { work(rt, alloc, p, root, before_start, walkers, job) },
         caller,
         |caller: Thread<IndexUses>, held: usize| -> Thread<IndexUses>
             requires { HasLists p.now.layout × IsBetween p.now caller }
@@ -80,7 +80,7 @@ fn run_jobs<R: Threads + Wait + Sync, S: Tree, G: Gate>(
 /// At most the first `starts` workers are started. Where one isn't or can't be, the list and both buffers are shut, and it is run here
 /// once all others were started; what no worker does then is for the closing walk. It blocks until each has ended. On `Err` there was no memory;
 /// each of the first trees is in its place or lost then.
-pub fn run_workers<R: Threads + Wait + Sync, S: Tree, G: Gate>(
+pub fn run_workers<R: Threads + Wait + Sync, S: Tree, G: BeforeStart>(
     rt: &R,
     alloc: Global,
     p: &Package<IndexUses>,
@@ -90,7 +90,7 @@ pub fn run_workers<R: Threads + Wait + Sync, S: Tree, G: Gate>(
     walkers: u32,
     with_tree: usize,
     starts: u32,
-    gate: &G,
+    before_start: &G,
 ) -> Result<(Vec<Thread<IndexUses>>, Vec<Findings>), AllocError>
     requires layout { HasLists p.now.layout }
     requires caller { 0 < length threads.items }
@@ -109,7 +109,15 @@ pub fn run_workers<R: Threads + Wait + Sync, S: Tree, G: Gate>(
         return Err(AllocError);
     };
     let (jobs, findings, caller) = run_jobs(
-        rt, alloc, p, caller, jobs, root, walkers, starts, gate,
+        rt,
+        alloc,
+        p,
+        caller,
+        jobs,
+        root,
+        walkers,
+        starts,
+        before_start,
     )?;
     Ok((put_back(caller, jobs, trees, with_tree, room), findings))
 }

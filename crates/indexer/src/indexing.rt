@@ -19,7 +19,7 @@ use firefly_outside::Tree;
 use index_findings::{Findings, decided, gathered};
 use index_rule::IndexUses;
 use nub::Closed;
-use package_crew::Gate;
+use package_crew::BeforeStart;
 use std::alloc::Global;
 use std::sync::Wait;
 use std::thread::Threads;
@@ -91,15 +91,15 @@ const MOST_WORKERS: u32 = 24;
 /// The index of all files under the root: walkers list the directories, parsers read the files and mergers put their pieces together, all
 /// at once, the walkers and the parsers each with a tree of its own. A closing walk on the next tree does what they left.
 ///
-/// Each parser passes the gate once, with its number counted from 1, before it takes a file. It blocks until all have ended. A fault that a
+/// Each parser tells `before_start` once its number, counted from 1, before it takes a file. It blocks until all have ended. A fault that a
 /// worker met is answered before a stop or a limit that was passed too.
-pub fn index<R: Threads + Wait + Sync, S: Tree, G: Gate>(
+pub fn index<R: Threads + Wait + Sync, S: Tree, G: BeforeStart>(
     rt: &R,
     alloc: Global,
     root: &str,
     plan: &Plan,
     trees: &mut [Option<S>],
-    gate: &G,
+    before_start: &G,
 ) -> IndexAnswer
     requires plan { IsPlan plan.now }
     requires trees { plan.now.walkers + plan.now.parsers < length trees.old }
@@ -112,18 +112,18 @@ pub fn index<R: Threads + Wait + Sync, S: Tree, G: Gate>(
     ensures once { (o : Option Told) → AllTell S.tree o trees.old
         → EachOnce S.calls o root.now (plan.now.walkers + plan.now.parsers) trees.old trees.new result }
 {
-    index_with(rt, alloc, root, plan, trees, gate, MOST_WORKERS)
+    index_with(rt, alloc, root, plan, trees, before_start, MOST_WORKERS)
 }
 
 /// The index of all files under the root, as `index` makes it, where at most the first `starts` workers, in order of thread number, are
 /// started; each other is taken as one that the system refused to start.
-pub fn index_with<R: Threads + Wait + Sync, S: Tree, G: Gate>(
+pub fn index_with<R: Threads + Wait + Sync, S: Tree, G: BeforeStart>(
     rt: &R,
     alloc: Global,
     root: &str,
     plan: &Plan,
     trees: &mut [Option<S>],
-    gate: &G,
+    before_start: &G,
     starts: u32,
 ) -> IndexAnswer
     requires plan { IsPlan plan.now }
@@ -137,7 +137,8 @@ pub fn index_with<R: Threads + Wait + Sync, S: Tree, G: Gate>(
     ensures once { (o : Option Told) → AllTell S.tree o trees.old
         → EachOnce S.calls o root.now (plan.now.walkers + plan.now.parsers) trees.old trees.new result }
 {
-    let Ok((closed, findings)) = worked_run(rt, alloc, root, plan, trees, gate, starts) else {
+    let Ok((closed, findings)) = worked_run(rt, alloc, root, plan, trees, before_start, starts)
+    else {
         return IndexAnswer::Memory;
     };
     let Ok(found) = gathered(alloc, findings) else {

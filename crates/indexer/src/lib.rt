@@ -7,7 +7,7 @@
 //! and a parser's only read, and a walker released the list of directories, and a parser the buffer of files, at least as often as its tree
 //! was asked; and where the trees tell, each directory was listed once and each file read once, over all trees together. Stands on the
 //! package, a use of it by a list and two buffers, a crew of threads, and the closing walk.
-//! It doesn't say that the workers listed or read anything, nor that they ran beside each other, nor that a parser passes the gate. A run
+//! It doesn't say that the workers listed or read anything, nor that they ran beside each other, nor that a parser tells `before_start`. A run
 //! may wait for ever.
 #![tactic(auto)]
 
@@ -35,5 +35,5 @@ pub use index_rule::{
     WaitingDirs,
 };
 pub use indexing::{index, index_with};
-pub use package_crew::{Gate, NoGate};
+pub use package_crew::{BeforeStart, BeginsAtOnce};
 pub use plan::{Plan, index_layout};

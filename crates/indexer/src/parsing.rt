@@ -64,7 +64,8 @@ fn give_piece<R: Wait>(
     requires may { OfShare me.old (MayPut p.now.world 2 (PieceItem piece)) }
     ensures gets { (put : List Path) × Gets p.now (record nothing { pieces_put = put }) me.old me.new
         × IsPassedOn p.now.world (covered p.now.world piece) put kept.old.items kept.new.items result }
-    ensures given { (o : Option Told) (root : Path) (m : ℕ) → IsFilesPiece o root piece → HasGiven o root p.now m kept.old.items kept.new.items
+    ensures given { (o : Option Told) (root : Path) (m : ℕ) → IsFilesPiece o root piece
+        → HasGiven o root p.now m kept.old.items kept.new.items
         me.old me.new }
 {
     match put_piece(rt, p, me, piece) {
@@ -94,7 +95,8 @@ fn give_pieces<R: Wait>(
     requires may { OfShare me.old (MayPutPieces p.now.world pieces.items) }
     ensures gets { (put : List Path) × Gets p.now (record nothing { pieces_put = put }) me.old me.new
         × IsPassedOn p.now.world (flat_map (covered p.now.world) pieces.items) put kept.old.items kept.new.items result }
-    ensures given { (o : Option Told) (root : Path) (m : ℕ) → All (IsFilesPiece o root) pieces.items → HasGiven o root p.now m kept.old.items
+    ensures given { (o : Option Told) (root : Path) (m : ℕ) → All (IsFilesPiece o root) pieces.items
+        → HasGiven o root p.now m kept.old.items
         kept.new.items me.old me.new }
 {
     for piece in pieces {
@@ -127,7 +129,8 @@ fn pass_lot<R: Wait>(
         → OfShare me.old (HasGathered p.now.world (lot_paths lot.old.files.items) kept.old.items files lost)
         → OfShare me.new (HasGathered p.now.world (lot_paths lot.new.files.items) kept.new.items files (lost || not result)) }
     ensures empty { IsTrue last → lot.new.files.items ≡ [] }
-    ensures passed { (o : Option Told) (m : ℕ) → AreRead o lot.old.files.items → HasPassed o root.now p.now m lot.new.files.items kept.old.items
+    ensures passed { (o : Option Told) (m : ℕ) → AreRead o lot.old.files.items
+        → HasPassed o root.now p.now m lot.new.files.items kept.old.items
         kept.new.items me.old me.new }
 {
     if !lot.is_due(last) {
@@ -157,12 +160,15 @@ fn parse_once<R: Wait, S: Tree>(
     requires between { IsBetween p.now me.old }
     requires root { root.now ≡ p.now.world }
     requires read { AreRead (S.tree tree.old) lot.old.files.items }
-    requires share { (files : List Path) × OfShare me.old (HasGathered p.now.world (lot_paths lot.old.files.items) kept.old.items files false) }
-    ensures share { (files : List Path) → OfShare me.old (HasGathered p.now.world (lot_paths lot.old.files.items) kept.old.items files false)
+    requires share { (files : List Path)
+        × OfShare me.old (HasGathered p.now.world (lot_paths lot.old.files.items) kept.old.items files false) }
+    ensures share { (files : List Path)
+        → OfShare me.old (HasGathered p.now.world (lot_paths lot.old.files.items) kept.old.items files false)
         → (more : List Path) × OfShare me.new (HasGathered p.now.world (lot_paths lot.new.files.items) kept.new.items (files ++ more)
         (lost_of result))
         × IfSome (S.tree tree.old) (λ t. (S.calls tree.new).files_read ≡ (S.calls tree.old).files_read ++ more) }
-    ensures parsed { HasParsed S.tree S.may_fail S.faults S.calls root.now p.now tree.old tree.new lot.new.files.items kept.old.items kept.new.items
+    ensures parsed { HasParsed S.tree S.may_fail S.faults S.calls root.now p.now tree.old tree.new lot.new.files.items kept.old.items
+        kept.new.items
         me.old me.new (fault_of result) (lost_of result) }
 {
     let Some(path) = next_file(rt, p, me) else {
@@ -203,7 +209,8 @@ fn end_pieces<R: Wait>(
     ensures share { (files : List Path) (lost : Bool)
         → OfShare me.old (HasGathered p.now.world (lot_paths lot.old.files.items) kept.old.items files lost)
         → OfShare me.new (HasGathered p.now.world [] kept.new.items files (lost || not result)) }
-    ensures given { (o : Option Told) (m : ℕ) → AreRead o lot.old.files.items → HasGiven o root.now p.now m kept.old.items kept.new.items me.old
+    ensures given { (o : Option Told) (m : ℕ) → AreRead o lot.old.files.items
+        → HasGiven o root.now p.now m kept.old.items kept.new.items me.old
         me.new }
 {
     let all_given = pass_lot(rt, alloc, p, me, root, lot, kept, true);

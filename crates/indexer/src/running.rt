@@ -11,7 +11,7 @@ use firefly_outside::Tree;
 use index_findings::Findings;
 use index_rule::IndexUses;
 use nub::{Closed, close_package};
-use package_crew::Gate;
+use package_crew::BeforeStart;
 use std::alloc::{AllocError, Global};
 use std::sync::Wait;
 use std::thread::Threads;
@@ -20,13 +20,13 @@ use std::thread::Threads;
 /// when all have ended, and answers what each worker came by.
 ///
 /// It blocks until all have ended. On `Err` there was no memory; each of the workers' trees is in its place or lost then.
-pub fn worked_run<R: Threads + Wait + Sync, S: Tree, G: Gate>(
+pub fn worked_run<R: Threads + Wait + Sync, S: Tree, G: BeforeStart>(
     rt: &R,
     alloc: Global,
     root: &str,
     plan: &Plan,
     trees: &mut [Option<S>],
-    gate: &G,
+    before_start: &G,
     starts: u32,
 ) -> Result<(Closed<IndexUses>, Vec<Findings>), AllocError>
     requires plan { IsPlan plan.now }
@@ -46,7 +46,7 @@ pub fn worked_run<R: Threads + Wait + Sync, S: Tree, G: Gate>(
         plan.walkers,
         with_tree,
         starts,
-        gate,
+        before_start,
     ) else {
         drop(p);
         return Err(AllocError);

@@ -12,7 +12,7 @@ use alert_wait::{Outcome, alert_wait};
 use condition::broadcast;
 use firefly_outside::Text;
 use index_rule::{
-    DidMove, DirsInWork, IndexUses, IndexValue, PutDirs, Turn, dirs_in, next_turn, put_found,
+    DidMove, DirsInWork, IndexUses, IndexValue, NextDir, PutDirs, dirs_in, put_found, take_dir,
 };
 use larch_actions::{CondId, MutexId};
 use nub_rule::{NoChange, Package, Thread};
@@ -44,7 +44,8 @@ fn give_list<R: Wait>(rt: &R, p: &Package<IndexUses>, me: &mut Thread<IndexUses>
     ensures called { (a : Worker) (x : IndexValue) → HasList p.now a x me.old → IsBetween p.now a → (o : Option Told) (root : Path)
         → HasCalled o root [] p.now 0 1 a me.new × ((m : ℕ) → HasCalled o root [] p.now m 0 a me.new) }
     ensures gets { (a : Worker) (x : IndexValue) → HasList p.now a x me.old
-        → Gets p.now (moved_more (drop (length dirs.list.waiting.items) (waiting_of x)) (drop (length (waiting_of x)) dirs.list.waiting.items))
+        → Gets p.now (moved_more (drop (length dirs.list.waiting.items) (waiting_of x))
+        (drop (length (waiting_of x)) dirs.list.waiting.items))
         a me.new }
     ensures share { (a : Worker) (x : IndexValue) → (h : HasList p.now a x me.old)
         → me.new.share ≡ Some (moved_by x (IndexValue.Dirs dirs) h.own) }
@@ -65,7 +66,8 @@ fn give_and_wake<R: Wait>(
         × MovesDirs (waiting_of x) dirs.list.waiting.items h.own (moved_by x (IndexValue.Dirs dirs) h.own)
         × MovesCounts x (IndexValue.Dirs dirs) h.own (moved_by x (IndexValue.Dirs dirs) h.own) }
     ensures makes { (a : Worker) (x : IndexValue) → HasList p.now a x me.old → IsBetween p.now a
-        → Makes p.now (moved_more (drop (length dirs.list.waiting.items) (waiting_of x)) (drop (length (waiting_of x)) dirs.list.waiting.items))
+        → Makes p.now (moved_more (drop (length dirs.list.waiting.items) (waiting_of x))
+        (drop (length (waiting_of x)) dirs.list.waiting.items))
         a me.new }
     ensures share { (a : Worker) (x : IndexValue) → (h : HasList p.now a x me.old)
         → me.new.share ≡ Some (moved_by x (IndexValue.Dirs dirs) h.own) }
@@ -112,12 +114,12 @@ pub fn next_dir<R: Wait>(rt: &R, p: &Package<IndexUses>, me: &mut Thread<IndexUs
 {
     let mut dirs = take_list(rt, p, me);
     for _ in rt.forever() {
-        match next_turn(&mut dirs.list) {
-            Turn::Now(dir) => {
+        match take_dir(&mut dirs.list) {
+            NextDir::Now(dir) => {
                 give_list(rt, p, me, dirs);
                 return dir;
             }
-            Turn::Wait => {
+            NextDir::Wait => {
                 let (outcome, again) = wait_for_dirs(rt, p, me, dirs);
                 if outcome == Outcome::Alerted {
                     give_list(rt, p, me, again);

@@ -12,17 +12,17 @@ use firefly_outside::Tree;
 use index_findings::Findings;
 use index_rule::IndexUses;
 use nub_rule::Package;
-use package_crew::Gate;
+use package_crew::BeforeStart;
 use std::alloc::Global;
 use std::sync::Wait;
 
 /// Does the work of one worker. The parsers are numbered from 1; their threads come behind those of so many walkers.
-pub fn work<R: Wait, S: Tree, G: Gate>(
+pub fn work<R: Wait, S: Tree, G: BeforeStart>(
     rt: &R,
     alloc: Global,
     p: &Package<IndexUses>,
     root: &str,
-    gate: &G,
+    before_start: &G,
     walkers: u32,
     job: Job<S>,
 ) -> (Job<S>, Findings)
@@ -40,7 +40,7 @@ pub fn work<R: Wait, S: Tree, G: Gate>(
             (Job { me, role }, findings)
         }
         Role::Parser(mut tree) => {
-            gate.pass(me.number().saturating_sub(walkers));
+            before_start.begins(me.number().saturating_sub(walkers));
             let findings = parse(rt, alloc, p, &mut me, root, &mut tree);
             let role = Role::Parser(tree);
             (Job { me, role }, findings)

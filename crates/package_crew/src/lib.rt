@@ -4,13 +4,13 @@
 //! both in the order of the threads, as the closure's own clause says, so that its answer is what closing a package asks for;
 //! `at_once_beside` does too, and lets the caller do a part of its own meanwhile, which is told how many weren't started. Out of memory is
 //! their one refusal, and then no closure has run; `at_once_beside` gives all back then. Stands on a crew of threads.
-//! It does not say that the threads ran beside each other: tests of the crew and of the package show that. A `Gate`, which a thread of a run
+//! It does not say that the threads ran beside each other: tests of the crew and of the package show that. A `BeforeStart`, which a thread of a
 //! may pass before it begins, isn't called here and has no clause: it gives nothing, and no contract can say that a thread waited.
 #![tactic(auto)]
 
+mod before_start;
 mod crews;
-mod passing;
 
+pub use before_start::{BeforeStart, BeginsAtOnce};
 pub use crews::{Beside, at_once, at_once_beside};
-pub use passing::{Gate, NoGate};
 pub use thread_crew::NotRun;

@@ -6,11 +6,11 @@ use Rattle.nub.specs.Rest.{Adds, IsSame}
 use Rattle.nub.proofs.Adding.{added, adds_on}
 use Rattle.readers_writers.specs.Calls.{RwThread}
 use Rattle.readers_writers.specs.declared.role.Role.{Role}
-use Rattle.readers_writers.specs.declared.role.Turn.{Turn}
+use Rattle.readers_writers.specs.declared.role.RoleChange.{RoleChange}
 use Rattle.readers_writers.specs.declared.state.RwState.{RwState}
 use Rattle.readers_writers.specs.Roles.{Allowed, Goes, role_of, turn}
 
-pub goes_by : (m t : ℕ) (old role : Role) (x y : RwState) (s : List Turn) → role_of s m ≡ old → Goes t old role x y → Allowed m t x y s (turn m role ∷ s)
+pub goes_by : (m t : ℕ) (old role : Role) (x y : RwState) (s : List RoleChange) → role_of s m ≡ old → Goes t old role x y → Allowed m t x y s (turn m role ∷ s)
 goes_by m t old role x y s is goes = let P : Role → Type 0 = λ r. Goes t r role x y in inr (role, subst P (sym is) goes, refl)
 
 -- the thread took the mutex, did this, and gave it back

@@ -4,11 +4,11 @@ use Rattle.nub_rule.specs.Known.{Known}
 use Rattle.nub_rule.specs.Plays.{acquire_event, release_event, event, broadcast_action}
 use Rattle.nub.specs.Rest.{Adds}
 use Rattle.monitor.specs.Waits.{waits}
-use Rattle.readers_writers.specs.declared.role.Turn.{Turn}
+use Rattle.readers_writers.specs.declared.role.RoleChange.{RoleChange}
 use Rattle.readers_writers.specs.declared.state.RwState.{RwState}
 
 abbrev pub RwThread : Type 0
-RwThread = Known RwState (List Turn) (Prim.Unit {0})
+RwThread = Known RwState (List RoleChange) (Prim.Unit {0})
 
 -- the thread t took m, waited in c while it had to, and gave m back
 abbrev pub Enters : ℕ → ℕ → ℕ → RwThread → RwThread → Type 0

@@ -6,7 +6,7 @@ use Rattle.larch_actions.specs.declared.event.Layout.{Layout}
 use Rattle.nub.specs.Totals.{total}
 use Rattle.readers_writers.specs.declared.role.Role.{Role}
 use Rattle.readers_writers.specs.declared.role.Role.TheVariants.{Idle, Reading, Writing}
-use Rattle.readers_writers.specs.declared.role.Turn.{Turn}
+use Rattle.readers_writers.specs.declared.role.RoleChange.{RoleChange}
 use Rattle.readers_writers.specs.declared.state.RwAt.{RwAt}
 use Rattle.readers_writers.specs.declared.state.RwState.{RwState}
 
@@ -15,11 +15,11 @@ pub record IsNamed (l : Layout) (at : RwAt) : Type 0 where
   pub mutex : at.mutex.0 < l.mutexes
   pub changed : at.changed.0 < l.conditions
 
-abbrev pub turn : ℕ → Role → Turn
+abbrev pub turn : ℕ → Role → RoleChange
 turn m role = record { mutex = m; now = role }
 
 -- what the thread with this share does behind the mutex m
-abbrev pub role_of : List Turn → ℕ → Role
+abbrev pub role_of : List RoleChange → ℕ → Role
 role_of [] m = Idle
 role_of (x ∷ s) m = cond (eqb x.mutex m) x.now (role_of s m)
 
@@ -27,23 +27,23 @@ abbrev pub one_if_reading : Role → ℕ
 one_if_reading Reading = 1
 one_if_reading _ = 0
 
-abbrev pub reading : ℕ → List (List Turn) → ℕ
+abbrev pub reading : ℕ → List (List RoleChange) → ℕ
 reading m shares = total (λ s. one_if_reading (role_of s m)) shares
 
 -- behind the mutex m: as many readers as threads that read, the one writer is the thread that writes, and never both
-pub record IsRole (m : ℕ) (q : RwState) (shares : List (List Turn)) : Type 0 where
+pub record IsRole (m : ℕ) (q : RwState) (shares : List (List RoleChange)) : Type 0 where
   pub readers : q.readers ≡ reading m shares
-  pub writes : (t : ℕ) → q.writer ≡ Some t → (s : List Turn) × (get_elem? shares t ≡ some s) × (role_of s m ≡ Writing)
-  pub writer : (t : ℕ) (s : List Turn) → get_elem? shares t ≡ some s → role_of s m ≡ Writing → q.writer ≡ Some t
+  pub writes : (t : ℕ) → q.writer ≡ Some t → (s : List RoleChange) × (get_elem? shares t ≡ some s) × (role_of s m ≡ Writing)
+  pub writer : (t : ℕ) (s : List RoleChange) → get_elem? shares t ≡ some s → role_of s m ≡ Writing → q.writer ≡ Some t
   pub apart : (t : ℕ) → q.writer ≡ Some t → q.readers ≡ 0
 
 -- the rule of each mutex, of as many threads as a package may have
-pub record AreRoles (values : List RwState) (shares : List (List Turn)) : Type 0 where
+pub record AreRoles (values : List RwState) (shares : List (List RoleChange)) : Type 0 where
   pub few : length shares ≤ 256
   pub each : (m : ℕ) (q : RwState) → get_elem? values m ≡ some q → IsRole m q shares
 
 -- what a holder knows of the state and of its own share
-pub record IsKnown (m : ℕ) (q : RwState) (t : ℕ) (s : List Turn) : Type 0 where
+pub record IsKnown (m : ℕ) (q : RwState) (t : ℕ) (s : List RoleChange) : Type 0 where
   pub few : q.readers ≤ 256
   pub reads : role_of s m ≡ Reading → (1 ≤ q.readers) × (q.writer ≡ None)
   pub writes : role_of s m ≡ Writing → (q.writer ≡ Some t) × (q.readers ≡ 0)
@@ -57,5 +57,5 @@ Goes t Writing Idle x y = y ≡ record x { writer = None }
 Goes t _ _ x y = ⊥
 
 -- nothing changes, or the thread goes to another role
-abbrev pub Allowed : ℕ → ℕ → RwState → RwState → List Turn → List Turn → Type 0
+abbrev pub Allowed : ℕ → ℕ → RwState → RwState → List RoleChange → List RoleChange → Type 0
 Allowed m t x y s r = ((y ≡ x) × (r ≡ s)) ⊎ ((role : Role) × Goes t (role_of s m) role x y × (r ≡ turn m role ∷ s))

@@ -8,7 +8,7 @@ ghost use Rattle.nub.specs.Idle.{IsIdle};
 ghost use Rattle.nub.specs.Rest.{Adds, AtRest, IsSame};
 ghost use Rattle.readers_writers.specs.Calls.{Enters, LeavesAndWakes, LeavesReaders};
 ghost use Rattle.readers_writers.specs.declared.role.Role.TheVariants.{Idle, Reading, Writing};
-ghost use Rattle.readers_writers.specs.declared.role.Turn.{Turn};
+ghost use Rattle.readers_writers.specs.declared.role.RoleChange.{RoleChange};
 ghost use Rattle.readers_writers.specs.declared.state.RwState.{RwState};
 ghost use Rattle.readers_writers.specs.Roles.{Allowed, IsNamed, role_of, turn};
 
@@ -28,13 +28,13 @@ pub fn begin_read<R: Wait>(rt: &R, p: &Package<RwUses>, me: &mut Thread<RwUses>,
     requires named { IsNamed p.now.layout at.now }
     requires lacks { get_elem? me.old.held at.now.mutex.0 ≡ some None }
     requires world { me.old.world ≡ Some p.now.world }
-    requires role { (s : List Turn) × (me.old.share ≡ Some s) × (role_of s at.now.mutex.0 ≡ Idle) }
+    requires role { (s : List RoleChange) × (me.old.share ≡ Some s) × (role_of s at.now.mutex.0 ≡ Idle) }
     ensures rest { AtRest p.now me.new }
     ensures same { IsSame me.old me.new }
     ensures ran { Enters me.old.number at.now.mutex.0 at.now.changed.0 me.old me.new }
     ensures held { me.new.held ≡ me.old.held }
-    ensures role { (s : List Turn) → me.old.share ≡ Some s → me.new.share ≡ Some (turn at.now.mutex.0 Reading ∷ s) }
-    ensures idle { (n : ℕ) (s : List Turn) → IsIdle p.now n s me.old → IsIdle p.now n (turn at.now.mutex.0 Reading ∷ s) me.new }
+    ensures role { (s : List RoleChange) → me.old.share ≡ Some s → me.new.share ≡ Some (turn at.now.mutex.0 Reading ∷ s) }
+    ensures idle { (n : ℕ) (s : List RoleChange) → IsIdle p.now n s me.old → IsIdle p.now n (turn at.now.mutex.0 Reading ∷ s) me.new }
 {
     let may_read = |state: &RwState| state.writer.is_none();
     let read = |state: &mut RwState| state.readers += 1;
@@ -49,13 +49,13 @@ pub fn end_read<R: Wait>(rt: &R, p: &Package<RwUses>, me: &mut Thread<RwUses>, a
     requires named { IsNamed p.now.layout at.now }
     requires lacks { get_elem? me.old.held at.now.mutex.0 ≡ some None }
     requires world { me.old.world ≡ Some p.now.world }
-    requires role { (s : List Turn) × (me.old.share ≡ Some s) × (role_of s at.now.mutex.0 ≡ Reading) }
+    requires role { (s : List RoleChange) × (me.old.share ≡ Some s) × (role_of s at.now.mutex.0 ≡ Reading) }
     ensures rest { AtRest p.now me.new }
     ensures same { IsSame me.old me.new }
     ensures ran { (n : ℕ) × (1 ≤ n) × (n ≤ 256) × LeavesReaders n me.old.number at.now.mutex.0 at.now.changed.0 me.old me.new }
     ensures held { me.new.held ≡ me.old.held }
-    ensures role { (s : List Turn) → me.old.share ≡ Some s → me.new.share ≡ Some (turn at.now.mutex.0 Idle ∷ s) }
-    ensures idle { (n : ℕ) (s : List Turn) → IsIdle p.now n s me.old → IsIdle p.now n (turn at.now.mutex.0 Idle ∷ s) me.new }
+    ensures role { (s : List RoleChange) → me.old.share ≡ Some s → me.new.share ≡ Some (turn at.now.mutex.0 Idle ∷ s) }
+    ensures idle { (n : ℕ) (s : List RoleChange) → IsIdle p.now n s me.old → IsIdle p.now n (turn at.now.mutex.0 Idle ∷ s) me.new }
 {
     let mut state = acquire(rt, p, me, at.mutex);
     state.readers -= 1;
@@ -71,13 +71,13 @@ pub fn begin_write<R: Wait>(rt: &R, p: &Package<RwUses>, me: &mut Thread<RwUses>
     requires named { IsNamed p.now.layout at.now }
     requires lacks { get_elem? me.old.held at.now.mutex.0 ≡ some None }
     requires world { me.old.world ≡ Some p.now.world }
-    requires role { (s : List Turn) × (me.old.share ≡ Some s) × (role_of s at.now.mutex.0 ≡ Idle) }
+    requires role { (s : List RoleChange) × (me.old.share ≡ Some s) × (role_of s at.now.mutex.0 ≡ Idle) }
     ensures rest { AtRest p.now me.new }
     ensures same { IsSame me.old me.new }
     ensures ran { Enters me.old.number at.now.mutex.0 at.now.changed.0 me.old me.new }
     ensures held { me.new.held ≡ me.old.held }
-    ensures role { (s : List Turn) → me.old.share ≡ Some s → me.new.share ≡ Some (turn at.now.mutex.0 Writing ∷ s) }
-    ensures idle { (n : ℕ) (s : List Turn) → IsIdle p.now n s me.old → IsIdle p.now n (turn at.now.mutex.0 Writing ∷ s) me.new }
+    ensures role { (s : List RoleChange) → me.old.share ≡ Some s → me.new.share ≡ Some (turn at.now.mutex.0 Writing ∷ s) }
+    ensures idle { (n : ℕ) (s : List RoleChange) → IsIdle p.now n s me.old → IsIdle p.now n (turn at.now.mutex.0 Writing ∷ s) me.new }
 {
     let writer = Some(me.number());
     let may_write = |state: &RwState| state.writer.is_none() && state.readers == 0;
@@ -93,13 +93,13 @@ pub fn end_write<R: Wait>(rt: &R, p: &Package<RwUses>, me: &mut Thread<RwUses>, 
     requires named { IsNamed p.now.layout at.now }
     requires lacks { get_elem? me.old.held at.now.mutex.0 ≡ some None }
     requires world { me.old.world ≡ Some p.now.world }
-    requires role { (s : List Turn) × (me.old.share ≡ Some s) × (role_of s at.now.mutex.0 ≡ Writing) }
+    requires role { (s : List RoleChange) × (me.old.share ≡ Some s) × (role_of s at.now.mutex.0 ≡ Writing) }
     ensures rest { AtRest p.now me.new }
     ensures same { IsSame me.old me.new }
     ensures ran { LeavesAndWakes me.old.number at.now.mutex.0 at.now.changed.0 me.old me.new }
     ensures held { me.new.held ≡ me.old.held }
-    ensures role { (s : List Turn) → me.old.share ≡ Some s → me.new.share ≡ Some (turn at.now.mutex.0 Idle ∷ s) }
-    ensures idle { (n : ℕ) (s : List Turn) → IsIdle p.now n s me.old → IsIdle p.now n (turn at.now.mutex.0 Idle ∷ s) me.new }
+    ensures role { (s : List RoleChange) → me.old.share ≡ Some s → me.new.share ≡ Some (turn at.now.mutex.0 Idle ∷ s) }
+    ensures idle { (n : ℕ) (s : List RoleChange) → IsIdle p.now n s me.old → IsIdle p.now n (turn at.now.mutex.0 Idle ∷ s) me.new }
 {
     let mut state = acquire(rt, p, me, at.mutex);
     state.writer = None;
@@ -118,7 +118,7 @@ fn leave<R: Wait>(
     requires rest { AtRest p.now me.old }
     requires named { IsNamed p.now.layout at.now }
     requires world { me.old.world ≡ Some p.now.world }
-    requires may { (x : RwState) × Holds me.old at.now.mutex.0 x × ((s : List Turn) → me.old.share ≡ Some s
+    requires may { (x : RwState) × Holds me.old at.now.mutex.0 x × ((s : List RoleChange) → me.old.share ≡ Some s
         → Allowed at.now.mutex.0 me.old.number x state s (turn at.now.mutex.0 Idle ∷ s)) }
     ensures rest { AtRest p.now me.new }
     ensures same { IsSame me.old me.new }
@@ -126,7 +126,7 @@ fn leave<R: Wait>(
         (release_event me.old.number at.now.mutex.0) me.old me.new }
     ensures quiet { wake ≡ false → Adds [] (release_event me.old.number at.now.mutex.0) me.old me.new }
     ensures held { me.new.held ≡ slice_set me.old.held at.now.mutex.0 None }
-    ensures role { (s : List Turn) → me.old.share ≡ Some s → me.new.share ≡ Some (turn at.now.mutex.0 Idle ∷ s) }
+    ensures role { (s : List RoleChange) → me.old.share ≡ Some s → me.new.share ≡ Some (turn at.now.mutex.0 Idle ∷ s) }
 {
     // Before the mutex is given back: whoever is woken is unparked once it has been, and finds it free.
     if wake {

@@ -11,6 +11,6 @@ mod rw_uses;
 mod state;
 
 pub use calls::{begin_read, begin_write, end_read, end_write};
-pub use role::{Role, Turn};
+pub use role::{Role, RoleChange};
 pub use rw_uses::{Idles, Reads, RwUses, Writes};
 pub use state::{RwAt, RwState};

@@ -8,7 +8,7 @@ pub enum Role {
 }
 
 /// From here on a thread does this behind the mutex.
-pub struct Turn {
+pub struct RoleChange {
     pub mutex: u64,
     pub now: Role,
 }

@@ -4,7 +4,7 @@ ghost use Rattle.readers_writers.specs.declared.role.Role.TheVariants.{Idle, Rea
 ghost use Rattle.readers_writers.specs.Roles.{AreRoles, Allowed, IsKnown, turn};
 ghost use Rattle.readers_writers.specs.RoleLaws.{fits_known, roles_after};
 
-use crate::role::Turn;
+use crate::role::RoleChange;
 use crate::state::RwState;
 use nub_rule::{Change, Uses};
 use std::collections::LinkedList;
@@ -17,7 +17,7 @@ impl Uses for RwUses {
 
     type World = ();
 
-    type Share = LinkedList<Turn>;
+    type Share = LinkedList<RoleChange>;
 
     ghost begin = { λ w t. [] };
 

@@ -82,9 +82,9 @@ pub ready_first : (p : Shape (Prim.Unit {0})) (xs : List Line) (first : Player) 
     → IsFirst p (λ w n. let s : List Added = [] in s) 0 first → Each (λ n k. IsRight p (λ w i. let s : List Added = [] in s) (n + 1) k) rights → AreReady p xs 0 0 slots
 ready_first p xs first rights order slots others placed is f each = let t = placed.taken in record {
   numbers =
-      let front : map slot_number placed.front ≡ below xs 0 = ap (map slot_number) t.are ∙ (unborn_numbers t.taken ∙ (t.numbers ∙ is)) in
-      ap (map slot_number) placed.are ∙ (map-append slot_number placed.front (slot.Live (record { me = first; numbers = placed.numbers }) 0 true ∷ []) ∙ (λ j. front j ++ f.number j ∷ []));
-  front = placed.front;
+      let prefix : map slot_number placed.prefix ≡ below xs 0 = ap (map slot_number) t.are ∙ (unborn_numbers t.taken ∙ (t.numbers ∙ is)) in
+      ap (map slot_number) placed.are ∙ (map-append slot_number placed.prefix (slot.Live (record { me = first; numbers = placed.numbers }) 0 true ∷ []) ∙ (λ j. prefix j ++ f.number j ∷ []));
+  prefix = placed.prefix;
   last = slot.Live (record { me = first; numbers = placed.numbers }) 0 true;
   split = placed.are;
   waiting =

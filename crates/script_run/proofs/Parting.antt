@@ -130,12 +130,12 @@ pub parted : (p : Shape (Prim.Unit {0})) (xs : List Line) (at i t u : ℕ) (slot
 parted p xs at i t u slots r none fork =
     let up = below (drop (i + 1) xs) u in
     let low = below (drop (i + 1) xs) t in
-    let all = snoc_same (map slot_number r.front) (below (drop at xs) t) (slot_number r.last) t (sym (map-append slot_number r.front (r.last ∷ [])) ∙ ap (map slot_number) (sym r.split) ∙ r.numbers) in
-    let two = split_map slot_number r.front (up ++ u ∷ []) low (all.0 ∙ none ∙ below_fork xs i t u fork) in
+    let all = snoc_same (map slot_number r.prefix) (below (drop at xs) t) (slot_number r.last) t (sym (map-append slot_number r.prefix (r.last ∷ [])) ∙ ap (map slot_number) (sym r.split) ∙ r.numbers) in
+    let two = split_map slot_number r.prefix (up ++ u ∷ []) low (all.0 ∙ none ∙ below_fork xs i t u fork) in
     let three = split_map slot_number two.0 up (u ∷ []) two.3 in
     let one = only_one slot_number three.1 u three.4 in
-    let front : r.front ≡ (three.0 ++ one.0 ∷ []) ++ two.1 = two.2 ∙ ap (λ l. l ++ two.1) (three.2 ∙ ap (λ l. three.0 ++ l) one.1) in
-    let all_wait = subst (λ (l : List Slot). Each (λ n s. IsWaiting p s) l) front r.waiting in
+    let prefix : r.prefix ≡ (three.0 ++ one.0 ∷ []) ++ two.1 = two.2 ∙ ap (λ l. l ++ two.1) (three.2 ∙ ap (λ l. three.0 ++ l) one.1) in
+    let all_wait = subst (λ (l : List Slot). Each (λ n s. IsWaiting p s) l) prefix r.waiting in
     let upper_wait = each_left (IsWaiting p) (three.0 ++ one.0 ∷ []) two.1 all_wait in
     let w = waits p one.0 u (each_right (IsWaiting p) three.0 (one.0 ∷ []) upper_wait 0 one.0 refl) one.2 in
     record {
@@ -143,7 +143,7 @@ parted p xs at i t u slots r none fork =
       right = w.0;
       lower = two.1;
       last = r.last;
-      is = r.split ∙ ap (λ l. l ++ r.last ∷ []) (front ∙ ap (λ m. (three.0 ++ m ∷ []) ++ two.1) w.1) ∙ append_assoc (three.0 ++ slot.Unborn w.0 ∷ []) two.1 (r.last ∷ []);
+      is = r.split ∙ ap (λ l. l ++ r.last ∷ []) (prefix ∙ ap (λ m. (three.0 ++ m ∷ []) ++ two.1) w.1) ∙ append_assoc (three.0 ++ slot.Unborn w.0 ∷ []) two.1 (r.last ∷ []);
       number = w.2;
       is_right = w.3;
       upper_numbers = three.3;
@@ -189,7 +189,7 @@ module _ (p : Shape (Prim.Unit {0})) (xs : List Line) (i t u : ℕ) (slots : Lis
   upper_ready : (j : ℕ) (a : Slot) → j ≡ i + 1 → slot_number a ≡ u → IsLive p xs j u a → AreReady p xs j u (d.upper ++ a ∷ [])
   upper_ready j a e number live = record {
     numbers = map-append slot_number d.upper (a ∷ []) ∙ ap₂ (λ ns n. ns ++ n ∷ []) (d.upper_numbers ∙ ap (λ n. below (drop n xs) u) (sym e)) number;
-    front = d.upper;
+    prefix = d.upper;
     last = a;
     split = refl;
     waiting = d.upper_waits;
@@ -199,7 +199,7 @@ module _ (p : Shape (Prim.Unit {0})) (xs : List Line) (i t u : ℕ) (slots : Lis
   lower_ready : (j : ℕ) (b : Slot) → j ≡ i + 1 → slot_number b ≡ t → IsLive p xs j t b → AreReady p xs j t (d.lower ++ b ∷ [])
   lower_ready j b e number live = record {
     numbers = map-append slot_number d.lower (b ∷ []) ∙ ap₂ (λ ns n. ns ++ n ∷ []) (d.lower_numbers ∙ ap (λ n. below (drop n xs) t) (sym e)) number;
-    front = d.lower;
+    prefix = d.lower;
     last = b;
     split = refl;
     waiting = d.lower_waits;
@@ -258,8 +258,8 @@ module _ (p : Shape (Prim.Unit {0})) (xs : List Line) (i t u : ℕ) (slots : Lis
 -- the slot that was read last is the last
 pub last_read : (p : Shape (Prim.Unit {0})) (xs : List Line) (at t : ℕ) (slots : List Slot) (r : AreReady p xs at t slots) (read : Slot) → read ≡ get_or slots (length slots - 1) read → (read ≡ r.last) × (length slots - 1 + 1 ≡ length slots)
 last_read p xs at t slots r read is =
-    let size : length slots - 1 ≡ length r.front = omega (arith, ap length r.split, length-append r.front (r.last ∷ [])) in
-    (is ∙ ap₂ (λ l n. get_or l n read) r.split size ∙ get_or-append_seam r.front r.last [] read, omega (arith, ap length r.split, length-append r.front (r.last ∷ [])))
+    let size : length slots - 1 ≡ length r.prefix = omega (arith, ap length r.split, length-append r.prefix (r.last ∷ [])) in
+    (is ∙ ap₂ (λ l n. get_or l n read) r.split size ∙ get_or-append_seam r.prefix r.last [] read, omega (arith, ap length r.split, length-append r.prefix (r.last ∷ [])))
 
 -- the thread in it goes on where it says
 pub region_at : (p : Shape (Prim.Unit {0})) (xs : List Line) (slots : List Slot) (h : IsRegion p xs slots) (read : Slot) (w : Playing) (n : ℕ) (b : Bool) → read ≡ get_or slots (length slots - 1) read → read ≡ slot.Live w n b

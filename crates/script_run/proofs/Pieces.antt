@@ -26,21 +26,21 @@ goes_on p xs i t (slot.Ended k) w = absurd w
 goes_on p xs i t slot.Taken w = absurd w
 
 region_ends : (p : Shape (Prim.Unit {0})) (xs : List Line) (r : List Slot) → IsRegion p xs r → EndsLive r
-region_ends p xs r h = record { front = h.ready.front; last = h.ready.last; split = h.ready.split; live = goes_on p xs h.at h.t h.ready.last h.ready.live }
+region_ends p xs r h = record { prefix = h.ready.prefix; last = h.ready.last; split = h.ready.split; live = goes_on p xs h.at h.t h.ready.last h.ready.live }
 
 pub region_long : (p : Shape (Prim.Unit {0})) (xs : List Line) (r : List Slot) → IsRegion p xs r → 0 < length r
-region_long p xs r h = omega (arith, ap length h.ready.split, length-append h.ready.front (h.ready.last ∷ []))
+region_long p xs r h = omega (arith, ap length h.ready.split, length-append h.ready.prefix (h.ready.last ∷ []))
 
 -- none but the last does
 not_before : (p : Shape (Prim.Unit {0})) (xs : List Line) (r : List Slot) (k : ℕ) → IsRegion p xs r → k < length r → EndsLive (take k r) → ⊥
 not_before p xs r k h low e =
-    let f = h.ready.front in
+    let f = h.ready.prefix in
     let size = ap length h.ready.split ∙ length-append f (h.ready.last ∷ []) in
     let part : take k r ≡ take k f = ap (take k) h.ready.split ∙ take-append-le k f (h.ready.last ∷ []) (omega arith) in
     let all = subst (λ (l : List Slot). Each (λ n s. IsWaiting p s) l) (sym (take-append-drop k f)) h.ready.waiting in
     let some_wait = each_left (IsWaiting p) (take k f) (drop k f) all in
-    let same : take k f ≡ e.front ++ e.last ∷ [] = sym part ∙ e.split in
-    let last_waits = each_right (IsWaiting p) e.front (e.last ∷ []) (subst (λ (l : List Slot). Each (λ n s. IsWaiting p s) l) same some_wait) in
+    let same : take k f ≡ e.prefix ++ e.last ∷ [] = sym part ∙ e.split in
+    let last_waits = each_right (IsWaiting p) e.prefix (e.last ∷ []) (subst (λ (l : List Slot). Each (λ n s. IsWaiting p s) l) same some_wait) in
     false≢true (sym (waits_on p e.last (last_waits 0 e.last refl)) ∙ e.live)
 
 no_snoc : {A : Type 0} (xs : List A) (x : A) → [] ≡ xs ++ x ∷ [] → ⊥
@@ -52,11 +52,11 @@ tail_of x y xs ys e = cc
 
 ends_of : (x : Slot) (b f : List Slot) (l : Slot) → 0 < length b → x ∷ b ≡ f ++ l ∷ [] → is_live l ≡ true → EndsLive b
 ends_of x b [] l some e live = absurd (let none = ap length (tail_of x l b [] e) in omega arith)
-ends_of x b (y ∷ f) l some e live = record { front = f; last = l; split = tail_of x y b (f ++ l ∷ []) e; live = live }
+ends_of x b (y ∷ f) l some e live = record { prefix = f; last = l; split = tail_of x y b (f ++ l ∷ []) e; live = live }
 
 ends_right : (a b : List Slot) → 0 < length b → EndsLive (a ++ b) → EndsLive b
 ends_right [] b some e = e
-ends_right (x ∷ a) b some e = ends_right a b some (ends_of x (a ++ b) e.front e.last (omega (arith, length-append a b)) e.split e.live)
+ends_right (x ∷ a) b some e = ends_right a b some (ends_of x (a ++ b) e.prefix e.last (omega (arith, length-append a b)) e.split e.live)
 
 pub no_regions : (p : Shape (Prim.Unit {0})) (xs : List Line) → AreRegions p xs []
 no_regions p xs = record { regions = []; each = tt; are = refl }
@@ -135,81 +135,81 @@ pub ends_here : (slots : List Slot) (k : ℕ) (s : Slot) → 0 < k → k ≤ len
 ends_here slots k s any low is live =
     let back : k - 1 + 1 ≡ k = omega arith in
     let T : ℕ → Type 0 = λ n. EndsLive (take n slots) in
-    subst T back (record { front = take (k - 1) slots; last = s; split = take_more slots (k - 1) s (omega arith) ∙ ap (λ x. take (k - 1) slots ++ x ∷ []) (sym is); live = live })
+    subst T back (record { prefix = take (k - 1) slots; last = s; split = take_more slots (k - 1) s (omega arith) ∙ ap (λ x. take (k - 1) slots ++ x ∷ []) (sym is); live = live })
 
 pub not_here : (slots : List Slot) (k : ℕ) (s : Slot) → 0 < k → k ≤ length slots → s ≡ get_or slots (k - 1) s → is_live s ≢ true → EndsLive (take k slots) → ⊥
 not_here slots k s any low is not e =
     let back : k ≡ k - 1 + 1 = omega arith in
     let T : ℕ → Type 0 = λ n. EndsLive (take n slots) in
     let g = subst T back e in
-    let same = snoc_same g.front (take (k - 1) slots) g.last s (sym g.split ∙ (take_more slots (k - 1) s (omega arith) ∙ ap (λ x. take (k - 1) slots ++ x ∷ []) (sym is))) in
+    let same = snoc_same g.prefix (take (k - 1) slots) g.last s (sym g.split ∙ (take_more slots (k - 1) s (omega arith) ∙ ap (λ x. take (k - 1) slots ++ x ∷ []) (sym is))) in
     not (ap is_live (sym same.1) ∙ g.live)
 
 -- Behind the first slots, those of threads that were forked, a thread goes on: it forks another, or has ended.
-module _ (p : Shape (Prim.Unit {0})) (xs : List Line) (before slots front rest new : List Slot) (at : ℕ) (low : at < length slots) (first : AreRegions p xs (take at slots)) (numbers : map slot_number slots ≡ map slot_number before) (is_front : front ≡ take at slots)
+module _ (p : Shape (Prim.Unit {0})) (xs : List Line) (before slots prefix rest new : List Slot) (at : ℕ) (low : at < length slots) (first : AreRegions p xs (take at slots)) (numbers : map slot_number slots ≡ map slot_number before) (is_prefix : prefix ≡ take at slots)
     (is_rest : rest ≡ drop at slots) where
-  whole : slots ≡ front ++ rest
-  whole = sym (take-append-drop at slots) ∙ sym (ap₂ ◌++◌ is_front is_rest)
+  whole : slots ≡ prefix ++ rest
+  whole = sym (take-append-drop at slots) ∙ sym (ap₂ ◌++◌ is_prefix is_rest)
 
-  long : length front ≡ at
-  long = ap length is_front ∙ length-take-le at slots (omega arith)
+  long : length prefix ≡ at
+  long = ap length is_prefix ∙ length-take-le at slots (omega arith)
 
-  same_numbers : map slot_number new ≡ map slot_number rest → map slot_number (front ++ new) ≡ map slot_number before
-  same_numbers e = map-append slot_number front new ∙ (ap (λ l. map slot_number front ++ l) e ∙ (sym (map-append slot_number front rest) ∙ (ap (map slot_number) (sym whole) ∙ numbers)))
+  same_numbers : map slot_number new ≡ map slot_number rest → map slot_number (prefix ++ new) ≡ map slot_number before
+  same_numbers e = map-append slot_number prefix new ∙ (ap (λ l. map slot_number prefix ++ l) e ∙ (sym (map-append slot_number prefix rest) ∙ (ap (map slot_number) (sym whole) ∙ numbers)))
 
-  fronts : take at (front ++ new) ≡ front
-  fronts = ap (λ n. take n (front ++ new)) (sym long) ∙ take-append_seam front new
+  prefixes : take at (prefix ++ new) ≡ prefix
+  prefixes = ap (λ n. take n (prefix ++ new)) (sym long) ∙ take-append_seam prefix new
 
-  backs : drop at (front ++ new) ≡ new
-  backs = ap (λ n. drop n (front ++ new)) (sym long) ∙ drop-append_seam front new
+  backs : drop at (prefix ++ new) ≡ new
+  backs = ap (λ n. drop n (prefix ++ new)) (sym long) ∙ drop-append_seam prefix new
 
-  are_front : AreRegions p xs front
-  are_front = let R : List Slot → Type 0 = λ l. AreRegions p xs l in subst R (sym is_front) first
+  are_prefix : AreRegions p xs prefix
+  are_prefix = let R : List Slot → Type 0 = λ l. AreRegions p xs l in subst R (sym is_prefix) first
 
-  pub cut_over : AreOver p xs (map slot_number rest) new → IsCut p xs at true before (front ++ new)
+  pub cut_over : AreOver p xs (map slot_number rest) new → IsCut p xs at true before (prefix ++ new)
   cut_over over =
       let R : List Slot → Type 0 = λ l. AreRegions p xs l in
       let O : List Slot → Type 0 = λ l. AreOver p xs (map slot_number l) l in
       let Q : List ℕ → Type 0 = λ ns. AreOver p xs ns new in
       let same : length new ≡ length rest = sym (length-map new slot_number) ∙ (ap length over.numbers ∙ length-map rest slot_number) in
-      let size = ap length whole ∙ length-append front rest in
-      let long_front = long in
+      let size = ap length whole ∙ length-append prefix rest in
+      let long_prefix = long in
       record {
         any = λ e. absurd (false≢true (sym e));
-        fewer = omega (arith, length-append front new);
-        first = subst R (sym fronts) are_front;
+        fewer = omega (arith, length-append prefix new);
+        first = subst R (sym prefixes) are_prefix;
         rest = subst O (sym backs) (subst Q (sym over.numbers) over);
         numbers = same_numbers over.numbers;
       }
 
   module _ (width : ℕ) (f : AreForked p xs width rest new) where
-    further_take : take (at + width) (front ++ new) ≡ front ++ take width new
-    further_take = ap (λ n. take (n + width) (front ++ new)) (sym long) ∙ take-append-add front new width
+    further_take : take (at + width) (prefix ++ new) ≡ prefix ++ take width new
+    further_take = ap (λ n. take (n + width) (prefix ++ new)) (sym long) ∙ take-append-add prefix new width
 
-    further_drop : drop (at + width) (front ++ new) ≡ drop width new
-    further_drop = ap (λ n. drop (n + width) (front ++ new)) (sym long) ∙ drop-append-add front new width
+    further_drop : drop (at + width) (prefix ++ new) ≡ drop width new
+    further_drop = ap (λ n. drop (n + width) (prefix ++ new)) (sym long) ∙ drop-append-add prefix new width
 
-    pub further_first : AreRegions p xs (take (at + width) (front ++ new))
-    further_first = let R : List Slot → Type 0 = λ l. AreRegions p xs l in subst R (sym further_take) (regions_snoc p xs front (take width new) are_front f.child)
+    pub further_first : AreRegions p xs (take (at + width) (prefix ++ new))
+    further_first = let R : List Slot → Type 0 = λ l. AreRegions p xs l in subst R (sym further_take) (regions_snoc p xs prefix (take width new) are_prefix f.child)
 
-    pub further_rest : IsRegion p xs (drop (at + width) (front ++ new))
+    pub further_rest : IsRegion p xs (drop (at + width) (prefix ++ new))
     further_rest = let R : List Slot → Type 0 = λ l. IsRegion p xs l in subst R (sym further_drop) f.parent
 
-    pub further_numbers : map slot_number (front ++ new) ≡ map slot_number before
+    pub further_numbers : map slot_number (prefix ++ new) ≡ map slot_number before
     further_numbers = same_numbers f.numbers
 
-    pub further_low : at + width < length (front ++ new)
-    further_low = let fewer = f.fewer in let l = long in omega (arith, length-append front new)
+    pub further_low : at + width < length (prefix ++ new)
+    further_low = let fewer = f.fewer in let l = long in omega (arith, length-append prefix new)
 
-    pub further_long : length (front ++ new) ≡ length slots
-    further_long = sym (length-map (front ++ new) slot_number) ∙ (ap length further_numbers ∙ (ap length (sym numbers) ∙ length-map slots slot_number))
+    pub further_long : length (prefix ++ new) ≡ length slots
+    further_long = sym (length-map (prefix ++ new) slot_number) ∙ (ap length further_numbers ∙ (ap length (sym numbers) ∙ length-map slots slot_number))
 
-    pub cut_forked : IsCut p xs (at + width) false before (front ++ new)
+    pub cut_forked : IsCut p xs (at + width) false before (prefix ++ new)
     cut_forked = let any = f.any in record {
       any = λ e. omega arith;
       fewer = further_low;
       first = further_first;
-      rest = one_region p xs (drop (at + width) (front ++ new)) further_rest;
+      rest = one_region p xs (drop (at + width) (prefix ++ new)) further_rest;
       numbers = further_numbers;
     }
 

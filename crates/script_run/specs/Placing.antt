@@ -28,8 +28,8 @@ pub record AreTaken (rights : List Player) (order : List ℕ) (slots : List Slot
 
 -- and behind them the first thread stands
 pub record ArePlaced (first : Player) (rights : List Player) (order : List ℕ) (slots : List Slot) (others : List Player) : Type 0 where
-  pub front : List Slot
-  pub taken : AreTaken rights order front others
+  pub prefix : List Slot
+  pub taken : AreTaken rights order prefix others
   pub numbers : List ℕ
   pub size : length numbers ≡ 64
-  pub are : slots ≡ front ++ slot.Live (record { me = first; numbers = numbers }) 0 true ∷ []
+  pub are : slots ≡ prefix ++ slot.Live (record { me = first; numbers = numbers }) 0 true ∷ []

@@ -22,7 +22,8 @@ Player = Known ℕ (List Added) (Prim.Unit {0})
 
 -- of the mutex m, which the thread holds or not: the value got, the number now and the share make up what its lines so far have added
 abbrev pub HasNumber : Bool → List (Opt ℕ) → ℕ → ℕ → List Added → ℕ → Type 0
-HasNumber true held m number share sum = (x : ℕ) × (get_elem? held m ≡ some (Some x)) × (x ≤ number) × (x ≤ 25600000000000) × (added m share + number ≡ sum + x)
+HasNumber true held m number share sum = (x : ℕ) × (get_elem? held m ≡ some (Some x)) × (x ≤ number) × (x ≤ 25600000000000)
+    × (added m share + number ≡ sum + x)
 HasNumber false held m number share sum = (get_elem? held m ≡ some None) × (added m share ≡ sum)
 
 -- there is room for the numbers of all mutexes, and none beyond

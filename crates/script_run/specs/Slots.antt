@@ -60,10 +60,10 @@ IsOver p xs _ = ⊥
 -- The others have the rights to begin those that the lines from there on fork below it.
 pub record AreReady (p : Shape (Prim.Unit {0})) (xs : List Line) (i t : ℕ) (slots : List Slot) : Type 0 where
   pub numbers : map slot_number slots ≡ region (drop i xs) t
-  pub front : List Slot
+  pub prefix : List Slot
   pub last : Slot
-  pub split : slots ≡ front ++ last ∷ []
-  pub waiting : Each (λ n s. IsWaiting p s) front
+  pub split : slots ≡ prefix ++ last ∷ []
+  pub waiting : Each (λ n s. IsWaiting p s) prefix
   pub live : IsLive p xs i t last
 
 -- the slots of one thread, which may go on, and of those that are forked below it from there on
@@ -107,9 +107,9 @@ pub record AreForked (p : Shape (Prim.Unit {0})) (xs : List Line) (width : ℕ) 
 
 -- the last of the slots may go on
 pub record EndsLive (slots : List Slot) : Type 0 where
-  pub front : List Slot
+  pub prefix : List Slot
   pub last : Slot
-  pub split : slots ≡ front ++ last ∷ []
+  pub split : slots ≡ prefix ++ last ∷ []
   pub live : is_live last ≡ true
 
 -- these are over, or may go on

@@ -9,7 +9,7 @@ use crate::slots::{Slot, boundary};
 use firefly_script::{Line, Operation};
 use larch_actions::ThreadId;
 use nub_rule::Package;
-use package_crew::Gate;
+use package_crew::BeforeStart;
 use std::mem;
 use std::sync::Wait;
 use sum_uses::SumUses;
@@ -57,7 +57,7 @@ fn advance<R: Wait>(
     let Slot::Live {
         playing,
         next: at,
-        at_gate: _,
+        is_new: _,
     } = mem::replace(&mut slots[last], Slot::Taken)
     else {
         unreachable!()
@@ -79,12 +79,12 @@ fn advance<R: Wait>(
     slots[width - 1] = Slot::Live {
         playing: child,
         next: behind,
-        at_gate: true,
+        is_new: true,
     };
     slots[last] = Slot::Live {
         playing: parent,
         next: behind,
-        at_gate: false,
+        is_new: false,
     };
     Some(width)
 }
@@ -95,7 +95,7 @@ fn forks_next(lines: &[Line], slots: &[Slot]) -> bool {
         Slot::Live {
             playing,
             next,
-            at_gate: _,
+            is_new: _,
         },
     ) = slots.last()
     else {
@@ -144,27 +144,27 @@ fn play_on<R: Wait>(rt: &R, pkg: &Package<SumUses>, lines: &[Line], slots: &mut 
     }
 }
 
-// The thread in the last slot passes the gate, if it has yet to.
-fn pass_gate<G: Gate>(gate: &G, slots: &[Slot]) {
+// The thread in the last slot begins, if it has yet to.
+fn begin_last<G: BeforeStart>(before_start: &G, slots: &[Slot]) {
     if let Some(
         Slot::Live {
             playing,
             next: _,
-            at_gate: true,
+            is_new: true,
         },
     ) = slots.last()
     {
-        gate.pass(playing.me.number());
+        before_start.begins(playing.me.number());
     }
 }
 
-/// Cuts the slots in two, of which each may be played beside the other: before the last region. Where there is but that one, its thread passes
-/// the gate, if it has yet to, and plays on before.
-pub fn cut_in_two<R: Wait, G: Gate>(
+/// Cuts the slots in two, of which each may be played beside the other: before the last region. Where there is but that one, its thread
+/// begins, if it has yet to, and plays on before.
+pub fn cut_in_two<R: Wait, G: BeforeStart>(
     rt: &R,
     pkg: &Package<SumUses>,
     lines: &[Line],
-    gate: &G,
+    before_start: &G,
     slots: &mut [Slot],
 ) -> Cut
     requires script { IsScript pkg.now.layout lines.now }
@@ -181,6 +181,6 @@ pub fn cut_in_two<R: Wait, G: Gate>(
             is_rest_over: false,
         };
     }
-    pass_gate(gate, slots);
+    begin_last(before_start, slots);
     play_on(rt, pkg, lines, slots)
 }

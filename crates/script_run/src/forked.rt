@@ -18,7 +18,7 @@ use crate::slots::Slot;
 use firefly_script::{Line, Script};
 use nub::{Closed, close_forked, open_forked};
 use nub_rule::Package;
-use package_crew::Gate;
+use package_crew::BeforeStart;
 use std::alloc::{AllocError, Global};
 use std::sync::Wait;
 use std::thread::{Threads, join_mut};
@@ -30,7 +30,7 @@ struct Stage<'a, R, G> {
     rt: &'a R,
     pkg: &'a Package<SumUses>,
     lines: &'a [Line],
-    gate: &'a G,
+    before_start: &'a G,
 }
 
 // Plays the threads of all slots to their ends: it cuts the slots in two, and plays each part beside the other. Of several threads that may go
@@ -38,7 +38,7 @@ struct Stage<'a, R, G> {
 // start would wait for the last to run, and each end for the last end.
 //
 // Where no thread can be made the first part comes first: it is of threads whose end the second may await.
-fn play_all<R: Threads + Wait + Sync, G: Gate>(stage: &Stage<'_, R, G>, slots: &mut [Slot])
+fn play_all<R: Threads + Wait + Sync, G: BeforeStart>(stage: &Stage<'_, R, G>, slots: &mut [Slot])
     requires script { IsScript stage.now.pkg.now.layout stage.now.lines.now }
     requires version { stage.now.pkg.now.layout.version ≡ Two }
     requires few { length stage.now.lines.now < 100000 }
@@ -46,7 +46,7 @@ fn play_all<R: Threads + Wait + Sync, G: Gate>(stage: &Stage<'_, R, G>, slots: &
     requires regions { AreRegions stage.now.pkg.now stage.now.lines.now slots.old }
     ensures { AreOver stage.now.pkg.now stage.now.lines.now (map slot_number slots.old) slots.new }
 {
-    let cut = cut_in_two(stage.rt, stage.pkg, stage.lines, stage.gate, slots);
+    let cut = cut_in_two(stage.rt, stage.pkg, stage.lines, stage.before_start, slots);
     let (first, rest) = slots.split_at_mut(cut.at);
     if cut.is_rest_over {
         if cut.at > 0 {
@@ -70,12 +70,12 @@ fn play_all<R: Threads + Wait + Sync, G: Gate>(stage: &Stage<'_, R, G>, slots: &
 }
 
 /// Runs a script of version two. Thread 0 is played here; each other one is started once it is forked, beside the rest of the lines of the
-/// thread that forks it, or before these where no thread can be made. Each passes the gate before its first line.
-pub fn run_forked<R: Threads + Wait + Sync, G: Gate>(
+/// thread that forks it, or before these where no thread can be made. Each tells `before_start` before its first line.
+pub fn run_forked<R: Threads + Wait + Sync, G: BeforeStart>(
     rt: &R,
     alloc: Global,
     script: &Script,
-    gate: &G,
+    before_start: &G,
 ) -> Result<Closed<SumUses>, AllocError>
     requires version { script.now.layout.version ≡ Two }
     ensures layout { IfOk result (λ c. c.layout ≡ script.now.layout) }
@@ -97,7 +97,7 @@ pub fn run_forked<R: Threads + Wait + Sync, G: Gate>(
         rt,
         pkg: &pkg,
         lines,
-        gate,
+        before_start,
     };
     play_all(&stage, slots.as_mut_slice());
     close_forked(pkg, ends(slots, over), others)

@@ -48,7 +48,7 @@ pub fn placed(
             numbers: [0; 64],
         },
         next: 0,
-        at_gate: true,
+        is_new: true,
     });
     Ok((slots, rights))
 }

@@ -17,7 +17,7 @@ use firefly_script::{Line, Operation, Script};
 use larch_actions::Version;
 use nub::{Closed, close_package, open_package};
 use nub_rule::{Package, Thread};
-use package_crew::{Gate, at_once};
+use package_crew::{BeforeStart, at_once};
 use std::alloc::{AllocError, Global};
 use std::sync::Wait;
 use std::thread::Threads;
@@ -84,14 +84,14 @@ fn with_room(
     Ok(threads)
 }
 
-// Plays the lines of each thread in a thread of its own, which passes the gate first.
-fn play_all<R: Threads + Wait + Sync, G: Gate>(
+// Plays the lines of each thread in a thread of its own, which tells `before_start` first.
+fn play_all<R: Threads + Wait + Sync, G: BeforeStart>(
     rt: &R,
     alloc: Global,
     pkg: &Package<SumUses>,
     threads: Vec<Thread<SumUses>>,
     lines: &[Line],
-    gate: &G,
+    before_start: &G,
 ) -> Result<Vec<Thread<SumUses>>, AllocError>
     requires version { pkg.now.layout.version ≡ One }
     requires script { IsScript pkg.now.layout lines.now }
@@ -109,7 +109,7 @@ fn play_all<R: Threads + Wait + Sync, G: Gate>(
                 × (length lines.now < 100000) }
             ensures { IsPlayed pkg.entry.now lines.entry.now me.number result.0 }
         {
-            gate.pass(me.number());
+            before_start.begins(me.number());
             (play(rt, pkg, me, lines), ())
         },
     )?;
@@ -118,17 +118,17 @@ fn play_all<R: Threads + Wait + Sync, G: Gate>(
 
 /// Runs a script in a traced package of its own, which is closed when all threads have ended: in version one a thread for each number; in
 /// version two thread 0, and each that a line forks, which is started behind that line and the forks that follow it at once. Each thread
-/// passes the gate once, with its number, before its first line.
+/// tells `before_start` once, with its number, before its first line.
 ///
 /// Room for the events is taken before the first thread starts, or at its fork, with one wait for each `until` and `alert-until`. Where
 /// these wait oftener and there is no memory for it, the run goes on to its end and is refused then. Where a thread can't be started, its
 /// lines are played here: in version one once all others were started, and in version two before the rest of the lines of the thread that
 /// forks it. A run may wait for ever.
-pub fn run_script<R: Threads + Wait + Sync, G: Gate>(
+pub fn run_script<R: Threads + Wait + Sync, G: BeforeStart>(
     rt: &R,
     alloc: Global,
     script: &Script,
-    gate: &G,
+    before_start: &G,
 ) -> Result<Closed<SumUses>, AllocError>
     ensures layout { IfOk result (λ c. c.layout ≡ script.now.layout) }
     ensures trace { IfOk result (λ c. (h : List Event) × (c.trace ≡ Some h) × IsClosed script.now.layout.version h
@@ -138,17 +138,17 @@ pub fn run_script<R: Threads + Wait + Sync, G: Gate>(
     ensures values { IfOk result (λ c. (m : ℕ) → m < script.now.layout.mutexes → slice_index c.values m ≡ total script.now.lines m) }
 {
     match script.layout().version {
-        Version::One => run_all(rt, alloc, script, gate),
-        Version::Two => run_forked(rt, alloc, script, gate),
+        Version::One => run_all(rt, alloc, script, before_start),
+        Version::Two => run_forked(rt, alloc, script, before_start),
     }
 }
 
 // Runs a script of version one.
-fn run_all<R: Threads + Wait + Sync, G: Gate>(
+fn run_all<R: Threads + Wait + Sync, G: BeforeStart>(
     rt: &R,
     alloc: Global,
     script: &Script,
-    gate: &G,
+    before_start: &G,
 ) -> Result<Closed<SumUses>, AllocError>
     requires version { script.now.layout.version ≡ One }
     ensures layout { IfOk result (λ c. c.layout ≡ script.now.layout) }
@@ -162,6 +162,6 @@ fn run_all<R: Threads + Wait + Sync, G: Gate>(
     let values = zeros(alloc, layout.mutexes)?;
     let (pkg, threads) = open_package::<SumUses>(alloc, layout, &(), values, true)?;
     let roomy = with_room(threads, script.lines())?;
-    let threads = play_all(rt, alloc, &pkg, roomy, script.lines(), gate)?;
+    let threads = play_all(rt, alloc, &pkg, roomy, script.lines(), before_start)?;
     close_package(pkg, threads)
 }

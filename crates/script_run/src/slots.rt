@@ -20,8 +20,8 @@ pub enum Slot {
         playing: Playing,
         /// How many lines of the script are behind it.
         next: usize,
-        /// Whether it has yet to pass the gate.
-        at_gate: bool,
+        /// Whether it has yet to begin.
+        is_new: bool,
     },
     Ended(Ended<SumUses>),
     /// What stood here was taken out, and the next is put in at once.
@@ -38,7 +38,7 @@ impl Slot {
             Slot::Live {
                 playing,
                 next: _,
-                at_gate: _,
+                is_new: _,
             } => playing.me.number(),
             Slot::Ended(end) => end.number(),
             Slot::Taken => 0,
@@ -53,7 +53,7 @@ impl Slot {
             Slot::Live {
                 playing: _,
                 next: _,
-                at_gate: _,
+                is_new: _,
             } => true,
             _ => false,
         }

@@ -17,13 +17,13 @@ loop-job-preserved g c =
     let short = ap length steps in
     let push = c.push_reserved-in-loop-job.ensures in
     let put = c.put_tree.ensures in
-    let front = c.push_reserved.new.self.items in
+    let prefix = c.push_reserved.new.self.items in
     record {
       whole = append_assoc at.yielded (x ∷ []) _ ∙ rw (← steps) was.whole;
       left = (let left = was.left in omega arith);
       room = (let room = was.room in let cap = push.capacity in let len = push.len in let left = was.left in omega arith);
       count = (let count = was.count in let more = length-append at.yielded (x ∷ []) in omega arith);
-      made = push.items ∙ (ap (λ l. l ++ x.me ∷ []) was.made ∙ (append_assoc front (map (λ j. j.me) at.yielded) (x.me ∷ []) ∙ ap (λ l. front ++ l) (sym (map_snoc (λ j. j.me) at.yielded x))));
+      made = push.items ∙ (ap (λ l. l ++ x.me ∷ []) was.made ∙ (append_assoc prefix (map (λ j. j.me) at.yielded) (x.me ∷ []) ∙ ap (λ l. prefix ++ l) (sym (map_snoc (λ j. j.me) at.yielded x))));
       back = placed (λ q. tree_of q.role) c.args.with_tree at.yielded x at.trees c.put_tree.new.trees
           (λ i d ne. put.others i d (λ e. ne (e ∙ was.count)))
           (λ d h. subst (λ j. j < c.args.with_tree → get_or c.put_tree.new.trees j d ≡ tree_of x.role) was.count (λ low. put.tree d low ∙ c.tree_in.ensures) h)

@@ -13,13 +13,13 @@ use Rattle.indexer.specs.Turns.{HasCalled, Run, Worker}
 use Rattle.indexer.proofs.Turning.{called_on, called_as, still_between}
 use Rattle.indexer.proofs.mergers.merge_once.Goals as goal
 
-front : {A : Type 0} (P : A → Type 0) (xs ys : List A) → All P (xs ++ ys) → All P xs
-front P [] ys h = All-nil P
-front P (x ∷ xs) ys h = All-cons P x xs (All-head P x (xs ++ ys) h) (front P xs ys (All-tail P x (xs ++ ys) h))
+prefix : {A : Type 0} (P : A → Type 0) (xs ys : List A) → All P (xs ++ ys) → All P xs
+prefix P [] ys h = All-nil P
+prefix P (x ∷ xs) ys h = All-cons P x xs (All-head P x (xs ++ ys) h) (prefix P xs ys (All-tail P x (xs ++ ys) h))
 
 -- what a later call gives is let go
 without : (o : Option Told) (root : Path) (ps qs : List Index) (p : Run) (a b c : Worker) → HasCalled o root ps p 0 0 a b → HasCalled o root qs p 0 0 b c → HasCalled o root ps p 0 0 a c
-without o root ps qs p a b c first second = called_as o root (ps ++ qs) ps p 0 0 a c (front (IsFilesPiece o root) ps qs) (called_on o root ps qs p 0 0 0 a b c first second)
+without o root ps qs p a b c first second = called_as o root (ps ++ qs) ps p 0 0 a c (prefix (IsFilesPiece o root) ps qs) (called_on o root ps qs p 0 0 0 a b c first second)
 
 pub keep-requires : goal.keep-requires
 keep-requires g c =

@@ -19,11 +19,11 @@ low g c = let w = c.play_to_fork-playing.ensures.within.1 in let ne = c.if-next-
 read : (g : Over) (c : In-Fork g) → c.replace.result ≡ c.index-slots-last.result
 read g c = c.replace.ensures.value ∙ sym c.index-slots-last.is
 
-live : (g : Over) (c : In-Fork g) → c.index-slots-last.result ≡ slot.Live c.in-Live.playing c.in-Live.at c.in-Live.at_gate
+live : (g : Over) (c : In-Fork g) → c.index-slots-last.result ≡ slot.Live c.in-Live.playing c.in-Live.at c.in-Live.is_new
 live g c = sym (read g c) ∙ c.in-Live.is
 
 ready : (g : Over) (c : In-Fork g) → (c.in-Live.at ≤ length c.args.lines.now) × ((t : ℕ) × AreReady c.args.pkg.now c.args.lines.now c.in-Live.at t c.args.slots.now)
-ready g c = region_at c.args.pkg.now c.args.lines.now c.args.slots.now c.requires.region c.index-slots-last.result c.in-Live.playing c.in-Live.at c.in-Live.at_gate c.index-slots-last.is (live g c)
+ready g c = region_at c.args.pkg.now c.args.lines.now c.args.slots.now c.requires.region c.index-slots-last.result c.in-Live.playing c.in-Live.at c.in-Live.is_new c.index-slots-last.is (live g c)
 
 last : (g : Over) (c : In-Fork g) → length c.args.slots.now - 1 + 1 ≡ length c.args.slots.now
 last g c = (last_read c.args.pkg.now c.args.lines.now c.requires.region.at c.requires.region.t c.args.slots.now c.requires.region.ready c.index-slots-last.result c.index-slots-last.is).1
@@ -36,7 +36,7 @@ forks g c =
 parts : (g : Over) (c : In-Fork g) → Parted c.args.pkg.now c.args.lines.now c.play_to_fork-playing.result.1 c.in-Live.playing.me.number c.in-Fork.who.0 c.args.slots.now
 parts g c =
     let f = c.play_to_fork-playing.ensures.fork (low g c) in
-    at_fork c.args.pkg.now c.args.lines.now c.in-Live.at c.play_to_fork-playing.result.1 c.args.slots.now (ready g c).1 c.index-slots-last.result c.in-Live.playing c.in-Live.at c.in-Live.at_gate _ f.0 c.in-Fork.who c.index-slots-last.is (live g c) c.play_to_fork-playing.ensures.none f.1 c.in-Fork.is
+    at_fork c.args.pkg.now c.args.lines.now c.in-Live.at c.play_to_fork-playing.result.1 c.args.slots.now (ready g c).1 c.index-slots-last.result c.in-Live.playing c.in-Live.at c.in-Live.is_new _ f.0 c.in-Fork.who c.index-slots-last.is (live g c) c.play_to_fork-playing.ensures.none f.1 c.in-Fork.is
 
 pub width-width-requires : goal.width-width-requires
 width-width-requires g c =

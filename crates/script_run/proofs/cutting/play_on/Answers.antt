@@ -58,13 +58,13 @@ loop-width-preserved g c =
     let f = c.in-Some.ensures.forked in
     let before = c.args.slots.now in
     let slots = c.loop-width.slots in
-    let front = cut.result.0.now in
+    let prefix = cut.result.0.now in
     let rest = cut.result.1.now in
     let new = c.advance.new.slots in
     let at = c.loop-width.at in
     record {
-      low = further_low p xs before slots front rest new at was.low was.first was.numbers cut.ensures.front cut.ensures.back width f;
-      first = further_first p xs before slots front rest new at was.low was.first was.numbers cut.ensures.front cut.ensures.back width f;
-      rest = further_rest p xs before slots front rest new at was.low was.first was.numbers cut.ensures.front cut.ensures.back width f;
-      numbers = further_numbers p xs before slots front rest new at was.low was.first was.numbers cut.ensures.front cut.ensures.back width f;
+      low = further_low p xs before slots prefix rest new at was.low was.first was.numbers cut.ensures.front cut.ensures.back width f;
+      first = further_first p xs before slots prefix rest new at was.low was.first was.numbers cut.ensures.front cut.ensures.back width f;
+      rest = further_rest p xs before slots prefix rest new at was.low was.first was.numbers cut.ensures.front cut.ensures.back width f;
+      numbers = further_numbers p xs before slots prefix rest new at was.low was.first was.numbers cut.ensures.front cut.ensures.back width f;
     }
