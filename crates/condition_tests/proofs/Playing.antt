@@ -7,17 +7,17 @@ use Rattle.nub.specs.Ended.{IsFirst, IsDone}
 use Rattle.nub.proofs.Users.{idle_done, idle_first}
 use Rattle.readers_writers.specs.declared.role.Role.{Role}
 use Rattle.readers_writers.specs.declared.role.Role.TheVariants.{Idle}
-use Rattle.readers_writers.specs.declared.role.Turn.{Turn}
+use Rattle.readers_writers.specs.declared.role.RoleChange.{RoleChange}
 use Rattle.readers_writers.specs.declared.state.RwState.{RwState}
 use Rattle.condition_tests.specs.Acting.{IsActing}
 
-pub acting_done : (p : Shape (Unit {0})) (n : ℕ) (role : Role) (t : Known RwState (List Turn) (Unit {0})) → IsActing p n role t → IsDone p n t
+pub acting_done : (p : Shape (Unit {0})) (n : ℕ) (role : Role) (t : Known RwState (List RoleChange) (Unit {0})) → IsActing p n role t → IsDone p n t
 acting_done p n role t a = idle_done p n a.share t a.idle
 
-pub acting_own : (p : Shape (Unit {0})) (n : ℕ) (role : Role) (t : Known RwState (List Turn) (Unit {0})) → IsActing p n role t → IsActing p t.number role t
+pub acting_own : (p : Shape (Unit {0})) (n : ℕ) (role : Role) (t : Known RwState (List RoleChange) (Unit {0})) → IsActing p n role t → IsActing p t.number role t
 acting_own p n role t a = let P : ℕ → Type 0 = λ k. IsActing p k role t in subst P (sym a.idle.number) a
 
-pub acting_first : (p : Shape (Unit {0})) (n : ℕ) (t : Known RwState (List Turn) (Unit {0})) → IsFirst p (λ w k. []) n t → IsActing p n Idle t
+pub acting_first : (p : Shape (Unit {0})) (n : ℕ) (t : Known RwState (List RoleChange) (Unit {0})) → IsFirst p (λ w k. []) n t → IsActing p n Idle t
 acting_first p n t f = record { share = []; idle = idle_first p (λ w k. []) n t f; acts = refl }
 
 -- what holds of both of two holds of each

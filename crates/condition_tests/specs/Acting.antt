@@ -4,13 +4,13 @@ use Rattle.larch_actions.specs.declared.event.Layout.{Layout}
 use Rattle.nub_rule.specs.Known.{Known, Shape}
 use Rattle.nub.specs.Idle.{IsIdle}
 use Rattle.readers_writers.specs.declared.role.Role.{Role}
-use Rattle.readers_writers.specs.declared.role.Turn.{Turn}
+use Rattle.readers_writers.specs.declared.role.RoleChange.{RoleChange}
 use Rattle.readers_writers.specs.declared.state.RwState.{RwState}
 use Rattle.readers_writers.specs.Roles.{role_of}
 
 -- the thread n of the package is between two calls, and does this behind mutex 0
-pub record IsActing (p : Shape (Unit {0})) (n : ℕ) (role : Role) (t : Known RwState (List Turn) (Unit {0})) : Type 0 where
-  pub share : List Turn
+pub record IsActing (p : Shape (Unit {0})) (n : ℕ) (role : Role) (t : Known RwState (List RoleChange) (Unit {0})) : Type 0 where
+  pub share : List RoleChange
   pub idle : IsIdle p n share t
   pub acts : role_of share 0 ≡ role
 

@@ -1,12 +1,12 @@
 //! Tests of put, take and shut.
 use crate::calls::{PutAnswer, TakeAnswer};
 use crate::ring_run::ended;
-use crate::seen::has_numbers;
 use crate::work::{ITEMS, InTurn, Left, MANY, Taken, Task};
 use bounded_buffer::{PutEnd, TakeEnd};
 use std::alloc::{AllocError, Global};
 use std::process::Abort;
 use std::test::Fail;
+use test_runs::has_numbers;
 
 /// Sees that the put has this answer.
 fn put_has(rt: &impl Abort, answer: PutAnswer, expected: PutAnswer) {
@@ -72,8 +72,7 @@ fn alerted_take(rt: HostRuntime) -> Result<(), Fail> {
     let (_, left) = ended(&rt, rt.alloc(), 1, 1, Task::AlertedTake)?;
     let takes = takes_of(&left);
     drop(left);
-    has_numbers(&rt, &takes, &[1, 1]);
-    Ok(())
+    has_numbers(&takes, &[1, 1])
 }
 
 /// How many puts were refused, of all threads together.
@@ -146,9 +145,8 @@ fn each_item_once(rt: HostRuntime) -> Result<(), Fail> {
     let (_, left) = ended(&rt, rt.alloc(), 4, 1, Task::Pass)?;
     let (refused, came) = (refused(&left), count_all(&left));
     drop(left);
-    has_numbers(&rt, &came, &[1000, 1000, 1000]);
-    has_numbers(&rt, &[refused], &[0]);
-    Ok(())
+    has_numbers(&came, &[1000, 1000, 1000])?;
+    has_numbers(&[refused], &[0])
 }
 
 /// How often each item was taken.
@@ -200,8 +198,8 @@ fn many_items_once(rt: HostRuntime) -> Result<(), Fail> {
     let (refused, taken) = (refused(&left), how_many(&left));
     let once = taken_once(rt.alloc(), &left);
     drop(left);
-    has_numbers(&rt, &taken, &[200_000, 0]);
-    has_numbers(&rt, &[refused, once?, end.taken], &[0, 200_000, 200_000]);
+    has_numbers(&taken, &[200_000, 0])?;
+    has_numbers(&[refused, once?, end.taken], &[0, 200_000, 200_000])?;
     assert!(rt; end.empty);
     Ok(())
 }
@@ -212,6 +210,5 @@ fn all_takers_cancelled(rt: HostRuntime) -> Result<(), Fail> {
     let (_, left) = ended(&rt, rt.alloc(), 5, 8, Task::Cancel)?;
     let takes = takes_of(&left);
     drop(left);
-    has_numbers(&rt, &takes, &[4, 4]);
-    Ok(())
+    has_numbers(&takes, &[4, 4])
 }

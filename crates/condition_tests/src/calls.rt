@@ -9,6 +9,13 @@ use std::sync::Wait;
 /// The use of the package that all these tests have.
 pub type Numbers = PlainBuffers<u32>;
 
+/// Where the buffer is.
+const AT: BufferAt = BufferAt {
+    mutex: MutexId(0),
+    room: CondId(0),
+    more: CondId(1),
+};
+
 /// What a put answers.
 pub type PutAnswer = Result<u64, (PutEnd, u32)>;
 
@@ -26,12 +33,7 @@ pub fn put_one<R: Wait>(
     requires free { (n : ℕ) × IsFree pkg.now n me.old }
     ensures free { (n : ℕ) → IsFree pkg.now n me.old → IsFree pkg.now n me.new }
 {
-    let at = BufferAt {
-        mutex: MutexId(0),
-        room: CondId(0),
-        more: CondId(1),
-    };
-    put(rt, pkg, me, &at, item)
+    put(rt, pkg, me, &AT, item)
 }
 
 /// Takes an item.
@@ -40,12 +42,7 @@ pub fn take_one<R: Wait>(rt: &R, pkg: &Package<Numbers>, me: &mut Thread<Numbers
     requires free { (n : ℕ) × IsFree pkg.now n me.old }
     ensures free { (n : ℕ) → IsFree pkg.now n me.old → IsFree pkg.now n me.new }
 {
-    let at = BufferAt {
-        mutex: MutexId(0),
-        room: CondId(0),
-        more: CondId(1),
-    };
-    take(rt, pkg, me, &at)
+    take(rt, pkg, me, &AT)
 }
 
 /// Shuts the buffer.
@@ -54,10 +51,5 @@ pub fn shut_it<R: Wait>(rt: &R, pkg: &Package<Numbers>, me: &mut Thread<Numbers>
     requires free { (n : ℕ) × IsFree pkg.now n me.old }
     ensures free { (n : ℕ) → IsFree pkg.now n me.old → IsFree pkg.now n me.new }
 {
-    let at = BufferAt {
-        mutex: MutexId(0),
-        room: CondId(0),
-        more: CondId(1),
-    };
-    shut(rt, pkg, me, &at);
+    shut(rt, pkg, me, &AT);
 }

@@ -1,15 +1,14 @@
 //! A condition, with a mutex whose value tells whose turn it is.
-ghost use Rattle.std.specs.Prelude.{◌≡◌, ◌≤◌};
+ghost use Rattle.std.specs.Prelude.{◌≡◌};
 ghost use Rattle.larch_actions.specs.Layout.{IsLawful};
 ghost use Rattle.larch_actions.specs.declared.event.Version.TheVariants.{One};
+ghost use Rattle.test_runs.specs.Layouts.{HasFew};
 
 use crate::notes::Notes;
-use crate::run::{LARGEST, run, two_of_each};
-use crate::seen::has_numbers;
 use crate::steps::{Steps, counted, resumed_beside};
-use crate::waits::Waits;
+use crate::waits::{WaitPart, Waits};
 use larch_actions::ThreadSet;
-use nub::{Action, Closed, CondId, Event, Layout, MutexId, ThreadId};
+use nub::{Action, Closed, CondId, Layout, MutexId};
 use std::alloc::Global;
 use std::process::Abort;
 use std::sync::Wait;
@@ -17,33 +16,7 @@ use std::sync::atomic::Ordering;
 use std::test::Fail;
 use std::thread::Threads;
 use sum_uses::SumUses;
-
-/// Runs the task without a trace, and sees that it leaves these numbers behind the mutexes.
-fn leaves<R: Threads + Wait + Abort + Sync>(
-    rt: &R,
-    alloc: Global,
-    layout: Layout,
-    what: Waits,
-    notes: &Notes,
-    values: &[u64],
-) -> Result<(), Fail>
-    requires lawful { IsLawful layout }
-    requires version { layout.version ≡ One }
-    requires named { (2 ≤ layout.mutexes) × (2 ≤ layout.conditions) }
-{
-    let closed = run(rt, alloc, layout, what, notes, false)?;
-    has_numbers(rt, closed.values(), values);
-    drop(closed);
-    Ok(())
-}
-
-/// Whether there is a trace of these events.
-fn has_events(closed: &Closed<SumUses>, expected: &[Event]) -> bool {
-    match closed.trace() {
-        Some(events) => events == expected,
-        None => false,
-    }
-}
+use test_runs::{event, few_of_each, has_numbers, largest, leaves, plays, run};
 
 /// The steps of two conditions in the trace.
 fn steps_in(closed: &Closed<SumUses>, conds: (CondId, CondId)) -> Option<(Steps, Steps)> {
@@ -51,23 +24,24 @@ fn steps_in(closed: &Closed<SumUses>, conds: (CondId, CondId)) -> Option<(Steps,
     Some((counted(events, conds.0)?, counted(events, conds.1)?))
 }
 
-/// Runs the task with a trace, and sees that it leaves these numbers behind the mutexes. It gives the steps of two conditions.
-fn steps_of<R: Threads + Wait + Abort + Sync>(
+/// Runs the part with a trace, and sees that it leaves these numbers behind the mutexes. It gives the steps of two conditions.
+fn steps_of<R: Threads + Wait + Sync>(
     rt: &R,
     alloc: Global,
     layout: Layout,
-    what: Waits,
+    part: &WaitPart,
     values: &[u64],
     conds: (CondId, CondId),
 ) -> Result<(Steps, Steps), Fail>
     requires lawful { IsLawful layout }
     requires version { layout.version ≡ One }
-    requires named { (2 ≤ layout.mutexes) × (2 ≤ layout.conditions) }
+    requires few { HasFew layout }
 {
-    let closed = run(rt, alloc, layout, what, &Notes::new(), true)?;
-    has_numbers(rt, closed.values(), values);
+    let closed = run(rt, alloc, layout, part, true)?;
+    let seen = has_numbers(closed.values(), values);
     let steps = steps_in(&closed, conds);
     drop(closed);
+    seen?;
     Ok(steps.ok_or("no trace, or a wait that nobody ended")?)
 }
 
@@ -90,22 +64,12 @@ fn has_turns(rt: &impl Abort, found: Steps, signals: u64) {
 // A Signal and a Broadcast of an empty condition go on at once, and leave nobody.
 #[test]
 fn alone(rt: HostRuntime) -> Result<(), Fail> {
-    let (thread, cond) = (ThreadId(0), CondId(0));
-    let left = ThreadSet::empty();
-    let signal = Event {
-        thread,
-        action: Action::Signal { cond, left },
-    };
-    let broadcast = Event {
-        thread,
-        action: Action::Broadcast { cond },
-    };
-    let (what, notes) = (Waits::Wakes, Notes::new());
-    let closed = run(&rt, rt.alloc(), two_of_each(1), what, &notes, true)?;
-    let played = has_events(&closed, &[signal, broadcast]);
-    drop(closed);
-    assert!(rt; played);
-    Ok(())
+    let notes = Notes::new();
+    let part = WaitPart(Waits::Wakes, &notes);
+    let (cond, left) = (CondId(0), ThreadSet::empty());
+    let signal = event(0, Action::Signal { cond, left });
+    let broadcast = event(0, Action::Broadcast { cond });
+    plays(&rt, rt.alloc(), few_of_each(1), &part, &[signal, broadcast])
 }
 
 // The conditions in which two threads take turns.
@@ -114,10 +78,10 @@ const BOTH: (CondId, CondId) = (CondId(0), CondId(1));
 // Two threads take turns, untraced and traced: no wake is lost, and each who resumes was taken out.
 #[test]
 fn contended(rt: HostRuntime) -> Result<(), Fail> {
-    let (what, notes) = (Waits::Turns(2000), Notes::new());
-    let values = [4000, 0];
-    leaves(&rt, rt.alloc(), two_of_each(2), what, &notes, &values)?;
-    let (first, second) = steps_of(&rt, rt.alloc(), two_of_each(2), what, &values, BOTH)?;
+    let (notes, values) = (Notes::new(), [4000, 0]);
+    let part = WaitPart(Waits::Turns(2000), &notes);
+    leaves(&rt, rt.alloc(), few_of_each(2), &part, &values, None)?;
+    let (first, second) = steps_of(&rt, rt.alloc(), few_of_each(2), &part, &values, BOTH)?;
     has_turns(&rt, first, 2000);
     has_turns(&rt, second, 2000);
     Ok(())
@@ -126,16 +90,18 @@ fn contended(rt: HostRuntime) -> Result<(), Fail> {
 // Two pairs take turns in conditions of their own: a Signal to one never wakes in place of one to the other.
 #[test]
 fn two_objects_apart(rt: HostRuntime) -> Result<(), Fail> {
-    let (what, notes) = (Waits::TurnsApart(2000), Notes::new());
-    leaves(&rt, rt.alloc(), two_of_each(4), what, &notes, &[4000, 4000])
+    let notes = Notes::new();
+    let part = WaitPart(Waits::TurnsApart(2000), &notes);
+    leaves(&rt, rt.alloc(), few_of_each(4), &part, &[4000, 4000], None)
 }
 
 // 63 threads are in one condition, as many as can be, and one Broadcast with their mutex takes them all out: each resumes once, so the list of
 // those to be unparked when the mutex is given back has room for all.
 #[test]
 fn many_threads(rt: HostRuntime) -> Result<(), Fail> {
-    let what = Waits::Gather(63);
-    let (steps, _) = steps_of(&rt, rt.alloc(), two_of_each(64), what, &[64, 0], BOTH)?;
+    let notes = Notes::new();
+    let part = WaitPart(Waits::Gather(63), &notes);
+    let (steps, _) = steps_of(&rt, rt.alloc(), few_of_each(64), &part, &[64, 0], BOTH)?;
     let expected = Steps {
         enqueued: 63,
         resumed: 63,
@@ -158,8 +124,9 @@ fn half(sum: u64) -> [u64; 64] {
 // 32 pairs of threads, each in a mutex and a condition of its own.
 #[test]
 fn largest_layout(rt: HostRuntime) -> Result<(), Fail> {
-    let (what, conds) = (Waits::TurnsApart(10), (CondId(0), CondId(31)));
-    let (_, last) = steps_of(&rt, rt.alloc(), LARGEST, what, &half(20), conds)?;
+    let (notes, conds) = (Notes::new(), (CondId(0), CondId(31)));
+    let part = WaitPart(Waits::TurnsApart(10), &notes);
+    let (_, last) = steps_of(&rt, rt.alloc(), largest(), &part, &half(20), conds)?;
     has_turns(&rt, last, 20);
     Ok(())
 }
@@ -167,16 +134,17 @@ fn largest_layout(rt: HostRuntime) -> Result<(), Fail> {
 // A Signal after the mutex was given back finds the other thread anywhere between its count and its sleep, and is never lost.
 #[test]
 fn signal_before_the_push(rt: HostRuntime) -> Result<(), Fail> {
-    let (what, notes) = (Waits::TurnsAfter(100000), Notes::new());
-    leaves(&rt, rt.alloc(), two_of_each(2), what, &notes, &[200000, 0])
+    let notes = Notes::new();
+    let part = WaitPart(Waits::TurnsAfter(100000), &notes);
+    leaves(&rt, rt.alloc(), few_of_each(2), &part, &[200000, 0], None)
 }
 
 /// Two makers and two takers pass 5,000 items each through the ring.
-fn pass_once<R: Threads + Wait + Abort + Sync>(rt: &R, alloc: Global) -> Result<(), Fail> {
-    let (what, notes) = (Waits::Ring(5000), Notes::new());
-    leaves(rt, alloc, two_of_each(4), what, &notes, &[20000, 0])?;
-    has_numbers(rt, &notes.ring.came(), &[5000, 5000, 0]);
-    Ok(())
+fn pass_once<R: Threads + Wait + Sync>(rt: &R, alloc: Global) -> Result<(), Fail> {
+    let notes = Notes::new();
+    let part = WaitPart(Waits::Ring(5000), &notes);
+    leaves(rt, alloc, few_of_each(4), &part, &[20000, 0], None)?;
+    has_numbers(&notes.ring.came(), &[5000, 5000, 0])
 }
 
 // Two makers and two takers at a ring of one place: each of 10,000 items is taken once, and those of a maker in their order.
@@ -189,16 +157,11 @@ fn ring_of_one_place(rt: HostRuntime) -> Result<(), Fail> {
 }
 
 /// Runs the task without a trace, and sees that the other thread has gone on 1000 times.
-fn goes_on<R: Threads + Wait + Abort + Sync>(
-    rt: &R,
-    alloc: Global,
-    what: Waits,
-) -> Result<(), Fail> {
+fn goes_on<R: Threads + Wait + Sync>(rt: &R, alloc: Global, what: Waits) -> Result<(), Fail> {
     let notes = Notes::new();
-    leaves(rt, alloc, two_of_each(2), what, &notes, &[0, 0])?;
-    let gone_on = notes.gone_on.load(Ordering::SeqCst);
-    has_numbers(rt, &[gone_on], &[1000]);
-    Ok(())
+    let part = WaitPart(what, &notes);
+    leaves(rt, alloc, few_of_each(2), &part, &[0, 0], None)?;
+    has_numbers(&[notes.gone_on.load(Ordering::SeqCst)], &[1000])
 }
 
 /// How many waits in condition 0 there were and how many Signals ended them, and how many of these waits ended beside a thread that held this mutex.
@@ -209,18 +172,18 @@ fn beside(closed: &Closed<SumUses>, kept: MutexId) -> Option<[u64; 3]> {
 }
 
 /// The same with a trace: each wait was ended by a Signal, beside a thread that held this mutex.
-fn goes_on_traced<R: Threads + Wait + Abort + Sync>(
+fn goes_on_traced<R: Threads + Wait + Sync>(
     rt: &R,
     alloc: Global,
     what: Waits,
     kept: MutexId,
 ) -> Result<(), Fail> {
-    let closed = run(rt, alloc, two_of_each(2), what, &Notes::new(), true)?;
+    let notes = Notes::new();
+    let closed = run(rt, alloc, few_of_each(2), &WaitPart(what, &notes), true)?;
     let found = beside(&closed, kept);
     drop(closed);
     let found = found.ok_or("no trace, or a wait that nobody ended")?;
-    has_numbers(rt, &found, &[1000, 1000, 1000]);
-    Ok(())
+    has_numbers(&found, &[1000, 1000, 1000])
 }
 
 // Who signals keeps another mutex than that of the wait, and gives it back only when the other thread has gone on. So that thread is woken at once:

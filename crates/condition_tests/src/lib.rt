@@ -23,10 +23,6 @@ mod ring_run;
 #[cfg(test)]
 mod roles;
 #[cfg(test)]
-mod run;
-#[cfg(test)]
-mod seen;
-#[cfg(test)]
 mod steps;
 #[cfg(test)]
 mod turns;

@@ -1,12 +1,12 @@
 //! Tests of readers and writers.
 use crate::coming::run_coming;
-use crate::seen::has_numbers;
 use crate::turns::{Pair, run_four, run_two};
 use nub::Closed;
 use readers_writers::{RwState, RwUses};
 use std::process::Abort;
 use std::sync::atomic::{AtomicU64, Ordering};
 use std::test::Fail;
+use test_runs::has_numbers;
 
 /// Sees that nobody reads or writes.
 fn is_free(rt: &impl Abort, closed: &Closed<RwUses>) {
@@ -44,12 +44,11 @@ fn never_torn(rt: HostRuntime) -> Result<(), Fail> {
         second: AtomicU64::new(0),
     };
     let torn = run_four(&rt, rt.alloc(), 2000, &pair)?;
-    has_numbers(&rt, &torn, &[0, 0, 0, 0]);
+    has_numbers(&torn, &[0, 0, 0, 0])?;
     drop(torn);
     let last = [
         pair.first.load(Ordering::SeqCst),
         pair.second.load(Ordering::SeqCst),
     ];
-    has_numbers(&rt, &last, &[4000, 4000]);
-    Ok(())
+    has_numbers(&last, &[4000, 4000])
 }

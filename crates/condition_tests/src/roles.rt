@@ -7,17 +7,19 @@ use nub::{CondId, MutexId, Package, Thread};
 use readers_writers::{RwAt, RwUses, begin_read, begin_write, end_read, end_write};
 use std::sync::Wait;
 
+/// Where the state is.
+const AT: RwAt = RwAt {
+    mutex: MutexId(0),
+    changed: CondId(0),
+};
+
 /// Begins to read.
 pub fn start_read<R: Wait>(rt: &R, pkg: &Package<RwUses>, me: &mut Thread<RwUses>)
     requires named { HasState pkg.now.layout }
     requires acts { (n : ℕ) × IsActing pkg.now n Idle me.old }
     ensures acts { (n : ℕ) → IsActing pkg.now n Idle me.old → IsActing pkg.now n Reading me.new }
 {
-    let at = RwAt {
-        mutex: MutexId(0),
-        changed: CondId(0),
-    };
-    begin_read(rt, pkg, me, &at);
+    begin_read(rt, pkg, me, &AT);
 }
 
 /// Ends to read.
@@ -26,11 +28,7 @@ pub fn stop_read<R: Wait>(rt: &R, pkg: &Package<RwUses>, me: &mut Thread<RwUses>
     requires acts { (n : ℕ) × IsActing pkg.now n Reading me.old }
     ensures acts { (n : ℕ) → IsActing pkg.now n Reading me.old → IsActing pkg.now n Idle me.new }
 {
-    let at = RwAt {
-        mutex: MutexId(0),
-        changed: CondId(0),
-    };
-    end_read(rt, pkg, me, &at);
+    end_read(rt, pkg, me, &AT);
 }
 
 /// Begins to write.
@@ -39,11 +37,7 @@ pub fn start_write<R: Wait>(rt: &R, pkg: &Package<RwUses>, me: &mut Thread<RwUse
     requires acts { (n : ℕ) × IsActing pkg.now n Idle me.old }
     ensures acts { (n : ℕ) → IsActing pkg.now n Idle me.old → IsActing pkg.now n Writing me.new }
 {
-    let at = RwAt {
-        mutex: MutexId(0),
-        changed: CondId(0),
-    };
-    begin_write(rt, pkg, me, &at);
+    begin_write(rt, pkg, me, &AT);
 }
 
 /// Ends to write.
@@ -52,9 +46,5 @@ pub fn stop_write<R: Wait>(rt: &R, pkg: &Package<RwUses>, me: &mut Thread<RwUses
     requires acts { (n : ℕ) × IsActing pkg.now n Writing me.old }
     ensures acts { (n : ℕ) → IsActing pkg.now n Writing me.old → IsActing pkg.now n Idle me.new }
 {
-    let at = RwAt {
-        mutex: MutexId(0),
-        changed: CondId(0),
-    };
-    end_write(rt, pkg, me, &at);
+    end_write(rt, pkg, me, &AT);
 }

@@ -1,6 +1,5 @@
 //! What one thread of a test does with conditions.
 ghost use Rattle.std.specs.Prelude.{[], ◌≡◌, ◌<◌, ◌≤◌};
-ghost use Rattle.larch_actions.specs.Layout.{IsLawful};
 ghost use Rattle.nub.specs.Ended.{IsDone};
 ghost use Rattle.nub.specs.Idle.{IsIdle};
 
@@ -12,6 +11,7 @@ use std::sync::Wait;
 use std::sync::atomic::Ordering;
 use sum_turns::{Turn, Wake, take_turn};
 use sum_uses::SumUses;
+use test_runs::Part;
 
 /// What each thread of a test with conditions does.
 #[derive(Clone, Copy)]
@@ -153,45 +153,6 @@ fn gather<R: Wait>(
     me
 }
 
-/// Does the task.
-pub fn wait_and_wake<R: Wait>(
-    rt: &R,
-    pkg: &Package<SumUses>,
-    me: Thread<SumUses>,
-    what: Waits,
-    notes: &Notes,
-) -> Thread<SumUses>
-    requires lawful { IsLawful pkg.now.layout }
-    requires named { (2 ≤ pkg.now.layout.mutexes) × (2 ≤ pkg.now.layout.conditions) }
-    requires idle { IsIdle pkg.now me.number [] me }
-    ensures { IsDone pkg.now me.number result }
-{
-    let number = me.number();
-    match what {
-        Waits::Wakes => wakes(rt, pkg, me),
-        Waits::Turns(times) => alternate(rt, pkg, me, false, times),
-        Waits::TurnsAfter(times) => alternate(rt, pkg, me, true, times),
-        Waits::TurnsApart(times) => {
-            let layout = pkg.layout();
-            let cond = CondId(number / 2 % layout.conditions);
-            let turn = Turn {
-                mutex: MutexId(number / 2 % layout.mutexes),
-                cond,
-                after: false,
-            };
-            turns(rt, pkg, me, turn, cond, times)
-        }
-        Waits::Ring(times) => ring(rt, pkg, me, times, notes),
-        Waits::Gather(count) => gather(rt, pkg, me, count, notes),
-        Waits::KeepsFirst(times) => {
-            wait_or_keep(rt, pkg, me, MutexId(1), MutexId(0), times, notes)
-        }
-        Waits::KeepsSecond(times) => {
-            wait_or_keep(rt, pkg, me, MutexId(0), MutexId(1), times, notes)
-        }
-    }
-}
-
 /// Takes turns with the other thread under mutex 0, in conditions 0 and 1.
 fn alternate<R: Wait>(
     rt: &R,
@@ -211,4 +172,38 @@ fn alternate<R: Wait>(
         after,
     };
     turns(rt, pkg, me, turn, CondId((own + 1) % 2), times)
+}
+
+/// What the threads of a test do, and where they leave what they see.
+#[derive(Drop)]
+pub struct WaitPart<'a>(pub Waits, pub &'a Notes);
+
+impl Part for WaitPart<'_> {
+    fn act<R: Wait>(&self, rt: &R, pkg: &Package<SumUses>, me: Thread<SumUses>) -> Thread<SumUses> {
+        let notes = self.1;
+        let number = me.number();
+        match self.0 {
+            Waits::Wakes => wakes(rt, pkg, me),
+            Waits::Turns(times) => alternate(rt, pkg, me, false, times),
+            Waits::TurnsAfter(times) => alternate(rt, pkg, me, true, times),
+            Waits::TurnsApart(times) => {
+                let layout = pkg.layout();
+                let cond = CondId(number / 2 % layout.conditions);
+                let turn = Turn {
+                    mutex: MutexId(number / 2 % layout.mutexes),
+                    cond,
+                    after: false,
+                };
+                turns(rt, pkg, me, turn, cond, times)
+            }
+            Waits::Ring(times) => ring(rt, pkg, me, times, notes),
+            Waits::Gather(count) => gather(rt, pkg, me, count, notes),
+            Waits::KeepsFirst(times) => {
+                wait_or_keep(rt, pkg, me, MutexId(1), MutexId(0), times, notes)
+            }
+            Waits::KeepsSecond(times) => {
+                wait_or_keep(rt, pkg, me, MutexId(0), MutexId(1), times, notes)
+            }
+        }
+    }
 }

@@ -2,9 +2,10 @@
 use alert_wait::Outcome;
 use bounded_buffer::{Over, PutEnd, TakeEnd};
 use command_line::WordsFault;
-use firefly_outside::{Failed, SinkFault, TreeError};
+use firefly_outside::{Failed, SinkFault, Text, TreeError};
 use firefly_script::ScriptFault;
 use index_reading::IndexFault;
+use indexer::IndexAnswer;
 use job_lines::JobsFault;
 use job_pool::PoolEnd;
 use larch_actions::Broken;
@@ -14,6 +15,8 @@ use std::fmt::Display;
 use std::test::Fail;
 use thread_crew::NotRun;
 use trace_core::TextFault;
+use walker::WalkAnswer;
+use word_index::Piece;
 
 // Whether this prints so.
 fn prints<T: Display>(alloc: Global, value: &T, text: &str) -> Result<bool, AllocError> {
@@ -109,5 +112,52 @@ fn faults_of_jobs(rt: HostRuntime) -> Result<(), Fail> {
     assert!(rt; prints(alloc, &PoolEnd::Done(Vec::new(alloc)), "all jobs are done")?);
     assert!(rt; prints(alloc, &PoolEnd::Stopped(7), "stopped by job 7")?);
     assert!(rt; prints(alloc, &PoolEnd::Memory, "out of memory, no job has run")?);
+    Ok(())
+}
+
+#[test]
+fn answers_of_walks(rt: HostRuntime) -> Result<(), Fail> {
+    let alloc = rt.alloc();
+    let fault = WalkAnswer::ReadFault(Text::of(alloc, "dir/a")?);
+    assert!(rt; prints(alloc, &fault, "dir/a could not be listed or read")?);
+    assert!(rt; prints(alloc, &WalkAnswer::Done(Piece::empty(alloc)), "done")?);
+    assert!(rt;
+        prints(
+            alloc,
+            &WalkAnswer::Stopped(5),
+            "5 files, one more than are allowed"
+        )?
+    );
+    assert!(rt;
+        prints(
+            alloc,
+            &WalkAnswer::TooMany(9),
+            "9 directories, one more than are allowed"
+        )?
+    );
+    assert!(rt; prints(alloc, &WalkAnswer::Memory, "out of memory")?);
+    Ok(())
+}
+
+#[test]
+fn answers_of_index_runs(rt: HostRuntime) -> Result<(), Fail> {
+    let alloc = rt.alloc();
+    let fault = IndexAnswer::ReadFault(Text::of(alloc, "dir/a")?);
+    assert!(rt; prints(alloc, &fault, "dir/a could not be listed or read")?);
+    assert!(rt;
+        prints(
+            alloc,
+            &IndexAnswer::Stopped(5),
+            "5 files, one more than are allowed"
+        )?
+    );
+    assert!(rt;
+        prints(
+            alloc,
+            &IndexAnswer::TooMany(9),
+            "9 directories, one more than are allowed"
+        )?
+    );
+    assert!(rt; prints(alloc, &IndexAnswer::Memory, "out of memory")?);
     Ok(())
 }

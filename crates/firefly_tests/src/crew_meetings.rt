@@ -1,6 +1,6 @@
 //! Crews whose jobs wait for one another.
-use crate::meeting::Meeting;
 use crate::same::same;
+use small_project::Meeting;
 use std::alloc::{AllocError, Global};
 use std::sync::Wait;
 use std::sync::atomic::{AtomicBool, Ordering};

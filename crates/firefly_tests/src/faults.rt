@@ -1,9 +1,9 @@
 //! Inputs that fail or are past their budget, and sinks that are full.
 use crate::answers::{Answer, is_answer, run_on, run_program};
-use crate::project::project;
 use crate::same::same;
 use firefly::Status;
 use firefly_outside::MemSource;
+use small_project::project;
 use std::alloc::{AllocError, Global};
 use std::process::Abort;
 use std::sync::Wait;
@@ -156,7 +156,7 @@ fn a_whole_bad_line_of_a_script_wins_over_a_failed_read(rt: HostRuntime) -> Resu
 }
 
 #[test]
-fn a_full_sink_holds_the_front_of_the_line(rt: HostRuntime) -> Result<(), Fail> {
+fn a_full_sink_holds_the_prefix_of_the_line(rt: HostRuntime) -> Result<(), Fail> {
     let mut input = MemSource::new(no_event().as_bytes().to_vec(rt.alloc())?);
     let found = run_program(&rt, rt.alloc(), &["check"], &mut input, 5);
     drop(input);
@@ -165,21 +165,21 @@ fn a_full_sink_holds_the_front_of_the_line(rt: HostRuntime) -> Result<(), Fail> 
     Ok(())
 }
 
-// With so much room the answer to the five lines is the front of this text that has so many bytes.
+// With so much room the answer to the five lines is the prefix of this text that has so many bytes.
 fn is_cut<R: Threads + Wait + Sync + Abort>(
     rt: &R,
     alloc: Global,
     text: &[u8],
     room: usize,
 ) -> Result<(), AllocError> {
-    let front = text.get(..room).unwrap_or(text);
+    let prefix = text.get(..room).unwrap_or(text);
     let found = run(rt, alloc, five_lines(), room)?;
-    is_answer(rt, &found, Status::SinkFault, front, UNWRITTEN);
+    is_answer(rt, &found, Status::SinkFault, prefix, UNWRITTEN);
     Ok(())
 }
 
 #[test]
-fn a_full_sink_holds_the_front_of_the_trace(rt: HostRuntime) -> Result<(), Fail> {
+fn a_full_sink_holds_the_prefix_of_the_trace(rt: HostRuntime) -> Result<(), Fail> {
     let whole = four_events().as_bytes();
     for room in [0, 1, 16, 100, whole.len().saturating_sub(1)] {
         is_cut(&rt, rt.alloc(), whole, room)?;
@@ -190,7 +190,7 @@ fn a_full_sink_holds_the_front_of_the_trace(rt: HostRuntime) -> Result<(), Fail>
 }
 
 #[test]
-fn a_full_sink_holds_the_front_of_the_index(rt: HostRuntime) -> Result<(), Fail> {
+fn a_full_sink_holds_the_prefix_of_the_index(rt: HostRuntime) -> Result<(), Fail> {
     let tree = project(rt.alloc())?;
     let mut input = MemSource::new(Vec::new(rt.alloc()));
     let found = run_on(&rt, rt.alloc(), &["index", "proj"], &tree, &mut input, 10);

@@ -1,18 +1,15 @@
 //! Calls of the command `index` on trees that fail, and the walk that it stands on.
 use crate::answers::{Answer, answer_of, is_answer};
-use crate::project::{project, project_index};
 use crate::same::same;
 use crate::trees::copies_failing_from;
 use firefly::Status;
-use firefly_outside::{MemSink, MemSource, MemTree, Tree};
-use index_print::print_index;
+use firefly_outside::{MemSource, MemTree};
+use small_project::{calls, index_of, is_text, project, project_index, project_paths};
 use std::alloc::{AllocError, Global};
 use std::process::Abort;
 use std::sync::Wait;
 use std::test::Fail;
 use std::thread::Threads;
-use walker::{WalkAnswer, Walked, close_walk};
-use word_index::Piece;
 
 // What `index` of the project answers where the trees from this place on fail at these paths. The trees aren't alive in the test.
 fn index_failing<R: Threads + Wait + Sync>(
@@ -63,20 +60,6 @@ fn a_path_that_fails_is_named(rt: HostRuntime) -> Result<(), Fail> {
     Ok(())
 }
 
-// All paths of the project.
-fn project_paths() -> [&'static str; 8] {
-    [
-        "proj",
-        "proj/src",
-        "proj/doc",
-        "proj/README",
-        "proj/src/main.rs",
-        "proj/src/run.rs",
-        "proj/doc/my notes.txt",
-        "proj/doc/logo.bin",
-    ]
-}
-
 // The default has two walkers and four parsers, so the tree of the closing walk is the seventh.
 #[test]
 fn the_workers_leave_nothing_to_the_closing_walk(rt: HostRuntime) -> Result<(), Fail> {
@@ -86,28 +69,6 @@ fn the_workers_leave_nothing_to_the_closing_walk(rt: HostRuntime) -> Result<(), 
     let found = found?;
     is_answer(&rt, &found, Status::Done, project_index().as_bytes(), "");
     Ok(())
-}
-
-// Whether this is the text of the piece.
-fn is_text(alloc: Global, piece: &Piece, text: &str) -> Result<bool, Fail> {
-    let mut out = MemSink::with_room(alloc, 1000)?;
-    let is_put = print_index(piece, &mut out).is_ok();
-    Ok(is_put && out.bytes() == text.as_bytes())
-}
-
-// The walk of one thread from nothing.
-fn walk<S: Tree>(alloc: Global, tree: &mut S, root: &str) -> Result<WalkAnswer, AllocError> {
-    let walked = Walked::new(alloc, root)?;
-    let piece = Piece::empty(alloc);
-    Ok(close_walk(alloc, tree, root, walked, piece, None))
-}
-
-// The index of the whole tree.
-fn index_of(alloc: Global, tree: &mut MemTree, root: &str) -> Result<Piece, Fail> {
-    match walk(alloc, tree, root)? {
-        WalkAnswer::Done(piece) => Ok(piece),
-        _ => Err(Fail::from("no index")),
-    }
 }
 
 // Whether the index of the whole tree has this text, and how many files it has. The index isn't alive in the test.
@@ -122,11 +83,6 @@ fn index_has(
     let files = piece.files();
     drop(piece);
     Ok((has?, files))
-}
-
-// How many lists and reads the tree has told.
-fn calls(tree: &MemTree) -> (usize, usize) {
-    (tree.listed().len(), tree.files_read().len())
 }
 
 #[test]

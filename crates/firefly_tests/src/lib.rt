@@ -16,10 +16,6 @@ mod index_calls;
 #[cfg(test)]
 mod index_limits;
 #[cfg(test)]
-mod meeting;
-#[cfg(test)]
-mod project;
-#[cfg(test)]
 mod same;
 #[cfg(test)]
 mod script_meetings;

@@ -1,8 +1,8 @@
 //! A script whose threads wait for each other.
-use crate::meeting::Meeting;
 use crate::same::same;
 use firefly::{Script, read_script, run_script};
 use firefly_outside::MemSource;
+use small_project::Meeting;
 use std::alloc::{AllocError, Global};
 use std::sync::Wait;
 use std::test::Fail;

@@ -1,22 +1,11 @@
-//! Trees in memory.
+//! Copies of a tree in memory, as many as a call of the program needs.
 ghost use Rattle.std.specs.Prelude.{◌≡◌, IfOk, length, Some};
 ghost use Rattle.firefly_outside.specs.Seen.{tree_of};
 ghost use Rattle.firefly.specs.Looks.{look_of, looks_of, Agree};
 
 use firefly_outside::{MemTree, Tree};
+use small_project::copy_failing_at;
 use std::alloc::{AllocError, Global};
-use std::test::Fail;
-
-// A copy of the tree that fails at these paths.
-fn copy_failing(alloc: Global, tree: &MemTree, paths: &[&str]) -> Result<MemTree, AllocError>
-    ensures { IfOk result (λ t. tree_of t ≡ tree_of tree.now) }
-{
-    let mut copy = tree.fork(alloc)?;
-    for path in paths {
-        copy.fail_at(path)?;
-    }
-    Ok(copy)
-}
 
 // The copy for this place.
 fn copy_at(
@@ -29,9 +18,9 @@ fn copy_at(
     ensures { IfOk result (λ t. tree_of t ≡ tree_of tree.now) }
 {
     if place < from {
-        return copy_failing(alloc, tree, &[]);
+        return copy_failing_at(alloc, tree, &[]);
     }
-    copy_failing(alloc, tree, paths)
+    copy_failing_at(alloc, tree, paths)
 }
 
 /// As many copies of the tree as a call of the program needs. Those from this place on fail at these paths.
@@ -60,28 +49,4 @@ pub fn copies_of(alloc: Global, tree: &MemTree) -> Result<Vec<Option<MemTree>>, 
         ⟦<MemTree as Tree>⟧.calls ⟦<MemTree as Tree>⟧.faults) v.items)) }
 {
     copies_failing_from(alloc, tree, 17, &[])
-}
-
-/// A tree with this directory alone. In a function of its own what is told of the tree isn't alive where more is added.
-pub fn tree_with(alloc: Global, root: &str) -> Result<MemTree, AllocError> {
-    let mut tree = MemTree::new(alloc);
-    tree.add_dir(root)?;
-    Ok(tree)
-}
-
-/// Adds an empty directory.
-pub fn put_dir(tree: &mut MemTree, path: &str) -> Result<(), Fail> {
-    if tree.may_add(path)? {
-        tree.add_dir(path)?;
-    }
-    Ok(())
-}
-
-/// Adds a file.
-pub fn put_file(alloc: Global, tree: &mut MemTree, path: &str, bytes: &[u8]) -> Result<(), Fail> {
-    if tree.may_add(path)? {
-        let bytes = bytes.to_vec(alloc)?;
-        tree.add_file(path, bytes)?;
-    }
-    Ok(())
 }

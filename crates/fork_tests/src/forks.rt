@@ -3,9 +3,8 @@ ghost use Rattle.std.specs.Prelude.{◌≡◌, ◌≤◌};
 
 use crate::late::{chain_in_time, run_in_time};
 use crate::lives::Task;
-use crate::notes::{Notes, has_numbers};
+use crate::notes::Notes;
 use crate::run::Plan;
-use crate::traces::{event, has_events, has_length};
 use nub::{Action, Event, ThreadId};
 use std::alloc::Global;
 use std::process::Abort;
@@ -14,6 +13,7 @@ use std::sync::atomic::Ordering;
 use std::test::Fail;
 use std::thread::Threads;
 use std::time::Clock;
+use test_runs::{event, has_left, has_numbers, has_played};
 
 /// Each of so many threads is started, and does this.
 fn all_started(threads: u32, task: Task, traced: bool) -> Plan
@@ -41,10 +41,9 @@ fn leaves<R: Threads + Wait + Clock + Abort + Sync>(
 {
     let notes = Notes::new();
     let closed = run_in_time(rt, alloc, plan, &notes)?;
-    has_numbers(rt, closed.values(), &[value]);
-    has_length(rt, &closed, events);
+    let seen = has_left(&closed, &[value], events);
     drop(closed);
-    Ok(())
+    seen
 }
 
 /// Sees that the plan leaves a trace of these events.
@@ -58,10 +57,9 @@ fn plays<R: Threads + Wait + Clock + Abort + Sync>(
     requires { (1 ≤ plan.threads) × (plan.threads ≤ 256) }
 {
     let closed = run_in_time(rt, alloc, plan, notes)?;
-    let played = has_events(&closed, expected);
+    let seen = has_played(&closed, expected);
     drop(closed);
-    assert!(rt; played);
-    Ok(())
+    seen
 }
 
 // A fork, the child's end, a join and the own end, each stored. The child lives in a thread of its own, or where the system refuses to
@@ -125,16 +123,23 @@ fn many_forks_by_one(rt: HostRuntime) -> Result<(), Fail> {
     )
 }
 
+/// Sees that a chain of 256 leaves a trace of so many events or none.
+fn chain_leaves<R: Threads + Wait + Clock + Abort + Sync>(
+    rt: &R,
+    alloc: Global,
+    events: Option<usize>,
+) -> Result<(), Fail> {
+    let closed = chain_in_time(rt, alloc, 256, events.is_some())?;
+    let seen = has_left(&closed, &[0], events);
+    drop(closed);
+    seen
+}
+
 // Each of 256 threads forks the next one and waits for its end.
 #[test]
 fn chain(rt: HostRuntime) -> Result<(), Fail> {
-    let closed = chain_in_time(&rt, rt.alloc(), 256, false)?;
-    has_length(&rt, &closed, None);
-    drop(closed);
-    let closed = chain_in_time(&rt, rt.alloc(), 256, true)?;
-    has_length(&rt, &closed, Some(766));
-    drop(closed);
-    Ok(())
+    chain_leaves(&rt, rt.alloc(), None)?;
+    chain_leaves(&rt, rt.alloc(), Some(766))
 }
 
 // 15 threads at once each fork and join 16 others, one after the other.
@@ -208,6 +213,5 @@ fn alerts_of_the_unborn_and_the_ended(rt: HostRuntime) -> Result<(), Fail> {
         ..all_started(2, Task::Looks, true)
     };
     plays(&rt, rt.alloc(), plan, &notes, &expected)?;
-    has_numbers(&rt, &[notes.alerted.load(Ordering::SeqCst)], &[1]);
-    Ok(())
+    has_numbers(&[notes.alerted.load(Ordering::SeqCst)], &[1])
 }

@@ -17,5 +17,3 @@ mod lives;
 mod notes;
 #[cfg(test)]
 mod run;
-#[cfg(test)]
-mod traces;

@@ -1,5 +1,4 @@
 //! What threads leave for one another and for a test to see.
-use std::process::Abort;
 use std::sync::atomic::{AtomicU64, Ordering};
 use std::thread;
 use std::time::{Clock, Duration};
@@ -44,9 +43,4 @@ pub fn seen_in_time<R: Clock>(rt: &R, note: &AtomicU64, number: u64) -> bool {
         thread::sleep(rt, Duration::from_millis(A_LOOK));
     }
     false
-}
-
-/// Sees that these numbers are as expected. Tests compare them here, beside nothing else that is alive, which takes the proof far less.
-pub fn has_numbers(rt: &impl Abort, found: &[u64], expected: &[u64]) {
-    assert_eq!(rt; found, expected);
 }

@@ -4,18 +4,8 @@ ghost use Rattle.firefly_outside.specs.Seen.{tree_of};
 ghost use Rattle.indexer_tests.specs.Copies.{HoldsTree};
 
 use firefly_outside::{MemTree, Text};
+use small_project::copy_failing_at;
 use std::alloc::{AllocError, Global};
-
-// A copy of the tree that fails at these paths.
-fn copy_failing_at(alloc: Global, tree: &MemTree, paths: &[&str]) -> Result<MemTree, AllocError>
-    ensures { IfOk result (λ m. tree_of m ≡ tree_of tree.now) }
-{
-    let mut copy = tree.fork(alloc)?;
-    for path in paths {
-        copy.fail_at(path)?;
-    }
-    Ok(copy)
-}
 
 /// Copies of the tree for so many workers, that fail at the first paths, and one for the closing walk, that fails at the last ones.
 pub fn copies_of(

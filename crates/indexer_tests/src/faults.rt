@@ -4,7 +4,7 @@ ghost use Rattle.indexer.specs.Plans.{IsPlan};
 use crate::runs::{failed_at, has_index, plan_of, run_on, seen_of};
 use crate::trees::{small, small_index, small_paths};
 use firefly_outside::MemTree;
-use indexer::{IndexAnswer, NoGate, Plan};
+use indexer::{BeginsAtOnce, IndexAnswer, Plan};
 use std::alloc::Global;
 use std::process::Abort;
 use std::sync::Wait;
@@ -64,7 +64,7 @@ fn is_answered<R: Threads + Wait + Sync>(
 ) -> Result<bool, Fail>
     requires { IsPlan plan.now }
 {
-    let (answer, trees) = run_on(rt, alloc, tree, plan, failing, failing, &NoGate)?;
+    let (answer, trees) = run_on(rt, alloc, tree, plan, failing, failing, &BeginsAtOnce)?;
     drop(trees);
     let right = is_right(alloc, &answer, failing);
     drop(answer);
@@ -143,7 +143,7 @@ fn is_all_found<R: Threads + Wait + Sync>(
     requires { IsPlan plan.now }
 {
     let paths = small_paths();
-    let seen = seen_of(rt, alloc, tree, plan, &paths, &NoGate, small_index())?;
+    let seen = seen_of(rt, alloc, tree, plan, &paths, &BeginsAtOnce, small_index())?;
     Ok(seen.found)
 }
 

@@ -3,9 +3,9 @@ ghost use Rattle.std.specs.Prelude.{◌≡◌, ◌≤◌, ◌<◌};
 ghost use Rattle.indexer.specs.Plans.{IsPlan};
 
 use crate::copies::{copies_of, listed_by, read_by};
-use crate::trees::is_text;
 use firefly_outside::MemTree;
-use indexer::{Gate, IndexAnswer, Plan, index};
+use indexer::{BeforeStart, IndexAnswer, Plan, index};
+use small_project::is_text;
 use std::alloc::{AllocError, Global};
 use std::sync::Wait;
 use std::test::Fail;
@@ -61,19 +61,19 @@ pub fn traced_plan(workers: u32) -> Plan
 
 /// The answer of a run on copies of the tree, and the copies as they came back. The workers' copies fail at the first paths and the closing
 /// walk's at the last ones.
-pub fn run_on<'a, R: Threads + Wait + Sync, G: Gate>(
+pub fn run_on<'a, R: Threads + Wait + Sync, G: BeforeStart>(
     rt: &R,
     alloc: Global,
     tree: &MemTree,
     plan: &Plan,
     first: &[&'a str],
     last: &[&'a str],
-    gate: &G,
+    before_start: &G,
 ) -> Result<(IndexAnswer, Vec<Option<MemTree>>), AllocError>
     requires { IsPlan plan.now }
 {
     let mut trees = copies_of(alloc, tree, plan.walkers + plan.parsers, first, last)?;
-    let answer = index(rt, alloc, "proj", plan, trees.as_mut_slice(), gate);
+    let answer = index(rt, alloc, "proj", plan, trees.as_mut_slice(), before_start);
     Ok((answer, trees))
 }
 
@@ -92,18 +92,18 @@ pub struct Seen {
 
 /// What a run on copies of the tree does, of which the closing walk's fails at these paths, and whether it answers this text. The tests then
 /// compare beside no answer and no trees, which takes the proof far less.
-pub fn seen_of<R: Threads + Wait + Sync, G: Gate>(
+pub fn seen_of<R: Threads + Wait + Sync, G: BeforeStart>(
     rt: &R,
     alloc: Global,
     tree: &MemTree,
     plan: &Plan,
     last: &[&str],
-    gate: &G,
+    before_start: &G,
     text: &str,
 ) -> Result<Seen, Fail>
     requires { IsPlan plan.now }
 {
-    let (answer, trees) = run_on(rt, alloc, tree, plan, &[], last, gate)?;
+    let (answer, trees) = run_on(rt, alloc, tree, plan, &[], last, before_start)?;
     let lists = listed_by(&trees);
     let reads = read_by(&trees);
     drop(trees);

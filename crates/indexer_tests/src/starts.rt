@@ -3,9 +3,9 @@ ghost use Rattle.indexer.specs.Plans.{IsPlan};
 
 use crate::copies::{copies_of, listed_by, read_by};
 use crate::runs::{has_index, plan_of};
-use crate::trees::{project, project_index};
 use firefly_outside::MemTree;
-use indexer::{IndexAnswer, NoGate, Plan, index_with};
+use indexer::{BeginsAtOnce, IndexAnswer, Plan, index_with};
+use small_project::{project, project_index};
 use std::alloc::{AllocError, Global};
 use std::sync::Wait;
 use std::test::Fail;
@@ -28,7 +28,7 @@ fn run_with<R: Threads + Wait + Sync>(
         "proj",
         plan,
         trees.as_mut_slice(),
-        &NoGate,
+        &BeginsAtOnce,
         starts,
     );
     Ok((answer, trees))

@@ -2,10 +2,10 @@
 ghost use Rattle.indexer.specs.Plans.{IsPlan};
 
 use crate::runs::{run_on, traced_plan};
-use crate::trees::project;
 use firefly_outside::{MemSink, MemSource, MemTree};
-use indexer::{IndexAnswer, NoGate, Plan, index_layout};
+use indexer::{BeginsAtOnce, IndexAnswer, Plan, index_layout};
 use larch_actions::Event;
+use small_project::project;
 use std::alloc::Global;
 use std::sync::Wait;
 use std::test::Fail;
@@ -52,7 +52,7 @@ fn verdict_of<R: Threads + Wait + Sync>(
 ) -> Result<(Verdict, u64), Fail>
     requires { IsPlan plan.now }
 {
-    let (answer, trees) = run_on(rt, alloc, tree, plan, &[], &[], &NoGate)?;
+    let (answer, trees) = run_on(rt, alloc, tree, plan, &[], &[], &BeginsAtOnce)?;
     drop(trees);
     let verdict = verdict_on(alloc, plan, &answer);
     drop(answer);

@@ -1,6 +1,6 @@
 //! Trees in memory and of the system.
-use crate::trees::{put_dir, put_file, tree_with};
 use firefly_outside::{DirTree, Entry, FileBytes, Kind, MemTree, Tree, TreeError};
+use small_project::{put_dir, put_file, tree_with};
 use std::alloc::{AllocError, Global};
 use std::process::Abort;
 use std::test::Fail;

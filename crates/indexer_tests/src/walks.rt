@@ -1,11 +1,9 @@
 //! Small trees, walked whole, stopped and with a fault.
-ghost use Rattle.std.specs.Prelude.{◌≤◌, IfSome};
-
-use crate::trees::{put_dir, put_file, tree_with};
-use firefly_outside::{MemTree, Text, Tree};
-use std::alloc::{AllocError, Global};
+use firefly_outside::{MemTree, Text};
+use small_project::{calls, index_of, put_dir, put_file, tree_with, walk};
+use std::alloc::Global;
 use std::test::Fail;
-use walker::{WalkAnswer, Walked, close_walk};
+use walker::WalkAnswer;
 use word_index::Piece;
 
 // Adds a directory and three files.
@@ -24,36 +22,9 @@ fn small_tree(alloc: Global) -> Result<MemTree, Fail> {
     Ok(tree)
 }
 
-// The walk of one thread.
-fn index_of<S: Tree>(
-    alloc: Global,
-    tree: &mut S,
-    root: &str,
-    stop_after: Option<u64>,
-) -> Result<WalkAnswer, AllocError>
-    requires { IfSome stop_after (λ n. n ≤ 1000000000) }
-{
-    let walked = Walked::new(alloc, root)?;
-    let piece = Piece::empty(alloc);
-    Ok(close_walk(alloc, tree, root, walked, piece, stop_after))
-}
-
-// The index of the whole tree.
-fn whole(alloc: Global, tree: &mut MemTree, root: &str) -> Result<Piece, Fail> {
-    match index_of(alloc, tree, root, None)? {
-        WalkAnswer::Done(piece) => Ok(piece),
-        _ => Err(Fail::from("no index")),
-    }
-}
-
 // How many files, words and entries the piece has.
 fn counts(piece: &Piece) -> (u64, u64, u64) {
     (piece.files(), piece.words(), piece.entries())
-}
-
-// How many lists and reads the tree has told.
-fn calls(tree: &MemTree) -> (usize, usize) {
-    (tree.listed().len(), tree.files_read().len())
 }
 
 // The number of files found, where the walk was stopped.
@@ -76,7 +47,7 @@ fn failed_at(answer: WalkAnswer) -> Option<Text> {
 #[test]
 fn whole_tree_is_indexed(rt: HostRuntime) -> Result<(), Fail> {
     let mut tree = small_tree(rt.alloc())?;
-    let piece = whole(rt.alloc(), &mut tree, "p");
+    let piece = index_of(rt.alloc(), &mut tree, "p");
     let calls = calls(&tree);
     drop(tree);
     let piece = piece?;
@@ -90,7 +61,7 @@ fn whole_tree_is_indexed(rt: HostRuntime) -> Result<(), Fail> {
 #[test]
 fn walk_stops_at_one_file_too_many(rt: HostRuntime) -> Result<(), Fail> {
     let mut tree = small_tree(rt.alloc())?;
-    let answer = index_of(rt.alloc(), &mut tree, "p", Some(2));
+    let answer = walk(rt.alloc(), &mut tree, "p", Some(2));
     drop(tree);
     let answer = answer?;
     let stopped = stopped_at(&answer);
@@ -103,7 +74,7 @@ fn walk_stops_at_one_file_too_many(rt: HostRuntime) -> Result<(), Fail> {
 fn fault_names_its_path(rt: HostRuntime) -> Result<(), Fail> {
     let mut tree = small_tree(rt.alloc())?;
     tree.fail_at("p/d/a")?;
-    let answer = index_of(rt.alloc(), &mut tree, "p", None);
+    let answer = walk(rt.alloc(), &mut tree, "p", None);
     drop(tree);
     let Some(path) = failed_at(answer?) else {
         return Err(Fail::from("no fault"));

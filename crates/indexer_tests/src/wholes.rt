@@ -1,9 +1,9 @@
 //! Runs that find the whole, and runs that are stopped.
 use crate::copies::{listed_by, read_by, times_asked};
 use crate::runs::{plan_of, run_on, seen_of, stopping_plan};
-use crate::trees::{project, project_index, project_paths};
 use firefly_outside::MemTree;
-use indexer::NoGate;
+use indexer::BeginsAtOnce;
+use small_project::{project, project_index, project_paths};
 use std::test::Fail;
 
 // How many trees a run of two workers of each kind has, how many paths the walkers' trees listed, and how many files the parsers' read.
@@ -20,7 +20,15 @@ fn each_plan_finds_the_index(rt: HostRuntime) -> Result<(), Fail> {
     let tree = project(alloc)?;
     for (walkers, parsers, mergers) in [(1, 1, 1), (1, 2, 1), (2, 1, 3), (3, 4, 2), (8, 8, 8)] {
         let plan = plan_of(walkers, parsers, mergers);
-        let seen = seen_of(&rt, alloc, &tree, &plan, &[], &NoGate, project_index())?;
+        let seen = seen_of(
+            &rt,
+            alloc,
+            &tree,
+            &plan,
+            &[],
+            &BeginsAtOnce,
+            project_index(),
+        )?;
         assert!(rt; seen.found);
         assert_eq!(rt; seen.lists, 3);
         assert_eq!(rt; seen.reads, 5);
@@ -44,7 +52,7 @@ fn asked_once(trees: &[Option<MemTree>]) -> bool {
 fn each_directory_is_listed_once_and_each_file_read_once(rt: HostRuntime) -> Result<(), Fail> {
     let tree = project(rt.alloc())?;
     let plan = plan_of(2, 4, 2);
-    let ran = run_on(&rt, rt.alloc(), &tree, &plan, &[], &[], &NoGate);
+    let ran = run_on(&rt, rt.alloc(), &tree, &plan, &[], &[], &BeginsAtOnce);
     drop(tree);
     let (answer, trees) = ran?;
     drop(answer);
@@ -64,7 +72,7 @@ fn each_directory_is_listed_once_and_each_file_read_once(rt: HostRuntime) -> Res
 fn walkers_list_and_parsers_read(rt: HostRuntime) -> Result<(), Fail> {
     let tree = project(rt.alloc())?;
     let plan = plan_of(2, 2, 2);
-    let ran = run_on(&rt, rt.alloc(), &tree, &plan, &[], &[], &NoGate);
+    let ran = run_on(&rt, rt.alloc(), &tree, &plan, &[], &[], &BeginsAtOnce);
     drop(tree);
     let (answer, trees) = ran?;
     drop(answer);
@@ -81,7 +89,7 @@ fn a_run_stops_at_one_file_too_many(rt: HostRuntime) -> Result<(), Fail> {
     let tree = project(rt.alloc())?;
     for most in 0..5u64 {
         let plan = stopping_plan(most);
-        let seen = seen_of(&rt, rt.alloc(), &tree, &plan, &[], &NoGate, "")?;
+        let seen = seen_of(&rt, rt.alloc(), &tree, &plan, &[], &BeginsAtOnce, "")?;
         assert_eq!(rt; seen.stop, Some(most + 1));
     }
     Ok(())
@@ -91,7 +99,15 @@ fn a_run_stops_at_one_file_too_many(rt: HostRuntime) -> Result<(), Fail> {
 fn a_run_with_as_many_files_as_are_allowed_goes_on(rt: HostRuntime) -> Result<(), Fail> {
     let tree = project(rt.alloc())?;
     let plan = stopping_plan(5);
-    let seen = seen_of(&rt, rt.alloc(), &tree, &plan, &[], &NoGate, project_index());
+    let seen = seen_of(
+        &rt,
+        rt.alloc(),
+        &tree,
+        &plan,
+        &[],
+        &BeginsAtOnce,
+        project_index(),
+    );
     drop(tree);
     assert!(rt; seen?.found);
     Ok(())

@@ -1,75 +1,24 @@
-//! Alerts, and waits that they end.
-ghost use Rattle.std.specs.Prelude.{[], ◌≡◌, ◌≤◌};
-ghost use Rattle.nub.specs.Ended.{IsDone};
-ghost use Rattle.nub.specs.Idle.{IsIdle};
-
-use crate::alerting::{AlertTask, do_alerts};
-use crate::notes::{Notes, has_numbers};
-use crate::traces::{event, has_events, has_length};
-use nub::{
-    Action, Closed, Event, Layout, SemId, Thread, ThreadId, Version, close_package, open_package,
-};
-use package_crew::at_once;
-use std::alloc::{AllocError, Global};
-use std::process::Abort;
+//! Alerts, and waits for a semaphore that they end.
+use crate::alert_part::{AlertPart, AlertTask};
+use crate::notes::Notes;
+use nub::{Action, Event, SemId, ThreadId};
+use std::alloc::Global;
 use std::sync::Wait;
 use std::test::Fail;
 use std::thread::Threads;
-use sum_uses::SumUses;
+use test_runs::{event, few_of_each, has_numbers, leaves, plays, run};
 
-// Three threads and five semaphores.
-const LAYOUT: Layout = Layout {
-    version: Version::One,
-    threads: 3,
-    mutexes: 0,
-    conditions: 0,
-    semaphores: 5,
-};
-
-/// What a package leaves after its threads have done their task, all at once.
-fn run<R: Threads + Wait + Sync>(
-    rt: &R,
-    alloc: Global,
-    what: AlertTask,
-    notes: &Notes,
-    traced: bool,
-) -> Result<Closed<SumUses>, AllocError> {
-    let values = Vec::new(alloc);
-    let (pkg, threads) = open_package::<SumUses>(alloc, LAYOUT, &(), values, traced)?;
-    let Ok((threads, _)) = at_once(
-        rt,
-        alloc,
-        threads,
-        &|me: Thread<SumUses>| -> (Thread<SumUses>, ())
-            requires { (5 ≤ pkg.layout.semaphores) × (3 ≤ pkg.layout.threads) × IsIdle pkg me.number [] me }
-            ensures { IsDone pkg me.number result.0 }
-        { (do_alerts(rt, &pkg, me, what, notes), ()) },
-    ) else {
-        drop(pkg);
-        return Err(AllocError);
-    };
-    close_package(pkg, threads)
-}
-
-/// Thread 1 raises so often, and leaves a trace of so many events or none.
-fn raises<R: Threads + Wait + Abort + Sync>(
+/// Thread 0 raises so often, and leaves a trace of so many events or none.
+fn raises<R: Threads + Wait + Sync>(
     rt: &R,
     alloc: Global,
     times: u32,
     events: Option<usize>,
 ) -> Result<(), Fail> {
     let notes = Notes::new();
-    let closed = run(
-        rt,
-        alloc,
-        AlertTask::Raises(times),
-        &notes,
-        events.is_some(),
-    )?;
-    has_length(rt, &closed, events);
-    drop(closed);
-    has_numbers(rt, &notes.numbers()[..1], &[u64::from(times)]);
-    Ok(())
+    let part = AlertPart(AlertTask::Raises(times), &notes);
+    leaves(rt, alloc, few_of_each(3), &part, &[0; 2], events)?;
+    has_numbers(&notes.numbers()[..1], &[u64::from(times)])
 }
 
 // A thread that waits for a semaphore which nobody frees raises each time that it is alerted.
@@ -79,18 +28,18 @@ fn raises_each_time(rt: HostRuntime) -> Result<(), Fail> {
     raises(&rt, rt.alloc(), 100, Some(402))
 }
 
-/// Thread 1 ends its wait so often, and finds no fault.
-fn ends_each_wait<R: Threads + Wait + Abort + Sync>(
+/// Thread 0 ends its wait so often, and finds no fault.
+fn ends_each_wait<R: Threads + Wait + Sync>(
     rt: &R,
     alloc: Global,
     times: u32,
     traced: bool,
 ) -> Result<(), Fail> {
     let notes = Notes::new();
-    let closed = run(rt, alloc, AlertTask::AtOnce(times), &notes, traced)?;
+    let part = AlertPart(AlertTask::AtOnce(times), &notes);
+    let closed = run(rt, alloc, few_of_each(3), &part, traced)?;
     drop(closed);
-    has_numbers(rt, &notes.numbers()[..2], &[u64::from(times), 0]);
-    Ok(())
+    has_numbers(&notes.numbers()[..2], &[u64::from(times), 0])
 }
 
 // A semaphore is freed while the thread that waits for it is alerted: either it has the semaphore and is alerted still, or it has raised
@@ -101,54 +50,46 @@ fn freed_and_alerted_at_once(rt: HostRuntime) -> Result<(), Fail> {
     ends_each_wait(&rt, rt.alloc(), 200, true)
 }
 
-/// Runs the task, and sees that its trace has these events.
-fn plays<R: Threads + Wait + Abort + Sync>(
+/// Thread 0 does the task, which leaves a trace of these events, and notes these two numbers.
+fn plays_alone<R: Threads + Wait + Sync>(
     rt: &R,
     alloc: Global,
-    what: AlertTask,
-    notes: &Notes,
-    expected: &[Event],
+    task: AlertTask,
+    events: &[Event],
+    noted: [u64; 2],
 ) -> Result<(), Fail> {
-    let closed = run(rt, alloc, what, notes, true)?;
-    let played = has_events(&closed, expected);
-    drop(closed);
-    assert!(rt; played);
-    Ok(())
+    let notes = Notes::new();
+    let part = AlertPart(task, &notes);
+    plays(rt, alloc, few_of_each(3), &part, events)?;
+    has_numbers(&notes.numbers()[..2], &noted)
 }
 
 // A thread that has alerted itself raises where the semaphore isn't available.
 #[test]
 fn alerts_itself(rt: HostRuntime) -> Result<(), Fail> {
-    let notes = Notes::new();
     let sem = SemId(0);
     let taken = event(0, Action::P { sem });
     let alerted = event(0, Action::Alert { who: ThreadId(0) });
     let raised = event(0, Action::AlertPRaise { sem });
     let expected = [taken, alerted, raised];
-    plays(&rt, rt.alloc(), AlertTask::Oneself, &notes, &expected)?;
-    has_numbers(&rt, &notes.numbers()[..1], &[1]);
-    Ok(())
+    plays_alone(&rt, rt.alloc(), AlertTask::Oneself, &expected, [1, 0])
 }
 
 // Two alerts are one: the first test finds it, and the second none.
 #[test]
 fn two_alerts_are_one(rt: HostRuntime) -> Result<(), Fail> {
-    let notes = Notes::new();
     let alerted = event(0, Action::Alert { who: ThreadId(0) });
     let yes = event(0, Action::TestAlert { yes: true });
     let no = event(0, Action::TestAlert { yes: false });
     let expected = [alerted, alerted, yes, no];
-    plays(&rt, rt.alloc(), AlertTask::Twice, &notes, &expected)?;
-    has_numbers(&rt, &notes.numbers()[..2], &[1, 0]);
-    Ok(())
+    plays_alone(&rt, rt.alloc(), AlertTask::Twice, &expected, [1, 0])
 }
 
 // An alert of a thread at rest is there when it tests.
 #[test]
 fn alerted_at_rest(rt: HostRuntime) -> Result<(), Fail> {
     let notes = Notes::new();
-    let closed = run(&rt, rt.alloc(), AlertTask::AtRest, &notes, false)?;
-    drop(closed);
-    has_numbers(&rt, &notes.numbers()[..2], &[1, 0]);
-    Ok(())
+    let part = AlertPart(AlertTask::AtRest, &notes);
+    leaves(&rt, rt.alloc(), few_of_each(3), &part, &[0; 2], None)?;
+    has_numbers(&notes.numbers()[..2], &[1, 0])
 }

@@ -1,33 +1,19 @@
 //! Waits in a condition that an alert may end.
-use crate::alerted::{Alerts, run_alerts};
-use crate::notes::{Notes, has_numbers};
-use crate::traces::{event, has_events};
-use nub::{Action, Closed, CondId, Event, MutexId, ThreadId};
+use crate::alert_part::{AlertPart, AlertTask};
+use crate::notes::Notes;
+use nub::{Action, Closed, CondId, MutexId, ThreadId};
 use std::alloc::Global;
-use std::process::Abort;
 use std::sync::Wait;
 use std::test::Fail;
 use std::thread::Threads;
 use sum_uses::SumUses;
-
-/// One thread alerts itself and waits, and the trace has these events.
-fn plays_alone<R: Threads + Wait + Abort + Sync>(
-    rt: &R,
-    alloc: Global,
-    notes: &Notes,
-    expected: &[Event],
-) -> Result<(), Fail> {
-    let closed = run_alerts(rt, alloc, 1, Alerts::Alone, notes, true)?;
-    let played = has_events(&closed, expected);
-    drop(closed);
-    assert!(rt; played);
-    Ok(())
-}
+use test_runs::{event, few_of_each, has_numbers, leaves, plays, run};
 
 // A thread that was alerted before it waits raises at once, holds the mutex then, and the alert is gone.
 #[test]
 fn alone(rt: HostRuntime) -> Result<(), Fail> {
     let notes = Notes::new();
+    let part = AlertPart(AlertTask::Alone, &notes);
     let (mutex, cond) = (MutexId(0), CondId(0));
     let expected = [
         event(0, Action::Alert { who: ThreadId(0) }),
@@ -37,19 +23,17 @@ fn alone(rt: HostRuntime) -> Result<(), Fail> {
         event(0, Action::Release { mutex }),
         event(0, Action::TestAlert { yes: false }),
     ];
-    plays_alone(&rt, rt.alloc(), &notes, &expected)?;
-    has_numbers(&rt, &notes.numbers()[..2], &[1, 0]);
-    Ok(())
+    plays(&rt, rt.alloc(), few_of_each(1), &part, &expected)?;
+    has_numbers(&notes.numbers()[..2], &[1, 0])
 }
 
 // A Signal and an alert race for a wait 100,000 times. Exactly one ends it: the alert is there afterwards where the Signal did, and else gone.
 #[test]
 fn alert_against_signal(rt: HostRuntime) -> Result<(), Fail> {
     let notes = Notes::new();
-    let closed = run_alerts(&rt, rt.alloc(), 3, Alerts::Race(100000), &notes, false)?;
-    drop(closed);
-    has_numbers(&rt, &notes.numbers()[1..2], &[0]);
-    Ok(())
+    let part = AlertPart(AlertTask::Race(100000), &notes);
+    leaves(&rt, rt.alloc(), few_of_each(3), &part, &[0; 2], None)?;
+    has_numbers(&notes.numbers()[1..2], &[0])
 }
 
 /// How many waits that an alert may end have ended, where there is a trace.
@@ -73,7 +57,8 @@ fn ended_in_races<R: Threads + Wait + Sync>(
     races: u32,
     notes: &Notes,
 ) -> Result<u64, Fail> {
-    let closed = run_alerts(rt, alloc, 3, Alerts::Race(races), notes, true)?;
+    let part = AlertPart(AlertTask::Race(races), notes);
+    let closed = run(rt, alloc, few_of_each(3), &part, true)?;
     let ended = ended(&closed);
     drop(closed);
     Ok(ended.ok_or("no trace")?)
@@ -84,7 +69,6 @@ fn ended_in_races<R: Threads + Wait + Sync>(
 fn alert_against_signal_traced(rt: HostRuntime) -> Result<(), Fail> {
     let notes = Notes::new();
     let ended = ended_in_races(&rt, rt.alloc(), 1000, &notes)?;
-    has_numbers(&rt, &[ended], &[1000]);
-    has_numbers(&rt, &notes.numbers()[1..2], &[0]);
-    Ok(())
+    has_numbers(&[ended], &[1000])?;
+    has_numbers(&notes.numbers()[1..2], &[0])
 }

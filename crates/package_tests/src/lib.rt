@@ -6,6 +6,8 @@
 #[cfg(test)]
 mod alert;
 #[cfg(test)]
+mod alert_part;
+#[cfg(test)]
 mod alert_waits;
 #[cfg(test)]
 mod alerted;
@@ -16,10 +18,8 @@ mod mutex;
 #[cfg(test)]
 mod notes;
 #[cfg(test)]
-mod run;
+mod racing;
 #[cfg(test)]
 mod semaphore;
-#[cfg(test)]
-mod traces;
 #[cfg(test)]
 mod work;

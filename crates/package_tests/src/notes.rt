@@ -1,7 +1,6 @@
 //! What threads leave for one another and for a test to see.
 ghost use Rattle.std.specs.Prelude.{◌≤◌};
 
-use std::process::Abort;
 use std::sync::atomic::{AtomicU64, Ordering};
 
 // How often a thread looks at a note before it gives up.
@@ -32,11 +31,6 @@ impl Notes {
             self.third.load(Ordering::SeqCst),
         ]
     }
-}
-
-/// Sees that these numbers are as expected. Tests compare them here, beside nothing else that is alive, which takes the proof far less.
-pub fn has_numbers(rt: &impl Abort, found: &[u64], expected: &[u64]) {
-    assert_eq!(rt; found, expected);
 }
 
 /// Whether the note was seen set in time: 1 where it was, else 0.

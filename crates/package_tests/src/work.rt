@@ -1,6 +1,5 @@
 //! What one thread of a test does.
 ghost use Rattle.std.specs.Prelude.{[], ◌≡◌, ◌<◌, ◌≤◌};
-ghost use Rattle.larch_actions.specs.Layout.{IsLawful};
 ghost use Rattle.nub.specs.Ended.{IsDone};
 ghost use Rattle.nub.specs.Idle.{IsIdle};
 
@@ -10,6 +9,7 @@ use nub::{MutexId, NoChange, Package, SemId, Thread};
 use std::sync::Wait;
 use std::sync::atomic::Ordering;
 use sum_uses::{AddChange, SumUses, add_to};
+use test_runs::Part;
 use user_mutex::{acquire, locked, release};
 
 /// What each thread of a test does.
@@ -169,45 +169,40 @@ fn pass_in<R: Wait>(
     me
 }
 
-/// Does the task.
-pub fn work<R: Wait>(
-    rt: &R,
-    pkg: &Package<SumUses>,
-    me: Thread<SumUses>,
-    what: Task,
-    notes: &Notes,
-) -> Thread<SumUses>
-    requires lawful { IsLawful pkg.now.layout }
-    requires named { (2 ≤ pkg.now.layout.mutexes) × (2 ≤ pkg.now.layout.semaphores) }
-    requires idle { IsIdle pkg.now me.number [] me }
-    ensures { IsDone pkg.now me.number result }
-{
-    let number = me.number();
-    match what {
-        Task::Together(times) => add_many(rt, pkg, me, MutexId(0), times % 1000000),
-        Task::Apart(times) => {
-            let m = MutexId(number % pkg.layout().mutexes);
-            add_many(rt, pkg, me, m, times % 1000000)
-        }
-        Task::TwoTurns => two_turns(rt, pkg, me, notes),
-        Task::PassBy => {
-            if number == 0 {
-                pass_by(rt, pkg, me, notes)
-            } else {
-                stand_by(rt, pkg, me, notes)
+/// A task, and where its threads leave what they see.
+#[derive(Drop)]
+pub struct WorkPart<'a>(pub Task, pub &'a Notes);
+
+impl Part for WorkPart<'_> {
+    fn act<R: Wait>(&self, rt: &R, pkg: &Package<SumUses>, me: Thread<SumUses>) -> Thread<SumUses> {
+        let notes = self.1;
+        let number = me.number();
+        match self.0 {
+            Task::Together(times) => add_many(rt, pkg, me, MutexId(0), times % 1000000),
+            Task::Apart(times) => {
+                let m = MutexId(number % pkg.layout().mutexes);
+                add_many(rt, pkg, me, m, times % 1000000)
             }
-        }
-        Task::TakeTurns(times) => turns(rt, pkg, me, SemId(0), times, notes),
-        Task::TurnApart(times) => {
-            let s = SemId(number % pkg.layout().semaphores);
-            let own = Notes::new();
-            turns(rt, pkg, me, s, times, &own)
-        }
-        Task::PassBySem => {
-            if number == 0 {
-                pass_in(rt, pkg, me, notes)
-            } else {
-                stand_in(rt, pkg, me, notes)
+            Task::TwoTurns => two_turns(rt, pkg, me, notes),
+            Task::PassBy => {
+                if number == 0 {
+                    pass_by(rt, pkg, me, notes)
+                } else {
+                    stand_by(rt, pkg, me, notes)
+                }
+            }
+            Task::TakeTurns(times) => turns(rt, pkg, me, SemId(0), times, notes),
+            Task::TurnApart(times) => {
+                let s = SemId(number % pkg.layout().semaphores);
+                let own = Notes::new();
+                turns(rt, pkg, me, s, times, &own)
+            }
+            Task::PassBySem => {
+                if number == 0 {
+                    pass_in(rt, pkg, me, notes)
+                } else {
+                    stand_in(rt, pkg, me, notes)
+                }
             }
         }
     }

@@ -1,0 +1,7 @@
+-- What the layouts of tests have.
+use Rattle.std.specs.Prelude.{◌≤◌}
+use Rattle.larch_actions.specs.declared.event.Layout.{Layout}
+
+-- there are two mutexes, two conditions and five semaphores at least
+abbrev pub HasFew : Layout → Type 0
+HasFew l = (2 ≤ l.mutexes) × (2 ≤ l.conditions) × (5 ≤ l.semaphores)

@@ -1,0 +1,50 @@
+//! What a test sees of what a package leaves.
+use nub::{Action, Closed, Event, ThreadId};
+use std::test::Fail;
+use sum_uses::SumUses;
+
+/// An action of the thread.
+pub fn event(thread: u32, action: Action) -> Event {
+    Event {
+        thread: ThreadId(thread),
+        action,
+    }
+}
+
+/// Sees that these numbers are as expected. Tests compare them here, beside nothing else that is alive, which takes the proof far less.
+pub fn has_numbers(found: &[u64], expected: &[u64]) -> Result<(), Fail> {
+    if found == expected {
+        return Ok(());
+    }
+    Err(Fail::new(format_args!("{found:?} in place of {expected:?}")))
+}
+
+/// Sees that there are so many events, or no trace.
+fn has_length(closed: &Closed<SumUses>, expected: Option<usize>) -> Result<(), Fail> {
+    let length = match closed.trace() {
+        Some(events) => Some(events.len()),
+        None => None,
+    };
+    if length == expected {
+        return Ok(());
+    }
+    Err(Fail::new(format_args!("{length:?} events in place of {expected:?}")))
+}
+
+/// Sees that these numbers are behind the mutexes, and that there is a trace of so many events, or none.
+pub fn has_left(
+    closed: &Closed<SumUses>,
+    values: &[u64],
+    events: Option<usize>,
+) -> Result<(), Fail> {
+    has_numbers(closed.values(), values)?;
+    has_length(closed, events)
+}
+
+/// Sees that there is a trace of these events.
+pub fn has_played(closed: &Closed<SumUses>, expected: &[Event]) -> Result<(), Fail> {
+    match closed.trace() {
+        Some(events) if events == expected => Ok(()),
+        _ => Err(Fail::from("other events")),
+    }
+}
