@@ -1,4 +1,5 @@
 pub mod Laws
+pub mod Names
 pub use Rattle.alert_wait.specs.Outcomes
 pub use Rattle.condition.specs.Waits
 pub use Rattle.larch_actions.specs.Layout
@@ -14,3 +15,5 @@ pub use Rattle.nub_rule.specs.Items
 pub use Rattle.nub_rule.specs.Known
 pub use Rattle.nub_rule.specs.Plays
 pub use Rattle.package_crew.specs.Crews
+pub use Rattle.package_run.specs.Runs
+pub use Rattle.package_run.specs.Times

@@ -15,4 +15,5 @@ pub use nub::{
     join_thread, open_forked, open_package,
 };
 pub use package_crew::{Beside, NotRun, at_once, at_once_beside};
+pub use package_run::{Work, run_package};
 pub use user_mutex::{acquire, locked, release};

@@ -1,14 +1,10 @@
 -- The mail, and what threads did with it.
-use Rattle.std.specs.Prelude.{◌≡◌, ℕ, ◌+◌, ◌≤◌, ◌<◌, cond, eqb, ltb, List, [], ◌∷◌, ◌++◌, Option as Opt, Some, None}
-use Rattle.firefly_threads.specs.Guarded.{OneValue}
-use Rattle.firefly_threads.specs.Totals.{total}
+use Rattle.std.specs.Prelude.{◌≡◌, ℕ, ◌+◌, ◌*◌, ◌≤◌, ◌<◌, cond, false, ltb, List, [], ◌∷◌, ◌++◌, Option as Opt, Some, None}
+use Rattle.firefly_threads.specs.Names.{range_with_len, total}
+use Rattle.firefly_threads.specs.Times.{times}
 use Rattle.message_log.specs.declared.mail.Deeds.{Deeds}
 use Rattle.message_log.specs.declared.mail.Mail.{Mail}
-
--- how often v stands in the list
-abbrev pub times : ℕ → List ℕ → ℕ
-times v [] = 0
-times v (x ∷ xs) = cond (eqb x v) 1 0 + times v xs
+use Rattle.message_log.specs.declared.run.Log.{Log}
 
 abbrev pub in_slot : Opt ℕ → List ℕ
 in_slot None = []
@@ -25,33 +21,38 @@ sent slot s = record s { sent = s.sent ++ in_slot slot }
 -- the message that stood in the slot was received; where none did, the end was seen
 abbrev pub received : Opt ℕ → Deeds → Deeds
 received None s = record s { ended = 1 }
-received (Some x) s = record s { received = s.received ++ x ∷ [] }
+received (Some m) s = record s { received = s.received ++ m ∷ [] }
 
 abbrev pub left : Deeds → Deeds
 left s = record s { sends = 0 }
 
 -- nothing is there, and nothing comes
-pub record IsOver (q : Mail) : Type 0 where
-  pub empty : q.slot ≡ None
-  pub senders : q.senders ≡ 0
+abbrev pub over : Mail
+over = record { slot = None; senders = 0 }
 
 -- each message that was sent was received or stands in the slot; so many threads may still send; where one has seen the end, it is over
 pub record IsKept (q : Mail) (shares : List Deeds) : Type 0 where
   pub all : (v : ℕ) → times v (in_slot q.slot) + total (λ s. times v s.received) shares ≡ total (λ s. times v s.sent) shares
   pub senders : q.senders ≡ total (λ s. s.sends) shares
-  pub end : 1 ≤ total (λ s. s.ended) shares → IsOver q
-
-abbrev pub AreKept : List Mail → List Deeds → Type 0
-AreKept values shares = OneValue IsKept values shares
+  pub end : 1 ≤ total (λ s. s.ended) shares → q ≡ over
 
 -- what a holder knows
-pub record IsKnown (q : Mail) (s : Deeds) : Type 0 where
-  pub senders : s.sends ≤ q.senders
+abbrev pub IsKnown : Mail → Deeds → Type 0
+IsKnown q s = s.sends ≤ q.senders
 
 -- a message is moved and none is lost, who may send is counted, what is over stays so, and who sees the end sees what is over
 pub record Moves (x y : Mail) (s r : Deeds) : Type 0 where
-  pub all : (v : ℕ) → times v (in_slot y.slot) + times v r.received + times v s.sent ≡ times v
-      (in_slot x.slot) + times v s.received + times v r.sent
+  pub all : (v : ℕ) → times v (in_slot y.slot) + times v r.received + times v s.sent ≡ times v (in_slot x.slot) + times v s.received
+      + times v r.sent
   pub senders : y.senders + s.sends ≡ x.senders + r.sends
-  pub over : IsOver x → IsOver y
-  pub end : s.ended < r.ended → IsOver y
+  pub stays : x ≡ over → y ≡ over
+  pub end : s.ended < r.ended → y ≡ over
+
+-- of a thread that has sent so many numbers, from first on, and may send more
+abbrev pub has_sent : ℕ → ℕ → Deeds
+has_sent first count = record { sent = range_with_len first count; received = []; sends = 1; ended = 0 }
+
+-- of the thread n: it has sent its numbers, or written the log and seen the end
+pub record IsPart (count n : ℕ) (log : Log) (s : Deeds) : Type 0 where
+  pub sender : n < 3 → s ≡ left (has_sent (n * count) count)
+  pub receiver : 3 ≤ n → (s.sent ≡ []) × (s.ended ≡ 1) × (log.lost ≡ false → s.received ≡ log.items.items)

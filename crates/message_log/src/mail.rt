@@ -1,6 +1,8 @@
 //! What stands behind the mutex, and what a thread does there.
-ghost use Rattle.message_log.specs.Mails.{AreKept, IsKnown, Moves, begins, left, received, sent};
-ghost use Rattle.message_log.specs.MailLaws.{fits_known, kept_after};
+ghost use Rattle.firefly_threads.specs.Guarded.{OneValue};
+ghost use Rattle.firefly_threads.specs.Laws.{one_fits, one_kept};
+ghost use Rattle.message_log.specs.Mails.{IsKept, IsKnown, Moves, begins, left, received, sent};
+ghost use Rattle.message_log.specs.MailLaws.{kept, known};
 
 use firefly_threads::{Change, Uses};
 use std::collections::LinkedList;
@@ -32,15 +34,15 @@ impl Uses for Post {
 
     ghost begin = { λ w t. begins t };
 
-    ghost holds = { λ w values shares. AreKept values shares };
+    ghost holds = { λ w. OneValue IsKept };
 
     ghost fits = { λ w m x t s. IsKnown x s };
 
     ghost allows = { λ w m t x y s r. Moves x y s r };
 
-    ghost holds_fits = { fits_known };
+    ghost holds_fits = { λ w. one_fits IsKept IsKnown known };
 
-    ghost holds_after = { kept_after };
+    ghost holds_after = { λ w. one_kept IsKept Moves kept };
 }
 
 /// What stands in the slot now was sent.

@@ -3,15 +3,14 @@ ghost use Rattle.std.specs.Prelude.{◌≡◌, ◌≤◌, ◌<◌, ◌+◌, ◌*
 ghost use mathlib.Core.Option.{some};
 ghost use lib.ListN.{get_elem?};
 ghost use Rattle.std.specs.List.{range_with_len};
-ghost use Rattle.firefly_threads.specs.Ended.{IsFirst};
 ghost use Rattle.firefly_threads.specs.Idle.{IsIdle};
+ghost use Rattle.firefly_threads.specs.Times.{HasAll};
 ghost use Rattle.message_log.specs.declared.mail.Deeds.{Deeds};
-ghost use Rattle.message_log.specs.Logs.{HasAll, HasPart};
-ghost use Rattle.message_log.specs.Mails.{begins};
+ghost use Rattle.message_log.specs.Mails.{IsPart, begins, has_sent, left, over};
 
 use crate::mail::{Mail, Post};
 use crate::post::{leave, receive, send};
-use firefly_threads::{Closed, Layout, Package, Thread, at_once, close_package, open_package};
+use firefly_threads::{Closed, Layout, Package, Thread, Work, run_package};
 use std::alloc::{AllocError, Global};
 use std::sync::Wait;
 use std::thread::Threads;
@@ -37,9 +36,9 @@ impl Log {
 /// Sends so many messages, the numbers from `first` on.
 fn send_all<R: Wait>(rt: &R, p: &Package<Post>, me: &mut Thread<Post>, first: u64, count: u32)
     requires named { (1 ≤ p.now.layout.mutexes) × (2 ≤ p.now.layout.conditions) }
-    requires first { IsFirst p.now (λ w t. begins t) me.old.number me.old × (me.old.number < 3) }
+    requires sends { IsIdle p.now me.old.number (has_sent first 0) me.old }
     requires few { first + count < 2 ^ 64 }
-    ensures { (s : Deeds) × IsIdle p.now me.old.number s me.new × (s.sent ≡ range_with_len first count) × (s.received ≡ []) }
+    ensures { IsIdle p.now me.old.number (left (has_sent first count)) me.new }
 {
     for i in 0..count {
         send(rt, p, me, first + u64::from(i));
@@ -50,7 +49,7 @@ fn send_all<R: Wait>(rt: &R, p: &Package<Post>, me: &mut Thread<Post>, first: u6
 /// Receives all that comes, and writes it into the log.
 fn receive_all<R: Wait>(rt: &R, p: &Package<Post>, me: &mut Thread<Post>, log: &mut Log)
     requires named { (1 ≤ p.now.layout.mutexes) × (2 ≤ p.now.layout.conditions) }
-    requires first { IsFirst p.now (λ w t. begins t) me.old.number me.old }
+    requires idle { IsIdle p.now me.old.number (begins me.old.number) me.old }
     requires empty { log.old.items.items ≡ [] }
     ensures { (s : Deeds) × IsIdle p.now me.old.number s me.new × (s.sent ≡ []) × (s.ended ≡ 1)
         × (log.new.lost ≡ false → s.received ≡ log.new.items.items) }
@@ -64,30 +63,38 @@ fn receive_all<R: Wait>(rt: &R, p: &Package<Post>, me: &mut Thread<Post>, log: &
     unreachable!()
 }
 
-/// The part of the thread: threads 0, 1 and 2 send, and the last receives.
-fn work<R: Wait>(
-    rt: &R,
-    alloc: Global,
-    p: &Package<Post>,
-    mut me: Thread<Post>,
+/// Threads 0, 1 and 2 send so many messages each, and the last receives.
+#[derive(Drop)]
+struct Mailing {
     count: u32,
-) -> (Thread<Post>, Log)
-    requires named { (1 ≤ p.now.layout.mutexes) × (2 ≤ p.now.layout.conditions) }
-    requires first { IsFirst p.now (λ w t. begins t) me.number me }
-    ensures { HasPart count p.now me.number result.0 result.1 }
-{
-    let mut log = Log {
-        items: Vec::new(alloc),
-        lost: false,
-    };
-    let number = me.number();
-    if number < 3 {
-        let first = u64::from(number) * u64::from(count);
-        send_all(rt, p, &mut me, first, count);
-        (me, log)
-    } else {
-        receive_all(rt, p, &mut me, &mut log);
-        (me, log)
+}
+
+impl Work<Post> for Mailing {
+    type Left = Log;
+
+    ghost asks = { λ job layout w. (1 ≤ layout.mutexes) × (2 ≤ layout.conditions) };
+
+    ghost did = { λ job w n log s. IsPart job.count n log s };
+
+    fn work<R: Wait>(
+        &self,
+        rt: &R,
+        alloc: Global,
+        p: &Package<Post>,
+        me: &mut Thread<Post>,
+    ) -> Log {
+        let mut log = Log {
+            items: Vec::new(alloc),
+            lost: false,
+        };
+        let number = me.number();
+        if number < 3 {
+            let first = u64::from(number) * u64::from(self.count);
+            send_all(rt, p, me, first, self.count);
+            return log;
+        }
+        receive_all(rt, p, me, &mut log);
+        log
     }
 }
 
@@ -111,24 +118,23 @@ pub fn run<R: Threads + Wait + Sync>(
     ensures all { IfOk result (λ r. HasAll r.0.items (range_with_len 0 (3 * count))) }
     ensures shut { IfOk result (λ r. r.1.values ≡ record { slot = None; senders = 0 } ∷ []) }
 {
-    let layout = Layout::of(4, 1, 2, 0);
     let mail = vec![in alloc;
         Mail {
             slot: None,
             senders: 3
         },
     ]?;
-    let (p, threads) = open_package::<Post>(alloc, layout, &(), mail, false)?;
-    let (threads, logs) = at_once(
+    let layout = Layout::of(4, 1, 2, 0);
+    let job = Mailing { count };
+    let (logs, closed) = run_package::<Post, Mailing, R>(
         rt,
         alloc,
-        threads,
-        &|me: Thread<Post>| -> (Thread<Post>, Log)
-            requires { (1 ≤ p.layout.mutexes) × (2 ≤ p.layout.conditions) × IsFirst p (λ w t. begins t) me.number me }
-            ensures { HasPart count p me.number result.0 result.1 }
-        { work(rt, alloc, &p, me, count) },
+        layout,
+        &(),
+        mail,
+        false,
+        &job,
     )?;
-    let closed = close_package(p, threads)?;
     let Log { items, lost } = last(logs);
     if lost {
         return Err(AllocError);

@@ -7,10 +7,13 @@ use Rattle.firefly_threads.specs.Laws.{at_set, one_after, own_part, part_set}
 use Rattle.ticket_sale.specs.declared.uses.Sold.{Sold}
 use Rattle.ticket_sale.specs.Sales.{AreSold, IsPart, IsSale, IsSold}
 
-pub fits_part : (w : ℕ) (values : List ℕ) (shares : List Sold) → AreSold w values shares → (m x : ℕ) → get_elem? values m ≡ some x → (t : ℕ) (s : Sold) → get_elem? shares t ≡ some s → IsPart w x s
-fits_part w values shares h m x at t s there = let a = own_part (λ (r : Sold). r.count) shares t s there in let b = (h.each m x at).all in record { few = omega arith }
+pub fits_part : (w : ℕ) (values : List ℕ) (shares : List Sold) → AreSold w values shares → (m x : ℕ) → get_elem? values m ≡ some x
+    → (t : ℕ) (s : Sold) → get_elem? shares t ≡ some s → IsPart w x s
+fits_part w values shares h m x at t s there = let a = own_part (λ (r : Sold). r.count) shares t s there in let b = (h.each m x at).all in
+    record { few = omega arith }
 
-pub after_sale : (w : ℕ) (values : List ℕ) (shares : List Sold) → AreSold w values shares → (m x y : ℕ) → get_elem? values m ≡ some x → (t : ℕ) (s r : Sold) → get_elem? shares t ≡ some s → IsSale x y s r
+pub after_sale : (w : ℕ) (values : List ℕ) (shares : List Sold) → AreSold w values shares → (m x y : ℕ) → get_elem? values m ≡ some x
+    → (t : ℕ) (s r : Sold) → get_elem? shares t ≡ some s → IsSale x y s r
     → AreSold w (slice_set values m y) (slice_set shares t r)
 after_sale w values shares h m x y at t s r there ok = one_after (IsSold w) values shares (slice_set shares t r) m x y h at (λ was.
     let sum = part_set (λ (u : Sold). u.count) shares t s r there in

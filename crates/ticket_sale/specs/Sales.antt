@@ -34,16 +34,16 @@ pub record IsSale (left now : ℕ) (s r : Sold) : Type 0 where
   pub alike : left + s.count ≡ now + r.count
   pub told : r.none_left ≡ true → now ≡ 0
 
--- the thread has sold this many of the tickets, and has seen none left
-pub record HasSold (tickets : ℕ) (t : Known ℕ Sold ℕ) (sold : ℕ) : Type 0 where
-  pub world : t.world ≡ Some tickets
-  pub share : Sold
-  pub is_share : t.share ≡ Some share
-  pub count : share.count ≡ sold
-  pub seen : share.none_left ≡ true
+-- a share that says so many were sold, and whose thread has seen none left
+pub record HasSold (sold : ℕ) (s : Sold) : Type 0 where
+  pub count : s.count ≡ sold
+  pub seen : s.none_left ≡ true
 
 -- the thread n has sold as many of the tickets as stands at n
 pub record IsSaid (tickets : ℕ) (said : List ℕ) (n : ℕ) (t : Known ℕ Sold ℕ) : Type 0 where
+  pub world : t.world ≡ Some tickets
   pub sold : ℕ
   pub is_said : get_elem? said n ≡ some sold
-  pub has : HasSold tickets t sold
+  pub share : Sold
+  pub is_share : t.share ≡ Some share
+  pub has : HasSold sold share

@@ -1,13 +1,12 @@
 //! The sale.
 ghost use Rattle.std.specs.Prelude.{◌≡◌, ◌+◌, ◌<◌, ◌≤◌, ◌^◌, ◌∷◌, [], length, sum, IfOk, true, false};
 ghost use Rattle.firefly_threads.specs.Items.{Each};
-ghost use Rattle.firefly_threads.specs.Ended.{IsDone, IsFirst};
+ghost use Rattle.firefly_threads.specs.Idle.{IsIdle};
+ghost use Rattle.ticket_sale.specs.declared.uses.Sold.{Sold};
 ghost use Rattle.ticket_sale.specs.Sales.{HasSold, IsSaid, none_sold};
 
 use crate::uses::{Sale, Tickets};
-use firefly_threads::{
-    Closed, Layout, MutexId, Package, Thread, at_once, close_package, locked, open_package,
-};
+use firefly_threads::{Closed, Layout, MutexId, Package, Thread, Work, locked, run_package};
 use std::alloc::{AllocError, Global};
 use std::sync::Wait;
 use std::thread::Threads;
@@ -25,28 +24,42 @@ fn take_one(left: &mut u32) -> bool
 }
 
 /// Sells one ticket after the other, until none is left, and answers how many it sold.
-fn sell<R: Wait>(rt: &R, p: &Package<Tickets>, mut me: Thread<Tickets>) -> (Thread<Tickets>, u32)
+fn sell<R: Wait>(rt: &R, p: &Package<Tickets>, me: &mut Thread<Tickets>) -> u32
     requires named { 0 < p.now.layout.mutexes }
     requires few { p.now.world < 2 ^ 32 }
-    requires first { IsFirst p.now (λ w t. none_sold) me.number me }
-    ensures done { IsDone p.now me.number result.0 }
-    ensures sold { HasSold p.now.world result.0 result.1 }
+    requires idle { IsIdle p.now me.old.number none_sold me.old }
+    ensures { (s : Sold) × IsIdle p.now me.old.number s me.new × HasSold result s }
 {
     let mut sold = 0u32;
     for _ in rt.forever() {
-        let any = locked::<Tickets, Sale, bool, _, R>(
-            rt,
-            p,
-            &mut me,
-            MutexId(0),
-            |left| take_one(left),
-        );
+        let any = locked::<Tickets, Sale, bool, _, R>(rt, p, me, MutexId(0), |left| take_one(left));
         if !any {
-            return (me, sold);
+            return sold;
         }
         sold += 1;
     }
     unreachable!()
+}
+
+/// What each thread does.
+struct Selling;
+
+impl Work<Tickets> for Selling {
+    type Left = u32;
+
+    ghost asks = { λ job layout w. (0 < layout.mutexes) × (w < 2 ^ 32) };
+
+    ghost did = { λ job w n sold s. HasSold sold s };
+
+    fn work<R: Wait>(
+        &self,
+        rt: &R,
+        _alloc: Global,
+        p: &Package<Tickets>,
+        me: &mut Thread<Tickets>,
+    ) -> u32 {
+        sell(rt, p, me)
+    }
 }
 
 /// How many tickets they have sold.
@@ -76,16 +89,8 @@ pub fn sale<R: Threads + Wait + Sync>(
 {
     let layout = Layout::of(threads, 1, 0, 0);
     let left = vec![in alloc; tickets]?;
-    let (p, threads) = open_package::<Tickets>(alloc, layout, &tickets, left, false)?;
-    let (threads, sold) = at_once(
-        rt,
-        alloc,
-        threads,
-        &|me: Thread<Tickets>| -> (Thread<Tickets>, u32)
-            requires { (0 < p.layout.mutexes) × (p.world < 2 ^ 32) × IsFirst p (λ w t. none_sold) me.number me }
-            ensures { IsDone p me.number result.0 × HasSold p.world result.0 result.1 }
-        { sell(rt, &p, me) },
+    let (sold, closed) = run_package::<Tickets, Selling, R>(
+        rt, alloc, layout, &tickets, left, false, &Selling,
     )?;
-    let closed = close_package(p, threads)?;
     Ok((sold, closed))
 }

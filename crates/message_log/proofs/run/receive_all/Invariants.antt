@@ -1,5 +1,5 @@
 use Rattle.std.proofs.Common.{◌≡◌, [], false}
-use Rattle.firefly_threads.specs.Idle.{IsIdle}
+use Rattle.firefly_threads.specs.Names.{IsIdle}
 use Rattle.message_log.specs.declared.mail.Deeds.{Deeds}
 use Rattle.message_log.proofs.run.receive_all.Given as goal
 

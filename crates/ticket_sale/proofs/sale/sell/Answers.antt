@@ -1,38 +1,26 @@
 use Rattle.std.proofs.Common.{◌≡◌, ◌+◌, ◌-◌, rules, arith, ap, refl, eqb}
-use Rattle.firefly_threads.specs.Laws.{idle_done, idle_first}
 use Rattle.ticket_sale.specs.Sales.{none_sold}
 use Rattle.ticket_sale.proofs.sale.sell.Goals as goal
 
 pub loop-init : goal.loop-init
-loop-init g c = (none_sold, idle_first c.args.p.now (λ w t. none_sold) c.args.me.number c.args.me c.requires.first, refl)
+loop-init g c = (none_sold, c.requires.idle, refl)
 
-pub returns-then-not-any-clause-done : goal.returns-then-not-any-clause-done
-returns-then-not-any-clause-done g c =
+pub returns-then-not-any : goal.returns-then-not-any
+returns-then-not-any g c =
     let own = c.loop.invariant in
-    idle_done c.args.p.now c.args.me.number _ c.locked-any.new.me (c.locked-any.ensures.idle c.args.me.number own.0 own.1).4
-
-pub returns-then-not-any-clause-sold : goal.returns-then-not-any-clause-sold
-returns-then-not-any-clause-sold g c =
-    let own = c.loop.invariant in
-    let answer = c.locked-any.ensures.idle c.args.me.number own.0 own.1 in
+    let answer = c.locked-any.ensures.idle c.args.me.now.number own.0 own.1 in
     let x = answer.0 in
     let y = answer.1 in
     let returned = answer.2 in
     let none : (x ≡ 0) × (y ≡ 0) = search rules in
     let nothing : x - y ≡ 0 = omega arith in
     let sold = own.2 in
-    record {
-      world = answer.4.world;
-      share = record { count = own.0.count + (x - y); none_left = eqb x 0 };
-      is_share = answer.4.share;
-      count = omega arith;
-      seen = ap (λ k. eqb k 0) none.0;
-    }
+    (record { count = own.0.count + (x - y); none_left = eqb x 0 }, answer.4, record { count = omega arith; seen = ap (λ k. eqb k 0) none.0 })
 
 pub loop-preserved : goal.loop-preserved
 loop-preserved g c =
     let own = c.loop.invariant in
-    let answer = c.locked-any.ensures.idle c.args.me.number own.0 own.1 in
+    let answer = c.locked-any.ensures.idle c.args.me.now.number own.0 own.1 in
     let x = answer.0 in
     let y = answer.1 in
     let returned = answer.2 in

@@ -1,0 +1,14 @@
+-- What definitions and proofs of a program name, in one place.
+pub use Rattle.std.specs.List.{range_with_len}
+pub use mathlib.Core.Option.{some}
+pub use lib.ListN.{get_elem?}
+pub use Rattle.nub.specs.Ended.{IsDone, IsFirst, IsWhole, KeepsLocks}
+pub use Rattle.nub.specs.Guarded.{Guarded, OneValue}
+pub use Rattle.nub.specs.Holding.{IsHolding}
+pub use Rattle.nub.specs.Idle.{IsIdle}
+pub use Rattle.nub.specs.Totals.{total}
+pub use Rattle.nub_rule.specs.Ends.{firsts}
+pub use Rattle.nub_rule.specs.Items.{Each}
+pub use Rattle.nub_rule.specs.Known.{Known, Shape}
+pub use Rattle.package_run.specs.Runs.{HasDone, HaveWorked}
+pub use Rattle.package_run.specs.Times.{HasAll, times}
