@@ -81,15 +81,15 @@ module _ {T : Type 0} where
     all_put : (rule : BufferRule m q shares) → items_of (part_of s m).puts ≡ rule.log
     all_put rule = is_log (part_of s m).puts rule.log puts (subst (λ l. IsPermutation l (enumerate_from 0 rule.log)) (alone (λ u. u.puts) m shares i s at_s one) rule.puts)
 
-    -- what one thread alone took is the front of what one alone put, in order
-    pub took_front : BufferRule m q shares → items_of (part_of r m).takes ≡ take q.taken (items_of (part_of s m).puts)
-    took_front rule =
-        let front = take q.taken rule.log in
-        is_log (part_of r m).takes front takes (subst (λ l. IsPermutation l (enumerate_from 0 front)) (alone (λ u. u.takes) m shares j r at_r other) rule.takes) ∙ ap (take q.taken) (sym (all_put rule))
+    -- what one thread alone took is the prefix of what one alone put, in order
+    pub took_prefix : BufferRule m q shares → items_of (part_of r m).takes ≡ take q.taken (items_of (part_of s m).puts)
+    took_prefix rule =
+        let prefix = take q.taken rule.log in
+        is_log (part_of r m).takes prefix takes (subst (λ l. IsPermutation l (enumerate_from 0 prefix)) (alone (λ u. u.takes) m shares j r at_r other) rule.takes) ∙ ap (take q.taken) (sym (all_put rule))
 
     -- it is all of that where the end was seen
     pub went_through : (part_of r m).seen_end ≡ true → BufferRule m q shares → Through q (items_of (part_of s m).puts) (items_of (part_of r m).takes)
     went_through ended rule =
         let end = rule.seen_end j r at_r ended in
         let long : q.taken ≡ length (items_of (part_of s m).puts) = end.2 ∙ ap length (sym (all_put rule)) in
-        record { same = took_front rule ∙ take_all q.taken (items_of (part_of s m).puts) (omega arith); taken = long; empty = end.1; shut = end.0 }
+        record { same = took_prefix rule ∙ take_all q.taken (items_of (part_of s m).puts) (omega arith); taken = long; empty = end.1; shut = end.0 }

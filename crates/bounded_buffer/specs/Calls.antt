@@ -73,10 +73,12 @@ module _ {W V H T : Type 0} (ring_in : V → Opt (Held T)) (part : H → ℕ →
   -- under the mutex m the thread t did this last with the share s, and has the share r
   abbrev pub Looked : W → ℕ → ℕ → Opt (Did T) → H → H → Type 0
   Looked w m t None s r = r ≡ s
-  Looked w m t (Some d) s r = (x y : V) × (q p : Held T) × (ring_in x ≡ Some q) × (ring_in y ≡ Some p) × Does d q p × (r ≡ after w m t x y s)
+  Looked w m t (Some d) s r = (x y : V) × (q p : Held T) × (ring_in x ≡ Some q) × (ring_in y ≡ Some p) × Does d q p
+      × (r ≡ after w m t x y s)
 
   -- a call of the thread t at the ring behind m: it took m, waited in the condition c while it had to, did this last, where it put or took signalled o, and gave m back
-  pub record Ran (alike : H → H → Type 0) (w : W) (m c o t : ℕ) (more : ℕ → Used T → Used T) (d : Opt (Did T)) (s : H) (a b : Known V H W) : Type 0 where
+  pub record Ran (alike : H → H → Type 0) (w : W) (m c o t : ℕ) (more : ℕ → Used T → Used T) (d : Opt (Did T)) (s : H) (a b : Known V H W) :
+      Type 0 where
     pub waited : ℕ
     pub left : List ℕ
     pub events : Adds (entered t m c waited ++ finish t m c o left d) (release_event t m) a b

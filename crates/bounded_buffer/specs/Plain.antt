@@ -54,7 +54,8 @@ module _ {T : Type 0} where
     pub room : length q.items ≤ q.capacity
     pub shut : q.shut ≡ any_shut m shares
     pub seen_shut : (t : ℕ) (s : List (Note T)) → get_elem? shares t ≡ some s → (part_of s m).seen_shut ≡ true → q.shut ≡ true
-    pub seen_end : (t : ℕ) (s : List (Note T)) → get_elem? shares t ≡ some s → (part_of s m).seen_end ≡ true → (q.shut ≡ true) × (q.items ≡ []) × (q.taken ≡ length log)
+    pub seen_end : (t : ℕ) (s : List (Note T)) → get_elem? shares t ≡ some s → (part_of s m).seen_end ≡ true → (q.shut ≡ true)
+        × (q.items ≡ []) × (q.taken ≡ length log)
 
   -- the rule of each buffer
   abbrev pub Keeps : List (Held T) → List (List (Note T)) → Type 0

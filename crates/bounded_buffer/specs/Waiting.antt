@@ -20,7 +20,8 @@ module _ {W V H T : Type 0} (ring_in : V → Opt (Held T)) (part : H → ℕ →
       → allows w m t x y s (after w m t x y s) × HasDone part m d s (after w m t x y s) × (IsWait d → alike s (after w m t x y s))
 
   -- a call since a is over: the thread came from this side, waited in the condition c while it had to, did this last at the ring behind m, where it put or took signalled o, and holds what it held
-  pub record Ended (p : Shape W) (m c o : ℕ) (side : Side) (after : W → ℕ → ℕ → V → V → H → H) (d : Opt (Did T)) (s : H) (a b : Known V H W) : Type 0 where
+  pub record Ended (p : Shape W) (m c o : ℕ) (side : Side) (after : W → ℕ → ℕ → V → V → H → H) (d : Opt (Did T)) (s : H)
+      (a b : Known V H W) : Type 0 where
     pub held : b.held ≡ a.held
     pub idle : (n : ℕ) (u r : H) → IsIdle p n u a → b.share ≡ Some r → IsIdle p n r b
     pub ran : Ran ring_in part after alike p.world m c o a.number (more side) d s a b
@@ -50,7 +51,8 @@ module _ {W V H T : Type 0} (ring_in : V → Opt (Held T)) (part : H → ℕ →
       pub at_once : KnowsShut (part s m) → waited ≡ 0
 
     -- the thread entered with the share s and may do this at the ring q, which turns it into r; the other side is told, if it put or took
-    pub record Visits (allows : W → ℕ → ℕ → V → V → H → H → Type 0) (after : W → ℕ → ℕ → V → V → H → H) (tell : Bool) (s : H) (q r : Held T) (d : Did T) (a b : Known V H W) : Type 0 where
+    pub record Visits (allows : W → ℕ → ℕ → V → V → H → H → Type 0) (after : W → ℕ → ℕ → V → V → H → H) (tell : Bool) (s : H) (q r : Held T)
+        (d : Did T) (a b : Known V H W) : Type 0 where
       pub lacks : get_elem? a.held m ≡ some None
       pub has : HasEntered s q a b
       pub does : Does d q r

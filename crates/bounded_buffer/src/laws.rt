@@ -35,7 +35,7 @@ pub fn room_is_not_more()
     ensures { (at : BufferAt) → IsPlain at → at.room.0 ≢ at.more.0 }
 {}
 
-/// What one thread alone took is the front of what one thread alone put, in order: as many items as were taken from the ring. The thread i
+/// What one thread alone took is the prefix of what one thread alone put, in order: as many items as were taken from the ring. The thread i
 /// puts and the thread j takes, under rising numbers, as `HasUsed` says of each.
 pub fn in_order<T>()
     ensures { (m : ℕ) (q : Held T) (shares : List (List (Note T))) (i j : ℕ) (s r : List (Note T)) → get_elem? shares i ≡ some s

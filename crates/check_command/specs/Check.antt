@@ -6,7 +6,7 @@ use Rattle.trace_check.specs.declared.checker.Verdict.{Verdict}
 use Rattle.trace_check.specs.declared.checker.Verdict.TheVariants as verdict
 use Rattle.command_endings.specs.declared.status.Status.{Status}
 use Rattle.command_endings.specs.declared.status.Status.TheVariants.{Done, Usage, ReadFault, SinkFault, Stopped, Memory, Illegal, BadText, TooMany, TooLong}
-use Rattle.command_endings.specs.Changes.{Change, IsStill, Gets, GetsFront, Notes}
+use Rattle.command_endings.specs.Changes.{Change, IsStill, Gets, GetsPrefix, Notes}
 use Rattle.command_endings.specs.Messages.{input_fault_message, output_fault_message, bad_line_message, too_long_message}
 use Rattle.check_command.specs.Lines.{legal_line, illegal_line}
 use Rattle.check_command.specs.VerdictEndings.{Finds}
@@ -25,7 +25,7 @@ CheckAnswers input out notes Illegal =
 CheckAnswers input out notes BadText = (k : ℕ) × Finds input (verdict.BadLine k) × IsStill out × Notes notes (bad_line_message k)
 CheckAnswers input out notes TooLong = Finds input verdict.TooLong × IsStill out × Notes notes too_long_message
 CheckAnswers input out notes ReadFault = Finds input verdict.ReadFault × IsStill out × Notes notes input_fault_message
-CheckAnswers input out notes SinkFault = (line : List ℕ) × IsVerdict input line × GetsFront out line × Notes notes output_fault_message
+CheckAnswers input out notes SinkFault = (line : List ℕ) × IsVerdict input line × GetsPrefix out line × Notes notes output_fault_message
 CheckAnswers input out notes Usage = ⊥
 CheckAnswers input out notes Stopped = ⊥
 CheckAnswers input out notes Memory = ⊥

@@ -2,7 +2,7 @@
 use Rattle.std.specs.Prelude.{◌≡◌, ◌⊎◌, ℕ, List}
 use Rattle.std.specs.Io.KnownBytes.{Appends}
 use Rattle.std.specs.declared.option.Option.{Option}
-use Rattle.firefly_outside.specs.Causes.{Rose, AppendsFront}
+use Rattle.firefly_outside.specs.Causes.{Rose, AppendsPrefix}
 
 -- the bytes that an object tells, and its count of faults, before a call and after it
 pub record Change : Type 0 where
@@ -23,9 +23,9 @@ abbrev pub Gets : Change → List ℕ → Type 0
 Gets c text = Appends c.old c.new text
 
 -- the count rose, and the sink got a proper prefix of this text
-abbrev pub GetsFront : Change → List ℕ → Type 0
-GetsFront c text = Rose c.before c.now × AppendsFront c.old c.new text
+abbrev pub GetsPrefix : Change → List ℕ → Type 0
+GetsPrefix c text = Rose c.before c.now × AppendsPrefix c.old c.new text
 
 -- the notes got this message, or where their count rose a proper prefix of it
 abbrev pub Notes : Change → List ℕ → Type 0
-Notes c message = Gets c message ⊎ GetsFront c message
+Notes c message = Gets c message ⊎ GetsPrefix c message

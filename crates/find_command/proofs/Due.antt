@@ -36,10 +36,10 @@ module _ (Text : List ℕ → Type 0) where
   text_shows_none bytes room k within text (inl h) = not_broken bytes k (subst (λ (x : List ℕ). IsBrokenAt Text x k) (take_all room bytes within) h) ([], subst Text (sym (append-nil bytes)) text)
   text_shows_none bytes room k within text (inr h) = h.1.no_text text
 
-  -- nor does a front of one that is too long
-  front_shows_none : (bytes : List ℕ) (room k : ℕ) → room < length bytes → Begins Text (take room bytes) → IsShown Text room bytes k → ⊥
-  front_shows_none bytes room k past begins (inl h) = not_broken (take room bytes) k h begins
-  front_shows_none bytes room k past begins (inr h) = omega (arith, h.0)
+  -- nor does a prefix of one that is too long
+  prefix_shows_none : (bytes : List ℕ) (room k : ℕ) → room < length bytes → Begins Text (take room bytes) → IsShown Text room bytes k → ⊥
+  prefix_shows_none bytes room k past begins (inl h) = not_broken (take room bytes) k h begins
+  prefix_shows_none bytes room k past begins (inr h) = omega (arith, h.0)
 
 module _ (bytes : List ℕ) where
   long_text : IsDue bytes Done → IsDue bytes TooLong → ⊥
@@ -54,12 +54,12 @@ module _ (bytes : List ℕ) where
   due_bad : (t : Status) → IsDue bytes BadText → IsDue bytes t → BadText ≡ t
   due_bad Done h g = absurd (text_shows_none IsIndexText bytes budget h.0 g.0 g.1 h.1)
   due_bad BadText h g = refl
-  due_bad TooLong h g = absurd (front_shows_none IsIndexText bytes budget h.0 g.0 g.1 h.1)
+  due_bad TooLong h g = absurd (prefix_shows_none IsIndexText bytes budget h.0 g.0 g.1 h.1)
   due_bad t h g = absurd g
 
   due_long : (t : Status) → IsDue bytes TooLong → IsDue bytes t → TooLong ≡ t
   due_long Done h g = absurd (long_text g h)
-  due_long BadText h g = absurd (front_shows_none IsIndexText bytes budget g.0 h.0 h.1 g.1)
+  due_long BadText h g = absurd (prefix_shows_none IsIndexText bytes budget g.0 h.0 h.1 g.1)
   due_long TooLong h g = refl
   due_long t h g = absurd g
 

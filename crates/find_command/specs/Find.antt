@@ -12,7 +12,7 @@ use Rattle.query_reading.specs.Grammar.{Token, Reads, IsReading}
 use Rattle.index_find.specs.Meaning.{AreMeant}
 use Rattle.command_endings.specs.declared.status.Status.{Status}
 use Rattle.command_endings.specs.declared.status.Status.TheVariants.{Done, Usage, ReadFault, SinkFault, Stopped, Memory, Illegal, BadText, TooMany, TooLong}
-use Rattle.command_endings.specs.Changes.{Change, IsStill, Gets, GetsFront, Notes}
+use Rattle.command_endings.specs.Changes.{Change, IsStill, Gets, GetsPrefix, Notes}
 use Rattle.command_endings.specs.Messages.{usage_message, input_fault_message, output_fault_message, memory_message, bad_line_message, too_long_message}
 use Rattle.command_endings.specs.Printing.{Prints}
 use Rattle.find_command.specs.Lines.{lines_of}
@@ -42,7 +42,7 @@ Fails input f = HasReason input.old input.before input.now f
 -- each status by its cause, once the query is read
 abbrev pub EndsBy : Tree → Change → Change → Change → Status → Type 0
 EndsBy tree input out notes Done = (text : List ℕ) × IsFound tree input text × Gets out text × IsStill notes
-EndsBy tree input out notes SinkFault = (text : List ℕ) × IsFound tree input text × GetsFront out text × Notes notes output_fault_message
+EndsBy tree input out notes SinkFault = (text : List ℕ) × IsFound tree input text × GetsPrefix out text × Notes notes output_fault_message
 EndsBy tree input out notes BadText = (k : ℕ) × Fails input (fault.BadLine k) × IsStill out × Notes notes (bad_line_message k)
 EndsBy tree input out notes TooLong = Fails input fault.TooLong × IsStill out × Notes notes too_long_message
 EndsBy tree input out notes ReadFault = Fails input fault.Read × IsStill out × Notes notes input_fault_message

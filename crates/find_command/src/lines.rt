@@ -1,7 +1,7 @@
 //! Paths, each on a line.
 ghost use Rattle.std.specs.Prelude.{◌≡◌, OnOk, OnErr};
 ghost use Rattle.std.specs.Io.KnownBytes.{Appends};
-ghost use Rattle.firefly_outside.specs.Causes.{HasCause, AppendsFront};
+ghost use Rattle.firefly_outside.specs.Causes.{HasCause, AppendsPrefix};
 ghost use Rattle.text_output.specs.Sent.{Puts};
 ghost use Rattle.command_endings.specs.Changes.{change_of};
 ghost use Rattle.command_endings.specs.Printing.{Prints};
@@ -25,7 +25,7 @@ fn put_paths<O: Sink>(held: &mut Held, paths: &[Text], out: &mut O) -> Result<()
 // Writes the lines of the paths.
 fn write_paths<O: Sink>(paths: &[Text], out: &mut O) -> Result<(), SinkFault>
     ensures ok { OnOk result (Appends (O.held out.old) (O.held out.new) (lines_of paths.now)) }
-    ensures err { OnErr result (AppendsFront (O.held out.old) (O.held out.new) (lines_of paths.now)) }
+    ensures err { OnErr result (AppendsPrefix (O.held out.old) (O.held out.new) (lines_of paths.now)) }
     ensures cause { HasCause (O.faults out.old) (O.faults out.new) result }
 {
     let mut held = Held::new();

@@ -3,7 +3,7 @@ use Rattle.std.specs.Prelude.{◌≡◌, ◌≢◌}
 use Rattle.firefly_outside.specs.Causes.{Rose}
 use Rattle.trace_check.specs.declared.checker.Verdict.{Verdict}
 use Rattle.trace_check.specs.declared.checker.Verdict.TheVariants as verdict
-use Rattle.trace_explain.specs.Told.{GotText, GotFront}
+use Rattle.trace_explain.specs.Told.{GotText, GotPrefix}
 use Rattle.command_endings.specs.declared.status.Status.{Status}
 use Rattle.command_endings.specs.declared.status.Status.TheVariants.{SinkFault}
 use Rattle.command_endings.specs.Changes.{Change, IsStill, Notes}
@@ -24,8 +24,8 @@ Tells input out notes status =
     (found : Verdict) × Finds input found × GotText budget input.old out.old out.new found × NotesFor notes found
     × (status ≡ status_of found) × (found ≢ verdict.ReadFault → input.now ≡ input.before)
 
--- the output failed, and got a front of the explanation of a verdict that is just
+-- the output failed, and got a prefix of the explanation of a verdict that is just
 abbrev pub Fails : Change → Change → Change → Status → Type 0
 Fails input out notes status =
-    (status ≡ SinkFault) × Rose out.before out.now × GotFront budget input.old input.new input.before input.now out.old out.new
+    (status ≡ SinkFault) × Rose out.before out.now × GotPrefix budget input.old input.new input.before input.now out.old out.new
     × Notes notes output_fault_message

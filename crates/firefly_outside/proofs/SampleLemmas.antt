@@ -18,7 +18,7 @@ IsPlain name = All (λ b. b ≢ slash) name
 plain-decimal : (n : ℕ) → n < 2 ^ 64 → IsPlain (decimal n)
 plain-decimal = decimal_by_steps (λ n ds. IsPlain ds)
     (λ n small. All-cons (λ b. b ≢ slash) (48 + n) [] (λ e. omega (arith, e)) (All-nil (λ b. b ≢ slash)))
-    (λ n ds big front. All-append (λ b. b ≢ slash) ds ((48 + n % 10) ∷ []) front (All-cons (λ b. b ≢ slash) (48 + n % 10) [] (λ e. omega (arith, e)) (All-nil (λ b. b ≢ slash))))
+    (λ n ds big prefix. All-append (λ b. b ≢ slash) ds ((48 + n % 10) ∷ []) prefix (All-cons (λ b. b ≢ slash) (48 + n % 10) [] (λ e. omega (arith, e)) (All-nil (λ b. b ≢ slash))))
 
 -- a letter and a number are a name
 lettered : (b n : ℕ) → b ≢ slash → n < 2 ^ 64 → IsName (b ∷ decimal n)

@@ -104,7 +104,7 @@ Adds-from_names old mid new path kind node under names each = record {
 data CameFrom (old : Told) (path : Path) (kind : Kind) (dir : Path) (es : List Entry) : Type 0 where
   fresh : es ≡ [] → CameFrom old path kind dir es
   kept : old dir ≡ Some (Directory es) → CameFrom old path kind dir es
-  more : (name : Path) (front : List Entry) → IsChild dir name path → old dir ≡ Some (Directory front) → es ≡ front ++ record { name = name; kind = kind } ∷ [] → CameFrom old path kind dir es
+  more : (name : Path) (prefix : List Entry) → IsChild dir name path → old dir ≡ Some (Directory prefix) → es ≡ prefix ++ record { name = name; kind = kind } ∷ [] → CameFrom old path kind dir es
 
 -- at another path than the one added, what is there is the old, or the parent with one more entry
 data IsElsewhere (old new : Told) (path : Path) (kind : Kind) (q : Path) : Type 0 where
@@ -135,9 +135,9 @@ came_from old new path kind node under leaf adds dir es has = elim (path_cases d
 
     others : IsElsewhere old new path kind dir → CameFrom old path kind dir es
     others (same e) = kept (sym e ∙ has)
-    others (parent name front is had now) =
-        let e : front ++ record { name = name; kind = kind } ∷ [] ≡ es = let both : Some (Directory (front ++ record { name = name; kind = kind } ∷ [])) ≡ Some (Directory es) = sym now ∙ has in cc in
-        more name front is had (sym e)
+    others (parent name prefix is had now) =
+        let e : prefix ++ record { name = name; kind = kind } ∷ [] ≡ es = let both : Some (Directory (prefix ++ record { name = name; kind = kind } ∷ [])) ≡ Some (Directory es) = sym now ∙ has in cc in
+        more name prefix is had (sym e)
 
 -- what is there stays there
 stays_there : (old new : Told) (path : Path) (kind : Kind) (node : Node) → Adds old new path kind node → IsBare old ⊎ HasParent old path → (q : Path) → old q ≢ None → new q ≢ None
@@ -151,14 +151,14 @@ stays_there old new path kind node adds under q had = elim (path_cases q path) [
     others (parent name es is was now) = λ gone. let bad : None ≡ Some (Directory (es ++ record { name = name; kind = kind } ∷ [])) = sym gone ∙ now in cc
 
 -- the entries with one for a path that isn't in the tree
-more_entries : (old : Told) (path dir name : Path) (kind : Kind) (front : List Entry) → IsWhole old → old path ≡ None → IsChild dir name path → old dir ≡ Some (Directory front)
-    → AreEntries (front ++ record { name = name; kind = kind } ∷ [])
-more_entries old path dir name kind front whole absent is had =
-    let was : AreEntries front = whole.entries dir front had in
+more_entries : (old : Told) (path dir name : Path) (kind : Kind) (prefix : List Entry) → IsWhole old → old path ≡ None → IsChild dir name path → old dir ≡ Some (Directory prefix)
+    → AreEntries (prefix ++ record { name = name; kind = kind } ∷ [])
+more_entries old path dir name kind prefix whole absent is had =
+    let was : AreEntries prefix = whole.entries dir prefix had in
     record {
-      names = All-append (λ e. IsName e.name) front (record { name = name; kind = kind } ∷ []) was.names (All-cons (λ e. IsName e.name) (record { name = name; kind = kind }) [] is.lawful (All-nil (λ e. IsName e.name)));
-      distinct = all_pairs_push (λ e f. e.name ≢ f.name) front (record { name = name; kind = kind }) was.distinct
-          (λ k d within called. whole.children dir front (get_or front k d) had (k, within, get_or_default front k _ d within) (ap (λ n. old (child dir n)) called ∙ ap old (sym is.is) ∙ absent));
+      names = All-append (λ e. IsName e.name) prefix (record { name = name; kind = kind } ∷ []) was.names (All-cons (λ e. IsName e.name) (record { name = name; kind = kind }) [] is.lawful (All-nil (λ e. IsName e.name)));
+      distinct = all_pairs_push (λ e f. e.name ≢ f.name) prefix (record { name = name; kind = kind }) was.distinct
+          (λ k d within called. whole.children dir prefix (get_or prefix k d) had (k, within, get_or_default prefix k _ d within) (ap (λ n. old (child dir n)) called ∙ ap old (sym is.is) ∙ absent));
     }
 
 -- a tree to which a place without entries was added is whole
@@ -172,13 +172,13 @@ IsWhole-add old new path kind node whole absent under leaf adds = record {
     lawful : (dir : Path) (es : List Entry) → CameFrom old path kind dir es → AreEntries es
     lawful dir es (fresh none) = subst AreEntries (sym none) (record { names = All-nil (λ e. IsName e.name); distinct = λ i j d below within. absurd (omega arith) })
     lawful dir es (kept had) = whole.entries dir es had
-    lawful dir es (more name front is had all) = subst AreEntries (sym all) (more_entries old path dir name kind front whole absent is had)
+    lawful dir es (more name prefix is had all) = subst AreEntries (sym all) (more_entries old path dir name kind prefix whole absent is had)
 
     there : (dir : Path) (es : List Entry) (e : Entry) → Contains es e → CameFrom old path kind dir es → new (child dir e.name) ≢ None
     there dir es e among (fresh none) = absurd (omega (arith, ap length none, among.1))
     there dir es e among (kept had) = stays_there old new path kind node adds under (child dir e.name) (whole.children dir es e had among)
-    there dir es e among (more name front is had all) = elim (Contains-push_cases front (record { name = name; kind = kind }) e (subst (λ l. Contains l e) all among)) [
-      | inl before ↦ stays_there old new path kind node adds under (child dir e.name) (whole.children dir front e had before)
+    there dir es e among (more name prefix is had all) = elim (Contains-push_cases prefix (record { name = name; kind = kind }) e (subst (λ l. Contains l e) all among)) [
+      | inl before ↦ stays_there old new path kind node adds under (child dir e.name) (whole.children dir prefix e had before)
       | inr last ↦ λ gone. let bad : None ≡ Some node = sym gone ∙ ap (λ (f : Entry). new (child dir f.name)) (sym last) ∙ ap new (sym is.is) ∙ adds.added in cc
     ]
 

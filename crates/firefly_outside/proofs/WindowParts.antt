@@ -16,11 +16,11 @@ length-part buf start end le = length-take-le (end - start) (drop start buf) (om
 
 pub part-grow : (buf old : List ℕ) (kept n most : ℕ) (left left' : Option (List ℕ)) → take kept buf ≡ old → kept + n ≤ length buf → kept < length buf → n ≤ most
     → Consumes left left' (take n (drop kept buf)) × (n ≡ 0 → 0 < length (drop kept buf) → IsAtEnd left') → Takes most left left' old (take (kept + n - 0) (drop 0 buf)) n
-part-grow buf old kept n most left left' front within some bounded bytes = record {
+part-grow buf old kept n most left left' prefix within some bounded bytes = record {
   piece = take n (drop kept buf);
   behind =
       let e : kept + n - 0 ≡ kept + n = omega arith in
-      ap (λ m. take m buf) e ∙ take-add kept n buf ∙ ap (λ l. l ++ take n (drop kept buf)) front;
+      ap (λ m. take m buf) e ∙ take-add kept n buf ∙ ap (λ l. l ++ take n (drop kept buf)) prefix;
   consumed = bytes.0;
   count = length-take-le n (drop kept buf) (omega (arith, length-drop kept buf));
   bounded = bounded;

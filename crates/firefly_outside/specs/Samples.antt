@@ -54,7 +54,8 @@ pub record HasSamples (seed dirs files : ℕ) (t : Told) : Type 0 where
   pub at_root : t sample_root ≡ Some (Directory (map dir_entry (range_with_len 0 dirs)))
   pub at_dirs : (k : ℕ) → k < dirs → t (dir_path k) ≡ Some (Directory (map file_entry (files_in files k)))
   pub at_files : (i : ℕ) → i < files → t (file_path i) ≡ Some (Bytes (sample_bytes seed i))
-  pub elsewhere : (q : Path) → q ≢ sample_root → ((k : ℕ) → k < dirs → q ≢ dir_path k) → ((i : ℕ) → i < files → q ≢ file_path i) → t q ≡ None
+  pub elsewhere : (q : Path) → q ≢ sample_root → ((k : ℕ) → k < dirs → q ≢ dir_path k) → ((i : ℕ) → i < files → q ≢ file_path i)
+      → t q ≡ None
 
 -- the sample tree of so many files
 abbrev pub IsSampleTree : ℕ → ℕ → Told → Type 0

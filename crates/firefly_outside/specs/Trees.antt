@@ -116,8 +116,10 @@ pub record HasParent (t : Told) (path : Path) : Type 0 where
 
 -- in the new tree the directory before the path's last slash, if there is one, names it last; all else is as in the old
 pub record Names (old new : Told) (path : Path) (kind : Kind) : Type 0 where
-  pub named : (dir name : Path) (es : List Entry) → path ≡ child dir name → All (λ b. b ≢ slash) name → old dir ≡ Some (Directory es) → new dir ≡ Some (Directory (es ++ record { name = name; kind = kind } ∷ []))
-  pub others : (q : Path) → ((name : Path) (es : List Entry) → path ≡ child q name → All (λ b. b ≢ slash) name → old q ≢ Some (Directory es)) → new q ≡ old q
+  pub named : (dir name : Path) (es : List Entry) → path ≡ child dir name → All (λ b. b ≢ slash) name → old dir ≡ Some (Directory es)
+      → new dir ≡ Some (Directory (es ++ record { name = name; kind = kind } ∷ []))
+  pub others : (q : Path) → ((name : Path) (es : List Entry) → path ≡ child q name → All (λ b. b ≢ slash) name
+      → old q ≢ Some (Directory es)) → new q ≡ old q
 
 -- nothing is in the tree
 abbrev pub IsBare : Told → Type 0
@@ -131,5 +133,6 @@ IsLeaf (Bytes bytes) = Unit {0}
 -- the new tree has this node at the path, and its parent names it last; all else is as in the old
 pub record Adds (old new : Told) (path : Path) (kind : Kind) (node : Node) : Type 0 where
   pub added : new path ≡ Some node
-  pub named : (dir name : Path) (es : List Entry) → IsChild dir name path → old dir ≡ Some (Directory es) → new dir ≡ Some (Directory (es ++ record { name = name; kind = kind } ∷ []))
+  pub named : (dir name : Path) (es : List Entry) → IsChild dir name path → old dir ≡ Some (Directory es)
+      → new dir ≡ Some (Directory (es ++ record { name = name; kind = kind } ∷ []))
   pub others : (q : Path) → q ≢ path → ((name : Path) (es : List Entry) → IsChild q name path → old q ≢ Some (Directory es)) → new q ≡ old q

@@ -8,7 +8,8 @@ use Rattle.firefly_outside.specs.declared.tree.Kind.TheVariants.{File, Dir}
 -- reached from the root by entries, as what the last entry says; the root itself is reached as a directory
 pub data IsUnder (t : Told) (root : Path) : Kind → Path → Type 0 where
   at_root : (kind : Kind) (path : Path) → kind ≡ Dir → path ≡ root → IsUnder t root kind path
-  by_entry : (kind : Kind) (path : Path) (dir : Path) (es : List Entry) (e : Entry) → IsUnder t root Dir dir → t dir ≡ Some (Directory es) → Contains es e → kind ≡ e.kind → path ≡ child dir e.name → IsUnder t root kind path
+  by_entry : (kind : Kind) (path : Path) (dir : Path) (es : List Entry) (e : Entry) → IsUnder t root Dir dir → t dir ≡ Some (Directory es)
+      → Contains es e → kind ≡ e.kind → path ≡ child dir e.name → IsUnder t root kind path
 
 -- the tree has at the path what an entry of this kind says
 abbrev pub IsThere : Told → Kind → Path → Type 0

@@ -4,8 +4,8 @@ use Rattle.std.proofs.lemmas.Bool.Decides.{eqb_tells}
 use Rattle.firefly_script.specs.Faults.{Begins, Lacks, newlines, IsBadLine, IsTooLong, IsShortText, OneAnswer}
 use Rattle.firefly_script.specs.Operations.{none_held, none_forked}
 use Rattle.firefly_script.specs.Text.{IsScriptText}
-use Rattle.firefly_script.proofs.Fronts.{newlines_append, newlines_script, script_end}
-use Rattle.firefly_script.proofs.Verdicts.{ends_before, fronts, last_newline}
+use Rattle.firefly_script.proofs.Prefixes.{newlines_append, newlines_script, script_end}
+use Rattle.firefly_script.proofs.Verdicts.{ends_before, prefixes, last_newline}
 
 lacks_none : (bytes : List ℕ) → newlines bytes ≡ 0 → Lacks 10 bytes
 lacks_none [] none = tt
@@ -38,12 +38,12 @@ first_bad : (input : List ℕ) (j k : ℕ) → (a : IsBadLine input j) (b : IsBa
 first_bad input j k a b m e rest =
     elim (none_or_some (newlines m)) [
       | inl none ↦ omega (arith, ap newlines e, newlines_append a.before m, a.counted, b.counted)
-      | inr some ↦ absurd (ends_before a.before a.rest m b.rest a.broken rest (subst Begins e b.front.begins) some)
+      | inr some ↦ absurd (ends_before a.before a.rest m b.rest a.broken rest (subst Begins e b.prefix.begins) some)
     ]
 
 one_bad_line : (input : List ℕ) (j k : ℕ) → IsBadLine input j → IsBadLine input k → j ≡ k
 one_bad_line input j k a b =
-    elim (fronts a.before b.before a.rest b.rest (sym a.split ∙ b.split)) [
+    elim (prefixes a.before b.before a.rest b.rest (sym a.split ∙ b.split)) [
       | inl m ↦ first_bad input j k a b m.0 m.1 m.2
       | inr m ↦ sym (first_bad input k j b a m.0 m.1 m.2)
     ]

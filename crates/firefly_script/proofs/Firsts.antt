@@ -13,12 +13,12 @@ kept_consumes (Some xs) None w k = absurd k
 kept_consumes (Some xs) (Some ys) w k = sym k
 
 -- a newline behind bytes that lack one stands behind them all
-far : (n : ℕ) (front rest line after : List ℕ) → length front ≡ n → Lacks 10 front → front ++ rest ≡ line ++ 10 ∷ after → n ≤ length line
+far : (n : ℕ) (prefix rest line after : List ℕ) → length prefix ≡ n → Lacks 10 prefix → prefix ++ rest ≡ line ++ 10 ∷ after → n ≤ length line
 far n [] rest line after len flat e = omega arith
-far n (x ∷ front) rest [] after len flat e = let h : x ≡ 10 = cc in absurd (flat.0 h)
-far n (x ∷ front) rest (y ∷ line) after len flat e =
-    let tail : front ++ rest ≡ line ++ 10 ∷ after = cc in
-    let ih = far (length front) front rest line after refl flat.1 tail in
+far n (x ∷ prefix) rest [] after len flat e = let h : x ≡ 10 = cc in absurd (flat.0 h)
+far n (x ∷ prefix) rest (y ∷ line) after len flat e =
+    let tail : prefix ++ rest ≡ line ++ 10 ∷ after = cc in
+    let ih = far (length prefix) prefix rest line after refl flat.1 tail in
     omega arith
 
 module _ (none : List ℕ → Type 0) where

@@ -2,7 +2,7 @@ pub mod Answered
 pub mod Fields
 pub mod Firsts
 pub mod Follow
-pub mod Fronts
+pub mod Prefixes
 pub mod Injective
 pub mod Kept
 pub mod Layouts

@@ -10,18 +10,18 @@ use Rattle.firefly_script.specs.declared.table.Operand.{Operand}
 use Rattle.firefly_script.specs.declared.table.Operand.TheVariants.{Name, Amount, Count}
 use Rattle.firefly_script.specs.Faults.{Lacks}
 use Rattle.firefly_script.specs.Parsing.{IsBehind, AreParted, Are}
-use Rattle.firefly_script.specs.Table.{front_text, IsWithin, AreWithin, IsSmall, AreSmall, operand_text, operands_text}
+use Rattle.firefly_script.specs.Table.{prefix_text, IsWithin, AreWithin, IsSmall, AreSmall, operand_text, operands_text}
 use Rattle.firefly_script.proofs.Pieces.{lacks_append, lacks_decimal, decimal_short}
 
-front_lacks : (c : ℕ) (k : Operand) → c < 48 → Lacks c (front_text k)
-front_lacks c (Name k) low = (λ e. omega (arith, letter_high k), tt)
-front_lacks c Amount low = tt
-front_lacks c Count low = tt
+prefix_lacks : (c : ℕ) (k : Operand) → c < 48 → Lacks c (prefix_text k)
+prefix_lacks c (Name k) low = (λ e. omega (arith, letter_high k), tt)
+prefix_lacks c Amount low = tt
+prefix_lacks c Count low = tt
 
-front_short : (k : Operand) → length (front_text k) ≤ 1
-front_short (Name k) = omega arith
-front_short Amount = omega arith
-front_short Count = omega arith
+prefix_short : (k : Operand) → length (prefix_text k) ≤ 1
+prefix_short (Name k) = omega arith
+prefix_short Amount = omega arith
+prefix_short Count = omega arith
 
 pub operands_behind : (ks : List Operand) (ns : List ℕ) → IsBehind (operands_text ks ns)
 operands_behind [] ns = tt
@@ -66,7 +66,7 @@ module _ (l : Layout) (ok : IsLawful l) where
   first_small (k ∷ ks) (n ∷ ns) h = (within_small k n h.0, first_small ks ns h.1)
 
   pub operand_lacks : (c : ℕ) (k : Operand) (n : ℕ) → c < 48 → IsWithin l k n → Lacks c (operand_text k n)
-  operand_lacks c k n low h = lacks_append c (front_text k) (decimal n) (front_lacks c k low) (lacks_decimal c n low (within_fits k n h))
+  operand_lacks c k n low h = lacks_append c (prefix_text k) (decimal n) (prefix_lacks c k low) (lacks_decimal c n low (within_fits k n h))
 
   pub operands_flat : (ks : List Operand) (ns : List ℕ) → AreWithin l ks ns → Lacks 10 (operands_text ks ns)
   operands_flat [] ns h = tt
@@ -80,13 +80,13 @@ module _ (l : Layout) (ok : IsLawful l) where
   operands_short [] ns h = omega arith
   operands_short (k ∷ ks) [] h = omega arith
   operands_short (k ∷ ks) (n ∷ ns) h =
-      let a = front_short k in
+      let a = prefix_short k in
       let b = decimal_short n (within_fits k n h.0) in
       let ih = operands_short ks ns h.1 in
       simp length-append (omega arith)
 
   operand_same : (k : Operand) (n m : ℕ) → IsWithin l k n → IsWithin l k m → operand_text k n ≡ operand_text k m → n ≡ m
-  operand_same k n m p q e = decimal_injective n m (within_fits k n p) (within_fits k m q) (append_cancel_left (front_text k) _ _ e)
+  operand_same k n m p q e = decimal_injective n m (within_fits k n p) (within_fits k m q) (append_cancel_left (prefix_text k) _ _ e)
 
   pub operands_same : (ks : List Operand) (ns ms : List ℕ) → AreWithin l ks ns → AreWithin l ks ms → operands_text ks ns ≡ operands_text ks ms → ns ≡ ms
   operands_same [] [] [] p q e = refl
@@ -102,26 +102,26 @@ module _ (l : Layout) (ok : IsLawful l) where
       cc
 
   -- where these numbers stand behind a space each, the first stands before the next space, and the others from there on
-  pub parts_of : (ks : List Operand) (d : Operand) (bytes front behind ns : List ℕ) → 1 ≤ length ks → AreParted (take (length bytes - 1) (drop 1 bytes)) front behind → Are l ks bytes ns
-      → (m : ℕ) × (ms : List ℕ) × IsWithin l (get_or ks 0 d) m × (front ≡ operand_text (get_or ks 0 d) m) × Are l (take (length ks - 1) (drop 1 ks)) behind ms
-  parts_of [] d bytes front behind ns some p a = absurd (omega arith)
-  parts_of (k ∷ ks) d bytes front behind [] some p a = absurd a.0
-  parts_of (k ∷ ks) d [] front behind (n ∷ ns) some p a = let e = a.1 in absurd (cc)
-  parts_of (k ∷ ks) d (c ∷ bytes) front behind (n ∷ ns) some p a =
+  pub parts_of : (ks : List Operand) (d : Operand) (bytes prefix behind ns : List ℕ) → 1 ≤ length ks → AreParted (take (length bytes - 1) (drop 1 bytes)) prefix behind → Are l ks bytes ns
+      → (m : ℕ) × (ms : List ℕ) × IsWithin l (get_or ks 0 d) m × (prefix ≡ operand_text (get_or ks 0 d) m) × Are l (take (length ks - 1) (drop 1 ks)) behind ms
+  parts_of [] d bytes prefix behind ns some p a = absurd (omega arith)
+  parts_of (k ∷ ks) d bytes prefix behind [] some p a = absurd a.0
+  parts_of (k ∷ ks) d [] prefix behind (n ∷ ns) some p a = let e = a.1 in absurd (cc)
+  parts_of (k ∷ ks) d (c ∷ bytes) prefix behind (n ∷ ns) some p a =
       let e = a.1 in
       let tail : bytes ≡ operand_text k n ++ operands_text ks ns = cc in
       let rest : take (length (c ∷ bytes) - 1) bytes ≡ bytes = take_all _ bytes (omega arith) in
       let kinds : take (length (k ∷ ks) - 1) ks ≡ ks = take_all _ ks (omega arith) in
-      let same = part_same front (operand_text k n) behind (operands_text ks ns) p.bare (operand_lacks 32 k n (omega arith) a.0.0) p.from_space (operands_behind ks ns) (sym p.text ∙ rest ∙ tail) in
+      let same = part_same prefix (operand_text k n) behind (operands_text ks ns) p.bare (operand_lacks 32 k n (omega arith) a.0.0) p.from_space (operands_behind ks ns) (sym p.text ∙ rest ∙ tail) in
       let P : List Operand → Type 0 = λ q. Are l q behind ns in
       (n, ns, a.0.0, same.0, subst P (sym kinds) (a.0.1, same.1))
 
   -- a number before these others: what stands there is all of them
-  pub one_more : (ks : List Operand) (d : Operand) (bytes front behind : List ℕ) (n a b e : ℕ) → 1 ≤ length ks → length ks ≤ 3 → 1 ≤ length bytes → get_or bytes 0 0 ≡ 32 → AreParted (take (length bytes - 1) (drop 1 bytes)) front behind
-      → IsWithin l (get_or ks 0 d) n → front ≡ operand_text (get_or ks 0 d) n → Are l (take (length ks - 1) (drop 1 ks)) behind (take (length (take (length ks - 1) (drop 1 ks))) (a ∷ b ∷ e ∷ [])) → Are l ks bytes (take (length ks) (n ∷ a ∷ b ∷ []))
-  one_more [] d bytes front behind n a b e some few any is p within same others = absurd (omega arith)
-  one_more (k ∷ ks) d [] front behind n a b e some few any is p within same others = absurd (omega arith)
-  one_more (k ∷ ks) d (c ∷ bytes) front behind n a b e some few any is p within same others =
+  pub one_more : (ks : List Operand) (d : Operand) (bytes prefix behind : List ℕ) (n a b e : ℕ) → 1 ≤ length ks → length ks ≤ 3 → 1 ≤ length bytes → get_or bytes 0 0 ≡ 32 → AreParted (take (length bytes - 1) (drop 1 bytes)) prefix behind
+      → IsWithin l (get_or ks 0 d) n → prefix ≡ operand_text (get_or ks 0 d) n → Are l (take (length ks - 1) (drop 1 ks)) behind (take (length (take (length ks - 1) (drop 1 ks))) (a ∷ b ∷ e ∷ [])) → Are l ks bytes (take (length ks) (n ∷ a ∷ b ∷ []))
+  one_more [] d bytes prefix behind n a b e some few any is p within same others = absurd (omega arith)
+  one_more (k ∷ ks) d [] prefix behind n a b e some few any is p within same others = absurd (omega arith)
+  one_more (k ∷ ks) d (c ∷ bytes) prefix behind n a b e some few any is p within same others =
       let rest : take (length (c ∷ bytes) - 1) bytes ≡ bytes = take_all _ bytes (omega arith) in
       let kinds : take (length (k ∷ ks) - 1) ks ≡ ks = take_all _ ks (omega arith) in
       let P : List Operand → Type 0 = λ q. Are l q behind (take (length q) (a ∷ b ∷ e ∷ [])) in

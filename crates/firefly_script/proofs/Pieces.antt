@@ -49,11 +49,11 @@ lacks_all c [] h = tt
 lacks_all c (x ∷ xs) h =
     (λ e. h 0 (omega arith) (omega arith) (eq-eqb x c e), lacks_all c xs (λ k low high. h (suc k) (omega arith) (omega arith)))
 
-pub take_front : (n k : ℕ) (xs : List ℕ) → n ≤ k → take n (take k xs) ≡ take n xs
-take_front zero k xs le = refl
-take_front (suc n) zero xs le = absurd (omega arith)
-take_front (suc n) (suc k) [] le = refl
-take_front (suc n) (suc k) (x ∷ xs) le = ap (λ l. x ∷ l) (take_front n k xs (omega arith))
+pub take_prefix : (n k : ℕ) (xs : List ℕ) → n ≤ k → take n (take k xs) ≡ take n xs
+take_prefix zero k xs le = refl
+take_prefix (suc n) zero xs le = absurd (omega arith)
+take_prefix (suc n) (suc k) [] le = refl
+take_prefix (suc n) (suc k) (x ∷ xs) le = ap (λ l. x ∷ l) (take_prefix n k xs (omega arith))
 
 -- none of the bytes is c, by a test that computes
 abbrev pub is_lacking : ℕ → List ℕ → Bool

@@ -12,7 +12,7 @@ use Rattle.firefly_script.specs.Faults.{Begins}
 use Rattle.firefly_script.specs.Operations.{Holding, Forked, held_if, held_after, none_held, none_forked, forked_after, MayFollow, AllFree}
 use Rattle.firefly_script.specs.Text.{lines_text, first_line, script_text}
 use Rattle.firefly_script.proofs.Follow.{held_append, follow_append}
-use Rattle.firefly_script.proofs.Fronts.{lines_append, script_more}
+use Rattle.firefly_script.proofs.Prefixes.{lines_append, script_more}
 use Rattle.firefly_script.proofs.Tables.{IsWithin, MayGoOn, held_within, none_within, within_if, goes_on, none_goes}
 
 release : ℕ → ℕ → Line

@@ -146,8 +146,8 @@ made_numbers word.Fork x = refl
 made_numbers word.Join x = refl
 
 -- the operation that is made of a word and the numbers behind it
-pub made_of : (l : Layout) (w : Word) (x : Numbers) (bytes front behind : List ℕ) → AreParted bytes front behind → front ≡ word_text w → Are l (kinds_of w) behind (first_of (kinds_of w) x) → IsNamed l (made w (listed x)) × (bytes ≡ operation_text (made w (listed x)))
-made_of l w x bytes front behind p e a =
+pub made_of : (l : Layout) (w : Word) (x : Numbers) (bytes prefix behind : List ℕ) → AreParted bytes prefix behind → prefix ≡ word_text w → Are l (kinds_of w) behind (first_of (kinds_of w) x) → IsNamed l (made w (listed x)) × (bytes ≡ operation_text (made w (listed x)))
+made_of l w x bytes prefix behind p e a =
     let o = made w (listed x) in
     let Named : Word → List ℕ → Type 0 = λ v ns. AreWithin l (kinds_of v) ns in
     let Text : Word → List ℕ → Type 0 = λ v ns. bytes ≡ word_text v ++ operands_text (kinds_of v) ns in
@@ -195,6 +195,6 @@ named_fate l (Join u) n = n.0
 named_fate l _ n = tt
 
 -- the word of an operation's text, and what stands behind it
-pub word_parts : (o : Operation) (bytes front behind : List ℕ) → AreParted bytes front behind → bytes ≡ operation_text o → (front ≡ word_text (word_of o)) × (behind ≡ operands_text (kinds_of (word_of o)) (numbers_of o))
-word_parts o bytes front behind p e =
-    part_same front (word_text (word_of o)) behind (operands_text (kinds_of (word_of o)) (numbers_of o)) p.bare (fits (word_of o)).bare p.from_space (operands_behind (kinds_of (word_of o)) (numbers_of o)) (sym p.text ∙ e)
+pub word_parts : (o : Operation) (bytes prefix behind : List ℕ) → AreParted bytes prefix behind → bytes ≡ operation_text o → (prefix ≡ word_text (word_of o)) × (behind ≡ operands_text (kinds_of (word_of o)) (numbers_of o))
+word_parts o bytes prefix behind p e =
+    part_same prefix (word_text (word_of o)) behind (operands_text (kinds_of (word_of o)) (numbers_of o)) p.bare (fits (word_of o)).bare p.from_space (operands_behind (kinds_of (word_of o)) (numbers_of o)) (sym p.text ∙ e)

@@ -14,23 +14,23 @@ use Rattle.firefly_script.specs.declared.line.Line.{Line}
 use Rattle.firefly_script.specs.declared.script.ScriptFault.{ScriptFault}
 use Rattle.firefly_script.specs.declared.script.ScriptFault.TheVariants.{Memory, BadLine, TooLong, Read}
 use Rattle.firefly_script.specs.Drafts.{NoneIs, NoLayoutIs, NoFirstIs, FirstIsNone, FirstFault, SecondFault, HeadReason, LineFault, LaterFault}
-use Rattle.firefly_script.specs.Faults.{Begins, Lacks, newlines, IsGoodFront, IsBadLine, IsTooLong, IsUndecided, HasReason}
+use Rattle.firefly_script.specs.Faults.{Begins, Lacks, newlines, IsGoodPrefix, IsBadLine, IsTooLong, IsUndecided, HasReason}
 use Rattle.firefly_script.specs.Operations.{none_held, none_forked, held_after, forked_after, MayFollow, AllFree}
 use Rattle.firefly_script.specs.Text.{line_text, lines_text, second_version, first_line, script_text, IsScriptText, IsScript, ReadsAs}
 use Rattle.firefly_script.proofs.Firsts.{consumes_trans}
 use Rattle.firefly_script.proofs.Follow.{follow_split, held_append}
-use Rattle.firefly_script.proofs.Fronts.{script_behind, layout_flat, line_flat, no_layout_line, newlines_append, newlines_flat, newlines_script, script_end}
+use Rattle.firefly_script.proofs.Prefixes.{script_behind, layout_flat, line_flat, no_layout_line, newlines_append, newlines_flat, newlines_script, script_end}
 use Rattle.firefly_script.proofs.Pieces.{cut_same, lacks_not, lacks_from}
 use Rattle.firefly_script.proofs.Releases.{script_begins, nothing_begins, second_begins}
 
-pub good_front : (l : Layout) (xs : List Line) → IsLawful l → MayFollow l none_held none_forked xs → IsGoodFront (script_text l xs)
-good_front l xs ok p = record { begins = script_begins l xs ok p; ended = λ some. script_end l xs }
+pub good_prefix : (l : Layout) (xs : List Line) → IsLawful l → MayFollow l none_held none_forked xs → IsGoodPrefix (script_text l xs)
+good_prefix l xs ok p = record { begins = script_begins l xs ok p; ended = λ some. script_end l xs }
 
-pub no_front : IsGoodFront []
-no_front = record { begins = nothing_begins; ended = λ some. absurd (some refl) }
+pub no_prefix : IsGoodPrefix []
+no_prefix = record { begins = nothing_begins; ended = λ some. absurd (some refl) }
 
-begins_front : (xs ys : List ℕ) → Begins (xs ++ ys) → Begins xs
-begins_front xs ys b = (ys ++ b.0, subst IsScriptText (append_assoc xs ys b.0) b.1)
+begins_prefix : (xs ys : List ℕ) → Begins (xs ++ ys) → Begins xs
+begins_prefix xs ys b = (ys ++ b.0, subst IsScriptText (append_assoc xs ys b.0) b.1)
 
 -- bytes with a newline, cut at the first
 first_newline : (bytes : List ℕ) → 0 < newlines bytes → (line : List ℕ) × (after : List ℕ) × Lacks 10 line × (bytes ≡ line ++ 10 ∷ after)
@@ -45,37 +45,37 @@ first_newline (c ∷ bytes) some =
           (c ∷ r.0, r.1, (p.1, r.2), ap (λ l. c ∷ l) r.3)
     ]
 
--- of two fronts of the same bytes one begins with the other
-pub fronts : (a b x y : List ℕ) → a ++ x ≡ b ++ y → ((m : List ℕ) × (b ≡ a ++ m) × (x ≡ m ++ y)) ⊎ ((m : List ℕ) × (a ≡ b ++ m) × (y ≡ m ++ x))
-fronts [] b x y e = inl (b, refl, e)
-fronts (c ∷ a) [] x y e = inr (c ∷ a, refl, sym e)
-fronts (c ∷ a) (d ∷ b) x y e =
+-- of two prefixes of the same bytes one begins with the other
+pub prefixes : (a b x y : List ℕ) → a ++ x ≡ b ++ y → ((m : List ℕ) × (b ≡ a ++ m) × (x ≡ m ++ y)) ⊎ ((m : List ℕ) × (a ≡ b ++ m) × (y ≡ m ++ x))
+prefixes [] b x y e = inl (b, refl, e)
+prefixes (c ∷ a) [] x y e = inr (c ∷ a, refl, sym e)
+prefixes (c ∷ a) (d ∷ b) x y e =
     let head : c ≡ d = cc in
     let tail : a ++ x ≡ b ++ y = cc in
-    elim (fronts a b x y tail) [
+    elim (prefixes a b x y tail) [
       | inl r ↦ inl (r.0, ap (λ l. d ∷ l) r.1 ∙ ap (λ h. h ∷ (a ++ r.0)) (sym head), r.2)
       | inr r ↦ inr (r.0, ap (λ l. c ∷ l) r.1 ∙ ap (λ h. h ∷ (b ++ r.0)) head, r.2)
     ]
 
 -- the next line, if it is whole, is bad
 abbrev pub NextIsBad : List ℕ → List ℕ → Type 0
-NextIsBad front rest = (line after : List ℕ) → Lacks 10 line → rest ≡ line ++ 10 ∷ after → Begins (front ++ (line ++ 10 ∷ [])) → ⊥
+NextIsBad prefix rest = (line after : List ℕ) → Lacks 10 line → rest ≡ line ++ 10 ∷ after → Begins (prefix ++ (line ++ 10 ∷ [])) → ⊥
 
 -- no script text goes on over a bad line
-pub ends_before : (front rest m more : List ℕ) → NextIsBad front rest → rest ≡ m ++ more → Begins (front ++ m) → 0 < newlines m → ⊥
-ends_before front rest m more bad e begins some =
+pub ends_before : (prefix rest m more : List ℕ) → NextIsBad prefix rest → rest ≡ m ++ more → Begins (prefix ++ m) → 0 < newlines m → ⊥
+ends_before prefix rest m more bad e begins some =
     let f = first_newline m some in
-    let b : Begins (front ++ (f.0 ++ 10 ∷ f.1)) = subst Begins (ap (λ l. front ++ l) f.3) begins in
-    let split : front ++ (f.0 ++ 10 ∷ f.1) ≡ (front ++ (f.0 ++ 10 ∷ [])) ++ f.1 = ap (λ l. front ++ l) (sym (append_assoc f.0 (10 ∷ []) f.1)) ∙ sym (append_assoc front (f.0 ++ 10 ∷ []) f.1) in
-    bad f.0 (f.1 ++ more) f.2 (e ∙ ap (λ l. l ++ more) f.3 ∙ append_assoc f.0 (10 ∷ f.1) more) (begins_front (front ++ (f.0 ++ 10 ∷ [])) f.1 (subst Begins split b))
+    let b : Begins (prefix ++ (f.0 ++ 10 ∷ f.1)) = subst Begins (ap (λ l. prefix ++ l) f.3) begins in
+    let split : prefix ++ (f.0 ++ 10 ∷ f.1) ≡ (prefix ++ (f.0 ++ 10 ∷ [])) ++ f.1 = ap (λ l. prefix ++ l) (sym (append_assoc f.0 (10 ∷ []) f.1)) ∙ sym (append_assoc prefix (f.0 ++ 10 ∷ []) f.1) in
+    bad f.0 (f.1 ++ more) f.2 (e ∙ ap (λ l. l ++ more) f.3 ∙ append_assoc f.0 (10 ∷ f.1) more) (begins_prefix (prefix ++ (f.0 ++ 10 ∷ [])) f.1 (subst Begins split b))
 
 -- fewer than 100,000 lines and a bad one aren't too long
-not_long : (front rest : List ℕ) → newlines front < 100000 → NextIsBad front rest → IsTooLong (front ++ rest) → ⊥
-not_long front rest few bad t =
-    elim (fronts front t.before rest t.rest t.split) [
+not_long : (prefix rest : List ℕ) → newlines prefix < 100000 → NextIsBad prefix rest → IsTooLong (prefix ++ rest) → ⊥
+not_long prefix rest few bad t =
+    elim (prefixes prefix t.before rest t.rest t.split) [
       | inl m ↦
-          let n : newlines m.0 + newlines front ≡ 100000 = omega (arith, ap newlines m.1, newlines_append front m.0, t.counted) in
-          ends_before front rest m.0 t.rest bad m.2 (subst Begins m.1 t.front.begins) (omega arith)
+          let n : newlines m.0 + newlines prefix ≡ 100000 = omega (arith, ap newlines m.1, newlines_append prefix m.0, t.counted) in
+          ends_before prefix rest m.0 t.rest bad m.2 (subst Begins m.1 t.prefix.begins) (omega arith)
       | inr m ↦ absurd (omega (arith, ap newlines m.1, newlines_append t.before m.0, t.counted))
     ]
 
@@ -88,8 +88,8 @@ last_newline (x ∷ xs) ys [] e some =
 last_newline (x ∷ xs) ys (b ∷ body) e some = let tail : xs ++ ys ≡ body ++ 10 ∷ [] = cc in last_newline xs ys body tail some
 
 -- 100,000 lines and nothing behind them aren't too long
-not_longer : (front : List ℕ) → newlines front ≡ 100000 → ((body : List ℕ) × (front ≡ body ++ 10 ∷ [])) → IsTooLong front → ⊥
-not_longer front full ends t =
+not_longer : (prefix : List ℕ) → newlines prefix ≡ 100000 → ((body : List ℕ) × (prefix ≡ body ++ 10 ∷ [])) → IsTooLong prefix → ⊥
+not_longer prefix full ends t =
     let n = last_newline t.before t.rest ends.0 (sym t.split ∙ ends.1) t.more in
     omega (arith, ap newlines t.split, newlines_append t.before t.rest, t.counted)
 
@@ -128,7 +128,7 @@ module _ (l : Layout) (xs : List Line) (ok : IsLawful l) (p : MayFollow l none_h
           before = script_text l xs;
           rest = rest;
           split = refl;
-          front = good_front l xs ok p;
+          prefix = good_prefix l xs ok p;
           counted = omega arith;
           broken = next_bad rest none;
           no_text = λ flat t. let z = behind rest t in let o = open_text rest flat z.0 z.3 z.2 in held o.0 o.1;
@@ -144,7 +144,7 @@ module _ (l : Layout) (xs : List Line) (ok : IsLawful l) (p : MayFollow l none_h
     before = script_text l xs;
     rest = rest;
     split = refl;
-    front = good_front l xs ok p;
+    prefix = good_prefix l xs ok p;
     counted = omega (arith, newlines_script l none_held none_forked xs ok p);
     more = some;
   }
@@ -155,7 +155,7 @@ module _ (l : Layout) (xs : List Line) (ok : IsLawful l) (p : MayFollow l none_h
         before = script_text l xs;
         rest = given;
         split = refl;
-        front = good_front l xs ok p;
+        prefix = good_prefix l xs ok p;
         few = omega arith;
         open_line = flat;
         short = short;
@@ -186,9 +186,9 @@ reason_since r left' first before now TooLong le h = h
 reason_since r left' first before now Read le h = (rose_since first before now le h.0, h.1)
 
 -- the line behind good lines is bad, and there aren't too many
-at_head : (front rest : List ℕ) (k : ℕ) → IsGoodFront front → k ≡ newlines front + 1 → newlines front < 100000 → NextIsBad front rest → (Lacks 10 rest → IsScriptText (front ++ rest) → ⊥) → IsBadLine (front ++ rest) k × (IsTooLong (front ++ rest) → ⊥)
-at_head front rest k good counted few bad none =
-    (record { before = front; rest = rest; split = refl; front = good; counted = counted; broken = bad; no_text = none }, not_long front rest few bad)
+at_head : (prefix rest : List ℕ) (k : ℕ) → IsGoodPrefix prefix → k ≡ newlines prefix + 1 → newlines prefix < 100000 → NextIsBad prefix rest → (Lacks 10 rest → IsScriptText (prefix ++ rest) → ⊥) → IsBadLine (prefix ++ rest) k × (IsTooLong (prefix ++ rest) → ⊥)
+at_head prefix rest k good counted few bad none =
+    (record { before = prefix; rest = rest; split = refl; prefix = good; counted = counted; broken = bad; no_text = none }, not_long prefix rest few bad)
 
 -- a first line that is none
 no_first : (l : Layout) (v : Version) (line a b : List ℕ) → l.version ≡ v → IsLawful l → Lacks 10 line → NoFirstIs line → line ++ 10 ∷ a ≡ first_line v ++ (layout_text l ++ 10 ∷ b) → ⊥
@@ -204,7 +204,7 @@ text_ends : (input : List ℕ) → Lacks 10 input → IsScriptText input → ⊥
 text_ends input flat (l, xs, r) = let n = newlines_script l none_held none_forked xs r.script.lawful r.script.follow in let z = newlines_flat input flat in let h = some_head l.version in omega (arith, ap newlines r.text)
 
 first_line_bad : (input : List ℕ) → FirstIsNone NoFirstIs input → IsBadLine input 1 × (IsTooLong input → ⊥)
-first_line_bad input none = at_head [] input 1 no_front refl (omega arith) (first_bad input none) (text_ends input)
+first_line_bad input none = at_head [] input 1 no_prefix refl (omega arith) (first_bad input none) (text_ends input)
 
 -- behind the first line of version two stands a layout line of that version
 no_second : (l : Layout) (v : Version) (line a b : List ℕ) → l.version ≡ v → IsLawful l → Lacks 10 line → NoLayoutIs Two line → first_line Two ++ (line ++ 10 ∷ a) ≡ first_line v ++ (layout_text l ++ 10 ∷ b) → ⊥
@@ -221,16 +221,16 @@ second_ends : (l : Layout) (v : Version) (rest b : List ℕ) → l.version ≡ v
 second_ends l One rest b is flat e = no_layout_line l (10 ∷ rest) (10 ∷ b) e
 second_ends l Two rest b is flat e = lacks_not 10 (layout_text l) b (subst (Lacks 10) (append_cancel_left (first_line Two) _ _ e) flat)
 
-pub second_front : IsGoodFront (first_line Two)
-second_front = record { begins = second_begins; ended = λ some. (second_version, refl) }
+pub second_prefix : IsGoodPrefix (first_line Two)
+second_prefix = record { begins = second_begins; ended = λ some. (second_version, refl) }
 
 second_line_bad : (rest : List ℕ) → FirstIsNone (NoLayoutIs Two) rest → IsBadLine (first_line Two ++ rest) 2 × (IsTooLong (first_line Two ++ rest) → ⊥)
 second_line_bad rest none =
-    at_head (first_line Two) rest 2 second_front refl (omega arith) (second_bad rest none) (λ flat t. second_ends t.0 t.0.version rest (lines_text t.1) refl flat t.2.text)
+    at_head (first_line Two) rest 2 second_prefix refl (omega arith) (second_bad rest none) (λ flat t. second_ends t.0 t.0.version rest (lines_text t.1) refl flat t.2.text)
 
-open_head : (front given : List ℕ) → IsGoodFront front → newlines front < 100000 → Lacks 10 given → length given ≤ 256 → IsUndecided (front ++ given)
-open_head front given good few flat short =
-    record { before = front; rest = given; split = refl; front = good; few = omega arith; open_line = flat; short = short; full = λ e. absurd (omega arith) }
+open_head : (prefix given : List ℕ) → IsGoodPrefix prefix → newlines prefix < 100000 → Lacks 10 given → length given ≤ 256 → IsUndecided (prefix ++ given)
+open_head prefix given good few flat short =
+    record { before = prefix; rest = given; split = refl; prefix = good; few = omega arith; open_line = flat; short = short; full = λ e. absurd (omega arith) }
 
 first_reason : (r left' : Option (List ℕ)) (before now : ℕ) (fault : ScriptFault) → FirstFault r left' before now fault → HasReason r left' before now fault
 first_reason r left' before now Memory f = absurd f
@@ -239,7 +239,7 @@ first_reason (Some input) left' before now (BadLine k) f =
     let P : ℕ → Type 0 = λ i. IsBadLine input i × (IsTooLong input → ⊥) in
     subst P (sym f.0) (first_line_bad input f.1)
 first_reason r left' before now TooLong f = absurd f
-first_reason r left' before now Read f = (f.1.rose, (f.0, f.1.consumed, open_head [] f.0 no_front (omega arith) f.1.open_line f.1.short))
+first_reason r left' before now Read f = (f.1.rose, (f.0, f.1.consumed, open_head [] f.0 no_prefix (omega arith) f.1.open_line f.1.short))
 
 pub second_since : (r left' : Option (List ℕ)) (first before now : ℕ) (fault : ScriptFault) → first ≤ before → SecondFault r left' before now fault → SecondFault r left' first now fault
 second_since r left' first before now Memory le f = f
@@ -256,7 +256,7 @@ second_reason (Some input) (Some bytes) left' before now (BadLine k) c f =
     subst (P k) (sym c) (subst (λ i. P i (first_line Two ++ bytes)) (sym f.0) (second_line_bad bytes f.1))
 second_reason r rest left' before now TooLong c f = absurd f
 second_reason r rest left' before now Read c f =
-    (f.1.rose, (first_line Two ++ f.0, consumes_trans r rest left' (first_line Two) f.0 c f.1.consumed, open_head (first_line Two) f.0 second_front (omega arith) f.1.open_line f.1.short))
+    (f.1.rose, (first_line Two ++ f.0, consumes_trans r rest left' (first_line Two) f.0 c f.1.consumed, open_head (first_line Two) f.0 second_prefix (omega arith) f.1.open_line f.1.short))
 
 pub head_reason : (r left' : Option (List ℕ)) (before now : ℕ) (fault : ScriptFault) → HeadReason r left' before now fault → HasReason r left' before now fault
 head_reason r left' before now fault (inl f) = first_reason r left' before now fault f

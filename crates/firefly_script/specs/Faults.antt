@@ -24,7 +24,7 @@ newlines [] = 0
 newlines (c ∷ bytes) = (if c == 10 then 1 else 0) + newlines bytes
 
 -- The bytes up to the last of these newlines begin a script text.
-pub record IsGoodFront (whole : List ℕ) : Type 0 where
+pub record IsGoodPrefix (whole : List ℕ) : Type 0 where
   pub begins : Begins whole
   pub ended : (whole ≡ [] → ⊥) → (body : List ℕ) × (whole ≡ body ++ 10 ∷ [])
 
@@ -34,7 +34,7 @@ pub record IsBadLine (input : List ℕ) (k : ℕ) : Type 0 where
   pub before : List ℕ
   pub rest : List ℕ
   pub split : input ≡ before ++ rest
-  pub front : IsGoodFront before
+  pub prefix : IsGoodPrefix before
   pub counted : k ≡ newlines before + 1
   pub broken : (line after : List ℕ) → Lacks 10 line → rest ≡ line ++ 10 ∷ after → Begins (before ++ (line ++ 10 ∷ [])) → ⊥
   pub no_text : Lacks 10 rest → IsScriptText input → ⊥
@@ -44,7 +44,7 @@ pub record IsTooLong (input : List ℕ) : Type 0 where
   pub before : List ℕ
   pub rest : List ℕ
   pub split : input ≡ before ++ rest
-  pub front : IsGoodFront before
+  pub prefix : IsGoodPrefix before
   pub counted : newlines before ≡ 100000
   pub more : 0 < length rest
 
@@ -54,7 +54,7 @@ pub record IsUndecided (given : List ℕ) : Type 0 where
   pub before : List ℕ
   pub rest : List ℕ
   pub split : given ≡ before ++ rest
-  pub front : IsGoodFront before
+  pub prefix : IsGoodPrefix before
   pub few : newlines before ≤ 100000
   pub open_line : Lacks 10 rest
   pub short : length rest ≤ 256

@@ -19,10 +19,10 @@ IsBehind [] = Unit {0}
 IsBehind (c ∷ bytes) = c ≡ 32
 
 -- the bytes before the first space, and those from there on
-pub record AreParted (bytes front behind : List ℕ) : Type 0 where
-  pub bare : Lacks 32 front
+pub record AreParted (bytes prefix behind : List ℕ) : Type 0 where
+  pub bare : Lacks 32 prefix
   pub from_space : IsBehind behind
-  pub text : bytes ≡ front ++ behind
+  pub text : bytes ≡ prefix ++ behind
 
 -- these numbers stand behind a word, and no others
 abbrev pub Are : Layout → List Operand → List ℕ → List ℕ → Type 0

@@ -135,10 +135,10 @@ fate_of (Join u) = fate.Awaits u
 fate_of _ = fate.Nothing
 
 -- the letter of a name; a number has none
-abbrev pub front_text : Operand → List ℕ
-front_text (Name k) = letter k ∷ []
-front_text Amount = []
-front_text Count = []
+abbrev pub prefix_text : Operand → List ℕ
+prefix_text (Name k) = letter k ∷ []
+prefix_text Amount = []
+prefix_text Count = []
 
 -- a name is below the count of its kind, and a number not too large
 abbrev pub IsWithin : Layout → Operand → ℕ → Type 0
@@ -153,7 +153,7 @@ AreWithin l (k ∷ ks) [] = ⊥
 AreWithin l (k ∷ ks) (n ∷ ns) = IsWithin l k n × AreWithin l ks ns
 
 abbrev pub operand_text : Operand → ℕ → List ℕ
-operand_text k n = front_text k ++ decimal n
+operand_text k n = prefix_text k ++ decimal n
 
 -- each behind a space
 abbrev pub operands_text : List Operand → List ℕ → List ℕ

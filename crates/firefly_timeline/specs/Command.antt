@@ -17,7 +17,7 @@ Shows v input out notes status =
     (found : Verdict) × Finds input found × IsDrawn budget v input.old out.old out.new found × NotesFor notes found
     × (status ≡ status_of found)
 
--- the output failed, and got a front of a picture
+-- the output failed, and got a prefix of a picture
 abbrev pub Fails : View → Change → Change → Change → Status → Type 0
 Fails v input out notes status =
     (status ≡ SinkFault) × Rose out.before out.now × IsCutOff budget v input.old out.old out.new × Notes notes output_fault_message
@@ -28,7 +28,7 @@ Writes input out notes status =
     (found : Verdict) × Finds input found × IsWritten budget input.old out.old out.new found × NotesFor notes found
     × (status ≡ status_of found)
 
--- the output failed, and got a front of the text of events
+-- the output failed, and got a prefix of the text of events
 abbrev pub WriteFails : Change → Change → Change → Status → Type 0
 WriteFails input out notes status =
     (status ≡ SinkFault) × Rose out.before out.now × IsCutShort budget input.old out.old out.new × Notes notes output_fault_message

@@ -6,16 +6,16 @@ use Rattle.std.specs.List.{flat_map}
 use Rattle.itoa.proofs.Decimal.{decimal_two}
 use Rattle.text_output.specs.Paths.{newline}
 use Rattle.word_index.specs.Index.{Hit}
-use Rattle.index_print.specs.Text.{hit_after, hit_front, hit_lead, hit_line}
+use Rattle.index_print.specs.Text.{hit_after, hit_prefix, hit_lead, hit_line}
 
-parts : (count line : ℕ) → 32 ∷ 32 ∷ (decimal count ++ (32 ∷ (decimal line ++ 32 ∷ []))) ≡ hit_front count line
+parts : (count line : ℕ) → 32 ∷ 32 ∷ (decimal count ++ (32 ∷ (decimal line ++ 32 ∷ []))) ≡ hit_prefix count line
 parts count line =
     let two = codes "  " in
     let one = codes " " in
     sym (append_assoc (two ++ decimal count ++ one) (decimal line) one ∙ append_assoc (two ++ decimal count) one (decimal line ++ one) ∙ append_assoc two (decimal count) (one ++ (decimal line ++ one)))
 
-pub front_written : (count line : ℕ) (a b c d e f g : List ℕ) → a ≡ [] → b ≡ 32 ∷ a → c ≡ decimal line ++ b → d ≡ 32 ∷ c → e ≡ decimal count ++ d → f ≡ 32 ∷ e → g ≡ 32 ∷ f → g ≡ hit_front count line
-front_written count line a b c d e f g none last second mid first space spaces =
+pub prefix_written : (count line : ℕ) (a b c d e f g : List ℕ) → a ≡ [] → b ≡ 32 ∷ a → c ≡ decimal line ++ b → d ≡ 32 ∷ c → e ≡ decimal count ++ d → f ≡ 32 ∷ e → g ≡ 32 ∷ f → g ≡ hit_prefix count line
+prefix_written count line a b c d e f g none last second mid first space spaces =
     let lines = second ∙ ap (λ l. decimal line ++ l) (last ∙ ap (λ l. 32 ∷ l) none) in
     let counts = first ∙ ap (λ l. decimal count ++ l) (mid ∙ ap (λ l. 32 ∷ l) lines) in
     spaces ∙ ap (λ l. 32 ∷ l) (space ∙ ap (λ l. 32 ∷ l) counts) ∙ parts count line

@@ -13,16 +13,16 @@ abbrev pub word_start : Row → List ℕ
 word_start row = row.word ++ codes " " ++ decimal (length row.hits)
 
 -- how often a file has the word, and on which line first
-abbrev pub hit_front : ℕ → ℕ → List ℕ
-hit_front count line = codes "  " ++ decimal count ++ codes " " ++ decimal line ++ codes " "
+abbrev pub hit_prefix : ℕ → ℕ → List ℕ
+hit_prefix count line = codes "  " ++ decimal count ++ codes " " ++ decimal line ++ codes " "
 
 -- a file that has the word: the count, the first line and the path
 abbrev pub hit_line : Hit → List ℕ
-hit_line hit = hit_front hit.count hit.line ++ escaped hit.path ++ newline
+hit_line hit = hit_prefix hit.count hit.line ++ escaped hit.path ++ newline
 
 -- the end of the line before, and what stands before the path
 abbrev pub hit_lead : ℕ → ℕ → List ℕ
-hit_lead count line = newline ++ hit_front count line
+hit_lead count line = newline ++ hit_prefix count line
 
 -- a file's line without its end, behind the end of the line before
 abbrev pub hit_after : Hit → List ℕ

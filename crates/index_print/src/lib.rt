@@ -6,7 +6,7 @@
 //! does not know how the piece was made.
 #![tactic(auto)]
 
-mod front;
+mod prefix;
 mod print;
 
 pub use print::print_index;

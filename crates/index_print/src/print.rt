@@ -2,13 +2,13 @@
 ghost use Rattle.std.specs.Prelude.{◌≡◌, ◌<◌, ◌++◌, ◌↔◌, [], length, OnOk, OnErr, IsOk, IsTrue, slice_index_or};
 ghost use Rattle.std.specs.List.{flat_map};
 ghost use Rattle.std.specs.Io.KnownBytes.{Appends};
-ghost use Rattle.firefly_outside.specs.Causes.{HasCause, AppendsFront};
+ghost use Rattle.firefly_outside.specs.Causes.{HasCause, AppendsPrefix};
 ghost use Rattle.word_index.specs.Index.{row_at, hit_at};
 ghost use Rattle.text_output.specs.Sent.{Puts};
 ghost use Rattle.index_print.specs.Plain.{ArePlain};
 ghost use Rattle.index_print.specs.Text.{word_start, hit_after, row_text, skipped_line, index_text};
 
-use crate::front::put_lead;
+use crate::prefix::put_lead;
 use firefly_outside::{Sink, SinkFault};
 use text_output::{Held, flush, is_plain, put, put_known_path, put_path_line, put_with_number};
 use word_index::Piece;
@@ -135,7 +135,7 @@ fn put_all_skipped<O: Sink>(held: &mut Held, piece: &Piece, out: &mut O) -> Resu
 /// Writes the index text of the piece. Of an empty piece the sink is asked nothing.
 pub fn print_index<O: Sink>(piece: &Piece, out: &mut O) -> Result<(), SinkFault>
     ensures ok { OnOk result (Appends (O.held out.old) (O.held out.new) (index_text piece.now)) }
-    ensures err { OnErr result (AppendsFront (O.held out.old) (O.held out.new) (index_text piece.now)) }
+    ensures err { OnErr result (AppendsPrefix (O.held out.old) (O.held out.new) (index_text piece.now)) }
     ensures cause { HasCause (O.faults out.old) (O.faults out.new) result }
     ensures empty { piece.now.rows ≡ [] → piece.now.skipped ≡ [] → IsOk result × (out.new ≡ out.old) }
 {

@@ -4,7 +4,7 @@ use Rattle.std.specs.List.{AllByRecursion}
 use Rattle.job_lines.specs.declared.line.JobLine.{JobLine}
 use Rattle.job_lines.specs.Lines.{IsLawful, line_text, lines_text, ReadsAs}
 use Rattle.job_lines.specs.Faults.{BeginsNoLine, IsBadLine, IsTooLong, IsJobsText, OneAnswer}
-use Rattle.job_lines.proofs.Texts.{IsBehind, first_line, fronts}
+use Rattle.job_lines.proofs.Texts.{IsBehind, first_line, prefixes}
 
 -- the same bytes, and then nothing
 ends : (input : List ℕ) (xs : List JobLine) → ReadsAs input xs → input ≡ lines_text xs ++ []
@@ -38,7 +38,7 @@ all_behind zs r s e n = omega (arith, ap length e, length-append (lines_text zs)
 
 text_or_bad : (input : List ℕ) (k : ℕ) → IsJobsText input → IsBadLine input k → ⊥
 text_or_bad input k t b =
-    elim (fronts b.before t.0 b.rest [] b.lawful t.1.lawful (sym b.split ∙ ends input t.0 t.1)) [
+    elim (prefixes b.before t.0 b.rest [] b.lawful t.1.lawful (sym b.split ∙ ends input t.0 t.1)) [
       | inl h ↦ omega (arith, all_behind h.zs b.rest [] h.bytes (none_behind h.zs b.rest [] h.lawful b.none h.bytes), b.some)
       | inr h ↦ nothing t.0 b.before b.rest b.some h
     ]
@@ -49,7 +49,7 @@ empty (x ∷ xs) e = absurd (omega arith)
 
 text_or_long : (input : List ℕ) → IsJobsText input → IsTooLong input → ⊥
 text_or_long input t b =
-    elim (fronts b.before t.0 b.rest [] b.lawful t.1.lawful (sym b.split ∙ ends input t.0 t.1)) [
+    elim (prefixes b.before t.0 b.rest [] b.lawful t.1.lawful (sym b.split ∙ ends input t.0 t.1)) [
       | inl h ↦
           let none : length h.zs ≡ 0 = omega (arith, ap length h.lines, length-append b.before h.zs, b.full, t.2) in
           omega (arith, all_behind h.zs b.rest [] h.bytes (empty h.zs none), b.some)
@@ -58,21 +58,21 @@ text_or_long input t b =
 
 bad_or_long : (input : List ℕ) (k : ℕ) → IsBadLine input k → IsTooLong input → ⊥
 bad_or_long input k b t =
-    elim (fronts b.before t.before b.rest t.rest b.lawful t.lawful (sym b.split ∙ t.split)) [
+    elim (prefixes b.before t.before b.rest t.rest b.lawful t.lawful (sym b.split ∙ t.split)) [
       | inl h ↦ omega (arith, same_length b.before t.before h.zs h.lines (none_behind h.zs b.rest t.rest h.lawful b.none h.bytes), b.few, t.full)
       | inr h ↦ omega (arith, ap length h.lines, length-append t.before h.zs, b.few, t.full)
     ]
 
 one_list : (input : List ℕ) (xs ys : List JobLine) → ReadsAs input xs → ReadsAs input ys → xs ≡ ys
 one_list input xs ys p q =
-    elim (fronts xs ys [] [] p.lawful q.lawful (sym (ends input xs p) ∙ ends input ys q)) [
+    elim (prefixes xs ys [] [] p.lawful q.lawful (sym (ends input xs p) ∙ ends input ys q)) [
       | inl h ↦ sym (same_list xs ys h.zs h.lines (no_lines h.zs [] h.bytes))
       | inr h ↦ same_list ys xs h.zs h.lines (no_lines h.zs [] h.bytes)
     ]
 
 one_line : (input : List ℕ) (j k : ℕ) → IsBadLine input j → IsBadLine input k → j ≡ k
 one_line input j k a b =
-    elim (fronts a.before b.before a.rest b.rest a.lawful b.lawful (sym a.split ∙ b.split)) [
+    elim (prefixes a.before b.before a.rest b.rest a.lawful b.lawful (sym a.split ∙ b.split)) [
       | inl h ↦ omega (arith, same_length a.before b.before h.zs h.lines (none_behind h.zs a.rest b.rest h.lawful a.none h.bytes), a.counted, b.counted)
       | inr h ↦ omega (arith, same_length b.before a.before h.zs h.lines (none_behind h.zs b.rest a.rest h.lawful b.none h.bytes), a.counted, b.counted)
     ]

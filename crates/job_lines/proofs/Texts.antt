@@ -69,13 +69,13 @@ pub record IsBehind (xs ys : List JobLine) (r s : List ℕ) : Type 0 where
   pub bytes : r ≡ lines_text zs ++ s
 
 -- of two lists of lines that stand first in the same bytes one begins with the other
-pub fronts : (xs ys : List JobLine) (r s : List ℕ) → AllByRecursion IsLawful xs → AllByRecursion IsLawful ys → lines_text xs ++ r ≡ lines_text ys ++ s → IsBehind xs ys r s ⊎ IsBehind ys xs s r
-fronts [] ys r s p q e = inl (record { zs = ys; lawful = q; lines = refl; bytes = e })
-fronts (x ∷ xs) [] r s p q e = inr (record { zs = x ∷ xs; lawful = p; lines = refl; bytes = sym e })
-fronts (x ∷ xs) (y ∷ ys) r s p q e =
+pub prefixes : (xs ys : List JobLine) (r s : List ℕ) → AllByRecursion IsLawful xs → AllByRecursion IsLawful ys → lines_text xs ++ r ≡ lines_text ys ++ s → IsBehind xs ys r s ⊎ IsBehind ys xs s r
+prefixes [] ys r s p q e = inl (record { zs = ys; lawful = q; lines = refl; bytes = e })
+prefixes (x ∷ xs) [] r s p q e = inr (record { zs = x ∷ xs; lawful = p; lines = refl; bytes = sym e })
+prefixes (x ∷ xs) (y ∷ ys) r s p q e =
     let c = cut_same (line_text x) (line_text y) (lines_text xs ++ r) (lines_text ys ++ s) (line_flat x p.0) (line_flat y q.0) (sym (first_line x xs r) ∙ (e ∙ first_line y ys s)) in
     let same = line_same x y p.0 q.0 c.0 in
-    elim (fronts xs ys r s p.1 q.1 c.1) [
+    elim (prefixes xs ys r s p.1 q.1 c.1) [
       | inl h ↦ inl (record { zs = h.zs; lawful = h.lawful; lines = ap (λ l. y ∷ l) h.lines ∙ ap (λ z. z ∷ (xs ++ h.zs)) (sym same); bytes = h.bytes })
       | inr h ↦ inr (record { zs = h.zs; lawful = h.lawful; lines = ap (λ l. x ∷ l) h.lines ∙ ap (λ z. z ∷ (ys ++ h.zs)) same; bytes = h.bytes })
     ]

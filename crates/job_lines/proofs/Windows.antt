@@ -18,11 +18,11 @@ flat_take [] (suc n) le h = absurd (omega arith)
 flat_take (x ∷ xs) (suc n) le h =
     (λ e. h 0 (omega arith) (omega arith) (eq-eqb x 10 e), flat_take xs n (omega arith) (λ k low high. h (suc k) (omega arith) (omega arith)))
 
-pub take_front : (n k : ℕ) (xs : List ℕ) → n ≤ k → take n (take k xs) ≡ take n xs
-take_front zero k xs le = refl
-take_front (suc n) zero xs le = absurd (omega arith)
-take_front (suc n) (suc k) [] le = refl
-take_front (suc n) (suc k) (x ∷ xs) le = ap (λ l. x ∷ l) (take_front n k xs (omega arith))
+pub take_prefix : (n k : ℕ) (xs : List ℕ) → n ≤ k → take n (take k xs) ≡ take n xs
+take_prefix zero k xs le = refl
+take_prefix (suc n) zero xs le = absurd (omega arith)
+take_prefix (suc n) (suc k) [] le = refl
+take_prefix (suc n) (suc k) (x ∷ xs) le = ap (λ l. x ∷ l) (take_prefix n k xs (omega arith))
 
 -- the bytes are those before the newline, the newline, and those behind it
 pub split_at : (xs : List ℕ) (n : ℕ) → n < length xs → (get_or xs n 0 == 10) ≡ true → xs ≡ take n xs ++ 10 ∷ drop (suc n) xs
@@ -30,17 +30,17 @@ split_at xs n lt e =
     sym (take-append-drop n xs) ∙ ap (λ l. take n xs ++ l) (drop-cons xs n 0 lt ∙ ap (λ x. x ∷ drop (suc n) xs) (eqb-true (get_or xs n 0) 10 e))
 
 -- what stands before the first newline is the first line, if there is one
-pub no_first : (front behind more : List ℕ) (bytes : List ℕ) → IsFlat front → bytes ≡ front ++ 10 ∷ behind → ((x : JobLine) → IsLawful x → front ≡ line_text x → ⊥) → BeginsNoLine (bytes ++ more)
-no_first front behind more bytes flat e none x after lawful starts =
-    none x lawful (cut_same front (line_text x) (behind ++ more) after flat (line_flat x lawful) (sym (append_assoc front (10 ∷ behind) more) ∙ (ap (λ l. l ++ more) (sym e) ∙ starts))).0
+pub no_first : (prefix behind more : List ℕ) (bytes : List ℕ) → IsFlat prefix → bytes ≡ prefix ++ 10 ∷ behind → ((x : JobLine) → IsLawful x → prefix ≡ line_text x → ⊥) → BeginsNoLine (bytes ++ more)
+no_first prefix behind more bytes flat e none x after lawful starts =
+    none x lawful (cut_same prefix (line_text x) (behind ++ more) after flat (line_flat x lawful) (sym (append_assoc prefix (10 ∷ behind) more) ∙ (ap (λ l. l ++ more) (sym e) ∙ starts))).0
 
 -- a newline behind flat bytes stands behind them all
-far : (front rest line after : List ℕ) → IsFlat front → front ++ rest ≡ line ++ 10 ∷ after → length front ≤ length line
+far : (prefix rest line after : List ℕ) → IsFlat prefix → prefix ++ rest ≡ line ++ 10 ∷ after → length prefix ≤ length line
 far [] rest line after flat e = omega arith
-far (x ∷ front) rest [] after flat e = let h : x ≡ 10 = cc in absurd (flat.0 h)
-far (x ∷ front) rest (y ∷ line) after flat e =
-    let tail : front ++ rest ≡ line ++ 10 ∷ after = cc in
-    let ih = far front rest line after flat.1 tail in
+far (x ∷ prefix) rest [] after flat e = let h : x ≡ 10 = cc in absurd (flat.0 h)
+far (x ∷ prefix) rest (y ∷ line) after flat e =
+    let tail : prefix ++ rest ≡ line ++ 10 ∷ after = cc in
+    let ih = far prefix rest line after flat.1 tail in
     omega arith
 
 -- no line is so long
@@ -90,10 +90,10 @@ at_the_end P (Some xs) None w k e h = absurd k
 at_the_end P (Some xs) (Some ys) w k e h = subst P (sym (append-nil w) ∙ (ap (λ l. w ++ l) (sym e) ∙ k)) h
 
 -- the window's first bytes were taken
-pub front_taken : (r left : Option (List ℕ)) (w w' front : List ℕ) → Keeps r (prepend_known w left) → w ≡ front ++ w' → Consumes r (prepend_known w' left) front
-front_taken None left w w' front k e = tt
-front_taken (Some xs) None w w' front k e = absurd k
-front_taken (Some xs) (Some ys) w w' front k e = sym k ∙ (ap (λ l. l ++ ys) e ∙ append_assoc front w' ys)
+pub prefix_taken : (r left : Option (List ℕ)) (w w' prefix : List ℕ) → Keeps r (prepend_known w left) → w ≡ prefix ++ w' → Consumes r (prepend_known w' left) prefix
+prefix_taken None left w w' prefix k e = tt
+prefix_taken (Some xs) None w w' prefix k e = absurd k
+prefix_taken (Some xs) (Some ys) w w' prefix k e = sym k ∙ (ap (λ l. l ++ ys) e ∙ append_assoc prefix w' ys)
 
 pub window_taken : (r left : Option (List ℕ)) (w : List ℕ) → Keeps r (prepend_known w left) → Consumes r left w
 window_taken None left w k = tt

@@ -32,7 +32,7 @@ fn past<I: Source>(window: &mut Window, input: &mut I) -> Result<(), JobsFault>
 
 /// Reads the lines that the input is.
 ///
-/// A bad line is the first at which the input is no front of a text; where it ends in mid-line, that line. `TooLong` says that 100,000
+/// A bad line is the first at which the input is no prefix of a text; where it ends in mid-line, that line. `TooLong` says that 100,000
 /// lines stand first and that more bytes come, and `Read` that the source failed before the bytes had shown one of these.
 pub fn read_jobs<I: Source>(alloc: Global, input: &mut I) -> Result<Vec<JobLine>, JobsFault>
     ensures lines { IfOk result (λ v. IfSome (I.left input.old) (λ bytes. ReadsAs bytes v.items)) }

@@ -36,8 +36,8 @@ pub enum Next {
 fn look(bytes: &[u8]) -> Seen
     ensures { IsSeen bytes.now result }
 {
-    let front = &bytes[..bytes.len().min(LONGEST + 1)];
-    let Some(size) = memchr(b'\n', front) else {
+    let prefix = &bytes[..bytes.len().min(LONGEST + 1)];
+    let Some(size) = memchr(b'\n', prefix) else {
         return if bytes.len() > LONGEST {
             Seen::Bad
         } else {

@@ -41,9 +41,9 @@ at_set [] n x low = absurd (omega arith)
 at_set (a ∷ xs) zero x low = refl
 at_set (a ∷ xs) (suc n) x low = at_set xs n x (omega arith)
 
-pub each_front : {A : Type 0} (P : A → Type 0) (xs ys : List A) → AllByRecursion P (xs ++ ys) → AllByRecursion P xs
-each_front P [] ys h = tt
-each_front P (x ∷ xs) ys h = (h.0, each_front P xs ys h.1)
+pub each_prefix : {A : Type 0} (P : A → Type 0) (xs ys : List A) → AllByRecursion P (xs ++ ys) → AllByRecursion P xs
+each_prefix P [] ys h = tt
+each_prefix P (x ∷ xs) ys h = (h.0, each_prefix P xs ys h.1)
 
 pub each_last : {A : Type 0} (P : A → Type 0) (xs : List A) (y : A) → AllByRecursion P (xs ++ y ∷ []) → P y
 each_last P [] y h = h.0

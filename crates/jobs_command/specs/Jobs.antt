@@ -12,7 +12,7 @@ use Rattle.job_pool.specs.declared.pool_end.PoolEnd.{PoolEnd}
 use Rattle.job_pool.specs.declared.pool_end.PoolEnd.TheVariants as pool
 use Rattle.command_endings.specs.declared.status.Status.{Status}
 use Rattle.command_endings.specs.declared.status.Status.TheVariants.{Done, Usage, ReadFault, SinkFault, Stopped, Memory, Illegal, BadText, TooMany, TooLong}
-use Rattle.command_endings.specs.Changes.{Change, IsStill, Gets, GetsFront, Notes}
+use Rattle.command_endings.specs.Changes.{Change, IsStill, Gets, GetsPrefix, Notes}
 use Rattle.command_endings.specs.Messages.{input_fault_message, output_fault_message, stopped_by_message, memory_message, bad_line_message, too_long_message}
 use Rattle.command_endings.specs.Printing.{Prints}
 use Rattle.jobs_command.specs.Lines.{lines_of}
@@ -73,7 +73,7 @@ SaysFault fault.Memory notes status = (status ≡ Memory) × Notes notes memory_
 -- each status by its cause
 abbrev pub JobsAnswers : Change → Change → Change → Status → Type 0
 JobsAnswers input out notes Done = (text : List ℕ) × AreDone input text × Gets out text × IsStill notes
-JobsAnswers input out notes SinkFault = (text : List ℕ) × AreDone input text × GetsFront out text × Notes notes output_fault_message
+JobsAnswers input out notes SinkFault = (text : List ℕ) × AreDone input text × GetsPrefix out text × Notes notes output_fault_message
 JobsAnswers input out notes Stopped = (k : ℕ) × IsStopped input k × IsStill out × Notes notes (stopped_by_message k)
 JobsAnswers input out notes BadText = (k : ℕ) × Fails input (fault.BadLine k) × IsStill out × Notes notes (bad_line_message k)
 JobsAnswers input out notes TooLong = Fails input fault.TooLong × IsStill out × Notes notes too_long_message

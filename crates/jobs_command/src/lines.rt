@@ -1,7 +1,7 @@
 //! Values, each on a line behind its place.
 ghost use Rattle.std.specs.Prelude.{◌≡◌, ◌≤◌, length, OnOk, OnErr};
 ghost use Rattle.std.specs.Io.KnownBytes.{Appends};
-ghost use Rattle.firefly_outside.specs.Causes.{HasCause, AppendsFront};
+ghost use Rattle.firefly_outside.specs.Causes.{HasCause, AppendsPrefix};
 ghost use Rattle.text_output.specs.Sent.{Puts};
 ghost use Rattle.command_endings.specs.Changes.{change_of};
 ghost use Rattle.command_endings.specs.Printing.{Prints};
@@ -35,7 +35,7 @@ fn put_lines<O: Sink>(held: &mut Held, values: &[u64], out: &mut O) -> Result<()
 // Writes the lines of the values.
 fn write_lines<O: Sink>(values: &[u64], out: &mut O) -> Result<(), SinkFault>
     ensures ok { OnOk result (Appends (O.held out.old) (O.held out.new) (lines_of values.now)) }
-    ensures err { OnErr result (AppendsFront (O.held out.old) (O.held out.new) (lines_of values.now)) }
+    ensures err { OnErr result (AppendsPrefix (O.held out.old) (O.held out.new) (lines_of values.now)) }
     ensures cause { HasCause (O.faults out.old) (O.faults out.new) result }
 {
     let mut held = Held::new();

@@ -9,7 +9,7 @@ use Rattle.larch_actions.specs.Layout.{IsLawful, HasNames}
 use Rattle.larch_actions.specs.Actions.{IsRun, at_first}
 use Rattle.trace_core.proofs.Plain.{plain, plain_event}
 use Rattle.trace_check.proofs.Alike.{plain_all, plain_append, length-plain_all, leads_plain, leads_back}
-use Rattle.trace_check.proofs.Fronts.{names-first}
+use Rattle.trace_check.proofs.Prefixes.{names-first}
 use Rattle.lock_order.specs.Order.{got, Nests, StandsBefore, HasCycle}
 use Rattle.lock_order.proofs.Linked.{cycle-map}
 

@@ -76,16 +76,16 @@ pub record IsTurning (k : Nestings) (ms : List ℕ) (j : ℕ) : Type 0 where
   pub within : j < length ms
   pub least : IsLeast (get_or ms j 0) ms
 
-at_front : (xs : List ℕ) (x j : ℕ) → j < length xs → get_or (xs ++ x ∷ []) j 0 ≡ get_or xs j 0
-at_front [] x j low = absurd (omega arith)
-at_front (y ∷ ys) x zero low = refl
-at_front (y ∷ ys) x (suc j) low = at_front ys x j (omega arith)
+at_prefix : (xs : List ℕ) (x j : ℕ) → j < length xs → get_or (xs ++ x ∷ []) j 0 ≡ get_or xs j 0
+at_prefix [] x j low = absurd (omega arith)
+at_prefix (y ∷ ys) x zero low = refl
+at_prefix (y ∷ ys) x (suc j) low = at_prefix ys x j (omega arith)
 
 pub turns : (k : Nestings) (ms : List ℕ) (m j : ℕ) → IsTurning k ms (suc j) → m ≡ get_or ms 0 m → IsTurning k (remove ms 0 ++ m ∷ []) j
 turns k [] m j t is = absurd (let low = t.within in omega arith)
 turns k (x ∷ xs) m j t is =
     let low : j < length xs = (let within = t.within in omega arith) in
-    let here : get_or (xs ++ x ∷ []) j 0 ≡ get_or xs j 0 = at_front xs x j low in
+    let here : get_or (xs ++ x ∷ []) j 0 ≡ get_or xs j 0 = at_prefix xs x j low in
     let next : IsTurning k (xs ++ x ∷ []) j = record {
       circle = turned k x xs t.circle;
       within = omega (arith, length-append xs (x ∷ []));

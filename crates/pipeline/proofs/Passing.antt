@@ -66,13 +66,13 @@ passes count came lefts (s ∷ r ∷ u ∷ []) (q ∷ v ∷ []) last kept each t
     (λ (h : ((part_of r 0).seen_end ≡ true) × (items_of (part_of r 1).puts ≡ map squared (items_of (part_of r 0).takes)) × ((part_of r 1).shut ≡ true)). (h.0, h.1))
     (λ (h : ((part_of r 1).shut ≡ false) × ((part_of r 1).seen_shut ≡ true)). absurd (never_shut 1 v shares (all (λ n x. (part_of x 1).shut ≡ false) (ap (λ (w : Used ℕ). w.shut) a.stage.others) h.0 c.stage.opened) other 1 r refl h.1))
     b.stage.ends in
-    let front = went_through 0 q shares 0 1 s r refl refl (a.ordered 0).0 (b.ordered 0).1
+    let prefix = went_through 0 q shares 0 1 s r refl refl (a.ordered 0).0 (b.ordered 0).1
     (all (λ n x. n ≢ 0 → (part_of x 0).puts ≡ []) (λ o. absurd (o refl)) (λ o. b.stage.puts) (λ o. ap (λ (w : Used ℕ). w.puts) c.stage.none))
     (all (λ n x. n ≢ 1 → (part_of x 0).takes ≡ []) (λ o. a.stage.takes) (λ o. absurd (o refl)) (λ o. ap (λ (w : Used ℕ). w.takes) c.stage.none)) worked.0 one in
     let back = went_through 1 v shares 1 2 r u refl refl (b.ordered 1).0 (c.ordered 1).1
     (all (λ n x. n ≢ 1 → (part_of x 1).puts ≡ []) (λ o. ap (λ (w : Used ℕ). w.puts) a.stage.others) (λ o. absurd (o refl)) (λ o. c.stage.puts))
     (all (λ n x. n ≢ 2 → (part_of x 1).takes ≡ []) (λ o. ap (λ (w : Used ℕ). w.takes) a.stage.others) (λ o. b.stage.takes) (λ o. absurd (o refl))) c.stage.end other in
-    let numbered : items_of (part_of r 0).takes ≡ numbers count = front.same ∙ made in
+    let numbered : items_of (part_of r 0).takes ≡ numbers count = prefix.same ∙ made in
     let squared_all : items_of (part_of r 1).puts ≡ squares count = worked.1 ∙ ap (map squared) numbered in
     let came_out : items_of (part_of u 1).takes ≡ squares count = back.same ∙ squared_all in
     let long : length (numbers count) ≡ count = length-range_with_len 0 count in
@@ -81,7 +81,7 @@ passes count came lefts (s ∷ r ∷ u ∷ []) (q ∷ v ∷ []) last kept each t
       each = all (λ n x. Passed count n (part_of x 0) (part_of x 1)) (record { rises = (a.ordered 0).0; are = made })
           (record { rises = (b.ordered 0).1; are = numbered }, record { rises = (b.ordered 1).0; are = squared_all }) (record { rises = (c.ordered 1).1; are = came_out });
       out = λ whole. subst (λ (l : Came). l.lost ≡ false → l.items.items ≡ items_of (part_of u 1).takes) mine c.stage.kept whole ∙ came_out;
-      over = first_then (IsOver count) q (v ∷ []) (record { taken = front.taken ∙ ap length made ∙ long; empty = front.empty; shut = front.shut })
+      over = first_then (IsOver count) q (v ∷ []) (record { taken = prefix.taken ∙ ap length made ∙ long; empty = prefix.empty; shut = prefix.shut })
           (first_then (λ n. IsOver count (suc n)) v [] (record { taken = back.taken ∙ ap length squared_all ∙ length-map (numbers count) squared ∙ long; empty = back.empty; shut = back.shut })
           (each-none (λ n. IsOver count (suc (suc n))) [] refl));
     }

@@ -40,7 +40,8 @@ pub record IsWorked (a b : Used ℕ) : Type 0 where
   pub puts : a.puts ≡ []
   pub opened : a.shut ≡ false
   pub takes : b.takes ≡ []
-  pub ends : ((a.seen_end ≡ true) × (items_of b.puts ≡ map squared (items_of a.takes)) × (b.shut ≡ true)) ⊎ ((b.shut ≡ false) × (b.seen_shut ≡ true))
+  pub ends : ((a.seen_end ≡ true) × (items_of b.puts ≡ map squared (items_of a.takes)) × (b.shut ≡ true))
+      ⊎ ((b.shut ≡ false) × (b.seen_shut ≡ true))
 
 -- all was taken from the second buffer, and this came
 pub record IsTaken (came : Came) (a b : Used ℕ) : Type 0 where

@@ -44,8 +44,8 @@ ran-push xs w s o e f =
     ∙ f
 
 -- tokens that can't be taken begin no query
-pub front_refused : (xs ys ts : List Token) → ts ≡ xs ++ ys → ran (Before [] []) xs ≡ None → (t : Tree) → ¬ Reads ts t
-front_refused xs ys ts is e t r =
+pub prefix_refused : (xs ys ts : List Token) → ts ≡ xs ++ ys → ran (Before [] []) xs ≡ None → (t : Tree) → ¬ Reads ts t
+prefix_refused xs ys ts is e t r =
     let f = finishes ts t r.whole in
     none_some (sym (ap (option_and_then (λ (s : State). ran s ys)) e) ∙ sym (ran-append xs ys (Before [] [])) ∙ ap (ran (Before [] [])) (sym is) ∙ f.taken)
 
@@ -89,9 +89,9 @@ token_more f ws i w h e =
 -- a token that was refused, or for which memory wanted
 pub token_refused : (ts : List Token) (i : ℕ) (w : Token) (s : State) (ps : List Pending) (us : List Step) (e : QueryFault) (r : Result (List Step) QueryFault)
     → take (i + 1) ts ≡ take i ts ++ w ∷ [] → ran (Before [] []) (take i ts) ≡ Some s → Takes (Err e) (λ (o : Option State). took s w ≡ o) ps us → r ≡ Err e → IsAnswer ts r
-token_refused ts i w s ps us Memory r more front h is = subst (λ (x : Result (List Step) QueryFault). IsAnswer ts x) (sym is) tt
-token_refused ts i w s ps us NotAQuery r more front h is = subst (λ (x : Result (List Step) QueryFault). IsAnswer ts x) (sym is)
-    (front_refused (take (i + 1) ts) (drop (i + 1) ts) ts (sym (take-append-drop (i + 1) ts)) (ap (ran (Before [] [])) more ∙ ran-push (take i ts) w s None front h))
+token_refused ts i w s ps us Memory r more prefix h is = subst (λ (x : Result (List Step) QueryFault). IsAnswer ts x) (sym is) tt
+token_refused ts i w s ps us NotAQuery r more prefix h is = subst (λ (x : Result (List Step) QueryFault). IsAnswer ts x) (sym is)
+    (prefix_refused (take (i + 1) ts) (drop (i + 1) ts) ts (sym (take-append-drop (i + 1) ts)) (ap (ran (Before [] [])) more ∙ ran-push (take i ts) w s None prefix h))
 
 pub err_is : {T E : Type 0} (r : Result T E) (e : E) → IsErrAnd r (λ x. x ≡ e) → r ≡ Err e
 err_is (Ok x) e h = absurd h

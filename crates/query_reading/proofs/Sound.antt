@@ -30,9 +30,9 @@ pub record Stands (l : Level) (Under : List Token → List Step → Type 0) (xs 
 
 -- such tokens and then this one
 pub record Joins (l : Level) (mark : Token) (Under : List Token → List Step → Type 0) (xs : List Token) (ss : List Step) : Type 0 where
-  pub front : List Token
-  pub stands : Stands l Under front ss
-  pub tokens : xs ≡ front ++ mark ∷ []
+  pub prefix : List Token
+  pub stands : Stands l Under prefix ss
+  pub tokens : xs ≡ prefix ++ mark ∷ []
 
 -- the tokens before a term, and their steps, by what is pending
 abbrev pub Under : List Pending → List Token → List Step → Type 0
@@ -56,8 +56,8 @@ regrouped : {X : Type 0} (a b c d : List X) → a ++ b ++ c ++ d ≡ a ++ (b ++ 
 regrouped a b c d = simp append_assoc
 
 -- terms with a mark between them
-two_tokens : (xs ys zs ws rest front : List Token) (mark : Token) → xs ≡ front ++ mark ∷ [] → front ≡ ys ++ zs → ws ≡ xs ++ rest → ws ≡ ys ++ (zs ++ mark ∷ rest)
-two_tokens xs ys zs ws rest front mark e f g = g ∙ ap (λ (x : List Token). x ++ rest) (e ∙ ap (λ (x : List Token). x ++ mark ∷ []) f) ∙ middle ys zs (mark ∷ []) rest
+two_tokens : (xs ys zs ws rest prefix : List Token) (mark : Token) → xs ≡ prefix ++ mark ∷ [] → prefix ≡ ys ++ zs → ws ≡ xs ++ rest → ws ≡ ys ++ (zs ++ mark ∷ rest)
+two_tokens xs ys zs ws rest prefix mark e f g = g ∙ ap (λ (x : List Token). x ++ rest) (e ∙ ap (λ (x : List Token). x ++ mark ∷ []) f) ∙ middle ys zs (mark ∷ []) rest
 
 two_steps : (ss us vs : List Step) (x y : Tree) (s : Step) → ss ≡ us ++ postfix y → us ≡ vs ++ postfix x → ss ++ s ∷ [] ≡ vs ++ (postfix x ++ postfix y ++ s ∷ [])
 two_steps ss us vs x y s e f =
@@ -85,7 +85,7 @@ ends (pending.Both ∷ ps) ys zs us t u h =
         tree = Both s.tree t;
         under = s.under;
         spells = both s.zs zs s.tree t s.spells h;
-        tokens = two_tokens ys s.ys s.zs (ys ++ zs) zs j.front (codes "&") j.tokens s.tokens refl;
+        tokens = two_tokens ys s.ys s.zs (ys ++ zs) zs j.prefix (codes "&") j.tokens s.tokens refl;
         steps = two_steps (us ++ postfix t) us s.us s.tree t step.Both refl s.steps;
       },
     )
@@ -110,7 +110,7 @@ joins (pending.Either ∷ ps) ss xs r =
         tree = Either s.tree p.tree;
         under = s.under;
         spells = either s.zs p.zs s.tree p.tree s.spells p.spells;
-        tokens = two_tokens p.ys s.ys s.zs xs p.zs j.front (codes "|") j.tokens s.tokens p.tokens;
+        tokens = two_tokens p.ys s.ys s.zs xs p.zs j.prefix (codes "|") j.tokens s.tokens p.tokens;
         steps = two_steps ss p.us s.us s.tree p.tree step.Either p.steps s.steps;
       },
     )
@@ -174,7 +174,7 @@ closing (pending.Open ∷ ps) ss xs w s k r e =
     at_state _ s (xs ++ w ∷ []) e (subst (λ (x : List Token). Reached (ended ps ss) x) (sym tokens) moved)
 
 joining : (l : Level) (mark w : Token) (ps : List Pending) (ss : List Step) (xs : List Token) → w ≡ mark → Stands l (Under ps) xs ss → Joins l mark (Under ps) (xs ++ w ∷ []) ss
-joining l mark w ps ss xs k r = record { front = xs; stands = r; tokens = ap (λ (t : Token). xs ++ t ∷ []) k }
+joining l mark w ps ss xs k r = record { prefix = xs; stands = r; tokens = ap (λ (t : Token). xs ++ t ∷ []) k }
 
 takes-behind : (k : Kind) (w : Token) (ps : List Pending) (ss : List Step) (xs : List Token) (s : State) → Kinded k w → Reached (Behind ps ss) xs → behind_term k ps ss ≡ Some s → Reached s (xs ++ w ∷ [])
 takes-behind kind.Both w ps ss xs s k r e = at_state (Before (pending.Both ∷ ps) ss) s (xs ++ w ∷ []) e (r.0, joining Part (codes "&") w ps ss xs k r.1)

@@ -15,7 +15,7 @@ use Rattle.std.proofs.lemmas.Grind.{common_steps}
 pub letterless : (c n : ℕ) → 57 < c → n < 2 ^ 64 → All (λ b. b ≢ c) (decimal n)
 letterless c n high = decimal_by_steps (λ n ds. All (λ b. b ≢ c) ds)
     (λ n small. All-cons (λ b. b ≢ c) (48 + n) [] (λ e. omega (arith, e, high)) (All-nil (λ b. b ≢ c)))
-    (λ n ds big front. All-append (λ b. b ≢ c) ds ((48 + n % 10) ∷ []) front (All-cons (λ b. b ≢ c) (48 + n % 10) [] (λ e. omega (arith, e, high)) (All-nil (λ b. b ≢ c)))) n
+    (λ n ds big prefix. All-append (λ b. b ≢ c) ds ((48 + n % 10) ∷ []) prefix (All-cons (λ b. b ≢ c) (48 + n % 10) [] (λ e. omega (arith, e, high)) (All-nil (λ b. b ≢ c)))) n
 
 letter_at : (c : ℕ) (e m : List ℕ) → get_or (e ++ c ∷ m) (length e) 0 ≡ c
 letter_at c e m = grind (arith, common_steps)
@@ -50,9 +50,9 @@ split_parts c bs (Some x) low h = (
 )
 
 -- the digits behind the letter are those of the number that a path has there
-pub digits_there : (c : ℕ) (bs front before digits : List ℕ) (n : ℕ) → 57 < c → n < 20000 → bs ≡ before ++ c ∷ digits → All (λ b. b ≢ c) digits → bs ≡ front ++ c ∷ decimal n → digits ≡ decimal n
-digits_there c bs front before digits n high small split plain is =
-    same_end c before front digits (decimal n) (sym split ∙ is) plain (letterless c n high (omega (arith, small)))
+pub digits_there : (c : ℕ) (bs prefix before digits : List ℕ) (n : ℕ) → 57 < c → n < 20000 → bs ≡ before ++ c ∷ digits → All (λ b. b ≢ c) digits → bs ≡ prefix ++ c ∷ decimal n → digits ≡ decimal n
+digits_there c bs prefix before digits n high small split plain is =
+    same_end c before prefix digits (decimal n) (sym split ∙ is) plain (letterless c n high (omega (arith, small)))
 
 -- either letter is above the digits
 pub letter_range : (c : ℕ) → (c ≡ 100) ⊎ (c ≡ 102) → (57 < c) × (c < 128)

@@ -28,7 +28,7 @@ fn file_text(file: u32) -> ShortText
 // The number behind the last letter that is this one, where the rest of the path is a number.
 fn number_behind(path: &str, letter: char) -> Option<u32>
     requires { (letter ≡ 100) ⊎ (letter ≡ 102) }
-    ensures some { (front : List ℕ) (n : ℕ) → n < 20000 → path.now ≡ front ++ letter ∷ decimal n → result ≡ Some n }
+    ensures some { (prefix : List ℕ) (n : ℕ) → n < 20000 → path.now ≡ prefix ++ letter ∷ decimal n → result ≡ Some n }
     ensures few { IfSome result (λ n. n < 20000) }
 {
     let Some((_, digits)) = path.rsplit_once(letter) else {

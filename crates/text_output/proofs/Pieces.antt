@@ -5,10 +5,10 @@ use Rattle.std.specs.Cmp.{first_so, second_so}
 use Rattle.std.specs.List.{flat_map, list_all}
 use Rattle.std.proofs.lemmas.List.{take_more, take-append-drop}
 use Rattle.std.proofs.lemmas.List.Concat.{flat_map-append}
-use Rattle.firefly_outside.specs.Causes.{AppendsFront, HasCause}
+use Rattle.firefly_outside.specs.Causes.{AppendsPrefix, HasCause}
 use Rattle.text_output.specs.Sent.{Sends, Puts}
 use Rattle.text_output.specs.Paths.{is_plain_byte, escaped, escaped_byte}
-use Rattle.text_output.proofs.Fronts.{appends_then, front_behind, sends_then, fails_then, fails_first}
+use Rattle.text_output.proofs.Prefixes.{appends_then, prefix_behind, sends_then, fails_then, fails_first}
 
 appends_none : (told : Option (List ℕ)) → Appends told told []
 appends_none None = tt
@@ -24,16 +24,16 @@ module _ {E : Type 0} where
   puts_then (Ok u) t0 t1 t2 h0 h1 h2 p q a b = sends_then t0 t1 t2 h0 h1 h2 p q a b
   puts_then (Err e) t0 t1 t2 h0 h1 h2 p q a b = fails_then t0 t1 t2 h0 h1 p q a b
 
-  -- a call that failed put a front
-  pub puts_failed : (r : Result (Unit {0}) E) (t0 t1 : Option (List ℕ)) (h0 h1 p : List ℕ) → IsErr r → AppendsFront t0 t1 (h0 ++ p) → Puts t0 h0 p r t1 h1
+  -- a call that failed put a prefix
+  pub puts_failed : (r : Result (Unit {0}) E) (t0 t1 : Option (List ℕ)) (h0 h1 p : List ℕ) → IsErr r → AppendsPrefix t0 t1 (h0 ++ p) → Puts t0 h0 p r t1 h1
   puts_failed (Ok u) t0 t1 h0 h1 p failed k = cc
   puts_failed (Err e) t0 t1 h0 h1 p is k = k
 
   -- what was held went first
   pub puts_behind : (r : Result (Unit {0}) E) (t0 t1 t2 : Option (List ℕ)) (held piece now : List ℕ) → now ≡ [] → Appends t0 t1 held
-      → OnOk r (Appends t1 t2 piece) → OnErr r (AppendsFront t1 t2 piece) → Puts t0 held piece r t2 now
+      → OnOk r (Appends t1 t2 piece) → OnErr r (AppendsPrefix t1 t2 piece) → Puts t0 held piece r t2 now
   puts_behind (Ok u) t0 t1 t2 held piece now empty a b c = (held ++ piece, appends_then t0 t1 t2 held piece a b, rw empty (append-nil (held ++ piece)))
-  puts_behind (Err e) t0 t1 t2 held piece now empty a b c = front_behind t0 t1 t2 held piece a c
+  puts_behind (Err e) t0 t1 t2 held piece now empty a b c = prefix_behind t0 t1 t2 held piece a c
 
 -- an element of a list, behind those before it
 module _ {X : Type 0} (f : X → List ℕ) (xs : List X) (i : ℕ) (d : X) (here : i < length xs) where
@@ -51,8 +51,8 @@ module _ {X : Type 0} (f : X → List ℕ) (xs : List X) (i : ℕ) (d : X) (here
     pub sends_more : (h2 : List ℕ) → Sends t1 h1 (f (get_or xs i d)) t2 h2 → Sends t0 h0 (flat_map f (take (i + 1) xs)) t2 h2
     sends_more h2 one = subst (λ p. Sends t0 h0 p t2 h2) (sym next) (sends_then t0 t1 t2 h0 h1 h2 (flat_map f (take i xs)) (f (get_or xs i d)) before one)
 
-    pub fails_more : AppendsFront t1 t2 (h1 ++ f (get_or xs i d)) → AppendsFront t0 t2 (h0 ++ flat_map f xs)
-    fails_more one = subst (λ p. AppendsFront t0 t2 (h0 ++ p)) (sym rest)
+    pub fails_more : AppendsPrefix t1 t2 (h1 ++ f (get_or xs i d)) → AppendsPrefix t0 t2 (h0 ++ flat_map f xs)
+    fails_more one = subst (λ p. AppendsPrefix t0 t2 (h0 ++ p)) (sym rest)
         (fails_first t0 t2 h0 (flat_map f (take i xs) ++ f (get_or xs i d)) (flat_map f (drop (i + 1) xs)) (fails_then t0 t1 t2 h0 h1 (flat_map f (take i xs)) (f (get_or xs i d)) before one))
 
 plain_byte : (b : ℕ) → is_plain_byte b ≡ true → escaped_byte b ≡ b ∷ []
@@ -72,20 +72,20 @@ escaped_plain (b ∷ path) plain =
     λ i. here i ++ more i
 
 module _ (t0 t1 : Option (List ℕ)) (h0 : List ℕ) where
-  -- a front of the first of several pieces
-  pub front_of_two : (p q : List ℕ) → AppendsFront t0 t1 (h0 ++ p) → AppendsFront t0 t1 (h0 ++ (p ++ q))
-  front_of_two p q k = fails_first t0 t1 h0 p q k
+  -- a prefix of the first of several pieces
+  pub prefix_of_two : (p q : List ℕ) → AppendsPrefix t0 t1 (h0 ++ p) → AppendsPrefix t0 t1 (h0 ++ (p ++ q))
+  prefix_of_two p q k = fails_first t0 t1 h0 p q k
 
-  pub front_of_three : (p q r : List ℕ) → AppendsFront t0 t1 (h0 ++ p) → AppendsFront t0 t1 (h0 ++ ((p ++ q) ++ r))
-  front_of_three p q r k = front_of_two (p ++ q) r (front_of_two p q k)
+  pub prefix_of_three : (p q r : List ℕ) → AppendsPrefix t0 t1 (h0 ++ p) → AppendsPrefix t0 t1 (h0 ++ ((p ++ q) ++ r))
+  prefix_of_three p q r k = prefix_of_two (p ++ q) r (prefix_of_two p q k)
 
 pub on_err_then : {E : Type 0} {P Q : Type 0} (r : Result (Unit {0}) E) → OnErr r P → (P → Q) → OnErr r Q
 on_err_then (Ok u) h f = tt
 on_err_then (Err e) h f = f h
 
 -- what was held went behind what was sent
-pub flushed_front : (t0 t1 t2 : Option (List ℕ)) (h p : List ℕ) → Sends t0 [] p t1 h → AppendsFront t1 t2 h → AppendsFront t0 t2 p
-flushed_front t0 t1 t2 h p a k = subst (AppendsFront t0 t2) a.2 (front_behind t0 t1 t2 a.0 h a.1 k)
+pub flushed_prefix : (t0 t1 t2 : Option (List ℕ)) (h p : List ℕ) → Sends t0 [] p t1 h → AppendsPrefix t1 t2 h → AppendsPrefix t0 t2 p
+flushed_prefix t0 t1 t2 h p a k = subst (AppendsPrefix t0 t2) a.2 (prefix_behind t0 t1 t2 a.0 h a.1 k)
 
 pub on_err_if : {E : Type 0} {P : Type 0} (r : Result (Unit {0}) E) → P → OnErr r P
 on_err_if (Ok u) h = tt

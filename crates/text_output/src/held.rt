@@ -1,7 +1,7 @@
 //! Bytes on their way to a sink, in large pieces.
 ghost use Rattle.std.specs.Prelude.{◌≡◌, [], ◌++◌, OnOk, OnErr, decimal};
 ghost use Rattle.std.specs.Io.KnownBytes.{Appends};
-ghost use Rattle.firefly_outside.specs.Causes.{HasCause, AppendsFront};
+ghost use Rattle.firefly_outside.specs.Causes.{HasCause, AppendsPrefix};
 ghost use Rattle.text_output.specs.Sent.{Sends, Puts};
 
 use arrayvec::ArrayVec;
@@ -15,7 +15,7 @@ pub type Held = ArrayVec<u8, 16384>;
 pub fn flush<O: Sink>(held: &mut Held, out: &mut O) -> Result<(), SinkFault>
     ensures ok { OnOk result (Appends (O.held out.old) (O.held out.new) held.old.items) }
     ensures empty { OnOk result (held.new.items ≡ []) }
-    ensures err { OnErr result (AppendsFront (O.held out.old) (O.held out.new) held.old.items) }
+    ensures err { OnErr result (AppendsPrefix (O.held out.old) (O.held out.new) held.old.items) }
     ensures cause { HasCause (O.faults out.old) (O.faults out.new) result }
 {
     match put_all(out, held.as_slice()) {

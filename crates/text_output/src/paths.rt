@@ -2,7 +2,7 @@
 ghost use Rattle.std.specs.Prelude.{◌≡◌, ◌++◌, IsTrue, OnOk, OnErr, true};
 ghost use Rattle.std.specs.List.{list_all};
 ghost use Rattle.std.specs.Io.KnownBytes.{Appends};
-ghost use Rattle.firefly_outside.specs.Causes.{HasCause, AppendsFront};
+ghost use Rattle.firefly_outside.specs.Causes.{HasCause, AppendsPrefix};
 ghost use Rattle.text_output.specs.Paths.{newline, is_plain_byte, escaped, escaped_byte};
 ghost use Rattle.text_output.specs.Sent.{Puts};
 
@@ -88,7 +88,7 @@ pub fn print_path<O: Sink>(
     out: &mut O,
 ) -> Result<(), SinkFault>
     ensures ok { OnOk result (Appends (O.held out.old) (O.held out.new) (before.now ++ escaped path.now ++ after.now)) }
-    ensures err { OnErr result (AppendsFront (O.held out.old) (O.held out.new) (before.now ++ escaped path.now ++ after.now)) }
+    ensures err { OnErr result (AppendsPrefix (O.held out.old) (O.held out.new) (before.now ++ escaped path.now ++ after.now)) }
     ensures cause { HasCause (O.faults out.old) (O.faults out.new) result }
 {
     let mut held = Held::new();

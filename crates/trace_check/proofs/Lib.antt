@@ -1,6 +1,6 @@
 pub mod Runs
 pub mod Alike
-pub mod Fronts
+pub mod Prefixes
 pub mod UnderWay
 pub mod Unique
 pub mod Exact

@@ -23,11 +23,11 @@ use Rattle.trace_core.specs.Steps.{TakesHead, TakesEvent, TakesEnd, Breaks}
 use Rattle.trace_core.specs.Text.{first_line, layout_line, head_text, event_line, end_line, values_text, rest_text, trace_text, IsTrace, IsRest}
 use Rattle.trace_core.proofs.Outcomes.{reason_behind, Consumes-trans, take_behind}
 use Rattle.trace_core.specs.Whole.{event_lines}
-use Rattle.trace_check.specs.Verdicts.{front_text, NoFault, IsCutOff, refusal, IsJust, IsFrontText, IsLegalText, IsIllegalText}
+use Rattle.trace_check.specs.Verdicts.{prefix_text, NoFault, IsCutOff, refusal, IsJust, IsPrefixText, IsLegalText, IsIllegalText}
 use Rattle.trace_check.specs.declared.checker.Summary.{Summary}
 use Rattle.trace_check.proofs.Runs.{leads-push, leads-split}
 use Rattle.trace_check.proofs.Alike.{AreReadable, readable, plain_all, plain_readable, leads_back}
-use Rattle.trace_check.proofs.Fronts.{front_text-push, front_text-plain, rest_text-split, named-push, made-push, readable-last, length-front_text, same_front, le_total}
+use Rattle.trace_check.proofs.Prefixes.{prefix_text-push, prefix_text-plain, rest_text-split, named-push, made-push, readable-last, length-prefix_text, same_prefix, le_total}
 
 -- so far these events were read, and they are a run
 pub record IsUnderWay (budget : ℕ) (left₀ : Option (List ℕ)) (before : ℕ) (st : Standing) (now : ℕ) (m : Moment) (count : ℕ) : Type 0 where
@@ -40,14 +40,14 @@ pub record IsUnderWay (budget : ℕ) (left₀ : Option (List ℕ)) (before : ℕ
   pub run : IsRun st.layout.version events (spec_of m)
   pub counted : length events ≡ count
   pub place : st.place ≡ count
-  pub read : Consumes left₀ st.rest (front_text st.layout events)
-  pub room : st.room + length (front_text st.layout events) ≡ budget
+  pub read : Consumes left₀ st.rest (prefix_text st.layout events)
+  pub room : st.room + length (prefix_text st.layout events) ≡ budget
   pub reasons : (left' : Option (List ℕ)) (after : ℕ) (f : TextFault) → HasReason (IsRest st.layout st.place) st.lines st.room st.rest left' now after f
       → HasReason IsTrace 0 budget left₀ left' before after f
 
 -- the count of events is within the budget
 pub few : (budget : ℕ) (left₀ : Option (List ℕ)) (before : ℕ) (st : Standing) (now : ℕ) (m : Moment) (count : ℕ) → IsUnderWay budget left₀ before st now m count → count ≤ budget
-few budget left₀ before st now m count u = omega (arith, length-front_text st.layout u.events, u.counted, u.room)
+few budget left₀ before st now m count u = omega (arith, length-prefix_text st.layout u.events, u.counted, u.room)
 
 -- another event may stand behind the next
 pub possible : (budget : ℕ) (left₀ : Option (List ℕ)) (before : ℕ) (st : Standing) (now : ℕ) (m : Moment) (count : ℕ) → budget < 2 ^ 64 - 1 → IsUnderWay budget left₀ before st now m count → IsLawful st.layout × (st.place + 1 < 2 ^ 64)
@@ -59,16 +59,16 @@ length-push xs ys n m room room' a b c = omega (arith, length-append xs ys)
 -- the bytes up to the end of this event's line
 pub read_on : (budget : ℕ) (left₀ : Option (List ℕ)) (before now : ℕ) (p p' : Standing) (m : Moment) (count : ℕ) (e : Event)
     → (u : IsUnderWay budget left₀ before p now m count) → TakesEvent p p' e
-    → Consumes left₀ p'.rest (front_text p.layout (u.events ++ e ∷ [])) × (p'.room + length (front_text p.layout (u.events ++ e ∷ [])) ≡ budget)
+    → Consumes left₀ p'.rest (prefix_text p.layout (u.events ++ e ∷ [])) × (p'.room + length (prefix_text p.layout (u.events ++ e ∷ [])) ≡ budget)
 read_on budget left₀ before now p p' m count e u t =
     let at : length u.events ≡ p.place = u.counted ∙ sym u.place in
-    let text : front_text p.layout (u.events ++ e ∷ []) ≡ front_text p.layout u.events ++ event_line p.place e =
-    front_text-push p.layout u.events e ∙ ap (λ k. front_text p.layout u.events ++ event_line k e) at
+    let text : prefix_text p.layout (u.events ++ e ∷ []) ≡ prefix_text p.layout u.events ++ event_line p.place e =
+    prefix_text-push p.layout u.events e ∙ ap (λ k. prefix_text p.layout u.events ++ event_line k e) at
     in
     let Q : List ℕ → Type 0 = λ x. Consumes left₀ p'.rest x × (p'.room + length x ≡ budget) in
     subst Q (sym text) (
-      Consumes-trans left₀ p.rest p'.rest (front_text p.layout u.events) (event_line p.place e) u.read t.passes.bytes,
-      length-push (front_text p.layout u.events) (event_line p.place e) _ budget p.room p'.room u.room t.passes.room refl,
+      Consumes-trans left₀ p.rest p'.rest (prefix_text p.layout u.events) (event_line p.place e) u.read t.passes.bytes,
+      length-push (prefix_text p.layout u.events) (event_line p.place e) _ budget p.room p'.room u.room t.passes.room refl,
     )
 
 unfoldable pub step_on : (budget : ℕ) (left₀ : Option (List ℕ)) (before now now' : ℕ) (p p' : Standing) (m m' : Moment) (count : ℕ) (e : Event) → budget < 2 ^ 64 - 1
@@ -97,10 +97,10 @@ consumes_some bytes None text c = absurd c
 consumes_some bytes (Some ys) text c = (ys, c, refl)
 
 -- the events that were read stand at the front of the input
-unfoldable pub front_read : (budget : ℕ) (left₀ : Option (List ℕ)) (before now : ℕ) (p : Standing) (m : Moment) (count : ℕ) → IsUnderWay budget left₀ before p now m count
-    → (bytes : List ℕ) → left₀ ≡ Some bytes → IsFrontText budget bytes
-front_read budget left₀ before now p m count u bytes told_is =
-    let b = consumes_some bytes p.rest (front_text p.layout u.events) (subst (λ o. Consumes o p.rest (front_text p.layout u.events)) told_is u.read) in
+unfoldable pub prefix_read : (budget : ℕ) (left₀ : Option (List ℕ)) (before now : ℕ) (p : Standing) (m : Moment) (count : ℕ) → IsUnderWay budget left₀ before p now m count
+    → (bytes : List ℕ) → left₀ ≡ Some bytes → IsPrefixText budget bytes
+prefix_read budget left₀ before now p m count u bytes told_is =
+    let b = consumes_some bytes p.rest (prefix_text p.layout u.events) (subst (λ o. Consumes o p.rest (prefix_text p.layout u.events)) told_is u.read) in
     record {
       layout = p.layout;
       events = u.events;
@@ -127,21 +127,21 @@ no_more l' l place es (x ∷ tail) seen more at same named some e misses =
 
 -- where no further event stands behind a run, all events are of the run
 no_fault : (l' : Layout) (events : List Event) (place : ℕ) (last : Spec) (seen bytes : List ℕ) → IsLawful l' → AreReadable l' events → IsRun l'.version events last → length events ≡ place
-    → bytes ≡ front_text l' events ++ seen → length bytes < 2 ^ 64 - 1 → Misses (HasNames l') (event_line place) seen → NoFault bytes
+    → bytes ≡ prefix_text l' events ++ seen → length bytes < 2 ^ 64 - 1 → Misses (HasNames l') (event_line place) seen → NoFault bytes
 no_fault l' events place last seen bytes lawful names run at cut fits misses = λ l ds more ok said eq₀.
     let es = plain_all ds in
     let named = plain_readable l ok ds said in
-    let eq : bytes ≡ front_text l es ++ more = eq₀ ∙ ap (λ t. t ++ more) (sym (front_text-plain l ok ds said)) in
-    let few₁ : length es < 2 ^ 64 - 1 = omega (arith, length-front_text l es, ap length eq, length-append (front_text l es) more) in
-    let few₂ : length events < 2 ^ 64 - 1 = omega (arith, length-front_text l' events, ap length cut, length-append (front_text l' events) seen) in
+    let eq : bytes ≡ prefix_text l es ++ more = eq₀ ∙ ap (λ t. t ++ more) (sym (prefix_text-plain l ok ds said)) in
+    let few₁ : length es < 2 ^ 64 - 1 = omega (arith, length-prefix_text l es, ap length eq, length-append (prefix_text l es) more) in
+    let few₂ : length events < 2 ^ 64 - 1 = omega (arith, length-prefix_text l' events, ap length cut, length-append (prefix_text l' events) seen) in
     elim (le_total (length es) (length events)) [
       | inl le ↦
-          let s = same_front l l' es events more seen ok lawful few₂ named names le (sym eq ∙ cut) in
+          let s = same_prefix l l' es events more seen ok lawful few₂ named names le (sym eq ∙ cut) in
           let own : IsRun l.version (es ++ s.1.0) last = subst (λ (k : Layout). IsRun k.version (es ++ s.1.0) last) (sym s.0) (subst (λ x. IsRun l'.version x last) s.1.1 run) in
           let r = leads-split (at_first l.version) last es s.1.0 own in
           (r.0, leads_back l ok (at_first l.version) r.0 ds said r.1)
       | inr lt ↦
-          let s = same_front l' l events es seen more lawful ok few₁ names named (omega arith) (sym cut ∙ eq) in
+          let s = same_prefix l' l events es seen more lawful ok few₁ names named (omega arith) (sym cut ∙ eq) in
           let tail = readable-last l events s.1.0 (subst (AreReadable l) s.1.1 named) in
           let longer : 0 < length s.1.0 = omega (arith, ap length s.1.1, length-append events s.1.0) in
           absurd (no_more l' l place events s.1.0 seen more at s.0 tail longer s.1.2 misses)
@@ -154,9 +154,9 @@ within_budget : (budget : ℕ) (left₀ : Option (List ℕ)) (before now : ℕ) 
     → IsUnderWay budget left₀ before p now m count → IfSome p.rest (λ input. Misses (HasNames p.layout) (event_line p.place) (take p.room input)) → IfSome left₀ (λ bytes. NoFault (take budget bytes))
 within_budget budget None before now p m count fits u misses = tt
 within_budget budget (Some bytes) before now p m count fits u misses =
-    let front = front_text p.layout u.events in
-    let b = consumes_some bytes p.rest front u.read in
-    let cut : take budget bytes ≡ front ++ take p.room b.0 = take_behind front bytes b.0 budget p.room b.1 u.room in
+    let prefix = prefix_text p.layout u.events in
+    let b = consumes_some bytes p.rest prefix u.read in
+    let cut : take budget bytes ≡ prefix ++ take p.room b.0 = take_behind prefix bytes b.0 budget p.room b.1 u.room in
     let short : length (take budget bytes) < 2 ^ 64 - 1 = omega (arith, length-take budget bytes) in
     no_fault p.layout u.events p.place (spec_of m) (take p.room b.0) (take budget bytes) u.lawful (readable p.layout u.events u.named u.made) u.run (u.counted ∙ sym u.place) cut short
     (whole_at p.rest b.0 (λ input. Misses (HasNames p.layout) (event_line p.place) (take p.room input)) b.2 misses)
@@ -167,7 +167,7 @@ unfoldable pub fails_on : (budget : ℕ) (left₀ : Option (List ℕ)) (before n
 fails_on budget None before now p p' m count e why u t f = tt
 fails_on budget (Some bytes) before now p p' m count e why u t f =
     let r = read_on budget (Some bytes) before now p p' m count e u t in
-    let b = consumes_some bytes p'.rest (front_text p.layout (u.events ++ e ∷ [])) r.0 in record {
+    let b = consumes_some bytes p'.rest (prefix_text p.layout (u.events ++ e ∷ [])) r.0 in record {
       layout = p.layout;
       events = u.events;
       event = e;
@@ -199,9 +199,9 @@ read_just : (budget : ℕ) (left₀ left' : Option (List ℕ)) (before now' : �
     → LacksAt (HasNames p.layout) (event_line p.place) p.room p.rest left' fault.Read → IsJust budget left₀ left' before now' (refusal fault.Read)
 read_just budget None left' before now' p now m count fits u h l = (h.0, tt)
 read_just budget (Some bytes) left' before now' p now m count fits u h l =
-    let front = front_text p.layout u.events in
-    let whole = Consumes-trans (Some bytes) p.rest left' front l.0 u.read l.1 in
-    let same : h.1.0 ≡ front ++ l.0 = cut_off bytes left' h.1.0 (front ++ l.0) h.1.1 whole in
+    let prefix = prefix_text p.layout u.events in
+    let whole = Consumes-trans (Some bytes) p.rest left' prefix l.0 u.read l.1 in
+    let same : h.1.0 ≡ prefix ++ l.0 = cut_off bytes left' h.1.0 (prefix ++ l.0) h.1.1 whole in
     let short : length h.1.0 < 2 ^ 64 - 1 = omega (arith, h.1.3) in
     (h.0, (h.1.0, h.1.1, h.1.2, h.1.3, no_fault p.layout u.events p.place (spec_of m) l.0 h.1.0 u.lawful (readable p.layout u.events u.named u.made) u.run (u.counted ∙ sym u.place) same short l.2))
 
@@ -236,7 +236,7 @@ unfoldable pub ends_on : (budget : ℕ) (left₀ : Option (List ℕ)) (before no
     → IfSome left₀ (λ bytes. IsLegalText budget bytes s)
 ends_on budget None before now p p' m count s fits u t e h w a = tt
 ends_on budget (Some bytes) before now p p' m count s fits u t e h w a =
-    let b = consumes_some bytes p.rest (front_text p.layout u.events) u.read in
+    let b = consumes_some bytes p.rest (prefix_text p.layout u.events) u.read in
     let x = whole_at p.rest b.0 _ b.2 t.whole in
     let vs = x.0.0 in
     let at : p.place ≡ 0 + length u.events = omega (arith, u.place, u.counted) in
@@ -249,7 +249,7 @@ ends_on budget (Some bytes) before now p p' m count s fits u t e h w a =
       values = vs;
       last = spec_of m;
       text = record { lawful = u.lawful; named = u.named; few = omega (arith, few budget (Some bytes) before p now m count u, u.counted); valued = x.0.1; text = text };
-      within = omega (arith, ap length b.1, length-append (front_text p.layout u.events) b.0, x.1, u.room);
+      within = omega (arith, ap length b.1, length-append (prefix_text p.layout u.events) b.0, x.1, u.room);
       run = u.run;
       counts = record {
         events = e ∙ sym u.counted;
@@ -263,7 +263,7 @@ unfoldable pub starts_on : (budget : ℕ) (left₀ : Option (List ℕ)) (before 
     → p.rest ≡ left₀ → p.room ≡ budget → p.lines ≡ 0 → TakesHead p p' l → before ≤ now → m.layout ≡ l → spec_of m ≡ at_first l.version → IsUnderWay budget left₀ before p' now m 0
 starts_on budget left₀ before now p p' l m rest room lines t le laid first =
     let bytes : Consumes left₀ p'.rest (head_text l) = rw rest at t.passes.bytes in
-    let whole : front_text l [] ≡ head_text l = append-nil (head_text l) in
+    let whole : prefix_text l [] ≡ head_text l = append-nil (head_text l) in
     let one = first_line l.version in
     let split = Consumes-split left₀ p'.rest one (layout_line l) bytes in
     let size : p'.room + length (head_text l) ≡ budget = t.passes.room ∙ room in

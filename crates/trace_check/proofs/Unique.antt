@@ -20,11 +20,11 @@ use Rattle.trace_check.specs.declared.checker.Summary.{Summary}
 use Rattle.trace_check.specs.declared.checker.Verdict.{Verdict}
 use Rattle.trace_check.specs.declared.checker.Verdict.TheVariants.{Legal, Illegal, BadLine, TooLong, ReadFault}
 use Rattle.trace_core.specs.Whole.{event_lines}
-use Rattle.trace_check.specs.Verdicts.{front_text, NoFault, IsJust, IsLegalText, IsIllegalText, Counts, OneVerdict}
+use Rattle.trace_check.specs.Verdicts.{prefix_text, NoFault, IsJust, IsLegalText, IsIllegalText, Counts, OneVerdict}
 use Rattle.trace_check.proofs.Runs.{leads_same, leads-split, fails_same, no_run}
 use Rattle.trace_core.proofs.Plain.{plain_event}
 use Rattle.trace_check.proofs.Alike.{AreReadable, plain_all, plain_append, length-plain_all, plain_readable, plain_names, fails_plain, leads_plain, leads_back}
-use Rattle.trace_check.proofs.Fronts.{same_front, length-front_text, front_text-plain, rest_text-split, names-last, names-first, readable-first, readable-last, le_total, front_text-push}
+use Rattle.trace_check.proofs.Prefixes.{same_prefix, length-prefix_text, prefix_text-plain, rest_text-split, names-last, names-first, readable-first, readable-last, le_total, prefix_text-push}
 
 length-snoc : (es : List Event) (e : Event) → length (es ++ e ∷ []) ≡ length es + 1
 length-snoc es e = length-append es (e ∷ [])
@@ -36,21 +36,21 @@ failing v es e why f = (f.1, f.3, f.4)
 illegal_excludes : (budget : ℕ) (bytes : List ℕ) (place : ℕ) (why : Broken) → IsIllegalText budget bytes place why → NoFault (take budget bytes) → ⊥
 illegal_excludes budget bytes place why i none =
     let es = i.events ++ i.event ∷ [] in
-    let front = front_text i.layout es in
-    let e : budget - length front + length front ≡ budget = omega (arith, i.within) in
-    let r = none i.layout es (take (budget - length front) i.rest) i.lawful i.named (take_behind front bytes i.rest budget (budget - length front) i.text e) in
+    let prefix = prefix_text i.layout es in
+    let e : budget - length prefix + length prefix ≡ budget = omega (arith, i.within) in
+    let r = none i.layout es (take (budget - length prefix) i.rest) i.lawful i.named (take_behind prefix bytes i.rest budget (budget - length prefix) i.text e) in
     let f = failing i.layout.version i.events i.event why i.fault in
     no_run (at_first i.layout.version) f.0 r.0 i.events i.event why r.1 f.1 f.2
 
 -- a text is its head and the lines of its events, and the rest
-whole_front : (l : Layout) (es : List Event) (vs : List MutexValue) → trace_text l es vs ≡ front_text l es ++ (end_line (length es) ++ values_text vs)
-whole_front l es vs =
+whole_prefix : (l : Layout) (es : List Event) (vs : List MutexValue) → trace_text l es vs ≡ prefix_text l es ++ (end_line (length es) ++ values_text vs)
+whole_prefix l es vs =
     let z : 0 + length es ≡ length es = omega arith in
     ap (λ t. head_text l ++ t) (rest_text-split 0 es vs ∙ ap (λ n. event_lines 0 es ++ (end_line n ++ values_text vs)) z) ∙ sym (append_assoc (head_text l) (event_lines 0 es) (end_line (length es) ++ values_text vs))
 
 -- a legal text holds no events but its own
-legal_text : (budget : ℕ) (bytes : List ℕ) (s : Summary) → (i : IsLegalText budget bytes s) → bytes ≡ front_text i.layout i.events ++ (end_line (length i.events) ++ values_text i.values)
-legal_text budget bytes s i = i.text.text ∙ whole_front i.layout i.events i.values
+legal_text : (budget : ℕ) (bytes : List ℕ) (s : Summary) → (i : IsLegalText budget bytes s) → bytes ≡ prefix_text i.layout i.events ++ (end_line (length i.events) ++ values_text i.values)
+legal_text budget bytes s i = i.text.text ∙ whole_prefix i.layout i.events i.values
 
 end_is_no_event : (l : Layout) (n : ℕ) (tail : List Event) (vs more : List ℕ) → IsLawful l → n + 1 < 2 ^ 64 → AreReadable l tail → 0 < length tail → end_line n ++ vs ≡ event_lines n tail ++ more → ⊥
 end_is_no_event l n [] vs more ok fits named some e = omega arith
@@ -58,20 +58,20 @@ end_is_no_event l n (x ∷ tail) vs more ok fits named some e =
     let s = same_line (expect.Events l n) (ok, fits) line.End (line.Event x) vs (event_lines (n + 1) tail ++ more) tt named.0 (e ∙ append_assoc (event_line n x) (event_lines (n + 1) tail) more) in
     let k = s.0 in absurd (cc)
 
--- an event list at the front of a legal text is a front of its events
-legal_front : (budget : ℕ) (bytes : List ℕ) (s : Summary) → budget < 2 ^ 64 - 1 → (i : IsLegalText budget bytes s) → AreReadable i.layout i.events → (l : Layout) (es : List Event) (more : List ℕ) → IsLawful l → AreReadable l es → bytes ≡ front_text l es ++ more
+-- an event list at the front of a legal text is a prefix of its events
+legal_prefix : (budget : ℕ) (bytes : List ℕ) (s : Summary) → budget < 2 ^ 64 - 1 → (i : IsLegalText budget bytes s) → AreReadable i.layout i.events → (l : Layout) (es : List Event) (more : List ℕ) → IsLawful l → AreReadable l es → bytes ≡ prefix_text l es ++ more
     → (l ≡ i.layout) × ((tail : List Event) × (i.events ≡ es ++ tail))
-legal_front budget bytes s fits i own l es more ok named eq =
+legal_prefix budget bytes s fits i own l es more ok named eq =
     let text = legal_text budget bytes s i in
     let ending = end_line (length i.events) ++ values_text i.values in
-    let few₁ : length es < 2 ^ 64 - 1 = omega (arith, length-front_text l es, ap length eq, length-append (front_text l es) more, i.within) in
-    let few₂ : length i.events < 2 ^ 64 - 1 = omega (arith, length-front_text i.layout i.events, ap length text, length-append (front_text i.layout i.events) ending, i.within) in
+    let few₁ : length es < 2 ^ 64 - 1 = omega (arith, length-prefix_text l es, ap length eq, length-append (prefix_text l es) more, i.within) in
+    let few₂ : length i.events < 2 ^ 64 - 1 = omega (arith, length-prefix_text i.layout i.events, ap length text, length-append (prefix_text i.layout i.events) ending, i.within) in
     elim (le_total (length es) (length i.events)) [
       | inl le ↦
-          let f = same_front l i.layout es i.events more ending ok i.text.lawful few₂ named own le (sym eq ∙ text) in
+          let f = same_prefix l i.layout es i.events more ending ok i.text.lawful few₂ named own le (sym eq ∙ text) in
           (f.0, (f.1.0, f.1.1))
       | inr lt ↦
-          let f = same_front i.layout l i.events es ending more i.text.lawful ok few₁ own named (omega arith) (sym text ∙ eq) in
+          let f = same_prefix i.layout l i.events es ending more i.text.lawful ok few₁ own named (omega arith) (sym text ∙ eq) in
           let names = readable-last l i.events f.1.0 (subst (AreReadable l) f.1.1 named) in
           let longer : 0 < length f.1.0 = omega (arith, ap length f.1.1, length-append i.events f.1.0) in
           absurd (end_is_no_event l (length i.events) f.1.0 (values_text i.values) more ok (omega arith) names longer f.1.2)
@@ -85,10 +85,10 @@ made_legal budget bytes s i =
     let es = i.events in
     let h = i.text.named in
     let size = length-plain_all es in
-    let front = front_text-plain l ok es h in
+    let prefix = prefix_text-plain l ok es h in
     let ending = λ (n : ℕ). end_line n ++ values_text i.values in
     let text : bytes ≡ trace_text l (plain_all es) i.values =
-    legal_text budget bytes s i ∙ ap (λ t. t ++ ending (length es)) (sym front) ∙ ap (λ n. front_text l (plain_all es) ++ ending n) (sym size) ∙ sym (whole_front l (plain_all es) i.values)
+    legal_text budget bytes s i ∙ ap (λ t. t ++ ending (length es)) (sym prefix) ∙ ap (λ n. prefix_text l (plain_all es) ++ ending n) (sym size) ∙ sym (whole_prefix l (plain_all es) i.values)
     in (
       record {
         layout = l;
@@ -108,8 +108,8 @@ legal_no_fault : (budget : ℕ) (bytes : List ℕ) (s : Summary) → budget < 2 
 legal_no_fault budget bytes s fits i = λ l es more ok named eq.
     let j = made_legal budget bytes s i in
     let ds = plain_all es in
-    let text = sym (take_all budget bytes i.within) ∙ eq ∙ ap (λ t. t ++ more) (sym (front_text-plain l ok es named)) in
-    let f = legal_front budget bytes s fits j.0 j.1 l ds more ok (plain_readable l ok es named) text in
+    let text = sym (take_all budget bytes i.within) ∙ eq ∙ ap (λ t. t ++ more) (sym (prefix_text-plain l ok es named)) in
+    let f = legal_prefix budget bytes s fits j.0 j.1 l ds more ok (plain_readable l ok es named) text in
     let run : IsRun l.version (ds ++ f.1.0) j.0.last = subst (λ (v : Version). IsRun v (ds ++ f.1.0) j.0.last) (sym (ap (λ (k : Layout). k.version) f.0)) (subst (λ x. IsRun j.0.layout.version x j.0.last) f.1.1 j.0.run) in
     let r = leads-split (at_first l.version) j.0.last ds f.1.0 run in
     (r.0, leads_back l ok (at_first l.version) r.0 es named r.1)
@@ -130,8 +130,8 @@ no_tail xs (x ∷ tail) ys e le = absurd (omega (arith, ap length e, length-appe
 pub legal_events : (budget : ℕ) (bytes : List ℕ) (s t : Summary) → budget < 2 ^ 64 - 1 → (i : IsLegalText budget bytes s) → AreReadable i.layout i.events → (j : IsLegalText budget bytes t) → AreReadable j.layout j.events
     → (j.layout ≡ i.layout) × (i.events ≡ j.events)
 legal_events budget bytes s t fits i own j own' =
-    let f = legal_front budget bytes s fits i own j.layout j.events (end_line (length j.events) ++ values_text j.values) j.text.lawful own' (legal_text budget bytes t j) in
-    let g = legal_front budget bytes t fits j own' i.layout i.events (end_line (length i.events) ++ values_text i.values) i.text.lawful own (legal_text budget bytes s i) in
+    let f = legal_prefix budget bytes s fits i own j.layout j.events (end_line (length j.events) ++ values_text j.values) j.text.lawful own' (legal_text budget bytes t j) in
+    let g = legal_prefix budget bytes t fits j own' i.layout i.events (end_line (length i.events) ++ values_text i.values) i.text.lawful own (legal_text budget bytes s i) in
     let longer : length i.events ≤ length j.events = omega (arith, ap length g.1.1, length-append i.events g.1.0) in
     (f.0, no_tail j.events f.1.0 i.events f.1.1 longer)
 
@@ -158,9 +158,9 @@ illegal_le budget bytes p q v w fits i own j own' le =
     let fi = failing i.layout.version i.events i.event v i.fault in
     let fj = failing j.layout.version j.events j.event w j.fault in
     let first = at_first j.layout.version in
-    let few₁ : length es < 2 ^ 64 - 1 = omega (arith, length-front_text i.layout es, i.within) in
+    let few₁ : length es < 2 ^ 64 - 1 = omega (arith, length-prefix_text i.layout es, i.within) in
     let le' : length ds ≤ length es = omega (arith, length-snoc i.events i.event, length-snoc j.events j.event) in
-    let f = same_front j.layout i.layout ds es j.rest i.rest j.lawful i.lawful few₁ own' own le' (sym j.text ∙ i.text) in
+    let f = same_prefix j.layout i.layout ds es j.rest i.rest j.lawful i.lawful few₁ own' own le' (sym j.text ∙ i.text) in
     let run : IsRun j.layout.version i.events fi.0 = subst (λ (k : Layout). IsRun k.version i.events fi.0) (sym f.0) fi.1 in
     elim (le_total (length i.events) (length j.events)) [
       | inl ge ↦
@@ -172,8 +172,8 @@ illegal_le budget bytes p q v w fits i own j own' le =
       | inr lt ↦
           let less : length ds ≤ length i.events = omega (arith, length-snoc j.events j.event) in
           let few₂ : length i.events < 2 ^ 64 - 1 = omega (arith, length-snoc i.events i.event) in
-          let text = i.text ∙ ap (λ t. t ++ i.rest) (front_text-push i.layout i.events i.event) ∙ append_assoc (front_text i.layout i.events) (event_line (length i.events) i.event) i.rest in
-          let g = same_front j.layout i.layout ds i.events j.rest (event_line (length i.events) i.event ++ i.rest) j.lawful i.lawful few₂ own' (readable-first i.layout i.events (i.event ∷ []) own) less (sym j.text ∙ text) in
+          let text = i.text ∙ ap (λ t. t ++ i.rest) (prefix_text-push i.layout i.events i.event) ∙ append_assoc (prefix_text i.layout i.events) (event_line (length i.events) i.event) i.rest in
+          let g = same_prefix j.layout i.layout ds i.events j.rest (event_line (length i.events) i.event ++ i.rest) j.lawful i.lawful few₂ own' (readable-first i.layout i.events (i.event ∷ []) own) less (sym j.text ∙ text) in
           let r = leads-split first fi.0 ds g.1.0 (subst (λ x. IsRun j.layout.version x fi.0) g.1.1 run) in
           absurd (no_run first fj.0 r.0 j.events j.event w r.1 fj.1 fj.2)
     ]
@@ -188,7 +188,7 @@ made_illegal budget bytes p v i =
     let own = subst (AreReadable l) split (plain_readable l ok all i.named) in
     let names = names-first l i.events (i.event ∷ []) i.named in
     let last = (names-last l i.events (i.event ∷ []) i.named).0 in
-    let front : front_text l (plain_all i.events ++ plain_event i.event ∷ []) ≡ front_text l all = ap (front_text l) (sym split) ∙ front_text-plain l ok all i.named in
+    let prefix : prefix_text l (plain_all i.events ++ plain_event i.event ∷ []) ≡ prefix_text l all = ap (prefix_text l) (sym split) ∙ prefix_text-plain l ok all i.named in
     let f = i.fault in (
       record {
         layout = l;
@@ -197,8 +197,8 @@ made_illegal budget bytes p v i =
         rest = i.rest;
         lawful = ok;
         named = subst (AllByRecursion (HasNames l)) split (plain_names l ok all i.named);
-        text = i.text ∙ ap (λ t. t ++ i.rest) (sym front);
-        within = omega (arith, ap length front, i.within);
+        text = i.text ∙ ap (λ t. t ++ i.rest) (sym prefix);
+        within = omega (arith, ap length prefix, i.within);
         fault = ([], f.1, refl, leads_plain l ok (at_first l.version) f.1 i.events names f.3, fails_plain l ok f.1 i.event v last f.4);
         counted = i.counted ∙ sym (length-plain_all i.events);
       },
@@ -236,16 +236,16 @@ first_lines-more (suc k) (suc m) (c ∷ bytes) le =
       | inr p ↦ let r = first_lines-more (suc k) (suc m) bytes le in (r.0, rw p.0 (ap (λ l. c ∷ l) r.1))
     ]
 
-begins-front : (T : List ℕ → Type 0) (xs ys front : List ℕ) → xs ≡ front ++ ys → Begins T xs → Begins T front
-begins-front T xs ys front e b = (ys ++ b.0, subst T (ap (λ l. l ++ b.0) e ∙ append_assoc front ys b.0) b.1)
+begins-prefix : (T : List ℕ → Type 0) (xs ys prefix : List ℕ) → xs ≡ prefix ++ ys → Begins T xs → Begins T prefix
+begins-prefix T xs ys prefix e b = (ys ++ b.0, subst T (ap (λ l. l ++ b.0) e ∙ append_assoc prefix ys b.0) b.1)
 
-broken_no_front : (T : List ℕ → Type 0) (bytes : List ℕ) (k : ℕ) → IsBrokenAt T bytes k → Begins T bytes → ⊥
-broken_no_front T bytes k h b = let r = first_lines-rest k bytes in h.broken (begins-front T bytes r.0 (first_lines k bytes) r.1 b)
+broken_no_prefix : (T : List ℕ → Type 0) (bytes : List ℕ) (k : ℕ) → IsBrokenAt T bytes k → Begins T bytes → ⊥
+broken_no_prefix T bytes k h b = let r = first_lines-rest k bytes in h.broken (begins-prefix T bytes r.0 (first_lines k bytes) r.1 b)
 
 broken_order : (T : List ℕ → Type 0) (bytes : List ℕ) (k m : ℕ) → IsBrokenAt T bytes k → IsBrokenAt T bytes m → k < m → ⊥
 broken_order T bytes k m h g lt =
     let r = first_lines-more k (m - 1) bytes (omega arith) in
-    h.broken (begins-front T (first_lines (m - 1) bytes) r.0 (first_lines k bytes) r.1 g.before)
+    h.broken (begins-prefix T (first_lines (m - 1) bytes) r.0 (first_lines k bytes) r.1 g.before)
 
 broken_same : (T : List ℕ → Type 0) (bytes : List ℕ) (k m : ℕ) → IsBrokenAt T bytes k → IsBrokenAt T bytes m → k ≡ m
 broken_same T bytes k m h g =
@@ -256,17 +256,17 @@ broken_same T bytes k m h g =
 
 shown_same : (T : List ℕ → Type 0) (room : ℕ) (bytes : List ℕ) (k m : ℕ) → IsShown T room bytes k → IsShown T room bytes m → k ≡ m
 shown_same T room bytes k m (inl h) (inl g) = broken_same T (take room bytes) k m h g
-shown_same T room bytes k m (inl h) (inr g) = absurd (broken_no_front T (take room bytes) k h (subst (Begins T) (sym (take_all room bytes g.0)) g.1.front))
-shown_same T room bytes k m (inr h) (inl g) = absurd (broken_no_front T (take room bytes) m g (subst (Begins T) (sym (take_all room bytes h.0)) h.1.front))
+shown_same T room bytes k m (inl h) (inr g) = absurd (broken_no_prefix T (take room bytes) k h (subst (Begins T) (sym (take_all room bytes g.0)) g.1.prefix))
+shown_same T room bytes k m (inr h) (inl g) = absurd (broken_no_prefix T (take room bytes) m g (subst (Begins T) (sym (take_all room bytes h.0)) h.1.prefix))
 shown_same T room bytes k m (inr h) (inr g) = h.1.last ∙ sym g.1.last
 
 shown_not_long : (T : List ℕ → Type 0) (room : ℕ) (bytes : List ℕ) (k : ℕ) → IsShown T room bytes k → room < length bytes → Begins T (take room bytes) → ⊥
-shown_not_long T room bytes k (inl h) long b = broken_no_front T (take room bytes) k h b
+shown_not_long T room bytes k (inl h) long b = broken_no_prefix T (take room bytes) k h b
 shown_not_long T room bytes k (inr h) long b = omega (arith, h.0)
 
 shown_not_text : (T : List ℕ → Type 0) (room : ℕ) (bytes : List ℕ) (k : ℕ) → IsShown T room bytes k → length bytes ≤ room → T bytes → ⊥
 shown_not_text T room bytes k (inl h) within t =
-    broken_no_front T (take room bytes) k h (subst (Begins T) (sym (take_all room bytes within)) ([], subst T (sym (append-nil bytes)) t))
+    broken_no_prefix T (take room bytes) k h (subst (Begins T) (sym (take_all room bytes within)) ([], subst T (sym (append-nil bytes)) t))
 shown_not_text T room bytes k (inr h) within t = h.1.no_text t
 
 legal_is_trace : (budget : ℕ) (bytes : List ℕ) (s : Summary) → IsLegalText budget bytes s → IsTrace bytes

@@ -27,25 +27,25 @@ refusal fault.TooLong = TooLong
 refusal fault.Read = ReadFault
 
 -- the head of a text, and the lines of its first events
-abbrev pub front_text : Layout → List Event → List ℕ
-front_text l es = head_text l ++ event_lines 0 es
+abbrev pub prefix_text : Layout → List Event → List ℕ
+prefix_text l es = head_text l ++ event_lines 0 es
 
 -- whole lines of events at the front of the bytes are those of a legal list
 abbrev pub NoFault : List ℕ → Type 0
 NoFault bytes =
-    (l : Layout) (es : List Event) (more : List ℕ) → IsLawful l → AllByRecursion (HasNames l) es → bytes ≡ front_text l es ++ more
+    (l : Layout) (es : List Event) (more : List ℕ) → IsLawful l → AllByRecursion (HasNames l) es → bytes ≡ prefix_text l es ++ more
     → IsLegal l.version es
 
 -- The input begins with the head and the lines of these events, which are a run, within the budget.
-pub record IsFrontText (budget : ℕ) (bytes : List ℕ) : Type 0 where
+pub record IsPrefixText (budget : ℕ) (bytes : List ℕ) : Type 0 where
   pub layout : Layout
   pub events : List Event
   pub rest : List ℕ
   pub last : Spec
   pub lawful : IsLawful layout
   pub named : AllByRecursion (HasNames layout) events
-  pub text : bytes ≡ front_text layout events ++ rest
-  pub within : length (front_text layout events) ≤ budget
+  pub text : bytes ≡ prefix_text layout events ++ rest
+  pub within : length (prefix_text layout events) ≤ budget
   pub run : IsRun layout.version events last
 
 -- the counts of the events and of the state that they lead to
@@ -74,12 +74,12 @@ pub record IsIllegalText (budget : ℕ) (bytes : List ℕ) (place : ℕ) (why : 
   pub rest : List ℕ
   pub lawful : IsLawful layout
   pub named : AllByRecursion (HasNames layout) (events ++ event ∷ [])
-  pub text : bytes ≡ front_text layout (events ++ event ∷ []) ++ rest
-  pub within : length (front_text layout (events ++ event ∷ [])) ≤ budget
+  pub text : bytes ≡ prefix_text layout (events ++ event ∷ []) ++ rest
+  pub within : length (prefix_text layout (events ++ event ∷ [])) ≤ budget
   pub fault : FirstFault layout.version (events ++ event ∷ []) events event why
   pub counted : place ≡ length events
 
--- what was given until reading failed is the front of a trace text, and shows no event that fails
+-- what was given until reading failed is the prefix of a trace text, and shows no event that fails
 abbrev pub IsCutOff : ℕ → List ℕ → Option (List ℕ) → Type 0
 IsCutOff budget bytes left' =
     (given : List ℕ) × Consumes (Some bytes) left' given × Begins IsTrace given × (length given ≤ budget) × NoFault given

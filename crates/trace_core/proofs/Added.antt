@@ -24,21 +24,21 @@ pub added_four : (old a b c new p q r s : List ℕ) → a ≡ old ++ p → b ≡
 added_four old a b c new p q r s e f g h = added_two old c new (p ++ q ++ r) s (added_three old a b c p q r e f g) h
 
 -- a text with its names and its ending, behind another text
-name_behind : (old front : List ℕ) (k : Kind) (n : ℕ) → with_name (old ++ front) k n ≡ old ++ with_name front k n
-name_behind old front k n = simp append_assoc
+name_behind : (old prefix : List ℕ) (k : Kind) (n : ℕ) → with_name (old ++ prefix) k n ≡ old ++ with_name prefix k n
+name_behind old prefix k n = simp append_assoc
 
-names_behind : (old front : List ℕ) (ks : Kinds) (x : Numbers) → with_names (old ++ front) ks x ≡ old ++ with_names front ks x
-names_behind old front kinds.Nothing x = refl
-names_behind old front (kinds.One k) x = name_behind old front k x.first
-names_behind old front (kinds.Two k j) x = ap (λ l. with_name l j x.second) (name_behind old front k x.first) ∙ name_behind old (with_name front k x.first) j x.second
+names_behind : (old prefix : List ℕ) (ks : Kinds) (x : Numbers) → with_names (old ++ prefix) ks x ≡ old ++ with_names prefix ks x
+names_behind old prefix kinds.Nothing x = refl
+names_behind old prefix (kinds.One k) x = name_behind old prefix k x.first
+names_behind old prefix (kinds.Two k j) x = ap (λ l. with_name l j x.second) (name_behind old prefix k x.first) ∙ name_behind old (with_name prefix k x.first) j x.second
 
-ending_behind : (old front : List ℕ) (e : Ending) → with_ending (old ++ front) e ≡ old ++ with_ending front e
-ending_behind old front Nothing = refl
-ending_behind old front Returns = append_assoc old front (codes " returns")
-ending_behind old front Raises = append_assoc old front (codes " raises")
-ending_behind old front Yes = append_assoc old front (codes " yes")
-ending_behind old front No = append_assoc old front (codes " no")
-ending_behind old front (Left left) = simp append_assoc
+ending_behind : (old prefix : List ℕ) (e : Ending) → with_ending (old ++ prefix) e ≡ old ++ with_ending prefix e
+ending_behind old prefix Nothing = refl
+ending_behind old prefix Returns = append_assoc old prefix (codes " returns")
+ending_behind old prefix Raises = append_assoc old prefix (codes " raises")
+ending_behind old prefix Yes = append_assoc old prefix (codes " yes")
+ending_behind old prefix No = append_assoc old prefix (codes " no")
+ending_behind old prefix (Left left) = simp append_assoc
 
 pub added_row : (old word a b new : List ℕ) (ks : Kinds) (x : Numbers) (e : Ending) → a ≡ old ++ word → b ≡ with_names a ks x → new ≡ with_ending b e → new ≡ old ++ with_ending (with_names word ks x) e
 added_row old word a b new ks x e f g h =

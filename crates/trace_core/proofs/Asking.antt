@@ -15,21 +15,21 @@ use Rattle.trace_core.proofs.CodeLaws.{ok_injective}
 use Rattle.trace_core.proofs.LineLaws.{line_code}
 use Rattle.trace_core.proofs.Plain.{plain_event, plain_is_read, plain_line}
 use Rattle.trace_core.proofs.Texts.{line_grammar}
-use Rattle.trace_core.proofs.Grammar.{front, front_from}
+use Rattle.trace_core.proofs.Grammar.{prefix, prefix_from}
 use Rattle.trace_core.proofs.Outcomes.{more_lacks, same_version}
 use Rattle.trace_core.proofs.Ends.{all_begin}
 
 pub undecided_event : (l : Layout) (n : ℕ) → IsPossible (expect.Events l n) → (w : List ℕ) → line_at (expect.Events l n) w ≡ Err More → IsUndecided (IsRest l n) (HasNames l) (event_line n) w
 undecided_event l n ok w e =
     let x = expect.Events l n in
-    (front (line_grammar x ok) (line_code x ok) w e, λ v a h eq. more_lacks x ok w e (line.Event (plain_event v)) a (plain_is_read l ok.0 v h) (eq ∙ ap (λ t. t ++ a) (sym (plain_line l ok.0 n v h))))
+    (prefix (line_grammar x ok) (line_code x ok) w e, λ v a h eq. more_lacks x ok w e (line.Event (plain_event v)) a (plain_is_read l ok.0 v h) (eq ∙ ap (λ t. t ++ a) (sym (plain_line l ok.0 n v h))))
 
 -- behind the end line the values decide
 pub undecided_end : (l : Layout) (n : ℕ) → IsPossible (expect.Events l n) → (w w' : List ℕ) → line_at (expect.Events l n) w ≡ Ok (line.End, w') → Begins (IsValues l 0) w' → IsUndecided (IsRest l n) (HasNames l) (event_line n) w
 undecided_end l n ok w w' e b =
     let x = expect.Events l n in
     let code = line_code x ok in (
-      front_from (line_grammar x ok) code w w' line.End e b,
+      prefix_from (line_grammar x ok) code w w' line.End e b,
       λ v a h eq.
           let read = plain_event v in
           let same : (line.End, w') ≡ (line.Event read, a) = ok_injective (sym e ∙ ap (line_at x) (eq ∙ ap (λ t. t ++ a) (sym (plain_line l ok.0 n v h))) ∙ code.again (line.Event read) a (plain_is_read l ok.0 v h)) in
@@ -38,22 +38,22 @@ undecided_end l n ok w w' e b =
 
 pub undecided_first : (w : List ℕ) → line_at expect.Head w ≡ Err More → IsUndecided IsTrace IsLawful head_text w
 undecided_first w e =
-    (front (line_grammar expect.Head tt) (line_code expect.Head tt) w e, λ l a h eq. more_lacks expect.Head tt w e (line.Head l.version) (layout_line l ++ a) tt (eq ∙ append_assoc (first_line l.version) (layout_line l) a))
+    (prefix (line_grammar expect.Head tt) (line_code expect.Head tt) w e, λ l a h eq. more_lacks expect.Head tt w e (line.Head l.version) (layout_line l ++ a) tt (eq ∙ append_assoc (first_line l.version) (layout_line l) a))
 
 pub undecided_counts : (v : Version) (w w' : List ℕ) → line_at expect.Head w ≡ Ok (line.Head v, w') → line_at (expect.Counts v) w' ≡ Err More → IsUndecided IsTrace IsLawful head_text w
 undecided_counts v w w' e m =
     let code = line_code expect.Head tt in (
-      front_from (line_grammar expect.Head tt) code w w' (line.Head v) e (front (line_grammar (expect.Counts v) tt) (line_code (expect.Counts v) tt) w' m),
+      prefix_from (line_grammar expect.Head tt) code w w' (line.Head v) e (prefix (line_grammar (expect.Counts v) tt) (line_code (expect.Counts v) tt) w' m),
       λ l a h eq.
           let same : (line.Head v, w') ≡ (line.Head l.version, layout_line l ++ a) = ok_injective (sym e ∙ ap (line_at expect.Head) (eq ∙ append_assoc (first_line l.version) (layout_line l) a) ∙ code.again (line.Head l.version) (layout_line l ++ a) tt) in
           more_lacks (expect.Counts v) tt w' m (line.Counts l) a (h, same_version v l.version (ap (λ p. p.0) same)) (ap (λ p. p.1) same),
     )
 
 pub undecided_value : (l : Layout) (least : ℕ) → IsPossible (expect.Values l least) → (w : List ℕ) → line_at (expect.Values l least) w ≡ Err More → Begins (IsValues l least) w
-undecided_value l least ok w e = all_begin l least w (front (line_grammar (expect.Values l least) ok) (line_code (expect.Values l least) ok) w e)
+undecided_value l least ok w e = all_begin l least w (prefix (line_grammar (expect.Values l least) ok) (line_code (expect.Values l least) ok) w e)
 
 pub undecided_values : (l : Layout) (least k v : ℕ) → IsPossible (expect.Values l least) → (w w' : List ℕ) → line_at (expect.Values l least) w ≡ Ok (line.Value k v, w') → Begins (IsValues l (k + 1)) w' → Begins (IsValues l least) w
-undecided_values l least k v ok w w' e b = all_begin l least w (front_from (line_grammar (expect.Values l least) ok) (line_code (expect.Values l least) ok) w w' (line.Value k v) e b)
+undecided_values l least k v ok w w' e b = all_begin l least w (prefix_from (line_grammar (expect.Values l least) ok) (line_code (expect.Values l least) ok) w w' (line.Value k v) e b)
 
 pub nothing_held : (l : Layout) (least : ℕ) (w : List ℕ) → w ≡ [] → Begins (IsValues l least) w
 nothing_held l least w e = subst (Begins (IsValues l least)) (sym e) ([], ([], tt, refl))

@@ -16,7 +16,7 @@ use Rattle.trace_core.specs.Steps.{IsEnding}
 use Rattle.trace_core.specs.Text.{MutexValue, IsValues, end_line, value_line}
 use Rattle.trace_core.specs.Lines.{IsSomeValues, IsPossible}
 use Rattle.trace_core.proofs.Outcomes.{kept_consumes, take_more_than}
-use Rattle.trace_core.proofs.Grammar.{empty_front}
+use Rattle.trace_core.proofs.Grammar.{empty_prefix}
 use Rattle.trace_core.proofs.LineLaws.{line_code}
 use Rattle.trace_core.proofs.Texts.{line_grammar}
 
@@ -78,7 +78,7 @@ all_begin l least bytes b = (b.0, all_values l least (bytes ++ b.0) b.1)
 
 some_begin : (l : Layout) (least : ℕ) → IsPossible (expect.Values l least) → (bytes : List ℕ) → Begins (IsValues l least) bytes → Begins (IsSomeValues l least) bytes
 some_begin l least ok bytes (more, (v ∷ vs, h, e)) = (more, (v, vs, h, e))
-some_begin l least ok [] (more, ([], h, e)) = empty_front (line_grammar (expect.Values l least) ok) (line_code (expect.Values l least) ok)
+some_begin l least ok [] (more, ([], h, e)) = empty_prefix (line_grammar (expect.Values l least) ok) (line_code (expect.Values l least) ok)
 some_begin l least ok (c ∷ bytes) (more, ([], h, e)) = absurd (cc)
 
 some_text : (l : Layout) (least : ℕ) (bytes : List ℕ) → 0 < length bytes → IsValues l least bytes → IsSomeValues l least bytes
@@ -94,7 +94,7 @@ shown_also l least ok room input k some (inl b) = inl (record {
 shown_also l least ok room input k some (inr b) = inr (
   b.0,
   record {
-    front = all_begin l least input b.1.front;
+    prefix = all_begin l least input b.1.prefix;
     no_text = λ t. b.1.no_text (some_text l least input some t);
     last = b.1.last;
   },

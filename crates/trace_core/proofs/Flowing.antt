@@ -5,7 +5,7 @@ use Rattle.std.proofs.KnownBytes.{Appends-trans}
 use Rattle.std.proofs.Math.Seq.{take-append-add}
 use Rattle.std.specs.Io.KnownBytes.{Appends}
 use Rattle.std.specs.declared.option.Option.{Option}
-use Rattle.firefly_outside.specs.Causes.{AppendsFront, HasCause, Rose}
+use Rattle.firefly_outside.specs.Causes.{AppendsPrefix, HasCause, Rose}
 use Rattle.larch_actions.specs.declared.event.Event.{Event}
 use Rattle.trace_core.specs.Text.{event_line, value_line, values_text}
 use Rattle.trace_core.specs.Whole.{event_lines, numbered, Flows}
@@ -29,7 +29,7 @@ pub pending_add : (first now : Option (List ℕ)) (held held' text all rest : Li
 pending_add first now held held' text all rest p e =
     (p.0, p.1, p.2 ∙ sym (append_assoc (p.0 ++ held) text rest) ∙ ap (λ l. l ++ rest) (append_assoc p.0 held text ∙ ap (λ l. p.0 ++ l) (sym e)))
 
-pub pending_fault : (first now later : Option (List ℕ)) (held all rest : List ℕ) → Pending first now held all rest → AppendsFront now later held → AppendsFront first later all
+pub pending_fault : (first now later : Option (List ℕ)) (held all rest : List ℕ) → Pending first now held all rest → AppendsPrefix now later held → AppendsPrefix first later all
 pending_fault first now later held all rest p f =
     let n = length p.0 + f.0 in
     let cut : take n all ≡ p.0 ++ take f.0 held =

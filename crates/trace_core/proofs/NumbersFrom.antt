@@ -234,8 +234,8 @@ from-again several least bound small p rest l =
           let last : (is_digit f && (nat_lt 0 q && reaches least bound n)) ≡ true =
           true_both _ _ (digit_from f (omega arith) (omega arith)) (true_both _ _ (from_lt 0 q (omega arith)) (reaches_here least bound n l.0 l.1))
           in
-          let front : decimal q ≡ (48 + r) ∷ d ∷ [] = decimal_step q (omega arith) (omega (arith, low)) ∙ ap (λ m. decimal m ++ d ∷ []) (let e : q / 10 ≡ r = omega arith in e) ∙ ap (λ l. l ++ d ∷ []) (decimal_digit r (omega (arith, low))) in
-          let spelled : decimal n ≡ (48 + r) ∷ d ∷ f ∷ [] = decimal_step n (omega arith) (omega (arith, low)) ∙ ap (λ l. l ++ f ∷ []) front in
+          let prefix : decimal q ≡ (48 + r) ∷ d ∷ [] = decimal_step q (omega arith) (omega (arith, low)) ∙ ap (λ m. decimal m ++ d ∷ []) (let e : q / 10 ≡ r = omega arith in e) ∙ ap (λ l. l ++ d ∷ []) (decimal_digit r (omega (arith, low))) in
+          let spelled : decimal n ≡ (48 + r) ∷ d ∷ f ∷ [] = decimal_step n (omega arith) (omega (arith, low)) ∙ ap (λ l. l ++ f ∷ []) prefix in
           ap (λ l. number_from several least bound ((l ++ c ∷ []) ++ rest)) spelled
           ∙ rw (z, head, digit_goes_on several bound r d (nat_le least r) (omega arith), q', next, digit_goes_on several bound q f (nat_le least q) (omega arith), n', last, stop) refl
       | inl (inl two) ↦

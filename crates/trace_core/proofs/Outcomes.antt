@@ -24,7 +24,7 @@ use Rattle.trace_core.specs.Lines.{line_at, line_text, IsPossible, IsAllowed, Is
 use Rattle.trace_core.proofs.LineLaws.{line_code}
 use Rattle.trace_core.proofs.Plain.{plain_event, plain_is_read, plain_line}
 use Rattle.trace_core.proofs.Texts.{line_grammar}
-use Rattle.trace_core.proofs.Grammar.{front, broken, cut_short, begins_behind, broken_behind, cut_short_behind}
+use Rattle.trace_core.proofs.Grammar.{prefix, broken, cut_short, begins_behind, broken_behind, cut_short_behind}
 
 pub read_outcome : (x : Expect) → IsPossible x → (r left : Option (List ℕ)) (w w' : List ℕ) (y : Line) → Keeps r (prepend_known w left) → line_at x w ≡ Ok (y, w')
     → IsAllowed x y × Consumes r (prepend_known w' left) (line_text x y)
@@ -61,7 +61,7 @@ long_outcome x ok None left left' w piece room k c some le e = tt
 long_outcome x ok (Some xs) None left' w piece room k c some le e = absurd k
 long_outcome x ok (Some xs) (Some ys) None w piece room k c some le e = absurd c
 long_outcome x ok (Some xs) (Some ys) (Some zs) w piece room k c some le e =
-    (omega (arith, ap length k, length-append w ys, ap length c, length-append piece zs), subst (Begins (IsTextFrom x)) (sym (take_at w ys room le) ∙ ap (take room) k) (front (line_grammar x ok) (line_code x ok) w e))
+    (omega (arith, ap length k, length-append w ys, ap length c, length-append piece zs), subst (Begins (IsTextFrom x)) (sym (take_at w ys room le) ∙ ap (take room) k) (prefix (line_grammar x ok) (line_code x ok) w e))
 
 pub kept_consumes : (r left left' : Option (List ℕ)) (w : List ℕ) → Keeps r (prepend_known w left) → Keeps left left' → Consumes r left' w
 kept_consumes None left left' w k same = tt
@@ -71,7 +71,7 @@ kept_consumes (Some xs) (Some ys) (Some zs) w k same = sym k ∙ ap (λ l. w ++ 
 
 pub failed_outcome : (x : Expect) → IsPossible x → (r left left' : Option (List ℕ)) (w : List ℕ) (room : ℕ) → length w ≤ room → Keeps r (prepend_known w left) → Keeps left left' → line_at x w ≡ Err More
     → (given : List ℕ) × Consumes r left' given × Begins (IsTextFrom x) given × (length given ≤ room)
-failed_outcome x ok r left left' w room within k same e = (w, kept_consumes r left left' w k same, front (line_grammar x ok) (line_code x ok) w e, within)
+failed_outcome x ok r left left' w room within k same e = (w, kept_consumes r left left' w k same, prefix (line_grammar x ok) (line_code x ok) w e, within)
 
 pub Keeps-behind : (r left left' : Option (List ℕ)) (w : List ℕ) → Keeps r (prepend_known w left) → Keeps left left' → Keeps r (prepend_known w left')
 Keeps-behind None left left' w k same = tt
@@ -194,19 +194,19 @@ lacks_also lawful text lawful' text' room r left' TooLong f h = for_some r (λ x
 lacks_also lawful text lawful' text' room r left' Read f h = (h.0, h.1, f h.0 h.2)
 
 -- the same behind some bytes
-misses_behind : {X Y : Type 0} (lawful : X → Type 0) (text : X → List ℕ) (lawful' : Y → Type 0) (text' : Y → List ℕ) (front : List ℕ) (room room' : ℕ) (r r' : Option (List ℕ))
-    → ((bytes : List ℕ) → Misses lawful text bytes → Misses lawful' text' (front ++ bytes)) → Consumes r r' front → room' + length front ≡ room
+misses_behind : {X Y : Type 0} (lawful : X → Type 0) (text : X → List ℕ) (lawful' : Y → Type 0) (text' : Y → List ℕ) (prefix : List ℕ) (room room' : ℕ) (r r' : Option (List ℕ))
+    → ((bytes : List ℕ) → Misses lawful text bytes → Misses lawful' text' (prefix ++ bytes)) → Consumes r r' prefix → room' + length prefix ≡ room
     → IfSome r' (λ input. Misses lawful text (take room' input)) → IfSome r (λ input. Misses lawful' text' (take room input))
-misses_behind lawful text lawful' text' front room room' None r' f c same h = tt
-misses_behind lawful text lawful' text' front room room' (Some xs) None f c same h = absurd c
-misses_behind lawful text lawful' text' front room room' (Some xs) (Some ys) f c same h = subst (Misses lawful' text') (sym (take_behind front xs ys room room' c same)) (f (take room' ys) h)
+misses_behind lawful text lawful' text' prefix room room' None r' f c same h = tt
+misses_behind lawful text lawful' text' prefix room room' (Some xs) None f c same h = absurd c
+misses_behind lawful text lawful' text' prefix room room' (Some xs) (Some ys) f c same h = subst (Misses lawful' text') (sym (take_behind prefix xs ys room room' c same)) (f (take room' ys) h)
 
-lacks_behind : {X Y : Type 0} (lawful : X → Type 0) (text : X → List ℕ) (lawful' : Y → Type 0) (text' : Y → List ℕ) (front : List ℕ) (room room' : ℕ) (r r' left' : Option (List ℕ)) (fault : TextFault)
-    → ((bytes : List ℕ) → Misses lawful text bytes → Misses lawful' text' (front ++ bytes)) → Consumes r r' front → room' + length front ≡ room
+lacks_behind : {X Y : Type 0} (lawful : X → Type 0) (text : X → List ℕ) (lawful' : Y → Type 0) (text' : Y → List ℕ) (prefix : List ℕ) (room room' : ℕ) (r r' left' : Option (List ℕ)) (fault : TextFault)
+    → ((bytes : List ℕ) → Misses lawful text bytes → Misses lawful' text' (prefix ++ bytes)) → Consumes r r' prefix → room' + length prefix ≡ room
     → LacksAt lawful text room' r' left' fault → LacksAt lawful' text' room r left' fault
-lacks_behind lawful text lawful' text' front room room' r r' left' (BadLine k) f c same h = misses_behind lawful text lawful' text' front room room' r r' f c same h
-lacks_behind lawful text lawful' text' front room room' r r' left' TooLong f c same h = misses_behind lawful text lawful' text' front room room' r r' f c same h
-lacks_behind lawful text lawful' text' front room room' r r' left' Read f c same h = (front ++ h.0, Consumes-trans r r' left' front h.0 c h.1, f h.0 h.2)
+lacks_behind lawful text lawful' text' prefix room room' r r' left' (BadLine k) f c same h = misses_behind lawful text lawful' text' prefix room room' r r' f c same h
+lacks_behind lawful text lawful' text' prefix room room' r r' left' TooLong f c same h = misses_behind lawful text lawful' text' prefix room room' r r' f c same h
+lacks_behind lawful text lawful' text' prefix room room' r r' left' Read f c same h = (prefix ++ h.0, Consumes-trans r r' left' prefix h.0 c h.1, f h.0 h.2)
 
 abbrev IsNone : ℕ → Type 0
 IsNone n = ⊥

@@ -46,29 +46,29 @@ pub neither : {A : Type 0} (e a b : Ending) → (e ≡ a → A) → (e ≡ b →
 neither e a b f g h = elim h [ inl k ↦ f k | inr k ↦ g k ]
 
 -- a text with its ending and a newline
-ending_is : (es : Endings) (front : List ℕ) (e : Ending) → IsEnding es e → with_ending front e ++ newline ≡ front ++ (stop_of es ∷ ending_line e)
-ending_is endings.Nothing front Nothing h = refl
-ending_is endings.Nothing front _ h = absurd (cc)
-ending_is endings.Outcome front Returns h = append_assoc front (codes " returns") newline
-ending_is endings.Outcome front Raises h = append_assoc front (codes " raises") newline
-ending_is endings.Outcome front _ h = neither _ Returns Raises (λ k. absurd (cc)) (λ k. absurd (cc)) h
-ending_is endings.Answer front Yes h = append_assoc front (codes " yes") newline
-ending_is endings.Answer front No h = append_assoc front (codes " no") newline
-ending_is endings.Answer front _ h = neither _ Yes No (λ k. absurd (cc)) (λ k. absurd (cc)) h
-ending_is endings.Threads front (Left left) h = simp (append_assoc, names_line_is)
-ending_is endings.Threads front _ h = let k = h.1 in absurd (cc)
+ending_is : (es : Endings) (prefix : List ℕ) (e : Ending) → IsEnding es e → with_ending prefix e ++ newline ≡ prefix ++ (stop_of es ∷ ending_line e)
+ending_is endings.Nothing prefix Nothing h = refl
+ending_is endings.Nothing prefix _ h = absurd (cc)
+ending_is endings.Outcome prefix Returns h = append_assoc prefix (codes " returns") newline
+ending_is endings.Outcome prefix Raises h = append_assoc prefix (codes " raises") newline
+ending_is endings.Outcome prefix _ h = neither _ Returns Raises (λ k. absurd (cc)) (λ k. absurd (cc)) h
+ending_is endings.Answer prefix Yes h = append_assoc prefix (codes " yes") newline
+ending_is endings.Answer prefix No h = append_assoc prefix (codes " no") newline
+ending_is endings.Answer prefix _ h = neither _ Yes No (λ k. absurd (cc)) (λ k. absurd (cc)) h
+ending_is endings.Threads prefix (Left left) h = simp (append_assoc, names_line_is)
+ending_is endings.Threads prefix _ h = let k = h.1 in absurd (cc)
 
-name_is : (front d more : List ℕ) (c stop : ℕ) → ((front ++ (32 ∷ c ∷ [])) ++ d) ++ (stop ∷ more) ≡ front ++ (32 ∷ (((c ∷ []) ++ (d ++ stop ∷ [])) ++ more))
-name_is front d more c stop = simp append_assoc
+name_is : (prefix d more : List ℕ) (c stop : ℕ) → ((prefix ++ (32 ∷ c ∷ [])) ++ d) ++ (stop ∷ more) ≡ prefix ++ (32 ∷ (((c ∷ []) ++ (d ++ stop ∷ [])) ++ more))
+name_is prefix d more c stop = simp append_assoc
 
 -- a text with its names, its ending and a newline
-names_are : (ks : Kinds) (es : Endings) (front : List ℕ) (x : Numbers) (e : Ending) → IsEnding es e → with_ending (with_names front ks x) e ++ newline ≡ front ++ (gap_of ks es ∷ behind_line ks es (x, e))
-names_are kinds.Nothing es front x e h = ending_is es front e h
-names_are (kinds.One k) es front x e h = ending_is es (with_name front k x.first) e h ∙ name_is front (decimal x.first) (ending_line e) (letter k) (stop_of es)
-names_are (kinds.Two k j) es front x e h =
-    ending_is es (with_name (with_name front k x.first) j x.second) e h
-    ∙ name_is (with_name front k x.first) (decimal x.second) (ending_line e) (letter j) (stop_of es)
-    ∙ name_is front (decimal x.first) (name_line j (stop_of es) x.second ++ ending_line e) (letter k) 32
+names_are : (ks : Kinds) (es : Endings) (prefix : List ℕ) (x : Numbers) (e : Ending) → IsEnding es e → with_ending (with_names prefix ks x) e ++ newline ≡ prefix ++ (gap_of ks es ∷ behind_line ks es (x, e))
+names_are kinds.Nothing es prefix x e h = ending_is es prefix e h
+names_are (kinds.One k) es prefix x e h = ending_is es (with_name prefix k x.first) e h ∙ name_is prefix (decimal x.first) (ending_line e) (letter k) (stop_of es)
+names_are (kinds.Two k j) es prefix x e h =
+    ending_is es (with_name (with_name prefix k x.first) j x.second) e h
+    ∙ name_is (with_name prefix k x.first) (decimal x.second) (ending_line e) (letter j) (stop_of es)
+    ∙ name_is prefix (decimal x.first) (name_line j (stop_of es) x.second ++ ending_line e) (letter k) 32
 
 -- a word, and the byte that stops it
 abbrev pub start_of : Word → List ℕ

@@ -40,37 +40,37 @@ names_short least bound [] small h = omega arith
 names_short least bound (t ∷ ts) small h =
     simp length-append (omega (arith, decimal_short t (omega (arith, h.1)), names_short (t + 1) bound ts small h.2, h.0, h.1))
 
-name_short : (front : List ℕ) (k : Kind) (n : ℕ) → n < 256 → length (with_name front k n) ≤ length front + 22
-name_short front k n low = simp length-append (omega (arith, decimal_short n (omega arith)))
+name_short : (prefix : List ℕ) (k : Kind) (n : ℕ) → n < 256 → length (with_name prefix k n) ≤ length prefix + 22
+name_short prefix k n low = simp length-append (omega (arith, decimal_short n (omega arith)))
 
-with_short : (l : Layout) → IsLawful l → (front : List ℕ) (ks : Kinds) (x : Numbers) → AreBelow l ks x → length (with_names front ks x) ≤ length front + 44
-with_short l ok front kinds.Nothing x h = omega arith
-with_short l ok front (kinds.One k) x h = omega (arith, name_short front k x.first (omega (arith, h, few_of l ok k)))
-with_short l ok front (kinds.Two k j) x h =
-    omega (arith, name_short front k x.first (omega (arith, h.0, few_of l ok k)), name_short (with_name front k x.first) j x.second (omega (arith, h.1, few_of l ok j)))
+with_short : (l : Layout) → IsLawful l → (prefix : List ℕ) (ks : Kinds) (x : Numbers) → AreBelow l ks x → length (with_names prefix ks x) ≤ length prefix + 44
+with_short l ok prefix kinds.Nothing x h = omega arith
+with_short l ok prefix (kinds.One k) x h = omega (arith, name_short prefix k x.first (omega (arith, h, few_of l ok k)))
+with_short l ok prefix (kinds.Two k j) x h =
+    omega (arith, name_short prefix k x.first (omega (arith, h.0, few_of l ok k)), name_short (with_name prefix k x.first) j x.second (omega (arith, h.1, few_of l ok j)))
 
-left_short : (l : Layout) → IsLawful l → (front : List ℕ) (e : Ending) → EndsIn l endings.Threads e → length (with_ending front e) ≤ length front + 5650
-left_short l ok front (Left left) h =
+left_short : (l : Layout) → IsLawful l → (prefix : List ℕ) (e : Ending) → EndsIn l endings.Threads e → length (with_ending prefix e) ≤ length prefix + 5650
+left_short l ok prefix (Left left) h =
     simp length-append (omega (arith, names_short 0 l.threads (members left) (few_of l ok Thread) (rising-members left l.threads h.1), few_of l ok Thread))
-left_short l ok front _ h = let k = h.0.1 in absurd (cc)
+left_short l ok prefix _ h = let k = h.0.1 in absurd (cc)
 
-ending_short : (l : Layout) → IsLawful l → (es : Endings) (front : List ℕ) (e : Ending) → EndsIn l es e → length (with_ending front e) ≤ length front + 5650
-ending_short l ok endings.Threads front e h = left_short l ok front e h
-ending_short l ok _ front Nothing h = omega arith
-ending_short l ok _ front Returns h = simp length-append (omega arith)
-ending_short l ok _ front Raises h = simp length-append (omega arith)
-ending_short l ok _ front Yes h = simp length-append (omega arith)
-ending_short l ok _ front No h = simp length-append (omega arith)
-ending_short l ok endings.Nothing front (Left left) h = absurd (cc)
-ending_short l ok endings.Outcome front (Left left) h = neither _ Returns Raises (λ k. absurd (cc)) (λ k. absurd (cc)) h
-ending_short l ok endings.Answer front (Left left) h = neither _ Yes No (λ k. absurd (cc)) (λ k. absurd (cc)) h
+ending_short : (l : Layout) → IsLawful l → (es : Endings) (prefix : List ℕ) (e : Ending) → EndsIn l es e → length (with_ending prefix e) ≤ length prefix + 5650
+ending_short l ok endings.Threads prefix e h = left_short l ok prefix e h
+ending_short l ok _ prefix Nothing h = omega arith
+ending_short l ok _ prefix Returns h = simp length-append (omega arith)
+ending_short l ok _ prefix Raises h = simp length-append (omega arith)
+ending_short l ok _ prefix Yes h = simp length-append (omega arith)
+ending_short l ok _ prefix No h = simp length-append (omega arith)
+ending_short l ok endings.Nothing prefix (Left left) h = absurd (cc)
+ending_short l ok endings.Outcome prefix (Left left) h = neither _ Returns Raises (λ k. absurd (cc)) (λ k. absurd (cc)) h
+ending_short l ok endings.Answer prefix (Left left) h = neither _ Yes No (λ k. absurd (cc)) (λ k. absurd (cc)) h
 
 action_short : (l : Layout) (a : Action) → IsLawful l → IsNamed l a → length (action_text a) ≤ 5750
 action_short l a ok h =
     let r = row_of a in
     let parts = named_parts l a h in
-    let front = with_names (word_text r.word) (kinds_of r.word) r.numbers in
-    omega (arith, ending_short l ok (endings_of r.word) front r.ending parts.1, with_short l ok (word_text r.word) (kinds_of r.word) r.numbers parts.0, (each_plain r.word).0)
+    let prefix = with_names (word_text r.word) (kinds_of r.word) r.numbers in
+    omega (arith, ending_short l ok (endings_of r.word) prefix r.ending parts.1, with_short l ok (word_text r.word) (kinds_of r.word) r.numbers parts.0, (each_plain r.word).0)
 
 first_short : (v : Version) → length (first_line v) ≤ 6250
 first_short version.One = omega arith

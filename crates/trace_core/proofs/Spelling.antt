@@ -50,14 +50,14 @@ turn a w b = let e : w * b ≡ b * w = mul_comm w b in omega (arith, e)
 -- the low bytes of a number are the first bytes of its list
 low_bytes : (xs : List ℕ) (n : ℕ) → AreBytes xs → n ≤ length xs → bit_and (little xs) (2 ^ (8 * n) - 1) ≡ little (take n xs)
 low_bytes xs n h le =
-    let front = take n xs in
+    let prefix = take n xs in
     let rest = drop n xs in
-    let size : length front ≡ n = length-take-le n xs le in
+    let size : length prefix ≡ n = length-take-le n xs le in
     let w : 2 ^ (8 * n) ≡ worth n = pow_worth n in
-    let small : little front < worth n = little_below front n (take_bytes n xs h) (omega (arith, size)) in
-    let parts : little xs ≡ little front + worth n * little rest = ap little (sym (take-append-drop n xs)) ∙ little_append front rest ∙ ap (λ k. little front + worth k * little rest) size in
-    let turned : little front + worth n * little rest ≡ little rest * worth n + little front = turn (little front) (worth n) (little rest) in
-    and_mask (little xs) (8 * n) ∙ ap (λ d. little xs % d) w ∙ ap (λ x. x % worth n) (parts ∙ turned) ∙ mod-mul-add (little rest) (worth n) (little front) small
+    let small : little prefix < worth n = little_below prefix n (take_bytes n xs h) (omega (arith, size)) in
+    let parts : little xs ≡ little prefix + worth n * little rest = ap little (sym (take-append-drop n xs)) ∙ little_append prefix rest ∙ ap (λ k. little prefix + worth k * little rest) size in
+    let turned : little prefix + worth n * little rest ≡ little rest * worth n + little prefix = turn (little prefix) (worth n) (little rest) in
+    and_mask (little xs) (8 * n) ∙ ap (λ d. little xs % d) w ∙ ap (λ x. x % worth n) (parts ∙ turned) ∙ mod-mul-add (little rest) (worth n) (little prefix) small
 
 take_short : (n m : ℕ) (xs : List ℕ) → n ≤ m → take n (take m xs) ≡ take n xs
 take_short zero m xs le = refl
@@ -79,13 +79,13 @@ place_there bytes value text mask one last hundred size read le p s e same =
     elim (leb_tells size 8) [
       | inl w ↦
           let h = s.2 w.1 in
-          let front = take 8 bytes in
+          let prefix = take 8 bytes in
           let all = take_bytes 8 bytes (bytes_from bytes p) in
-          let many : length front ≡ 8 = length-take-le 8 bytes le in
-          let low : bit_and (little front) (2 ^ (8 * size) - 1) ≡ little (take size front) = low_bytes front size all (omega (arith, many, w.1)) in
-          let equal : little (take size front) ≡ little (decimal value) = sym low ∙ ap (bit_and (little front)) (sym h.2) ∙ ap (λ x. bit_and x mask) (sym e) ∙ same ∙ h.1 in
-          let long : length (take size front) ≡ length (decimal value) = length-take-le size front (omega (arith, many, w.1)) ∙ h.0 in
-          let there : take size front ≡ decimal value = little_injective (take size front) (decimal value) long (take_bytes size front all) (decimal_bytes value s.0) equal in
+          let many : length prefix ≡ 8 = length-take-le 8 bytes le in
+          let low : bit_and (little prefix) (2 ^ (8 * size) - 1) ≡ little (take size prefix) = low_bytes prefix size all (omega (arith, many, w.1)) in
+          let equal : little (take size prefix) ≡ little (decimal value) = sym low ∙ ap (bit_and (little prefix)) (sym h.2) ∙ ap (λ x. bit_and x mask) (sym e) ∙ same ∙ h.1 in
+          let long : length (take size prefix) ≡ length (decimal value) = length-take-le size prefix (omega (arith, many, w.1)) ∙ h.0 in
+          let there : take size prefix ≡ decimal value = little_injective (take size prefix) (decimal value) long (take_bytes size prefix all) (decimal_bytes value s.0) equal in
           let first : take size bytes ≡ decimal value = sym (take_short size 8 bytes w.1) ∙ there in
           (record { within = omega (arith, w.1, le); there = sym (take-append-drop size bytes) ∙ ap (λ l. l ++ drop size bytes) first }, w.1)
       | inr w ↦

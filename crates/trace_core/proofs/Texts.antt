@@ -53,13 +53,13 @@ flat_decimal n fits =
     decimal_by_steps (λ _ ds. IsFlat ds) (λ n small. ((λ h. omega arith), tt)) (λ n ds large h. IsFlat-append ds ((48 + n % 10) ∷ []) h ((λ k. omega arith), tt)) n fits
 
 -- a word that has no newline, and a number
-flat_named : (front word : List ℕ) (n : ℕ) → IsFlat front → is_flat word ≡ true → n < 2 ^ 64 → IsFlat (front ++ word ++ decimal n)
-flat_named front word n p w fits =
-    IsFlat-append (front ++ word) (decimal n) (IsFlat-append front word p (flat_from word w)) (flat_decimal n fits)
+flat_named : (prefix word : List ℕ) (n : ℕ) → IsFlat prefix → is_flat word ≡ true → n < 2 ^ 64 → IsFlat (prefix ++ word ++ decimal n)
+flat_named prefix word n p w fits =
+    IsFlat-append (prefix ++ word) (decimal n) (IsFlat-append prefix word p (flat_from word w)) (flat_decimal n fits)
 
 -- more behind it that has no newline
-flat_word : (front word : List ℕ) → IsFlat front → is_flat word ≡ true → IsFlat (front ++ word)
-flat_word front word p w = IsFlat-append front word p (flat_from word w)
+flat_word : (prefix word : List ℕ) → IsFlat prefix → is_flat word ≡ true → IsFlat (prefix ++ word)
+flat_word prefix word p w = IsFlat-append prefix word p (flat_from word w)
 
 flat_plain : (bytes : List ℕ) → is_plain bytes ≡ true → IsFlat bytes
 flat_plain [] e = tt
@@ -67,35 +67,35 @@ flat_plain (c ∷ bytes) e =
     let b = both_true (nat_lt 44 c) (is_plain bytes) e in
     (λ k. let low : 44 < c = search (rules, tests, b.0) in omega arith, flat_plain bytes b.1)
 
-flat_name : (front : List ℕ) (k : Kind) (n : ℕ) → IsFlat front → n < 2 ^ 64 → IsFlat (with_name front k n)
-flat_name front k n p fits =
-    IsFlat-append (front ++ 32 ∷ letter k ∷ []) (decimal n) (IsFlat-append front (32 ∷ letter k ∷ []) p (λ e. omega arith, (λ e. omega (arith, letter_high k), tt))) (flat_decimal n fits)
+flat_name : (prefix : List ℕ) (k : Kind) (n : ℕ) → IsFlat prefix → n < 2 ^ 64 → IsFlat (with_name prefix k n)
+flat_name prefix k n p fits =
+    IsFlat-append (prefix ++ 32 ∷ letter k ∷ []) (decimal n) (IsFlat-append prefix (32 ∷ letter k ∷ []) p (λ e. omega arith, (λ e. omega (arith, letter_high k), tt))) (flat_decimal n fits)
 
-flat_with : (l : Layout) → IsLawful l → (front : List ℕ) (ks : Kinds) (x : Numbers) → IsFlat front → AreBelow l ks x → IsFlat (with_names front ks x)
-flat_with l ok front kinds.Nothing x p h = p
-flat_with l ok front (kinds.One k) x p h = flat_name front k x.first p (omega (arith, h, few_of l ok k))
-flat_with l ok front (kinds.Two k j) x p h =
-    flat_name (with_name front k x.first) j x.second (flat_name front k x.first p (omega (arith, h.0, few_of l ok k))) (omega (arith, h.1, few_of l ok j))
+flat_with : (l : Layout) → IsLawful l → (prefix : List ℕ) (ks : Kinds) (x : Numbers) → IsFlat prefix → AreBelow l ks x → IsFlat (with_names prefix ks x)
+flat_with l ok prefix kinds.Nothing x p h = p
+flat_with l ok prefix (kinds.One k) x p h = flat_name prefix k x.first p (omega (arith, h, few_of l ok k))
+flat_with l ok prefix (kinds.Two k j) x p h =
+    flat_name (with_name prefix k x.first) j x.second (flat_name prefix k x.first p (omega (arith, h.0, few_of l ok k))) (omega (arith, h.1, few_of l ok j))
 
 flat_names : (least bound : ℕ) (ts : List ℕ) → bound ≤ 256 → IsRising least bound ts → IsFlat (names_text ts)
 flat_names least bound [] small h = tt
 flat_names least bound (t ∷ ts) small h = IsFlat-append (codes " t" ++ decimal t) (names_text ts) (flat_named [] (codes " t") t tt refl (omega (arith, h.1))) (flat_names (t + 1) bound ts small h.2)
 
-flat_left : (l : Layout) → IsLawful l → (front : List ℕ) (e : Ending) → IsFlat front → EndsIn l endings.Threads e → IsFlat (with_ending front e)
-flat_left l ok front (Left left) p h =
-    IsFlat-append (front ++ codes " left") (names_text (members left)) (flat_word front (codes " left") p refl) (flat_names 0 l.threads (members left) (few_of l ok Thread) (rising-members left l.threads h.1))
-flat_left l ok front _ p h = let k = h.0.1 in absurd (cc)
+flat_left : (l : Layout) → IsLawful l → (prefix : List ℕ) (e : Ending) → IsFlat prefix → EndsIn l endings.Threads e → IsFlat (with_ending prefix e)
+flat_left l ok prefix (Left left) p h =
+    IsFlat-append (prefix ++ codes " left") (names_text (members left)) (flat_word prefix (codes " left") p refl) (flat_names 0 l.threads (members left) (few_of l ok Thread) (rising-members left l.threads h.1))
+flat_left l ok prefix _ p h = let k = h.0.1 in absurd (cc)
 
-flat_ending : (l : Layout) → IsLawful l → (es : Endings) (front : List ℕ) (e : Ending) → IsFlat front → EndsIn l es e → IsFlat (with_ending front e)
-flat_ending l ok endings.Threads front e p h = flat_left l ok front e p h
-flat_ending l ok _ front Nothing p h = p
-flat_ending l ok _ front Returns p h = flat_word front (codes " returns") p refl
-flat_ending l ok _ front Raises p h = flat_word front (codes " raises") p refl
-flat_ending l ok _ front Yes p h = flat_word front (codes " yes") p refl
-flat_ending l ok _ front No p h = flat_word front (codes " no") p refl
-flat_ending l ok endings.Nothing front (Left left) p h = absurd (cc)
-flat_ending l ok endings.Outcome front (Left left) p h = neither _ Returns Raises (λ k. absurd (cc)) (λ k. absurd (cc)) h
-flat_ending l ok endings.Answer front (Left left) p h = neither _ Yes No (λ k. absurd (cc)) (λ k. absurd (cc)) h
+flat_ending : (l : Layout) → IsLawful l → (es : Endings) (prefix : List ℕ) (e : Ending) → IsFlat prefix → EndsIn l es e → IsFlat (with_ending prefix e)
+flat_ending l ok endings.Threads prefix e p h = flat_left l ok prefix e p h
+flat_ending l ok _ prefix Nothing p h = p
+flat_ending l ok _ prefix Returns p h = flat_word prefix (codes " returns") p refl
+flat_ending l ok _ prefix Raises p h = flat_word prefix (codes " raises") p refl
+flat_ending l ok _ prefix Yes p h = flat_word prefix (codes " yes") p refl
+flat_ending l ok _ prefix No p h = flat_word prefix (codes " no") p refl
+flat_ending l ok endings.Nothing prefix (Left left) p h = absurd (cc)
+flat_ending l ok endings.Outcome prefix (Left left) p h = neither _ Returns Raises (λ k. absurd (cc)) (λ k. absurd (cc)) h
+flat_ending l ok endings.Answer prefix (Left left) p h = neither _ Yes No (λ k. absurd (cc)) (λ k. absurd (cc)) h
 
 flat_action : (l : Layout) (a : Action) → IsLawful l → IsNamed l a → IsFlat (action_text a)
 flat_action l a ok h =

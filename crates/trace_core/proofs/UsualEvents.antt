@@ -20,8 +20,8 @@ use Rattle.trace_core.specs.Text.{event_line, action_text, newline}
 use Rattle.trace_core.proofs.LineLaws.{line_code}
 use Rattle.trace_core.proofs.Outcomes.{read_outcome, length_outcome}
 
-behind_some : (front : List ℕ) → 0 < length (front ++ newline)
-behind_some front = omega (arith, length-append front newline)
+behind_some : (prefix : List ℕ) → 0 < length (prefix ++ newline)
+behind_some prefix = omega (arith, length-append prefix newline)
 
 event_line_some : (n : ℕ) (e : Event) → 0 < length (event_line n e)
 event_line_some n e = behind_some (decimal n ++ codes " t" ++ decimal e.thread.0 ++ codes " " ++ action_text e.action)

@@ -149,17 +149,17 @@ pub after_wait : {l : Layout} {bytes stop : List ℕ} {a k : ℕ} {x : UsualWait
 after_wait {stop = stop} {x = x} word p w = stands_as (wait_is word (decimal x.mutex.0) (decimal x.cond.0) stop) (stands_then p w.text)
 
 -- how an alertable call ended, behind what stands before it
-ended_is : (front : List ℕ) → (front ++ 32 ∷ []) ++ (codes "returns" ++ newline) ≡ (front ++ codes " returns") ++ newline
-ended_is front = simp append_assoc
+ended_is : (prefix : List ℕ) → (prefix ++ 32 ∷ []) ++ (codes "returns" ++ newline) ≡ (prefix ++ codes " returns") ++ newline
+ended_is prefix = simp append_assoc
 
-pub returned : {bytes : List ℕ} {a k : ℕ} {x : UsualEnding} (front : List ℕ) → Stands bytes a (front ++ 32 ∷ []) k → IsEndingAt bytes k x → x.returns ≡ true → Stands bytes a ((front ++ codes " returns") ++ newline) x.end
-returned front p e is = stands_as (ap (λ r. (front ++ 32 ∷ []) ++ ending_text r) is ∙ ended_is front) (stands_then p e.text)
+pub returned : {bytes : List ℕ} {a k : ℕ} {x : UsualEnding} (prefix : List ℕ) → Stands bytes a (prefix ++ 32 ∷ []) k → IsEndingAt bytes k x → x.returns ≡ true → Stands bytes a ((prefix ++ codes " returns") ++ newline) x.end
+returned prefix p e is = stands_as (ap (λ r. (prefix ++ 32 ∷ []) ++ ending_text r) is ∙ ended_is prefix) (stands_then p e.text)
 
-raised_is : (front : List ℕ) → (front ++ 32 ∷ []) ++ (codes "raises" ++ newline) ≡ (front ++ codes " raises") ++ newline
-raised_is front = simp append_assoc
+raised_is : (prefix : List ℕ) → (prefix ++ 32 ∷ []) ++ (codes "raises" ++ newline) ≡ (prefix ++ codes " raises") ++ newline
+raised_is prefix = simp append_assoc
 
-pub raised : {bytes : List ℕ} {a k : ℕ} {x : UsualEnding} (front : List ℕ) → Stands bytes a (front ++ 32 ∷ []) k → IsEndingAt bytes k x → x.returns ≡ false → Stands bytes a ((front ++ codes " raises") ++ newline) x.end
-raised front p e is = stands_as (ap (λ r. (front ++ 32 ∷ []) ++ ending_text r) is ∙ raised_is front) (stands_then p e.text)
+pub raised : {bytes : List ℕ} {a k : ℕ} {x : UsualEnding} (prefix : List ℕ) → Stands bytes a (prefix ++ 32 ∷ []) k → IsEndingAt bytes k x → x.returns ≡ false → Stands bytes a ((prefix ++ codes " raises") ++ newline) x.end
+raised prefix p e is = stands_as (ap (λ r. (prefix ++ 32 ∷ []) ++ ending_text r) is ∙ raised_is prefix) (stands_then p e.text)
 
 -- a name behind a word
 pub after_name : {bytes stop : List ℕ} {a k : ℕ} {bound : ℕ} {x : UsualName} (word : List ℕ) → Stands bytes a word k → IsNameAt bytes k bound stop x → Stands bytes a ((word ++ decimal x.value) ++ stop) x.end

@@ -66,7 +66,7 @@ LacksAt lawful text room rest left' (BadLine k) = IfSome rest (λ input. Misses 
 LacksAt lawful text room rest left' TooLong = IfSome rest (λ input. Misses lawful text (take room input))
 LacksAt lawful text room rest left' Read = (given : List ℕ) × Consumes rest left' given × Misses lawful text given
 
--- the bytes begin a text, and none of the texts of the lawful values stands at their front
+-- the bytes begin a text, and none of the texts of the lawful values stands at their prefix
 abbrev pub IsUndecided : {X : Type 0} → (List ℕ → Type 0) → (X → Type 0) → (X → List ℕ) → List ℕ → Type 0
 IsUndecided Text lawful text bytes = Begins Text bytes × Misses lawful text bytes
 

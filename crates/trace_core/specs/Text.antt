@@ -49,22 +49,22 @@ names_text (t ∷ ts) = codes " t" ++ decimal t ++ names_text ts
 
 -- the text, and behind it a name
 abbrev pub with_name : List ℕ → Kind → ℕ → List ℕ
-with_name front k n = front ++ (32 ∷ letter k ∷ []) ++ decimal n
+with_name prefix k n = prefix ++ (32 ∷ letter k ∷ []) ++ decimal n
 
 -- the text, and behind it the names
 abbrev pub with_names : List ℕ → Kinds → Numbers → List ℕ
-with_names front kinds.Nothing x = front
-with_names front (kinds.One k) x = with_name front k x.first
-with_names front (kinds.Two k j) x = with_name (with_name front k x.first) j x.second
+with_names prefix kinds.Nothing x = prefix
+with_names prefix (kinds.One k) x = with_name prefix k x.first
+with_names prefix (kinds.Two k j) x = with_name (with_name prefix k x.first) j x.second
 
 -- the text, and behind it the ending
 abbrev pub with_ending : List ℕ → Ending → List ℕ
-with_ending front Nothing = front
-with_ending front Returns = front ++ codes " returns"
-with_ending front Raises = front ++ codes " raises"
-with_ending front Yes = front ++ codes " yes"
-with_ending front No = front ++ codes " no"
-with_ending front (Left left) = front ++ codes " left" ++ names_text (members left)
+with_ending prefix Nothing = prefix
+with_ending prefix Returns = prefix ++ codes " returns"
+with_ending prefix Raises = prefix ++ codes " raises"
+with_ending prefix Yes = prefix ++ codes " yes"
+with_ending prefix No = prefix ++ codes " no"
+with_ending prefix (Left left) = prefix ++ codes " left" ++ names_text (members left)
 
 -- the word, the names behind it and the ending
 abbrev pub row_text : Row → List ℕ

@@ -10,7 +10,7 @@ use crate::token::{flag, last_number, named, number, place_and_t, word};
 use itoa::Buffer;
 use larch_actions::{Event, Layout, MOST_OBJECTS, ThreadId, Version};
 
-/// Why nothing was read: the bytes are only a front of what could be read, or no front of it.
+/// Why nothing was read: the bytes are only a prefix of what could be read, or no prefix of it.
 #[derive(Clone, Copy)]
 pub enum Stop {
     More,

@@ -1,7 +1,7 @@
 //! Whole texts, put in large pieces.
 ghost use Rattle.std.specs.Prelude.{◌≡◌, ◌+◌, ◌^◌, ◌<◌, ◌≤◌, ◌++◌, [], length, take, OnErr, IfOk};
 ghost use Rattle.std.specs.Io.KnownBytes.{Appends};
-ghost use Rattle.firefly_outside.specs.Causes.{HasCause, AppendsFront};
+ghost use Rattle.firefly_outside.specs.Causes.{HasCause, AppendsPrefix};
 ghost use Rattle.trace_core.specs.Text.{event_line, end_line, value_line, values_text};
 ghost use Rattle.trace_core.specs.Whole.{event_lines, numbered, Flows};
 
@@ -15,7 +15,7 @@ fn make_room<O: Sink>(buf: &[u8], at: usize, out: &mut O) -> Result<usize, SinkF
     requires large { 2000 ≤ length buf.now }
     ensures ok { IfOk result (λ end. Flows (O.held out.old) (O.held out.new) (take at buf.now) (take end buf.now) []) }
     ensures room { IfOk result (λ end. end + 1430 ≤ length buf.now) }
-    ensures err { OnErr result (AppendsFront (O.held out.old) (O.held out.new) (take at buf.now)) }
+    ensures err { OnErr result (AppendsPrefix (O.held out.old) (O.held out.new) (take at buf.now)) }
     ensures cause { HasCause (O.faults out.old) (O.faults out.new) result }
 {
     if buf.len() - at >= 1430 {
@@ -39,7 +39,7 @@ pub fn put_events<O: Sink>(
     ensures ok { IfOk result (λ end. Flows (O.held out.old) (O.held out.new) (take at buf.old) (take end buf.new)
         (event_lines 0 events.now ++ end_line (length events.now))) }
     ensures within { IfOk result (λ end. end ≤ length buf.old) }
-    ensures err { OnErr result (AppendsFront (O.held out.old) (O.held out.new)
+    ensures err { OnErr result (AppendsPrefix (O.held out.old) (O.held out.new)
         (take at buf.old ++ (event_lines 0 events.now ++ end_line (length events.now)))) }
     ensures cause { HasCause (O.faults out.old) (O.faults out.new) result }
     ensures few { length events.now < 2 ^ 64 }
@@ -71,7 +71,7 @@ pub fn put_values<O: Sink>(
     ensures ok { IfOk result (λ end. Flows (O.held out.old) (O.held out.new) (take at buf.old) (take end buf.new)
         (values_text (numbered 0 values.now))) }
     ensures within { IfOk result (λ end. end ≤ length buf.old) }
-    ensures err { OnErr result (AppendsFront (O.held out.old) (O.held out.new) (take at buf.old ++ values_text (numbered 0 values.now))) }
+    ensures err { OnErr result (AppendsPrefix (O.held out.old) (O.held out.new) (take at buf.old ++ values_text (numbered 0 values.now))) }
     ensures cause { HasCause (O.faults out.old) (O.faults out.new) result }
 {
     let mut last = at;

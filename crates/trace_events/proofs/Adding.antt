@@ -67,24 +67,24 @@ added_event n e x y old a b c ends begins one two three =
     ∙ (λ i. old ++ (instant_text n e ++ turn_if 101 n e.thread.0 (ends i) ++ turn_if 98 n e.thread.0 (begins i)))
 
 -- the part between what stands in front and the last byte
-middle : (line front part : List ℕ) (last end k : ℕ) → end ≤ length line → take end line ≡ front ++ part ++ last ∷ [] → k ≡ length front → take (end - 1 - k) (drop k line) ≡ part
-middle line front part last end k le e at =
+middle : (line prefix part : List ℕ) (last end k : ℕ) → end ≤ length line → take end line ≡ prefix ++ part ++ last ∷ [] → k ≡ length prefix → take (end - 1 - k) (drop k line) ≡ part
+middle line prefix part last end k le e at =
     let more = drop end line in
-    let whole : line ≡ front ++ (part ++ (last ∷ [] ++ more)) =
-    sym (take-append-drop end line) ∙ ap (λ l. l ++ more) e ∙ append_assoc (front ++ part) (last ∷ []) more ∙ append_assoc front part (last ∷ [] ++ more)
+    let whole : line ≡ prefix ++ (part ++ (last ∷ [] ++ more)) =
+    sym (take-append-drop end line) ∙ ap (λ l. l ++ more) e ∙ append_assoc (prefix ++ part) (last ∷ []) more ∙ append_assoc prefix part (last ∷ [] ++ more)
     in
-    let size : end ≡ length front + length part + 1 =
-    omega (arith, sym (length-take-le end line le) ∙ ap length e, length-append (front ++ part) (last ∷ []), length-append front part)
+    let size : end ≡ length prefix + length part + 1 =
+    omega (arith, sym (length-take-le end line le) ∙ ap length e, length-append (prefix ++ part) (last ∷ []), length-append prefix part)
     in
     let count : end - 1 - k ≡ length part = omega (arith, size, at) in
-    (λ i. take (count i) (drop (at i) (whole i))) ∙ ap (take (length part)) (drop-append_seam front (part ++ (last ∷ [] ++ more))) ∙ take-append_seam part (last ∷ [] ++ more)
+    (λ i. take (count i) (drop (at i) (whole i))) ∙ ap (take (length part)) (drop-append_seam prefix (part ++ (last ∷ [] ++ more))) ∙ take-append_seam part (last ∷ [] ++ more)
 
 -- the action of a line
 pub action_in : (n t : ℕ) (action line : List ℕ) (end k : ℕ) → end ≤ length line → take end line ≡ decimal n ++ codes " t" ++ decimal t ++ codes " " ++ action ++ newline → k ≡ length (decimal n) + length (decimal t)
     → take (end - 1 - (k + 3)) (drop (k + 3) line) ≡ action
 action_in n t action line end k le e at =
-    let front = decimal n ++ codes " t" ++ decimal t ++ codes " " in
-    let size : k + 3 ≡ length front =
+    let prefix = decimal n ++ codes " t" ++ decimal t ++ codes " " in
+    let size : k + 3 ≡ length prefix =
     omega (arith, at, length-append (decimal n ++ codes " t" ++ decimal t) (codes " "), length-append (decimal n ++ codes " t") (decimal t), length-append (decimal n) (codes " t"))
     in
-    middle line front action 10 end (k + 3) le e size
+    middle line prefix action 10 end (k + 3) le e size

@@ -2,14 +2,14 @@
 use Rattle.std.proofs.Common.{◌≡◌, ◌≢◌, ℕ, ◌+◌, ◌-◌, ◌^◌, ◌<◌, ◌≤◌, inl, inr, List, [], ◌∷◌, ◌++◌, length, refl, ap, sym, subst, ◌∙◌, append_assoc, append-nil, Option, Some, None, Result, Ok, Err, IfOk, OnOk, OnErr, arith}
 use Rattle.std.specs.Prelude.{IfSome}
 use Rattle.std.specs.Io.KnownBytes.{Appends, Consumes}
-use Rattle.firefly_outside.specs.Causes.{AppendsFront, HasCause}
+use Rattle.firefly_outside.specs.Causes.{AppendsPrefix, HasCause}
 use Rattle.larch_actions.specs.declared.event.Layout.{Layout}
 use Rattle.larch_actions.specs.declared.event.Event.{Event}
 use Rattle.larch_actions.specs.declared.event.Broken.{Broken}
 use Rattle.larch_actions.specs.Actions.{Acts, Fails, at_first}
 use Rattle.larch_actions.specs.State.{Moment, spec_of, held, waiting, alerted}
 use Rattle.text_output.specs.Sent.{Sends}
-use Rattle.text_output.proofs.Fronts.{appends_then, front_behind, front_of_more, sends_then, fails_then}
+use Rattle.text_output.proofs.Prefixes.{appends_then, prefix_behind, prefix_of_more, sends_then, fails_then}
 use Rattle.text_output.proofs.Pieces.{cause_then}
 use Rattle.trace_core.specs.declared.intake.TextFault.{TextFault}
 use Rattle.trace_core.specs.declared.intake.TextFault.TheVariants as fault
@@ -19,10 +19,10 @@ use Rattle.trace_check.specs.declared.checker.Summary.{Summary}
 use Rattle.trace_check.specs.declared.checker.Verdict.{Verdict}
 use Rattle.trace_check.specs.declared.checker.Verdict.TheVariants as verdict
 use Rattle.trace_check.specs.Verdicts.{refusal, IsJust}
-use Rattle.trace_check.proofs.UnderWay.{IsUnderWay, starts_on, step_on, fails_on, ends_on, front_read}
+use Rattle.trace_check.proofs.UnderWay.{IsUnderWay, starts_on, step_on, fails_on, ends_on, prefix_read}
 use Rattle.trace_check.proofs.Unique.{exact_at}
 use Rattle.trace_events.specs.Texts.{head_text, event_text, events_text, open_text, closing_text, json_text}
-use Rattle.trace_events.specs.Written.{GotFront, IsWritten, IsCutShort, Answers}
+use Rattle.trace_events.specs.Written.{GotPrefix, IsWritten, IsCutShort, Answers}
 
 events-push : (n : ℕ) (es : List Event) (e : Event) → events_text n (es ++ e ∷ []) ≡ events_text n es ++ event_text (n + length es) e
 unfolding events_text
@@ -44,17 +44,17 @@ unfolding open_text events_text
 open-none l = sym (append-nil (head_text l))
 
 -- what was sent behind what was held, and what is held now
-pub front_after : (t0 t1 t2 : Option (List ℕ)) (h0 h1 p : List ℕ) → Sends t0 h0 p t1 h1 → AppendsFront t1 t2 h1 → AppendsFront t0 t2 (h0 ++ p)
-front_after t0 t1 t2 h0 h1 p a k = subst (AppendsFront t0 t2) a.2 (front_behind t0 t1 t2 a.0 h1 a.1 k)
+pub prefix_after : (t0 t1 t2 : Option (List ℕ)) (h0 h1 p : List ℕ) → Sends t0 h0 p t1 h1 → AppendsPrefix t1 t2 h1 → AppendsPrefix t0 t2 (h0 ++ p)
+prefix_after t0 t1 t2 h0 h1 p a k = subst (AppendsPrefix t0 t2) a.2 (prefix_behind t0 t1 t2 a.0 h1 a.1 k)
 
 if_some : (left : Option (List ℕ)) (Holds : List ℕ → Type 0) → ((bytes : List ℕ) → left ≡ Some bytes → Holds bytes) → IfSome left Holds
 if_some None Holds h = tt
 if_some (Some bytes) Holds h = h bytes refl
 
 -- the sink failed within the text of these events
-cut_within : (budget : ℕ) (left₀ : Option (List ℕ)) (before now : ℕ) (p : Standing) (m : Moment) (count : ℕ) (told told' : Option (List ℕ)) → (u : IsUnderWay budget left₀ before p now m count) → AppendsFront told told' (json_text p.layout u.events) → IsCutShort budget left₀ told told'
-unfolding front_read
-cut_within budget left₀ before now p m count told told' u k = if_some left₀ _ (λ bytes told_is. (front_read budget left₀ before now p m count u bytes told_is, k))
+cut_within : (budget : ℕ) (left₀ : Option (List ℕ)) (before now : ℕ) (p : Standing) (m : Moment) (count : ℕ) (told told' : Option (List ℕ)) → (u : IsUnderWay budget left₀ before p now m count) → AppendsPrefix told told' (json_text p.layout u.events) → IsCutShort budget left₀ told told'
+unfolding prefix_read
+cut_within budget left₀ before now p m count told told' u k = if_some left₀ _ (λ bytes told_is. (prefix_read budget left₀ before now p m count u bytes told_is, k))
 
 -- so far these events were read and written
 pub record IsWriting (budget : ℕ) (left₀ : Option (List ℕ)) (before : ℕ) (st : Standing) (now : ℕ) (m : Moment) (count : ℕ) (told₀ told : Option (List ℕ)) (kept : List ℕ) : Type 0 where
@@ -72,12 +72,12 @@ module _ (budget : ℕ) (left₀ : Option (List ℕ)) (before now : ℕ) (p p' :
         sent = subst (λ x. Sends told₀ [] x told kept) none (subst (λ h. Sends told₀ h (head_text l) told kept) empty s);
       }
 
-  pub head_cut : AppendsFront told₀ told (kept₀ ++ head_text l) → IsCutShort budget left₀ told₀ told
+  pub head_cut : AppendsPrefix told₀ told (kept₀ ++ head_text l) → IsCutShort budget left₀ told₀ told
   unfolding starts_on json_text
   head_cut k =
       let none : head_text l ≡ open_text p'.layout [] = open-none l ∙ ap (λ k. open_text k []) (sym t.layout) in
-      let front : AppendsFront told₀ told (open_text p'.layout []) = subst (AppendsFront told₀ told) none (subst (λ h. AppendsFront told₀ told (h ++ head_text l)) empty k) in
-      cut_within budget left₀ before now p' m 0 told₀ told (starts_on budget left₀ before now p p' l m rest room lines t le laid first) (front_of_more told₀ told (open_text p'.layout []) closing_text front)
+      let prefix : AppendsPrefix told₀ told (open_text p'.layout []) = subst (AppendsPrefix told₀ told) none (subst (λ h. AppendsPrefix told₀ told (h ++ head_text l)) empty k) in
+      cut_within budget left₀ before now p' m 0 told₀ told (starts_on budget left₀ before now p p' l m rest room lines t le laid first) (prefix_of_more told₀ told (open_text p'.layout []) closing_text prefix)
 
 module _ (budget : ℕ) (left₀ : Option (List ℕ)) (before now : ℕ) (p : Standing) (m : Moment) (count : ℕ) (told₀ told : Option (List ℕ)) (kept : List ℕ) (d : IsWriting budget left₀ before p now m count told₀ told kept) where
   -- one more event
@@ -92,12 +92,12 @@ module _ (budget : ℕ) (left₀ : Option (List ℕ)) (before now : ℕ) (p : St
       sent = subst (λ x. Sends told₀ [] x told' kept') more (sends_then told₀ told told' [] kept kept' (open_text p.layout d.under_way.events) (event_text count e) d.sent s);
     }
 
-    pub event_cut : AppendsFront told told' (kept ++ event_text count e) → IsCutShort budget left₀ told₀ told'
+    pub event_cut : AppendsPrefix told told' (kept ++ event_text count e) → IsCutShort budget left₀ told₀ told'
     unfolding step_on json_text
     event_cut k =
         let es = d.under_way.events ++ e ∷ [] in
-        let front : AppendsFront told₀ told' (open_text p'.layout es) = subst (AppendsFront told₀ told') more (fails_then told₀ told told' [] kept (open_text p.layout d.under_way.events) (event_text count e) d.sent k) in
-        cut_within budget left₀ before now' p' m' (count + 1) told₀ told' (step_on budget left₀ before now now' p p' m m' count e fits d.under_way t a same le) (front_of_more told₀ told' (open_text p'.layout es) closing_text front)
+        let prefix : AppendsPrefix told₀ told' (open_text p'.layout es) = subst (AppendsPrefix told₀ told') more (fails_then told₀ told told' [] kept (open_text p.layout d.under_way.events) (event_text count e) d.sent k) in
+        cut_within budget left₀ before now' p' m' (count + 1) told₀ told' (step_on budget left₀ before now now' p p' m m' count e fits d.under_way t a same le) (prefix_of_more told₀ told' (open_text p'.layout es) closing_text prefix)
 
   -- the closing, and what is held before it
   module _ (told' : Option (List ℕ)) where
@@ -108,11 +108,11 @@ module _ (budget : ℕ) (left₀ : Option (List ℕ)) (before now : ℕ) (p : St
     closed : Appends told told' (kept ++ closing_text) → Appends told₀ told' (json_text p.layout d.under_way.events)
     closed a = subst (Appends told₀ told') whole (appends_then told₀ told told' d.sent.0 (kept ++ closing_text) d.sent.1 a)
 
-    close_cut : AppendsFront told told' (kept ++ closing_text) → IsCutShort budget left₀ told₀ told'
-    close_cut k = cut_within budget left₀ before now p m count told₀ told' d.under_way (subst (AppendsFront told₀ told') whole (front_behind told₀ told told' d.sent.0 (kept ++ closing_text) d.sent.1 k))
+    close_cut : AppendsPrefix told told' (kept ++ closing_text) → IsCutShort budget left₀ told₀ told'
+    close_cut k = cut_within budget left₀ before now p m count told₀ told' d.under_way (subst (AppendsPrefix told₀ told') whole (prefix_behind told₀ told told' d.sent.0 (kept ++ closing_text) d.sent.1 k))
 
     -- what the closing answers
-    pub answers_closed : {E : Type 0} (v : Verdict) (left' : Option (List ℕ)) (now' sunk₀ sunk sunk' : ℕ) (r : Result Verdict E) → IfOk r (λ w. w ≡ v) → OnOk r (Appends told told' (kept ++ closing_text)) → OnErr r (AppendsFront told told' (kept ++ closing_text)) → HasCause sunk sunk' r → sunk₀ ≤ sunk
+    pub answers_closed : {E : Type 0} (v : Verdict) (left' : Option (List ℕ)) (now' sunk₀ sunk sunk' : ℕ) (r : Result Verdict E) → IfOk r (λ w. w ≡ v) → OnOk r (Appends told told' (kept ++ closing_text)) → OnErr r (AppendsPrefix told told' (kept ++ closing_text)) → HasCause sunk sunk' r → sunk₀ ≤ sunk
         → IsJust budget left₀ left' before now' v → (Appends told₀ told' (json_text p.layout d.under_way.events) → IsWritten budget left₀ told₀ told' v) → (v ≢ verdict.ReadFault → now' ≡ before) → before ≤ now'
         → Answers budget left₀ left' before now' told₀ told' sunk₀ sunk' r
     answers_closed v left' now' sunk₀ sunk sunk' (Ok w) is ok err cause le just written unfailed later = record {
@@ -131,7 +131,7 @@ pub answers_cut : {E : Type 0} (budget : ℕ) (left₀ left' : Option (List ℕ)
 answers_cut budget left₀ left' before now told₀ told sunk₀ sunk sunk' f cut cause le later = record { just = tt; written = tt; cut_short = cut; cause = cause_then (Err f) le (record { later = cause.later; failed = cause.failed }); unfailed = tt; later = later }
 
 -- the verdict on a text that can't be read, with what was written until then
-refused_written : (budget : ℕ) (left₀ told₀ told : Option (List ℕ)) (f : TextFault) → IfSome left₀ (λ bytes. GotFront budget bytes told₀ told) → IsWritten budget left₀ told₀ told (refusal f)
+refused_written : (budget : ℕ) (left₀ told₀ told : Option (List ℕ)) (f : TextFault) → IfSome left₀ (λ bytes. GotPrefix budget bytes told₀ told) → IsWritten budget left₀ told₀ told (refusal f)
 refused_written budget None told₀ told f h = tt
 refused_written budget (Some bytes) told₀ told (fault.BadLine k) h = h
 refused_written budget (Some bytes) told₀ told fault.TooLong h = h
@@ -155,8 +155,8 @@ answers_headless budget left₀ left' before now told sunk f just unfailed later
 
 module _ (budget : ℕ) (before now : ℕ) (p : Standing) (m : Moment) (count : ℕ) (told : Option (List ℕ)) where
   pub refused_got : (left₀ : Option (List ℕ)) (u : IsUnderWay budget left₀ before p now m count) (told₀ : Option (List ℕ)) (f : TextFault) → Appends told₀ told (json_text p.layout u.events) → IsWritten budget left₀ told₀ told (refusal f)
-  unfolding front_read
-  refused_got left₀ u told₀ f a = refused_written budget left₀ told₀ told f (if_some left₀ _ (λ bytes told_is. inr (front_read budget left₀ before now p m count u bytes told_is, a)))
+  unfolding prefix_read
+  refused_got left₀ u told₀ f a = refused_written budget left₀ told₀ told f (if_some left₀ _ (λ bytes told_is. inr (prefix_read budget left₀ before now p m count u bytes told_is, a)))
 
   pub legal_got : (left₀ : Option (List ℕ)) (u : IsUnderWay budget left₀ before p now m count) (told₀ : Option (List ℕ)) (p' : Standing) (s : Summary) → budget < 2 ^ 64 - 1 → TakesEnd p p' → s.events ≡ count → s.held ≡ held m.layout (spec_of m) → s.waiting ≡ waiting m.layout (spec_of m) → s.alerted ≡ alerted m.layout (spec_of m)
       → Appends told₀ told (json_text p.layout u.events) → IsWritten budget left₀ told₀ told (verdict.Legal s)

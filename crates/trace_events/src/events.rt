@@ -1,7 +1,7 @@
 //! The events of a trace text as JSON.
 ghost use Rattle.std.specs.Prelude.{◌≡◌, ◌≢◌, ◌-◌, ◌<◌, ◌≤◌, ◌^◌, ◌++◌, List, ℕ, [], Some, IfOk, OnOk, OnErr, length};
 ghost use Rattle.std.specs.Io.KnownBytes.{Appends};
-ghost use Rattle.firefly_outside.specs.Causes.{HasCause, AppendsFront};
+ghost use Rattle.firefly_outside.specs.Causes.{HasCause, AppendsPrefix};
 ghost use Rattle.larch_actions.specs.Layout.{IsLawful};
 ghost use Rattle.text_output.specs.Sent.{Puts};
 ghost use Rattle.trace_core.specs.declared.reader_state.Phase.TheVariants as phase;
@@ -87,7 +87,7 @@ fn put_event<O: Sink>(held: &mut Held, place: u64, e: &Event, out: &mut O) -> Re
 fn close<O: Sink>(held: &mut Held, verdict: Verdict, out: &mut O) -> Result<Verdict, SinkFault>
     ensures same { IfOk result (λ v. v ≡ verdict) }
     ensures ok { OnOk result (Appends (O.held out.old) (O.held out.new) (held.old.items ++ closing_text)) }
-    ensures err { OnErr result (AppendsFront (O.held out.old) (O.held out.new) (held.old.items ++ closing_text)) }
+    ensures err { OnErr result (AppendsPrefix (O.held out.old) (O.held out.new) (held.old.items ++ closing_text)) }
     ensures cause { HasCause (O.faults out.old) (O.faults out.new) result }
 {
     if let Err(fault) = put(held, b"\n]}\n", out) {
@@ -112,7 +112,7 @@ pub fn write_events<I: Source, O: Sink>(
     ensures exact { IfOk result (λ v. (bytes : List ℕ) (other : Verdict) → I.left input.old ≡ Some bytes → v ≢ verdict.ReadFault
         → other ≢ verdict.ReadFault
         → IsJust budget (I.left input.old) (I.left input.new) (I.faults input.old) (I.faults input.new) other → v ≡ other) }
-    // The sink got the text, or a front of one where it failed.
+    // The sink got the text, or a prefix of one where it failed.
     ensures written { IfOk result (λ v. IsWritten budget (I.left input.old) (O.held out.old) (O.held out.new) v) }
     ensures cut_short { OnErr result (IsCutShort budget (I.left input.old) (O.held out.old) (O.held out.new)) }
     ensures cause { HasCause (O.faults out.old) (O.faults out.new) result }

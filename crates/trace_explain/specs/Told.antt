@@ -2,7 +2,7 @@
 use Rattle.std.specs.Prelude.{◌≡◌, ℕ, List, [], IfSome}
 use Rattle.std.specs.declared.option.Option.{Option}
 use Rattle.std.specs.Io.KnownBytes.{Appends}
-use Rattle.firefly_outside.specs.Causes.{AppendsFront}
+use Rattle.firefly_outside.specs.Causes.{AppendsPrefix}
 use Rattle.trace_check.specs.declared.checker.Verdict.{Verdict}
 use Rattle.trace_check.specs.declared.checker.Verdict.TheVariants as verdict
 use Rattle.trace_check.specs.Verdicts.{IsIllegalText, IsJust}
@@ -25,10 +25,10 @@ Explains budget left verdict.ReadFault text = text ≡ []
 abbrev pub GotText : ℕ → Option (List ℕ) → Option (List ℕ) → Option (List ℕ) → Verdict → Type 0
 GotText budget left told told' v = (text : List ℕ) × Explains budget left v text × Appends told told' text
 
--- the sink got a front of the text that explains a verdict which is just
-abbrev pub GotFront : ℕ → Option (List ℕ) → Option (List ℕ) → ℕ → ℕ → Option (List ℕ) → Option (List ℕ) → Type 0
-GotFront budget left left' before now told told' =
-    (v : Verdict) × IsJust budget left left' before now v × ((text : List ℕ) × Explains budget left v text × AppendsFront told told' text)
+-- the sink got a prefix of the text that explains a verdict which is just
+abbrev pub GotPrefix : ℕ → Option (List ℕ) → Option (List ℕ) → ℕ → ℕ → Option (List ℕ) → Option (List ℕ) → Type 0
+GotPrefix budget left left' before now told told' =
+    (v : Verdict) × IsJust budget left left' before now v × ((text : List ℕ) × Explains budget left v text × AppendsPrefix told told' text)
 
 -- of an event that fails: it is the input's, whose version is this, and this is kept of the events before it
 abbrev pub IsFailure : ℕ → Option (List ℕ) → Kept → Found → Type 0

@@ -6,7 +6,7 @@ ghost use Rattle.trace_core.specs.Reader.{standing, input_of};
 ghost use Rattle.trace_check.specs.declared.checker.Verdict.{Verdict};
 ghost use Rattle.trace_check.specs.declared.checker.Verdict.TheVariants as verdict;
 ghost use Rattle.trace_check.specs.Verdicts.{IsJust};
-ghost use Rattle.trace_explain.specs.Told.{GotText, GotFront};
+ghost use Rattle.trace_explain.specs.Told.{GotText, GotPrefix};
 
 use crate::find::find_all;
 use crate::tell::tell;
@@ -28,9 +28,9 @@ pub fn explain<I: Source, O: Sink>(
     ensures exact { IfOk result (λ v. (bytes : List ℕ) (other : Verdict) → I.left input.old ≡ Some bytes → v ≢ verdict.ReadFault
         → other ≢ verdict.ReadFault
         → IsJust budget (I.left input.old) (I.left input.new) (I.faults input.old) (I.faults input.new) other → v ≡ other) }
-    // The sink got the text that explains it, or a front of such a text where it failed.
+    // The sink got the text that explains it, or a prefix of such a text where it failed.
     ensures ok { IfOk result (λ v. GotText budget (I.left input.old) (O.held out.old) (O.held out.new) v) }
-    ensures err { OnErr result (GotFront budget (I.left input.old) (I.left input.new) (I.faults input.old) (I.faults input.new)
+    ensures err { OnErr result (GotPrefix budget (I.left input.old) (I.left input.new) (I.faults input.old) (I.faults input.new)
         (O.held out.old) (O.held out.new)) }
     ensures cause { HasCause (O.faults out.old) (O.faults out.new) result }
     // From the byte that decides on nothing more is read.
@@ -53,7 +53,7 @@ fn explain_all<I: Source, O: Sink>(
         (I.left (input_of reader.new).now) (I.faults (input_of reader.old).now) (I.faults (input_of reader.new).now) v) }
     ensures ok { IfOk result (λ v. GotText (standing I.left reader.old).room (standing I.left reader.old).rest (O.held out.old)
         (O.held out.new) v) }
-    ensures err { OnErr result (GotFront (standing I.left reader.old).room (standing I.left reader.old).rest
+    ensures err { OnErr result (GotPrefix (standing I.left reader.old).room (standing I.left reader.old).rest
         (I.left (input_of reader.new).now) (I.faults (input_of reader.old).now) (I.faults (input_of reader.new).now)
         (O.held out.old) (O.held out.new)) }
     ensures cause { HasCause (O.faults out.old) (O.faults out.new) result }

@@ -1,7 +1,7 @@
 //! The text for what a check finds, written into a buffer behind its first `at` bytes. Each call says where it ended.
 ghost use Rattle.std.specs.Prelude.{◌≡◌, ◌+◌, ◌≤◌, ◌++◌, length, take, [], OnOk, OnErr, IfOk};
 ghost use Rattle.std.specs.Io.KnownBytes.{Appends};
-ghost use Rattle.firefly_outside.specs.Causes.{HasCause, AppendsFront};
+ghost use Rattle.firefly_outside.specs.Causes.{HasCause, AppendsPrefix};
 ghost use Rattle.trace_board.specs.Kept.{kept_of, IsNoted};
 ghost use Rattle.trace_explain.specs.Words.{legal_text, failed_text, illegal_text, later_text, expected, bad_text, text_of, verdict_of};
 ghost use Rattle.trace_explain.specs.Told.{HasNoted};
@@ -164,7 +164,7 @@ fn tell_by<O: Sink>(
     requires large { 16384 ≤ length buf.old }
     ensures verdict { IfOk result (λ v. v ≡ verdict_of found.now) }
     ensures ok { OnOk result (Appends (O.held out.old) (O.held out.new) (text_of (kept_of board.now) found.now)) }
-    ensures err { OnErr result (AppendsFront (O.held out.old) (O.held out.new) (text_of (kept_of board.now) found.now)) }
+    ensures err { OnErr result (AppendsPrefix (O.held out.old) (O.held out.new) (text_of (kept_of board.now) found.now)) }
     ensures cause { HasCause (O.faults out.old) (O.faults out.new) result }
 {
     let end = add_found(buf, 0, board, found);
@@ -179,7 +179,7 @@ pub fn tell<O: Sink>(found: &Found, board: &Board, out: &mut O) -> Result<Verdic
     requires { HasNoted found.now }
     ensures verdict { IfOk result (λ v. v ≡ verdict_of found.now) }
     ensures ok { OnOk result (Appends (O.held out.old) (O.held out.new) (text_of (kept_of board.now) found.now)) }
-    ensures err { OnErr result (AppendsFront (O.held out.old) (O.held out.new) (text_of (kept_of board.now) found.now)) }
+    ensures err { OnErr result (AppendsPrefix (O.held out.old) (O.held out.new) (text_of (kept_of board.now) found.now)) }
     ensures cause { HasCause (O.faults out.old) (O.faults out.new) result }
 {
     let mut buf = [0; 16384];

@@ -4,7 +4,7 @@ use Rattle.std.specs.Prelude.{codes}
 use Rattle.std.specs.Io.KnownBytes.{Appends, Consumes}
 use Rattle.std.specs.declared.option.Option.{Option}
 use Rattle.std.proofs.KnownBytes.{Appends-trans}
-use Rattle.firefly_outside.specs.Causes.{AppendsFront}
+use Rattle.firefly_outside.specs.Causes.{AppendsPrefix}
 use Rattle.larch_actions.specs.declared.event.Layout.{Layout}
 use Rattle.larch_actions.specs.declared.event.Event.{Event}
 use Rattle.larch_actions.specs.declared.event.Broken.{Broken}
@@ -18,14 +18,14 @@ use Rattle.trace_core.specs.Whole.{Flows}
 use Rattle.trace_core.proofs.Flowing.{Pending, pending_flow, pending_fault}
 use Rattle.trace_check.specs.declared.checker.Summary.{Summary}
 use Rattle.trace_check.specs.declared.checker.Verdict.TheVariants as verdict
-use Rattle.trace_check.specs.Verdicts.{IsFrontText, refusal}
-use Rattle.trace_check.proofs.UnderWay.{IsUnderWay, few, starts_on, step_on, fails_on, ends_on, front_read}
+use Rattle.trace_check.specs.Verdicts.{IsPrefixText, refusal}
+use Rattle.trace_check.proofs.UnderWay.{IsUnderWay, few, starts_on, step_on, fails_on, ends_on, prefix_read}
 use Rattle.trace_board.proofs.Behind.{behind-push, length-behind}
 use Rattle.picture_marks.specs.declared.view.View.{View}
 use Rattle.trace_board.specs.Kept.{Kept, nothing_kept, kept_after, kept_since, behind}
 use Rattle.picture_marks.specs.Shapes.{with_number}
 use Rattle.trace_picture.specs.Bands.{step_text, failing_text}
-use Rattle.trace_picture.specs.Picture.{head_text, steps_text, front_picture, closing_if, last_closing, end_text, failed_note, failed_picture, cut_picture}
+use Rattle.trace_picture.specs.Picture.{head_text, steps_text, prefix_picture, closing_if, last_closing, end_text, failed_note, failed_picture, cut_picture}
 use Rattle.trace_picture.specs.Rings.{IsEnding}
 use Rattle.trace_picture.specs.Drawn.{GotCut, IsDrawn, IsAPicture, IsCutOff}
 
@@ -38,20 +38,20 @@ steps-push l v past (x ∷ es) e =
     ap (λ t. first ++ t) (steps-push l v (x ∷ past) es e)
     ∙ sym (append_assoc first (steps_text l v (x ∷ past) es) (step_text l v (kept_since (behind (x ∷ past) es)) (length (behind (x ∷ past) es)) e))
 
-pub front-push : (l : Layout) (v : View) (es : List Event) (e : Event) → front_picture l v (es ++ e ∷ []) ≡ front_picture l v es ++ step_text l v (kept_since (behind [] es)) (length (behind [] es)) e
-unfolding front_picture
-front-push l v es e =
+pub prefix-push : (l : Layout) (v : View) (es : List Event) (e : Event) → prefix_picture l v (es ++ e ∷ []) ≡ prefix_picture l v es ++ step_text l v (kept_since (behind [] es)) (length (behind [] es)) e
+unfolding prefix_picture
+prefix-push l v es e =
     ap (λ t. head_text l ++ t) (steps-push l v [] es e)
     ∙ sym (append_assoc (head_text l) (steps_text l v [] es) (step_text l v (kept_since (behind [] es)) (length (behind [] es)) e))
 
-pub front-none : (l : Layout) (v : View) → front_picture l v [] ≡ head_text l
-unfolding front_picture steps_text
-front-none l v = append-nil (head_text l)
+pub prefix-none : (l : Layout) (v : View) → prefix_picture l v [] ≡ head_text l
+unfolding prefix_picture steps_text
+prefix-none l v = append-nil (head_text l)
 
 -- so far these events were read and drawn
 pub record IsDrawing (budget : ℕ) (left₀ : Option (List ℕ)) (before : ℕ) (st : Standing) (now : ℕ) (m : Moment) (count : ℕ) (v : View) (told₀ told : Option (List ℕ)) (kept : List ℕ) (k : Kept) : Type 0 where
   pub under_way : IsUnderWay budget left₀ before st now m count
-  pub flows : Pending told₀ told kept (front_picture st.layout v under_way.events) []
+  pub flows : Pending told₀ told kept (prefix_picture st.layout v under_way.events) []
   pub kept_is : k ≡ kept_since (behind [] under_way.events)
 
 -- more was put behind what is held back
@@ -72,7 +72,7 @@ unfoldable pub drawing_starts : (budget : ℕ) (left₀ : Option (List ℕ)) (be
     → IsDrawing budget left₀ before p' now m 0 v told told kept k
 unfolding starts_on
 drawing_starts budget left₀ before now p p' l m v told kept k rest room lines t le laid first text none =
-    let all : front_picture p'.layout v [] ≡ ([] ++ kept) ++ [] = front-none p'.layout v ∙ ap head_text t.layout ∙ sym text ∙ sym (append-nil kept) in
+    let all : prefix_picture p'.layout v [] ≡ ([] ++ kept) ++ [] = prefix-none p'.layout v ∙ ap head_text t.layout ∙ sym text ∙ sym (append-nil kept) in
     record {
       under_way = starts_on budget left₀ before now p p' l m rest room lines t le laid first;
       flows = ([], nothing_sent told, all);
@@ -88,7 +88,7 @@ module _ (budget : ℕ) (left₀ : Option (List ℕ)) (before now : ℕ) (p : St
   unfoldable pub drawing_room : (told' : Option (List ℕ)) (kept' : List ℕ) → Flows told told' kept kept' [] → IsDrawing budget left₀ before p now m count v told₀ told' kept' k
   drawing_room told' kept' f = record {
     under_way = d.under_way;
-    flows = pending_flow told₀ told told' kept kept' (front_picture p.layout v d.under_way.events) [] d.flows f;
+    flows = pending_flow told₀ told told' kept kept' (prefix_picture p.layout v d.under_way.events) [] d.flows f;
     kept_is = d.kept_is;
   }
 
@@ -103,10 +103,10 @@ module _ (budget : ℕ) (left₀ : Option (List ℕ)) (before now : ℕ) (p : St
       let es = d.under_way.events in
       let n = counted in
       let step : step_text p.layout v k count e ≡ step_text p.layout v (kept_since (behind [] es)) (length (behind [] es)) e = (λ i. step_text p.layout v (d.kept_is i) (sym n i) e) in
-      let all : front_picture p.layout v es ++ step_text p.layout v k count e ≡ front_picture p'.layout v (es ++ e ∷ []) =
-      ap (λ s. front_picture p.layout v es ++ s) step ∙ sym (front-push p.layout v es e) ∙ ap (λ l. front_picture l v (es ++ e ∷ [])) (sym t.layout)
+      let all : prefix_picture p.layout v es ++ step_text p.layout v k count e ≡ prefix_picture p'.layout v (es ++ e ∷ []) =
+      ap (λ s. prefix_picture p.layout v es ++ s) step ∙ sym (prefix-push p.layout v es e) ∙ ap (λ l. prefix_picture l v (es ++ e ∷ [])) (sym t.layout)
       in
-      let flows = pending_text told₀ told kept kept' (front_picture p.layout v es) (step_text p.layout v k count e) d.flows (text ∙ ap (λ x. kept ++ step_text x v k count e) same_l) in
+      let flows = pending_text told₀ told kept kept' (prefix_picture p.layout v es) (step_text p.layout v k count e) d.flows (text ∙ ap (λ x. kept ++ step_text x v k count e) same_l) in
       record {
         under_way = step_on budget left₀ before now now' p p' m m' count e fits d.under_way t a same le;
         flows = subst (λ x. Pending told₀ told kept' x []) all flows;
@@ -128,8 +128,8 @@ module _ (budget : ℕ) (left₀ : Option (List ℕ)) (before now : ℕ) (p : St
       let held = subst (λ x. IsEnding on p.layout v x count es end) d.kept_is laid in
       subst (λ x. IsEnding on p.layout v (kept_since (behind [] es)) x es end) (sym d.under_way.counted) held
 
-  pub legal_pending : (end : List ℕ) → Pending told₀ told (kept ++ end) (front_picture p.layout v d.under_way.events ++ end) []
-  legal_pending end = pending_text told₀ told kept (kept ++ end) (front_picture p.layout v d.under_way.events) end d.flows refl
+  pub legal_pending : (end : List ℕ) → Pending told₀ told (kept ++ end) (prefix_picture p.layout v d.under_way.events ++ end) []
+  legal_pending end = pending_text told₀ told kept (kept ++ end) (prefix_picture p.layout v d.under_way.events) end d.flows refl
 
   fails_same : (e : Event) (why : Broken) → failing_text p.layout v k count e why ++ end_text p.layout v k (count + 1) (failed_note count e why)
       ≡ failing_text p.layout v (kept_since (behind [] d.under_way.events)) (length d.under_way.events) e why ++ end_text p.layout v (kept_since (behind [] d.under_way.events)) (length d.under_way.events + 1) (failed_note (length d.under_way.events) e why)
@@ -142,18 +142,18 @@ module _ (budget : ℕ) (left₀ : Option (List ℕ)) (before now : ℕ) (p : St
     unfolding cut_picture
     cut_pending text =
         let es = d.under_way.events in
-        pending_text told₀ told kept end (front_picture p.layout v es) (last_closing p.layout v es ++ end_text p.layout v (kept_since (behind [] d.under_way.events)) (length es) (with_number (codes "the input can't be read further, events: ") (length es))) d.flows (text ∙ ap (λ x. kept ++ x) (ends_same (codes "the input can't be read further, events: ")))
+        pending_text told₀ told kept end (prefix_picture p.layout v es) (last_closing p.layout v es ++ end_text p.layout v (kept_since (behind [] d.under_way.events)) (length es) (with_number (codes "the input can't be read further, events: ") (length es))) d.flows (text ∙ ap (λ x. kept ++ x) (ends_same (codes "the input can't be read further, events: ")))
 
     pub failed_pending : (e : Event) (why : Broken) → end ≡ kept ++ (failing_text p.layout v k count e why ++ end_text p.layout v k (count + 1) (failed_note count e why)) → Pending told₀ told end (failed_picture p.layout v d.under_way.events e why) []
     unfolding failed_picture
     failed_pending e why text =
         let es = d.under_way.events in
-        pending_text told₀ told kept end (front_picture p.layout v es) (failing_text p.layout v (kept_since (behind [] es)) (length es) e why ++ end_text p.layout v (kept_since (behind [] d.under_way.events)) (length es + 1) (failed_note (length es) e why)) d.flows (text ∙ ap (λ x. kept ++ x) (fails_same e why))
+        pending_text told₀ told kept end (prefix_picture p.layout v es) (failing_text p.layout v (kept_since (behind [] es)) (length es) e why ++ end_text p.layout v (kept_since (behind [] d.under_way.events)) (length es + 1) (failed_note (length es) e why)) d.flows (text ∙ ap (λ x. kept ++ x) (fails_same e why))
 
     -- a sink that failed
-    pub cut_by : (text : List ℕ) → IsAPicture p.layout v d.under_way.events text → AppendsFront told₀ told' text → (bytes : List ℕ) → left₀ ≡ Some bytes → (w : IsFrontText budget bytes) × (text : List ℕ) × IsAPicture w.layout v w.events text × AppendsFront told₀ told' text
-    unfolding front_read
-    cut_by text is front bytes told_is = (front_read budget left₀ before now p m count d.under_way bytes told_is, text, is, front)
+    pub cut_by : (text : List ℕ) → IsAPicture p.layout v d.under_way.events text → AppendsPrefix told₀ told' text → (bytes : List ℕ) → left₀ ≡ Some bytes → (w : IsPrefixText budget bytes) × (text : List ℕ) × IsAPicture w.layout v w.events text × AppendsPrefix told₀ told' text
+    unfolding prefix_read
+    cut_by text is prefix bytes told_is = (prefix_read budget left₀ before now p m count d.under_way bytes told_is, text, is, prefix)
 
 -- the verdict on a text that can't be read, with what was drawn until then
 pub refused_drawn : (budget : ℕ) (v : View) (left₀ told₀ told' : Option (List ℕ)) (f : TextFault) → IfSome left₀ (λ bytes. GotCut budget v bytes told₀ told') → IsDrawn budget v left₀ told₀ told' (refusal f)
@@ -177,40 +177,40 @@ if_some (Some bytes) Holds h = h bytes refl
 module _ (budget : ℕ) (left₀ : Option (List ℕ)) (before now : ℕ) (p : Standing) (m : Moment) (count : ℕ) (v : View) (told₀ told : Option (List ℕ)) (kept : List ℕ) (k : Kept)
     (d : IsDrawing budget left₀ before p now m count v told₀ told kept k) (end : List ℕ) (told' : Option (List ℕ)) (l : Layout) (same_l : l ≡ p.layout) where
   -- the sink failed between two events
-  pub room_cut : AppendsFront told told' kept → IsCutOff budget v left₀ told₀ told'
+  pub room_cut : AppendsPrefix told told' kept → IsCutOff budget v left₀ told₀ told'
   unfolding cut_picture
   room_cut f =
       let es = d.under_way.events in
       let ending = last_closing p.layout v es ++ end_text p.layout v (kept_since (behind [] d.under_way.events)) (length es) (with_number (codes "the input can't be read further, events: ") (length es)) in
       let more : Pending told₀ told kept (cut_picture p.layout v es) ending = (d.flows.0, d.flows.1, ap (λ x. x ++ ending) (d.flows.2 ∙ append-nil (d.flows.0 ++ kept))) in
-      let front : AppendsFront told₀ told' (cut_picture p.layout v es) = pending_fault told₀ told told' kept (cut_picture p.layout v es) ending more f in
-      if_some left₀ _ (cut_by budget left₀ before now p m count v told₀ told kept k d end told' (cut_picture p.layout v es) (inr (inl refl)) front)
+      let prefix : AppendsPrefix told₀ told' (cut_picture p.layout v es) = pending_fault told₀ told told' kept (cut_picture p.layout v es) ending more f in
+      if_some left₀ _ (cut_by budget left₀ before now p m count v told₀ told kept k d end told' (cut_picture p.layout v es) (inr (inl refl)) prefix)
 
   pub refused_got : (f : TextFault) → end ≡ kept ++ (closing_if l v k count ++ end_text l v k count (with_number (codes "the input can't be read further, events: ") count)) → Appends told told' end → IsDrawn budget v left₀ told₀ told' (refusal f)
-  unfolding front_read
+  unfolding prefix_read
   refused_got f text a =
       let sent = pending_sent told₀ told told' end (cut_picture p.layout v d.under_way.events) (cut_pending budget left₀ before now p m count v told₀ told kept k d end told' (subst (λ x. end ≡ kept ++ (closing_if x v k count ++ end_text x v k count (with_number (codes "the input can't be read further, events: ") count))) same_l text)) a in
-      refused_drawn budget v left₀ told₀ told' f (if_some left₀ _ (λ bytes told_is. inr (front_read budget left₀ before now p m count d.under_way bytes told_is, sent)))
+      refused_drawn budget v left₀ told₀ told' f (if_some left₀ _ (λ bytes told_is. inr (prefix_read budget left₀ before now p m count d.under_way bytes told_is, sent)))
 
-  pub refused_cut : end ≡ kept ++ (closing_if l v k count ++ end_text l v k count (with_number (codes "the input can't be read further, events: ") count)) → AppendsFront told told' end → IsCutOff budget v left₀ told₀ told'
+  pub refused_cut : end ≡ kept ++ (closing_if l v k count ++ end_text l v k count (with_number (codes "the input can't be read further, events: ") count)) → AppendsPrefix told told' end → IsCutOff budget v left₀ told₀ told'
   refused_cut text f =
       let es = d.under_way.events in
-      let front = pending_fault told₀ told told' end (cut_picture p.layout v es) [] (cut_pending budget left₀ before now p m count v told₀ told kept k d end told' (subst (λ x. end ≡ kept ++ (closing_if x v k count ++ end_text x v k count (with_number (codes "the input can't be read further, events: ") count))) same_l text)) f in
-      if_some left₀ _ (cut_by budget left₀ before now p m count v told₀ told kept k d end told' (cut_picture p.layout v es) (inr (inl refl)) front)
+      let prefix = pending_fault told₀ told told' end (cut_picture p.layout v es) [] (cut_pending budget left₀ before now p m count v told₀ told kept k d end told' (subst (λ x. end ≡ kept ++ (closing_if x v k count ++ end_text x v k count (with_number (codes "the input can't be read further, events: ") count))) same_l text)) f in
+      if_some left₀ _ (cut_by budget left₀ before now p m count v told₀ told kept k d end told' (cut_picture p.layout v es) (inr (inl refl)) prefix)
 
-  pub legal_cut : (tail : List ℕ) → IsEnding v.ordered l v k count d.under_way.events tail → AppendsFront told told' (kept ++ tail) → IsCutOff budget v left₀ told₀ told'
+  pub legal_cut : (tail : List ℕ) → IsEnding v.ordered l v k count d.under_way.events tail → AppendsPrefix told told' (kept ++ tail) → IsCutOff budget v left₀ told₀ told'
   legal_cut tail h f =
       let es = d.under_way.events in
-      let all = front_picture p.layout v es ++ tail in
-      let front = pending_fault told₀ told told' (kept ++ tail) all [] (legal_pending budget left₀ before now p m count v told₀ told kept k d tail) f in
+      let all = prefix_picture p.layout v es ++ tail in
+      let prefix = pending_fault told₀ told told' (kept ++ tail) all [] (legal_pending budget left₀ before now p m count v told₀ told kept k d tail) f in
       let tail_is = legal_end budget left₀ before now p m count v told₀ told kept k d v.ordered l tail same_l h in
-      if_some left₀ _ (cut_by budget left₀ before now p m count v told₀ told kept k d end told' all (inl (tail, tail_is, refl)) front)
+      if_some left₀ _ (cut_by budget left₀ before now p m count v told₀ told kept k d end told' all (inl (tail, tail_is, refl)) prefix)
 
-  pub failed_cut : (e : Event) (why : Broken) → end ≡ kept ++ (failing_text l v k count e why ++ end_text l v k (count + 1) (failed_note count e why)) → AppendsFront told told' end → IsCutOff budget v left₀ told₀ told'
+  pub failed_cut : (e : Event) (why : Broken) → end ≡ kept ++ (failing_text l v k count e why ++ end_text l v k (count + 1) (failed_note count e why)) → AppendsPrefix told told' end → IsCutOff budget v left₀ told₀ told'
   failed_cut e why text f =
       let es = d.under_way.events in
-      let front = pending_fault told₀ told told' end (failed_picture p.layout v es e why) [] (failed_pending budget left₀ before now p m count v told₀ told kept k d end told' e why (subst (λ x. end ≡ kept ++ (failing_text x v k count e why ++ end_text x v k (count + 1) (failed_note count e why))) same_l text)) f in
-      if_some left₀ _ (cut_by budget left₀ before now p m count v told₀ told kept k d end told' (failed_picture p.layout v es e why) (inr (inr (e, why, refl))) front)
+      let prefix = pending_fault told₀ told told' end (failed_picture p.layout v es e why) [] (failed_pending budget left₀ before now p m count v told₀ told kept k d end told' e why (subst (λ x. end ≡ kept ++ (failing_text x v k count e why ++ end_text x v k (count + 1) (failed_note count e why))) same_l text)) f in
+      if_some left₀ _ (cut_by budget left₀ before now p m count v told₀ told kept k d end told' (failed_picture p.layout v es e why) (inr (inr (e, why, refl))) prefix)
 
 pub legal_got : (budget : ℕ) (left₀ : Option (List ℕ)) (before now : ℕ) (p p' : Standing) (m : Moment) (count : ℕ) (v : View) (told₀ told : Option (List ℕ)) (kept : List ℕ) (k : Kept) (d : IsDrawing budget left₀ before p now m count v told₀ told kept k) (end : List ℕ) (told' : Option (List ℕ)) (l : Layout) (s : Summary) → l ≡ p.layout
     → budget < 2 ^ 64 - 1 → TakesEnd p p' → s.events ≡ count → s.held ≡ held m.layout (spec_of m) → s.waiting ≡ waiting m.layout (spec_of m) → s.alerted ≡ alerted m.layout (spec_of m)
@@ -219,9 +219,9 @@ unfolding ends_on
 legal_got budget None before now p p' m count v told₀ told kept k d end told' l s same_l fits t a b c e h sent = tt
 legal_got budget (Some bytes) before now p p' m count v told₀ told kept k d end told' l s same_l fits t a b c e h sent = (
   ends_on budget (Some bytes) before now p p' m count s fits d.under_way t a b c e,
-  front_picture p.layout v d.under_way.events ++ end,
+  prefix_picture p.layout v d.under_way.events ++ end,
   (end, legal_end budget (Some bytes) before now p m count v told₀ told kept k d v.ordered l end same_l h, refl),
-  pending_sent told₀ told told' (kept ++ end) (front_picture p.layout v d.under_way.events ++ end) (legal_pending budget (Some bytes) before now p m count v told₀ told kept k d end) sent,
+  pending_sent told₀ told told' (kept ++ end) (prefix_picture p.layout v d.under_way.events ++ end) (legal_pending budget (Some bytes) before now p m count v told₀ told kept k d end) sent,
 )
 
 pub failed_got : (budget : ℕ) (left₀ : Option (List ℕ)) (before now : ℕ) (p p' : Standing) (m : Moment) (count : ℕ) (v : View) (told₀ told : Option (List ℕ)) (kept : List ℕ) (k : Kept) (d : IsDrawing budget left₀ before p now m count v told₀ told kept k) (end : List ℕ) (told' : Option (List ℕ)) (l : Layout) (e : Event) (why : Broken) → l ≡ p.layout

@@ -43,8 +43,8 @@ steps_text l v past [] = []
 steps_text l v past (e ∷ es) = step_text l v (kept_since past) (length past) e ++ steps_text l v (e ∷ past) es
 
 -- the head, and what all these events add
-unfoldable pub front_picture : Layout → View → List Event → List ℕ
-front_picture l v es = head_text l ++ steps_text l v [] es
+unfoldable pub prefix_picture : Layout → View → List Event → List ℕ
+prefix_picture l v es = head_text l ++ steps_text l v [] es
 
 -- which of the first n events were drawn
 unfoldable pub part_text : View → ℕ → List ℕ
@@ -88,11 +88,11 @@ cut_words = codes "the input can't be read further, events: "
 -- the picture of a trace up to the event that fails
 unfoldable pub failed_picture : Layout → View → List Event → Event → Broken → List ℕ
 failed_picture l v es e why =
-    front_picture l v es ++ (failing_text l v (kept_since (behind [] es)) (length es) e why
+    prefix_picture l v es ++ (failing_text l v (kept_since (behind [] es)) (length es) e why
     ++ end_text l v (kept_since (behind [] es)) (length es + 1) (failed_note (length es) e why))
 
 -- the picture of the events of an input that can't be read further
 unfoldable pub cut_picture : Layout → View → List Event → List ℕ
 cut_picture l v es =
-    front_picture l v es ++ (last_closing l v es ++ end_text l v (kept_since (behind [] es)) (length es)
+    prefix_picture l v es ++ (last_closing l v es ++ end_text l v (kept_since (behind [] es)) (length es)
     (with_number (codes "the input can't be read further, events: ") (length es)))

@@ -3,7 +3,7 @@ use Rattle.std.specs.Prelude.{◌≡◌, ◌⊎◌, ℕ, ◌+◌, ◌-◌, ◌/�
 use Rattle.std.specs.List.{flat_map}
 use Rattle.std.specs.Io.KnownBytes.{Appends}
 use Rattle.std.specs.declared.option.Option.{Option}
-use Rattle.firefly_outside.specs.Causes.{AppendsFront}
+use Rattle.firefly_outside.specs.Causes.{AppendsPrefix}
 use Rattle.larch_actions.specs.declared.event.Layout.{Layout}
 use Rattle.larch_actions.specs.declared.event.Event.{Event}
 use Rattle.larch_actions.specs.Actions.{Spec}
@@ -15,7 +15,7 @@ use Rattle.picture_marks.specs.declared.view.View.{View}
 use Rattle.trace_board.specs.Kept.{Kept, kept_since, behind}
 use Rattle.picture_marks.specs.Places.{in_view, column, column_x, row_y, band_top}
 use Rattle.picture_marks.specs.Shapes.{with_number}
-use Rattle.trace_picture.specs.Picture.{closing_if, end_text, ending, legal_words, front_picture}
+use Rattle.trace_picture.specs.Picture.{closing_if, end_text, ending, legal_words, prefix_picture}
 
 -- the middle of the mark of the event by which the inner mutex was got while the outer one was held, but for the half point that the text adds
 abbrev pub ring_x : View → Nested → ℕ
@@ -61,12 +61,12 @@ IsEnding true l v k n es text = ShowsOrdered l v k n es text
 -- the whole picture of a legal trace
 abbrev pub IsLegalPicture : Layout → View → List Event → List ℕ → Type 0
 IsLegalPicture l v es text =
-    (end : List ℕ) × IsEnding v.ordered l v (kept_since (behind [] es)) (length es) es end × (text ≡ front_picture l v es ++ end)
+    (end : List ℕ) × IsEnding v.ordered l v (kept_since (behind [] es)) (length es) es end × (text ≡ prefix_picture l v es ++ end)
 
 -- it is kept what n events nest
 abbrev pub AreNoted : Nestings → ℕ → Type 0
 AreNoted k n = (es : List Event) × (now : Spec) × IsKept es now k × (n ≡ length es)
 
--- the sink got this text, or a front of it where it failed
+-- the sink got this text, or a prefix of it where it failed
 abbrev pub Sends : {T E : Type 0} → Result T E → Option (List ℕ) → Option (List ℕ) → List ℕ → Type 0
-Sends r told told' text = OnOk r (Appends told told' text) × OnErr r (AppendsFront told told' text)
+Sends r told told' text = OnOk r (Appends told told' text) × OnErr r (AppendsPrefix told told' text)

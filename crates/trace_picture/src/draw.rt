@@ -1,7 +1,7 @@
 //! The picture of a trace text.
 ghost use Rattle.std.specs.Prelude.{◌≡◌, ◌≢◌, ◌+◌, ◌-◌, ◌<◌, ◌≤◌, ◌^◌, ◌++◌, List, ℕ, [], length, take, Some, IfOk, OnOk, OnErr};
 ghost use Rattle.std.specs.Io.KnownBytes.{Appends};
-ghost use Rattle.firefly_outside.specs.Causes.{HasCause, AppendsFront};
+ghost use Rattle.firefly_outside.specs.Causes.{HasCause, AppendsPrefix};
 ghost use Rattle.trace_core.specs.declared.reader_state.Phase.TheVariants as phase;
 ghost use Rattle.trace_core.specs.Reader.{standing, input_of};
 ghost use Rattle.trace_core.specs.Whole.{Flows};
@@ -62,7 +62,7 @@ fn make_room<O: Sink>(buf: &[u8], at: usize, out: &mut O) -> Result<usize, SinkF
     requires large { 440000 ≤ length buf.now }
     ensures ok { IfOk result (λ end. Flows (O.held out.old) (O.held out.new) (take at buf.now) (take end buf.now) []) }
     ensures room { IfOk result (λ end. end + 370000 ≤ length buf.now) }
-    ensures err { OnErr result (AppendsFront (O.held out.old) (O.held out.new) (take at buf.now)) }
+    ensures err { OnErr result (AppendsPrefix (O.held out.old) (O.held out.new) (take at buf.now)) }
     ensures cause { HasCause (O.faults out.old) (O.faults out.new) result }
 {
     if at <= 65536 {
@@ -89,7 +89,7 @@ fn end_cut<O: Sink>(
     requires room { at + 370000 ≤ length buf.old }
     ensures ok { OnOk result (Appends (O.held out.old) (O.held out.new)
         (take at buf.old ++ ending layout.now view.now (kept_of board.now) count cut_words)) }
-    ensures err { OnErr result (AppendsFront (O.held out.old) (O.held out.new)
+    ensures err { OnErr result (AppendsPrefix (O.held out.old) (O.held out.new)
         (take at buf.old ++ ending layout.now view.now (kept_of board.now) count cut_words)) }
     ensures cause { HasCause (O.faults out.old) (O.faults out.new) result }
 {
@@ -120,7 +120,7 @@ pub fn draw_trace<I: Source, O: Sink>(
     ensures exact { IfOk result (λ v. (bytes : List ℕ) (other : Verdict) → I.left input.old ≡ Some bytes → v ≢ verdict.ReadFault
         → other ≢ verdict.ReadFault
         → IsJust budget (I.left input.old) (I.left input.new) (I.faults input.old) (I.faults input.new) other → v ≡ other) }
-    // The sink got the picture, or a front of one where it failed.
+    // The sink got the picture, or a prefix of one where it failed.
     ensures drawn { IfOk result (λ v. IsDrawn budget view.now (I.left input.old) (O.held out.old) (O.held out.new) v) }
     ensures cut_off { OnErr result (IsCutOff budget view.now (I.left input.old) (O.held out.old) (O.held out.new)) }
     ensures cause { HasCause (O.faults out.old) (O.faults out.new) result }

@@ -1,7 +1,7 @@
 //! How a picture ends.
 ghost use Rattle.std.specs.Prelude.{◌≡◌, ◌+◌, ◌<◌, ◌≤◌, ◌^◌, ◌++◌, length, take, codes, if◌then◌else◌, [], ℕ, List, OnOk, OnErr};
 ghost use Rattle.std.specs.Io.KnownBytes.{Appends};
-ghost use Rattle.firefly_outside.specs.Causes.{HasCause, AppendsFront};
+ghost use Rattle.firefly_outside.specs.Causes.{HasCause, AppendsPrefix};
 ghost use Rattle.larch_actions.specs.Layout.{IsLawful};
 ghost use Rattle.trace_board.specs.Kept.{kept_of};
 ghost use Rattle.picture_marks.specs.Places.{is_open, height_of};
@@ -260,7 +260,7 @@ pub fn end_with<O: Sink>(
     requires room { at + 346000 ≤ length buf.old }
     ensures ok { OnOk result (Appends (O.held out.old) (O.held out.new)
         (take at buf.old ++ ending layout.now view.now (kept_of board.now) count words.now)) }
-    ensures err { OnErr result (AppendsFront (O.held out.old) (O.held out.new)
+    ensures err { OnErr result (AppendsPrefix (O.held out.old) (O.held out.new)
         (take at buf.old ++ ending layout.now view.now (kept_of board.now) count words.now)) }
     ensures cause { HasCause (O.faults out.old) (O.faults out.new) result }
 {
@@ -285,7 +285,7 @@ pub fn end_failed<O: Sink>(
     requires room { at + 370000 ≤ length buf.old }
     ensures ok { OnOk result (Appends (O.held out.old) (O.held out.new)
         (take at buf.old ++ failed_ending layout.now view.now (kept_of board.now) place e.now why)) }
-    ensures err { OnErr result (AppendsFront (O.held out.old) (O.held out.new)
+    ensures err { OnErr result (AppendsPrefix (O.held out.old) (O.held out.new)
         (take at buf.old ++ failed_ending layout.now view.now (kept_of board.now) place e.now why)) }
     ensures cause { HasCause (O.faults out.old) (O.faults out.new) result }
 {

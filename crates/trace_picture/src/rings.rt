@@ -2,7 +2,7 @@
 ghost use Rattle.std.specs.Prelude.{◌≡◌, ◌+◌, ◌*◌, ◌<◌, ◌≤◌, ◌^◌, ◌++◌, ◌∷◌, [], length, take, codes, ℕ, List, true, OnOk, OnErr};
 ghost use Rattle.std.specs.List.{AllByRecursion};
 ghost use Rattle.std.specs.Io.KnownBytes.{Appends};
-ghost use Rattle.firefly_outside.specs.Causes.{HasCause, AppendsFront};
+ghost use Rattle.firefly_outside.specs.Causes.{HasCause, AppendsPrefix};
 ghost use Rattle.larch_actions.specs.declared.event.Event.{Event};
 ghost use Rattle.larch_actions.specs.Layout.{IsLawful};
 ghost use Rattle.larch_actions.specs.Actions.{Spec, Acts};
@@ -144,7 +144,7 @@ fn end_ringed<O: Sink>(
     requires room { at + 370000 ≤ length buf.old }
     ensures ok { OnOk result (Appends (O.held out.old) (O.held out.new)
         (take at buf.old ++ ringed_ending layout.now view.now (kept_of board.now) count cycle.now)) }
-    ensures err { OnErr result (AppendsFront (O.held out.old) (O.held out.new)
+    ensures err { OnErr result (AppendsPrefix (O.held out.old) (O.held out.new)
         (take at buf.old ++ ringed_ending layout.now view.now (kept_of board.now) count cycle.now)) }
     ensures cause { HasCause (O.faults out.old) (O.faults out.new) result }
 {

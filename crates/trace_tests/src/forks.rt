@@ -93,7 +93,7 @@ fn a_thread_that_does_not_live_makes_no_event(rt: HostRuntime) -> Result<(), Fai
     Ok(())
 }
 
-// Fronts of texts whose last byte decides, each with its bad line.
+// Prefixes of texts whose last byte decides, each with its bad line.
 fn last_bytes() -> [(&'static [u8], u64); 12] {
     [
         (b"firefly-trace 3", 1),

@@ -247,6 +247,6 @@ fn whole_text_is_printed(rt: HostRuntime) -> Result<(), Fail> {
     let text: &[u8] =
         b"firefly-trace 1\nthreads 1 mutexes 1 conditions 0 semaphores 0\n0 t0 acquire m0\nend 1\nvalue m0 5\n";
     is_printed(&rt, rt.alloc(), 100, Ok(()), text)?;
-    let front = b"firefly-trace 1\nthre";
-    is_printed(&rt, rt.alloc(), 20, Err(SinkFault), front)
+    let prefix = b"firefly-trace 1\nthre";
+    is_printed(&rt, rt.alloc(), 20, Err(SinkFault), prefix)
 }

@@ -1,5 +1,5 @@
 use Rattle.std.proofs.Common.{arith}
-use Rattle.text_output.proofs.Pieces.{on_err_if, on_err_then, on_ok_then, flushed_front, flushed_whole, cause_on, cause_then}
+use Rattle.text_output.proofs.Pieces.{on_err_if, on_err_then, on_ok_then, flushed_prefix, flushed_whole, cause_on, cause_then}
 use Rattle.find_command.specs.Lines.{lines_of}
 use Rattle.find_command.proofs.lines.write_paths.Goals as goal
 
@@ -12,7 +12,7 @@ returns-in_err-put_paths-clause-cause g c = cause_on c.from_residual.result (ome
 pub returns-clause-err : goal.returns-clause-err
 returns-clause-err g c =
     let all = rw c.new-held.ensures at c.in_ok-put_paths.ensures.text in
-    on_err_then c.flush.result c.flush.ensures.err (flushed_front (g.O.Sink.held c.args.out.now) _ _ _ (lines_of c.args.paths.now) all)
+    on_err_then c.flush.result c.flush.ensures.err (flushed_prefix (g.O.Sink.held c.args.out.now) _ _ _ (lines_of c.args.paths.now) all)
 
 pub returns-clause-ok : goal.returns-clause-ok
 returns-clause-ok g c =

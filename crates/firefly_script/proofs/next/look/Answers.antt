@@ -2,7 +2,7 @@ use Rattle.std.proofs.Common.{◌≡◌, ◌<◌, ◌≤◌, length, take, drop,
 use Rattle.std.proofs.lemmas.List.{take_all, get_or-take}
 use Rattle.std.specs.Prelude.{◌==◌}
 use Rattle.firefly_script.specs.Faults.{Lacks}
-use Rattle.firefly_script.proofs.Pieces.{lacks_take, lacks_all, take_front, split_at}
+use Rattle.firefly_script.proofs.Pieces.{lacks_take, lacks_all, take_prefix, split_at}
 use Rattle.firefly_script.proofs.next.look.Goals as goal
 
 pub returns-in-Some : goal.returns-in-Some
@@ -16,7 +16,7 @@ returns-in-Some c =
     let len = length-take-le k bytes le in
     let low : n < k = omega (arith, h.0.high) in
     let at : (get_or bytes n 0 == 10) ≡ true = ap (λ b. b == 10) (sym (get_or-take k bytes n 0 low)) ∙ h.1 in
-    (omega arith, omega arith, subst (Lacks 10) (take_front n k bytes (omega arith)) (lacks_take 10 (take k bytes) n (omega arith) h.0.before), (drop (suc n) bytes, split_at 10 bytes n (omega arith) at))
+    (omega arith, omega arith, subst (Lacks 10) (take_prefix n k bytes (omega arith)) (lacks_take 10 (take k bytes) n (omega arith) h.0.before), (drop (suc n) bytes, split_at 10 bytes n (omega arith) at))
 
 pub returns-then-bytes-gt-LONGEST : goal.returns-then-bytes-gt-LONGEST
 returns-then-bytes-gt-LONGEST c =

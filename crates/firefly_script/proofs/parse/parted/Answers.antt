@@ -22,9 +22,9 @@ returns c =
     let at = c.in-Some.at in
     let h = c.in-Some.ensures in
     let rest : take (length bytes - at) (drop at bytes) ≡ drop at bytes = take_all _ (drop at bytes) (omega (arith, length-drop at bytes)) in
-    let front : drop at bytes ≡ 32 ∷ drop (suc at) bytes = drop-cons bytes at 0 h.0.high ∙ ap (λ x. x ∷ drop (suc at) bytes) (eqb-true (get_or bytes at 0) 32 h.1) in
+    let prefix : drop at bytes ≡ 32 ∷ drop (suc at) bytes = drop-cons bytes at 0 h.0.high ∙ ap (λ x. x ∷ drop (suc at) bytes) (eqb-true (get_or bytes at 0) 32 h.1) in
     record {
       bare = lacks_take 32 bytes at (omega (arith, h.0.high)) h.0.before;
-      from_space = subst IsBehind (sym (rest ∙ front)) refl;
+      from_space = subst IsBehind (sym (rest ∙ prefix)) refl;
       text = rw rest (sym (take-append-drop at bytes));
     }

@@ -3,7 +3,7 @@ use Rattle.std.specs.Io.KnownBytes.{Consumes, prepend_known}
 use Rattle.firefly_script.specs.Layouts.{head_lines}
 use Rattle.firefly_script.specs.Text.{line_text, lines_text}
 use Rattle.firefly_script.proofs.Firsts.{consumes_trans}
-use Rattle.firefly_script.proofs.Fronts.{lines_append}
+use Rattle.firefly_script.proofs.Prefixes.{lines_append}
 use Rattle.firefly_script.proofs.read.lines.Goals as goal
 
 pub loop-window-preserved : goal.loop-window-preserved

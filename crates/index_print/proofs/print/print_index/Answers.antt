@@ -1,8 +1,8 @@
 use Rattle.std.proofs.Common.{[], arith}
 use Rattle.std.specs.List.{flat_map}
 use Rattle.index_print.specs.Text.{row_text, skipped_line, index_text}
-use Rattle.text_output.proofs.Fronts.{sends_then, fails_then, fails_first}
-use Rattle.text_output.proofs.Pieces.{on_err_if, on_err_then, on_ok_then, flushed_front, flushed_whole, cause_on, cause_then}
+use Rattle.text_output.proofs.Prefixes.{sends_then, fails_then, fails_first}
+use Rattle.text_output.proofs.Pieces.{on_err_if, on_err_then, on_ok_then, flushed_prefix, flushed_whole, cause_on, cause_then}
 use Rattle.index_print.proofs.print.print_index.Goals as goal
 
 pub returns-in_err-put_all_skipped-clause-err : goal.returns-in_err-put_all_skipped-clause-err
@@ -17,7 +17,7 @@ returns-clause-err g c =
     let piece = c.args.piece.now in
     let rows = rw c.new-held.ensures at c.in_ok-put_rows.ensures.text in
     let all = sends_then (g.O.Sink.held c.args.out.now) _ _ [] _ _ (flat_map row_text piece.rows) (flat_map skipped_line piece.skipped) rows c.in_ok-put_all_skipped.ensures.text in
-    on_err_then c.flush.result c.flush.ensures.err (flushed_front (g.O.Sink.held c.args.out.now) _ _ _ (index_text piece) all)
+    on_err_then c.flush.result c.flush.ensures.err (flushed_prefix (g.O.Sink.held c.args.out.now) _ _ _ (index_text piece) all)
 
 pub returns-in_err-put_rows-clause-err : goal.returns-in_err-put_rows-clause-err
 returns-in_err-put_rows-clause-err g c =

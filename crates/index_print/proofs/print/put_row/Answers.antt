@@ -1,8 +1,8 @@
 use Rattle.std.proofs.Common.{◌++◌}
 use Rattle.std.specs.List.{flat_map}
 use Rattle.text_output.specs.Paths.{newline}
-use Rattle.text_output.proofs.Fronts.{sends_then, fails_then}
-use Rattle.text_output.proofs.Pieces.{puts_then, puts_failed, front_of_two, front_of_three}
+use Rattle.text_output.proofs.Prefixes.{sends_then, fails_then}
+use Rattle.text_output.proofs.Pieces.{puts_then, puts_failed, prefix_of_two, prefix_of_three}
 use Rattle.word_index.specs.Index.{row_at}
 use Rattle.index_print.specs.Text.{hit_after, word_start}
 use Rattle.index_print.proofs.Written.{ends_moved}
@@ -14,7 +14,7 @@ returns-in_err-put_word-clause-text g c =
     let held = c.args.held.now.items in
     let row = row_at c.args.piece.now c.args.at in
     rw (← ends_moved (word_start row) row.hits) (puts_failed c.from_residual.result told _ held _ _ c.from_residual.ensures.0
-    (front_of_three told _ held (word_start row) (flat_map hit_after row.hits) newline c.in_err-put_word.ensures.text))
+    (prefix_of_three told _ held (word_start row) (flat_map hit_after row.hits) newline c.in_err-put_word.ensures.text))
 
 pub returns-in_err-put_hits-clause-text : goal.returns-in_err-put_hits-clause-text
 returns-in_err-put_hits-clause-text g c =
@@ -22,7 +22,7 @@ returns-in_err-put_hits-clause-text g c =
     let held = c.args.held.now.items in
     let row = row_at c.args.piece.now c.args.at in
     rw (← ends_moved (word_start row) row.hits) (puts_failed c.from_residual-in_err-put_hits.result told _ held _ _ c.from_residual-in_err-put_hits.ensures.0
-    (front_of_two told _ held (word_start row ++ flat_map hit_after row.hits) newline
+    (prefix_of_two told _ held (word_start row ++ flat_map hit_after row.hits) newline
     (fails_then told _ _ held _ (word_start row) (flat_map hit_after row.hits) c.in_ok-put_word.ensures.text c.in_err-put_hits.ensures.text)))
 
 pub returns-clause-text : goal.returns-clause-text

@@ -2,7 +2,7 @@ use Rattle.std.proofs.Common.{◌≡◌, ◌<◌, ◌≤◌, length, take, drop,
 use Rattle.std.proofs.lemmas.List.{take_all, get_or-take}
 use Rattle.std.specs.Prelude.{◌==◌}
 use Rattle.job_lines.specs.Faults.{IsFlat}
-use Rattle.job_lines.proofs.Windows.{flat_take, take_front, split_at, no_first, no_long}
+use Rattle.job_lines.proofs.Windows.{flat_take, take_prefix, split_at, no_first, no_long}
 use Rattle.job_lines.proofs.take.look.Goals as goal
 
 pub returns-then-bytes-gt-LONGEST : goal.returns-then-bytes-gt-LONGEST
@@ -37,7 +37,7 @@ returns-in-None c =
     let len = length-take-le k bytes le in
     let low : n < k = omega (arith, h.0.high) in
     let at : (get_or bytes n 0 == 10) ≡ true = ap (λ b. b == 10) (sym (get_or-take k bytes n 0 low)) ∙ h.1 in
-    let flat : IsFlat (take n bytes) = subst IsFlat (take_front n k bytes (omega arith)) (flat_take (take k bytes) n (omega arith) h.0.before) in
+    let flat : IsFlat (take n bytes) = subst IsFlat (take_prefix n k bytes (omega arith)) (flat_take (take k bytes) n (omega arith) h.0.before) in
     (omega arith, λ more. no_first (take n bytes) (drop (suc n) bytes) more bytes flat (split_at bytes n (omega arith) at) c.in-None.ensures)
 
 pub returns-in-Some-line : goal.returns-in-Some-line
@@ -52,4 +52,4 @@ returns-in-Some-line c =
     let low : n < k = omega (arith, h.0.high) in
     let at : (get_or bytes n 0 == 10) ≡ true = ap (λ b. b == 10) (sym (get_or-take k bytes n 0 low)) ∙ h.1 in
     let line = c.in-Some-line.ensures in
-    (line.0, omega arith, rw add-one (subst (λ front. bytes ≡ front ++ 10 ∷ drop (suc n) bytes) line.1 (split_at bytes n (omega arith) at)))
+    (line.0, omega arith, rw add-one (subst (λ prefix. bytes ≡ prefix ++ 10 ∷ drop (suc n) bytes) line.1 (split_at bytes n (omega arith) at)))

@@ -5,7 +5,7 @@ use Rattle.std.specs.Vec.Iter.{into_iter_items}
 use Rattle.thread_crew.proofs.Zips.{all_yielded}
 use Rattle.job_pool.specs.declared.job.Work.TheVariants.{Value}
 use Rattle.job_pool.specs.Slots.{HasValue}
-use Rattle.job_pool.proofs.Lists.{each_front, each_last}
+use Rattle.job_pool.proofs.Lists.{each_prefix, each_last}
 use Rattle.job_pool.proofs.pool.parted.Goals as goal
 
 pub loop-slot-init : goal.loop-slot-init
@@ -62,7 +62,7 @@ loop-slot-preserved g c =
       gave = λ h.
           let v = each_last HasValue at.yielded x h in
           map-append (λ s. s.answer) at.yielded (x ∷ [])
-          ∙ (ap (λ l. l ++ x.answer ∷ []) (was.gave (each_front HasValue at.yielded (x ∷ []) h))
+          ∙ (ap (λ l. l ++ x.answer ∷ []) (was.gave (each_prefix HasValue at.yielded (x ∷ []) h))
           ∙ (ap (λ a. map (λ v. Some (Value v)) at.values.items ++ a ∷ []) v.1
           ∙ (sym (map-append (λ v. Some (Value v)) at.values.items (v.0 ∷ []))
           ∙ sym (ap (λ l. map (λ v. Some (Value v)) l) (put.value v.0 v.1)))));

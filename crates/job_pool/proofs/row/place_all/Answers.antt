@@ -28,13 +28,13 @@ loop-thread-preserved g c =
     let gone = c.in-Some.ensures.steps.1 in
     let short = ap length steps in
     let push = c.push_reserved.ensures in
-    let front = c.args.threads.items in
+    let prefix = c.args.threads.items in
     record {
       whole = append_assoc at.yielded ((c.in-Some.thread, c.in-Some.list) ∷ []) _ ∙ rw (← steps) was.whole;
       left = (let left = was.left in omega arith);
       room = (let room = was.room in let cap = push.capacity in let len = push.len in omega arith);
-      made = push.items ∙ (ap (λ l. l ++ c.in-Some.thread ∷ []) was.made ∙ (append_assoc front (map (λ r. r.0) at.yielded) (c.in-Some.thread ∷ [])
-          ∙ ap (λ l. front ++ l) (sym (map-append (λ r. r.0) at.yielded ((c.in-Some.thread, c.in-Some.list) ∷ [])))));
+      made = push.items ∙ (ap (λ l. l ++ c.in-Some.thread ∷ []) was.made ∙ (append_assoc prefix (map (λ r. r.0) at.yielded) (c.in-Some.thread ∷ [])
+          ∙ ap (λ l. prefix ++ l) (sym (map-append (λ r. r.0) at.yielded ((c.in-Some.thread, c.in-Some.list) ∷ [])))));
       same = ap (filled_by (into_iter_items c.next.new.self)) c.place_list.ensures ∙ (sym (ap (λ l. filled_by l at.row) steps) ∙ was.same);
     }
 

@@ -1,6 +1,6 @@
 use Rattle.std.proofs.Common.{◌<◌, ◌++◌, ℕ, List, length, sym, subst, arith}
 use Rattle.std.specs.List.{enumerate_from, flat_map}
-use Rattle.firefly_outside.specs.Causes.{AppendsFront}
+use Rattle.firefly_outside.specs.Causes.{AppendsPrefix}
 use Rattle.text_output.specs.Sent.{Sends}
 use Rattle.text_output.proofs.Pieces.{puts_failed, sends_more, fails_more, cause_on}
 use Rattle.jobs_command.specs.Lines.{value_line}
@@ -12,7 +12,7 @@ returns-in_err-put_line-clause-text g c =
     let values = c.args.values.now in
     let i = c.loop-place.place in
     let here : i < length values = omega arith in
-    let Fails : ℕ × ℕ → Type 0 = λ x. AppendsFront (g.O.Sink.held c.loop-place.out) (g.O.Sink.held c.put_line.new.out) (c.loop-place.held.items ++ value_line x) in
+    let Fails : ℕ × ℕ → Type 0 = λ x. AppendsPrefix (g.O.Sink.held c.loop-place.out) (g.O.Sink.held c.put_line.new.out) (c.loop-place.held.items ++ value_line x) in
     puts_failed c.from_residual.result (g.O.Sink.held c.args.out.now) _ c.args.held.now.items _ _ c.from_residual.ensures.0
     (fails_more value_line (enumerate_from 0 values) i (0, 0) (is_there values i here) _ _ _ _ _ c.loop-place.invariant.sent (subst Fails (sym (at_place values i (0, 0) here)) c.in_err-put_line.ensures.text))
 

@@ -3,7 +3,7 @@ use Rattle.larch_actions.specs.declared.event.Event.{Event}
 use Rattle.larch_actions.specs.Actions.{Spec, Acts}
 use Rattle.trace_check.specs.declared.checker.Summary.{Summary}
 use Rattle.trace_check.proofs.UnderWay.{head_fault, fault_on, fails_on, ends_on, few}
-use Rattle.trace_check.proofs.Fronts.{event_line_some}
+use Rattle.trace_check.proofs.Prefixes.{event_line_some}
 use Rattle.lock_order.specs.declared.nestings.Nestings.{Nestings}
 use Rattle.lock_order.specs.Kept.{IsKept}
 use Rattle.lock_order.proofs.Numbers.{both_ways}

@@ -1,5 +1,5 @@
 use Rattle.std.proofs.Common.{arith}
-use Rattle.text_output.proofs.Fronts.{front_of_more}
+use Rattle.text_output.proofs.Prefixes.{prefix_of_more}
 use Rattle.text_output.proofs.Pieces.{puts_behind, puts_failed, cause_on, cause_then}
 use Rattle.text_output.proofs.held.put_both.Goals as goal
 
@@ -17,4 +17,4 @@ pub returns-in_err-flush-clause-text : goal.returns-in_err-flush-clause-text
 returns-in_err-flush-clause-text g c =
     let told = g.O.Sink.held c.args.out.now in
     let held = c.args.held.now.items in
-    puts_failed c.from_residual.result told _ held _ c.args.piece.now c.from_residual.ensures.0 (front_of_more told _ held c.args.piece.now c.in_err-flush.ensures.err)
+    puts_failed c.from_residual.result told _ held _ c.args.piece.now c.from_residual.ensures.0 (prefix_of_more told _ held c.args.piece.now c.in_err-flush.ensures.err)

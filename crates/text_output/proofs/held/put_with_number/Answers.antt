@@ -1,6 +1,6 @@
 use Rattle.std.proofs.Common.{arith}
 use Rattle.std.specs.Prelude.{decimal}
-use Rattle.text_output.proofs.Pieces.{puts_then, puts_failed, front_of_two, cause_on, cause_then}
+use Rattle.text_output.proofs.Pieces.{puts_then, puts_failed, prefix_of_two, cause_on, cause_then}
 use Rattle.text_output.proofs.held.put_with_number.Goals as goal
 
 pub returns-clause-text : goal.returns-clause-text
@@ -17,4 +17,4 @@ pub returns-in_err-put-clause-text : goal.returns-in_err-put-clause-text
 returns-in_err-put-clause-text g c =
     let told = g.O.Sink.held c.args.out.now in
     let held = c.args.held.now.items in
-    puts_failed c.from_residual.result told _ held _ _ c.from_residual.ensures.0 (front_of_two told _ held c.args.piece.now (decimal c.args.number) c.in_err-put.ensures.text)
+    puts_failed c.from_residual.result told _ held _ _ c.from_residual.ensures.0 (prefix_of_two told _ held c.args.piece.now (decimal c.args.number) c.in_err-put.ensures.text)

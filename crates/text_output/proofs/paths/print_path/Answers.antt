@@ -1,7 +1,7 @@
 use Rattle.std.proofs.Common.{[], ◌++◌, arith}
 use Rattle.text_output.specs.Paths.{escaped}
-use Rattle.text_output.proofs.Fronts.{sends_then, fails_then, fails_first}
-use Rattle.text_output.proofs.Pieces.{on_err_if, on_err_then, on_ok_then, flushed_front, flushed_whole, cause_on, cause_then}
+use Rattle.text_output.proofs.Prefixes.{sends_then, fails_then, fails_first}
+use Rattle.text_output.proofs.Pieces.{on_err_if, on_err_then, on_ok_then, flushed_prefix, flushed_whole, cause_on, cause_then}
 use Rattle.text_output.proofs.paths.print_path.Goals as goal
 
 pub returns-in_err-put-clause-err : goal.returns-in_err-put-clause-err
@@ -33,7 +33,7 @@ returns-clause-err g c =
     let first = rw c.new-held.ensures at c.in_ok-put.ensures.text in
     let both = sends_then (g.O.Sink.held c.args.out.now) _ _ [] _ _ before path first c.in_ok-put_path.ensures.text in
     let all = sends_then (g.O.Sink.held c.args.out.now) _ _ [] _ _ (before ++ path) after both c.in_ok-put-2.ensures.text in
-    on_err_then c.flush.result c.flush.ensures.err (flushed_front (g.O.Sink.held c.args.out.now) _ _ _ ((before ++ path) ++ after) all)
+    on_err_then c.flush.result c.flush.ensures.err (flushed_prefix (g.O.Sink.held c.args.out.now) _ _ _ ((before ++ path) ++ after) all)
 
 pub returns-in_err-put-clause-cause : goal.returns-in_err-put-clause-cause
 returns-in_err-put-clause-cause g c = cause_on c.from_residual.result (omega arith) c.in_err-put.ensures.cause

@@ -1,6 +1,6 @@
 use Rattle.std.proofs.Common.{arith}
 use Rattle.text_output.specs.Paths.{newline, escaped}
-use Rattle.text_output.proofs.Pieces.{puts_then, puts_failed, front_of_two, cause_on, cause_then}
+use Rattle.text_output.proofs.Pieces.{puts_then, puts_failed, prefix_of_two, cause_on, cause_then}
 use Rattle.text_output.proofs.paths.put_path_line.Goals as goal
 
 pub returns-clause-text : goal.returns-clause-text
@@ -17,4 +17,4 @@ pub returns-in_err-put_path-clause-text : goal.returns-in_err-put_path-clause-te
 returns-in_err-put_path-clause-text g c =
     let told = g.O.Sink.held c.args.out.now in
     let held = c.args.held.now.items in
-    puts_failed c.from_residual.result told _ held _ _ c.from_residual.ensures.0 (front_of_two told _ held (escaped c.args.path.now) newline c.in_err-put_path.ensures.text)
+    puts_failed c.from_residual.result told _ held _ _ c.from_residual.ensures.0 (prefix_of_two told _ held (escaped c.args.path.now) newline c.in_err-put_path.ensures.text)

@@ -1,6 +1,6 @@
 use Rattle.std.proofs.Common.{◌∙◌, refl, arith}
 use Rattle.trace_check.proofs.UnderWay.{head_fault, fault_on, starts_on, step_on, fails_on, ends_on, few}
-use Rattle.trace_check.proofs.Fronts.{event_line_some}
+use Rattle.trace_check.proofs.Prefixes.{event_line_some}
 use Rattle.trace_check.proofs.checker.check_all.Goals as goal
 
 pub loop-event-init : goal.loop-event-init

@@ -4,7 +4,7 @@ use Rattle.trace_check.specs.declared.checker.Summary.{Summary}
 use Rattle.trace_check.specs.declared.checker.Verdict.TheVariants as verdict
 use Rattle.trace_check.specs.Verdicts.{refusal}
 use Rattle.trace_check.proofs.UnderWay.{head_fault, fault_on, fails_on, ends_on, few}
-use Rattle.trace_check.proofs.Fronts.{event_line_some}
+use Rattle.trace_check.proofs.Prefixes.{event_line_some}
 use Rattle.trace_events.proofs.Writing.{writing_starts, writing_steps, head_cut, event_cut, answers_headless, answers_cut, answers_closed, refused_got, legal_got, failed_got}
 use Rattle.trace_events.proofs.events.write_all.Goals as goal
 

@@ -1,7 +1,7 @@
 use Rattle.std.proofs.Common.{◌∙◌, refl, sym, subst, arith}
 use Rattle.larch_actions.specs.Layout.{HasNames}
 use Rattle.trace_check.proofs.UnderWay.{head_fault, fault_on, fails_on, ends_on, few}
-use Rattle.trace_check.proofs.Fronts.{event_line_some}
+use Rattle.trace_check.proofs.Prefixes.{event_line_some}
 use Rattle.trace_board.proofs.Noting.{noted}
 use Rattle.trace_explain.proofs.Finding.{finding_starts, finding_steps, finding_fails, verdict_found, no_failure, none_noted}
 use Rattle.trace_explain.proofs.find.find_all.Goals as goal

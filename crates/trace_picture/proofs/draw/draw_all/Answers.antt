@@ -3,7 +3,7 @@ use Rattle.firefly_outside.specs.Causes.{HasCause}
 use Rattle.larch_actions.specs.Layout.{HasNames}
 use Rattle.trace_check.specs.declared.checker.Summary.{Summary}
 use Rattle.trace_check.proofs.UnderWay.{head_fault, fault_on, fails_on, ends_on}
-use Rattle.trace_check.proofs.Fronts.{event_line_some}
+use Rattle.trace_check.proofs.Prefixes.{event_line_some}
 use Rattle.trace_core.specs.Reader.{standing}
 use Rattle.trace_board.specs.Kept.{kept_of}
 use Rattle.trace_picture.specs.Picture.{head_text}

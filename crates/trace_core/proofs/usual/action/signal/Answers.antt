@@ -9,6 +9,6 @@ returns c =
       named = (c.in_ok-c.ensures.name.below, λ t h. never _ (nobody t) h);
       made = c.empty.ensures.list ∙ sym (ap (λ (ns : List ℕ). set_from ns) (no_members c.empty.result nobody));
       text =
-          let front = stands_then (stands_then (stands_then (c.if-not-has_eight.ensures refl) c.in_ok-c.ensures.name.text) (c.if-not-has_four.ensures refl)) (c.if-not-has_byte.ensures refl) in
-          stands_end (let e : c.in_ok-c.c.end + 4 + 1 ≡ c.in_ok-c.c.end + 5 = omega arith in e) (stands_as (signal_text c.in_ok-c.c.value c.empty.result nobody) front);
+          let prefix = stands_then (stands_then (stands_then (c.if-not-has_eight.ensures refl) c.in_ok-c.ensures.name.text) (c.if-not-has_four.ensures refl)) (c.if-not-has_byte.ensures refl) in
+          stands_end (let e : c.in_ok-c.c.end + 4 + 1 ≡ c.in_ok-c.c.end + 5 = omega arith in e) (stands_as (signal_text c.in_ok-c.c.value c.empty.result nobody) prefix);
     }

@@ -11,7 +11,7 @@ use Rattle.trace_core.specs.Text.{MutexValue, action_text, newline, first_line, 
 use Rattle.trace_core.specs.Made.{IsMade}
 use Rattle.trace_core.proofs.Outcomes.{same_line, same_version}
 use Rattle.trace_core.specs.Whole.{event_lines}
-use Rattle.trace_check.specs.Verdicts.{front_text}
+use Rattle.trace_check.specs.Verdicts.{prefix_text}
 use Rattle.trace_check.proofs.Alike.{AreReadable, plain_all, plain_lines}
 
 pub event_line_some : (n : ℕ) (e : Event) → 0 < length (event_line n e)
@@ -27,8 +27,8 @@ event_lines-push n (x ∷ es) e =
     let z : n + 1 + length es ≡ n + length (x ∷ es) = omega arith in
     ap (λ l. event_line n x ++ l) (event_lines-push (n + 1) es e ∙ ap (λ k. event_lines (n + 1) es ++ event_line k e) z) ∙ sym (append_assoc (event_line n x) (event_lines (n + 1) es) (event_line (n + length (x ∷ es)) e))
 
-pub front_text-push : (l : Layout) (es : List Event) (e : Event) → front_text l (es ++ e ∷ []) ≡ front_text l es ++ event_line (length es) e
-front_text-push l es e =
+pub prefix_text-push : (l : Layout) (es : List Event) (e : Event) → prefix_text l (es ++ e ∷ []) ≡ prefix_text l es ++ event_line (length es) e
+prefix_text-push l es e =
     let z : 0 + length es ≡ length es = omega arith in
     ap (λ t. head_text l ++ t) (event_lines-push 0 es e ∙ ap (λ k. event_lines 0 es ++ event_line k e) z) ∙ sym (append_assoc (head_text l) (event_lines 0 es) (event_line (length es) e))
 
@@ -64,16 +64,16 @@ readable-last l [] tail h = h
 readable-last l (e ∷ es) tail h = readable-last l es tail h.1
 
 -- the text of events that are made anew
-pub front_text-plain : (l : Layout) → IsLawful l → (es : List Event) → AllByRecursion (HasNames l) es → front_text l (plain_all es) ≡ front_text l es
-front_text-plain l ok es h = ap (λ t. head_text l ++ t) (plain_lines l ok 0 es h)
+pub prefix_text-plain : (l : Layout) → IsLawful l → (es : List Event) → AllByRecursion (HasNames l) es → prefix_text l (plain_all es) ≡ prefix_text l es
+prefix_text-plain l ok es h = ap (λ t. head_text l ++ t) (plain_lines l ok 0 es h)
 
 -- each event takes a byte at least
 length-event_lines : (n : ℕ) (es : List Event) → length es ≤ length (event_lines n es)
 length-event_lines n [] = omega arith
 length-event_lines n (e ∷ es) = omega (arith, length-append (event_line n e) (event_lines (n + 1) es), event_line_some n e, length-event_lines (n + 1) es)
 
-pub length-front_text : (l : Layout) (es : List Event) → length es ≤ length (front_text l es)
-length-front_text l es = omega (arith, length-append (head_text l) (event_lines 0 es), length-event_lines 0 es)
+pub length-prefix_text : (l : Layout) (es : List Event) → length es ≤ length (prefix_text l es)
+length-prefix_text l es = omega (arith, length-append (head_text l) (event_lines 0 es), length-event_lines 0 es)
 
 -- two lists of events at the front of the same bytes: the longer goes on from the shorter
 same_events : (l : Layout) (n : ℕ) (es es' : List Event) (a b : List ℕ) → IsLawful l → n + length es' < 2 ^ 64 - 1 → AreReadable l es → AreReadable l es' → length es ≤ length es'
@@ -89,9 +89,9 @@ same_events l n (x ∷ es) (y ∷ es') a b ok fits named named' le e =
     let z : n + 1 + length es ≡ n + length (x ∷ es) = omega arith in
     (t.0, ap (λ l. y ∷ l) t.1 ∙ ap (λ v. v ∷ (es ++ t.0)) (sym same), t.2 ∙ ap (λ k. event_lines k t.0 ++ b) z)
 
-pub same_front : (l l' : Layout) (es es' : List Event) (a b : List ℕ) → IsLawful l → IsLawful l' → length es' < 2 ^ 64 - 1 → AreReadable l es → AreReadable l' es' → length es ≤ length es'
-    → front_text l es ++ a ≡ front_text l' es' ++ b → (l ≡ l') × ((tail : List Event) × (es' ≡ es ++ tail) × (a ≡ event_lines (length es) tail ++ b))
-same_front l l' es es' a b ok ok' fits named named' le e =
+pub same_prefix : (l l' : Layout) (es es' : List Event) (a b : List ℕ) → IsLawful l → IsLawful l' → length es' < 2 ^ 64 - 1 → AreReadable l es → AreReadable l' es' → length es ≤ length es'
+    → prefix_text l es ++ a ≡ prefix_text l' es' ++ b → (l ≡ l') × ((tail : List Event) × (es' ≡ es ++ tail) × (a ≡ event_lines (length es) tail ++ b))
+same_prefix l l' es es' a b ok ok' fits named named' le e =
     let shape = λ (k : Layout) (xs : List Event) (r : List ℕ).
     append_assoc (head_text k) (event_lines 0 xs) r ∙ append_assoc (first_line k.version) (layout_line k) (event_lines 0 xs ++ r)
     in

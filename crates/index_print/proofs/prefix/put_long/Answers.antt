@@ -1,6 +1,6 @@
 use Rattle.index_print.specs.Text.{hit_lead}
 use Rattle.index_print.proofs.Written.{all_of}
-use Rattle.index_print.proofs.front.put_long.Goals as goal
+use Rattle.index_print.proofs.prefix.put_long.Goals as goal
 
 pub returns-clause-text : goal.returns-clause-text
 returns-clause-text g c =

@@ -106,11 +106,11 @@ pub newlines_script : (l : Layout) (h : Holding) (f : Forked) (xs : List Line) �
 newlines_script l h f xs ok p =
     omega (arith, newlines_append (first_line l.version) (layout_text l ++ 10 ∷ lines_text xs), newlines_first l.version, newlines_append (layout_text l) (10 ∷ lines_text xs), newlines_flat (layout_text l) (layout_flat l ok), newlines_lines l h f xs ok p)
 
-lines_end : (xs : List Line) (front : List ℕ) → (body : List ℕ) × (front ++ 10 ∷ lines_text xs ≡ body ++ 10 ∷ [])
-lines_end [] front = (front, refl)
-lines_end (x ∷ xs) front =
-    let r = lines_end xs (front ++ 10 ∷ line_text x) in
-    (r.0, sym (append_assoc front (10 ∷ line_text x) (10 ∷ lines_text xs)) ∙ r.1)
+lines_end : (xs : List Line) (prefix : List ℕ) → (body : List ℕ) × (prefix ++ 10 ∷ lines_text xs ≡ body ++ 10 ∷ [])
+lines_end [] prefix = (prefix, refl)
+lines_end (x ∷ xs) prefix =
+    let r = lines_end xs (prefix ++ 10 ∷ line_text x) in
+    (r.0, sym (append_assoc prefix (10 ∷ line_text x) (10 ∷ lines_text xs)) ∙ r.1)
 
 -- a script text ends with a newline
 pub script_end : (l : Layout) (xs : List Line) → (body : List ℕ) × (script_text l xs ≡ body ++ 10 ∷ [])

@@ -1,12 +1,12 @@
 use Rattle.std.proofs.Common.{◌≡◌, ◌≤◌, [], ◌∷◌, length, length-drop, drop, ap, ◌∙◌, arith}
 use Rattle.std.proofs.Math.ListN.{drop_of_length-le}
-use Rattle.index_print.proofs.Written.{front_written}
-use Rattle.index_print.proofs.front.write_lead.Goals as goal
+use Rattle.index_print.proofs.Written.{prefix_written}
+use Rattle.index_print.proofs.prefix.write_lead.Goals as goal
 
 pub returns-clause-written : goal.returns-clause-written
 returns-clause-written c =
     let ended : drop 64 c.args.text.now ≡ [] = drop_of_length-le c.args.text.now {i = 64} (omega (arith, c.requires)) in
-    c.byte_before.ensures.written ∙ ap (λ l. 10 ∷ l) (front_written c.args.count c.args.line _ _ _ _ _ _ _ ended c.byte_before-start.ensures.written c.number_before-start.ensures.written c.byte_before-start-2.ensures.written c.number_before-start-2.ensures.written
+    c.byte_before.ensures.written ∙ ap (λ l. 10 ∷ l) (prefix_written c.args.count c.args.line _ _ _ _ _ _ _ ended c.byte_before-start.ensures.written c.number_before-start.ensures.written c.byte_before-start-2.ensures.written c.number_before-start-2.ensures.written
     c.byte_before-start-3.ensures.written c.byte_before-start-4.ensures.written)
 
 pub returns-clause-size : goal.returns-clause-size
