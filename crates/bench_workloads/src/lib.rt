@@ -2,7 +2,7 @@
 //!
 //! Promises: what a workload gives is what its numbers determine, whatever the schedule: sums, turns and counts, in one clause each.
 //! Stands on the package and what is built over it: mutexes, semaphores, conditions, alerts, bounded buffers, readers and writers.
-//! It does not say how long a workload takes: the program firefly_bench is there to time them. Nothing of the product stands on it.
+//! It does not say how long a workload takes: the program program_bench is there to time them. Nothing of the product stands on it.
 #![tactic(auto)]
 
 mod adding;

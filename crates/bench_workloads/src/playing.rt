@@ -3,7 +3,7 @@ ghost use Rattle.std.specs.Prelude.{[], ◌∷◌, IfOk, List, ℕ, ◌≡◌, �
 ghost use Rattle.larch_actions.specs.declared.event.CondId.{CondId};
 ghost use Rattle.nub.specs.Idle.{IsIdle};
 ghost use Rattle.nub.specs.Rest.{AtRest};
-ghost use Rattle.sum_turns.specs.declared.turns.Wake.TheVariants.{All, One};
+ghost use Rattle.test_turns.specs.declared.turns.Wake.TheVariants.{All, One};
 ghost use Rattle.sum_uses.specs.declared.added.Added.{Added};
 ghost use Rattle.bench_workloads.specs.Workloads.{HasMade, HasObjects, HasTurned, HasWorked};
 
@@ -15,8 +15,8 @@ use nub::{Closed, CondId, MutexId, Package, Thread, ThreadId};
 use std::alloc::{AllocError, Global};
 use std::sync::Wait;
 use std::thread::Threads;
-use sum_turns::{Turn, Wake, take_turn};
 use sum_uses::SumUses;
+use test_turns::{Turn, Wake, take_turn};
 
 /// How the threads take turns.
 #[derive(Clone, Copy)]

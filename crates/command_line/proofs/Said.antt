@@ -10,7 +10,7 @@ use Rattle.clap.specs.Takes.{is_given}
 use Rattle.clap.specs.Faults.{fault_of}
 use Rattle.command_line.specs.Grammar.{IsDirectory, IsOnceOr, IsPart, Options, Part, SayOptions, Setting, Text, apart, directory, is_same, joined, least_of, mergers, most_of, name_of, numbers_of, parsers, path_of, setting, spelling, stop_after, walkers}
 use Rattle.command_line.specs.Reading.{HoldOptions, IsNumberOr, IsOffered, IsStop, index_app}
-use Rattle.decimal_numbers.proofs.Numbers.{no-hyphen}
+use Rattle.text_output.proofs.Numbers.{no-hyphen}
 use Rattle.command_line.proofs.Shape.{Key, dir, id_of, set}
 use Rattle.command_line.proofs.Parts.{IsRaw, Raw, accepts, option_with, path, raw_row, raw_words}
 use Rattle.command_line.proofs.Levels.{fault_of-passes, matches-is}

@@ -11,7 +11,7 @@ use Rattle.clap.specs.Walk.{Row, first_of}
 use Rattle.clap.specs.Simple.{matches_of}
 use Rattle.clap.specs.Faults.{fault_of}
 use Rattle.command_line.specs.Grammar.{IsDirectory, IsOnceOr, IsPart, Options, Part, SayOptions, Setting, Text, apart, directory, is_same, joined, least_of, mergers, most_of, name_of, numbers_of, parsers, path_of, setting, spelling, stop_after, walkers}
-use Rattle.decimal_numbers.specs.Numbers.{IsNumber}
+use Rattle.text_output.specs.Numbers.{IsNumber}
 use Rattle.command_line.specs.Reading.{HoldOptions, IsNumberOr, IsOffered, IsStop, index_app}
 use Rattle.command_line.proofs.Said.{by_index, same_setting}
 use Rattle.command_line.proofs.Shape.{Key, dir, id_of, set}

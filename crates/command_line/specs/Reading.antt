@@ -3,7 +3,7 @@ use Rattle.std.specs.Prelude.{◌≡◌, ◌≢◌, ℕ, true, List, [], ◌∷�
 use Rattle.clap.specs.Words.{App, Row, Rule, first_of, new_app, new_rule, with_rule}
 use Rattle.clap.specs.Simple.{on_top}
 use Rattle.clap.specs.declared.builder.action.ArgAction.TheVariants.{Set}
-use Rattle.decimal_numbers.specs.Numbers.{IsNumber}
+use Rattle.text_output.specs.Numbers.{IsNumber}
 use Rattle.command_line.specs.Grammar.{Options, Text}
 
 -- ---- the command: four options and DIR, each with one value

@@ -5,8 +5,8 @@ ghost use Rattle.command_line.specs.Grammar.{BeginOptions, HasOptions, IsInRange
 ghost use Rattle.command_line.specs.Tasks.{task_of};
 
 use crate::options::read_options;
-use decimal_numbers::read_number;
 use std::alloc::Global;
+use text_output::read_number;
 use thiserror::Error;
 
 /// What follows `index` or `trace`. The directory is lent by the words.

@@ -9,8 +9,8 @@ ghost use Rattle.command_line.specs.Tasks.{options_of};
 use crate::command::{IndexOptions, WordsFault};
 use clap::error::ErrorKind;
 use clap::{Arg, ArgAction, ArgMatches};
-use decimal_numbers::read_number;
 use std::alloc::{AllocError, Global};
+use text_output::read_number;
 
 /// The options that the words after `index` or `trace` say.
 pub(crate) fn read_options<'a>(

@@ -1,5 +1,5 @@
 -- The trace of a run is accepted.
-use Rattle.check_command.proofs.Accepted.{closed_accepted}
+use Rattle.command_check.proofs.Accepted.{closed_accepted}
 use Rattle.firefly.specs.Laws.{AcceptsRuns, AcceptsIndexRuns, AcceptsRounds}
 
 pub accepts_runs : AcceptsRuns

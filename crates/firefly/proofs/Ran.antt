@@ -5,14 +5,14 @@ use Rattle.larch_actions.specs.Actions.{IsClosed, by_thread}
 use Rattle.trace_core.specs.Text.{MutexValue, ReadsAs, trace_text}
 use Rattle.trace_core.specs.Whole.{numbered}
 use Rattle.larch_actions.specs.declared.event.Layout.{Layout}
-use Rattle.firefly_script.specs.declared.line.Line.{Line}
-use Rattle.firefly_script.specs.declared.script.ScriptFault.{ScriptFault}
-use Rattle.firefly_script.specs.declared.script.ScriptFault.TheVariants as script
-use Rattle.firefly_script.specs.Layouts.{head_lines}
-use Rattle.firefly_script.specs.Faults.{IsBadLine, IsTooLong}
-use Rattle.firefly_script.specs.Runs.{AreEventsOf, total}
-use Rattle.firefly_script.specs.Text as text
-use Rattle.firefly_script.proofs.Answered.{one_answer}
+use Rattle.script_text.specs.declared.line.Line.{Line}
+use Rattle.script_text.specs.declared.script.ScriptFault.{ScriptFault}
+use Rattle.script_text.specs.declared.script.ScriptFault.TheVariants as script
+use Rattle.script_text.specs.Layouts.{head_lines}
+use Rattle.script_text.specs.Faults.{IsBadLine, IsTooLong}
+use Rattle.script_text.specs.Runs.{AreEventsOf, total}
+use Rattle.script_text.specs.Text as text
+use Rattle.script_text.proofs.Answered.{one_answer}
 use Rattle.command_endings.specs.declared.status.Status.{Status}
 use Rattle.command_endings.specs.declared.status.Status.TheVariants.{Done, SinkFault, Memory, BadText, TooLong}
 use Rattle.command_endings.specs.Changes.{Change, IsStill}

@@ -3,12 +3,12 @@ use Rattle.std.specs.Prelude.{◌≡◌, ℕ, List}
 use Rattle.std.specs.declared.option.Option.{Option}
 use Rattle.larch_actions.specs.declared.event.Layout.{Layout}
 use Rattle.command_line.specs.Grammar.{Options}
-use Rattle.check_command.specs.Accepted.{IsAccepted}
+use Rattle.command_check.specs.Accepted.{IsAccepted}
 use Rattle.firefly_outside.specs.Trees.{Path, Told}
 use Rattle.word_index.specs.Index.{Index}
 use Rattle.walker.specs.TreeIndex.{IsTreeIndex}
-use Rattle.firefly_script.specs.declared.line.Line.{Line}
-use Rattle.rounds_command.specs.RoundsCommand.{IsRoundsTrace}
+use Rattle.script_text.specs.declared.line.Line.{Line}
+use Rattle.command_rounds.specs.RoundsCommand.{IsRoundsTrace}
 use Rattle.firefly.specs.Looks.{Look}
 use Rattle.firefly.specs.RunCommand.{IsTraceOf}
 use Rattle.firefly.specs.TraceCommand.{IsIndexTrace}

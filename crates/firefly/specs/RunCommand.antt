@@ -5,18 +5,18 @@ use Rattle.larch_actions.specs.declared.event.Layout.{Layout}
 use Rattle.larch_actions.specs.declared.event.Event.{Event}
 use Rattle.larch_actions.specs.Actions.{by_thread}
 use Rattle.trace_core.specs.Text.{MutexValue}
-use Rattle.firefly_script.specs.declared.line.Line.{Line}
-use Rattle.firefly_script.specs.declared.script.ScriptFault.{ScriptFault}
-use Rattle.firefly_script.specs.declared.script.ScriptFault.TheVariants as script
-use Rattle.firefly_script.specs.Layouts.{head_lines}
-use Rattle.firefly_script.specs.Faults.{HasReason, IsBadLine, IsTooLong, IsShortText}
-use Rattle.firefly_script.specs.Runs.{AreEventsOf, total}
-use Rattle.firefly_script.specs.Text as text
+use Rattle.script_text.specs.declared.line.Line.{Line}
+use Rattle.script_text.specs.declared.script.ScriptFault.{ScriptFault}
+use Rattle.script_text.specs.declared.script.ScriptFault.TheVariants as script
+use Rattle.script_text.specs.Layouts.{head_lines}
+use Rattle.script_text.specs.Faults.{HasReason, IsBadLine, IsTooLong, IsShortText}
+use Rattle.script_text.specs.Runs.{AreEventsOf, total}
+use Rattle.script_text.specs.Text as text
 use Rattle.command_endings.specs.declared.status.Status.{Status}
 use Rattle.command_endings.specs.declared.status.Status.TheVariants.{Done, Usage, ReadFault, SinkFault, Stopped, Memory, Illegal, BadText, TooMany, TooLong}
 use Rattle.command_endings.specs.Changes.{Change, IsStill, Gets, GetsPrefix, Notes}
 use Rattle.command_endings.specs.Printing.{Prints}
-use Rattle.check_command.specs.Traces.{IsClosedTrace}
+use Rattle.command_check.specs.Traces.{IsClosedTrace}
 use Rattle.command_endings.specs.Messages.{input_fault_message, output_fault_message, bad_line_message, memory_message, too_long_message}
 
 -- n mutexes from k on, each with the sum of all that the lines add under it

@@ -5,13 +5,13 @@ use Rattle.command_endings.specs.declared.status.Status.{Status}
 use Rattle.command_endings.specs.declared.status.Status.TheVariants.{Usage, Memory}
 use Rattle.command_endings.specs.Changes.{Change, IsStill, Notes}
 use Rattle.command_endings.specs.Messages.{usage_message, memory_message}
-use Rattle.check_command.specs.Check.{CheckAnswers}
-use Rattle.check_command.specs.VerdictEndings.{Found}
+use Rattle.command_check.specs.Check.{CheckAnswers}
+use Rattle.command_check.specs.VerdictEndings.{Found}
 use Rattle.command_endings.specs.Endings.{TellsFault}
-use Rattle.order_command.specs.Order.{OrderAnswers, Ordered}
-use Rattle.jobs_command.specs.Jobs.{JobsAnswers, Decided as JobsDecided}
-use Rattle.find_command.specs.Find.{FindAnswers, Decided}
-use Rattle.rounds_command.specs.RoundsCommand.{RoundsAnswers}
+use Rattle.command_check.specs.Order.{OrderAnswers, Ordered}
+use Rattle.command_jobs.specs.Jobs.{JobsAnswers, Decided as JobsDecided}
+use Rattle.command_find.specs.Find.{FindAnswers, Decided}
+use Rattle.command_rounds.specs.RoundsCommand.{RoundsAnswers}
 use Rattle.firefly.specs.RunCommand.{RunAnswers, Decides}
 use Rattle.firefly.specs.SampleCommand.{SampleAnswers}
 use Rattle.firefly.specs.Looks.{Look}

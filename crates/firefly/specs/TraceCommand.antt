@@ -10,7 +10,7 @@ use Rattle.command_endings.specs.Changes.{Change, IsStill, Gets, GetsPrefix, Not
 use Rattle.firefly.specs.IndexRun.{AreAskedOnce, IsTheIndex, NoIndex, NoneRose, ShowsWork, plan_of}
 use Rattle.firefly.specs.Looks.{Look}
 use Rattle.command_endings.specs.Messages.{output_fault_message}
-use Rattle.check_command.specs.Traces.{IsClosedTrace}
+use Rattle.command_check.specs.Traces.{IsClosedTrace}
 
 -- The trace of a run that made the index: a legal and closed list of events of the plan's layout, without values, in which the work of
 -- the walkers and parsers is to be seen. No tree's count rose, and

@@ -15,8 +15,8 @@ mod top;
 mod trace_command;
 
 pub use command_endings::{Ending, Status, ends, number};
-pub use firefly_script::{Script, ScriptFault, read_script};
 pub use index_sample::{SampleSums, index_summary};
 pub use outside::{system_trees, system_words};
 pub use script_run::run_script;
+pub use script_text::{Script, ScriptFault, read_script};
 pub use top::firefly;

@@ -1,14 +1,14 @@
 //! The command `run`.
-ghost use Rattle.firefly_script.specs.Text.{IsScript};
+ghost use Rattle.script_text.specs.Text.{IsScript};
 ghost use Rattle.command_endings.specs.Changes.{change_of};
 ghost use Rattle.firefly.specs.RunCommand.{RunAnswers, Runs, Decides, SaysFault};
 
 use crate::print_trace::print_trace;
 use command_endings::{Ending, Status, ends};
 use firefly_outside::{Sink, Source};
-use firefly_script::{Script, ScriptFault, read_script};
 use package_crew::BeginsAtOnce;
 use script_run::run_script;
+use script_text::{Script, ScriptFault, read_script};
 use std::alloc::Global;
 use std::sync::Wait;
 use std::thread::Threads;

@@ -6,5 +6,5 @@ pub use Rattle.nub.proofs.Holding.{fits_any, fits_own, gives, held_back, held_on
 pub use Rattle.nub.proofs.Totals.{at_firsts, own_part, part_set, sum_said, total_firsts, total_most}
 pub use Rattle.nub.proofs.Users.{all_told, first_own, from_at, idle_again, idle_done, idle_first, idle_own, same_on, share_count, share_of}
 pub use Rattle.nub_rule.proofs.Each.{at_below}
-pub use Rattle.package_run.proofs.Times.{range_more, times_on, times_range}
-pub use Rattle.package_run.proofs.Values.{one_fits, one_kept, one_opens}
+pub use Rattle.package_crew.proofs.Times.{range_more, times_on, times_range}
+pub use Rattle.package_crew.proofs.Values.{one_fits, one_kept, one_opens}

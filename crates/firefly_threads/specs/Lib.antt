@@ -15,5 +15,5 @@ pub use Rattle.nub_rule.specs.Items
 pub use Rattle.nub_rule.specs.Known
 pub use Rattle.nub_rule.specs.Plays
 pub use Rattle.package_crew.specs.Crews
-pub use Rattle.package_run.specs.Runs
-pub use Rattle.package_run.specs.Times
+pub use Rattle.package_crew.specs.Runs
+pub use Rattle.package_crew.specs.Times

@@ -10,5 +10,5 @@ pub use Rattle.nub.specs.Totals.{total}
 pub use Rattle.nub_rule.specs.Ends.{firsts}
 pub use Rattle.nub_rule.specs.Items.{Each}
 pub use Rattle.nub_rule.specs.Known.{Known, Shape}
-pub use Rattle.package_run.specs.Runs.{HasDone, HaveWorked}
-pub use Rattle.package_run.specs.Times.{HasAll, times}
+pub use Rattle.package_crew.specs.Runs.{HasDone, HaveWorked}
+pub use Rattle.package_crew.specs.Times.{HasAll, times}

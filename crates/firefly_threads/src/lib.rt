@@ -14,6 +14,5 @@ pub use nub::{
     Thread, ThreadId, Unborn, Uses, Version, close_forked, close_package, end_thread, fork_thread,
     join_thread, open_forked, open_package,
 };
-pub use package_crew::{Beside, NotRun, at_once, at_once_beside};
-pub use package_run::{Work, run_package};
+pub use package_crew::{Beside, NotRun, Work, at_once, at_once_beside, run_package};
 pub use user_mutex::{acquire, locked, release};

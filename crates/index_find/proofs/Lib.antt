@@ -2,3 +2,8 @@ pub mod Marked
 pub mod Stacked
 pub mod Picked
 pub mod Placed
+pub mod Pendings
+pub mod Postfixes
+pub mod Driven
+pub mod Sound
+pub mod Answered

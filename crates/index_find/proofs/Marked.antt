@@ -4,7 +4,7 @@ use Rattle.std.specs.Prelude.{◌&&◌, ◌||◌, not}
 use Rattle.std.proofs.lemmas.Bool.{false≢true}
 use Rattle.std.proofs.lemmas.List.Elements.{Contains-get_or}
 use Rattle.index_table.specs.Rows.{Contents, HasPath, ArePathsOf}
-use Rattle.query_reading.specs.Tree.{Tree, Not, Both, Either}
+use Rattle.index_find.specs.Tree.{Tree, Not, Both, Either}
 use Rattle.index_find.specs.Meaning.{Means}
 use Rattle.index_find.specs.Marks.{at, path_at, AreMarks}
 

@@ -7,7 +7,7 @@ use Rattle.std.proofs.lemmas.List.{get_or_default}
 use Rattle.std.proofs.lemmas.List.Quantifiers.{all_pairs_push}
 use Rattle.word_index.specs.Index.{Row, IsBelow, IsRising}
 use Rattle.index_table.specs.Rows.{Contents, HasPath, ArePathsOf}
-use Rattle.query_reading.specs.Tree.{Tree, Word, Not, Both, Either}
+use Rattle.index_find.specs.Tree.{Tree, Word, Not, Both, Either}
 use Rattle.index_find.specs.Meaning.{Means, AreMeant}
 use Rattle.index_find.specs.Marks.{at, path_at, AreMarks, AreChosen}
 

@@ -5,7 +5,7 @@ use Rattle.std.proofs.lemmas.Bool.{false≢true, cases_eq}
 use Rattle.std.proofs.lemmas.List.{get_or-replicate, get_or-set_same, get_or-set_other, length-set, length-replicate, take_more, take_all}
 use Rattle.std.proofs.lemmas.List.Elements.{Contains-push, Contains-append_left, Contains-push_cases}
 use Rattle.index_table.specs.Rows.{Contents, AreFilesWith}
-use Rattle.query_reading.specs.Tree.{Word}
+use Rattle.index_find.specs.Tree.{Word}
 use Rattle.index_find.specs.Marks.{at, AreMarks}
 
 -- of n places exactly those of the list are marked

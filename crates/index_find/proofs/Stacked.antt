@@ -4,11 +4,11 @@ use Rattle.std.specs.Prelude.{◌&&◌, ◌||◌, not, All}
 use Rattle.std.proofs.lemmas.List.{same_from_push, length_push, append_assoc, append-nil, drop_more, take_more, take_all}
 use Rattle.std.proofs.lemmas.List.Elements.{All-nil, All-push}
 use Rattle.index_table.specs.Rows.{Contents, ArePathsOf}
-use Rattle.query_reading.specs.Tree.{Tree, Word, Not, Both, Either}
-use Rattle.query_reading.specs.declared.query.Step.{Step}
-use Rattle.query_reading.specs.declared.query.Step.TheVariants as step
-use Rattle.query_reading.specs.Postfix.{postfix, stepped, built, tree_of}
-use Rattle.query_reading.proofs.Postfixes.{built-append, built-postfix}
+use Rattle.index_find.specs.Tree.{Tree, Word, Not, Both, Either}
+use Rattle.index_find.specs.declared.query.Step.{Step}
+use Rattle.index_find.specs.declared.query.Step.TheVariants as step
+use Rattle.index_find.specs.Postfix.{postfix, stepped, built, tree_of}
+use Rattle.index_find.proofs.Postfixes.{built-append, built-postfix}
 use Rattle.index_find.specs.Marks.{at, AreMarks, AreStacked, joined, Suffice}
 use Rattle.index_find.proofs.Marked.{turned_marks, met_marks, either_marks}
 

@@ -2,9 +2,9 @@
 use Rattle.std.specs.Prelude.{◌≡◌, ◌↔◌, ℕ, ◌+◌, ◌-◌, ◌<◌, ◌≤◌, List, [], ◌∷◌, ◌++◌, Bool, true, false, length, slice_index_or, Contains}
 use Rattle.word_index.specs.Index.{IsRising}
 use Rattle.index_table.specs.Rows.{Contents}
-use Rattle.query_reading.specs.Tree.{Tree}
-use Rattle.query_reading.specs.declared.query.Step.{Step}
-use Rattle.query_reading.specs.declared.query.Step.TheVariants as step
+use Rattle.index_find.specs.Tree.{Tree}
+use Rattle.index_find.specs.declared.query.Step.{Step}
+use Rattle.index_find.specs.declared.query.Step.TheVariants as step
 use Rattle.index_find.specs.Meaning.{Means}
 
 abbrev pub at : List Bool → ℕ → Bool

@@ -2,7 +2,7 @@
 use Rattle.std.specs.Prelude.{ℕ, List, ◌⊎◌, ◌↔◌, Contains}
 use Rattle.word_index.specs.Index.{Row, IsRising}
 use Rattle.index_table.specs.Rows.{HasFile, HasPath}
-use Rattle.query_reading.specs.Tree.{Tree, Word, Not, Both, Either}
+use Rattle.index_find.specs.Tree.{Tree, Word, Not, Both, Either}
 
 -- A word means the paths of its files. What a tree doesn't mean is meant among the paths of all rows.
 abbrev pub Means : List Row → Tree → List ℕ → Type 0

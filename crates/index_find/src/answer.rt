@@ -1,13 +1,13 @@
 //! Queries, answered.
 ghost use Rattle.std.specs.Prelude.{IfOk};
-ghost use Rattle.query_reading.specs.Postfix.{tree_of};
+ghost use Rattle.index_find.specs.Postfix.{tree_of};
 ghost use Rattle.index_find.specs.Meaning.{AreMeant};
 
 use crate::chosen::chosen_paths;
+use crate::query::Query;
 use crate::stack::marks_of_query;
 use firefly_outside::Text;
 use index_table::Index;
-use query_reading::Query;
 use std::alloc::{AllocError, Global};
 
 /// Gives the paths of the index that the query means, in the order of their bytes, each once.

@@ -1,13 +1,13 @@
 //! The steps of a query, one by one.
 ghost use Rattle.std.specs.Prelude.{◌≡◌, ◌+◌, ◌<◌, ◌≤◌, List, [], ◌∷◌, ◌++◌, length, IfOk, All, vec_len};
 ghost use Rattle.index_table.specs.Rows.{ArePathsOf};
-ghost use Rattle.query_reading.specs.Tree.{Tree, Word};
-ghost use Rattle.query_reading.specs.Postfix.{stepped, tree_of};
+ghost use Rattle.index_find.specs.Tree.{Tree, Word};
+ghost use Rattle.index_find.specs.Postfix.{stepped, tree_of};
 ghost use Rattle.index_find.specs.Marks.{AreMarks, AreStacked, joined};
 
 use crate::marks::Marks;
+use crate::query::{Query, Step};
 use index_table::Index;
-use query_reading::{Query, Step};
 use std::alloc::{AllocError, Global};
 
 // Marks the files that have the word.

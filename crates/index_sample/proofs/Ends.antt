@@ -11,8 +11,8 @@ use Rattle.indexer.specs.Says.{IndexSays, HasCause, IsCausedAt}
 use Rattle.indexer.specs.declared.answer.IndexAnswer.{IndexAnswer}
 use Rattle.indexer.specs.declared.answer.IndexAnswer.TheVariants.{Done, Stopped, ReadFault, TooMany, Memory}
 use Rattle.indexer.specs.declared.plan.Plan.{Plan}
-use Rattle.sample_trees.specs.Shown.{tree_of, calls_of, faults_of}
-use Rattle.sample_trees.specs.declared.sample_tree.SampleTree.{SampleTree}
+use Rattle.index_sample.specs.Shown.{tree_of, calls_of, faults_of}
+use Rattle.index_sample.specs.declared.sample_tree.SampleTree.{SampleTree}
 use Rattle.index_sample.specs.Sums.{Sums, IsDoneOrMemory, SumsAnswer}
 use Rattle.index_sample.specs.Summary.{IsSummary}
 use Rattle.index_sample.specs.Trees.{HoldsTree, AreSamples}

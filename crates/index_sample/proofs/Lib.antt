@@ -1,3 +1,8 @@
 pub mod SampleWalk
 pub mod Placed
 pub mod Ends
+pub mod LineLemmas
+pub mod PathNumbers
+pub mod EntryLemmas
+pub mod ToldLemmas
+pub mod Failing

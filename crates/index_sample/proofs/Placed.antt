@@ -4,8 +4,8 @@ use Rattle.std.specs.Prelude.{All, slice_index_or}
 use Rattle.std.proofs.lemmas.List.Elements.{All-head, All-push, All-tail}
 use Rattle.std.proofs.lemmas.Option.{same_Some}
 use Rattle.firefly_outside.specs.Trees.{Told}
-use Rattle.sample_trees.specs.Shown.{tree_of}
-use Rattle.sample_trees.specs.declared.sample_tree.SampleTree.{SampleTree}
+use Rattle.index_sample.specs.Shown.{tree_of}
+use Rattle.index_sample.specs.declared.sample_tree.SampleTree.{SampleTree}
 use Rattle.index_sample.specs.Trees.{HoldsTree}
 
 -- a tree is at each place

@@ -2,3 +2,7 @@ pub mod Trees
 pub mod Sums
 pub mod Summary
 pub mod Text
+pub mod Lines
+pub mod Listings
+pub mod Told
+pub mod Shown

@@ -2,8 +2,8 @@
 use Rattle.std.specs.Prelude.{◌≡◌, ℕ, List, Option, Some, All, length}
 use Rattle.firefly_outside.specs.Samples.{IsSampleTree}
 use Rattle.firefly_outside.specs.Trees.{Told}
-use Rattle.sample_trees.specs.Shown.{tree_of}
-use Rattle.sample_trees.specs.declared.sample_tree.SampleTree.{SampleTree}
+use Rattle.index_sample.specs.Shown.{tree_of}
+use Rattle.index_sample.specs.declared.sample_tree.SampleTree.{SampleTree}
 
 -- this tree is there
 pub record HoldsTree (t : Told) (place : Option SampleTree) : Type 0 where

@@ -3,7 +3,7 @@ ghost use Rattle.std.specs.Prelude.{◌≤◌, IfOk};
 ghost use Rattle.index_sample.specs.Summary.{IsSummary};
 ghost use Rattle.index_sample.specs.Sums.{Sums, IsDoneOrMemory, SumsAnswer};
 
-use crate::SampleSums;
+use crate::summary::SampleSums;
 use crate::trees::five_trees;
 use indexer::{BeginsAtOnce, IndexAnswer, Plan, index};
 use std::alloc::{AllocError, Global};

@@ -2,7 +2,7 @@
 ghost use Rattle.std.specs.Prelude.{◌≤◌, IfOk};
 ghost use Rattle.index_sample.specs.Trees.{AreSamples};
 
-use sample_trees::SampleTree;
+use crate::sample_tree::SampleTree;
 use std::alloc::{AllocError, Global};
 
 /// The sample tree for two walkers, two parsers and the closing walk.

@@ -9,17 +9,17 @@ use Rattle.larch_actions.specs.declared.event.Layout.{Layout}
 use Rattle.larch_actions.specs.declared.event.Version.{Version}
 use Rattle.larch_actions.specs.declared.event.Version.TheVariants.{Two}
 use Rattle.larch_actions.specs.declared.event.ThreadId.{ThreadId}
-use Rattle.firefly_script.specs.declared.line.Line.{Line}
-use Rattle.firefly_script.specs.declared.line.Operation.{Operation}
-use Rattle.firefly_script.specs.declared.line.Operation.TheVariants.{Fork}
-use Rattle.firefly_script.specs.declared.table.Fate.{Fate}
-use Rattle.firefly_script.specs.declared.table.Fate.TheVariants as fate
-use Rattle.firefly_script.specs.declared.table.Use.{Use}
-use Rattle.firefly_script.specs.declared.table.Use.TheVariants.{Takes, Gives, Needs, Nothing}
-use Rattle.firefly_script.specs.Table.{fate_of, use_of}
-use Rattle.firefly_script.specs.Operations.{Holding, Forked, is_born, forked_with, forked_after, holding_with, holding_after, held_after, MayLive, MayMeet, MayFollow}
-use Rattle.firefly_script.specs.Runs.{lines_of}
-use Rattle.firefly_script.proofs.Tables.{born_with}
+use Rattle.script_text.specs.declared.line.Line.{Line}
+use Rattle.script_text.specs.declared.line.Operation.{Operation}
+use Rattle.script_text.specs.declared.line.Operation.TheVariants.{Fork}
+use Rattle.script_text.specs.declared.table.Fate.{Fate}
+use Rattle.script_text.specs.declared.table.Fate.TheVariants as fate
+use Rattle.script_text.specs.declared.table.Use.{Use}
+use Rattle.script_text.specs.declared.table.Use.TheVariants.{Takes, Gives, Needs, Nothing}
+use Rattle.script_text.specs.Table.{fate_of, use_of}
+use Rattle.script_text.specs.Operations.{Holding, Forked, is_born, forked_with, forked_after, holding_with, holding_after, held_after, MayLive, MayMeet, MayFollow}
+use Rattle.script_text.specs.Runs.{lines_of}
+use Rattle.script_text.proofs.Tables.{born_with}
 use Rattle.script_run.specs.Regions.{with_child, below}
 
 -- the line by which the thread t forks the thread u

@@ -11,18 +11,18 @@ use Rattle.nub_rule.specs.Known.{Shape}
 use Rattle.nub.specs.Rest.{AtRest, Adds, IsSame}
 use Rattle.sum_uses.specs.declared.added.Added.{Added}
 use Rattle.sum_uses.specs.Sums.{IsAbove, GrowsAlike}
-use Rattle.firefly_script.specs.declared.line.Operation.{Operation}
-use Rattle.firefly_script.specs.declared.line.Operation.TheVariants.{Acquire, Release, Add}
-use Rattle.firefly_script.specs.declared.line.Line.{Line}
-use Rattle.firefly_script.specs.declared.table.Use.{Use}
-use Rattle.firefly_script.specs.declared.table.Use.TheVariants.{Needs, Nothing}
-use Rattle.firefly_script.specs.Operations.{Holding, IsNamed, MayDo, MayUse, none_held, held_after, holding_with, holding_after, held_if, MayFollow, none_forked, Forked, MayCome, MayLive}
+use Rattle.script_text.specs.declared.line.Operation.{Operation}
+use Rattle.script_text.specs.declared.line.Operation.TheVariants.{Acquire, Release, Add}
+use Rattle.script_text.specs.declared.line.Line.{Line}
+use Rattle.script_text.specs.declared.table.Use.{Use}
+use Rattle.script_text.specs.declared.table.Use.TheVariants.{Needs, Nothing}
+use Rattle.script_text.specs.Operations.{Holding, IsNamed, MayDo, MayUse, none_held, held_after, holding_with, holding_after, held_if, MayFollow, none_forked, Forked, MayCome, MayLive}
 use Rattle.larch_actions.specs.declared.event.Version.{Version}
 use Rattle.larch_actions.specs.declared.event.Version.TheVariants.{One}
-use Rattle.firefly_script.specs.declared.table.Fate.TheVariants as fate
-use Rattle.firefly_script.specs.Table.{use_of, fate_of}
+use Rattle.script_text.specs.declared.table.Fate.TheVariants as fate
+use Rattle.script_text.specs.Table.{use_of, fate_of}
 use Rattle.script_run.specs.Playing.{Player, HasNumber, IsPlaying, IsWide, HasMutex}
-use Rattle.firefly_script.specs.Runs.{IsRow, lines_of, total, added_by, event}
+use Rattle.script_text.specs.Runs.{IsRow, lines_of, total, added_by, event}
 use Rattle.script_run.proofs.Plays.{Stays, wide_set, played, acquired, released, may_release, untouched, added_to, number_small}
 use Rattle.script_run.proofs.Rows.{total_small}
 

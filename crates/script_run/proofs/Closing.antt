@@ -10,10 +10,10 @@ use Rattle.larch_actions.specs.Layout.{IsLawful}
 use Rattle.nub_rule.specs.Known.{Shape}
 use Rattle.nub.specs.Ended.{IsWhole, KeepsLocks}
 use Rattle.sum_uses.specs.Sums.{AreSums}
-use Rattle.firefly_script.specs.declared.line.Line.{Line}
-use Rattle.firefly_script.specs.Operations.{none_held, MayFollow, none_forked}
+use Rattle.script_text.specs.declared.line.Line.{Line}
+use Rattle.script_text.specs.Operations.{none_held, MayFollow, none_forked}
 use Rattle.script_run.specs.Playing.{Player, IsPlayed}
-use Rattle.firefly_script.specs.Runs.{AreCallsOf, total}
+use Rattle.script_text.specs.Runs.{AreCallsOf, total}
 use Rattle.script_run.proofs.Sums.{shares_total, elem_at, elem_is}
 
 pub if_ok : {A E : Type 0} (r : Result A E) (P Q : A → Type 0) → ((x : A) → P x → Q x) → IfOk r P → IfOk r Q

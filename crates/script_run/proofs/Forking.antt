@@ -2,10 +2,10 @@
 use Rattle.std.proofs.Common.{◌≡◌, ◌⊎◌, inl, inr, ℕ, List, [], ◌∷◌, ◌++◌, refl, ap, ap₂, sym, ◌∙◌, Bool, true, false}
 use Rattle.std.proofs.lemmas.Bool.{false≢true}
 use Rattle.std.proofs.lemmas.Bool.Decides.{eqb_tells}
-use Rattle.firefly_script.specs.declared.line.Line.{Line}
-use Rattle.firefly_script.specs.declared.table.Fate.{Fate}
-use Rattle.firefly_script.specs.declared.table.Fate.TheVariants as fate
-use Rattle.firefly_script.specs.Table.{fate_of}
+use Rattle.script_text.specs.declared.line.Line.{Line}
+use Rattle.script_text.specs.declared.table.Fate.{Fate}
+use Rattle.script_text.specs.declared.table.Fate.TheVariants as fate
+use Rattle.script_text.specs.Table.{fate_of}
 use Rattle.script_run.specs.Regions.{begins, with_child, forking, below, region}
 use Rattle.script_run.proofs.Births.{below_else}
 

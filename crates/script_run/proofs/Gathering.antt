@@ -19,9 +19,9 @@ use Rattle.nub.specs.Ended.{IsFirst, IsWhole, KeepsLocks}
 use Rattle.nub.specs.Forks.{IsLeft, IsRight}
 use Rattle.sum_uses.specs.declared.added.Added.{Added}
 use Rattle.sum_uses.specs.Sums.{AreSums}
-use Rattle.firefly_script.specs.declared.line.Line.{Line}
-use Rattle.firefly_script.specs.Operations.{none_held, MayFollow, none_forked, forked_after, is_born}
-use Rattle.firefly_script.specs.Runs.{AreCallsAndEnd, AreEventsOf, total}
+use Rattle.script_text.specs.declared.line.Line.{Line}
+use Rattle.script_text.specs.Operations.{none_held, MayFollow, none_forked, forked_after, is_born}
+use Rattle.script_text.specs.Runs.{AreCallsAndEnd, AreEventsOf, total}
 use Rattle.script_run.specs.declared.slots.Slot.{Slot}
 use Rattle.script_run.specs.declared.slots.Slot.TheVariants as slot
 use Rattle.script_run.specs.Placing.{occurs, numbers_of, unborn_slots, ended_slots, ArePlaced}

@@ -5,14 +5,14 @@ use Rattle.std.proofs.lemmas.Bool.Decides.{eqb_tells}
 use Rattle.larch_actions.specs.declared.event.Layout.{Layout}
 use Rattle.larch_actions.specs.declared.event.Version.{Version}
 use Rattle.larch_actions.specs.declared.event.Version.TheVariants.{Two}
-use Rattle.firefly_script.specs.declared.line.Line.{Line}
-use Rattle.firefly_script.specs.declared.table.Fate.{Fate}
-use Rattle.firefly_script.specs.declared.table.Fate.TheVariants as fate
-use Rattle.firefly_script.specs.declared.line.Operation.{Operation}
-use Rattle.firefly_script.specs.declared.line.Operation.TheVariants.{Fork, Join}
-use Rattle.firefly_script.specs.Runs.{lines_of}
-use Rattle.firefly_script.specs.Operations.{IsNamed, Holding, Forked, none_held, none_forked, holding_after, forked_with, forked_after, is_born, MayFollow, MayLive}
-use Rattle.firefly_script.specs.Table.{fate_of}
+use Rattle.script_text.specs.declared.line.Line.{Line}
+use Rattle.script_text.specs.declared.table.Fate.{Fate}
+use Rattle.script_text.specs.declared.table.Fate.TheVariants as fate
+use Rattle.script_text.specs.declared.line.Operation.{Operation}
+use Rattle.script_text.specs.declared.line.Operation.TheVariants.{Fork, Join}
+use Rattle.script_text.specs.Runs.{lines_of}
+use Rattle.script_text.specs.Operations.{IsNamed, Holding, Forked, none_held, none_forked, holding_after, forked_with, forked_after, is_born, MayFollow, MayLive}
+use Rattle.script_text.specs.Table.{fate_of}
 use Rattle.script_run.specs.Placing.{occurs}
 use Rattle.script_run.specs.Regions.{below, region, with_child}
 use Rattle.script_run.proofs.Putting.{occurs_here, occurs_else}

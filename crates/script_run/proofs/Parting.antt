@@ -11,8 +11,8 @@ use Rattle.nub_rule.specs.Known.{Shape}
 use Rattle.nub.specs.Forks.{IsRight}
 use Rattle.sum_uses.specs.declared.added.Added.{Added}
 use Rattle.larch_actions.specs.declared.event.ThreadId.{ThreadId}
-use Rattle.firefly_script.specs.declared.line.Line.{Line}
-use Rattle.firefly_script.specs.declared.line.Operation.TheVariants.{Fork}
+use Rattle.script_text.specs.declared.line.Line.{Line}
+use Rattle.script_text.specs.declared.line.Operation.TheVariants.{Fork}
 use Rattle.script_run.specs.declared.slots.Playing.{Playing}
 use Rattle.script_run.specs.declared.slots.Slot.{Slot}
 use Rattle.script_run.specs.declared.slots.Slot.TheVariants as slot

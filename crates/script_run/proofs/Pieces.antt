@@ -6,7 +6,7 @@ use Rattle.std.proofs.lemmas.Bool.{cases_lt, false≢true}
 use Rattle.std.proofs.lemmas.List.{append-nil, map-append, length-map, take-append-le, take-append-drop, take_more}
 use Rattle.nub_rule.specs.Items.{Each}
 use Rattle.nub_rule.specs.Known.{Shape}
-use Rattle.firefly_script.specs.declared.line.Line.{Line}
+use Rattle.script_text.specs.declared.line.Line.{Line}
 use Rattle.script_run.specs.declared.slots.Slot.{Slot}
 use Rattle.script_run.specs.declared.slots.Slot.TheVariants as slot
 use Rattle.script_run.specs.Slots.{slot_number, is_live, joined, IsWaiting, IsLive, IsRegion, AreRegions, AreForked, AreOver, AreOverOrGoOn, EndsLive, IsCut}

@@ -12,14 +12,14 @@ use Rattle.nub_rule.specs.Known.{Shape}
 use Rattle.nub.specs.Rest.{AtRest}
 use Rattle.sum_uses.specs.declared.added.Added.{Added}
 use Rattle.sum_uses.specs.Sums.{added, IsAbove, GrowsAlike}
-use Rattle.firefly_script.specs.declared.table.Use.{Use}
-use Rattle.firefly_script.specs.declared.table.Use.TheVariants.{Takes, Gives, Needs, Nothing}
-use Rattle.firefly_script.specs.Table.{use_of}
-use Rattle.firefly_script.specs.declared.line.Line.{Line}
-use Rattle.firefly_script.specs.Operations.{Holding, none_held, held_after, holding_with, holding_after, held_if}
+use Rattle.script_text.specs.declared.table.Use.{Use}
+use Rattle.script_text.specs.declared.table.Use.TheVariants.{Takes, Gives, Needs, Nothing}
+use Rattle.script_text.specs.Table.{use_of}
+use Rattle.script_text.specs.declared.line.Line.{Line}
+use Rattle.script_text.specs.Operations.{Holding, none_held, held_after, holding_with, holding_after, held_if}
 use Rattle.script_run.specs.Playing.{Player, HasNumber, IsPlaying, IsWide}
-use Rattle.firefly_script.specs.Runs.{AreCallsOf, IsRow, AreRows, lines_of, total, added_by}
-use Rattle.firefly_script.proofs.Follow.{held_append}
+use Rattle.script_text.specs.Runs.{AreCallsOf, IsRow, AreRows, lines_of, total, added_by}
+use Rattle.script_text.proofs.Follow.{held_append}
 use Rattle.script_run.proofs.Rows.{other_line, events_own, total_own}
 
 -- a number below 64 may change

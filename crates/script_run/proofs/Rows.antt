@@ -4,12 +4,12 @@ use Rattle.std.proofs.lemmas.Bool.{eq-eqb, ne_eqb}
 use Rattle.std.proofs.lemmas.Bool.Decides.{eqb_tells}
 use Rattle.larch_actions.specs.declared.event.Layout.{Layout}
 use Rattle.larch_actions.specs.declared.event.Event.{Event}
-use Rattle.firefly_script.specs.declared.line.Operation.{Operation}
-use Rattle.firefly_script.specs.declared.line.Operation.TheVariants.{Add}
-use Rattle.firefly_script.specs.declared.line.Line.{Line}
-use Rattle.firefly_script.specs.Operations.{Holding, Forked, IsNamed, holding_after, forked_with, MayFollow}
-use Rattle.firefly_script.specs.Table.{fate_of}
-use Rattle.firefly_script.specs.Runs.{AreCallsOf, IsRow, AreRows, lines_of, added_by, total}
+use Rattle.script_text.specs.declared.line.Operation.{Operation}
+use Rattle.script_text.specs.declared.line.Operation.TheVariants.{Add}
+use Rattle.script_text.specs.declared.line.Line.{Line}
+use Rattle.script_text.specs.Operations.{Holding, Forked, IsNamed, holding_after, forked_with, MayFollow}
+use Rattle.script_text.specs.Table.{fate_of}
+use Rattle.script_text.specs.Runs.{AreCallsOf, IsRow, AreRows, lines_of, added_by, total}
 
 pub lines_append : (t : ℕ) (xs ys : List Line) → lines_of t (xs ++ ys) ≡ lines_of t xs ++ lines_of t ys
 lines_append t [] ys = refl

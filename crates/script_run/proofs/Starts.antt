@@ -13,12 +13,12 @@ use Rattle.nub_rule.specs.Rule.{begun as first_share}
 use Rattle.nub.specs.Forks.{IsBegun}
 use Rattle.nub.specs.Rest.{AtRest, Adds, IsSame}
 use Rattle.sum_uses.specs.declared.added.Added.{Added}
-use Rattle.firefly_script.specs.declared.line.Line.{Line}
-use Rattle.firefly_script.specs.declared.line.Operation.TheVariants.{Fork}
-use Rattle.firefly_script.specs.declared.table.Fate.TheVariants as fate
-use Rattle.firefly_script.specs.Operations.{none_held, held_after, none_forked, forked_after, forked_with, is_born, Forked, MayCome, MayFollow}
-use Rattle.firefly_script.proofs.Follow.{forked_append, follow_split}
-use Rattle.firefly_script.specs.Runs.{AreRows, lines_of, total}
+use Rattle.script_text.specs.declared.line.Line.{Line}
+use Rattle.script_text.specs.declared.line.Operation.TheVariants.{Fork}
+use Rattle.script_text.specs.declared.table.Fate.TheVariants as fate
+use Rattle.script_text.specs.Operations.{none_held, held_after, none_forked, forked_after, forked_with, is_born, Forked, MayCome, MayFollow}
+use Rattle.script_text.proofs.Follow.{forked_append, follow_split}
+use Rattle.script_text.specs.Runs.{AreRows, lines_of, total}
 use Rattle.script_run.specs.Playing.{Player, HasNumber, IsPlaying}
 use Rattle.script_run.specs.Regions.{below}
 use Rattle.script_run.proofs.Calls.{after_quiet, elem_low}

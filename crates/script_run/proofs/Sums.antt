@@ -11,11 +11,11 @@ use Rattle.nub_rule.specs.Ends.{firsts}
 use Rattle.nub_rule.specs.Known.{Shape}
 use Rattle.sum_uses.specs.declared.added.Added.{Added}
 use Rattle.sum_uses.specs.Sums.{added, total as share_total, AreSums}
-use Rattle.firefly_script.specs.declared.line.Line.{Line}
-use Rattle.firefly_script.specs.Operations.{Holding, Forked, holding_after, forked_with, MayFollow}
-use Rattle.firefly_script.specs.Table.{fate_of}
+use Rattle.script_text.specs.declared.line.Line.{Line}
+use Rattle.script_text.specs.Operations.{Holding, Forked, holding_after, forked_with, MayFollow}
+use Rattle.script_text.specs.Table.{fate_of}
 use Rattle.script_run.specs.Playing.{Player, IsPlayed}
-use Rattle.firefly_script.specs.Runs.{lines_of, total, added_by}
+use Rattle.script_text.specs.Runs.{lines_of, total, added_by}
 
 some_same : (r s : List Added) → (let o : Opt (List Added) = Some r in o) ≡ Some s → r ≡ s
 some_same r s e = cc

@@ -15,14 +15,14 @@ use Rattle.sum_uses.specs.Sums.{IsAbove, GrowsAlike, grown}
 use Rattle.alert_wait.specs.declared.outcome.Outcome.{Outcome}
 use Rattle.alert_wait.specs.declared.outcome.Outcome.TheVariants.{Returned, Alerted}
 use Rattle.alert_wait.specs.Outcomes.{p_end, wait_end}
-use Rattle.firefly_script.specs.declared.line.Line.{Line}
-use Rattle.firefly_script.specs.declared.line.Operation.{Operation}
-use Rattle.firefly_script.specs.declared.line.Operation.TheVariants.{AlertWait, AlertP, AlertUntil}
-use Rattle.firefly_script.specs.declared.table.Use.{Use}
-use Rattle.firefly_script.specs.declared.table.Use.TheVariants.{Needs}
-use Rattle.firefly_script.specs.Operations.{none_held, held_after, holding_with}
-use Rattle.firefly_script.specs.Runs.{IsRow, added_by, lines_of, returned, times, total}
-use Rattle.firefly_script.specs.Table.{use_of}
+use Rattle.script_text.specs.declared.line.Line.{Line}
+use Rattle.script_text.specs.declared.line.Operation.{Operation}
+use Rattle.script_text.specs.declared.line.Operation.TheVariants.{AlertWait, AlertP, AlertUntil}
+use Rattle.script_text.specs.declared.table.Use.{Use}
+use Rattle.script_text.specs.declared.table.Use.TheVariants.{Needs}
+use Rattle.script_text.specs.Operations.{none_held, held_after, holding_with}
+use Rattle.script_text.specs.Runs.{IsRow, added_by, lines_of, returned, times, total}
+use Rattle.script_text.specs.Table.{use_of}
 use Rattle.script_run.specs.Playing.{Player, HasNumber, IsPlaying, IsWide, HasMutex, alertable, given_up}
 use Rattle.script_run.proofs.Calls.{got, sums_small}
 use Rattle.script_run.proofs.Plays.{wide_set, played, may_release, untouched, waited_for}

@@ -11,12 +11,12 @@ use Rattle.nub_rule.specs.Known.{Shape}
 use Rattle.nub.specs.Ended.{IsFirst}
 use Rattle.sum_uses.specs.declared.added.Added.{Added}
 use Rattle.sum_uses.specs.Sums.{added}
-use Rattle.firefly_script.specs.declared.line.Line.{Line}
-use Rattle.firefly_script.specs.Operations.{none_held, held_after, MayCome, MayFollow, none_forked, forked_after}
+use Rattle.script_text.specs.declared.line.Line.{Line}
+use Rattle.script_text.specs.Operations.{none_held, held_after, MayCome, MayFollow, none_forked, forked_after}
 use Rattle.script_run.specs.Playing.{Player, HasNumber, IsPlaying, IsPlayed, IsWide}
-use Rattle.firefly_script.specs.Runs.{AreCallsOf, lines_of, total}
-use Rattle.firefly_script.specs.Text.{IsScript}
-use Rattle.firefly_script.proofs.Follow.{follow_split}
+use Rattle.script_text.specs.Runs.{AreCallsOf, lines_of, total}
+use Rattle.script_text.specs.Text.{IsScript}
+use Rattle.script_text.proofs.Follow.{follow_split}
 
 -- the same under equal names
 pub moved : (p : Shape (Prim.Unit {0})) (t u : ℕ) (xs ys : List Line) (n k : List ℕ) (a b : Player) → t ≡ u → xs ≡ ys → k ≡ n → b ≡ a → IsPlaying p t xs [] n a → IsPlaying p u ys [] k b

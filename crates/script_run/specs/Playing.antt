@@ -11,11 +11,11 @@ use Rattle.nub.specs.Rest.{AtRest}
 use Rattle.nub.specs.Ended.{IsDone}
 use Rattle.sum_uses.specs.declared.added.Added.{Added}
 use Rattle.sum_uses.specs.Sums.{added}
-use Rattle.firefly_script.specs.declared.line.Line.{Line}
+use Rattle.script_text.specs.declared.line.Line.{Line}
 use Rattle.alert_wait.specs.declared.outcome.Outcome.{Outcome}
 use Rattle.alert_wait.specs.declared.outcome.Outcome.TheVariants.{Returned, Alerted}
-use Rattle.firefly_script.specs.Operations.{none_held, held_after, MayFollow, none_forked}
-use Rattle.firefly_script.specs.Runs.{AreCallsOf, lines_of, total, returned, raised}
+use Rattle.script_text.specs.Operations.{none_held, held_after, MayFollow, none_forked}
+use Rattle.script_text.specs.Runs.{AreCallsOf, lines_of, total, returned, raised}
 
 abbrev pub Player : Type 0
 Player = Known ℕ (List Added) (Prim.Unit {0})

@@ -1,10 +1,10 @@
 -- Which threads the lines of a script fork below which.
 use Rattle.std.specs.Prelude.{ℕ, Bool, true, false, cond, eqb, List, [], ◌∷◌, ◌++◌}
 use Rattle.std.specs.List.{filter}
-use Rattle.firefly_script.specs.declared.line.Line.{Line}
-use Rattle.firefly_script.specs.declared.table.Fate.{Fate}
-use Rattle.firefly_script.specs.declared.table.Fate.TheVariants.{Begins, Awaits, Nothing}
-use Rattle.firefly_script.specs.Table.{fate_of}
+use Rattle.script_text.specs.declared.line.Line.{Line}
+use Rattle.script_text.specs.declared.table.Fate.{Fate}
+use Rattle.script_text.specs.declared.table.Fate.TheVariants.{Begins, Awaits, Nothing}
+use Rattle.script_text.specs.Table.{fate_of}
 
 -- where the line forks a thread, that thread stands before the rest, behind all that are forked below it
 abbrev pub with_child : Fate → (ℕ → List ℕ) → List ℕ → List ℕ

@@ -9,9 +9,9 @@ use Rattle.nub_rule.specs.Known.{Shape}
 use Rattle.nub.specs.Forks.{IsLeft, IsRight}
 use Rattle.sum_uses.specs.declared.added.Added.{Added}
 use Rattle.sum_uses.specs.Sums.{added}
-use Rattle.firefly_script.specs.declared.line.Line.{Line}
-use Rattle.firefly_script.specs.Text.{IsScript}
-use Rattle.firefly_script.specs.Runs.{AreCallsOf, event, lines_of, total}
+use Rattle.script_text.specs.declared.line.Line.{Line}
+use Rattle.script_text.specs.Text.{IsScript}
+use Rattle.script_text.specs.Runs.{AreCallsOf, event, lines_of, total}
 use Rattle.script_run.specs.declared.slots.Slot.{Slot}
 use Rattle.script_run.specs.declared.slots.Slot.TheVariants as slot
 use Rattle.script_run.specs.Playing.{Player, IsPlaying}

@@ -1,15 +1,15 @@
 //! How the slots of a run of version two come apart: its threads play on until others are to be started beside them.
 ghost use Rattle.std.specs.Prelude.{◌≡◌, ◌≢◌, ◌+◌, ◌-◌, ◌<◌, ◌≤◌, ℕ, map, length, slice_get, IfSome, Some, None};
 ghost use Rattle.larch_actions.specs.declared.event.Version.TheVariants.{Two};
-ghost use Rattle.firefly_script.specs.Text.{IsScript};
+ghost use Rattle.script_text.specs.Text.{IsScript};
 ghost use Rattle.script_run.specs.Slots.{AreForked, AreOver, AreRegions, IsCut, IsRegion, slot_number};
 
 use crate::parts::{end, play_to_fork, start};
 use crate::slots::{Slot, boundary};
-use firefly_script::{Line, Operation};
 use larch_actions::ThreadId;
 use nub_rule::Package;
 use package_crew::BeforeStart;
+use script_text::{Line, Operation};
 use std::mem;
 use std::sync::Wait;
 use sum_uses::SumUses;

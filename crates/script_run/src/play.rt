@@ -3,10 +3,10 @@ ghost use Rattle.std.specs.Prelude.{◌≡◌, ◌≢◌, ◌<◌, ◌∷◌, �
 ghost use Rattle.larch_actions.specs.declared.event.Version.TheVariants.{One};
 ghost use Rattle.larch_actions.specs.Layout.{IsLawful};
 ghost use Rattle.larch_actions.specs.declared.event.ThreadId.{ThreadId};
-ghost use Rattle.firefly_script.specs.declared.line.Line.{Line};
-ghost use Rattle.firefly_script.specs.declared.line.Operation.TheVariants.{Fork};
-ghost use Rattle.firefly_script.specs.Operations.{none_held, held_after, MayCome, MayFollow, none_forked, forked_after};
-ghost use Rattle.firefly_script.specs.Text.{IsScript};
+ghost use Rattle.script_text.specs.declared.line.Line.{Line};
+ghost use Rattle.script_text.specs.declared.line.Operation.TheVariants.{Fork};
+ghost use Rattle.script_text.specs.Operations.{none_held, held_after, MayCome, MayFollow, none_forked, forked_after};
+ghost use Rattle.script_text.specs.Text.{IsScript};
 ghost use Rattle.script_run.specs.Playing.{IsPlaying, IsPlayed};
 ghost use Rattle.nub.specs.Ended.{IsFirst};
 
@@ -15,9 +15,9 @@ use alert_wait::alert_p;
 use alerts::{alert, test_alert};
 use bin_semaphore::{p, v};
 use condition::{broadcast, signal};
-use firefly_script::{Line, Operation};
 use nub::join_thread;
 use nub_rule::{Package, Thread};
+use script_text::{Line, Operation};
 use std::sync::Wait;
 use sum_uses::{AddChange, SumUses};
 use user_mutex::{acquire, release};

@@ -2,7 +2,7 @@
 ghost use Rattle.std.specs.Prelude.{◌≡◌, ◌≤◌, ◌++◌, [], length, drop, OnOk, IfOk};
 ghost use Rattle.script_run.specs.Regions.{forking, region};
 
-use firefly_script::{Line, Operation};
+use script_text::{Line, Operation};
 use std::alloc::{AllocError, Global};
 
 // Adds the threads that the lines from this one on fork below the thread, and then the thread.

@@ -3,8 +3,8 @@ ghost use Rattle.std.specs.Prelude.{◌≡◌, ◌<◌, ◌≤◌, ◌++◌, ℕ
 ghost use Rattle.larch_actions.specs.Layout.{IsLawful};
 ghost use Rattle.larch_actions.specs.declared.event.Event.{Event};
 ghost use Rattle.alert_wait.specs.declared.outcome.Outcome.TheVariants.{Returned};
-ghost use Rattle.firefly_script.specs.declared.line.Line.{Line};
-ghost use Rattle.firefly_script.specs.Runs.{returned, times, waited};
+ghost use Rattle.script_text.specs.declared.line.Line.{Line};
+ghost use Rattle.script_text.specs.Runs.{returned, times, waited};
 ghost use Rattle.script_run.specs.Playing.{IsPlaying, HasMutex, alertable, given_up};
 
 use alert_wait::{Outcome, alert_wait};

@@ -1,2 +1,3 @@
 pub mod Paths
 pub mod Sent
+pub mod Numbers

@@ -15,7 +15,7 @@ use Rattle.trace_board.specs.declared.board.Waker.{Waker}
 use Rattle.trace_board.specs.declared.board.Waker.TheVariants as waker
 use Rattle.trace_board.specs.Marks.{marks_of}
 use Rattle.trace_board.specs.Kept.{Kept}
-use Rattle.picture_marks.specs.Shapes.{with_number, each_below}
+use Rattle.trace_shapes.specs.Shapes.{with_number, each_below}
 use Rattle.trace_explain.specs.Sentences.{plain, since, standing, ended}
 
 -- the thread's wait: in which condition it stands, or who took it out

@@ -1,7 +1,7 @@
 -- The forms of sentences.
 use Rattle.std.specs.Prelude.{ℕ, List, ◌++◌, codes}
 use Rattle.trace_board.specs.declared.history.Origin.{Origin}
-use Rattle.picture_marks.specs.Shapes.{with_number}
+use Rattle.trace_shapes.specs.Shapes.{with_number}
 
 -- a kind, a number and words
 unfoldable pub plain : List ℕ → ℕ → List ℕ → List ℕ

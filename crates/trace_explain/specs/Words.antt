@@ -9,7 +9,7 @@ use Rattle.trace_check.specs.declared.checker.Summary.{Summary}
 use Rattle.trace_check.specs.declared.checker.Verdict.{Verdict}
 use Rattle.trace_check.specs.declared.checker.Verdict.TheVariants as verdict
 use Rattle.trace_board.specs.Kept.{Kept}
-use Rattle.picture_marks.specs.Shapes.{with_number, line_of, clause_word}
+use Rattle.trace_shapes.specs.Shapes.{with_number, line_of, clause_word}
 use Rattle.trace_explain.specs.declared.find.Found.{Found}
 use Rattle.trace_explain.specs.declared.find.Found.TheVariants.{Legal, Illegal, BadLine, TooLong, ReadFault}
 use Rattle.trace_explain.specs.Rules.{rule_of}

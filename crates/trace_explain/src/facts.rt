@@ -3,17 +3,17 @@ ghost use Rattle.std.specs.Prelude.{◌≡◌, ◌+◌, ◌*◌, ◌<◌, ◌≤
 ghost use Rattle.trace_board.specs.Causes.{cause_of, IsSmall};
 ghost use Rattle.trace_board.specs.History.{entry_of, IsWithin};
 ghost use Rattle.trace_board.specs.Kept.{kept_of, IsNear, IsNoted};
-ghost use Rattle.picture_marks.specs.Shapes.{each_below};
+ghost use Rattle.trace_shapes.specs.Shapes.{each_below};
 ghost use Rattle.trace_explain.specs.Facts.{wait_text, held_text, open_text, alert_text, stander, standers, first_text, life_text, held_by, holdings, own_fact, life_fact, mutex_fact, stand_fact, open_fact, waker_fact, facts};
 
 use crate::sentences::{add_ended, add_plain, add_since, add_standing};
 use larch_actions::{Event, Version};
-use picture_marks::tags::add_with_number;
 use trace_board::board::{Board, Waker};
 use trace_board::causes::{Cause, Causes, Move};
 use trace_board::history::{Effect, Origin, Table};
 use trace_board::marks::marks_of;
 use trace_core::add;
+use trace_shapes::tags::add_with_number;
 
 // Adds how it stands with the thread's wait.
 fn add_wait(buf: &mut [u8], at: usize, t: u32, cause: Cause) -> usize

@@ -2,9 +2,9 @@
 ghost use Rattle.std.specs.Prelude.{◌≡◌, ◌+◌, ◌≤◌, ◌++◌, length, take};
 ghost use Rattle.trace_explain.specs.Sentences.{plain, since, standing, ended};
 
-use picture_marks::tags::add_with_number;
 use trace_board::history::Origin;
 use trace_core::add;
+use trace_shapes::tags::add_with_number;
 
 /// Adds a kind, a number and words, as a line.
 #[tactic(auto, unfolding(crate::specs::Sentences::plain))]

@@ -11,11 +11,11 @@ use crate::find::Found;
 use crate::rules::rule;
 use firefly_outside::{Sink, SinkFault, put_all};
 use larch_actions::{Broken, Event, Version};
-use picture_marks::shapes::word_of;
-use picture_marks::tags::{add_line, add_with_number};
 use trace_board::board::Board;
 use trace_check::{Summary, Verdict};
 use trace_core::add;
+use trace_shapes::shapes::word_of;
+use trace_shapes::tags::{add_line, add_with_number};
 
 // Adds the counts of a legal trace.
 #[tactic(auto, unfolding(crate::specs::Words::legal_text))]

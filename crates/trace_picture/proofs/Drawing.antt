@@ -21,9 +21,9 @@ use Rattle.trace_check.specs.declared.checker.Verdict.TheVariants as verdict
 use Rattle.trace_check.specs.Verdicts.{IsPrefixText, refusal}
 use Rattle.trace_check.proofs.UnderWay.{IsUnderWay, few, starts_on, step_on, fails_on, ends_on, prefix_read}
 use Rattle.trace_board.proofs.Behind.{behind-push, length-behind}
-use Rattle.picture_marks.specs.declared.view.View.{View}
+use Rattle.trace_shapes.specs.declared.view.View.{View}
 use Rattle.trace_board.specs.Kept.{Kept, nothing_kept, kept_after, kept_since, behind}
-use Rattle.picture_marks.specs.Shapes.{with_number}
+use Rattle.trace_shapes.specs.Shapes.{with_number}
 use Rattle.trace_picture.specs.Bands.{step_text, failing_text}
 use Rattle.trace_picture.specs.Picture.{head_text, steps_text, prefix_picture, closing_if, last_closing, end_text, failed_note, failed_picture, cut_picture}
 use Rattle.trace_picture.specs.Rings.{IsEnding}

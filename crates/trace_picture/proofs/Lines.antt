@@ -7,9 +7,9 @@ use Rattle.std.specs.declared.option.Option.{Option}
 use Rattle.larch_actions.specs.declared.event.Layout.{Layout}
 use Rattle.trace_board.specs.declared.holds.Hold.{Hold}
 use Rattle.trace_board.specs.Kept.{Kept, kept_since, longest_in}
-use Rattle.picture_marks.specs.declared.view.View.{View}
-use Rattle.picture_marks.specs.Places.{height_of}
-use Rattle.picture_marks.specs.Shapes.{with_number, each_below}
+use Rattle.trace_shapes.specs.declared.view.View.{View}
+use Rattle.trace_shapes.specs.Places.{height_of}
+use Rattle.trace_shapes.specs.Shapes.{with_number, each_below}
 use Rattle.trace_picture.specs.Longest.{hold_end, hold_text, told_hold, line_place, hold_line, holds_text, holds_height}
 use Rattle.trace_picture.specs.Overview.{over_height, over_style}
 use Rattle.trace_picture.specs.Picture.{part_text, end_text}

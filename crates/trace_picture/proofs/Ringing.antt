@@ -18,13 +18,13 @@ use Rattle.lock_order.specs.declared.answer.Nested.{Nested}
 use Rattle.lock_order.specs.declared.nestings.Nestings.{Nestings}
 use Rattle.lock_order.specs.Order.{IsFirst, TellsCycle}
 use Rattle.lock_order.specs.Kept.{IsKept}
-use Rattle.picture_marks.specs.declared.view.View.{View}
+use Rattle.trace_shapes.specs.declared.view.View.{View}
 use Rattle.trace_board.specs.Kept.{Kept, nothing_kept, kept_after}
 use Rattle.trace_picture.specs.Picture.{head_text}
 use Rattle.trace_picture.specs.Bands.{step_text}
-use Rattle.picture_marks.specs.Shapes.{with_number}
+use Rattle.trace_shapes.specs.Shapes.{with_number}
 use Rattle.trace_picture.specs.Rings.{ring_x, ring_y, ring_text}
-use Rattle.picture_marks.proofs.Added.{added_five}
+use Rattle.trace_shapes.proofs.Added.{added_five}
 use Rattle.trace_picture.proofs.Drawing.{IsDrawing, drawing_starts, drawing_room, drawing_steps}
 
 -- so far these events were read and drawn, and where that is wanted it is kept what they nest

@@ -16,10 +16,10 @@ use Rattle.trace_board.specs.Kept.{Kept, kept_since, kept_after, behind, life_in
 use Rattle.trace_board.specs.Laws.{is_live, IsMadeBy, awaited_by}
 use Rattle.trace_board.proofs.Causing.{rows_are_lives, arrows_are_causes, forks_are_births}
 use Rattle.trace_board.proofs.Living.{over_own, over_some}
-use Rattle.picture_marks.specs.declared.view.View.{View}
-use Rattle.picture_marks.specs.Places.{in_view, column, column_x, row_y, band_top}
-use Rattle.picture_marks.specs.Shapes.{with_number, each_below, place_text, row_text, mark_text, object_if, number_text}
-use Rattle.picture_marks.specs.Arrows.{arrow_if, arrow_text, handed}
+use Rattle.trace_shapes.specs.declared.view.View.{View}
+use Rattle.trace_shapes.specs.Places.{in_view, column, column_x, row_y, band_top}
+use Rattle.trace_shapes.specs.Shapes.{with_number, each_below, place_text, row_text, mark_text, object_if, number_text}
+use Rattle.trace_shapes.specs.Arrows.{arrow_if, arrow_text, handed}
 use Rattle.trace_picture.specs.Lives.{row_if, row_from, row_until, life_row}
 use Rattle.trace_picture.specs.Bands.{band_start, opening, event_shapes, bars_ended, arrow_to, closing_after, step_text}
 use Rattle.trace_picture.specs.Seen.{HasText, RowsStand, RowsBegin, RowsEnd, JoinsAreDrawn, ForksAreDrawn}

@@ -14,13 +14,13 @@ use Rattle.trace_board.specs.declared.history.Origin.{Origin}
 use Rattle.trace_board.specs.declared.history.Effect.TheVariants.{Begins, Ends, Stays}
 use Rattle.trace_board.specs.declared.rows.Bar.{Bar}
 use Rattle.trace_board.specs.declared.rows.Bar.TheVariants.{Mutex, Semaphore}
-use Rattle.picture_marks.specs.declared.view.View.{View}
-use Rattle.picture_marks.specs.Looks.{look_of}
+use Rattle.trace_shapes.specs.declared.view.View.{View}
+use Rattle.trace_shapes.specs.Looks.{look_of}
 use Rattle.trace_board.specs.Marks.{marks, marks_of}
 use Rattle.trace_board.specs.Rows.{lane_in}
 use Rattle.trace_board.specs.Kept.{Kept, kept_since, kept_after, behind}
-use Rattle.picture_marks.specs.Places.{in_view, gap_before, bar_x, bar_width}
-use Rattle.picture_marks.specs.Shapes.{place_text, box_text, bar_box, bar_text, taken_text, span_text, line_of, number_text, mark_text, object_if, with_number}
+use Rattle.trace_shapes.specs.Places.{in_view, gap_before, bar_x, bar_width}
+use Rattle.trace_shapes.specs.Shapes.{place_text, box_text, bar_box, bar_text, taken_text, span_text, line_of, number_text, mark_text, object_if, with_number}
 use Rattle.trace_picture.specs.Lives.{life_row}
 use Rattle.trace_picture.specs.Bands.{band_start, opening, closing_after, bar_if, taken_if, bar_ended, taken_ended, wait_ended, bars_ended, arrow_to, event_shapes, step_text}
 use Rattle.trace_board.specs.Laws.{IsSince}

@@ -9,13 +9,13 @@ use Rattle.trace_board.specs.declared.history.Effect.{Effect}
 use Rattle.trace_board.specs.declared.history.Effect.TheVariants.{Begins, Ends, Stays}
 use Rattle.trace_board.specs.declared.rows.Bar.TheVariants.{Mutex, Semaphore}
 use Rattle.trace_board.specs.declared.rows.Row.{Row}
-use Rattle.picture_marks.specs.declared.view.View.{View}
+use Rattle.trace_shapes.specs.declared.view.View.{View}
 use Rattle.trace_board.specs.Marks.{marks}
 use Rattle.trace_board.specs.Kept.{Kept, kept_after, let_on_by, forked_by}
 use Rattle.trace_board.specs.Rows.{lane_in}
-use Rattle.picture_marks.specs.Places.{in_view, column, is_open, band_top}
-use Rattle.picture_marks.specs.Shapes.{with_number, each_below, mark_text, object_if, failed_text, bar_text, taken_text, wait_text, number_text}
-use Rattle.picture_marks.specs.Arrows.{arrow_if, handed}
+use Rattle.trace_shapes.specs.Places.{in_view, column, is_open, band_top}
+use Rattle.trace_shapes.specs.Shapes.{with_number, each_below, mark_text, object_if, failed_text, bar_text, taken_text, wait_text, number_text}
+use Rattle.trace_shapes.specs.Arrows.{arrow_if, handed}
 use Rattle.trace_picture.specs.Lives.{row_if, life_row, births}
 use Rattle.trace_picture.specs.Overview.{column_text}
 

@@ -9,7 +9,7 @@ use Rattle.larch_actions.specs.declared.event.Broken.{Broken}
 use Rattle.trace_check.specs.declared.checker.Verdict.{Verdict}
 use Rattle.trace_check.specs.declared.checker.Verdict.TheVariants.{Legal, Illegal, BadLine, TooLong, ReadFault}
 use Rattle.trace_check.specs.Verdicts.{IsPrefixText, IsLegalText, IsIllegalText}
-use Rattle.picture_marks.specs.declared.view.View.{View}
+use Rattle.trace_shapes.specs.declared.view.View.{View}
 use Rattle.trace_picture.specs.Picture.{failed_picture, cut_picture}
 use Rattle.trace_picture.specs.Rings.{IsLegalPicture}
 

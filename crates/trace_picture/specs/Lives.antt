@@ -8,10 +8,10 @@ use Rattle.trace_board.specs.declared.history.Effect.{Effect}
 use Rattle.trace_board.specs.declared.history.Effect.TheVariants.{Begins, Ends, Stays}
 use Rattle.trace_board.specs.Kept.{Kept, life_in, forked_by}
 use Rattle.trace_board.specs.Laws.{is_live}
-use Rattle.picture_marks.specs.declared.view.View.{View}
-use Rattle.picture_marks.specs.Places.{column, column_x, row_y}
-use Rattle.picture_marks.specs.Shapes.{with_number, each_below, place_text, row_text}
-use Rattle.picture_marks.specs.Arrows.{bow_text, bow_x, bow_y, origin_text}
+use Rattle.trace_shapes.specs.declared.view.View.{View}
+use Rattle.trace_shapes.specs.Places.{column, column_x, row_y}
+use Rattle.trace_shapes.specs.Shapes.{with_number, each_below, place_text, row_text}
+use Rattle.trace_shapes.specs.Arrows.{bow_text, bow_x, bow_y, origin_text}
 
 -- the thread t has a row at the start of a band: it lives
 abbrev pub has_row : Version → Kept → ℕ → Bool

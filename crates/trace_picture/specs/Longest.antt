@@ -4,7 +4,7 @@ use Rattle.std.specs.declared.option.Option.{Option}
 use Rattle.trace_board.specs.declared.holds.Hold.{Hold}
 use Rattle.trace_board.specs.Holds.{held_for}
 use Rattle.trace_board.specs.Kept.{Kept, longest_in}
-use Rattle.picture_marks.specs.Shapes.{with_number, each_below, place_text}
+use Rattle.trace_shapes.specs.Shapes.{with_number, each_below, place_text}
 
 -- by which event a hold ended, where it did
 unfoldable pub hold_end : Hold → List ℕ

@@ -3,9 +3,9 @@
 use Rattle.std.specs.Prelude.{ℕ, ◌+◌, ◌-◌, ◌*◌, ◌/◌, ◌%◌, nat_lt, if◌then◌else◌, List, [], ◌++◌, codes}
 use Rattle.larch_actions.specs.declared.event.Layout.{Layout}
 use Rattle.trace_board.specs.Kept.{Kept, has_run, was_held}
-use Rattle.picture_marks.specs.declared.view.View.{View}
-use Rattle.picture_marks.specs.Places.{bands}
-use Rattle.picture_marks.specs.Shapes.{with_number, each_below, place_text}
+use Rattle.trace_shapes.specs.declared.view.View.{View}
+use Rattle.trace_shapes.specs.Places.{bands}
+use Rattle.trace_shapes.specs.Shapes.{with_number, each_below, place_text}
 
 -- how high a row of a hundred columns is
 abbrev pub columns_height : Layout → ℕ

@@ -3,11 +3,11 @@ use Rattle.std.specs.Prelude.{ℕ, ◌+◌, ◌-◌, nat_lt, min, if◌then◌el
 use Rattle.larch_actions.specs.declared.event.Layout.{Layout}
 use Rattle.larch_actions.specs.declared.event.Event.{Event}
 use Rattle.larch_actions.specs.declared.event.Broken.{Broken}
-use Rattle.picture_marks.specs.declared.view.View.{View}
+use Rattle.trace_shapes.specs.declared.view.View.{View}
 use Rattle.trace_board.specs.Kept.{Kept, kept_since, behind}
-use Rattle.picture_marks.specs.Places.{is_open, height_of}
-use Rattle.picture_marks.specs.Shapes.{with_number, each_below, line_of, clause_word, painted_text}
-use Rattle.picture_marks.specs.Legend.{entry_at, life_legend}
+use Rattle.trace_shapes.specs.Places.{is_open, height_of}
+use Rattle.trace_shapes.specs.Shapes.{with_number, each_below, line_of, clause_word, painted_text}
+use Rattle.trace_shapes.specs.Legend.{entry_at, life_legend}
 use Rattle.trace_picture.specs.Longest.{holds_text, holds_height}
 use Rattle.trace_picture.specs.Overview.{over_height, over_style}
 use Rattle.trace_picture.specs.Bands.{step_text, failing_text, closing, band_start}

@@ -11,10 +11,10 @@ use Rattle.lock_order.specs.declared.answer.Nested.{Nested}
 use Rattle.lock_order.specs.declared.nestings.Nestings.{Nestings}
 use Rattle.lock_order.specs.Order.{HasCycle, TellsCycle}
 use Rattle.lock_order.specs.Kept.{IsKept}
-use Rattle.picture_marks.specs.declared.view.View.{View}
+use Rattle.trace_shapes.specs.declared.view.View.{View}
 use Rattle.trace_board.specs.Kept.{Kept, kept_since, behind}
-use Rattle.picture_marks.specs.Places.{in_view, column, column_x, row_y, band_top}
-use Rattle.picture_marks.specs.Shapes.{with_number}
+use Rattle.trace_shapes.specs.Places.{in_view, column, column_x, row_y, band_top}
+use Rattle.trace_shapes.specs.Shapes.{with_number}
 use Rattle.trace_picture.specs.Picture.{closing_if, end_text, ending, legal_words, prefix_picture}
 
 -- the middle of the mark of the event by which the inner mutex was got while the outer one was held, but for the half point that the text adds

@@ -11,13 +11,13 @@ use Rattle.trace_board.specs.declared.history.Origin.{Origin}
 use Rattle.trace_board.specs.declared.history.Effect.TheVariants.{Ends}
 use Rattle.trace_board.specs.declared.rows.Bar.{Bar}
 use Rattle.trace_board.specs.declared.rows.Bar.TheVariants.{Mutex, Semaphore}
-use Rattle.picture_marks.specs.declared.view.View.{View}
-use Rattle.picture_marks.specs.Looks.{look_of}
+use Rattle.trace_shapes.specs.declared.view.View.{View}
+use Rattle.trace_shapes.specs.Looks.{look_of}
 use Rattle.trace_board.specs.Marks.{marks, marks_of}
 use Rattle.trace_board.specs.Kept.{Kept, kept_since, behind, longest_in, forked_by}
-use Rattle.picture_marks.specs.Places.{in_view, column, bar_x, bar_width}
-use Rattle.picture_marks.specs.Shapes.{each_below, place_text, box_text, row_text, with_number}
-use Rattle.picture_marks.specs.Arrows.{arrow_text}
+use Rattle.trace_shapes.specs.Places.{in_view, column, bar_x, bar_width}
+use Rattle.trace_shapes.specs.Shapes.{each_below, place_text, box_text, row_text, with_number}
+use Rattle.trace_shapes.specs.Arrows.{arrow_text}
 use Rattle.trace_picture.specs.Bands.{band_start, opening, step_text}
 use Rattle.trace_picture.specs.Picture.{end_text}
 use Rattle.trace_board.specs.Laws.{IsSince, IsMadeBy, HasEvent, is_live, is_ended}

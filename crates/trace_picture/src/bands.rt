@@ -5,24 +5,24 @@ ghost use Rattle.trace_board.specs.History.{entry_of, IsWithin};
 ghost use Rattle.trace_board.specs.Kept.{kept_of, kept_after, IsNoted};
 ghost use Rattle.trace_board.specs.Marks.{marks};
 ghost use Rattle.trace_board.specs.Rows.{row_of};
-ghost use Rattle.picture_marks.specs.Places.{in_view, column, is_open, first_top, band_top};
-ghost use Rattle.picture_marks.specs.Shapes.{with_number, each_below, number_text, object_if, failed_text};
+ghost use Rattle.trace_shapes.specs.Places.{in_view, column, is_open, first_top, band_top};
+ghost use Rattle.trace_shapes.specs.Shapes.{with_number, each_below, number_text, object_if, failed_text};
 ghost use Rattle.trace_picture.specs.Bands.{opening, bar_if, taken_if, wait_if, closing, bar_ended, taken_ended, wait_ended, closing_after, bars_ended, arrow_to, event_shapes, step_text, failing_text};
 
 use crate::lives::{add_births, add_life_row, add_rows};
 use crate::overview::add_column;
 use larch_actions::{Broken, Event, Layout, Version};
-use picture_marks::arrows::{add_arrow_if, add_handed};
-use picture_marks::shapes::{
-    add_bar, add_failed, add_label, add_mark, add_object_if, add_taken_bar, add_wait_bar,
-};
-use picture_marks::tags::add_with_number;
-use picture_marks::view::{View, column_of, is_band_open, is_in_view};
 use trace_board::board::Board;
 use trace_board::history::{Effect, Origin, Table};
 use trace_board::marks::{Marks, marks_of};
 use trace_board::rows::{Bar, Rows};
 use trace_core::add;
+use trace_shapes::arrows::{add_arrow_if, add_handed};
+use trace_shapes::shapes::{
+    add_bar, add_failed, add_label, add_mark, add_object_if, add_taken_bar, add_wait_bar,
+};
+use trace_shapes::tags::add_with_number;
+use trace_shapes::view::{View, column_of, is_band_open, is_in_view};
 
 // The upper edge of the first band.
 fn first_top(version: Version) -> u64

@@ -23,10 +23,10 @@ use crate::rings::{end_legal, note_if};
 use firefly_outside::{Sink, SinkFault, Source, put_all};
 use larch_actions::{Layout, State, Totals};
 use lock_order::Nestings;
-use picture_marks::View;
 use trace_board::board::Board;
 use trace_check::{Summary, Verdict};
 use trace_core::{EventReader, TextFault};
+use trace_shapes::View;
 
 // The verdict on a text that can't be read.
 fn refused(fault: TextFault) -> Verdict

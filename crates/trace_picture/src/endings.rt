@@ -4,8 +4,8 @@ ghost use Rattle.std.specs.Io.KnownBytes.{Appends};
 ghost use Rattle.firefly_outside.specs.Causes.{HasCause, AppendsPrefix};
 ghost use Rattle.larch_actions.specs.Layout.{IsLawful};
 ghost use Rattle.trace_board.specs.Kept.{kept_of};
-ghost use Rattle.picture_marks.specs.Places.{is_open, height_of};
-ghost use Rattle.picture_marks.specs.Shapes.{with_number, line_of, clause_word};
+ghost use Rattle.trace_shapes.specs.Places.{is_open, height_of};
+ghost use Rattle.trace_shapes.specs.Shapes.{with_number, line_of, clause_word};
 ghost use Rattle.trace_picture.specs.Bands.{closing, band_start};
 ghost use Rattle.trace_picture.specs.Longest.{holds_text, holds_height};
 ghost use Rattle.trace_picture.specs.Overview.{over_height, over_style};
@@ -16,11 +16,11 @@ use crate::longest::{add_holds, height_of_holds};
 use crate::overview::{add_over_style, height_of_overview};
 use firefly_outside::{Sink, SinkFault, put_all};
 use larch_actions::{Broken, Event, Layout};
-use picture_marks::shapes::word_of;
-use picture_marks::tags::{add_line, add_with_number};
-use picture_marks::view::{View, column_of, count_bands, is_band_open};
 use trace_board::board::Board;
 use trace_core::add;
+use trace_shapes::shapes::word_of;
+use trace_shapes::tags::{add_line, add_with_number};
+use trace_shapes::view::{View, column_of, count_bands, is_band_open};
 
 // How high the picture is, but for its last line.
 fn height(layout: &Layout, view: &View, count: u64) -> u64

@@ -1,14 +1,14 @@
 //! The head of a picture: the first tag, the colours, and what each mark and colour means.
 ghost use Rattle.std.specs.Prelude.{◌≡◌, ◌+◌, ◌*◌, ◌≤◌, ◌++◌, length, take, codes};
 ghost use Rattle.larch_actions.specs.Layout.{IsLawful};
-ghost use Rattle.picture_marks.specs.Shapes.{each_below, painted_text};
-ghost use Rattle.picture_marks.specs.Legend.{entry_at, life_legend};
+ghost use Rattle.trace_shapes.specs.Shapes.{each_below, painted_text};
+ghost use Rattle.trace_shapes.specs.Legend.{entry_at, life_legend};
 ghost use Rattle.trace_picture.specs.Picture.{style_text, pattern_text, other_words, over_words, head_text};
 
 use larch_actions::Layout;
-use picture_marks::legend::{add_entries, add_life_legend};
-use picture_marks::shapes::add_painted;
 use trace_core::add;
+use trace_shapes::legend::{add_entries, add_life_legend};
+use trace_shapes::shapes::add_painted;
 
 // Adds the first tag and the colours.
 #[tactic(auto, unfolding(crate::specs::Picture::style_text))]

@@ -3,7 +3,7 @@
 //! and the longest hold of each mutex.
 //!
 //! Promises: `draw_trace` checks the trace as `trace_check` does, and the sink gets exactly the picture that specs/Picture.antt defines.
-//! Stands on picture_marks, the reader of trace_core, the state of larch_actions, the lock order, and what trace_board keeps of the events. It takes
+//! Stands on trace_shapes, the reader of trace_core, the state of larch_actions, the lock order, and what trace_board keeps of the events. It takes
 //! no memory.
 //! How the picture looks is no promise.
 #![tactic(auto)]

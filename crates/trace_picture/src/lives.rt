@@ -2,17 +2,17 @@
 ghost use Rattle.std.specs.Prelude.{◌≡◌, ◌+◌, ◌-◌, ◌*◌, ◌<◌, ◌≤◌, ◌^◌, ◌++◌, length, take, codes};
 ghost use Rattle.trace_board.specs.Kept.{kept_of, forked_by};
 ghost use Rattle.trace_board.specs.Laws.{is_live};
-ghost use Rattle.picture_marks.specs.Shapes.{each_below};
+ghost use Rattle.trace_shapes.specs.Shapes.{each_below};
 ghost use Rattle.trace_picture.specs.Lives.{has_row, row_if, row_from, row_until, life_row, birth_words, birth_text, birth_if, births};
 
 use larch_actions::{Life, ThreadId, Version};
-use picture_marks::arrows::{add_bow, add_origin, x_from, y_from};
-use picture_marks::shapes::{add_row, x_of, y_of};
-use picture_marks::tags::{add_place, add_with_number};
-use picture_marks::view::{View, column_of};
 use trace_board::board::Board;
 use trace_board::history::{Effect, Origin};
 use trace_core::add;
+use trace_shapes::arrows::{add_bow, add_origin, x_from, y_from};
+use trace_shapes::shapes::{add_row, x_of, y_of};
+use trace_shapes::tags::{add_place, add_with_number};
+use trace_shapes::view::{View, column_of};
 
 // Whether this is the life of one that lives.
 fn lives(life: Life) -> bool

@@ -2,14 +2,14 @@
 ghost use Rattle.std.specs.Prelude.{◌≡◌, ◌+◌, ◌*◌, ◌/◌, ◌%◌, ◌<◌, ◌≤◌, ◌^◌, ◌++◌, length, take, codes};
 ghost use Rattle.larch_actions.specs.Layout.{IsLawful};
 ghost use Rattle.trace_board.specs.Kept.{kept_of, longest_in};
-ghost use Rattle.picture_marks.specs.Shapes.{with_number, each_below, place_text};
+ghost use Rattle.trace_shapes.specs.Shapes.{with_number, each_below, place_text};
 ghost use Rattle.trace_picture.specs.Longest.{hold_end, hold_text, told_hold, line_place, hold_line, holds_text, holds_height};
 
 use larch_actions::Layout;
-use picture_marks::tags::{add_place, add_with_number};
 use trace_board::board::Board;
 use trace_board::holds::{Hold, hold_to, longer};
 use trace_core::add;
+use trace_shapes::tags::{add_place, add_with_number};
 
 // Adds where a hold ended.
 #[tactic(auto, unfolding(crate::specs::Longest::hold_end))]

@@ -2,14 +2,14 @@
 ghost use Rattle.std.specs.Prelude.{◌≡◌, ◌+◌, ◌-◌, ◌*◌, ◌/◌, ◌%◌, ◌<◌, ◌≤◌, ◌^◌, ◌++◌, length, take, codes};
 ghost use Rattle.larch_actions.specs.Layout.{IsLawful};
 ghost use Rattle.trace_board.specs.Kept.{kept_of};
-ghost use Rattle.picture_marks.specs.Shapes.{with_number, each_below, place_text};
+ghost use Rattle.trace_shapes.specs.Shapes.{with_number, each_below, place_text};
 ghost use Rattle.trace_picture.specs.Overview.{columns_height, over_x, over_y, cell_text, ran_cell, held_cell, link_text, column_text, over_height, over_style};
 
 use larch_actions::Layout;
-use picture_marks::tags::{add_place, add_with_number};
-use picture_marks::view::{View, count_bands};
 use trace_board::board::Board;
 use trace_core::add;
+use trace_shapes::tags::{add_place, add_with_number};
+use trace_shapes::view::{View, count_bands};
 
 // How high a row of a hundred columns is.
 #[tactic(auto, using(larch_actions::proofs::Names::few_threads))]

@@ -16,11 +16,11 @@ use crate::endings::{add_end, add_last_closing, end_with};
 use firefly_outside::{Sink, SinkFault, put_all};
 use larch_actions::{Event, Layout};
 use lock_order::{Cycle, Nested, Nestings, cycle_in};
-use picture_marks::shapes::{x_of, y_of};
-use picture_marks::tags::add_with_number;
-use picture_marks::view::{View, column_of, is_in_view};
 use trace_board::board::Board;
 use trace_core::add;
+use trace_shapes::shapes::{x_of, y_of};
+use trace_shapes::tags::add_with_number;
+use trace_shapes::view::{View, column_of, is_in_view};
 
 /// Notes what the event nests, where the lock order is wanted.
 #[inline(always)]

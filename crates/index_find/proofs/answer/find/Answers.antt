@@ -1,4 +1,4 @@
-use Rattle.query_reading.specs.Postfix.{tree_of}
+use Rattle.index_find.specs.Postfix.{tree_of}
 use Rattle.index_find.proofs.Picked.{all_meant}
 use Rattle.index_find.proofs.answer.find.Goals as goal
 

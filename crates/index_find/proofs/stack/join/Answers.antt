@@ -1,6 +1,6 @@
 use Rattle.std.proofs.Common.{◌∷◌, [], ◌++◌, sym, subst}
-use Rattle.query_reading.specs.declared.query.Step.{Step}
-use Rattle.query_reading.specs.Postfix.{stepped}
+use Rattle.index_find.specs.declared.query.Step.{Step}
+use Rattle.index_find.specs.Postfix.{stepped}
 use Rattle.index_find.specs.Marks.{AreStacked}
 use Rattle.index_find.proofs.Stacked.{not_joined}
 use Rattle.index_find.proofs.stack.join.Goals as goal

@@ -1,7 +1,7 @@
 use Rattle.std.proofs.Common.{◌≡◌, ◌+◌, ◌-◌, ◌<◌, ◌≤◌, List, [], length, take, drop, ap, sym, ◌∙◌, subst, arith}
 use Rattle.std.specs.Vec.{vec_len}
-use Rattle.query_reading.specs.Tree.{Tree}
-use Rattle.query_reading.specs.Postfix.{built, stepped, tree_of}
+use Rattle.index_find.specs.Tree.{Tree}
+use Rattle.index_find.specs.Postfix.{built, stepped, tree_of}
 use Rattle.index_find.specs.Marks.{AreMarks, AreStacked, Suffice, joined}
 use Rattle.index_find.proofs.Stacked.{suffice_whole, suffice_more, built_more, built_whole, stacked_alike, only}
 use Rattle.index_find.proofs.stack.marks_of_query.Goals as goal
@@ -37,7 +37,7 @@ returns c =
     let steps = c.steps-step-items.result.now in
     let all : length steps ≤ c.loop-step.step-index = omega arith in
     let same = c.steps-step-items.ensures.steps in
-    let whole = same ∙ c.steps-step-items.ensures.whole ∙ ap (λ ss. Rattle.query_reading.specs.Postfix.postfix (tree_of ss)) (sym same) in
+    let whole = same ∙ c.steps-step-items.ensures.whole ∙ ap (λ ss. Rattle.index_find.specs.Postfix.postfix (tree_of ss)) (sym same) in
     let stacked = subst (λ (ts : List Tree). AreStacked c.args.index.now ts c.loop-step.stack.items) (built_whole steps c.loop-step.step-index all whole) c.loop-step.invariant.stacked in
     subst (λ (t : Tree). AreMarks c.args.index.now t c.take_last.result) (ap tree_of same)
     (only c.args.index.now (tree_of steps) c.loop-step.stack.items c.take_last.new.stack.items c.take_last.result stacked c.take_last.ensures.items)

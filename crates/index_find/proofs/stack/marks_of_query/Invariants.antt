@@ -1,6 +1,6 @@
 use Rattle.std.proofs.Common.{drop, take, []}
 use Rattle.std.specs.Vec.{vec_len}
-use Rattle.query_reading.specs.Postfix.{built}
+use Rattle.index_find.specs.Postfix.{built}
 use Rattle.index_find.specs.Marks.{AreStacked, Suffice}
 use Rattle.index_find.proofs.stack.marks_of_query.Given as goal
 

@@ -1,7 +1,7 @@
 use Rattle.std.proofs.Common.{◌≡◌, ◌∙◌, ◌+◌, ap, subst, sym, rules, arith, length, refl}
 use Rattle.std.proofs.lemmas.List.{length_push}
 use Rattle.std.specs.Prelude.{All}
-use Rattle.sample_trees.specs.Shown.{tree_of}
+use Rattle.index_sample.specs.Shown.{tree_of}
 use Rattle.index_sample.specs.Trees.{HoldsTree, AreSamples}
 use Rattle.index_sample.proofs.Placed.{tree_more}
 use Rattle.index_sample.proofs.trees.five_trees.Goals as goal

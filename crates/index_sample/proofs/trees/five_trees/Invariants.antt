@@ -1,6 +1,6 @@
 use Rattle.std.proofs.Common.{◌≡◌, length}
 use Rattle.std.specs.Prelude.{All}
-use Rattle.sample_trees.specs.Shown.{tree_of}
+use Rattle.index_sample.specs.Shown.{tree_of}
 use Rattle.index_sample.specs.Trees.{HoldsTree}
 use Rattle.index_sample.proofs.trees.five_trees.Given as goal
 

@@ -6,14 +6,14 @@ use Rattle.larch_actions.specs.declared.event.Layout.{Layout}
 use Rattle.larch_actions.specs.declared.event.Version.{Version}
 use Rattle.larch_actions.specs.Actions.{IsClosed, by_thread}
 use Rattle.larch_actions.specs.Layout.{HasNames, IsLawful}
-use Rattle.firefly_script.specs.Runs.{AreEventsOf, total}
+use Rattle.script_text.specs.Runs.{AreEventsOf, total}
 use Rattle.script_run.proofs.Closing.{if_both}
 use Rattle.larch_actions.specs.declared.event.Version.TheVariants.{Two}
 use Rattle.larch_actions.specs.declared.kind.Kind.TheVariants.{Thread}
 use Rattle.larch_actions.proofs.Names.{few_of}
-use Rattle.firefly_script.specs.declared.line.Line.{Line}
-use Rattle.firefly_script.specs.Operations.{none_held, MayFollow, none_forked}
-use Rattle.firefly_script.specs.Text.{IsScript}
+use Rattle.script_text.specs.declared.line.Line.{Line}
+use Rattle.script_text.specs.Operations.{none_held, MayFollow, none_forked}
+use Rattle.script_text.specs.Text.{IsScript}
 use Rattle.nub_rule.specs.Forks.{with_number}
 use Rattle.nub.specs.Ended.{IsFirst}
 use Rattle.sum_uses.specs.declared.added.Added.{Added}

@@ -3,7 +3,7 @@ use Rattle.std.proofs.lemmas.List.{take_all, take_more}
 use Rattle.script_run.specs.Playing.{IsPlaying}
 use Rattle.script_run.proofs.Plays.{passed}
 use Rattle.script_run.proofs.Whole.{moved, comes_at, begins, ends}
-use Rattle.firefly_script.specs.declared.line.Operation.TheVariants.{Fork}
+use Rattle.script_text.specs.declared.line.Operation.TheVariants.{Fork}
 use Rattle.script_run.proofs.Calls.{no_fate}
 use Rattle.script_run.proofs.play.play.Goals as goal
 use Rattle.script_run.proofs.play.play.Goals.{then-line-number, else-line-number}

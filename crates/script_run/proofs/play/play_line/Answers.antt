@@ -1,9 +1,9 @@
 use Rattle.std.proofs.Common.{◌≡◌, ◌-◌, [], ◌∷◌, ◌++◌, List, Some, Option, slice_index_or, refl, sym, subst, ◌∙◌, arith}
 use Rattle.sum_uses.specs.declared.added.Added.{Added}
 use Rattle.sum_uses.specs.Sums.{GrowsAlike}
-use Rattle.firefly_script.specs.declared.line.Operation.TheVariants.{Acquire, Release, Wait, AlertWait, Signal, Broadcast, P, V, Alert, TestAlert, AlertP, Add, Until, AlertUntil, Join}
+use Rattle.script_text.specs.declared.line.Operation.TheVariants.{Acquire, Release, Wait, AlertWait, Signal, Broadcast, P, V, Alert, TestAlert, AlertP, Add, Until, AlertUntil, Join}
 use Rattle.larch_actions.specs.declared.event.Action.TheVariants as action
-use Rattle.firefly_script.specs.Runs.{event, returned, times, waited}
+use Rattle.script_text.specs.Runs.{event, returned, times, waited}
 use Rattle.larch_actions.specs.Sets.{set_of}
 use Rattle.alert_wait.specs.Outcomes.{p_end}
 use Rattle.script_run.specs.Playing.{alertable, given_up}

@@ -9,10 +9,10 @@ use Rattle.larch_actions.specs.Actions.{IsClosed, by_thread}
 use Rattle.larch_actions.specs.Layout.{HasNames}
 use Rattle.larch_actions.proofs.Names.{few_of}
 use Rattle.larch_actions.specs.declared.kind.Kind.TheVariants.{Thread}
-use Rattle.firefly_script.specs.declared.line.Line.{Line}
-use Rattle.firefly_script.specs.Operations.{none_held, MayFollow, none_forked}
-use Rattle.firefly_script.specs.Runs.{AreCallsOf, AreEventsOf, total}
-use Rattle.firefly_script.specs.Text.{IsScript}
+use Rattle.script_text.specs.declared.line.Line.{Line}
+use Rattle.script_text.specs.Operations.{none_held, MayFollow, none_forked}
+use Rattle.script_text.specs.Runs.{AreCallsOf, AreEventsOf, total}
+use Rattle.script_text.specs.Text.{IsScript}
 use Rattle.script_run.proofs.Closing.{if_ok, rows_of, values_of}
 use Rattle.script_run.proofs.Sums.{first_sums}
 use Rattle.script_run.proofs.run.run_all.Goals as goal

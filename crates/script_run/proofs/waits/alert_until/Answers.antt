@@ -1,6 +1,6 @@
 use Rattle.std.proofs.Common.{◌++◌, append-nil, ℕ, suc, List, [], sym, subst, ◌∙◌, refl}
 use Rattle.larch_actions.specs.declared.event.Event.{Event}
-use Rattle.firefly_script.specs.Runs.{times, returned, raised}
+use Rattle.script_text.specs.Runs.{times, returned, raised}
 use Rattle.script_run.specs.Playing.{IsPlaying, HasMutex}
 use Rattle.script_run.proofs.Waiting.{alerted≢returned, has_numbered, numbered, once_more, still_less}
 use Rattle.script_run.proofs.waits.alert_until.Goals as goal

@@ -1,6 +1,6 @@
 use Rattle.std.proofs.Common.{◌≡◌, ℕ, ◌≤◌, List, [], get_or}
-use Rattle.firefly_script.specs.declared.line.Line.{Line}
-use Rattle.firefly_script.specs.Runs.{times, returned}
+use Rattle.script_text.specs.declared.line.Line.{Line}
+use Rattle.script_text.specs.Runs.{times, returned}
 use Rattle.script_run.specs.Playing.{IsPlaying, HasMutex}
 use Rattle.script_run.proofs.waits.alert_until.Given as goal
 

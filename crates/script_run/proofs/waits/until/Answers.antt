@@ -1,5 +1,5 @@
 use Rattle.std.proofs.Common.{◌++◌, ℕ, suc, List, [], sym, ◌∙◌, refl}
-use Rattle.firefly_script.specs.Runs.{times, waited}
+use Rattle.script_text.specs.Runs.{times, waited}
 use Rattle.script_run.specs.Playing.{IsPlaying, HasMutex}
 use Rattle.script_run.proofs.Waiting.{has_numbered, numbered, once_more, still_less}
 use Rattle.script_run.proofs.waits.until.Goals as goal

@@ -1,6 +1,6 @@
 use Rattle.std.proofs.Common.{◌≡◌, ◌+◌, ◌*◌, ◌≤◌, ◌++◌, take}
 use Rattle.trace_board.specs.History.{entry_of}
-use Rattle.picture_marks.specs.Shapes.{each_below}
+use Rattle.trace_shapes.specs.Shapes.{each_below}
 use Rattle.trace_explain.specs.Facts.{held_by}
 use Rattle.trace_explain.proofs.facts.add_each_held.Given as goal
 

@@ -1,7 +1,7 @@
 use Rattle.std.proofs.Common.{ℕ, List, ◌+◌, ◌++◌, take, ap, sym, ◌∙◌, append-nil, arith}
 use Rattle.trace_board.specs.Causes.{cause_of}
-use Rattle.picture_marks.specs.Shapes.{each_below}
-use Rattle.picture_marks.proofs.Added.{each_more, each_none, added_more}
+use Rattle.trace_shapes.specs.Shapes.{each_below}
+use Rattle.trace_shapes.proofs.Added.{each_more, each_none, added_more}
 use Rattle.trace_explain.specs.Facts.{stander}
 use Rattle.trace_explain.proofs.facts.add_each_stander.Goals as goal
 

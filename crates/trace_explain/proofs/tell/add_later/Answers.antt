@@ -1,4 +1,4 @@
-use Rattle.picture_marks.proofs.Added.{added_two}
+use Rattle.trace_shapes.proofs.Added.{added_two}
 use Rattle.trace_explain.specs.Words.{later_text}
 use Rattle.trace_explain.proofs.tell.add_later.Goals as goal
 

@@ -1,7 +1,7 @@
 use Rattle.std.proofs.Common.{◌-◌, [], ◌++◌, take, ap, ◌∙◌}
 use Rattle.trace_board.specs.Kept.{kept_of, let_on_by}
-use Rattle.picture_marks.specs.Arrows.{arrow_if, handed}
-use Rattle.picture_marks.proofs.Added.{added_three}
+use Rattle.trace_shapes.specs.Arrows.{arrow_if, handed}
+use Rattle.trace_shapes.proofs.Added.{added_three}
 use Rattle.trace_picture.proofs.bands.add_arrow_to.Goals as goal
 
 pub returns-clause-text : goal.returns-clause-text

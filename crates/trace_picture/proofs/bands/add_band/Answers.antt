@@ -1,7 +1,7 @@
 use Rattle.std.proofs.Common.{[], ◌++◌, take, ap, ◌∙◌}
 use Rattle.std.specs.Prelude.{codes}
-use Rattle.picture_marks.specs.Shapes.{with_number}
-use Rattle.picture_marks.proofs.Added.{added_three}
+use Rattle.trace_shapes.specs.Shapes.{with_number}
+use Rattle.trace_shapes.proofs.Added.{added_three}
 use Rattle.trace_picture.proofs.bands.add_band.Goals as goal
 
 pub returns-clause-text : goal.returns-clause-text

@@ -1,9 +1,9 @@
 use Rattle.std.proofs.Common.{ℕ, List, ◌+◌, ◌++◌, take, false, ap, sym, ◌∙◌, append-nil, arith}
 use Rattle.trace_board.specs.History.{entry_of}
 use Rattle.trace_board.specs.Rows.{row_of}
-use Rattle.picture_marks.specs.Shapes.{each_below}
+use Rattle.trace_shapes.specs.Shapes.{each_below}
 use Rattle.trace_picture.specs.Bands.{bar_if}
-use Rattle.picture_marks.proofs.Added.{each_more, each_none, added_more}
+use Rattle.trace_shapes.proofs.Added.{each_more, each_none, added_more}
 use Rattle.trace_picture.proofs.bands.add_bars.Goals as goal
 
 pub loop-m-init : goal.loop-m-init

@@ -1,7 +1,7 @@
 use Rattle.std.proofs.Common.{[], ◌-◌, ◌++◌, take, ◌∙◌}
 use Rattle.trace_board.specs.Kept.{kept_of}
 use Rattle.trace_picture.specs.Bands.{bar_ended, taken_ended, wait_ended}
-use Rattle.picture_marks.proofs.Added.{added_three}
+use Rattle.trace_shapes.proofs.Added.{added_three}
 use Rattle.trace_picture.proofs.bands.add_bars_ended.Goals as goal
 
 pub returns-clause-text : goal.returns-clause-text

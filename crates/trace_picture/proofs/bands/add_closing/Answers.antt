@@ -1,11 +1,11 @@
 use Rattle.std.proofs.Common.{◌/◌, ◌++◌, take, false, ◌∙◌}
 use Rattle.std.specs.Prelude.{codes}
 use Rattle.trace_board.specs.Kept.{kept_of}
-use Rattle.picture_marks.specs.Shapes.{each_below}
+use Rattle.trace_shapes.specs.Shapes.{each_below}
 use Rattle.trace_picture.specs.Overview.{column_text}
 use Rattle.trace_picture.specs.Lives.{births}
 use Rattle.trace_picture.specs.Bands.{bar_if, taken_if, wait_if, closing}
-use Rattle.picture_marks.proofs.Added.{added_six}
+use Rattle.trace_shapes.proofs.Added.{added_six}
 use Rattle.trace_picture.proofs.bands.add_closing.Goals as goal
 
 pub returns-clause-text : goal.returns-clause-text

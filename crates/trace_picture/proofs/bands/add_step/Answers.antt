@@ -1,7 +1,7 @@
 use Rattle.std.proofs.Common.{[], ◌++◌, take, ap, sym, ◌∙◌}
 use Rattle.std.proofs.lemmas.Bool.{cond-true}
 use Rattle.trace_board.specs.Kept.{kept_of, kept_after}
-use Rattle.picture_marks.specs.Places.{in_view}
+use Rattle.trace_shapes.specs.Places.{in_view}
 use Rattle.trace_picture.specs.Bands.{opening, event_shapes, closing_after, step_text}
 use Rattle.trace_picture.proofs.bands.add_step.Goals as goal
 

@@ -1,8 +1,8 @@
 use Rattle.std.proofs.Common.{ℕ, List, ◌+◌, ◌++◌, take, false, ap, sym, ◌∙◌, append-nil, arith}
 use Rattle.trace_board.specs.History.{entry_of}
-use Rattle.picture_marks.specs.Shapes.{each_below}
+use Rattle.trace_shapes.specs.Shapes.{each_below}
 use Rattle.trace_picture.specs.Bands.{wait_if}
-use Rattle.picture_marks.proofs.Added.{each_more, each_none, added_more}
+use Rattle.trace_shapes.proofs.Added.{each_more, each_none, added_more}
 use Rattle.trace_picture.proofs.bands.add_waits.Goals as goal
 
 pub loop-t-init : goal.loop-t-init

@@ -1,6 +1,6 @@
 use Rattle.std.proofs.Common.{◌≡◌, ◌+◌, ◌*◌, ◌≤◌, ◌++◌, take, false}
 use Rattle.trace_board.specs.History.{entry_of}
-use Rattle.picture_marks.specs.Shapes.{each_below}
+use Rattle.trace_shapes.specs.Shapes.{each_below}
 use Rattle.trace_picture.specs.Bands.{wait_if}
 use Rattle.trace_picture.proofs.bands.add_waits.Given as goal
 

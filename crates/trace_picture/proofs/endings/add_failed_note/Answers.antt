@@ -1,6 +1,6 @@
 use Rattle.std.proofs.Common.{[]}
 use Rattle.trace_picture.specs.Picture.{failed_note}
-use Rattle.picture_marks.proofs.Added.{added_four}
+use Rattle.trace_shapes.proofs.Added.{added_four}
 use Rattle.trace_picture.proofs.endings.add_failed_note.Goals as goal
 
 pub returns-clause-text : goal.returns-clause-text

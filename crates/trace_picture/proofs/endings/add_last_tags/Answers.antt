@@ -1,8 +1,8 @@
 use Rattle.std.proofs.Common.{◌+◌, ◌++◌, take, ◌∙◌}
 use Rattle.std.specs.Prelude.{codes}
-use Rattle.picture_marks.specs.Shapes.{with_number}
+use Rattle.trace_shapes.specs.Shapes.{with_number}
 use Rattle.trace_picture.specs.Overview.{over_style}
-use Rattle.picture_marks.proofs.Added.{added_two}
+use Rattle.trace_shapes.proofs.Added.{added_two}
 use Rattle.trace_picture.proofs.endings.add_last_tags.Goals as goal
 
 pub returns-clause-text : goal.returns-clause-text

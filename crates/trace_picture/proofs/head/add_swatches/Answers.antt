@@ -1,6 +1,6 @@
 use Rattle.std.proofs.Common.{ℕ, List, ◌+◌, ◌++◌, take, ap, sym, ◌∙◌, append-nil, arith}
-use Rattle.picture_marks.specs.Shapes.{each_below, painted_text}
-use Rattle.picture_marks.proofs.Added.{each_more, each_none, added_more}
+use Rattle.trace_shapes.specs.Shapes.{each_below, painted_text}
+use Rattle.trace_shapes.proofs.Added.{each_more, each_none, added_more}
 use Rattle.trace_picture.proofs.head.add_swatches.Goals as goal
 
 pub loop-m-init : goal.loop-m-init

@@ -1,5 +1,5 @@
 use Rattle.std.proofs.Common.{◌≡◌, ◌+◌, ◌*◌, ◌≤◌, ◌++◌, take}
-use Rattle.picture_marks.specs.Shapes.{each_below, painted_text}
+use Rattle.trace_shapes.specs.Shapes.{each_below, painted_text}
 use Rattle.trace_picture.proofs.head.add_swatches.Given as goal
 
 abbrev pub invariant-loop-m : goal.invariant-loop-m

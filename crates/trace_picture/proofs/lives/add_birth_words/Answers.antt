@@ -1,9 +1,9 @@
 use Rattle.std.proofs.Common.{[], ◌++◌, take, ◌∙◌}
 use Rattle.std.specs.Prelude.{codes}
-use Rattle.picture_marks.specs.Shapes.{with_number}
-use Rattle.picture_marks.specs.Arrows.{origin_text}
+use Rattle.trace_shapes.specs.Shapes.{with_number}
+use Rattle.trace_shapes.specs.Arrows.{origin_text}
 use Rattle.trace_picture.specs.Lives.{birth_words}
-use Rattle.picture_marks.proofs.Added.{added_three}
+use Rattle.trace_shapes.proofs.Added.{added_three}
 use Rattle.trace_picture.proofs.lives.add_birth_words.Goals as goal
 
 pub returns-clause-text : goal.returns-clause-text

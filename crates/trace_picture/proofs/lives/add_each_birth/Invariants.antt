@@ -1,6 +1,6 @@
 use Rattle.std.proofs.Common.{◌≡◌, ◌+◌, ◌*◌, ◌≤◌, ◌++◌, take}
 use Rattle.trace_board.specs.Kept.{kept_of, forked_by}
-use Rattle.picture_marks.specs.Shapes.{each_below}
+use Rattle.trace_shapes.specs.Shapes.{each_below}
 use Rattle.trace_picture.specs.Lives.{birth_if}
 use Rattle.trace_picture.proofs.lives.add_each_birth.Given as goal
 

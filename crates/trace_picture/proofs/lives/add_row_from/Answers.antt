@@ -1,8 +1,8 @@
 use Rattle.std.proofs.Common.{◌+◌, ◌++◌, take, ◌∙◌}
 use Rattle.std.specs.Prelude.{codes}
-use Rattle.picture_marks.specs.Shapes.{with_number, place_text}
+use Rattle.trace_shapes.specs.Shapes.{with_number, place_text}
 use Rattle.trace_picture.specs.Lives.{row_from}
-use Rattle.picture_marks.proofs.Added.{added_five}
+use Rattle.trace_shapes.proofs.Added.{added_five}
 use Rattle.trace_picture.proofs.lives.add_row_from.Goals as goal
 
 pub returns-clause-text : goal.returns-clause-text

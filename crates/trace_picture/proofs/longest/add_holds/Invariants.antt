@@ -1,6 +1,6 @@
 use Rattle.std.proofs.Common.{◌≡◌, ◌+◌, ◌*◌, ◌≤◌, ◌++◌, take}
 use Rattle.trace_board.specs.Kept.{kept_of, longest_in}
-use Rattle.picture_marks.specs.Shapes.{each_below}
+use Rattle.trace_shapes.specs.Shapes.{each_below}
 use Rattle.trace_picture.specs.Longest.{hold_line}
 use Rattle.trace_picture.proofs.longest.add_holds.Given as goal
 

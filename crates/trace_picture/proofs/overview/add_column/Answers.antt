@@ -1,9 +1,9 @@
 use Rattle.std.proofs.Common.{◌+◌, ◌*◌, ◌/◌, [], ◌++◌, take, ◌∙◌}
 use Rattle.std.specs.Prelude.{codes}
 use Rattle.trace_board.specs.Kept.{kept_of}
-use Rattle.picture_marks.specs.Shapes.{each_below}
+use Rattle.trace_shapes.specs.Shapes.{each_below}
 use Rattle.trace_picture.specs.Overview.{over_x, ran_cell, held_cell, link_text, column_text}
-use Rattle.picture_marks.proofs.Added.{added_four}
+use Rattle.trace_shapes.proofs.Added.{added_four}
 use Rattle.trace_picture.proofs.overview.add_column.Goals as goal
 
 pub returns-clause-text : goal.returns-clause-text

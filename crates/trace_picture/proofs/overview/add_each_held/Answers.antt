@@ -1,8 +1,8 @@
 use Rattle.std.proofs.Common.{ℕ, List, ◌+◌, ◌++◌, take, ap, sym, ◌∙◌, append-nil, arith}
 use Rattle.trace_board.specs.Kept.{kept_of}
-use Rattle.picture_marks.specs.Shapes.{each_below}
+use Rattle.trace_shapes.specs.Shapes.{each_below}
 use Rattle.trace_picture.specs.Overview.{held_cell}
-use Rattle.picture_marks.proofs.Added.{each_more, each_none, added_more}
+use Rattle.trace_shapes.proofs.Added.{each_more, each_none, added_more}
 use Rattle.trace_picture.proofs.overview.add_each_held.Goals as goal
 
 pub loop-m-init : goal.loop-m-init

@@ -1,8 +1,8 @@
 use Rattle.std.proofs.Common.{[], ◌++◌, take, ap, ◌∙◌}
 use Rattle.std.specs.Prelude.{codes}
-use Rattle.picture_marks.specs.Shapes.{with_number}
+use Rattle.trace_shapes.specs.Shapes.{with_number}
 use Rattle.trace_picture.specs.Overview.{link_text}
-use Rattle.picture_marks.proofs.Added.{added_four}
+use Rattle.trace_shapes.proofs.Added.{added_four}
 use Rattle.trace_picture.proofs.overview.add_link.Goals as goal
 
 pub returns-clause-text : goal.returns-clause-text

@@ -2,10 +2,10 @@ use Rattle.std.proofs.Common.{◌≡◌, ℕ, ◌<◌, ◌≤◌, true, false, L
 use Rattle.std.specs.Prelude.{codes, nat_lt}
 use Rattle.std.proofs.lemmas.Bool.{cond-true, cond-false}
 use Rattle.std.proofs.lemmas.Bool.Decides.{nat_tests}
-use Rattle.picture_marks.specs.Shapes.{with_number}
-use Rattle.picture_marks.specs.Places.{bands}
+use Rattle.trace_shapes.specs.Shapes.{with_number}
+use Rattle.trace_shapes.specs.Places.{bands}
 use Rattle.trace_picture.specs.Overview.{over_height}
-use Rattle.picture_marks.proofs.Added.{added_three}
+use Rattle.trace_shapes.proofs.Added.{added_three}
 use Rattle.trace_picture.proofs.overview.add_over_style.Goals as goal
 
 is_more : (i k n : ℕ) → k ≡ n → i < k → nat_lt i n ≡ true

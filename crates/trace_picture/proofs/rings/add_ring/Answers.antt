@@ -1,5 +1,5 @@
 use Rattle.std.proofs.Common.{◌+◌, ap, ◌∙◌}
-use Rattle.picture_marks.specs.Places.{column_x}
+use Rattle.trace_shapes.specs.Places.{column_x}
 use Rattle.trace_picture.proofs.Ringing.{added_ring}
 use Rattle.trace_picture.proofs.rings.add_ring.Goals as goal
 

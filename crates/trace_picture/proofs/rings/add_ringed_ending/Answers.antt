@@ -1,5 +1,5 @@
 use Rattle.std.proofs.Common.{[]}
-use Rattle.picture_marks.proofs.Added.{added_three}
+use Rattle.trace_shapes.proofs.Added.{added_three}
 use Rattle.trace_picture.proofs.rings.add_ringed_ending.Goals as goal
 
 pub returns-clause-text : goal.returns-clause-text

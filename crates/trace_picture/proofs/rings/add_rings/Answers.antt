@@ -1,7 +1,7 @@
 use Rattle.std.proofs.Common.{◌+◌, take, sym, append-nil, arith}
 use Rattle.std.specs.List.{flat_map}
 use Rattle.trace_picture.specs.Rings.{ring_if}
-use Rattle.picture_marks.proofs.Added.{added_more}
+use Rattle.trace_shapes.proofs.Added.{added_more}
 use Rattle.trace_picture.proofs.Ringing.{one_near, texts_more}
 use Rattle.trace_picture.proofs.rings.add_rings.Goals as goal
 

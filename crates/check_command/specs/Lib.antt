@@ -1,5 +1,0 @@
-pub mod Lines
-pub mod VerdictEndings
-pub mod Check
-pub mod Traces
-pub mod Accepted

@@ -1,0 +1,9 @@
+pub mod Sums
+pub mod Ran
+pub mod Ended
+pub mod Due
+pub mod Places
+pub mod JobTexts
+pub mod JobAnswered
+pub mod JobReasons
+pub mod JobWindows

@@ -1,0 +1,4 @@
+pub mod Printed
+pub mod Between
+pub mod Closing
+pub mod Noting

@@ -1,0 +1,3 @@
+pub mod RoundsCommand
+pub mod Playing
+pub mod RoundEvents

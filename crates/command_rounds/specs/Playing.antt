@@ -1,0 +1,65 @@
+-- A thread that plays its rounds.
+use Rattle.std.specs.Prelude.{◌≡◌, ℕ, ◌+◌, ◌*◌, ◌<◌, ◌≤◌, List, [], ◌∷◌, ◌++◌, length, vec_capacity, IfSome, Option as Opt, Some, None}
+use Rattle.std.proofs.Common.{Vec, Global}
+use Rattle.larch_actions.specs.declared.event.Event.{Event}
+use Rattle.larch_actions.specs.Layout.{layout_of}
+use Rattle.nub_rule.specs.Items.{Each}
+use Rattle.nub_rule.specs.Known.{Shape}
+use Rattle.nub.specs.Idle.{IsIdle}
+use Rattle.barrier_once.specs.declared.cell.RoundAt.{RoundAt}
+use Rattle.barrier_once.specs.declared.share.RoundShare.{RoundShare}
+use Rattle.barrier_once.specs.declared.share.RoundWorld.{RoundWorld}
+use Rattle.barrier_once.specs.Calls.{RoundThread}
+use Rattle.barrier_once.specs.Rounds.{triangle}
+use Rattle.command_rounds.specs.RoundEvents.{AreEventsOf, IsArrivalOf, visit}
+
+-- the bar with its condition, the sum and the once cell
+abbrev pub round_at : RoundAt
+round_at = record { bar = record { 0 = 0 }; cond = record { 0 = 0 }; sum = record { 0 = 1 }; once = record { 0 = 2 } }
+
+-- the package has these cells, and its threads are the parties, whose number is the greatest value
+pub record IsTable (p : Shape RoundWorld) : Type 0 where
+  pub layout : p.layout ≡ layout_of p.world.parties 3 1 0
+  pub most : p.world.most ≡ p.world.parties
+  pub at : p.world.at ≡ round_at
+  pub few : p.world.parties ≤ 64
+
+-- the thread t is between two calls with this share, and these are its own events
+pub record IsBetween (p : Shape RoundWorld) (t : ℕ) (s : RoundShare) (es : List Event) (me : RoundThread) : Type 0 where
+  pub idle : IsIdle p t s me
+  pub mine : me.mine ≡ es
+
+-- the thread t has agreed and played so many rounds
+pub record IsPlaying (p : Shape RoundWorld) (t n : ℕ) (me : RoundThread) : Type 0 where
+  pub share : RoundShare
+  pub events : List Event
+  pub between : IsBetween p t share events me
+  pub arrivals : share.arrivals ≡ 2 * n
+  pub left : share.left ≡ 2 * n
+  pub added : share.added ≡ n * (t + 1)
+  pub agreed : (v : ℕ) × (share.agreed ≡ Some v)
+  pub are : AreEventsOf t n events
+
+-- the thread t has played so many rounds and half of the next, and then these events were its own
+pub record IsHalfway (p : Shape RoundWorld) (t n : ℕ) (asked : List Event) (me : RoundThread) : Type 0 where
+  pub share : RoundShare
+  pub before : List Event
+  pub first : List Event
+  pub between : IsBetween p t share (before ++ ((visit t 1 ++ first) ++ asked)) me
+  pub few : n < 1000
+  pub arrivals : share.arrivals ≡ 2 * n + 1
+  pub left : share.left ≡ 2 * n + 1
+  pub added : share.added ≡ (n + 1) * (t + 1)
+  pub agreed : (v : ℕ) × (share.agreed ≡ Some v)
+  pub are : AreEventsOf t n before
+  pub arrival : IsArrivalOf t first
+
+-- so many totals, each of all that was added up to its round
+pub record AreTotals (parties rounds : ℕ) (totals : List ℕ) : Type 0 where
+  pub count : length totals ≡ rounds
+  pub each : Each (λ k n. n ≡ (k + 1) * triangle parties) totals
+
+-- the total was added to what is kept, if anything is
+abbrev pub IsNoted : ℕ → Opt (Vec ℕ Global) → Opt (Vec ℕ Global) → Type 0
+IsNoted total None new = new ≡ None
+IsNoted total (Some old) new = IfSome new (λ v. (v.items ≡ old.items ++ total ∷ []) × (vec_capacity v ≡ vec_capacity old))

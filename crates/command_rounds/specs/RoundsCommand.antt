@@ -1,0 +1,35 @@
+-- What the command `rounds` answers.
+use Rattle.std.specs.Prelude.{◌≡◌, ◌⊎◌, ℕ, ◌*◌, ◌<◌, ◌≤◌, List, [], ◌∷◌, Some}
+use Rattle.larch_actions.specs.declared.event.Event.{Event}
+use Rattle.larch_actions.specs.Actions.{by_thread}
+use Rattle.larch_actions.specs.Layout.{layout_of}
+use Rattle.trace_core.specs.Whole.{numbered}
+use Rattle.command_check.specs.Traces.{IsClosedTrace}
+use Rattle.barrier_once.specs.declared.cell.Cell.{Cell}
+use Rattle.barrier_once.specs.declared.cell.Cell.TheVariants.{Bar, Sum, Once}
+use Rattle.barrier_once.specs.Rounds.{triangle}
+use Rattle.command_rounds.specs.RoundEvents.{AreEventsOf}
+use Rattle.command_endings.specs.declared.status.Status.{Status}
+use Rattle.command_endings.specs.declared.status.Status.TheVariants.{Done, Memory}
+use Rattle.command_endings.specs.Changes.{Change, IsStill, Notes}
+use Rattle.command_endings.specs.Messages.{memory_message}
+use Rattle.command_endings.specs.Printing.{Prints}
+
+-- the cells are a bar at which nobody has arrived, a sum and a once cell with a value
+abbrev pub AreThree : ℕ → ℕ → ℕ → List Cell → Type 0
+AreThree round sum value cells = cells ≡ Bar round 0 ∷ Sum sum ∷ Once (Some value) ∷ []
+
+-- The trace of a run of rounds: a legal and closed list of events, of which each thread's are those of its rounds. The bar's round, the sum
+-- of all that was added and the value on which all have agreed stand behind it.
+pub record IsRoundsTrace (threads rounds : ℕ) (bytes : List ℕ) : Type 0 where
+  pub events : List Event
+  pub value : ℕ
+  pub within : (1 ≤ value) × (value ≤ threads)
+  pub trace : IsClosedTrace (layout_of threads 3 1 0) (numbered 0 (2 * rounds ∷ rounds * triangle threads ∷ value ∷ [])) events bytes
+  pub own : (t : ℕ) → t < threads → AreEventsOf t rounds (by_thread t events)
+
+-- the trace was printed, or memory ran out
+abbrev pub RoundsAnswers : ℕ → ℕ → Change → Change → Status → Type 0
+RoundsAnswers threads rounds out notes answer =
+    ((bytes : List ℕ) × IsRoundsTrace threads rounds bytes × Prints bytes Done out notes answer)
+    ⊎ ((answer ≡ Memory) × IsStill out × Notes notes memory_message)

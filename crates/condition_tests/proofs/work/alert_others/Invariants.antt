@@ -1,5 +1,0 @@
-use Rattle.condition_tests.specs.Free.{IsFree}
-use Rattle.condition_tests.proofs.work.alert_others.Given as goal
-
-abbrev pub invariant-loop-other : goal.invariant-loop-other
-invariant-loop-other g l = IsFree l.pkg l.initial.me.number l.me

@@ -1,5 +1,0 @@
-use Rattle.condition_tests.specs.Free.{IsFree}
-use Rattle.condition_tests.proofs.work.put_many.Given as goal
-
-abbrev pub invariant-loop-i : goal.invariant-loop-i
-invariant-loop-i g l = IsFree l.pkg l.initial.me.number l.me

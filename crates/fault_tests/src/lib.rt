@@ -1,5 +1,0 @@
-//! Tests of what the faults and endings of public calls print.
-#![tactic(auto)]
-
-#[cfg(test)]
-mod texts;

@@ -1,7 +1,0 @@
-use Rattle.std.proofs.Common.{◌≡◌, ◌%◌, ◌^◌, take}
-use Rattle.std.specs.List.{sum}
-use Rattle.firefly_bench.proofs.sum_of.Given as goal
-
--- the sum so far
-abbrev pub invariant-loop-number : goal.invariant-loop-number
-invariant-loop-number l = l.sum ≡ sum (take l.number-index l.numbers) % 2 ^ 64

@@ -1,9 +1,0 @@
-use Rattle.std.proofs.Common.{◌≡◌, length}
-use Rattle.firefly_tests.proofs.Crowds.{AreNumbered}
-use Rattle.firefly_tests.proofs.crowd.entries_of.Given as goal
-
-abbrev pub invariant-loop-number : goal.invariant-loop-number
-invariant-loop-number l = record {
-  many : length l.entries.items ≡ l.number;
-  named : AreNumbered l.entries.items;
-}

@@ -1,6 +1,0 @@
-use Rattle.std.proofs.Common.{[]}
-use Rattle.nub.specs.Idle.{IsIdle}
-use Rattle.fork_tests.proofs.run.join_all.Given as goal
-
-abbrev pub invariant-loop-who : goal.invariant-loop-who
-invariant-loop-who g l = IsIdle l.pkg l.initial.me.number [] l.me

@@ -1,6 +1,0 @@
-use Rattle.std.proofs.Common.{arith}
-use Rattle.index_reading.proofs.Bytes.{prefix_long}
-use Rattle.index_reading.proofs.key.begins.Goals as goal
-
-pub returns-then-other-one : goal.returns-then-other-one
-returns-then-other-one c = prefix_long c.args.one.now c.args.other.now (omega arith)

@@ -1,5 +1,0 @@
-use Rattle.index_reading.proofs.Numerals.{numeral_printed}
-use Rattle.index_reading.proofs.laws.a_numeral_is_the_printed_one.Goals as goal
-
-pub returns : goal.returns
-returns c = numeral_printed

@@ -1,5 +1,0 @@
-use Rattle.index_reading.proofs.Printed.{printed}
-use Rattle.index_reading.proofs.laws.a_text_is_the_printed_one.Goals as goal
-
-pub returns : goal.returns
-returns c = printed

@@ -1,5 +1,0 @@
-use Rattle.index_reading.proofs.ReadBack.{read_back}
-use Rattle.index_reading.proofs.laws.an_index_text_is_read.Goals as goal
-
-pub returns : goal.returns
-returns c = read_back

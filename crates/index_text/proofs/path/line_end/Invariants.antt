@@ -1,0 +1,10 @@
+use Rattle.std.proofs.Common.{◌≤◌, ◌-◌, length}
+use Rattle.index_text.specs.Lines.{is_no_newline}
+use Rattle.index_text.specs.Steps.{IsPassed}
+use Rattle.index_text.proofs.path.line_end.Given as goal
+
+abbrev pub invariant-loop-at : goal.invariant-loop-at
+invariant-loop-at l = record { within : l.at ≤ length l.bytes; keys : IsPassed is_no_newline l.bytes l.at }
+
+abbrev pub decreases-loop-at : goal.decreases-loop-at
+decreases-loop-at l = length l.bytes - l.at

@@ -1,0 +1,40 @@
+-- Why an index isn't read.
+use Rattle.std.specs.Prelude.{◌≡◌, ◌≢◌, ℕ, ◌<◌, ◌≤◌, List, length, take, IfErr, IfSome, OnOk, Result}
+use Rattle.std.specs.declared.option.Option.{Option}
+use Rattle.firefly_outside.specs.Causes.{Rose}
+use Rattle.trace_core.specs.Prefixes.{Begins}
+use Rattle.trace_core.specs.Intake.{IsShown}
+use Rattle.index_text.specs.declared.fault.IndexFault.{IndexFault}
+use Rattle.index_text.specs.declared.fault.IndexFault.TheVariants.{Memory, BadLine, TooLong, Read}
+use Rattle.index_text.specs.declared.fault.Halt.{Halt}
+use Rattle.index_text.specs.declared.fault.Halt.TheVariants as halts
+use Rattle.index_text.specs.Texts.{IsIndexText}
+
+-- how many bytes a text may have
+abbrev pub budget : ℕ
+budget = 67108864
+
+-- why the index with these bytes wasn't read
+abbrev pub HasReason : Option (List ℕ) → ℕ → ℕ → IndexFault → Type 0
+HasReason left before now Memory = Unit {0}
+HasReason left before now (BadLine k) = IfSome left (λ input. IsShown IsIndexText budget input k)
+HasReason left before now TooLong = IfSome left (λ input. (budget < length input) × Begins IsIndexText (take budget input))
+HasReason left before now Read = Rose before now
+
+-- A failed read is told: the count of faults never falls, and rises only where the call tells a failed read.
+pub record IsTold {T : Type 0} (before now : ℕ) (result : Result T IndexFault) : Type 0 where
+  pub later : before ≤ now
+  pub unfailed : OnOk result (now ≡ before)
+  pub otherwise : IfErr result (λ fault. fault ≢ Read → now ≡ before)
+
+-- the fault of a halt in bytes that are the whole input
+abbrev pub whole_fault_of : Halt → IndexFault
+whole_fault_of halts.Memory = Memory
+whole_fault_of (halts.Cut k) = BadLine k
+whole_fault_of (halts.Bad k) = BadLine k
+
+-- and in the first bytes of an input that is too long
+abbrev pub prefix_fault_of : Halt → IndexFault
+prefix_fault_of halts.Memory = Memory
+prefix_fault_of (halts.Cut k) = TooLong
+prefix_fault_of (halts.Bad k) = BadLine k

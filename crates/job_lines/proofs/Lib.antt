@@ -1,4 +1,0 @@
-pub mod Texts
-pub mod Answered
-pub mod Reasons
-pub mod Windows

@@ -1,5 +1,0 @@
-pub mod Sums
-pub mod Ran
-pub mod Ended
-pub mod Due
-pub mod Places

@@ -1,3 +1,0 @@
-pub mod Times
-pub mod Values
-pub mod Working

@@ -1,7 +1,0 @@
-use Rattle.std.proofs.Common.{◌≡◌, [], Some, map, reverse, take}
-use Rattle.std.specs.String.{string_bytes}
-use Rattle.query_reading.specs.Taking.{Before, ran, state_of}
-use Rattle.query_reading.proofs.read.read_query.Given as goal
-
-abbrev pub invariant-loop-word : goal.invariant-loop-word
-invariant-loop-word l = ran (Before [] []) (take l.word-index (map string_bytes l.words)) ≡ Some (state_of l.behind (reverse l.pending.items) l.steps.items)

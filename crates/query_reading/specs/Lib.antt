@@ -1,6 +1,0 @@
-pub mod Tree
-pub mod Grammar
-pub mod Postfix
-pub mod Kinds
-pub mod Taking
-pub mod Answers

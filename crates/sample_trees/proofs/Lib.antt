@@ -1,5 +1,0 @@
-pub mod LineLemmas
-pub mod PathNumbers
-pub mod EntryLemmas
-pub mod ToldLemmas
-pub mod Failing

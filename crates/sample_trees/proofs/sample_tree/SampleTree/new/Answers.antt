@@ -1,5 +1,0 @@
-use Rattle.sample_trees.proofs.ToldLemmas.{told_sample}
-use Rattle.sample_trees.proofs.sample_tree.SampleTree.new.Goals as goal
-
-pub returns-clause-tree : goal.returns-clause-tree
-returns-clause-tree c = told_sample c.args.seed c.args.files c.requires

@@ -1,4 +1,0 @@
-pub mod Lines
-pub mod Listings
-pub mod Told
-pub mod Shown

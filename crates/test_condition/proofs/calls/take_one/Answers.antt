@@ -1,0 +1,10 @@
+use Rattle.nub.proofs.Users.{idle_again}
+use Rattle.test_condition.proofs.calls.take_one.Goals as goal
+
+pub returns : goal.returns
+returns g c = record {
+  free = λ n free.
+      let e = c.take.ensures in
+      let ran = e.ran free.share free.idle.share in
+      record { share = ran.share; idle = idle_again c.args.pkg.now n free.share ran.share c.args.me.now c.take.new.me free.idle e.rest e.same e.held ran.is_share };
+}

@@ -1,0 +1,13 @@
+use Rattle.std.proofs.Common.{◌∷◌, refl}
+use Rattle.nub.proofs.Users.{idle_again}
+use Rattle.readers_writers.specs.declared.role.Role.TheVariants.{Idle}
+use Rattle.readers_writers.specs.Roles.{turn}
+use Rattle.test_condition.proofs.roles.stop_write.Goals as goal
+
+pub returns : goal.returns
+returns g c = record {
+  acts = λ n was.
+      let e = c.end_write.ensures in
+      let now = turn 0 Idle ∷ was.share in
+      record { share = now; idle = idle_again c.args.pkg.now n was.share now c.args.me.now c.end_write.new.me was.idle e.rest e.same e.held (e.role was.share was.idle.share); acts = refl };
+}

@@ -1,0 +1,15 @@
+use Rattle.test_condition.proofs.Freeing.{free_done}
+use Rattle.test_condition.proofs.work.alerted_take.Goals as goal
+
+pub test_alert-still-requires-clause-rest : goal.test_alert-still-requires-clause-rest
+test_alert-still-requires-clause-rest g c κs within =
+    let free = c.requires.free in
+    let n = c.args.me.number in
+    (c.take_one-taken.ensures.free n (record { share = free.share; idle = c.alert.ensures.idle n free.share free.idle })).idle.rest
+
+pub returns : goal.returns
+returns g c =
+    let free = c.requires.free in
+    let n = c.args.me.number in
+    let took = c.take_one-taken.ensures.free n (record { share = free.share; idle = c.alert.ensures.idle n free.share free.idle }) in
+    free_done c.args.pkg.now n c.test_alert-still.new.me (record { share = took.share; idle = c.test_alert-still.ensures.idle n took.share took.idle })

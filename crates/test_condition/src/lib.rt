@@ -1,0 +1,38 @@
+//! Tests of conditions, and of what stands on them: waits, signals and broadcasts by threads that are at work at once, bounded buffers,
+//! readers and writers, rounds with their once cell, and pools of jobs.
+//!
+//! Mutexes and semaphores have the same list of tests: `alone`, `contended`, `two_objects_apart`, `many_threads` and `largest_layout`.
+#![tactic(auto)]
+
+#[cfg(test)]
+mod buffers;
+#[cfg(test)]
+mod calls;
+#[cfg(test)]
+mod coming;
+#[cfg(test)]
+mod conditions;
+#[cfg(test)]
+mod keeping;
+#[cfg(test)]
+mod notes;
+#[cfg(test)]
+mod once;
+#[cfg(test)]
+mod pool;
+#[cfg(test)]
+mod readers;
+#[cfg(test)]
+mod ring_run;
+#[cfg(test)]
+mod roles;
+#[cfg(test)]
+mod rounds;
+#[cfg(test)]
+mod steps;
+#[cfg(test)]
+mod turns;
+#[cfg(test)]
+mod waits;
+#[cfg(test)]
+mod work;

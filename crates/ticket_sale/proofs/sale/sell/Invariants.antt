@@ -1,7 +1,0 @@
-use Rattle.std.proofs.Common.{◌≡◌}
-use Rattle.firefly_threads.specs.Idle.{IsIdle}
-use Rattle.ticket_sale.specs.declared.uses.Sold.{Sold}
-use Rattle.ticket_sale.proofs.sale.sell.Given as goal
-
-abbrev pub invariant-loop : goal.invariant-loop
-invariant-loop g l = (s : Sold) × IsIdle l.p l.initial.me.number s l.me × (s.count ≡ l.sold)

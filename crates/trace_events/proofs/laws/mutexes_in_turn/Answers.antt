@@ -1,5 +1,0 @@
-use Rattle.trace_events.proofs.Turns as turns
-use Rattle.trace_events.proofs.laws.mutexes_in_turn.Goals as goal
-
-pub returns : goal.returns
-returns c = turns.mutexes_in_turn
