@@ -1,5 +1,5 @@
--- What holds between two events of the search for the lock order.
-use Rattle.std.proofs.Common.{◌≡◌, ℕ, ◌+◌, ◌-◌, ◌^◌, ◌<◌, ◌≤◌, List, [], ◌∷◌, ◌++◌, length, refl, sym, subst, Some, None, arith, Bool, true}
+-- What is kept of the events of a trace that are shown.
+use Rattle.std.proofs.Common.{◌≡◌, ℕ, ◌+◌, ◌-◌, ◌^◌, ◌<◌, ◌≤◌, List, [], ◌∷◌, ◌++◌, length, refl, sym, subst, Some, None, IfSome, arith, Bool, true}
 use Rattle.std.specs.declared.option.Option.{Option}
 use mathlib.Core.Option.{some, some-injective, some-ne-none}
 use Rattle.larch_actions.specs.declared.event.Version.{Version}
@@ -10,57 +10,53 @@ use Rattle.larch_actions.specs.declared.event.Event.{Event}
 use Rattle.larch_actions.specs.declared.event.Action.{Action}
 use Rattle.larch_actions.specs.declared.event.Action.TheVariants.{Acquire, Release, Enqueue, Resume, AlertEnqueue, AlertReturn, AlertRaise}
 use Rattle.larch_actions.specs.Layout.{IsLawful, HasNames, IsNamed}
-use Rattle.larch_actions.specs.Actions.{Spec, Acts, at_first}
-use Rattle.larch_actions.specs.State.{Moment, spec_of, held, waiting, alerted}
-use Rattle.trace_core.specs.Standing.{Standing}
-use Rattle.trace_core.specs.Steps.{TakesHead, TakesEvent, TakesEnd}
+use Rattle.larch_actions.specs.Actions.{Spec, Acts, IsRun, at_first}
+use Rattle.trace_core.specs.declared.intake.TextFault.{TextFault}
+use Rattle.trace_core.specs.declared.intake.TextFault.TheVariants as fault
 use Rattle.trace_check.specs.declared.checker.Summary.{Summary}
+use Rattle.trace_check.specs.declared.checker.Verdict.{Verdict}
 use Rattle.trace_check.specs.declared.checker.Verdict.TheVariants.{Legal}
-use Rattle.trace_check.specs.Verdicts.{IsLegalText}
-use Rattle.trace_check.proofs.UnderWay.{IsUnderWay, starts_on, step_on, ends_on}
+use Rattle.trace_check.specs.Verdicts.{refusal}
+use Rattle.trace_check.specs.Watching.{IsNext, IsReadTo, HasWatched}
+use Rattle.trace_check.proofs.Runs.{leads-split}
 use Rattle.lock_order.specs.declared.nestings.Nestings.{Nestings}
 use Rattle.lock_order.specs.declared.answer.OrderAnswer.{OrderAnswer}
 use Rattle.lock_order.specs.declared.answer.OrderAnswer.TheVariants.{NoCycle, Found}
 use Rattle.lock_order.specs.Order.{got}
 use Rattle.lock_order.specs.Answers.{IsLegalTrace, IsJustAnswer}
-use Rattle.lock_order.specs.Kept.{given, HasPlace, IsKept, IsOrderOf, IsNoted}
+use Rattle.lock_order.specs.Kept.{given, HasPlace, IsKept, IsOrderOf, IsNoted, KeepsNested}
 
--- so far these events were read, they are a run, and where that is wanted it is kept what they nest
-pub record IsNoting (budget : ℕ) (left₀ : Option (List ℕ)) (before : ℕ) (st : Standing) (now : ℕ) (m : Moment) (count : ℕ) (on : Bool) (k : Nestings) : Type 0 where
-  pub under_way : IsUnderWay budget left₀ before st now m count
-  pub kept : on ≡ true → IsKept under_way.events (spec_of m) k
+-- one more event
+pub nested_goes : (first : Nestings) (l : Layout) (es : List Event) (on : Bool) (k k' : Nestings) (place : ℕ) (e : Event) → KeepsNested first l es on k → IsNext l es place e
+    → (on ≡ true → (xs : List Event) (s s' : Spec) → place ≡ length xs → Acts s e s' → IsKept xs s k → IsKept (xs ++ e ∷ []) s' k') → KeepsNested first l (es ++ e ∷ []) on k'
+nested_goes first l es on k k' place e kept n notes = λ new wanted s' run.
+    let p = leads-split (at_first l.version) s' es (e ∷ []) run in
+    notes wanted es p.0 s' n.counted (subst (λ (z : Spec). Acts p.0 e z) p.2.2 p.2.1) (kept new wanted p.0 p.1)
 
-pub noting_starts : (budget : ℕ) (left₀ : Option (List ℕ)) (before now : ℕ) (p p' : Standing) (l : Layout) (m : Moment) (on : Bool) (k : Nestings)
-    → p.rest ≡ left₀ → p.room ≡ budget → p.lines ≡ 0 → TakesHead p p' l → before ≤ now → m.layout ≡ l → spec_of m ≡ at_first l.version → ((v : Version) → IsKept [] (at_first v) k) → IsNoting budget left₀ before p' now m 0 on k
-unfolding starts_on
-noting_starts budget left₀ before now p p' l m on k rest room lines t le laid first kept = record {
-  under_way = starts_on budget left₀ before now p p' l m rest room lines t le laid first;
-  kept = λ e. subst (λ (z : Spec). IsKept [] z k) (sym first) (kept l.version);
-}
+legal_of : (budget : ℕ) (bytes : List ℕ) (l : Layout) (es : List Event) (failed : Option Event) (s : Summary) → IsReadTo budget bytes l es failed (Legal s) → IsLegalTrace budget bytes es
+legal_of budget bytes l es failed s (t, laid, same) =
+    subst (IsLegalTrace budget bytes) same (record { layout = t.layout; values = t.values; text = t.text; within = t.within; legal = (t.last, t.run) })
 
-pub noting_goes : (budget : ℕ) (left₀ : Option (List ℕ)) (before now now' : ℕ) (p p' : Standing) (m m' : Moment) (count : ℕ) (e : Event) (on : Bool) (k k' : Nestings) → budget < 2 ^ 64 - 1
-    → IsNoting budget left₀ before p now m count on k → TakesEvent p p' e → Acts (spec_of m) e (spec_of m') → m'.layout ≡ m.layout → now ≤ now'
-    → (on ≡ true → (es : List Event) (s s' : Spec) → count ≡ length es → Acts s e s' → IsKept es s k → IsKept (es ++ e ∷ []) s' k') → IsNoting budget left₀ before p' now' m' (count + 1) on k'
-unfolding step_on
-noting_goes budget left₀ before now now' p p' m m' count e on k k' fits n t a same le notes = record {
-  under_way = step_on budget left₀ before now now' p p' m m' count e fits n.under_way t a same le;
-  kept = λ wanted. notes wanted n.under_way.events (spec_of m) (spec_of m') (sym n.under_way.counted) a (n.kept wanted);
-}
+legal_if : (budget : ℕ) (left : Option (List ℕ)) (l : Layout) (es : List Event) (failed : Option Event) (s : Summary) → IfSome left (λ bytes. IsReadTo budget bytes l es failed (Legal s)) → IfSome left (λ bytes. IsLegalTrace budget bytes es)
+legal_if budget None l es failed s h = tt
+legal_if budget (Some bytes) l es failed s h = legal_of budget bytes l es failed s h
 
--- at the end the events are those of a legal trace
-legal_at : (budget : ℕ) (bytes : List ℕ) (before now : ℕ) (p p' : Standing) (m : Moment) (count : ℕ) → budget < 2 ^ 64 - 1
-    → (u : IsUnderWay budget (Some bytes) before p now m count) → TakesEnd p p' → IsLegalTrace budget bytes u.events
-unfolding ends_on
-legal_at budget bytes before now p p' m count fits u t =
-    let s : Summary = record { events = count; held = held m.layout (spec_of m); waiting = waiting m.layout (spec_of m); alerted = alerted m.layout (spec_of m) } in
-    let i : IsLegalText budget bytes s = ends_on budget (Some bytes) before now p p' m count s fits u t refl refl refl refl in
-    record { layout = i.layout; values = i.values; text = i.text; within = i.within; legal = (i.last, i.run) }
+-- no refusal is legal
+abbrev is_legal : Verdict → Type 0
+is_legal (Legal s) = Unit {0}
+is_legal _ = ⊥
 
-pub noting_ends : (budget : ℕ) (left₀ : Option (List ℕ)) (before now : ℕ) (p p' : Standing) (m : Moment) (on : Bool) (k : Nestings) (s : Summary) → budget < 2 ^ 64 - 1
-    → (n : IsNoting budget left₀ before p now m s.events on k) → TakesEnd p p' → on ≡ true → IsNoted budget left₀ (Legal s) k
-noting_ends budget None before now p p' m on k s fits n t wanted = (n.under_way.events, spec_of m, n.kept wanted, sym n.under_way.counted, tt)
-noting_ends budget (Some bytes) before now p p' m on k s fits n t wanted =
-    (n.under_way.events, spec_of m, n.kept wanted, sym n.under_way.counted, legal_at budget bytes before now p p' m s.events fits n.under_way t)
+never_legal : (s : Summary) (f : TextFault) → Legal s ≡ refusal f → ⊥
+never_legal s (fault.BadLine k) e = subst is_legal e tt
+never_legal s fault.TooLong e = subst is_legal e tt
+never_legal s fault.Read e = subst is_legal e tt
+
+-- of a legal trace it is kept what it nests
+pub noted_of : {W : Type 0} (keeps : W → Layout → List Event → W → Type 0) (budget : ℕ) (left : Option (List ℕ)) (w : W) (layout : Option Layout) (failed : Option Event) (s : Summary) (w' : W) (k : Nestings)
+    → ((l : Layout) (es : List Event) → keeps w l es w' → (now : Spec) → IsRun l.version es now → IsKept es now k) → HasWatched keeps budget left w layout failed (Legal s) w' → IsNoted budget left (Legal s) k
+noted_of keeps budget left w None failed s w' k kept h = absurd (never_legal s h.2.0 h.2.1)
+noted_of keeps budget left w (Some l) failed s w' k kept h =
+    (h.events, h.last, kept l h.events h.kept h.last h.run, h.counted, legal_if budget left l h.events failed s h.read)
 
 -- the answer on a legal trace is just
 pub order_just : (budget : ℕ) (left left' : Option (List ℕ)) (before now : ℕ) (s : Summary) (k : Nestings) (a : OrderAnswer) → (n : IsNoted budget left (Legal s) k) → IsOrderOf n.0 a → IsJustAnswer budget left left' before now a

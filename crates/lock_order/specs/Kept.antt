@@ -1,12 +1,13 @@
 -- What is kept of the events so far.
-use Rattle.std.specs.Prelude.{◌≡◌, ℕ, ◌+◌, ◌*◌, ◌<◌, ◌≤◌, ◌||◌, Bool, true, false, cond, eqb, List, length, IfSome}
+use Rattle.std.specs.Prelude.{◌≡◌, ℕ, ◌+◌, ◌*◌, ◌<◌, ◌≤◌, ◌||◌, Bool, true, false, cond, eqb, List, [], length, IfSome}
 use mathlib.Core.Option.{Option, none, some}
 use Rattle.std.specs.declared.option.Option.{Option as Known}
 use Rattle.larch_actions.specs.declared.event.Version.{Version}
 use Rattle.larch_actions.specs.declared.event.Event.{Event}
 use Rattle.larch_actions.specs.declared.event.Action.{Action}
 use Rattle.larch_actions.specs.declared.event.Action.TheVariants.{Release, Enqueue, AlertEnqueue}
-use Rattle.larch_actions.specs.Actions.{Spec, IsRun}
+use Rattle.larch_actions.specs.declared.event.Layout.{Layout}
+use Rattle.larch_actions.specs.Actions.{Spec, IsRun, at_first}
 use Rattle.larch_actions.specs.State.{shown_at}
 use Rattle.lock_order.specs.declared.mutex_set.MutexSet.{MutexSet}
 use Rattle.lock_order.specs.declared.nestings.First.{First}
@@ -103,3 +104,8 @@ abbrev pub IsNoted : ℕ → Known (List ℕ) → Verdict → Nestings → Type 
 IsNoted budget left (Legal s) k =
     (es : List Event) × (now : Spec) × IsKept es now k × (s.events ≡ length es) × IfSome left (λ bytes. IsLegalTrace budget bytes es)
 IsNoted budget left _ k = Unit {0}
+
+-- Where that is wanted, and nothing was kept at first, it is kept what these events of a trace with that layout nest.
+abbrev pub KeepsNested : Nestings → Layout → List Event → Bool → Nestings → Type 0
+KeepsNested first l es on k =
+    ((v : Version) → IsKept [] (at_first v) first) → on ≡ true → (s : Spec) → IsRun l.version es s → IsKept es s k

@@ -1,31 +1,44 @@
 //! The lock order of a trace text.
-ghost use Rattle.std.specs.Prelude.{◌≡◌, ◌≢◌, ◌≤◌, ◌^◌, ◌-◌, ◌<◌, List, ℕ, length, Some, [], true};
-ghost use Rattle.trace_core.specs.declared.reader_state.Phase.TheVariants as phase;
-ghost use Rattle.trace_core.specs.Reader.{standing, input_of};
-ghost use Rattle.larch_actions.specs.declared.event.Version.{Version};
+ghost use Rattle.std.specs.Prelude.{◌≡◌, ◌≢◌, ◌≤◌, ◌^◌, ◌-◌, ◌<◌, List, ℕ, length, Some};
 ghost use Rattle.larch_actions.specs.declared.event.Event.{Event};
-ghost use Rattle.larch_actions.specs.Actions.{Spec, at_first};
+ghost use Rattle.larch_actions.specs.Actions.{Spec};
 ghost use Rattle.trace_check.specs.Verdicts.{IsJust};
-ghost use Rattle.trace_check.specs.Verdicts.{refusal};
 ghost use Rattle.lock_order.specs.Answers.{IsJustAnswer, Agree};
-ghost use Rattle.lock_order.specs.Kept.{IsKept, IsOrderOf, IsNoted};
+ghost use Rattle.lock_order.specs.Kept.{IsKept, IsOrderOf, KeepsNested};
 ghost use Rattle.lock_order.specs.Circles.{AreLow};
 
 use crate::answer::OrderAnswer;
 use crate::cycle::cycle_in;
 use crate::nestings::Nestings;
 use firefly_outside::Source;
-use larch_actions::State;
-use trace_check::{Summary, Verdict};
-use trace_core::{EventReader, TextFault};
+use larch_actions::{Event, Layout};
+use trace_check::{Verdict, Watch, check_with};
 
-fn refused(fault: TextFault) -> Verdict
-    ensures { result ≡ refusal fault }
-{
-    match fault {
-        TextFault::BadLine(line) => Verdict::BadLine(line),
-        TextFault::TooLong => Verdict::TooLong,
-        TextFault::Read => Verdict::ReadFault,
+// Notes what a legal trace nests, where that is wanted.
+#[derive(Drop)]
+struct Noting {
+    nestings: Nestings,
+    on: bool,
+}
+
+impl Watch for Noting {
+    type Stop = ();
+
+    ghost keeps = { λ first l es now. (now.on ≡ first.on) × KeepsNested first.nestings l es now.on now.nestings };
+
+    ghost stops = { λ first l es now stop. ⊥ };
+
+    #[inline(always)]
+    fn begin(&mut self, _layout: &Layout) -> Result<(), ()> {
+        Ok(())
+    }
+
+    #[inline(always)]
+    fn see(&mut self, place: u64, e: &Event) -> Result<(), ()> {
+        if self.on {
+            self.nestings.note(e, place);
+        }
+        Ok(())
     }
 }
 
@@ -42,24 +55,26 @@ pub fn lock_order<I: Source>(input: &mut I, budget: u64) -> OrderAnswer
     ensures told { result ≢ OrderAnswer.ReadFault → I.faults input.new ≡ I.faults input.old }
     ensures later { I.faults input.old ≤ I.faults input.new }
 {
-    let mut reader = EventReader::new(input, budget);
-    order_all(&mut reader)
+    order_all(input, budget)
 }
 
-// The answer on what a new reader gives.
-fn order_all<I: Source>(reader: &mut EventReader<I>) -> OrderAnswer
-    requires phase { (standing I.left reader.old).phase ≡ phase.Head }
-    requires lines { (standing I.left reader.old).lines ≡ 0 }
-    requires fits { (standing I.left reader.old).room < 2 ^ 64 - 1 }
-    ensures just { IsJustAnswer (standing I.left reader.old).room (standing I.left reader.old).rest (I.left (input_of reader.new).now)
-        (I.faults (input_of reader.old).now) (I.faults (input_of reader.new).now) result }
-    ensures same_input { (input_of reader.new).ghost_name ≡ (input_of reader.old).ghost_name }
-    ensures told { result ≢ OrderAnswer.ReadFault → I.faults (input_of reader.new).now ≡ I.faults (input_of reader.old).now }
-    ensures later { I.faults (input_of reader.old).now ≤ I.faults (input_of reader.new).now }
+// The answer, of which `lock_order` says that it is the one that is just.
+fn order_all<I: Source>(input: &mut I, budget: u64) -> OrderAnswer
+    requires { budget < 2 ^ 64 - 1 }
+    ensures just { IsJustAnswer budget (I.left input.old) (I.left input.new) (I.faults input.old) (I.faults input.new) result }
+    ensures told { result ≢ OrderAnswer.ReadFault → I.faults input.new ≡ I.faults input.old }
+    ensures later { I.faults input.old ≤ I.faults input.new }
 {
-    let mut nestings = Nestings::new();
-    match read_all(reader, &mut nestings, true) {
-        Verdict::Legal(summary) => order_of(&nestings, summary.events),
+    let mut noting = Noting {
+        nestings: Nestings::new(),
+        on: true,
+    };
+    let verdict = match check_with(input, budget, &mut noting) {
+        Ok(found) => found.verdict,
+        Err(()) => unreachable!(),
+    };
+    match verdict {
+        Verdict::Legal(summary) => order_of(&noting.nestings, summary.events),
         Verdict::Illegal { place, why } => OrderAnswer::Illegal { place, why },
         Verdict::BadLine(line) => OrderAnswer::BadLine(line),
         Verdict::TooLong => OrderAnswer::TooLong,
@@ -80,56 +95,13 @@ pub fn check<I: Source>(input: &mut I, budget: u64) -> Verdict
     ensures told { result ≢ Verdict.ReadFault → I.faults input.new ≡ I.faults input.old }
     ensures later { I.faults input.old ≤ I.faults input.new }
 {
-    let mut nestings = Nestings::new();
-    let mut reader = EventReader::new(input, budget);
-    read_all(&mut reader, &mut nestings, false)
-}
-
-// The verdict on what a new reader gives. Where that is wanted, what a legal trace nests is noted.
-fn read_all<I: Source>(
-    reader: &mut EventReader<I>,
-    nestings: &mut Nestings,
-    noting: bool,
-) -> Verdict
-    requires phase { (standing I.left reader.old).phase ≡ phase.Head }
-    requires lines { (standing I.left reader.old).lines ≡ 0 }
-    requires fits { (standing I.left reader.old).room < 2 ^ 64 - 1 }
-    requires empty { (v : Version) → IsKept [] (at_first v) nestings.old }
-    ensures just { IsJust (standing I.left reader.old).room (standing I.left reader.old).rest (I.left (input_of reader.new).now)
-        (I.faults (input_of reader.old).now) (I.faults (input_of reader.new).now) result }
-    ensures noted { noting ≡ true → IsNoted (standing I.left reader.old).room (standing I.left reader.old).rest result nestings.new }
-    ensures same_input { (input_of reader.new).ghost_name ≡ (input_of reader.old).ghost_name }
-    ensures told { result ≢ Verdict.ReadFault → I.faults (input_of reader.new).now ≡ I.faults (input_of reader.old).now }
-    ensures later { I.faults (input_of reader.old).now ≤ I.faults (input_of reader.new).now }
-{
-    let layout = match reader.head() {
-        Ok(layout) => layout,
-        Err(fault) => return refused(fault),
+    let mut noting = Noting {
+        nestings: Nestings::new(),
+        on: false,
     };
-    let mut state = State::new(layout);
-    let mut events = 0;
-    loop {
-        match reader.next_event() {
-            Ok(Some(event)) => match state.apply(&event) {
-                Ok(()) => {
-                    if noting {
-                        nestings.note(&event, events);
-                    }
-                    events += 1;
-                }
-                Err(why) => return Verdict::Illegal { place: events, why },
-            },
-            Ok(None) => {
-                let totals = state.summary();
-                return Verdict::Legal(Summary {
-                    events,
-                    held: totals.held,
-                    waiting: totals.waiting,
-                    alerted: totals.alerted,
-                });
-            }
-            Err(fault) => return refused(fault),
-        }
+    match check_with(input, budget, &mut noting) {
+        Ok(found) => found.verdict,
+        Err(()) => unreachable!(),
     }
 }
 

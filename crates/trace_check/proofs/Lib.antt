@@ -4,3 +4,4 @@ pub mod Prefixes
 pub mod UnderWay
 pub mod Unique
 pub mod Exact
+pub mod Watched

@@ -6,5 +6,7 @@
 
 mod checker;
 pub mod laws;
+mod watch;
 
-pub use checker::{Summary, Verdict, check};
+pub use checker::{Found, Summary, Verdict, check, check_with};
+pub use watch::Watch;

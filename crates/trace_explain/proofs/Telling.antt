@@ -4,36 +4,31 @@ use Rattle.std.specs.Prelude.{OnOk, OnErr}
 use Rattle.std.specs.declared.option.Option.{Option}
 use Rattle.std.specs.Io.KnownBytes.{Appends}
 use Rattle.firefly_outside.specs.Causes.{AppendsPrefix}
+use Rattle.larch_actions.specs.declared.event.Layout.{Layout}
+use Rattle.larch_actions.specs.declared.event.Event.{Event}
 use Rattle.trace_check.specs.declared.checker.Verdict.{Verdict}
+use Rattle.trace_check.specs.declared.checker.Verdict.TheVariants.{Legal, Illegal, BadLine, TooLong, ReadFault}
+use Rattle.trace_check.specs.declared.checker.Found.{Found}
 use Rattle.trace_check.specs.Verdicts.{IsJust}
 use Rattle.trace_board.specs.Kept.{Kept}
-use Rattle.trace_explain.specs.declared.find.Found.{Found}
-use Rattle.trace_explain.specs.declared.find.Found.TheVariants.{Legal, Illegal, BadLine, TooLong, ReadFault}
-use Rattle.trace_explain.specs.Words.{text_of, verdict_of, illegal_text}
+use Rattle.trace_explain.specs.Words.{text_of, text_found}
 use Rattle.trace_explain.specs.Told.{Explains, GotText, GotPrefix, IsFailure}
 
 -- the text for what was found explains its verdict
-pub explains : (budget : ℕ) (left : Option (List ℕ)) (k : Kept) (found : Found) → IsFailure budget left k found → Explains budget left (verdict_of found) (text_of k found)
-explains budget left k (Legal s) h = refl
-explains budget None k (Illegal version place e why) h = tt
-explains budget (Some bytes) k (Illegal version place e why) h = (h.0, λ i. illegal_text (sym h.1 i) (h.3 i) place (sym h.2 i) why)
-explains budget left k (BadLine n) h = refl
-explains budget left k TooLong h = refl
-explains budget left k ReadFault h = refl
+explains : (budget : ℕ) (left : Option (List ℕ)) (v : Verdict) (k : Kept) (layout : Option Layout) (failed : Option Event) → IsFailure budget left v k layout failed → Explains budget left v (text_of v k layout failed)
+explains budget left (Legal s) k layout failed h = refl
+explains budget None (Illegal place why) k layout failed h = tt
+explains budget (Some bytes) (Illegal place why) k layout failed h = (h.0, λ i. text_of (Illegal place why) (h.3 i) (h.1 i) (h.2 i))
+explains budget left (BadLine n) k layout failed h = refl
+explains budget left TooLong k layout failed h = refl
+explains budget left ReadFault k layout failed h = refl
 
-pub got_text : (budget : ℕ) (left told told' : Option (List ℕ)) (k : Kept) (found : Found) (v : Verdict) → IsFailure budget left k found → v ≡ verdict_of found → Appends told told' (text_of k found) → GotText budget left told told' v
-got_text budget left told told' k found v h is a = (text_of k found, subst (λ x. Explains budget left x (text_of k found)) (sym is) (explains budget left k found h), a)
+module _ {E : Type 0} (budget : ℕ) (left : Option (List ℕ)) (told told' : Option (List ℕ)) (k : Kept) (found : Found) (h : IsFailure budget left found.verdict k found.layout found.failed) where
+  pub told_ok : (r : Result Verdict E) → IfOk r (λ v. v ≡ found.verdict) → OnOk r (Appends told told' (text_found k found)) → IfOk r (λ v. GotText budget left told told' v)
+  told_ok (Ok v) e a = (text_found k found, subst (λ x. Explains budget left x (text_found k found)) (sym e) (explains budget left found.verdict k found.layout found.failed h), a)
+  told_ok (Err f) e a = tt
 
-pub got_prefix : (budget : ℕ) (left left' : Option (List ℕ)) (before now : ℕ) (told told' : Option (List ℕ)) (k : Kept) (found : Found) → IsJust budget left left' before now (verdict_of found) → IsFailure budget left k found
-    → AppendsPrefix told told' (text_of k found) → GotPrefix budget left left' before now told told'
-got_prefix budget left left' before now told told' k found j h a = (verdict_of found, j, (text_of k found, explains budget left k found h, a))
-
-pub told_ok : {E : Type 0} (budget : ℕ) (left told told' : Option (List ℕ)) (k : Kept) (found : Found) → IsFailure budget left k found → (r : Result Verdict E) → IfOk r (λ v. v ≡ verdict_of found) → OnOk r (Appends told told' (text_of k found))
-    → IfOk r (λ v. GotText budget left told told' v)
-told_ok budget left told told' k found h (Ok v) e a = got_text budget left told told' k found v h e a
-told_ok budget left told told' k found h (Err f) e a = tt
-
-pub told_err : {E : Type 0} (budget : ℕ) (left left' : Option (List ℕ)) (before now : ℕ) (told told' : Option (List ℕ)) (k : Kept) (found : Found) → IsFailure budget left k found → (r : Result Verdict E) → IsJust budget left left' before now (verdict_of found)
-    → OnErr r (AppendsPrefix told told' (text_of k found)) → OnErr r (GotPrefix budget left left' before now told told')
-told_err budget left left' before now told told' k found h (Ok v) j a = tt
-told_err budget left left' before now told told' k found h (Err f) j a = got_prefix budget left left' before now told told' k found j h a
+  pub told_err : (left' : Option (List ℕ)) (before now : ℕ) (r : Result Verdict E) → IsJust budget left left' before now found.verdict → OnErr r (AppendsPrefix told told' (text_found k found))
+      → OnErr r (GotPrefix budget left left' before now told told')
+  told_err left' before now (Ok v) j a = tt
+  told_err left' before now (Err f) j a = (found.verdict, j, (text_found k found, explains budget left found.verdict k found.layout found.failed h, a))

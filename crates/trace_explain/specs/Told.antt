@@ -1,5 +1,7 @@
 -- Which text explains a verdict.
-use Rattle.std.specs.Prelude.{◌≡◌, ℕ, List, [], IfSome}
+use Rattle.std.specs.Prelude.{◌≡◌, ℕ, List, [], IfSome, Some}
+use Rattle.larch_actions.specs.declared.event.Layout.{Layout}
+use Rattle.larch_actions.specs.declared.event.Event.{Event}
 use Rattle.std.specs.declared.option.Option.{Option}
 use Rattle.std.specs.Io.KnownBytes.{Appends}
 use Rattle.firefly_outside.specs.Causes.{AppendsPrefix}
@@ -7,8 +9,6 @@ use Rattle.trace_check.specs.declared.checker.Verdict.{Verdict}
 use Rattle.trace_check.specs.declared.checker.Verdict.TheVariants as verdict
 use Rattle.trace_check.specs.Verdicts.{IsIllegalText, IsJust}
 use Rattle.trace_board.specs.Kept.{Kept, kept_since, behind, IsNoted}
-use Rattle.trace_explain.specs.declared.find.Found.{Found}
-use Rattle.trace_explain.specs.declared.find.Found.TheVariants.{Legal, Illegal, BadLine, TooLong, ReadFault}
 use Rattle.trace_explain.specs.Words.{legal_text, illegal_text, bad_text}
 
 -- The text explains the verdict on an input of these bytes: of an illegal one by what is kept of the events before the one that fails.
@@ -30,20 +30,14 @@ abbrev pub GotPrefix : ℕ → Option (List ℕ) → Option (List ℕ) → ℕ �
 GotPrefix budget left left' before now told told' =
     (v : Verdict) × IsJust budget left left' before now v × ((text : List ℕ) × Explains budget left v text × AppendsPrefix told told' text)
 
--- of an event that fails: it is the input's, whose version is this, and this is kept of the events before it
-abbrev pub IsFailure : ℕ → Option (List ℕ) → Kept → Found → Type 0
-IsFailure budget left k (Legal s) = Unit {0}
-IsFailure budget left k (Illegal version place e why) =
-    IfSome left (λ bytes. (w : IsIllegalText budget bytes place why) × (w.layout.version ≡ version) × (w.event ≡ e)
+-- of an event that fails: it is the input's, and this is kept of the events before it
+abbrev pub IsFailure : ℕ → Option (List ℕ) → Verdict → Kept → Option Layout → Option Event → Type 0
+IsFailure budget left (verdict.Illegal place why) k layout failed =
+    IfSome left (λ bytes. (w : IsIllegalText budget bytes place why) × (layout ≡ Some w.layout) × (failed ≡ Some w.event)
     × (k ≡ kept_since (behind [] w.events)))
-IsFailure budget left k (BadLine n) = Unit {0}
-IsFailure budget left k TooLong = Unit {0}
-IsFailure budget left k ReadFault = Unit {0}
+IsFailure budget left _ k layout failed = Unit {0}
 
--- of an event that fails: its names are small
-abbrev pub HasNoted : Found → Type 0
-HasNoted (Legal s) = Unit {0}
-HasNoted (Illegal version place e why) = IsNoted e
-HasNoted (BadLine n) = Unit {0}
-HasNoted TooLong = Unit {0}
-HasNoted ReadFault = Unit {0}
+-- of an event that fails: it is there, with its layout, and its names are small
+abbrev pub IsTellable : Verdict → Option Layout → Option Event → Type 0
+IsTellable (verdict.Illegal place why) layout failed = (l : Layout) × (e : Event) × (layout ≡ Some l) × (failed ≡ Some e) × IsNoted e
+IsTellable _ layout failed = Unit {0}

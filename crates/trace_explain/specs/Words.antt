@@ -1,17 +1,16 @@
 -- The text for each thing that a check finds.
-use Rattle.std.specs.Prelude.{ℕ, ◌-◌, ◌==◌, if◌then◌else◌, List, [], ◌++◌, codes}
+use Rattle.std.specs.Prelude.{ℕ, ◌-◌, ◌==◌, if◌then◌else◌, List, [], ◌++◌, codes, Some, None}
+use Rattle.std.specs.declared.option.Option.{Option}
+use Rattle.larch_actions.specs.declared.event.Layout.{Layout}
 use Rattle.larch_actions.specs.declared.event.Version.{Version}
 use Rattle.larch_actions.specs.declared.event.Event.{Event}
 use Rattle.larch_actions.specs.declared.event.Broken.{Broken}
-use Rattle.trace_core.specs.declared.intake.TextFault.{TextFault}
-use Rattle.trace_core.specs.declared.intake.TextFault.TheVariants as fault
 use Rattle.trace_check.specs.declared.checker.Summary.{Summary}
 use Rattle.trace_check.specs.declared.checker.Verdict.{Verdict}
-use Rattle.trace_check.specs.declared.checker.Verdict.TheVariants as verdict
+use Rattle.trace_check.specs.declared.checker.Verdict.TheVariants.{Legal, Illegal, BadLine, TooLong, ReadFault}
+use Rattle.trace_check.specs.declared.checker.Found.{Found}
 use Rattle.trace_board.specs.Kept.{Kept}
 use Rattle.trace_shapes.specs.Shapes.{with_number, line_of, clause_word}
-use Rattle.trace_explain.specs.declared.find.Found.{Found}
-use Rattle.trace_explain.specs.declared.find.Found.TheVariants.{Legal, Illegal, BadLine, TooLong, ReadFault}
 use Rattle.trace_explain.specs.Rules.{rule_of}
 use Rattle.trace_explain.specs.Facts.{facts}
 
@@ -45,24 +44,14 @@ expected n =
 unfoldable pub bad_text : ℕ → List ℕ
 bad_text n = with_number (codes "bad line ") n ++ expected n
 
--- the text for what was found, where this is kept of the events before
-abbrev pub text_of : Kept → Found → List ℕ
-text_of k (Legal s) = legal_text s
-text_of k (Illegal version n e why) = illegal_text version k n e why
-text_of k (BadLine n) = bad_text n
-text_of k TooLong = []
-text_of k ReadFault = []
+-- the text for a verdict, where the layout was read, that event fails, and this is kept of the events before
+abbrev pub text_of : Verdict → Kept → Option Layout → Option Event → List ℕ
+text_of (Legal s) k layout failed = legal_text s
+text_of (Illegal n why) k (Some l) (Some e) = illegal_text l.version k n e why
+text_of (Illegal n why) k _ _ = []
+text_of (BadLine n) k layout failed = bad_text n
+text_of TooLong k layout failed = []
+text_of ReadFault k layout failed = []
 
--- the verdict of what was found
-abbrev pub verdict_of : Found → Verdict
-verdict_of (Legal s) = verdict.Legal s
-verdict_of (Illegal version n e why) = verdict.Illegal n why
-verdict_of (BadLine n) = verdict.BadLine n
-verdict_of TooLong = verdict.TooLong
-verdict_of ReadFault = verdict.ReadFault
-
--- what is found of a text that can't be read
-abbrev pub found_of : TextFault → Found
-found_of (fault.BadLine n) = BadLine n
-found_of fault.TooLong = TooLong
-found_of fault.Read = ReadFault
+abbrev pub text_found : Kept → Found → List ℕ
+text_found k found = text_of found.verdict k found.layout found.failed

@@ -1,19 +1,16 @@
 //! The explanation of a verdict.
 ghost use Rattle.std.specs.Prelude.{◌≡◌, ◌≢◌, ◌-◌, ◌<◌, ◌≤◌, ◌^◌, List, ℕ, Some, IfOk, OnErr};
 ghost use Rattle.firefly_outside.specs.Causes.{HasCause};
-ghost use Rattle.trace_core.specs.declared.reader_state.Phase.TheVariants as phase;
-ghost use Rattle.trace_core.specs.Reader.{standing, input_of};
 ghost use Rattle.trace_check.specs.declared.checker.Verdict.{Verdict};
 ghost use Rattle.trace_check.specs.declared.checker.Verdict.TheVariants as verdict;
 ghost use Rattle.trace_check.specs.Verdicts.{IsJust};
 ghost use Rattle.trace_explain.specs.Told.{GotText, GotPrefix};
 
-use crate::find::find_all;
+use crate::noting::Noting;
 use crate::tell::tell;
 use firefly_outside::{Sink, SinkFault, Source};
 use trace_board::board::Board;
-use trace_check::Verdict;
-use trace_core::EventReader;
+use trace_check::{Verdict, check_with};
 
 /// Checks at most `budget` bytes of the input, and writes why the verdict is as it is: of a legal trace its counts, of an illegal one the event,
 /// the rule that it fails and the state before it, of a bad line what may stand there, and else nothing.
@@ -37,31 +34,30 @@ pub fn explain<I: Source, O: Sink>(
     ensures told { IfOk result (λ v. v ≢ verdict.ReadFault → I.faults input.new ≡ I.faults input.old) }
     ensures later { I.faults input.old ≤ I.faults input.new }
 {
-    let mut reader = EventReader::new(input, budget);
-    explain_all(&mut reader, out)
+    explain_all(input, budget, out)
 }
 
-// Checks what a new reader gives, and writes why.
+// Checks the input and writes why. `explain` says of the verdict that it is the one that is just.
 fn explain_all<I: Source, O: Sink>(
-    reader: &mut EventReader<I>,
+    input: &mut I,
+    budget: u64,
     out: &mut O,
 ) -> Result<Verdict, SinkFault>
-    requires phase { (standing I.left reader.old).phase ≡ phase.Head }
-    requires lines { (standing I.left reader.old).lines ≡ 0 }
-    requires fits { (standing I.left reader.old).room < 2 ^ 64 - 1 }
-    ensures just { IfOk result (λ v. IsJust (standing I.left reader.old).room (standing I.left reader.old).rest
-        (I.left (input_of reader.new).now) (I.faults (input_of reader.old).now) (I.faults (input_of reader.new).now) v) }
-    ensures ok { IfOk result (λ v. GotText (standing I.left reader.old).room (standing I.left reader.old).rest (O.held out.old)
-        (O.held out.new) v) }
-    ensures err { OnErr result (GotPrefix (standing I.left reader.old).room (standing I.left reader.old).rest
-        (I.left (input_of reader.new).now) (I.faults (input_of reader.old).now) (I.faults (input_of reader.new).now)
+    requires { budget < 2 ^ 64 - 1 }
+    ensures just { IfOk result (λ v. IsJust budget (I.left input.old) (I.left input.new) (I.faults input.old) (I.faults input.new) v) }
+    ensures ok { IfOk result (λ v. GotText budget (I.left input.old) (O.held out.old) (O.held out.new) v) }
+    ensures err { OnErr result (GotPrefix budget (I.left input.old) (I.left input.new) (I.faults input.old) (I.faults input.new)
         (O.held out.old) (O.held out.new)) }
     ensures cause { HasCause (O.faults out.old) (O.faults out.new) result }
-    ensures same_input { (input_of reader.new).ghost_name ≡ (input_of reader.old).ghost_name }
-    ensures told { IfOk result (λ v. v ≢ verdict.ReadFault → I.faults (input_of reader.new).now ≡ I.faults (input_of reader.old).now) }
-    ensures later { I.faults (input_of reader.old).now ≤ I.faults (input_of reader.new).now }
+    ensures told { IfOk result (λ v. v ≢ verdict.ReadFault → I.faults input.new ≡ I.faults input.old) }
+    ensures later { I.faults input.old ≤ I.faults input.new }
 {
-    let mut board = Board::new();
-    let found = find_all(reader, &mut board);
-    tell(&found, &board, out)
+    let mut noting = Noting {
+        board: Board::new(),
+    };
+    let found = match check_with(input, budget, &mut noting) {
+        Ok(found) => found,
+        Err(()) => unreachable!(),
+    };
+    tell(&found, &noting.board, out)
 }

@@ -2,13 +2,13 @@
 //!
 //! Promises: `explain` checks a trace as `trace_check` does, and the sink gets exactly the text that specs/Words.antt defines for the verdict.
 //! What that text says of mutexes, conditions, semaphores and alerts is so in the state before the event (laws).
-//! Stands on the reader of trace_core, the state of larch_actions, and what trace_board keeps of the events. It takes no memory.
+//! Stands on the check of trace_check, and what trace_board keeps of the events that it shows. It takes no memory.
 #![tactic(auto)]
 
 mod explanation;
 mod facts;
-mod find;
 pub mod laws;
+mod noting;
 mod rules;
 mod sentences;
 mod tell;

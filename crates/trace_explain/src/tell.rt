@@ -3,16 +3,15 @@ ghost use Rattle.std.specs.Prelude.{◌≡◌, ◌+◌, ◌≤◌, ◌++◌, len
 ghost use Rattle.std.specs.Io.KnownBytes.{Appends};
 ghost use Rattle.firefly_outside.specs.Causes.{HasCause, AppendsPrefix};
 ghost use Rattle.trace_board.specs.Kept.{kept_of, IsNoted};
-ghost use Rattle.trace_explain.specs.Words.{legal_text, failed_text, illegal_text, later_text, expected, bad_text, text_of, verdict_of};
-ghost use Rattle.trace_explain.specs.Told.{HasNoted};
+ghost use Rattle.trace_explain.specs.Words.{legal_text, failed_text, illegal_text, later_text, expected, bad_text, text_found};
+ghost use Rattle.trace_explain.specs.Told.{IsTellable};
 
 use crate::facts::add_facts;
-use crate::find::Found;
 use crate::rules::rule;
 use firefly_outside::{Sink, SinkFault, put_all};
 use larch_actions::{Broken, Event, Version};
 use trace_board::board::Board;
-use trace_check::{Summary, Verdict};
+use trace_check::{Found, Summary, Verdict};
 use trace_core::add;
 use trace_shapes::shapes::word_of;
 use trace_shapes::tags::{add_line, add_with_number};
@@ -118,38 +117,22 @@ fn add_bad(buf: &mut [u8], at: usize, line: u64) -> usize
 
 // Adds the text for what was found.
 fn add_found(buf: &mut [u8], at: usize, board: &Board, found: &Found) -> usize
-    requires noted { HasNoted found.now }
+    requires tellable { IsTellable found.now.verdict found.now.layout found.now.failed }
     requires room { at + 16384 ≤ length buf.old }
-    ensures text { take result buf.new ≡ take at buf.old ++ text_of (kept_of board.now) found.now }
+    ensures text { take result buf.new ≡ take at buf.old ++ text_found (kept_of board.now) found.now }
     ensures near { result ≤ at + 16384 }
 {
-    match found {
-        Found::Legal(summary) => add_legal(buf, at, summary),
-        Found::Illegal {
-            version,
-            place,
-            event,
-            why,
-        } => add_illegal(buf, at, *version, board, *place, event, *why),
-        Found::BadLine(line) => add_bad(buf, at, *line),
-        Found::TooLong => at,
-        Found::ReadFault => at,
-    }
-}
-
-// The verdict of what was found.
-fn verdict(found: &Found) -> Verdict
-    ensures { result ≡ verdict_of found.now }
-{
-    match found {
-        Found::Legal(summary) => Verdict::Legal(*summary),
-        Found::Illegal { place, why, .. } => Verdict::Illegal {
-            place: *place,
-            why: *why,
+    match found.verdict {
+        Verdict::Legal(summary) => add_legal(buf, at, &summary),
+        Verdict::Illegal { place, why } => match (&found.layout, &found.failed) {
+            (Some(layout), Some(event)) => {
+                add_illegal(buf, at, layout.version, board, place, event, why)
+            }
+            _ => unreachable!(),
         },
-        Found::BadLine(line) => Verdict::BadLine(*line),
-        Found::TooLong => Verdict::TooLong,
-        Found::ReadFault => Verdict::ReadFault,
+        Verdict::BadLine(line) => add_bad(buf, at, line),
+        Verdict::TooLong => at,
+        Verdict::ReadFault => at,
     }
 }
 
@@ -160,26 +143,26 @@ fn tell_by<O: Sink>(
     board: &Board,
     out: &mut O,
 ) -> Result<Verdict, SinkFault>
-    requires noted { HasNoted found.now }
+    requires tellable { IsTellable found.now.verdict found.now.layout found.now.failed }
     requires large { 16384 ≤ length buf.old }
-    ensures verdict { IfOk result (λ v. v ≡ verdict_of found.now) }
-    ensures ok { OnOk result (Appends (O.held out.old) (O.held out.new) (text_of (kept_of board.now) found.now)) }
-    ensures err { OnErr result (AppendsPrefix (O.held out.old) (O.held out.new) (text_of (kept_of board.now) found.now)) }
+    ensures verdict { IfOk result (λ v. v ≡ found.now.verdict) }
+    ensures ok { OnOk result (Appends (O.held out.old) (O.held out.new) (text_found (kept_of board.now) found.now)) }
+    ensures err { OnErr result (AppendsPrefix (O.held out.old) (O.held out.new) (text_found (kept_of board.now) found.now)) }
     ensures cause { HasCause (O.faults out.old) (O.faults out.new) result }
 {
     let end = add_found(buf, 0, board, found);
     match put_all(out, &buf[..end]) {
-        Ok(()) => Ok(verdict(found)),
+        Ok(()) => Ok(found.verdict),
         Err(fault) => Err(fault),
     }
 }
 
 /// Sends the text for what was found, and gives the verdict.
 pub fn tell<O: Sink>(found: &Found, board: &Board, out: &mut O) -> Result<Verdict, SinkFault>
-    requires { HasNoted found.now }
-    ensures verdict { IfOk result (λ v. v ≡ verdict_of found.now) }
-    ensures ok { OnOk result (Appends (O.held out.old) (O.held out.new) (text_of (kept_of board.now) found.now)) }
-    ensures err { OnErr result (AppendsPrefix (O.held out.old) (O.held out.new) (text_of (kept_of board.now) found.now)) }
+    requires { IsTellable found.now.verdict found.now.layout found.now.failed }
+    ensures verdict { IfOk result (λ v. v ≡ found.now.verdict) }
+    ensures ok { OnOk result (Appends (O.held out.old) (O.held out.new) (text_found (kept_of board.now) found.now)) }
+    ensures err { OnErr result (AppendsPrefix (O.held out.old) (O.held out.new) (text_found (kept_of board.now) found.now)) }
     ensures cause { HasCause (O.faults out.old) (O.faults out.new) result }
 {
     let mut buf = [0; 16384];

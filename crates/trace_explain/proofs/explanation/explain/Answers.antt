@@ -3,4 +3,4 @@ use Rattle.trace_check.proofs.Exact.{exact_if}
 use Rattle.trace_explain.proofs.explanation.explain.Goals as goal
 
 pub returns-clause-exact : goal.returns-clause-exact
-returns-clause-exact g c = exact_if c.args.budget (g.I.Source.left c.args.input.now) (g.I.Source.left c.input-1.given.0) (g.I.Source.faults c.args.input.now) (g.I.Source.faults c.input-1.given.0) c.explain_all.result c.requires (search rules)
+returns-clause-exact g c = exact_if c.args.budget (g.I.Source.left c.args.input.now) (g.I.Source.left c.explain_all.new.input) (g.I.Source.faults c.args.input.now) (g.I.Source.faults c.explain_all.new.input) c.explain_all.result c.requires (search rules)
