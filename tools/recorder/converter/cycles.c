@@ -188,8 +188,16 @@ static int by_sort(const void *x, const void *y) {
     return a->sort != b->sort ? (int)a->sort - (int)b->sort : a->component - b->component;
 }
 
+/* Examples with fewer locks have fewer in common. */
+static int by_holdings(const void *x, const void *y) {
+    const struct witness *a = x, *b = y;
+    return a->held->n != b->held->n ? (a->held->n < b->held->n ? -1 : 1) : a->got < b->got ? -1 : a->got > b->got;
+}
+
 void find_cycles(const struct found *f, const struct orders *o, cycles *all) {
     size_t n = (size_t)f->objects.n;
+    for (int64_t i = 0; i < o->edges.n; i++)
+        if (o->edges.at[i].of.n) qsort(o->edges.at[i].of.at, (size_t)o->edges.at[i].of.n, sizeof *o->edges.at[i].of.at, by_holdings);
     struct graph g = { f, o, clean(n, sizeof(numbers)), clean(n, sizeof(int)), 0 };
     for (int64_t i = 0; i < o->edges.n; i++)
         if (o->edges.at[i].of.n) ADD(g.out[o->edges.at[i].from], (int)i);

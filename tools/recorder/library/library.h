@@ -33,9 +33,7 @@ extern HIDDEN __thread struct me me __attribute__((tls_model("initial-exec")));
 extern HIDDEN _Atomic uint32_t threads;
 extern HIDDEN pthread_key_t key;
 
-/* Whether this process is recorded, and where; NULL: not now. leave() ends what it began. */
-HIDDEN struct lane *enter(void);
-HIDDEN void leave(void);
+HIDDEN struct lane *enter_slowly(void);
 HIDDEN void put(enum operation operation, const volatile void *a, uint64_t b, uint32_t place);
 HIDDEN void count(enum left_out kind);
 HIDDEN void drop_lanes(void);
@@ -67,6 +65,23 @@ HIDDEN int begin_slowly(void);
 /* Whether the calls beneath are known. No: this call comes from their search itself, before there is a second thread. */
 static inline int begin(void) {
     return __builtin_expect(atomic_load_explicit(&state, memory_order_acquire) == READY, 1) || begin_slowly();
+}
+
+/* Where this thread records; NULL: it doesn't now. leave() ends what it began. */
+static inline struct lane *enter(void) {
+    int *depth = &me.depth;
+    struct lane *lane = &me.lanes[*depth];
+    if (__builtin_expect(!head || atomic_load_explicit(&stopped, memory_order_relaxed) || atomic_load_explicit(here, memory_order_relaxed) != 1 ||
+                             *depth == LANES || lane->count == lane->room, 0))
+        return enter_slowly();
+    ++*depth;
+    atomic_signal_fence(memory_order_seq_cst);
+    return lane;
+}
+
+static inline void leave(void) {
+    atomic_signal_fence(memory_order_seq_cst);
+    me.depth--;
 }
 
 /* ---- the calls that are taken over, with the version that is wanted where an old one of another meaning exists ---- */

@@ -32,9 +32,9 @@ static int more(struct lane *lane) {
     return lane->chunk != NULL;
 }
 
-struct lane *enter(void) {
+struct lane *enter_slowly(void) {
     if (!head || atomic_load_explicit(&stopped, memory_order_relaxed)) return NULL;
-    if (__builtin_expect(atomic_load_explicit(here, memory_order_relaxed) != 1, 0)) begin_forked();
+    if (atomic_load_explicit(here, memory_order_relaxed) != 1) begin_forked();
     if (!head) return NULL;
     if (me.depth == LANES) {
         stop("signal handlers interrupt each other");
@@ -45,11 +45,6 @@ struct lane *enter(void) {
     if (lane->count < lane->room || more(lane)) return lane;
     me.depth--;
     return NULL;
-}
-
-void leave(void) {
-    atomic_signal_fence(memory_order_seq_cst);
-    me.depth--;
 }
 
 void put(enum operation operation, const volatile void *a, uint64_t b, uint32_t place) {
