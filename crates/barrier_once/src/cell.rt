@@ -1,10 +1,11 @@
-//! What stands behind the mutexes, and where it is.
+//! The values that the mutexes protect, and where they are.
 ghost use Rattle.std.specs.Prelude.{◌≡◌};
 ghost use Rattle.barrier_once.specs.Cells.{arrived_of, once_of, round_of, sum_of};
 
 use larch_actions::{CondId, MutexId};
 
-/// What stands behind a mutex: a barrier with its round and how many have arrived in it, a sum, or a value that is set once.
+/// The value of a mutex: a barrier with its round and how many have arrived in it, a sum, or a
+/// value that is set once.
 #[derive(Clone, Copy, Debug, Drop, PartialEq, Eq)]
 pub enum Cell {
     Bar { round: u64, arrived: u32 },
@@ -22,7 +23,7 @@ pub struct RoundAt {
 }
 
 impl Cell {
-    /// The round of a bar, and of anything else 0.
+    /// Returns the round of a bar, and 0 for any other cell.
     pub fn round(&self) -> u64
         ensures { result ≡ round_of self.now }
     {
@@ -33,7 +34,7 @@ impl Cell {
         }
     }
 
-    /// How many have arrived at a bar, and of anything else 0.
+    /// Returns how many threads have arrived at a bar, and 0 for any other cell.
     pub fn arrived(&self) -> u32
         ensures { result ≡ arrived_of self.now }
     {
@@ -44,7 +45,7 @@ impl Cell {
         }
     }
 
-    /// The number of a sum, and of anything else 0.
+    /// Returns the number of a sum, and 0 for any other cell.
     pub fn sum(&self) -> u64
         ensures { result ≡ sum_of self.now }
     {
@@ -58,7 +59,7 @@ impl Cell {
         }
     }
 
-    /// The value of a once cell, if it has one.
+    /// Returns the value of a once cell, if it has one.
     pub fn once(&self) -> Option<u64>
         ensures { result ≡ once_of self.now }
     {
