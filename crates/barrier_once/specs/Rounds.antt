@@ -84,13 +84,15 @@ pub record IsKnown (w : RoundWorld) (m : ℕ) (x : Cell) (t : ℕ) (s : RoundSha
   pub sum : m ≡ w.at.sum.0 → KnowsSum w x s
   pub once : m ≡ w.at.once.0 → KnowsOnce w x s
 
--- the thread t may arrive: it has left as often as it has arrived, and before each second arrival it has added its number and 1
+-- the thread t may arrive: it has left as often as it has arrived, and before each second arrival
+-- it has added its number and 1
 pub record MayArrive (t : ℕ) (s : RoundShare) : Type 0 where
   pub left : s.left ≡ s.arrivals
   pub few : s.arrivals < 2000
   pub even : (j : ℕ) → s.arrivals ≡ 2 * j → s.added ≡ (j + 1) * (t + 1)
 
--- the thread t may add: it has left as often as it has arrived, an even number, and has yet to add in this round
+-- the thread t may add: it has left as often as it has arrived, an even number, and has yet to add
+-- in this round
 pub record MayAdd (t : ℕ) (s : RoundShare) : Type 0 where
   pub pairs : ℕ
   pub left : s.left ≡ s.arrivals

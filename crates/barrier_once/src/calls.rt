@@ -18,8 +18,8 @@ use user_mutex::{acquire, release};
 /// Arrives at the barrier, and leaves it once every thread has arrived as often. Returns how often
 /// this thread had arrived before.
 ///
-/// Blocks until then, for ever if a thread doesn't come. A thread may arrive 2000 times, and must
-/// have added to the sum before each first of two arrivals.
+/// Blocks until then, for ever if a thread doesn't come. A thread may arrive at most 2,000 times,
+/// and must have added to the sum before each first of two arrivals.
 ///
 /// ```rust
 /// let at = places();

@@ -13,7 +13,8 @@ pub enum Cell {
     Once(Option<u64>),
 }
 
-/// The mutex of the bar with the condition in which the parties wait, the mutex of the sum, and that of the once cell.
+/// The mutex of the bar with the condition in which the parties wait, the mutex of the sum, and
+/// that of the once cell.
 #[derive(Clone, Copy, Debug, PartialEq, Eq)]
 pub struct RoundAt {
     pub bar: MutexId,
@@ -24,6 +25,10 @@ pub struct RoundAt {
 
 impl Cell {
     /// Returns the round of a bar, and 0 for any other cell.
+    ///
+    /// ```rust
+    /// (cells[0].round(), cells[1].sum(), value)
+    /// ```
     pub fn round(&self) -> u64
         ensures { result ≡ round_of self.now }
     {
@@ -35,6 +40,10 @@ impl Cell {
     }
 
     /// Returns how many threads have arrived at a bar, and 0 for any other cell.
+    ///
+    /// ```rust
+    /// if bar.arrived() + 1 == p.layout().threads {
+    /// ```
     pub fn arrived(&self) -> u32
         ensures { result ≡ arrived_of self.now }
     {
@@ -46,6 +55,10 @@ impl Cell {
     }
 
     /// Returns the number of a sum, and 0 for any other cell.
+    ///
+    /// ```rust
+    /// (cells[0].round(), cells[1].sum(), value)
+    /// ```
     pub fn sum(&self) -> u64
         ensures { result ≡ sum_of self.now }
     {
@@ -60,6 +73,13 @@ impl Cell {
     }
 
     /// Returns the value of a once cell, if it has one.
+    ///
+    /// ```rust
+    /// let value = match cells[2].once() {
+    ///     Some(value) => value,
+    ///     None => 0,
+    /// };
+    /// ```
     pub fn once(&self) -> Option<u64>
         ensures { result ≡ once_of self.now }
     {

@@ -59,7 +59,7 @@ pub fn put_anyway<T: Send + Drop, R: Wait>(
 /// Takes the first item as `take` does, and again if an alert ended its wait. Returns the item's
 /// number and the item; fails with `Over` if the ring is shut and empty.
 ///
-/// Blocks as `take` does, but an alert doesn't end the call. The alert is cleared.
+/// Blocks as `take` does, but an alert doesn't end the call.
 ///
 /// ```rust
 /// match take_anyway(rt, p, &mut me, &numbers) {

@@ -69,7 +69,8 @@ pub trait BufferUse: Uses + Sized {
     ghost alike_item_fits: { (w : Self.World) (m t : ℕ) (i : Self.Item) (s r : Self.Share) → alike s r → item_fits w m t i s
         ↔ item_fits w m t i r };
 
-    // A put puts an item last into an open ring that isn't full, is refused by a shut ring, or waits at a full open ring.
+    // A put puts an item last into an open ring that isn't full, is refused by a shut ring, or
+    // waits at a full open ring.
     ghost put_allowed: { (w : Self.World) (at : BufferAt) → is_buffer w at
         → (t : ℕ) (x y : Self.Value) (s : Self.Share) (q p : Held Self.Item) (d : Did Self.Item)
         → ring_in x ≡ Some q → ring_in y ≡ Some p → Does d q p → IsOfPut (λ i. may_put w at.mutex.0 t i s) d
@@ -77,7 +78,8 @@ pub trait BufferUse: Uses + Sized {
         × HasDone part at.mutex.0 d s (Self.Put.after w at.mutex.0 t x y s)
         × (IsWait d → alike s (Self.Put.after w at.mutex.0 t x y s)) };
 
-    // A take takes the first item, is refused by a ring that is shut and empty, or waits at an empty open ring.
+    // A take takes the first item, is refused by a ring that is shut and empty, or waits at an
+    // empty open ring.
     ghost take_allowed: { (w : Self.World) (at : BufferAt) → is_buffer w at
         → (t : ℕ) (x y : Self.Value) (s : Self.Share) (q p : Held Self.Item) (d : Did Self.Item)
         → ring_in x ≡ Some q → ring_in y ≡ Some p → Does d q p → IsOfTake d

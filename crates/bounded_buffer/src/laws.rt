@@ -45,7 +45,8 @@ pub fn in_order<T>()
         → items_of (part_of r m).takes ≡ take q.taken (items_of (part_of s m).puts) }
 {}
 
-/// If the taker then saw the ring shut and empty, it has taken all that was put.
+/// If the taker then saw the ring shut and empty, it has taken all that was put, in order, and the
+/// ring is shut and empty.
 pub fn goes_through<T>()
     ensures { (m : ℕ) (q : Held T) (shares : List (List (Note T))) (i j : ℕ) (s r : List (Note T)) → get_elem? shares i ≡ some s
         → get_elem? shares j ≡ some r → Falls (part_of s m).puts → Falls (part_of r m).takes → NoneBut i (λ u. u.puts) [] m shares

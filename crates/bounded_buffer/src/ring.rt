@@ -56,6 +56,10 @@ impl<T> Ring<T> {
     }
 
     /// Returns the number of items in the ring.
+    ///
+    /// ```rust
+    /// let left = closed.values()[1].len();
+    /// ```
     pub fn len(&self) -> u32
         ensures { result ≡ length self.now.items }
     {
@@ -63,6 +67,15 @@ impl<T> Ring<T> {
     }
 
     /// Returns whether the ring has no item.
+    ///
+    /// ```rust
+    /// let ring = closed.values().first()?;
+    /// Some(End {
+    ///     traced: closed.trace().is_some(),
+    ///     taken: ring.taken(),
+    ///     empty: ring.is_empty(),
+    /// })
+    /// ```
     pub fn is_empty(&self) -> bool
         ensures empty { result ≡ true → self.now.items ≡ [] }
         ensures some { result ≡ false → 0 < length self.now.items }
@@ -92,6 +105,15 @@ impl<T> Ring<T> {
     }
 
     /// Returns how many items were ever taken from the ring.
+    ///
+    /// ```rust
+    /// let ring = closed.values().first()?;
+    /// Some(End {
+    ///     traced: closed.trace().is_some(),
+    ///     taken: ring.taken(),
+    ///     empty: ring.is_empty(),
+    /// })
+    /// ```
     pub fn taken(&self) -> u64
         ensures { result ≡ self.now.taken }
     {

@@ -27,7 +27,8 @@ module _ {T : Type 0} where
   part_in None = unused
   part_in (Some s) = part_of s 0
 
-  -- what the thread put, the last first; what it took, the last first; and whether it saw the buffer shut and empty
+  -- what the thread put, the last first; what it took, the last first; and whether it saw the
+  -- buffer shut and empty
   abbrev pub puts_of : Worker T → List (Item T)
   puts_of t = map (λ p. p.1) (part_in t.share).puts
 

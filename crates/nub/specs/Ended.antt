@@ -12,7 +12,8 @@ use Rattle.nub_rule.specs.Known.{Known, Shape}
 use Rattle.nub_rule.specs.Items.{Each}
 use Rattle.nub.specs.Rest.{AtRest}
 
--- the layout, the last released value of each mutex, the whole history of a traced run, and each thread as it came back
+-- the layout, the last released value of each mutex, the whole history of a traced run, and each
+-- thread as it came back
 pub record Ended (T H W : Type 0) : Type 0 where
   pub layout : Layout
   pub values : List T

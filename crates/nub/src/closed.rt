@@ -52,7 +52,7 @@ impl<U: Uses> Closed<U> {
         self.values.as_slice()
     }
 
-    /// Returns the value of each mutex, as it was last released, by value.
+    /// Returns the values of the mutexes themselves, as they were last released.
     pub fn into_values(self) -> Vec<U::Value>
         ensures { result.items ≡ self.values }
     {
@@ -71,6 +71,8 @@ impl<U: Uses> Closed<U> {
     ///
     /// ```rust
     /// let Some(events) = closed.trace() else {
+    ///     unreachable!()
+    /// };
     /// ```
     pub fn trace(&self) -> Option<&[Event]>
         ensures { MatchOption result (self.now.trace ≡ None) (λ x. self.now.trace ≡ Some x.now) }

@@ -1,8 +1,8 @@
 //! Threads that begin and end in the history: forking a thread, its own end, and waiting for the
 //! end of another.
 //!
-//! Opening a package gives an `Unborn` for each thread, the right to fork it; the end of a thread
-//! leaves an `Ended`, which closing takes.
+//! Opening a package gives an `Unborn` for each thread but the first: the right to fork it. The end
+//! of a thread leaves an `Ended`, which closing takes.
 ghost use Rattle.std.specs.Prelude.{◌≡◌, ◌≢◌, ℕ, ◌<◌, [], true, IfOk, is_ok, Some};
 ghost use Rattle.larch_actions.specs.declared.event.Version.TheVariants.{Two};
 ghost use Rattle.nub_rule.specs.Forks.{IsOver};

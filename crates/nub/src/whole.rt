@@ -18,8 +18,11 @@ use std::alloc::{AllocError, Global};
 use std::mem::ManuallyDrop;
 use std::snapshot::Snapshot;
 
-/// Opens a package, and returns it with its threads, in order of their numbers. Its layout must be
-/// of version one. Fails only if there is no memory, and the values are dropped then.
+/// Opens a package of version one, and returns it with its threads, in order of their numbers.
+/// `values` are the first values of the mutexes. If `traced` is true, the events are numbered and
+/// stored.
+///
+/// Fails only if there is no memory, and the values are dropped then.
 ///
 /// ```rust
 /// let (p, threads) = open_package::<Numbers>(alloc, layout, &(), rings, false)?;
@@ -43,9 +46,11 @@ pub fn open_package<U: Uses>(
     Ok((package, threads))
 }
 
-/// Opens a package whose threads begin and end in the history. Returns it with its first thread,
-/// and with the rights to fork the others, in order of their numbers. Its layout must be of version
-/// two. Fails only if there is no memory, and the values are dropped then.
+/// Opens a package of version two, whose threads begin and end in the history. Returns it with its
+/// first thread, and with the rights to fork the others, in order of their numbers. `values` are
+/// the first values of the mutexes. If `traced` is true, the events are numbered and stored.
+///
+/// Fails only if there is no memory, and the values are dropped then.
 ///
 /// ```rust
 /// let (pkg, first, rights) = open_forked::<SumUses>(alloc, layout, &(), values, traced)?;

@@ -15,7 +15,8 @@ IsAsleep Asleep = Unit {0}
 IsAsleep _ = ⊥
 
 module _ {T H : Type 0} where
-  -- first case: the thread has cleared the bit of the gate o, and since then has neither popped nor found no queue
+  -- first case: the thread has cleared the bit of the gate o, and since then has neither popped nor
+  -- found no queue
   abbrev pub HasCleared : ℕ → Part T H → Type 0
   HasCleared o p = mem o p.cleared ≡ true
 

@@ -125,7 +125,8 @@ abbrev pub taken_action : ℕ → Opt Wait → Action
 taken_action m None = Acquire record { 0 = m }
 taken_action m (Some w) = cond w.alertable (AlertReturn w.mutex w.cond) (Resume w.mutex w.cond)
 
--- the thread n may take the mutex m by the event e: it has begun nothing, or a wait on m, and has left the condition
+-- the thread n may take the mutex m by the event e: it has begun nothing, or a wait on m, and has
+-- left the condition
 abbrev pub MayTake : ℕ → ℕ → Opt Wait → Event → Type 0
 MayTake n m wait e = ((wait ≡ None) × (e ≡ acquire_event n m))
     ⊎ ((w : Wait) × (wait ≡ Some w) × (w.mutex.0 ≡ m) × (w.member ≡ None) × (e ≡ event n (taken_action m (Some w))))
@@ -342,7 +343,8 @@ module _ {T H W : Type 0} where
             unread p.wait;
       }) me'
 
-  -- the first, if there is one, left the queue of a condition, and is owed its ready word: an advance had taken it out of the condition
+  -- the first, if there is one, left the queue of a condition, and is owed its ready word: an
+  -- advance had taken it out of the condition
   abbrev pub pop_cond_tells : Step (Slot T) → Sat T H W → ℕ → Sat T H W → Type 0
   pop_cond_tells st me r me' = let p = me.0.part in Becomes me (record p { queue = behind p.queue; owed = p.owed ++ front p.queue }) me'
 

@@ -1,4 +1,5 @@
-//! The steps on a condition: its count, which is read to enter it and advanced to take threads out, and its queue.
+//! The steps on a condition: its count, which is read to enter it and advanced to take threads out,
+//! and its queue.
 ghost use Rattle.std.specs.Prelude.{◌≡◌, ◌≢◌, ◌+◌, ◌<◌, [], None, Some, false, true};
 ghost use Rattle.larch_actions.specs.Sets.{mem, set_of};
 ghost use Rattle.nub_rule.specs.declared.view.Wait.{Wait};

@@ -7,7 +7,7 @@ pub trait BeforeStart: Sync {
     fn begins(&self, number: u32);
 }
 
-/// Lets each thread begin at once.
+/// A call that lets each thread begin at once.
 pub struct BeginsAtOnce;
 
 impl BeforeStart for BeginsAtOnce {

@@ -47,9 +47,9 @@ fn parted<T: Drop, X: Drop>(
 /// Lets `f` work on each thread of a package, all at once. Returns the threads as they came back
 /// and what `f` left with each, both in the order of the threads.
 ///
-/// Each is started in an operating-system thread of its own. One that can't be started is run on the caller's thread,
-/// after all others have been started. Blocks until each has ended, for ever if one never does.
-/// Fails only if there is no memory, and then none has run.
+/// Each is started in an operating-system thread of its own. One that can't be started is run on
+/// the caller's thread, after all others have been started. Blocks until each has ended, for ever
+/// if one never does. Fails only if there is no memory, and then none has run.
 ///
 /// ```rust
 /// let (threads, left) = at_once(
@@ -94,8 +94,8 @@ pub fn at_once<T: Send + Drop, X: Send + Drop, R: Threads + Wait, F: Fn(T) -> (T
 ///
 /// Once all threads that can be started have been, `between` is called with `own` and with the
 /// number of threads that weren't started: at least as many as follow the first `starts`, and at
-/// most all. After that these threads are run on the caller's thread, in order. Returns their number and
-/// what `between` returned too.
+/// most all. After that these threads are run on the caller's thread, in order. Also returns their
+/// number and what `between` returned.
 ///
 /// Fails only if there is no memory: then nothing has run, and threads, `own` and `between` come
 /// back.

@@ -63,9 +63,9 @@ fn at_work<U: Uses, W: Work<U>, R: Wait>(
 /// Opens a package, lets each of its threads do its work, all at once, and closes the package.
 /// Returns what the threads left, in their order, and what is left of the package.
 ///
-/// Each thread is started in an operating-system thread of its own, or run on the caller's thread if it can't be started,
-/// after all others have been. Blocks until each has ended, for ever if one never does. Fails only
-/// if there is no memory.
+/// Each thread is started in an operating-system thread of its own, or run on the caller's thread
+/// if it can't be started, after all others have been. Blocks until each has ended, for ever if one
+/// never does. Fails only if there is no memory.
 ///
 /// ```rust
 /// let (logs, closed) = run_package::<Post, Mailing, R>(rt, alloc, layout, &(), mail, false, &job)?;
