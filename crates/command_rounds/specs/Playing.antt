@@ -17,7 +17,7 @@ use Rattle.command_rounds.specs.RoundEvents.{AreEventsOf, IsArrivalOf, visit}
 abbrev pub round_at : RoundAt
 round_at = record { bar = record { 0 = 0 }; cond = record { 0 = 0 }; sum = record { 0 = 1 }; once = record { 0 = 2 } }
 
--- the package has these cells, and its threads are the parties, whose number is the greatest value
+-- the package has these cells; its threads are the parties, and their number is the greatest value
 pub record IsTable (p : Shape RoundWorld) : Type 0 where
   pub layout : p.layout ≡ layout_of p.world.parties 3 1 0
   pub most : p.world.most ≡ p.world.parties
@@ -54,12 +54,12 @@ pub record IsHalfway (p : Shape RoundWorld) (t n : ℕ) (asked : List Event) (me
   pub are : AreEventsOf t n before
   pub arrival : IsArrivalOf t first
 
--- so many totals, each of all that was added up to its round
+-- the totals of so many rounds, each of all that was added up to its round
 pub record AreTotals (parties rounds : ℕ) (totals : List ℕ) : Type 0 where
   pub count : length totals ≡ rounds
   pub each : Each (λ k n. n ≡ (k + 1) * triangle parties) totals
 
--- the total was added to what is kept, if anything is
+-- the total was appended to those that are kept, if any are
 abbrev pub IsNoted : ℕ → Opt (Vec ℕ Global) → Opt (Vec ℕ Global) → Type 0
 IsNoted total None new = new ≡ None
 IsNoted total (Some old) new = IfSome new (λ v. (v.items ≡ old.items ++ total ∷ []) × (vec_capacity v ≡ vec_capacity old))
