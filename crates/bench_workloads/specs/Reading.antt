@@ -19,7 +19,7 @@ pub record HasState (l : Layout) : Type 0 where
   pub mutexes : 1 ≤ l.mutexes
   pub conditions : 1 ≤ l.conditions
 
--- so many turns, in each of which a thread had this role and was idle again, the last first
+-- so many turns, in each of which a thread took this role and became idle again, the last first
 abbrev pub turns : Role → ℕ → List RoleChange
 turns role zero = []
 turns role (suc n) = turn 0 Idle ∷ turn 0 role ∷ turns role n
@@ -27,11 +27,11 @@ turns role (suc n) = turn 0 Idle ∷ turn 0 role ∷ turns role n
 abbrev pub role_if : Bool → Role
 role_if reads = cond reads Reading Writing
 
--- the first threads read, so many of them, and the others write
+-- the first `readers` threads read, and the others write
 abbrev pub role_by : ℕ → ℕ → Role
 role_by readers n = role_if (nat_lt n readers)
 
--- so many turns of the thread n are writes
+-- the number of writes among so many turns of the thread n
 abbrev pub writes_by : ℕ → ℕ → ℕ → ℕ
 writes_by readers times n = cond (nat_lt n readers) 0 times
 

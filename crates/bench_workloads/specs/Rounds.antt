@@ -1,4 +1,4 @@
--- Rounds of a thread that has the mutex all the time but while it waits.
+-- Rounds of a thread that holds the mutex except while it waits.
 use Rattle.std.specs.Prelude.{◌≡◌, ℕ}
 use Rattle.bench_workloads.specs.declared.rounds.Round.{Round}
 use Rattle.bench_workloads.specs.declared.rounds.Round.TheVariants.{Begins}

@@ -12,14 +12,14 @@ use std::thread::Threads;
 use sum_uses::{AddChange, SumUses};
 use user_mutex::locked;
 
-/// The package that threads have added in, and the number that each has turned beside that.
+/// The package in which threads have added, and the number that each has turned beside that.
 #[derive(Drop)]
 pub struct Added {
     pub closed: Closed<SumUses>,
     pub own: Vec<u64>,
 }
 
-/// The number after so many turns.
+/// Returns the number after so many turns.
 #[inline]
 fn turned(own: u64, turns: u32) -> u64 {
     let mut x = own;
@@ -51,7 +51,7 @@ pub fn add_many<R: Wait>(
     (me, number)
 }
 
-/// So many threads add 1 this many times, all at once.
+/// Lets so many threads add 1 this many times, all at once.
 pub fn add_at_once<R: Threads + Wait + Sync>(
     rt: &R,
     alloc: Global,

@@ -14,10 +14,12 @@ use std::sync::Wait;
 use std::sync::atomic::{AtomicU64, Ordering};
 use std::thread::Threads;
 
-/// How often sixteen times the reader looks at the note once the writer has come: long enough for the writer to be in its wait.
+/// How many times sixteen the reader looks at the note after the writer has come: long enough for
+/// the writer to be in its wait.
 const LONG: u32 = 2000;
 
-/// Reads so often, each time until the writer has come and a while longer, and goes on once it has written.
+/// Reads so often, each time until the writer has come and a while longer, and goes on once the
+/// writer has written.
 fn read_until_it_comes<R: Wait>(
     rt: &R,
     pkg: &Package<RwUses>,

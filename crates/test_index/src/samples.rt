@@ -1,4 +1,4 @@
-//! The sample tree, beside what another reading of its rule gives.
+//! The sample tree, compared with what another reading of its rule gives.
 ghost use Rattle.std.specs.Prelude.{◌≤◌};
 
 use firefly_outside::{Entry, MemTree, Tree, TreeError, sample_tree};
