@@ -17,7 +17,7 @@ fresh_share = record { arrivals = 0; left = 0; added = 0; agreed = None }
 abbrev pub triangle : ℕ → ℕ
 triangle n = n * (n + 1) / 2
 
--- how many shares have so many arrivals
+-- how many shares have n arrivals
 abbrev pub with_arrivals : ℕ → List RoundShare → ℕ
 with_arrivals n [] = 0
 with_arrivals n (s ∷ shares) = cond (eqb s.arrivals n) 1 0 + with_arrivals n shares

@@ -29,7 +29,7 @@ HasDone p n x t = HasUsed p n (x.numbers ∷ x.ends ∷ []) t
 abbrev pub items_sum : List (ℕ × ℕ) → ℕ
 items_sum ps = sum_by (λ p. p.1) ps
 
--- so many numbers from this one on, added up
+-- `count` numbers from `first` on, added up
 abbrev pub numbers_sum : ℕ → ℕ → ℕ
 numbers_sum first count = sum (range_with_len first count)
 
@@ -64,7 +64,7 @@ pub record HasEnded (makers times n summed : ℕ) (x : Both) : Type 0 where
 abbrev pub HasPassed : Shape (Unit {0}) → ℕ → ℕ → ℕ → ℕ → Passer → Type 0
 HasPassed p makers times n summed t = (x : Both) × HasDone p n x t × HasEnded makers times n summed x
 
--- the ring is shut and empty, and so many items were taken from it
+-- the ring is shut and empty, and `count` items were taken from it
 pub record IsOver (count : ℕ) (q : Held ℕ) : Type 0 where
   pub taken : q.taken ≡ count
   pub empty : q.items ≡ []

@@ -34,7 +34,7 @@ HasPassed times n counted t = HasMade (first_calls n + 2 * times) t × (counted 
 abbrev pub HasRaised : ℕ → Worker → Type 0
 HasRaised count t = raises t.mine ≡ count
 
--- the first thread has begun so many waits, each of which an alert has ended, and has counted them;
+-- the first thread has begun `times` waits, each of which an alert has ended, and has counted them;
 -- the others have counted none
 abbrev pub HasWoken : ℕ → ℕ → ℕ → Worker → Type 0
 HasWoken times n counted t = (n ≡ 0 → (counted ≡ times) × HasRaised times t) × (n ≢ 0 → counted ≡ 0)
@@ -47,12 +47,12 @@ pub record HasWorked (p : Shape (Unit {0})) (n total : ℕ) (Is : Worker → Typ
   pub sum : added 0 share ≡ total
   pub is : Is t
 
--- it has added 1 so often
+-- it has added 1 `times` times
 abbrev pub HasTurned : Shape (Unit {0}) → ℕ → ℕ → Worker → Type 0
 HasTurned p n times t = HasWorked p n times (λ u. Unit {0}) t
 
 -- the thread n of the package holds mutex 0 and no other; it got the value and has made it y; it
--- has added 1 so often, now or before, and alerts have ended so many of its waits
+-- has added 1 `times` times, now or before, and alerts have ended `alerts` of its waits
 pub record IsInside (p : Shape (Unit {0})) (n y times alerts : ℕ) (t : Worker) : Type 0 where
   pub got : ℕ
   pub share : List Added

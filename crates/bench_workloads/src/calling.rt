@@ -43,7 +43,7 @@ pub fn call<R: Wait>(
     }
 }
 
-/// Makes this many calls, one after the other.
+/// Makes `times` calls, one after the other.
 pub fn call_many<R: Wait>(
     rt: &R,
     shared: &Package<SumUses>,
@@ -61,7 +61,7 @@ pub fn call_many<R: Wait>(
     me
 }
 
-/// Lets one thread make this many calls of a condition in which no thread waits.
+/// Lets one thread make `times` calls of a condition in which no thread waits.
 pub fn call_alone<R: Threads + Wait + Sync>(
     rt: &R,
     alloc: Global,

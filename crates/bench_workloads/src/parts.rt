@@ -22,7 +22,7 @@ use sum_uses::SumUses;
 /// What each thread does, and how many times.
 #[derive(Clone, Copy)]
 pub enum Part {
-    /// Adds 1 under the mutex, with so many turns outside after each addition.
+    /// Adds 1 under the mutex, with `outside` turns after each addition.
     Add {
         times: u32,
         outside: u32,

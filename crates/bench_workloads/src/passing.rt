@@ -27,7 +27,7 @@ pub struct Passed {
     pub sums: Vec<u64>,
 }
 
-/// Puts so many numbers, this maker's own, and then reports that it has ended. The last maker to do
+/// Puts `times` numbers, this maker's own, and then reports that it has ended. The last maker to do
 /// so shuts the buffer.
 #[tactic(auto, using(bounded_buffer::proofs::Using::plain_named))]
 fn make<R: Wait>(
@@ -114,8 +114,8 @@ fn two_rings(alloc: Global, capacity: Capacity, makers: u32) -> Result<Vec<Ring<
     Ok(rings)
 }
 
-/// Lets so many makers pass as many numbers each on to so many takers, all at once: all numbers
-/// below the product.
+/// Lets the makers pass `times` numbers each on to the takers, all at once: all numbers below the
+/// product.
 pub fn pass_at_once<R: Threads + Wait + Sync>(
     rt: &R,
     alloc: Global,

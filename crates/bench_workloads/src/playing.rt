@@ -55,7 +55,7 @@ fn alert_first<R: Wait>(rt: &R, shared: &Package<SumUses>, me: &mut Thread<SumUs
     }
 }
 
-/// Takes turns with the other thread, this many times: waits until the sum has the thread's parity,
+/// Takes turns with the other thread, `times` times: waits until the sum has the thread's parity,
 /// adds 1, and signals the other, before or after it releases the mutex, or alerts it then.
 pub fn alternate<R: Wait>(
     rt: &R,
@@ -91,7 +91,7 @@ pub fn alternate<R: Wait>(
     me
 }
 
-/// Takes this many turns.
+/// Takes `times` turns.
 pub fn take_turns<R: Wait>(
     rt: &R,
     shared: &Package<SumUses>,
@@ -118,7 +118,7 @@ pub fn take_turns<R: Wait>(
     }
 }
 
-/// Lets so many threads take this many turns each, all at once.
+/// Lets `threads` threads take `times` turns each, all at once.
 pub fn play_at_once<R: Threads + Wait + Sync>(
     rt: &R,
     alloc: Global,

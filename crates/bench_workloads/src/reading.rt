@@ -100,7 +100,7 @@ fn take_turn<R: Wait>(
     }
 }
 
-/// Reads or writes so often, by the thread's number, notes in the pair how often the numbers
+/// Reads or writes `times` times, by the thread's number, notes in the pair how often the numbers
 /// differed, and returns how often it has written.
 fn play<R: Wait>(
     rt: &R,
@@ -137,7 +137,7 @@ fn one_state(alloc: Global) -> Result<Vec<RwState>, AllocError>
     Ok(values)
 }
 
-/// Lets so many readers and so many writers use the pair, each this often, all at once.
+/// Lets readers and writers use the pair, each `times` times, all at once.
 pub fn read_at_once<R: Threads + Wait + Sync>(
     rt: &R,
     alloc: Global,

@@ -119,7 +119,7 @@ fn one_round<R: Wait>(
     }
 }
 
-/// Plays so many rounds, and returns how many it has held.
+/// Plays `times` rounds, and returns how many it has held.
 pub fn hold_rounds<R: Wait>(
     rt: &R,
     shared: &Package<SumUses>,

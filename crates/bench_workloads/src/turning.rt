@@ -19,7 +19,7 @@ pub struct Turned {
     pub turns: Vec<u64>,
 }
 
-/// Makes P of the thread's own semaphore, adds 1, and makes V of the other, this many times. A
+/// Makes P of the thread's own semaphore, adds 1, and makes V of the other, `times` times. A
 /// semaphore protects no value, so the number is the thread's own.
 pub fn turn<R: Wait>(
     rt: &R,
@@ -43,9 +43,9 @@ pub fn turn<R: Wait>(
     (me, number)
 }
 
-/// Lets one thread alone, or two in turns, do this many turns each: a P of the thread's own
-/// semaphore and a V of the next thread's. The second of two has made one call more, with which the
-/// first began.
+/// Lets one thread alone, or two in turns, do `times` turns each: a P of the thread's own semaphore
+/// and a V of the next thread's. The second of two has made one call more, with which the first
+/// began.
 pub fn turn_at_once<R: Threads + Wait + Sync>(
     rt: &R,
     alloc: Global,

@@ -59,7 +59,7 @@ pub fn wait_for_alert<R: Wait>(
     unreachable!()
 }
 
-/// Begins so many waits, each of which an alert ends, or ends so many, by the thread's number. The
+/// Begins `times` waits, each of which an alert ends, or ends as many, by the thread's number. The
 /// thread that begins a wait makes the sum odd, and the one that ends it makes the sum even.
 pub fn wake<R: Wait>(
     rt: &R,
@@ -78,7 +78,7 @@ pub fn wake<R: Wait>(
     }
 }
 
-/// Lets one thread begin so many waits that no thread signals, and another end each by an alert,
+/// Lets one thread begin `times` waits that no thread signals, and another end each by an alert,
 /// all at once.
 pub fn alert_at_once<R: Threads + Wait + Sync>(
     rt: &R,

@@ -13,7 +13,7 @@ module _ {T : Type 0} where
   wait_of Putting = WaitedFull
   wait_of Taking = WaitedEmpty
 
-  -- the parts of a share with so many more of these waits
+  -- the part of a share after more waits of this side
   abbrev pub more : Side → ℕ → Used T → Used T
   more Putting = more_full
   more Taking = more_empty

@@ -68,7 +68,7 @@ pub record IsTold {T : Type 0} (before now : ℕ) (result : Result T JobsFault) 
   pub unfailed : OnOk result (now ≡ before)
   pub otherwise : IfErr result (λ fault. fault ≢ Read → now ≡ before)
 
--- the bytes are the text of at most so many lines as there may be
+-- the bytes are the text of lines, no more than there may be
 abbrev pub IsJobsText : List ℕ → Type 0
 IsJobsText bytes = (lines : List JobLine) × ReadsAs bytes lines × (length lines ≤ most_lines)
 

@@ -29,7 +29,7 @@ pub record IsBetween (p : Shape RoundWorld) (t : ℕ) (s : RoundShare) (es : Lis
   pub idle : IsIdle p t s me
   pub mine : me.mine ≡ es
 
--- the thread t has agreed and played so many rounds
+-- the thread t has agreed and played n rounds
 pub record IsPlaying (p : Shape RoundWorld) (t n : ℕ) (me : RoundThread) : Type 0 where
   pub share : RoundShare
   pub events : List Event
@@ -40,7 +40,7 @@ pub record IsPlaying (p : Shape RoundWorld) (t n : ℕ) (me : RoundThread) : Typ
   pub agreed : (v : ℕ) × (share.agreed ≡ Some v)
   pub are : AreEventsOf t n events
 
--- the thread t has played so many rounds and half of the next, and then these events were its own
+-- the thread t has played n rounds and half of the next, and then these events were its own
 pub record IsHalfway (p : Shape RoundWorld) (t n : ℕ) (asked : List Event) (me : RoundThread) : Type 0 where
   pub share : RoundShare
   pub before : List Event
@@ -54,7 +54,7 @@ pub record IsHalfway (p : Shape RoundWorld) (t n : ℕ) (asked : List Event) (me
   pub are : AreEventsOf t n before
   pub arrival : IsArrivalOf t first
 
--- the totals of so many rounds, each of all that was added up to its round
+-- the totals of `rounds` rounds, each of all that was added up to its round
 pub record AreTotals (parties rounds : ℕ) (totals : List ℕ) : Type 0 where
   pub count : length totals ≡ rounds
   pub each : Each (λ k n. n ≡ (k + 1) * triangle parties) totals

@@ -23,11 +23,11 @@ IsRoundOf t es =
     (first : List Event) × (second : List Event) × IsArrivalOf t first × IsArrivalOf t second
     × (es ≡ ((visit t 1 ++ first) ++ asked t) ++ second)
 
--- so many rounds of the thread t
+-- n rounds of the thread t
 abbrev pub AreRoundsOf : ℕ → ℕ → List Event → Type 0
 AreRoundsOf t zero es = es ≡ []
 AreRoundsOf t (suc n) es = (before : List Event) × (last : List Event) × AreRoundsOf t n before × IsRoundOf t last × (es ≡ before ++ last)
 
--- all events of the thread t: it agrees, and plays so many rounds
+-- all events of the thread t: it agrees, and plays `rounds` rounds
 abbrev pub AreEventsOf : ℕ → ℕ → List Event → Type 0
 AreEventsOf t rounds es = (rest : List Event) × AreRoundsOf t rounds rest × (es ≡ visit t 2 ++ rest)

@@ -54,8 +54,8 @@ fn print<O: Sink, N: Sink>(closed: &Closed<RoundUses>, out: &mut O, notes: &mut 
     }
 }
 
-/// Runs so many rounds by so many threads, and writes the trace of the run, followed by its three
-/// values. Returns the status.
+/// Runs `rounds` rounds by `threads` threads, and writes the trace of the run, followed by its
+/// three values. Returns the status.
 pub fn write_rounds<R: Threads + Wait + Sync, O: Sink, N: Sink>(
     rt: &R,
     alloc: Global,

@@ -98,7 +98,8 @@ fn note(totals: &mut Option<Vec<u64>>, total: u64)
     }
 }
 
-/// Plays so many rounds. Returns the totals too, if this is thread 0 and there was memory for them.
+/// Plays `rounds` rounds. Returns the totals too, if this is thread 0 and there was memory for
+/// them.
 pub fn play<R: Wait>(
     rt: &R,
     alloc: Global,

@@ -2,8 +2,8 @@
 //!
 //! Promises: whatever the number of workers, each block has its own checksum in its place. Built on
 //! `job_pool`. Shows how a program passes its own jobs to a pool, and what it then knows of the
-//! results. With three numbers as its words it can be timed: so many blocks, of so many bytes each,
-//! by so many workers.
+//! results. With three numbers as its words it can be timed: the numbers of blocks, of bytes in
+//! each, and of workers.
 #![tactic(auto)]
 
 mod block;

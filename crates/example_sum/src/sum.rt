@@ -11,8 +11,8 @@ use std::alloc::{AllocError, Global};
 use std::sync::Wait;
 use std::thread::Threads;
 
-/// Adds the numbers up by at most so many threads, and returns their closed package. Fails only if
-/// there is no memory.
+/// Adds the numbers up by at most `threads` threads, and returns their closed package. Fails only
+/// if there is no memory.
 pub fn forked_sum<R: Threads + Wait + Sync>(
     rt: &R,
     alloc: Global,

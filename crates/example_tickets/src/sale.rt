@@ -74,7 +74,7 @@ pub fn count(sold: &[u32]) -> u64
     all
 }
 
-/// Sells the tickets by so many threads. Returns how many each says that it has sold, and the
+/// Sells the tickets by `threads` threads. Returns how many each says that it has sold, and the
 /// closed package. Fails only if there is no memory.
 pub fn sale<R: Threads + Wait + Sync>(
     rt: &R,

@@ -6,7 +6,7 @@ use Rattle.indexer.specs.declared.answer.IndexAnswer.{IndexAnswer}
 use Rattle.indexer.specs.declared.answer.IndexAnswer.TheVariants.{Done, Stopped, ReadFault, TooMany, Memory}
 use Rattle.index_sample.specs.declared.summary.SampleSums.{SampleSums}
 
--- the files, words, entries and occurrences of the index, and the directories of so many sample
+-- the files, words, entries and occurrences of the index, and the directories of `files` sample
 -- files, with the root
 pub record Sums (files : ℕ) (index : Index) (sums : SampleSums) : Type 0 where
   pub count_files : sums.files ≡ length index.paths

@@ -44,7 +44,7 @@ fn many_in(files: u32, from: u32) -> u32
     100
 }
 
-/// Returns the entries of the directory with this path, in the tree of so many files. Fails only if
+/// Returns the entries of the directory with this path, in the tree of `files` files. Fails only if
 /// there is no memory.
 pub fn listed_at(alloc: Global, dir: &str, files: u32) -> Result<Option<Vec<Entry>>, AllocError>
     requires { files ≤ 20000 }

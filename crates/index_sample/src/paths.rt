@@ -40,7 +40,7 @@ fn number_behind(path: &str, letter: char) -> Option<u32>
     Some(number as u32)
 }
 
-/// Returns the number of the directory below the root that has this path, in the tree of so many
+/// Returns the number of the directory below the root that has this path, in the tree of `files`
 /// files.
 pub fn dir_number(path: &str, files: u32) -> Option<u32>
     requires { files ≤ 20000 }
@@ -56,7 +56,7 @@ pub fn dir_number(path: &str, files: u32) -> Option<u32>
     None
 }
 
-/// Returns the number of the file that has this path, in the tree of so many files.
+/// Returns the number of the file that has this path, in the tree of `files` files.
 pub fn file_number(path: &str, files: u32) -> Option<u32>
     requires { files ≤ 20000 }
     ensures some { IfSome result (λ i. (i < files) × (path.now ≡ file_path i)) }

@@ -11,7 +11,7 @@ use std::sync::Wait;
 use std::thread::Threads;
 use word_index::Piece;
 
-// The sums of the index of so many files.
+// The sums of the index of `files` files.
 fn sums_of(piece: &Piece, files: u32) -> SampleSums
     ensures { Sums files piece.now result }
 {

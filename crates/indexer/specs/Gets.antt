@@ -37,7 +37,7 @@ pub record Makes (p : Run) (more : More) (a b : Worker) : Type 0 where
   pub called : (o : Option Told) (root : Path) (m : ℕ) → HasCalled o root [] p m 0 a b
   pub gets : Gets p more a b
 
--- the thread counted so many more files
+-- the thread counted this many more files
 abbrev pub Counts : ℕ → Worker → Worker → Type 0
 Counts files a b = (s : Share) → a.share ≡ Some s → (r : Share) × (b.share ≡ Some r) × (r.files ≡ s.files + files)
 

@@ -141,7 +141,7 @@ module _ {S : Type 0} (tree : S → Option Told) (weak : S → List Path) (fault
   HasCause root old new (IndexTooMany many) = Unit {0}
   HasCause root old new IndexMemory = Unit {0}
 
-  -- the trees after a run of so many walkers and n workers with a tree, by its answer
+  -- the trees after a run of `walkers` walkers and n workers with a tree, by its answer
   abbrev pub TreesAfter : ℕ → ℕ → List (Option S) → List (Option S) → IndexAnswer → Type 0
   TreesAfter walkers n old new (IndexDone piece closed) = AreBack n old new × AreUsed walkers n closed.threads old new
   TreesAfter walkers n old new (IndexStopped many) = AreBack n old new

@@ -47,8 +47,8 @@ pub record Passes (tree : Option Told) (root : Path) (pieces : List Index) (s r 
 abbrev pub ComesBack : Option Told → Path → List Index → Run → Worker → Worker → Type 0
 ComesBack tree root pieces p a b = (n : ℕ) (s : Share) → IsIdle p n s a → (r : Share) × IsIdle p n r b × Passes tree root pieces s r
 
--- the worker is between two calls again, has these pieces, and has released the mutex m at least so
--- many more times
+-- the worker is between two calls again, has these pieces, and has released the mutex m at least k
+-- more times
 pub record HasCalled (tree : Option Told) (root : Path) (pieces : List Index) (p : Run) (m k : ℕ) (a b : Worker) : Type 0 where
   pub back : ComesBack tree root pieces p a b
   pub times : k + release_count m a.mine ≤ release_count m b.mine

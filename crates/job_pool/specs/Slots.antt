@@ -33,7 +33,7 @@ module _ {J : Type 0} (state : J → List ℕ) (gives : J → Work) (next : J �
   abbrev pub MayBeCalled : Slot J → Slot J → Type 0
   MayBeCalled a b = (b ≡ a) ⊎ WasCalled a b
 
--- an empty list with room for so many
+-- an empty list with room for `size` items
 pub record IsRoom {A : Type 0} (size : ℕ) (items : List A) (capacity : ℕ) : Type 0 where
   pub empty : items ≡ []
   pub wide : size ≤ capacity

@@ -10,8 +10,8 @@ use nub::{Layout, open_package};
 use nub_rule::{Package, Thread};
 use std::alloc::{AllocError, Global};
 
-/// Opens a package with one buffer for so many pieces, and with a thread for the caller and each
-/// worker.
+/// Opens a package with one buffer for `many` pieces, and with a thread for the caller and one for
+/// each worker.
 pub fn open<T: Send + Drop>(
     alloc: Global,
     workers: u32,
@@ -41,7 +41,7 @@ pub struct Rooms<T: Send + Drop> {
     pub out: Vec<T>,
 }
 
-/// Returns the lists for so many workers and pieces. Fails only if there is no memory.
+/// Returns the lists for `workers` workers and `many` pieces. Fails only if there is no memory.
 pub fn rooms_for<T: Send + Drop>(
     alloc: Global,
     workers: u32,

@@ -58,7 +58,8 @@ struct Rooms<J: Job> {
     values: Vec<u64>,
 }
 
-/// Returns the lists for so many jobs in batches of `size`. Fails only if there is no memory.
+/// Returns the lists for `many` jobs in `count` batches of `size`. Fails only if there is no
+/// memory.
 fn rooms_for<J: Job>(
     alloc: Global,
     count: usize,

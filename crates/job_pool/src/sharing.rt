@@ -65,7 +65,7 @@ fn shared<J: Job, R: Threads + Wait + Sync>(
     place_all(done, threads, row)
 }
 
-/// Shares the pieces out to so many workers, which work until none is left or a piece says that all
+/// Shares the pieces out to `count` workers, which work until none is left or a piece says that all
 /// are to stop. Returns what became of each piece, in its place. Fails only if there is no memory:
 /// then nothing was worked on, and the pieces come back.
 pub fn share_out<J: Job, R: Threads + Wait + Sync>(

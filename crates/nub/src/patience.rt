@@ -16,10 +16,10 @@ pub enum Look {
     Ready,
 }
 
-// A thread with so many more misses than hits (a hit counts twice) stops looking,
+// A thread with this many more misses than hits (a hit counts twice) stops looking,
 const MOST_MISSES: u64 = 8;
 
-// except at the last of so many waits.
+// except at the last of this many waits.
 const LAST: u64 = 135;
 
 // Every tally is below this.

@@ -21,7 +21,7 @@ use Rattle.nub_rule.specs.Known.{Known, known_as}
 use Rattle.nub_rule.specs.Rule.{begun}
 use Rattle.nub_rule.specs.Places.{life_at, value_at, word_count}
 
--- how many of so many threads live at first
+-- how many of `threads` threads live at first
 abbrev pub living : Version → ℕ → ℕ
 living One threads = threads
 living Two threads = 1

@@ -131,7 +131,7 @@ impl<U: Uses> Thread<U> {
         self.patience = patience;
     }
 
-    /// Allocates room for so many further events, so that storing them needs no memory. Fails only
+    /// Allocates room for `further` more events, so that storing them needs no memory. Fails only
     /// if there is no memory.
     pub fn reserve(&mut self, further: usize) -> Result<(), AllocError>
         ensures { self.new ≡ self.old }

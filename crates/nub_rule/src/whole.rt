@@ -179,7 +179,7 @@ fn parker_of(alloc: Global) -> Result<(Parker, Waker), AllocError> {
     Ok((parker, waker))
 }
 
-/// Makes so many parkers, and the other end of each.
+/// Makes `count` parkers, and the other end of each.
 fn parkers_of(alloc: Global, count: u32) -> Result<(Vec<Parker>, Vec<Waker>), AllocError>
     ensures { IfOk result (λ o. (length o.0.items ≡ count) × (vec_len o.1 ≡ count)) }
 {

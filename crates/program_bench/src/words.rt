@@ -8,8 +8,8 @@ pub enum Workload {
     Uncontended {
         times: u32,
     },
-    /// Threads, all at once, acquire, add 1 and release, each with so many turns on a number of its
-    /// own after each release.
+    /// Threads, all at once, acquire, add 1 and release, each with `outside` turns on a number of
+    /// its own after each release.
     Contended {
         threads: Count,
         times: u32,

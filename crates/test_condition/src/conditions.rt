@@ -51,8 +51,8 @@ fn has_steps(rt: &impl Abort, found: Steps, expected: Steps) {
     assert_eq!(rt; found, expected);
 }
 
-/// Checks that so many Signals and no Broadcast ended waits in the condition, and that each thread
-/// that waited went on.
+/// Checks that `signals` Signals and no Broadcast ended waits in the condition, and that each
+/// thread that waited went on.
 fn has_turns(rt: &impl Abort, found: Steps, signals: u64) {
     let expected = Steps {
         enqueued: found.enqueued,

@@ -79,8 +79,8 @@ fn wake_once<R: Wait>(
     release::<SumUses, NoChange, R>(rt, pkg, me, kept, got);
 }
 
-/// Waits so often with its own mutex, which is the part of thread 0, or wakes the other as often
-/// and keeps the other mutex.
+/// Waits `times` times with its own mutex, which is the part of thread 0, or wakes the other as
+/// often and keeps the other mutex.
 pub fn wait_or_keep<R: Wait>(
     rt: &R,
     pkg: &Package<SumUses>,

@@ -34,7 +34,7 @@ impl Job for Count {
     }
 }
 
-// So many jobs, of which the one at `stop` gives Stop.
+// `many` jobs, of which the one at `stop` gives Stop.
 fn counts(alloc: Global, many: u64, stop: u64) -> Result<Vec<Count>, AllocError> {
     let mut jobs = Vec::new(alloc);
     for number in 0..many {
@@ -68,7 +68,7 @@ fn are_places(values: &[u64]) -> bool {
     true
 }
 
-// What came of so many jobs on three workers, of which the one at `stop` gives Stop: the place that
+// What came of `many` jobs on three workers, of which the one at `stop` gives Stop: the place that
 // stopped the pool, or `many` if none did.
 fn end_of<R: Threads + Wait + Sync>(
     rt: &R,

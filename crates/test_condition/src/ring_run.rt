@@ -25,7 +25,7 @@ fn one_ring(alloc: Global, capacity: u32) -> Result<Vec<Ring<u32>>, AllocError>
     Ok(values)
 }
 
-/// Lets so many threads do their task, all at once. Returns the closed package, and what each of
+/// Lets `threads` threads do their task, all at once. Returns the closed package, and what each of
 /// them left.
 fn run<R: Threads + Wait + Sync>(
     rt: &R,
@@ -80,7 +80,7 @@ fn end_of(closed: &Closed<Numbers>) -> Option<End> {
     })
 }
 
-/// Lets so many threads do their task, all at once. Returns what the package leaves of its ring,
+/// Lets `threads` threads do their task, all at once. Returns what the package leaves of its ring,
 /// and what each of them left. The closed package is dropped here, so that tests compare where none
 /// is alive.
 pub fn ended<R: Threads + Wait + Sync>(

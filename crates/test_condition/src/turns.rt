@@ -35,7 +35,7 @@ fn one_state(alloc: Global) -> Result<Vec<RwState>, AllocError>
     Ok(values)
 }
 
-/// Opens a package of so many threads with one state, and returns it with the threads.
+/// Opens a package of `threads` threads with one state, and returns it with the threads.
 pub fn open_state(
     alloc: Global,
     threads: u32,
@@ -108,8 +108,8 @@ pub fn run_two<R: Wait>(rt: &R, alloc: Global) -> Result<Closed<RwUses>, AllocEr
     close_package(pkg, threads)
 }
 
-/// Writes both numbers so often, one more than they were, and returns how often they weren't equal
-/// before.
+/// Writes both numbers `times` times, one more than they were, and returns how often they weren't
+/// equal before.
 fn write_often<R: Wait>(
     rt: &R,
     pkg: &Package<RwUses>,
@@ -135,7 +135,7 @@ fn write_often<R: Wait>(
     (me, torn)
 }
 
-/// Reads both numbers so often, and returns how often they weren't equal.
+/// Reads both numbers `times` times, and returns how often they weren't equal.
 fn read_often<R: Wait>(
     rt: &R,
     pkg: &Package<RwUses>,
@@ -178,8 +178,8 @@ fn write_or_read<R: Wait>(
     }
 }
 
-/// Lets two threads write a pair and two read it so often, all at once. Returns how often each
-/// found the pair torn.
+/// Lets two threads write a pair and two read it, `times` times each, all at once. Returns how
+/// often each found the pair torn.
 pub fn run_four<R: Threads + Wait + Sync>(
     rt: &R,
     alloc: Global,

@@ -18,22 +18,23 @@ use test_turns::{Turn, Wake, take_turn};
 pub enum Waits {
     /// It signals and broadcasts while no thread waits.
     Wakes,
-    /// Threads 0 and 1 add in turns so often, each waiting in a condition of its own, and signal
-    /// while they hold the mutex.
+    /// Threads 0 and 1 add in turns, this many times, each waiting in a condition of its own, and
+    /// signal while they hold the mutex.
     Turns(u32),
     /// Threads 0 and 1 add in turns too, but signal after the release of the mutex, while the other
     /// may be anywhere between its count and its sleep.
     TurnsAfter(u32),
-    /// Each pair of threads adds in turns so often, in a mutex and a condition of its own, if there
-    /// are enough.
+    /// Each pair of threads adds in turns, this many times, in a mutex and a condition of its own,
+    /// if there are enough.
     TurnsApart(u32),
-    /// Threads 0 and 1 put so many items each into a ring of one place, and threads 2 and 3 take as
-    /// many each.
+    /// Threads 0 and 1 put this many items each into a ring of one place, and threads 2 and 3 take
+    /// as many each.
     Ring(u32),
     /// All threads but thread 0 wait in one condition until the value isn't 0, and thread 0
     /// broadcasts once when this many do.
     Gather(u64),
-    /// Thread 0 waits so often with mutex 1, and thread 1 wakes it and keeps mutex 0 until it has gone on.
+    /// Thread 0 waits this many times with mutex 1, and thread 1 wakes it and keeps mutex 0 until
+    /// it has gone on.
     KeepsFirst(u32),
     /// The same, with the mutexes exchanged.
     KeepsSecond(u32),
@@ -50,7 +51,7 @@ fn wakes<R: Wait>(rt: &R, pkg: &Package<SumUses>, mut me: Thread<SumUses>) -> Th
     me
 }
 
-/// Adds 1 so often, each time when the value has its parity, and wakes one thread in the other
+/// Adds 1 `times` times, each time when the value has its parity, and wakes one thread in the other
 /// condition.
 fn turns<R: Wait>(
     rt: &R,
@@ -79,7 +80,7 @@ fn turns<R: Wait>(
     me
 }
 
-/// Puts so many items into the ring, or takes as many.
+/// Puts `times` items into the ring, or takes as many.
 fn ring<R: Wait>(
     rt: &R,
     pkg: &Package<SumUses>,

@@ -151,7 +151,7 @@ fn alert_others<R: Wait>(
     (me, Left::Told)
 }
 
-/// Puts as many items, from this one on. The last thread to end, after so many others, shuts the
+/// Puts `times` items, from `first` on. The last thread to end, after `others` others, shuts the
 /// buffer.
 fn put_many<R: Wait>(
     rt: &R,

@@ -41,7 +41,7 @@ fn words_of(alloc: Global, words: &[&str]) -> Result<Vec<String>, AllocError> {
     Ok(all)
 }
 
-/// Calls the program on this input, with room for so many bytes of its answer.
+/// Calls the program on this input, with room for `room` bytes of its answer.
 pub fn run_program<R: Threads + Wait + Sync>(
     rt: &R,
     alloc: Global,

@@ -62,7 +62,7 @@ impl Tree for Crowd {
     }
 }
 
-/// Returns as many of these trees as a call of the program needs, each with so many directories.
+/// Returns as many of these trees as a call of the program needs, each with `many` directories.
 pub fn crowded_trees(alloc: Global, many: u32) -> Result<Vec<Option<Crowd>>, AllocError>
     ensures many { IfOk result (λ v. length v.items ≡ 17) }
     ensures agree { IfOk result (λ v. Agree (looks_of (look_of ⟦<Crowd as Tree>⟧.tree ⟦<Crowd as Tree>⟧.may_fail ⟦<Crowd as Tree>⟧.calls

@@ -64,7 +64,7 @@ value m1 7
 "
 }
 
-// Calls the command `run` on this text, with room for so many bytes of its answer.
+// Calls the command `run` on this text, with room for `room` bytes of its answer.
 fn run<R: Threads + Wait + Sync>(
     rt: &R,
     alloc: Global,
@@ -75,7 +75,7 @@ fn run<R: Threads + Wait + Sync>(
     run_program(rt, alloc, &["run"], &mut input, room)
 }
 
-// Calls the command on this text, of which so many bytes are given before the read fails.
+// Calls the command on this text, of which `given` bytes are given before the read fails.
 fn failing<R: Threads + Wait + Sync>(
     rt: &R,
     alloc: Global,
@@ -165,8 +165,8 @@ fn a_full_sink_holds_the_prefix_of_the_line(rt: HostRuntime) -> Result<(), Fail>
     Ok(())
 }
 
-// Checks that with so much room the answer to the five lines is the prefix of this text that has so
-// many bytes.
+// Checks that with room for `room` bytes the answer to the five lines is a prefix of this text with
+// as many bytes.
 fn is_cut<R: Threads + Wait + Sync + Abort>(
     rt: &R,
     alloc: Global,

@@ -8,7 +8,7 @@ use std::test::Fail;
 use std::thread::Threads;
 use test_project::Meeting;
 
-// Appends, so many times, the lines in which this thread adds one.
+// Appends, `times` times, the lines in which this thread adds one.
 fn add_lines(alloc: Global, text: &mut String, thread: u32, times: u32) -> Result<(), AllocError> {
     let lines = format!(in alloc;
         "t{thread} acquire m0\nt{thread} add m0 1\nt{thread} release m0\n"
@@ -19,7 +19,7 @@ fn add_lines(alloc: Global, text: &mut String, thread: u32, times: u32) -> Resul
     Ok(())
 }
 
-// The layout of two threads, and for each of them, so many times, the lines in which it adds one.
+// The layout of two threads, and for each of them, `times` times, the lines in which it adds one.
 fn adding(alloc: Global, times: u32) -> Result<String, AllocError> {
     let mut text = String::from_str(alloc, "threads 2 mutexes 1 conditions 0 semaphores 0\n")?;
     add_lines(alloc, &mut text, 0, times)?;

@@ -28,7 +28,7 @@ fn script_of(alloc: Global, text: &str) -> Result<Script, Fail> {
     }
 }
 
-// Checks that the script has these lines for so many threads.
+// Checks that the script has these lines for `threads` threads.
 fn has_lines(rt: &impl Abort, script: &Script, threads: u32, lines: &[Line]) {
     same(rt, &script.layout().threads, &threads);
     same(rt, &script.lines(), &lines);
@@ -82,7 +82,7 @@ fn forks_and_joins_are_read(rt: HostRuntime) -> Result<(), Fail> {
     Ok(())
 }
 
-// Checks that the text is refused with this fault, if so many of its bytes are given. The script
+// Checks that the text is refused with this fault, if `given` of its bytes are given. The script
 // isn't alive where that is compared.
 fn is_refused(
     rt: &impl Abort,

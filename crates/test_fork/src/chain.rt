@@ -73,7 +73,7 @@ fn end_all<R: Threads + Wait + Sync>(
     Ok(done.results)
 }
 
-/// Runs a chain of so many threads, and returns the closed package. It needs an operating-system
+/// Runs a chain of `threads` threads, and returns the closed package. It needs an operating-system
 /// thread for each.
 pub fn run_chain<R: Threads + Wait + Sync>(
     rt: &R,

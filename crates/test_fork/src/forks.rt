@@ -15,7 +15,7 @@ use std::thread::Threads;
 use std::time::Clock;
 use test_support::{event, has_left, has_numbers, has_played};
 
-/// Returns a plan in which each of so many threads is started, and does this.
+/// Returns a plan in which each of `threads` threads is started, and does this.
 fn all_started(threads: u32, task: Task, traced: bool) -> Plan
     ensures { result.threads ≡ threads }
 {
@@ -29,7 +29,7 @@ fn all_started(threads: u32, task: Task, traced: bool) -> Plan
     }
 }
 
-/// Checks that the plan leaves the mutex with this number, and the package with a trace of so many
+/// Checks that the plan leaves the mutex with this number, and the package with a trace of `events`
 /// events or none.
 fn leaves<R: Threads + Wait + Clock + Abort + Sync>(
     rt: &R,
@@ -126,7 +126,7 @@ fn many_forks_by_one(rt: HostRuntime) -> Result<(), Fail> {
     )
 }
 
-/// Checks that a chain of 256 leaves a trace of so many events or none.
+/// Checks that a chain of 256 leaves a trace of `events` events or none.
 fn chain_leaves<R: Threads + Wait + Clock + Abort + Sync>(
     rt: &R,
     alloc: Global,

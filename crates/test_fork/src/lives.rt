@@ -18,7 +18,7 @@ use std::time::{Clock, Duration};
 use sum_uses::{AddChange, SumUses, add_to};
 use user_mutex::locked;
 
-// A thread ends so many ms after another is about to wait for its end: by then, the other sleeps.
+// A thread ends this many ms after another is about to wait for its end: by then, the other sleeps.
 const LATE: u64 = 20;
 
 /// The task of threads before their end.
@@ -27,7 +27,7 @@ pub enum Task {
     Nothing,
     /// Each adds 1 under mutex 0.
     Adds,
-    /// So many threads wait for the end of thread 1, which ends once all are about to.
+    /// This many threads wait for the end of thread 1, which ends once all are about to.
     JoinFirst(u64),
     /// Each ends a while after thread 0 is about to wait for its end.
     Late,
@@ -98,7 +98,7 @@ fn raise<R: Wait>(
     ended
 }
 
-/// Waits until so many are about to join, and a while longer.
+/// Waits until `number` threads are about to join, and a while longer.
 fn be_late<R: Clock>(rt: &R, note: &AtomicU64, number: u64) {
     let _ = seen_in_time(rt, note, number);
     thread::sleep(rt, Duration::from_millis(LATE));

@@ -35,7 +35,7 @@ pub struct Plan {
     pub traced: bool,
 }
 
-/// Returns a layout of so many threads with one mutex.
+/// Returns a layout of `threads` threads with one mutex.
 pub fn layout_of(threads: u32) -> Layout
     requires { (1 ≤ threads) × (threads ≤ 256) }
     ensures lawful { IsLawful result }

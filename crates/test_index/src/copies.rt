@@ -7,7 +7,7 @@ use firefly_outside::{MemTree, Text};
 use std::alloc::{AllocError, Global};
 use test_project::copy_failing_at;
 
-/// Returns copies of the tree for so many workers, which fail at the first paths, and one for the
+/// Returns copies of the tree for `workers` workers, which fail at the first paths, and one for the
 /// closing walk, which fails at the last ones.
 pub fn copies_of(
     alloc: Global,

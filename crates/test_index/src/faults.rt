@@ -90,8 +90,8 @@ fn wrong_set<R: Threads + Wait + Sync>(
     Ok(None)
 }
 
-// Checks that no set of failing paths gives a wrong answer, with so many workers of one kind and so
-// many of the others.
+// Checks that no set of failing paths gives a wrong answer, with `many` workers of one kind and
+// `others` of the others.
 fn none_is_wrong(rt: &impl Abort, wrong: Option<u32>, many: u32, others: u32) {
     assert_eq!(rt; wrong, None, "{many} {others}");
 }

@@ -19,7 +19,8 @@ fn few(many: u32) -> u32
     many.max(1).min(8)
 }
 
-/// Returns a plan of so many workers, 1 to 8 of each kind, that isn't stopped and isn't traced.
+/// Returns a plan of these numbers of workers, 1 to 8 of each kind, that isn't stopped and isn't
+/// traced.
 pub fn plan_of(walkers: u32, parsers: u32, mergers: u32) -> Plan
     ensures { IsPlan result }
 {
@@ -32,7 +33,7 @@ pub fn plan_of(walkers: u32, parsers: u32, mergers: u32) -> Plan
     }
 }
 
-/// Returns a plan of two workers of each kind that is stopped after so many files.
+/// Returns a plan of two workers of each kind that is stopped after `most` files.
 pub fn stopping_plan(most: u64) -> Plan
     requires { most ≤ 1000 }
     ensures { IsPlan result }
@@ -46,7 +47,7 @@ pub fn stopping_plan(most: u64) -> Plan
     }
 }
 
-/// Returns a plan of so many workers of each kind that is traced.
+/// Returns a plan of `workers` workers of each kind that is traced.
 pub fn traced_plan(workers: u32) -> Plan
     ensures { IsPlan result }
 {

@@ -8,7 +8,7 @@ use std::test::Fail;
 use std::thread::Threads;
 use test_support::{event, few_of_each, has_numbers, leaves, plays, run};
 
-/// Checks that thread 0 raises so often, and leaves a trace of so many events or none.
+/// Checks that thread 0 raises `times` times, and leaves a trace of `events` events or none.
 fn raises<R: Threads + Wait + Sync>(
     rt: &R,
     alloc: Global,
@@ -29,7 +29,7 @@ fn raises_each_time(rt: HostRuntime) -> Result<(), Fail> {
     raises(&rt, rt.alloc(), 100, Some(402))
 }
 
-/// Checks that thread 0 ends its wait so often, and finds no fault.
+/// Checks that thread 0 ends its wait `times` times, and finds no fault.
 fn ends_each_wait<R: Threads + Wait + Sync>(
     rt: &R,
     alloc: Global,

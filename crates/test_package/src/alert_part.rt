@@ -13,11 +13,11 @@ use test_support::Part;
 /// The task of the threads of a test.
 #[derive(Clone, Copy)]
 pub enum AlertTask {
-    /// Thread 1 alerts thread 0 so often, which waits for a semaphore that no thread makes
+    /// Thread 1 alerts thread 0 this many times, which waits for a semaphore that no thread makes
     /// available.
     Raises(u32),
-    /// So often thread 1 makes a semaphore available for which thread 0 waits, while thread 2
-    /// alerts thread 0.
+    /// This many times thread 1 makes a semaphore available for which thread 0 waits, while thread
+    /// 2 alerts thread 0.
     AtOnce(u32),
     /// Thread 0 alerts itself, and waits for a semaphore that it has taken.
     Oneself,
@@ -27,8 +27,8 @@ pub enum AlertTask {
     AtRest,
     /// Thread 0 alerts itself and waits in a condition.
     Alone,
-    /// So often thread 0 waits in a condition while thread 1 signals once and thread 2 alerts
-    /// thread 0 once.
+    /// This many times thread 0 waits in a condition while thread 1 signals once and thread 2
+    /// alerts thread 0 once.
     Race(u32),
 }
 

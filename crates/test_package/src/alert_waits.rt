@@ -52,7 +52,7 @@ fn ended(closed: &Closed<SumUses>) -> Option<u64> {
     Some(ended)
 }
 
-/// Returns how many waits have ended in the trace of so many races.
+/// Returns how many waits have ended in the trace of `races` races.
 fn ended_in_races<R: Threads + Wait + Sync>(
     rt: &R,
     alloc: Global,

@@ -42,8 +42,8 @@ pub fn raise_alone<R: Wait>(rt: &R, pkg: &Package<SumUses>, me: &mut Thread<SumU
     }
 }
 
-/// Waits so often, each time while the other two signal and alert it once. After that it must be
-/// alerted if and only if the alert didn't end the wait: the note counts where this fails.
+/// Waits `times` times, each time while the other two signal and alert it once. After that it must
+/// be alerted if and only if the alert didn't end the wait: the note counts where this fails.
 pub fn wait_for_wakes<R: Wait>(
     rt: &R,
     pkg: &Package<SumUses>,

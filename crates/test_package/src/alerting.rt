@@ -12,7 +12,7 @@ use std::sync::Wait;
 use std::sync::atomic::Ordering;
 use sum_uses::SumUses;
 
-/// Alerts thread 0 so often, each time after it has raised for the time before.
+/// Alerts thread 0 `times` times, each time after it has raised for the time before.
 pub fn alert_often<R: Wait>(rt: &R, pkg: &Package<SumUses>, me: &mut Thread<SumUses>, times: u32)
     requires named { (5 ≤ pkg.now.layout.semaphores) × (1 ≤ pkg.now.layout.threads) }
     requires idle { IsIdle pkg.now me.old.number [] me.old }
@@ -25,7 +25,7 @@ pub fn alert_often<R: Wait>(rt: &R, pkg: &Package<SumUses>, me: &mut Thread<SumU
     }
 }
 
-/// Waits so often for a semaphore that it has taken itself, and counts how often it raises.
+/// Waits `times` times for a semaphore that it has taken itself, and counts how often it raises.
 pub fn raise_often<R: Wait>(
     rt: &R,
     pkg: &Package<SumUses>,
@@ -71,8 +71,8 @@ fn look_over<R: Wait>(
     p(rt, pkg, me, TRIED);
 }
 
-/// Waits so often for a semaphore that becomes available while the thread is alerted: it has the
-/// semaphore, or has raised and can take it.
+/// Waits `times` times for a semaphore that becomes available while the thread is alerted: it has
+/// the semaphore, or has raised and can take it.
 pub fn wait_often<R: Wait>(
     rt: &R,
     pkg: &Package<SumUses>,

@@ -1,5 +1,5 @@
-//! The acts of two threads at once while thread 0 waits, so often, each time after thread 0 has let
-//! them go on.
+//! The acts of two threads at once while thread 0 waits, some number of times, each after thread 0
+//! has let them go on.
 ghost use Rattle.std.specs.Prelude.{[], ◌<◌, ◌≤◌};
 ghost use Rattle.nub.specs.Idle.{IsIdle};
 
@@ -73,7 +73,7 @@ fn told(what: Act) -> (SemId, SemId)
     }
 }
 
-/// Acts so often, each time as soon as it may go on, and then announces that it has acted.
+/// Acts `times` times, each as soon as it may go on, and then announces that it has acted.
 pub fn act_often<R: Wait>(
     rt: &R,
     pkg: &Package<SumUses>,

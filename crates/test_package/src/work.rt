@@ -15,15 +15,15 @@ use user_mutex::{acquire, locked, release};
 /// The task of the threads of a test.
 #[derive(Clone, Copy)]
 pub enum Task {
-    /// All add so often under one mutex.
+    /// All add this many times under one mutex.
     Together(u32),
-    /// Each adds so often under a mutex of its own, if there are enough.
+    /// Each adds this many times under a mutex of its own, if there are enough.
     Apart(u32),
     /// One turn of the mutex with an addition, and one without.
     TwoTurns,
     /// Thread 1 holds mutex 0 until thread 0 has been through mutex 1.
     PassBy,
-    /// All take turns by one semaphore, so often.
+    /// All take turns by one semaphore, this many times.
     TakeTurns(u32),
     /// Each takes turns by a semaphore of its own, if there are enough.
     TurnApart(u32),
@@ -31,7 +31,7 @@ pub enum Task {
     PassBySem,
 }
 
-/// Adds 1 this many times.
+/// Adds 1 `times` times.
 fn add_many<R: Wait>(
     rt: &R,
     pkg: &Package<SumUses>,
@@ -111,7 +111,7 @@ fn pass_by<R: Wait>(
     me
 }
 
-/// Makes P and V so often. Notes whether another thread was between its own at the same time.
+/// Makes P and V `times` times. Notes whether another thread was between its own at the same time.
 fn turns<R: Wait>(
     rt: &R,
     pkg: &Package<SumUses>,

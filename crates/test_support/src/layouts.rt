@@ -6,7 +6,7 @@ ghost use Rattle.test_support.specs.Layouts.{HasFew};
 
 use nub::Layout;
 
-/// Returns a layout of so many threads, with two mutexes, two conditions and five semaphores.
+/// Returns a layout of `threads` threads, with two mutexes, two conditions and five semaphores.
 pub fn few_of_each(threads: u32) -> Layout
     requires { (1 ≤ threads) × (threads ≤ 64) }
     ensures lawful { IsLawful result }

@@ -53,7 +53,7 @@ pub fn run<R: Threads + Wait + Sync, P: Part>(
 }
 
 /// Runs the part, and checks that the mutexes are left with these numbers, and the package with a
-/// trace of so many events or none.
+/// trace of `events` events or none.
 pub fn leaves<R: Threads + Wait + Sync, P: Part>(
     rt: &R,
     alloc: Global,

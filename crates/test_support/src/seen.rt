@@ -20,7 +20,7 @@ pub fn has_numbers(found: &[u64], expected: &[u64]) -> Result<(), Fail> {
     Err(Fail::new(format_args!("{found:?} in place of {expected:?}")))
 }
 
-/// Checks that there is a trace of so many events, or none.
+/// Checks that there is a trace of this many events, or none.
 fn has_length(closed: &Closed<SumUses>, expected: Option<usize>) -> Result<(), Fail> {
     let length = match closed.trace() {
         Some(events) => Some(events.len()),
@@ -32,7 +32,7 @@ fn has_length(closed: &Closed<SumUses>, expected: Option<usize>) -> Result<(), F
     Err(Fail::new(format_args!("{length:?} events in place of {expected:?}")))
 }
 
-/// Checks that the mutexes have these numbers, and that there is a trace of so many events, or
+/// Checks that the mutexes have these numbers, and that there is a trace of this many events, or
 /// none.
 pub fn has_left(
     closed: &Closed<SumUses>,
