@@ -84,6 +84,16 @@ impl<T> Ring<T> {
     }
 
     /// Returns whether the ring has as many items as its capacity.
+    ///
+    /// ```rust
+    /// if ring.is_shut() {
+    ///     return false;
+    /// }
+    /// match side {
+    ///     Side::Putting => ring.is_full(),
+    ///     Side::Taking => ring.is_empty(),
+    /// }
+    /// ```
     pub fn is_full(&self) -> bool
         ensures full { result ≡ true → length self.now.items ≡ self.now.capacity }
         ensures room { result ≡ false → length self.now.items < self.now.capacity }
@@ -121,6 +131,16 @@ impl<T> Ring<T> {
     }
 
     /// Returns whether the ring is shut.
+    ///
+    /// ```rust
+    /// if ring.is_shut() {
+    ///     return false;
+    /// }
+    /// match side {
+    ///     Side::Putting => ring.is_full(),
+    ///     Side::Taking => ring.is_empty(),
+    /// }
+    /// ```
     pub fn is_shut(&self) -> bool
         ensures { result ≡ self.now.shut }
     {

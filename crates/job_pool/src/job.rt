@@ -8,7 +8,21 @@ pub enum Work {
     Stop,
 }
 
-/// Something to be done once.
+/// Something that a pool does at most once.
+///
+/// ```rust
+/// impl Job for Block<'_> {
+///     ghost state = { λ b. b.0.now };
+///
+///     ghost gives = { λ b. Value (checksum_of b.0.now) };
+///
+///     ghost next = { λ b. b.0.now };
+///
+///     fn work(&mut self) -> Work {
+///         Work::Value(checksum(self.0))
+///     }
+/// }
+/// ```
 pub trait Job: Send + Drop {
     ghost use Rattle.job_pool.specs.declared.job.Work.{Work};
 
