@@ -64,8 +64,8 @@ pub fn fork_thread<U: Uses, R: Wait>(
     Ok(hand_out(p, me, body))
 }
 
-/// Ends the thread, which must hold no mutex. Threads that wait for its end go on. Returns what
-/// closing the package takes.
+/// Ends the thread, which must hold no mutex, and wakes the threads that wait for its end. Returns
+/// what closing the package takes.
 ///
 /// In a traced package it may wait for a moment, for the turn to number the event.
 ///
