@@ -1,12 +1,12 @@
-//! How an alertable call ends.
+//! The two ways in which an alertable call ends.
 use std::fmt;
 
-/// How an alertable call ends.
+/// How an alertable call ended.
 #[derive(Clone, Copy, Debug, PartialEq, Eq)]
 pub enum Outcome {
-    /// As the same call without alerts.
+    /// The call did what the same call without alerts does.
     Returned,
-    /// By an alert, which is gone then.
+    /// An alert ended the call, and was cleared.
     Alerted,
 }
 

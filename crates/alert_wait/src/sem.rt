@@ -1,4 +1,4 @@
-//! A P that an alert ends.
+//! A P that an alert may end.
 ghost use Rattle.std.specs.Prelude.{◌≡◌, ℕ, ◌<◌, [], None, true, false};
 ghost use Rattle.larch_actions.specs.declared.event.Life.TheVariants.{Live};
 ghost use Rattle.nub_rule.specs.declared.view.Pen.TheVariants.{No};
@@ -19,11 +19,12 @@ use nub::{begin_event, end_event, withdraw};
 use nub_rule::{Object, Package, Thread, Uses, swap_alert_in_p};
 use std::sync::Wait;
 
-/// Makes the semaphore unavailable, once it is available, or raises where the thread was alerted, and the alert is gone then. Where both is
-/// possible, either may happen.
+/// Makes the semaphore unavailable as soon as it is available, or raises if the thread was alerted,
+/// and clears the alert then. Returns which of the two it did. If both are possible, either may
+/// happen.
 ///
-/// It blocks while the semaphore is unavailable and the thread isn't alerted: a `v` of the semaphore may end the wait, by any thread, and so
-/// does an `alert` of this one.
+/// Blocks while the semaphore is unavailable and the thread isn't alerted: a `v` of the semaphore,
+/// by any thread, may end the wait, and so may an `alert` of this thread.
 ///
 /// ```rust
 /// let outcome = alert_p(rt, pkg, me, TRIED);
@@ -42,7 +43,7 @@ pub fn alert_p<U: Uses, R: Wait>(rt: &R, p: &Package<U>, me: &mut Thread<U>, s: 
     take_or_raise(rt, p, me, s)
 }
 
-/// All of `alert_p`, told as one change of what the thread knows. It may wait.
+/// Does all of `alert_p`, with a contract in terms of what the thread knows. It may wait.
 #[inline(always)]
 fn take_or_raise<U: Uses, R: Wait>(rt: &R, p: &Package<U>, me: &mut Thread<U>, s: SemId) -> Outcome
     requires of { me.old.table_id ≡ p.now.table_id }
@@ -76,7 +77,7 @@ fn take_or_raise<U: Uses, R: Wait>(rt: &R, p: &Package<U>, me: &mut Thread<U>, s
     unreachable!()
 }
 
-/// Ends the call of a thread that has found its alert word set while it stood in line. It may wait.
+/// Ends the call of a thread that found its alert word set while it was in the queue. It may wait.
 #[cold]
 #[inline(never)]
 fn end_alerted<U: Uses, R: Wait>(rt: &R, p: &Package<U>, me: &mut Thread<U>, s: SemId) -> Outcome
@@ -105,8 +106,8 @@ fn end_alerted<U: Uses, R: Wait>(rt: &R, p: &Package<U>, me: &mut Thread<U>, s: 
     Outcome::Alerted
 }
 
-/// Takes the alerted thread out of the queue, and tries the bit once more where another thread had popped it. It answers whether it took
-/// the bit, and so made the event. It may wait.
+/// Takes the alerted thread out of the queue, and tries the bit once more if another thread had
+/// popped it. Returns whether it took the bit, and so made the event. It may wait.
 fn take_at_last<U: Uses, R: Wait>(rt: &R, p: &Package<U>, me: &mut Thread<U>, s: SemId) -> bool
     requires of { me.old.table_id ≡ p.now.table_id }
     requires named { s.0 < p.now.layout.semaphores }
@@ -135,8 +136,8 @@ fn take_at_last<U: Uses, R: Wait>(rt: &R, p: &Package<U>, me: &mut Thread<U>, s:
     if withdraw(rt, p, me, at) {
         return false;
     }
-    // A V that popped this thread woke nobody else. So the bit is tried once more before the alert ends the call: if that fails, another
-    // thread has the semaphore, and its V will wake the next.
+    // A V that popped this thread woke nobody else. So the bit is tried once more before the alert
+    // ends the call: if that fails, another thread has the semaphore, and its V will wake the next.
     let e = Event {
         thread: ThreadId(me.number()),
         action: Action::AlertPReturn { sem: s },
@@ -144,7 +145,7 @@ fn take_at_last<U: Uses, R: Wait>(rt: &R, p: &Package<U>, me: &mut Thread<U>, s:
     try_take(rt, p, me, at, e)
 }
 
-/// Ends the call by the alert, which is gone then. In a traced package it may wait for the pen.
+/// Ends the call by the alert, and clears the alert. In a traced package it may wait for the pen.
 #[cold]
 #[inline(never)]
 fn raise<U: Uses, R: Wait>(rt: &R, p: &Package<U>, me: &mut Thread<U>, s: SemId)

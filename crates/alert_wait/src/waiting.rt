@@ -1,4 +1,4 @@
-//! A wait in a condition that an alert ends.
+//! A wait in a condition that an alert may end.
 ghost use Rattle.std.specs.Prelude.{◌≡◌, ℕ, ◌<◌, ◌∷◌, [], slice_set, Some, None, true, false};
 ghost use Rattle.larch_actions.specs.Sets.{without};
 ghost use Rattle.nub_rule.specs.declared.object.Object.TheVariants.{Mutex};
@@ -21,11 +21,16 @@ use nub_rule::{
 };
 use std::sync::Wait;
 
-/// Gives the mutex back with this value and waits in the condition, in one step for all others, until a Signal or Broadcast takes the thread
-/// out of it, or an alert of it is seen; then takes the mutex again, and its value. It answers Alerted where the alert ended the wait, and
-/// the alert is gone then. Where a Signal and an alert come together, either may end it; the alert stays where it didn't.
+/// Releases the mutex with this value and waits in the condition, in one step as far as other
+/// threads can see, until a Signal or Broadcast takes the thread out of it or the thread finds
+/// itself alerted. Then acquires the mutex again, and returns the value that it has by then.
 ///
-/// It blocks until then, and after that while another thread has the mutex.
+/// Returns `Alerted` if the alert ended the wait, and the alert is cleared. If a Signal and an
+/// alert come together, either may end the wait; if the Signal does, the alert stays. Only the
+/// thread that holds the mutex may call this.
+///
+/// Blocks until then, for ever if neither comes, and after that while another thread holds the
+/// mutex.
 ///
 /// ```rust
 /// let got = acquire(rt, pkg, me, m);
@@ -58,7 +63,8 @@ pub fn alert_wait<U: Uses, C: Change<U>, R: Wait>(
         × U.fits p.now.world m.0 result.1 n (C.after p.now.world m.0 n x value s) }
 {
     put_value(p, me, m, value);
-    // The count is read before the bit is cleared: a Signal between the two, under the mutex or not, takes this thread out.
+    // The count is read before the bit is cleared. So a Signal between the two, under the mutex or
+    // not, takes this thread out.
     let count = read_count(rt, p, me, m, c, true);
     free::<U, C, R>(rt, p, me, Object::Mutex(m), None);
     let returns = block(rt, p, me, c, count, true);
@@ -66,7 +72,8 @@ pub fn alert_wait<U: Uses, C: Change<U>, R: Wait>(
     (outcome, take_value(p, me, m))
 }
 
-/// Makes the second part of the wait, by taking the mutex: the thread returns where it has left the condition, and else it raises.
+/// Makes the second event of the wait, by taking the mutex: the call returns if the thread has left
+/// the condition, and raises otherwise.
 fn end_wait<U: Uses, R: Wait>(
     rt: &R,
     p: &Package<U>,
@@ -100,7 +107,8 @@ fn end_wait<U: Uses, R: Wait>(
     ensures stored { HasStored p.now.traced me.new }
 {
     if returns {
-        // The thread has left the condition: a Signal or Broadcast that finds no begun wait from here on misses nobody.
+        // The thread has left the condition: a Signal or Broadcast that finds no waiters from here
+        // on misses nobody.
         lower_waits(p, me, c);
         let e = Event {
             thread: ThreadId(me.number()),
@@ -109,17 +117,20 @@ fn end_wait<U: Uses, R: Wait>(
         take(rt, p, me, Object::Mutex(m), e);
         Outcome::Returned
     } else {
-        // First the bit, then the alert word: that swap is the raise, and whoever raises holds the mutex at once. An alert that comes
-        // between the two ends this wait, and one that comes later stays.
+        // The bit first, then the alert word: the swap of the word is the raise, and whoever raises
+        // holds the mutex at once. An alert that comes between the two ends this wait; one that
+        // comes later stays.
         take_quiet(rt, p, me, m);
         raise(rt, p, me, m, c);
-        // Only now: until the raise the thread is in the condition as long as the count stands.
+        // Only now: until the raise, the thread is in the condition as long as the count stays the
+        // same.
         lower_waits(p, me, c);
         Outcome::Alerted
     }
 }
 
-/// Ends the wait by the alert, which is gone then, with the bit of m taken. In a traced package it may wait for the pen.
+/// Ends the wait by the alert, and clears the alert, while the thread has the bit of m. In a traced
+/// package it may wait for the pen.
 fn raise<U: Uses, R: Wait>(rt: &R, p: &Package<U>, me: &mut Thread<U>, m: MutexId, c: CondId)
     requires of { me.old.table_id ≡ p.now.table_id }
     requires named { (m.0 < p.now.layout.mutexes) × (c.0 < p.now.layout.conditions) }

@@ -1,7 +1,7 @@
 //! Alert and TestAlert.
 //!
-//! Promises: each call adds exactly its event to those of its thread. Stands on the alert words of the Nub. Nothing is said of when an
-//! alerted thread looks.
+//! Promises: each call adds exactly its event to those of its thread. Built on the alert words of
+//! the Nub. Nothing is promised about when an alerted thread notices it.
 #![tactic(auto)]
 
 ghost use Rattle.std.specs.Prelude.{◌≡◌, ℕ, ◌<◌, []};
@@ -15,9 +15,10 @@ use nub::{begin_event, end_event};
 use nub_rule::{Package, Thread, Uses, or_alert, swap_alert};
 use std::sync::Wait;
 
-/// Alerts the thread t, which may be the caller itself. A thread that waits in an alertable call, or begins one later, may end it for that.
+/// Alerts the thread `t`, which may be the caller itself. If that thread waits in an alertable
+/// call, or begins one later, the alert may end the call.
 ///
-/// It doesn't block. In a traced package it may wait for a moment, for its turn to number the event.
+/// Doesn't block. In a traced package it may wait for a moment, for the turn to number the event.
 ///
 /// ```rust
 /// alert(rt, pkg, me, ThreadId(1));
@@ -43,9 +44,9 @@ pub fn alert<U: Uses, R: Wait>(rt: &R, p: &Package<U>, me: &mut Thread<U>, t: Th
     end_event(p, me, Some(e));
 }
 
-/// Whether the thread was alerted; afterwards it isn't.
+/// Returns whether the calling thread was alerted, and clears the alert.
 ///
-/// It doesn't block. In a traced package it may wait for a moment, for its turn to number the event.
+/// Doesn't block. In a traced package it may wait for a moment, for the turn to number the event.
 ///
 /// ```rust
 /// let still = test_alert(rt, pkg, &mut me);

@@ -1,4 +1,4 @@
--- The events of a call, and a thread at the bar.
+-- The events of a call, and a thread that holds the mutex of the bar.
 use Rattle.std.specs.Prelude.{◌≡◌, ◌⊎◌, ℕ, ◌+◌, ◌<◌, ◌≤◌, false, zero, suc, List, [], ◌∷◌, slice_set, Some, None}
 use Rattle.larch_actions.specs.declared.event.Event.{Event}
 use Rattle.nub_rule.specs.Known.{Known, Shape, Holds}
@@ -15,7 +15,7 @@ use Rattle.barrier_once.specs.Rounds.{KnowsBar, KnowsOnce, MayArrive, arrived_sh
 abbrev pub RoundThread : Type 0
 RoundThread = Known Cell RoundShare RoundWorld
 
--- the cells are those of the world, with names of the layout, and the parties are all threads
+-- the cells are those of the world, with names in the layout, and all threads are parties
 pub record IsPlaced (p : Shape RoundWorld) (at : RoundAt) : Type 0 where
   pub world : at ≡ p.world.at
   pub parties : p.layout.threads ≡ p.world.parties
@@ -29,19 +29,20 @@ abbrev pub waits : ℕ → ℕ → ℕ → ℕ → List Event
 waits t m c zero = []
 waits t m c (suc k) = enqueue_event false t m c ∷ resume_event t m c ∷ waits t m c k
 
--- what the thread t does at the bar between its acquire and its release: as the last it wakes all others, and else it waits, once or oftener
+-- what the thread t does at the bar between its acquire and its release: the last to arrive wakes
+-- all others, any other waits, at least once
 abbrev pub IsStay : ℕ → ℕ → ℕ → List Event → Type 0
 IsStay t m c es = (es ≡ event t (broadcast_action c []) ∷ []) ⊎ ((k : ℕ) × (es ≡ waits t m c (suc k)))
 
--- the thread t took m, stayed at the bar, and gave m back
+-- the thread t acquired m, stayed at the bar, and released m
 abbrev pub Arrived : ℕ → ℕ → ℕ → RoundThread → RoundThread → Type 0
 Arrived t m c a b = (es : List Event) × IsStay t m c es × Adds (acquire_event t m ∷ es) (release_event t m) a b
 
--- the thread t took m and gave it back
+-- the thread t acquired m and released it
 abbrev pub Visited : ℕ → ℕ → RoundThread → RoundThread → Type 0
 Visited t m a b = Adds (acquire_event t m ∷ []) (release_event t m) a b
 
--- the thread has the bar x, at which it may arrive
+-- the thread holds the bar x, at which it may arrive
 pub record IsAtBar (p : Shape RoundWorld) (at : RoundAt) (x : Cell) (s : RoundShare) (b : RoundThread) : Type 0 where
   pub placed : IsPlaced p at
   pub rest : AtRest p b
@@ -51,11 +52,11 @@ pub record IsAtBar (p : Shape RoundWorld) (at : RoundAt) (x : Cell) (s : RoundSh
   pub may : MayArrive b.number s
   pub knows : KnowsBar p.world x s
 
--- a bar that this share fits has a round of at least so many
+-- each bar that this share fits has at least this round
 abbrev pub IsOver : RoundWorld → ℕ → RoundShare → Type 0
 IsOver w least s = (x : Cell) × KnowsBar w x s × (least ≤ round_of x)
 
--- the thread, which had the bar in a with the share s, has left it in b
+-- the thread, which held the bar in a with the share s, has left it in b
 pub record HasLeft (p : Shape RoundWorld) (at : RoundAt) (s : RoundShare) (a b : RoundThread) : Type 0 where
   pub rest : AtRest p b
   pub same : IsSame a b
@@ -64,7 +65,7 @@ pub record HasLeft (p : Shape RoundWorld) (at : RoundAt) (s : RoundShare) (a b :
   pub share : b.share ≡ Some (passed_share s)
   pub round : IsOver p.world (s.arrivals + 1) (passed_share s)
 
--- since a the thread has arrived and waited, k times and once more; it has the bar x
+-- since a the thread has arrived and waited, k times and once more; it holds the bar x
 pub record IsWaiting (p : Shape RoundWorld) (at : RoundAt) (s : RoundShare) (k : ℕ) (x : Cell) (a b : RoundThread) : Type 0 where
   pub rest : AtRest p b
   pub same : IsSame a b
@@ -74,7 +75,8 @@ pub record IsWaiting (p : Shape RoundWorld) (at : RoundAt) (s : RoundShare) (k :
   pub share : b.share ≡ Some (arrived_share s)
   pub knows : KnowsBar p.world x (arrived_share s)
 
--- the value answered was found in a once cell that this share fits, or the cell was empty and f answers it; it is 1 to the greatest value
+-- the value returned was found in a once cell that this share fits, or the cell was empty and f
+-- returns it; it lies between 1 and the greatest value
 pub record Found (w : RoundWorld) (answers : ℕ → Type 0) (s : RoundShare) (value : ℕ) : Type 0 where
   pub cell : Cell
   pub knows : KnowsOnce w cell s

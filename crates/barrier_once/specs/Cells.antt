@@ -1,4 +1,4 @@
--- What a cell has.
+-- The parts of a cell.
 use Rattle.std.specs.Prelude.{ℕ, Option as Opt, None}
 use Rattle.barrier_once.specs.declared.cell.Cell.{Cell}
 use Rattle.barrier_once.specs.declared.cell.Cell.TheVariants.{Bar, Sum, Once}

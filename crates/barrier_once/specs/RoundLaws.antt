@@ -1,4 +1,4 @@
--- The rule is kept by each allowed change.
+-- Each allowed change keeps the rule.
 use Rattle.std.specs.Prelude.{◌≡◌, ◌≢◌, ◌⊎◌, ℕ, ◌+◌, ◌*◌, ◌/◌, ◌<◌, ◌≤◌, cond, eqb, List, [], ◌∷◌, length, slice_set, Option as Opt, Some, None}
 use Rattle.std.proofs.Common.{zero, suc, arith, sym, ap, subst, ◌∙◌, ⊎_elim, inl, inr, refl, eq-eqb, ne_eqb}
 use Rattle.std.proofs.Math.Nat.{mul-add, add-mul}
@@ -77,7 +77,7 @@ has_it n s e = ap (λ b. cond b 1 0) (eq-eqb s.arrivals n e)
 has_not : (n : ℕ) (s : RoundShare) → s.arrivals ≢ n → has n s ≡ 0
 has_not n s e = ap (λ b. cond b 1 0) (ne_eqb s.arrivals n e)
 
--- more of shares: how a change of one changes what is counted
+-- how a change of one share changes what is counted
 arrivals_set : (n : ℕ) (shares : List RoundShare) (t : ℕ) (s r : RoundShare) → get_elem? shares t ≡ some s
     → with_arrivals n (slice_set shares t r) + has n s ≡ with_arrivals n shares + has n r
 arrivals_set n [] t s r e = absurd (some-ne-none s (sym e))
@@ -88,7 +88,7 @@ arrivals_few : (n : ℕ) (shares : List RoundShare) → with_arrivals n shares �
 arrivals_few n [] = omega arith
 arrivals_few n (x ∷ xs) = let h = arrivals_few n xs in let o = has_few n x in omega arith
 
--- where all are counted, each is
+-- if as many are counted as there are, each is counted
 all_counted : (n : ℕ) (shares : List RoundShare) → with_arrivals n shares ≡ length shares → Each (λ t s. s.arrivals ≡ n) shares
 all_counted n [] e t s at = absurd (some-ne-none s (sym at))
 all_counted n (x ∷ xs) e zero s at =
@@ -113,7 +113,7 @@ added_few most (x ∷ xs) each =
     let h = added_few most xs (λ t. each (suc t)) in
     let m : (1 + length xs) * most ≡ 1 * most + length xs * most = add-mul 1 (length xs) most in omega arith
 
--- where each of them has added its number and 1 c times, from the number i on
+-- the sum over shares from the number i on that have each added their number and 1, c times
 pub all_added : (c i : ℕ) (shares : List RoundShare) → Each (λ t s. s.added ≡ c * (t + i + 1)) shares
     → added_by shares + c * triangle i ≡ c * triangle (length shares + i)
 all_added c i [] each = zero_plus (c * triangle i) ∙ ap (λ n. c * triangle n) (sym (zero_plus i))
@@ -338,7 +338,7 @@ party_adds round t s h may = let left = may.left in let is = may.arrivals in rec
 party_agrees : (round t : ℕ) (s : RoundShare) (value : Opt ℕ) → IsParty round t s → IsParty round t (agreed_share value s)
 party_agrees round t s value h = record { arrivals = h.arrivals; few = h.few; left = h.left; leaves = h.leaves; odd = h.odd; even = h.even }
 
--- where one has arrived that hadn't
+-- one more share is counted if its thread has just arrived
 one_counted : (round : ℕ) (shares : List RoundShare) (t : ℕ) (s r : RoundShare) → get_elem? shares t ≡ some s → s.arrivals ≡ round
     → r.arrivals ≡ round + 1
     → with_arrivals (round + 1) (slice_set shares t r) ≡ with_arrivals (round + 1) shares + 1

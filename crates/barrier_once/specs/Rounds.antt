@@ -9,15 +9,15 @@ use Rattle.barrier_once.specs.declared.share.RoundShare.{RoundShare}
 use Rattle.barrier_once.specs.declared.share.RoundWorld.{RoundWorld}
 use Rattle.barrier_once.specs.Cells.{round_of, arrived_of, sum_of, once_of}
 
--- of who has done nothing yet
+-- the share of a thread that has done nothing yet
 abbrev pub fresh_share : RoundShare
 fresh_share = record { arrivals = 0; left = 0; added = 0; agreed = None }
 
--- 1 + .. + n
+-- 1 + 2 + .. + n
 abbrev pub triangle : ℕ → ℕ
 triangle n = n * (n + 1) / 2
 
--- how many shares have so many arrivals
+-- how many shares have n arrivals
 abbrev pub with_arrivals : ℕ → List RoundShare → ℕ
 with_arrivals n [] = 0
 with_arrivals n (s ∷ shares) = cond (eqb s.arrivals n) 1 0 + with_arrivals n shares
@@ -27,7 +27,8 @@ abbrev pub added_by : List RoundShare → ℕ
 added_by [] = 0
 added_by (s ∷ shares) = s.added + added_by shares
 
--- the thread t is in the round or has arrived in it; it has added its number and 1 once for each two arrivals, before the first of them
+-- the thread t is in the round or has arrived in it; it has added its number and 1 once for each
+-- two arrivals, before the first of them
 pub record IsParty (round t : ℕ) (s : RoundShare) : Type 0 where
   pub arrivals : (s.arrivals ≡ round) ⊎ (s.arrivals ≡ round + 1)
   pub few : s.arrivals ≤ 2000
@@ -36,12 +37,12 @@ pub record IsParty (round t : ℕ) (s : RoundShare) : Type 0 where
   pub odd : (j : ℕ) → s.arrivals ≡ 2 * j + 1 → s.added ≡ (j + 1) * (t + 1)
   pub even : (j : ℕ) → s.arrivals ≡ 2 * j → (s.added ≡ j * (t + 1)) ⊎ ((s.left ≡ 2 * j) × (s.added ≡ (j + 1) * (t + 1)))
 
--- each agreed value is the one in the cell, which is 1 to the greatest value
+-- each agreed value is the one in the cell, which lies between 1 and the greatest value
 pub record AreAgreed (most : ℕ) (value : Opt ℕ) (shares : List RoundShare) : Type 0 where
   pub same : Each (λ t s. (v : ℕ) → s.agreed ≡ Some v → value ≡ Some v) shares
   pub within : (v : ℕ) → value ≡ Some v → (1 ≤ v) × (v ≤ most)
 
--- the rule of all three, where the parties are all threads
+-- the rule of the barrier, the sum and the once cell, where all threads are parties
 pub record AreRounds (w : RoundWorld) (values : List Cell) (shares : List RoundShare) : Type 0 where
   pub round : ℕ
   pub arrived : ℕ
@@ -83,27 +84,29 @@ pub record IsKnown (w : RoundWorld) (m : ℕ) (x : Cell) (t : ℕ) (s : RoundSha
   pub sum : m ≡ w.at.sum.0 → KnowsSum w x s
   pub once : m ≡ w.at.once.0 → KnowsOnce w x s
 
--- the thread t may arrive: it has left as often as it has arrived, and before each second arrival it has added its number and 1
+-- the thread t may arrive: it has left as often as it has arrived, and before each second arrival
+-- it has added its number and 1
 pub record MayArrive (t : ℕ) (s : RoundShare) : Type 0 where
   pub left : s.left ≡ s.arrivals
   pub few : s.arrivals < 2000
   pub even : (j : ℕ) → s.arrivals ≡ 2 * j → s.added ≡ (j + 1) * (t + 1)
 
--- the thread t may add: it has left as often as it has arrived, an even number, and has yet to add in this round
+-- the thread t may add: it has left as often as it has arrived, an even number, and has yet to add
+-- in this round
 pub record MayAdd (t : ℕ) (s : RoundShare) : Type 0 where
   pub pairs : ℕ
   pub left : s.left ≡ s.arrivals
   pub arrivals : s.arrivals ≡ 2 * pairs
   pub added : s.added ≡ pairs * (t + 1)
 
--- the share after its thread has arrived; after it has left too
+-- the share after its thread has arrived, and after it has left too
 abbrev pub arrived_share : RoundShare → RoundShare
 arrived_share s = record s { arrivals = s.arrivals + 1 }
 
 abbrev pub passed_share : RoundShare → RoundShare
 passed_share s = record s { arrivals = s.arrivals + 1; left = s.left + 1 }
 
--- the share after its thread t has added; after it has agreed
+-- the share after its thread t has added, and after it has agreed
 abbrev pub added_share : ℕ → RoundShare → RoundShare
 added_share t s = record s { added = s.added + (t + 1) }
 

@@ -15,9 +15,17 @@ use nub_rule::{NoChange, Package, Thread};
 use std::sync::Wait;
 use user_mutex::{acquire, release};
 
-/// Arrives at the barrier, and leaves it once every thread has arrived as often. Answers how often it had arrived before.
+/// Arrives at the barrier, and leaves it once every thread has arrived as often. Returns how often
+/// this thread had arrived before.
 ///
-/// It blocks until then, for ever where a thread doesn't come.
+/// Blocks until then, for ever if a thread doesn't come. A thread may arrive at most 2,000 times,
+/// and must have added to the sum before each first of two arrivals.
+///
+/// ```rust
+/// let at = places();
+/// add_own(rt, p, me, &at);
+/// let _ = arrive(rt, p, me, &at);
+/// ```
 pub fn arrive<R: Wait>(
     rt: &R,
     p: &Package<RoundUses>,
@@ -43,7 +51,7 @@ pub fn arrive<R: Wait>(
     round
 }
 
-// Arrives at the bar, which the thread has, and gives it back when the round is over.
+// Arrives at the bar, which the thread holds, and releases it when the round is over.
 fn stay<R: Wait>(
     rt: &R,
     p: &Package<RoundUses>,
@@ -61,7 +69,7 @@ fn stay<R: Wait>(
     }
 }
 
-// The last to arrive: the next round begins, and all others are woken.
+// Arrives last: begins the next round, and wakes all others.
 fn pass_last<R: Wait>(
     rt: &R,
     p: &Package<RoundUses>,
@@ -73,7 +81,8 @@ fn pass_last<R: Wait>(
     requires last { arrived_of bar + 1 ≡ p.now.world.parties }
     ensures { (s : RoundShare) → IsAtBar p.now at.now bar s me.old → HasLeft p.now at.now s me.old me.new }
 {
-    // Before the mutex is given back: whoever is woken is unparked once it has been, and finds it free.
+    // Before the mutex is released: a woken thread is unparked once that has happened, and finds
+    // the mutex free.
     broadcast(rt, p, me, at.cond);
     let next = Cell::Bar {
         round: bar.round() + 1,
@@ -82,7 +91,7 @@ fn pass_last<R: Wait>(
     release::<RoundUses, Passes, R>(rt, p, me, at.bar, next);
 }
 
-// Not the last: waits until the round is over, and leaves.
+// Arrives, but not last: waits until the round is over, and leaves.
 fn await_round<R: Wait>(
     rt: &R,
     p: &Package<RoundUses>,
@@ -110,9 +119,15 @@ fn await_round<R: Wait>(
     unreachable!()
 }
 
-/// Adds the thread's number and 1 to the sum.
+/// Adds the thread's number and 1 to the sum. A thread adds once before each first of two arrivals.
 ///
-/// It blocks while another thread has the mutex of the sum.
+/// Blocks while another thread holds the mutex of the sum.
+///
+/// ```rust
+/// let at = places();
+/// add_own(rt, p, me, &at);
+/// let _ = arrive(rt, p, me, &at);
+/// ```
 pub fn add_own<R: Wait>(rt: &R, p: &Package<RoundUses>, me: &mut Thread<RoundUses>, at: &RoundAt)
     requires rest { AtRest p.now me.old }
     requires placed { IsPlaced p.now at.now }
@@ -130,9 +145,15 @@ pub fn add_own<R: Wait>(rt: &R, p: &Package<RoundUses>, me: &mut Thread<RoundUse
     release::<RoundUses, AddsOwn, R>(rt, p, me, at.sum, Cell::Sum(sum + own));
 }
 
-/// Answers the sum between the first and the second arrival of a round: what all threads have added so far.
+/// Returns the sum of what all threads have added so far, between the first and the second of two
+/// arrivals, when no thread may add.
 ///
-/// It blocks while another thread has the mutex of the sum.
+/// Blocks while another thread holds the mutex of the sum.
+///
+/// ```rust
+/// let at = places();
+/// total(rt, p, me, &at)
+/// ```
 pub fn total<R: Wait>(
     rt: &R,
     p: &Package<RoundUses>,
@@ -157,7 +178,7 @@ pub fn total<R: Wait>(
     cell.sum()
 }
 
-// The value found, and else what f answers.
+// Returns the value found, or what `f` returns if there is none.
 fn found_or<F: FnOnce() -> u64 + Drop>(found: Option<u64>, f: F) -> u64
     requires { F.pre f }
     ensures none { found ≡ None → F.post f result }
@@ -169,10 +190,15 @@ fn found_or<F: FnOnce() -> u64 + Drop>(found: Option<u64>, f: F) -> u64
     }
 }
 
-/// Answers the value in the once cell. Where it is empty, what f answers is put there first.
+/// Returns the value in the once cell. If the cell is empty, what `f` returns is put there first.
 ///
-/// It blocks while another thread has the mutex of the cell, and for as long as f runs all others wait for it. On a full cell f isn't
-/// called, which no clause says.
+/// Blocks while another thread holds the mutex of the cell. While `f` runs, all other threads that
+/// want the cell wait. If the cell has a value `f` isn't called, but no clause says so.
+///
+/// ```rust
+/// let first = agree(rt, p, &mut me, &at, || 5);
+/// let second = agree(rt, p, &mut me, &at, || six(calls));
+/// ```
 pub fn agree<F: FnOnce() -> u64 + Drop, R: Wait>(
     rt: &R,
     p: &Package<RoundUses>,

@@ -1,4 +1,4 @@
-//! What the rule says to those who have left the barrier.
+//! What the rule says to threads that have left the barrier.
 ghost use Rattle.std.specs.Prelude.{◌≡◌, ◌+◌, ◌≤◌, ℕ, List, Some};
 ghost use mathlib.Core.Option.{some};
 ghost use lib.ListN.{get_elem?};
@@ -9,14 +9,14 @@ ghost use Rattle.barrier_once.specs.declared.share.RoundShare.{RoundShare};
 ghost use Rattle.barrier_once.specs.declared.share.RoundWorld.{RoundWorld};
 ghost use Rattle.barrier_once.specs.Rounds.{AreRounds};
 
-/// Where the bar's round is at least so many, every thread has arrived as often.
+/// If the bar has reached a round, every thread has arrived as often as that.
 pub fn all_have_arrived()
     ensures { (w : RoundWorld) (values : List Cell) (shares : List RoundShare) → AreRounds w values shares
         → (round arrived : ℕ) → get_elem? values w.at.bar.0 ≡ some (Bar round arrived)
         → (k : ℕ) → k + 1 ≤ round → Each (λ t s. k + 1 ≤ s.arrivals) shares }
 {}
 
-/// Where a thread has left the barrier so often, every thread has arrived as often.
+/// If one thread has left the barrier some number of times, every thread has arrived as often.
 pub fn left_after_all()
     ensures { (w : RoundWorld) (values : List Cell) (shares : List RoundShare) → AreRounds w values shares
         → (n : ℕ) (own : RoundShare) → get_elem? shares n ≡ some own → Each (λ t s. own.left ≤ s.arrivals) shares }

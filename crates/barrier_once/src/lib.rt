@@ -1,9 +1,10 @@
 //! A cyclic barrier, a sum and a once cell.
 //!
-//! Promises: all threads of a package arrive at the barrier equally often, but for one round; whoever leaves it after its arrival k,
-//! counted from 0, knows that every thread had arrived k + 1 times. So what all have added before they arrived is the same for each
-//! that asks between two arrivals, and every thread agrees on one value of the once cell. Stands on mutexes and a condition of the
-//! package. Nothing is said of waiting: not that a thread ever leaves the barrier.
+//! Promises: all threads of a package arrive at the barrier equally often, but for one round; a
+//! thread that leaves the barrier knows that every thread has arrived as often as itself. So every
+//! thread that asks for the sum between two arrivals gets the same number, and all agree on one
+//! value of the once cell. Built on mutexes and a condition of the package. Nothing is promised
+//! about waiting: not that a thread ever leaves the barrier.
 #![tactic(auto)]
 
 mod calls;

@@ -8,7 +8,8 @@ use crate::cell::Cell;
 use crate::share::{RoundShare, RoundWorld};
 use nub_rule::{Change, Uses};
 
-/// Behind one mutex stands the bar, behind another the sum, and behind a third the once cell. A share says how far its thread is.
+/// The use in which one mutex protects the bar, one the sum, and one the once cell. A share says
+/// how far its thread is.
 pub struct RoundUses;
 
 impl Uses for RoundUses {
@@ -31,19 +32,19 @@ impl Uses for RoundUses {
     ghost holds_after = { rounds_after };
 }
 
-/// The thread arrives, and isn't the last.
+/// The change by which a thread arrives, but not as the last.
 pub struct Arrives;
 
-/// The thread arrives as the last, and leaves at once.
+/// The change by which a thread arrives as the last, and leaves at once.
 pub struct Passes;
 
-/// The thread leaves the barrier.
+/// The change by which a thread leaves the barrier.
 pub struct Leaves;
 
-/// The thread adds its number and 1.
+/// The change by which a thread adds its number and 1.
 pub struct AddsOwn;
 
-/// The thread agrees on the value in the once cell.
+/// The change by which a thread agrees on the value in the once cell.
 pub struct Agrees;
 
 impl Change<RoundUses> for Arrives {

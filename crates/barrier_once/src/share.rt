@@ -1,7 +1,8 @@
-//! What stays the same while the package lives, and what each thread has done.
+//! What stays the same while the package is open, and what each thread has done.
 use crate::cell::RoundAt;
 
-/// How many parties there are, which are all threads of the package, the greatest value for the once cell, and where the cells are.
+/// How many parties there are (all threads of the package), the greatest value for the once cell,
+/// and where the cells are.
 #[derive(Clone, Copy)]
 pub struct RoundWorld {
     pub parties: u32,
@@ -9,7 +10,8 @@ pub struct RoundWorld {
     pub at: RoundAt,
 }
 
-/// How often a thread has arrived at the barrier and left it, what it has added to the sum, and the value that it has agreed on.
+/// How often a thread has arrived at the barrier and left it, what it has added to the sum, and the
+/// value that it has agreed on.
 pub struct RoundShare {
     pub arrivals: u64,
     pub left: u64,

@@ -1,4 +1,5 @@
--- The parts that the threads of a package of sums may do, and what a package leaves whose threads have done theirs.
+-- The parts that the threads of a package of sums may do, and what a package leaves whose threads
+-- have done theirs.
 use Rattle.std.specs.Prelude.{◌≡◌, ℕ, ◌*◌, Bool, true, false, cond, List, [], ◌∷◌, length}
 use Rattle.nub_rule.specs.Known.{Shape}
 use Rattle.nub_rule.specs.Items.{Each}
@@ -24,7 +25,7 @@ adds (Turns what threads times) = times
 adds (Wake times) = times
 adds _ = 0
 
--- what the events of the thread n show when it has done the part, and the number that it has left
+-- what the events of the thread n show when it has done the part, and the number that it left
 abbrev pub Shows : Part → ℕ → ℕ → Worker → Type 0
 Shows (Add times outside) n left t = HasMade (2 * times) t
 Shows (Call all times) n left t = HasMade times t
@@ -36,7 +37,7 @@ Shows (Wake times) n left t = HasWoken times n left t
 abbrev pub HasDonePart : Part → Shape (Unit {0}) → ℕ → ℕ → Worker → Type 0
 HasDonePart part p n left t = HasWorked p n (adds part) (Shows part n left) t
 
--- so many threads have done the part in a package that was closed, and have left these numbers
+-- this many threads have done the part in a package that was closed, and have left these numbers
 pub record HasRun (threads : ℕ) (part : Part) (e : Ended ℕ (List Added) (Unit {0})) (lefts : List ℕ) : Type 0 where
   pub count : length e.threads ≡ threads
   pub lefts_count : length lefts ≡ threads

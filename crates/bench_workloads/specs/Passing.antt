@@ -21,7 +21,7 @@ pub record Both : Type 0 where
   pub numbers : Used ℕ
   pub ends : Used ℕ
 
--- the thread n of the package is between two calls, and has done this, but for the waits
+-- the thread n of the package is between two calls, and has done this, not counting waits
 abbrev pub HasDone : Shape (Unit {0}) → ℕ → Both → Passer → Type 0
 HasDone p n x t = HasUsed p n (x.numbers ∷ x.ends ∷ []) t
 
@@ -29,7 +29,7 @@ HasDone p n x t = HasUsed p n (x.numbers ∷ x.ends ∷ []) t
 abbrev pub items_sum : List (ℕ × ℕ) → ℕ
 items_sum ps = sum_by (λ p. p.1) ps
 
--- so many numbers from this one on, added up
+-- `count` numbers from `first` on, added up
 abbrev pub numbers_sum : ℕ → ℕ → ℕ
 numbers_sum first count = sum (range_with_len first count)
 
@@ -38,19 +38,20 @@ pub record IsRow (first many : ℕ) (ps : List (ℕ × ℕ)) : Type 0 where
   pub sum : items_sum ps ≡ numbers_sum first many
   pub count : length ps ≡ many
 
--- a maker has seen a buffer shut before it told of its end
+-- a maker saw a buffer shut before it could report its end
 pub record WasRefused (x : Both) : Type 0 where
   pub told : x.ends.puts ≡ []
   pub seen : (x.numbers.seen_shut ≡ true) ⊎ (x.ends.seen_shut ≡ true)
 
--- a taker has put nothing, and seen the buffer of numbers shut and empty
+-- a taker has put nothing, and has seen the buffer of numbers shut and empty
 pub record IsTaker (x : Both) : Type 0 where
   pub puts : x.numbers.puts ≡ []
   pub told : x.ends.puts ≡ []
   pub end : x.numbers.seen_end ≡ true
 
--- the thread n has done its part, with this sum modulo 2^64 of what it has taken: the first threads put a row of numbers each, and tell of their end once; the last of them to do
--- that may have shut the buffer of numbers; the others take
+-- the thread n has done its part, with this sum, modulo 2^64, of what it has taken: each of the
+-- first threads has put a row of numbers and reported its end once, and the last of them to do so
+-- may have shut the buffer of numbers; the others take
 pub record HasEnded (makers times n summed : ℕ) (x : Both) : Type 0 where
   pub sum : summed ≡ items_sum x.numbers.takes % 2 ^ 64
   pub opened : x.ends.shut ≡ false
@@ -63,7 +64,7 @@ pub record HasEnded (makers times n summed : ℕ) (x : Both) : Type 0 where
 abbrev pub HasPassed : Shape (Unit {0}) → ℕ → ℕ → ℕ → ℕ → Passer → Type 0
 HasPassed p makers times n summed t = (x : Both) × HasDone p n x t × HasEnded makers times n summed x
 
--- the ring is shut and empty, and so many items were taken from it
+-- the ring is shut and empty, and `count` items were taken from it
 pub record IsOver (count : ℕ) (q : Held ℕ) : Type 0 where
   pub taken : q.taken ≡ count
   pub empty : q.items ≡ []

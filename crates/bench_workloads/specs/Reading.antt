@@ -19,7 +19,7 @@ pub record HasState (l : Layout) : Type 0 where
   pub mutexes : 1 ≤ l.mutexes
   pub conditions : 1 ≤ l.conditions
 
--- so many turns, in each of which a thread had this role and was idle again, the last first
+-- n turns, in each of which a thread took this role and became idle again, the last first
 abbrev pub turns : Role → ℕ → List RoleChange
 turns role zero = []
 turns role (suc n) = turn 0 Idle ∷ turn 0 role ∷ turns role n
@@ -27,18 +27,18 @@ turns role (suc n) = turn 0 Idle ∷ turn 0 role ∷ turns role n
 abbrev pub role_if : Bool → Role
 role_if reads = cond reads Reading Writing
 
--- the first threads read, so many of them, and the others write
+-- the first `readers` threads read, and the others write
 abbrev pub role_by : ℕ → ℕ → Role
 role_by readers n = role_if (nat_lt n readers)
 
--- so many turns of the thread n are writes
+-- the number of writes among `times` turns of the thread n
 abbrev pub writes_by : ℕ → ℕ → ℕ → ℕ
 writes_by readers times n = cond (nat_lt n readers) 0 times
 
--- the thread n has taken so many turns
+-- the thread n has taken `times` turns
 abbrev pub HasPlayed : ℕ → ℕ → ℕ → Player → Type 0
 HasPlayed readers times n t = t.share ≡ Some (turns (role_by readers n) times)
 
--- the thread n of the package has taken so many turns, and counted this many writes
+-- the thread n of the package has taken `times` turns, and counted this many writes
 abbrev pub HasCounted : Shape (Unit {0}) → ℕ → ℕ → ℕ → ℕ → Player → Type 0
 HasCounted p readers times n writes t = IsIdle p n (turns (role_by readers n) times) t × (writes ≡ writes_by readers times n)

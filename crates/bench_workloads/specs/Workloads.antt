@@ -22,11 +22,11 @@ pub record HasObjects (l : Layout) : Type 0 where
 abbrev pub HasMade : ℕ → Worker → Type 0
 HasMade count t = length t.mine ≡ count
 
--- where semaphores are passed on the second thread has made a call before, by which it took its own
+-- if semaphores are passed on, the second thread has made a call before, by which it took its own
 abbrev pub first_calls : ℕ → ℕ
 first_calls n = cond (eqb n 1) 1 0
 
--- the thread n has passed them on so often, and counted that
+-- the thread n has passed them on this often, and has counted that
 abbrev pub HasPassed : ℕ → ℕ → ℕ → Worker → Type 0
 HasPassed times n counted t = HasMade (first_calls n + 2 * times) t × (counted ≡ times)
 
@@ -34,22 +34,25 @@ HasPassed times n counted t = HasMade (first_calls n + 2 * times) t × (counted 
 abbrev pub HasRaised : ℕ → Worker → Type 0
 HasRaised count t = raises t.mine ≡ count
 
--- the first thread has begun so many waits, each of which an alert has ended, and counted them, and the others none
+-- the first thread has begun `times` waits, each of which an alert has ended, and has counted them;
+-- the others have counted none
 abbrev pub HasWoken : ℕ → ℕ → ℕ → Worker → Type 0
 HasWoken times n counted t = (n ≡ 0 → (counted ≡ times) × HasRaised times t) × (n ≢ 0 → counted ≡ 0)
 
--- the thread n of the package is between two calls, has added so much under mutex 0, and is so
+-- the thread n of the package is between two calls, has added `total` under mutex 0, and satisfies
+-- `Is`
 pub record HasWorked (p : Shape (Unit {0})) (n total : ℕ) (Is : Worker → Type 0) (t : Worker) : Type 0 where
   pub share : List Added
   pub idle : IsIdle p n share t
   pub sum : added 0 share ≡ total
   pub is : Is t
 
--- it has added 1 so often
+-- it has added 1 `times` times
 abbrev pub HasTurned : Shape (Unit {0}) → ℕ → ℕ → Worker → Type 0
 HasTurned p n times t = HasWorked p n times (λ u. Unit {0}) t
 
--- the thread n of the package has mutex 0 and no other, whose value it got and has made y; it has added 1 so often, now or before, and alerts have ended so many of its waits
+-- the thread n of the package holds mutex 0 and no other; it got the value and has made it y; it
+-- has added 1 `times` times, now or before, and alerts have ended `alerts` of its waits
 pub record IsInside (p : Shape (Unit {0})) (n y times alerts : ℕ) (t : Worker) : Type 0 where
   pub got : ℕ
   pub share : List Added
@@ -60,6 +63,6 @@ pub record IsInside (p : Shape (Unit {0})) (n y times alerts : ℕ) (t : Worker)
   pub few : times ≤ 100000000000
   pub raised : HasRaised alerts t
 
--- from a to b it stays so: its value went from x to y by what others have added
+-- from a to b this stays so: the value went from x to y by what others have added
 abbrev pub StaysInside : Shape (Unit {0}) → ℕ → ℕ → Worker → Worker → Type 0
 StaysInside p x y a b = (n times alerts : ℕ) → IsInside p n x times alerts a → IsInside p n y times alerts b

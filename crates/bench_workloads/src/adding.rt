@@ -12,14 +12,14 @@ use std::thread::Threads;
 use sum_uses::{AddChange, SumUses};
 use user_mutex::locked;
 
-/// The package that threads have added in, and the number that each has turned beside that.
+/// The package in which threads have added, and the number that each has turned beside that.
 #[derive(Drop)]
 pub struct Added {
     pub closed: Closed<SumUses>,
     pub own: Vec<u64>,
 }
 
-/// The number after so many turns.
+/// Returns the number after `turns` turns.
 #[inline]
 fn turned(own: u64, turns: u32) -> u64 {
     let mut x = own;
@@ -31,7 +31,7 @@ fn turned(own: u64, turns: u32) -> u64 {
     x
 }
 
-/// Adds 1 under the mutex this many times, with so many turns on a number of its own after each.
+/// Adds 1 under the mutex `times` times, with `outside` turns on a number of its own after each.
 pub fn add_many<R: Wait>(
     rt: &R,
     shared: &Package<SumUses>,
@@ -51,7 +51,7 @@ pub fn add_many<R: Wait>(
     (me, number)
 }
 
-/// So many threads add 1 this many times, all at once.
+/// Lets `threads` threads add 1 `times` times each, all at once.
 pub fn add_at_once<R: Threads + Wait + Sync>(
     rt: &R,
     alloc: Global,

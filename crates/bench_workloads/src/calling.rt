@@ -18,7 +18,7 @@ use std::sync::Wait;
 use std::thread::Threads;
 use sum_uses::SumUses;
 
-/// One Broadcast or Signal of the condition.
+/// Makes one Broadcast or Signal of the condition.
 #[inline]
 pub fn call<R: Wait>(
     rt: &R,
@@ -43,7 +43,7 @@ pub fn call<R: Wait>(
     }
 }
 
-/// This many calls, one after the other.
+/// Makes `times` calls, one after the other.
 pub fn call_many<R: Wait>(
     rt: &R,
     shared: &Package<SumUses>,
@@ -61,7 +61,7 @@ pub fn call_many<R: Wait>(
     me
 }
 
-/// One thread makes this many calls of a condition in which nobody waits.
+/// Lets one thread make `times` calls of a condition in which no thread waits.
 pub fn call_alone<R: Threads + Wait + Sync>(
     rt: &R,
     alloc: Global,

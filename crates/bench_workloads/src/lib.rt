@@ -1,8 +1,10 @@
 //! Fixed workloads over the package, each a call that runs a whole package of threads to its end.
 //!
-//! Promises: what a workload gives is what its numbers determine, whatever the schedule: sums, turns and counts, in one clause each.
-//! Stands on the package and what is built over it: mutexes, semaphores, conditions, alerts, bounded buffers, readers and writers.
-//! It does not say how long a workload takes: the program program_bench is there to time them. Nothing of the product stands on it.
+//! Promises: the result of a workload is what its numbers determine, whatever the schedule: sums,
+//! turns and counts, in one clause each. Built on the package and what is built over it: mutexes,
+//! semaphores, conditions, alerts, bounded buffers, readers and writers. Nothing is promised about
+//! how long a workload takes: program_bench times them. No part of the product is built on this
+//! crate.
 #![tactic(auto)]
 
 mod adding;

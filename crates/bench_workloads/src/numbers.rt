@@ -24,7 +24,7 @@ pub struct Capacity {
     ghost in_buffer: { (1 ≤ number) × (number ≤ 4096) },
 }
 
-// The number that the word is, where it lies from `least` to `most`.
+// The number that the word is, if it lies from `least` to `most`.
 fn number_of(word: &str, least: u32, most: u32) -> Option<u32>
     ensures number { IfSome result (IsWordOf least most word.now) }
     ensures none { IfNone result ((n : ℕ) → ¬ (IsWordOf least most word.now n)) }
@@ -36,13 +36,11 @@ fn number_of(word: &str, least: u32, most: u32) -> Option<u32>
 }
 
 impl Count {
-    /// One thread.
     pub const ONE: Count = Count { number: 1 };
 
-    /// Two threads.
     pub const TWO: Count = Count { number: 2 };
 
-    /// The number that the word is, where it lies from 1 to 64.
+    /// Reads a number from 1 to 64.
     pub fn read(word: &str) -> Option<Count>
         ensures number { IfSome result (λ c. IsWordOf 1 64 word.now c.number) }
         ensures none { IfNone result ((n : ℕ) → ¬ (IsWordOf 1 64 word.now n)) }
@@ -51,7 +49,7 @@ impl Count {
         Some(Count { number })
     }
 
-    /// One more than the number that the word is, where that lies from 1 to 63.
+    /// Reads a number from 1 to 63, and returns one more.
     pub fn read_and_one(word: &str) -> Option<Count>
         ensures number { IfSome result (λ c. (n : ℕ) × IsWordOf 1 63 word.now n × (c.number ≡ n + 1)) }
         ensures none { IfNone result ((n : ℕ) → ¬ (IsWordOf 1 63 word.now n)) }
@@ -62,7 +60,7 @@ impl Count {
 }
 
 impl Sides {
-    /// The numbers that the words are, where each is 1 or more and together they are at most 64.
+    /// Reads two numbers of at least 1 that are at most 64 together.
     pub fn read(first: &str, second: &str) -> Option<Sides>
         ensures numbers { IfSome result (λ s. IsWordOf 1 63 first.now s.first × IsWordOf 1 63 second.now s.second) }
         ensures none { IfNone result ((m n : ℕ) → IsWordOf 1 63 first.now m → IsWordOf 1 63 second.now n → 64 < m + n) }
@@ -78,7 +76,7 @@ impl Sides {
 }
 
 impl Capacity {
-    /// The number that the word is, where it lies from 1 to 4,096.
+    /// Reads a number from 1 to 4,096.
     pub fn read(word: &str) -> Option<Capacity>
         ensures number { IfSome result (λ c. IsWordOf 1 4096 word.now c.number) }
         ensures none { IfNone result ((n : ℕ) → ¬ (IsWordOf 1 4096 word.now n)) }

@@ -19,10 +19,10 @@ use std::sync::Wait;
 use std::thread::Threads;
 use sum_uses::SumUses;
 
-/// What each thread does, so many times.
+/// What each thread does, and how many times.
 #[derive(Clone, Copy)]
 pub enum Part {
-    /// Adds 1 under the mutex, with so many turns outside after each.
+    /// Adds 1 under the mutex, with `outside` turns after each addition.
     Add {
         times: u32,
         outside: u32,
@@ -32,24 +32,24 @@ pub enum Part {
         all: bool,
         times: u32,
     },
-    /// Takes its semaphore and gives the other thread's free, or its own where it is alone.
+    /// Takes its own semaphore and makes the other thread's available, or its own if it is alone.
     Pass {
         alone: bool,
         times: u32,
     },
-    /// Takes turns with the others, who are so many with it.
+    /// Takes turns with the others; there are `threads` in all.
     Turns {
         what: Play,
         threads: Count,
         times: u32,
     },
-    /// Waits for alerts, if it is the first, and gives them otherwise.
+    /// Waits for alerts if it is the first thread, and otherwise alerts the first.
     Wake {
         times: u32,
     },
 }
 
-/// Does the part, and answers the number that it has turned or counted, where it has.
+/// Does the part, and returns the number that it has turned or counted, if it has.
 fn do_part<R: Wait>(
     rt: &R,
     shared: &Package<SumUses>,
@@ -73,14 +73,14 @@ fn do_part<R: Wait>(
     }
 }
 
-/// Whether semaphores are passed on.
+/// Returns whether semaphores are passed on.
 fn passes(part: Part) -> bool
     ensures { result ≡ is_pass part }
 {
     matches!(part, Part::Pass { .. })
 }
 
-/// Where semaphores are passed on the second thread, if there is one, takes its own, so that the first begins.
+/// If semaphores are passed on, lets the second thread take its own, so that the first begins.
 fn begin_part<R: Wait>(
     rt: &R,
     shared: &Package<SumUses>,
@@ -100,8 +100,9 @@ fn begin_part<R: Wait>(
     }
 }
 
-/// Opens a package of so many threads with one number, which is 0, two conditions and two semaphores, lets each thread do the part, all at
-/// once, and closes it. It also answers what number each thread has turned or counted.
+/// Opens a package of `threads` threads with one number, which is 0, two conditions and two
+/// semaphores, lets each thread do the part, all at once, and closes the package. Also returns the
+/// number that each thread has turned or counted.
 pub fn run_part<R: Threads + Wait + Sync>(
     rt: &R,
     alloc: Global,

@@ -1,4 +1,4 @@
-//! Threads that pass numbers on by a bounded buffer.
+//! Threads that pass numbers on through a bounded buffer.
 ghost use Rattle.std.specs.Prelude.{[], ◌∷◌, ◌≡◌, ◌<◌, ◌≤◌, ◌+◌, ◌*◌, ◌%◌, ◌^◌, ℕ, length, IfNone, IfOk, IfSome};
 ghost use Rattle.std.specs.List.{sum};
 ghost use mathlib.Core.Option.{some};
@@ -16,7 +16,8 @@ use std::alloc::{AllocError, Global};
 use std::sync::Wait;
 use std::thread::Threads;
 
-/// The use of the package: two buffers of numbers, of what is passed on and, behind mutex 1, of the makers that have put all their numbers.
+/// The use of the package: two buffers of numbers, one for what is passed on and, under mutex 1,
+/// one for the makers that have put all their numbers.
 pub type Numbers = PlainBuffers<u64>;
 
 /// The package in which numbers were passed on, and the sum of what each thread has taken.
@@ -26,7 +27,8 @@ pub struct Passed {
     pub sums: Vec<u64>,
 }
 
-/// Puts so many numbers, this maker's own, and then tells that it has ended. Who tells that after all others shuts the buffer.
+/// Puts `times` numbers, this maker's own, and then reports that it has ended. The last maker to do
+/// so shuts the buffer.
 #[tactic(auto, using(bounded_buffer::proofs::Using::plain_named))]
 fn make<R: Wait>(
     rt: &R,
@@ -60,7 +62,7 @@ fn make<R: Wait>(
     me
 }
 
-/// Takes all until the buffer is shut and empty, and answers the sum, modulo 2^64.
+/// Takes everything until the buffer is shut and empty, and returns the sum, modulo 2^64.
 #[tactic(auto, using(bounded_buffer::proofs::Using::plain_named))]
 fn sum_all<R: Wait>(
     rt: &R,
@@ -101,7 +103,7 @@ fn pass<R: Wait>(
     }
 }
 
-/// An empty buffer of this capacity, and one with a place for each maker.
+/// Returns an empty buffer of this capacity, and one with a place for each maker.
 fn two_rings(alloc: Global, capacity: Capacity, makers: u32) -> Result<Vec<Ring<u64>>, AllocError>
     requires { (1 ≤ makers) × (makers ≤ 64) }
     ensures { IfOk result (λ v. v.items ≡ fresh capacity.number ∷ fresh makers ∷ []) }
@@ -112,7 +114,8 @@ fn two_rings(alloc: Global, capacity: Capacity, makers: u32) -> Result<Vec<Ring<
     Ok(rings)
 }
 
-/// So many makers pass as many numbers each on to so many takers, all at once: all numbers below the product.
+/// Lets the makers pass `times` numbers each on to the takers, all at once: all numbers below the
+/// product.
 pub fn pass_at_once<R: Threads + Wait + Sync>(
     rt: &R,
     alloc: Global,

@@ -21,15 +21,16 @@ use test_turns::{Turn, Wake, take_turn};
 /// How the threads take turns.
 #[derive(Clone, Copy)]
 pub enum Play {
-    /// In turns, two threads, each of which signals to the other before it gives the mutex back.
+    /// Two threads in turns, each of which signals the other before it releases the mutex.
     Before,
-    /// The same, and it signals after that.
+    /// Two threads in turns, each of which signals the other after it has released the mutex.
     After,
-    /// In rounds: the last thread opens each with a broadcast, all others count, and the last of them signals back.
+    /// In rounds: the last thread opens each with a broadcast, all others count, and the last of
+    /// them signals back.
     Rounds,
 }
 
-/// Whom the thread of this parity signals to: the other, or nobody where it alerts it.
+/// Returns whom the thread of this parity signals: the other, or nobody if it alerts the other.
 fn other_of(own: u32, alerts: bool) -> Wake
     requires { own < 2 }
     ensures one { (c : CondId) → result ≡ One c → c.0 < 2 }
@@ -42,7 +43,7 @@ fn other_of(own: u32, alerts: bool) -> Wake
     }
 }
 
-/// Alerts the first thread, where it is to.
+/// Alerts the first thread, if `alerts` is true.
 #[inline]
 fn alert_first<R: Wait>(rt: &R, shared: &Package<SumUses>, me: &mut Thread<SumUses>, alerts: bool)
     requires named { HasObjects shared.now.layout }
@@ -54,8 +55,8 @@ fn alert_first<R: Wait>(rt: &R, shared: &Package<SumUses>, me: &mut Thread<SumUs
     }
 }
 
-/// In turns with the other thread, this many times: waits until the sum has the thread's parity, adds 1, and signals to the other, before
-/// or after it gives the mutex back, or alerts it then.
+/// Takes turns with the other thread, `times` times: waits until the sum has the thread's parity,
+/// adds 1, and signals the other, before or after it releases the mutex, or alerts it then.
 pub fn alternate<R: Wait>(
     rt: &R,
     shared: &Package<SumUses>,
@@ -90,7 +91,7 @@ pub fn alternate<R: Wait>(
     me
 }
 
-/// Takes this many turns.
+/// Takes `times` turns.
 pub fn take_turns<R: Wait>(
     rt: &R,
     shared: &Package<SumUses>,
@@ -117,7 +118,7 @@ pub fn take_turns<R: Wait>(
     }
 }
 
-/// So many threads take this many turns each, all at once.
+/// Lets `threads` threads take `times` turns each, all at once.
 pub fn play_at_once<R: Threads + Wait + Sync>(
     rt: &R,
     alloc: Global,

@@ -15,7 +15,8 @@ use std::sync::Wait;
 use std::sync::atomic::{AtomicU64, Ordering};
 use std::thread::Threads;
 
-/// Two numbers that are equal whenever nobody writes, and how often a reader found that they weren't.
+/// Two numbers that are equal whenever no thread writes, and how often a reader found that they
+/// weren't.
 #[derive(Drop)]
 pub struct Pair {
     first: AtomicU64,
@@ -44,7 +45,8 @@ impl Pair {
         }
     }
 
-    /// How often a reader found them torn, and one more for each that isn't this in the end.
+    /// Returns how often a reader found the numbers torn, plus one for each number that isn't
+    /// `last` in the end.
     pub fn torn(&self, last: u64) -> u64 {
         let first = (self.first.load(Ordering::SeqCst) != last) as u64;
         let second = (self.second.load(Ordering::SeqCst) != last) as u64;
@@ -54,7 +56,7 @@ impl Pair {
             .wrapping_add(second)
     }
 
-    /// 1 where the numbers differ.
+    /// Returns 1 if the numbers differ.
     #[inline]
     fn differ(&self) -> u64 {
         let first = self.first.load(Ordering::Relaxed);
@@ -71,7 +73,7 @@ impl Pair {
     }
 }
 
-/// One turn: reads, and answers 1 where the numbers differ, or writes.
+/// Takes one turn: reads, and returns 1 if the numbers differ, or writes.
 #[inline]
 fn take_turn<R: Wait>(
     rt: &R,
@@ -98,7 +100,8 @@ fn take_turn<R: Wait>(
     }
 }
 
-/// Reads or writes so often, by the thread's number, notes in the pair how often the numbers differed, and answers how often it has written.
+/// Reads or writes `times` times, by the thread's number, notes in the pair how often the numbers
+/// differed, and returns how often it has written.
 fn play<R: Wait>(
     rt: &R,
     shared: &Package<RwUses>,
@@ -122,7 +125,7 @@ fn play<R: Wait>(
     (me, writes)
 }
 
-/// One state: nobody reads or writes.
+/// Returns one state, in which no thread reads or writes.
 fn one_state(alloc: Global) -> Result<Vec<RwState>, AllocError>
     ensures { IfOk result (λ v. v.items ≡ record { readers = 0; writer = None } ∷ []) }
 {
@@ -134,7 +137,7 @@ fn one_state(alloc: Global) -> Result<Vec<RwState>, AllocError>
     Ok(values)
 }
 
-/// So many readers and so many writers of the pair, each this often, all at once.
+/// Lets readers and writers use the pair, each `times` times, all at once.
 pub fn read_at_once<R: Threads + Wait + Sync>(
     rt: &R,
     alloc: Global,

@@ -1,4 +1,4 @@
-//! Rounds of a thread that has the mutex all the time but while it waits.
+//! Rounds of a thread that holds the mutex except while it waits.
 ghost use Rattle.std.specs.Prelude.{◌<◌, ◌+◌, ℕ, true};
 ghost use Rattle.bench_workloads.specs.Rounds.{HasHeld, alerts_in};
 ghost use Rattle.bench_workloads.specs.Workloads.{HasMade, HasObjects, HasWorked, IsInside, StaysInside};
@@ -15,23 +15,25 @@ use user_mutex::{acquire, release};
 /// What a thread does in each of its rounds.
 #[derive(Clone, Copy)]
 pub enum Round {
-    /// Opens it for all others, who are so many with it: adds 1, wakes them, and waits until the value has grown by as much.
+    /// Opens the round for all others, with which there are `threads` in all: adds 1, wakes them,
+    /// and waits until the value has grown by as much.
     Opens { threads: Count },
-    /// Adds 1 once it is open, and wakes who opens them where that ends the round.
+    /// Adds 1 once the round is open, and if that ends the round, wakes the thread that opens them.
     Counts { threads: Count },
-    /// Adds 1, says so, and waits until an alert ends a wait.
+    /// Adds 1, signals that, and waits until an alert ends a wait.
     Begins,
 }
 
-// In which all but one wait for the next round, and in which that one waits for its end, or another for its begin.
+// In the first, all threads but one wait for the next round; in the second, that one waits for the
+// end of a round, or another for its beginning.
 const GO: CondId = CondId(0);
 
 const DONE: CondId = CondId(1);
 
-/// Waits in the condition as long as the test doesn't accept the value, and answers the value that it accepted. What the thread has added
-/// since it got the mutex is given back with the mutex.
+/// Waits in the condition until the test accepts the value, and returns that value. What the thread
+/// has added since it got the mutex is released with the mutex.
 ///
-/// It waits for ever if no such value comes, or nobody wakes it then.
+/// Blocks for ever if no such value comes, or if no thread wakes this one then.
 #[inline]
 fn wait_inside<F: Fn(u64) -> bool, R: Wait>(
     rt: &R,
@@ -57,7 +59,7 @@ fn wait_inside<F: Fn(u64) -> bool, R: Wait>(
     unreachable!()
 }
 
-/// Wakes who opens the rounds, where this was the last addition of one.
+/// Wakes the thread that opens the rounds, if this was the last addition of a round.
 #[inline]
 fn end_round<R: Wait>(
     rt: &R,
@@ -75,7 +77,7 @@ fn end_round<R: Wait>(
     }
 }
 
-/// One round, which so many came before, and answers the value that the thread has made.
+/// Plays one round, after `before` others, and returns the value that the thread has made.
 #[inline]
 fn one_round<R: Wait>(
     rt: &R,
@@ -117,7 +119,7 @@ fn one_round<R: Wait>(
     }
 }
 
-/// So many rounds, and answers how many it has held.
+/// Plays `times` rounds, and returns how many it has held.
 pub fn hold_rounds<R: Wait>(
     rt: &R,
     shared: &Package<SumUses>,

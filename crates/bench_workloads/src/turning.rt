@@ -12,14 +12,15 @@ use std::sync::Wait;
 use std::thread::Threads;
 use sum_uses::SumUses;
 
-/// The package that threads have taken turns in, and how many turns each counted.
+/// The package in which threads have taken turns, and how many turns each counted.
 #[derive(Drop)]
 pub struct Turned {
     pub closed: Closed<SumUses>,
     pub turns: Vec<u64>,
 }
 
-/// P of the own semaphore, add 1, V of the other, this many times. No value stands behind a semaphore, so the number is the thread's own.
+/// Makes P of the thread's own semaphore, adds 1, and makes V of the other, `times` times. A
+/// semaphore protects no value, so the number is the thread's own.
 pub fn turn<R: Wait>(
     rt: &R,
     shared: &Package<SumUses>,
@@ -42,8 +43,9 @@ pub fn turn<R: Wait>(
     (me, number)
 }
 
-/// One thread alone, or two in turns, each this many times: its P is of its own semaphore and its V of the next one's. The second of two
-/// has made one call more, with which the first began.
+/// Lets one thread alone, or two in turns, do `times` turns each: a P of the thread's own semaphore
+/// and a V of the next thread's. The second of two has made one call more, with which the first
+/// began.
 pub fn turn_at_once<R: Threads + Wait + Sync>(
     rt: &R,
     alloc: Global,

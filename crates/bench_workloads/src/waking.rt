@@ -16,17 +16,18 @@ use std::sync::Wait;
 use std::thread::Threads;
 use sum_uses::{AddChange, SumUses};
 
-/// The package in which alerts have ended waits, and how many of its waits each thread has counted that an alert ended.
+/// The package in which alerts have ended waits, and how many of its waits each thread has counted
+/// that an alert ended.
 #[derive(Drop)]
 pub struct Woken {
     pub closed: Closed<SumUses>,
     pub alerted: Vec<u64>,
 }
 
-/// Waits until an alert ends a wait, and answers the newest value. What the thread has added since it got the mutex is given back with the
-/// mutex.
+/// Waits until an alert ends a wait, and returns the newest value. What the thread has added since
+/// it got the mutex is released with the mutex.
 ///
-/// It waits for ever if no alert comes.
+/// Blocks for ever if no alert comes.
 #[inline]
 pub fn wait_for_alert<R: Wait>(
     rt: &R,
@@ -58,8 +59,8 @@ pub fn wait_for_alert<R: Wait>(
     unreachable!()
 }
 
-/// Begins so many waits, each of which an alert ends, or ends so many: by the thread's number. Who begins one makes the sum odd, and who
-/// ends it makes it even.
+/// Begins `times` waits, each of which an alert ends, or ends as many, by the thread's number. The
+/// thread that begins a wait makes the sum odd, and the one that ends it makes the sum even.
 pub fn wake<R: Wait>(
     rt: &R,
     shared: &Package<SumUses>,
@@ -77,7 +78,8 @@ pub fn wake<R: Wait>(
     }
 }
 
-/// One thread begins so many waits that nobody signals, and another ends each by an alert, at once.
+/// Lets one thread begin `times` waits that no thread signals, and another end each by an alert,
+/// all at once.
 pub fn alert_at_once<R: Threads + Wait + Sync>(
     rt: &R,
     alloc: Global,

@@ -1,7 +1,8 @@
 //! P and V of a binary semaphore.
 //!
-//! Promises: each call adds exactly its event to those of its thread. Stands on the lock bit with its queue.
-//! Nothing is said of waiting: not that a P ever returns, nor that anyone is served before another.
+//! Promises: each call adds exactly its event to those of its thread. Built on the lock bit with
+//! its queue. Nothing is promised about waiting: not that a P ever returns, nor that any thread is
+//! served before another.
 #![tactic(auto)]
 
 ghost use Rattle.std.specs.Prelude.{◌≡◌, ℕ, ◌<◌, []};
@@ -15,11 +16,12 @@ use larch_actions::{Action, Event, SemId, ThreadId};
 use nub_rule::{NoChange, Object, Package, Thread, Uses};
 use std::sync::Wait;
 
-/// Makes the semaphore unavailable, once it is available. At first it is available.
+/// Makes the semaphore unavailable as soon as it is available. A new semaphore is available.
 ///
-/// It blocks while the semaphore is unavailable, for ever if nobody makes it available: only a `v` of the semaphore ends the wait, by
-/// any thread, and then any of those who wait may get it, or a thread that came later. Nobody owns a semaphore, so a thread may call
-/// it twice in a row, and then waits for another's `v`.
+/// Blocks while the semaphore is unavailable, for ever if no thread makes it available. Only a `v`
+/// of the semaphore, by any thread, ends the wait, and then any waiting thread, or one that comes
+/// later, may get it. Nobody owns a semaphore: a thread may call `p` twice in a row, and then waits
+/// for another thread's `v`.
 ///
 /// ```rust
 /// p(rt, pkg, &mut me, SemId(0));
@@ -43,11 +45,12 @@ pub fn p<U: Uses, R: Wait>(rt: &R, pkg: &Package<U>, me: &mut Thread<U>, s: SemI
     take(rt, pkg, me, Object::Sem(s), e);
 }
 
-/// Makes the semaphore available, and makes a thread that waits for it try again. Any thread may call it, also where the semaphore is
-/// available, and then nothing changes.
+/// Makes the semaphore available, and makes a thread that waits for it try again. Any thread may
+/// call this. If the semaphore is available already, it stays so.
 ///
-/// It doesn't wait for another thread to do anything. In the package itself it may wait for a moment, as each call may: for the spin
-/// word of the semaphore, where a thread stands in the queue, and in a traced package for its turn to number the event.
+/// Waits for no other thread to do anything. Inside the package it may wait for a moment, as every
+/// call may: for the spin word of the semaphore if a thread is in its queue, and in a traced
+/// package for the turn to number the event.
 ///
 /// ```rust
 /// v(rt, pkg, &mut me, SemId(0));

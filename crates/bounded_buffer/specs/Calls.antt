@@ -28,28 +28,29 @@ entered t m c k = acquire_event t m ∷ waits t m c k
 abbrev pub raise : ℕ → ℕ → ℕ → List Event
 raise t m c = enqueue_event true t m c ∷ wait_end Alerted t m c ∷ []
 
--- a signal to who waits in the condition, where there is one
+-- a signal of the condition, if there is one
 abbrev pub tells : ℕ → List ℕ → Opt CondId → List Event
 tells t left (Some c) = event t (signal_action c.0 left) ∷ []
 tells t left None = []
 
 module _ {T : Type 0} where
-  -- the other side hears of it
+  -- whether a thread that did this signals the other side
   abbrev pub is_told : Did T → Bool
   is_told (Put n i) = true
   is_told (Took n i) = true
   is_told _ = false
 
-  -- who put or took signals the condition o
+  -- the signal of the condition o, if the thread put or took
   abbrev pub signals : ℕ → ℕ → List ℕ → Did T → List Event
   signals t o left d = cond (is_told d) (event t (signal_action o left) ∷ []) []
 
-  -- what comes between the waits of the thread t and its Release: it did something, or was alerted
+  -- what comes between the waits of the thread t and its Release, after it did something or was
+  -- alerted
   abbrev pub finish : ℕ → ℕ → ℕ → ℕ → List ℕ → Opt (Did T) → List Event
   finish t m c o left None = raise t m c
   finish t m c o left (Some d) = signals t o left d
 
-  -- of k waits that returned and the one that didn't
+  -- the number of all waits, where k returned: one more if an alert ended the last
   abbrev pub wait_count : Opt (Did T) → ℕ → ℕ
   wait_count None k = k + 1
   wait_count (Some _) k = k
@@ -58,25 +59,26 @@ module _ {T : Type 0} where
   did_last None u = u
   did_last (Some d) u = did d u
 
-  -- what a put of the item did last, by its answer
+  -- what a put of the item did last, by its result
   abbrev pub put_did : T → Result ℕ (PutEnd × T) → Opt (Did T)
   put_did item (Ok n) = Some (Put n item)
   put_did item (Err e) = elim e.0 [ Closed ↦ Some SawShut | PutAlerted ↦ None ]
 
-  -- what a take did last, by its answer
+  -- what a take did last, by its result
   abbrev pub take_did : Result (ℕ × T) TakeEnd → Opt (Did T)
   take_did (Ok r) = Some (Took r.0 r.1)
   take_did (Err ClosedEmpty) = Some SawEnd
   take_did (Err TakeAlerted) = None
 
 module _ {W V H T : Type 0} (ring_in : V → Opt (Held T)) (part : H → ℕ → Used T) (after : W → ℕ → ℕ → V → V → H → H) where
-  -- under the mutex m the thread t did this last with the share s, and has the share r
+  -- with the share s the thread t did this last under the mutex m, and has the share r afterwards
   abbrev pub Looked : W → ℕ → ℕ → Opt (Did T) → H → H → Type 0
   Looked w m t None s r = r ≡ s
   Looked w m t (Some d) s r = (x y : V) × (q p : Held T) × (ring_in x ≡ Some q) × (ring_in y ≡ Some p) × Does d q p
       × (r ≡ after w m t x y s)
 
-  -- a call of the thread t at the ring behind m: it took m, waited in the condition c while it had to, did this last, where it put or took signalled o, and gave m back
+  -- a call of the thread t at the ring that m protects: it acquired m, waited in the condition c
+  -- while it had to, did this last, signalled o if it put or took, and released m
   pub record Ran (alike : H → H → Type 0) (w : W) (m c o t : ℕ) (more : ℕ → Used T → Used T) (d : Opt (Did T)) (s : H) (a b : Known V H W) :
       Type 0 where
     pub waited : ℕ
@@ -90,10 +92,10 @@ module _ {W V H T : Type 0} (ring_in : V → Opt (Held T)) (part : H → ℕ →
     pub looking : H
     pub is_alike : alike s looking
     pub looked : Looked w m t d looking share
-    -- where the thread knew the ring to be shut it didn't wait
+    -- if the thread knew the ring to be shut, it didn't wait
     pub shut : KnowsShut (part s m) → (waited ≡ 0) × IsSome d
 
-  -- the thread t took m, shut the ring, broadcast the conditions c and o, and gave m back
+  -- the thread t acquired m, shut the ring, broadcast the conditions c and o, and released m
   pub record HasShut (w : W) (m c o t : ℕ) (s : H) (a b : Known V H W) : Type 0 where
     pub events : Adds (acquire_event t m ∷ event t (broadcast_action c []) ∷ event t (broadcast_action o []) ∷ []) (release_event t m) a b
     pub share : H
@@ -102,7 +104,7 @@ module _ {W V H T : Type 0} (ring_in : V → Opt (Held T)) (part : H → ℕ →
     pub elsewhere : (k : ℕ) → k ≢ m → part share k ≡ part s k
     pub looked : Looked w m t (Some Shut) s share
 
--- what was done at the ring q, as its answer tells: it turned q into p
+-- what was done at the ring q, as the result shows: it turned q into p
 pub record Answers {T : Type 0} (answered : Opt (Did T)) (kind : Did T → Type 0) (good : Bool) (q p : Held T) : Type 0 where
   pub did : Did T
   pub is : answered ≡ Some did

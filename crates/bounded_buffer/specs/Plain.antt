@@ -1,4 +1,4 @@
--- The rule of rings behind all mutexes, where a share is the list of all that its thread did.
+-- The rule of rings, one under each mutex, where a share is the list of all that its thread did.
 use Rattle.std.specs.Prelude.{◌≡◌, ◌⊎◌, ℕ, ◌+◌, ◌*◌, ◌≤◌, Bool, true, false, ◌||◌, cond, eqb, List, [], ◌∷◌, ◌++◌, length, take, drop}
 use Rattle.std.specs.List.{enumerate_from}
 use Rattle.std.specs.List.Sorted.{IsPermutation}
@@ -11,7 +11,7 @@ use Rattle.bounded_buffer.specs.declared.note.Note.{Note}
 use Rattle.bounded_buffer.specs.Parts.{Used, did, unused}
 use Rattle.bounded_buffer.specs.Rings.{Held, Does, put_count}
 
--- the room of the buffer behind the mutex m is the condition 2 m, and its more 2 m + 1
+-- the conditions of the buffer under the mutex m are 2 m for room and 2 m + 1 for more
 pub record IsPlain (at : BufferAt) : Type 0 where
   pub room : at.room.0 ≡ 2 * at.mutex.0
   pub more : at.more.0 ≡ 2 * at.mutex.0 + 1
@@ -20,7 +20,7 @@ module _ {T : Type 0} where
   abbrev pub note : ℕ → Did T → Note T
   note m d = record { mutex = m; did = d }
 
-  -- what a share says of the buffer behind m
+  -- what a share says of the buffer under the mutex m
   abbrev pub part_of : List (Note T) → ℕ → Used T
   part_of [] m = unused
   part_of (n ∷ s) m = cond (eqb n.mutex m) (did n.did (part_of s m)) (part_of s m)
@@ -41,12 +41,12 @@ module _ {T : Type 0} where
   any_shut m [] = false
   any_shut m (s ∷ shares) = (part_of s m).shut || any_shut m shares
 
-  -- behind the mutex m is the ring q: `log` are the items ever put there, in order of puts
+  -- the mutex m protects the ring q: `log` are the items ever put there, in order of puts
   pub record BufferRule (m : ℕ) (q : Held T) (shares : List (List (Note T))) : Type 0 where
     pub log : List T
-    -- each was put once, under its place
+    -- each was put once, under its place in the log
     pub puts : IsPermutation (all_puts m shares) (enumerate_from 0 log)
-    -- the first of them were taken, each once and under its place
+    -- the first of them were taken, each once and under its place in the log
     pub takes : IsPermutation (all_takes m shares) (enumerate_from 0 (take q.taken log))
     pub taken : q.taken ≤ length log
     -- and the others are in the ring, in this order

@@ -1,4 +1,4 @@
--- The rule of plain buffers is kept by each allowed change.
+-- Each allowed change keeps the rule of plain buffers.
 use Rattle.std.specs.Prelude.{◌≡◌, ◌≢◌, ◌⊎◌, ℕ, ◌+◌, ◌<◌, ◌≤◌, Bool, true, false, ◌||◌, cond, eqb, List, [], ◌∷◌, ◌++◌, length, take, drop, slice_set, Some}
 use Rattle.std.proofs.Common.{zero, suc, arith, sym, ap, subst, ◌∙◌, ⊎_elim, refl, length-append, add-one, inl, inr}
 use Rattle.std.specs.List.{All, enumerate_from}
@@ -43,7 +43,7 @@ module _ {T : Type 0} where
   pub part_there : (m k : ℕ) (d : Did T) (s : List (Note T)) → k ≢ m → part_of (note m d ∷ s) k ≡ part_of s k
   part_there m k d s n = grind (arith, nat_tests)
 
-  -- the pairs of all shares where a share is replaced by one with the same pairs
+  -- the pairs of all shares stay if a share is replaced by one with the same pairs
   pairs_same : (f : Used T → List (ℕ × T)) (m : ℕ) (shares : List (List (Note T))) (t : ℕ) (s r : List (Note T))
       → get_elem? shares t ≡ some s
       → f (part_of r m) ≡ f (part_of s m) → pairs_of f m (slice_set shares t r) ≡ pairs_of f m shares
@@ -52,7 +52,7 @@ module _ {T : Type 0} where
       ap (λ l. l ++ pairs_of f m shares) (same ∙ ap (λ y. f (part_of y m)) (sym (some-injective x s e)))
   pairs_same f m (x ∷ shares) (suc t) s r e same = ap (λ l. f (part_of x m) ++ l) (pairs_same f m shares t s r e same)
 
-  -- and by one with a pair more
+  -- they grow by one if it is replaced by one with a pair more
   pairs_more : (f : Used T → List (ℕ × T)) (m : ℕ) (shares : List (List (Note T))) (t : ℕ) (s r : List (Note T)) (p : ℕ × T)
       → get_elem? shares t ≡ some s
       → f (part_of r m) ≡ p ∷ f (part_of s m) → IsPermutation (pairs_of f m (slice_set shares t r)) (p ∷ pairs_of f m shares)
@@ -82,7 +82,7 @@ module _ {T : Type 0} where
   any_more m (x ∷ shares) (suc t) s r e shut = ap (λ b. (part_of x m).shut || b) (any_more m shares t s r e shut)
       ∙ or-true (part_of x m).shut
 
-  -- what follows from a mark in any share follows after a share was replaced
+  -- what follows from a mark in any share still follows after a share was replaced
   marks_set : {P : Type 0} (f : Used T → Bool) (m : ℕ) (shares : List (List (Note T))) (t : ℕ) (r : List (Note T))
       → ((j : ℕ) (u : List (Note T)) → get_elem? shares j ≡ some u → f (part_of u m) ≡ true → P) → (f (part_of r m) ≡ true → P)
       → (j : ℕ) (u : List (Note T)) → get_elem? (slice_set shares t r) j ≡ some u → f (part_of u m) ≡ true → P
@@ -98,7 +98,7 @@ module _ {T : Type 0} where
       let c = length-drop q.taken log in
       omega arith
 
-  -- where the puts, takes and shutting of the replaced share stay
+  -- the rule is kept if the replaced share has the same puts, takes and shutting
   rule_same : (m : ℕ) (q : Held T) (shares : List (List (Note T))) (t : ℕ) (s r : List (Note T)) → get_elem? shares t ≡ some s
       → (part_of r m).puts ≡ (part_of s m).puts → (part_of r m).takes ≡ (part_of s m).takes → (part_of r m).shut ≡ (part_of s m).shut
       → ((part_of r m).seen_shut ≡ true → q.shut ≡ true) → ((part_of r m).seen_end ≡ true → (q.shut ≡ true) × (q.items ≡ []))
@@ -117,7 +117,7 @@ module _ {T : Type 0} where
         (now.0, now.1, all_taken q h.log h.left h.taken now.1));
   }
 
-  -- where all that the replaced share says there stays
+  -- the rule is kept if all stays that the replaced share says of this buffer
   rule_else : (m : ℕ) (q : Held T) (shares : List (List (Note T))) (t : ℕ) (s r : List (Note T)) → get_elem? shares t ≡ some s
       → part_of r m ≡ part_of s m → BufferRule m q shares → BufferRule m q (slice_set shares t r)
   rule_else m q shares t s r at same h =
@@ -180,7 +180,7 @@ module _ {T : Type 0} where
   some_item : (xs : List T) (i : T) (rest : List T) → xs ≡ i ∷ rest → xs ≡ [] → ⊥
   some_item xs i rest a b = cc
 
-  -- what stands first behind k is the next of the log
+  -- the item at the place k of the log, and the items after it
   record IsNext (k : ℕ) (log : List T) (i : T) (rest : List T) : Type 0 where
     within : k < length log
     behind : drop (suc k) log ≡ rest
@@ -245,7 +245,7 @@ module _ {T : Type 0} where
         (λ is. let old = h.seen_end t s at (ap (λ u. u.seen_end) (sym here) ∙ is) in (refl, old.1, old.2));
   }
 
-  -- each thing that a thread does keeps the rule
+  -- whatever a thread does, the rule is kept
   rule_did : (m : ℕ) (d : Did T) (q p : Held T) (shares : List (List (Note T))) (t : ℕ) (s r : List (Note T)) → get_elem? shares t ≡ some s
       → part_of r m ≡ did d (part_of s m) → Does d q p → BufferRule m q shares → BufferRule m p (slice_set shares t r)
   rule_did m (Put n i) q p shares t s r at here does h =

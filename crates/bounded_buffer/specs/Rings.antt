@@ -1,9 +1,10 @@
--- A ring of items, and what is done to it.
+-- A ring of items, and what threads do to it.
 use Rattle.std.specs.Prelude.{◌≡◌, ℕ, ◌+◌, ◌<◌, Bool, true, false, List, [], ◌∷◌, ◌++◌, length}
 use Rattle.bounded_buffer.specs.declared.did.Did.{Did}
 use Rattle.bounded_buffer.specs.declared.did.Did.TheVariants.{Put, Took, Shut, SawShut, SawEnd, WaitedFull, WaitedEmpty}
 
--- the items in it, how many were ever taken from it, how many it may have, and whether it is shut
+-- the items in the ring, how many were ever taken from it, how many it may have, and whether it is
+-- shut
 pub record Held (T : Type 0) : Type 0 where
   pub items : List T
   pub taken : ℕ

@@ -1,4 +1,4 @@
-//! Calls at plain buffers of a thread that keeps count of what it has done, which no alert ends.
+//! Calls at plain buffers that no alert ends, by threads that keep count of what they have done.
 ghost use Rattle.std.specs.Prelude.{◌≡◌, ℕ, List, IfErr, IfOk, OnErr};
 ghost use Rattle.bounded_buffer.specs.declared.did.Did.TheVariants.{Put, SawEnd, SawShut, Shut, Took};
 ghost use Rattle.bounded_buffer.specs.At.{IsNamed};
@@ -21,7 +21,16 @@ use thiserror::Error;
 #[error("the buffer is shut and empty")]
 pub struct Over;
 
-/// Puts the item as `put` does, and anew where an alert ended its wait. Where the ring is shut, the item comes back.
+/// Puts the item as `put` does, and again if an alert ended its wait. Returns the item's number, or
+/// the item itself if the ring is shut.
+///
+/// Blocks as `put` does, but an alert doesn't end the call.
+///
+/// ```rust
+/// let Ok(_) = put_anyway(rt, p, &mut me, &numbers, i as u64) else {
+///     return me;
+/// };
+/// ```
 pub fn put_anyway<T: Send + Drop, R: Wait>(
     rt: &R,
     p: &Package<PlainBuffers<T>>,
@@ -47,7 +56,24 @@ pub fn put_anyway<T: Send + Drop, R: Wait>(
     unreachable!()
 }
 
-/// Takes the first item and its number as `take` does, and anew where an alert ended its wait.
+/// Takes the first item as `take` does, and again if an alert ended its wait. Returns the item's
+/// number and the item; fails with `Over` if the ring is shut and empty.
+///
+/// Blocks as `take` does, but an alert doesn't end the call.
+///
+/// ```rust
+/// match take_anyway(rt, p, &mut me, &numbers) {
+///     Ok((_, number)) => {
+///         let Ok(_) = put_anyway(rt, p, &mut me, &squares, square(number)) else {
+///             return me;
+///         };
+///     }
+///     Err(_) => {
+///         shut_plain(rt, p, &mut me, &squares);
+///         return me;
+///     }
+/// }
+/// ```
 pub fn take_anyway<T: Send + Drop, R: Wait>(
     rt: &R,
     p: &Package<PlainBuffers<T>>,
@@ -72,6 +98,10 @@ pub fn take_anyway<T: Send + Drop, R: Wait>(
 }
 
 /// Shuts the ring as `shut` does.
+///
+/// ```rust
+/// shut_plain(rt, p, &mut me, &numbers);
+/// ```
 pub fn shut_plain<T: Send + Drop, R: Wait>(
     rt: &R,
     p: &Package<PlainBuffers<T>>,

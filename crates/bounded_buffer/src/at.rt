@@ -1,7 +1,8 @@
 //! Where a buffer is.
 use larch_actions::{CondId, MutexId};
 
-/// The mutex behind which a ring is, and its conditions: that there is room, and that there is more to take.
+/// The mutex that protects a ring, and its two conditions: one for threads that wait for room, one
+/// for threads that wait for more to take.
 #[derive(Clone, Copy, Debug, PartialEq, Eq)]
 pub struct BufferAt {
     pub mutex: MutexId,

@@ -1,6 +1,6 @@
-//! What a thread does at a buffer.
+//! The steps of threads at a buffer.
 
-/// What a thread did at a buffer, in a call that is over or in a wait.
+/// What a thread did at a buffer, at the end of a call or in a wait.
 pub enum Did<T> {
     /// It put the item under this number.
     Put { number: u64, item: T },

@@ -1,7 +1,7 @@
-//! How a put or a take ends without an item's number.
+//! The errors of a put and of a take.
 use thiserror::Error;
 
-/// Why a put gave its item back.
+/// Why a put returned its item.
 #[derive(Clone, Copy, Debug, PartialEq, Eq, Error)]
 pub enum PutEnd {
     /// The ring was shut.
@@ -12,7 +12,7 @@ pub enum PutEnd {
     Alerted,
 }
 
-/// Why a take gave no item.
+/// Why a take returned no item.
 #[derive(Clone, Copy, Debug, PartialEq, Eq, Error)]
 pub enum TakeEnd {
     /// The ring was shut and empty.

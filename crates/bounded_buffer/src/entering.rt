@@ -1,4 +1,4 @@
-//! Taking the mutex of a ring, and waiting there.
+//! Acquires the mutex of a ring, and waits there.
 ghost use Rattle.std.specs.Prelude.{◌≡◌, ◌<◌, ℕ, [], None, Some, MatchOption, slice_set};
 ghost use mathlib.Core.Option.{some};
 ghost use lib.ListN.{get_elem?};
@@ -22,7 +22,7 @@ use nub_rule::{Change, NoChange, Package, Thread};
 use std::sync::Wait;
 use user_mutex::acquire;
 
-/// Takes the mutex, and answers the ring.
+/// Acquires the mutex, and returns the ring.
 pub(crate) fn acquire_ring<B: BufferUse, R: Wait>(
     rt: &R,
     p: &Package<B>,
@@ -47,8 +47,8 @@ pub(crate) fn acquire_ring<B: BufferUse, R: Wait>(
     ring_of::<B>(acquire(rt, p, me, at.mutex))
 }
 
-/// Waits in the condition, and answers the ring anew. Where an alert ended the wait it gives the mutex back with the ring as it was got,
-/// and there is no answer.
+/// Waits in the condition, and returns the ring as it is then. If an alert ended the wait, releases
+/// the mutex with the ring unchanged, and returns `None`.
 fn wait_once<B: BufferUse, C: Change<B>, R: Wait>(
     rt: &R,
     p: &Package<B>,
@@ -84,8 +84,8 @@ fn wait_once<B: BufferUse, C: Change<B>, R: Wait>(
     }
 }
 
-/// Takes the mutex, waits in the condition as long as the side has to, and answers the ring. Where an alert ended a wait it gives the mutex
-/// back with the ring as it was got, and there is no answer.
+/// Acquires the mutex, waits in the condition while this side has to, and returns the ring. If an
+/// alert ended a wait, releases the mutex with the ring unchanged, and returns `None`.
 pub(crate) fn enter<B: BufferUse, C: Change<B>, R: Wait>(
     rt: &R,
     p: &Package<B>,

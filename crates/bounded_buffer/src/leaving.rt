@@ -1,4 +1,4 @@
-//! Getting the ring out of a value, and giving a mutex back with a ring.
+//! Gets the ring out of a value, and releases a mutex with a ring.
 ghost use Rattle.std.specs.Prelude.{◌≡◌, ◌<◌, ℕ, List, None, Some, IfSome, slice_set};
 ghost use Rattle.nub_rule.specs.Known.{Holds, Known};
 ghost use Rattle.nub_rule.specs.Plays.{release_event};
@@ -17,7 +17,7 @@ use nub_rule::{Change, Package, Thread};
 use std::sync::Wait;
 use user_mutex::release;
 
-/// The ring that the value is.
+/// Returns the ring that the value is.
 #[inline(always)]
 pub(crate) fn ring_of<B: BufferUse>(value: B::Value) -> Ring<B::Item>
     requires { (q : Held B.Item) × (B.ring_in value ≡ Some q) }
@@ -26,7 +26,7 @@ pub(crate) fn ring_of<B: BufferUse>(value: B::Value) -> Ring<B::Item>
     B::into_ring(value)
 }
 
-/// Waits for ever, with the item.
+/// Never returns. Keeps the item meanwhile, which has no number left to be put under.
 pub(crate) fn keep<T, R: Wait>(rt: &R, item: T) -> T
     ensures { ⊥ }
 {
@@ -34,9 +34,10 @@ pub(crate) fn keep<T, R: Wait>(rt: &R, item: T) -> T
     item
 }
 
-/// Signals the condition, if there is one, and gives the mutex back with the ring.
+/// Signals the condition, if there is one, and releases the mutex with the ring.
 ///
-/// The signal stands before the release: whoever is woken is unparked once the mutex has been given back, and finds it free.
+/// The signal comes before the release: a woken thread is unparked once the mutex has been
+/// released, and finds it free.
 pub(crate) fn give<B: BufferUse, C: Change<B>, R: Wait>(
     rt: &R,
     p: &Package<B>,
@@ -68,7 +69,8 @@ pub(crate) fn give<B: BufferUse, C: Change<B>, R: Wait>(
     }
 }
 
-/// Ends a call at a ring: signals the condition, where the other side is to be told, and gives the mutex back with the ring.
+/// Ends a call at a ring: signals the condition of the other side if `told` is true, and releases
+/// the mutex with the ring.
 pub(crate) fn leave<B: BufferUse, C: Change<B>, R: Wait>(
     rt: &R,
     p: &Package<B>,

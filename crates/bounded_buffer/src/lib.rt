@@ -1,8 +1,9 @@
-//! Rings between threads, each with a fixed number of places.
+//! Bounded buffers between threads: rings, each with a fixed number of places.
 //!
-//! Promises: `put`, `take` and `shut` do at their ring exactly what their answers say, with their events; each item that was put into a plain
-//! buffer was taken once or is left, in the order of puts. Stands on a mutex and two conditions of the package, whose waits an alert may
-//! end. Nothing is said of waiting: not that a put or a take ever returns.
+//! Promises: `put`, `take` and `shut` do at their ring exactly what their results say, with their
+//! events; each item that was put into a plain buffer was taken once or is left, in order of puts.
+//! Built on a mutex and two conditions of the package, in alertable waits. Nothing is promised
+//! about waiting: not that a put or a take ever returns.
 #![tactic(auto)]
 
 mod anyway;

@@ -1,4 +1,4 @@
-//! A ring behind every mutex.
+//! Plain buffers: a ring under every mutex.
 ghost use Rattle.std.specs.Prelude.{◌≡◌, ◌<◌, ◌^◌, [], ◌∷◌, Some};
 ghost use Rattle.std.proofs.Common.{refl, ◌∙◌};
 ghost use Rattle.bounded_buffer.specs.declared.did.Did.TheVariants.{Shut};
@@ -15,7 +15,11 @@ use nub_rule::{Change, Uses};
 use std::collections::LinkedList;
 use std::marker::PhantomData;
 
-/// The buffer behind the mutex with this number.
+/// Returns the names of the buffer under the mutex with this number.
+///
+/// ```rust
+/// let numbers = plain_buffer(0);
+/// ```
 pub fn plain_buffer(number: u32) -> BufferAt
     requires { number < 2 ^ 31 }
     ensures plain { IsPlain result }
@@ -28,7 +32,8 @@ pub fn plain_buffer(number: u32) -> BufferAt
     }
 }
 
-/// Each mutex m is a buffer, whose conditions are 2 m for room and 2 m + 1 for more. A share is all that its thread did, the last first.
+/// The use of the package in which each mutex m protects a ring, with the conditions 2 m for room
+/// and 2 m + 1 for more. A share is the list of all that its thread did, the last first.
 pub struct PlainBuffers<T> {
     of: PhantomData<T>,
 }

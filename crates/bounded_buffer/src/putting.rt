@@ -19,12 +19,23 @@ use crate::side::Side;
 use nub_rule::{NoChange, Package, Thread};
 use std::sync::Wait;
 
-/// Puts the item last into the ring and answers its number, counted from 0 in order of puts.
+/// Puts the item last into the ring, and returns its number, counted from 0 in order of puts.
 ///
-/// It blocks while another thread has the mutex, and in the condition `room` while the ring is full and open, for ever if nobody takes
-/// anything, shuts the ring or alerts the thread. A ring that was put into 18446744073709551615 times takes no more: the call then blocks
-/// for ever. Where the ring is shut or the thread is alerted in a wait, the item comes back; where the thread shut the ring itself, or saw it
-/// shut, the ring is shut.
+/// Blocks while another thread holds the mutex, and in the condition `room` while the ring is full
+/// and open: for ever if no thread takes an item, shuts the ring or alerts this thread. A ring into
+/// which 18446744073709551615 items were put takes no more, and the call then blocks for ever.
+///
+/// Fails with `Closed` if the ring is shut, and with `Alerted` if the thread was alerted while it
+/// waited; either way the item comes back. If this thread has shut the ring, or has seen it shut,
+/// the call fails with `Closed`.
+///
+/// ```rust
+/// match put(rt, p, me, at, item) {
+///     Ok(number) => return Ok(number),
+///     Err((PutEnd::Closed, back)) => return Err(back),
+///     Err((PutEnd::Alerted, back)) => item = back,
+/// }
+/// ```
 pub fn put<B: BufferUse, R: Wait>(
     rt: &R,
     p: &Package<B>,

@@ -13,7 +13,7 @@ use std::alloc::{AllocError, Global};
 use std::collections::VecDeque;
 use std::marker::Model;
 
-/// Items in the order in which they were put, how many were ever taken, and whether the ring is shut.
+/// Items in order of puts, with the number of items ever taken and whether the ring is shut.
 #[derive(Drop)]
 pub struct Ring<T> {
     items: VecDeque<T>,
@@ -36,7 +36,12 @@ impl<T> Model for Ring<T> {
 }
 
 impl<T> Ring<T> {
-    /// An open and empty ring with room for so many items, all of which is taken here.
+    /// Returns an open and empty ring with room for `capacity` items. All its memory is allocated
+    /// here. Fails only if there is no memory.
+    ///
+    /// ```rust
+    /// rings.push(Ring::new(alloc, 16)?)?;
+    /// ```
     pub fn new(alloc: Global, capacity: u32) -> Result<Ring<T>, AllocError>
         requires { (1 ≤ capacity) × (capacity ≤ 4096) }
         ensures { IfOk result (λ r. r ≡ fresh capacity) }
@@ -50,14 +55,27 @@ impl<T> Ring<T> {
         })
     }
 
-    /// How many items it has.
+    /// Returns the number of items in the ring.
+    ///
+    /// ```rust
+    /// let left = closed.values()[1].len();
+    /// ```
     pub fn len(&self) -> u32
         ensures { result ≡ length self.now.items }
     {
         self.items.len() as u32
     }
 
-    /// Whether it has no item.
+    /// Returns whether the ring has no item.
+    ///
+    /// ```rust
+    /// let ring = closed.values().first()?;
+    /// Some(End {
+    ///     traced: closed.trace().is_some(),
+    ///     taken: ring.taken(),
+    ///     empty: ring.is_empty(),
+    /// })
+    /// ```
     pub fn is_empty(&self) -> bool
         ensures empty { result ≡ true → self.now.items ≡ [] }
         ensures some { result ≡ false → 0 < length self.now.items }
@@ -65,7 +83,17 @@ impl<T> Ring<T> {
         self.items.is_empty()
     }
 
-    /// Whether nothing may be put, until something is taken.
+    /// Returns whether the ring has as many items as its capacity.
+    ///
+    /// ```rust
+    /// if ring.is_shut() {
+    ///     return false;
+    /// }
+    /// match side {
+    ///     Side::Putting => ring.is_full(),
+    ///     Side::Taking => ring.is_empty(),
+    /// }
+    /// ```
     pub fn is_full(&self) -> bool
         ensures full { result ≡ true → length self.now.items ≡ self.now.capacity }
         ensures room { result ≡ false → length self.now.items < self.now.capacity }
@@ -73,7 +101,7 @@ impl<T> Ring<T> {
         self.items.len() == self.capacity as usize
     }
 
-    /// The items, in the order in which they were put.
+    /// Returns the items, in order of puts.
     pub fn into_items(self) -> VecDeque<T>
         ensures { result.items ≡ self.items }
     {
@@ -86,28 +114,47 @@ impl<T> Ring<T> {
         items
     }
 
-    /// How many items were ever taken from it.
+    /// Returns how many items were ever taken from the ring.
+    ///
+    /// ```rust
+    /// let ring = closed.values().first()?;
+    /// Some(End {
+    ///     traced: closed.trace().is_some(),
+    ///     taken: ring.taken(),
+    ///     empty: ring.is_empty(),
+    /// })
+    /// ```
     pub fn taken(&self) -> u64
         ensures { result ≡ self.now.taken }
     {
         self.taken
     }
 
-    /// Whether it is shut.
+    /// Returns whether the ring is shut.
+    ///
+    /// ```rust
+    /// if ring.is_shut() {
+    ///     return false;
+    /// }
+    /// match side {
+    ///     Side::Putting => ring.is_full(),
+    ///     Side::Taking => ring.is_empty(),
+    /// }
+    /// ```
     pub fn is_shut(&self) -> bool
         ensures { result ≡ self.now.shut }
     {
         self.shut
     }
 
-    /// Whether it is open, and the number of items that were ever put is the greatest that there is.
+    /// Returns whether the ring is open and as many items were ever put as can be counted.
     pub(crate) fn is_at_end(&self) -> bool
         ensures end { result ≡ false → self.now.shut ≡ false → put_count self.now + 1 < 2 ^ 64 }
     {
         !self.shut && self.taken == u64::MAX - self.items.len() as u64
     }
 
-    /// Puts the item last, where the ring is open, and answers its number.
+    /// Puts the item last and returns its number, if the ring is open.
     pub(crate) fn offer(&mut self, item: T) -> Result<u64, (PutEnd, T)>
         requires room { MayGo Putting self.old }
         requires few { self.old.shut ≡ false → put_count self.old + 1 < 2 ^ 64 }
@@ -124,7 +171,7 @@ impl<T> Ring<T> {
         Ok(number)
     }
 
-    /// Takes the first item, where there is one, and answers its number too.
+    /// Takes the first item, if there is one, and returns it with its number.
     pub(crate) fn poll(&mut self) -> Result<(u64, T), TakeEnd>
         requires { MayGo Taking self.old }
         ensures did { Answers (take_did result) IsOfTake (is_ok result) self.old self.new }
@@ -139,7 +186,6 @@ impl<T> Ring<T> {
         Ok((number, item))
     }
 
-    /// Shuts it.
     pub(crate) fn shut(&mut self)
         ensures { self.new ≡ shut_now self.old }
     {

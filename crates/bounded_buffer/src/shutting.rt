@@ -15,9 +15,14 @@ use condition::broadcast;
 use nub_rule::{Package, Thread};
 use std::sync::Wait;
 
-/// Shuts the ring, and wakes all who wait for room or for more. Where it is shut already it stays as it is.
+/// Shuts the ring, and wakes all threads that wait for room or for more. If the ring is shut
+/// already, it stays so.
 ///
-/// It blocks while another thread has the mutex.
+/// Blocks while another thread holds the mutex.
+///
+/// ```rust
+/// shut(rt, pkg, me, &AT);
+/// ```
 pub fn shut<B: BufferUse, R: Wait>(rt: &R, p: &Package<B>, me: &mut Thread<B>, at: &BufferAt)
     requires rest { AtRest p.now me.old }
     requires named { IsNamed p.now.layout at.now }

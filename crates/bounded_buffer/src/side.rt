@@ -5,14 +5,14 @@ ghost use Rattle.bounded_buffer.specs.Sides.{MayGo, wait_of};
 
 use crate::ring::Ring;
 
-/// What a thread comes to a ring for.
+/// Whether a thread comes to a ring to put or to take.
 #[derive(Clone, Copy)]
 pub(crate) enum Side {
     Putting,
     Taking,
 }
 
-/// Whether a thread has to wait at the ring.
+/// Returns whether a thread of this side has to wait at the ring.
 pub(crate) fn must_wait<T>(side: Side, ring: &Ring<T>) -> bool
     ensures waits { result ≡ true → Does (wait_of side) ring.now ring.now }
     ensures goes { result ≡ false → MayGo side ring.now }

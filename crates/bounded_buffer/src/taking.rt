@@ -19,10 +19,22 @@ use crate::side::Side;
 use nub_rule::{Package, Thread};
 use std::sync::Wait;
 
-/// Takes the first item of the ring and answers it with the number under which it was put.
+/// Takes the first item of the ring, and returns the number under which it was put, and the item.
 ///
-/// It blocks while another thread has the mutex, and in the condition `more` while the ring is empty and open, for ever if nobody puts
-/// anything, shuts the ring or alerts the thread; it doesn't wait there where the thread shut the ring itself, or saw it shut.
+/// Blocks while another thread holds the mutex, and in the condition `more` while the ring is empty
+/// and open: for ever if no thread puts an item, shuts the ring or alerts this thread. If this
+/// thread has shut the ring, or has seen it shut, it doesn't wait there.
+///
+/// Fails with `ClosedEmpty` if the ring is shut and empty, and with `Alerted` if the thread was
+/// alerted while it waited.
+///
+/// ```rust
+/// match take(rt, p, me, at) {
+///     Ok(taken) => return Ok(taken),
+///     Err(TakeEnd::ClosedEmpty) => return Err(Over),
+///     Err(TakeEnd::Alerted) => {}
+/// }
+/// ```
 pub fn take<B: BufferUse, R: Wait>(
     rt: &R,
     p: &Package<B>,

@@ -1,4 +1,4 @@
--- Why lines of jobs aren't read.
+-- The reasons why lines of jobs can't be read.
 use Rattle.std.specs.Prelude.{◌≡◌, ◌≢◌, ℕ, ◌+◌, ◌<◌, ◌≤◌, List, [], ◌∷◌, ◌++◌, length, Result, IfSome, IfErr, OnOk}
 use Rattle.std.specs.List.{AllByRecursion}
 use Rattle.std.specs.Io.KnownBytes.{Consumes}
@@ -9,11 +9,11 @@ use Rattle.command_jobs.specs.declared.job_line.JobsFault.{JobsFault}
 use Rattle.command_jobs.specs.declared.job_line.JobsFault.TheVariants.{Memory, BadLine, TooLong, Read}
 use Rattle.command_jobs.specs.JobLines.{IsLawful, line_text, lines_text, ReadsAs}
 
--- how many lines a text has at most
+-- the greatest number of lines of a text
 abbrev pub most_lines : ℕ
 most_lines = 100000
 
--- no line stands first in the bytes
+-- the bytes begin with no line
 abbrev pub BeginsNoLine : List ℕ → Type 0
 BeginsNoLine bytes = (line : JobLine) (after : List ℕ) → IsLawful line → bytes ≢ line_text line ++ 10 ∷ after
 
@@ -21,7 +21,8 @@ BeginsNoLine bytes = (line : JobLine) (after : List ℕ) → IsLawful line → b
 abbrev pub IsFlat : List ℕ → Type 0
 IsFlat bytes = AllByRecursion (λ b. b ≢ 10) bytes
 
--- Line k is the first that is bad: lines stand before it, fewer than there may be, and what follows them is something that begins with no line.
+-- line k is the first bad one: lines come before it, fewer than there may be, and what follows them
+-- begins with no line
 pub record IsBadLine (input : List ℕ) (k : ℕ) : Type 0 where
   pub before : List JobLine
   pub rest : List ℕ
@@ -41,7 +42,8 @@ pub record IsTooLong (input : List ℕ) : Type 0 where
   pub full : length before ≡ most_lines
   pub some : 0 < length rest
 
--- The bytes don't decide: lines, and then the beginning of one of at most 11 bytes, or nothing where there are as many lines as there may be.
+-- the bytes don't decide: they are lines, and then the beginning of one of at most 11 bytes, or
+-- nothing if there are as many lines as there may be
 pub record IsUndecided (given : List ℕ) : Type 0 where
   pub before : List JobLine
   pub rest : List ℕ
@@ -52,24 +54,26 @@ pub record IsUndecided (given : List ℕ) : Type 0 where
   pub short : length rest ≤ 11
   pub full : length before ≡ most_lines → rest ≡ []
 
--- why the lines with these bytes weren't read, where the bytes after them are left
+-- why the lines with these bytes weren't read, if the bytes after them are left
 abbrev pub HasReason : Option (List ℕ) → Option (List ℕ) → ℕ → ℕ → JobsFault → Type 0
 HasReason left left' before now Memory = Unit {0}
 HasReason left left' before now (BadLine k) = IfSome left (λ input. IsBadLine input k)
 HasReason left left' before now TooLong = IfSome left IsTooLong
 HasReason left left' before now Read = Rose before now × ((given : List ℕ) × Consumes left left' given × IsUndecided given)
 
--- A read that fails is told: the count of faults never falls, and rises only where the call tells a failed read.
+-- a failed read is reported: the count of faults never falls, and rises only if the call reports a
+-- failed read
 pub record IsTold {T : Type 0} (before now : ℕ) (result : Result T JobsFault) : Type 0 where
   pub later : before ≤ now
   pub unfailed : OnOk result (now ≡ before)
   pub otherwise : IfErr result (λ fault. fault ≢ Read → now ≡ before)
 
--- the bytes are the text of at most so many lines as there may be
+-- the bytes are the text of lines, no more than there may be
 abbrev pub IsJobsText : List ℕ → Type 0
 IsJobsText bytes = (lines : List JobLine) × ReadsAs bytes lines × (length lines ≤ most_lines)
 
--- Of an input at most one of these holds: it is a text of jobs, a line of it is bad, it is too long. It is the text of one list of lines, and has one bad line.
+-- of any input at most one of these holds: it is a text of jobs, one of its lines is bad, it is too
+-- long; and it is the text of only one list of lines, and has only one bad line
 pub record OneAnswer : Type 0 where
   pub text_or_bad : (input : List ℕ) (k : ℕ) → IsJobsText input → IsBadLine input k → ⊥
   pub text_or_long : (input : List ℕ) → IsJobsText input → IsTooLong input → ⊥

@@ -4,7 +4,7 @@ use Rattle.std.specs.List.{AllByRecursion}
 use Rattle.command_jobs.specs.declared.job_line.JobLine.{JobLine}
 use Rattle.command_jobs.specs.declared.job_line.JobLine.TheVariants.{Sum, Stop}
 
--- a sum ends at a million or before
+-- a sum goes up to a million at most
 abbrev pub IsLawful : JobLine → Type 0
 IsLawful (Sum n) = n ≤ 1000000
 IsLawful Stop = Unit {0}

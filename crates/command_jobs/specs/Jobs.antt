@@ -1,4 +1,4 @@
--- What the command `jobs` answers.
+-- The results of the command `jobs`.
 use Rattle.std.specs.Prelude.{◌≡◌, ◌≢◌, ◌⊎◌, ℕ, ◌≤◌, List, map, length, slice_get, Some, IfSome}
 use Rattle.std.specs.Io.KnownBytes.{IsAtEnd}
 use Rattle.command_jobs.specs.declared.job_line.JobLine.{JobLine}
@@ -26,13 +26,14 @@ AreValues lines values = map work_of lines ≡ map (λ v. Value v) values
 abbrev pub StopsAt : List JobLine → ℕ → Type 0
 StopsAt lines k = slice_get lines k ≡ Some line.Stop
 
--- how the pool ends that ran the jobs of these lines
+-- how the pool that ran the jobs of these lines ended
 abbrev pub HaveRun : List JobLine → PoolEnd → Type 0
 HaveRun lines (pool.Done values) = AreValues lines values.items
 HaveRun lines (pool.Stopped k) = StopsAt lines k
 HaveRun lines pool.Memory = Unit {0}
 
--- the jobs of these lines were run and their values printed; or one has stopped the others; or memory ran out
+-- the jobs of these lines were run and their values printed; or one has stopped the others; or
+-- memory ran out
 abbrev pub Runs : List JobLine → Change → Change → Status → Type 0
 Runs lines out notes status =
     ((values : List ℕ) × AreValues lines values × Prints (lines_of values) Done out notes status)
@@ -45,7 +46,7 @@ pub record IsRead (input : Change) (lines : List JobLine) : Type 0 where
   pub whole : IfSome input.old (λ bytes. ReadsAs bytes lines)
   pub end : IsAtEnd input.new
 
--- the text has the value of each line that the input has, behind its place
+-- the text has the value of each line of the input, after its place
 pub record AreDone (input : Change) (text : List ℕ) : Type 0 where
   pub lines : List JobLine
   pub values : List ℕ
@@ -70,7 +71,7 @@ SaysFault fault.TooLong notes status = (status ≡ TooLong) × Notes notes too_l
 SaysFault fault.Read notes status = (status ≡ ReadFault) × Notes notes input_fault_message
 SaysFault fault.Memory notes status = (status ≡ Memory) × Notes notes memory_message
 
--- each status by its cause
+-- the cause of each status
 abbrev pub JobsAnswers : Change → Change → Change → Status → Type 0
 JobsAnswers input out notes Done = (text : List ℕ) × AreDone input text × Gets out text × IsStill notes
 JobsAnswers input out notes SinkFault = (text : List ℕ) × AreDone input text × GetsPrefix out text × Notes notes output_fault_message
@@ -91,7 +92,8 @@ IsDue bytes BadText = (k : ℕ) × IsBadLine bytes k
 IsDue bytes TooLong = IsTooLong bytes
 IsDue bytes status = ⊥
 
--- where the input tells its bytes, memory sufficed and no read failed, the status is the one that is due, unless the sink failed
+-- if the bytes of the input are known, memory sufficed and no read failed, the status is the one
+-- that is due, unless the sink failed
 abbrev pub Decided : Change → Status → Type 0
 Decided input status = (bytes : List ℕ) (due : Status) → input.old ≡ Some bytes → status ≢ Memory → status ≢ ReadFault → IsDue bytes due
     → (status ≡ due) ⊎ ((due ≡ Done) × (status ≡ SinkFault))

@@ -1,4 +1,4 @@
--- Values, each on a line behind its place.
+-- Values, each on a line after its place.
 use Rattle.std.specs.Prelude.{ℕ, List, ◌++◌, codes, decimal}
 use Rattle.std.specs.List.{enumerate_from, flat_map}
 use Rattle.text_output.specs.Paths.{newline}

@@ -14,7 +14,7 @@ abbrev pub work_of : JobLine → Work
 work_of (line.Sum n) = Value (sum_to n)
 work_of line.Stop = Stop
 
--- it is as it was after a call
+-- the job's state, which a call leaves as it is
 abbrev pub state_of : JobLine → List ℕ
 state_of (line.Sum n) = n ∷ []
 state_of line.Stop = []

@@ -37,7 +37,7 @@ fn run_read<R: Threads + Wait + Sync, O: Sink, N: Sink>(
     }
 }
 
-// Says why no lines were read, and answers the status that goes with it.
+// Prints why no lines were read, and returns the status of that fault.
 fn refused<N: Sink>(notes: &mut N, fault: JobsFault) -> Status
     ensures { SaysFault fault (change_of N.held N.faults notes.old notes.new) result }
 {
@@ -49,8 +49,9 @@ fn refused<N: Sink>(notes: &mut N, fault: JobsFault) -> Status
     }
 }
 
-/// Runs the jobs whose lines the input is, by so many workers, and prints the value of each behind its place. Where a line is `stop`, it
-/// says which one has stopped the others, and prints nothing.
+/// Runs the jobs of the input's lines by `workers` workers, and prints the value of each after its
+/// place. If a line is `stop`, reports which one stopped the others, and prints no value. Returns
+/// the status.
 pub fn run_jobs_command<R: Threads + Wait + Sync, I: Source, O: Sink, N: Sink>(
     rt: &R,
     alloc: Global,

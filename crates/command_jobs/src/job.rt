@@ -5,7 +5,7 @@ ghost use Rattle.command_jobs.specs.Values.{sum_to};
 use crate::job_line::JobLine;
 use job_pool::{Job, Work};
 
-/// The sum of the numbers from 0 to `last`.
+/// Returns the sum of the numbers from 0 to `last`.
 fn sum_up(last: u32) -> u64
     ensures { result ≡ sum_to last }
 {
@@ -13,7 +13,7 @@ fn sum_up(last: u32) -> u64
     last * (last + 1) / 2
 }
 
-/// What a line says is to be done.
+/// The job that a line describes.
 #[derive(Drop)]
 pub struct LineJob(pub JobLine);
 

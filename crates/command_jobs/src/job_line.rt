@@ -1,4 +1,4 @@
-//! What a line says.
+//! The lines of jobs, and the reasons why they can't be read.
 use thiserror::Error;
 
 /// A job.
@@ -6,7 +6,7 @@ use thiserror::Error;
 pub enum JobLine {
     /// The sum of the numbers from 0 to this one.
     Sum(u32),
-    /// The pool is to stop.
+    /// The job that stops the pool.
     Stop,
 }
 

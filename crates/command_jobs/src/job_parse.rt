@@ -1,4 +1,4 @@
-//! What stands in the bytes of one line.
+//! Parses the bytes of one line.
 ghost use Rattle.std.specs.Prelude.{◌≡◌, ℕ, ◌≤◌, decimal, MatchOption};
 ghost use Rattle.command_jobs.specs.JobLines.{IsLawful, line_text};
 ghost use Rattle.command_jobs.specs.JobTaking.{Parses};
@@ -10,7 +10,7 @@ use text_output::read_number;
 /// The greatest number that a line may have.
 pub const MOST: u64 = 1_000_000;
 
-// A number of at most a million.
+// A number up to a million.
 fn number(bytes: &[u8]) -> Option<u64>
     ensures { Parses (λ n. n ≤ 1000000) decimal bytes.now result }
 {
@@ -20,7 +20,7 @@ fn number(bytes: &[u8]) -> Option<u64>
     read_number(text, 0, MOST)
 }
 
-/// The line that the bytes are, without its newline.
+/// Returns the line that these bytes are, without its newline.
 pub fn line(bytes: &[u8]) -> Option<JobLine>
     ensures { Parses IsLawful line_text bytes.now result }
 {

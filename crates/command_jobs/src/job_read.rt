@@ -1,4 +1,4 @@
-//! Lines of jobs from a source.
+//! Reads lines of jobs from a source.
 ghost use Rattle.std.specs.Prelude.{◌≡◌, ◌≤◌, ◌≢◌, length, IfOk, IfErr, IfSome, OnOk};
 ghost use Rattle.std.specs.List.{AllByRecursion};
 ghost use Rattle.std.specs.Io.KnownBytes.{IsAtEnd, prepend_known};
@@ -11,10 +11,10 @@ use crate::job_take::{Next, take_line};
 use firefly_outside::{Source, Window};
 use std::alloc::Global;
 
-/// How many lines a text has at most.
+/// The greatest number of lines of a text.
 pub const MOST_LINES: usize = 100_000;
 
-// Whether nothing stands behind the last line that there may be.
+// Fails if there is anything after as many lines as there may be.
 fn past<I: Source>(window: &mut Window, input: &mut I) -> Result<(), JobsFault>
     ensures past { IsPast (prepend_known window.old (I.left input.old)) (I.left input.new) (I.faults input.old) (I.faults input.new)
         result }
@@ -30,10 +30,11 @@ fn past<I: Source>(window: &mut Window, input: &mut I) -> Result<(), JobsFault>
     }
 }
 
-/// Reads the lines that the input is.
+/// Reads all lines of the input.
 ///
-/// A bad line is the first at which the input is no prefix of a text; where it ends in mid-line, that line. `TooLong` says that 100,000
-/// lines stand first and that more bytes come, and `Read` that the source failed before the bytes had shown one of these.
+/// Fails with `BadLine` for the first line at which the input is no prefix of a text, or in the
+/// middle of which it ends; with `TooLong` if the input begins with 100,000 lines and has more
+/// bytes; and with `Read` if the source failed before the bytes had shown one of these.
 pub fn read_jobs<I: Source>(alloc: Global, input: &mut I) -> Result<Vec<JobLine>, JobsFault>
     ensures lines { IfOk result (λ v. IfSome (I.left input.old) (λ bytes. ReadsAs bytes v.items)) }
     ensures lawful { IfOk result (λ v. AllByRecursion IsLawful v.items) }

@@ -1,4 +1,4 @@
-//! The line that stands next.
+//! Takes the next line.
 ghost use Rattle.std.specs.Prelude.{◌≤◌, ◌≡◌, length, IfOk, OnOk};
 ghost use Rattle.std.specs.Io.KnownBytes.{prepend_known};
 ghost use Rattle.command_jobs.specs.JobTaking.{IsSeen, IsTaken};
@@ -8,21 +8,21 @@ use crate::job_parse;
 use firefly_outside::{Failed, Source, WINDOW_ROOM, Window};
 use memchr::memchr;
 
-/// How many bytes a line has at most, without its newline.
+/// The greatest number of bytes of a line, without its newline.
 const LONGEST: usize = 11;
 
-/// What bytes show of the line that stands first in them.
+/// What bytes show of the line at their start.
 #[derive(Clone, Copy)]
 pub enum Seen {
-    /// This line, of so many bytes.
+    /// This line, of `size` bytes.
     Line { line: JobLine, size: usize },
-    /// No line.
+    /// The bytes begin with no line.
     Bad,
-    /// Not enough.
+    /// There are too few bytes to decide.
     Open,
 }
 
-/// What stands next.
+/// What comes next in the input.
 #[derive(Clone, Copy)]
 pub enum Next {
     Line(JobLine),
@@ -50,7 +50,7 @@ fn look(bytes: &[u8]) -> Seen
     }
 }
 
-/// Takes the line that stands next, and more from the source where the bytes don't show it.
+/// Takes the next line, and reads more from the source if the bytes don't show it.
 pub fn take_line<I: Source>(window: &mut Window, input: &mut I) -> Result<Next, Failed>
     ensures taken { IsTaken (prepend_known window.old (I.left input.old)) (prepend_known window.new (I.left input.new))
         (I.left input.new) (I.faults input.old) (I.faults input.new) result }

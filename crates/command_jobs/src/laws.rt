@@ -1,7 +1,7 @@
 //! Laws of texts of jobs.
 ghost use Rattle.command_jobs.specs.JobFaults.{OneAnswer};
 
-/// The answer to an input is decided by its bytes.
+/// The bytes of an input decide how it is read.
 pub fn one_answer()
     ensures { OneAnswer }
 {}

@@ -1,4 +1,4 @@
-//! Values, each on a line behind its place.
+//! Prints values, each on a line after its place.
 ghost use Rattle.std.specs.Prelude.{◌≡◌, ◌≤◌, length, OnOk, OnErr};
 ghost use Rattle.std.specs.Io.KnownBytes.{Appends};
 ghost use Rattle.firefly_outside.specs.Causes.{HasCause, AppendsPrefix};
@@ -43,7 +43,7 @@ fn write_lines<O: Sink>(values: &[u64], out: &mut O) -> Result<(), SinkFault>
     flush(&mut held, out)
 }
 
-/// Prints the values, each on a line behind its place.
+/// Prints the values, each on a line after its place. Returns the status.
 pub fn print_values<O: Sink, N: Sink>(values: &[u64], out: &mut O, notes: &mut N) -> Status
     ensures { Prints (lines_of values.now) Status.Done (change_of O.held O.faults out.old out.new)
         (change_of N.held N.faults notes.old notes.new) result }

@@ -17,7 +17,7 @@ fn jobs_of(alloc: Global, lines: Vec<JobLine>) -> Result<Vec<LineJob>, AllocErro
     lines.into_iter().map(LineJob).collect(alloc)
 }
 
-/// Runs the jobs of the lines by so many workers.
+/// Runs the jobs of the lines by `workers` workers.
 pub fn run_lines<R: Threads + Wait + Sync>(
     rt: &R,
     alloc: Global,

@@ -7,7 +7,8 @@ use std::sync::Wait;
 use std::test::Fail;
 use std::thread::Threads;
 
-// Whether the text, of which so many bytes come before the source fails, is answered so by two workers.
+// Whether two workers end in this way, on a text of which this many bytes come before the source
+// fails.
 fn answers<R: Threads + Wait + Sync>(
     rt: &R,
     alloc: Global,

@@ -17,7 +17,7 @@ use Rattle.command_rounds.specs.RoundEvents.{AreEventsOf, IsArrivalOf, visit}
 abbrev pub round_at : RoundAt
 round_at = record { bar = record { 0 = 0 }; cond = record { 0 = 0 }; sum = record { 0 = 1 }; once = record { 0 = 2 } }
 
--- the package has these cells, and its threads are the parties, whose number is the greatest value
+-- the package has these cells; its threads are the parties, and their number is the greatest value
 pub record IsTable (p : Shape RoundWorld) : Type 0 where
   pub layout : p.layout ≡ layout_of p.world.parties 3 1 0
   pub most : p.world.most ≡ p.world.parties
@@ -29,7 +29,7 @@ pub record IsBetween (p : Shape RoundWorld) (t : ℕ) (s : RoundShare) (es : Lis
   pub idle : IsIdle p t s me
   pub mine : me.mine ≡ es
 
--- the thread t has agreed and played so many rounds
+-- the thread t has agreed and played n rounds
 pub record IsPlaying (p : Shape RoundWorld) (t n : ℕ) (me : RoundThread) : Type 0 where
   pub share : RoundShare
   pub events : List Event
@@ -40,7 +40,7 @@ pub record IsPlaying (p : Shape RoundWorld) (t n : ℕ) (me : RoundThread) : Typ
   pub agreed : (v : ℕ) × (share.agreed ≡ Some v)
   pub are : AreEventsOf t n events
 
--- the thread t has played so many rounds and half of the next, and then these events were its own
+-- the thread t has played n rounds and half of the next, and then these events were its own
 pub record IsHalfway (p : Shape RoundWorld) (t n : ℕ) (asked : List Event) (me : RoundThread) : Type 0 where
   pub share : RoundShare
   pub before : List Event
@@ -54,12 +54,12 @@ pub record IsHalfway (p : Shape RoundWorld) (t n : ℕ) (asked : List Event) (me
   pub are : AreEventsOf t n before
   pub arrival : IsArrivalOf t first
 
--- so many totals, each of all that was added up to its round
+-- the totals of `rounds` rounds, each of all that was added up to its round
 pub record AreTotals (parties rounds : ℕ) (totals : List ℕ) : Type 0 where
   pub count : length totals ≡ rounds
   pub each : Each (λ k n. n ≡ (k + 1) * triangle parties) totals
 
--- the total was added to what is kept, if anything is
+-- the total was appended to those that are kept, if any are
 abbrev pub IsNoted : ℕ → Opt (Vec ℕ Global) → Opt (Vec ℕ Global) → Type 0
 IsNoted total None new = new ≡ None
 IsNoted total (Some old) new = IfSome new (λ v. (v.items ≡ old.items ++ total ∷ []) × (vec_capacity v ≡ vec_capacity old))

@@ -1,14 +1,15 @@
--- The events of a thread in its rounds: the bar is the mutex 0 with the condition 0, the sum the mutex 1, and the once cell the mutex 2.
+-- The events of a thread in its rounds: the bar is the mutex 0 with the condition 0, the sum the
+-- mutex 1, and the once cell the mutex 2.
 use Rattle.std.specs.Prelude.{◌≡◌, ℕ, zero, suc, cond, eqb, List, [], ◌∷◌, ◌++◌}
 use Rattle.larch_actions.specs.declared.event.Event.{Event}
 use Rattle.nub_rule.specs.Plays.{acquire_event, release_event}
 use Rattle.barrier_once.specs.Calls.{IsStay}
 
--- the thread t takes the mutex m and gives it back
+-- the thread t acquires the mutex m and releases it
 abbrev pub visit : ℕ → ℕ → List Event
 visit t m = acquire_event t m ∷ release_event t m ∷ []
 
--- the thread t arrives: as the last it wakes all others, and else it waits, once or oftener
+-- the thread t arrives: the last to arrive wakes all others, any other waits, at least once
 abbrev pub IsArrivalOf : ℕ → List Event → Type 0
 IsArrivalOf t es = (stay : List Event) × IsStay t 0 0 stay × (es ≡ (acquire_event t 0 ∷ stay) ++ release_event t 0 ∷ [])
 
@@ -22,11 +23,11 @@ IsRoundOf t es =
     (first : List Event) × (second : List Event) × IsArrivalOf t first × IsArrivalOf t second
     × (es ≡ ((visit t 1 ++ first) ++ asked t) ++ second)
 
--- so many rounds of the thread t
+-- n rounds of the thread t
 abbrev pub AreRoundsOf : ℕ → ℕ → List Event → Type 0
 AreRoundsOf t zero es = es ≡ []
 AreRoundsOf t (suc n) es = (before : List Event) × (last : List Event) × AreRoundsOf t n before × IsRoundOf t last × (es ≡ before ++ last)
 
--- all events of the thread t: it agrees, and plays so many rounds
+-- all events of the thread t: it agrees, and plays `rounds` rounds
 abbrev pub AreEventsOf : ℕ → ℕ → List Event → Type 0
 AreEventsOf t rounds es = (rest : List Event) × AreRoundsOf t rounds rest × (es ≡ visit t 2 ++ rest)

@@ -1,4 +1,4 @@
--- What the command `rounds` answers.
+-- The results of the command `rounds`.
 use Rattle.std.specs.Prelude.{◌≡◌, ◌⊎◌, ℕ, ◌*◌, ◌<◌, ◌≤◌, List, [], ◌∷◌, Some}
 use Rattle.larch_actions.specs.declared.event.Event.{Event}
 use Rattle.larch_actions.specs.Actions.{by_thread}
@@ -19,8 +19,9 @@ use Rattle.command_endings.specs.Printing.{Prints}
 abbrev pub AreThree : ℕ → ℕ → ℕ → List Cell → Type 0
 AreThree round sum value cells = cells ≡ Bar round 0 ∷ Sum sum ∷ Once (Some value) ∷ []
 
--- The trace of a run of rounds: a legal and closed list of events, of which each thread's are those of its rounds. The bar's round, the sum
--- of all that was added and the value on which all have agreed stand behind it.
+-- the trace of a run of rounds: a legal and closed list of events, of which each thread's are those
+-- of its rounds, followed by the bar's round, the sum of all that was added and the value on which
+-- all have agreed
 pub record IsRoundsTrace (threads rounds : ℕ) (bytes : List ℕ) : Type 0 where
   pub events : List Event
   pub value : ℕ

@@ -32,7 +32,7 @@ fn numbers_of(cells: &[Cell]) -> (u64, u64, u64)
     (cells[0].round(), cells[1].sum(), value)
 }
 
-// Writes the trace of the run, and behind it the three numbers.
+// Writes the trace of the run, followed by the three numbers.
 fn print<O: Sink, N: Sink>(closed: &Closed<RoundUses>, out: &mut O, notes: &mut N) -> Status
     requires lawful { IsLawful closed.now.layout × (3 ≤ closed.now.layout.mutexes) }
     requires traced { (h : List Event) × (closed.now.trace ≡ Some h) × AllByRecursion (HasNames closed.now.layout) h }
@@ -54,7 +54,8 @@ fn print<O: Sink, N: Sink>(closed: &Closed<RoundUses>, out: &mut O, notes: &mut 
     }
 }
 
-/// Runs so many rounds by so many threads, and writes the trace of the run with its three values.
+/// Runs `rounds` rounds by `threads` threads, and writes the trace of the run, followed by its
+/// three values. Returns the status.
 pub fn write_rounds<R: Threads + Wait + Sync, O: Sink, N: Sink>(
     rt: &R,
     alloc: Global,

@@ -1,4 +1,4 @@
-//! The part of one thread.
+//! The part of one thread in the rounds.
 ghost use Rattle.std.specs.Prelude.{◌≡◌, ◌+◌, ◌*◌, ◌<◌, ◌≤◌, ℕ, IfSome, List, [], length, vec_capacity, vec_len};
 ghost use Rattle.barrier_once.specs.Rounds.{fresh_share, triangle};
 ghost use Rattle.larch_actions.specs.declared.event.Event.{Event};
@@ -12,7 +12,7 @@ use nub_rule::{Package, Thread};
 use std::alloc::Global;
 use std::sync::Wait;
 
-/// Where the cells are.
+/// Returns where the cells are.
 pub fn places() -> RoundAt
     ensures { result ≡ round_at }
 {
@@ -24,7 +24,7 @@ pub fn places() -> RoundAt
     }
 }
 
-// Agrees on a value, and offers the thread's number and 1.
+// Agrees on a value, for which it offers the thread's number and 1.
 fn agree_once<R: Wait>(rt: &R, p: &Package<RoundUses>, me: &mut Thread<RoundUses>)
     requires table { IsTable p.now }
     requires few { me.old.number < p.now.world.parties }
@@ -36,7 +36,7 @@ fn agree_once<R: Wait>(rt: &R, p: &Package<RoundUses>, me: &mut Thread<RoundUses
     let _ = agree(rt, p, me, &at, || own);
 }
 
-// Adds, and arrives.
+// Adds to the sum, and arrives at the barrier.
 fn play_half<R: Wait>(rt: &R, p: &Package<RoundUses>, me: &mut Thread<RoundUses>)
     requires table { IsTable p.now }
     requires playing { (n : ℕ) × IsPlaying p.now me.old.number n me.old × (n < 1000) }
@@ -47,7 +47,7 @@ fn play_half<R: Wait>(rt: &R, p: &Package<RoundUses>, me: &mut Thread<RoundUses>
     let _ = arrive(rt, p, me, &at);
 }
 
-// Takes the total, as thread 0. Any other thread takes 0 for it.
+// Takes the total, if this is thread 0. Any other thread takes 0 for it.
 fn ask<R: Wait>(rt: &R, p: &Package<RoundUses>, me: &mut Thread<RoundUses>) -> u64
     requires table { IsTable p.now }
     requires halfway { (n : ℕ) × IsHalfway p.now me.old.number n [] me.old }
@@ -61,7 +61,7 @@ fn ask<R: Wait>(rt: &R, p: &Package<RoundUses>, me: &mut Thread<RoundUses>) -> u
     total(rt, p, me, &at)
 }
 
-// Plays one round, and answers the total that thread 0 took in it.
+// Plays one round, and returns the total that thread 0 took in it.
 fn play_round<R: Wait>(rt: &R, p: &Package<RoundUses>, me: &mut Thread<RoundUses>) -> u64
     requires table { IsTable p.now }
     requires playing { (n : ℕ) × IsPlaying p.now me.old.number n me.old × (n < 1000) }
@@ -75,7 +75,7 @@ fn play_round<R: Wait>(rt: &R, p: &Package<RoundUses>, me: &mut Thread<RoundUses
     answer
 }
 
-// Room for the totals, where the thread is thread 0 and there is memory.
+// Allocates room for the totals, if this is thread 0 and there is memory.
 fn room(alloc: Global, number: u32, rounds: u32) -> Option<Vec<u64>>
     ensures { IfSome result (λ v. (v.items ≡ []) × (rounds ≤ vec_capacity v)) }
 {
@@ -88,7 +88,7 @@ fn room(alloc: Global, number: u32, rounds: u32) -> Option<Vec<u64>>
     }
 }
 
-// Adds the total to those that are kept.
+// Appends the total to those that are kept.
 fn note(totals: &mut Option<Vec<u64>>, total: u64)
     requires { IfSome totals.old (λ v. vec_len v < vec_capacity v) }
     ensures { IsNoted total totals.old totals.new }
@@ -98,7 +98,8 @@ fn note(totals: &mut Option<Vec<u64>>, total: u64)
     }
 }
 
-/// Plays so many rounds, and answers the totals too, as thread 0 where there was memory for them.
+/// Plays `rounds` rounds. Returns the totals too, if this is thread 0 and there was memory for
+/// them.
 pub fn play<R: Wait>(
     rt: &R,
     alloc: Global,

@@ -1,4 +1,4 @@
-//! Running rounds.
+//! The call that runs rounds.
 ghost use Rattle.std.specs.Prelude.{◌≡◌, ◌*◌, ◌<◌, ◌≤◌, ℕ, IfOk, IfSome, List, [], ◌∷◌, length, None, Some};
 ghost use Rattle.std.specs.List.{AllByRecursion};
 ghost use mathlib.Core.Option.{some};
@@ -22,14 +22,14 @@ use std::alloc::{AllocError, Global};
 use std::sync::Wait;
 use std::thread::Threads;
 
-/// What the rounds leave: the totals that thread 0 took, and the package, which was closed.
+/// What the rounds leave: the totals that thread 0 took, and the closed package.
 #[derive(Drop)]
 pub struct Rounds {
     pub totals: Vec<u64>,
     pub closed: Closed<RoundUses>,
 }
 
-// Plays the rounds of each thread in a thread of its own.
+// Plays the rounds of each thread in an operating-system thread of its own.
 fn play_all<R: Threads + Wait + Sync>(
     rt: &R,
     alloc: Global,
@@ -83,11 +83,13 @@ fn first_cells(alloc: Global) -> Result<Vec<Cell>, AllocError>
     Ok(cells)
 }
 
-/// Opens a traced package with so many threads, and lets each agree on a value once and play so many rounds, all at once: it adds its own
-/// number and 1, arrives at the barrier, and arrives again. Thread 0 takes the total between its two arrivals.
+/// Opens a traced package with `threads` threads, and lets each agree on a value once and play
+/// `rounds` rounds, all at once. In a round a thread adds its number and 1, arrives at the barrier,
+/// and arrives again; thread 0 takes the total between its two arrivals.
 ///
-/// Its one refusal is want of memory. It may wait. Where a start is refused, the caller runs that thread after all others were started, and
-/// the call may wait for ever.
+/// Blocks until all threads have ended. A thread that can't be started is run on the caller's
+/// thread after all others have been started, and then the call may block for ever. Fails only if
+/// there is no memory.
 pub fn run_rounds<R: Threads + Wait + Sync>(
     rt: &R,
     alloc: Global,

@@ -1,4 +1,4 @@
--- The second part of a wait.
+-- The second event of a wait, which acquires the mutex again.
 use Rattle.std.specs.Prelude.{ℕ}
 use Rattle.larch_actions.specs.declared.event.Event.{Event}
 use Rattle.larch_actions.specs.declared.event.Action.TheVariants.{Resume}

@@ -1,7 +1,9 @@
 //! Wait, Signal and Broadcast of a condition.
 //!
-//! Promises: each call adds exactly its events to those of its thread; a wait gives the value of its mutex back and gets it anew. Stands on
-//! the count of the condition and on the lock bit. Nothing is said of waiting: not that a wait ever returns, nor whom a Signal takes.
+//! Promises: each call adds exactly its events to those of its thread; a wait releases the mutex
+//! with a value and acquires it again with a value. Built on the count of the condition and on the
+//! lock bit. Nothing is promised about waiting: not that a wait ever returns, nor which thread a
+//! Signal takes.
 #![tactic(auto)]
 
 ghost use Rattle.std.specs.Prelude.{◌≡◌, ◌<◌, ◌∷◌, List, ℕ, [], slice_set, Some, None, false};
@@ -21,10 +23,10 @@ use larch_actions::{Action, CondId, Event, MutexId, ThreadId};
 use nub_rule::{Change, Object, Package, Thread, Uses, lower_waits, put_value, take_value};
 use std::sync::Wait;
 
-/// Takes some thread out of the condition, if there is one, and wakes it.
+/// Takes some thread out of the condition, if one is in it, and wakes it.
 ///
-/// It doesn't block. In the package itself it may wait for a moment: for the spin word of the condition, and in a traced package for its
-/// turn to number the event.
+/// Doesn't block. Inside the package it may wait for a moment: for the spin word of the condition,
+/// and in a traced package for the turn to number the event.
 ///
 /// ```rust
 /// signal(rt, pkg, me, CondId(0));
@@ -48,7 +50,7 @@ pub fn signal<U: Uses, R: Wait>(rt: &R, p: &Package<U>, me: &mut Thread<U>, c: C
 
 /// Takes all threads out of the condition, and wakes them.
 ///
-/// It doesn't block, as `signal` doesn't.
+/// Doesn't block, just as `signal` doesn't.
 ///
 /// ```rust
 /// broadcast(rt, p, me, MORE);
@@ -70,10 +72,13 @@ pub fn broadcast<U: Uses, R: Wait>(rt: &R, p: &Package<U>, me: &mut Thread<U>, c
     }
 }
 
-/// Gives the mutex back with this value and waits in the condition, in one step for all others, until a Signal or Broadcast takes the thread
-/// out of it; then takes the mutex again, and its value. Only the thread that has the mutex may call it.
+/// Releases the mutex with this value and waits in the condition, in one step as far as other
+/// threads can see, until a Signal or Broadcast takes the thread out of it. Then acquires the mutex
+/// again, and returns the value that it has by then. Only the thread that holds the mutex may call
+/// this.
 ///
-/// It blocks until a Signal or Broadcast takes the thread out, for ever if none does, and then while another thread has the mutex.
+/// Blocks until a Signal or Broadcast takes the thread out, for ever if none does, and then while
+/// another thread holds the mutex.
 ///
 /// ```rust
 /// let mut value = got;
@@ -110,7 +115,8 @@ pub fn wait<U: Uses, C: Change<U>, R: Wait>(
         × U.fits p.now.world m.0 result n (C.after p.now.world m.0 n x value s) }
 {
     put_value(p, me, m, value);
-    // The count is read before the bit is cleared: a Signal between the two, under the mutex or not, takes this thread out.
+    // The count is read before the bit is cleared. So a Signal between the two, under the mutex or
+    // not, takes this thread out.
     let count = read_count(rt, p, me, m, c, false);
     free::<U, C, R>(rt, p, me, Object::Mutex(m), None);
     block_and_lower(rt, p, me, c, count);
@@ -122,7 +128,8 @@ pub fn wait<U: Uses, C: Change<U>, R: Wait>(
     take_value(p, me, m)
 }
 
-/// Blocks until the thread has left the condition c, and lowers its begun waits then.
+/// Blocks until the thread has left the condition c, and then takes it off the number of waiters
+/// there.
 fn block_and_lower<U: Uses, R: Wait>(
     rt: &R,
     p: &Package<U>,
@@ -144,7 +151,8 @@ fn block_and_lower<U: Uses, R: Wait>(
     } }
 {
     block(rt, p, me, c, count, false);
-    // Only now: a Signal or Broadcast that finds no begun wait from here on misses nobody. Lowered before, a thread that reads the count or
-    // stands in the queue would be in the condition unseen.
+    // Only now: a Signal or Broadcast that finds no waiters from here on misses nobody. If the
+    // number were lowered earlier, a thread that reads the count or is in the queue would be in the
+    // condition unseen.
     lower_waits(p, me, c);
 }

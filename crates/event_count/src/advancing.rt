@@ -1,5 +1,5 @@
-//! Signal and Broadcast. Where nobody has begun to wait, a look is all. Else the count is advanced, and who was taken out of the condition is
-//! woken.
+//! Signal and Broadcast. If no thread has begun to wait, one look is all. Otherwise the count is
+//! advanced, and the threads that were taken out of the condition are woken.
 ghost use Rattle.std.specs.Prelude.{◌≡◌, ◌<◌, List, ℕ, [], Some, None, true, false};
 ghost use Rattle.larch_actions.specs.Sets.{without};
 ghost use Rattle.nub_rule.specs.Items.{Small};
@@ -18,7 +18,8 @@ use nub_rule::{
 };
 use std::sync::Wait;
 
-/// Takes the spin word of c, where the count can be advanced. Should it ever have come to its last number, then this waits for ever.
+/// Takes the spin word of c, when the count can be advanced. If the count were ever at its greatest
+/// number, this would block for ever.
 fn enter_below<U: Uses, R: Wait>(rt: &R, p: &Package<U>, me: &mut Thread<U>, c: CondId)
     requires of { me.old.table_id ≡ p.now.table_id }
     requires named { c.0 < p.now.layout.conditions }
@@ -42,8 +43,9 @@ fn enter_below<U: Uses, R: Wait>(rt: &R, p: &Package<U>, me: &mut Thread<U>, c: 
     unreachable!()
 }
 
-/// Makes a Signal: of the condition it takes the first that is queued, if there is one, and wakes it. Who has read the count and isn't
-/// queued yet finds it advanced. It may wait for the pen, or for the spin word of the queue.
+/// Makes a Signal: takes the first queued thread out of the condition, if there is one, and wakes
+/// it. A thread that has read the count and isn't queued yet finds it advanced. It may wait for the
+/// pen, or for the spin word of the queue.
 fn advance_one<U: Uses, R: Wait>(rt: &R, p: &Package<U>, me: &mut Thread<U>, c: CondId)
     requires of { me.old.table_id ≡ p.now.table_id }
     requires named { c.0 < p.now.layout.conditions }
@@ -77,8 +79,8 @@ fn advance_one<U: Uses, R: Wait>(rt: &R, p: &Package<U>, me: &mut Thread<U>, c: 
     }
 }
 
-/// Makes a Broadcast: it takes all out of the condition, and wakes those that are queued. It may wait for the pen, or for the spin word of
-/// the queue.
+/// Makes a Broadcast: takes all threads out of the condition, and wakes those that are queued. It
+/// may wait for the pen, or for the spin word of the queue.
 fn advance_all<U: Uses, R: Wait>(rt: &R, p: &Package<U>, me: &mut Thread<U>, c: CondId)
     requires of { me.old.table_id ≡ p.now.table_id }
     requires named { c.0 < p.now.layout.conditions }
@@ -106,7 +108,7 @@ fn advance_all<U: Uses, R: Wait>(rt: &R, p: &Package<U>, me: &mut Thread<U>, c: 
     leave(rt, p, me, Object::Cond(c));
 }
 
-/// Pops each that is queued, after a Broadcast has taken them all, and makes it ready.
+/// Pops each queued thread, after a Broadcast has taken them all, and makes it ready.
 fn wake_all<U: Uses>(p: &Package<U>, me: &mut Thread<U>, c: CondId)
     requires of { me.old.table_id ≡ p.now.table_id }
     requires named { c.0 < p.now.layout.conditions }
@@ -122,8 +124,8 @@ fn wake_all<U: Uses>(p: &Package<U>, me: &mut Thread<U>, c: CondId)
     }
 }
 
-/// Looks whether anybody has begun to wait in c. Where nobody has, this is the Broadcast, if `all` is true, and else the Signal, and it leaves
-/// nobody of the condition.
+/// Looks whether any thread has begun to wait in c. If none has, this is the Broadcast (if `all` is
+/// true) or the Signal, and it leaves no thread in the condition.
 #[inline(always)]
 fn looks<U: Uses>(p: &Package<U>, me: &mut Thread<U>, c: CondId, all: bool) -> bool
     requires of { me.old.table_id ≡ p.now.table_id }
@@ -134,8 +136,10 @@ fn looks<U: Uses>(p: &Package<U>, me: &mut Thread<U>, c: CondId, all: bool) -> b
     ensures quiet { result ≡ false → me.new ≡ record (learnt me.old me.new) { pen = made me.old.pen } }
     ensures calls { result ≡ true → me.new ≡ record me.old { calling = Some c.0 } }
 {
-    // Who begins to wait raises the begun waits before it reads the count, and lowers them only out of the condition: found as 0, they say
-    // that nobody is in it. The length of the queue doesn't: who has read the count and isn't queued yet is in the condition too.
+    // A thread that begins to wait raises the number of waiters before it reads the count, and
+    // lowers it only out of the condition. So a 0 says that no thread is in the condition. The
+    // length of the queue doesn't: a thread that has read the count and isn't queued yet is in the
+    // condition too.
     if all {
         read_waits_broadcast(p, me, c) != 0
     } else {
@@ -143,7 +147,7 @@ fn looks<U: Uses>(p: &Package<U>, me: &mut Thread<U>, c: CondId, all: bool) -> b
     }
 }
 
-/// The Broadcast or the Signal of c that leaves nobody, by the thread of this number.
+/// Returns the Broadcast or the Signal of c that leaves no thread, by the thread of this number.
 fn quiet_event(number: u32, cond: CondId, all: bool) -> Event
     ensures { result ≡ event number (quiet_action all cond.0) }
 {
@@ -182,10 +186,11 @@ fn looks_traced<U: Uses, R: Wait>(
     ensures calls { result ≡ true → me.new ≡ record me.old { calling = Some c.0; next = me.new.next } }
     ensures stored { HasStored p.now.traced me.new }
 {
-    // The pen is taken before the look is known to be the event, since its number must be read by then.
+    // The pen is taken before the look is known to be the event: the event's number must be read by
+    // then.
     begin_event(rt, p, me);
     if looks(p, me, c, all) {
-        // It goes back before the spin word is taken: nobody may wait with it.
+        // The pen goes back before the spin word is taken: no thread may wait while it has the pen.
         end_event(p, me, None);
         return true;
     }
@@ -194,7 +199,7 @@ fn looks_traced<U: Uses, R: Wait>(
     false
 }
 
-/// Advances the count of c, where somebody was found to have begun to wait there.
+/// Advances the count of c, after a look has found that some thread began to wait there.
 fn advance_count<U: Uses, R: Wait>(rt: &R, p: &Package<U>, me: &mut Thread<U>, c: CondId, all: bool)
     requires of { me.old.table_id ≡ p.now.table_id }
     requires named { c.0 < p.now.layout.conditions }
@@ -218,9 +223,9 @@ fn advance_count<U: Uses, R: Wait>(rt: &R, p: &Package<U>, me: &mut Thread<U>, c
     }
 }
 
-/// Makes the Broadcast of c, if `all` is true, and else the Signal, where one look is all that it takes: in an untraced package, where nobody
-/// has begun to wait. It answers whether it was made; else `advance_slowly` is to make it. Nothing in it may wait, so that a loop of signals
-/// asks for nothing behind it.
+/// Makes the Broadcast of c (if `all` is true) or the Signal, if one look is enough for it: in an
+/// untraced package in which no thread has begun to wait in c. Returns whether it was made; if not,
+/// `advance_slowly` is to make it. Nothing in it may wait.
 #[inline(always)]
 pub fn advance_quietly<U: Uses>(p: &Package<U>, me: &mut Thread<U>, c: CondId, all: bool) -> bool
     requires of { me.old.table_id ≡ p.now.table_id }
@@ -237,7 +242,8 @@ pub fn advance_quietly<U: Uses>(p: &Package<U>, me: &mut Thread<U>, c: CondId, a
     !p.traced() && !looks(p, me, c, all)
 }
 
-/// Makes the Broadcast or the Signal that `advance_quietly` has not made. In a traced package it looks first, with the pen.
+/// Makes the Broadcast or the Signal that `advance_quietly` hasn't made. In a traced package it
+/// looks first, with the pen.
 #[cold]
 #[inline(never)]
 pub fn advance_slowly<U: Uses, R: Wait>(

@@ -1,4 +1,4 @@
-//! The first part of a wait, and blocking in it.
+//! The first event of a wait, and blocking in it.
 ghost use Rattle.std.specs.Prelude.{◌≡◌, ◌<◌, [], Some, None, true, false};
 ghost use Rattle.larch_actions.specs.Sets.{without};
 ghost use Rattle.nub_rule.specs.declared.view.Wait.{Wait as Waiting};
@@ -16,8 +16,9 @@ use nub_rule::{
 };
 use std::sync::Wait;
 
-/// Reads the count of c, and with that begins a wait on m: the first part of the wait, which an alert may end where `alertable` is true. The
-/// thread has the bit of m still, but nobody holds m. In a traced package it may wait for the pen.
+/// Reads the count of c, which begins a wait on m: the first event of the wait, which an alert may
+/// end if `alertable` is true. Afterwards the thread still has the bit of m, but nobody holds m. In
+/// a traced package it may wait for the pen.
 pub fn read_count<U: Uses, R: Wait>(
     rt: &R,
     p: &Package<U>,
@@ -40,13 +41,15 @@ pub fn read_count<U: Uses, R: Wait>(
     } }
     ensures stored { HasStored p.now.traced me.new }
 {
-    // Before the count is read, by which the thread enters the condition: a Signal or Broadcast that finds none raised finds nobody in it.
-    // Raised after, a look between the two would miss this thread.
+    // Before the count is read, by which the thread enters the condition: a Signal or Broadcast
+    // that finds no waiters finds no thread in the condition. Raised later, a look between the two
+    // would miss this thread.
     raise_waits(p, me, c);
     read_raised(rt, p, me, m, c, alertable)
 }
 
-/// Reads the count of c, and with that begins a wait on m, where the thread has raised the begun waits of c.
+/// Reads the count of c, which begins a wait on m. The thread has raised the number of waiters of
+/// c.
 fn read_raised<U: Uses, R: Wait>(
     rt: &R,
     p: &Package<U>,
@@ -66,7 +69,7 @@ fn read_raised<U: Uses, R: Wait>(
     ensures begun { me.new ≡ record (recorded me.old me.new) { wait = Some (begun_wait alertable m.0 c.0 result) } }
     ensures stored { HasStored p.now.traced me.new }
 {
-    // For who wakes this thread, before anybody can.
+    // Written for the thread that wakes this one, before any thread can.
     note_mutex(p, me, m);
     if p.traced() {
         return read_traced(rt, p, me, m, c, alertable);
@@ -74,7 +77,8 @@ fn read_raised<U: Uses, R: Wait>(
     begin_wait(p, me, m, c, alertable)
 }
 
-/// The same with the pen, in a traced package. The event is built here alone, where it is stored.
+/// Reads the count with the pen, in a traced package. Only here, where it is stored, is the event
+/// built.
 #[cold]
 #[inline(never)]
 fn read_traced<U: Uses, R: Wait>(
@@ -103,7 +107,7 @@ fn read_traced<U: Uses, R: Wait>(
     count
 }
 
-/// The event by which the thread of this number begins a wait.
+/// Returns the event by which the thread of this number begins a wait.
 fn beginning(number: u32, mutex: MutexId, cond: CondId, alertable: bool) -> Event
     ensures { result ≡ enqueue_event alertable number mutex.0 cond.0 }
 {
@@ -121,7 +125,8 @@ fn beginning(number: u32, mutex: MutexId, cond: CondId, alertable: bool) -> Even
     }
 }
 
-/// Reads the count. From this load on the thread is in the condition: an advance between here and its blocking takes it out again.
+/// Reads the count. From this load on the thread is in the condition: an advance before it blocks
+/// takes it out again.
 fn begin_wait<U: Uses>(
     p: &Package<U>,
     me: &mut Thread<U>,
@@ -146,11 +151,15 @@ fn begin_wait<U: Uses>(
     }
 }
 
-/// Blocks as long as the thread is in the condition c. Where the count is no longer the one that its wait began with, it returns at once. It
-/// answers true where the thread has left the condition and its queue. It answers false only where `alertable` is true and it found its
-/// alert word set: the thread has then taken itself out of the queue, and is in the condition as long as the count stands.
+/// Blocks while the thread is in the condition c. Returns at once if the count is no longer the one
+/// with which its wait began.
 ///
-/// It may wait for ever: only an advance takes the thread out of the condition, and where `alertable` is true an alert ends the wait too.
+/// Returns true if the thread has left the condition and its queue. Returns false only if
+/// `alertable` is true and the thread found its alert word set: it has then taken itself out of the
+/// queue, and is in the condition as long as the count stays the same.
+///
+/// May block for ever: only an advance takes the thread out of the condition, and, if `alertable`
+/// is true, an alert ends the wait too.
 pub fn block<U: Uses, R: Wait>(
     rt: &R,
     p: &Package<U>,
@@ -178,8 +187,8 @@ pub fn block<U: Uses, R: Wait>(
 {
     let at = Object::Cond(c);
     enter(rt, p, me, at, Why::Block);
-    // Compared under the spin word, without which no thread advances the count: so nobody can take this thread out unseen between the
-    // comparison and its push.
+    // Compared under the spin word, without which no thread advances the count. So no thread can
+    // take this one out unseen between the comparison and its push.
     if compare_count(p, me, c, count) != count {
         leave(rt, p, me, at);
         return true;
@@ -189,6 +198,7 @@ pub fn block<U: Uses, R: Wait>(
     if sleep(rt, p, me, alertable) {
         return true;
     }
-    // Where it wasn't in the queue, an advance has taken it out of the condition: that advance counts, and the alert stays.
+    // If the thread wasn't in the queue, an advance has taken it out of the condition: that advance
+    // counts, and the alert stays.
     !withdraw(rt, p, me, at)
 }

@@ -7,10 +7,10 @@ use job_pool::{Job, Work};
 /// The checksum of no bytes.
 const START: u64 = 0xcbf2_9ce4_8422_2325;
 
-/// By what the checksum is multiplied for each byte.
+/// The factor by which the checksum is multiplied for each byte.
 const PRIME: u64 = 0x0100_0000_01b3;
 
-/// The checksum of the bytes, FNV-1a of 64 bits.
+/// Returns the checksum of the bytes, FNV-1a of 64 bits.
 fn checksum(bytes: &[u8]) -> u64
     ensures { result ≡ checksum_of bytes.now }
 {
@@ -20,7 +20,7 @@ fn checksum(bytes: &[u8]) -> u64
     )
 }
 
-/// A block of bytes. Its job is its checksum.
+/// A block of bytes. Its job is to compute its checksum.
 #[derive(Drop)]
 pub struct Block<'a>(pub &'a [u8]);
 

@@ -8,7 +8,8 @@ use std::alloc::{AllocError, Global};
 use std::sync::Wait;
 use std::thread::Threads;
 
-/// The checksum of each block, in its place, by so many workers.
+/// Returns the checksum of each block, in its place, computed by `workers` workers. Fails only if
+/// there is no memory.
 pub fn checksums<R: Threads + Wait + Sync>(
     rt: &R,
     alloc: Global,

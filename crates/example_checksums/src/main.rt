@@ -1,8 +1,9 @@
-//! An example of jobs: the checksums of the blocks of a text, by a pool of threads.
+//! An example of jobs: the checksums of the blocks of a text, computed by a pool of threads.
 //!
-//! Promises: whatever the number of workers, each block has its own checksum in its place. Stands on `job_pool`, and shows how a program
-//! hands its own jobs to a pool and what it then knows of the results. With three numbers it is there to be timed: that many blocks of
-//! so many bytes, by so many workers.
+//! Promises: whatever the number of workers, each block has its own checksum in its place. Built on
+//! `job_pool`. Shows how a program passes its own jobs to a pool, and what it then knows of the
+//! results. With three numbers as its words it can be timed: the numbers of blocks, of bytes in
+//! each, and of workers.
 #![tactic(auto)]
 
 mod block;
@@ -27,7 +28,7 @@ struct Timed {
     workers: u64,
 }
 
-/// The number that a word says, up to the greatest one.
+/// Returns the number that a word says, up to the greatest one.
 fn number_in(words: &[String], place: usize, most: u64) -> Option<u64> {
     match words.get(place) {
         Some(word) => read_number(word, 1, most),
@@ -35,7 +36,7 @@ fn number_in(words: &[String], place: usize, most: u64) -> Option<u64> {
     }
 }
 
-/// What the words say is to be timed, if they do.
+/// Returns what is to be timed, if the words say so.
 fn timed_in(words: &[String]) -> Option<Timed> {
     let blocks = number_in(words, 0, 100_000)?;
     let bytes = number_in(words, 1, 1_000_000)?;

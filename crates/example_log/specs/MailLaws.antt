@@ -1,4 +1,4 @@
--- What a holder knows follows from what is kept, and each allowed change keeps it.
+-- What a holder knows follows from what is kept, and each allowed change keeps that.
 use Rattle.std.specs.Prelude.{◌≡◌, ℕ, List, slice_set}
 use Rattle.std.proofs.Common.{arith}
 use Rattle.firefly_threads.specs.Names.{get_elem?, some}

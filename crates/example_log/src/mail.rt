@@ -1,4 +1,4 @@
-//! What stands behind the mutex, and what a thread does there.
+//! The value that the mutex protects, and what a thread does with it.
 ghost use Rattle.firefly_threads.specs.Guarded.{OneValue};
 ghost use Rattle.firefly_threads.specs.Laws.{one_fits, one_kept};
 ghost use Rattle.example_log.specs.Mails.{IsKept, IsKnown, Moves, begins, left, received, sent};
@@ -14,7 +14,8 @@ pub struct Mail {
     pub senders: u32,
 }
 
-/// What a thread sent and received, in order, whether it may still send, and whether it has seen the end: 1 where it is so, or 0.
+/// What a thread sent and received, in order, whether it may still send, and whether it has seen
+/// the end (1 for yes, 0 for no).
 pub struct Deeds {
     pub sent: LinkedList<u64>,
     pub received: LinkedList<u64>,
@@ -22,7 +23,7 @@ pub struct Deeds {
     pub ended: u32,
 }
 
-/// The use of the package: mail behind one mutex.
+/// The use of the package: mail, protected by one mutex.
 pub struct Post;
 
 impl Uses for Post {
@@ -45,13 +46,14 @@ impl Uses for Post {
     ghost holds_after = { λ w. one_kept IsKept Moves kept };
 }
 
-/// What stands in the slot now was sent.
+/// The change by which the message now in the slot was sent.
 pub struct Sends;
 
-/// What stood in the slot was received; where nothing did, the thread has seen the end.
+/// The change by which the message in the slot was received. If there was none, the thread has seen
+/// the end.
 pub struct Receives;
 
-/// The thread sends no more.
+/// The change by which the thread sends no more.
 pub struct Leaves;
 
 impl Change<Post> for Sends {

@@ -1,7 +1,9 @@
-//! An example of a monitor: three threads send messages, and one receives them all and writes them into a log.
+//! An example of a monitor: three threads send messages, and one receives them all and writes them
+//! into a log.
 //!
-//! Promises: in every schedule each message that was sent stands in the log once, and nothing else does; no message is left, and nobody
-//! may send any more. Stands on `monitor`, and shows how calls that wait under a mutex for its value are written and proved.
+//! Promises: in every schedule each message that was sent is in the log once, and nothing else is;
+//! no message is left, and no thread may send any more. Built on `monitor`. Shows how to write and
+//! prove calls that wait, under a mutex, until its value is right.
 #![tactic(auto)]
 
 mod mail;

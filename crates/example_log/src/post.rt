@@ -11,10 +11,10 @@ use std::sync::Wait;
 /// The mutex of the mail.
 const MAIL: MutexId = MutexId(0);
 
-/// That there is room for a message.
+/// The condition of threads that wait for room for a message.
 const ROOM: CondId = CondId(0);
 
-/// That there is a message, or that nobody may send any more.
+/// The condition of threads that wait for a message, or until no thread may send any more.
 const MORE: CondId = CondId(1);
 
 /// Sends the message, as soon as there is room for it.
@@ -29,7 +29,8 @@ pub fn send<R: Wait>(rt: &R, p: &Package<Post>, me: &mut Thread<Post>, message: 
     signal(rt, p, me, MORE);
 }
 
-/// Receives a message, as soon as there is one; there is none where nobody may send any more.
+/// Receives a message, as soon as there is one. Returns `None` if there is none and no thread may
+/// send any more.
 pub fn receive<R: Wait>(rt: &R, p: &Package<Post>, me: &mut Thread<Post>) -> Option<u64>
     requires named { (1 ≤ p.now.layout.mutexes) × (2 ≤ p.now.layout.conditions) }
     requires idle { (n : ℕ) × (s : Deeds) × IsIdle p.now n s me.old }
@@ -44,7 +45,7 @@ pub fn receive<R: Wait>(rt: &R, p: &Package<Post>, me: &mut Thread<Post>) -> Opt
     message
 }
 
-/// Says that the thread sends no more.
+/// Declares that the thread sends no more.
 pub fn leave<R: Wait>(rt: &R, p: &Package<Post>, me: &mut Thread<Post>)
     requires named { (1 ≤ p.now.layout.mutexes) × (2 ≤ p.now.layout.conditions) }
     requires sends { (n : ℕ) × (s : Deeds) × IsIdle p.now n s me.old × (s.sends ≡ 1) }

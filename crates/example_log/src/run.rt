@@ -15,7 +15,7 @@ use std::alloc::{AllocError, Global};
 use std::sync::Wait;
 use std::thread::Threads;
 
-/// What came, and whether there was no memory for some of it.
+/// The messages that came, and whether there was no memory for some of them.
 #[derive(Drop)]
 pub struct Log {
     pub items: Vec<u64>,
@@ -33,7 +33,7 @@ impl Log {
     }
 }
 
-/// Sends so many messages, the numbers from `first` on.
+/// Sends `count` messages, the numbers from `first` on.
 fn send_all<R: Wait>(rt: &R, p: &Package<Post>, me: &mut Thread<Post>, first: u64, count: u32)
     requires named { (1 ≤ p.now.layout.mutexes) × (2 ≤ p.now.layout.conditions) }
     requires sends { IsIdle p.now me.old.number (has_sent first 0) me.old }
@@ -46,7 +46,7 @@ fn send_all<R: Wait>(rt: &R, p: &Package<Post>, me: &mut Thread<Post>, first: u6
     leave(rt, p, me);
 }
 
-/// Receives all that comes, and writes it into the log.
+/// Receives all messages, and writes them into the log.
 fn receive_all<R: Wait>(rt: &R, p: &Package<Post>, me: &mut Thread<Post>, log: &mut Log)
     requires named { (1 ≤ p.now.layout.mutexes) × (2 ≤ p.now.layout.conditions) }
     requires idle { IsIdle p.now me.old.number (begins me.old.number) me.old }
@@ -63,7 +63,7 @@ fn receive_all<R: Wait>(rt: &R, p: &Package<Post>, me: &mut Thread<Post>, log: &
     unreachable!()
 }
 
-/// Threads 0, 1 and 2 send so many messages each, and the last receives.
+/// The work of all threads: threads 0, 1 and 2 send `count` messages each, and the last receives.
 #[derive(Drop)]
 struct Mailing {
     count: u32,
@@ -98,7 +98,7 @@ impl Work<Post> for Mailing {
     }
 }
 
-/// What the last thread left.
+/// Returns what the last thread left.
 fn last(mut logs: Vec<Log>) -> Log
     requires { length logs.items ≡ 4 }
     ensures { get_elem? logs.items 3 ≡ some result }
@@ -109,7 +109,9 @@ fn last(mut logs: Vec<Log>) -> Log
     last
 }
 
-/// Each of three threads sends so many messages, all different, and a fourth writes down what it receives, until nobody may send any more.
+/// Lets each of three threads send `count` messages, all different, and a fourth write down what it
+/// receives, until no thread may send any more. Returns the log and the closed package. Fails only
+/// if there is no memory.
 pub fn run<R: Threads + Wait + Sync>(
     rt: &R,
     alloc: Global,

@@ -29,13 +29,15 @@ numbers count = range_with_len 0 count
 abbrev pub squares : ℕ → List ℕ
 squares count = map squared (range_with_len 0 count)
 
--- the numbers below count were put into the first buffer, which was shut, or it was seen shut by who didn't shut it
+-- the numbers below count were put into the first buffer, which was shut; or this thread saw it
+-- shut by another
 pub record IsMade (count : ℕ) (a b : Used ℕ) : Type 0 where
   pub takes : a.takes ≡ []
   pub others : b ≡ unused
   pub ends : ((items_of a.puts ≡ numbers count) × (a.shut ≡ true)) ⊎ ((a.shut ≡ false) × (a.seen_shut ≡ true))
 
--- all was taken from the first buffer and its squares were put into the second, which was shut, or it was seen shut by who didn't shut it
+-- all was taken from the first buffer and its squares were put into the second, which was shut; or
+-- this thread saw it shut by another
 pub record IsWorked (a b : Used ℕ) : Type 0 where
   pub puts : a.puts ≡ []
   pub opened : a.shut ≡ false
@@ -43,7 +45,7 @@ pub record IsWorked (a b : Used ℕ) : Type 0 where
   pub ends : ((a.seen_end ≡ true) × (items_of b.puts ≡ map squared (items_of a.takes)) × (b.shut ≡ true))
       ⊎ ((b.shut ≡ false) × (b.seen_shut ≡ true))
 
--- all was taken from the second buffer, and this came
+-- all was taken from the second buffer, and this is what came
 pub record IsTaken (came : Came) (a b : Used ℕ) : Type 0 where
   pub none : a ≡ unused
   pub puts : b.puts ≡ []
@@ -51,7 +53,7 @@ pub record IsTaken (came : Came) (a b : Used ℕ) : Type 0 where
   pub end : b.seen_end ≡ true
   pub kept : came.lost ≡ false → came.items.items ≡ items_of b.takes
 
--- what the thread n has done at its end
+-- what the thread n has done in the end
 abbrev pub IsStage : ℕ → Came → ℕ → Used ℕ → Used ℕ → Type 0
 IsStage count came zero a b = IsMade count a b
 IsStage count came (suc zero) a b = IsWorked a b
@@ -64,12 +66,13 @@ pub record HasEnded (ends : Used ℕ → Used ℕ → Type 0) (p : Shape (Unit {
   pub used : HasUsed p n (first ∷ second ∷ []) t
   pub stage : ends first second
 
--- the pairs, the last of which comes first, have these items in order, under rising numbers
+-- the pairs, with the last one first, have these items in order, under rising numbers
 pub record InOrder (pairs : List (ℕ × ℕ)) (items : List ℕ) : Type 0 where
   pub rises : Falls pairs
   pub are : items_of pairs ≡ items
 
--- thread 0 put the numbers below count into the first buffer, thread 1 took these and put their squares into the second, and thread 2 took those, all in order
+-- thread 0 put the numbers below count into the first buffer, thread 1 took these and put their
+-- squares into the second, and thread 2 took those, all in order
 abbrev pub Passed : ℕ → ℕ → Used ℕ → Used ℕ → Type 0
 Passed count zero a b = InOrder a.puts (numbers count)
 Passed count (suc zero) a b = InOrder a.takes (numbers count) × InOrder b.puts (squares count)
@@ -80,7 +83,7 @@ pub record HasPassed (count : ℕ) (n : ℕ) (t : Worker) : Type 0 where
   pub is_share : t.share ≡ Some share
   pub passed : Passed count n (part_of share 0) (part_of share 1)
 
--- as many items were taken from the ring, which is shut and empty
+-- all these items were taken from the ring, which is shut and empty
 pub record IsOver (count : ℕ) (m : ℕ) (q : Held ℕ) : Type 0 where
   pub taken : q.taken ≡ count
   pub empty : q.items ≡ []

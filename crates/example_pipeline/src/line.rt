@@ -1,4 +1,4 @@
-//! The pipeline.
+//! The whole pipeline.
 ghost use Rattle.std.specs.Prelude.{◌≡◌, ◌≤◌, ◌<◌, ◌∷◌, [], true, length, map, IfOk, ℕ};
 ghost use Rattle.std.specs.List.{range_with_len};
 ghost use mathlib.Core.Option.{some};
@@ -26,7 +26,7 @@ fn two_rings(alloc: Global) -> Result<Vec<Ring<u64>>, AllocError>
     Ok(rings)
 }
 
-/// What the third thread left.
+/// Returns what the third thread left.
 fn third(mut left: Vec<Came>) -> Came
     requires { length left.items ≡ 3 }
     ensures { get_elem? left.items 2 ≡ some result }
@@ -37,8 +37,9 @@ fn third(mut left: Vec<Came>) -> Came
     last
 }
 
-/// Makes the numbers below `count` in one thread, squares each in a second, and takes the squares in a third. Answers what the third took,
-/// and the package in which all that took place.
+/// Makes the numbers below `count` in one thread, squares each in a second, and takes the squares
+/// in a third. Returns what the third took, and the closed package. Fails only if there is no
+/// memory.
 pub fn run<R: Threads + Wait + Sync>(
     rt: &R,
     alloc: Global,

@@ -1,8 +1,10 @@
 //! An example of buffers: three threads in a row, with a buffer between each two.
 //!
-//! Promises: in every schedule what comes out is what went in, each number worked on once and in order. Nothing is left in the buffers
-//! of the package, which was closed. Stands on `bounded_buffer`, and shows how a stage hands on its items and then that there are no more,
-//! and what follows from the shares of threads of which one alone puts into a buffer and one alone takes from it.
+//! Promises: in every schedule what comes out is what went in, with each number worked on once and
+//! in order. Nothing is left in the buffers of the package, which was closed. Built on
+//! `bounded_buffer`. Shows how a stage passes its items on and then announces that there are no
+//! more, and what follows from the shares of threads if only one puts into a buffer and only one
+//! takes from it.
 #![tactic(auto)]
 
 mod line;

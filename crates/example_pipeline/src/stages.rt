@@ -1,4 +1,4 @@
-//! What each of the three threads does.
+//! The work of each of the three threads.
 ghost use Rattle.std.specs.Prelude.{◌≡◌, ◌<◌, ◌++◌, ◌∷◌, [], false};
 ghost use Rattle.nub.specs.Ended.{IsFirst};
 ghost use Rattle.bounded_buffer.specs.At.{IsNamed};
@@ -10,10 +10,10 @@ use nub::{Package, Thread};
 use std::alloc::Global;
 use std::sync::Wait;
 
-/// The use of the package: a buffer of numbers behind each mutex.
+/// The use of the package: each mutex protects a buffer of numbers.
 pub type Numbers = PlainBuffers<u64>;
 
-/// What came out, and whether there was no memory for some of it.
+/// The items that came out, and whether there was no memory for some of them.
 #[derive(Drop)]
 pub struct Came {
     pub items: Vec<u64>,
@@ -21,7 +21,7 @@ pub struct Came {
 }
 
 impl Came {
-    /// Nothing has come.
+    /// Returns an empty list of items, none of them lost.
     fn none(alloc: Global) -> Came
         ensures { (result.items.items ≡ []) × (result.lost ≡ false) }
     {
@@ -41,14 +41,14 @@ impl Came {
     }
 }
 
-/// The work on one number: its square, modulo 2^64.
+/// Returns the square of one number, modulo 2^64.
 fn square(number: u64) -> u64
     ensures { result ≡ squared number }
 {
     number.wrapping_mul(number)
 }
 
-/// The first buffer, of numbers, or the second, of squares.
+/// Returns the first buffer, of numbers, or the second, of squares.
 fn buffer(p: &Package<Numbers>, number: u32) -> BufferAt
     requires few { number < 2 }
     requires two { HasBuffers p.now.layout }
@@ -79,7 +79,8 @@ fn make<R: Wait>(
     me
 }
 
-/// The worker: takes each number from the first buffer, puts its square into the second, and shuts that when no more come.
+/// The worker: takes each number from the first buffer, puts its square into the second, and shuts
+/// that when no more come.
 fn square_all<R: Wait>(rt: &R, p: &Package<Numbers>, mut me: Thread<Numbers>) -> Thread<Numbers>
     requires named { HasBuffers p.now.layout }
     requires first { IsFirst p.now (λ w t. []) me.number me }
@@ -103,7 +104,7 @@ fn square_all<R: Wait>(rt: &R, p: &Package<Numbers>, mut me: Thread<Numbers>) ->
     unreachable!()
 }
 
-/// The taker: takes all from the second buffer.
+/// The taker: takes everything from the second buffer.
 fn take_all<R: Wait>(
     rt: &R,
     alloc: Global,
@@ -125,7 +126,7 @@ fn take_all<R: Wait>(
     unreachable!()
 }
 
-/// The stage of the thread: thread 0 makes, thread 1 works, and what thread 2 takes is what comes out.
+/// The stage of the thread: thread 0 makes, thread 1 works, and thread 2 takes.
 pub fn stage<R: Wait>(
     rt: &R,
     alloc: Global,

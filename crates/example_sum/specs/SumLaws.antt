@@ -1,4 +1,5 @@
--- What the sum promises of a package that uses it: whoever takes it finds room for its own part, and an addition keeps the account.
+-- The laws of the sum as a use of the package: a thread that takes it finds room for its own part,
+-- and an addition keeps the account.
 use Rattle.std.specs.Prelude.{◌≡◌, ◌≢◌, ℕ, ◌≤◌, ◌^◌, List, slice_set}
 use Rattle.std.proofs.Common.{arith, subst, ⊎_elim}
 use Rattle.std.proofs.lemmas.List.{length-set}

@@ -27,12 +27,13 @@ pub record IsBack (p : Adders) (k : Adder) : Type 0 where
   pub named : k.number < p.layout.threads
   pub left : IsLeft p k
 
--- the right to begin a thread, which has added nothing
+-- the right to fork a thread, which has added nothing
 pub record IsSpare (p : Adders) (k : Adder) : Type 0 where
   pub back : IsBack p k
   pub share : k.share ≡ Some 0
 
--- the thread has added nothing, and may add the numbers with those to which it has the rights: these are others, no two with one number
+-- the thread has added nothing, and may add the numbers together with the threads that it has the
+-- rights to fork: these are others, no two with the same number
 pub record MayAdd (p : Adders) (me : Adder) (numbers : List ℕ) (rights : List Adder) : Type 0 where
   pub version : p.layout.version ≡ Two
   pub mutex : 1 ≤ p.layout.mutexes
@@ -42,7 +43,7 @@ pub record MayAdd (p : Adders) (me : Adder) (numbers : List ℕ) (rights : List 
   pub spare : All (IsSpare p) rights
   pub apart : (n : ℕ) → times n (me ∷ rights) ≤ 1
 
--- the threads are those of before, each once, may come back, and have added so much together
+-- the threads are those of before, each once; they may come back, and have added this much together
 pub record HaveAdded (p : Adders) (before : List Adder) (amount : ℕ) (after : List Adder) : Type 0 where
   pub back : All (IsBack p) after
   pub same : (n : ℕ) → times n after ≡ times n before

@@ -1,7 +1,8 @@
 //! An example of threads that fork others: the sum of many numbers, by a tree of threads.
 //!
-//! Promises: in every schedule the value that comes out of the closed package is the sum of all numbers, and its history is legal and
-//! closed. Stands on `nub` for threads that begin and end in the history, and on `user_mutex`.
+//! Promises: in every schedule the value that comes out of the closed package is the sum of all
+//! numbers, and its history is legal and closed. Built on `nub` for threads that begin and end in
+//! the history, and on `user_mutex`.
 #![tactic(auto)]
 
 ghost use Rattle.std.specs.Prelude.{◌≤◌, ◌^◌, sum, IfOk};

@@ -19,7 +19,7 @@ fn sum_of(numbers: &[u32]) -> u64
     all
 }
 
-/// Adds the numbers to the sum behind the mutex.
+/// Adds the numbers to the sum that the mutex protects.
 pub fn add<R: Wait>(rt: &R, p: &Package<Numbers>, me: &mut Thread<Numbers>, numbers: &[u32])
     requires mutex { 1 ≤ p.now.layout.mutexes }
     requires small { sum numbers.now ≤ 2 ^ 55 }

@@ -1,4 +1,4 @@
-//! The sum.
+//! The call that adds numbers up.
 ghost use Rattle.std.specs.Prelude.{◌≡◌, ◌≤◌, ◌^◌, ◌∷◌, [], List, sum, IfOk, Some};
 ghost use Rattle.larch_actions.specs.Actions.{IsClosed};
 ghost use Rattle.larch_actions.specs.declared.event.Event.{Event};
@@ -11,7 +11,8 @@ use std::alloc::{AllocError, Global};
 use std::sync::Wait;
 use std::thread::Threads;
 
-/// Adds the numbers up by at most so many threads, and answers their package, which was closed. Its one refusal is want of memory.
+/// Adds the numbers up by at most `threads` threads, and returns their closed package. Fails only
+/// if there is no memory.
 pub fn forked_sum<R: Threads + Wait + Sync>(
     rt: &R,
     alloc: Global,

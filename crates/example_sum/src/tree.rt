@@ -1,4 +1,5 @@
-//! The tree of threads: each forks one for half of its numbers, as long as these are many and a thread is left.
+//! The tree of threads: each forks one for half of its numbers, as long as these are many and a
+//! thread is left.
 ghost use Rattle.std.specs.Prelude.{◌≡◌, ◌≢◌, ◌<◌, ◌++◌, ◌∷◌, [], ℕ, sum, length, IfOk, MatchOption, Ok};
 ghost use Rattle.std.specs.Thread.{IsSync};
 ghost use Rattle.nub.specs.Idle.{IsIdle};
@@ -12,18 +13,18 @@ use std::alloc::AllocError;
 use std::sync::Wait;
 use std::thread::{Threads, join};
 
-/// Threads that were forked and have ended, and the rights to begin those that nobody needed.
+/// Threads that were forked and have ended, and the rights to fork those that weren't needed.
 #[derive(Drop)]
 pub struct Crew {
     pub ended: Vec<Ended<Numbers>>,
     pub unborn: Vec<Unborn<Numbers>>,
 }
 
-/// So few numbers one thread adds alone.
+/// So few numbers are added by one thread alone.
 const FEW: usize = 1000;
 
-/// Takes the right to begin a thread for half of so many numbers, and half of the other rights for that thread. None where the numbers are
-/// few, or nothing is there to take, or no memory.
+/// Takes the right to fork a thread for half of these numbers, and half of the other rights for
+/// that thread. Returns `None` if the numbers are few, or if there is no right or no memory.
 fn take_right(
     rights: &mut Vec<Unborn<Numbers>>,
     numbers: usize,
@@ -44,7 +45,7 @@ fn take_right(
     Some((child, theirs))
 }
 
-/// All of both, and the thread that brought the second.
+/// Joins both crews, and the thread that brought the second.
 fn both(
     mine: Result<Crew, AllocError>,
     over: Ended<Numbers>,
@@ -64,8 +65,8 @@ fn both(
     Ok(Crew { ended, unborn })
 }
 
-/// Adds the numbers, by this thread and by those that it forks and waits for. It answers the thread, and the others unless memory ran out:
-/// these have ended all the same.
+/// Adds the numbers, by this thread and by those that it forks and waits for. Returns the thread,
+/// and the others unless memory ran out; they have ended even then.
 pub fn add_all<R: Threads + Wait + Sync>(
     rt: &R,
     p: &Package<Numbers>,

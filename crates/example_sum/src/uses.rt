@@ -1,11 +1,11 @@
-//! What stands behind the mutex: the sum of what the threads have added.
+//! The value that the mutex protects: the sum of what the threads have added.
 ghost use Rattle.std.specs.Prelude.{◌+◌, ◌-◌, ◌≤◌, ◌^◌};
 ghost use Rattle.example_sum.specs.SumLaws.{fits_sum, after_sum};
 ghost use Rattle.example_sum.specs.Sums.{AreSums, IsAdded};
 
 use nub::{Change, Uses};
 
-/// Numbers that threads add up. A share is what one thread has added.
+/// The use of the package: numbers that threads add up. A share is what one thread has added.
 pub struct Numbers;
 
 impl Uses for Numbers {
@@ -28,7 +28,7 @@ impl Uses for Numbers {
     ghost holds_after = { after_sum };
 }
 
-/// The share grows by as much as the sum.
+/// The change by which the share grows as much as the sum.
 pub struct Adds;
 
 impl Change<Numbers> for Adds {

@@ -1,4 +1,5 @@
--- What the sales promise of a package that uses them: whoever takes the tickets finds what it knows of them, and a sale keeps the account.
+-- The laws of the sale as a use of the package: a thread that takes the tickets finds what it knows
+-- of them, and a sale keeps the account.
 use Rattle.std.specs.Prelude.{◌≡◌, ◌≢◌, ℕ, List, slice_set}
 use Rattle.std.proofs.Common.{arith, ap, ◌∙◌, ⊎_elim}
 use mathlib.Core.Option.{some}

@@ -7,7 +7,7 @@ use Rattle.firefly_threads.specs.Guarded.{OneValue}
 use Rattle.firefly_threads.specs.Totals.{total}
 use Rattle.example_tickets.specs.declared.uses.Sold.{Sold}
 
--- of who has sold nothing yet
+-- the share of a thread that has sold nothing yet
 abbrev pub none_sold : Sold
 none_sold = record { count = 0; none_left = false }
 
@@ -15,12 +15,12 @@ none_sold = record { count = 0; none_left = false }
 abbrev pub sold_by : List Sold → ℕ
 sold_by shares = total (λ s. s.count) shares
 
--- each ticket is left or was sold once, and where a thread has seen none left, none is
+-- each ticket is left or was sold once, and if a thread has seen that none is left, none is
 pub record IsSold (tickets left : ℕ) (shares : List Sold) : Type 0 where
   pub all : left + sold_by shares ≡ tickets
   pub seen : (t : ℕ) (s : Sold) → get_elem? shares t ≡ some s → s.none_left ≡ true → left ≡ 0
 
--- so behind the one mutex
+-- this holds of the value of the one mutex
 abbrev pub AreSold : ℕ → List ℕ → List Sold → Type 0
 AreSold tickets values shares = OneValue (IsSold tickets) values shares
 
@@ -34,12 +34,12 @@ pub record IsSale (left now : ℕ) (s r : Sold) : Type 0 where
   pub alike : left + s.count ≡ now + r.count
   pub told : r.none_left ≡ true → now ≡ 0
 
--- a share that says so many were sold, and whose thread has seen none left
+-- the share says that this many were sold, and that its thread has seen that none is left
 pub record HasSold (sold : ℕ) (s : Sold) : Type 0 where
   pub count : s.count ≡ sold
   pub seen : s.none_left ≡ true
 
--- the thread n has sold as many of the tickets as stands at n
+-- the thread n has sold as many tickets as the list says at n
 pub record IsSaid (tickets : ℕ) (said : List ℕ) (n : ℕ) (t : Known ℕ Sold ℕ) : Type 0 where
   pub world : t.world ≡ Some tickets
   pub sold : ℕ

@@ -1,8 +1,9 @@
-//! An example of the package: threads that sell tickets behind one mutex.
+//! An example of the package: threads that sell tickets, which one mutex protects.
 //!
-//! Promises: in every schedule each ticket is sold once, so what the threads say that they have sold adds up to all tickets, and none
-//! is left in the package, which was closed. Stands on `user_mutex`, and shows how a use of the package says what its values and its
-//! threads' shares have to do with one another.
+//! Promises: in every schedule each ticket is sold once, so the numbers that the threads say they
+//! have sold add up to all tickets, and none is left in the package, which was closed. Built on
+//! `user_mutex`. Shows how a use of the package says what its values and its threads' shares have
+//! to do with one another.
 #![tactic(auto)]
 
 mod sale;

@@ -11,7 +11,7 @@ use std::alloc::{AllocError, Global};
 use std::sync::Wait;
 use std::thread::Threads;
 
-/// Takes one ticket, if any is left.
+/// Takes one ticket, if any is left, and returns whether one was.
 fn take_one(left: &mut u32) -> bool
     ensures taken { result ≡ true → left.old ≡ left.new + 1 }
     ensures none { result ≡ false → (left.old ≡ 0) × (left.new ≡ 0) }
@@ -23,7 +23,7 @@ fn take_one(left: &mut u32) -> bool
     any
 }
 
-/// Sells one ticket after the other, until none is left, and answers how many it sold.
+/// Sells one ticket after the other, until none is left, and returns how many it sold.
 fn sell<R: Wait>(rt: &R, p: &Package<Tickets>, me: &mut Thread<Tickets>) -> u32
     requires named { 0 < p.now.layout.mutexes }
     requires few { p.now.world < 2 ^ 32 }
@@ -41,7 +41,7 @@ fn sell<R: Wait>(rt: &R, p: &Package<Tickets>, me: &mut Thread<Tickets>) -> u32
     unreachable!()
 }
 
-/// What each thread does.
+/// The work of each thread: to sell.
 struct Selling;
 
 impl Work<Tickets> for Selling {
@@ -62,7 +62,7 @@ impl Work<Tickets> for Selling {
     }
 }
 
-/// How many tickets they have sold.
+/// Returns how many tickets they have sold together.
 pub fn count(sold: &[u32]) -> u64
     requires { length sold.now ≤ 64 }
     ensures { result ≡ sum sold.now }
@@ -74,7 +74,8 @@ pub fn count(sold: &[u32]) -> u64
     all
 }
 
-/// Sells the tickets by so many threads, and answers how many each says that it has sold, and the package that they sold from.
+/// Sells the tickets by `threads` threads. Returns how many each says that it has sold, and the
+/// closed package. Fails only if there is no memory.
 pub fn sale<R: Threads + Wait + Sync>(
     rt: &R,
     alloc: Global,

@@ -1,17 +1,17 @@
-//! What stands behind the mutex: how many tickets are left.
+//! The value that the mutex protects: how many tickets are left.
 ghost use Rattle.std.specs.Prelude.{◌+◌, ◌-◌, eqb};
 ghost use Rattle.example_tickets.specs.SaleLaws.{fits_part, after_sale};
 ghost use Rattle.example_tickets.specs.Sales.{AreSold, IsPart, IsSale, none_sold};
 
 use firefly_threads::{Change, Uses};
 
-/// What a thread has sold, and whether it has seen none left.
+/// How many tickets a thread has sold, and whether it has seen that none is left.
 pub struct Sold {
     pub count: u64,
     pub none_left: bool,
 }
 
-/// Tickets, of which the world says how many there are at first.
+/// The use of the package: tickets, of which the world says how many there are at first.
 pub struct Tickets;
 
 impl Uses for Tickets {
@@ -34,7 +34,8 @@ impl Uses for Tickets {
     ghost holds_after = { after_sale };
 }
 
-/// What was taken was sold by the thread, and where there was nothing to take it has seen that.
+/// The change by which the thread sold what was taken, and saw that none is left if there was
+/// nothing to take.
 pub struct Sale;
 
 impl Change<Tickets> for Sale {

@@ -1,4 +1,4 @@
--- What the command `index` answers.
+-- The results of the command `index`.
 use Rattle.std.specs.Prelude.{List, Option}
 use Rattle.word_index.specs.Index.{Index}
 use Rattle.index_print.specs.Text.{index_text}
@@ -10,7 +10,7 @@ use Rattle.firefly.specs.IndexRun.{AreAskedOnce, IsTheIndex, NoIndex, NoneRose}
 use Rattle.firefly.specs.Looks.{Look}
 use Rattle.command_endings.specs.Messages.{output_fault_message}
 
--- each status by its cause
+-- the cause of each status
 abbrev pub IndexAnswers : Options → List (Option Look) → List (Option Look) → Change → Change → Status → Type 0
 IndexAnswers o old new out notes Done =
     (piece : Index) × IsTheIndex o old piece × NoneRose old new × AreAskedOnce o old new × Gets out (index_text piece) × IsStill notes

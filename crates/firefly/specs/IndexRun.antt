@@ -20,7 +20,7 @@ use Rattle.command_endings.specs.Changes.{Change, Notes}
 use Rattle.firefly.specs.Looks.{Look, told_by, Among}
 use Rattle.command_endings.specs.Messages.{stopped_message, memory_message, too_many_message, unreadable_message}
 
--- the plan that the options say
+-- the plan of these options
 abbrev pub plan_of : Options → Bool → Plan
 plan_of o traced = record { walkers = o.walkers; parsers = o.parsers; mergers = o.mergers; stop_after = o.stop_after; traced = traced }
 
@@ -28,23 +28,25 @@ plan_of o traced = record { walkers = o.walkers; parsers = o.parsers; mergers = 
 abbrev pub NoneRose : List (Option Look) → List (Option Look) → Type 0
 NoneRose old new = (a b : Look) → Among old new a b → b.faults ≡ a.faults
 
--- the piece is the index of all files under the directory that is told, and neither limit is passed
+-- the piece is the index of all files under the directory of the options, and neither limit is
+-- passed, if the trees' contents are known
 abbrev pub IsTheIndex : Options → List (Option Look) → Index → Type 0
 IsTheIndex o old piece = IfSome (told_by old) (λ t. IsWhole t o.directory o.stop_after piece)
 
--- where the trees tell, over those of the workers and of the closing walk together the directories under the one that is told were listed,
--- each once, and the files under it were read, each once
+-- if the trees' contents are known: over the trees of the workers and of the closing walk together
+-- the directories under that of the options were listed, each once, and the files under it were
+-- read, each once
 abbrev pub AreAskedOnce : Options → List (Option Look) → List (Option Look) → Type 0
 AreAskedOnce o old new = IfSome (told_by old) (λ t. IsEachOnce (λ (l : Look). l.calls) t o.directory (o.walkers + o.parsers) old new)
 
--- directories alone were listed, no more often than these events release mutex 0
+-- only directories were listed, no more often than these events release mutex 0
 pub record OnlyLists (before now : Calls) (own : List Event) : Type 0 where
   pub dirs : List Path
   pub listed : now.listed ≡ before.listed ++ dirs
   pub read : now.files_read ≡ before.files_read
   pub times : length dirs ≤ release_count 0 own
 
--- files alone were read, no more often than these events release mutex 1
+-- only files were read, no more often than these events release mutex 1
 pub record OnlyReads (before now : Calls) (own : List Event) : Type 0 where
   pub files : List Path
   pub listed : now.listed ≡ before.listed
@@ -55,7 +57,7 @@ abbrev pub CallsOf : Kind → Calls → Calls → List Event → Type 0
 CallsOf Dir before now own = OnlyLists before now own
 CallsOf File before now own = OnlyReads before now own
 
--- the walkers, who list directories, come first; then the parsers, who read files
+-- the walkers, which list directories, come first; then the parsers, which read files
 abbrev pub kind_of_worker : Options → ℕ → Kind
 kind_of_worker o k = if nat_lt k o.walkers then Dir else File
 
@@ -64,14 +66,16 @@ pub record IsAt (old new : List (Option Look)) (place : ℕ) (before now : Look)
   pub before_there : slice_index_or old place None ≡ Some before
   pub now_there : slice_index_or new place None ≡ Some now
 
--- What the trees tell of the workers is in the history. The worker k is thread k + 1, and works on the tree k.
+-- the work of the workers, as their trees show it, is in the history; the worker k is thread k + 1,
+-- and works on the tree k
 abbrev pub ShowsWork : Options → List (Option Look) → List (Option Look) → List Event → Type 0
 ShowsWork o old new events =
     (k : ℕ) (a b : Look) → k < o.walkers + o.parsers → IsAt old new k a b
     → IfSome a.told (λ t. CallsOf (kind_of_worker o k) a.calls b.calls (by_thread (suc k) events))
 
--- a call on one of the trees failed at this path: its count rose, and where it tells, the path failed in this call, is reached from the
--- directory, and may fail or isn't in the tree as what its entry says
+-- a call on one of the trees failed at this path: its count rose, and if its contents are known,
+-- the path failed in this call, is reached from the directory, and may fail or isn't in the tree as
+-- what its entry says
 pub record FailedAt (o : Options) (old new : List (Option Look)) (path : Path) : Type 0 where
   pub before : Look
   pub now : Look
@@ -79,7 +83,7 @@ pub record FailedAt (o : Options) (old new : List (Option Look)) (path : Path) :
   pub rose : Rose before.faults now.faults
   pub told : IfSome before.told (λ t. IsFaultUnder t o.directory before.weak path × FailsSince before.calls now.calls path)
 
--- why there is no index: each status by its cause
+-- why there is no index: the cause of each status
 abbrev pub NoIndex : Options → List (Option Look) → List (Option Look) → Change → Status → Type 0
 NoIndex o old new notes Stopped =
     (n : ℕ) × (o.stop_after ≡ Some n) × IfSome (told_by old) (λ t. AreMany t o.directory File (n + 1))

@@ -1,4 +1,4 @@
--- What the commands make of one another's texts.
+-- What some commands make of the texts of others.
 use Rattle.std.specs.Prelude.{◌≡◌, ℕ, List}
 use Rattle.std.specs.declared.option.Option.{Option}
 use Rattle.larch_actions.specs.declared.event.Layout.{Layout}

@@ -1,8 +1,9 @@
--- What is seen of the trees that were handed in, before a call and after it.
+-- What the trees that are passed show, before a call and after it.
 use Rattle.std.specs.Prelude.{◌≡◌, ◌⊎◌, ℕ, ◌≤◌, List, [], ◌∷◌, Option, Some, None}
 use Rattle.firefly_outside.specs.Trees.{Told, Path, Calls}
 
--- what is seen of one tree: what it tells, which paths may fail, the calls made on it, and its count of faults
+-- what one tree shows: its contents, if they are known, which paths may fail, the calls made on it,
+-- and its count of faults
 pub record Look : Type 0 where
   pub told : Option Told
   pub weak : List Path
@@ -20,23 +21,24 @@ abbrev pub looks_of : {S : Type 0} → (S → Look) → List (Option S) → List
 looks_of look [] = []
 looks_of look (t ∷ ts) = look_at look t ∷ looks_of look ts
 
--- each tree is there, and tells this
+-- each place has a tree, with these contents
 abbrev pub AllTell : Option Told → List (Option Look) → Type 0
 AllTell told [] = Unit {0}
 AllTell told (None ∷ ts) = ⊥
 AllTell told (Some l ∷ ts) = (l.told ≡ told) × AllTell told ts
 
--- all trees are there, and tell the same tree or nothing
+-- each place has a tree, and all have the same contents, or those of none are known
 abbrev pub Agree : List (Option Look) → Type 0
 Agree ts = (told : Option Told) × AllTell told ts
 
--- what the first of them tells
+-- the contents of the first of them
 abbrev pub told_by : List (Option Look) → Option Told
 told_by [] = None
 told_by (None ∷ ts) = None
 told_by (Some l ∷ ts) = l.told
 
--- a tree as it may be after a call: it tells what it told, the paths that may fail are the same, and its count didn't fall
+-- a tree as it may be after a call: its contents and the paths that may fail stay, and its count
+-- didn't fall
 pub record IsSameTree (a b : Look) : Type 0 where
   pub told : b.told ≡ a.told
   pub weak : b.weak ≡ a.weak
@@ -66,6 +68,6 @@ abbrev pub Among : List (Option Look) → List (Option Look) → Look → Look �
 Among (Some a ∷ xs) (Some b ∷ ys) old new = ((old ≡ a) × (new ≡ b)) ⊎ Among xs ys old new
 Among _ _ old new = ⊥
 
--- a tree that tells nothing, with this count of faults
+-- a tree of unknown contents, with this count of faults
 abbrev pub unseen : ℕ → Look
 unseen faults = record { told = None; weak = []; calls = record { listed = []; files_read = []; failed = [] }; faults = faults }

@@ -1,4 +1,4 @@
--- What the command `run` answers.
+-- The results of the command `run`.
 use Rattle.std.specs.Prelude.{◌≡◌, ◌≢◌, ◌⊎◌, ℕ, zero, suc, ◌+◌, ◌<◌, ◌≤◌, List, [], ◌∷◌, length, Some, IfSome}
 use Rattle.std.specs.Io.KnownBytes.{IsAtEnd}
 use Rattle.larch_actions.specs.declared.event.Layout.{Layout}
@@ -24,7 +24,8 @@ abbrev pub totals_from : ℕ → ℕ → List Line → List MutexValue
 totals_from k zero xs = []
 totals_from k (suc n) xs = record { mutex = k; value = total xs k } ∷ totals_from (k + 1) n xs
 
--- The trace of a run of these lines: a legal and closed list of events, of which each thread's are those of its lines, in order, and in version two its End. Each mutex has its sum.
+-- the trace of a run of these lines: a legal and closed list of events, of which each thread's are
+-- those of its lines, in order, and in version two its End; each mutex has its sum
 pub record IsTraceOf (l : Layout) (xs : List Line) (bytes : List ℕ) : Type 0 where
   pub events : List Event
   pub trace : IsClosedTrace l (totals_from 0 l.mutexes xs) events bytes
@@ -57,7 +58,7 @@ Runs l xs out notes answer =
     ((bytes : List ℕ) × IsTraceOf l xs bytes × Prints bytes Done out notes answer)
     ⊎ ((answer ≡ Memory) × IsStill out × Notes notes memory_message)
 
--- each status by its cause
+-- the cause of each status
 abbrev pub RunAnswers : Change → Change → Change → Status → Type 0
 RunAnswers input out notes Done = (bytes : List ℕ) × IsRunOf input bytes × Gets out bytes × IsStill notes
 RunAnswers input out notes SinkFault = (bytes : List ℕ) × IsRunOf input bytes × GetsPrefix out bytes × Notes notes output_fault_message
@@ -70,12 +71,14 @@ RunAnswers input out notes Stopped = ⊥
 RunAnswers input out notes Illegal = ⊥
 RunAnswers input out notes TooMany = ⊥
 
--- the status for an input of these bytes, where no read failed and memory didn't run out: a script is run, a bad line or too long an input is named
+-- the status for an input of these bytes, if no read failed and memory sufficed: a script is run,
+-- and a bad line or an input that is too long is reported
 pub record IsExact (bytes : List ℕ) (status : Status) : Type 0 where
   pub done : IsShortText bytes → (status ≡ Done) ⊎ (status ≡ SinkFault)
   pub bad_line : (k : ℕ) → IsBadLine bytes k → (IsTooLong bytes → ⊥) → status ≡ BadText
   pub too_long : IsTooLong bytes → status ≡ TooLong
 
--- where the input tells its bytes, these decide, unless a read or the sink failed or memory ran out
+-- if the bytes of the input are known they decide, unless a read or the sink failed or memory ran
+-- out
 abbrev pub Decides : Change → Status → Type 0
 Decides input status = (bytes : List ℕ) → input.old ≡ Some bytes → status ≢ ReadFault → status ≢ Memory → IsExact bytes status

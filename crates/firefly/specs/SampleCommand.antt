@@ -1,4 +1,4 @@
--- What the command `sample` answers.
+-- The results of the command `sample`.
 use Rattle.std.specs.Prelude.{◌≡◌, ◌⊎◌, ℕ}
 use Rattle.index_sample.specs.declared.summary.SampleSums.{SampleSums}
 use Rattle.index_sample.specs.Summary.{IsSummary}
@@ -9,7 +9,7 @@ use Rattle.command_endings.specs.Changes.{Change, IsStill, Notes}
 use Rattle.command_endings.specs.Messages.{memory_message}
 use Rattle.command_endings.specs.Printing.{Prints}
 
--- the sums of the sample tree of this seed and so many files were printed, or memory ran out
+-- the sums of the sample tree of this seed and number of files were printed, or memory ran out
 abbrev pub SampleAnswers : ℕ → ℕ → Change → Change → Status → Type 0
 SampleAnswers seed files out notes answer =
     ((sums : SampleSums) × IsSummary seed files sums × Prints (summary_text sums) Done out notes answer)

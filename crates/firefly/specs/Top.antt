@@ -1,4 +1,4 @@
--- What the top call answers.
+-- The results of the top call.
 use Rattle.std.specs.Prelude.{◌≡◌, List, Option}
 use Rattle.command_line.specs.Grammar.{Task, check, run, index, trace, sample, jobs, find, order, rounds}
 use Rattle.command_endings.specs.declared.status.Status.{Status}
@@ -18,7 +18,7 @@ use Rattle.firefly.specs.Looks.{Look}
 use Rattle.firefly.specs.IndexCommand.{IndexAnswers}
 use Rattle.firefly.specs.TraceCommand.{TraceAnswers}
 
--- what a call did to the objects that were handed in
+-- what a call did to the objects that were passed
 pub record Effects : Type 0 where
   pub trees : List (Option Look)
   pub new_trees : List (Option Look)
@@ -29,7 +29,7 @@ pub record Effects : Type 0 where
 abbrev pub effects_of : List (Option Look) → List (Option Look) → Change → Change → Change → Effects
 effects_of trees new_trees input out notes = record { trees = trees; new_trees = new_trees; input = input; out = out; notes = notes }
 
--- words that say no command that is built: nothing is read or printed
+-- words that name no command that there is: nothing is read or printed
 abbrev pub UsageAnswers : Effects → Status → Type 0
 UsageAnswers e status = (status ≡ Usage) × (e.new_trees ≡ e.trees) × IsStill e.input × IsStill e.out × Notes e.notes usage_message
 
@@ -37,7 +37,7 @@ UsageAnswers e status = (status ≡ Usage) × (e.new_trees ≡ e.trees) × IsSti
 abbrev pub WordsWant : Effects → Status → Type 0
 WordsWant e status = (status ≡ Memory) × (e.new_trees ≡ e.trees) × IsStill e.input × IsStill e.out × Notes e.notes memory_message
 
--- the answers to each command
+-- the results of each command
 abbrev pub Answers : Task → Effects → Status → Type 0
 Answers check e status =
     CheckAnswers e.input e.out e.notes status × Found e.input status × TellsFault e.input status × (e.new_trees ≡ e.trees)

@@ -1,4 +1,4 @@
--- What the command `trace` answers.
+-- The results of the command `trace`.
 use Rattle.std.specs.Prelude.{ℕ, true, List, [], Option}
 use Rattle.larch_actions.specs.declared.event.Event.{Event}
 use Rattle.word_index.specs.Index.{Index}
@@ -12,9 +12,9 @@ use Rattle.firefly.specs.Looks.{Look}
 use Rattle.command_endings.specs.Messages.{output_fault_message}
 use Rattle.command_check.specs.Traces.{IsClosedTrace}
 
--- The trace of a run that made the index: a legal and closed list of events of the plan's layout, without values, in which the work of
--- the walkers and parsers is to be seen. No tree's count rose, and
--- each directory was listed once and each file read once.
+-- the trace of a run that made the index: a legal and closed list of events of the plan's layout,
+-- without values, which shows the work of the walkers and parsers; no tree's count rose, and each
+-- directory was listed once and each file read once
 pub record IsIndexTrace (o : Options) (old new : List (Option Look)) (bytes : List ℕ) : Type 0 where
   pub events : List Event
   pub trace : IsClosedTrace (layout_of (plan_of o true)) [] events bytes
@@ -24,7 +24,7 @@ pub record IsIndexTrace (o : Options) (old new : List (Option Look)) (bytes : Li
   pub once : AreAskedOnce o old new
   pub work : ShowsWork o old new events
 
--- each status by its cause
+-- the cause of each status
 abbrev pub TraceAnswers : Options → List (Option Look) → List (Option Look) → Change → Change → Status → Type 0
 TraceAnswers o old new out notes Done = (bytes : List ℕ) × IsIndexTrace o old new bytes × Gets out bytes × IsStill notes
 TraceAnswers o old new out notes SinkFault =

@@ -29,7 +29,7 @@ fn print<O: Sink, N: Sink>(piece: &Piece, out: &mut O, notes: &mut N) -> Status
     }
 }
 
-/// Writes the index of the directory.
+/// Prints the index of the directory. Returns the status.
 pub fn run_index<R: Threads + Wait + Sync, S: Tree, O: Sink, N: Sink>(
     rt: &R,
     alloc: Global,

@@ -19,7 +19,7 @@ use std::sync::Wait;
 use std::thread::Threads;
 use word_index::Piece;
 
-// The plan that the options say.
+// The plan of these options.
 fn plan_by(options: &IndexOptions, traced: bool) -> Plan
     requires { AreInRange (options_of options.now) }
     ensures plan { result ≡ plan_of (options_of options.now) traced }
@@ -34,8 +34,8 @@ fn plan_by(options: &IndexOptions, traced: bool) -> Plan
     }
 }
 
-/// The index of the directory, with the closed package of the run that made it. Where there is none the notes get the reason, and its status
-/// is answered.
+/// Makes the index of the directory. Returns it with the closed package of the run that made it. If
+/// there is none, prints the reason to `notes` and returns its status.
 pub fn index_by<R: Threads + Wait + Sync, S: Tree, N: Sink>(
     rt: &R,
     alloc: Global,

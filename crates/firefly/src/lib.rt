@@ -1,7 +1,8 @@
-//! The commands of the program, over sources, sinks and trees that are handed in.
+//! The commands of the program, over sources, sinks and trees that are passed in.
 //!
-//! Promises: each status comes exactly by its cause, and standard output holds a whole answer, a proper prefix of one where it
-//! failed, or nothing. Stands on the crates of the commands. It does not say what the objects handed in do.
+//! Promises: each status has exactly its cause, and standard output gets a whole answer, a proper
+//! prefix of one if it failed, or nothing. Built on the crates of the commands. Nothing is promised
+//! about what the objects passed in do.
 #![tactic(auto)]
 
 mod index_command;

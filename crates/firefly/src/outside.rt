@@ -1,5 +1,5 @@
-//! What the program has of the system: the words that it was called with, and its directories and files, once for each thread that may
-//! read them.
+//! What the program gets from the system: the words that it was called with, and the system's
+//! directories and files, once for each thread that may read them.
 ghost use Rattle.std.specs.Prelude.{◌≡◌, IfOk, length};
 ghost use Rattle.firefly.specs.Looks.{look_of, looks_of, Agree, NoneFailed};
 
@@ -10,10 +10,11 @@ use std::env::{self, Env};
 use std::io::ErrorKind;
 use std::rt::Files;
 
-/// How many trees a call needs: for 8 walkers, 8 parsers and the closing walk.
+/// The number of trees that a call needs: for 8 walkers, 8 parsers and the closing walk.
 const TREES: usize = 17;
 
-/// Trees of the system, as many as a call needs. They tell nothing of what they hold, and none has failed yet.
+/// Returns as many trees of the system as a call needs. Their contents aren't known to contracts,
+/// and none has failed yet.
 pub fn system_trees<R: Files + AllocGlobal + Clone + Drop + Send>(
     rt: &R,
     alloc: Global,
@@ -37,7 +38,8 @@ pub fn system_trees<R: Files + AllocGlobal + Clone + Drop + Send>(
     Ok(trees)
 }
 
-/// The words after the program's name, or how the program ends without them. Nothing is said of which words they are.
+/// Returns the words after the program's name, or how the program ends without them. Nothing is
+/// promised about which words they are.
 pub fn system_words<R: Env + AllocGlobal>(rt: &R) -> Result<Vec<String>, Ending> {
     match env::args(rt) {
         Ok(args) => match args.skip(1).collect(rt.alloc()) {
@@ -46,7 +48,7 @@ pub fn system_words<R: Env + AllocGlobal>(rt: &R) -> Result<Vec<String>, Ending>
         },
         Err(error) => Err(match error.kind() {
             ErrorKind::OutOfMemory => Ending::Memory,
-            // Words that can't be taken are no command.
+            // Words that can't be taken name no command.
             _ => Ending::Usage,
         }),
     }

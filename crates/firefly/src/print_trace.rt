@@ -14,7 +14,8 @@ use nub::Closed;
 use nub_rule::Uses;
 use trace_core::laws::print_whole;
 
-/// Writes the trace of a run that has ended, and behind it the value at each place with the mutex of that number.
+/// Writes the trace of a run that has ended, followed by the value at each place with the mutex of
+/// that number. Returns the status.
 pub fn print_trace<U: Uses, O: Sink, N: Sink>(
     closed: &Closed<U>,
     values: &[u64],

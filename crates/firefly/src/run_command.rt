@@ -35,7 +35,7 @@ fn run_read<R: Threads + Wait + Sync, O: Sink, N: Sink>(
     }
 }
 
-// Says why no script was read, and answers the status that goes with it.
+// Prints why no script was read, and returns the status of that fault.
 fn refused<N: Sink>(notes: &mut N, fault: ScriptFault) -> Status
     ensures { SaysFault fault (change_of N.held N.faults notes.old notes.new) result }
 {
@@ -47,7 +47,7 @@ fn refused<N: Sink>(notes: &mut N, fault: ScriptFault) -> Status
     }
 }
 
-/// Runs the script that the input is, and writes the trace of the run.
+/// Runs the script that the input is, and prints the trace of the run. Returns the status.
 pub fn run_input<R: Threads + Wait + Sync, I: Source, O: Sink, N: Sink>(
     rt: &R,
     alloc: Global,

@@ -23,7 +23,7 @@ fn print<O: Sink, N: Sink>(sums: &SampleSums, out: &mut O, notes: &mut N) -> Sta
     }
 }
 
-/// Writes the sums of the index of the sample tree.
+/// Prints the sums of the index of the sample tree. Returns the status.
 pub fn run_sample<R: Threads + Wait + Sync, O: Sink, N: Sink>(
     rt: &R,
     alloc: Global,

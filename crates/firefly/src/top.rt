@@ -1,4 +1,4 @@
-//! The top call.
+//! The call that runs any command.
 ghost use Rattle.std.specs.Prelude.{◌≡◌, ◌≢◌, ◌⊎◌, ◌≤◌, length, map};
 ghost use Rattle.std.specs.String.{string_bytes};
 ghost use Rattle.command_line.specs.Grammar.{BeginOptions, Task, Say, SayNothing, HasOptions};
@@ -21,7 +21,8 @@ use std::alloc::Global;
 use std::sync::Wait;
 use std::thread::Threads;
 
-/// Does what the words ask for. The words are those after the program's name.
+/// Runs the command that the words name. The words are those after the program's name. Returns the
+/// status.
 pub fn firefly<R: Threads + Wait + Sync, S: Tree, I: Source, O: Sink, N: Sink>(
     rt: &R,
     alloc: Global,
@@ -33,17 +34,19 @@ pub fn firefly<R: Threads + Wait + Sync, S: Tree, I: Source, O: Sink, N: Sink>(
 ) -> Status
     requires enough { 17 ≤ length trees.old }
     requires agree { Agree (looks_of (look_of S.tree S.may_fail S.calls S.faults) trees.old) }
-    // Words that say no command.
+    // Words that name no command.
     ensures usage { let e = effects_of (looks_of (look_of S.tree S.may_fail S.calls S.faults) trees.old)
         (looks_of (look_of S.tree S.may_fail S.calls S.faults) trees.new) (change_of I.left I.faults input.old input.new)
         (change_of O.held O.faults out.old out.new) (change_of N.held N.faults notes.old notes.new) in
         SayNothing (map string_bytes words.now) → UsageAnswers e result ⊎ (BeginOptions (map string_bytes words.now) × WordsWant e result) }
-    // A command: what it answers, each status by its cause, and exactly where what it read decides.
+    // A command: its results, with the cause of each status, and exactly which one if what it read
+    // decides that.
     ensures answers { let e = effects_of (looks_of (look_of S.tree S.may_fail S.calls S.faults) trees.old)
         (looks_of (look_of S.tree S.may_fail S.calls S.faults) trees.new) (change_of I.left I.faults input.old input.new)
         (change_of O.held O.faults out.old out.new) (change_of N.held N.faults notes.old notes.new) in
         (t : Task) → Say (map string_bytes words.now) t → Answers t e result ⊎ (HasOptions t × WordsWant e result) }
-    // Each tree is in its place. Where memory runs out, some places may be empty, and no other holds another's tree.
+    // Each tree is in its place. If memory runs out, some places may be empty, and none has the
+    // tree of another.
     ensures kept { result ≢ Status.Memory → KeepTrees (looks_of (look_of S.tree S.may_fail S.calls S.faults) trees.old)
         (looks_of (look_of S.tree S.may_fail S.calls S.faults) trees.new) }
     ensures own { AreOwn (looks_of (look_of S.tree S.may_fail S.calls S.faults) trees.old)

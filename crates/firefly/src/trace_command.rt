@@ -15,7 +15,7 @@ use std::alloc::Global;
 use std::sync::Wait;
 use std::thread::Threads;
 
-/// Writes the trace of the run that makes the index of the directory.
+/// Prints the trace of the run that makes the index of the directory. Returns the status.
 pub fn run_trace<R: Threads + Wait + Sync, S: Tree, O: Sink, N: Sink>(
     rt: &R,
     alloc: Global,

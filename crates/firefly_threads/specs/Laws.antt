@@ -1,4 +1,5 @@
--- What proofs of a program cite: threads between two calls and with a mutex, sums over shares, one value at a time, what calls add, lists.
+-- What proofs of a program cite: threads between two calls and with a mutex, sums over shares, one
+-- value at a time, what calls add, and lists.
 pub use Rattle.atomic_table.proofs.Lists.{at_index, at_set, set_again, set_else, set_here}
 pub use Rattle.nub.proofs.Adding.{added, added_on, adds_on}
 pub use Rattle.nub.proofs.Guards.{guarded_after, one_after, one_begins, the_value}

@@ -1,7 +1,7 @@
 //! The package under one name, for programs over it.
 //!
-//! It passes on what a program calls and what its contracts and proofs name, and promises nothing of its own. Buffers, readers and writers,
-//! barriers and pools of jobs are crates beside it.
+//! Re-exports what a program calls and what its contracts and proofs name, and promises nothing of
+//! its own. Buffers, readers and writers, barriers and pools of jobs are crates of their own.
 #![tactic(auto)]
 
 pub use alert_wait::{Outcome, alert_p, alert_wait};

@@ -1,4 +1,4 @@
--- The events of the lock bits, and what taking and clearing them changes.
+-- The events of the lock bits, and what changes when a thread takes or clears them.
 use Rattle.std.specs.Prelude.{◌≡◌, ℕ, Option as Opt, Some, None, slice_set}
 use Rattle.larch_actions.specs.declared.event.Event.{Event}
 use Rattle.nub_rule.specs.declared.object.Object.{Object}
@@ -25,13 +25,14 @@ abbrev pub IsClosing : Object → Opt Wait → Type 0
 IsClosing (Mutex m) wait = (x : Wait) × (wait ≡ Some x) × (x.mutex.0 ≡ m.0) × (x.bit ≡ Closing)
 IsClosing _ wait = ⊥
 
--- the thread of this number, in this wait, may clear the bit: by its event where it is in no wait, and for none in a wait on the mutex
+-- the thread of this number, in this wait, may clear the bit: by its event if it is in no wait, and
+-- for no event in a wait on the mutex
 abbrev pub MayClear : Object → ℕ → Opt Wait → Opt Event → Type 0
 MayClear at t wait None = IsClosing at wait
 MayClear at t wait (Some e) = (wait ≡ None) × (e ≡ clears at t)
 
 module _ {T H W : Type 0} where
-  -- who takes a mutex has its value, which fits
+  -- a thread that takes a mutex has its value, which fits
   abbrev pub IsTaken : (W → ℕ → T → ℕ → H → Type 0) → Object → Known T H W → Known T H W → Type 0
   IsTaken fits (Mutex m) a b = (x : T) × (b.held ≡ slice_set a.held m.0 (Some x)) × (b.values ≡ slice_set a.values m.0 (Some (Some x)))
       × Holds b m.0 x × IsIn b m.0 x
@@ -39,13 +40,13 @@ module _ {T H W : Type 0} where
   IsTaken fits (Sem s) a b = (b.held ≡ a.held) × (b.values ≡ a.values)
   IsTaken fits (Cond c) a b = ⊥
 
-  -- who clears the bit of a mutex has it, with a value that the picked share allows
+  -- a thread that clears the bit of a mutex holds it, with a value that the chosen share allows
   abbrev pub MayFree : (W → ℕ → ℕ → T → T → H → H → Type 0) → (W → ℕ → ℕ → T → T → H → H) → Object → Known T H W → Type 0
   MayFree allows after (Mutex m) k = MayGive allows after m.0 k
   MayFree allows after (Sem s) k = Unit {0}
   MayFree allows after (Cond c) k = ⊥
 
-  -- who clears the bit of a mutex gives its value back, and has the picked share
+  -- a thread that clears the bit of a mutex hands its value over, and has the chosen share
   abbrev pub IsFreed : (W → ℕ → ℕ → T → T → H → H) → Object → Known T H W → Known T H W → Type 0
   IsFreed after (Mutex m) a b = (b.held ≡ slice_set a.held m.0 None) × (b.values ≡ slice_set a.values m.0 None) × PicksShare after m.0 a b
   IsFreed after (Sem s) a b = (b.held ≡ a.held) × (b.values ≡ a.values) × (b.share ≡ a.share)

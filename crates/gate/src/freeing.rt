@@ -18,9 +18,12 @@ use nub_rule::{
 };
 use std::sync::Wait;
 
-/// Clears the bit, by the event or, with None, in a wait on the mutex that has yet to do so, and makes one queued thread ready if the queue
-/// isn't empty. With None it is no event: nobody holds the mutex since the wait began. It may wait for the pen, or for the spin word of the
-/// queue, which their holders give back after a few steps; never for a mutex or a semaphore.
+/// Clears the bit, and makes one queued thread ready if the queue isn't empty. With `Some(e)` this
+/// makes the event; with `None`, in a wait on the mutex that has yet to clear the bit, it makes
+/// none, since nobody holds the mutex from the start of the wait.
+///
+/// May wait for the pen, or for the spin word of the queue, which threads give back after a few
+/// steps; never for a mutex or a semaphore.
 #[inline(always)]
 pub fn free<U: Uses, C: Change<U>, R: Wait>(
     rt: &R,
@@ -58,7 +61,8 @@ pub fn free<U: Uses, C: Change<U>, R: Wait>(
     ensures freed { IsFreed C.after at me.old me.new }
     ensures stored { HasStored p.now.traced me.new }
 {
-    // What is known where it is called is decided there: with an event that is given, no look at the object is left.
+    // Inlined, this is decided where `free` is called: with an event given, no test of the object
+    // is left.
     if e.is_none() {
         match at {
             Object::Mutex(m) => free_in_wait::<U, C, R>(rt, p, me, m),
@@ -73,15 +77,16 @@ pub fn free<U: Uses, C: Change<U>, R: Wait>(
     }
     // Asked before the length is read, so that one branch on both is left.
     let owes = lets_go_on(me, at);
-    // The length is read after the clearing: a thread that pushed itself before the clearing is seen here, one that pushes later finds the
-    // bit clear at its second test. Read before, a push between the two would be seen by neither.
+    // The length is read after the clearing: a thread that pushed itself before the clearing is
+    // seen here, one that pushes later finds the bit clear at its second test. If the length were
+    // read earlier, neither would see a push between the two.
     let length = read_length(p, me, at);
     if (length != 0) | owes {
         wake_after(rt, p, me, at, length);
     }
 }
 
-/// Whether this thread is to unpark somebody once it has cleared this bit.
+/// Returns whether this thread is to unpark another once it has cleared this bit.
 #[inline(always)]
 fn lets_go_on<U: Uses>(me: &Thread<U>, at: Object) -> bool {
     match at {
@@ -90,7 +95,7 @@ fn lets_go_on<U: Uses>(me: &Thread<U>, at: Object) -> bool {
     }
 }
 
-/// Clears the bit of m in a wait on m, after its first part.
+/// Clears the bit of m in a wait on m, after the first event of the wait.
 #[inline]
 fn free_in_wait<U: Uses, C: Change<U>, R: Wait>(
     rt: &R,
@@ -122,8 +127,8 @@ fn free_in_wait<U: Uses, C: Change<U>, R: Wait>(
     }
 }
 
-/// Makes the event by clearing the bit, with the pen. The event is built here: built by the caller it would be filled with zeros in each
-/// release, and passed through memory.
+/// Makes the event by clearing the bit, with the pen. The event is built here: if the caller built
+/// it, each release would fill it with zeros and pass it through memory.
 #[cold]
 #[inline(never)]
 fn clear_traced<U: Uses, C: Change<U>, R: Wait>(
@@ -155,7 +160,7 @@ fn clear_traced<U: Uses, C: Change<U>, R: Wait>(
     end_event(p, me, Some(e));
 }
 
-/// The event by which the thread of this number clears the bit.
+/// Returns the event by which the thread of this number clears the bit.
 fn clearing(at: Object, number: u32) -> Event
     requires { IsGate at }
     ensures { result ≡ clears at number }
@@ -203,7 +208,8 @@ fn clear_gate<U: Uses, C: Change<U>>(p: &Package<U>, me: &mut Thread<U>, at: Obj
     }
 }
 
-/// Makes one queued thread ready, where the length of the queue, read after the clearing, wasn't 0, and unparks those that can go on now.
+/// Makes one queued thread ready, if the length of the queue, read after the clearing, wasn't 0,
+/// and unparks those that can go on now.
 #[cold]
 #[inline(never)]
 fn wake_after<U: Uses, R: Wait>(rt: &R, p: &Package<U>, me: &mut Thread<U>, at: Object, length: u64)
@@ -243,14 +249,16 @@ fn wake_one<U: Uses, R: Wait>(rt: &R, p: &Package<U>, me: &mut Thread<U>, at: Ob
     enter(rt, p, me, at, Why::QueueSeen);
     match pop(p, me, at) {
         Some(t) => {
-            // Made ready inside: as long as this thread owes t its ready word it keeps the spin word, so whoever is in a line or owed can be
-            // told by the spin words alone, and no thread leaves the Nub owing anybody.
+            // Made ready inside: while this thread owes t its ready word it keeps the spin word. So
+            // the spin words alone show which threads are in a queue or are owed a ready word, and
+            // no thread leaves the Nub while it owes one.
             set_ready(p, me, t);
             leave(rt, p, me, at);
-            // Unparked outside: t may take the processor at once, and would find the spin word taken.
+            // Unparked outside: t may take the processor at once, and would find the spin word
+            // taken.
             unpark(p, t);
         }
-        // Those that were seen have left by themselves, or another thread has popped them.
+        // The threads that were seen have left by themselves, or another thread has popped them.
         None => leave(rt, p, me, at),
     }
 }

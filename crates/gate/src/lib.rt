@@ -1,7 +1,9 @@
-//! The lock bit with its queue, of mutexes and semaphores.
+//! The lock bit of a mutex or semaphore, with its queue.
 //!
-//! Promises: each call makes its one event, or in a wait none, by one change of the bit. Stands on the Nub, which it enters only after a failed try of the
-//! bit, or after it has cleared the bit and seen its queue. Nothing is said of who gets the bit next, or that anybody does.
+//! Promises: each call makes its one event, or in a wait none, by one change of the bit. Built on
+//! the Nub, which a call enters only after a failed try of the bit, or after it has cleared the bit
+//! and seen threads in the queue. Nothing is promised about which thread gets the bit next, nor
+//! that any does.
 #![tactic(auto)]
 
 mod freeing;

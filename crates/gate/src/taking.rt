@@ -19,11 +19,12 @@ use nub_rule::{
 };
 use std::sync::Wait;
 
-// How often a thread looks at a bit before it queues, after 1, 2, 4 and up to 64 pauses: 703 in all, which take about as long as a park with its wake.
+// How often a thread looks at a bit before it queues, after 1, 2, 4 and up to 64 pauses: 703 in
+// all, which take about as long as to park and be woken.
 const LOOKS: u32 = 16;
 
-/// Makes the event by taking the bit, after any number of sleeps. It may wait: it goes on when it has taken the bit, which another thread
-/// must have cleared. Nothing says that it ever does.
+/// Makes the event by taking the bit, after any number of sleeps. Blocks until it has taken the
+/// bit, which another thread must have cleared; nothing says that this ever happens.
 #[inline(always)]
 pub fn take<U: Uses, R: Wait>(rt: &R, p: &Package<U>, me: &mut Thread<U>, at: Object, e: Event)
     requires of { me.old.table_id ≡ p.now.table_id }
@@ -51,8 +52,9 @@ pub fn take<U: Uses, R: Wait>(rt: &R, p: &Package<U>, me: &mut Thread<U>, at: Ob
     }
 }
 
-/// In an untraced package tries the bit once, and answers whether it took the bit, and so made the event. It calls nothing that may
-/// wait. In a traced package, where a try needs the pen, it answers false.
+/// In an untraced package tries the bit once, and returns whether it took the bit, and so made the
+/// event. It calls nothing that may wait. In a traced package, where a try needs the pen, it
+/// returns false.
 #[inline(always)]
 fn try_untraced<U: Uses>(p: &Package<U>, me: &mut Thread<U>, at: Object, e: Event) -> bool
     requires of { me.old.table_id ≡ p.now.table_id }
@@ -79,8 +81,8 @@ fn try_untraced<U: Uses>(p: &Package<U>, me: &mut Thread<U>, at: Object, e: Even
     try_gate(p, me, at, e) == 0
 }
 
-/// Tries the bit once. It answers whether it took the bit, and so made the event. In a traced package it may wait for the pen, which its
-/// holder gives back after a step or two.
+/// Tries the bit once. Returns whether it took the bit, and so made the event. In a traced package
+/// it may wait for the pen, which threads give back after a step or two.
 #[inline(always)]
 pub fn try_take<U: Uses, R: Wait>(
     rt: &R,
@@ -114,7 +116,8 @@ pub fn try_take<U: Uses, R: Wait>(
     if !p.traced() {
         return try_gate(p, me, at, e) == 0;
     }
-    // The pen is taken before the bit is known to be free, since the try may be the event and its number must be read by then.
+    // The pen is taken before the bit is known to be free: the try may be the event, and its number
+    // must be read by then.
     begin_event(rt, p, me);
     if try_gate(p, me, at, e) == 0 {
         end_event(p, me, Some(built_anew(e)));
@@ -125,8 +128,9 @@ pub fn try_take<U: Uses, R: Wait>(
     }
 }
 
-/// The same event, built from the few words that tell it. An event has room for a set of threads, which each call would fill with zeros on its
-/// way if what it was given were stored. So the room is filled where the event is stored, in a traced package alone.
+/// Builds the same event from the few words that it consists of. An event has room for a set of
+/// threads, which each call would fill with zeros on its way if its argument were stored. This way
+/// the room is filled where the event is stored, in a traced package alone.
 #[inline(always)]
 fn built_anew(e: Event) -> Event
     ensures { result ≡ e }
@@ -175,8 +179,9 @@ fn try_gate<U: Uses>(p: &Package<U>, me: &mut Thread<U>, at: Object, e: Event) -
     }
 }
 
-/// The way through the Nub, after a failed try. What it calls is out of line, and takes no event: one that is stored to be passed,
-/// and loaded again at once, would stall the processor.
+/// The way through the Nub, after a failed try. The functions that it calls are out of line and
+/// take no event: storing an event to pass it, and loading it again at once, would stall the
+/// processor.
 #[inline(always)]
 fn take_slowly<U: Uses, R: Wait>(rt: &R, p: &Package<U>, me: &mut Thread<U>, at: Object, e: Event)
     requires of { me.old.table_id ≡ p.now.table_id }
@@ -203,14 +208,16 @@ fn take_slowly<U: Uses, R: Wait>(rt: &R, p: &Package<U>, me: &mut Thread<U>, at:
     let mut slept = false;
     let backoff = Backoff::new();
     for _ in rt.forever() {
-        // Most bits are clear again within a few looks, and a look writes nothing: so the holder's cache line is not taken from it.
+        // Most bits are clear again within a few looks, and a look writes nothing: so the holder
+        // keeps its cache line.
         left = look_and_learn(p, me, at, left, slept, &backoff);
         if try_take(rt, p, me, at, e) {
             return;
         }
-        // Another was faster where looks are left. Then the thread goes on looking.
+        // If looks are left, another thread was faster, and this one goes on looking.
         if left == 0 {
-            // After a sleep, too, the bit is tried anew: whoever woke this thread has not kept the bit for it.
+            // The bit is also tried again after a sleep: the thread that woke this one hasn't kept
+            // the bit for it.
             stand_in_line(rt, p, me, at, false);
             slept = true;
             left = looks_of(me);
@@ -220,8 +227,9 @@ fn take_slowly<U: Uses, R: Wait>(rt: &R, p: &Package<U>, me: &mut Thread<U>, at:
     unreachable!()
 }
 
-/// Takes the bit of m for no event, in an alertable wait on m that an alert is to end: nobody holds m until the thread swaps its alert word.
-/// It may wait: it goes on when it has taken the bit, which another thread must have cleared. Nothing says that it ever does.
+/// Takes the bit of m without an event, in an alertable wait on m that an alert is to end: nobody
+/// holds m until the thread swaps its alert word. Blocks until it has taken the bit, which another
+/// thread must have cleared; nothing says that this ever happens.
 pub fn take_quiet<U: Uses, R: Wait>(rt: &R, p: &Package<U>, me: &mut Thread<U>, m: MutexId)
     requires of { me.old.table_id ≡ p.now.table_id }
     requires named { m.0 < p.now.layout.mutexes }
@@ -243,7 +251,7 @@ pub fn take_quiet<U: Uses, R: Wait>(rt: &R, p: &Package<U>, me: &mut Thread<U>, 
     let at = Object::Mutex(m);
     for _ in rt.forever() {
         look_briefly(p, at, LOOKS, &Backoff::new());
-        // The pen isn't wanted: the try makes no event, also where it wins.
+        // The pen isn't needed: the try makes no event, even if it succeeds.
         if take_bit_quiet(p, me, m) == 0 {
             return;
         }
@@ -252,12 +260,13 @@ pub fn take_quiet<U: Uses, R: Wait>(rt: &R, p: &Package<U>, me: &mut Thread<U>, 
     unreachable!()
 }
 
-/// How often the thread looks before it queues.
+/// Returns how often the thread looks before it queues.
 fn looks_of<U: Uses>(me: &Thread<U>) -> u32 {
     if is_patient(me, Look::Bit) { LOOKS } else { 0 }
 }
 
-/// Looks briefly, and before the thread has slept learns whether the bit came clear meanwhile: whoever woke it has cleared it.
+/// Looks briefly. If the thread hasn't slept yet, also learns whether the bit came clear meanwhile;
+/// after a sleep that says nothing, since the thread that woke it has cleared the bit.
 #[cold]
 #[inline(never)]
 fn look_and_learn<U: Uses>(
@@ -276,8 +285,8 @@ fn look_and_learn<U: Uses>(
     left
 }
 
-/// Waits a short while for the bit to be clear, with at most so many pauses, and answers how many are left, 0 where it stayed set. Not an
-/// atomic step of the rule: the view stays.
+/// Waits a short while for the bit to be clear, and returns how many of the `looks` are left, 0 if
+/// it stayed set. This is no atomic step of the rule: the view stays.
 fn look_briefly<U: Uses>(p: &Package<U>, at: Object, looks: u32, backoff: &Backoff) -> u32
     requires { HasObject p.now.layout at }
 {
@@ -290,10 +299,12 @@ fn look_briefly<U: Uses>(p: &Package<U>, at: Object, looks: u32, backoff: &Backo
     0
 }
 
-/// Queues the thread, tests the bit again, and sleeps if it is still set. It answers true where the bit is to be tried anew, and false only
-/// where `alertable` is true and the thread has found its alert word set: it stands in the queue then, unless another thread popped it.
+/// Queues the thread, tests the bit again, and sleeps if it is still set. Returns true if the bit
+/// is to be tried again, and false only if `alertable` is true and the thread has found its alert
+/// word set: it is in the queue then, unless another thread popped it.
 ///
-/// It may wait: it goes on when it has left the queue, by itself or popped by a thread that cleared the bit, or when it is alerted.
+/// Blocks until the thread has left the queue, by itself or popped by a thread that cleared the
+/// bit, or until it is alerted.
 #[cold]
 #[inline(never)]
 pub fn stand_in_line<U: Uses, R: Wait>(
@@ -324,16 +335,19 @@ pub fn stand_in_line<U: Uses, R: Wait>(
 {
     enter(rt, p, me, at, Why::TryFailed);
     push(p, me, at);
-    // Whoever clears the bit reads the length of the queue after that. So the bit is tested after the push: either this test finds it
-    // clear, or the clearing comes later and its look finds this thread in the queue. Tested before the push, the bit could be cleared,
-    // and the queue found empty, in between, and this thread would sleep with nobody to wake it.
+    // A thread that clears the bit reads the length of the queue after that. So the bit is tested
+    // after the push: either this test finds it clear, or the clearing comes later and its look
+    // finds this thread in the queue. If the test came before the push, the bit could be cleared
+    // and the queue found empty in between, and this thread would sleep with nobody to wake it.
     if test_again(p, me, at) == 0 {
-        // Out of the queue again, under the same spin word: nobody can have popped this thread meanwhile.
+        // Out of the queue again, under the same spin word: no thread can have popped this one
+        // meanwhile.
         remove(p, me, at);
         leave(rt, p, me, at);
         true
     } else {
-        // The spin word is given back before the sleep: who wakes this thread needs it to pop it.
+        // The spin word is given back before the sleep: a thread that wakes this one needs it for
+        // the pop.
         leave(rt, p, me, at);
         sleep(rt, p, me, alertable)
     }

@@ -1,4 +1,5 @@
--- The laws of the two buffers: those of plain buffers, with what a thread may put, and what it may know of what it takes.
+-- The laws of the two buffers: those of plain buffers, with what a thread may put, and what it may
+-- know of what it takes.
 use Rattle.std.proofs.Common.{◌≡◌, ◌≢◌, ◌⊎◌, ◌↔◌, ℕ, ◌+◌, ◌*◌, List, [], ◌∷◌, ◌++◌, eqb, length, drop, cond, Some, None, inl, inr, arith, sym, ap, subst, ◌∙◌, ⊎_elim, refl}
 use Rattle.std.specs.Prelude.{All}
 use Rattle.std.proofs.Math.Seq.{drop-append_seam, drop-length}
@@ -23,14 +24,14 @@ use Rattle.index_rule.specs.declared.value.IndexValue.TheVariants.{Dirs, Ring}
 use Rattle.std.proofs.lemmas.List.Elements.{All-head, Contains-append_left}
 use Rattle.std.specs.List.{flat_map}
 
--- a plain buffer behind the same mutex
+-- a plain buffer under the same mutex
 abbrev as_plain : BufferAt → BufferAt
 as_plain at = record { mutex = at.mutex; room = record { 0 = 2 * at.mutex.0 }; more = record { 0 = 2 * at.mutex.0 + 1 } }
 
 is_plain : (at : BufferAt) → IsPlain (as_plain at)
 is_plain at = record { room = refl; more = refl }
 
--- a buffer is behind mutex 1 or 2
+-- a buffer is under mutex 1 or 2
 one_or_two : (at : BufferAt) → IsBuffer at → (at.mutex.0 ≡ 1) ⊎ (at.mutex.0 ≡ 2)
 one_or_two at is = ⊎_elim (λ (e : at ≡ files_at). inl (ap (λ (b : BufferAt). b.mutex.0) e))
     (λ (e : at ≡ pieces_at). inr (ap (λ (b : BufferAt). b.mutex.0) e)) is
@@ -41,7 +42,7 @@ not_first at is zero = ⊎_elim (λ (e : at.mutex.0 ≡ 1). omega arith) (λ (e 
 no_ring : (q : Held IndexItem) → None ≡ Some q → ⊥
 no_ring q e = cc
 
--- the ring that a value is stands for it
+-- the ring that a value is represents it
 ring_is : (x : IndexValue) (q : Held IndexItem) → ring_in x ≡ Some q → Some (ring_of x) ≡ Some q
 ring_is (Dirs d) q e = absurd (no_ring q e)
 ring_is (Ring r) q e = e
@@ -50,7 +51,7 @@ same_ring : (x : IndexValue) (q : Held IndexItem) → ring_in x ≡ Some q → x
 same_ring (Dirs d) q e = absurd (no_ring q e)
 same_ring (Ring r) q e = cc
 
--- a value that is a ring may stand behind a buffer's mutex
+-- a value that is a ring may be under the mutex of a buffer
 ring_behind : (m : ℕ) (x : IndexValue) (q : Held IndexItem) → m ≢ 0 → ring_in x ≡ Some q → IsBehind m x
 ring_behind m (Dirs d) q n e = absurd (no_ring q e)
 ring_behind m (Ring r) q n e = n
@@ -141,7 +142,7 @@ may_take root m s SawEnd of = tt
 may_take root m s WaitedFull of = tt
 may_take root m s WaitedEmpty of = tt
 
--- something that may be done was done at a ring
+-- a thread did something at a ring that it may do
 ring_did : (root : Path) (m : ℕ) (x y : IndexValue) (s : Share) (q p : Held IndexItem) (d e : Did IndexItem) → ring_in x ≡ Some q
     → ring_in y ≡ Some p → m ≢ 0 → Does d q p → MayDo root m d s → e ≡ d
     → MayChange root m x y s (noted m e s)
@@ -150,7 +151,7 @@ ring_did root m x y s q p d e a b n does may same =
     (subst (λ v. MayChange root m (Ring q) v s (noted m e s)) (sym (same_ring y p b))
     (record { kind = n; moves = inr (d, does, may, ap (λ c. noted m c s) same) }))
 
--- rings that stand for values are these
+-- the rings that represent values are these
 does_of : (x y : IndexValue) (q p : Held IndexItem) (d : Did IndexItem) → ring_in x ≡ Some q → ring_in y ≡ Some p → Does d q p
     → Does d (ring_of x) (ring_of y)
 does_of (Dirs c) y q p d a b does = absurd (no_ring q a)

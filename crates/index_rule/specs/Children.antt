@@ -1,4 +1,4 @@
--- A child has one parent, and lies below the root where its parent is the root or lies there.
+-- A child has one parent, and is below the root if its parent is the root or is below it.
 use Rattle.std.proofs.Common.{◌≡◌, ◌⊎◌, ◌<◌, ◌∷◌, length, inl, inr, sym, ap, ◌∙◌, arith, append_assoc, length-append}
 use Rattle.firefly_outside.specs.Trees.{Path, child, slash, IsChild}
 use Rattle.firefly_outside.proofs.PathLemmas.{child-unique}
@@ -21,7 +21,7 @@ child_longer p dir h = let e = ap length h.1.is in let l = length-append dir (sl
 pub below_longer : (root p : Path) → IsBelow root p → length root < length p
 below_longer root p h = let e = ap length h.1 in let l = length-append root (slash ∷ h.0) in omega arith
 
--- a child of the root, or of what lies below it, lies below it
+-- a child of the root, or of a path below it, is below the root
 pub child_below : (root dir p : Path) → IsChildOf p dir → (dir ≡ root) ⊎ IsBelow root dir → IsBelow root p
 child_below root dir p h at = elim at [
   | inl is ↦ (h.0, h.1.is ∙ ap (λ d. child d h.0) is)

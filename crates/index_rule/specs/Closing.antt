@@ -48,7 +48,7 @@ module _ (root : Path) (values : List IndexValue) (shares : List Share) (k : Kee
     files_once : AreDistinct (flat_map (paths_taken root 1) shares)
     files_once = let v = some_at values 1 (omega arith) in files_taken_once root values shares k v.0 v.1
 
-    -- the same of files
+    -- the same holds of files
     pub files_distinct : (i : ℕ) (s : Share) → get_elem? shares i ≡ some s → AreDistinct (paths_taken root 1 s)
     files_distinct i s at = distinct_part (paths_taken root 1) [] shares i s at files_once
 
@@ -61,7 +61,7 @@ module _ (root : Path) (values : List IndexValue) (shares : List Share) (k : Kee
     files_from i s p at h = let v = some_at values 1 (omega arith) in
         at_one (paths_put root 1) shares p (file_from root values shares k v.0 v.1 p (of_all (paths_taken root 1) shares i s p at h))
 
-    -- who put a piece took its files
+    -- a thread that put a piece took its files
     pub pieces_read : (i : ℕ) (s : Share) (p : Path) → get_elem? shares i ≡ some s → Contains (paths_put root 2 s) p
         → Contains (paths_taken root 1 s) p
     pieces_read i s p at h = all_at (Contains (paths_taken root 1 s)) (paths_put root 2 s) p (own_of root values shares k i s at).pieces h
@@ -87,7 +87,8 @@ module _ (root : Path) (values : List IndexValue) (shares : List Share) (k : Kee
         → Contains (paths_taken root 2 s) p → Contains (paths_taken root 2 r) p → i ≡ j
     taken_by_one i j s r p a b h g = one_place (paths_taken root 2) shares i j s r p pieces_once a b h g
 
-    -- a piece of the file is with one thread, or the file itself is with another that made no piece of it: not both
+    -- a file can't both be in a piece that one thread has and be with another thread that made no
+    -- piece of it
     not_both : (i j : ℕ) (s r : Share) (p : Path) → get_elem? shares i ≡ some s → get_elem? shares j ≡ some r
         → Contains (paths_taken root 2 s) p → Contains (paths_taken root 1 r) p → ¬ Contains (paths_put root 2 r) p → ⊥
     not_both i j s r p a b h g none =
@@ -96,7 +97,7 @@ module _ (root : Path) (values : List IndexValue) (shares : List Share) (k : Kee
         let one : o.one ≡ r = some-injective o.one r (sym o.at ∙ (ap (get_elem? shares) place ∙ b)) in
         none (subst (λ (u : Share). Contains (paths_put root 2 u) p) one o.is)
 
-    -- each file is in the hands of one thread
+    -- each file is with one thread only
     pub held_by_one : (i j : ℕ) (s r : Share) (p : Path) → get_elem? shares i ≡ some s → get_elem? shares j ≡ some r → IsHeldBy root s p
         → IsHeldBy root r p → i ≡ j
     held_by_one i j s r p a b h g = ⊎_elim
@@ -110,7 +111,7 @@ module _ (root : Path) (values : List IndexValue) (shares : List Share) (k : Kee
         g)
         h
 
-    -- where some thread saw the buffer of pieces shut and empty, each piece that was put was taken
+    -- if some thread saw the buffer of pieces shut and empty, each piece that was put was taken
     pub all_pieces_taken : (i j : ℕ) (s r : Share) (p : Path) → get_elem? shares i ≡ some s → get_elem? shares j ≡ some r
         → (part_of s.notes 2).seen_end ≡ true → Contains (paths_put root 2 r) p
         → IsInSome (paths_taken root 2) shares p
@@ -123,7 +124,8 @@ module _ (root : Path) (values : List IndexValue) (shares : List Share) (k : Kee
         let one = contains_times p (flat_map (paths_put root 2) shares) (of_all (paths_put root 2) shares j r p b h) in
         at_one (paths_taken root 2) shares p (times_contains p (flat_map (paths_taken root 2) shares) (omega arith))
 
-  -- where each item that some thread put at a buffer is such an item, so is each that a thread took there
+  -- if all items that threads put at a buffer are of a kind, so are all items that threads took
+  -- there
   pub taken_fit : (fits : IndexItem → Type 0) (m : ℕ) → m < length values
       → ((t : ℕ) (s : Share) → get_elem? shares t ≡ some s → All (λ p. fits p.1) (part_of s.notes m).puts)
       → (t : ℕ) (s : Share) → get_elem? shares t ≡ some s → All (λ p. fits p.1) (part_of s.notes m).takes

@@ -1,4 +1,4 @@
--- How often a path stands in a list: at most once where its paths are distinct.
+-- How often a path is in a list: at most once if its paths are distinct.
 use Rattle.std.proofs.Common.{◌≡◌, ◌≢◌, ◌⊎◌, ℕ, ◌+◌, ◌≤◌, Bool, true, false, List, [], ◌∷◌, ◌++◌, cond, zero, suc, get_or, inl, inr, sym, ap, subst, ◌∙◌, refl, arith, zero-add, ⊎_elim}
 use Rattle.std.specs.Prelude.{Contains, All}
 use Rattle.std.specs.Bool.{Decides, nat_eq}
@@ -35,7 +35,7 @@ all_at P xs x all h = subst P h.2 (all h.0 x h.1)
 pub all_from : {X : Type 0} (P : X → Type 0) (xs : List X) → ((x : X) → Contains xs x → P x) → All P xs
 all_from P xs each k d within = each (get_or xs k d) (k, within, get_or_default xs k _ d within)
 
--- an element of the lists that a function gives, end to end, is in one of them
+-- an element of the lists that a function gives, joined, is in one of them
 pub record IsOfOne {X Y : Type 0} (f : X → List Y) (xs : List X) (y : Y) : Type 0 where
   pub one : X
   pub among : Contains xs one
@@ -54,7 +54,7 @@ pub distinct_cons : {X : Type 0} (x : X) (xs : List X) → ¬ Contains xs x → 
 distinct_cons x xs new apart =
     AllPairs-cons (λ y z. y ≢ z) x xs (all_from (λ y. x ≢ y) xs (λ y h same. new (subst (Contains xs) (sym same) h))) apart
 
--- how often the path stands in the list
+-- how often the path is in the list
 abbrev pub times : Path → List Path → ℕ
 times p ps = count_by (pointwise nat_eq p) ps
 
@@ -122,7 +122,7 @@ times-flat_map p f [] = refl
 times-flat_map p f (x ∷ xs) = times-append p (f x) (flat_map f xs)
     ∙ (ap (λ n. times p (f x) + n) (times-flat_map p f xs) ∙ sym (sum_by-cons (λ y. times p (f y)) x xs))
 
--- the lists that a function gives at elements in another order have each path as often
+-- for elements in another order, the lists that a function gives have each path equally often
 pub times-flat_map-permutation : {X : Type 0} (p : Path) (f : X → List Path) (xs ys : List X) → IsPermutation xs ys
     → times p (flat_map f ys) ≡ times p (flat_map f xs)
 times-flat_map-permutation p f xs ys moved = times-flat_map p f ys
@@ -171,7 +171,9 @@ in_all f (z ∷ xs) x y among h = elim (contains_cons_cases z xs x among) [
   | inr m ↦ Contains-append_right (f z) (flat_map f xs) y (in_all f xs x y m h)
 ]
 
--- what belongs to one thing of a list: where each list of one element is distinct and belongs to its own things, and the things of all are distinct, so are the lists end to end
+-- each path belongs to one thing of a list: if the list of each element is distinct and belongs to
+-- the element's own things, and the things of all elements are distinct, then the joined lists are
+-- distinct
 pub record BelongsTo (Of : Path → Path → Type 0) (things : List Path) (p : Path) : Type 0 where
   pub thing : Path
   pub among : Contains things thing

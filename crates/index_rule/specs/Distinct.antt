@@ -1,4 +1,4 @@
--- Lists in which nothing stands twice, and lists that have nothing in common.
+-- Lists that have nothing twice, and lists that have nothing in common.
 use Rattle.std.specs.Prelude.{◌≢◌, List, AllPairs, Contains}
 
 abbrev pub AreDistinct : {X : Type 0} → List X → Type 0

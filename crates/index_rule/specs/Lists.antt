@@ -1,4 +1,4 @@
--- What happens to the list of directories.
+-- What threads do to the list of directories.
 use Rattle.std.specs.Prelude.{◌≡◌, ◌⊎◌, ℕ, ◌+◌, ◌≤◌, ◌<◌, List, [], ◌++◌, length}
 use Rattle.std.specs.Option.{option_to_list}
 use Rattle.firefly_outside.specs.Trees.{Path}
@@ -22,7 +22,7 @@ IsWithin c = (c.dirs ≤ c.most_dirs) × (c.files ≤ c.most_files)
 abbrev pub IsPassed : FoundCounts → Type 0
 IsPassed c = (c.most_dirs < c.dirs) ⊎ (c.most_files < c.files)
 
--- these directories came behind the others, and were counted, with so many files
+-- these directories were put at the end of the others, and were counted, with this many files
 pub record ArePut (found : List Path) (more : ℕ) (old new : DirsInWork) : Type 0 where
   pub waiting : new.list.waiting.items ≡ old.list.waiting.items ++ found
   pub dirs : new.found.dirs ≡ old.found.dirs + length found
@@ -30,7 +30,7 @@ pub record ArePut (found : List Path) (more : ℕ) (old new : DirsInWork) : Type
   pub most_dirs : new.found.most_dirs ≡ old.found.most_dirs
   pub most_files : new.found.most_files ≡ old.found.most_files
 
--- and a limit is passed exactly where that is answered; or memory wanted, and nothing changed
+-- and the result says whether a limit is passed; or there was no memory, and nothing changed
 abbrev pub IsPutSo : List Path → ℕ → DirsInWork → DirsInWork → PutDirs → Type 0
 IsPutSo found files old new Within = ArePut found files old new × IsWithin new.found
 IsPutSo found files old new Passed = ArePut found files old new × IsPassed new.found

@@ -1,4 +1,4 @@
--- What shares say after a note more, and without the waits.
+-- What shares say after one more note, and without the waits.
 use Rattle.std.proofs.Common.{◌≡◌, ℕ, Bool, true, false, List, [], ◌∷◌, ◌++◌, cond, eqb, sym, ap, subst, ◌∙◌, refl}
 use Rattle.std.specs.Prelude.{Contains, All}
 use Rattle.std.proofs.lemmas.List.Elements.{All-append, All-weaker}
@@ -86,7 +86,7 @@ taken_alike root m s r h = ap (paths_in root) (parts_alike (λ u. u.takes) takes
 pub alike_back : (s r : Share) → AreAlike s r → AreAlike r s
 alike_back s r h = record { took = sym h.took; put = sym h.put; files = sym h.files; notes = sym h.notes }
 
--- who took more may be the parent of more
+-- a thread that took more may have taken the parents of more
 pub child_more : (s r : Share) → ((d : Path) → Contains s.took d → Contains r.took d) → (p : Path) → IsChildOfTook s p → IsChildOfTook r p
 child_more s r more p h = record { dir = h.dir; took = more h.dir h.took; is = h.is }
 
@@ -111,7 +111,7 @@ fits_alike root m i s r h fits =
           fits.below;
     }
 
--- a share with more keeps the rule of shares where what is more may be there
+-- a share that says more still keeps the rule of shares, if what it says in addition may be there
 pub own_more : (root : Path) (s r : Share) (dirs files pieces : List Path) → KeepsOwn root s
     → ((m : ℕ) → All (λ p. IsItemAt m p.1) (part_of r.notes m).puts)
     → ((d : Path) → Contains s.took d → Contains r.took d)

@@ -1,4 +1,5 @@
--- What follows from the rule: each directory was taken by one thread, each file was put and taken once, and so was each piece.
+-- What follows from the rule: each directory was taken by one thread, each file was put and taken
+-- once, and so was each piece.
 use Rattle.std.proofs.Common.{◌≡◌, ◌⊎◌, ℕ, ◌<◌, List, [], ◌∷◌, ◌++◌, length, zero, suc, inl, inr, sym, ◌∙◌, refl, arith}
 use Rattle.std.specs.Prelude.{Contains}
 use Rattle.std.specs.List.{flat_map}
@@ -34,7 +35,7 @@ module _ (root : Path) (values : List IndexValue) (shares : List Share) (k : Kee
         | inr put ↦ inr put
       ]
 
-  -- each is the root or lies below it
+  -- each of these is the root or below it
   within : (n : ℕ) (d : Path) → length d < n → (d ≡ root) ⊎ Contains (all_put shares) d → (d ≡ root) ⊎ IsBelow root d
   within zero d short at = absurd (omega arith)
   within (suc n) d short at = elim at [
@@ -52,7 +53,7 @@ module _ (root : Path) (values : List IndexValue) (shares : List Share) (k : Kee
   dir_within d h = within (suc (length d)) d (omega arith)
       (took_or_root d (Contains-append_right (waiting_in values) (all_took shares) d h))
 
-  -- a child of a directory that a thread took lies below the root
+  -- a child of a directory that a thread took is below the root
   pub child_within : (t : ℕ) (s : Share) (p : Path) → get_elem? shares t ≡ some s → IsChildOfTook s p → IsBelow root p
   child_within t s p e c = child_below root c.dir p c.is (dir_within c.dir (of_all (λ (r : Share). r.took) shares t s c.dir e c.took))
 
@@ -64,7 +65,7 @@ module _ (root : Path) (values : List IndexValue) (shares : List Share) (k : Kee
             (paths_put root 1 s) own.files;
       }) shares k.own) took_once
 
-  -- what is at a buffer, and what was taken there: once where it was put once, and it was put
+  -- what is at a buffer or was taken there is there once if it was put once, and it was put
   pub taken_once : (m : ℕ) (v : IndexValue) → get_elem? values m ≡ some v → AreDistinct (flat_map (paths_put root m) shares)
       → AreDistinct (paths_at root (ring_of v) ++ flat_map (paths_taken root m) shares)
   taken_once m v e apart = times_distinct (paths_at root (ring_of v) ++ flat_map (paths_taken root m) shares) (λ p.
@@ -81,13 +82,13 @@ module _ (root : Path) (values : List IndexValue) (shares : List Share) (k : Kee
       let both = times-append p (paths_at root (ring_of v)) (flat_map (paths_taken root m) shares) in
       times_contains p (flat_map (paths_put root m) shares) (omega arith)
 
-  -- a file that was put lies below the root
+  -- a file that was put is below the root
   pub file_within : (p : Path) → Contains (flat_map (paths_put root 1) shares) p → IsBelow root p
   file_within p h =
       let o = at_one (paths_put root 1) shares p h in
       child_within o.place o.one p o.at (all_at (IsChildOfTook o.one) (paths_put root 1 o.one) p (own_of o.place o.one o.at).files o.is)
 
-  -- a value behind mutex 1 there is
+  -- mutex 1 has a value
   module _ (v : IndexValue) (at : get_elem? values 1 ≡ some v) where
     pub files_taken_once : AreDistinct (flat_map (paths_taken root 1) shares)
     files_taken_once = distinct_right (paths_at root (ring_of v)) (flat_map (paths_taken root 1) shares) (taken_once 1 v at files_put_once)
@@ -103,14 +104,14 @@ module _ (root : Path) (values : List IndexValue) (shares : List Share) (k : Kee
               (λ p c. record { thing = p; among = c; is = refl }) (paths_put root 2 s) own.pieces;
         }) shares k.own) files_taken_once
 
-    -- each file of a piece that was put was taken, and lies below the root
+    -- each file of a piece that was put was taken, and is below the root
     pub piece_within : (p : Path) → Contains (flat_map (paths_put root 2) shares) p → IsBelow root p
     piece_within p h =
         let o = at_one (paths_put root 2) shares p h in
         let taken = all_at (Contains (paths_taken root 1 o.one)) (paths_put root 2 o.one) p (own_of o.place o.one o.at).pieces o.is in
         file_within p (file_from p (of_all (paths_taken root 1) shares o.place o.one p o.at taken))
 
--- something stands before each place
+-- there is something at each earlier place
 pub some_before : {A : Type 0} (xs : List A) (x : A) → get_elem? xs 2 ≡ some x → (y : A) × (get_elem? xs 1 ≡ some y)
 some_before [] x e = absurd (some-ne-none x (sym e))
 some_before (a ∷ []) x e = absurd (some-ne-none x (sym e))

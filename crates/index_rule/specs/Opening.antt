@@ -1,4 +1,4 @@
--- What stands behind the mutexes at first keeps the rule.
+-- The first values of the mutexes keep the rule.
 use Rattle.std.proofs.Common.{◌≡◌, ℕ, Bool, true, false, zero, suc, ◌+◌, List, [], ◌∷◌, ◌++◌, length, map, refl, sym, ap, subst, ◌∙◌, arith}
 use Rattle.std.specs.Prelude.{All, Contains}
 use Rattle.std.specs.List.{flat_map}
@@ -22,7 +22,7 @@ use Rattle.index_rule.specs.declared.value.IndexValue.{IndexValue}
 use Rattle.index_rule.specs.declared.value.IndexValue.TheVariants.{Dirs, Ring}
 use Rattle.index_rule.specs.declared.value.DirsInWork.{DirsInWork}
 
--- a list with the root alone
+-- a list with only the root
 pub record IsFirst (root : Path) (dirs : DirsInWork) : Type 0 where
   pub waits : dirs.list.waiting.items ≡ root ∷ []
   pub one : dirs.found.dirs ≡ 1

@@ -11,15 +11,15 @@ use Rattle.index_rule.specs.Distinct.{AreDisjoint, AreDistinct}
 use Rattle.index_rule.specs.declared.value.IndexItem.{IndexItem}
 use Rattle.index_rule.specs.declared.value.IndexItem.TheVariants.{File, Piece}
 
--- the directories that it took from the list and those that it put there, how many files it counted there, and all that it did at the
--- buffers, each the last first
+-- the directories that the thread took from the list and those that it put there, how many files it
+-- counted there, and all that it did at the buffers, each with the last first
 pub record Share : Type 0 where
   pub took : List Path
   pub put : List Path
   pub files : ℕ
   pub notes : List (Note IndexItem)
 
--- of a thread that has done nothing
+-- the share of a thread that has done nothing
 abbrev pub blank : Share
 blank = record { took = []; put = []; files = 0; notes = [] }
 
@@ -35,14 +35,15 @@ paths_of root (Piece piece) = covered root piece
 abbrev pub paths_in : Path → List (ℕ × IndexItem) → List Path
 paths_in root pairs = flat_map (λ p. paths_of root p.1) pairs
 
--- the files that the items are about which the thread put behind the mutex, and which it took there
+-- the files of the items that the thread put under the mutex, and of those that it took there
 abbrev pub paths_put : Path → ℕ → Share → List Path
 paths_put root m s = paths_in root (part_of s.notes m).puts
 
 abbrev pub paths_taken : Path → ℕ → Share → List Path
 paths_taken root m s = paths_in root (part_of s.notes m).takes
 
--- the file is in the hands of this thread: its piece, or the file itself and no piece of it was put
+-- the file is with this thread: in a piece that it has, or the file itself, if the thread put no
+-- piece of it
 abbrev pub IsHeldBy : Path → Share → Path → Type 0
 IsHeldBy root s p = Contains (paths_taken root 2 s) p ⊎ (Contains (paths_taken root 1 s) p × (¬ Contains (paths_put root 2 s) p))
 
@@ -57,8 +58,9 @@ abbrev pub IsItemAt : ℕ → IndexItem → Type 0
 IsItemAt m (File path) = m ≡ 1
 IsItemAt m (Piece piece) = m ≡ 2
 
--- what it put into a buffer belongs there; the directories that it put are children of those that it took; so are the files, each of which it put once; and it took each file that a piece
--- which it put covers, and put no second piece of that file
+-- what the thread put into a buffer belongs there; the directories that it put are children of
+-- those that it took, and so are the files, each of which it put once; and it took each file that a
+-- piece which it put covers, and put no second piece of that file
 pub record KeepsOwn (root : Path) (s : Share) : Type 0 where
   pub kinds : (m : ℕ) → All (λ p. IsItemAt m p.1) (part_of s.notes m).puts
   pub dirs : All (IsChildOfTook s) s.put
@@ -67,19 +69,20 @@ pub record KeepsOwn (root : Path) (s : Share) : Type 0 where
   pub pieces : All (Contains (paths_taken root 1 s)) (paths_put root 2 s)
   pub pieces_once : AreDistinct (paths_put root 2 s)
 
--- where the thread has an item from that it may put: a file is a child of a directory that it took, and it took each file of a piece
+-- the origin of an item that the thread may put: a file is a child of a directory that it took, and
+-- it took each file of a piece
 abbrev pub IsFrom : Path → Share → IndexItem → Type 0
 IsFrom root s (File path) = IsChildOfTook s path
 IsFrom root s (Piece piece) = All (Contains (paths_taken root 1 s)) (covered root piece)
 
--- and no item put before is about its files
+-- and no item put before has its files
 pub record MayPut (root : Path) (m : ℕ) (i : IndexItem) (s : Share) : Type 0 where
   pub kind : IsItemAt m i
   pub from : IsFrom root s i
   pub once : AreDistinct (paths_of root i)
   pub new : AreDisjoint (paths_of root i) (paths_put root m s)
 
--- the share with a note more
+-- the share with one more note
 abbrev pub noted : ℕ → Did IndexItem → Share → Share
 noted m d s = record s { notes = note m d ∷ s.notes }
 

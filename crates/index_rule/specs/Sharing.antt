@@ -20,7 +20,7 @@ use Rattle.index_rule.specs.Shares.{Share, paths_of, paths_in, paths_put, paths_
 use Rattle.index_rule.specs.Work.{notes_of, paths_at}
 use Rattle.index_rule.specs.declared.value.IndexItem.{IndexItem}
 
--- something is at the place, and has this
+-- some element of the list has this
 pub record IsAt {X Y : Type 0} (f : X → List Y) (xs : List X) (y : Y) : Type 0 where
   pub place : ℕ
   pub one : X
@@ -60,7 +60,7 @@ module _ {X : Type 0} where
   at_contains (y ∷ xs) (suc t) x e = contains_tail y xs x (at_contains xs t x e)
 
 module _ {X Y : Type 0} (f : X → List Y) where
-  -- what is in one list is in all
+  -- what one list has, all lists have together
   pub of_all : (xs : List X) (t : ℕ) (x : X) (y : Y) → get_elem? xs t ≡ some x → Contains (f x) y → Contains (flat_map f xs) y
   of_all [] t x y e h = absurd (some-ne-none x (sym e))
   of_all (z ∷ xs) zero x y e h = Contains-append_left (f z) (flat_map f xs) y (subst (λ w. Contains (f w) y) (sym (some-injective z x e)) h)
@@ -95,7 +95,7 @@ module _ {X Y : Type 0} (f : X → List Y) where
       (IsPermutation-append_left rest (f z ++ more) (more ++ f z) (IsPermutation-append_comm (f z) more))))
 
 module _ {X : Type 0} (f : X → List Path) where
-  -- no more often in one list than in all
+  -- one list has it no more often than all together
   pub times_part : (p : Path) (xs : List X) (t : ℕ) (x : X) → get_elem? xs t ≡ some x → times p (f x) ≤ times p (flat_map f xs)
   times_part p [] t x e = absurd (some-ne-none x (sym e))
   times_part p (z ∷ xs) zero x e = let both = times-append p (f z) (flat_map f xs) in
@@ -111,7 +111,7 @@ module _ {X : Type 0} (f : X → List Path) where
       let part = times_part p xs t x e in
       omega arith)
 
-  -- a path is in one of the lists alone
+  -- only one of the lists has the path
   pub one_place : (xs : List X) (i j : ℕ) (x y : X) (p : Path) → AreDistinct (flat_map f xs) → get_elem? xs i ≡ some x
       → get_elem? xs j ≡ some y → Contains (f x) p → Contains (f y) p → i ≡ j
   one_place [] i j x y p apart a b h k = absurd (some-ne-none x (sym a))
@@ -125,7 +125,7 @@ module _ {X : Type 0} (f : X → List Path) where
   one_place (z ∷ xs) (suc i) (suc j) x y p apart a b h k =
       ap suc (one_place xs i j x y p (distinct_right (f z) (flat_map f xs) apart) a b h k)
 
--- the files that all items at a buffer are about
+-- the files of all items at a buffer
 paths_over : (root : Path) (f : Used IndexItem → List (ℕ × IndexItem)) (m : ℕ) (shares : List Share)
     → paths_in root (pairs_of f m (notes_of shares)) ≡ flat_map (λ s. paths_in root (f (part_of s.notes m))) shares
 paths_over root f m [] = refl
@@ -162,7 +162,8 @@ counted root m q shares rule p =
     ap (λ l. times p (flat_map (paths_of root) l)) rule.left in
     omega arith
 
--- where each item that some thread put at a buffer is such an item, so is each that is there, and each that a thread took there
+-- if all items that threads put at a buffer are of a kind, so are all that are there, and all that
+-- threads took there
 module _ (fits : IndexItem → Type 0) where
   abbrev Fits : ℕ × IndexItem → Type 0
   Fits p = fits p.1

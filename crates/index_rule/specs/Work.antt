@@ -1,4 +1,5 @@
--- What stands behind the mutexes of an index run, and its rule: each directory is listed once and each file is read once.
+-- The values of an index run's mutexes, and their rule: each directory is listed once and each file
+-- is read once.
 use Rattle.std.specs.Prelude.{◌≡◌, ◌≢◌, ◌⊎◌, ℕ, ◌+◌, ◌-◌, List, [], ◌∷◌, ◌++◌, length, map, drop, Option, Some, None, All}
 use Rattle.std.specs.List.{flat_map, sum_by}
 use Rattle.std.specs.List.Sorted.{IsPermutation}
@@ -23,7 +24,8 @@ abbrev pub ring_in : IndexValue → Option (Held IndexItem)
 ring_in (Dirs d) = None
 ring_in (Ring q) = Some q
 
--- the ring that stands for a value in the rule of rings; for the directories one at which nothing is ever done
+-- the ring that represents a value in the rule of rings; for the directories, a ring at which
+-- nothing is ever done
 abbrev pub ring_of : IndexValue → Held IndexItem
 ring_of (Dirs d) = fresh 1
 ring_of (Ring q) = q
@@ -42,17 +44,17 @@ abbrev pub files_of : IndexValue → ℕ
 files_of (Dirs d) = d.found.files
 files_of (Ring q) = 0
 
--- they stand behind the first mutex
+-- the directories that wait, which are in the value of the first mutex
 abbrev pub waiting_in : List IndexValue → List Path
 waiting_in [] = []
 waiting_in (v ∷ values) = waiting_of v
 
--- the directories in work stand behind mutex 0, and a ring behind each other mutex
+-- mutex 0 protects the directories in work, and each other mutex a ring
 abbrev pub IsBehind : ℕ → IndexValue → Type 0
 IsBehind m (Dirs d) = m ≡ 0
 IsBehind m (Ring q) = m ≢ 0
 
--- a count of what stands behind the first mutex
+-- a count in the value of the first mutex
 abbrev pub first_count : (IndexValue → ℕ) → List IndexValue → ℕ
 first_count count [] = 0
 first_count count (v ∷ values) = count v
@@ -69,8 +71,9 @@ all_files shares = sum_by (λ s. s.files) shares
 abbrev pub notes_of : List Share → List (List (Note IndexItem))
 notes_of shares = map (λ s. s.notes) shares
 
--- each mutex has what stands behind it, and each buffer keeps the rule of buffers; the directories that wait and those that were taken are
--- the root and those that were put, each once; these are as many as were counted, and so are the files; and each thread put what it may
+-- each mutex has a value of its kind, and each buffer keeps the rule of buffers; the directories
+-- that wait and those that were taken are the root and those that were put, each once; these are as
+-- many as were counted, and so are the files; and each thread put only what it may
 pub record KeepsWork (root : Path) (values : List IndexValue) (shares : List Share) : Type 0 where
   pub kinds : (m : ℕ) (v : IndexValue) → get_elem? values m ≡ some v → IsBehind m v
   pub rings : Keeps (map ring_of values) (notes_of shares)
@@ -80,7 +83,7 @@ pub record KeepsWork (root : Path) (values : List IndexValue) (shares : List Sha
   pub files_counted : first_count files_of values ≡ all_files shares
   pub own : All (KeepsOwn root) shares
 
--- the files that the items of a ring are about
+-- the files of the items of a ring
 abbrev pub paths_at : Path → Held IndexItem → List Path
 paths_at root q = flat_map (paths_of root) q.items
 
@@ -95,7 +98,8 @@ pub record FitsWork (root : Path) (m : ℕ) (v : IndexValue) (s : Share) : Type 
   pub within : IsWithin (part_of s.notes m) (ring_of v)
   pub new : IsNewTo root m s v
 
--- the list goes from xs to ys: directories are taken from its end, and others put there, which are new children of directories that the thread took
+-- the list goes from xs to ys: directories are taken from its end, and others put there, which are
+-- new children of directories that the thread took
 pub record MovesDirs (xs ys : List Path) (s r : Share) : Type 0 where
   pub rest : List Path
   pub gone : List Path
@@ -107,17 +111,19 @@ pub record MovesDirs (xs ys : List Path) (s r : Share) : Type 0 where
   pub once : AreDistinct come
   pub new : AreDisjoint come s.put
 
--- the counts go from those of x to those of y: as many directories as the share put more, and as many files as it counted more
+-- the counts go from those of x to those of y: they grow by the directories that the share put in
+-- addition, and by the files that it counted in addition
 pub record MovesCounts (x y : IndexValue) (s r : Share) : Type 0 where
   pub dirs : dirs_of y + length s.put ≡ dirs_of x + length r.put
   pub files : files_of y + s.files ≡ files_of x + r.files
 
--- who puts an item may put it
+-- a thread that puts an item may put it
 abbrev pub MayDo : Path → ℕ → Did IndexItem → Share → Type 0
 MayDo root m (Put n i) s = MayPut root m i s
 MayDo root m d s = Unit {0}
 
--- a ring and the share stay, or the thread did something that it may, and its share has a note of that
+-- a ring and the share stay, or the thread did something that it may do, and its share has a note
+-- of that
 abbrev pub MovesItems : Path → ℕ → Held IndexItem → Held IndexItem → Share → Share → Type 0
 MovesItems root m q p s r = ((p ≡ q) × (r ≡ s)) ⊎ ((d : Did IndexItem) × Does d q p × MayDo root m d s × (r ≡ noted m d s))
 
@@ -130,16 +136,17 @@ pub record MayChange (root : Path) (m : ℕ) (x y : IndexValue) (s r : Share) : 
   pub kind : IsBehind m y
   pub moves : Moves root m x y s r
 
--- the share after the list went from xs to ys, by what left its end or came there, and so many files were counted
+-- the share after the list went from xs to ys, by what left its end or was put there, and this many
+-- files were counted
 abbrev pub moved : List Path → List Path → ℕ → Share → Share
 moved xs ys files s = record s { took = drop (length ys) xs ++ s.took; put = drop (length xs) ys ++ s.put; files = s.files + files }
 
--- the same by what stood behind the mutex before and after
+-- the same, by the value of the mutex before and after
 abbrev pub moved_by : IndexValue → IndexValue → Share → Share
 moved_by x y s = moved (waiting_of x) (waiting_of y) (files_of y - files_of x) s
 
--- what a thread may know of an item that it takes: it belongs there, none that the thread took before is about its files, and these lie below
--- the root
+-- what a thread may know of an item that it takes: it belongs there, has no file of an item that
+-- the thread took before, and its files are below the root
 pub record ItemFits (root : Path) (m : ℕ) (i : IndexItem) (s : Share) : Type 0 where
   pub kind : IsItemAt m i
   pub new : AreDistinct (paths_of root i ++ paths_taken root m s)

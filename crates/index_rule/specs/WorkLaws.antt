@@ -1,4 +1,5 @@
--- The two laws of the use: what a holder knows follows from the rule, and each change that is allowed keeps it.
+-- The two laws of the use: what a holder knows follows from the rule, and each allowed change keeps
+-- it.
 use Rattle.std.proofs.Common.{◌≡◌, ◌≢◌, ◌⊎◌, ℕ, ◌+◌, List, [], ◌∷◌, ◌++◌, map, length, slice_set, zero, suc, inl, inr, sym, ap, subst, ◌∙◌, ⊎_elim, refl, arith, append_assoc, length-append}
 use Rattle.std.specs.Prelude.{Contains, All}
 use Rattle.std.specs.List.{flat_map}
@@ -30,7 +31,7 @@ use Rattle.index_rule.specs.declared.value.IndexItem.TheVariants.{File, Piece}
 use Rattle.index_rule.specs.declared.value.IndexValue.{IndexValue}
 use Rattle.index_rule.specs.declared.value.IndexValue.TheVariants.{Dirs, Ring}
 
--- the list of directories stands first
+-- the list of directories is the first value
 first_waits : (values : List IndexValue) (x : IndexValue) → get_elem? values 0 ≡ some x → waiting_in values ≡ waiting_of x
 first_waits [] x e = absurd (some-ne-none x (sym e))
 first_waits (v ∷ values) x e = ap waiting_of (some-injective v x e)
@@ -59,7 +60,7 @@ count_last : (f : IndexValue → ℕ) (values : List IndexValue) (x y : IndexVal
 count_last f [] x y e = absurd (some-ne-none x (sym e))
 count_last f (v ∷ values) x y e = refl
 
--- what all shares count, where one changes
+-- what all shares count together, after a change of one
 put_set : (shares : List Share) (t : ℕ) (s r : Share) → get_elem? shares t ≡ some s
     → length (all_put (slice_set shares t r)) + length s.put ≡ length (all_put shares) + length r.put
 put_set [] t s r e = absurd (some-ne-none s (sym e))
@@ -259,7 +260,7 @@ allowed root m (Ring q) (Ring p) s r h = ⊎_elim
 allowed root m (Dirs d) (Ring p) s r h = absurd h
 allowed root m (Ring q) (Dirs e) s r h = absurd h
 
--- directories that come into the list are new
+-- directories that are put into the list are new
 module _ (root : Path) (values : List IndexValue) (shares : List Share) (h : KeepsWork root values shares) (t : ℕ) (s : Share)
     (there : get_elem? shares t ≡ some s) where
   not_there : (come : List Path) → All (IsChildOfTook s) come → AreDisjoint come s.put → (p : Path) → Contains come p
@@ -343,7 +344,7 @@ module _ (root : Path) (values : List IndexValue) (shares : List Share) (h : Kee
       let j = times-append p go.gone took in
       omega arith)
 
--- what changes in a step: the rest of the rule
+-- the rest of the rule after a step
 kinds_set : (values : List IndexValue) (m : ℕ) (y : IndexValue) → ((k : ℕ) (v : IndexValue) → get_elem? values k ≡ some v → IsBehind k v)
     → IsBehind m y
     → (k : ℕ) (z : IndexValue) → get_elem? (slice_set values m y) k ≡ some z → IsBehind k z

@@ -10,27 +10,27 @@ use firefly_outside::Text;
 /// What the list has for a walker.
 #[derive(Drop)]
 pub enum NextDir {
-    /// A directory to be listed, or none where there is nothing any more.
+    /// A directory to be listed, or `None` if there will be no more.
     Now(Option<Text>),
-    /// Nothing now, but directories are in work.
+    /// Nothing now, but some directories are being listed.
     Wait,
 }
 
-/// How a put of found directories ends.
+/// How a put of found directories ended.
 #[derive(Clone, Copy)]
 pub enum PutDirs {
-    /// They were put, and no more was found than may be.
+    /// They were put, and both limits are kept.
     Within,
-    /// They were put, and more directories or files were found than may be.
+    /// They were put, and more directories or files were found than there may be.
     Passed,
-    /// Memory wants: none was put, and nothing was counted.
+    /// There was no memory: none was put, and nothing was counted.
     Memory,
 }
 
 impl PutDirs {
     ghost use Rattle.std.specs.Prelude.{◌≡◌, ◌↔◌, IsTrue};
 
-    /// Whether the work may go on.
+    /// Returns whether the work may go on.
     pub fn is_within(self) -> bool
         ensures { IsTrue result ↔ self ≡ PutDirs.Within }
     {
@@ -41,7 +41,7 @@ impl PutDirs {
     }
 }
 
-/// What stands behind mutex 0.
+/// Returns the directories, which are the value of mutex 0.
 pub fn dirs_in(value: IndexValue) -> DirsInWork
     requires { IsBehind 0 value }
     ensures { value ≡ Dirs result }
@@ -52,7 +52,7 @@ pub fn dirs_in(value: IndexValue) -> DirsInWork
     }
 }
 
-/// Takes the last directory, which is in work from now on; all others stay.
+/// Takes the last directory, which is then being listed; all others stay.
 pub fn take_dir(list: &mut WaitingDirs) -> NextDir
     ensures { list.old.waiting.items ≡ list.new.waiting.items ++ got_in result }
 {
@@ -61,7 +61,7 @@ pub fn take_dir(list: &mut WaitingDirs) -> NextDir
     }
     match list.waiting.pop() {
         Some(dir) => {
-            // There are no more in work than walkers.
+            // No more directories are being listed than there are walkers.
             list.in_work = list.in_work.saturating_add(1);
             NextDir::Now(Some(dir))
         }
@@ -75,14 +75,15 @@ pub fn take_dir(list: &mut WaitingDirs) -> NextDir
     }
 }
 
-// Whether more was found than may be.
+// Whether more was found than there may be.
 fn is_passed(found: &FoundCounts) -> bool
     ensures { IsTrue result ↔ (found.now.most_dirs < found.now.dirs) ⊎ (found.now.most_files < found.now.files) }
 {
     found.dirs > found.most_dirs || found.files > found.most_files
 }
 
-/// Puts the directories found in one behind the others, and counts them and the files found there.
+/// Puts the directories found in one at the end of the others, and counts them and the files found
+/// there.
 pub fn put_found(state: &mut DirsInWork, mut found: Vec<Text>, files: usize) -> PutDirs
     ensures { IsPutSo found.items files state.old state.new result }
 {

@@ -1,10 +1,12 @@
-//! The rule of an index run: what stands behind the mutexes of its package, what the shares of its threads say, and what is kept by every
-//! change that is allowed.
+//! The rule of an index run: the values of its package's mutexes, what the shares of its threads
+//! say, and what every allowed change keeps.
 //!
-//! Promises: the directories that wait to be listed and those that threads have taken are distinct, and each but the root was put there once,
-//! by the thread that took its parent; no file goes through the buffer of files twice; no file is covered by two pieces that go through the
-//! buffer of pieces, and who made a file's piece took the file. Each release keeps this; at the closing it holds of all shares together.
-//! Stands on the package's notion of a use, and on buffers. It doesn't say that anything is ever taken, nor that it is listed or read.
+//! Promises: the directories that wait to be listed and those that threads have taken are distinct,
+//! and each but the root was put there once, by the thread that took its parent; no file goes
+//! through the buffer of files twice; no file is covered by two pieces that go through the buffer
+//! of pieces, and the thread that made a file's piece took the file. Each release keeps this; when
+//! the package is closed it holds of all shares together. Built on the package's notion of a use,
+//! and on buffers. Nothing is promised about anything being taken, listed or read.
 #![tactic(auto)]
 
 mod buffers;

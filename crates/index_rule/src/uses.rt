@@ -10,8 +10,9 @@ use firefly_outside::Text;
 use nub_rule::{Change, Uses};
 use std::marker::Model;
 
-/// The directories that a thread took from the list and put there, how many files it counted, and all that it did at the buffers. Contracts alone see it, so no value
-/// of this type is made, and it has no field.
+/// The directories that a thread took from the list and put there, how many files it counted, and
+/// all that it did at the buffers. Only contracts see it, so no value of this type is made, and it
+/// has no field.
 pub struct IndexShare;
 
 impl Model for IndexShare {
@@ -20,7 +21,8 @@ impl Model for IndexShare {
     ghost view = { λ s. blank };
 }
 
-/// The list of directories stands behind mutex 0 and a buffer behind each other mutex. The world is the path of the root.
+/// The use in which mutex 0 protects the list of directories, and each other mutex a buffer. The
+/// world is the path of the root.
 pub struct IndexUses;
 
 impl Uses for IndexUses {
@@ -43,16 +45,17 @@ impl Uses for IndexUses {
     ghost holds_after = { keeps_work };
 }
 
-/// The share gets the directories that left the list and those that came there, and the files that were counted.
+/// The change by which the share gets the directories that left the list and those that were put
+/// there, and the files that were counted.
 pub struct DidMove;
 
-/// The share gets a note of what a put did.
+/// The change by which the share gets a note of what a put did.
 pub struct DidPut;
 
-/// The share gets a note of what a take did.
+/// The change by which the share gets a note of what a take did.
 pub struct DidTake;
 
-/// The share gets a note that its thread shut the buffer.
+/// The change by which the share gets a note that its thread shut the buffer.
 pub struct DidShut;
 
 impl Change<IndexUses> for DidMove {

@@ -1,4 +1,4 @@
-//! What stands behind the mutexes of an index run.
+//! The values of an index run's mutexes.
 use bounded_buffer::Ring;
 use firefly_outside::Text;
 use word_index::Piece;
@@ -11,7 +11,8 @@ pub struct WaitingDirs {
     pub shut: bool,
 }
 
-/// How many directories, the root among them, and how many files were found, and how many of each may be.
+/// How many directories, with the root, and how many files were found, and how many of each there
+/// may be.
 #[derive(Drop)]
 pub struct FoundCounts {
     pub dirs: u64,
@@ -20,7 +21,8 @@ pub struct FoundCounts {
     pub most_files: u64,
 }
 
-/// What stands behind the first mutex: the list of directories, what was found so far, and how many parsers are at work.
+/// The value of the first mutex: the list of directories, what was found so far, and how many
+/// parsers are at work.
 #[derive(Drop)]
 pub struct DirsInWork {
     pub list: WaitingDirs,
@@ -28,7 +30,7 @@ pub struct DirsInWork {
     pub parsers: u32,
 }
 
-/// What goes through a buffer: the path of a file that is to be read, or the index of some files.
+/// An item of a buffer: the path of a file that is to be read, or the index of some files.
 #[derive(Drop)]
 pub enum IndexItem {
     File(Text),

@@ -13,7 +13,7 @@ abbrev pub sample_entry : Kind → ℕ → Entry
 sample_entry Dir = dir_entry
 sample_entry File = file_entry
 
--- these are the entries of the root, or of a directory of the tree of so many files
+-- these are the entries of the root, or of a directory of the tree of `files` files
 pub data IsDirOf (files : ℕ) (dir : Path) (es : List Entry) : Type 0 where
   of_root : dir ≡ sample_root → es ≡ map dir_entry (range_with_len 0 (dir_count files)) → IsDirOf files dir es
   of_dir : (k : ℕ) → k < dir_count files → dir ≡ dir_path k → es ≡ map file_entry (files_in files k) → IsDirOf files dir es

@@ -1,4 +1,4 @@
--- What a sample tree is seen as: the tree and the calls made.
+-- What a sample tree shows: the tree and the calls made.
 use Rattle.std.specs.Prelude.{◌≡◌, ℕ, ◌++◌, ◌∷◌, [], ◌≤◌}
 use Rattle.firefly_outside.specs.Causes.{Rose}
 use Rattle.firefly_outside.specs.Trees.{Path, Told, Calls}
@@ -16,7 +16,7 @@ calls_of s = record { listed = s.listed.items; files_read = s.files_read.items; 
 abbrev pub faults_of : SampleTree → ℕ
 faults_of s = s.faults
 
--- the call fails at the path and is noted, or memory wants and nothing is
+-- the call fails at the path and is noted, or there is no memory and it isn't
 pub record Fails (old new : SampleTree) (path : Path) (answer : TreeError) : Type 0 where
   pub tree : tree_of new ≡ tree_of old
   pub noted : answer ≡ Failed → calls_of new ≡ record (calls_of old) { failed = (calls_of old).failed ++ path ∷ [] }

@@ -1,4 +1,4 @@
--- The sample tree as what is at each path.
+-- The sample tree, by what is at each path.
 use Rattle.std.specs.Prelude.{ℕ, zero, suc, map, Option, Some, None, if◌then◌else◌}
 use Rattle.std.specs.Bool.{nat_eq}
 use Rattle.std.specs.List.{range_with_len}
@@ -6,7 +6,7 @@ use Rattle.std.specs.Cmp.Lexicographic.{pointwise}
 use Rattle.firefly_outside.specs.Trees.{Path, Node, Directory, Bytes, Told}
 use Rattle.firefly_outside.specs.Samples.{sample_root, dir_entry, file_entry, dir_path, file_path, dir_count, files_in, sample_bytes}
 
--- the number below n of which this is the path
+-- the number below n whose path this is
 unfoldable pub number_at : (ℕ → Path) → ℕ → Path → Option ℕ
 number_at f zero q = None
 number_at f (suc n) q = if pointwise nat_eq (f n) q then Some n else number_at f n q

@@ -21,7 +21,7 @@ fn entry_of(alloc: Global, kind: Kind, number: u32) -> Result<Entry, AllocError>
     })
 }
 
-// So many entries from this number on.
+// `many` entries from this number on.
 fn entries_from(alloc: Global, kind: Kind, from: u32, many: u32) -> Result<Vec<Entry>, AllocError>
     requires { from + many ≤ 20000 }
     ensures { IfOk result (λ v. v.items ≡ map (sample_entry kind) (range_with_len from many)) }
@@ -33,7 +33,7 @@ fn entries_from(alloc: Global, kind: Kind, from: u32, many: u32) -> Result<Vec<E
     Ok(entries)
 }
 
-// How many of so many files are in the directory whose first file has this number.
+// How many files, of `files` in all, are in the directory whose first file has this number.
 fn many_in(files: u32, from: u32) -> u32
     requires { from ≤ files }
     ensures { result ≡ min 100 (files - from) }
@@ -44,7 +44,8 @@ fn many_in(files: u32, from: u32) -> u32
     100
 }
 
-/// The entries of the directory that has this path, in the tree of so many files.
+/// Returns the entries of the directory with this path, in the tree of `files` files. Fails only if
+/// there is no memory.
 pub fn listed_at(alloc: Global, dir: &str, files: u32) -> Result<Option<Vec<Entry>>, AllocError>
     requires { files ≤ 20000 }
     ensures { IfOk result (IsListed files dir.now) }

@@ -1,9 +1,11 @@
-//! The sample tree, made as it is read, and the index of it by threads with its sums.
+//! The sample tree, made as it is read, and its index by threads with the index's sums.
 //!
-//! Promises: what a sample tree lists and reads is what the one of its seed and number of files has, and a call on what is there fails
-//! only for want of memory. It holds the lines that files are made of, and no files, so a fork copies little. The sums are those of the
-//! index of the sample tree, whose one refusal is want of memory, and `print_summary` writes exactly their five lines. Stands on the
-//! indexer and pieces. It doesn't say that the workers ran beside each other. A run may wait for ever.
+//! Promises: a sample tree lists and reads what the tree of its seed and number of files has, and a
+//! call on a path that is there fails only if there is no memory. It has the lines that files are
+//! made of, and no files, so a fork copies little. The sums are those of the index of the sample
+//! tree, and making them fails only if there is no memory; `print_summary` writes exactly their
+//! five lines. Built on the indexer and pieces. Nothing is promised about workers that run beside
+//! each other, and a run may wait for ever.
 #![tactic(auto)]
 
 mod entries;

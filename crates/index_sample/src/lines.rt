@@ -8,7 +8,7 @@ use crate::short_text::{ShortText, push_number};
 use firefly_outside::{FileBytes, Text};
 use std::alloc::{AllocError, Global};
 
-// There are so many words, and so many lines: a line's first word decides on the others.
+// There are as many lines as words: a line's first word decides the others.
 const LINES: u32 = 499;
 
 // The line that begins with the word of this number.
@@ -26,7 +26,7 @@ fn line_from(alloc: Global, first: u32) -> Result<Text, AllocError>
     Text::of(alloc, line.as_str())
 }
 
-/// All lines, in the order of the numbers of their first words.
+/// Returns all lines, in the order of the numbers of their first words.
 pub fn made_lines(alloc: Global) -> Result<Vec<Text>, AllocError>
     ensures { IfOk result (λ v. v.items ≡ all_lines) }
 {
@@ -37,7 +37,7 @@ pub fn made_lines(alloc: Global) -> Result<Vec<Text>, AllocError>
     Ok(lines)
 }
 
-/// The bytes of a file.
+/// Returns the bytes of a file.
 pub fn file_bytes(
     alloc: Global,
     lines: &[Text],
@@ -58,10 +58,10 @@ pub fn file_bytes(
     Ok(bytes)
 }
 
-// The most bytes of a file that is shown.
+// The greatest number of bytes of a file that is shown.
 const MOST_BYTES: usize = 4_194_304;
 
-/// What a file of these bytes shows.
+/// Returns what a file of these bytes shows.
 pub fn shown_bytes(alloc: Global, bytes: Vec<u8>) -> FileBytes
     ensures { IsShown bytes.items result }
 {

@@ -25,7 +25,7 @@ fn file_text(file: u32) -> ShortText
     path
 }
 
-// The number behind the last letter that is this one, where the rest of the path is a number.
+// The number after the last occurrence of this letter, if all that follows it is a number.
 fn number_behind(path: &str, letter: char) -> Option<u32>
     requires { (letter ≡ 100) ⊎ (letter ≡ 102) }
     ensures some { (prefix : List ℕ) (n : ℕ) → n < 20000 → path.now ≡ prefix ++ letter ∷ decimal n → result ≡ Some n }
@@ -40,7 +40,8 @@ fn number_behind(path: &str, letter: char) -> Option<u32>
     Some(number as u32)
 }
 
-/// The number of the directory below the root that has this path, in the tree of so many files.
+/// Returns the number of the directory below the root that has this path, in the tree of `files`
+/// files.
 pub fn dir_number(path: &str, files: u32) -> Option<u32>
     requires { files ≤ 20000 }
     ensures some { IfSome result (λ k. (k < dir_count files) × (path.now ≡ dir_path k)) }
@@ -55,7 +56,7 @@ pub fn dir_number(path: &str, files: u32) -> Option<u32>
     None
 }
 
-/// The number of the file that has this path, in the tree of so many files.
+/// Returns the number of the file that has this path, in the tree of `files` files.
 pub fn file_number(path: &str, files: u32) -> Option<u32>
     requires { files ≤ 20000 }
     ensures some { IfSome result (λ i. (i < files) × (path.now ≡ file_path i)) }

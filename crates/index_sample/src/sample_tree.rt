@@ -8,7 +8,8 @@ use crate::paths::file_number;
 use firefly_outside::{Entry, FileBytes, Text, Tree, TreeError};
 use std::alloc::{AllocError, Global};
 
-/// The sample tree of a seed and a number of files, with the calls made. What is asked for is made then.
+/// The sample tree of a seed and a number of files, with the calls made. Listings and files are
+/// made when they are asked for.
 #[derive(Drop)]
 pub struct SampleTree {
     alloc: Global,
@@ -29,7 +30,8 @@ impl SampleTree {
     ghost use Rattle.firefly_outside.specs.Seen.{no_calls};
     ghost use Rattle.index_sample.specs.Shown.{tree_of, calls_of, faults_of};
 
-    /// The sample tree of at most 20,000 files, with no call made.
+    /// Returns the sample tree of at most 20,000 files, with no call made. Fails only if there is
+    /// no memory.
     pub fn new(alloc: Global, seed: u64, files: u32) -> Result<SampleTree, AllocError>
         requires { files ≤ 20000 }
         ensures tree { IfOk result (λ s. IsSampleTree seed files (tree_of s)) }
@@ -48,7 +50,7 @@ impl SampleTree {
         })
     }
 
-    /// A copy of the tree, with no call made.
+    /// Returns a copy of the tree, with no call made. Fails only if there is no memory.
     pub fn fork(&self, alloc: Global) -> Result<SampleTree, AllocError>
         ensures tree { IfOk result (λ s. tree_of s ≡ tree_of self.now) }
         ensures calls { IfOk result (λ s. calls_of s ≡ no_calls) }
@@ -70,7 +72,7 @@ impl SampleTree {
 impl SampleTree {
     ghost use Rattle.index_sample.specs.Shown.{Fails};
 
-    // Notes a call that failed, for which memory may want.
+    // Notes a call that failed, for which memory may run out.
     fn fail(&mut self, path: Text) -> TreeError
         ensures { Fails self.old self.new path result }
     {

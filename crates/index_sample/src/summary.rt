@@ -9,7 +9,8 @@ use arrayvec::ArrayString;
 use firefly_outside::{Sink, SinkFault, put_all};
 use itoa::Buffer;
 
-/// The files, directories (the root counted), distinct words and entries of an index, and the sum of the counts of all entries.
+/// The numbers of files, of directories with the root, of distinct words and of entries of an
+/// index, and the sum of the counts of all entries.
 #[derive(Clone, Copy, Debug, PartialEq, Eq)]
 pub struct SampleSums {
     pub files: u64,
@@ -49,7 +50,8 @@ fn lines_of(sums: &SampleSums) -> Lines
     lines
 }
 
-/// Writes the five lines. It takes no memory.
+/// Writes the five lines. Allocates no memory. Fails if a write fails, and may then have written a
+/// prefix.
 pub fn print_summary<O: Sink>(sums: &SampleSums, out: &mut O) -> Result<(), SinkFault>
     ensures ok { OnOk result (Appends (O.held out.old) (O.held out.new) (summary_text sums.now)) }
     ensures err { OnErr result (AppendsPrefix (O.held out.old) (O.held out.new) (summary_text sums.now)) }

@@ -11,7 +11,7 @@ use std::sync::Wait;
 use std::thread::Threads;
 use word_index::Piece;
 
-// The sums of the index of so many files.
+// The sums of the index of `files` files.
 fn sums_of(piece: &Piece, files: u32) -> SampleSums
     ensures { Sums files piece.now result }
 {
@@ -24,7 +24,7 @@ fn sums_of(piece: &Piece, files: u32) -> SampleSums
     }
 }
 
-// The sums of an index that was answered, or want of memory.
+// The sums of the index, unless memory ran out.
 fn summed(answer: IndexAnswer, files: u32) -> Result<SampleSums, AllocError>
     requires { IsDoneOrMemory answer }
     ensures { IfOk result (SumsAnswer files answer) }
@@ -41,7 +41,8 @@ fn summed(answer: IndexAnswer, files: u32) -> Result<SampleSums, AllocError>
     }
 }
 
-/// The sums of the index of the sample tree of 1 to 20,000 files, made by two walkers, two parsers and one merger. It may wait.
+/// Returns the sums of the index of the sample tree of 1 to 20,000 files, made by two walkers, two
+/// parsers and one merger. It may wait. Fails only if there is no memory.
 pub fn index_summary<R: Threads + Wait + Sync>(
     rt: &R,
     alloc: Global,

@@ -5,7 +5,7 @@ ghost use Rattle.index_sample.specs.Trees.{AreSamples};
 use crate::sample_tree::SampleTree;
 use std::alloc::{AllocError, Global};
 
-/// The sample tree for two walkers, two parsers and the closing walk.
+/// Makes the sample tree for two walkers, two parsers and the closing walk.
 pub fn five_trees(
     alloc: Global,
     seed: u64,

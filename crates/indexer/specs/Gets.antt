@@ -19,7 +19,7 @@ pub record More : Type 0 where
 abbrev pub nothing : More
 nothing = record { took = []; put = []; files_put = []; files_taken = []; pieces_put = []; pieces_taken = [] }
 
--- the share r is s with this more
+-- the share r is s and this in addition
 pub record Grows (root : Path) (more : More) (s r : Share) : Type 0 where
   pub took : r.took ≡ more.took ++ s.took
   pub put : r.put ≡ more.put ++ s.put
@@ -28,44 +28,45 @@ pub record Grows (root : Path) (more : More) (s r : Share) : Type 0 where
   pub pieces_put : paths_put root 2 r ≡ more.pieces_put ++ paths_put root 2 s
   pub pieces_taken : paths_taken root 2 r ≡ more.pieces_taken ++ paths_taken root 2 s
 
--- the share of the thread grew so from a to b
+-- the share of the thread grew by this from a to b
 abbrev pub Gets : Run → More → Worker → Worker → Type 0
 Gets p more a b = (s : Share) → a.share ≡ Some s → (r : Share) × (b.share ≡ Some r) × Grows p.world more s r
 
--- the thread called, and its share grew so
+-- the thread made a call, by which its share grew by this
 pub record Makes (p : Run) (more : More) (a b : Worker) : Type 0 where
   pub called : (o : Option Told) (root : Path) (m : ℕ) → HasCalled o root [] p m 0 a b
   pub gets : Gets p more a b
 
--- the thread counted so many files more
+-- the thread counted this many more files
 abbrev pub Counts : ℕ → Worker → Worker → Type 0
 Counts files a b = (s : Share) → a.share ≡ Some s → (r : Share) × (b.share ≡ Some r) × (r.files ≡ s.files + files)
 
--- the share of the thread is such
+-- P holds of the share of the thread
 abbrev pub OfShare : Worker → (Share → Type 0) → Type 0
 OfShare a P = (s : Share) → a.share ≡ Some s → P s
 
--- children of directories that the thread took, which it may put: none is among those that it put, and none twice
+-- children of directories that the thread took, which it may put: it has put none of them yet, and
+-- none is here twice
 pub record MayPutAll (found put : List Path) (s : Share) : Type 0 where
   pub from : All (IsChildOfTook s) found
   pub once : AreDistinct found
   pub new : AreDisjoint found put
 
--- directories found may be put into the list, and files into their buffer
+-- the directories found may be put into the list, and the files into their buffer
 pub record MayGive (root : Path) (ds fs : List Path) (s : Share) : Type 0 where
   pub dirs : MayPutAll ds s.put s
   pub files : MayPutAll fs (paths_put root 1 s) s
 
--- the file is new to the thread, and lies below the root
+-- the file is new to the thread, and is below the root
 pub record IsNewFile (root : Path) (path : Path) (s : Share) : Type 0 where
   pub new : ¬ Contains (paths_taken root 1 s) path
   pub below : IsBelow root path
 
--- the files of a piece that the buffer took
+-- the files of a piece that went into the buffer
 abbrev pub given : Path → Option Index → Index → List Path
 given root None piece = covered root piece
 given root (Some back) piece = []
 
--- what a thread may get as it changes the list of directories
+-- what a thread may get in addition as it changes the list of directories
 abbrev pub moved_more : List Path → List Path → More
 moved_more gone come = record nothing { took = gone; put = come }

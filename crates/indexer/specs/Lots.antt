@@ -10,20 +10,20 @@ use Rattle.index_findings.specs.Pieces.{IsFilesPiece}
 use Rattle.indexer.specs.Turns.{Worker, Run, HasCalled}
 use Rattle.indexer.specs.Walks.{HasDone}
 
--- the worker has called, and gave pieces on or kept them with others
+-- the worker made a call, and handed pieces on or kept them with others
 pub record HasGiven (tree : Option Told) (root : Path) (p : Run) (m : ℕ) (old new : List Index) (a b : Worker) : Type 0 where
   pub called : HasCalled tree root [] p m 0 a b
   pub kept : All (IsFilesPiece tree root) old → All (IsFilesPiece tree root) new
 
--- these were pieces of the files of a lot, which has these files now
+-- these were pieces of the files of a lot, which now has these files
 pub record HasPassed (tree : Option Told) (root : Path) (p : Run) (m : ℕ) (files : List ReadFile) (old new : List Index) (a b : Worker) :
     Type 0 where
   pub read : AreRead tree files
   pub given : HasGiven tree root p m old new a b
 
 module _ {S : Type 0} (tree : S → Option Told) (weak : S → List Path) (faults : S → ℕ) (calls : S → Calls) (root : Path) where
-  -- a parser took files, read them with the tree into a lot, which has these now, and made pieces of others, which it gave on or kept;
-  -- this failed, if something did, and something may be lost
+  -- a parser took files, read them with the tree into a lot, which now has these, and made pieces
+  -- of others, which it handed on or kept; this failed, if anything did, and something may be lost
   pub record HasParsed (p : Run) (old new : S) (files : List ReadFile) (held more : List Index) (a b : Worker) (fault : Option Fault)
       (lost : Bool) : Type 0 where
     pub tree_stays : tree new ≡ tree old

@@ -1,4 +1,4 @@
--- Each directory listed once, and each file read once.
+-- Each directory is listed once, and each file is read once.
 use Rattle.std.specs.Prelude.{◌≡◌, ◌≢◌, ◌↔◌, ℕ, ◌<◌, List, ◌++◌, length, Option, Some, None, IfSome, Contains, AllPairs, slice_index_or}
 use Rattle.std.specs.List.{flat_map}
 use Rattle.std.proofs.Common.{suc}
@@ -19,13 +19,15 @@ abbrev pub joined : List (List Path) → List Path
 joined lists = flat_map (λ ps. ps) lists
 
 module _ {S : Type 0} (calls : S → Calls) where
-  -- a list of paths for each of the first n trees and the next: those that were listed on it since, or read
+  -- a list of paths for each of the first n trees and the next: those that were listed or read on
+  -- it since
   pub record AreSince (of : Calls → List Path) (n : ℕ) (old new : List (Option S)) (lists : List (List Path)) : Type 0 where
     pub many : length lists ≡ suc n
     pub since : (k : ℕ) (s r : S) (paths : List Path) → slice_index_or old k None ≡ Some s → slice_index_or new k None ≡ Some r
         → get_elem? lists k ≡ some paths → of (calls r) ≡ of (calls s) ++ paths
 
-  -- over these trees together the directories under the root were listed since, each once, and the files under it were read, each once
+  -- over these trees together the directories under the root were listed since, each once, and the
+  -- files under it were read, each once
   pub record IsEachOnce (t : Told) (root : Path) (n : ℕ) (old new : List (Option S)) : Type 0 where
     pub listed : List (List Path)
     pub listed_since : AreSince (λ c. c.listed) n old new listed
@@ -36,8 +38,8 @@ module _ {S : Type 0} (calls : S → Calls) where
     pub read_once : AllPairs (λ p q. p ≢ q) (joined read)
     pub read_all : (p : Path) → IsUnder t root File p ↔ Contains (joined read) p
 
-  -- over the first n trees together the directories of these listings were listed since, each once, and the files of these pieces were read,
-  -- each once
+  -- over the first n trees together the directories of these listings were listed since, each once,
+  -- and the files of these pieces were read, each once
   pub record IsWorkedOnce (root : Path) (n : ℕ) (old new : List (Option S)) (visits : List Visit) (pieces : List Index) : Type 0 where
     pub listed : List (List Path)
     pub listed_many : length listed ≡ n
@@ -52,7 +54,8 @@ module _ {S : Type 0} (calls : S → Calls) where
     pub read_once : AllPairs (λ p q. p ≢ q) (joined read)
     pub read_all : (p : Path) → IsCoveredFile root pieces p ↔ Contains (joined read) p
 
-  -- where the index is answered and the trees tell, each directory was listed once and each file read once
+  -- if there is an index and the trees' contents are known, each directory was listed once and each
+  -- file read once
   abbrev pub EachOnce : Option Told → Path → ℕ → List (Option S) → List (Option S) → IndexAnswer → Type 0
   EachOnce o root n old new (Done piece closed) = IfSome o (λ t. IsEachOnce t root n old new)
   EachOnce o root n old new (Stopped many) = Unit {0}

@@ -12,10 +12,10 @@ abbrev pub IsPieceItem : Option Told → Path → IndexItem → Type 0
 IsPieceItem tree root (FileItem path) = ⊥
 IsPieceItem tree root (PieceItem piece) = IsFilesPiece tree root piece
 
--- each item that the share says its thread put at this mutex is such an item
+-- each item that the thread put at this mutex, as the share says, fits
 abbrev pub AllPut : (IndexItem → Type 0) → ℕ → Share → Type 0
 AllPut fits m s = All (λ p. fits p.1) (part_of s.notes m).puts
 
--- and each that it took there
+-- and so does each item that it took there
 abbrev pub AllTaken : (IndexItem → Type 0) → ℕ → Share → Type 0
 AllTaken fits m s = All (λ p. fits p.1) (part_of s.notes m).takes

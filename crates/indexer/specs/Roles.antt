@@ -1,11 +1,12 @@
--- What the workers are.
+-- The roles of the workers.
 use Rattle.std.specs.Prelude.{Option, Some, None}
 use Rattle.firefly_outside.specs.declared.tree.Kind.{Kind}
 use Rattle.firefly_outside.specs.declared.tree.Kind.TheVariants.{File, Dir}
 use Rattle.indexer.specs.declared.job.Role.{Role}
 use Rattle.indexer.specs.declared.job.Role.TheVariants.{Walker, Parser, Merger}
 
--- who lists directories on a tree walks, who reads files on one parses, and who has none merges
+-- a worker that lists directories on a tree is a walker, one that reads files on a tree is a
+-- parser, and one without a tree is a merger
 abbrev pub role_of : {S : Type 0} → Kind → Option S → Role S
 role_of Dir (Some s) = Walker s
 role_of File (Some s) = Parser s

@@ -22,7 +22,8 @@ use Rattle.indexer.specs.Turns.{Worker, Run}
 use Rattle.index_rule.specs.Shares.{Share}
 
 module _ {S : Type 0} (tree : S → Option Told) (weak : S → List Path) (faults : S → ℕ) (calls : S → Calls) (root : Path) where
-  -- the worker k, which is thread k + 1 and had done nothing at first, came by this, and its tree came back
+  -- the worker k, which is thread k + 1 and had done nothing before, found this, and its tree came
+  -- back
   pub record IsFoundBy (walkers n : ℕ) (threads : List Worker) (old new : List (Option S)) (k : ℕ) (found : Findings) : Type 0 where
     pub run : Run
     pub first : Worker
@@ -31,7 +32,8 @@ module _ {S : Type 0} (tree : S → Option Told) (weak : S → List Path) (fault
     pub is_last : get_elem? threads (suc k) ≡ some last
     pub gives : GivesTree tree weak faults calls root run (kind_at walkers k) first last found (tree_at n old k) (tree_at n new k)
 
-  -- the package of the plan was closed so when its workers had ended, and this is what they came by
+  -- the package of the plan was closed like this when its workers had ended, and this is what they
+  -- found
   pub record HasRun (plan : Plan) (old new : List (Option S)) (closed : Ended IndexValue Share Path) (findings : List Findings) : Type 0
     where
       pub layout : closed.layout ≡ layout_of plan

@@ -1,4 +1,4 @@
--- What an index run answers.
+-- The answers of an index run.
 use Rattle.std.specs.Prelude.{◌≡◌, ℕ, ◌+◌, ◌<◌, ◌≤◌, true, false, List, ◌++◌, length, Option, Some, None, IfSome, Contains, slice_index_or}
 use Rattle.std.proofs.Common.{suc}
 use mathlib.Core.Option.{some}
@@ -22,7 +22,7 @@ use Rattle.indexer.specs.Plans.{layout_of}
 use Rattle.indexer.specs.Turns.{Worker, release_count}
 use Rattle.index_rule.specs.Shares.{Share}
 
--- all trees tell this tree, or none tells
+-- all trees have the contents o, or those of none are known
 abbrev pub AllTell : {S : Type 0} → (S → Option Told) → Option Told → List (Option S) → Type 0
 AllTell {S} tree o trees = (k : ℕ) (s : S) → slice_index_or trees k None ≡ Some s → tree s ≡ o
 
@@ -30,7 +30,7 @@ AllTell {S} tree o trees = (k : ℕ) (s : S) → slice_index_or trees k None ≡
 abbrev pub IsStop : Option ℕ → ℕ → Type 0
 IsStop stop many = (n : ℕ) × (stop ≡ Some n) × (many ≡ n + 1)
 
--- what an answer says of a tree that tells
+-- what an answer says of a tree whose contents are known
 abbrev pub WalkSays : Option Told → Path → Option ℕ → WalkAnswer → Type 0
 WalkSays o root stop (Done piece) = IfSome o (λ t. IsWhole t root stop piece)
 WalkSays o root stop (Stopped many) = IsStop stop many × IfSome o (λ t. AreMany t root File many)
@@ -38,13 +38,13 @@ WalkSays o root stop (ReadFault path) = IfSome o (λ t. (kind : Kind) × IsUnder
 WalkSays o root stop (TooMany many) = (many ≡ most_dirs + 1) × IfSome o (λ t. AreMany t root Dir many)
 WalkSays o root stop Memory = Unit {0}
 
--- the closed package of the plan: its trace is there where the plan says so, and then it is the whole history
+-- the closed package of the plan: there is a trace if the plan says so, and it is the whole history
 pub record IsRunOf (plan : Plan) (c : Ended IndexValue Share Path) : Type 0 where
   pub layout : c.layout ≡ layout_of plan
   pub untraced : plan.traced ≡ false → c.trace ≡ None
   pub traced : plan.traced ≡ true → (h : List Event) × (c.trace ≡ Some h) × IsWholeHistory (layout_of plan) c.threads h
 
--- what a run answers where its closing walk answered this
+-- the answer of a run whose closing walk gave this answer
 abbrev pub answer_of : WalkAnswer → Ended IndexValue Share Path → IndexAnswer
 answer_of (Done piece) closed = IndexDone piece closed
 answer_of (Stopped many) closed = IndexStopped many
@@ -52,7 +52,7 @@ answer_of (ReadFault path) closed = IndexReadFault path
 answer_of (TooMany many) closed = IndexTooMany many
 answer_of Memory closed = IndexMemory
 
--- the same of a run, and what Done says of its package
+-- the same for a run, and what Done says of its package
 abbrev pub IndexSays : Option Told → Path → Plan → IndexAnswer → Type 0
 IndexSays o root plan (IndexDone piece closed) = WalkSays o root plan.stop_after (Done piece) × IsRunOf plan closed
 IndexSays o root plan (IndexStopped many) = WalkSays o root plan.stop_after (Stopped many)
@@ -60,7 +60,7 @@ IndexSays o root plan (IndexReadFault path) = WalkSays o root plan.stop_after (R
 IndexSays o root plan (IndexTooMany many) = WalkSays o root plan.stop_after (TooMany many)
 IndexSays o root plan IndexMemory = Unit {0}
 
--- directories alone were listed, no more than the times that the thread released mutex 0
+-- only directories were listed, no more often than the thread released mutex 0
 pub record OnlyLists (before now : Calls) (thread : Worker) : Type 0 where
   pub dirs : List Path
   pub listed : now.listed ≡ before.listed ++ dirs
@@ -68,7 +68,7 @@ pub record OnlyLists (before now : Calls) (thread : Worker) : Type 0 where
   pub failed : now.failed ≡ before.failed
   pub times : length dirs ≤ release_count 0 thread.mine
 
--- files alone were read, no more than the times that the thread released mutex 1
+-- only files were read, no more often than the thread released mutex 1
 pub record OnlyReads (before now : Calls) (thread : Worker) : Type 0 where
   pub files : List Path
   pub listed : now.listed ≡ before.listed
@@ -81,7 +81,7 @@ abbrev pub OnlyCalls : Kind → Calls → Calls → Worker → Type 0
 OnlyCalls Dir before now thread = OnlyLists before now thread
 OnlyCalls File before now thread = OnlyReads before now thread
 
--- the path is among those at which calls failed since
+-- calls have failed at the path since
 pub record FailsSince (before now : Calls) (path : Path) : Type 0 where
   pub more : List Path
   pub failed : now.failed ≡ before.failed ++ more
@@ -94,32 +94,37 @@ module _ {S : Type 0} (tree : S → Option Told) (weak : S → List Path) (fault
     pub same_weak : weak r ≡ weak s
     pub count : faults s ≤ faults r
 
-  -- the workers' trees are the first n, and the closing walk's is the next: they are back, and no other was touched
+  -- the workers' trees are the first n, and the next is the closing walk's: these came back, and no
+  -- other was touched
   pub record AreBack (n : ℕ) (old new : List (Option S)) : Type 0 where
     pub workers : (k : ℕ) (s : S) → k < n → slice_index_or old k None ≡ Some s → (r : S) × (slice_index_or new k None ≡ Some r) × IsBack s r
     pub closing : (s : S) → slice_index_or old n None ≡ Some s → (r : S) × (slice_index_or new n None ≡ Some r) × IsBack s r
     pub others : (i : ℕ) (d : Option S) → n < i → slice_index_or new i d ≡ slice_index_or old i d
 
-  -- where memory wants: what stands at a place is its own tree, and came back so; the closing walk's is back, and no tree behind it was touched
+  -- if memory ran out: each tree that is left is in its own place, and came back as it was; the
+  -- closing walk's is back, and no tree after it was touched
   pub record AreLeft (n : ℕ) (old new : List (Option S)) : Type 0 where
     pub own : (k : ℕ) (r : S) → slice_index_or new k None ≡ Some r → (s : S) × (slice_index_or old k None ≡ Some s) × IsBack s r
     pub closing : (s : S) → slice_index_or old n None ≡ Some s → (r : S) × (slice_index_or new n None ≡ Some r) × IsBack s r
     pub others : (i : ℕ) (d : Option S) → n < i → slice_index_or new i d ≡ slice_index_or old i d
 
-  -- the tree of the worker k, which is thread k + 1: its count didn't rise, and only calls of this kind were made on it
+  -- the tree of the worker k, which is thread k + 1: its count didn't rise, and only calls of this
+  -- kind were made on it
   pub record IsUsedBy (kind : Kind) (threads : List Worker) (k : ℕ) (s r : S) : Type 0 where
     pub none_rose : faults r ≡ faults s
     pub thread : Worker
     pub is_thread : get_elem? threads (suc k) ≡ some thread
     pub calls_only : IfSome (tree s) (λ t. OnlyCalls kind (calls s) (calls r) thread)
 
-  -- no count rose; the trees of the walkers, who come first, were only listed, and those of the parsers only read
+  -- no count rose; the trees of the walkers, which come first, were only listed, and those of the
+  -- parsers only read
   pub record AreUsed (walkers n : ℕ) (threads : List Worker) (old new : List (Option S)) : Type 0 where
     pub workers : (k : ℕ) (s r : S) → k < n → slice_index_or old k None ≡ Some s → slice_index_or new k None ≡ Some r
         → IsUsedBy (kind_at walkers k) threads k s r
     pub closing : (s r : S) → slice_index_or old n None ≡ Some s → slice_index_or new n None ≡ Some r → faults r ≡ faults s
 
-  -- a tree's count rose, and where it tells, a call on it failed at this path since: it lies under the root, and may fail or isn't there as its entry says
+  -- a tree's count rose, and if its contents are known, a call on it has failed at this path since:
+  -- the path is under the root, and may fail or isn't there as its entry says
   pub record IsCausedAt (root : Path) (old new : List (Option S)) (path : Path) : Type 0 where
     pub place : ℕ
     pub s : S
@@ -136,7 +141,7 @@ module _ {S : Type 0} (tree : S → Option Told) (weak : S → List Path) (fault
   HasCause root old new (IndexTooMany many) = Unit {0}
   HasCause root old new IndexMemory = Unit {0}
 
-  -- the trees after a run of so many walkers and n workers with a tree, by its answer
+  -- the trees after a run of `walkers` walkers and n workers with a tree, by its answer
   abbrev pub TreesAfter : ℕ → ℕ → List (Option S) → List (Option S) → IndexAnswer → Type 0
   TreesAfter walkers n old new (IndexDone piece closed) = AreBack n old new × AreUsed walkers n closed.threads old new
   TreesAfter walkers n old new (IndexStopped many) = AreBack n old new

@@ -1,4 +1,4 @@
--- What the share of a worker says of what the worker has so far.
+-- What the share of a worker says of the worker's findings so far.
 use Rattle.std.specs.Prelude.{◌≡◌, ◌⊎◌, ◌+◌, ◌≤◌, Bool, true, false, List, [], ◌∷◌, ◌++◌, map, Contains, All, Result, Ok, Err}
 use Rattle.std.specs.declared.alloc.AllocError.{AllocError}
 use Rattle.std.specs.List.{flat_map}
@@ -17,7 +17,8 @@ use Rattle.index_rule.specs.Counting.{times}
 use Rattle.index_rule.specs.Distinct.{AreDisjoint, AreDistinct}
 use Rattle.index_rule.specs.Shares.{Share, covered, paths_put, paths_taken}
 
--- a walker listed directories that it took, each once; what it put was found in its listings; and it did nothing with pieces
+-- a walker listed directories that it took, each once; what it put was found in its listings; and
+-- it did nothing with pieces
 pub record HasWalked (root : Path) (visits : List Visit) (s : Share) : Type 0 where
   pub lawful : All (λ v. IsListingOf v.dir v.listing) visits
   pub once : AreDistinct (dirs_listed visits)
@@ -27,7 +28,7 @@ pub record HasWalked (root : Path) (visits : List Visit) (s : Share) : Type 0 wh
   pub no_pieces : paths_put root 2 s ≡ []
   pub no_merges : paths_taken root 2 s ≡ []
 
--- a directory was listed, and its listing was kept; these are the directories and files found there
+-- a directory was listed, and its listing was kept; these are the directories and files found in it
 pub record KeepsListing (dir : Path) (old new : List Visit) (ds fs : List Path) : Type 0 where
   pub listing : Listing
   pub lawful : IsListingOf dir listing
@@ -35,12 +36,13 @@ pub record KeepsListing (dir : Path) (old new : List Visit) (ds fs : List Path) 
   pub dirs : ds ≡ listing.dirs.items
   pub files : fs ≡ listing.files.items
 
--- the files in the hands of a parser, or in pieces that it put: those of the lot, of the pieces that it kept, and of those that it put
+-- the files that a parser has, or has put in pieces: those of the lot, of the pieces that it kept,
+-- and of those that it put
 abbrev pub accounted : Path → List Path → List Index → Share → List Path
 accounted root lot kept s = lot ++ (flat_map (covered root) kept ++ paths_put root 2 s)
 
--- a parser has each of these files once, and took it from the buffer; unless something was lost they are those that it read; and it did
--- nothing else
+-- a parser has each of these files once, and took it from the buffer; unless something was lost
+-- they are the files that it read; and it did nothing else
 pub record HasGathered (root : Path) (lot : List Path) (kept : List Index) (files : List Path) (lost : Bool) (s : Share) : Type 0 where
   pub once : AreDistinct (accounted root lot kept s)
   pub took : All (Contains (paths_taken root 1 s)) (accounted root lot kept s)
@@ -52,14 +54,16 @@ pub record HasGathered (root : Path) (lot : List Path) (kept : List Index) (file
   pub no_files : paths_put root 1 s ≡ []
   pub no_merges : paths_taken root 2 s ≡ []
 
--- pieces were given on: of their files and those of the pieces that were kept, these were put, and the others are kept; unless something was lost, all
+-- pieces were handed on: of their files and those of the pieces that were kept, these were put, and
+-- the others are kept; all of them, unless something was lost
 pub record IsPassedOn (root : Path) (new put : List Path) (old kept : List Index) (all : Bool) : Type 0 where
   pub among : All (Contains new) put
   pub most : (p : Path) → times p (flat_map (covered root) kept) + times p put ≤ times p new + times p (flat_map (covered root) old)
   pub same : all ≡ true → (p : Path)
       → times p (flat_map (covered root) kept) + times p put ≡ times p new + times p (flat_map (covered root) old)
 
--- pieces that may be put: the thread took each of their files, and they have none twice, and none that was put
+-- pieces that may be put: the thread took each of their files, and none of these is in them twice,
+-- or was put
 pub record MayPutPieces (root : Path) (pieces : List Index) (s : Share) : Type 0 where
   pub took : All (Contains (paths_taken root 1 s)) (flat_map (covered root) pieces)
   pub once : AreDistinct (flat_map (covered root) pieces)
@@ -73,7 +77,8 @@ ReadsInto path old new more lost = ((more ≡ path ∷ []) × (new ≡ old ++ pa
 abbrev pub lot_paths : List ReadFile → List Path
 lot_paths files = map (λ f. f.path) files
 
--- a merger's pieces have no file twice, and cover files of the pieces that it took, and unless something was lost all of them; and it did nothing else
+-- a merger's pieces have no file twice, and cover only files of the pieces that it took, and all of
+-- those unless something was lost; and it did nothing else
 pub record HasMerged (root : Path) (kept : List Index) (lost : Bool) (s : Share) : Type 0 where
   pub apart : AreApart kept
   pub held : (name : Path) → IsCovered kept name → Contains (paths_taken root 2 s) (child root name)

@@ -1,4 +1,4 @@
--- What a take gives.
+-- What a take returned.
 use Rattle.std.specs.Prelude.{ℕ, List, [], ◌∷◌, Result, Ok, Err, Option, Some, None}
 use Rattle.bounded_buffer.specs.declared.ends.TakeEnd.{TakeEnd}
 use Rattle.firefly_outside.specs.Trees.{Path}
@@ -12,7 +12,7 @@ piece_of (Ok (n, File path)) = []
 piece_of (Ok (n, Piece piece)) = piece ∷ []
 piece_of (Err e) = []
 
--- the same where it was told apart
+-- the same, after files and pieces were told apart
 abbrev pub piece_in : Result Index TakeEnd → List Index
 piece_in (Ok piece) = piece ∷ []
 piece_in (Err e) = []

@@ -1,4 +1,4 @@
--- A worker between its calls, and while it has the list of directories.
+-- A worker between its calls, and while it holds the list of directories.
 use Rattle.std.specs.Prelude.{◌≡◌, ℕ, ◌+◌, ◌≤◌, Bool, false, eqb, List, [], ◌∷◌, ◌++◌, count_by, slice_set, Option, Some, All}
 use Rattle.firefly_outside.specs.Trees.{Path, Told}
 use Rattle.larch_actions.specs.declared.event.Event.{Event}
@@ -27,7 +27,7 @@ abbrev pub releases : ℕ → Action → Bool
 releases m (Release k) = eqb k.0 m
 releases m _ = false
 
--- how often mutex m was released
+-- how often the mutex m was released
 abbrev pub release_count : ℕ → List Event → ℕ
 release_count m es = count_by (λ e. releases m e.action) es
 
@@ -36,22 +36,25 @@ pub record HasLists (l : Layout) : Type 0 where
   pub mutexes : l.mutexes ≡ 3
   pub conditions : l.conditions ≡ 5
 
--- a share goes from s to r: where all that its thread had put at the buffer of pieces were pieces of the tree, so is all now;
--- and where all that it has taken there is, so was all before, and so are these pieces
+-- a share goes from s to r: if its thread had put only pieces of the tree at the buffer of pieces,
+-- this still holds; and if it has taken only such pieces there, this held before too, and these
+-- pieces are among them
 pub record Passes (tree : Option Told) (root : Path) (pieces : List Index) (s r : Share) : Type 0 where
   pub puts : AllPut (IsPieceItem tree root) 2 s → AllPut (IsPieceItem tree root) 2 r
   pub takes : AllTaken (IsPieceItem tree root) 2 r → AllTaken (IsPieceItem tree root) 2 s × All (IsFilesPiece tree root) pieces
 
--- who was between two calls is so again
+-- a thread that was between two calls is so again
 abbrev pub ComesBack : Option Told → Path → List Index → Run → Worker → Worker → Type 0
 ComesBack tree root pieces p a b = (n : ℕ) (s : Share) → IsIdle p n s a → (r : Share) × IsIdle p n r b × Passes tree root pieces s r
 
--- the worker is between two calls again, has these pieces, and has released mutex m at least so many times more
+-- the worker is between two calls again, has these pieces, and has released the mutex m at least k
+-- more times
 pub record HasCalled (tree : Option Told) (root : Path) (pieces : List Index) (p : Run) (m k : ℕ) (a b : Worker) : Type 0 where
   pub back : ComesBack tree root pieces p a b
   pub times : k + release_count m a.mine ≤ release_count m b.mine
 
--- since a the worker has taken the list of directories and nothing else; it has it in b, with this value
+-- since a the worker has acquired the list of directories and nothing else; it holds it in b, with
+-- this value
 pub record HasList (p : Run) (a : Worker) (x : IndexValue) (b : Worker) : Type 0 where
   pub rest : AtRest p b
   pub same : IsSame a b
@@ -71,7 +74,7 @@ pub record IsAs (x : IndexValue) (d : DirsInWork) : Type 0 where
   pub dirs : d.found.dirs ≡ dirs_of x
   pub files : d.found.files ≡ files_of x
 
--- the last that the thread did was to wake all who wait for the list of directories
+-- the last thing that the thread did was to wake all threads that wait for the list of directories
 abbrev pub HasWoken : Worker → Type 0
 HasWoken b = (es : List Event) × (b.mine ≡ es ++ event b.number (broadcast_action 0 []) ∷ [])
 

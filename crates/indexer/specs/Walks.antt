@@ -1,4 +1,4 @@
--- What a worker with a tree has done.
+-- The calls that a worker with a tree has made.
 use Rattle.std.specs.Prelude.{◌≡◌, ◌⊎◌, ℕ, ◌+◌, ◌≤◌, Bool, true, false, List, [], ◌∷◌, ◌++◌, length, map, Option, Some, None, IfSome, Contains, All, Result, Ok, Err}
 use Rattle.firefly_outside.specs.Causes.{Rose}
 use Rattle.firefly_outside.specs.Trees.{Path, Told, Calls}
@@ -14,17 +14,17 @@ use Rattle.indexer.specs.declared.work_end.WorkEnd.{WorkEnd}
 use Rattle.indexer.specs.declared.work_end.WorkEnd.TheVariants.{Over, Lost, Failed}
 use Rattle.indexer.specs.Turns.{Worker, Run, ComesBack, release_count}
 
--- the listing is one of its directory, and where the tree tells, the tree's own
+-- the listing is one of its directory, and the tree's own if the tree's contents are known
 pub record IsVisit (tree : Option Told) (v : Visit) : Type 0 where
   pub lawful : IsListingOf v.dir v.listing
   pub told : IfSome tree (λ t. IsToldBy t v.dir v.listing)
 
--- the count rose where a path failed, and else stays
+-- the count rose if a path failed, and stays otherwise
 abbrev pub FaultCounts : ℕ → ℕ → Option Fault → Type 0
 FaultCounts before now None = now ≡ before
 FaultCounts before now (Some fault) = (before ≤ now) × Rose before now
 
--- the path may fail, or isn't in the tree as what it was asked for
+-- the path may fail, or is in the tree, if at all, as something of another kind
 abbrev pub MayFail : List Path → Told → Fault → Type 0
 MayFail weak t fault = Contains weak (path_of fault) ⊎ ¬ IsThere t (kind_of fault) (path_of fault)
 
@@ -47,8 +47,9 @@ abbrev pub HasKept : Kind → List Path → List Visit → Type 0
 HasKept Dir paths visits = paths ≡ map (λ v. v.dir) visits
 HasKept File paths visits = Unit {0}
 
--- directories were listed, or files read, and nothing else was done, but that this failed, if something did; the mutex was released for
--- each of them before, and so many times more; and where nothing was lost, each listing was kept
+-- directories were listed, or files read, and nothing else was done, except that this failed, if
+-- anything did; the mutex was released before each of them, and `spare` more times; and if nothing
+-- was lost, each listing was kept
 pub record CalledOnly (kind : Kind) (weak : List Path) (before now : Calls) (visits : List Visit) (fault : Option Fault) (lost : Bool)
     (spare : ℕ) (a b : Worker) (t : Told) : Type 0 where
   pub paths : List Path
@@ -57,8 +58,8 @@ pub record CalledOnly (kind : Kind) (weak : List Path) (before now : Calls) (vis
   pub may : IfSome fault (MayFail weak t)
   pub times : length paths + spare + release_count (mutex_of kind) a.mine ≤ release_count (mutex_of kind) b.mine
 
--- the worker came from a to b by calls of one kind on its tree, and has these listings and pieces; this failed, if something did, and
--- something may be lost
+-- the worker went from a to b by calls of one kind on its tree, and has these listings and pieces;
+-- this failed, if anything did, and something may be lost
 pub record HasDone (kind : Kind) (tree : Option Told) (root : Path) (weak : List Path) (count then_count : ℕ) (before now : Calls) (p : Run)
     (spare : ℕ) (a b : Worker)
     (visits : List Visit) (pieces : List Index) (fault : Option Fault) (lost : Bool) : Type 0 where
@@ -67,7 +68,7 @@ pub record HasDone (kind : Kind) (tree : Option Told) (root : Path) (weak : List
   pub counts : FaultCounts count then_count fault
   pub told : IfSome tree (CalledOnly kind weak before now visits fault lost spare a b)
 
--- what failed, if something did
+-- what failed, if anything did
 abbrev pub fault_in : WorkEnd → Option Fault
 fault_in Over = None
 fault_in Lost = None

@@ -1,4 +1,4 @@
-//! The workers, all at once.
+//! The workers, at work all at once.
 ghost use Rattle.std.specs.Prelude.{◌≡◌, ◌≤◌, ◌<◌, [], length, IfOk, OnErr, Option};
 ghost use Rattle.firefly_outside.specs.Trees.{Path, Told};
 ghost use Rattle.nub_rule.specs.Items.{Each};
@@ -21,8 +21,9 @@ use std::alloc::{AllocError, Global};
 use std::sync::Wait;
 use std::thread::Threads;
 
-// Lets each job be worked on, all at once, at most the first `starts` in threads. Where a worker wasn't started, the caller meanwhile shuts
-// all, since that worker will be run here when the others have ended.
+// Lets each job be worked on, all at once, at most the first `starts` in operating-system threads
+// of their own. If some workers weren't started, the caller first shuts all, since it runs these
+// workers itself once the others have been started.
 fn run_jobs<R: Threads + Wait + Sync, S: Tree, G: BeforeStart>(
     rt: &R,
     alloc: Global,
@@ -74,12 +75,14 @@ fn run_jobs<R: Threads + Wait + Sync, S: Tree, G: BeforeStart>(
     }
 }
 
-/// Lets the workers work, all at once, each with a thread of those behind the first, which is the caller's; the first of them have a tree
-/// each, and of these the first are walkers. It answers the threads, and what each worker came by, in the order of the threads.
+/// Lets the workers work, all at once, each with its thread. The first thread is the caller's. The
+/// first workers have a tree each, and of these the first are walkers. Returns the threads, and
+/// what each worker found, in the order of the threads.
 ///
-/// At most the first `starts` workers are started. Where one isn't or can't be, the list and both buffers are shut, and it is run here
-/// once all others were started; what no worker does then is for the closing walk. It blocks until each has ended. On `Err` there was no memory;
-/// each of the first trees is in its place or lost then.
+/// At most the first `starts` workers are started. If one isn't or can't be, the list and both
+/// buffers are shut, and the worker is run here once all others have been started; the closing walk
+/// does what no worker does then. Blocks until each has ended. Fails only if there is no memory,
+/// and then each of the first trees is in its place or lost.
 pub fn run_workers<R: Threads + Wait + Sync, S: Tree, G: BeforeStart>(
     rt: &R,
     alloc: Global,

@@ -11,7 +11,7 @@ use larch_actions::ThreadId;
 use nub_rule::{Package, Thread};
 use std::sync::Wait;
 
-/// Shuts the list of directories and both buffers: who comes after finds nothing to do.
+/// Shuts the list of directories and both buffers: threads that come later find nothing to do.
 pub fn shut_all<R: Wait>(rt: &R, p: &Package<IndexUses>, me: &mut Thread<IndexUses>)
     requires layout { HasLists p.now.layout }
     requires between { IsBetween p.now me.old }
@@ -22,8 +22,8 @@ pub fn shut_all<R: Wait>(rt: &R, p: &Package<IndexUses>, me: &mut Thread<IndexUs
     shut_pieces(rt, p, me);
 }
 
-/// Lets all end soon: shuts the list of directories and both buffers, and alerts each worker. Who is alerted finds all shut, so that it
-/// waits for nothing more.
+/// Lets all workers end soon: shuts the list of directories and both buffers, and alerts each
+/// worker. An alerted worker finds all shut, so it waits for nothing more.
 pub fn cancel<R: Wait>(rt: &R, p: &Package<IndexUses>, me: &mut Thread<IndexUses>)
     requires layout { HasLists p.now.layout }
     requires between { IsBetween p.now me.old }

@@ -21,8 +21,8 @@ const FILES: BufferAt = BufferAt {
     more: CondId(2),
 };
 
-// Puts a file's path into the buffer, and answers whether the thread may go on: it may unless it was alerted. A buffer that is shut takes
-// none.
+// Puts a file's path into the buffer. Returns whether the thread may go on, which it may unless it
+// was alerted. A buffer that is shut takes no path.
 fn put_file<R: Wait>(rt: &R, p: &Package<IndexUses>, me: &mut Thread<IndexUses>, file: Text) -> bool
     requires layout { HasLists p.now.layout }
     requires between { IsBetween p.now me.old }
@@ -38,7 +38,7 @@ fn put_file<R: Wait>(rt: &R, p: &Package<IndexUses>, me: &mut Thread<IndexUses>,
     }
 }
 
-// Whether a put ended since the buffer is shut.
+// Whether a put failed because the buffer is shut.
 fn is_closed(end: PutEnd) -> bool
     ensures { IsTrue result ↔ end ≡ PutEnd.Closed }
 {
@@ -48,10 +48,10 @@ fn is_closed(end: PutEnd) -> bool
     }
 }
 
-/// Puts the paths of files into the buffer, one after the other, and answers whether the thread may go on: it may unless it was alerted. A
-/// buffer that is shut takes none.
+/// Puts the paths of files into the buffer, one after the other. Returns whether the thread may go
+/// on, which it may unless it was alerted. A buffer that is shut takes no path.
 ///
-/// It blocks while another thread has the buffer, and while it is full and open.
+/// Blocks while another thread holds the buffer, and while the buffer is full and open.
 pub fn put_files<R: Wait>(
     rt: &R,
     p: &Package<IndexUses>,
@@ -83,9 +83,10 @@ fn path_in(taken: Result<(u64, IndexItem), TakeEnd>) -> Option<Text>
     }
 }
 
-/// Takes the path of a file that is to be read. None comes where the buffer is shut and empty, and where the thread is alerted.
+/// Takes the path of a file that is to be read. Returns `None` if the buffer is shut and empty, or
+/// if the thread is alerted.
 ///
-/// It blocks while another thread has the buffer, and while it is empty and open.
+/// Blocks while another thread holds the buffer, and while the buffer is empty and open.
 pub fn next_file<R: Wait>(
     rt: &R,
     p: &Package<IndexUses>,
@@ -105,7 +106,7 @@ pub fn next_file<R: Wait>(
     path
 }
 
-/// Shuts the buffer: it takes no more, and gives what it has.
+/// Shuts the buffer: no more can be put, and what it has can still be taken.
 pub fn shut_files<R: Wait>(rt: &R, p: &Package<IndexUses>, me: &mut Thread<IndexUses>)
     requires layout { HasLists p.now.layout }
     requires between { IsBetween p.now me.old }

@@ -1,4 +1,4 @@
-//! Trees are handed to the workers, and come back.
+//! Hands trees to the workers, and gets them back.
 ghost use Rattle.std.specs.Prelude.{◌≡◌, ◌+◌, ◌≤◌, ◌<◌, ◌∷◌, [], ℕ, List, length, map, vec_len, vec_capacity, slice_index_or, IfOk, OnErr, Option, Some, None};
 ghost use Rattle.indexer.specs.Jobs.{AreJobs, kind_at, tree_at};
 ghost use Rattle.indexer.specs.Roles.{tree_of};
@@ -11,7 +11,7 @@ use nub_rule::Thread;
 use std::alloc::{AllocError, Global};
 use std::mem;
 
-/// Puts this at the place, and gives what stood there.
+/// Puts `tree` at the place k, and returns what was there.
 pub fn put_at<S: Drop>(trees: &mut [Option<S>], k: usize, tree: Option<S>) -> Option<S>
     requires { k < length trees.old }
     ensures was { result ≡ slice_index_or trees.old k None }
@@ -55,8 +55,8 @@ fn kind_of_place(walkers: usize, k: usize) -> Kind
     if k < walkers { Kind::Dir } else { Kind::File }
 }
 
-/// A job for each thread; the first of them get the trees, and the first of these are walkers. On `Err` there was no memory, and each tree
-/// is in its place.
+/// Makes a job for each thread; the first of them get the trees, and of these the first are
+/// walkers. Fails only if there is no memory, and then each tree is in its place.
 pub fn jobs_of<S: Drop>(
     alloc: Global,
     threads: Vec<Thread<IndexUses>>,
@@ -78,7 +78,8 @@ pub fn jobs_of<S: Drop>(
     Ok(jobs)
 }
 
-/// Puts the trees back, and answers all threads, the caller's first, in the empty vector that is given.
+/// Puts the trees back, and returns all threads, the caller's first, in the empty vector that is
+/// passed.
 pub fn put_back<S: Drop>(
     caller: Thread<IndexUses>,
     jobs: Vec<Job<S>>,

@@ -25,7 +25,7 @@ use std::sync::Wait;
 use std::thread::Threads;
 use walker::WalkAnswer;
 
-// Decides on the tree at this place, which comes back.
+// Lets the closing walk decide, with the tree at this place, which comes back.
 fn decided_at<S: Tree>(
     alloc: Global,
     root: &str,
@@ -60,7 +60,8 @@ fn decided_at<S: Tree>(
     answer
 }
 
-// What the run answers where its closing walk answered this. The closed package goes with an index alone.
+// The answer of the run, whose closing walk gave this answer. Only an index comes with the closed
+// package.
 fn answered(answer: WalkAnswer, closed: Closed<IndexUses>) -> IndexAnswer
     ensures { result ≡ answer_of answer closed }
 {
@@ -85,14 +86,16 @@ fn answered(answer: WalkAnswer, closed: Closed<IndexUses>) -> IndexAnswer
     }
 }
 
-/// The most workers that a plan has.
+/// The greatest number of workers of a plan.
 const MOST_WORKERS: u32 = 24;
 
-/// The index of all files under the root: walkers list the directories, parsers read the files and mergers put their pieces together, all
-/// at once, the walkers and the parsers each with a tree of its own. A closing walk on the next tree does what they left.
+/// Makes the index of all files under the root: walkers list the directories, parsers read the
+/// files and mergers put their pieces together, all at once, the walkers and the parsers each with
+/// a tree of its own. A closing walk on the next tree does what they left.
 ///
-/// Each parser tells `before_start` once its number, counted from 1, before it takes a file. It blocks until all have ended. A fault that a
-/// worker met is answered before a stop or a limit that was passed too.
+/// Each parser calls `before_start` once with its number, counted from 1, before it takes a file.
+/// Blocks until all have ended. A fault that a worker met is reported even if a stop or a limit was
+/// passed too.
 pub fn index<R: Threads + Wait + Sync, S: Tree, G: BeforeStart>(
     rt: &R,
     alloc: Global,
@@ -115,8 +118,8 @@ pub fn index<R: Threads + Wait + Sync, S: Tree, G: BeforeStart>(
     index_with(rt, alloc, root, plan, trees, before_start, MOST_WORKERS)
 }
 
-/// The index of all files under the root, as `index` makes it, where at most the first `starts` workers, in order of thread number, are
-/// started; each other is taken as one that the system refused to start.
+/// Makes the index as `index` does, but starts at most the first `starts` workers, in order of
+/// thread number. Each other worker is treated as one that the system refused to start.
 pub fn index_with<R: Threads + Wait + Sync, S: Tree, G: BeforeStart>(
     rt: &R,
     alloc: Global,

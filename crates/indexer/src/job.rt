@@ -1,4 +1,4 @@
-//! What one worker begins with.
+//! Workers before they begin.
 ghost use Rattle.std.specs.Prelude.{◌≡◌, Option};
 ghost use Rattle.indexer.specs.Roles.{role_of, tree_of};
 
@@ -6,25 +6,25 @@ use firefly_outside::Kind;
 use index_rule::IndexUses;
 use nub_rule::Thread;
 
-/// What a worker is, with its tree where it has one.
+/// The role of a worker, with its tree if it has one.
 #[derive(Drop)]
 pub enum Role<S: Drop> {
-    /// It lists directories.
+    /// Lists directories.
     Walker(S),
-    /// It reads files, and makes pieces of them.
+    /// Reads files, and makes pieces of them.
     Parser(S),
-    /// It merges pieces.
+    /// Merges pieces.
     Merger,
 }
 
-/// A worker: its thread, and what it is.
+/// A worker: its thread and its role.
 #[derive(Drop)]
 pub struct Job<S: Drop> {
     pub me: Thread<IndexUses>,
     pub role: Role<S>,
 }
 
-/// What a worker is that is to do this with the tree: without one it merges.
+/// Returns the role of a worker that does this with the tree. Without a tree it is a merger.
 pub fn role_with<S: Drop>(kind: Kind, tree: Option<S>) -> Role<S>
     ensures { result ≡ role_of kind tree }
 {
@@ -37,7 +37,7 @@ pub fn role_with<S: Drop>(kind: Kind, tree: Option<S>) -> Role<S>
     }
 }
 
-/// The tree of a worker, where it has one.
+/// Returns the tree of a worker, if it has one.
 pub fn tree_in<S: Drop>(role: Role<S>) -> Option<S>
     ensures { result ≡ tree_of role }
 {

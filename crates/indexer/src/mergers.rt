@@ -19,8 +19,9 @@ use std::alloc::{AllocError, Global};
 use std::sync::Wait;
 use word_index::Piece;
 
-// One turn of a merger: it takes a piece and keeps it with the others. It answers whether more may come. An alert ends nothing: all is shut
-// then, and what the buffer still has is taken. On `Err` the piece is lost, and all workers are to end.
+// One turn of a merger: it takes a piece and keeps it with the others. Returns whether more may
+// come. An alert ends nothing: all is shut then, and what the buffer still has is taken. On `Err`
+// the piece is lost, and all workers are to end.
 fn merge_once<R: Wait>(
     rt: &R,
     p: &Package<IndexUses>,
@@ -48,7 +49,7 @@ fn merge_once<R: Wait>(
     }
 }
 
-// What a merger comes by: its pieces, merged as far as they may be.
+// The findings of a merger: its pieces, merged as far as they may be.
 fn merged(alloc: Global, mut kept: Vec<Piece>, lost: bool) -> Findings
     requires { AreApart kept.items }
     ensures pieces { AreMergedFrom kept.items result.pieces.items }
@@ -65,10 +66,10 @@ fn merged(alloc: Global, mut kept: Vec<Piece>, lost: bool) -> Findings
     }
 }
 
-/// Takes pieces from their buffer until it is shut and empty, and merges those that are of like size, and in the end what it has. Where memory
-/// wants for a piece more, it alerts all workers.
+/// Takes pieces from their buffer until it is shut and empty. Merges those of like size at once,
+/// and all that it has at the end. If memory runs out for one more piece, alerts all workers.
 ///
-/// It blocks as `next_piece` does.
+/// Blocks as `next_piece` does.
 pub fn merge_all<R: Wait>(
     rt: &R,
     alloc: Global,

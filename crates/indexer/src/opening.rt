@@ -17,13 +17,13 @@ use nub_rule::{Package, Thread};
 use std::alloc::{AllocError, Global};
 use walker::MOST_DIRS;
 
-/// How many files' paths may wait to be read.
+/// The greatest number of paths of files that wait to be read.
 const MOST_FILES: u32 = 256;
 
-/// How many pieces may wait to be merged.
+/// The greatest number of pieces that wait to be merged.
 const MOST_PIECES: u32 = 8;
 
-// The list with the root alone.
+// The list with only the root.
 fn first_dirs(alloc: Global, root: &str, plan: &Plan) -> Result<DirsInWork, AllocError>
     ensures first { IfOk result (IsFirstDirs root.now) }
     ensures most_dirs { IfOk result (λ d. d.found.most_dirs ≡ most_dirs) }
@@ -47,7 +47,7 @@ fn first_dirs(alloc: Global, root: &str, plan: &Plan) -> Result<DirsInWork, Allo
     })
 }
 
-// The list with the root alone, and the two buffers.
+// The list with only the root, and the two buffers.
 fn first_values(alloc: Global, root: &str, plan: &Plan) -> Result<Vec<IndexValue>, AllocError>
     ensures { IfOk result (λ vs. IsOpening root.now vs.items) }
 {
@@ -61,7 +61,8 @@ fn first_values(alloc: Global, root: &str, plan: &Plan) -> Result<Vec<IndexValue
     Ok(values)
 }
 
-/// The package of a run, with the root alone in the list of directories.
+/// Opens the package of a run, with only the root in the list of directories. Fails only if there
+/// is no memory.
 pub fn open_run(
     alloc: Global,
     root: &str,

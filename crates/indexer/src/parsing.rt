@@ -27,7 +27,7 @@ use std::alloc::Global;
 use std::sync::Wait;
 use word_index::Piece;
 
-// Reads one file into the lot. Where memory wants, it is lost.
+// Reads one file into the lot. If memory runs out, the file is lost.
 fn read_one<S: Tree>(alloc: Global, tree: &mut S, path: Text, lot: &mut Lot) -> Result<(), WorkEnd>
     ensures lot { (more : List Path) × ReadsInto path (lot_paths lot.old.files.items) (lot_paths lot.new.files.items) more (lost_of result)
         × IfSome (S.tree tree.old) (λ t. (S.calls tree.new).files_read ≡ (S.calls tree.old).files_read ++ more) }
@@ -49,8 +49,8 @@ fn read_one<S: Tree>(alloc: Global, tree: &mut S, path: Text, lot: &mut Lot) -> 
     }
 }
 
-// Puts a piece into the buffer, or where that gives it back, to those that are kept. Where memory wants, it is lost, and all workers are to
-// end. It answers whether it wasn't lost.
+// Puts a piece into the buffer, or, if that returns it, to those that are kept. If memory runs out,
+// the piece is lost, and all workers are to end. Returns whether the piece wasn't lost.
 fn give_piece<R: Wait>(
     rt: &R,
     p: &Package<IndexUses>,
@@ -81,7 +81,7 @@ fn give_piece<R: Wait>(
     }
 }
 
-// Gives each of the pieces so. It answers whether none was lost.
+// Hands each of the pieces on like this. Returns whether none was lost.
 fn give_pieces<R: Wait>(
     rt: &R,
     p: &Package<IndexUses>,
@@ -107,8 +107,9 @@ fn give_pieces<R: Wait>(
     true
 }
 
-// Makes pieces of the files of the lot, if it has any and is full or the last, and gives them on. It is empty then; one that isn't full may
-// grow. Where memory wants, files are lost, and all workers are to end. It answers whether none was lost.
+// Makes pieces of the files of the lot, if it has any and is full or the last, and hands them on.
+// The lot is then empty; one that isn't full may grow. If memory runs out, files are lost, and all
+// workers are to end. Returns whether none was lost.
 fn pass_lot<R: Wait>(
     rt: &R,
     alloc: Global,
@@ -145,7 +146,8 @@ fn pass_lot<R: Wait>(
     }
 }
 
-// One turn of a parser: it takes a file's path, reads the file into the lot, and makes pieces of a lot that is full.
+// One turn of a parser: it takes a file's path, reads the file into the lot, and makes pieces of a
+// lot that is full.
 fn parse_once<R: Wait, S: Tree>(
     rt: &R,
     alloc: Global,
@@ -189,8 +191,8 @@ fn parse_once<R: Wait, S: Tree>(
     }
 }
 
-// Gives on what is left in the lot, and says that the parser has ended; the last one shuts the buffer of pieces. It answers whether no file
-// was lost.
+// Hands on what is left in the lot, and notes that the parser has ended; the last parser shuts the
+// buffer of pieces. Returns whether no file was lost.
 fn end_pieces<R: Wait>(
     rt: &R,
     alloc: Global,
@@ -220,10 +222,11 @@ fn end_pieces<R: Wait>(
     all_given
 }
 
-/// Reads files whose paths it takes from their buffer, makes pieces of them, and puts these into theirs, until there are no more. A piece
-/// that the buffer doesn't take is kept. Where a file fails or memory wants, it alerts all workers.
+/// Takes paths of files from their buffer, reads these files, makes pieces of them, and puts the
+/// pieces into their buffer, until there are no more files. Keeps a piece that the buffer doesn't
+/// take. If a file fails or memory runs out, alerts all workers.
 ///
-/// It blocks as `next_file` and `put_piece` do.
+/// Blocks as `next_file` and `put_piece` do.
 pub fn parse<R: Wait, S: Tree>(
     rt: &R,
     alloc: Global,

@@ -25,9 +25,10 @@ const PIECES: BufferAt = BufferAt {
     more: CondId(4),
 };
 
-/// Puts a piece into the buffer, which gives it back where it is shut, or where the thread was alerted.
+/// Puts a piece into the buffer. Returns the piece if the buffer is shut, or if the thread was
+/// alerted.
 ///
-/// It blocks while another thread has the buffer, and while it is full and open.
+/// Blocks while another thread holds the buffer, and while the buffer is full and open.
 pub fn put_piece<R: Wait>(
     rt: &R,
     p: &Package<IndexUses>,
@@ -61,9 +62,10 @@ fn as_piece(taken: Result<(u64, IndexItem), TakeEnd>) -> Result<Piece, TakeEnd>
     }
 }
 
-/// Takes a piece. An error says that the buffer is shut and empty, or that the thread was alerted while it waited.
+/// Takes a piece. Fails if the buffer is shut and empty, or if the thread was alerted while it
+/// waited.
 ///
-/// It blocks while another thread has the buffer, and while it is empty and open.
+/// Blocks while another thread holds the buffer, and while the buffer is empty and open.
 pub fn next_piece<R: Wait>(
     rt: &R,
     p: &Package<IndexUses>,
@@ -79,7 +81,7 @@ pub fn next_piece<R: Wait>(
     as_piece(take(rt, p, me, &PIECES))
 }
 
-/// Shuts the buffer: it takes no more, and gives what it has.
+/// Shuts the buffer: no more can be put, and what it has can still be taken.
 pub fn shut_pieces<R: Wait>(rt: &R, p: &Package<IndexUses>, me: &mut Thread<IndexUses>)
     requires layout { HasLists p.now.layout }
     requires between { IsBetween p.now me.old }

@@ -6,7 +6,8 @@ ghost use Rattle.indexer.specs.Plans.{IsPlan, layout_of};
 
 use larch_actions::Layout;
 
-/// How many workers of each kind there are, after how many files the work is to stop, and whether its whole history is kept.
+/// How many workers of each kind there are, after how many files the work is to stop, and whether
+/// the whole history is kept.
 #[derive(Clone, Copy, Debug)]
 pub struct Plan {
     pub walkers: u32,
@@ -16,10 +17,11 @@ pub struct Plan {
     pub traced: bool,
 }
 
-/// The layout of the package of a plan.
+/// Returns the layout of the package of a plan.
 ///
-/// Thread 0 is the caller; then come the walkers, the parsers and the mergers. Mutex 0 guards the directories in work, with condition 0;
-/// mutexes 1 and 2 are the buffers of files and of pieces, with the conditions 1 to 4 as room and more of the one and of the other.
+/// Thread 0 is the caller; then come the walkers, the parsers and the mergers. Mutex 0 protects the
+/// directories in work, with condition 0. Mutexes 1 and 2 protect the buffers of files and of
+/// pieces. Their conditions are 1 and 2, and 3 and 4: room first, then more.
 pub fn index_layout(plan: &Plan) -> Layout
     requires { IsPlan plan.now }
     ensures layout { result ≡ layout_of plan.now }

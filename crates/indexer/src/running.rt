@@ -16,10 +16,11 @@ use std::alloc::{AllocError, Global};
 use std::sync::Wait;
 use std::thread::Threads;
 
-/// Lets the workers, of which at most the first `starts` are started, list and read what is under the root, in a package that is closed
-/// when all have ended, and answers what each worker came by.
+/// Lets the workers list and read what is under the root, in a package that is closed when all have
+/// ended. At most the first `starts` workers are started. Returns what each worker found.
 ///
-/// It blocks until all have ended. On `Err` there was no memory; each of the workers' trees is in its place or lost then.
+/// Blocks until all have ended. Fails only if there is no memory, and then each of the workers'
+/// trees is in its place or lost.
 pub fn worked_run<R: Threads + Wait + Sync, S: Tree, G: BeforeStart>(
     rt: &R,
     alloc: Global,

@@ -22,10 +22,10 @@ use user_mutex::{acquire, release};
 /// The mutex of the list of directories.
 const DIRS: MutexId = MutexId(0);
 
-/// Its condition: that there is something in the list, or that all is over.
+/// The condition of the list: that there is something in it, or that all is over.
 const MORE_DIRS: CondId = CondId(0);
 
-// Takes the list, with what was found so far.
+// Acquires the list, with what was found so far.
 fn take_list<R: Wait>(rt: &R, p: &Package<IndexUses>, me: &mut Thread<IndexUses>) -> DirsInWork
     requires layout { HasLists p.now.layout }
     requires between { IsBetween p.now me.old }
@@ -34,7 +34,7 @@ fn take_list<R: Wait>(rt: &R, p: &Package<IndexUses>, me: &mut Thread<IndexUses>
     dirs_in(acquire(rt, p, me, DIRS))
 }
 
-// Gives the list back: directories left its end, or new ones came there and were counted.
+// Releases the list: directories left its end, or new ones came there and were counted.
 fn give_list<R: Wait>(rt: &R, p: &Package<IndexUses>, me: &mut Thread<IndexUses>, dirs: DirsInWork)
     requires layout { HasLists p.now.layout }
     requires has { (a : Worker) × (x : IndexValue) × (h : HasList p.now a x me.old)
@@ -53,7 +53,8 @@ fn give_list<R: Wait>(rt: &R, p: &Package<IndexUses>, me: &mut Thread<IndexUses>
     release::<IndexUses, DidMove, R>(rt, p, me, DIRS, IndexValue::Dirs(dirs));
 }
 
-// Gives the list back so, and where `wake` says so wakes all who wait for it.
+// Releases the list like this, and before that wakes all threads that wait for it, if `wake` is
+// true.
 fn give_and_wake<R: Wait>(
     rt: &R,
     p: &Package<IndexUses>,
@@ -79,7 +80,7 @@ fn give_and_wake<R: Wait>(
     }
 }
 
-// Waits until there may be something in the list, and says whether an alert ended the wait.
+// Waits until there may be something in the list. Returns whether an alert ended the wait.
 fn wait_for_dirs<R: Wait>(
     rt: &R,
     p: &Package<IndexUses>,
@@ -101,10 +102,11 @@ fn wait_for_dirs<R: Wait>(
     (outcome, dirs_in(value))
 }
 
-/// Takes a directory that is to be listed. None comes where nothing is left and nothing is in work, where the list is shut, and where
-/// the thread is alerted.
+/// Takes a directory that is to be listed. Returns `None` if nothing is left and no directory is
+/// being listed, if the list is shut, or if the thread is alerted.
 ///
-/// It blocks while another walker has the list, and while the list is empty and a directory is in work.
+/// Blocks while another walker holds the list, and while the list is empty and a directory is being
+/// listed.
 pub fn next_dir<R: Wait>(rt: &R, p: &Package<IndexUses>, me: &mut Thread<IndexUses>) -> Option<Text>
     requires layout { HasLists p.now.layout }
     requires between { IsBetween p.now me.old }
@@ -132,8 +134,9 @@ pub fn next_dir<R: Wait>(rt: &R, p: &Package<IndexUses>, me: &mut Thread<IndexUs
     unreachable!()
 }
 
-/// Puts the directories found in one that is in work into the list, and counts them and the files found there. Where some were put and no
-/// more was found than may be, it wakes all who wait for the list; where more was found, or memory wants, the caller is to end the work.
+/// Puts the directories found in one that was listed into the list, and counts them and the files
+/// found there. If some were put and both limits are kept, wakes all threads that wait for the
+/// list. If a limit is passed, or memory runs out, the caller is to end the work.
 pub fn put_dirs<R: Wait>(
     rt: &R,
     p: &Package<IndexUses>,
@@ -151,12 +154,12 @@ pub fn put_dirs<R: Wait>(
     let some = !found.is_empty();
     let mut dirs = take_list(rt, p, me);
     let end = put_found(&mut dirs, found, files);
-    // There may be something to take. Where the work is to end, all are woken when the list is shut.
+    // There may be something to take. If the work is to end, all are woken when the list is shut.
     give_and_wake(rt, p, me, dirs, some & end.is_within());
     end
 }
 
-/// Ends the work on a directory, and wakes all who wait for the list.
+/// Ends the work on a directory, and wakes all threads that wait for the list.
 pub fn finish_dir<R: Wait>(rt: &R, p: &Package<IndexUses>, me: &mut Thread<IndexUses>)
     requires layout { HasLists p.now.layout }
     requires between { IsBetween p.now me.old }
@@ -169,7 +172,7 @@ pub fn finish_dir<R: Wait>(rt: &R, p: &Package<IndexUses>, me: &mut Thread<Index
     give_and_wake(rt, p, me, dirs, true);
 }
 
-/// Notes that a parser has ended, and answers whether it was the last.
+/// Notes that a parser has ended. Returns whether it was the last.
 pub fn end_parser<R: Wait>(rt: &R, p: &Package<IndexUses>, me: &mut Thread<IndexUses>) -> bool
     requires layout { HasLists p.now.layout }
     requires between { IsBetween p.now me.old }
@@ -182,7 +185,8 @@ pub fn end_parser<R: Wait>(rt: &R, p: &Package<IndexUses>, me: &mut Thread<Index
     last
 }
 
-/// Shuts the list, so that nobody gets a directory from now on, and wakes all who wait for it.
+/// Shuts the list, so that no thread gets a directory from now on, and wakes all threads that wait
+/// for it.
 pub fn shut_dirs<R: Wait>(rt: &R, p: &Package<IndexUses>, me: &mut Thread<IndexUses>)
     requires layout { HasLists p.now.layout }
     requires between { IsBetween p.now me.old }

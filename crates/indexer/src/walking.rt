@@ -21,7 +21,8 @@ use std::alloc::Global;
 use std::sync::Wait;
 use walker::list_dir;
 
-// Lists one directory, keeps its listing, and gives the directories and files found there. Where memory wants, the listing is lost.
+// Lists one directory, keeps its listing, and returns the directories and files found in it. If
+// memory runs out, the listing is lost.
 fn list_one<S: Tree>(
     alloc: Global,
     tree: &mut S,
@@ -47,8 +48,9 @@ fn list_one<S: Tree>(
     }
 }
 
-// Puts what was found in a directory where others take it, and ends the work on the directory. It answers whether the thread is to go on:
-// it is unless it was alerted, or more was found than may be; then all workers are to end.
+// Puts what was found in a directory where other threads take it, and ends the work on the
+// directory. Returns whether the thread is to go on: it isn't if it was alerted, or if a limit is
+// passed, and then all workers are to end.
 fn give_found<R: Wait>(
     rt: &R,
     p: &Package<IndexUses>,
@@ -62,12 +64,13 @@ fn give_found<R: Wait>(
     ensures { (put : List Path) × (files_put : List Path) × Makes p.now (record nothing { put = put; files_put = files_put }) me.old me.new
         × All (Contains dirs.items) put × All (Contains files.items) files_put }
 {
-    // Counted before a file goes through the buffer: where more was found than may be, none of these is read.
+    // Counted before a file goes through the buffer: if a limit is passed, none of these is read.
     if !put_dirs(rt, p, me, dirs, files.len()).is_within() {
         cancel(rt, p, me);
         return false;
     }
-    // The directory stays in work until its files are put: the walker that finds none in work shuts their buffer.
+    // The directory counts as being listed until its files are put: a walker that finds none being
+    // listed shuts their buffer.
     if !put_files(rt, p, me, files) {
         return false;
     }
@@ -85,7 +88,7 @@ fn end_files<R: Wait>(rt: &R, p: &Package<IndexUses>, me: &mut Thread<IndexUses>
     shut_files(rt, p, me);
 }
 
-// One turn of a walker: it takes a directory, lists it, and gives what was found there.
+// One turn of a walker: it takes a directory, lists it, and hands on what was found there.
 fn walk_once<R: Wait, S: Tree>(
     rt: &R,
     alloc: Global,
@@ -124,10 +127,11 @@ fn walk_once<R: Wait, S: Tree>(
     }
 }
 
-/// Lists directories from the list until it is over, and puts the directories found into it and the files into their buffer. Where a
-/// directory fails, memory wants or more is found than may be, it alerts all workers.
+/// Lists directories from the list until it is over, and puts the directories found into it and the
+/// files into their buffer. If a directory fails, memory runs out or a limit is passed, alerts all
+/// workers.
 ///
-/// It blocks as `next_dir` and `put_files` do.
+/// Blocks as `next_dir` and `put_files` do.
 pub fn walk<R: Wait, S: Tree>(
     rt: &R,
     alloc: Global,

@@ -16,7 +16,8 @@ use package_crew::BeforeStart;
 use std::alloc::Global;
 use std::sync::Wait;
 
-/// Does the work of one worker. The parsers are numbered from 1; their threads come behind those of so many walkers.
+/// Does the work of one worker. The parsers are numbered from 1; their threads follow those of the
+/// walkers.
 pub fn work<R: Wait, S: Tree, G: BeforeStart>(
     rt: &R,
     alloc: Global,

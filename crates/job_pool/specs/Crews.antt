@@ -15,7 +15,7 @@ abbrev pub AreReady : {T : Type 0} → Shape (Unit {0}) → ℕ → ℕ → List
 AreReady p room n [] = Unit {0}
 AreReady p room n (w ∷ ws) = (w.0.number ≡ n) × IsReady p room w × AreReady p room (n + 1) ws
 
--- the row with all that the workers worked on put at its place
+-- the row after all that the workers worked on was put at its place
 abbrev pub filled_by : {T : Type 0} → List (Worker T × Vec (Item T) Global) → List (Opt T) → List (Opt T)
 filled_by [] row = row
 filled_by (w ∷ ws) row = filled_by ws (filled w.1.items row)

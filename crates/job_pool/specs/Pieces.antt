@@ -3,12 +3,12 @@ use Rattle.std.specs.Prelude.{◌≡◌, ◌⊎◌, ℕ, ◌+◌, ◌<◌, List,
 use Rattle.std.specs.List.{Contains}
 use Rattle.job_pool.specs.declared.item.Item.{Item}
 
--- the pieces under their places, of which the first is k
+-- the pieces with their places, from k on
 abbrev pub numbered : {T : Type 0} → ℕ → List T → List (Item T)
 numbered k [] = []
 numbered k (x ∷ xs) = record { place = k; piece = x } ∷ numbered (k + 1) xs
 
--- the row with each of these items put at its place
+-- the row after each of these items was put at its place
 abbrev pub filled : {T : Type 0} → List (Item T) → List (Opt T) → List (Opt T)
 filled [] row = row
 filled (i ∷ is) row = filled is (slice_set row i.place (Some i.piece))

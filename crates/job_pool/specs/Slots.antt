@@ -12,7 +12,7 @@ use Rattle.job_pool.specs.declared.batch.Batch.{Batch}
 abbrev pub fresh : {J : Type 0} → J → Slot J
 fresh job = record { job = job; answer = None }
 
--- what was called gave Stop, or a value
+-- whether what was called gave Stop, or a value
 abbrev pub Says : Bool → Opt Work → Type 0
 Says true answer = answer ≡ Some Stop
 Says false answer = (v : ℕ) × (answer ≡ Some (Value v))
@@ -29,11 +29,11 @@ module _ {J : Type 0} (state : J → List ℕ) (gives : J → Work) (next : J �
     pub answer : b.answer ≡ Some (gives a.job)
     pub after : state b.job ≡ next a.job
 
-  -- the job was called at most once, and not where it was called before
+  -- the job was called at most once, and not if it was called before
   abbrev pub MayBeCalled : Slot J → Slot J → Type 0
   MayBeCalled a b = (b ≡ a) ⊎ WasCalled a b
 
--- an empty list with room for so many
+-- an empty list with room for `size` items
 pub record IsRoom {A : Type 0} (size : ℕ) (items : List A) (capacity : ℕ) : Type 0 where
   pub empty : items ≡ []
   pub wide : size ≤ capacity

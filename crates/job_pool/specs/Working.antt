@@ -1,4 +1,4 @@
--- Threads that hand pieces on through a buffer.
+-- Threads that hand pieces over through a buffer.
 use Rattle.std.specs.Prelude.{◌≡◌, ℕ, ◌+◌, ◌≤◌, Bool, true, List, [], ◌∷◌, ◌++◌, map, length, reverse, Option as Opt, Some, None}
 use mathlib.Core.Option.{some}
 use lib.ListN.{get_elem?}
@@ -27,7 +27,8 @@ module _ {T : Type 0} where
   part_in None = unused
   part_in (Some s) = part_of s 0
 
-  -- what the thread put, the last first; what it took, the last first; and whether it saw the buffer shut and empty
+  -- what the thread put, the last first; what it took, the last first; and whether it saw the
+  -- buffer shut and empty
   abbrev pub puts_of : Worker T → List (Item T)
   puts_of t = map (λ p. p.1) (part_in t.share).puts
 
@@ -51,7 +52,8 @@ module _ {T : Type 0} where
     pub share : List (Note (Item T))
     pub idle : IsIdle p n share t
 
-  -- the thread put and took this, the last first, since it was between two calls before, and is again
+  -- the thread was between two calls and is again; meanwhile it put and took these items, the last
+  -- first
   pub record HasMoved (p : Shape (Unit {0})) (puts takes : List (Item T)) (a b : Worker T) : Type 0 where
     pub between : (n : ℕ) → IsBetween p n a → IsBetween p n b
     pub puts_are : puts_of b ≡ puts ++ puts_of a
@@ -81,7 +83,8 @@ module _ {T : Type 0} (goes : T → T → Type 0) where
     pub no_puts : puts_of t ≡ []
     pub came : CameOf goes (takes_of t) list
 
-  -- all pieces were put by the first thread, which saw the end, and what came of all that was taken is in the row
+  -- all pieces were put by the first thread, which saw the end, and the row has what came of all
+  -- that was taken
   pub record WasShared (p : Shape (Unit {0})) (many : ℕ) (pieces : List T) (threads : List (Worker T)) (row : List (Opt T)) : Type 0 where
     pub count : length threads ≡ many
     pub between : AreBetween p 0 threads

@@ -1,4 +1,4 @@
-//! The calls of the package.
+//! The calls of the pool's threads at their package.
 ghost use Rattle.std.specs.Prelude.{◌≡◌, ◌<◌, ◌+◌, ◌∷◌, [], ℕ, IfOk, IfErr, true};
 ghost use Rattle.bounded_buffer.specs.Plain.{IsPlain};
 ghost use Rattle.bounded_buffer.specs.declared.ends.TakeEnd.TheVariants.{ClosedEmpty};
@@ -11,7 +11,7 @@ use larch_actions::{CondId, MutexId, ThreadId};
 use nub_rule::{Package, Thread};
 use std::sync::Wait;
 
-/// Where the buffer is.
+/// Returns the names of the buffer.
 fn buffer() -> BufferAt
     ensures { (result.mutex.0 ≡ 0) × IsPlain result }
 {
@@ -22,7 +22,8 @@ fn buffer() -> BufferAt
     }
 }
 
-/// Puts the item into the buffer. It blocks while there is no room, and for ever if the buffer is shut.
+/// Puts the item into the buffer. Blocks while there is no room; never returns if the buffer is
+/// shut.
 pub fn put_in<T: Send + Drop, R: Wait>(
     rt: &R,
     p: &Package<Pieces<T>>,
@@ -44,7 +45,7 @@ pub fn put_in<T: Send + Drop, R: Wait>(
     unreachable!()
 }
 
-/// Takes the first item of the buffer.
+/// Takes the first item of the buffer. Blocks while the buffer is empty and open.
 pub fn take_next<T: Send + Drop, R: Wait>(
     rt: &R,
     p: &Package<Pieces<T>>,
@@ -72,7 +73,7 @@ pub fn shut_off<T: Send + Drop, R: Wait>(rt: &R, p: &Package<Pieces<T>>, me: &mu
     shut(rt, p, me, &at);
 }
 
-/// Whether the thread is to stop.
+/// Returns whether the thread was alerted, and so is to stop.
 pub fn is_stopped<T: Send + Drop, R: Wait>(
     rt: &R,
     p: &Package<Pieces<T>>,

@@ -1,4 +1,4 @@
-//! The workers, all at once.
+//! The workers, at work all at once.
 ghost use Rattle.std.specs.Prelude.{◌≡◌, ◌⊎◌, length, IfOk};
 ghost use Rattle.std.specs.List.{AllZip, AllByRecursion};
 ghost use Rattle.job_pool.specs.Crews.{AreReady, IsReady};
@@ -15,7 +15,7 @@ use std::sync::Wait;
 use std::thread::Threads;
 use thread_crew::run_crew;
 
-/// A worker for each thread, whose list has room for so many pieces.
+/// Pairs each thread with a list that has room for `room` pieces. Fails only if there is no memory.
 pub fn workers_of<T: Send + Drop>(
     alloc: Global,
     p: &Package<Pieces<T>>,
@@ -35,8 +35,9 @@ pub fn workers_of<T: Send + Drop>(
     Ok(workers)
 }
 
-/// Lets all workers work at once, each in a thread of its own; what can't be started is run here, once the others have ended. Where there is
-/// no memory for that, none works.
+/// Lets all workers work at once, each in an operating-system thread of its own. A worker that
+/// can't be started works on the caller's thread, once the others have been started. If there is no
+/// memory for that, none works.
 pub fn run_workers<J: Job, R: Threads + Wait + Sync>(
     rt: &R,
     alloc: Global,

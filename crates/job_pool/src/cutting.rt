@@ -1,4 +1,4 @@
-//! Jobs to batches, and back.
+//! Cuts jobs into batches, and joins batches again.
 ghost use Rattle.std.specs.Prelude.{◌≡◌, ◌≤◌, ◌<◌, ◌+◌, ◌-◌, ◌*◌, ◌++◌, [], length, map, vec_len, vec_capacity, IfOk};
 ghost use Rattle.std.specs.List.{AllByRecursion};
 ghost use Rattle.std.specs.Vec.Iter.{into_iter_items, into_iter_len};
@@ -10,7 +10,7 @@ use crate::slot::Slot;
 use std::alloc::{AllocError, Global};
 use std::vec::IntoIter;
 
-/// How many jobs a batch has, so that each worker gets some and none keeps many.
+/// Returns how many jobs a batch has, so that each worker gets some and none keeps many.
 pub fn batch_size(jobs: usize) -> usize
     requires { jobs ≤ 100000 }
     ensures some { 1 ≤ result }
@@ -20,7 +20,7 @@ pub fn batch_size(jobs: usize) -> usize
     if size < 64 { size } else { 64 }
 }
 
-/// So many lists, each with room for `size` jobs.
+/// Returns `count` lists, each with room for `size` jobs. Fails only if there is no memory.
 pub fn lists<J: Job>(
     alloc: Global,
     count: usize,
@@ -36,7 +36,7 @@ pub fn lists<J: Job>(
     Ok(lists)
 }
 
-/// The next jobs, up to `size`.
+/// Takes the next jobs, up to `size`.
 fn batch_of<J: Job>(mut slots: Vec<Slot<J>>, source: &mut IntoIter<J>, size: usize) -> Batch<J>
     requires room { IsRoom size slots.items (vec_capacity slots) }
     requires source { into_iter_len source.old ≡ length (into_iter_items source.old) }
@@ -73,7 +73,7 @@ pub fn cut<J: Job>(
     batches
 }
 
-/// Puts the slots of a batch behind the others.
+/// Moves the slots of a batch to the end of the others.
 fn pour<J: Job>(batch: Batch<J>, slots: &mut Vec<Slot<J>>)
     requires room { vec_len slots.old + length batch.slots.items ≤ vec_capacity slots.old }
     ensures slots { slots.new.items ≡ slots.old.items ++ batch.slots.items }
@@ -84,7 +84,7 @@ fn pour<J: Job>(batch: Batch<J>, slots: &mut Vec<Slot<J>>)
     }
 }
 
-/// The slots of all batches, one after the other.
+/// Joins the slots of all batches, one after the other.
 pub fn join<J: Job>(batches: Vec<Batch<J>>, mut slots: Vec<Slot<J>>) -> Vec<Slot<J>>
     requires empty { slots.items ≡ [] }
     requires room { length (slots_of batches.items) ≤ vec_capacity slots }

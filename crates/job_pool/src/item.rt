@@ -1,15 +1,15 @@
-//! What goes through the buffer.
+//! The items that go through the buffer.
 use bounded_buffer::PlainBuffers;
 use nub_rule::Thread;
 
-/// A piece of work under its place.
+/// A piece of work with its place.
 #[derive(Drop)]
 pub struct Item<T> {
     pub place: u64,
     pub piece: T,
 }
 
-/// The use of the package: a buffer of pieces.
+/// The use of the package: one buffer of pieces.
 pub type Pieces<T> = PlainBuffers<Item<T>>;
 
 /// The thread of a worker, and what it has worked on.

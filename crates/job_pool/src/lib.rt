@@ -1,8 +1,11 @@
-//! A pool of jobs: each is done once, by threads that take batches of jobs from a buffer or by the caller.
+//! A pool of jobs: each is done at most once, by threads that take batches of jobs from a buffer or
+//! by the caller.
 //!
-//! Promises: `run_jobs` answers the value of each job in its place where no job gives Stop, and else the place of one that does; each job
-//! comes back in its place, after one call or as it was given. Want of memory is met before any job runs. Stands on a buffer and alerts of
-//! a package and on a crew of threads. Nothing is said of how many threads are at work, nor that a job ever ends.
+//! Promises: if no job gives Stop, `run_jobs` returns the value of each job in its place, and
+//! otherwise the place of one that does; each job comes back in its place, after one call or as it
+//! was given. If there is no memory, that shows before any job runs. Built on a buffer and alerts
+//! of a package, and on a crew of threads. Nothing is promised about how many threads are at work,
+//! nor that a job ever ends.
 #![tactic(auto)]
 
 mod batch;

@@ -1,4 +1,4 @@
-//! All that a pool needs is taken before anything runs.
+//! Allocates all that a pool needs before anything runs.
 ghost use Rattle.std.specs.Prelude.{◌≡◌, ◌≤◌, ◌+◌, [], None, length, IfOk, vec_capacity, false};
 ghost use Rattle.std.proofs.Common.{replicate};
 ghost use Rattle.larch_actions.specs.declared.event.Version.TheVariants.{One};
@@ -10,7 +10,8 @@ use nub::{Layout, open_package};
 use nub_rule::{Package, Thread};
 use std::alloc::{AllocError, Global};
 
-/// A package with one buffer for so many pieces, and with a thread for the caller and each worker.
+/// Opens a package with one buffer for `many` pieces, and with a thread for the caller and one for
+/// each worker.
 pub fn open<T: Send + Drop>(
     alloc: Global,
     workers: u32,
@@ -29,7 +30,7 @@ pub fn open<T: Send + Drop>(
     open_package::<Pieces<T>>(alloc, layout, &(), rings, false)
 }
 
-/// Lists that are filled later, each with its room.
+/// Lists that are filled later, each with room for all that it will have.
 #[derive(Drop)]
 pub struct Rooms<T: Send + Drop> {
     /// A place for each piece.
@@ -40,7 +41,7 @@ pub struct Rooms<T: Send + Drop> {
     pub out: Vec<T>,
 }
 
-/// The lists for so many workers and pieces.
+/// Returns the lists for `workers` workers and `many` pieces. Fails only if there is no memory.
 pub fn rooms_for<T: Send + Drop>(
     alloc: Global,
     workers: u32,

@@ -1,4 +1,4 @@
-//! Running jobs.
+//! The call that runs a list of jobs.
 ghost use Rattle.std.specs.Prelude.{◌≡◌, ◌≤◌, ◌<◌, ◌+◌, [], length, map, vec_len, vec_capacity, IfOk, IfSome, MatchOption, Some, ℕ, ◌++◌, ◌∷◌};
 ghost use Rattle.std.specs.List.{AllByRecursion, AllZip};
 ghost use Rattle.job_pool.specs.declared.job.Work.TheVariants.{Value};
@@ -15,7 +15,7 @@ use std::alloc::{AllocError, Global};
 use std::sync::Wait;
 use std::thread::Threads;
 
-/// The place of a job that gave Stop, if one did.
+/// Returns the place of a job that gave Stop, if one did.
 fn place_of_stop<J: Job>(slots: &[Slot<J>]) -> Option<u64>
     ensures { IfSome result (λ k. StopsAt k slots.now) }
 {
@@ -29,7 +29,8 @@ fn place_of_stop<J: Job>(slots: &[Slot<J>]) -> Option<u64>
     None
 }
 
-/// Calls each job that no worker called, up to the first that gives Stop, unless one gave it already. Answers the place of one that did.
+/// Calls each job that no worker called, up to the first that gives Stop, unless one gave it
+/// already. Returns the place of one that did.
 fn finish<J: Job>(slots: &mut [Slot<J>]) -> Option<u64>
     ensures called { AllZip (MayBeCalled J.state J.gives J.next) slots.old slots.new }
     ensures ends { MatchOption result (AllByRecursion HasValue slots.new) (λ k. StopsAt k slots.new) }
@@ -47,7 +48,7 @@ fn finish<J: Job>(slots: &mut [Slot<J>]) -> Option<u64>
     None
 }
 
-/// Lists that are filled later, each with its room.
+/// Lists that are filled later, each with room for all that it will have.
 #[derive(Drop)]
 struct Rooms<J: Job> {
     lists: Vec<Vec<Slot<J>>>,
@@ -57,7 +58,8 @@ struct Rooms<J: Job> {
     values: Vec<u64>,
 }
 
-/// The lists for so many jobs in batches of `size`.
+/// Returns the lists for `many` jobs in `count` batches of `size`. Fails only if there is no
+/// memory.
 fn rooms_for<J: Job>(
     alloc: Global,
     count: usize,
@@ -85,7 +87,7 @@ fn rooms_for<J: Job>(
     })
 }
 
-/// Puts the value last, if one was given.
+/// Appends the value, if one was given.
 fn push_value(values: &mut Vec<u64>, answer: Option<Work>)
     requires { vec_len values.old < vec_capacity values.old }
     ensures value { (v : ℕ) → answer ≡ Some (Value v) → values.new.items ≡ values.old.items ++ v ∷ [] }
@@ -97,7 +99,7 @@ fn push_value(values: &mut Vec<u64>, answer: Option<Work>)
     }
 }
 
-/// The jobs of the slots, and the values that were given, both in order.
+/// Splits the slots into the jobs and the values that they gave, both in order.
 fn parted<J: Job>(slots: Vec<Slot<J>>, mut back: Vec<J>, mut values: Vec<u64>) -> (Vec<J>, Vec<u64>)
     requires back { IsRoom (vec_len slots) back.items (vec_capacity back) }
     requires values { IsRoom (vec_len slots) values.items (vec_capacity values) }
@@ -112,11 +114,24 @@ fn parted<J: Job>(slots: Vec<Slot<J>>, mut back: Vec<J>, mut values: Vec<u64>) -
     (back, values)
 }
 
-/// Calls each job, and answers how that ended and the jobs, each in its place: by so many workers, each in a thread of its own, which take
-/// batches of jobs from a buffer; the caller calls what no worker did. Where a job gives Stop, all are stopped: what isn't called then comes
-/// back as it was given.
+/// Calls each job, and returns how that ended and the jobs, each in its place.
 ///
-/// A worker whose thread can't be started does its part here. It blocks until all have ended, for ever where a job never does.
+/// The jobs are called by 1 to 8 workers, each in an operating-system thread of its own, which take
+/// batches of jobs from a buffer; the caller calls those that no worker did. If a job gives Stop,
+/// the workers are alerted, and the jobs that weren't called come back as they were given. There
+/// may be up to 100000 jobs.
+///
+/// A worker whose thread can't be started does its part on the caller's thread. Blocks until all
+/// have ended, for ever if a job never does.
+///
+/// ```rust
+/// let (end, _blocks) = run_jobs(rt, alloc, workers, blocks);
+/// match end {
+///     PoolEnd::Done(sums) => Ok(sums),
+///     PoolEnd::Stopped(_) => unreachable!(),
+///     PoolEnd::Memory => Err(AllocError),
+/// }
+/// ```
 pub fn run_jobs<J: Job, R: Threads + Wait + Sync>(
     rt: &R,
     alloc: Global,

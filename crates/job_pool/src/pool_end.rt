@@ -1,10 +1,10 @@
-//! How a pool ends.
+//! The ends of a pool.
 use std::fmt;
 
-/// What came of all jobs.
+/// How a pool ended.
 #[derive(Debug, Drop)]
 pub enum PoolEnd {
-    /// No job gives Stop. The value of each job, in its place.
+    /// No job gives Stop. Here is the value of each job, in its place.
     Done(Vec<u64>),
     /// The job at this place gives Stop.
     Stopped(u64),

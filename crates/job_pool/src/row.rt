@@ -1,4 +1,4 @@
-//! Pieces back to their places.
+//! Puts the pieces back at their places.
 ghost use Rattle.std.specs.Prelude.{◌≡◌, ◌<◌, ◌≤◌, ◌++◌, [], ℕ, List, length, map, vec_len, vec_capacity, true, Some, IsSome, slice_set, ◌∷◌, ◌+◌};
 ghost use Rattle.std.specs.List.{AllByRecursion};
 ghost use Rattle.job_pool.specs.declared.batch.Batch.{Batch};
@@ -16,7 +16,7 @@ use bounded_buffer::TakeEnd;
 use nub_rule::{Package, Thread};
 use std::sync::Wait;
 
-/// Puts the piece at its place, where the row has that.
+/// Puts the piece at its place, if the row has that place.
 fn place<T: Drop>(row: &mut [Option<T>], item: Item<T>)
     ensures { row.new ≡ slice_set row.old item.place (Some item.piece) }
 {
@@ -26,7 +26,7 @@ fn place<T: Drop>(row: &mut [Option<T>], item: Item<T>)
     }
 }
 
-/// Puts each piece at its place.
+/// Puts each piece of the list at its place.
 fn place_list<T: Drop>(row: &mut [Option<T>], list: Vec<Item<T>>)
     ensures { row.new ≡ filled list.items row.old }
 {
@@ -35,7 +35,7 @@ fn place_list<T: Drop>(row: &mut [Option<T>], list: Vec<Item<T>>)
     }
 }
 
-/// Takes all that is left, without working on it.
+/// Takes all pieces that are left in the buffer, without working on them.
 pub fn take_rest<J: Job, R: Wait>(
     rt: &R,
     p: &Package<Pieces<Batch<J>>>,
@@ -58,7 +58,7 @@ pub fn take_rest<J: Job, R: Wait>(
     }
 }
 
-/// Puts what each worker worked on at its place, and the workers' threads behind the others.
+/// Puts what each worker worked on at its place, and appends the workers' threads to `threads`.
 pub fn place_all<T: Send + Drop>(
     done: Vec<Worked<T>>,
     mut threads: Vec<Thread<Pieces<T>>>,
@@ -75,7 +75,7 @@ pub fn place_all<T: Send + Drop>(
     threads
 }
 
-/// The pieces of a row that is full.
+/// Returns the pieces of a full row.
 pub fn row_out<T: Drop>(row: Vec<Option<T>>, mut out: Vec<T>) -> Vec<T>
     requires full { AllByRecursion IsSome row.items }
     requires room { (out.items ≡ []) × (vec_len row ≤ vec_capacity out) }

@@ -1,4 +1,4 @@
-//! Pieces go through a buffer to workers and back to their places.
+//! Shares pieces out to workers through a buffer, and puts them back at their places.
 ghost use Rattle.std.specs.Prelude.{◌≡◌, ◌≤◌, ◌<◌, ◌+◌, ◌∷◌, [], ℕ, None, length, reverse, vec_len, vec_capacity, IfOk, IfErr, replicate};
 ghost use Rattle.std.specs.List.{AllZip, AllByRecursion};
 ghost use Rattle.nub.specs.Ended.{IsFirst};
@@ -20,7 +20,7 @@ use std::alloc::Global;
 use std::sync::Wait;
 use std::thread::Threads;
 
-/// Puts all pieces into the buffer, each under its place, and shuts it.
+/// Puts all pieces into the buffer, each with its place, and shuts the buffer.
 fn put_all<J: Job, R: Wait>(
     rt: &R,
     p: &Package<Pieces<Batch<J>>>,
@@ -39,7 +39,7 @@ fn put_all<J: Job, R: Wait>(
     shut_off(rt, p, me);
 }
 
-/// Lets the workers and then the caller take all pieces, and answers all threads, the caller's first.
+/// Lets the workers and then the caller take all pieces. Returns all threads, the caller's first.
 fn shared<J: Job, R: Threads + Wait + Sync>(
     rt: &R,
     alloc: Global,
@@ -65,8 +65,9 @@ fn shared<J: Job, R: Threads + Wait + Sync>(
     place_all(done, threads, row)
 }
 
-/// Hands the pieces out to so many workers, each at work until none is left or a piece says that all are to stop, and answers what became
-/// of each, in its place. On `Err` there was no memory, and nothing was worked on.
+/// Shares the pieces out to `count` workers, which work until none is left or a piece says that all
+/// are to stop. Returns what became of each piece, in its place. Fails only if there is no memory:
+/// then nothing was worked on, and the pieces come back.
 pub fn share_out<J: Job, R: Threads + Wait + Sync>(
     rt: &R,
     alloc: Global,

@@ -13,7 +13,7 @@ pub struct Slot<J> {
 }
 
 impl<J: Job> Slot<J> {
-    /// Calls the job unless it was called before, and says whether it has given Stop.
+    /// Calls the job unless it was called before. Returns whether it has given Stop.
     pub fn call(&mut self) -> bool
         ensures called { MayBeCalled J.state J.gives J.next self.old self.new }
         ensures says { Says result self.new.answer }
@@ -32,7 +32,7 @@ impl<J: Job> Slot<J> {
         }
     }
 
-    /// Whether the job was called and gave Stop.
+    /// Returns whether the job was called and gave Stop.
     pub fn has_stopped(&self) -> bool
         ensures { result ≡ true → self.now.answer ≡ Some Stop }
     {

@@ -1,4 +1,4 @@
-//! What a worker does.
+//! The work of one worker.
 ghost use Rattle.std.specs.Prelude.{◌≡◌};
 ghost use Rattle.job_pool.specs.Crews.{IsReady};
 ghost use Rattle.job_pool.specs.Slots.{MayBeWorked};
@@ -11,8 +11,8 @@ use crate::job::Job;
 use nub_rule::Package;
 use std::sync::Wait;
 
-/// Takes batches and works on them until none are left, a job gives Stop, or the thread is alerted. Where a job gives Stop, all other
-/// threads are alerted.
+/// Takes batches and works on them until none is left, a job gives Stop, or the thread is alerted.
+/// If a job gives Stop, alerts all other threads.
 pub fn work_batches<J: Job, R: Wait>(
     rt: &R,
     p: &Package<Pieces<Batch<J>>>,

@@ -17,12 +17,12 @@ abbrev pub alert_waits : ℕ → ℕ → ℕ → ℕ → List Event
 alert_waits t m c zero = []
 alert_waits t m c (suc k) = enqueue_event true t m c ∷ wait_end Returned t m c ∷ alert_waits t m c k
 
--- what comes after them: where an alert ended the call, the wait that it ended
+-- what follows them: if an alert ended the call, the wait that it ended
 abbrev pub last_wait : ℕ → ℕ → ℕ → Outcome → List Event
 last_wait t m c Returned = []
 last_wait t m c Alerted = enqueue_event true t m c ∷ wait_end Alerted t m c ∷ []
 
--- an answer is there where no alert ended the wait
+-- there is an answer if no alert ended the wait
 abbrev pub outcome_of : {X : Type 0} → Opt X → Outcome
 outcome_of None = Alerted
 outcome_of (Some r) = Returned

@@ -1,4 +1,4 @@
-//! The same, where an alert may end the wait.
+//! The calls of a monitor that an alert may end.
 ghost use Rattle.std.specs.Prelude.{◌≡◌, ℕ, ◌<◌, ◌∷◌, ◌++◌, slice_set, IfSome, MatchOption, Some, None, true};
 ghost use Rattle.std.specs.Fn.{FnOnceReturnsAtMut, FnReturnsAt};
 ghost use mathlib.Core.Option.{some};
@@ -17,9 +17,16 @@ use nub_rule::{Change, NoChange, Package, Thread, Uses};
 use std::sync::Wait;
 use user_mutex::{acquire, release};
 
-/// As `wait_until`, and an alert of the thread may end it: then the value may be any, and the alert is gone.
+/// Waits as `wait_until` does, unless an alert of the thread ends the wait. Returns how it ended,
+/// and the value. If an alert ended it, the value may be one that the test rejects, and the alert
+/// is cleared.
 ///
-/// The thread has the mutex before and afterwards, in both cases.
+/// The thread must hold the mutex, and holds it again afterwards, however the wait ended.
+///
+/// ```rust
+/// let got = acquire(rt, p, me, m);
+/// let (outcome, mut value) = alert_wait_until(rt, p, me, m, c, got, test);
+/// ```
 pub fn alert_wait_until<U: Uses, T: Fn(&U::Value) -> bool, R: Wait>(
     rt: &R,
     p: &Package<U>,
@@ -64,8 +71,11 @@ pub fn alert_wait_until<U: Uses, T: Fn(&U::Value) -> bool, R: Wait>(
     unreachable!()
 }
 
-/// As `locked_when`, and an alert of the thread may end the wait: then f isn't called, the mutex is given back with the value that it had,
-/// the alert is gone, and there is no answer.
+/// Does what `locked_when` does, unless an alert of the thread ends the wait. Then `f` isn't
+/// called, the mutex is released with its value unchanged, the alert is cleared, and the call
+/// returns `None`.
+///
+/// Blocks as `acquire` and `alert_wait` do.
 pub fn alert_locked_when<
     U: Uses,
     C: Change<U>,

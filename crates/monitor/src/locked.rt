@@ -14,11 +14,19 @@ use nub_rule::{Change, Package, Thread, Uses};
 use std::sync::Wait;
 use user_mutex::{acquire, release};
 
-/// Takes the mutex, waits in the condition as long as the test doesn't accept its value, lets f work on the value that it accepted, and
-/// gives it back.
+/// Acquires the mutex, waits in the condition until the test accepts the mutex's value, lets `f`
+/// work on that value, and releases the mutex. Returns the result of `f`.
 ///
-/// It blocks as `acquire` and `wait` do, and for as long as f runs all others wait for the mutex. It wakes nobody: who changes a value that
-/// others wait for signals their condition, before or after that. Neither the test nor f gets the thread.
+/// Blocks as `acquire` and `wait` do. While `f` runs, all other threads that want the mutex wait.
+/// The call wakes no thread: a thread that changes a value which others wait for must signal their
+/// condition, before or after this call. Neither the test nor `f` gets the thread.
+///
+/// ```rust
+/// let has_room = |mail: &Mail| mail.slot.is_none();
+/// let put = |mail: &mut Mail| mail.slot = Some(message);
+/// locked_when::<Post, Sends, (), _, _, R>(rt, p, me, MAIL, ROOM, &has_room, put);
+/// signal(rt, p, me, MORE);
+/// ```
 #[inline]
 pub fn locked_when<
     U: Uses,

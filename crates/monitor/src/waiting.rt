@@ -1,4 +1,4 @@
-//! Waiting until a value passes a test.
+//! Waiting until the value of a mutex passes a test.
 ghost use Rattle.std.specs.Prelude.{◌≡◌, ℕ, ◌<◌, slice_set, Some, true};
 ghost use Rattle.std.specs.Fn.{FnReturnsAt};
 ghost use Rattle.monitor.specs.Waits.{waits};
@@ -11,10 +11,15 @@ use larch_actions::{CondId, MutexId};
 use nub_rule::{NoChange, Package, Thread, Uses};
 use std::sync::Wait;
 
-/// Waits in the condition as long as the test doesn't accept the value of the mutex, and answers the value that it accepted.
+/// Waits in the condition until the test accepts the value of the mutex, and returns that value.
 ///
-/// The thread has the mutex before and afterwards, and each wait gives the value back as it was got, which the use must allow. It waits for
-/// ever if no such value comes, or nobody wakes it then.
+/// The thread must hold the mutex, and holds it again afterwards. Each wait releases the mutex with
+/// the value unchanged, which the use must allow. Blocks for ever if no value that the test accepts
+/// ever comes, or if no thread signals the condition then.
+///
+/// ```rust
+/// let value = wait_until(rt, p, me, turn.mutex, turn.cond, got, &|sum: &u64| may_go(*sum));
+/// ```
 #[inline]
 pub fn wait_until<U: Uses, T: Fn(&U::Value) -> bool, R: Wait>(
     rt: &R,

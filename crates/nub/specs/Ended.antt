@@ -12,7 +12,8 @@ use Rattle.nub_rule.specs.Known.{Known, Shape}
 use Rattle.nub_rule.specs.Items.{Each}
 use Rattle.nub.specs.Rest.{AtRest}
 
--- the layout, the last released value of each mutex, the whole history of a traced run, and each thread as it came back
+-- the layout, the last released value of each mutex, the whole history of a traced run, and each
+-- thread as it came back
 pub record Ended (T H W : Type 0) : Type 0 where
   pub layout : Layout
   pub values : List T
@@ -40,20 +41,21 @@ module _ {T H W : Type 0} where
     pub none : (m : ℕ) (x : T) → ¬ (get_elem? t.held m ≡ some (Some x))
     pub share : t.share ≡ Some (begin p.world n)
 
-  -- the thread n of the package, which holds no mutex
+  -- the thread n of the package, at rest and without a mutex
   pub record IsDone (p : Shape W) (n : ℕ) (t : Known T H W) : Type 0 where
     pub number : t.number ≡ n
     pub rest : AtRest p t
     pub lacks : (m : ℕ) (x : T) → ¬ (get_elem? t.held m ≡ some (Some x))
 
-  -- the lock invariant holds of the values and the shares of the threads
+  -- the lock invariant holds of the values and of the threads' shares
   pub record KeepsLocks (holds : List T → List H → Type 0) (threads : List (Known T H W)) (values : List T) : Type 0 where
     pub shares : List H
     pub each_share : map (λ t. t.share) threads ≡ map (λ s. Some s) shares
     pub kept : holds values shares
 
-  -- the list is the whole history of the threads: it is legal and closed, each event is by one of them and has names of the layout, each has seen a beginning of it, one has seen all of
-  -- it unless it is empty, and its part by each is that thread's own events
+  -- the list is the whole history of the threads: it is legal and closed, each event is by one of
+  -- them and has names of the layout, each thread has seen a beginning of it, one has seen all of
+  -- it unless it is empty, and each thread's part of it is that thread's own events
   pub record IsWhole (l : Layout) (threads : List (Known T H W)) (h : List Event) : Type 0 where
     pub closed : IsClosed l.version h
     pub people : All (λ e. e.thread.0 < length threads) h

@@ -21,7 +21,8 @@ module _ {T H W : Type 0} where
     pub mine : k.mine ≡ []
     pub share : k.share ≡ Some (begin p.world n)
 
-  -- the thread n of the package was begun by the thread a: it has done nothing, has seen what a has seen, and has its first share
+  -- the thread n of the package was forked by the thread a: it has done nothing, has seen what a
+  -- has seen, and has its first share
   pub record IsBegun (p : Shape W) (begin : W → ℕ → H) (n : ℕ) (a k : Known T H W) : Type 0 where
     pub number : k.number ≡ n
     pub rest : AtRest p k

@@ -15,13 +15,14 @@ entries_from t k (e ∷ es) = cond (eqb e.thread.0 t) (record { number = k; even
 abbrev pub entries_of : ℕ → List Event → List Entry
 entries_of t h = entries_from t 0 h
 
--- the threads of h are those of the lists, and the list at t is what the thread t stores of h, unless it is lost
+-- the threads of h are those of the lists, and the list at t is what the thread t stores of h,
+-- unless that list lost an entry
 pub record AreStored (h : List Event) (lists : List Stored) : Type 0 where
   pub threads : All (λ e. e.thread.0 < length lists) h
   pub each : (t : ℕ) (d : Stored) → t < length lists → (slice_index_or lists t d).lost ≡ false
       → (slice_index_or lists t d).entries.items ≡ entries_of t h
 
--- the entry's event stands in h at its place
+-- the entry's event is in h at its place
 abbrev pub IsOf : List Event → Entry → Type 0
 IsOf h x = (x.number < length h) × ((d : Event) → slice_index_or h x.number d ≡ x.event)
 

@@ -5,7 +5,8 @@ use lib.ListN.{get_elem?}
 use Rattle.nub_rule.specs.Known.{Known, Shape, Holds}
 use Rattle.nub.specs.Rest.{AtRest}
 
--- the thread n of the package is between two calls, holds the mutex m and no other, got the value x with it, and has this share
+-- the thread n of the package is between two calls, holds the mutex m and no other, got the value x
+-- with it, and has this share
 pub record IsHolding {T H W : Type 0} (p : Shape W) (n m : ℕ) (s : H) (x : T) (t : Known T H W) : Type 0 where
   pub number : t.number ≡ n
   pub rest : AtRest p t

@@ -1,4 +1,4 @@
--- Where a thread has no call open, and what a call adds.
+-- Threads with no open call, and what a call adds.
 use Rattle.std.specs.Prelude.{◌≡◌, ℕ, Bool, true, false, List, [], ◌∷◌, ◌++◌, map, None}
 use Rattle.larch_actions.specs.declared.event.Event.{Event}
 use Rattle.larch_actions.specs.declared.event.Life.TheVariants.{Live}
@@ -9,7 +9,8 @@ use Rattle.nub_rule.specs.Known.{Known, Shape, Holds, IsOut, part_of}
 use Rattle.nub_rule.specs.Owed.{MustLook}
 
 module _ {T H W : Type 0} where
-  -- the thread lives, has no spin word and no pen, owes nobody a ready word, and stands in no queue
+  -- the thread lives, has no spin word and no pen, owes no thread its ready word, and is in no
+  -- queue
   pub record IsOutside (k : Known T H W) : Type 0 where
     pub spin : k.spin ≡ None
     pub queue : k.queue ≡ []
@@ -19,7 +20,7 @@ module _ {T H W : Type 0} where
     pub pen : k.pen ≡ No
     pub live : k.life ≡ Live
 
-  -- in a traced package each own event was stored with its place, unless the list is lost
+  -- in a traced package each own event was stored with its place, unless the list lost an entry
   abbrev pub HasStored : Bool → Known T H W → Type 0
   HasStored traced k = traced ≡ true → k.lost ≡ false → (map (λ x. x.number) k.entries ≡ k.places) × (map (λ x. x.event) k.entries ≡ k.mine)
 
@@ -38,11 +39,12 @@ module _ {T H W : Type 0} where
     pub child : k.child ≡ child.No
     pub version : k.version ≡ p.layout.version
 
-  -- the thread is bound to look at no mutex or semaphore, whatever its queue
+  -- the thread needn't look at any mutex or semaphore, whatever is in its queue
   abbrev pub IsBoundNowhere : Known T H W → Type 0
   IsBoundNowhere k = (o : ℕ) (queue : List ℕ) → ¬ MustLook o queue k.number (part_of k)
 
-  -- a call added these own events and then e: the history that was seen grew to a legal one that ends with e, and the own events are the thread's part of it
+  -- a call added these own events and then e: the history seen grew to a legal one that ends with
+  -- e, and the own events are the thread's part of it
   pub record Adds (es : List Event) (e : Event) (a b : Known T H W) : Type 0 where
     pub mine : b.mine ≡ (a.mine ++ es) ++ e ∷ []
     pub legal : IsLegal b.version b.seen
@@ -50,7 +52,7 @@ module _ {T H W : Type 0} where
     pub ends : (before : List Event) × (b.seen ≡ before ++ e ∷ [])
     pub own : by_thread b.number b.seen ≡ b.mine
 
-  -- these own events were added, and the history that was seen grew
+  -- these own events were added, and the history seen grew
   pub record Added (es : List Event) (a b : Known T H W) : Type 0 where
     pub mine : b.mine ≡ a.mine ++ es
     pub grows : StartsWith b.seen a.seen

@@ -7,7 +7,7 @@ total f [] = 0
 total f (x ∷ xs) = f x + total f xs
 
 module _ {T H W : Type 0} where
-  -- 1 where the thread has the number n
+  -- 1 if the thread has the number n
   abbrev pub is_number : ℕ → Known T H W → ℕ
   is_number n k = cond (eqb k.number n) 1 0
 

@@ -1,4 +1,4 @@
-//! What is left of a package that was closed.
+//! The remains of a closed package.
 ghost use Rattle.std.specs.Prelude.{◌≡◌, MatchOption};
 
 use larch_actions::{Event, Layout};
@@ -7,15 +7,17 @@ use std::marker::Model;
 use std::mem::ManuallyDrop;
 use std::snapshot::Snapshot;
 
-/// What is left of a package that was closed. Only closing makes one. Contracts see each of its threads too, as it came back.
+/// What is left of a package that was closed. Only closing makes one. Contracts also see each
+/// thread as it came back.
 #[derive(Drop)]
 pub struct Closed<U: Uses> {
     pub(crate) layout: Layout,
     pub(crate) values: Vec<U::Value>,
     pub(crate) trace: Option<Vec<Event>>,
-    /// The threads of version one. Under `ManuallyDrop`, so that nobody who lets go of this has the drop of a thread to prove.
+    /// The threads of version one. They are under `ManuallyDrop`, so that dropping this needs no
+    /// proof about the drop of a thread.
     pub(crate) threads: Snapshot<ManuallyDrop<Vec<Thread<U>>>>,
-    /// Those of version two, in any order.
+    /// The threads of version two, in any order.
     pub(crate) over: Snapshot<ManuallyDrop<Vec<Ended<U>>>>,
     pub(crate) never: Snapshot<ManuallyDrop<Vec<Unborn<U>>>>,
 }
@@ -32,21 +34,25 @@ impl<U: Uses> Model for Closed<U> {
 }
 
 impl<U: Uses> Closed<U> {
-    /// The layout of the package.
+    /// Returns the layout of the package.
     pub fn layout(&self) -> Layout
         ensures { result ≡ self.now.layout }
     {
         self.layout
     }
 
-    /// The value of each mutex, as it was last released.
+    /// Returns the value of each mutex, as it was last released.
+    ///
+    /// ```rust
+    /// let left = closed.values()[0];
+    /// ```
     pub fn values(&self) -> &[U::Value]
         ensures { result.now ≡ self.now.values }
     {
         self.values.as_slice()
     }
 
-    /// The same, by value.
+    /// Returns the values of the mutexes themselves, as they were last released.
     pub fn into_values(self) -> Vec<U::Value>
         ensures { result.items ≡ self.values }
     {
@@ -61,7 +67,13 @@ impl<U: Uses> Closed<U> {
         values
     }
 
-    /// The whole history of the package, where the run was traced.
+    /// Returns the whole history of the package if the run was traced, and `None` otherwise.
+    ///
+    /// ```rust
+    /// let Some(events) = closed.trace() else {
+    ///     unreachable!()
+    /// };
+    /// ```
     pub fn trace(&self) -> Option<&[Event]>
         ensures { MatchOption result (self.now.trace ≡ None) (λ x. self.now.trace ≡ Some x.now) }
     {

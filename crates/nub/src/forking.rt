@@ -1,6 +1,8 @@
-//! Threads that begin and end in the history: the fork of a thread, its own end, and waiting for the end of another.
+//! Threads that begin and end in the history: forking a thread, its own end, and waiting for the
+//! end of another.
 //!
-//! A thread is forked by its right to begin, an `Unborn`, which opening gives out; its end leaves an `Ended`, which closing takes back.
+//! Opening a package gives an `Unborn` for each thread but the first: the right to fork it. The end
+//! of a thread leaves an `Ended`, which closing takes.
 ghost use Rattle.std.specs.Prelude.{◌≡◌, ◌≢◌, ℕ, ◌<◌, [], true, IfOk, is_ok, Some};
 ghost use Rattle.larch_actions.specs.declared.event.Version.TheVariants.{Two};
 ghost use Rattle.nub_rule.specs.Forks.{IsOver};
@@ -19,9 +21,17 @@ use nub_rule::{
 };
 use std::sync::Wait;
 
-/// Forks the thread whose right to begin is given. The new thread has seen what the caller has, and has its first share.
+/// Forks the thread that this right is for. The new thread has seen what the caller has, and has
+/// its first share.
 ///
-/// It always succeeds: what the new thread needs was made when the package opened.
+/// Always succeeds: all that the new thread needs was allocated when the package was opened. In a
+/// traced package it may wait for a moment, for the turn to number the event.
+///
+/// ```rust
+/// let Ok(child) = fork_thread(rt, pkg, me, right) else {
+///     unreachable!()
+/// };
+/// ```
 pub fn fork_thread<U: Uses, R: Wait>(
     rt: &R,
     p: &Package<U>,
@@ -54,7 +64,14 @@ pub fn fork_thread<U: Uses, R: Wait>(
     Ok(hand_out(p, me, body))
 }
 
-/// Ends the thread, which holds no mutex. Who waits for that goes on.
+/// Ends the thread, which must hold no mutex, and wakes the threads that wait for its end. Returns
+/// what closing the package takes.
+///
+/// In a traced package it may wait for a moment, for the turn to number the event.
+///
+/// ```rust
+/// end_thread(rt, pkg, me)
+/// ```
 pub fn end_thread<U: Uses, R: Wait>(rt: &R, p: &Package<U>, mut me: Thread<U>) -> Ended<U>
     requires rest { AtRest p.now me }
     requires none { HasNone me }
@@ -75,7 +92,13 @@ pub fn end_thread<U: Uses, R: Wait>(rt: &R, p: &Package<U>, mut me: Thread<U>) -
     Ended::of(me)
 }
 
-/// Waits for the end of the thread `who`. It returns once it has read that life word as ended; nothing says that it ever is.
+/// Waits for the end of the thread `who`, which must be another thread than the caller.
+///
+/// Blocks until it has read that this thread has ended, for ever if the thread never does.
+///
+/// ```rust
+/// join_thread(rt, pkg, me, ThreadId(who));
+/// ```
 pub fn join_thread<U: Uses, R: Wait>(rt: &R, p: &Package<U>, me: &mut Thread<U>, who: ThreadId)
     requires rest { AtRest p.now me.old }
     requires named { who.0 < p.now.layout.threads }
@@ -92,13 +115,14 @@ pub fn join_thread<U: Uses, R: Wait>(rt: &R, p: &Package<U>, me: &mut Thread<U>,
         if try_join(rt, p, me, who) {
             return;
         }
-        // Without the pen, which the other's end may need. An end stores the word first and unparks all then.
+        // Without the pen, which the other thread may need to end. That end first stores the word
+        // and then unparks all, so none parks for ever.
         park_for_end(rt, me);
     }
     unreachable!()
 }
 
-/// Reads once whether the thread `who` has ended, and answers that. Where it has, that is the join.
+/// Reads once whether the thread `who` has ended, and returns that. If it has, this is the join.
 fn try_join<U: Uses, R: Wait>(rt: &R, p: &Package<U>, me: &mut Thread<U>, who: ThreadId) -> bool
     requires rest { AtRest p.now me.old }
     requires named { who.0 < p.now.layout.threads }

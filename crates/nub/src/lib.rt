@@ -1,8 +1,10 @@
 //! The Nub: opening and closing a package, spin words, queues, sleeping and the pen.
 //!
-//! Promises: a package opens with threads that have done nothing and have their first shares; a traced package closes with the whole
-//! history of its threads, legal and closed. Spin words are taken only for a reason. A thread at rest owes nobody a look. Stands on the
-//! steps of `nub_rule` and sleeps by `crossbeam_utils`. Nothing is said of progress, fairness or time.
+//! Promises: a package opens with threads that have done nothing and have their first shares; a
+//! traced package closes with the whole history of its threads, legal and closed. A spin word is
+//! taken only for a reason. A thread at rest owes no thread a look. Built on the steps of
+//! `nub_rule`; threads sleep by `crossbeam_utils`. Nothing is promised about progress, fairness or
+//! time.
 #![tactic(auto)]
 
 mod closed;

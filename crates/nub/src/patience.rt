@@ -1,7 +1,8 @@
-//! Whether a thread looks at a word for a while before it sleeps.
+//! Decides whether a thread looks at a word for a while before it sleeps.
 //!
-//! That pays only where another processor meanwhile does what the thread waits for. No call tells whether one does, so a thread goes by
-//! how its own looks of late ended: where few were in time it sleeps at once, and tries a look now and then.
+//! Looking pays only if another processor meanwhile does what the thread waits for. No call says
+//! whether one does, so a thread goes by its own latest looks: if few were in time it sleeps at
+//! once, and tries a look now and then.
 ghost use Rattle.std.specs.Prelude.{◌≡◌, ◌<◌};
 
 use nub_rule::{Thread, Uses};
@@ -11,27 +12,27 @@ use nub_rule::{Thread, Uses};
 pub enum Look {
     /// The bit of a mutex or semaphore.
     Bit,
-    /// The own ready word.
+    /// The thread's own ready word.
     Ready,
 }
 
-// With so many misses more than hits (a hit counts double) it looks no longer,
+// A thread with this many more misses than hits (a hit counts twice) stops looking,
 const MOST_MISSES: u64 = 8;
 
-// but at the last of so many waits.
+// except at the last of this many waits.
 const LAST: u64 = 135;
 
-// A tally is below this.
+// Every tally is below this.
 const TALLIES: u64 = 256;
 
-/// Whether the thread is to look for a while.
+/// Returns whether the thread is to look for a while.
 pub fn is_patient<U: Uses>(me: &Thread<U>, look: Look) -> bool {
     let tally = tally_of(me.patience(), look);
     tally < MOST_MISSES || tally == LAST
 }
 
-/// Learns whether what the thread waited for came while it looked: Some(true) where it did, Some(false) where the thread slept, and None where
-/// that tells nothing.
+/// Learns whether what the thread waited for came while it looked: `Some(true)` if it did,
+/// `Some(false)` if the thread slept, and `None` if the wait says nothing about that.
 pub fn learn<U: Uses>(me: &mut Thread<U>, look: Look, in_time: Option<bool>)
     ensures { me.new ≡ me.old }
 {

@@ -1,4 +1,4 @@
-//! The pen: in a traced package a step that may be an event is made with it.
+//! The pen: in a traced package, a thread must have it to make a step that may be an event.
 ghost use Rattle.std.specs.Prelude.{◌≡◌, ◌≢◌, ◌<◌, ℕ, ◌++◌, ◌∷◌, [], Some, None, true, false};
 ghost use Rattle.larch_actions.specs.declared.event.Event.{Event};
 ghost use Rattle.larch_actions.specs.declared.event.Life.TheVariants.{Live};
@@ -13,8 +13,8 @@ use nub_rule::{
 };
 use std::sync::Wait;
 
-/// In a traced package takes the pen and reads the number of the next event. It spins while another thread has the pen. In an untraced
-/// one it does nothing.
+/// In a traced package takes the pen and reads the number of the next event; spins while another
+/// thread has the pen. In an untraced package does nothing.
 #[inline]
 pub fn begin_event<U: Uses, R: Wait>(rt: &R, p: &Package<U>, me: &mut Thread<U>)
     requires of { me.old.table_id ≡ p.now.table_id }
@@ -30,8 +30,8 @@ pub fn begin_event<U: Uses, R: Wait>(rt: &R, p: &Package<U>, me: &mut Thread<U>)
     }
 }
 
-/// In a traced package stores the event that was made, the thread's last, under its number, and gives the pen back. In an untraced one it
-/// does nothing.
+/// In a traced package stores the event that was made, the thread's last, with its number, and
+/// gives the pen back. In an untraced package does nothing.
 #[inline]
 pub fn end_event<U: Uses>(p: &Package<U>, me: &mut Thread<U>, made: Option<Event>)
     requires of { me.old.table_id ≡ p.now.table_id }
@@ -65,10 +65,12 @@ fn begin_traced<U: Uses, R: Wait>(rt: &R, p: &Package<U>, me: &mut Thread<U>)
             if read_number(p, me) < u64::MAX {
                 return;
             }
-            // No number is left for an event. The pen goes back, since nobody may wait with it.
+            // There is no number left for an event. The pen goes back, since no thread may wait
+            // while it has it.
             give_pen(p, me);
         }
-        // First pauses, then the processor is given up: the holder may be waiting for it.
+        // Pauses at first, and then gives the processor up: the thread with the pen may be waiting
+        // for it.
         backoff.snooze();
     }
     unreachable!()
@@ -85,7 +87,8 @@ fn end_traced<U: Uses>(p: &Package<U>, me: &mut Thread<U>, made: Option<Event>)
         × (me.new.entries ≡ me.old.entries ++ record { number = me.old.next; event = e } ∷ []) }
 {
     if let Some(event) = made {
-        // Stored before the number is written: the number that was read is this event's until the pen goes back.
+        // Stored before the number is written: until the pen goes back, the number that was read
+        // belongs to this event.
         store_event(me, event);
         let number = next_number(me);
         write_number(p, me, number + 1);

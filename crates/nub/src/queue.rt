@@ -1,4 +1,4 @@
-//! The queue of an object, under its spin word.
+//! The queue of an object, protected by its spin word.
 ghost use Rattle.std.specs.Prelude.{◌≡◌, ◌<◌, ◌∷◌, ◌++◌, ℕ, [], Some, None, true, false};
 ghost use Rattle.larch_actions.specs.Sets.{mem, without};
 ghost use Rattle.nub_rule.specs.declared.view.Stage.TheVariants.{Pushed, Tested};
@@ -14,7 +14,7 @@ use nub_rule::{
     push_queue, set_ready, take_out,
 };
 
-/// Puts the thread last into the queue.
+/// Puts the thread at the end of the queue.
 pub fn push<U: Uses>(p: &Package<U>, me: &mut Thread<U>, at: Object)
     requires of { me.old.table_id ≡ p.now.table_id }
     requires named { HasObject p.now.layout at }
@@ -36,8 +36,9 @@ pub fn push<U: Uses>(p: &Package<U>, me: &mut Thread<U>, at: Object)
     push_queue(p, me, at);
 }
 
-/// Takes the thread out of the queue, after it found the bit clear, or at a semaphore or a condition its alert word set. It answers whether
-/// the thread was in it. A thread that hadn't found the bit set since its push has its turn to try it then.
+/// Takes the thread out of the queue, after it found the bit clear, or its alert word set if the
+/// object is a semaphore or a condition. Returns whether the thread was in the queue. A thread that
+/// hadn't found the bit set since its push is due to try it then.
 pub fn remove<U: Uses>(p: &Package<U>, me: &mut Thread<U>, at: Object) -> bool
     requires of { me.old.table_id ≡ p.now.table_id }
     requires named { HasObject p.now.layout at }
@@ -54,7 +55,8 @@ pub fn remove<U: Uses>(p: &Package<U>, me: &mut Thread<U>, at: Object) -> bool
     }
 }
 
-/// Takes the first out of the queue. The thread owes it its ready word then.
+/// Takes the first thread out of the queue and returns it. The caller then owes that thread its
+/// ready word.
 pub fn pop<U: Uses>(p: &Package<U>, me: &mut Thread<U>, at: Object) -> Option<ThreadId>
     requires of { me.old.table_id ≡ p.now.table_id }
     requires named { HasObject p.now.layout at }
@@ -76,15 +78,18 @@ pub fn pop<U: Uses>(p: &Package<U>, me: &mut Thread<U>, at: Object) -> Option<Th
     pop_queue(p, me, at)
 }
 
-/// Makes a thread ready that was popped from the queue of a condition. It never waits. The other is unparked once this thread has left the
-/// Nub, and where this thread has the mutex of that wait once it gives it back: before, it would find the spin word or the mutex taken.
+/// Makes a thread ready that was popped from the queue of a condition. Never waits. The woken
+/// thread is unparked when this thread leaves the Nub, or, if this thread holds the mutex of that
+/// wait, when it releases the mutex: earlier, the woken thread would find the spin word or the
+/// mutex taken.
 pub fn wake_from_condition<U: Uses>(p: &Package<U>, me: &mut Thread<U>, woken: ThreadId)
     requires of { me.old.table_id ≡ p.now.table_id }
     requires owed { mem woken.0 me.old.owed ≡ true }
     requires named { woken.0 < most_threads }
     ensures { me.new ≡ record me.old { owed = without woken.0 me.old.owed } }
 {
-    // First the word, then the unparking: a thread that wakes up reads the word, and would park again if it weren't set yet.
+    // The word first, then the unparking: a thread that wakes up reads the word, and would park
+    // again if it weren't set yet.
     set_ready(p, me, woken);
     note_woken(p, me, woken);
 }

@@ -11,13 +11,17 @@ use crossbeam_utils::Backoff;
 use nub_rule::{Package, Thread, Uses, clear_ready, park, read_alert, read_ready};
 use std::sync::Wait;
 
-// How often a thread looks before it parks, after 1, 2, 4 and up to 64 pauses: 447 in all, which take no longer than a park with its wake.
+// How often a thread looks before it parks, after 1, 2, 4 and up to 64 pauses: 447 in all, which
+// take no longer than to park and be woken.
 const LOOKS: u32 = 12;
 
-/// Sleeps until the ready word is found set, and clears it; it answers true then. Where `alertable` is true it also ends where the thread's
-/// alert word is found set, and answers false: the thread stands in the queue still, unless another thread popped it meanwhile. It may wait
-/// for ever: only a thread that pops this one sets its ready word, and only an alert of it its alert word. In the condition of an alertable
-/// wait a thread sleeps alertably, as long as it hasn't found its alert word set.
+/// Sleeps until the ready word is found set, clears it, and returns true. If `alertable` is true,
+/// the sleep also ends when the thread's alert word is found set, and the call returns false: the
+/// thread is still in the queue then, unless another thread popped it meanwhile.
+///
+/// Blocks for ever if neither happens: only a thread that pops this one sets its ready word, and
+/// only an alert of this thread its alert word. In the condition of an alertable wait a thread must
+/// sleep alertably, until it has found its alert word set.
 pub fn sleep<U: Uses, R: Wait>(rt: &R, p: &Package<U>, me: &mut Thread<U>, alertable: bool) -> bool
     requires of { me.old.table_id ≡ p.now.table_id }
     requires outside { me.old.spin ≡ None }
@@ -41,15 +45,18 @@ pub fn sleep<U: Uses, R: Wait>(rt: &R, p: &Package<U>, me: &mut Thread<U>, alert
     let mut parked = false;
     let backoff = Backoff::new();
     for _ in rt.forever() {
-        // The ready word decides, not the parking: a thread may be unparked for nothing, or before it parks, which makes its next park
-        // return at once. So the word is read before each park, and no wake that comes between the two is lost.
+        // The ready word decides, not the parking: a thread may be unparked for no reason, or
+        // before it parks, which makes its next park return at once. So the word is read before
+        // each park, and no wake that comes between the two is lost.
         if read_ready(p, me) != 0 {
-            // Cleared by its own thread alone, and only when found set: nobody sets it twice for one push.
+            // Cleared only by its own thread, and only when found set: no thread sets it twice for
+            // one push.
             clear_ready(p, me);
             learn(me, Look::Ready, lesson(looks, left, parked));
             return true;
         }
-        // Read before each park too, and set before the unparking that an alert does: so no alert is slept through.
+        // Also read before each park, and set before the unparking that an alert does: so no alert
+        // is slept through.
         if alertable && read_alert(p, me) != 0 {
             return false;
         }
@@ -64,7 +71,7 @@ pub fn sleep<U: Uses, R: Wait>(rt: &R, p: &Package<U>, me: &mut Thread<U>, alert
     unreachable!()
 }
 
-/// What a thread learns of a sleep that it began with so many looks, of which so many are left.
+/// What a thread learns from a sleep that it began with `looks` looks, of which `left` are left.
 fn lesson(looks: u32, left: u32, parked: bool) -> Option<bool> {
     if parked {
         Some(false)

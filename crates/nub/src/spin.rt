@@ -1,4 +1,4 @@
-//! Into the Nub and out of it, under a spin word.
+//! Entering and leaving the Nub, under a spin word.
 ghost use Rattle.std.specs.Prelude.{◌≡◌, ◌<◌, [], length, Some, None, true};
 ghost use Rattle.larch_actions.specs.Sets.{mem, without};
 ghost use Rattle.nub_rule.specs.Items.{Small};
@@ -13,8 +13,8 @@ use nub_rule::{
 };
 use std::sync::Wait;
 
-/// Takes the spin word of the object, for this reason. It spins while another thread has the word, and never sleeps: who has a spin word
-/// gives it back after a few steps, none of which waits.
+/// Takes the spin word of the object, for this reason. Spins while another thread has the word, and
+/// never sleeps: a thread with a spin word gives it back after a few steps, none of which waits.
 pub fn enter<U: Uses, R: Wait>(rt: &R, p: &Package<U>, me: &mut Thread<U>, at: Object, why: Why)
     requires of { me.old.table_id ≡ p.now.table_id }
     requires named { HasObject p.now.layout at }
@@ -33,18 +33,20 @@ pub fn enter<U: Uses, R: Wait>(rt: &R, p: &Package<U>, me: &mut Thread<U>, at: O
 {
     let backoff = Backoff::new();
     for _ in rt.forever() {
-        // A failed try changes nothing in the view, so the reason still stands at the next.
+        // A failed try changes nothing in the view, so the reason still holds at the next try.
         if take_spin(p, me, at, why) == 0 {
             return;
         }
-        // First pauses, then the processor is given up: the holder may be waiting for it.
+        // Pauses at first, and then gives the processor up: the thread with the word may be waiting
+        // for it.
         backoff.snooze();
     }
     unreachable!()
 }
 
-/// Gives the spin word of the object back, and unparks whom this thread has woken, unless it has the mutex that such a thread needs to go on.
-/// It never waits. An unparked thread may take the processor at once, so that is done here, where it finds the spin word free.
+/// Gives the spin word of the object back, and unparks the threads that this thread has woken,
+/// unless this thread holds the mutex that they need to go on. Never waits. An unparked thread may
+/// take the processor at once, so it is unparked only here, where it finds the spin word free.
 pub fn leave<U: Uses, R: Wait>(rt: &R, p: &Package<U>, me: &mut Thread<U>, at: Object)
     requires of { me.old.table_id ≡ p.now.table_id }
     requires named { HasObject p.now.layout at }

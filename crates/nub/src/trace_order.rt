@@ -1,4 +1,4 @@
-//! The events that threads have stored, put in order of their numbers.
+//! Puts the events that threads have stored in order of their numbers.
 ghost use Rattle.std.specs.Prelude.{◌≡◌, ℕ, ◌<◌, true, false, length, List, sum_by, vec_len, IfOk};
 ghost use Rattle.std.specs.List.{All};
 ghost use Rattle.std.specs.Option.{IfSome};
@@ -9,7 +9,7 @@ use larch_actions::{Action, Event, ThreadId};
 use nub_rule::{Entry, Stored};
 use std::alloc::{AllocError, Global};
 
-// Stands at a place until its event is written there.
+// Fills a place until its event is written there.
 const NO_EVENT: Event = Event {
     thread: ThreadId(0),
     action: Action::TestAlert { yes: false },
@@ -27,7 +27,7 @@ fn place_all(places: &mut Vec<Event>, list: &Vec<Entry>)
     }
 }
 
-/// How many entries the lists have, unless that is past every number.
+/// Returns how many entries the lists have together, unless that is more than a `usize` holds.
 fn count(stored: &[Stored]) -> Option<usize>
     ensures { IfSome result (λ n. n ≡ sum_by (λ s. length s.entries.items) stored.now) }
 {
@@ -38,7 +38,7 @@ fn count(stored: &[Stored]) -> Option<usize>
     Some(total)
 }
 
-/// Whether every list is whole.
+/// Returns whether no list lost an entry.
 fn are_whole(stored: &[Stored]) -> bool
     ensures { result ≡ true → All (λ s. s.lost ≡ false) stored.now }
 {
@@ -50,8 +50,8 @@ fn are_whole(stored: &[Stored]) -> bool
     true
 }
 
-/// The history of which the threads have stored these lists, in linear time. Its one refusal is want of memory, here or when a list lost
-/// an entry.
+/// Returns the history of which the threads have stored these lists, in linear time. Fails only if
+/// there is no memory, now or when a list lost an entry.
 pub fn in_order(alloc: Global, stored: &[Stored]) -> Result<Vec<Event>, AllocError>
     requires { (h : List Event) × AreStored h stored.now }
     ensures { (h : List Event) → AreStored h stored.now → IfOk result (λ v. v.items ≡ h) }

@@ -18,7 +18,15 @@ use std::alloc::{AllocError, Global};
 use std::mem::ManuallyDrop;
 use std::snapshot::Snapshot;
 
-/// A package and its threads, in order of their numbers. Its one refusal is want of memory, and then the values are dropped.
+/// Opens a package of version one, and returns it with its threads, in order of their numbers.
+/// `values` are the first values of the mutexes. If `traced` is true, the events are numbered and
+/// stored.
+///
+/// Fails only if there is no memory, and the values are dropped then.
+///
+/// ```rust
+/// let (p, threads) = open_package::<Numbers>(alloc, layout, &(), rings, false)?;
+/// ```
 pub fn open_package<U: Uses>(
     alloc: Global,
     layout: Layout,
@@ -38,8 +46,15 @@ pub fn open_package<U: Uses>(
     Ok((package, threads))
 }
 
-/// A package whose threads begin and end in the history: its first thread, and the right to begin each other one, in order of their
-/// numbers. Its one refusal is want of memory, and then the values are dropped.
+/// Opens a package of version two, whose threads begin and end in the history. Returns it with its
+/// first thread, and with the rights to fork the others, in order of their numbers. `values` are
+/// the first values of the mutexes. If `traced` is true, the events are numbered and stored.
+///
+/// Fails only if there is no memory, and the values are dropped then.
+///
+/// ```rust
+/// let (pkg, first, rights) = open_forked::<SumUses>(alloc, layout, &(), values, traced)?;
+/// ```
 pub fn open_forked<U: Uses>(
     alloc: Global,
     layout: Layout,
@@ -62,7 +77,7 @@ pub fn open_forked<U: Uses>(
     Ok((package, first, rights_of(threads, room)))
 }
 
-// The rights to begin these threads, put where there is room for them.
+// Turns these threads into rights to fork them, in a list that has room.
 fn rights_of<U: Uses>(threads: Vec<Thread<U>>, mut rights: Vec<Unborn<U>>) -> Vec<Unborn<U>>
     requires unborn { Each (λ _ t. IsUnborn U.begin t) threads.items }
     requires room { (rights.items ≡ []) × (length threads.items ≤ vec_capacity rights) }
@@ -74,9 +89,15 @@ fn rights_of<U: Uses>(threads: Vec<Thread<U>>, mut rights: Vec<Unborn<U>>) -> Ve
     rights
 }
 
-/// Closes a package whose threads have all come back, in order of their numbers, each at rest and without a mutex.
+/// Closes a package whose threads have all come back, in order of their numbers, each at rest and
+/// without a mutex. Returns the last values and, if the run was traced, the history.
 ///
-/// In a traced run its one refusal is want of memory, here or before, where a thread's list lost an entry. The values are then dropped.
+/// Fails only in a traced run, and only if there is no memory, now or earlier, when a thread's list
+/// lost an entry. The values are dropped then.
+///
+/// ```rust
+/// let closed = close_package(p, threads)?;
+/// ```
 pub fn close_package<U: Uses>(
     p: Package<U>,
     threads: Vec<Thread<U>>,
@@ -113,10 +134,16 @@ pub fn close_package<U: Uses>(
     })
 }
 
-/// Closes a package of `open_forked` whose threads have all come back, each once and in any order: those that have ended, and the rights
-/// to begin the others.
+/// Closes a package of `open_forked`. Its threads must all have come back, each once and in any
+/// order: those that have ended, and the rights to fork the others. Returns the last values and, if
+/// the run was traced, the history.
 ///
-/// In a traced run its one refusal is want of memory, here or before, where a thread's list lost an entry. The values are then dropped.
+/// Fails only in a traced run, and only if there is no memory, now or earlier, when a thread's list
+/// lost an entry. The values are dropped then.
+///
+/// ```rust
+/// Ok(close_forked(pkg, ended, unborn)?)
+/// ```
 pub fn close_forked<U: Uses>(
     p: Package<U>,
     ended: Vec<Ended<U>>,
@@ -157,7 +184,7 @@ pub fn close_forked<U: Uses>(
     })
 }
 
-// The history that the threads have stored, where the run was traced.
+// Returns the history that the threads have stored, if the run was traced.
 fn history(alloc: Global, traced: bool, stored: &[Stored]) -> Result<Option<Vec<Event>>, AllocError>
     requires { traced ≡ true → (h : List Event) × AreStored h stored.now }
     ensures untraced { traced ≡ false → (is_ok result ≡ true) × IfOk result (λ t. trace_of t ≡ None) }

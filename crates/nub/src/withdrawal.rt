@@ -1,4 +1,4 @@
-//! Leaving a queue for an alert.
+//! Leaving a queue because of an alert.
 ghost use Rattle.std.specs.Prelude.{◌≡◌, [], None, true, false};
 ghost use Rattle.larch_actions.specs.Sets.{without};
 ghost use Rattle.nub_rule.specs.Known.{StandsAs};
@@ -13,8 +13,10 @@ use super::spin::{enter, leave};
 use nub_rule::{Object, Package, Thread, Uses, Why};
 use std::sync::Wait;
 
-/// Takes the alerted thread out of the queue of a semaphore, or of the condition that it waits in. It answers whether the thread was in it. If
-/// it wasn't, another thread has popped it and makes it ready, for which this waits: at a condition an advance has taken it out then.
+/// Takes the alerted thread out of the queue of a semaphore, or of the condition that it waits in.
+/// Returns whether the thread was in the queue. If it wasn't, another thread has popped it and
+/// makes it ready, and this call waits for that; at a condition, an advance has then taken the
+/// thread out.
 #[cold]
 #[inline(never)]
 pub fn withdraw<U: Uses, R: Wait>(rt: &R, p: &Package<U>, me: &mut Thread<U>, at: Object) -> bool

@@ -21,12 +21,13 @@ use Rattle.nub_rule.specs.Known.{Known, known_as}
 use Rattle.nub_rule.specs.Rule.{begun}
 use Rattle.nub_rule.specs.Places.{life_at, value_at, word_count}
 
--- how many threads of so many live at first
+-- how many of `threads` threads live at first
 abbrev pub living : Version → ℕ → ℕ
 living One threads = threads
 living Two threads = 1
 
--- the words at the start: each is 0, but those of the threads that live from the opening on
+-- the words at the start: each is 0, except the life words of the threads that live from the
+-- opening on
 pub record AreFirst (l : Layout) (words : List ℕ) : Type 0 where
   pub wide : length words ≡ word_count
   pub lives : (t : ℕ) → t < l.threads → slice_index words (life_at t) ≡ number_of (lives_at_first l.version t)
@@ -36,12 +37,13 @@ pub record AreFirst (l : Layout) (words : List ℕ) : Type 0 where
 abbrev pub firsts : {A : Type 0} → (ℕ → A) → ℕ → List A
 firsts f n = map f (range_with_len 0 n)
 
--- a slot for the queue of each object, and then one for each value
+-- a slot for the queue of each object, then one for each value
 abbrev pub opening_slots : {T : Type 0} → List T → List (Slot T)
 opening_slots {T} values = replicate 192 (Queue no_queue) ++ map (λ x. Value (Some x)) values
 
 module _ {T H : Type 0} where
-  -- with the shares of these threads the values keep the lock invariant, and one list of events is legal and closed and has the parts of all of them
+  -- with the shares of these threads the values keep the lock invariant, and there is one list of
+  -- events that is legal, closed and made of the parts of all of them
   pub record Leaves (l : Layout) (holds : List T → List H → Type 0) (parts : List (Part T H)) (values : List T) : Type 0 where
     pub log : List Event
     pub spec : Spec

@@ -1,4 +1,5 @@
--- The right to begin a thread, what is left of one that has ended, and all of these in order of their numbers.
+-- The right to fork a thread, what is left of a thread that has ended, and all of these in order of
+-- their numbers.
 use Rattle.std.specs.Prelude.{◌≡◌, ◌≢◌, ℕ, zero, suc, ◌<◌, cond, eqb, false, List, [], ◌∷◌, ◌++◌, Some, None}
 use Rattle.larch_actions.specs.declared.event.Life.TheVariants.{Live, Ended}
 use Rattle.larch_actions.specs.declared.event.Version.{Version}
@@ -27,13 +28,13 @@ module _ {T H W : Type 0} where
         [],
       ) [] false 0
 
-  -- the right to begin a thread: that isn't the first, and has done nothing
+  -- the right to fork a thread, which isn't the first and has done nothing
   pub record IsUnborn (begin : W → ℕ → H) (k : Known T H W) : Type 0 where
     pub later : 0 < k.number
     pub world : W
     pub is : k ≡ unborn_known k.table_id k.version world begin k.number
 
-  -- the thread has ended. It holds no mutex, no call of it is open, and it begins no other
+  -- the thread has ended: it holds no mutex, no call of it is open, and it is forking no other
   pub record IsOver (k : Known T H W) : Type 0 where
     pub life : k.life ≡ Ended
     pub none : HasNone k
@@ -51,7 +52,8 @@ module _ {T H W : Type 0} where
     pub looked : k.looked ≡ []
     pub child : k.child ≡ Childless
 
-  -- the thread may come back to the collector: it has no mutex's bit and no spin word, is in no wait, begins no other and doesn't live
+  -- the thread may come back to the collector: it has no mutex's bit and no spin word, is in no
+  -- wait, is forking no other and doesn't live
   pub record MayComeBack (k : Known T H W) : Type 0 where
     pub life : k.life ≢ Live
     pub none : HasNone k
@@ -59,16 +61,16 @@ module _ {T H W : Type 0} where
     pub wait : k.wait ≡ None
     pub child : k.child ≡ Childless
 
-  -- those of the list with this number
+  -- the threads of the list that have this number
   abbrev pub with_number : ℕ → List (Known T H W) → List (Known T H W)
   with_number n [] = []
   with_number n (k ∷ ks) = cond (eqb k.number n) (k ∷ with_number n ks) (with_number n ks)
 
-  -- those with the numbers below n, in order of these
+  -- the threads with numbers below n, in order of these
   abbrev pub in_order : ℕ → List (Known T H W) → List (Known T H W)
   in_order zero ks = []
   in_order (suc n) ks = in_order n ks ++ with_number n ks
 
-  -- each number below n is that of one of the list, and of no other
+  -- for each number below n, exactly one of the list has it
   abbrev pub AreAll : ℕ → List (Known T H W) → Type 0
   AreAll n ks = (i : ℕ) → i < n → (k : Known T H W) × (with_number i ks ≡ k ∷ [])

@@ -23,7 +23,7 @@ use Rattle.nub_rule.specs.Begun.{BegunWaits}
 use Rattle.nub_rule.specs.Parts.{Got, Has, stands_at, IsFound, waits_on, open_on, counts_in, number_of, pending_of}
 use Rattle.arrayvec.specs.ArrayVec.{ArrayVec}
 
--- what is true of each element and its place
+-- P holds of each element and its place
 abbrev pub Each : {A : Type 0} → (ℕ → A → Type 0) → List A → Type 0
 Each P xs = (n : ℕ) (x : _) → get_elem? xs n ≡ some x → P n x
 
@@ -33,18 +33,18 @@ queue_of xs = record { items = xs }
 abbrev pub no_queue : ArrayVec ℕ
 no_queue = queue_of []
 
--- a number is 1 exactly where there is an owner, else 0
+-- the number is 1 if there is an owner, and 0 if there is none
 abbrev pub Marks : ℕ → Option ℕ → Type 0
 Marks x owner = ((x ≡ 0) × (owner ≡ none)) ⊎ ((x ≡ 1) × ((n : ℕ) × (owner ≡ some n)))
 
 abbrev pub Flag : List ℕ → ℕ → Option ℕ → Type 0
 Flag words i owner = Marks (slice_index words i) owner
 
--- a number is 1 where the answer is yes, and 0 where it is no
+-- the number is 1 for true, and 0 for false
 abbrev pub Says : ℕ → Bool → Type 0
 Says x b = ((x ≡ 0) × (b ≡ false)) ⊎ ((x ≡ 1) × (b ≡ true))
 
--- no thread stands twice in the list
+-- no thread is in the list twice
 abbrev pub Distinct : List ℕ → Type 0
 Distinct [] = Unit {0}
 Distinct (x ∷ xs) = (mem x xs ≡ false) × Distinct xs
@@ -54,17 +54,17 @@ abbrev pub Small : ℕ → List ℕ → Type 0
 Small n [] = Unit {0}
 Small n (x ∷ xs) = (x < n) × Small n xs
 
--- the places at which the list has events of the thread, where its first place is i
+-- the places at which the list, whose first place is i, has events of the thread
 abbrev pub places_from : ℕ → ℕ → List Event → List ℕ
 places_from i t [] = []
 places_from i t (e ∷ es) = cond (eqb e.thread.0 t) (i ∷ places_from (i + 1) t es) (places_from (i + 1) t es)
 
--- the value of a mutex whose bit nobody has is at home
+-- the value of a mutex whose bit no thread has is in its slot
 abbrev pub AtHome : {T : Type 0} → List (Option (Slot T)) → List T → (ℕ → Option ℕ) → ℕ → Type 0
 AtHome {T} homes values owner m = (x : T) → get_elem? values m ≡ some x → owner m ≡ none
     → get_elem? homes (value_at m) ≡ some (some (Value (Some x)))
 
--- of the pen of the thread n, where there are so many events and the number word is this
+-- the pen as the thread n has it, when there are `total` events and the number word is `word`
 abbrev pub PenFits : ℕ → ℕ → Option ℕ → ℕ → Pen → Type 0
 PenFits total word writer n No = writer ≢ some n
 PenFits total word writer n Taken = (writer ≡ some n) × (word ≡ total)
@@ -72,29 +72,31 @@ PenFits total word writer n (Read k) = (writer ≡ some n) × (word ≡ total) �
 PenFits total word writer n (Made k) = (writer ≡ some n) × (total ≡ k + 1) × (k ≡ word)
 PenFits total word writer n Written = (writer ≡ some n) × (word ≡ total)
 
--- SEMAPHORES: the bit of a semaphore is 0 exactly where it is available
+-- SEMAPHORES: the bit of a semaphore is 0 if and only if it is available
 abbrev pub Semaphores : List ℕ → (ℕ → Bool) → Type 0
 Semaphores words avail = (s : ℕ) → s < 64 → Says (slice_index words (bit_at (sem_object s))) (cond (avail s) false true)
 
--- ALERTS: the alert word of a thread is 1 exactly where it is alerted
+-- ALERTS: the alert word of a thread is 1 if and only if it is alerted
 abbrev pub Alerts : List ℕ → (ℕ → Bool) → Type 0
 Alerts words alerted = (t : ℕ) → t < most_threads → Says (slice_index words (alert_at t)) (alerted t)
 
 module _ {T H : Type 0} where
-  -- what was seen begins the history, and the own events are the thread's part of it
+  -- the history that the thread has seen is a beginning of the whole, and the thread's part of the
+  -- whole is its own events
   pub record Chronicle (log : List Event) (n : ℕ) (p : Part T H) : Type 0 where
     pub begins : StartsWith log p.seen
     pub own : by_thread n log ≡ p.mine
     pub placed : places_from 0 n log ≡ p.places
 
-  -- HISTORY: the list of all events. Each is by a thread and has names of the layout, each thread has seen a beginning of the list, and some thread the whole, unless it is empty
+  -- HISTORY: the list of all events. Each is by a thread and has names of the layout, each thread
+  -- has seen a beginning of the list, and one has seen all of it, unless it is empty
   pub record Told (l : Layout) (log : List Event) (all : List (Part T H)) : Type 0 where
     pub people : Each (λ i e. e.thread.0 < length all) log
     pub names : Each (λ i e. IsNamed l e.action) log
     pub each : Each (Chronicle log) all
     pub longest : (log ≡ []) ⊎ ((n : ℕ) × (p : Part T H) × (get_elem? all n ≡ some p) × (p.seen ≡ log))
 
-  -- the thread has the bit of a mutex exactly where it is its owner
+  -- the thread has the bit of a mutex if and only if it is its owner
   abbrev pub Owns : (ℕ → Option ℕ) → ℕ → Part T H → Type 0
   Owns owner n p = (m : ℕ) → (Has p m → owner m ≡ some n) × (owner m ≡ some n → Has p m)
 
@@ -112,7 +114,8 @@ module _ {T H : Type 0} where
   abbrev pub HasVersion : Version → ℕ → Part T H → Type 0
   HasVersion version n p = p.version ≡ version
 
-  -- MUTEX BITS, VALUES AND SHARES: a bit is 1 exactly where one thread has it; the lock invariant holds of the values last released and the shares
+  -- MUTEX BITS, VALUES AND SHARES: a bit is 1 if and only if one thread has it; the lock invariant
+  -- holds of the values last released and of the shares
   pub record Owned (l : Layout) (holds : List T → List H → Type 0) (owner : ℕ → Option ℕ) (values : List T) (shares : List H)
       (words : List ℕ) (homes : List (Option (Slot T))) (all : List (Part T H)) : Type 0 where
     pub standing : Each (Owns owner) all
@@ -125,12 +128,14 @@ module _ {T H : Type 0} where
     pub shared : Each (Shared shares) all
     pub kept : holds values shares
 
-  -- the thread has the spin word of an object exactly where it spins there, and knows the queue and whom it owes
+  -- the thread has the spin word of an object if and only if it spins there, and then knows the
+  -- queue and the threads that it owes
   abbrev pub Spinning : (ℕ → Option ℕ) → (ℕ → List ℕ) → (ℕ → List ℕ) → ℕ → Part T H → Type 0
   Spinning spinner queue owed n p = (o : ℕ) → (p.spin ≡ Some o → (spinner o ≡ some n) × (p.queue ≡ queue o) × (p.owed ≡ owed o))
       × (spinner o ≡ some n → p.spin ≡ Some o)
 
-  -- SPIN WORDS AND QUEUES: a spin word is 1 exactly where one thread has it, the queue is at home where nobody has, and the length word is its length
+  -- SPIN WORDS AND QUEUES: a spin word is 1 if and only if one thread has it; the queue is in its
+  -- slot if no thread has, and the length word is its length
   pub record Spins (spinner : ℕ → Option ℕ) (queue owed : ℕ → List ℕ) (words : List ℕ) (homes : List (Option (Slot T)))
       (all : List (Part T H)) : Type 0 where
     pub spin : (o : ℕ) → o < 192 → Flag words (spin_at o) (spinner o)
@@ -140,7 +145,8 @@ module _ {T H : Type 0} where
     pub settled : (o : ℕ) → spinner o ≡ none → owed o ≡ []
     pub spinning : Each (Spinning spinner queue owed) all
 
-  -- where the thread n stands: whoever waits in a line stands there and isn't ready, whoever stands is in the line or ready
+  -- where the thread n stands: a thread in a line stands there and isn't ready; a thread that
+  -- stands somewhere is in the line there, or ready
   pub record Stands (words : List ℕ) (line : ℕ → List ℕ) (n : ℕ) (p : Part T H) : Type 0 where
     pub flag : (slice_index words (ready_at n) ≡ 0) ⊎ (slice_index words (ready_at n) ≡ 1)
     pub lined : (o : ℕ) → mem n (line o) ≡ true → (stands_at p.stand o ≡ true) × (slice_index words (ready_at n) ≡ 0)
@@ -148,20 +154,21 @@ module _ {T H : Type 0} where
     pub kept : (s : Stand) → p.stand ≡ Some s → (mem n (line s.at) ≡ true) ⊎ (slice_index words (ready_at n) ≡ 1)
     pub found : (s : Stand) → p.stand ≡ Some s → IsFound s.stage → slice_index words (ready_at n) ≡ 1
 
-  -- LINES AND READY WORDS: the line of an object is those that are owed, and then the queue
+  -- LINES AND READY WORDS: the line of an object is the threads that are owed, followed by the
+  -- queue
   pub record Lines (line : ℕ → List ℕ) (words : List ℕ) (all : List (Part T H)) : Type 0 where
     pub distinct : (o : ℕ) → Distinct (line o)
     pub people : (o t : ℕ) → mem t (line o) ≡ true → t < length all
     pub stands : Each (Stands words line) all
 
-  -- HOLDERS: who has the bit of a mutex holds it, unless a wait on it is begun, and nobody else does. In such a wait it has yet to clear the bit, or has
-  -- taken it again
+  -- HOLDERS: a thread that has the bit of a mutex holds it, unless it has begun a wait on it, and
+  -- no other thread does. In such a wait it has yet to clear the bit, or has taken it again
   pub record Holders (owner holder : ℕ → Option ℕ) (all : List (Part T H)) : Type 0 where
     pub free : (m : ℕ) → owner m ≡ none → holder m ≡ none
     pub holds : Each (λ n p. (m : ℕ) → owner m ≡ some n → holder m ≡ cond (waits_on p.wait m) none (some n)) all
     pub shut : Each (λ n p. (m : ℕ) → owner m ≡ some n → open_on p.wait m ≡ false) all
 
-  -- PENDINGS: a thread waits exactly where its view does, and nobody past the threads waits
+  -- PENDINGS: a thread is in a wait if and only if its view says so, and no thread past the last is
   pub record Pendings (pending : ℕ → Pending) (all : List (Part T H)) : Type 0 where
     pub strangers : (t : ℕ) → length all ≤ t → pending t ≡ Nothing
     pub pends : Each (λ n p. pending n ≡ pending_of p.wait) all
@@ -174,7 +181,8 @@ module _ {T H : Type 0} where
       pub inside : (c : ℕ) → spinner (cond_object c) ≡ some n → (p.left ≡ left c) × (p.count ≡ count c)
       pub even : (w : Wait) → p.wait ≡ Some w → p.left ≡ p.queue
 
-  -- CONDITIONS, AND THE COUNTS READ: in a condition are those of its queue that no advance has taken, and those whose view says so where the count is still the one that they read
+  -- CONDITIONS, AND THE COUNTS READ: the threads in a condition are those of its queue that no
+  -- advance has taken, and those whose view says so while the count is the one that they read
   pub record Conditions (words : List ℕ) (spinner : ℕ → Option ℕ) (queue : ℕ → List ℕ) (members : ℕ → ℕ → Bool) (all : List (Part T H)) :
       Type 0 where
     pub left : ℕ → List ℕ
@@ -190,7 +198,7 @@ module _ {T H : Type 0} where
   abbrev pub AlertSeen : List ℕ → List (Part T H) → Type 0
   AlertSeen words all = Each (λ n p. p.alerted ≡ true → slice_index words (alert_at n) ≡ 1) all
 
-  -- LIVES: a life word is 0 where the thread wasn't forked, 1 where it lives, and 2 where it has ended
+  -- LIVES: a life word is 0 if the thread wasn't forked, 1 if it lives, and 2 if it has ended
   abbrev pub Lives : List ℕ → List (Part T H) → Type 0
   Lives words all = Each (λ n p. slice_index words (life_at n) ≡ number_of p.life) all
 
@@ -204,7 +212,8 @@ module _ {T H : Type 0} where
     pub conditions : Conditions words spinner queue spec.members all
     pub lives : Each (λ n p. spec.life n ≡ p.life) all
 
-  -- NUMBERING: one thread at most has the pen. In a traced package the number word is the number of events while the pen is free. In an untraced one nobody has it
+  -- NUMBERING: at most one thread has the pen. In a traced package the number word is the number of
+  -- events while the pen is free. In an untraced package no thread has the pen
   pub record Pens (traced : Bool) (total : ℕ) (words : List ℕ) (writer : Option ℕ) (all : List (Part T H)) : Type 0 where
     pub flag : Flag words pen_at writer
     pub within : (n : ℕ) → writer ≡ some n → n < length all
@@ -227,7 +236,8 @@ module _ {T H : Type 0} where
       (homes : List (Option (Slot T))) (all : List (Part T H)) : Type 0 where
     pub log : List Event
     pub spec : Spec
-    -- who has each mutex's bit, each spin word and the pen, each queue, and who is owed
+    -- which thread has each mutex's bit, each spin word and the pen; each queue; and the threads
+    -- that are owed
     pub owner : ℕ → Option ℕ
     pub spinner : ℕ → Option ℕ
     pub writer : Option ℕ

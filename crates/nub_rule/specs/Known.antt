@@ -36,7 +36,7 @@ use Rattle.nub_rule.specs.Slots.{find, IsDistinct, Below}
 
 -- what contracts see of a package
 pub record Shape (W : Type 0) : Type 0 where
-  -- which package it is
+  -- the package that this is
   pub table_id : TableId
   pub layout : Layout
   pub traced : Bool
@@ -46,28 +46,32 @@ abbrev pub shape_of : {W : Type 0} → TableId → About W → Shape W
 shape_of z l = record { table_id = z; layout = l.layout; traced = l.traced; world = l.world.value }
 
 pub record Known (T H W : Type 0) : Type 0 where
-  -- which package it is of
+  -- the package that the thread is of
   pub table_id : TableId
   pub number : ℕ
   pub world : Opt W
   pub version : Version
-  -- the history at its last event, its own events, and the place of each in the history
+  -- the history as it was at the thread's last event, its own events, and the place of each in the
+  -- history
   pub seen : List Event
   pub mine : List Event
   pub places : List ℕ
-  -- for each mutex, the value got where the thread has the bit
+  -- for each mutex, the value got, if the thread has the bit
   pub held : List (Opt T)
   pub share : Opt H
-  -- the object whose spin word it has, the queue there, those whom it owes their ready word, those of the queue that are still in the condition, and its count
+  -- the object whose spin word the thread has, the queue there, the threads that it owes their
+  -- ready word, those of the queue that are still in the condition, and the count of the condition
   pub spin : Opt ℕ
   pub queue : List ℕ
   pub owed : List ℕ
   pub left : List ℕ
   pub count : ℕ
-  -- where it is in a wait, and in whose queue it stands
+  -- the wait that the thread is in, and where it stands
   pub wait : Opt Wait
   pub stand : Opt Stand
-  -- the gates at which a try failed; whose queue it has left and that it hasn't tried since; that it cleared, without a look at the queue since; and of these those where it found a queue
+  -- the gates at which a try failed; those whose queue it has left and that it hasn't tried since;
+  -- those that it cleared, without a look at the queue since; and those of these at which it found
+  -- a queue
   pub failed : List ℕ
   pub turns : List ℕ
   pub cleared : List ℕ
@@ -76,15 +80,15 @@ pub record Known (T H W : Type 0) : Type 0 where
   pub alerted : Bool
   pub calling : Opt ℕ
   pub raised : Opt ℕ
-  -- whether it was forked and has ended, and what it says of one that it forks
+  -- whether it was forked and has ended, and what it says of a thread that it forks
   pub life : Life
   pub child : Child
-  -- for each mutex, where the thread has the bit, its value, unless it was taken out
+  -- for each mutex whose bit the thread has, the value, unless it was taken out
   pub values : List (Opt (Opt T))
   -- the events that it has stored with their numbers, and whether it has lost one
   pub entries : List Entry
   pub lost : Bool
-  -- the number that it read with the pen last
+  -- the number that it last read with the pen
   pub next : ℕ
 
 module _ {T : Type 0} where
@@ -185,11 +189,11 @@ module _ {T H W : Type 0} where
     values = vs;
   }
 
-  -- the thread a with the history that b has seen, b's own events and their places
+  -- the thread a, but with the history that b has seen, b's own events and their places
   abbrev pub learnt : Known T H W → Known T H W → Known T H W
   learnt a b = record a { seen = b.seen; mine = b.mine; places = b.places }
 
-  -- and with what b has stored, and the number that it read
+  -- and with what b has stored, and the number that b read
   abbrev pub recorded : Known T H W → Known T H W → Known T H W
   recorded a b = record a { seen = b.seen; mine = b.mine; places = b.places; entries = b.entries; lost = b.lost; next = b.next }
 
@@ -197,30 +201,32 @@ module _ {T H W : Type 0} where
   abbrev pub Holds : Known T H W → ℕ → T → Type 0
   Holds k m x = get_elem? k.held m ≡ some (Some x)
 
-  -- the value of the mutex is with the thread and out of its slot
+  -- the value of the mutex is with the thread, but not in its slot
   abbrev pub IsOut : Known T H W → ℕ → Type 0
   IsOut k m = get_elem? k.values m ≡ some (Some None)
 
-  -- the value of the mutex is with the thread and in its slot
+  -- the value of the mutex is with the thread, in its slot
   abbrev pub IsIn : Known T H W → ℕ → T → Type 0
   IsIn k m y = get_elem? k.values m ≡ some (Some (Some y))
 
-  -- an event was made: the history that was seen grew to a legal one that ends with it, and the own events are the thread's part of that. In a traced package its place is the number that was read
+  -- an event was made: the history seen grew to a legal one that ends with it, and the own events
+  -- are the thread's part of that. In a traced package its place is the number that was read
   abbrev pub Makes : Event → Known T H W → Known T H W → Type 0
   Makes e a b = (between : List Event) × Grows a.number (part_of a) between e × (b.seen ≡ (a.seen ++ between) ++ e ∷ [])
       × (b.mine ≡ a.mine ++ e ∷ []) × (b.places ≡ a.places ++ length (a.seen ++ between) ∷ [])
 
-  -- the thread may give the mutex back: it has it, and its slot has a value that the picked share allows
+  -- the thread may release the mutex: it has the bit, and the slot has a value that the chosen
+  -- share allows
   abbrev pub MayGive : (W → ℕ → ℕ → T → T → H → H → Type 0) → (W → ℕ → ℕ → T → T → H → H) → ℕ → Known T H W → Type 0
   MayGive allows after m k = (x : T) × (y : T) × Holds k m x × IsIn k m y
       × ((w : W) (s : H) → k.world ≡ Some w → k.share ≡ Some s → allows w m k.number x y s (after w m k.number x y s))
 
-  -- the share afterwards is the one that was picked
+  -- the new share is the one that was chosen
   abbrev pub PicksShare : (W → ℕ → ℕ → T → T → H → H) → ℕ → Known T H W → Known T H W → Type 0
   PicksShare after m a b = (w : W) (s : H) (x y : T) → a.world ≡ Some w → a.share ≡ Some s → Holds a m x → IsIn a m y
       → b.share ≡ Some (after w m a.number x y s)
 
-  -- the thread is in a wait at the condition, and has read its count and not blocked yet
+  -- the thread is in a wait in the condition, and has read its count and not blocked yet
   abbrev pub HasCounted : Object → Known T H W → Type 0
   HasCounted (Cond c) k = (x : Wait) × (j : ℕ) × (k.wait ≡ Some x) × (x.cond.0 ≡ c.0) × (x.member ≡ Some j)
   HasCounted _ k = ⊥
@@ -229,7 +235,8 @@ module _ {T H W : Type 0} where
   abbrev pub StandsAs : (Stand → Type 0) → Known T H W → Type 0
   StandsAs P k = (s : Stand) × (k.stand ≡ Some s) × P s
 
-  -- a Signal or Broadcast of the condition is under way: it found that a wait there was begun
+  -- a Signal or Broadcast of the condition is under way: it found that a thread has begun to wait
+  -- there
   abbrev pub IsCalling : Object → Known T H W → Type 0
   IsCalling (Cond c) k = k.calling ≡ Some c.0
   IsCalling _ k = ⊥
@@ -241,23 +248,27 @@ module _ {T H W : Type 0} where
   HasReason at k Block = HasCounted at k
   HasReason at k Leaving = StandsAs (λ s. (s.at ≡ object_of at) × IsAlerted s.stage) k
 
-  -- the thread may put itself into the queue: into a condition's in a wait there whose count stands
+  -- the thread may put itself into the queue; into that of a condition only in a wait there, while
+  -- the count stays the same
   abbrev pub MayPush : Object → Known T H W → Type 0
   MayPush (Cond c) k = (x : Wait) × (k.wait ≡ Some x) × (x.cond.0 ≡ c.0) × (x.member ≡ Some k.count)
   MayPush _ k = Unit {0}
 
-  -- the thread may pop: from a condition's queue one whom an advance has taken out of the condition
+  -- the thread may pop; from the queue of a condition only a thread that an advance has taken out
+  -- of the condition
   abbrev pub MayPop : Object → Known T H W → Type 0
   MayPop (Cond c) k = (k.wait ≡ None) × ((t : ℕ) → mem t (behind k.queue) ≡ false → mem t k.left ≡ false)
   MayPop _ k = Unit {0}
 
-  -- the thread may take itself out of the queue in which it stands: it found the bit clear at its second test, or at a semaphore or, in its wait, at a condition has seen its alert word set
+  -- the thread may take itself out of the queue in which it stands: it found the bit clear at its
+  -- second test, or has seen its alert word set at a semaphore or in its wait at a condition
   abbrev pub MayLeave : Object → Known T H W → Type 0
   MayLeave (Mutex m) k = StandsAs (λ s. (s.at ≡ m.0) × IsClear s.stage) k
   MayLeave (Sem s) k = StandsAs (λ x. (x.at ≡ sem_object s.0) × (IsClear x.stage ⊎ (k.alerted ≡ true))) k
   MayLeave (Cond c) k = StandsAs (λ s. (s.at ≡ cond_object c.0) × IsAlerted s.stage) k × (x : Wait) × (k.wait ≡ Some x) × (x.cond.0 ≡ c.0)
 
-  -- the thread took itself out of the queue: at a gate it has its turn to try the bit, unless it had found it set since its push; at a condition it is in the condition by the count that stands
+  -- the thread took itself out of the queue: at a gate it is due to try the bit, unless it had
+  -- found it set since its push; at a condition it is in the condition by the present count
   abbrev pub HasLeft : Object → Known T H W → Known T H W → Type 0
   HasLeft (Cond c) a b = b ≡ record a
       { queue = less a.number a.queue; left = less a.number a.left; stand = None; wait = recounted a.count a.wait }
@@ -269,12 +280,13 @@ module _ {T H W : Type 0} where
         left_turns a.stand a.turns;
   }
 
-  -- the thread has no mutex's bit
+  -- the thread has the bit of no mutex
   abbrev pub HasNone : Known T H W → Type 0
   HasNone k = (m : ℕ) (x : T) → ¬ Holds k m x
 
 module _ {T H : Type 0} where
-  -- the slots at hand are the values of the mutexes whose bits the thread has, and the queue of the object whose spin word it has
+  -- the slots at hand are the values of the mutexes whose bits the thread has, and the queue of the
+  -- object whose spin word it has
   pub record Hands (p : Part T H) (slots : List (ℕ × Slot T)) : Type 0 where
     pub below : (o : ℕ) → p.spin ≡ Some o → o < 192
     pub queue_in : (o : ℕ) → p.spin ≡ Some o → find (queue_at o) slots ≡ Some (Queue (queue_of p.queue))
@@ -285,7 +297,8 @@ module _ {T H : Type 0} where
     -- the queue has room for a thread that stands nowhere
     pub room : (o : ℕ) → p.spin ≡ Some o → p.stand ≡ None → length p.queue < most_threads
 
--- what is true of each package: the table has the words and slots of its layout, its key tells the layout and whether it is traced, and the shelf has room for what each thread has stored
+-- what holds of each package: the table has the words and slots of its layout, its key says the
+-- layout and whether it is traced, and the shelf has room for what each thread has stored
 pub record IsPackage {W : Type 0} (z : TableId) (key : About W) (layout : Layout) (traced : Bool) (shelf : List Stored)
     (room unparkers : ℕ) : Type 0 where
   pub words : z.words ≡ word_count
@@ -298,7 +311,8 @@ pub record IsPackage {W : Type 0} (z : TableId) (key : About W) (layout : Layout
   pub traced_so : key.traced ≡ traced
 
 module _ {T H W : Type 0} where
-  -- what is true of each thread: its seat has its number, its hand has the numbers of its slots, which are those that its view tells, and the first thread has room for the value of each mutex
+  -- what holds of each thread: its seat has its number, its hand has the numbers of its slots,
+  -- which are those of its view, and the first thread has room for the value of each mutex
   pub record IsThread (z : TableId) (number : ℕ) (hand : List ℕ) (me : Sat T H W) (kept : List T) (room : ℕ) : Type 0 where
     pub member : me.0.kind ≡ Member
     pub numbered : me.0.number ≡ number

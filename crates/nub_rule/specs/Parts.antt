@@ -54,7 +54,8 @@ abbrev pub IsAlerted : Stage → Type 0
 IsAlerted Alerted = Unit {0}
 IsAlerted _ = ⊥
 
--- the stage after the thread found its alert word set: who has tested the bit, and hasn't found its ready word set, may leave for that
+-- the stage after the thread found its alert word set: a thread that has tested the bit, and hasn't
+-- found its ready word set, may leave because of that
 abbrev pub alerted_stage : Stage → Stage
 alerted_stage Tested = Alerted
 alerted_stage Asleep = Alerted
@@ -64,7 +65,8 @@ abbrev pub alerted_stand : Opt Stand → Opt Stand
 alerted_stand None = None
 alerted_stand (Some s) = Some (record s { stage = alerted_stage s.stage })
 
--- the turns of a thread that took itself out of the queue of the gate o at this stage: it has its turn there, unless it had found the bit set since its push
+-- the gates that a thread must try, after it took itself out of the queue of the gate o at this
+-- stage: o too, unless it had found the bit set since its push
 abbrev pub turns_from : Stage → ℕ → List ℕ → List ℕ
 turns_from Pushed o xs = o ∷ xs
 turns_from Clear o xs = o ∷ xs
@@ -74,7 +76,7 @@ abbrev pub left_turns : Opt Stand → List ℕ → List ℕ
 left_turns None xs = xs
 left_turns (Some s) xs = turns_from s.stage s.at xs
 
--- whoever left the queue of a gate has its turn there
+-- a thread that left the queue of a gate must try that gate
 abbrev pub turned : Opt Stand → List ℕ → List ℕ
 turned None xs = xs
 turned (Some s) xs = cond (ltb s.at 128) (s.at ∷ xs) xs
@@ -83,7 +85,7 @@ abbrev pub is_at : Opt ℕ → ℕ → Bool
 is_at None k = false
 is_at (Some n) k = eqb n k
 
--- the thread is between the two parts of a wait on the mutex m
+-- the thread is between the two events of a wait on the mutex m
 abbrev pub waits_on : Opt Wait → ℕ → Bool
 waits_on None m = false
 waits_on (Some w) m = eqb w.mutex.0 m
@@ -97,7 +99,7 @@ abbrev pub open_on : Opt Wait → ℕ → Bool
 open_on None m = false
 open_on (Some w) m = cond (is_open w.bit) (eqb w.mutex.0 m) false
 
--- the thread is in the condition c by what its view says, where the count is k
+-- the thread is in the condition c by what its view says, if the count is k
 abbrev pub counts_in : Opt Wait → ℕ → ℕ → Bool
 counts_in None c k = false
 counts_in (Some w) c k = cond (eqb w.cond.0 c) (is_at w.member k) false
@@ -111,7 +113,8 @@ abbrev pub made : Pen → Pen
 made (Read k) = Made k
 made p = p
 
--- an event is made by a thread that lives, in a traced package with the pen, its number read and not the greatest
+-- an event is made by a thread that lives, and in a traced package by the thread with the pen, its
+-- number read and not the greatest
 abbrev pub MayTell : Bool → Life → Pen → Type 0
 MayTell traced life pen = (life ≡ Live) × (traced ≡ true → (k : ℕ) × (pen ≡ Read k) × (k < 18446744073709551615))
 
@@ -121,7 +124,7 @@ number_of Unborn = 0
 number_of Live = 1
 number_of Ended = 2
 
--- the pen may be given back: no event waits for its number to be written
+-- the pen may be given back: no number of an event has yet to be written
 abbrev pub MayGivePen : Pen → Type 0
 MayGivePen No = ⊥
 MayGivePen (Made k) = ⊥
@@ -138,7 +141,7 @@ module _ {T H : Type 0} where
   abbrev pub Lacks : Part T H → ℕ → Type 0
   Lacks p m = get_elem? p.held m ≡ some None
 
-  -- a thread that has done nothing, where so much was done before
+  -- a thread that has done nothing, in a history that was this before it
   abbrev pub fresh : Version → Life → List Event → Opt H → Part T H
   fresh version life seen s = record {
     version = version;
@@ -167,7 +170,7 @@ module _ {T H : Type 0} where
     life = life;
   }
 
-  -- what a seat has that speaks for no thread
+  -- the part of a seat that is of no thread
   abbrev pub no_part : Part T H
   no_part = fresh One Unborn [] None
 

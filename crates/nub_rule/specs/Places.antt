@@ -1,8 +1,9 @@
--- Where the words and the slots of a table stand, whatever the layout. Words of different objects, and of different threads below 64, are on different cache
--- lines; a thread from 64 on shares the line of the thread below 64 whose number is its own modulo 64.
+-- Where the words and the slots of a table are, whatever the layout. Words of different objects,
+-- and of different threads below 64, are on different cache lines; a thread from 64 on shares the
+-- line of the thread below 64 whose number is its own modulo 64.
 use Rattle.std.specs.Prelude.{ℕ, ◌+◌, ◌*◌, ◌/◌, ◌%◌}
 
--- so many threads at most
+-- the greatest number of threads
 abbrev pub most_threads : ℕ
 most_threads = 256
 
@@ -29,7 +30,7 @@ length_at o = 16 * o + 2
 abbrev pub count_at : ℕ → ℕ
 count_at o = 16 * o + 3
 
--- the begun waits of a condition
+-- the waiters count of a condition
 abbrev pub waits_at : ℕ → ℕ
 waits_at o = 16 * o + 4
 
@@ -40,7 +41,7 @@ pen_at = 3072
 abbrev pub number_at : ℕ
 number_at = 3073
 
--- the words of a thread, which come last: 64 lines, of four threads each
+-- the words of a thread, which come last: 64 lines, each for four threads
 abbrev pub thread_at : ℕ → ℕ
 thread_at t = 16 * (t % 64) + 4 * (t / 64) + 3088
 

@@ -1,4 +1,4 @@
--- What each kind of step tells of the seat before and after.
+-- What each kind of step says of the seat before and after.
 use Rattle.std.specs.Prelude.{Bool, cond, eqb, true, false, ◌≡◌, ◌≢◌, ◌⊎◌, ℕ, ◌+◌, ◌*◌, ◌<◌, List, [], ◌∷◌, ◌++◌, length, slice_set, Some, None, Option as Opt}
 use mathlib.Core.Option.{some}
 use lib.ListN.{get_elem?}
@@ -41,7 +41,7 @@ p_event t s = event t (P record { 0 = s })
 abbrev pub v_event : ℕ → ℕ → Event
 v_event t s = event t (V record { 0 = s })
 
--- the first part of a wait on the mutex m in the condition c
+-- the first event of a wait on the mutex m in the condition c
 abbrev pub enqueue_event : Bool → ℕ → ℕ → ℕ → Event
 enqueue_event alertable t m c =
     event t (cond alertable (AlertEnqueue record { 0 = m } record { 0 = c }) (Enqueue record { 0 = m } record { 0 = c }))
@@ -58,19 +58,19 @@ alert_event t who = event t (Alert record { 0 = who })
 abbrev pub test_alert_event : ℕ → Bool → Event
 test_alert_event t answer = event t (TestAlert answer)
 
--- a P of the semaphore s that an alert may end, where none has
+-- a P of the semaphore s that an alert may end, but didn't
 abbrev pub alert_p_event : ℕ → ℕ → Event
 alert_p_event t s = event t (AlertPReturn record { 0 = s })
 
--- the same where an alert has ended it
+-- such a P that an alert has ended
 abbrev pub alert_p_raise_event : ℕ → ℕ → Event
 alert_p_raise_event t s = event t (AlertPRaise record { 0 = s })
 
--- the second part of an alertable wait on the mutex m in the condition c, where an alert has ended it
+-- the second event of an alertable wait on the mutex m in the condition c that an alert has ended
 abbrev pub alert_raise_event : ℕ → ℕ → ℕ → Event
 alert_raise_event t m c = event t (AlertRaise record { 0 = m } record { 0 = c })
 
--- the beginning of another thread, the own end, and what waits for the end of another
+-- the fork of another thread, the thread's own end, and the join of another thread
 abbrev pub fork_event : ℕ → ℕ → Event
 fork_event t who = event t (Fork record { 0 = who })
 
@@ -89,7 +89,7 @@ p_action false s = P record { 0 = s }
 abbrev pub MayTakeSem : ℕ → ℕ → Event → Type 0
 MayTakeSem n s e = (e ≡ p_event n s) ⊎ (e ≡ alert_p_event n s)
 
--- the wait that was begun with the count k
+-- the wait that began with the count k
 abbrev pub begun_wait : Bool → ℕ → ℕ → ℕ → Wait
 begun_wait alertable m c k = record {
   mutex = record { 0 = m };
@@ -125,7 +125,8 @@ abbrev pub taken_action : ℕ → Opt Wait → Action
 taken_action m None = Acquire record { 0 = m }
 taken_action m (Some w) = cond w.alertable (AlertReturn w.mutex w.cond) (Resume w.mutex w.cond)
 
--- the thread n may take the mutex m by the event e: it has begun nothing, or a wait on m, and has left the condition
+-- the thread n may take the mutex m by the event e: it has begun nothing, or a wait on m, and has
+-- left the condition
 abbrev pub MayTake : ℕ → ℕ → Opt Wait → Event → Type 0
 MayTake n m wait e = ((wait ≡ None) × (e ≡ acquire_event n m))
     ⊎ ((w : Wait) × (wait ≡ Some w) × (w.mutex.0 ≡ m) × (w.member ≡ None) × (e ≡ event n (taken_action m (Some w))))
@@ -145,11 +146,12 @@ less t [] = []
 less t (x ∷ xs) = cond (eqb x t) xs (x ∷ less t xs)
 
 module _ {T H : Type 0} where
-  -- the part after an event of its thread
+  -- the part after this event of its thread
   abbrev pub told : Part T H → List Event → Event → Part T H
   told p log e = record p { seen = log ++ e ∷ []; mine = p.mine ++ e ∷ []; places = p.places ++ length log ∷ []; pen = made p.pen }
 
-  -- the history that was seen grew to a legal one that ends with the event, and the own events are the thread's part of it
+  -- the history seen grew to a legal one that ends with the event, and the own events are the
+  -- thread's part of it
   pub record Grows (n : ℕ) (p : Part T H) (between : List Event) (e : Event) : Type 0 where
     pub legal : IsLegal p.version ((p.seen ++ between) ++ e ∷ [])
     pub own : by_thread n ((p.seen ++ between) ++ e ∷ []) ≡ p.mine ++ e ∷ []
@@ -159,11 +161,12 @@ module _ {T H W : Type 0} where
   abbrev pub with_part : View T H W → Part T H → View T H W
   with_part v p = record v { part = p }
 
-  -- only the part of the view has changed, to this
+  -- only the part of the view has changed, to q
   abbrev pub Becomes : Sat T H W → Part T H → Sat T H W → Type 0
   Becomes me q me' = me' ≡ (with_part me.0 q, me.1)
 
-  -- the spin word of an object was tried: who wins gets the queue, and is in it only if it stands there
+  -- the spin word of an object was tried: a thread that wins gets the queue, and is in it only if
+  -- it stands there
   abbrev pub take_spin_tells : Step (Slot T) → Sat T H W → ℕ → Sat T H W → Type 0
   take_spin_tells st me r me' = let p = me.0.part in
       ((o : ℕ) → st.word ≡ spin_at o → r ≡ 0 → (xs : List ℕ) × (k : ℕ) × (p.stand ≡ None → length xs < most_threads) × Small most_threads xs
@@ -177,18 +180,18 @@ module _ {T H W : Type 0} where
   abbrev pub give_spin_tells : Step (Slot T) → Sat T H W → ℕ → Sat T H W → Type 0
   give_spin_tells st me r me' = (r ≡ 1) × (me' ≡ (with_part me.0 (record me.0.part { spin = None; queue = []; left = [] }), rest me.1))
 
-  -- a thread that is owed was made ready
+  -- a thread that was owed its ready word was made ready
   abbrev pub set_ready_tells : Step (Slot T) → Sat T H W → ℕ → Sat T H W → Type 0
   set_ready_tells st me r me' = let p = me.0.part in
       (t : ℕ) → t < most_threads → st.word ≡ ready_at t → (r ≡ 0) × Becomes me (record p { owed = without t p.owed }) me'
 
-  -- the own ready word was read
+  -- the thread's own ready word was read
   abbrev pub read_ready_tells : Step (Slot T) → Sat T H W → ℕ → Sat T H W → Type 0
   read_ready_tells st me r me' = let p = me.0.part in
       (r ≡ 0 → Becomes me (record p { stand = staged Asleep p.stand }) me')
       × (r ≢ 0 → (r ≡ 1) × Becomes me (record p { stand = staged Found p.stand }) me')
 
-  -- the own ready word was cleared
+  -- the thread's own ready word was cleared
   abbrev pub clear_ready_tells : Step (Slot T) → Sat T H W → ℕ → Sat T H W → Type 0
   clear_ready_tells st me r me' = let p = me.0.part in (r ≡ 1) × Becomes me (record p { stand = None; turns = turned p.stand p.turns }) me'
 
@@ -226,7 +229,7 @@ module _ {T H W : Type 0} where
       (m : ℕ) → st.word ≡ bit_at m → (r ≡ 0 → WonQuietly fits m me me')
       × (r ≢ 0 → Becomes me (record p { failed = m ∷ p.failed; turns = without m p.turns }) me')
 
-  -- the mutex m was given back, with its value
+  -- the mutex m was released, with its value
   abbrev pub Freed : (W → ℕ → ℕ → T → T → H → H) → ℕ → Sat T H W → ℕ → Sat T H W → Type 0
   Freed after m me r me' = let v = me.0 in let p = v.part in let e = release_event v.number m in
       (r ≡ 1) × (between : List Event) × (u : Opt H) × Grows v.number p between e
@@ -240,7 +243,7 @@ module _ {T H W : Type 0} where
   abbrev pub clear_bit_tells : (W → ℕ → ℕ → T → T → H → H) → Step (Slot T) → Sat T H W → ℕ → Sat T H W → Type 0
   clear_bit_tells after st me r me' = (m : ℕ) → st.word ≡ bit_at m → Freed after m me r me'
 
-  -- the thread has the mutex and its slot first, with a value that the new share allows
+  -- the thread has the mutex, with its slot first, and a value that the new share allows
   abbrev pub MayFree : (W → ℕ → ℕ → T → T → H → H → Type 0) → (W → ℕ → ℕ → T → T → H → H) → ℕ → Sat T H W → Type 0
   MayFree allows after m me = let v = me.0 in let p = v.part in
       (x : T) × (y : T) × Got p m x × (me.1 ≡ (value_at m, Value (Some y)) ∷ rest me.1)
@@ -253,7 +256,7 @@ module _ {T H W : Type 0} where
       × (r ≢ 0 → mem o p.cleared ≡ true → Becomes me (record p { looked = o ∷ p.looked }) me')
       × (r ≢ 0 → mem o p.cleared ≡ false → me' ≡ me)
 
-  -- the thread was put last into the queue of a gate
+  -- the thread was put at the end of the queue of a gate
   abbrev pub push_gate_tells : Step (Slot T) → Sat T H W → ℕ → Sat T H W → Type 0
   push_gate_tells st me r me' = let p = me.0.part in let n = me.0.number in
       (o : ℕ) → st.word ≡ length_at o
@@ -297,7 +300,8 @@ module _ {T H W : Type 0} where
       ((r ≡ 0) ⊎ (r ≡ 1)) × (between : List Event) × Grows v.number p between e
       × Becomes me (record (told p (p.seen ++ between) e) { cleared = sem_object s ∷ p.cleared }) me'
 
-  -- the bit of the mutex m was cleared in a wait, and the value given back: nobody holds m since the wait began
+  -- the bit of the mutex m was cleared in a wait, and the value handed over: nobody holds m from
+  -- the start of the wait
   abbrev pub clear_bit_in_wait_tells : (W → ℕ → ℕ → T → T → H → H) → Step (Slot T) → Sat T H W → ℕ → Sat T H W → Type 0
   clear_bit_in_wait_tells after st me r me' = let v = me.0 in let p = v.part in (m : ℕ) → st.word ≡ bit_at m
       → (r ≡ 1) × (u : Opt H) × (me'
@@ -308,7 +312,8 @@ module _ {T H W : Type 0} where
       × ((w : W) (s : H) (x y : T) → v.world ≡ Some w → p.share ≡ Some s → Got p m x → me.1 ≡ (value_at m, Value (Some y)) ∷ rest me.1
       → u ≡ Some (after w m v.number x y s))
 
-  -- the count of the condition c was read to begin a wait, by a thread whose slot of the mutex m stands first
+  -- the count of the condition c was read to begin a wait, by a thread whose slot of the mutex m is
+  -- first
   abbrev pub load_count_tells : Bool → Step (Slot T) → Sat T H W → ℕ → Sat T H W → Type 0
   load_count_tells alertable st me r me' = let v = me.0 in let p = v.part in
       (m c : ℕ) (s : Slot T) → st.word ≡ count_at (cond_object c) → me.1 ≡ (value_at m, s) ∷ rest me.1
@@ -326,7 +331,8 @@ module _ {T H W : Type 0} where
       (r ≡ p.count) × ((x : Wait) (k : ℕ) → p.wait ≡ Some x → x.member ≡ Some k → (r ≡ k → me' ≡ me)
       × (r ≢ k → Becomes me (record p { wait = unread p.wait }) me'))
 
-  -- the thread, whose count still stands, was put last into the queue of a condition, where there is no bit to test
+  -- the thread, for which the count is still the same, was put at the end of the queue of a
+  -- condition, where there is no bit to test
   abbrev pub push_cond_tells : Step (Slot T) → Sat T H W → ℕ → Sat T H W → Type 0
   push_cond_tells st me r me' = let p = me.0.part in let n = me.0.number in (o : ℕ) → st.word ≡ length_at o
       → Becomes me (record p {
@@ -337,23 +343,26 @@ module _ {T H W : Type 0} where
             unread p.wait;
       }) me'
 
-  -- the first, if there is one, left the queue of a condition, and is owed its ready word: an advance had taken it out of the condition
+  -- the first, if there is one, left the queue of a condition, and is owed its ready word: an
+  -- advance had taken it out of the condition
   abbrev pub pop_cond_tells : Step (Slot T) → Sat T H W → ℕ → Sat T H W → Type 0
   pop_cond_tells st me r me' = let p = me.0.part in Becomes me (record p { queue = behind p.queue; owed = p.owed ++ front p.queue }) me'
 
-  -- the thread left the queue of a condition, in which it was, and is in the condition by the count that stands
+  -- the thread left the queue of a condition, in which it was, and is in the condition by the
+  -- present count
   abbrev pub leave_cond_queue_tells : Step (Slot T) → Sat T H W → ℕ → Sat T H W → Type 0
   leave_cond_queue_tells st me r me' = let p = me.0.part in let n = me.0.number in
       Becomes me (record p { queue = less n p.queue; left = less n p.left; stand = None; wait = recounted p.count p.wait }) me'
 
-  -- the count was advanced under the spin word, by an event with this action, and of the queue these were left in the condition
+  -- the count was advanced under the spin word, by an event with this action, and these threads of
+  -- the queue were left in the condition
   abbrev pub advance_tells : (List ℕ → List ℕ) → (ℕ → List ℕ → Action) → Step (Slot T) → Sat T H W → ℕ → Sat T H W → Type 0
   advance_tells leave action st me r me' = let v = me.0 in let p = v.part in
       (c : ℕ) → st.word ≡ count_at (cond_object c) → let ys = leave p.queue in let e = event v.number (action c ys) in
       (r ≡ p.count) × Distinct p.queue × (between : List Event) × Grows v.number p between e
       × Becomes me (record (told p (p.seen ++ between) e) { left = ys; count = p.count + 1; calling = None }) me'
 
-  -- the begun waits of the condition c were raised
+  -- the waiters count of the condition c was raised
   abbrev pub raise_waits_tells : Step (Slot T) → Sat T H W → ℕ → Sat T H W → Type 0
   raise_waits_tells st me r me' = (c : ℕ) → st.word ≡ waits_at (cond_object c) → Becomes me (record me.0.part { raised = Some c }) me'
 
@@ -361,14 +370,15 @@ module _ {T H W : Type 0} where
   abbrev pub lower_waits_tells : Step (Slot T) → Sat T H W → ℕ → Sat T H W → Type 0
   lower_waits_tells st me r me' = Becomes me (record me.0.part { raised = None }) me'
 
-  -- the begun waits of the condition c were read: if there are none, that is the event, which leaves nobody, and else a Signal or Broadcast is under way
+  -- the waiters count of the condition c was read: if it is 0, that is the event, which leaves no
+  -- thread; otherwise a Signal or Broadcast is under way
   abbrev pub read_waits_tells : (ℕ → List ℕ → Action) → Step (Slot T) → Sat T H W → ℕ → Sat T H W → Type 0
   read_waits_tells action st me r me' = let v = me.0 in let p = v.part in
       (c : ℕ) → st.word ≡ waits_at (cond_object c) → let e = event v.number (action c []) in
       (r ≡ 0 → (between : List Event) × Grows v.number p between e × Becomes me (told p (p.seen ++ between) e) me')
       × (r ≢ 0 → Becomes me (record p { calling = Some c }) me')
 
-  -- the own alert word was read
+  -- the thread's own alert word was read
   abbrev pub read_alert_tells : Step (Slot T) → Sat T H W → ℕ → Sat T H W → Type 0
   read_alert_tells st me r me' = let p = me.0.part in
       (p.alerted ≡ true → r ≡ 1) × (r ≡ 0 → me' ≡ me)
@@ -380,20 +390,22 @@ module _ {T H W : Type 0} where
       (t : ℕ) → t < most_threads → st.word ≡ alert_at t → let e = alert_event v.number t in
       (between : List Event) × Grows v.number p between e × Becomes me (told p (p.seen ++ between) e) me'
 
-  -- the own alert word was cleared, by the event that tells what it was
+  -- the thread's own alert word was cleared, by the event that says what it was
   abbrev pub swap_alert_tells : Step (Slot T) → Sat T H W → ℕ → Sat T H W → Type 0
   swap_alert_tells st me r me' = let v = me.0 in let p = v.part in let e = test_alert_event v.number (eqb r 1) in
       ((r ≡ 0) ⊎ (r ≡ 1)) × (p.alerted ≡ true → r ≡ 1) × (between : List Event) × Grows v.number p between e
       × Becomes me (record (told p (p.seen ++ between) e) { alerted = false }) me'
 
-  -- the own alert word was cleared to raise out of a P of the semaphore s, which the mask tells
+  -- the thread's own alert word was cleared to raise out of a P of the semaphore s, which the mask
+  -- names
   abbrev pub swap_alert_in_p_tells : Step (Slot T) → Sat T H W → ℕ → Sat T H W → Type 0
   swap_alert_in_p_tells st me r me' = let v = me.0 in let p = v.part in
       (s : ℕ) → st.first ≡ 2 * s → let e = alert_p_raise_event v.number s in
       (r ≡ 1) × (between : List Event) × Grows v.number p between e
       × Becomes me (record (told p (p.seen ++ between) e) { alerted = false }) me'
 
-  -- the own alert word was cleared to raise out of an alertable wait, with the bit of its mutex taken
+  -- the thread's own alert word was cleared to raise out of an alertable wait, with the bit of its
+  -- mutex taken
   abbrev pub swap_alert_in_raise_tells : Step (Slot T) → Sat T H W → ℕ → Sat T H W → Type 0
   swap_alert_in_raise_tells st me r me' = let v = me.0 in let p = v.part in
       (x : Wait) → p.wait ≡ Some x → let e = alert_raise_event v.number x.mutex.0 x.cond.0 in
@@ -405,7 +417,7 @@ module _ {T H W : Type 0} where
   leave_sem_queue_tells st me r me' = let p = me.0.part in let n = me.0.number in
       Becomes me (record p { queue = less n p.queue; left = less n p.left; stand = None; turns = left_turns p.stand p.turns }) me'
 
-  -- the thread t, whose beginning is the own right, was forked
+  -- the thread t, whose right was taken in, was forked
   abbrev pub fork_life_tells : Step (Slot T) → Sat T H W → ℕ → Sat T H W → Type 0
   fork_life_tells st me r me' = let v = me.0 in let p = v.part in
       (t : ℕ) → t < most_threads → st.word ≡ life_at t → let e = fork_event v.number t in
@@ -417,7 +429,7 @@ module _ {T H W : Type 0} where
   end_life_tells st me r me' = let v = me.0 in let p = v.part in let e = end_event v.number in
       (between : List Event) × Grows v.number p between e × Becomes me (record (told p (p.seen ++ between) e) { life = Ended }) me'
 
-  -- the life word of the thread t was read: where it has ended, that is the event
+  -- the life word of the thread t was read: if it has ended, that is the event
   abbrev pub read_life_tells : Step (Slot T) → Sat T H W → ℕ → Sat T H W → Type 0
   read_life_tells st me r me' = let v = me.0 in let p = v.part in
       (t : ℕ) → t < most_threads → st.word ≡ life_at t → let e = join_event v.number t in

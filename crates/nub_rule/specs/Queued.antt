@@ -1,4 +1,4 @@
--- What the steps that change a queue have in common, whatever each tells.
+-- What the steps that change a queue have in common, whatever each says of the view.
 use Rattle.std.specs.Prelude.{◌≡◌, ℕ, List, length, None}
 use mathlib.Core.Option.{none}
 use Rattle.larch_actions.specs.declared.event.Layout.{Layout}
@@ -13,12 +13,14 @@ use Rattle.nub_rule.specs.Places.{length_at}
 use Rattle.nub_rule.specs.Plays.{Sat, Becomes}
 
 module _ {T H W : Type 0} where
-  -- a step on the length word of the object o tells that the part was changed by f
+  -- a step on the length word of the object o says that the part was changed by f
   abbrev pub Tells : (Step (Slot T) → Sat T H W → ℕ → Sat T H W → Type 0) → ℕ → (ℕ → Part T H → Part T H) → Type 0
   Tells tells o f = (st : Step (Slot T)) (me : Sat T H W) (r : ℕ) (me' : Sat T H W) → st.word ≡ length_at o → tells st me r me'
       → Becomes me (f me.0.number me.0.part) me'
 
-  -- a thread that contracts see as k may write the length of zs, which the queue of the object o has become, and has changed nothing then by which it has slots. Where it stands nowhere then, this is true
+  -- a thread that contracts see as k may write the length of zs, which the queue of the object o
+  -- has become, and then has changed nothing by which it has slots. If it then stands nowhere,
+  -- `nowhere` holds
   pub record MayRequeue (rule : State (Slot T) (View T H W) → Type 0) (tells : Step (Slot T) → Sat T H W → ℕ → Sat T H W → Type 0)
       (l : Layout) (k : Known T H W) (o : ℕ) (zs : List ℕ) (nowhere : Type 0) : Type 0 where
     pub allowed : IsLawful l → (slots id : ℕ) (me : Sat T H W) → me.0.kind ≡ Member → me.0.number ≡ k.number → me.0.part ≡ part_of k
@@ -30,6 +32,6 @@ module _ {T H W : Type 0} where
     pub queue : (change k.number (part_of k)).queue ≡ zs
     pub stand : (change k.number (part_of k)).stand ≡ None → nowhere
 
-  -- the thread was changed as the step tells
+  -- the thread was changed as the step says
   abbrev pub Requeued : (Step (Slot T) → Sat T H W → ℕ → Sat T H W → Type 0) → ℕ → Known T H W → Known T H W → Type 0
   Requeued tells o a b = (f : ℕ → Part T H → Part T H) → Tells tells o f → b ≡ changed a (f a.number (part_of a)) a.values

@@ -15,12 +15,12 @@ use Rattle.nub_rule.specs.declared.view.Kind.TheVariants.{Root, Member, Collecto
 use Rattle.nub_rule.specs.Parts.{first_part, newborn, no_part, unborn}
 use Rattle.nub_rule.specs.Items.{Core}
 
--- a thread's first share, where the world is known
+-- a thread's first share, if the world is known
 abbrev pub begun : {H W : Type 0} → (W → ℕ → H) → ℕ → Opt W → Opt H
 begun begin n (Some w) = Some (begin w n)
 begun begin n None = None
 
--- the thread n is the child of which it says something
+-- the thread n is the child that this speaks of
 abbrev pub IsOfChild : Child → ℕ → Type 0
 IsOfChild No n = ⊥
 IsOfChild (May t) n = t ≡ n
@@ -28,7 +28,8 @@ IsOfChild (Forked t seen) n = t ≡ n
 
 module _ {T H W : Type 0} where
   module _ (version : Version) (threads given : ℕ) (w : W) (begin : W → ℕ → H) (all : List (Part T H)) (seat_of : ℕ → ℕ) (id : ℕ) where
-    -- the seat id is the first, which gives the numbers out. A thread that was not given out yet has the seat 0
+    -- the seat id is the first, which gives the numbers out. A thread that was not given out yet is
+    -- with the seat 0
     pub record IsRoot (v : View T H W) : Type 0 where
       pub world : v.world ≡ Some w
       pub first : id ≡ 0
@@ -36,7 +37,8 @@ module _ {T H W : Type 0} where
       pub of : v.part.version ≡ version
       pub unborn : (n : ℕ) → given ≤ n → n < threads → (seat_of n ≡ 0) × (get_elem? all n ≡ some (first_part version n (Some (begin w n))))
 
-    -- what its view says of a child: it took in the right to begin it, or has forked it and not handed it out
+    -- what its view says of a child: its right was taken in, or it was forked and not yet handed
+    -- out
     abbrev pub ChildFits : View T H W → Child → Type 0
     ChildFits v No = Unit {0}
     ChildFits v (May t) = (seat_of t ≡ id) × (t ≢ v.number) × (t < given) × (get_elem? all t ≡ some (unborn version (Some (begin w t))))
@@ -52,7 +54,7 @@ module _ {T H W : Type 0} where
       pub own : get_elem? all v.number ≡ some v.part
       pub child : ChildFits v v.child
 
-    -- it takes the threads back, in order of their numbers, and has them then
+    -- it takes the threads back, in order of their numbers, and has them from then on
     pub record IsCollector (v : View T H W) : Type 0 where
       pub world : v.world ≡ Some w
       pub few : length v.back ≤ given
@@ -68,7 +70,8 @@ module _ {T H W : Type 0} where
     abbrev pub SeatFits : View T H W → Type 0
     SeatFits v = FitsAs v v.kind
 
-  -- the thread n is with the seat of this view: it is its own or its child's, came back to it, or is to be given out by it
+  -- the thread n is with the seat of this view: it is the seat's own or its child's, came back to
+  -- it, or is to be given out by it
   abbrev pub IsWith : View T H W → Kind → ℕ → Type 0
   IsWith v Root n = v.next ≤ n
   IsWith v Member n = (v.number ≡ n) ⊎ IsOfChild v.child n
@@ -88,11 +91,11 @@ module _ {T H W : Type 0} where
   member_view begin v = record v
       { kind = Member; number = v.next; part = first_part v.part.version v.next (begun begin v.next v.world); child = No }
 
-  -- a thread, after it took in the right to begin the one with this seat
+  -- the view of a thread, after it took in the right to fork the one with this seat
   abbrev pub taking_view : View T H W → View T H W → View T H W
   taking_view v u = record v { child = May u.number }
 
-  -- a thread, after it handed out the one that it has forked, and the new seat for that
+  -- the view of a thread, after it handed out the one that it forked, and the new seat for that
   abbrev pub handing_view : View T H W → View T H W
   handing_view v = record v { child = No }
 

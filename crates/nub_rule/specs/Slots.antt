@@ -2,12 +2,12 @@
 use Rattle.std.specs.Prelude.{Bool, false, ◌≡◌, ℕ, ◌+◌, ◌<◌, cond, eqb, List, [], ◌∷◌, ◌++◌, Option as Opt, Some, None, reverse}
 
 module _ {S : Type 0} where
-  -- what the slot k holds, where it is out with the seat
+  -- what the slot k holds, if it is out with the seat
   abbrev pub find : ℕ → List (ℕ × S) → Opt S
   find k [] = None
   find k (x ∷ xs) = cond (eqb x.0 k) (Some x.1) (find k xs)
 
-  -- how many slots stand before k
+  -- how many slots come before k
   abbrev pub place : ℕ → List (ℕ × S) → ℕ
   place k [] = 0
   place k (x ∷ xs) = cond (eqb x.0 k) 0 (1 + place k xs)
@@ -22,7 +22,7 @@ module _ {S : Type 0} where
   Below n [] = Unit {0}
   Below n (x ∷ xs) = (x.0 < n) × Below n xs
 
--- the numbers of a seat's slots, of which the last taken stands first
+-- the numbers of a seat's slots, the last taken first
 abbrev pub hand_of : Opt ℕ → List ℕ → List ℕ
 hand_of None below = []
 hand_of (Some top) below = top ∷ reverse below

@@ -1,4 +1,4 @@
-//! The steps on the alert words, and leaving a semaphore's queue by an alert.
+//! The steps on the alert words, and leaving a semaphore's queue because of an alert.
 ghost use Rattle.std.specs.Prelude.{◌≡◌, ◌≢◌, ◌⊎◌, ◌<◌, eqb, Some, None, true, false};
 ghost use Rattle.larch_actions.specs.Sets.{mem};
 ghost use Rattle.nub_rule.specs.declared.view.Wait.{Wait};
@@ -18,8 +18,9 @@ use crate::uses::Uses;
 use crate::waking::unpark;
 use larch_actions::{CondId, MutexId, SemId, ThreadId};
 
-/// Reads the own alert word. Where it is 1, a thread that stands in a queue, has tested the bit and hasn't found its ready word set may
-/// leave the queue for that. A ready word that was found set stays found.
+/// Reads the thread's own alert word. If it is 1, a thread that is in a queue, has tested the bit
+/// and hasn't found its ready word set may leave the queue because of that. A ready word that was
+/// found set stays found.
 pub fn read_alert<U: Uses>(p: &Package<U>, me: &mut Thread<U>) -> u64
     requires of { me.old.table_id ≡ p.now.table_id }
     ensures one { result ≢ 0 → result ≡ 1 }
@@ -30,7 +31,7 @@ pub fn read_alert<U: Uses>(p: &Package<U>, me: &mut Thread<U>) -> u64
     load::<ReadAlert, U>(&p.table, &mut me.seat, alert_word(me.number))
 }
 
-/// Alerts the thread t, and unparks it: it may sleep where an alert ends its sleep.
+/// Alerts the thread t, and unparks it, since it may sleep where an alert ends its sleep.
 pub fn or_alert<U: Uses>(p: &Package<U>, me: &mut Thread<U>, t: ThreadId) -> u64
     requires of { me.old.table_id ≡ p.now.table_id }
     requires named { t.0 < p.now.layout.threads }
@@ -39,13 +40,14 @@ pub fn or_alert<U: Uses>(p: &Package<U>, me: &mut Thread<U>, t: ThreadId) -> u64
     ensures event { Makes (alert_event me.old.number t.0) me.old me.new }
     ensures alerted { me.new ≡ record (learnt me.old me.new) { pen = made me.old.pen } }
 {
-    // First the word, then the unparking: a thread that wakes up reads the word, and would park again if it weren't set yet.
+    // The word first, then the unparking: a thread that wakes up reads the word, and would park
+    // again if it weren't set yet.
     let found = fetch_or::<OrAlert, U>(&p.table, &mut me.seat, alert_word(t.0), 1);
     unpark(p, t);
     found
 }
 
-/// Clears the own alert word, and answers what it was.
+/// Clears the thread's own alert word, and returns what it was.
 pub fn swap_alert<U: Uses>(p: &Package<U>, me: &mut Thread<U>) -> u64
     requires of { me.old.table_id ≡ p.now.table_id }
     requires outside { me.old.wait ≡ None }
@@ -58,7 +60,8 @@ pub fn swap_alert<U: Uses>(p: &Package<U>, me: &mut Thread<U>) -> u64
     swap::<SwapAlert, U>(&p.table, &mut me.seat, alert_word(me.number), 0)
 }
 
-/// Clears the own alert word, which was found set, to raise out of a P of s. The thread stands in no queue then.
+/// Clears the thread's own alert word, which was found set, to raise out of a P of s. The thread is
+/// in no queue then.
 pub fn swap_alert_in_p<U: Uses>(p: &Package<U>, me: &mut Thread<U>, s: SemId) -> u64
     requires of { me.old.table_id ≡ p.now.table_id }
     requires named { s.0 < p.now.layout.semaphores }
@@ -69,7 +72,8 @@ pub fn swap_alert_in_p<U: Uses>(p: &Package<U>, me: &mut Thread<U>, s: SemId) ->
     ensures event { Makes (alert_p_raise_event me.old.number s.0) me.old me.new }
     ensures cleared { me.new ≡ record (learnt me.old me.new) { alerted = false; pen = made me.old.pen } }
 {
-    // An alert word is 0 or 1, so this leaves 0, as a swap would. Which semaphore it is stands in no word: the mask tells it the rule.
+    // An alert word is 0 or 1, so this leaves 0, as a swap would. No word says which semaphore it
+    // is: the mask says it to the rule.
     fetch_and::<SwapAlertInP, U>(
         &p.table,
         &mut me.seat,
@@ -78,8 +82,9 @@ pub fn swap_alert_in_p<U: Uses>(p: &Package<U>, me: &mut Thread<U>, s: SemId) ->
     )
 }
 
-/// Clears the own alert word, which was found set, to raise out of an alertable wait on m in c. The thread has taken the bit of m before, for
-/// no event, and holds m from here on. An alert that comes later stays for the next call.
+/// Clears the thread's own alert word, which was found set, to raise out of an alertable wait on m
+/// in c. The thread has taken the bit of m before, without an event, and holds m from here on. An
+/// alert that comes later stays for the next call.
 pub fn swap_alert_in_raise<U: Uses>(
     p: &Package<U>,
     me: &mut Thread<U>,
@@ -101,8 +106,9 @@ pub fn swap_alert_in_raise<U: Uses>(
     swap::<SwapAlertInRaise, U>(&p.table, &mut me.seat, alert_word(me.number), 0)
 }
 
-/// Takes the thread out of the queue of s, after it found the bit clear or its alert word set. It answers whether the thread was in it. A
-/// thread that hadn't found the bit set since its push has its turn to try it then.
+/// Takes the thread out of the queue of s, after it found the bit clear or its alert word set.
+/// Returns whether the thread was in the queue. A thread that hadn't found the bit set since its
+/// push is due to try it then.
 pub fn leave_sem_queue<U: Uses>(p: &Package<U>, me: &mut Thread<U>, s: SemId) -> bool
     requires of { me.old.table_id ≡ p.now.table_id }
     requires named { s.0 < p.now.layout.semaphores }

@@ -1,4 +1,5 @@
-//! How a thread comes to another: it takes in the right to begin it, forks it, and hands it out.
+//! How a thread comes to fork another: it takes in the right to do so, forks the thread, and hands
+//! it out.
 ghost use Rattle.std.specs.Prelude.{◌≡◌, ◌<◌, ◌≤◌, List, [], None};
 ghost use Rattle.larch_actions.specs.declared.event.Event.{Event};
 ghost use Rattle.nub_rule.specs.declared.view.Child.TheVariants.{No, May, Forked};
@@ -15,7 +16,7 @@ use crossbeam_utils::sync::Parker;
 use std::marker::Model;
 use std::sync::Wait;
 
-/// What a thread has beside its seat, before it is begun.
+/// What a thread has beside its seat before it is forked.
 #[derive(Drop)]
 pub struct Body {
     number: u32,
@@ -34,7 +35,7 @@ impl Model for Body {
     ghost invariant = { λ b. (b.entries.items ≡ []) × (0 < b.number) × (b.number < most_threads) };
 }
 
-/// Takes in the right to begin a thread, and what that thread has beside its seat.
+/// Takes in the right to fork a thread. Returns what that thread has beside its seat.
 pub fn take_right<U: Uses>(p: &Package<U>, me: &mut Thread<U>, child: Thread<U>) -> Body
     requires of { me.old.table_id ≡ p.now.table_id }
     requires from { child.table_id ≡ p.now.table_id }
@@ -64,7 +65,8 @@ pub fn take_right<U: Uses>(p: &Package<U>, me: &mut Thread<U>, child: Thread<U>)
     }
 }
 
-/// Hands out the thread that was forked, with its first share and the history that ends with the fork.
+/// Hands out the thread that was forked, with its first share and the history that ends with the
+/// fork.
 pub fn hand_out<U: Uses>(p: &Package<U>, me: &mut Thread<U>, body: Body) -> Thread<U>
     requires of { me.old.table_id ≡ p.now.table_id }
     requires forked { (seen : List Event) × (me.old.child ≡ Forked body seen) }
@@ -94,8 +96,9 @@ pub fn hand_out<U: Uses>(p: &Package<U>, me: &mut Thread<U>, body: Body) -> Thre
     }
 }
 
-/// Sleeps until another thread unparks this one, or for no reason; it returns at once where an unparking came before. Not an atomic step of
-/// the rule, as `park`. The thread waits for the end of another: it has no call open that a third might wait for, and hasn't the pen.
+/// Sleeps until another thread unparks this one, or for no reason; returns at once if an unparking
+/// came before. Like `park`, this is no atomic step of the rule. The thread waits for the end of
+/// another: it has no open call that a third might wait for, and hasn't the pen.
 pub fn park_for_end<U: Uses, R: Wait>(rt: &R, me: &Thread<U>)
     requires outside { (me.now.spin ≡ None) × (me.now.stand ≡ None) × (me.now.wait ≡ None) }
     requires penless { me.now.pen ≡ Penless }

@@ -1,5 +1,6 @@
-//! The steps on the begun waits of a condition. Who begins to wait raises them before it reads the count, by which it enters the condition, and
-//! lowers them once it has left: so a Signal or Broadcast that finds none finds nobody.
+//! The steps on the waiters count of a condition. A thread that begins to wait raises it before it
+//! reads the count by which it enters the condition, and lowers it once it has left. So a Signal or
+//! Broadcast that finds 0 finds no thread in the condition.
 ghost use Rattle.std.specs.Prelude.{◌≡◌, ◌≢◌, ◌<◌, ℕ, [], Some, None};
 ghost use Rattle.nub_rule.specs.declared.view.Wait.{Wait};
 ghost use Rattle.nub_rule.specs.Known.{Makes, learnt};
@@ -13,7 +14,7 @@ use crate::stepping::{fetch_add, fetch_sub, load};
 use crate::uses::Uses;
 use larch_actions::CondId;
 
-/// Raises the begun waits of c, before its count is read.
+/// Raises the waiters count of c, before the count of c is read.
 #[inline]
 pub fn raise_waits<U: Uses>(p: &Package<U>, me: &mut Thread<U>, c: CondId) -> u64
     requires of { me.old.table_id ≡ p.now.table_id }
@@ -24,7 +25,8 @@ pub fn raise_waits<U: Uses>(p: &Package<U>, me: &mut Thread<U>, c: CondId) -> u6
     fetch_add::<RaiseWaits, U>(&p.table, &mut me.seat, waits_word(c), 1)
 }
 
-/// Lowers the begun waits of c, which the thread has raised, once it is in no condition and stands nowhere.
+/// Lowers the waiters count of c, which the thread has raised, once it is in no condition and
+/// stands nowhere.
 #[inline]
 pub fn lower_waits<U: Uses>(p: &Package<U>, me: &mut Thread<U>, c: CondId) -> u64
     requires of { me.old.table_id ≡ p.now.table_id }
@@ -37,7 +39,8 @@ pub fn lower_waits<U: Uses>(p: &Package<U>, me: &mut Thread<U>, c: CondId) -> u6
     fetch_sub::<LowerWaits, U>(&p.table, &mut me.seat, waits_word(c), 1)
 }
 
-/// Reads the begun waits of c in a Signal. Where there are none, that is its event, and it leaves nobody. Else the Signal is under way.
+/// Reads the waiters count of c in a Signal. If it is 0, this is the event, which leaves no thread
+/// in c. Otherwise the Signal is under way.
 #[inline]
 pub fn read_waits_signal<U: Uses>(p: &Package<U>, me: &mut Thread<U>, c: CondId) -> u64
     requires of { me.old.table_id ≡ p.now.table_id }
@@ -51,7 +54,8 @@ pub fn read_waits_signal<U: Uses>(p: &Package<U>, me: &mut Thread<U>, c: CondId)
     load::<ReadWaitsSignal, U>(&p.table, &mut me.seat, waits_word(c))
 }
 
-/// Reads the begun waits of c in a Broadcast. Where there are none, that is its event. Else the Broadcast is under way.
+/// Reads the waiters count of c in a Broadcast. If it is 0, this is the event. Otherwise the
+/// Broadcast is under way.
 #[inline]
 pub fn read_waits_broadcast<U: Uses>(p: &Package<U>, me: &mut Thread<U>, c: CondId) -> u64
     requires of { me.old.table_id ≡ p.now.table_id }

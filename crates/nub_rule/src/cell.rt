@@ -1,10 +1,10 @@
-//! A value in its slot.
+//! Moving a value into its slot and out of it.
 ghost use Rattle.std.specs.Prelude.{◌≡◌, Some, None};
 ghost use Rattle.nub_rule.specs.declared.rule.Slot.TheVariants.{Value};
 
 use crate::rule::Slot;
 
-/// Moves the value out.
+/// Moves the value out of the slot.
 #[inline]
 pub fn take_from<T: Drop>(slot: &mut Slot<T>) -> T
     requires { (x : T) × (slot.old ≡ Value (Some x)) }
@@ -20,7 +20,7 @@ pub fn take_from<T: Drop>(slot: &mut Slot<T>) -> T
     x
 }
 
-/// Moves a value in, where there is none.
+/// Moves a value into the slot, which has none.
 #[inline]
 pub fn put_into<T: Drop>(slot: &mut Slot<T>, x: T)
     requires { slot.old ≡ Value None }

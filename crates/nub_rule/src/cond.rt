@@ -1,4 +1,5 @@
-//! The steps on a condition: its count, which is read to enter it and advanced to take threads out, and its queue.
+//! The steps on a condition: its count, which is read to enter it and advanced to take threads out,
+//! and its queue.
 ghost use Rattle.std.specs.Prelude.{◌≡◌, ◌≢◌, ◌+◌, ◌<◌, [], None, Some, false, true};
 ghost use Rattle.larch_actions.specs.Sets.{mem, set_of};
 ghost use Rattle.nub_rule.specs.declared.view.Wait.{Wait};
@@ -22,8 +23,8 @@ use crate::stepping::{fetch_add, load, slot_mut};
 use crate::uses::Uses;
 use larch_actions::{CondId, MutexId, ThreadSet};
 
-/// Reads the count of c, and with that enters the condition: the first part of a wait on m. The mutex is held by nobody from here on, though
-/// its bit is set still.
+/// Reads the count of c, and thereby enters the condition: the first event of a wait on m. From
+/// here on nobody holds the mutex, though its bit is still set.
 #[inline]
 pub fn load_count<U: Uses>(p: &Package<U>, me: &mut Thread<U>, m: MutexId, c: CondId) -> u64
     requires of { me.old.table_id ≡ p.now.table_id }
@@ -41,7 +42,8 @@ pub fn load_count<U: Uses>(p: &Package<U>, me: &mut Thread<U>, m: MutexId, c: Co
     load::<LoadCount, U>(&p.table, &mut me.seat, count_word(c))
 }
 
-/// Reads the count of c, and with that enters the condition: the first part of an alertable wait on m.
+/// Reads the count of c, and thereby enters the condition: the first event of an alertable wait on
+/// m.
 #[inline]
 pub fn load_count_alertable<U: Uses>(
     p: &Package<U>,
@@ -64,7 +66,7 @@ pub fn load_count_alertable<U: Uses>(
     load::<LoadCountAlertable, U>(&p.table, &mut me.seat, count_word(c))
 }
 
-/// The count of c, which the holder of its spin word knows.
+/// Returns the count of c, which the thread with its spin word knows.
 #[inline]
 pub fn know_count<U: Uses>(p: &Package<U>, me: &mut Thread<U>, c: CondId) -> u64
     requires of { me.old.table_id ≡ p.now.table_id }
@@ -76,8 +78,9 @@ pub fn know_count<U: Uses>(p: &Package<U>, me: &mut Thread<U>, c: CondId) -> u64
     load::<KnowCount, U>(&p.table, &mut me.seat, count_word(c))
 }
 
-/// Advances the count of c by a Signal: the first in its queue, if there is one, leaves the condition, and so does whoever has read the count
-/// and isn't queued yet. It answers the count before, and the threads that are left in the condition.
+/// Advances the count of c by a Signal: the first thread in its queue, if there is one, leaves the
+/// condition, and so does each thread that has read the count and isn't queued yet. Returns the
+/// count before, and the threads that are left in the condition.
 pub fn advance_signal<U: Uses>(p: &Package<U>, me: &mut Thread<U>, c: CondId) -> (u64, ThreadSet)
     requires of { me.old.table_id ≡ p.now.table_id }
     requires named { c.0 < p.now.layout.conditions }
@@ -105,7 +108,8 @@ pub fn advance_signal<U: Uses>(p: &Package<U>, me: &mut Thread<U>, c: CondId) ->
     (count, left)
 }
 
-/// Advances the count of c by a Broadcast: all leave the condition. It answers the count before.
+/// Advances the count of c by a Broadcast: all threads leave the condition. Returns the count
+/// before.
 pub fn advance_broadcast<U: Uses>(p: &Package<U>, me: &mut Thread<U>, c: CondId) -> u64
     requires of { me.old.table_id ≡ p.now.table_id }
     requires named { c.0 < p.now.layout.conditions }
@@ -121,8 +125,8 @@ pub fn advance_broadcast<U: Uses>(p: &Package<U>, me: &mut Thread<U>, c: CondId)
     fetch_add::<AdvanceBroadcast, U>(&p.table, &mut me.seat, count_word(c), 1)
 }
 
-/// Reads the count of c under its spin word, in a wait that began with this count, before the thread may be put into the queue. Where it is
-/// another, the thread has left the condition.
+/// Reads the count of c under its spin word, in a wait that began with `count`, before the thread
+/// may be put into the queue. If the two differ, the thread has left the condition.
 pub fn compare_count<U: Uses>(p: &Package<U>, me: &mut Thread<U>, c: CondId, count: u64) -> u64
     requires of { me.old.table_id ≡ p.now.table_id }
     requires named { c.0 < p.now.layout.conditions }
@@ -136,8 +140,9 @@ pub fn compare_count<U: Uses>(p: &Package<U>, me: &mut Thread<U>, c: CondId, cou
     load::<CompareCount, U>(&p.table, &mut me.seat, count_word(c))
 }
 
-/// Takes the thread, which found its alert word set, out of the queue of c. It answers whether the thread was in it, and it is in the
-/// condition then as long as the count stands. Else another thread has popped it.
+/// Takes the thread, which found its alert word set, out of the queue of c. Returns whether the
+/// thread was in the queue; it is then in the condition as long as the count stays the same. If it
+/// wasn't, another thread has popped it.
 pub fn leave_cond_queue<U: Uses>(p: &Package<U>, me: &mut Thread<U>, c: CondId) -> bool
     requires of { me.old.table_id ≡ p.now.table_id }
     requires named { c.0 < p.now.layout.conditions }

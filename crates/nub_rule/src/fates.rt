@@ -1,11 +1,11 @@
-//! A thread before its fork and after its end, as its package's user has it.
+//! A thread before its fork and after its end, as the user of the package gets it.
 ghost use Rattle.std.specs.Prelude.{◌≡◌};
 
 use crate::package::Thread;
 use crate::uses::Uses;
 use std::marker::Model;
 
-/// The right to begin one thread of a package, whose seat is that thread's already.
+/// The right to fork one thread of a package. The thread has its seat already.
 #[derive(Drop)]
 pub struct Unborn<U: Uses> {
     thread: Thread<U>,
@@ -25,7 +25,7 @@ impl<U: Uses> Model for Unborn<U> {
 impl<U: Uses> Unborn<U> {
     ghost use Rattle.nub_rule.specs.Forks.{IsUnborn};
 
-    /// That of a thread that was cut off at the opening.
+    /// Wraps a thread that was cut off at the opening.
     pub fn of(thread: Thread<U>) -> Unborn<U>
         requires unborn { IsUnborn U.begin thread }
         ensures { result ≡ thread }
@@ -33,14 +33,14 @@ impl<U: Uses> Unborn<U> {
         Unborn { thread }
     }
 
-    /// The number of the thread.
+    /// Returns the number of the thread.
     pub fn number(&self) -> u32
         ensures { result ≡ self.now.number }
     {
         self.thread.number()
     }
 
-    /// The seat of the thread, with all that stands beside it.
+    /// Returns the seat of the thread, with all that belongs to it.
     pub fn into_thread(self) -> Thread<U>
         ensures same { result ≡ self }
         ensures unborn { IsUnborn U.begin result }
@@ -70,7 +70,7 @@ impl<U: Uses> Model for Ended<U> {
 impl<U: Uses> Ended<U> {
     ghost use Rattle.nub_rule.specs.Forks.{IsOver};
 
-    /// That of a thread whose call of its end is over.
+    /// Wraps a thread whose call of its end is over.
     pub fn of(thread: Thread<U>) -> Ended<U>
         requires over { IsOver thread }
         ensures { result ≡ thread }
@@ -78,14 +78,14 @@ impl<U: Uses> Ended<U> {
         Ended { thread }
     }
 
-    /// The number of the thread.
+    /// Returns the number of the thread.
     pub fn number(&self) -> u32
         ensures { result ≡ self.now.number }
     {
         self.thread.number()
     }
 
-    /// The seat of the thread, with all that stands beside it.
+    /// Returns the seat of the thread, with all that belongs to it.
     pub fn into_thread(self) -> Thread<U>
         ensures same { result ≡ self }
         ensures over { IsOver result }

@@ -1,4 +1,5 @@
-//! Closing a package whose threads were forked: some have ended, the others were never begun, and they come in any order.
+//! Closing a package whose threads were forked: some have ended, the others were never forked, and
+//! they come in any order.
 ghost use Rattle.std.specs.Prelude.{Some, None, ◌≡◌, ◌≢◌, ℕ, ◌+◌, ◌<◌, ◌≤◌, [], ◌∷◌, ◌++◌, map, length, vec_capacity};
 ghost use mathlib.Core.Option.{some};
 ghost use lib.ListN.{get_elem?};
@@ -17,7 +18,7 @@ use crate::whole::{Gathered, Remains, collector, gather, values_of};
 use atomic_table::Shared;
 use std::alloc::Global;
 
-/// Where the thread with this number is among those that have ended.
+/// Returns the place of the thread with this number among those that have ended.
 fn place_in_ended<U: Uses>(ended: &Vec<Ended<U>>, number: u32) -> Option<usize>
     ensures there { (i : ℕ) → result ≡ Some i
         → (k : Known U.Value U.Share U.World) × (get_elem? ended.now.items i ≡ some k) × (k.number ≡ number) }
@@ -31,7 +32,7 @@ fn place_in_ended<U: Uses>(ended: &Vec<Ended<U>>, number: u32) -> Option<usize>
     None
 }
 
-/// Where the thread with this number is among those that were never begun.
+/// Returns the place of the thread with this number among those that were never forked.
 fn place_in_unborn<U: Uses>(unborn: &Vec<Unborn<U>>, number: u32) -> Option<usize>
     ensures there { (i : ℕ) → result ≡ Some i
         → (k : Known U.Value U.Share U.World) × (get_elem? unborn.now.items i ≡ some k) × (k.number ≡ number) }
@@ -66,7 +67,8 @@ fn take_number<U: Uses>(
     unreachable!()
 }
 
-/// A seat that has taken every thread back in order of their numbers, and what they have stored.
+/// Takes every thread back, in order of their numbers. Returns the seat that has taken them, and
+/// what they have stored.
 fn gather_forked<U: Uses>(
     alloc: Global,
     shared: &Shared<Slot<U::Value>, View<U::Value, U::Share, U::World>, About<U::World>, Kept<U>>,
@@ -101,8 +103,8 @@ fn gather_forked<U: Uses>(
     all
 }
 
-/// Closes a package whose threads have all come back, each once: those that have ended, and those that were never begun. It takes no
-/// memory.
+/// Closes a package whose threads have all come back, each once: those that have ended, and those
+/// that were never forked. Allocates no memory.
 pub fn close_forked<U: Uses>(
     alloc: Global,
     p: Package<U>,

@@ -1,4 +1,4 @@
-//! The numbers of the slots that a thread has: the one that is wanted is turned to the front.
+//! The numbers of the slots that a thread has. The slot that is needed is turned to the front.
 ghost use Rattle.std.specs.Prelude.{◌≡◌, ℕ, [], ◌∷◌, ◌<◌, map, length, Some, None, false};
 ghost use Rattle.atomic_table.specs.Table.{rest};
 ghost use Rattle.nub_rule.specs.Slots.{find, IsDistinct, Below, turned_hand, starts_with};
@@ -7,7 +7,8 @@ use arrayvec::ArrayVec;
 use atomic_table::Seat;
 use std::marker::Model;
 
-/// The numbers of the slots that a seat has. The one taken last stands apart, so that a thread with one slot moves nothing.
+/// The numbers of the slots that a seat has. The last one taken is kept apart, so that a thread
+/// with one slot moves nothing.
 #[derive(Drop)]
 pub struct Hand {
     top: Option<u16>,
@@ -46,7 +47,7 @@ impl Hand {
         self.top == Some(slot)
     }
 
-    /// Whether the slot is at hand.
+    /// Returns whether the slot is at hand.
     pub fn has(&self, slot: u16) -> bool
         ensures { result ≡ mem slot self.now }
     {
@@ -61,7 +62,7 @@ impl Hand {
         false
     }
 
-    /// Puts a slot first.
+    /// Puts a slot in front.
     #[inline]
     pub fn take(&mut self, slot: u16)
         requires { length self.old < 256 }
@@ -81,7 +82,7 @@ impl Hand {
         self.top = self.below.pop();
     }
 
-    /// The first slot goes behind the others.
+    /// Moves the first slot to the end.
     #[cold]
     #[inline(never)]
     pub fn turn(&mut self)

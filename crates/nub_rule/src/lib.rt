@@ -1,9 +1,12 @@
-//! The words of the threads package, what each thread knows of them, the rule between any two steps, and each kind of step.
+//! The words of the threads package, what each thread knows of them, the rule between any two
+//! steps, and each kind of step.
 //!
-//! Promises: every package keeps the rule of specs/Items.antt between any two steps; `the_rule_says` quotes it in words over views, words
-//! and slots, and that words and views determine the history. Each function here is one kind of step, with its condition on the own view,
-//! its event and its change of the view; opening and closing. Stands on `atomic_table`, and sleeps by `crossbeam_utils`. It says nothing of
-//! progress, and knows no call that takes more than one step.
+//! Promises: every package keeps the rule of specs/Items.antt between any two steps.
+//! `the_rule_says` states it in words over views, words and slots, and that words and views
+//! determine the history. Each function here is one kind of step, with its condition on the
+//! thread's own view, its event and its change of the view; two more open and close a package.
+//! Built on `atomic_table`; threads sleep by `crossbeam_utils`. Nothing is promised about progress,
+//! and no call here takes more than one step.
 #![tactic(auto)]
 
 mod alert;

@@ -1,4 +1,5 @@
-//! The steps on the life words: the fork of a thread, the own end, and the reading of another's.
+//! The steps on the life words: the fork of a thread, a thread's own end, and the look at another
+//! thread's life.
 ghost use Rattle.std.specs.Prelude.{◌≡◌, ◌≢◌, ◌<◌, None};
 ghost use Rattle.larch_actions.specs.declared.event.Life.TheVariants.{Ended};
 ghost use Rattle.larch_actions.specs.declared.event.Version.TheVariants.{Two};
@@ -16,7 +17,8 @@ use crate::uses::Uses;
 use crate::waking::unpark_all;
 use larch_actions::ThreadId;
 
-/// Forks the thread whose right to begin was taken in. From then on it lives, with the history that ends with this event.
+/// Forks the thread whose right was taken in. From then on it lives, with the history that ends
+/// with this event.
 pub fn fork_life<U: Uses>(p: &Package<U>, me: &mut Thread<U>, who: ThreadId)
     requires of { me.old.table_id ≡ p.now.table_id }
     requires child { me.old.child ≡ May who.0 }
@@ -29,7 +31,8 @@ pub fn fork_life<U: Uses>(p: &Package<U>, me: &mut Thread<U>, who: ThreadId)
     store::<ForkLife, U>(&p.table, &mut me.seat, life_word(who.0), 1);
 }
 
-/// Ends the thread, which holds no mutex, and unparks all others: one may wait for this end.
+/// Ends the thread, which holds no mutex, and unparks all others, since any of them may wait for
+/// this end.
 pub fn end_life<U: Uses>(p: &Package<U>, me: &mut Thread<U>)
     requires of { me.old.table_id ≡ p.now.table_id }
     requires version { p.now.layout.version ≡ Two }
@@ -39,13 +42,14 @@ pub fn end_life<U: Uses>(p: &Package<U>, me: &mut Thread<U>)
     ensures event { Makes (end_event me.old.number) me.old me.new }
     ensures ended { me.new ≡ record (learnt me.old me.new) { pen = made me.old.pen; life = Ended } }
 {
-    // First the word, then the unparking: a thread that wakes up reads the word, and would park again if it weren't set yet.
+    // The word first, then the unparking: a thread that wakes up reads the word, and would park
+    // again if it weren't set yet.
     store::<EndLife, U>(&p.table, &mut me.seat, life_word(me.number), 2);
     unpark_all(p);
 }
 
-/// Reads the life word of the thread `who`: 0 where it wasn't forked, 1 where it lives. Where it has ended the answer is 2, and that is
-/// the event of a join.
+/// Reads the life word of the thread `who`: 0 if it wasn't forked, 1 if it lives, 2 if it has
+/// ended, and that is the event of a join.
 pub fn read_life<U: Uses>(p: &Package<U>, me: &mut Thread<U>, who: ThreadId) -> u64
     requires of { me.old.table_id ≡ p.now.table_id }
     requires named { who.0 < p.now.layout.threads }

@@ -18,7 +18,7 @@ use crate::stepping::{compare_exchange, slot_mut, swap};
 use crate::uses::{Change, Uses};
 use larch_actions::{Event, MutexId};
 
-/// Tries the bit of m once. It wins where it answers 0, and is the event e then.
+/// Tries the bit of m once. It succeeds if it returns 0, and is then the event e.
 #[inline]
 pub fn try_bit<U: Uses>(p: &Package<U>, me: &mut Thread<U>, m: MutexId, e: Event) -> u64
     requires of { me.old.table_id ≡ p.now.table_id }
@@ -48,7 +48,7 @@ pub fn try_bit<U: Uses>(p: &Package<U>, me: &mut Thread<U>, m: MutexId, e: Event
     found
 }
 
-/// Clears the bit of m, and gives the value back.
+/// Clears the bit of m, and hands the value over.
 #[inline]
 pub fn clear_bit<U: Uses, C: Change<U>>(p: &Package<U>, me: &mut Thread<U>, m: MutexId) -> u64
     requires of { me.old.table_id ≡ p.now.table_id }
@@ -73,7 +73,8 @@ pub fn clear_bit<U: Uses, C: Change<U>>(p: &Package<U>, me: &mut Thread<U>, m: M
     swap::<ClearBit<U, C>, U>(&p.table, &mut me.seat, mutex_bit(m), 0)
 }
 
-/// Clears the bit of m, and gives the value back, in a wait on m that has yet to do so. It is no event: nobody holds m since the wait began.
+/// Clears the bit of m, and hands the value over, in a wait on m that has yet to do so. This is no
+/// event: nobody holds m from the start of the wait.
 #[inline]
 pub fn clear_bit_in_wait<U: Uses, C: Change<U>>(
     p: &Package<U>,
@@ -101,8 +102,8 @@ pub fn clear_bit_in_wait<U: Uses, C: Change<U>>(
     swap::<ClearBitInWait<U, C>, U>(&p.table, &mut me.seat, mutex_bit(m), 0)
 }
 
-/// Tries the bit of m once in an alertable wait on m, whose thread found its alert word set. It wins where it answers 0, and is no event:
-/// nobody holds m until the thread swaps its alert word.
+/// Tries the bit of m once in an alertable wait on m, by a thread that found its alert word set. It
+/// succeeds if it returns 0, and is no event: nobody holds m until the thread swaps its alert word.
 #[inline]
 pub fn take_bit_quiet<U: Uses>(p: &Package<U>, me: &mut Thread<U>, m: MutexId) -> u64
     requires of { me.old.table_id ≡ p.now.table_id }

@@ -1,10 +1,10 @@
-//! What has a queue, and why a thread takes its spin word.
+//! The objects that have a queue, and the reasons for taking their spin words.
 ghost use Rattle.std.specs.Prelude.{◌≡◌};
 
 use crate::places::{CONDITIONS, SEMAPHORES};
 use larch_actions::{CondId, MutexId, SemId};
 
-/// What has a queue: a mutex, a semaphore or a condition.
+/// An object that has a queue: a mutex, a semaphore or a condition.
 #[derive(Clone, Copy, Debug, PartialEq, Eq)]
 pub enum Object {
     Mutex(MutexId),
@@ -15,13 +15,14 @@ pub enum Object {
 /// Why a thread takes a spin word.
 #[derive(Clone, Copy, Debug, PartialEq, Eq)]
 pub enum Why {
-    /// Its try of the bit failed.
+    /// The thread's try of the bit failed.
     TryFailed,
-    /// It cleared the bit and found the queue not empty, or at a condition makes a Signal or Broadcast.
+    /// The thread cleared the bit and found the queue not empty, or makes a Signal or Broadcast at
+    /// a condition.
     QueueSeen,
-    /// It has read the count of the condition, and is to block.
+    /// The thread has read the count of the condition, and is to block.
     Block,
-    /// It found its alert word set while it stood in the queue.
+    /// The thread found its alert word set while it was in the queue.
     Leaving,
 }
 
@@ -29,7 +30,7 @@ impl Object {
     ghost use Rattle.nub_rule.specs.Objects.{object_of};
     ghost use Rattle.nub_rule.specs.Places.{bit_at, spin_at, length_at};
 
-    /// The number that tells the places of its words.
+    /// Returns the number that determines the places of its words.
     #[inline]
     pub fn number(self) -> usize
         ensures { result ≡ object_of self }
@@ -41,7 +42,7 @@ impl Object {
         }
     }
 
-    /// Its bit. A condition's is never set.
+    /// Returns the place of its bit. A condition's bit is never set.
     #[inline]
     pub(crate) fn bit_word(self) -> usize
         ensures { result ≡ bit_at (object_of self) }
@@ -49,7 +50,7 @@ impl Object {
         16 * self.number()
     }
 
-    /// Its spin word.
+    /// Returns the place of its spin word.
     #[inline]
     pub(crate) fn spin_word(self) -> usize
         ensures { result ≡ spin_at (object_of self) }
@@ -57,7 +58,7 @@ impl Object {
         16 * self.number() + 1
     }
 
-    /// The length of its queue.
+    /// Returns the place of the length of its queue.
     #[inline]
     pub(crate) fn length_word(self) -> usize
         ensures { result ≡ length_at (object_of self) }

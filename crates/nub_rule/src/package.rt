@@ -27,7 +27,7 @@ pub struct Stored {
     pub lost: bool,
 }
 
-/// One table of words and slots, which its threads share.
+/// A package: one table of words and slots, which its threads share.
 #[derive(Drop)]
 pub struct Package<U: Uses> {
     pub(crate) layout: Layout,
@@ -39,7 +39,7 @@ pub struct Package<U: Uses> {
         Kept<U>,
         Global,
     >,
-    /// Of each thread, by its number.
+    /// The way to wake each thread, by its number.
     pub(crate) unparkers: Vec<Waker>,
     /// Room for what the threads have stored.
     pub(crate) shelf: Vec<Stored>,
@@ -66,14 +66,14 @@ pub struct Thread<U: Uses> {
     /// The events of a traced run, with their numbers.
     pub(crate) entries: Vec<Entry>,
     pub(crate) lost: bool,
-    /// The number that was read with the pen last.
+    /// The number that was last read with the pen.
     pub(crate) next: u64,
     pub(crate) parker: Parker,
-    /// Those that are to be unparked when it gives a mutex back.
+    /// The threads that are to be unparked when this one releases a mutex.
     pub(crate) later: Queue,
-    /// A number that the Nub keeps: how often looking before a sleep was in time of late.
+    /// A number that the Nub keeps: how often of late looking before a sleep was in time.
     pub(crate) patience: u64,
-    /// With the first thread, room for the values of all mutexes.
+    /// With the first thread: room for the values of all mutexes.
     pub(crate) room: Vec<U::Value>,
 }
 
@@ -89,14 +89,14 @@ impl<U: Uses> Model for Thread<U> {
 }
 
 impl<U: Uses> Package<U> {
-    /// How many threads, mutexes, conditions and semaphores it has.
+    /// Returns how many threads, mutexes, conditions and semaphores the package has.
     pub fn layout(&self) -> Layout
         ensures { result ≡ self.now.layout }
     {
         self.layout
     }
 
-    /// Whether its events are numbered and stored.
+    /// Returns whether the package's events are numbered and stored.
     #[inline]
     pub fn traced(&self) -> bool
         ensures { result ≡ self.now.traced }
@@ -109,7 +109,7 @@ impl<U: Uses> Thread<U> {
     ghost use Rattle.std.specs.Prelude.{◌≡◌, true, false};
     ghost use Rattle.nub_rule.specs.Known.{Holds};
 
-    /// Its number.
+    /// Returns the number of the thread.
     #[inline]
     pub fn number(&self) -> u32
         ensures { result ≡ self.now.number }
@@ -117,13 +117,13 @@ impl<U: Uses> Thread<U> {
         self.number
     }
 
-    /// A number that the Nub keeps with the thread, at first 0. No clause speaks of it.
+    /// Returns a number that the Nub keeps with the thread, 0 at first. No clause speaks of it.
     #[inline]
     pub fn patience(&self) -> u64 {
         self.patience
     }
 
-    /// Writes the number that the Nub keeps with the thread.
+    /// Sets the number that the Nub keeps with the thread.
     #[inline]
     pub fn set_patience(&mut self, patience: u64)
         ensures { self.new ≡ self.old }
@@ -131,14 +131,15 @@ impl<U: Uses> Thread<U> {
         self.patience = patience;
     }
 
-    /// Takes room for so many further events, so that storing these wants no memory.
+    /// Allocates room for `further` more events, so that storing them needs no memory. Fails only
+    /// if there is no memory.
     pub fn reserve(&mut self, further: usize) -> Result<(), AllocError>
         ensures { self.new ≡ self.old }
     {
         self.entries.reserve(further)
     }
 
-    /// Whether it has the mutex.
+    /// Returns whether the thread has the bit of the mutex.
     pub fn has(&self, m: MutexId) -> bool
         ensures yes { result ≡ true → (x : U.Value) × Holds self.now m.0 x }
         ensures no { result ≡ false → (x : U.Value) → ¬ Holds self.now m.0 x }

@@ -11,7 +11,7 @@ use crate::stepping::{compare_exchange, load, store, swap};
 use crate::uses::Uses;
 use larch_actions::Event;
 
-/// Tries the pen once. It wins where it answers 0.
+/// Tries the pen once. It succeeds if it returns 0.
 pub fn take_pen<U: Uses>(p: &Package<U>, me: &mut Thread<U>) -> u64
     requires of { me.old.table_id ≡ p.now.table_id }
     requires traced { p.now.traced ≡ true }
@@ -33,7 +33,7 @@ pub fn read_number<U: Uses>(p: &Package<U>, me: &mut Thread<U>) -> u64
     found
 }
 
-/// Writes the number that follows the one of the event that was made.
+/// Writes the number after the one of the event that was made.
 pub fn write_number<U: Uses>(p: &Package<U>, me: &mut Thread<U>, number: u64)
     requires of { me.old.table_id ≡ p.now.table_id }
     requires made { (k : ℕ) × (me.old.pen ≡ Made k) × (number ≡ k + 1) }
@@ -52,15 +52,15 @@ pub fn give_pen<U: Uses>(p: &Package<U>, me: &mut Thread<U>) -> u64
     swap::<GivePen, U>(&p.table, &mut me.seat, PEN, 0)
 }
 
-/// The number that the thread read last.
+/// Returns the number that the thread last read.
 pub fn next_number<U: Uses>(me: &Thread<U>) -> u64
     ensures { result ≡ me.now.next }
 {
     me.next
 }
 
-/// Stores the own event that comes next in the list, under the number that was read last, or marks the list lost where there is no memory
-/// for it. It is no step.
+/// Stores the thread's own event that comes next, under the number that was last read. If there is
+/// no memory for it, marks the list as lost. This is no step.
 #[inline]
 pub fn store_event<U: Uses>(me: &mut Thread<U>, e: Event)
     requires { ComesNext e me.old }

@@ -1,13 +1,14 @@
-//! How many threads a package may have, and where its words and slots stand, under the names of specs/Places.antt.
+//! The greatest sizes of a package, and the places of its words and slots, as specs/Places.antt
+//! names them.
 ghost use Rattle.std.specs.Prelude.{◌≡◌};
 ghost use Rattle.nub_rule.specs.Places.{alert_at, bit_at, count_at, life_at, sem_object, cond_object, ready_at, thread_at, waits_at};
 
 use larch_actions::{CondId, MutexId, SemId};
 
-/// So many threads at most.
+/// The greatest number of threads.
 pub const MOST_THREADS: usize = 256;
 
-/// So many mutexes at most.
+/// The greatest number of mutexes.
 pub const MUTEXES: u32 = 64;
 
 /// The number of the first semaphore among objects.
@@ -16,22 +17,22 @@ pub const SEMAPHORES: usize = 64;
 /// The number of the first condition among objects.
 pub const CONDITIONS: usize = 128;
 
-/// So many queues, which come before the values.
+/// The number of queues, whose slots come before those of the values.
 pub const QUEUES: usize = 192;
 
 /// The slot of the first mutex's value.
 pub const VALUES: u16 = 192;
 
-/// The pen.
+/// The place of the pen.
 pub const PEN: usize = 3072;
 
-/// The number of the next event.
+/// The place of the number of the next event.
 pub const NUMBER: usize = 3073;
 
-/// So many words.
+/// The number of words.
 pub const WORDS: usize = 3088 + 16 * 64;
 
-/// The bit of a mutex.
+/// Returns the place of the bit of a mutex.
 #[inline]
 pub fn mutex_bit(m: MutexId) -> usize
     ensures { result ≡ bit_at m.0 }
@@ -39,7 +40,7 @@ pub fn mutex_bit(m: MutexId) -> usize
     16 * m.0 as usize
 }
 
-/// The bit of a semaphore.
+/// Returns the place of the bit of a semaphore.
 #[inline]
 pub fn semaphore_bit(s: SemId) -> usize
     ensures { result ≡ bit_at (sem_object s.0) }
@@ -47,7 +48,7 @@ pub fn semaphore_bit(s: SemId) -> usize
     16 * (SEMAPHORES + s.0 as usize)
 }
 
-/// The count of a condition.
+/// Returns the place of the count of a condition.
 #[inline]
 pub fn count_word(c: CondId) -> usize
     ensures { result ≡ count_at (cond_object c.0) }
@@ -55,7 +56,7 @@ pub fn count_word(c: CondId) -> usize
     16 * (CONDITIONS + c.0 as usize) + 3
 }
 
-/// The begun waits of a condition.
+/// Returns the place of the waiters count of a condition.
 #[inline]
 pub fn waits_word(c: CondId) -> usize
     ensures { result ≡ waits_at (cond_object c.0) }
@@ -63,7 +64,8 @@ pub fn waits_word(c: CondId) -> usize
     16 * (CONDITIONS + c.0 as usize) + 4
 }
 
-/// The first word of a thread. Up to 64 threads have a cache line each; in a larger package four share one, so that a small one is no larger.
+/// Returns the place of the first word of a thread. Up to 64 threads have a cache line each; in a
+/// larger package four share one, so that a small package is no larger.
 #[inline]
 fn thread_words(t: u32) -> usize
     ensures { result ≡ thread_at t }
@@ -71,7 +73,7 @@ fn thread_words(t: u32) -> usize
     16 * (t as usize % 64) + 4 * (t as usize / 64) + 3088
 }
 
-/// The alert word of a thread.
+/// Returns the place of the alert word of a thread.
 #[inline]
 pub fn alert_word(t: u32) -> usize
     ensures { result ≡ alert_at t }
@@ -79,7 +81,7 @@ pub fn alert_word(t: u32) -> usize
     thread_words(t)
 }
 
-/// The ready word of a thread.
+/// Returns the place of the ready word of a thread.
 #[inline]
 pub fn ready_word(t: u32) -> usize
     ensures { result ≡ ready_at t }
@@ -87,7 +89,7 @@ pub fn ready_word(t: u32) -> usize
     thread_words(t) + 1
 }
 
-/// The life word of a thread.
+/// Returns the place of the life word of a thread.
 #[inline]
 pub fn life_word(t: u32) -> usize
     ensures { result ≡ life_at t }

@@ -1,4 +1,5 @@
-//! What each kind of step tells of the seat before and after: one type a kind, with the name of its function. No value of these types is made.
+//! What each kind of step says of the seat before and after: one type for each kind, with the name
+//! of its function. No value of these types is ever made.
 use crate::rule::Slot;
 use crate::uses::{Change, Uses};
 use crate::view::View;
@@ -32,7 +33,7 @@ impl<T, H, W> Play<Slot<T>, View<T, H, W>> for SetReady {
     ghost then = { set_ready_tells };
 }
 
-/// Reads the own ready word.
+/// Reads the thread's own ready word.
 pub struct ReadReady;
 
 impl<T, H, W> Play<Slot<T>, View<T, H, W>> for ReadReady {
@@ -41,7 +42,7 @@ impl<T, H, W> Play<Slot<T>, View<T, H, W>> for ReadReady {
     ghost then = { read_ready_tells };
 }
 
-/// Clears the own ready word.
+/// Clears the thread's own ready word.
 pub struct ClearReady;
 
 impl<T, H, W> Play<Slot<T>, View<T, H, W>> for ClearReady {
@@ -124,7 +125,7 @@ impl<T, H, W> Play<Slot<T>, View<T, H, W>> for ClearSem {
     ghost then = { clear_sem_tells };
 }
 
-/// Reads the own alert word.
+/// Reads the thread's own alert word.
 pub struct ReadAlert;
 
 impl<T, H, W> Play<Slot<T>, View<T, H, W>> for ReadAlert {
@@ -142,7 +143,7 @@ impl<T, H, W> Play<Slot<T>, View<T, H, W>> for OrAlert {
     ghost then = { or_alert_tells };
 }
 
-/// Clears the own alert word to tell what it was.
+/// Clears the thread's own alert word, by an event that says what it was.
 pub struct SwapAlert;
 
 impl<T, H, W> Play<Slot<T>, View<T, H, W>> for SwapAlert {
@@ -151,7 +152,7 @@ impl<T, H, W> Play<Slot<T>, View<T, H, W>> for SwapAlert {
     ghost then = { swap_alert_tells };
 }
 
-/// Clears the own alert word, to raise out of an alertable wait.
+/// Clears the thread's own alert word, to raise out of an alertable wait.
 pub struct SwapAlertInRaise;
 
 impl<T, H, W> Play<Slot<T>, View<T, H, W>> for SwapAlertInRaise {
@@ -160,7 +161,7 @@ impl<T, H, W> Play<Slot<T>, View<T, H, W>> for SwapAlertInRaise {
     ghost then = { swap_alert_in_raise_tells };
 }
 
-/// Clears the own alert word to raise out of a P.
+/// Clears the thread's own alert word, to raise out of a P.
 pub struct SwapAlertInP;
 
 impl<T, H, W> Play<Slot<T>, View<T, H, W>> for SwapAlertInP {
@@ -169,7 +170,8 @@ impl<T, H, W> Play<Slot<T>, View<T, H, W>> for SwapAlertInP {
     ghost then = { swap_alert_in_p_tells };
 }
 
-/// Writes the length of a semaphore's queue after its thread has left it, for an alert or for a bit that it found clear.
+/// Writes the length of a semaphore's queue after its thread has left it, because of an alert or of
+/// a bit that it found clear.
 pub struct LeaveSemQueue;
 
 impl<T, H, W> Play<Slot<T>, View<T, H, W>> for LeaveSemQueue {
@@ -289,7 +291,7 @@ impl<T, H, W> Play<Slot<T>, View<T, H, W>> for WriteNumber {
     ghost then = { write_number_tells };
 }
 
-/// Raises the begun waits of a condition.
+/// Raises the waiters count of a condition.
 pub struct RaiseWaits;
 
 impl<T, H, W> Play<Slot<T>, View<T, H, W>> for RaiseWaits {
@@ -298,7 +300,7 @@ impl<T, H, W> Play<Slot<T>, View<T, H, W>> for RaiseWaits {
     ghost then = { raise_waits_tells };
 }
 
-/// Lowers the begun waits of a condition.
+/// Lowers the waiters count of a condition.
 pub struct LowerWaits;
 
 impl<T, H, W> Play<Slot<T>, View<T, H, W>> for LowerWaits {
@@ -307,7 +309,7 @@ impl<T, H, W> Play<Slot<T>, View<T, H, W>> for LowerWaits {
     ghost then = { lower_waits_tells };
 }
 
-/// Reads the begun waits of a condition in a Signal.
+/// Reads the waiters count of a condition in a Signal.
 pub struct ReadWaitsSignal;
 
 impl<T, H, W> Play<Slot<T>, View<T, H, W>> for ReadWaitsSignal {
@@ -316,7 +318,7 @@ impl<T, H, W> Play<Slot<T>, View<T, H, W>> for ReadWaitsSignal {
     ghost then = { read_waits_tells signal_action };
 }
 
-/// Reads the begun waits of a condition in a Broadcast.
+/// Reads the waiters count of a condition in a Broadcast.
 pub struct ReadWaitsBroadcast;
 
 impl<T, H, W> Play<Slot<T>, View<T, H, W>> for ReadWaitsBroadcast {
@@ -369,7 +371,7 @@ impl<U: Uses, C: Change<U>> Play<Slot<U::Value>, View<U::Value, U::Share, U::Wor
     ghost then = { clear_bit_in_wait_tells C.after };
 }
 
-/// Tries the bit of a mutex in a wait, for no event.
+/// Tries the bit of a mutex in a wait, without an event.
 pub struct TakeBitQuiet<U> {
     marker: PhantomData<U>,
 }
@@ -389,7 +391,7 @@ impl<T, H, W> Play<Slot<T>, View<T, H, W>> for ForkLife {
     ghost then = { fork_life_tells };
 }
 
-/// Ends the own thread.
+/// Ends the thread itself.
 pub struct EndLife;
 
 impl<T, H, W> Play<Slot<T>, View<T, H, W>> for EndLife {

@@ -15,8 +15,8 @@ use crate::stepping::load;
 use crate::uses::Uses;
 use larch_actions::ThreadId;
 
-/// Reads the length of a queue. Read after a clearing of the bit, it tells whether somebody may have to be woken: whoever pushes itself
-/// later finds the bit clear at its second test.
+/// Reads the length of a queue. After the bit was cleared, a length of 0 means that no thread need
+/// be woken: a thread that pushes itself later finds the bit clear at its second test.
 #[inline]
 pub fn read_length<U: Uses>(p: &Package<U>, me: &mut Thread<U>, at: Object) -> u64
     requires of { me.old.table_id ≡ p.now.table_id }
@@ -32,7 +32,7 @@ pub fn read_length<U: Uses>(p: &Package<U>, me: &mut Thread<U>, at: Object) -> u
     load::<ReadLength, U>(&p.table, &mut me.seat, at.length_word())
 }
 
-/// Puts the thread last into the queue.
+/// Puts the thread at the end of the queue.
 pub fn push_queue<U: Uses>(p: &Package<U>, me: &mut Thread<U>, at: Object)
     requires of { me.old.table_id ≡ p.now.table_id }
     requires named { HasObject p.now.layout at }
@@ -58,7 +58,8 @@ pub fn push_queue<U: Uses>(p: &Package<U>, me: &mut Thread<U>, at: Object)
     }
 }
 
-/// Reads the bit again, after the push: a thread that found it set before may have pushed itself after the clearing's look at the queue.
+/// Reads the bit again, after the push. Without this test, a thread that found the bit set could
+/// push itself after the clearing thread has looked at the queue.
 pub fn test_again<U: Uses>(p: &Package<U>, me: &mut Thread<U>, at: Object) -> u64
     requires of { me.old.table_id ≡ p.now.table_id }
     requires named { HasObject p.now.layout at }
@@ -71,7 +72,8 @@ pub fn test_again<U: Uses>(p: &Package<U>, me: &mut Thread<U>, at: Object) -> u6
     load::<TestAgain, U>(&p.table, &mut me.seat, at.bit_word())
 }
 
-/// Takes the thread out of the queue, after it found the bit clear. It answers whether the thread was in it.
+/// Takes the thread out of the queue, after it found the bit clear. Returns whether the thread was
+/// in the queue.
 pub fn take_out<U: Uses>(p: &Package<U>, me: &mut Thread<U>, at: Object) -> bool
     requires of { me.old.table_id ≡ p.now.table_id }
     requires gate { IsGate at }
@@ -90,7 +92,8 @@ pub fn take_out<U: Uses>(p: &Package<U>, me: &mut Thread<U>, at: Object) -> bool
     leave::<TakeOut, U>(p, me, at)
 }
 
-/// Takes the first out of the queue. The thread owes it its ready word then.
+/// Takes the first thread out of the queue and returns it. The caller then owes that thread its
+/// ready word.
 pub fn pop_queue<U: Uses>(p: &Package<U>, me: &mut Thread<U>, at: Object) -> Option<ThreadId>
     requires of { me.old.table_id ≡ p.now.table_id }
     requires named { HasObject p.now.layout at }
@@ -115,7 +118,8 @@ pub fn pop_queue<U: Uses>(p: &Package<U>, me: &mut Thread<U>, at: Object) -> Opt
     }
 }
 
-/// Looks at a bit. Not an atomic step of the rule: the view stays, and no clause speaks of the result.
+/// Looks at a bit. This is no atomic step of the rule: the view stays, and no clause speaks of the
+/// result.
 #[inline]
 pub fn peek_bit<U: Uses>(p: &Package<U>, at: Object) -> u64
     requires { HasObject p.now.layout at }

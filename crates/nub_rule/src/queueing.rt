@@ -1,5 +1,5 @@
-//! What the steps that change a queue do with it, whatever each tells of the view. The list is the thread's while it has the spin word. Others
-//! see the length word, so writing that is the step.
+//! What the steps that change a queue do with it, whatever each says of the view. A thread with the
+//! spin word has the list to itself. Others see the length word, so writing that is the step.
 ghost use Rattle.std.specs.Prelude.{◌≡◌, ◌++◌, ◌∷◌, [], Some, None, true, false};
 ghost use Rattle.larch_actions.specs.Sets.{mem};
 ghost use Rattle.nub_rule.specs.Objects.{object_of};
@@ -18,7 +18,7 @@ use crate::view::View;
 use atomic_table::Play;
 use larch_actions::ThreadId;
 
-/// Puts the thread last.
+/// Puts the thread at the end.
 #[inline]
 pub(crate) fn push<M: Play<Slot<U::Value>, View<U::Value, U::Share, U::World>>, U: Uses>(
     p: &Package<U>,
@@ -38,7 +38,7 @@ pub(crate) fn push<M: Play<Slot<U::Value>, View<U::Value, U::Share, U::World>>, 
     store::<M, U>(&p.table, &mut me.seat, at.length_word(), longer);
 }
 
-/// Takes the first out, if there is one, and answers it.
+/// Takes the first thread out, if there is one, and returns it.
 #[inline]
 pub(crate) fn pop<M: Play<Slot<U::Value>, View<U::Value, U::Share, U::World>>, U: Uses>(
     p: &Package<U>,
@@ -59,7 +59,7 @@ pub(crate) fn pop<M: Play<Slot<U::Value>, View<U::Value, U::Share, U::World>>, U
     first
 }
 
-/// Takes the thread out, and answers whether it was there.
+/// Takes the thread out, and returns whether it was there.
 #[inline]
 pub(crate) fn leave<M: Play<Slot<U::Value>, View<U::Value, U::Share, U::World>>, U: Uses>(
     p: &Package<U>,

@@ -16,7 +16,7 @@ use crate::uses::Uses;
 use larch_actions::ThreadId;
 use std::sync::Wait;
 
-/// Makes a thread ready that was popped. It is to be unparked after that.
+/// Makes a popped thread ready. The caller must unpark it after that.
 pub fn set_ready<U: Uses>(p: &Package<U>, me: &mut Thread<U>, t: ThreadId) -> u64
     requires of { me.old.table_id ≡ p.now.table_id }
     requires owed { mem t.0 me.old.owed ≡ true }
@@ -27,7 +27,7 @@ pub fn set_ready<U: Uses>(p: &Package<U>, me: &mut Thread<U>, t: ThreadId) -> u6
     swap::<SetReady, U>(&p.table, &mut me.seat, ready_word(t.0), 1)
 }
 
-/// Reads the own ready word, after the second test. Where it is 0, the thread may sleep.
+/// Reads the thread's own ready word, after the second test. If it is 0, the thread may sleep.
 pub fn read_ready<U: Uses>(p: &Package<U>, me: &mut Thread<U>) -> u64
     requires of { me.old.table_id ≡ p.now.table_id }
     requires outside { me.old.spin ≡ None }
@@ -40,7 +40,7 @@ pub fn read_ready<U: Uses>(p: &Package<U>, me: &mut Thread<U>) -> u64
     load::<ReadReady, U>(&p.table, &mut me.seat, ready_word(me.number))
 }
 
-/// Clears the own ready word, which was found set. The thread stands nowhere then.
+/// Clears the thread's own ready word, which was found set. The thread stands nowhere then.
 pub fn clear_ready<U: Uses>(p: &Package<U>, me: &mut Thread<U>) -> u64
     requires of { me.old.table_id ≡ p.now.table_id }
     requires outside { me.old.spin ≡ None }
@@ -55,9 +55,10 @@ pub fn clear_ready<U: Uses>(p: &Package<U>, me: &mut Thread<U>) -> u64
     swap::<ClearReady, U>(&p.table, &mut me.seat, ready_word(me.number), 0)
 }
 
-/// Sleeps until another thread unparks this one, or for no reason; it returns at once where an unparking came before. Not an atomic step of
-/// the rule: the view stays, and no clause speaks of the result. A thread parks only with no spin word, where it stands in a queue or was taken
-/// out of it, and has found its ready word clear since: so it owes no look to a gate that it has cleared.
+/// Sleeps until another thread unparks this one, or for no reason; returns at once if an unparking
+/// came before. This is no atomic step of the rule: the view stays, and no clause speaks of the
+/// result. A thread parks only without a spin word, after it stood in a queue and has found its
+/// ready word clear since: so it owes no look to a gate that it has cleared.
 pub fn park<U: Uses, R: Wait>(rt: &R, me: &Thread<U>)
     requires outside { me.now.spin ≡ None }
     requires asleep { StandsAs (λ s. IsAsleep s.stage) me.now }

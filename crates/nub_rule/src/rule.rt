@@ -8,7 +8,7 @@ use larch_actions::Layout;
 use std::marker::PhantomData;
 use std::snapshot::Snapshot;
 
-/// The numbers of threads in a queue.
+/// The numbers of the threads in a queue.
 pub type Queue = ArrayVec<u8, MOST_THREADS>;
 
 /// What a slot of the table holds.
@@ -16,11 +16,11 @@ pub type Queue = ArrayVec<u8, MOST_THREADS>;
 pub enum Slot<T> {
     /// The value of a mutex, unless its holder has moved it out.
     Value(Option<T>),
-    /// The threads that wait for an object, the first first.
+    /// The threads that wait for an object, in order.
     Queue(Queue),
 }
 
-/// What the table is told when it is made.
+/// What the table is made for.
 #[derive(Drop)]
 pub struct About<W> {
     pub layout: Layout,
@@ -54,7 +54,7 @@ impl<U: Uses> Split<View<U::Value, U::Share, U::World>> for Cut<U> {
     ghost right = { member_view U.begin };
 }
 
-/// A new seat that takes threads back.
+/// Makes a new seat that takes threads back.
 pub struct Collect;
 
 impl<T, H, W> Play<Slot<T>, View<T, H, W>> for Collect {
@@ -75,7 +75,7 @@ impl<T, H, W> Join<View<T, H, W>> for Gather {
     ghost spent = { spent_view };
 }
 
-/// Takes in the right to begin a thread.
+/// Takes in the right to fork a thread.
 pub struct TakeIn;
 
 impl<T, H, W> Join<View<T, H, W>> for TakeIn {

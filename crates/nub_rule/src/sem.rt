@@ -13,7 +13,7 @@ use crate::stepping::{compare_exchange, swap};
 use crate::uses::Uses;
 use larch_actions::{Action, Event, SemId};
 
-/// Tries the bit of s once. It wins where it answers 0, and is the event e then.
+/// Tries the bit of s once. It succeeds if it returns 0, and is then the event e.
 #[inline]
 pub fn try_p<U: Uses>(p: &Package<U>, me: &mut Thread<U>, s: SemId, e: Event) -> u64
     requires of { me.old.table_id ≡ p.now.table_id }
@@ -33,7 +33,7 @@ pub fn try_p<U: Uses>(p: &Package<U>, me: &mut Thread<U>, s: SemId, e: Event) ->
     } }
 {
     let bit = semaphore_bit(s);
-    // One and the same exchange: which event it is makes a difference to the rule alone.
+    // Both are the same exchange: which event it is matters to the rule alone.
     match e.action {
         Action::AlertPReturn { .. } => compare_exchange::<TryAlertP, U>(
             &p.table,

@@ -10,7 +10,7 @@ ghost use Rattle.nub_rule.specs.Plays.{behind, less};
 use crate::rule::{Queue, Slot};
 use larch_actions::{ThreadId, ThreadSet};
 
-/// Puts t last, and answers the length.
+/// Puts t at the end, and returns the new length.
 pub fn push_slot<T>(slot: &mut Slot<T>, t: u32) -> u64
     requires few { t < most_threads }
     requires room { (xs : List ℕ) × (slot.old ≡ Queue (queue_of xs)) × (length xs < most_threads) }
@@ -24,7 +24,7 @@ pub fn push_slot<T>(slot: &mut Slot<T>, t: u32) -> u64
     queue.len() as u64
 }
 
-/// Takes the first out, if there is one, and answers it and the length.
+/// Takes the first thread out, if there is one, and returns it with the new length.
 pub fn pop_slot<T>(slot: &mut Slot<T>) -> (Option<ThreadId>, u64)
     requires { (xs : List ℕ) × (slot.old ≡ Queue (queue_of xs)) }
     ensures { (xs : List ℕ) → slot.old ≡ Queue (queue_of xs) → (slot.new ≡ Queue (queue_of (behind xs))) × (result.1 ≡ length (behind xs))
@@ -40,7 +40,7 @@ pub fn pop_slot<T>(slot: &mut Slot<T>) -> (Option<ThreadId>, u64)
     (Some(ThreadId(u32::from(first))), queue.len() as u64)
 }
 
-// Where t stands first.
+// Returns the first place of t.
 fn place_in(queue: &Queue, t: u32) -> Option<usize>
     ensures none { result ≡ None → mem t queue.now.items ≡ false }
     ensures fits { length queue.now.items ≤ most_threads }
@@ -55,7 +55,7 @@ fn place_in(queue: &Queue, t: u32) -> Option<usize>
     None
 }
 
-/// Takes t out, and answers the length, if t was there.
+/// Takes t out, and returns the new length, if t was there.
 pub fn leave_slot<T>(slot: &mut Slot<T>, t: u32) -> Option<u64>
     requires { (xs : List ℕ) × (slot.old ≡ Queue (queue_of xs)) }
     ensures none { (xs : List ℕ) → slot.old ≡ Queue (queue_of xs) → result ≡ None → (mem t xs ≡ false) × (slot.new ≡ slot.old) }
@@ -70,7 +70,7 @@ pub fn leave_slot<T>(slot: &mut Slot<T>, t: u32) -> Option<u64>
     Some(queue.len() as u64)
 }
 
-// The set of the threads behind the first.
+// Returns the set of the threads after the first.
 fn behind_set(queue: &Queue) -> ThreadSet
     requires { Small most_threads queue.now.items }
     ensures { result ≡ set_of (behind queue.now.items) }
@@ -84,7 +84,7 @@ fn behind_set(queue: &Queue) -> ThreadSet
     set
 }
 
-/// The set of the threads behind the first.
+/// Returns the set of the threads after the first.
 pub fn set_behind<T>(slot: &Slot<T>) -> ThreadSet
     requires { (xs : List ℕ) × (slot.now ≡ Queue (queue_of xs)) × Small most_threads xs }
     ensures { (xs : List ℕ) → slot.now ≡ Queue (queue_of xs) → result ≡ set_of (behind xs) }

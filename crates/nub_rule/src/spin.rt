@@ -1,4 +1,4 @@
-//! The steps on a spin word. Its holder alone changes the queue of the object.
+//! The steps on a spin word. Only the thread that has it changes the queue of the object.
 ghost use Rattle.std.specs.Prelude.{◌≡◌, ◌≢◌, ◌<◌, [], length, Some, None, true};
 ghost use Rattle.larch_actions.specs.Sets.{mem, without};
 ghost use Rattle.nub_rule.specs.Items.{Small};
@@ -14,7 +14,8 @@ use crate::plays::{GiveSpin, TakeSpin};
 use crate::stepping::{compare_exchange, swap};
 use crate::uses::Uses;
 
-/// Tries the spin word of an object once, for a reason in the view. It wins where it answers 0, and then knows the queue.
+/// Tries the spin word of an object once, for a reason in the view. It succeeds if it returns 0,
+/// and the thread then knows the queue.
 pub fn take_spin<U: Uses>(p: &Package<U>, me: &mut Thread<U>, at: Object, why: Why) -> u64
     requires of { me.old.table_id ≡ p.now.table_id }
     requires named { HasObject p.now.layout at }

@@ -1,5 +1,5 @@
-//! The steps of the table on one word, and the slot at hand, as functions of the package's own table: so a condition of a kind of step is told
-//! clause by clause.
+//! The steps of the table on one word, and the slot at hand, as functions of the package's own
+//! table. This way the condition of a kind of step is stated clause by clause.
 ghost use Rattle.std.specs.Prelude.{◌≡◌, ◌<◌, ◌+◌, ◌-◌, ◌%◌, ◌^◌, ◌==◌, ◌∷◌, bit_and, bit_or};
 ghost use mathlib.Core.Option.{none};
 ghost use prog.Atomic.{either};
@@ -67,7 +67,7 @@ pub(crate) fn store<M: Play<Slot<U::Value>, View<U::Value, U::Share, U::World>>,
     table.shared.store::<M>(seat, word, new);
 }
 
-/// Writes a word, and gives what stood there.
+/// Writes a word, and returns what it was.
 #[inline(always)]
 pub(crate) fn swap<M: Play<Slot<U::Value>, View<U::Value, U::Share, U::World>>, U: Uses>(
     table: &Table<
@@ -93,7 +93,7 @@ pub(crate) fn swap<M: Play<Slot<U::Value>, View<U::Value, U::Share, U::World>>, 
     table.shared.swap::<M>(seat, word, new)
 }
 
-/// Adds to a word, modulo 2^64, and gives what stood there.
+/// Adds to a word, modulo 2^64, and returns what it was.
 #[inline(always)]
 pub(crate) fn fetch_add<M: Play<Slot<U::Value>, View<U::Value, U::Share, U::World>>, U: Uses>(
     table: &Table<
@@ -119,7 +119,7 @@ pub(crate) fn fetch_add<M: Play<Slot<U::Value>, View<U::Value, U::Share, U::Worl
     table.shared.fetch_add::<M>(seat, word, k)
 }
 
-/// Takes from a word, modulo 2^64, and gives what stood there.
+/// Subtracts from a word, modulo 2^64, and returns what it was.
 #[inline(always)]
 pub(crate) fn fetch_sub<M: Play<Slot<U::Value>, View<U::Value, U::Share, U::World>>, U: Uses>(
     table: &Table<
@@ -145,7 +145,7 @@ pub(crate) fn fetch_sub<M: Play<Slot<U::Value>, View<U::Value, U::Share, U::Worl
     table.shared.fetch_sub::<M>(seat, word, k)
 }
 
-/// Keeps these bits of a word, and gives what stood there.
+/// Keeps these bits of a word, and returns what it was.
 #[inline(always)]
 pub(crate) fn fetch_and<M: Play<Slot<U::Value>, View<U::Value, U::Share, U::World>>, U: Uses>(
     table: &Table<
@@ -171,7 +171,7 @@ pub(crate) fn fetch_and<M: Play<Slot<U::Value>, View<U::Value, U::Share, U::Worl
     table.shared.fetch_and::<M>(seat, word, k)
 }
 
-/// Sets these bits of a word, and gives what stood there.
+/// Sets these bits of a word, and returns what it was.
 #[inline(always)]
 pub(crate) fn fetch_or<M: Play<Slot<U::Value>, View<U::Value, U::Share, U::World>>, U: Uses>(
     table: &Table<
@@ -197,7 +197,7 @@ pub(crate) fn fetch_or<M: Play<Slot<U::Value>, View<U::Value, U::Share, U::World
     table.shared.fetch_or::<M>(seat, word, k)
 }
 
-/// Gives what stood in a word, which has become `new` if it was `old`.
+/// Sets a word to `new` if it is `old`, and returns what it was.
 #[inline(always)]
 pub(crate) fn compare_exchange<
     M: Play<Slot<U::Value>, View<U::Value, U::Share, U::World>>,
@@ -227,7 +227,8 @@ pub(crate) fn compare_exchange<
     table.shared.compare_exchange::<M>(seat, word, old, new)
 }
 
-/// The slot that the seat took last. When the borrow ends, the seat has what was written through it.
+/// Returns the slot that the seat took last. When the borrow ends, the seat has what was written
+/// through it.
 #[inline(always)]
 pub(crate) fn slot_mut<'a, S, V, K, P: TableRule<S, V, K>>(
     seat: &'a mut Seat<S, V>,

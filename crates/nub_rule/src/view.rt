@@ -1,39 +1,40 @@
-//! What a thread knows: its part of the history, what it has and where it stands in a call. No value of these types is made.
+//! What a thread knows: its part of the history, what it has and where it stands in a call. No
+//! value of these types is ever made.
 use larch_actions::{CondId, Event, Life, MutexId, Version};
 use std::collections::LinkedList;
 
-/// What a thread has of the bit of its mutex between the two parts of a wait.
+/// What became of the bit of a thread's mutex between the two events of a wait.
 pub enum WaitBit {
-    /// The bit from before the wait.
+    /// The thread still has the bit from before the wait.
     Closing,
-    /// It was cleared.
+    /// The bit was cleared.
     Open,
     /// The bit was taken again, and the wait isn't over.
     Quiet,
 }
 
-/// Where a thread stands between the two parts of a wait.
+/// Where a thread stands between the two events of a wait.
 pub struct Wait {
     pub mutex: MutexId,
     pub cond: CondId,
     pub alertable: bool,
     pub bit: WaitBit,
-    /// It isn't in the queue, and in the condition exactly while the count is this.
+    /// The thread isn't in the queue, and is in the condition if and only if the count is this.
     pub member: Option<u64>,
 }
 
 /// What a thread has done since it put itself into a queue.
 pub enum Stage {
     Pushed,
-    /// Found the bit clear at the second test.
+    /// It found the bit clear at the second test.
     Clear,
-    /// Found the bit set at the second test.
+    /// It found the bit set at the second test.
     Tested,
-    /// Found its ready word clear.
+    /// It found its ready word clear.
     Asleep,
-    /// Found its alert word set.
+    /// It found its alert word set.
     Alerted,
-    /// Found its ready word set.
+    /// It found its ready word set.
     Found,
 }
 
@@ -48,7 +49,7 @@ pub enum Pen {
     No,
     Taken,
     Read { number: u64 },
-    /// Made the event of this number.
+    /// It made the event of this number.
     Made { number: u64 },
     Written,
 }
@@ -57,46 +58,47 @@ pub enum Pen {
 pub struct Part<T, H> {
     /// Which actions its package has.
     pub version: Version,
-    /// The history as it stood at the last event of the thread.
+    /// The history as it was at the last event of the thread.
     pub seen: LinkedList<Event>,
     /// Its own events, and the place of each in the history.
     pub mine: LinkedList<Event>,
     pub places: LinkedList<u64>,
-    /// For each mutex the value got, where the thread has the bit.
+    /// For each mutex the value got, if the thread has the bit.
     pub held: LinkedList<Option<T>>,
     pub share: Option<H>,
     /// The object whose spin word the thread has, and the queue there.
     pub spin: Option<u64>,
     pub queue: LinkedList<u64>,
-    /// Taken from that queue, and not yet made ready.
+    /// The threads that were taken out of that queue and aren't ready yet.
     pub owed: LinkedList<u64>,
-    /// Which of the queue are still in the condition, and the count of the condition.
+    /// The threads of the queue that are still in the condition, and the count of the condition.
     pub left: LinkedList<u64>,
     pub count: u64,
     pub wait: Option<Wait>,
     pub stand: Option<Stand>,
-    /// The gates at which a try failed, without an entry for it since.
+    /// The gates at which a try failed, if the thread hasn't entered the Nub for that since.
     pub failed: LinkedList<u64>,
-    /// The gates whose queue the thread has left, without a try since.
+    /// The gates whose queue the thread has left, and that it hasn't tried since.
     pub turns: LinkedList<u64>,
-    /// The gates that the thread has cleared, and has yet to look at the queue of; and those of them where the queue isn't empty.
+    /// The gates that the thread has cleared, and whose queue it has yet to look at; and those of
+    /// them whose queue it found not empty.
     pub cleared: LinkedList<u64>,
     pub looked: LinkedList<u64>,
     pub pen: Pen,
-    /// It found its alert word set.
+    /// Whether the thread found its alert word set.
     pub alerted: bool,
     /// The condition for which a Signal or Broadcast is under way.
     pub calling: Option<u64>,
-    /// The condition whose begun waits the thread raised.
+    /// The condition whose waiters count the thread has raised.
     pub raised: Option<u64>,
-    /// Whether it was forked, and whether it has ended.
+    /// Whether the thread was forked, and whether it has ended.
     pub life: Life,
 }
 
 /// What a thread says of one that it forks.
 pub enum Child {
     No,
-    /// It took in the right to begin the thread.
+    /// It took in the right to fork the thread.
     May { who: u64 },
     /// It made the fork, with which this history ends, and hasn't handed the thread out.
     Forked { who: u64, seen: LinkedList<Event> },

@@ -1,6 +1,8 @@
-//! Unparking who was made ready: outside the Nub, and once the mutex is given back without which it can't go on.
+//! Unparking the threads that were made ready: outside the Nub, and after the release of a mutex
+//! without which they can't go on.
 //!
-//! Nothing here is an atomic step of the rule, and no clause speaks of it: who is unparked reads its ready word, which decides.
+//! Nothing here is an atomic step of the rule, and no clause speaks of it: an unparked thread reads
+//! its ready word, which decides.
 ghost use Rattle.std.specs.Prelude.{◌≡◌};
 
 use crate::package::{Package, Thread};
@@ -10,11 +12,11 @@ use crossbeam_utils::sync::Unparker;
 use larch_actions::{MutexId, ThreadId};
 use std::sync::atomic::{AtomicU64, Ordering};
 
-/// What others have of a thread, to wake it.
+/// What other threads have of a thread, to wake it.
 #[derive(Drop)]
 pub(crate) struct Waker {
     unparker: Unparker,
-    /// The number of the mutex of its wait, or of its last one.
+    /// The number of the mutex of the thread's present or latest wait.
     mutex: AtomicU64,
 }
 
@@ -41,17 +43,20 @@ pub(crate) fn unpark_all<U: Uses>(p: &Package<U>) {
     }
 }
 
-/// Notes the mutex with which the thread is to wait, for whoever takes it out of the condition.
+/// Notes the mutex of the wait that the thread begins, for the thread that takes it out of the
+/// condition.
 pub fn note_mutex<U: Uses>(p: &Package<U>, me: &Thread<U>, m: MutexId) {
     if let Some(waker) = p.unparkers.get(me.number as usize) {
-        // Most threads wait with one mutex, and a store takes the line from others.
+        // Most threads always wait with the same mutex, and a store would take the cache line from
+        // others.
         if waker.mutex.load(Ordering::Relaxed) != u64::from(m.0) {
             waker.mutex.store(u64::from(m.0), Ordering::Relaxed);
         }
     }
 }
 
-/// Notes the thread t, which was taken out of a condition, to be unparked by `unpark_noted`. Where the list is full it is unparked at once.
+/// Notes the thread t, which was taken out of a condition, to be unparked by `unpark_noted`. If the
+/// list is full, unparks it at once.
 pub fn note_woken<U: Uses>(p: &Package<U>, me: &mut Thread<U>, t: ThreadId)
     ensures { me.new ≡ me.old }
 {
@@ -61,11 +66,12 @@ pub fn note_woken<U: Uses>(p: &Package<U>, me: &mut Thread<U>, t: ThreadId)
     }
 }
 
-/// Whether this thread has the mutex without which t, taken out of a condition, can't go on.
+/// Returns whether this thread has the mutex without which t, taken out of a condition, can't go
+/// on.
 fn has_mutex_of<U: Uses>(p: &Package<U>, me: &Thread<U>, t: ThreadId) -> bool {
     match p.unparkers.get(t.0 as usize) {
         Some(waker) => {
-            // (a mutex's number always fits)
+            // The number of a mutex always fits.
             let mutex = u32::try_from(waker.mutex.load(Ordering::Relaxed)).unwrap_or(u32::MAX);
             me.has(MutexId(mutex))
         }
@@ -73,13 +79,14 @@ fn has_mutex_of<U: Uses>(p: &Package<U>, me: &Thread<U>, t: ThreadId) -> bool {
     }
 }
 
-/// Whether somebody is noted.
+/// Returns whether a thread is noted.
 #[inline]
 pub fn owes_unparking<U: Uses>(me: &Thread<U>) -> bool {
     !me.later.is_empty()
 }
 
-/// Unparks each that is noted, unless this thread has the mutex of its wait: before that is given back it couldn't go on.
+/// Unparks each noted thread, unless this thread has the mutex of its wait: until that is released,
+/// the other can't go on.
 pub fn unpark_noted<U: Uses>(p: &Package<U>, me: &mut Thread<U>)
     ensures { me.new ≡ me.old }
 {

@@ -39,7 +39,7 @@ pub struct Remains<U: Uses> {
     pub stored: Vec<Stored>,
 }
 
-/// How many threads live at first.
+/// Returns how many threads live at first.
 fn first_lives(layout: Layout) -> u32
     ensures { result ≡ living layout.version layout.threads }
 {
@@ -49,7 +49,7 @@ fn first_lives(layout: Layout) -> u32
     }
 }
 
-/// The words as they are at the start.
+/// Returns the words as they are at the start.
 fn words(alloc: Global, layout: Layout) -> Result<Vec<u64>, AllocError>
     requires few { layout.threads ≤ most_threads }
     ensures { IfOk result (λ w. AreFirst layout w.items) }
@@ -61,7 +61,7 @@ fn words(alloc: Global, layout: Layout) -> Result<Vec<u64>, AllocError>
     Ok(words)
 }
 
-/// The slots of the queues, all empty, with room for so many more.
+/// Returns the slots of the queues, all empty, in a list with room for `further` more.
 fn queue_slots<T: Drop>(alloc: Global, further: u32) -> Result<Vec<Slot<T>>, AllocError>
     ensures { IfOk result (λ s. (s.items ≡ replicate 192 (Queue no_queue)) × (192 + further ≤ vec_capacity s)) }
 {
@@ -72,7 +72,7 @@ fn queue_slots<T: Drop>(alloc: Global, further: u32) -> Result<Vec<Slot<T>>, All
     Ok(slots)
 }
 
-/// A slot for each queue, and behind them one for each value.
+/// Returns a slot for each queue, followed by one for each value.
 fn slots_of<T: Drop>(
     alloc: Global,
     mutexes: u32,
@@ -88,7 +88,7 @@ fn slots_of<T: Drop>(
     Ok(slots)
 }
 
-/// The seat of the thread that comes next, cut off the first seat.
+/// Cuts the seat of the next thread off the first seat.
 fn split_off<U: Uses>(
     shared: &Shared<Slot<U::Value>, View<U::Value, U::Share, U::World>, About<U::World>, Kept<U>>,
     root: &mut Seat<Slot<U::Value>, View<U::Value, U::Share, U::World>>,
@@ -104,7 +104,7 @@ fn split_off<U: Uses>(
     shared.split_seat::<Cut<U>>(root)
 }
 
-/// The thread with this number, cut off the first seat. It takes the room.
+/// Cuts the thread with this number off the first seat, and gives it this room.
 fn cut<U: Uses>(
     alloc: Global,
     p: &Package<U>,
@@ -144,7 +144,7 @@ fn cut<U: Uses>(
     }
 }
 
-/// The threads, in order of their numbers, put where there is room for them.
+/// Cuts off all threads, in order of their numbers, into a list that has room.
 fn cut_all<U: Uses>(
     alloc: Global,
     p: &Package<U>,
@@ -172,14 +172,14 @@ fn cut_all<U: Uses>(
     threads
 }
 
-/// A parker, and its other end.
+/// Makes a parker, and its other end.
 fn parker_of(alloc: Global) -> Result<(Parker, Waker), AllocError> {
     let parker = Parker::new(alloc)?;
     let waker = Waker::new(parker.unparker().clone()?);
     Ok((parker, waker))
 }
 
-/// So many parkers, and the other end of each.
+/// Makes `count` parkers, and the other end of each.
 fn parkers_of(alloc: Global, count: u32) -> Result<(Vec<Parker>, Vec<Waker>), AllocError>
     ensures { IfOk result (λ o. (length o.0.items ≡ count) × (vec_len o.1 ≡ count)) }
 {
@@ -193,7 +193,7 @@ fn parkers_of(alloc: Global, count: u32) -> Result<(Vec<Parker>, Vec<Waker>), Al
     Ok((parkers, unparkers))
 }
 
-/// What a package and its threads are made of beside the table.
+/// The parts of a package and its threads beside the table.
 struct Means<R, T> {
     threads: Vec<R>,
     parkers: Vec<Parker>,
@@ -202,7 +202,7 @@ struct Means<R, T> {
     shelf: Vec<Stored>,
 }
 
-/// All of that, or want of memory.
+/// Allocates these parts. Fails only if there is no memory.
 fn means_of<R: Drop, T: Drop>(alloc: Global, layout: Layout) -> Result<Means<R, T>, AllocError>
     ensures { IfOk result (λ m. (m.threads.items ≡ []) × (layout.threads ≤ vec_capacity m.threads)
         × (length m.parkers.items ≡ layout.threads)
@@ -222,7 +222,7 @@ fn means_of<R: Drop, T: Drop>(alloc: Global, layout: Layout) -> Result<Means<R, 
     })
 }
 
-/// The table and its first seat, or want of memory.
+/// Makes the table and its first seat. Fails only if there is no memory.
 fn table_of<U: Uses>(
     alloc: Global,
     words: Vec<u64>,
@@ -247,7 +247,8 @@ fn table_of<U: Uses>(
     Ok(made)
 }
 
-/// A package and its threads, in order of their numbers.
+/// Opens a package, and returns it with its threads, in order of their numbers. Fails only if there
+/// is no memory.
 pub fn open_package<U: Uses>(
     alloc: Global,
     layout: Layout,
@@ -288,14 +289,14 @@ pub fn open_package<U: Uses>(
     Ok((package, threads))
 }
 
-/// What the threads that have come back give, in order of their numbers.
+/// What comes of the threads that have come back, in order of their numbers.
 pub(crate) struct Gathered<U: Uses> {
     pub(crate) seat: Seat<Slot<U::Value>, View<U::Value, U::Share, U::World>>,
     pub(crate) stored: Vec<Stored>,
     pub(crate) room: Vec<U::Value>,
 }
 
-/// A new seat that takes threads back.
+/// Makes a new seat that takes threads back.
 pub(crate) fn collector<U: Uses>(
     shared: &Shared<Slot<U::Value>, View<U::Value, U::Share, U::World>, About<U::World>, Kept<U>>,
 ) -> Seat<Slot<U::Value>, View<U::Value, U::Share, U::World>>
@@ -328,7 +329,7 @@ fn take_back<U: Uses>(
     shared.join_seat::<Gather>(seat, other);
 }
 
-/// Takes one more thread back, the one with the next number.
+/// Takes the thread with the next number back.
 pub(crate) fn gather<U: Uses>(
     shared: &Shared<Slot<U::Value>, View<U::Value, U::Share, U::World>, About<U::World>, Kept<U>>,
     all: &mut Gathered<U>,
@@ -370,7 +371,7 @@ pub(crate) fn gather<U: Uses>(
     }
 }
 
-/// A seat that has taken every thread back, and what they have stored.
+/// Takes every thread back. Returns the seat that has taken them, and what they have stored.
 fn gather_all<U: Uses>(
     alloc: Global,
     shared: &Shared<Slot<U::Value>, View<U::Value, U::Share, U::World>, About<U::World>, Kept<U>>,
@@ -400,7 +401,7 @@ fn gather_all<U: Uses>(
     all
 }
 
-/// Lets the slots of the queues go.
+/// Drops the slots of the queues.
 fn drop_queues<T: Drop>(closed: &mut Closed<Slot<T>, Global>)
     requires { IsFull closed.old.slots × (192 ≤ slots_len closed.old.slots) }
     ensures len { slots_len closed.new.slots ≡ slots_len closed.old.slots }
@@ -413,7 +414,7 @@ fn drop_queues<T: Drop>(closed: &mut Closed<Slot<T>, Global>)
     }
 }
 
-/// The value in a slot that has one.
+/// Returns the value in a slot that has one.
 fn value_in<T: Drop>(slot: Slot<T>) -> T
     requires { (x : T) × (slot ≡ Value (Some x)) }
     ensures { slot ≡ Value (Some result) }
@@ -425,7 +426,7 @@ fn value_in<T: Drop>(slot: Slot<T>) -> T
     x
 }
 
-/// The values in the slots.
+/// Returns the values in the slots.
 pub(crate) fn values_of<T: Drop>(mut values: Vec<T>, mut closed: Closed<Slot<T>, Global>) -> Vec<T>
     requires full { IsFull closed.slots × (192 ≤ slots_len closed.slots) }
     requires room { (values.items ≡ []) × (slots_len closed.slots ≤ 192 + vec_capacity values) }
@@ -444,7 +445,8 @@ pub(crate) fn values_of<T: Drop>(mut values: Vec<T>, mut closed: Closed<Slot<T>,
     values
 }
 
-/// Closes a package whose threads have all come back, with no bit and no spin word had and no wait begun. It takes no memory.
+/// Closes a package whose threads have all come back, without a bit, a spin word or a wait.
+/// Allocates no memory.
 pub fn close_package<U: Uses>(alloc: Global, p: Package<U>, threads: Vec<Thread<U>>) -> Remains<U>
     requires count { length threads.items ≡ p.layout.threads }
     requires threads { Each (λ n t. (t.number ≡ n) × (t.table_id ≡ p.table_id) × (t.spin ≡ None) × (t.child ≡ No) × HasNone t)

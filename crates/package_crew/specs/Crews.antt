@@ -3,7 +3,7 @@ use Rattle.std.specs.Prelude.{◌≡◌, ℕ, List}
 use mathlib.Core.Option.{some}
 use lib.ListN.{get_elem?}
 
--- this is what was handed over at n, and what the closure left at n goes with it
+-- this was handed over at n, and what the closure left at n goes with it
 pub record CameBack {T X : Type 0} (gave : T → X → Type 0) (threads : List T) (results : List X) (n : ℕ) : Type 0 where
   pub was : T
   pub is_was : get_elem? threads n ≡ some was

@@ -6,11 +6,13 @@ use Rattle.nub_rule.specs.Items.{Each}
 use Rattle.nub_rule.specs.Known.{Known, Shape}
 use Rattle.nub.specs.Idle.{IsIdle}
 
--- the thread n of the package is between two calls, and of what it left and its share this is so
+-- the thread n of the package is between two calls, and `did` holds of what it left and of its
+-- share
 abbrev pub HasDone : {T H W X : Type 0} → Shape W → (ℕ → X → H → Type 0) → ℕ → Known T H W → X → Type 0
 HasDone {T} {H} p did n t x = (s : H) × IsIdle p n s t × did n x s
 
--- the lock invariant holds of the values and of shares, one a thread, and of the share at n and what the thread n left this is so
+-- the lock invariant holds of the values and of shares, one for each thread, and `did` holds of the
+-- share at n and of what the thread n left
 pub record HaveWorked {T H W X : Type 0} (world : W) (holds : List T → List H → Type 0) (did : ℕ → X → H → Type 0)
     (threads : List (Known T H W)) (values : List T) (left : List X) : Type 0 where
   pub same : Each (λ n t. (t.number ≡ n) × (t.world ≡ Some world)) threads

@@ -1,12 +1,13 @@
-//! What a thread of a run does before it begins.
+//! What each thread of a run calls before it begins.
 
-/// Each thread calls it once, before it begins. So a test can let threads wait for one another.
+/// A call that each thread makes once before it begins, so that a test can let threads wait for one
+/// another.
 pub trait BeforeStart: Sync {
-    /// Called by a thread with its number.
+    /// Is called by the thread with this number.
     fn begins(&self, number: u32);
 }
 
-/// Each thread begins at once.
+/// A call that lets each thread begin at once.
 pub struct BeginsAtOnce;
 
 impl BeforeStart for BeginsAtOnce {

@@ -1,4 +1,4 @@
-//! Threads to a crew, and back.
+//! Hands the threads of a package to a crew, and gets them back.
 ghost use Rattle.std.specs.Prelude.{◌≡◌, ◌≤◌, ℕ, [], map, length, IfOk, IfErr, vec_len, vec_capacity};
 ghost use Rattle.nub_rule.specs.Items.{Each};
 ghost use Rattle.package_crew.specs.Crews.{CameBack};
@@ -9,20 +9,20 @@ use std::sync::Wait;
 use std::thread::Threads;
 use thread_crew::{Finished, NotRun, run_crew};
 
-/// What threads gave that were all at work at once, beside a part of the caller's own.
+/// What comes of threads that were all at work at once, and of the caller's own part.
 #[derive(Drop)]
 pub struct Beside<T, X, Y> {
     /// The threads as they came back, in their order.
     pub threads: Vec<T>,
-    /// What was left with each, in the same order.
+    /// What the closure left with each thread, in the same order.
     pub left: Vec<X>,
-    /// How many of them weren't started, and were run on the caller.
+    /// How many of the threads weren't started, and so were run on the caller's thread.
     pub held: usize,
-    /// What the caller's own part gave.
+    /// What the caller's own part returned.
     pub between: Y,
 }
 
-/// The first of each pair, and the second.
+/// Splits the pairs into a list of the first parts and a list of the second parts.
 fn parted<T: Drop, X: Drop>(
     pairs: Vec<(T, X)>,
     mut firsts: Vec<T>,
@@ -44,11 +44,25 @@ fn parted<T: Drop, X: Drop>(
     (firsts, seconds)
 }
 
-/// Lets f work on each thread of a package, all at once, and answers the threads as they came back and what f left with each, both in
-/// the order of the threads.
+/// Lets `f` work on each thread of a package, all at once. Returns the threads as they came back
+/// and what `f` left with each, both in the order of the threads.
 ///
-/// Each is started in a thread of its own. One that can't be started is run here, once all others were started. It blocks until each
-/// has ended, for ever where one never does. On `Err` there was no memory, and none has run.
+/// Each is started in an operating-system thread of its own. One that can't be started is run on
+/// the caller's thread, after all others have been started. Blocks until each has ended, for ever
+/// if one never does. Fails only if there is no memory, and then none has run.
+///
+/// ```rust
+/// let (threads, left) = at_once(
+///     rt,
+///     alloc,
+///     threads,
+///     &|me: Thread<Numbers>| -> (Thread<Numbers>, Came)
+///         requires { HasBuffers p.layout × IsFirst p (λ w t. []) me.number me }
+///         ensures { HasEnded (IsStage count result.1 me.number) p me.number result.0 }
+///     { stage(rt, alloc, &p, me, count) },
+/// )?;
+/// let closed = close_package(p, threads)?;
+/// ```
 pub fn at_once<T: Send + Drop, X: Send + Drop, R: Threads + Wait, F: Fn(T) -> (T, X) + Sync>(
     rt: &R,
     alloc: Global,
@@ -75,10 +89,31 @@ pub fn at_once<T: Send + Drop, X: Send + Drop, R: Threads + Wait, F: Fn(T) -> (T
     }
 }
 
-/// The same, where at most the first `starts` threads are started, and meanwhile the caller does a part of its own: `between` is called
-/// with what that part works on once all were started that can be, and told how many weren't: at least as many as are behind the first
-/// `starts`, and at most all. Those are run here then, in order. It also answers how many these were and what `between` gave. On `Err`
-/// there was no memory: none has run, and all comes back.
+/// Does what `at_once` does, starts at most the first `starts` threads, and meanwhile lets the
+/// caller do a part of its own.
+///
+/// Once all threads that can be started have been, `between` is called with `own` and with the
+/// number of threads that weren't started: at least as many as follow the first `starts`, and at
+/// most all. After that these threads are run on the caller's thread, in order. Also returns their
+/// number and what `between` returned.
+///
+/// Fails only if there is no memory: then nothing has run, and threads, `own` and `between` come
+/// back.
+///
+/// ```rust
+/// match at_once_beside(
+///     rt,
+///     alloc,
+///     threads,
+///     starts,
+///     f,
+///     (),
+///     |_own: (), _held: usize| {},
+/// ) {
+///     Ok(done) => Ok((done.threads, done.left)),
+///     Err(_) => Err(AllocError),
+/// }
+/// ```
 pub fn at_once_beside<
     T: Send + Drop,
     X: Send + Drop,

@@ -15,7 +15,7 @@ use std::alloc::{AllocError, Global};
 use std::sync::Wait;
 use std::thread::Threads;
 
-/// What each thread of a package does.
+/// The work of each thread of a package, in one description for all.
 ///
 /// ```rust
 /// type Left = Log;
@@ -28,13 +28,15 @@ pub trait Work<U: Uses>: Sync {
     /// What a thread leaves beside its share.
     type Left: Send + Drop;
 
-    // What it asks of the layout and the world.
+    // What the work asks of the layout and the world.
     ghost asks: { Self → Layout → U.World → Type 0 };
 
-    // Of the world, the thread's number, what it left, and its last share.
+    // What the work promises of the world, the thread's number, what the thread left, and its last
+    // share.
     ghost did: { Self → U.World → ℕ → Self.Left → U.Share → Type 0 };
 
-    /// Does the work of this thread, which has its first share and holds no mutex, neither now nor when it is done.
+    /// Does the work of this thread, which has its first share and holds no mutex, neither at the
+    /// start nor at the end.
     fn work<R: Wait>(&self, rt: &R, alloc: Global, p: &Package<U>, me: &mut Thread<U>) -> Self::Left
         requires asks { asks self.now p.now.layout p.now.world }
         requires first { IsFirst p.now U.begin me.old.number me.old }
@@ -58,11 +60,12 @@ fn at_work<U: Uses, W: Work<U>, R: Wait>(
     (me, left)
 }
 
-/// Opens a package, lets each of its threads do its work, all at once, and closes it. It answers what the threads left, in their order, and
-/// what is left of the package.
+/// Opens a package, lets each of its threads do its work, all at once, and closes the package.
+/// Returns what the threads left, in their order, and what is left of the package.
 ///
-/// Each thread is started in a thread of its own, or run here where it can't be started, once all others were. It blocks until each has
-/// ended, for ever where one never does. Its one refusal is want of memory.
+/// Each thread is started in an operating-system thread of its own, or run on the caller's thread
+/// if it can't be started, after all others have been. Blocks until each has ended, for ever if one
+/// never does. Fails only if there is no memory.
 ///
 /// ```rust
 /// let (logs, closed) = run_package::<Post, Mailing, R>(rt, alloc, layout, &(), mail, false, &job)?;

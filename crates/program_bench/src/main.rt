@@ -1,5 +1,6 @@
-//! The workloads of bench_workloads, to be timed: `program_bench WORKLOAD NUMBERS` prints one line, which its words determine.
-//! With no words it runs each workload once, small. Nothing of the product stands on it.
+//! The workloads of bench_workloads, to be timed: `program_bench WORKLOAD NUMBERS` prints one line,
+//! which its words determine. Without words it runs each workload once, small. No part of the
+//! product is built on this crate.
 #![tactic(auto)]
 
 ghost use Rattle.std.specs.Prelude.{◌≡◌, ◌≤◌, ◌%◌, ◌^◌};
@@ -18,7 +19,7 @@ use std::sync::Wait;
 use std::thread::Threads;
 use words::Workload;
 
-/// What is run where no words are given.
+/// The workloads that run if there are no words.
 const SMALL: [&str; 13] = [
     "uncontended 1000",
     "contended 2 1000",
@@ -46,7 +47,7 @@ fn sum_of(numbers: &[u64]) -> u64
     sum
 }
 
-/// Threads that add under one mutex, some turns outside between.
+/// Threads that add under one mutex, with some turns outside in between.
 fn contended<R: Threads + Wait + Sync + Print>(
     rt: &R,
     alloc: Global,
@@ -130,7 +131,7 @@ fn broadcast<R: Threads + Wait + Sync + Print>(
     times: u32,
 ) -> Result<()> {
     let closed = play_at_once(rt, alloc, threads, Play::Rounds, times)?;
-    // Who opens the rounds has added 1 in each, and the others count for the line.
+    // The thread that opens the rounds has added 1 in each; only the others count for the line.
     let sum = closed.values()[0].wrapping_sub(u64::from(times));
     drop(closed);
     println!(rt; "broadcast {} {times} sum {sum}", threads.number - 1)?;
@@ -184,7 +185,7 @@ fn readers_writers<R: Threads + Wait + Sync + Print>(
     Ok(())
 }
 
-/// Runs the workload that the words say, and prints its line.
+/// Runs the workload that the words name, and prints its line.
 fn run<R: Threads + Wait + Sync + Print>(rt: &R, alloc: Global, words: &[&str]) -> Result<()> {
     let workload = words::read(words).context(format_args!("no such workload"))?;
     match workload {

@@ -1,14 +1,15 @@
 //! The words of the command line.
 use bench_workloads::{Capacity, Count, Sides};
 
-/// What is run, and how often.
+/// The workload to run, and how often.
 #[derive(Drop)]
 pub enum Workload {
     /// One thread acquires, adds 1 and releases.
     Uncontended {
         times: u32,
     },
-    /// Threads at once do the same, each with so many turns on a number of its own after each release.
+    /// Threads, all at once, acquire, add 1 and release, each with `outside` turns on a number of
+    /// its own after each release.
     Contended {
         threads: Count,
         times: u32,
@@ -22,12 +23,13 @@ pub enum Workload {
     SemPingpong {
         times: u32,
     },
-    /// One thread makes Signals, or Broadcasts, of a condition in which nobody waits.
+    /// One thread makes Signals, or Broadcasts, of a condition in which no thread waits.
     Wake {
         all: bool,
         times: u32,
     },
-    /// Two threads in turns by a mutex and two conditions; each signals before it gives the mutex back, or after that.
+    /// Two threads in turns, by a mutex and two conditions; each signals before it releases the
+    /// mutex, or after that.
     Pingpong {
         after: bool,
         times: u32,
@@ -37,11 +39,11 @@ pub enum Workload {
         threads: Count,
         times: u32,
     },
-    /// One thread begins waits that nobody signals, and another ends each by an alert.
+    /// One thread begins waits that no thread signals, and another ends each by an alert.
     AlertWake {
         times: u32,
     },
-    /// Makers pass numbers on to takers by a bounded buffer.
+    /// Makers pass numbers on to takers through a bounded buffer.
     ProducerConsumer {
         sides: Sides,
         times: u32,
@@ -54,7 +56,7 @@ pub enum Workload {
     },
 }
 
-/// The workload of this name that has nothing but a number of times.
+/// Returns the workload of this name that takes only a number of times.
 fn plain(name: &str, times: u32) -> Option<Workload> {
     match name {
         "uncontended" => Some(Workload::Uncontended { times }),
@@ -72,7 +74,7 @@ fn plain(name: &str, times: u32) -> Option<Workload> {
     }
 }
 
-/// The workload of this name that has a number of threads and of times.
+/// Returns the workload of this name that takes a number of threads and of times.
 fn with_threads(name: &str, threads: &str, times: u32) -> Option<Workload> {
     match name {
         "contended" => Some(Workload::Contended {
@@ -88,7 +90,7 @@ fn with_threads(name: &str, threads: &str, times: u32) -> Option<Workload> {
     }
 }
 
-/// The workload of this name that has two words and a last number.
+/// Returns the workload of this name that takes two words and a last number.
 fn with_two(name: &str, first: &str, second: &str, last: u32) -> Option<Workload> {
     match name {
         "contended" => Some(Workload::Contended {
@@ -104,7 +106,8 @@ fn with_two(name: &str, first: &str, second: &str, last: u32) -> Option<Workload
     }
 }
 
-/// The workload of this name that has numbers of two kinds of threads, of times, and of places.
+/// Returns the workload of this name that takes numbers of two kinds of threads, of times, and of
+/// places.
 fn with_places(
     name: &str,
     first: &str,
@@ -122,7 +125,7 @@ fn with_places(
     }
 }
 
-/// The workload that the words say.
+/// Returns the workload that the words name.
 pub fn read(words: &[&str]) -> Option<Workload> {
     match *words {
         [name, n] => plain(name, n.parse().ok()?),

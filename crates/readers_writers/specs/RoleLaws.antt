@@ -1,4 +1,4 @@
--- The rule of readers and writers is kept by each allowed change.
+-- Each allowed change keeps the rule of readers and writers.
 use Rattle.std.specs.Prelude.{◌≡◌, ◌≢◌, ℕ, ◌+◌, ◌≤◌, cond, List, ◌∷◌, slice_set, Option as Opt, Some, None}
 use Rattle.std.proofs.Common.{arith, sym, ap, subst, ◌∙◌, ⊎_elim, refl}
 use Rattle.std.proofs.lemmas.List.{length-set}
@@ -23,7 +23,7 @@ role_here m role s = ap (λ b. cond b role (role_of s m)) (eq-eqb m m refl)
 pub role_there : (m k : ℕ) (role : Role) (s : List RoleChange) → k ≢ m → role_of (turn m role ∷ s) k ≡ role_of s k
 role_there m k role s n = grind (arith, nat_tests)
 
--- 1 where the thread with this share reads behind the mutex
+-- 1 if the thread with this share reads under the mutex
 abbrev reads_at : ℕ → List RoleChange → ℕ
 reads_at m s = one_if_reading (role_of s m)
 
@@ -58,7 +58,7 @@ fits_known w values shares h m x at t s there =
       writes = λ is. let writer = rule.writer t s there is in (writer, rule.apart t writer);
     }
 
--- the roles there are the same
+-- the rule is kept if the roles there stay
 rule-same : (m : ℕ) (q : RwState) (shares : List (List RoleChange)) (t : ℕ) (s r : List RoleChange) → get_elem? shares t ≡ some s
     → role_of r m ≡ role_of s m
     → IsRole m q shares → IsRole m q (slice_set shares t r)
@@ -83,7 +83,7 @@ rule-same m q shares t s r there same h = record {
 is_none : {A : Type 0} (w : Opt A) (a : A) → w ≡ None → w ≡ Some a → ⊥
 is_none w a x y = cc
 
--- nobody writes
+-- the rule is kept if nobody writes
 rule-none : (m : ℕ) (y : RwState) (shares : List (List RoleChange)) (t : ℕ) (r : List RoleChange) → y.writer ≡ None
     → y.readers ≡ reading m (slice_set shares t r)
     → ((k : ℕ) (u : List RoleChange) → k ≢ t → get_elem? shares k ≡ some u → role_of u m ≡ Writing → ⊥) → (role_of r m ≡ Writing → ⊥)

@@ -1,4 +1,4 @@
--- Who reads and who writes behind a mutex.
+-- Which threads read and which write under a mutex.
 use Rattle.std.specs.Prelude.{◌≡◌, ◌⊎◌, ℕ, ◌+◌, ◌<◌, ◌≤◌, cond, eqb, List, [], ◌∷◌, length, Some, None}
 use mathlib.Core.Option.{some}
 use lib.ListN.{get_elem?}
@@ -10,7 +10,7 @@ use Rattle.readers_writers.specs.declared.role.RoleChange.{RoleChange}
 use Rattle.readers_writers.specs.declared.state.RwAt.{RwAt}
 use Rattle.readers_writers.specs.declared.state.RwState.{RwState}
 
--- the names are of the layout
+-- the mutex and the condition are in the layout
 pub record IsNamed (l : Layout) (at : RwAt) : Type 0 where
   pub mutex : at.mutex.0 < l.mutexes
   pub changed : at.changed.0 < l.conditions
@@ -18,7 +18,7 @@ pub record IsNamed (l : Layout) (at : RwAt) : Type 0 where
 abbrev pub turn : ℕ → Role → RoleChange
 turn m role = record { mutex = m; now = role }
 
--- what the thread with this share does behind the mutex m
+-- what the thread with this share does under the mutex m
 abbrev pub role_of : List RoleChange → ℕ → Role
 role_of [] m = Idle
 role_of (x ∷ s) m = cond (eqb x.mutex m) x.now (role_of s m)
@@ -30,14 +30,15 @@ one_if_reading _ = 0
 abbrev pub reading : ℕ → List (List RoleChange) → ℕ
 reading m shares = total (λ s. one_if_reading (role_of s m)) shares
 
--- behind the mutex m: as many readers as threads that read, the one writer is the thread that writes, and never both
+-- the state that m protects: as many readers as threads that read, the one writer is the thread
+-- that writes, and never both
 pub record IsRole (m : ℕ) (q : RwState) (shares : List (List RoleChange)) : Type 0 where
   pub readers : q.readers ≡ reading m shares
   pub writes : (t : ℕ) → q.writer ≡ Some t → (s : List RoleChange) × (get_elem? shares t ≡ some s) × (role_of s m ≡ Writing)
   pub writer : (t : ℕ) (s : List RoleChange) → get_elem? shares t ≡ some s → role_of s m ≡ Writing → q.writer ≡ Some t
   pub apart : (t : ℕ) → q.writer ≡ Some t → q.readers ≡ 0
 
--- the rule of each mutex, of as many threads as a package may have
+-- the rule of each mutex, for as many threads as a package may have
 pub record AreRoles (values : List RwState) (shares : List (List RoleChange)) : Type 0 where
   pub few : length shares ≤ 256
   pub each : (m : ℕ) (q : RwState) → get_elem? values m ≡ some q → IsRole m q shares

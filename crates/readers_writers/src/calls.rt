@@ -1,4 +1,4 @@
-//! Reading and writing.
+//! The calls of readers and writers.
 ghost use Rattle.std.specs.Prelude.{◌≡◌, ◌≤◌, ℕ, List, [], ◌∷◌, slice_set, None, Some, true, false};
 ghost use mathlib.Core.Option.{some};
 ghost use lib.ListN.{get_elem?};
@@ -20,9 +20,16 @@ use nub_rule::{Package, Thread};
 use std::sync::Wait;
 use user_mutex::{acquire, release};
 
-/// Begins to read: from here on until its `end_read` no thread writes.
+/// Begins to read: until this thread's `end_read`, no thread writes.
 ///
-/// It blocks while another thread has the mutex and while one writes, for ever if that one never ends.
+/// Blocks while another thread holds the mutex and while a thread writes, for ever if that thread
+/// never ends.
+///
+/// ```rust
+/// begin_read(rt, shared, me, &AT);
+/// let torn = pair.differ();
+/// end_read(rt, shared, me, &AT);
+/// ```
 pub fn begin_read<R: Wait>(rt: &R, p: &Package<RwUses>, me: &mut Thread<RwUses>, at: &RwAt)
     requires rest { AtRest p.now me.old }
     requires named { IsNamed p.now.layout at.now }
@@ -41,9 +48,15 @@ pub fn begin_read<R: Wait>(rt: &R, p: &Package<RwUses>, me: &mut Thread<RwUses>,
     locked_when::<RwUses, Reads, (), _, _, R>(rt, p, me, at.mutex, at.changed, &may_read, read);
 }
 
-/// Ends to read. The last reader wakes those who wait.
+/// Ends reading. If this is the last reader, wakes all threads that wait.
 ///
-/// It blocks while another thread has the mutex.
+/// Blocks while another thread holds the mutex.
+///
+/// ```rust
+/// begin_read(rt, shared, me, &AT);
+/// let torn = pair.differ();
+/// end_read(rt, shared, me, &AT);
+/// ```
 pub fn end_read<R: Wait>(rt: &R, p: &Package<RwUses>, me: &mut Thread<RwUses>, at: &RwAt)
     requires rest { AtRest p.now me.old }
     requires named { IsNamed p.now.layout at.now }
@@ -63,9 +76,16 @@ pub fn end_read<R: Wait>(rt: &R, p: &Package<RwUses>, me: &mut Thread<RwUses>, a
     leave(rt, p, me, at, state, last);
 }
 
-/// Begins to write: from here on until its `end_write` no other thread reads or writes.
+/// Begins to write: until this thread's `end_write`, no other thread reads or writes.
 ///
-/// It blocks while another thread has the mutex and while one reads or writes, for ever if one never ends.
+/// Blocks while another thread holds the mutex and while a thread reads or writes, for ever if one
+/// never ends.
+///
+/// ```rust
+/// begin_write(rt, shared, me, &AT);
+/// pair.add_one();
+/// end_write(rt, shared, me, &AT);
+/// ```
 pub fn begin_write<R: Wait>(rt: &R, p: &Package<RwUses>, me: &mut Thread<RwUses>, at: &RwAt)
     requires rest { AtRest p.now me.old }
     requires named { IsNamed p.now.layout at.now }
@@ -85,9 +105,15 @@ pub fn begin_write<R: Wait>(rt: &R, p: &Package<RwUses>, me: &mut Thread<RwUses>
     locked_when::<RwUses, Writes, (), _, _, R>(rt, p, me, at.mutex, at.changed, &may_write, write);
 }
 
-/// Ends to write, and wakes those who wait.
+/// Ends writing, and wakes all threads that wait.
 ///
-/// It blocks while another thread has the mutex.
+/// Blocks while another thread holds the mutex.
+///
+/// ```rust
+/// begin_write(rt, shared, me, &AT);
+/// pair.add_one();
+/// end_write(rt, shared, me, &AT);
+/// ```
 pub fn end_write<R: Wait>(rt: &R, p: &Package<RwUses>, me: &mut Thread<RwUses>, at: &RwAt)
     requires rest { AtRest p.now me.old }
     requires named { IsNamed p.now.layout at.now }
@@ -106,7 +132,7 @@ pub fn end_write<R: Wait>(rt: &R, p: &Package<RwUses>, me: &mut Thread<RwUses>, 
     leave(rt, p, me, at, state, true);
 }
 
-/// Gives the mutex back with this state, and before that wakes all that wait, where it is to.
+/// Releases the mutex with this state. If `wake` is true, wakes all threads that wait before that.
 fn leave<R: Wait>(
     rt: &R,
     p: &Package<RwUses>,
@@ -128,7 +154,8 @@ fn leave<R: Wait>(
     ensures held { me.new.held ≡ slice_set me.old.held at.now.mutex.0 None }
     ensures role { (s : List RoleChange) → me.old.share ≡ Some s → me.new.share ≡ Some (turn at.now.mutex.0 Idle ∷ s) }
 {
-    // Before the mutex is given back: whoever is woken is unparked once it has been, and finds it free.
+    // Before the mutex is released: a woken thread is unparked once that has happened, and finds
+    // the mutex free.
     if wake {
         broadcast(rt, p, me, at.changed);
         release::<RwUses, Idles, R>(rt, p, me, at.mutex, state);

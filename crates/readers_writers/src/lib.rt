@@ -1,8 +1,10 @@
 //! Many readers, or one writer.
 //!
-//! Promises: behind each mutex the number of readers is that of the threads that read there, the writer is the one thread that writes
-//! there, and there are never both; each call moves its thread between idle, reading and writing. Stands on a mutex and a condition of the
-//! package. Nothing is said of waiting: not that a thread ever gets in, nor that a writer comes before later readers.
+//! Promises: under each mutex the number of readers is that of the threads that read there, the
+//! writer is the one thread that writes there, and there are never both; each call moves its thread
+//! between idle, reading and writing. Built on a mutex and a condition of the package. Nothing is
+//! promised about waiting: not that a thread ever gets in, nor that a writer comes before later
+//! readers.
 #![tactic(auto)]
 
 mod calls;

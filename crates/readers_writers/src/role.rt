@@ -1,13 +1,13 @@
-//! What a share is made of.
+//! The entries of a share.
 
-/// What a thread does behind a mutex.
+/// What a thread does under a mutex.
 pub enum Role {
     Idle,
     Reading,
     Writing,
 }
 
-/// From here on a thread does this behind the mutex.
+/// A change of role: from here on the thread does this under the mutex.
 pub struct RoleChange {
     pub mutex: u64,
     pub now: Role,

@@ -9,7 +9,8 @@ use crate::state::RwState;
 use nub_rule::{Change, Uses};
 use std::collections::LinkedList;
 
-/// Behind each mutex stands who reads and who writes there. A share says for each mutex whether its thread is idle, reads or writes.
+/// The use in which each mutex protects the state of its readers and writer. A share says for each
+/// mutex whether its thread is idle, reads or writes.
 pub struct RwUses;
 
 impl Uses for RwUses {
@@ -32,13 +33,13 @@ impl Uses for RwUses {
     ghost holds_after = { roles_after };
 }
 
-/// The thread reads.
+/// The change by which the thread becomes a reader.
 pub struct Reads;
 
-/// The thread writes.
+/// The change by which the thread becomes the writer.
 pub struct Writes;
 
-/// The thread is idle again.
+/// The change by which the thread becomes idle again.
 pub struct Idles;
 
 impl Change<RwUses> for Reads {

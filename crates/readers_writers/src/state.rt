@@ -1,4 +1,4 @@
-//! What stands behind a mutex, and where it is.
+//! The state that a mutex protects, and the names of the mutex and its condition.
 use larch_actions::{CondId, MutexId};
 
 /// How many threads read, and the number of the thread that writes.
@@ -8,7 +8,7 @@ pub struct RwState {
     pub writer: Option<u32>,
 }
 
-/// The mutex behind which the state stands, and the condition that it has changed.
+/// The mutex that protects the state, and the condition that a change of the state signals.
 #[derive(Clone, Copy, Debug, PartialEq, Eq)]
 pub struct RwAt {
     pub mutex: MutexId,

@@ -20,18 +20,20 @@ use Rattle.script_text.specs.Runs.{AreCallsOf, lines_of, total, returned, raised
 abbrev pub Player : Type 0
 Player = Known ℕ (List Added) (Prim.Unit {0})
 
--- of the mutex m, which the thread holds or not: the value got, the number now and the share make up what its lines so far have added
+-- for the mutex m, which the thread holds or not: what the thread's lines so far have added is made
+-- up of the value got, the number now and the share
 abbrev pub HasNumber : Bool → List (Opt ℕ) → ℕ → ℕ → List Added → ℕ → Type 0
 HasNumber true held m number share sum = (x : ℕ) × (get_elem? held m ≡ some (Some x)) × (x ≤ number) × (x ≤ 25600000000000)
     × (added m share + number ≡ sum + x)
 HasNumber false held m number share sum = (get_elem? held m ≡ some None) × (added m share ≡ sum)
 
--- there is room for the numbers of all mutexes, and none beyond
+-- there is room for the numbers of all mutexes, and no other mutex has one
 pub record IsWide (held : List (Opt ℕ)) : Type 0 where
   pub room : 64 ≤ length held
   pub none : (m x : ℕ) → 64 ≤ m → get_elem? held m ≡ some (Some x) → ⊥
 
--- The thread t has played its lines of these, and in a further one has made the events es; no call of it is open.
+-- the thread t has played its lines of these, and in the next one has made the events es; no call
+-- of it is open
 pub record IsPlaying (p : Shape (Prim.Unit {0})) (t : ℕ) (xs : List Line) (es : List Event) (numbers : List ℕ) (me : Player) : Type 0 where
   pub rest : AtRest p me
   pub number : me.number ≡ t
@@ -51,7 +53,8 @@ pub record HasMutex (l : Layout) (t : ℕ) (xs : List Line) (m : ℕ) : Type 0 w
   pub follow : MayFollow l none_held none_forked xs
   pub few : length xs < 99999
 
--- the events of an alertable wait that ends so; what follows the waits that returned, where the last ended so
+-- the events of an alertable wait that ends like this, and what follows the waits that returned, if
+-- the last ended like this
 abbrev pub alertable : Outcome → ℕ → MutexId → CondId → List Event
 alertable Returned t m c = returned t m c
 alertable Alerted t m c = raised t m c

@@ -1,4 +1,5 @@
--- The slots of a run of version two: where its threads stand before their forks, in their parts and after their ends.
+-- The slots of a run of version two: its threads before their forks, in their parts and after their
+-- ends.
 use Rattle.std.specs.Prelude.{◌≡◌, ℕ, ◌<◌, ◌≤◌, Bool, true, false, List, [], ◌∷◌, ◌++◌, map, drop, take, length, Some}
 use Rattle.std.specs.List.{AllByRecursion}
 use Rattle.larch_actions.specs.declared.event.Event.{Event}
@@ -17,7 +18,7 @@ use Rattle.script_run.specs.declared.slots.Slot.TheVariants as slot
 use Rattle.script_run.specs.Playing.{Player, IsPlaying}
 use Rattle.script_run.specs.Regions.{below, region}
 
--- the lists, one behind the other
+-- the lists, one after the other
 abbrev pub joined : List (List Slot) → List Slot
 joined [] = []
 joined (r ∷ rs) = r ++ joined rs
@@ -32,7 +33,7 @@ abbrev pub is_live : Slot → Bool
 is_live (slot.Live w i b) = true
 is_live _ = false
 
--- the right to begin a thread, which has added nothing
+-- the right to fork a thread, which has added nothing
 abbrev pub IsWaiting : Shape (Prim.Unit {0}) → Slot → Type 0
 IsWaiting p (slot.Unborn k) = IsRight p (λ w n. let s : List Added = [] in s) k.number k
 IsWaiting p _ = ⊥
@@ -56,8 +57,8 @@ abbrev pub IsOver : Shape (Prim.Unit {0}) → List Line → Slot → Type 0
 IsOver p xs (slot.Ended k) = HasEnded p xs k
 IsOver p xs _ = ⊥
 
--- The thread t in the last slot has played its lines before the line i.
--- The others have the rights to begin those that the lines from there on fork below it.
+-- the thread t in the last slot has played its lines before the line i; the other slots have the
+-- rights to fork the threads that the lines from there on fork below it
 pub record AreReady (p : Shape (Prim.Unit {0})) (xs : List Line) (i t : ℕ) (slots : List Slot) : Type 0 where
   pub numbers : map slot_number slots ≡ region (drop i xs) t
   pub prefix : List Slot
@@ -66,20 +67,21 @@ pub record AreReady (p : Shape (Prim.Unit {0})) (xs : List Line) (i t : ℕ) (sl
   pub waiting : Each (λ n s. IsWaiting p s) prefix
   pub live : IsLive p xs i t last
 
--- the slots of one thread, which may go on, and of those that are forked below it from there on
+-- the slots of one thread, which may go on, and of the threads that are forked below it from there
+-- on
 pub record IsRegion (p : Shape (Prim.Unit {0})) (xs : List Line) (slots : List Slot) : Type 0 where
   pub at : ℕ
   pub t : ℕ
   pub within : at ≤ length xs
   pub ready : AreReady p xs at t slots
 
--- the slots of some such threads, one behind the other
+-- the slots of some such threads, one after the other
 pub record AreRegions (p : Shape (Prim.Unit {0})) (xs : List Line) (slots : List Slot) : Type 0 where
   pub regions : List (List Slot)
   pub each : AllByRecursion (IsRegion p xs) regions
   pub are : slots ≡ joined regions
 
--- all have ended, each in its place
+-- all threads have ended, each in its place
 pub record AreOver (p : Shape (Prim.Unit {0})) (xs : List Line) (order : List ℕ) (slots : List Slot) : Type 0 where
   pub numbers : map slot_number slots ≡ order
   pub over : Each (λ n s. IsOver p xs s) slots
@@ -97,7 +99,8 @@ pub record IsAhead (p : Shape (Prim.Unit {0})) (xs : List Line) (t i k : ℕ) (n
   pub playing : IsPlaying p t (take k xs) [] numbers me
   pub none : below (drop i xs) t ≡ below (drop k xs) t
 
--- the thread in the last slot has forked another, whose region is the first so many slots, and both may go on
+-- the thread in the last slot has forked another, whose region is the first `width` slots, and both
+-- may go on
 pub record AreForked (p : Shape (Prim.Unit {0})) (xs : List Line) (width : ℕ) (before slots : List Slot) : Type 0 where
   pub any : 0 < width
   pub fewer : width < length slots
@@ -112,12 +115,13 @@ pub record EndsLive (slots : List Slot) : Type 0 where
   pub split : slots ≡ prefix ++ last ∷ []
   pub live : is_live last ≡ true
 
--- these are over, or may go on
+-- the threads of these slots have ended, or may go on
 abbrev pub AreOverOrGoOn : Shape (Prim.Unit {0}) → List Line → Bool → List Slot → Type 0
 AreOverOrGoOn p xs true slots = AreOver p xs (map slot_number slots) slots
 AreOverOrGoOn p xs false slots = AreRegions p xs slots
 
--- the slots are cut in two: the threads of the first part may go on, those of the rest may too, or have ended
+-- the slots are cut in two: the threads of the first part may go on, and those of the second may
+-- too, or have ended
 pub record IsCut (p : Shape (Prim.Unit {0})) (xs : List Line) (at : ℕ) (over : Bool) (before slots : List Slot) : Type 0 where
   pub any : over ≡ false → 0 < at
   pub fewer : at < length slots

@@ -1,4 +1,5 @@
-//! How the slots of a run of version two come apart: its threads play on until others are to be started beside them.
+//! How the slots of a run of version two are split: threads play on until others are to be started
+//! beside them.
 ghost use Rattle.std.specs.Prelude.{◌≡◌, ◌≢◌, ◌+◌, ◌-◌, ◌<◌, ◌≤◌, ℕ, map, length, slice_get, IfSome, Some, None};
 ghost use Rattle.larch_actions.specs.declared.event.Version.TheVariants.{Two};
 ghost use Rattle.script_text.specs.Text.{IsScript};
@@ -17,9 +18,9 @@ use sum_uses::SumUses;
 /// Where slots are cut in two.
 #[derive(Clone, Copy)]
 pub struct Cut {
-    /// So many are the first part, whose threads may all go on.
+    /// The number of slots in the first part, whose threads may all go on.
     pub at: usize,
-    /// Whether the second part is over. Else its threads may go on too.
+    /// Whether the threads of the second part have ended. If not, they may go on too.
     pub is_rest_over: bool,
 }
 
@@ -38,8 +39,9 @@ fn width(slots: &[Slot], who: ThreadId) -> usize
     unreachable!()
 }
 
-// Plays the lines of the thread in the last slot up to the next that forks a thread, and forks that thread in its slot: it answers how many
-// slots the region of that one has. Without such a line the thread ends.
+// Plays the lines of the thread in the last slot up to the next that forks a thread, and forks that
+// thread in its slot. Returns how many slots the region of the forked thread has. If there is no
+// such line, the thread ends.
 fn advance<R: Wait>(
     rt: &R,
     pkg: &Package<SumUses>,
@@ -89,7 +91,8 @@ fn advance<R: Wait>(
     Some(width)
 }
 
-// Whether the next line of the thread in the last slot forks another. It decides nothing but how many threads are started together.
+// Whether the next line of the thread in the last slot forks another. This decides only how many
+// threads are started together.
 fn forks_next(lines: &[Line], slots: &[Slot]) -> bool {
     let Some(
         Slot::Live {
@@ -113,10 +116,11 @@ fn forks_next(lines: &[Line], slots: &[Slot]) -> bool {
     false
 }
 
-// Plays the thread in the last slot up to a line that forks another, and on as long as its next line does too. The slots are cut behind those
-// of the threads that it has forked.
+// Plays the thread in the last slot up to a line that forks another, and on while its next line
+// does too. The slots are cut after those of the threads that it has forked.
 //
-// Not inlined: its frame takes some 20 KB, which the recursion of a run in which each thread forks the next would have at every step.
+// Not inlined: its frame takes some 20 KB, and the recursion of a run in which each thread forks
+// the next would have that at every step.
 #[inline(never)]
 fn play_on<R: Wait>(rt: &R, pkg: &Package<SumUses>, lines: &[Line], slots: &mut [Slot]) -> Cut
     requires script { IsScript pkg.now.layout lines.now }
@@ -144,7 +148,7 @@ fn play_on<R: Wait>(rt: &R, pkg: &Package<SumUses>, lines: &[Line], slots: &mut 
     }
 }
 
-// The thread in the last slot begins, if it has yet to.
+// Lets the thread in the last slot begin, if it hasn't yet.
 fn begin_last<G: BeforeStart>(before_start: &G, slots: &[Slot]) {
     if let Some(
         Slot::Live {
@@ -158,8 +162,8 @@ fn begin_last<G: BeforeStart>(before_start: &G, slots: &[Slot]) {
     }
 }
 
-/// Cuts the slots in two, of which each may be played beside the other: before the last region. Where there is but that one, its thread
-/// begins, if it has yet to, and plays on before.
+/// Cuts the slots in two parts that may be played beside each other: before the last region. If
+/// there is only that one, its thread first begins, if it hasn't yet, and plays on.
 pub fn cut_in_two<R: Wait, G: BeforeStart>(
     rt: &R,
     pkg: &Package<SumUses>,

@@ -1,4 +1,4 @@
-//! The run of a script of version two, whose threads begin and end in it.
+//! The run of a script of version two, whose threads are forked and end in it.
 ghost use Rattle.std.specs.Prelude.{◌≡◌, ◌<◌, ℕ, List, map, length, slice_index, IfOk, Some};
 ghost use Rattle.std.specs.Thread.{IsSync};
 ghost use Rattle.std.specs.List.{AllByRecursion};
@@ -33,11 +33,13 @@ struct Stage<'a, R, G> {
     before_start: &'a G,
 }
 
-// Plays the threads of all slots to their ends: it cuts the slots in two, and plays each part beside the other. Of several threads that may go
-// on the last is the second part, and is started here: so are all that were forked together. If each were started by the one before, each
-// start would wait for the last to run, and each end for the last end.
+// Plays the threads of all slots to their ends: cuts the slots in two, and plays each part beside
+// the other. If several threads may go on, the last of them is the second part, and is started
+// here, and so are all that were forked together. If each were started by the one before, each
+// start would wait until the last runs, and each end until the last ends.
 //
-// Where no thread can be made the first part comes first: it is of threads whose end the second may await.
+// If no thread can be made, the first part comes first: it has the threads whose ends the second
+// may await.
 fn play_all<R: Threads + Wait + Sync, G: BeforeStart>(stage: &Stage<'_, R, G>, slots: &mut [Slot])
     requires script { IsScript stage.now.pkg.now.layout stage.now.lines.now }
     requires version { stage.now.pkg.now.layout.version ≡ Two }
@@ -69,8 +71,9 @@ fn play_all<R: Threads + Wait + Sync, G: BeforeStart>(stage: &Stage<'_, R, G>, s
     );
 }
 
-/// Runs a script of version two. Thread 0 is played here; each other one is started once it is forked, beside the rest of the lines of the
-/// thread that forks it, or before these where no thread can be made. Each tells `before_start` before its first line.
+/// Runs a script of version two. Thread 0 is played here. Each other thread is started once it is
+/// forked, beside the rest of the lines of the thread that forks it, or before these if no thread
+/// can be made. Each calls `before_start` before its first line.
 pub fn run_forked<R: Threads + Wait + Sync, G: BeforeStart>(
     rt: &R,
     alloc: Global,

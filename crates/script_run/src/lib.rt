@@ -1,9 +1,10 @@
 //! The run of a script: its calls, made by one thread for each number over a traced package.
 //!
-//! Promises: `run_script` answers what its package leaves: a closed legal history in which the events of each thread are those of its
-//! lines, in order, and for each mutex the sum of all that was added under it. Want of memory is its one refusal.
-//! Stands on the package, on scripts that were read, and on a crew of threads. It says nothing of waiting: a run may wait for ever,
-//! and that the threads ran beside each other is shown by runs alone.
+//! Promises: `run_script` returns what its package leaves: a closed legal history in which the
+//! events of each thread are those of its lines, in order, and for each mutex the sum of all that
+//! was added under it. It fails only if there is no memory. Built on the package, on scripts that
+//! were read, and on a crew of threads. Nothing is promised about waiting: a run may wait for ever,
+//! and only runs show that threads run beside each other.
 #![tactic(auto)]
 
 mod cutting;

@@ -1,4 +1,5 @@
-//! The part of one thread of a run of version two: from a line on up to its next fork, that fork, and its end.
+//! The part of one thread of a run of version two: its lines from one on up to its next fork, that
+//! fork, and its end.
 ghost use Rattle.std.specs.Prelude.{◌≡◌, ◌+◌, ◌<◌, ◌≤◌, ℕ, List, [], length, take, drop, slice_get, Some};
 ghost use Rattle.larch_actions.specs.declared.event.ThreadId.{ThreadId};
 ghost use Rattle.larch_actions.specs.declared.event.Version.TheVariants.{Two};
@@ -19,8 +20,9 @@ use script_text::{Line, Operation};
 use std::sync::Wait;
 use sum_uses::SumUses;
 
-/// Plays the thread's lines from one of them on, up to the next that forks a thread, and answers where that line stands. Without such a
-/// line it plays all of them, and answers how many lines there are.
+/// Plays the thread's lines from one of them on, up to the next that forks a thread, and returns
+/// the place of that line. If there is no such line, plays them all, and returns how many lines
+/// there are.
 pub fn play_to_fork<R: Wait>(
     rt: &R,
     pkg: &Package<SumUses>,
@@ -56,7 +58,8 @@ pub fn play_to_fork<R: Wait>(
     (Playing { me, numbers }, lines.len())
 }
 
-/// Forks the thread of the line, by the right to begin it: the forking thread, and the new one, which has played none.
+/// Forks the thread of the line, for which this is the right. Returns the forking thread and the
+/// new one, which has played no line.
 pub fn start<R: Wait>(
     rt: &R,
     pkg: &Package<SumUses>,
@@ -80,7 +83,7 @@ pub fn start<R: Wait>(
     let Ok(mut child) = fork_thread(rt, pkg, &mut me, right) else {
         unreachable!()
     };
-    // without this room its list grows in the run
+    // Without this room the list would grow in the run.
     let _room = child.reserve(own_events(lines, who) + 1);
     let none = [0u64; 64];
     (

@@ -1,4 +1,4 @@
-//! Threads are put into their slots before a run of version two, and taken out of them behind it.
+//! Puts threads into their slots before a run of version two, and takes them out after it.
 ghost use Rattle.std.specs.Prelude.{◌≡◌, ◌≢◌, ℕ, ◌<◌, ◌≤◌, [], length, vec_capacity, IfOk};
 ghost use mathlib.Core.Option.{some};
 ghost use lib.ListN.{get_elem?};
@@ -13,7 +13,7 @@ use nub_rule::{Ended, Thread, Unborn};
 use std::alloc::{AllocError, Global};
 use sum_uses::SumUses;
 
-// Where the first right of the thread is.
+// The place of the first right to fork this thread.
 fn place_of(rights: &Vec<Unborn<SumUses>>, number: u32) -> usize
     requires { with_number number rights.now.items ≢ [] }
     ensures there { (k : Player) × (get_elem? rights.now.items result ≡ some k) × (k.number ≡ number) }
@@ -27,7 +27,8 @@ fn place_of(rights: &Vec<Unborn<SumUses>>, number: u32) -> usize
     unreachable!()
 }
 
-/// The slots of the threads in this order, behind them that of the first thread, and the rights of the others.
+/// Returns the slots of the threads in this order, followed by that of the first thread, and the
+/// rights of the other threads.
 pub fn placed(
     alloc: Global,
     first: Thread<SumUses>,
@@ -53,7 +54,7 @@ pub fn placed(
     Ok((slots, rights))
 }
 
-/// What has ended, where room for it is there.
+/// Returns what is left of all threads, which have ended, in a list that has room.
 pub fn ends(slots: Vec<Slot>, mut over: Vec<Ended<SumUses>>) -> Vec<Ended<SumUses>>
     requires over { Each (λ n s. (k : Player) × (s ≡ slot.Ended k)) slots.items }
     requires room { (over.items ≡ []) × (length slots.items ≤ vec_capacity over) }

@@ -22,7 +22,7 @@ use std::sync::Wait;
 use sum_uses::{AddChange, SumUses};
 use user_mutex::{acquire, release};
 
-/// Makes the call of one line of the thread that forks none.
+/// Makes the call of one line of the thread that forks no other.
 pub fn play_line<R: Wait>(
     rt: &R,
     pkg: &Package<SumUses>,
@@ -84,7 +84,7 @@ pub fn play_line<R: Wait>(
     }
 }
 
-/// Plays the lines of the thread.
+/// Plays all lines of the thread, in order.
 pub fn play<R: Wait>(
     rt: &R,
     pkg: &Package<SumUses>,

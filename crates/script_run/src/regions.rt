@@ -5,7 +5,7 @@ ghost use Rattle.script_run.specs.Regions.{forking, region};
 use script_text::{Line, Operation};
 use std::alloc::{AllocError, Global};
 
-// Adds the threads that the lines from this one on fork below the thread, and then the thread.
+// Appends the threads that the lines from this one on fork below the thread, and then the thread.
 fn add(lines: &[Line], at: usize, thread: u32, order: &mut Vec<u32>) -> Result<(), AllocError>
     requires { at ≤ length lines.now }
     ensures { OnOk result (order.new.items ≡ order.old.items ++ region (drop at lines.now) thread) }
@@ -22,7 +22,8 @@ fn add(lines: &[Line], at: usize, thread: u32, order: &mut Vec<u32>) -> Result<(
     Ok(())
 }
 
-// The lines that fork threads, in order: few, so that each thread looks through them alone.
+// The lines that fork threads, in order. They are few, and looking for a thread's forks goes
+// through these alone.
 fn forks_of(alloc: Global, lines: &[Line]) -> Result<Vec<Line>, AllocError>
     ensures { IfOk result (λ v. v.items ≡ forking lines.now) }
 {
@@ -35,7 +36,8 @@ fn forks_of(alloc: Global, lines: &[Line]) -> Result<Vec<Line>, AllocError>
     Ok(forks)
 }
 
-/// All threads that are there in the run of a script of version two, each behind all that are forked below it: the last is thread 0.
+/// Returns all threads that a run of this script of version two has, each after all that are forked
+/// below it, so that thread 0 is the last. Fails only if there is no memory.
 pub fn order_of(alloc: Global, lines: &[Line]) -> Result<Vec<u32>, AllocError>
     ensures { IfOk result (λ v. v.items ≡ region lines.now 0) }
 {

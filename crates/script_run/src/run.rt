@@ -1,4 +1,4 @@
-//! Running scripts.
+//! The call that runs a script.
 ghost use Rattle.std.specs.Prelude.{◌≡◌, ◌<◌, ◌≤◌, ℕ, List, [], map, replicate, length, slice_index, IfOk, Some};
 ghost use Rattle.std.specs.List.{AllByRecursion};
 ghost use Rattle.larch_actions.specs.declared.event.Event.{Event};
@@ -23,14 +23,15 @@ use std::sync::Wait;
 use std::thread::Threads;
 use sum_uses::SumUses;
 
-/// The numbers behind the mutexes at first.
+/// Returns the first numbers of the mutexes: zeros.
 pub fn zeros(alloc: Global, count: u32) -> Result<Vec<u64>, AllocError>
     ensures { IfOk result (λ v. v.items ≡ replicate count 0) }
 {
     vec![in alloc; 0; count as usize]
 }
 
-// How many events the call makes. Of `until` and `alert-until` nobody knows it beforehand: they count as one wait.
+// How many events the call makes. `until` and `alert-until` count as one wait, since their number
+// can't be known beforehand.
 fn call_events(operation: &Operation) -> usize
     ensures { result ≤ 2 }
 {
@@ -55,7 +56,7 @@ fn call_events(operation: &Operation) -> usize
     }
 }
 
-/// How many events the thread's own lines make.
+/// Returns how many events the thread's own lines make.
 pub fn own_events(lines: &[Line], number: u32) -> usize
     requires { length lines.now < 100000 }
     ensures { result < 200000 }
@@ -69,7 +70,8 @@ pub fn own_events(lines: &[Line], number: u32) -> usize
     events
 }
 
-// The threads, with room for the events of their lines. Where an `until` waits oftener than once, the list grows in the run.
+// The threads, with room for the events of their lines. If an `until` waits more than once, the
+// list grows in the run.
 fn with_room(
     mut threads: Vec<Thread<SumUses>>,
     lines: &[Line],
@@ -84,7 +86,8 @@ fn with_room(
     Ok(threads)
 }
 
-// Plays the lines of each thread in a thread of its own, which tells `before_start` first.
+// Plays the lines of each thread in an operating-system thread of its own, which first calls
+// `before_start`.
 fn play_all<R: Threads + Wait + Sync, G: BeforeStart>(
     rt: &R,
     alloc: Global,
@@ -116,14 +119,18 @@ fn play_all<R: Threads + Wait + Sync, G: BeforeStart>(
     Ok(threads)
 }
 
-/// Runs a script in a traced package of its own, which is closed when all threads have ended: in version one a thread for each number; in
-/// version two thread 0, and each that a line forks, which is started behind that line and the forks that follow it at once. Each thread
-/// tells `before_start` once, with its number, before its first line.
+/// Runs a script in a traced package of its own, and closes the package when all threads have
+/// ended. In version one there is a thread for each number. In version two there is thread 0 and
+/// each thread that a line forks, which is started after that line and the forks that directly
+/// follow it. Each thread calls `before_start` once, with its number, before its first line.
 ///
-/// Room for the events is taken before the first thread starts, or at its fork, with one wait for each `until` and `alert-until`. Where
-/// these wait oftener and there is no memory for it, the run goes on to its end and is refused then. Where a thread can't be started, its
-/// lines are played here: in version one once all others were started, and in version two before the rest of the lines of the thread that
-/// forks it. A run may wait for ever.
+/// Room for the events is allocated before the first thread starts, or at the thread's fork, with
+/// one wait for each `until` and `alert-until`. If these wait more often and there is no memory for
+/// that, the run goes on to its end and fails then. If a thread can't be started, its lines are
+/// played on the thread that starts it: in version one after all others have been started, and in
+/// version two before the rest of the lines of the thread that forks it.
+///
+/// May block for ever, as the calls of the script may. Fails only if there is no memory.
 pub fn run_script<R: Threads + Wait + Sync, G: BeforeStart>(
     rt: &R,
     alloc: Global,

@@ -1,4 +1,4 @@
-//! Where the threads of a run of version two stand, before, in and after their parts.
+//! The threads of a run of version two, before, in and after their parts.
 ghost use Rattle.std.specs.Prelude.{◌≡◌, ◌<◌, ℕ, take, length};
 ghost use Rattle.script_run.specs.Slots.{EndsLive, is_live, slot_number};
 
@@ -12,24 +12,24 @@ pub struct Playing {
     pub numbers: [u64; 64],
 }
 
-/// A thread before its fork, in its part, and after it.
+/// A thread before its fork, in its part, and after its end.
 #[derive(Drop)]
 pub enum Slot {
     Unborn(Unborn<SumUses>),
     Live {
         playing: Playing,
-        /// How many lines of the script are behind it.
+        /// The number of lines of the script before the one with which it goes on.
         next: usize,
         /// Whether it has yet to begin.
         is_new: bool,
     },
     Ended(Ended<SumUses>),
-    /// What stood here was taken out, and the next is put in at once.
+    /// What was here was taken out; the next is put in at once.
     Taken,
 }
 
 impl Slot {
-    /// The number of its thread.
+    /// Returns the number of the thread.
     pub fn number(&self) -> u32
         ensures { result ≡ slot_number self.now }
     {
@@ -45,7 +45,7 @@ impl Slot {
         }
     }
 
-    /// Whether its thread may go on.
+    /// Returns whether the thread may go on.
     pub fn is_live(&self) -> bool
         ensures { result ≡ is_live self.now }
     {
@@ -60,7 +60,8 @@ impl Slot {
     }
 }
 
-/// Behind the last thread that may go on, before the one in the last slot. 0 where there is none.
+/// Returns the place after the last thread that may go on, not counting the one in the last slot,
+/// and 0 if there is none.
 pub fn boundary(slots: &[Slot]) -> usize
     ensures within { 0 < result → result < length slots.now }
     ensures live { 0 < result → EndsLive (take result slots.now) }

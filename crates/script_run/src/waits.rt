@@ -1,4 +1,5 @@
-//! The waits of a line: the mutex is held before and afterwards, and its number is got anew.
+//! The waits of a line: the thread holds the mutex before and afterwards, and gets its number
+//! again.
 ghost use Rattle.std.specs.Prelude.{◌≡◌, ◌<◌, ◌≤◌, ◌++◌, ℕ, [], List, slice_index};
 ghost use Rattle.larch_actions.specs.Layout.{IsLawful};
 ghost use Rattle.larch_actions.specs.declared.event.Event.{Event};
@@ -14,7 +15,8 @@ use nub_rule::{Package, Thread};
 use std::sync::Wait;
 use sum_uses::{AddChange, SumUses};
 
-/// Waits in the condition once. It blocks until a Signal or Broadcast takes the thread out, and then until it gets the mutex.
+/// Waits in the condition once. Blocks until a Signal or Broadcast takes the thread out, and then
+/// until it gets the mutex.
 pub fn wait_once<R: Wait>(
     rt: &R,
     pkg: &Package<SumUses>,
@@ -36,7 +38,8 @@ pub fn wait_once<R: Wait>(
     numbers[at] = wait::<SumUses, AddChange, R>(rt, pkg, me, mutex, cond, number);
 }
 
-/// The same, where an alert of the thread may end the wait too.
+/// Waits in the condition once, until a Signal, a Broadcast or an alert of the thread ends the
+/// wait, and then until it gets the mutex.
 pub fn alert_wait_once<R: Wait>(
     rt: &R,
     pkg: &Package<SumUses>,
@@ -60,7 +63,8 @@ pub fn alert_wait_once<R: Wait>(
     outcome
 }
 
-/// Waits in the condition as long as the number of the mutex is less than this one, and looks again after each wait. It may wait for ever.
+/// Waits in the condition while the number of the mutex is less than this one, and looks again
+/// after each wait. May block for ever.
 pub fn until<R: Wait>(
     rt: &R,
     pkg: &Package<SumUses>,
@@ -89,7 +93,8 @@ pub fn until<R: Wait>(
     unreachable!()
 }
 
-/// The same by waits that an alert of the thread may end. After the first that one ends it gives up.
+/// Does what `until` does, by waits that an alert of the thread may end. Gives up after the first
+/// wait that an alert ended.
 pub fn alert_until<R: Wait>(
     rt: &R,
     pkg: &Package<SumUses>,

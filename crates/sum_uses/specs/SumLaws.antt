@@ -1,4 +1,5 @@
--- What the sums promise of a package that uses them: whoever takes a value finds what it knows of it, and a change keeps the sums.
+-- The laws of sums as a use of the package: a thread that takes a value finds what it knows of it,
+-- and a change keeps the sums.
 use Rattle.std.specs.Prelude.{◌≡◌, ◌≢◌, ◌⊎◌, ℕ, ◌+◌, ◌-◌, ◌*◌, ◌≤◌, List, [], ◌∷◌, length, slice_set}
 use Rattle.std.proofs.Common.{zero, suc, arith, sym, ap, subst, ⊎_elim, refl}
 use mathlib.Core.Option.{some, some-injective, some-ne-none}

@@ -14,7 +14,8 @@ abbrev pub total : ℕ → List (List Added) → ℕ
 total m [] = 0
 total m (s ∷ shares) = added m s + total m shares
 
--- each value is the sum of what the shares have added, which are few and small
+-- each value is the sum of what the shares have added; the shares are few, and each has added
+-- little
 pub record AreSums (values : List ℕ) (shares : List (List Added)) : Type 0 where
   pub few : length shares ≤ 256
   pub small : (t : ℕ) (s : List Added) → get_elem? shares t ≡ some s → (m : ℕ) → added m s ≤ 100000000000

@@ -1,7 +1,8 @@
-//! The use of the package by sums, which scripts and the tests of the package have.
+//! The use of the package by sums, for scripts and for the tests of the package.
 //!
-//! Promises: the two laws that a use of the package owes hold of sums, so that no addition is lost and none leaves the numbers of 64
-//! bits; `add_to` gives a value that may be given back. Stands on `nub_rule` for what a use is. It takes no step of the package.
+//! Promises: the two laws of a use hold of sums, so that no addition is lost and none leaves the
+//! numbers of 64 bits; `add_to` returns a value that may be released. Built on `nub_rule`, which
+//! says what a use is. Nothing here takes a step of the package.
 #![tactic(auto)]
 
 mod added;

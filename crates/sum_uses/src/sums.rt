@@ -8,7 +8,8 @@ use crate::added::Added;
 use nub_rule::{Change, Uses};
 use std::collections::LinkedList;
 
-/// Each value is the sum of what all threads have added under its mutex, and a share is what one thread has added.
+/// The use in which each value is the sum of what all threads have added under its mutex, and a
+/// share is what one thread has added.
 pub struct SumUses;
 
 impl Uses for SumUses {
@@ -31,15 +32,16 @@ impl Uses for SumUses {
     ghost holds_after = { after_sums };
 }
 
-/// The share grows by as much as the value.
+/// The change by which the share grows as much as the value.
 pub struct AddChange;
 
 impl Change<SumUses> for AddChange {
     ghost after = { λ w m t x y s. grown m x y s };
 }
 
-/// The value that the holder of a mutex gives back after an addition to the one that it got. It may be given back with `AddChange`,
-/// while its thread has added little, and then the thread's share has this much more under the mutex.
+/// Returns the value with which the holder of a mutex releases it, after an addition to the value
+/// that it got. It may be released with `AddChange` while the thread has added little, and the
+/// thread's share then has this much more under the mutex.
 #[inline]
 pub fn add_to(got: u64, amount: u64) -> u64
     requires got { got ≤ 25600000000000 }

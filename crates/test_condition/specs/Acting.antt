@@ -8,7 +8,7 @@ use Rattle.readers_writers.specs.declared.role.RoleChange.{RoleChange}
 use Rattle.readers_writers.specs.declared.state.RwState.{RwState}
 use Rattle.readers_writers.specs.Roles.{role_of}
 
--- the thread n of the package is between two calls, and does this behind mutex 0
+-- the thread n of the package is between two calls, and has this role under mutex 0
 pub record IsActing (p : Shape (Unit {0})) (n : ℕ) (role : Role) (t : Known RwState (List RoleChange) (Unit {0})) : Type 0 where
   pub share : List RoleChange
   pub idle : IsIdle p n share t

@@ -8,17 +8,18 @@ use std::process::Abort;
 use std::test::Fail;
 use test_support::has_numbers;
 
-/// Sees that the put has this answer.
+/// Checks that the put has this result.
 fn put_has(rt: &impl Abort, answer: PutAnswer, expected: PutAnswer) {
     assert_eq!(rt; answer, expected);
 }
 
-/// Sees that the take has this answer.
+/// Checks that the take has this result.
 fn take_has(rt: &impl Abort, answer: TakeAnswer, expected: TakeAnswer) {
     assert_eq!(rt; answer, expected);
 }
 
-/// Sees that items came out in the order in which they were put, and that the buffer took no more when it was shut, and gave what was left.
+/// Checks that items came out in order of puts, that the shut buffer took no more, and that what
+/// was left came out.
 fn is_in_turn(rt: &impl Abort, answers: &InTurn) {
     put_has(rt, answers.first_put, Ok(0));
     put_has(rt, answers.second_put, Ok(1));
@@ -28,7 +29,7 @@ fn is_in_turn(rt: &impl Abort, answers: &InTurn) {
     take_has(rt, answers.last_take, Err(TakeEnd::ClosedEmpty));
 }
 
-/// Whether the first of these is a thread that put, took and shut. It sees that its answers are as they should be.
+/// Returns whether the first of these is a thread that put, took and shut, and checks its results.
 fn begins_in_turn(rt: &impl Abort, left: &[Left]) -> bool {
     match left.first() {
         Some(Left::InTurn(answers)) => {
@@ -39,7 +40,7 @@ fn begins_in_turn(rt: &impl Abort, left: &[Left]) -> bool {
     }
 }
 
-// Items come out in the order in which they were put. A shut buffer takes no more, and gives what is left.
+// Items come out in order of puts. A shut buffer takes no more, and what is left comes out.
 #[test]
 fn one_thread(rt: HostRuntime) -> Result<(), Fail> {
     let (end, left) = ended(&rt, rt.alloc(), 1, 2, Task::InTurn)?;
@@ -50,7 +51,8 @@ fn one_thread(rt: HostRuntime) -> Result<(), Fail> {
     Ok(())
 }
 
-/// How many threads took once, and how many of these were ended by an alert that was gone then.
+/// Returns how many threads took once, and how many of these takes an alert ended, which was
+/// cleared then.
 fn takes_of(left: &[Left]) -> [u64; 2] {
     let mut all: u64 = 0;
     let mut cancelled: u64 = 0;
@@ -66,7 +68,7 @@ fn takes_of(left: &[Left]) -> [u64; 2] {
     [all, cancelled]
 }
 
-// A thread that has alerted itself raises where there is nothing to take, and is alerted no more.
+// A thread that has alerted itself raises if there is nothing to take, and is no longer alerted.
 #[test]
 fn alerted_take(rt: HostRuntime) -> Result<(), Fail> {
     let (_, left) = ended(&rt, rt.alloc(), 1, 1, Task::AlertedTake)?;
@@ -75,7 +77,7 @@ fn alerted_take(rt: HostRuntime) -> Result<(), Fail> {
     has_numbers(&takes, &[1, 1])
 }
 
-/// How many puts were refused, of all threads together.
+/// Returns how many puts were refused, of all threads together.
 fn refused(left: &[Left]) -> u64 {
     let mut all: u64 = 0;
     for one in left {
@@ -86,7 +88,7 @@ fn refused(left: &[Left]) -> u64 {
     all
 }
 
-/// Which numbers and which items came, of those that threads took, and how often they took.
+/// The numbers and the items that came, of those that threads took, and how often they took.
 #[derive(Drop)]
 struct Came {
     taken: u64,
@@ -112,7 +114,7 @@ impl Came {
     }
 }
 
-/// How many of these came.
+/// Returns how many of these came.
 fn how_many_came(places: &[bool]) -> u64 {
     let mut many: u64 = 0;
     for came in places {
@@ -123,7 +125,7 @@ fn how_many_came(places: &[bool]) -> u64 {
     many
 }
 
-/// How often threads took, and how many of the numbers and how many of the items came.
+/// Returns how often threads took, and how many of the numbers and how many of the items came.
 fn count_all(left: &[Left]) -> [u64; 3] {
     let mut came = Came {
         taken: 0,
@@ -139,7 +141,8 @@ fn count_all(left: &[Left]) -> [u64; 3] {
     [came.taken, numbers, items]
 }
 
-// Two threads put 500 items each, two others take them. They take 1000 times; all 1000 items came, and all numbers from 0 to 999.
+// Two threads put 500 items each, two others take them. They take 1000 times; all 1000 items came,
+// and all numbers from 0 to 999.
 #[test]
 fn each_item_once(rt: HostRuntime) -> Result<(), Fail> {
     let (_, left) = ended(&rt, rt.alloc(), 4, 1, Task::Pass)?;
@@ -149,7 +152,7 @@ fn each_item_once(rt: HostRuntime) -> Result<(), Fail> {
     has_numbers(&[refused], &[0])
 }
 
-/// How often each item was taken.
+/// Returns how often each item was taken.
 fn counted(alloc: Global, left: &[Left]) -> Result<Vec<u32>, AllocError> {
     let mut counts = vec![in alloc; 0u32; MANY]?;
     for one in left {
@@ -165,7 +168,7 @@ fn counted(alloc: Global, left: &[Left]) -> Result<Vec<u32>, AllocError> {
     Ok(counts)
 }
 
-/// How many of the items were taken once.
+/// Returns how many of the items were taken once.
 fn taken_once(alloc: Global, left: &[Left]) -> Result<u64, AllocError> {
     let counts = counted(alloc, left)?;
     let mut once: u64 = 0;
@@ -177,7 +180,7 @@ fn taken_once(alloc: Global, left: &[Left]) -> Result<u64, AllocError> {
     Ok(once)
 }
 
-/// How many items threads took, and how many of these they had no memory for.
+/// Returns how many items threads took, and for how many of these they had no memory.
 fn how_many(left: &[Left]) -> [u64; 2] {
     let mut all: u64 = 0;
     let mut lost: u64 = 0;
@@ -191,7 +194,8 @@ fn how_many(left: &[Left]) -> [u64; 2] {
     [all, lost]
 }
 
-// Four threads put 50,000 items each into a buffer of eight places, four others take them: 200,000 were taken, each once.
+// Four threads put 50,000 items each into a buffer of eight places, four others take them: 200,000
+// were taken, each once.
 #[test]
 fn many_items_once(rt: HostRuntime) -> Result<(), Fail> {
     let (end, left) = ended(&rt, rt.alloc(), 8, 8, Task::PassMany)?;
@@ -204,7 +208,8 @@ fn many_items_once(rt: HostRuntime) -> Result<(), Fail> {
     Ok(())
 }
 
-// Four threads take from an empty buffer that nobody puts into, and a fifth alerts them: each take ends by the alert, which is gone then.
+// Four threads take from an empty buffer into which no thread puts, and a fifth alerts them: each
+// take ends by the alert, which is cleared then.
 #[test]
 fn all_takers_cancelled(rt: HostRuntime) -> Result<(), Fail> {
     let (_, left) = ended(&rt, rt.alloc(), 5, 8, Task::Cancel)?;

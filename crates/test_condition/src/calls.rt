@@ -6,7 +6,7 @@ use bounded_buffer::{BufferAt, PlainBuffers, PutEnd, TakeEnd, put, shut, take};
 use nub::{CondId, MutexId, Package, Thread};
 use std::sync::Wait;
 
-/// The use of the package that all these tests have.
+/// The use of the package by all these tests.
 pub type Numbers = PlainBuffers<u32>;
 
 /// Where the buffer is.
@@ -16,13 +16,13 @@ const AT: BufferAt = BufferAt {
     more: CondId(1),
 };
 
-/// What a put answers.
+/// The result of a put.
 pub type PutAnswer = Result<u64, (PutEnd, u32)>;
 
-/// What a take answers.
+/// The result of a take.
 pub type TakeAnswer = Result<(u64, u32), TakeEnd>;
 
-/// Puts the item.
+/// Puts the item into the buffer of the test.
 pub fn put_one<R: Wait>(
     rt: &R,
     pkg: &Package<Numbers>,
@@ -36,7 +36,7 @@ pub fn put_one<R: Wait>(
     put(rt, pkg, me, &AT, item)
 }
 
-/// Takes an item.
+/// Takes an item from the buffer of the test.
 pub fn take_one<R: Wait>(rt: &R, pkg: &Package<Numbers>, me: &mut Thread<Numbers>) -> TakeAnswer
     requires named { HasBuffer pkg.now.layout }
     requires free { (n : ℕ) × IsFree pkg.now n me.old }
@@ -45,7 +45,7 @@ pub fn take_one<R: Wait>(rt: &R, pkg: &Package<Numbers>, me: &mut Thread<Numbers
     take(rt, pkg, me, &AT)
 }
 
-/// Shuts the buffer.
+/// Shuts the buffer of the test.
 pub fn shut_it<R: Wait>(rt: &R, pkg: &Package<Numbers>, me: &mut Thread<Numbers>)
     requires named { HasBuffer pkg.now.layout }
     requires free { (n : ℕ) × IsFree pkg.now n me.old }

@@ -14,10 +14,12 @@ use std::sync::Wait;
 use std::sync::atomic::{AtomicU64, Ordering};
 use std::thread::Threads;
 
-/// How often sixteen times the reader looks at the note once the writer has come: long enough for the writer to be in its wait.
+/// How many times sixteen the reader looks at the note after the writer has come: long enough for
+/// the writer to be in its wait.
 const LONG: u32 = 2000;
 
-/// Reads so often, each time until the writer has come and a while longer, and goes on once it has written.
+/// Reads `times` times, each time until the writer has come and a while longer, and goes on once
+/// the writer has written.
 fn read_until_it_comes<R: Wait>(
     rt: &R,
     pkg: &Package<RwUses>,
@@ -41,7 +43,7 @@ fn read_until_it_comes<R: Wait>(
     me
 }
 
-/// Writes so often, each time that it finds the other thread reading.
+/// Writes `times` times, each time that it finds the other thread reading.
 fn write_while_it_reads<R: Wait>(
     rt: &R,
     pkg: &Package<RwUses>,
@@ -82,7 +84,7 @@ fn read_or_write<R: Wait>(
     }
 }
 
-/// Thread 0 reads, and thread 1 comes to write meanwhile, so often. The note is 0 at first.
+/// Thread 0 reads, and thread 1 comes to write meanwhile, `times` times. The note is 0 at first.
 pub fn run_coming<R: Threads + Wait + Sync>(
     rt: &R,
     alloc: Global,

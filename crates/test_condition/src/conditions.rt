@@ -1,4 +1,4 @@
-//! A condition, with a mutex whose value tells whose turn it is.
+//! A condition, with a mutex whose value says whose turn it is.
 ghost use Rattle.std.specs.Prelude.{◌≡◌};
 ghost use Rattle.larch_actions.specs.Layout.{IsLawful};
 ghost use Rattle.larch_actions.specs.declared.event.Version.TheVariants.{One};
@@ -18,13 +18,14 @@ use std::thread::Threads;
 use sum_uses::SumUses;
 use test_support::{event, few_of_each, has_numbers, largest, leaves, plays, run};
 
-/// The steps of two conditions in the trace.
+/// Returns the steps of two conditions in the trace.
 fn steps_in(closed: &Closed<SumUses>, conds: (CondId, CondId)) -> Option<(Steps, Steps)> {
     let events = closed.trace()?;
     Some((counted(events, conds.0)?, counted(events, conds.1)?))
 }
 
-/// Runs the part with a trace, and sees that it leaves these numbers behind the mutexes. It gives the steps of two conditions.
+/// Runs the part with a trace, and checks that it leaves the mutexes with these numbers. Returns
+/// the steps of two conditions.
 fn steps_of<R: Threads + Wait + Sync>(
     rt: &R,
     alloc: Global,
@@ -45,12 +46,13 @@ fn steps_of<R: Threads + Wait + Sync>(
     Ok(steps.ok_or("no trace, or a wait that nobody ended")?)
 }
 
-/// Sees that these are the steps of a condition.
+/// Checks that these are the steps of a condition.
 fn has_steps(rt: &impl Abort, found: Steps, expected: Steps) {
     assert_eq!(rt; found, expected);
 }
 
-/// Sees that so many Signals and no Broadcast ended waits in the condition, and that whoever waited went on.
+/// Checks that `signals` Signals and no Broadcast ended waits in the condition, and that each
+/// thread that waited went on.
 fn has_turns(rt: &impl Abort, found: Steps, signals: u64) {
     let expected = Steps {
         enqueued: found.enqueued,
@@ -61,7 +63,7 @@ fn has_turns(rt: &impl Abort, found: Steps, signals: u64) {
     has_steps(rt, found, expected);
 }
 
-// A Signal and a Broadcast of an empty condition go on at once, and leave nobody.
+// A Signal and a Broadcast of an empty condition go on at once, and leave no thread in it.
 #[test]
 fn alone(rt: HostRuntime) -> Result<(), Fail> {
     let notes = Notes::new();
@@ -75,7 +77,8 @@ fn alone(rt: HostRuntime) -> Result<(), Fail> {
 // The conditions in which two threads take turns.
 const BOTH: (CondId, CondId) = (CondId(0), CondId(1));
 
-// Two threads take turns, untraced and traced: no wake is lost, and each who resumes was taken out.
+// Two threads take turns, untraced and traced: no wake is lost, and each thread that resumes was
+// taken out.
 #[test]
 fn contended(rt: HostRuntime) -> Result<(), Fail> {
     let (notes, values) = (Notes::new(), [4000, 0]);
@@ -95,8 +98,9 @@ fn two_objects_apart(rt: HostRuntime) -> Result<(), Fail> {
     leaves(&rt, rt.alloc(), few_of_each(4), &part, &[4000, 4000], None)
 }
 
-// 63 threads are in one condition, as many as can be, and one Broadcast with their mutex takes them all out: each resumes once, so the list of
-// those to be unparked when the mutex is given back has room for all.
+// 63 threads are in one condition, as many as can be, and one Broadcast with their mutex takes them
+// all out. Each resumes once, so the list of threads to be unparked at the release of the mutex has
+// room for all.
 #[test]
 fn many_threads(rt: HostRuntime) -> Result<(), Fail> {
     let notes = Notes::new();
@@ -131,7 +135,8 @@ fn largest_layout(rt: HostRuntime) -> Result<(), Fail> {
     Ok(())
 }
 
-// A Signal after the mutex was given back finds the other thread anywhere between its count and its sleep, and is never lost.
+// A Signal after the release of the mutex finds the other thread anywhere between its count and its
+// sleep, and is never lost.
 #[test]
 fn signal_before_the_push(rt: HostRuntime) -> Result<(), Fail> {
     let notes = Notes::new();
@@ -147,7 +152,8 @@ fn pass_once<R: Threads + Wait + Sync>(rt: &R, alloc: Global) -> Result<(), Fail
     has_numbers(&notes.ring.came(), &[5000, 5000, 0])
 }
 
-// Two makers and two takers at a ring of one place: each of 10,000 items is taken once, and those of a maker in their order.
+// Two makers and two takers at a ring of one place: each of 10,000 items is taken once, and those
+// of each maker in their order.
 #[test]
 fn ring_of_one_place(rt: HostRuntime) -> Result<(), Fail> {
     for _i in 0..4 {
@@ -156,7 +162,7 @@ fn ring_of_one_place(rt: HostRuntime) -> Result<(), Fail> {
     Ok(())
 }
 
-/// Runs the task without a trace, and sees that the other thread has gone on 1000 times.
+/// Runs the task without a trace, and checks that the other thread has gone on 1000 times.
 fn goes_on<R: Threads + Wait + Sync>(rt: &R, alloc: Global, what: Waits) -> Result<(), Fail> {
     let notes = Notes::new();
     let part = WaitPart(what, &notes);
@@ -164,14 +170,16 @@ fn goes_on<R: Threads + Wait + Sync>(rt: &R, alloc: Global, what: Waits) -> Resu
     has_numbers(&[notes.gone_on.load(Ordering::SeqCst)], &[1000])
 }
 
-/// How many waits in condition 0 there were and how many Signals ended them, and how many of these waits ended beside a thread that held this mutex.
+/// Returns how many waits in condition 0 there were, how many Signals ended them, and how many of
+/// these waits ended while another thread held this mutex.
 fn beside(closed: &Closed<SumUses>, kept: MutexId) -> Option<[u64; 3]> {
     let events = closed.trace()?;
     let found = counted(events, CondId(0))?;
     Some([found.enqueued, found.signals, resumed_beside(events, kept)])
 }
 
-/// The same with a trace: each wait was ended by a Signal, beside a thread that held this mutex.
+/// Does the same with a trace: each wait was ended by a Signal, while another thread held this
+/// mutex.
 fn goes_on_traced<R: Threads + Wait + Sync>(
     rt: &R,
     alloc: Global,
@@ -186,8 +194,9 @@ fn goes_on_traced<R: Threads + Wait + Sync>(
     has_numbers(&found, &[1000, 1000, 1000])
 }
 
-// Who signals keeps another mutex than that of the wait, and gives it back only when the other thread has gone on. So that thread is woken at once:
-// it would wait for ever if it were unparked when a mutex is given back.
+// The thread that signals keeps another mutex than that of the wait, and releases it only when the
+// other thread has gone on. So that thread must be woken at once: it would wait for ever if it were
+// unparked only at the release of a mutex.
 #[test]
 fn the_waker_keeps_another_mutex(rt: HostRuntime) -> Result<(), Fail> {
     for (what, kept) in [

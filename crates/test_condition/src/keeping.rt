@@ -14,7 +14,8 @@ use std::sync::atomic::Ordering;
 use sum_uses::SumUses;
 use user_mutex::{acquire, release};
 
-/// Waits once in condition 0. It notes that it is going to wait before it gives the mutex back, and that it has gone on when it has it again.
+/// Waits once in condition 0. Notes that it is going to wait before it releases the mutex, and that
+/// it has gone on when it has the mutex again.
 fn wait_once<R: Wait>(
     rt: &R,
     pkg: &Package<SumUses>,
@@ -33,7 +34,7 @@ fn wait_once<R: Wait>(
     release::<SumUses, NoChange, R>(rt, pkg, me, own, again);
 }
 
-/// Takes the mutex and gives it back.
+/// Acquires the mutex and releases it.
 fn pass<R: Wait>(rt: &R, pkg: &Package<SumUses>, me: &mut Thread<SumUses>, m: MutexId)
     requires rest { AtRest pkg.now me.old }
     requires named { m.0 < pkg.now.layout.mutexes }
@@ -48,7 +49,8 @@ fn pass<R: Wait>(rt: &R, pkg: &Package<SumUses>, me: &mut Thread<SumUses>, m: Mu
     release::<SumUses, NoChange, R>(rt, pkg, me, m, got);
 }
 
-/// Wakes the thread that is about to wait for the time of this number, and keeps the other mutex until that thread has gone on.
+/// Wakes the thread that is about to wait for the time of this number, and keeps the other mutex
+/// until that thread has gone on.
 fn wake_once<R: Wait>(
     rt: &R,
     pkg: &Package<SumUses>,
@@ -66,16 +68,19 @@ fn wake_once<R: Wait>(
 {
     let got = acquire(rt, pkg, me, kept);
     await_count(rt, &notes.begun, time as u64);
-    // Who waits has given its mutex back where this thread gets it, so it is in the condition.
+    // The waiting thread has released its mutex once this thread gets it, so it is in the
+    // condition.
     pass(rt, pkg, me, own);
-    // Longer each time, so that the signal finds it before its sleep at first, and asleep at last.
+    // Longer each time, so that the first signals find the other thread before its sleep, and the
+    // last ones asleep.
     linger(&notes.begun, time);
     signal(rt, pkg, me, CondId(0));
     await_count(rt, &notes.gone_on, time as u64);
     release::<SumUses, NoChange, R>(rt, pkg, me, kept, got);
 }
 
-/// Waits so often with its own mutex, which is thread 0's part, or wakes it as often and keeps the other.
+/// Waits `times` times with its own mutex, which is the part of thread 0, or wakes the other as
+/// often and keeps the other mutex.
 pub fn wait_or_keep<R: Wait>(
     rt: &R,
     pkg: &Package<SumUses>,

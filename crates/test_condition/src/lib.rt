@@ -1,7 +1,9 @@
-//! Tests of conditions, and of what stands on them: waits, signals and broadcasts by threads that are at work at once, bounded buffers,
-//! readers and writers, rounds with their once cell, and pools of jobs.
+//! Tests of conditions, and of what is built on them: waits, signals and broadcasts by threads that
+//! are all at work at once, bounded buffers, readers and writers, rounds with their once cell, and
+//! pools of jobs.
 //!
-//! Mutexes and semaphores have the same list of tests: `alone`, `contended`, `two_objects_apart`, `many_threads` and `largest_layout`.
+//! The same list of tests covers mutexes and semaphores: `alone`, `contended`, `two_objects_apart`,
+//! `many_threads` and `largest_layout`.
 #![tactic(auto)]
 
 #[cfg(test)]

@@ -1,4 +1,4 @@
-//! What threads leave for one another and for a test to see.
+//! Notes that threads leave for one another, and for a test to see.
 use std::sync::Wait;
 use std::sync::atomic::{AtomicU64, Ordering};
 
@@ -47,7 +47,8 @@ impl Ring {
         self.item.store(item, Ordering::SeqCst);
     }
 
-    /// How many items of each of both makers were taken, each in its turn, and how many out of turn, or twice.
+    /// Returns how many items of each of the two makers were taken, each in its turn, and how many
+    /// out of turn, or twice.
     pub fn came(&self) -> [u64; 3] {
         let [first, second] = &self.taken;
         [
@@ -57,7 +58,7 @@ impl Ring {
         ]
     }
 
-    /// Takes what is in the place, and counts it where it is the next one of its maker.
+    /// Takes what is in the place, and counts it if it is the next item of its maker.
     pub fn take(&self) {
         let maker = self.maker.swap(2, Ordering::SeqCst);
         let item = self.item.load(Ordering::SeqCst);
@@ -81,7 +82,7 @@ pub fn await_count<R: Wait>(rt: &R, note: &AtomicU64, count: u64) {
     }
 }
 
-/// Looks at the note this many times sixteen.
+/// Looks at the note `times` times sixteen times.
 pub fn linger(note: &AtomicU64, times: u32) {
     for _i in 0..times {
         for _j in 0..16 {

@@ -27,7 +27,7 @@ fn places() -> RoundAt
     }
 }
 
-// Answers 6, and counts that.
+// Returns 6, and counts the call.
 fn six(calls: &AtomicU64) -> u64
     ensures { result ≡ 6 }
 {
@@ -53,7 +53,7 @@ fn offer_both<R: Wait>(
     (me, (first, second))
 }
 
-// What one thread was answered.
+// What one thread got.
 fn offered_alone<R: Threads + Wait + Sync>(
     rt: &R,
     alloc: Global,
@@ -84,7 +84,8 @@ fn offered_alone<R: Threads + Wait + Sync>(
     Ok(answers)
 }
 
-// The cell is empty, and takes the 5. Then it is full: it stays, and nobody is asked for a 6.
+// The cell is empty, and takes the 5. After that it is full and stays as it is, and no call asks
+// for a 6.
 #[test]
 fn a_full_cell_stays(rt: HostRuntime) -> Result<(), Fail> {
     let calls = AtomicU64::new(0);

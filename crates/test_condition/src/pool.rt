@@ -6,7 +6,7 @@ use std::sync::{Arc, Wait};
 use std::test::Fail;
 use std::thread::Threads;
 
-// Gives its number or Stop, and counts how often it was called.
+// A job that gives its number or Stop, and counts how often it was called.
 #[derive(Drop)]
 struct Count {
     number: u64,
@@ -34,7 +34,7 @@ impl Job for Count {
     }
 }
 
-// So many jobs, of which the one at `stop` gives Stop.
+// `many` jobs, of which the one at `stop` gives Stop.
 fn counts(alloc: Global, many: u64, stop: u64) -> Result<Vec<Count>, AllocError> {
     let mut jobs = Vec::new(alloc);
     for number in 0..many {
@@ -47,7 +47,8 @@ fn counts(alloc: Global, many: u64, stop: u64) -> Result<Vec<Count>, AllocError>
     Ok(jobs)
 }
 
-// Whether the jobs are so many, each in its place and called at least `least` times and at most once.
+// Whether there are `many` jobs, each in its place and called at least `least` times and at most
+// once.
 fn are_back(jobs: &[Count], many: usize, least: u64) -> bool {
     for (place, job) in jobs.iter().enumerate() {
         if job.number != place as u64 || job.calls > 1 || job.calls < least {
@@ -67,7 +68,8 @@ fn are_places(values: &[u64]) -> bool {
     true
 }
 
-// What came of so many jobs on three workers, of which the one at `stop` gives Stop: the place that stopped the pool, `many` where none did.
+// What came of `many` jobs on three workers, of which the one at `stop` gives Stop: the place that
+// stopped the pool, or `many` if none did.
 fn end_of<R: Threads + Wait + Sync>(
     rt: &R,
     alloc: Global,
@@ -119,7 +121,7 @@ fn a_stop_ends_the_pool(rt: HostRuntime) -> Result<(), Fail> {
 // The most turns that a job waits for another.
 const MOST_TURNS: u64 = 50_000_000;
 
-// Raises its flag, and then waits for the flag of the other.
+// A job that raises its flag, and then waits for the flag of another.
 #[derive(Drop)]
 struct Meets {
     mine: Arc<AtomicBool>,

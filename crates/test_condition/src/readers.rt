@@ -8,7 +8,7 @@ use std::sync::atomic::{AtomicU64, Ordering};
 use std::test::Fail;
 use test_support::has_numbers;
 
-/// Sees that nobody reads or writes.
+/// Checks that no thread reads or writes.
 fn is_free(rt: &impl Abort, closed: &Closed<RwUses>) {
     let free = RwState {
         readers: 0,
@@ -17,7 +17,8 @@ fn is_free(rt: &impl Abort, closed: &Closed<RwUses>) {
     assert_eq!(rt; closed.values(), [free].as_slice());
 }
 
-// Two threads read at once; when both have ended one of them writes. At the end nobody reads or writes.
+// Two threads read at once; when both have ended, one of them writes. In the end no thread reads or
+// writes.
 #[test]
 fn two_threads(rt: HostRuntime) -> Result<(), Fail> {
     let closed = run_two(&rt, rt.alloc())?;
@@ -26,7 +27,8 @@ fn two_threads(rt: HostRuntime) -> Result<(), Fail> {
     Ok(())
 }
 
-// A writer comes while another thread reads, 200 times, so the reader's end has to wake it: it waits, and nobody else would.
+// A writer comes while another thread reads, 200 times, so the end of the reader has to wake it: it
+// waits, and no other thread would wake it.
 #[test]
 fn a_reader_that_ends_wakes_the_writer(rt: HostRuntime) -> Result<(), Fail> {
     let note = AtomicU64::new(0);
@@ -36,7 +38,8 @@ fn a_reader_that_ends_wakes_the_writer(rt: HostRuntime) -> Result<(), Fail> {
     Ok(())
 }
 
-// Two threads write a pair of numbers 2000 times each while two others read it: nobody sees the numbers differ, and no write is lost.
+// Two threads write a pair of numbers 2000 times each while two others read it: no thread sees the
+// numbers differ, and no write is lost.
 #[test]
 fn never_torn(rt: HostRuntime) -> Result<(), Fail> {
     let pair = Pair {

@@ -25,7 +25,8 @@ fn one_ring(alloc: Global, capacity: u32) -> Result<Vec<Ring<u32>>, AllocError>
     Ok(values)
 }
 
-/// What a package leaves after so many threads have done their task, all at once, and what each of them left.
+/// Lets `threads` threads do their task, all at once. Returns the closed package, and what each of
+/// them left.
 fn run<R: Threads + Wait + Sync>(
     rt: &R,
     alloc: Global,
@@ -69,7 +70,7 @@ pub struct End {
     pub empty: bool,
 }
 
-/// What the closed package leaves, where it has a ring.
+/// What the closed package leaves, if it has a ring.
 fn end_of(closed: &Closed<Numbers>) -> Option<End> {
     let ring = closed.values().first()?;
     Some(End {
@@ -79,8 +80,9 @@ fn end_of(closed: &Closed<Numbers>) -> Option<End> {
     })
 }
 
-/// What a package leaves of its ring after so many threads have done their task, all at once, and what each of them left. The closed package is let
-/// go of here, so that tests compare beside none.
+/// Lets `threads` threads do their task, all at once. Returns what the package leaves of its ring,
+/// and what each of them left. The closed package is dropped here, so that tests compare where none
+/// is alive.
 pub fn ended<R: Threads + Wait + Sync>(
     rt: &R,
     alloc: Global,

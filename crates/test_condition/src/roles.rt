@@ -22,7 +22,7 @@ pub fn start_read<R: Wait>(rt: &R, pkg: &Package<RwUses>, me: &mut Thread<RwUses
     begin_read(rt, pkg, me, &AT);
 }
 
-/// Ends to read.
+/// Ends reading.
 pub fn stop_read<R: Wait>(rt: &R, pkg: &Package<RwUses>, me: &mut Thread<RwUses>)
     requires named { HasState pkg.now.layout }
     requires acts { (n : ℕ) × IsActing pkg.now n Reading me.old }
@@ -40,7 +40,7 @@ pub fn start_write<R: Wait>(rt: &R, pkg: &Package<RwUses>, me: &mut Thread<RwUse
     begin_write(rt, pkg, me, &AT);
 }
 
-/// Ends to write.
+/// Ends writing.
 pub fn stop_write<R: Wait>(rt: &R, pkg: &Package<RwUses>, me: &mut Thread<RwUses>)
     requires named { HasState pkg.now.layout }
     requires acts { (n : ℕ) × IsActing pkg.now n Writing me.old }

@@ -3,7 +3,7 @@ use command_rounds::run_rounds;
 use std::process::Abort;
 use std::test::Fail;
 
-/// Sees that these are the numbers.
+/// Checks that these are the numbers.
 fn has_numbers(rt: &impl Abort, found: &[u64], expected: &[u64]) {
     assert_eq!(rt; found, expected);
 }

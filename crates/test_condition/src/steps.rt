@@ -1,4 +1,4 @@
-//! The steps of a condition in a trace, followed in the plainest way.
+//! The steps of a condition in a trace, followed in the simplest way.
 use larch_actions::ThreadSet;
 use nub::{Action, CondId, Event, MutexId, ThreadId};
 
@@ -11,7 +11,8 @@ pub struct Steps {
     pub broadcasts: u64,
 }
 
-/// Whether a Signal may leave these of those inside: all were inside, and one is gone unless nobody was inside.
+/// Returns whether a Signal may leave these of the threads inside: all were inside, and one is gone
+/// unless no thread was inside.
 fn may_leave(inside: &ThreadSet, left: &ThreadSet) -> bool {
     let mut gone = 0u64;
     let mut any = 0u64;
@@ -30,8 +31,9 @@ fn may_leave(inside: &ThreadSet, left: &ThreadSet) -> bool {
     gone == any
 }
 
-/// The steps of the condition, counted while following who is in it. `None` where a thread resumes that nobody has taken out, or begins to wait
-/// twice, or where a Signal leaves one that wasn't inside or takes none of those inside.
+/// Counts the steps of the condition, and follows which threads are in it. Returns `None` if a
+/// thread resumes that wasn't taken out, or begins to wait twice, or if a Signal leaves a thread
+/// that wasn't inside or takes none of those inside.
 pub fn counted(events: &[Event], cond: CondId) -> Option<Steps> {
     let mut inside = ThreadSet::empty();
     let mut steps = Steps {
@@ -76,7 +78,7 @@ pub fn counted(events: &[Event], cond: CondId) -> Option<Steps> {
     Some(steps)
 }
 
-/// How often a thread resumed while another one held this mutex.
+/// Returns how often a thread resumed while another one held this mutex.
 pub fn resumed_beside(events: &[Event], kept: MutexId) -> u64 {
     let mut held = false;
     let mut count = 0u64;

@@ -1,4 +1,4 @@
-//! What threads of a test of readers and writers do, and packages whose threads do it.
+//! The work of threads of a test of readers and writers, and packages whose threads do it.
 ghost use Rattle.std.specs.Prelude.{◌≤◌, ◌≡◌, ◌∷◌, [], IfOk, length};
 ghost use Rattle.larch_actions.specs.declared.event.Version.TheVariants.{One};
 ghost use Rattle.nub.specs.Ended.{IsDone};
@@ -15,14 +15,14 @@ use std::sync::Wait;
 use std::sync::atomic::{AtomicU64, Ordering};
 use std::thread::Threads;
 
-/// Two numbers that are equal whenever nobody writes.
+/// Two numbers that are equal whenever no thread writes.
 #[derive(Drop)]
 pub struct Pair {
     pub first: AtomicU64,
     pub second: AtomicU64,
 }
 
-/// The one state at first: nobody reads or writes.
+/// The first state: no thread reads or writes.
 fn one_state(alloc: Global) -> Result<Vec<RwState>, AllocError>
     ensures { IfOk result (λ v. v.items ≡ record { readers = 0; writer = None } ∷ []) }
 {
@@ -35,7 +35,7 @@ fn one_state(alloc: Global) -> Result<Vec<RwState>, AllocError>
     Ok(values)
 }
 
-/// A package of so many threads with one state, and the threads.
+/// Opens a package of `threads` threads with one state, and returns it with the threads.
 pub fn open_state(
     alloc: Global,
     threads: u32,
@@ -52,7 +52,7 @@ pub fn open_state(
     Ok((pkg, threads))
 }
 
-/// Both of two.
+/// Splits a list of two.
 fn both<T: Drop>(mut two: Vec<T>) -> (T, T)
     requires { length two.items ≡ 2 }
     ensures { two.items ≡ result.0 ∷ result.1 ∷ [] }
@@ -66,7 +66,7 @@ fn both<T: Drop>(mut two: Vec<T>) -> (T, T)
     (first, second)
 }
 
-/// Two in a row.
+/// Makes a list of two.
 fn row<T: Drop>(alloc: Global, first: T, second: T) -> Result<Vec<T>, AllocError>
     ensures { IfOk result (λ v. v.items ≡ first ∷ second ∷ []) }
 {
@@ -96,7 +96,7 @@ fn read_both<R: Wait>(
     (first, second)
 }
 
-/// What a package leaves of whose two threads one caller makes the calls.
+/// Runs a package whose two threads' calls are all made by one caller.
 pub fn run_two<R: Wait>(rt: &R, alloc: Global) -> Result<Closed<RwUses>, AllocError> {
     let (pkg, threads) = open_state(alloc, 2)?;
     let (first, second) = both(threads);
@@ -108,7 +108,8 @@ pub fn run_two<R: Wait>(rt: &R, alloc: Global) -> Result<Closed<RwUses>, AllocEr
     close_package(pkg, threads)
 }
 
-/// Writes both numbers so often, one more than they were, and tells how often they weren't equal before.
+/// Writes both numbers `times` times, one more than they were, and returns how often they weren't
+/// equal before.
 fn write_often<R: Wait>(
     rt: &R,
     pkg: &Package<RwUses>,
@@ -134,7 +135,7 @@ fn write_often<R: Wait>(
     (me, torn)
 }
 
-/// Reads both numbers so often, and tells how often they weren't equal.
+/// Reads both numbers `times` times, and returns how often they weren't equal.
 fn read_often<R: Wait>(
     rt: &R,
     pkg: &Package<RwUses>,
@@ -177,7 +178,8 @@ fn write_or_read<R: Wait>(
     }
 }
 
-/// How often each of four threads found the pair torn, of which two wrote it and two read it so often, all at once.
+/// Lets two threads write a pair and two read it, `times` times each, all at once. Returns how
+/// often each found the pair torn.
 pub fn run_four<R: Threads + Wait + Sync>(
     rt: &R,
     alloc: Global,

@@ -1,4 +1,4 @@
-//! What one thread of a test does with conditions.
+//! The work of one thread of a test with conditions.
 ghost use Rattle.std.specs.Prelude.{[], ◌≡◌, ◌<◌, ◌≤◌};
 ghost use Rattle.nub.specs.Ended.{IsDone};
 ghost use Rattle.nub.specs.Idle.{IsIdle};
@@ -13,28 +13,34 @@ use sum_uses::SumUses;
 use test_support::Part;
 use test_turns::{Turn, Wake, take_turn};
 
-/// What each thread of a test with conditions does.
+/// The task of the threads of a test with conditions.
 #[derive(Clone, Copy)]
 pub enum Waits {
-    /// It signals and broadcasts to nobody.
+    /// It signals and broadcasts while no thread waits.
     Wakes,
-    /// Threads 0 and 1 add in turns so often, each waiting in a condition of its own, and signal with the mutex.
+    /// Threads 0 and 1 add in turns, this many times, each waiting in a condition of its own, and
+    /// signal while they hold the mutex.
     Turns(u32),
-    /// The same, but they signal after they have given the mutex back: while the other may be anywhere between its count and its sleep.
+    /// Threads 0 and 1 add in turns too, but signal after the release of the mutex, while the other
+    /// may be anywhere between its count and its sleep.
     TurnsAfter(u32),
-    /// Each two threads add in turns so often, in a mutex and a condition of their own, where there are enough.
+    /// Each pair of threads adds in turns, this many times, in a mutex and a condition of its own,
+    /// if there are enough.
     TurnsApart(u32),
-    /// Threads 0 and 1 put so many items each into a ring of one place, and threads 2 and 3 take as many each.
+    /// Threads 0 and 1 put this many items each into a ring of one place, and threads 2 and 3 take
+    /// as many each.
     Ring(u32),
-    /// All but thread 0 wait in one condition until the value isn't 0, and thread 0 broadcasts once when this many do.
+    /// All threads but thread 0 wait in one condition until the value isn't 0, and thread 0
+    /// broadcasts once when this many do.
     Gather(u64),
-    /// Thread 0 waits so often with mutex 1, and thread 1 wakes it and keeps mutex 0 until it has gone on.
+    /// Thread 0 waits this many times with mutex 1, and thread 1 wakes it and keeps mutex 0 until
+    /// it has gone on.
     KeepsFirst(u32),
-    /// The same with the mutexes exchanged.
+    /// The same, with the mutexes exchanged.
     KeepsSecond(u32),
 }
 
-/// Signals and broadcasts to nobody.
+/// Signals and broadcasts while no thread waits.
 fn wakes<R: Wait>(rt: &R, pkg: &Package<SumUses>, mut me: Thread<SumUses>) -> Thread<SumUses>
     requires named { 0 < pkg.now.layout.conditions }
     requires idle { IsIdle pkg.now me.number [] me }
@@ -45,7 +51,8 @@ fn wakes<R: Wait>(rt: &R, pkg: &Package<SumUses>, mut me: Thread<SumUses>) -> Th
     me
 }
 
-/// Adds 1 so often, each time that the value has its parity, and wakes one in the other condition.
+/// Adds 1 `times` times, each time when the value has its parity, and wakes one thread in the other
+/// condition.
 fn turns<R: Wait>(
     rt: &R,
     pkg: &Package<SumUses>,
@@ -73,7 +80,7 @@ fn turns<R: Wait>(
     me
 }
 
-/// Puts so many items into the ring, or takes as many.
+/// Puts `times` items into the ring, or takes as many.
 fn ring<R: Wait>(
     rt: &R,
     pkg: &Package<SumUses>,
@@ -101,7 +108,8 @@ fn ring<R: Wait>(
             }
             Wake::One(other)
         };
-        // The place is empty where the value is even: then a maker may go, and else a taker.
+        // The place is empty if the value is even: then it is a maker's turn, and otherwise a
+        // taker's.
         take_turn(
             rt,
             pkg,
@@ -114,8 +122,9 @@ fn ring<R: Wait>(
     me
 }
 
-/// Broadcasts once this many wait, or waits for that. The note counts who has found the value 0 and so waits before it gives the mutex
-/// back: who takes the mutex after the last of them finds all in the condition.
+/// Broadcasts once this many threads wait, or waits for that. The note counts the threads that have
+/// found the value 0 and so wait before they release the mutex: a thread that gets the mutex after
+/// the last of them finds all in the condition.
 fn gather<R: Wait>(
     rt: &R,
     pkg: &Package<SumUses>,
@@ -174,7 +183,7 @@ fn alternate<R: Wait>(
     turns(rt, pkg, me, turn, CondId((own + 1) % 2), times)
 }
 
-/// What the threads of a test do, and where they leave what they see.
+/// The task of the threads of a test, and where they leave what they see.
 #[derive(Drop)]
 pub struct WaitPart<'a>(pub Waits, pub &'a Notes);
 

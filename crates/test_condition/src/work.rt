@@ -1,4 +1,4 @@
-//! What one thread of a test does, and what it leaves.
+//! The work of one thread of a test, and what it leaves.
 ghost use Rattle.std.specs.Prelude.{◌<◌};
 ghost use Rattle.nub.specs.Ended.{IsDone};
 ghost use Rattle.test_condition.specs.Free.{IsFree, HasBuffer};
@@ -10,32 +10,33 @@ use std::alloc::Global;
 use std::sync::Wait;
 use std::sync::atomic::{AtomicU64, Ordering};
 
-/// So many items are put by one thread, and by both.
+/// The number of items that one thread puts, and that both put.
 pub const ITEMS_OF_ONE: u32 = 500;
 
 pub const ITEMS: usize = 1000;
 
-/// So many items are put by one of four threads, and by all four.
+/// The number of items that one of four threads puts, and that all four put.
 pub const MANY_OF_ONE: u32 = 50_000;
 
 pub const MANY: usize = 200_000;
 
-/// What each thread of a test does.
+/// The task of the threads of a test.
 #[derive(Clone, Copy)]
 pub enum Task {
     /// One thread puts, takes and shuts.
     InTurn,
     /// One thread alerts itself and takes from an empty buffer.
     AlertedTake,
-    /// Two threads put, and the one that ends last shuts the buffer; the others take until it is shut and empty.
+    /// Two threads put, and the one that ends last shuts the buffer; the others take until it is
+    /// shut and empty.
     Pass,
     /// Four threads put many items, and the others take them, in the same way.
     PassMany,
-    /// Each thread takes once from an empty buffer, but the last, which alerts all others.
+    /// Each thread but the last takes once from an empty buffer; the last alerts all others.
     Cancel,
 }
 
-/// The answers of one thread that put, takes and shuts, in the order of its calls.
+/// The results of one thread that put, takes and shuts, in the order of its calls.
 #[derive(Drop)]
 pub struct InTurn {
     pub first_put: PutAnswer,
@@ -64,7 +65,7 @@ pub struct TookMany {
 #[derive(Drop)]
 pub enum Left {
     InTurn(InTurn),
-    /// What the take answered, and whether the thread was alerted still.
+    /// The result of the take, and whether the thread was still alerted.
     AlertedTake(TakeAnswer, bool),
     /// How many puts were refused.
     Refused(u32),
@@ -150,7 +151,8 @@ fn alert_others<R: Wait>(
     (me, Left::Told)
 }
 
-/// Puts as many items, from this one on. The thread that ends last, after so many others, shuts the buffer.
+/// Puts `times` items, from `first` on. The last thread to end, after `others` others, shuts the
+/// buffer.
 fn put_many<R: Wait>(
     rt: &R,
     pkg: &Package<Numbers>,

@@ -1,4 +1,4 @@
-//! What a call of the program answers.
+//! Calls of the program, and what they return and write.
 ghost use Rattle.std.specs.Prelude.{◌≤◌, length};
 ghost use Rattle.firefly.specs.Looks.{look_of, looks_of, Agree};
 
@@ -19,14 +19,14 @@ pub struct Answer {
     pub notes: Vec<u8>,
 }
 
-/// This is the answer.
+/// Checks the answer.
 pub fn is_answer(rt: &impl Abort, found: &Answer, status: Status, out: &[u8], notes: &str) {
     same(rt, &found.status, &status);
     same(rt, &found.out.as_slice(), &out);
     same(rt, &found.notes.as_slice(), &notes.as_bytes());
 }
 
-// Adds these words. The list is borrowed, so no early return lets it go.
+// Appends these words. The list is borrowed, so no early return drops it.
 fn add_words(alloc: Global, all: &mut Vec<String>, words: &[&str]) -> Result<(), AllocError> {
     for word in words {
         all.push(String::from_str(alloc, word)?)?;
@@ -41,7 +41,7 @@ fn words_of(alloc: Global, words: &[&str]) -> Result<Vec<String>, AllocError> {
     Ok(all)
 }
 
-/// Calls the program on this input, with so much room for its answer.
+/// Calls the program on this input, with room for `room` bytes of its answer.
 pub fn run_program<R: Threads + Wait + Sync>(
     rt: &R,
     alloc: Global,
@@ -65,7 +65,8 @@ pub fn run_on<R: Threads + Wait + Sync>(
     answer_of(rt, alloc, words, &mut trees, input, room)
 }
 
-// The status of a call. In a function of its own what the program tells of the call isn't alive while the answer is put together.
+// The status of a call. This is a function of its own so that what is known of the call isn't alive
+// while the answer is put together.
 fn status_of<R: Threads + Wait + Sync, S: Tree>(
     rt: &R,
     alloc: Global,
@@ -81,7 +82,7 @@ fn status_of<R: Threads + Wait + Sync, S: Tree>(
     firefly(rt, alloc, words, trees, input, out, notes)
 }
 
-// The status with what these sinks hold.
+// The status, with what these sinks hold.
 fn answer_with(
     alloc: Global,
     status: Status,

@@ -12,7 +12,8 @@ fn all(results: &[bool]) -> bool {
     results.iter().all(|met| *met)
 }
 
-// Runs three jobs, of which the first two meet, and answers whether they met and how many weren't started.
+// Runs three jobs, of which the first two meet. Returns whether they met and how many weren't
+// started.
 fn meet_in_crew<R: Threads + Wait>(
     rt: &R,
     alloc: Global,
@@ -54,7 +55,8 @@ fn a_refused_job_runs_on_the_caller_beside_the_started_one(rt: HostRuntime) -> R
     Ok(())
 }
 
-// Runs three jobs of which none is started. Each gives its number, or 0 where the caller's own part isn't over yet; that gives what it got.
+// Runs three jobs of which none is started. Each returns its number, or 0 if the caller's own part
+// isn't over yet; that part returns what it got.
 fn run_on_caller<R: Threads + Wait>(
     rt: &R,
     alloc: Global,

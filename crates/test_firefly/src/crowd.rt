@@ -6,7 +6,8 @@ ghost use Rattle.firefly.specs.Looks.{look_of, looks_of, Agree};
 use firefly_outside::{Entry, FileBytes, Kind, Text, Tree, TreeError};
 use std::alloc::{AllocError, Global};
 
-/// A tree whose one large directory `big` has the directories `d0`, `d1` and so on, each of them empty. It tells nothing.
+/// A tree whose one large directory `big` has the empty directories `d0`, `d1` and so on. Its
+/// contents aren't known to contracts.
 #[derive(Drop)]
 pub struct Crowd {
     many: u32,
@@ -61,7 +62,7 @@ impl Tree for Crowd {
     }
 }
 
-/// As many of these trees as a call of the program needs, each with so many directories.
+/// Returns as many of these trees as a call of the program needs, each with `many` directories.
 pub fn crowded_trees(alloc: Global, many: u32) -> Result<Vec<Option<Crowd>>, AllocError>
     ensures many { IfOk result (λ v. length v.items ≡ 17) }
     ensures agree { IfOk result (λ v. Agree (looks_of (look_of ⟦<Crowd as Tree>⟧.tree ⟦<Crowd as Tree>⟧.may_fail ⟦<Crowd as Tree>⟧.calls

@@ -11,7 +11,7 @@ use std::thread::Threads;
 use test_project::project;
 use trace_check::{Summary, Verdict, check};
 
-// The texts. A function without a clause keeps the bytes out of the proofs.
+// The texts are in functions without a clause, which keeps their bytes out of the proofs.
 
 fn no_event() -> &'static str {
     "firefly-trace 1
@@ -64,7 +64,7 @@ value m1 7
 "
 }
 
-// The command `run` on this text, with so much room for its answer.
+// Calls the command `run` on this text, with room for `room` bytes of its answer.
 fn run<R: Threads + Wait + Sync>(
     rt: &R,
     alloc: Global,
@@ -75,7 +75,7 @@ fn run<R: Threads + Wait + Sync>(
     run_program(rt, alloc, &["run"], &mut input, room)
 }
 
-// The command on this text, of which so many bytes are given before the read fails.
+// Calls the command on this text, of which `given` bytes are given before the read fails.
 fn failing<R: Threads + Wait + Sync>(
     rt: &R,
     alloc: Global,
@@ -98,7 +98,7 @@ const UNREAD: &str = "firefly: input could not be read\n";
 
 const UNWRITTEN: &str = "firefly: output could not be written\n";
 
-// With this budget that is the verdict on the text.
+// Checks that this is the verdict on the text with this budget.
 fn has_verdict(
     rt: &impl Abort,
     alloc: Global,
@@ -125,7 +125,7 @@ fn a_budget_of_all_bytes_is_enough_and_one_less_is_not(rt: HostRuntime) -> Resul
     Ok(())
 }
 
-// The failed read is reported, and nothing is printed.
+// Checks that the failed read is reported, and nothing is printed.
 fn reports_read<R: Threads + Wait + Sync + Abort>(
     rt: &R,
     alloc: Global,
@@ -165,7 +165,8 @@ fn a_full_sink_holds_the_prefix_of_the_line(rt: HostRuntime) -> Result<(), Fail>
     Ok(())
 }
 
-// With so much room the answer to the five lines is the prefix of this text that has so many bytes.
+// Checks that with room for `room` bytes the answer to the five lines is a prefix of this text with
+// as many bytes.
 fn is_cut<R: Threads + Wait + Sync + Abort>(
     rt: &R,
     alloc: Global,

@@ -1,4 +1,4 @@
-//! Calls of the command `index` on trees that fail, and the walk that it stands on.
+//! Calls of the command `index` on trees that fail, and the walk that it is built on.
 use crate::answers::{Answer, answer_of, is_answer};
 use crate::same::same;
 use crate::trees::copies_failing_from;
@@ -11,7 +11,8 @@ use std::test::Fail;
 use std::thread::Threads;
 use test_project::{calls, index_of, is_text, project, project_index, project_paths};
 
-// What `index` of the project answers where the trees from this place on fail at these paths. The trees aren't alive in the test.
+// The answer of `index` for the project, if the trees from this place on fail at these paths. The
+// trees aren't alive in the test.
 fn index_failing<R: Threads + Wait + Sync>(
     rt: &R,
     alloc: Global,
@@ -24,7 +25,7 @@ fn index_failing<R: Threads + Wait + Sync>(
     answer_of(rt, alloc, &["index", "proj"], &mut trees, &mut input, 1000)
 }
 
-// Where the tree fails at this path, it is named.
+// Checks that the path is named if the tree fails at it.
 fn is_named<R: Threads + Wait + Sync + Abort>(
     rt: &R,
     alloc: Global,
@@ -37,7 +38,7 @@ fn is_named<R: Threads + Wait + Sync + Abort>(
     Ok(())
 }
 
-// The same of each of these paths. The tree is borrowed, so no early return lets it go.
+// Checks the same for each of these paths. The tree is borrowed, so no early return drops it.
 fn are_named<R: Threads + Wait + Sync + Abort>(
     rt: &R,
     alloc: Global,
@@ -71,7 +72,8 @@ fn the_workers_leave_nothing_to_the_closing_walk(rt: HostRuntime) -> Result<(), 
     Ok(())
 }
 
-// Whether the index of the whole tree has this text, and how many files it has. The index isn't alive in the test.
+// Whether the index of the whole tree has this text, and how many files it has. The index isn't
+// alive in the test.
 fn index_has(
     alloc: Global,
     tree: &mut MemTree,

@@ -1,7 +1,7 @@
-//! Tests of the program that its words, texts and status can't tell: sources, sinks and trees that fail where they are told to.
-//! With them the tests of the reader of scripts, and of crews of threads whose jobs wait for one another, as do threads of a script.
-//! What faults and endings of public calls print is tried here too. What the program answers to its words and input stands in runs/,
-//! without a proof.
+//! Tests of the program that its words, texts and status can't show: sources, sinks and trees that
+//! fail where they are made to. Also tests of the reader of scripts, of crews of threads whose jobs
+//! wait for one another, as the threads of a script do, and of what faults and endings of public
+//! calls print. What the program answers to its words and input is in runs/, without a proof.
 #![tactic(auto)]
 
 #[cfg(test)]

@@ -8,7 +8,7 @@ use std::test::Fail;
 use std::thread::Threads;
 use test_project::Meeting;
 
-// Adds so many times the lines in which this thread adds one.
+// Appends, `times` times, the lines in which this thread adds one.
 fn add_lines(alloc: Global, text: &mut String, thread: u32, times: u32) -> Result<(), AllocError> {
     let lines = format!(in alloc;
         "t{thread} acquire m0\nt{thread} add m0 1\nt{thread} release m0\n"
@@ -19,7 +19,7 @@ fn add_lines(alloc: Global, text: &mut String, thread: u32, times: u32) -> Resul
     Ok(())
 }
 
-// The layout of two threads, and for each of them so many times the lines in which it adds one.
+// The layout of two threads, and for each of them, `times` times, the lines in which it adds one.
 fn adding(alloc: Global, times: u32) -> Result<String, AllocError> {
     let mut text = String::from_str(alloc, "threads 2 mutexes 1 conditions 0 semaphores 0\n")?;
     add_lines(alloc, &mut text, 0, times)?;
@@ -27,7 +27,8 @@ fn adding(alloc: Global, times: u32) -> Result<String, AllocError> {
     Ok(text)
 }
 
-// Runs the script, and answers the values at the end and how many events were recorded. What the run tells besides isn't alive in the test.
+// Runs the script, and returns the values at the end and how many events were recorded. What else
+// is known of the run isn't alive in the test.
 fn run_with<R: Threads + Wait + Sync>(
     rt: &R,
     alloc: Global,
@@ -47,7 +48,8 @@ fn script_of(alloc: Global, text: &str) -> Result<Script, Fail> {
     Ok(read_script(alloc, &mut input)?)
 }
 
-// Runs the script in which each of two threads adds one a thousand times, as above. The script isn't alive in the test.
+// Runs the script in which each of two threads adds one a thousand times, as above. The script
+// isn't alive in the test.
 fn run_adding<R: Threads + Wait + Sync>(
     rt: &R,
     alloc: Global,

@@ -7,7 +7,7 @@ use std::alloc::{AllocError, Global};
 use std::process::Abort;
 use std::test::Fail;
 
-// Reads a text, of which only the first bytes are given where a number stands.
+// Reads a text, of which only the first bytes are given if there is a number.
 fn read(
     alloc: Global,
     text: &str,
@@ -28,7 +28,7 @@ fn script_of(alloc: Global, text: &str) -> Result<Script, Fail> {
     }
 }
 
-// The script has these lines for so many threads.
+// Checks that the script has these lines for `threads` threads.
 fn has_lines(rt: &impl Abort, script: &Script, threads: u32, lines: &[Line]) {
     same(rt, &script.layout().threads, &threads);
     same(rt, &script.lines(), &lines);
@@ -82,7 +82,8 @@ fn forks_and_joins_are_read(rt: HostRuntime) -> Result<(), Fail> {
     Ok(())
 }
 
-// The text is refused so, where so many of its bytes are given. The script isn't alive where that is compared.
+// Checks that the text is refused with this fault, if `given` of its bytes are given. The script
+// isn't alive where that is compared.
 fn is_refused(
     rt: &impl Abort,
     alloc: Global,
@@ -111,7 +112,8 @@ fn second(script: &Script) -> Option<Operation> {
     }
 }
 
-// The operation of this line between an acquire and a release, if the script is not refused. The script isn't alive in the test.
+// The operation of this line between an acquire and a release, if the script isn't refused. The
+// script isn't alive in the test.
 fn read_second(alloc: Global, line: &str) -> Result<Option<Operation>, AllocError> {
     let text = format!(in alloc;
         "threads 3 mutexes 2 conditions 12 semaphores 1\nt2 acquire m1\nt2 {line}\nt2 release m1\n"

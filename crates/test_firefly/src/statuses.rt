@@ -1,4 +1,4 @@
-//! The numbers with which the program ends, and what it says beside them.
+//! The numbers with which the program ends, and the messages that go with them.
 use crate::answers::{Answer, is_answer};
 use crate::same::same;
 use firefly::{Ending, Status, ends, number};
@@ -89,7 +89,7 @@ fn endings() -> [(Ending<'static>, Status, &'static str); 10] {
     ]
 }
 
-// What a call that ends so answers.
+// The status and the message of a call that ends like this.
 fn ended(alloc: Global, ending: Ending) -> Result<Answer, AllocError> {
     let mut notes = MemSink::with_room(alloc, 200)?;
     let status = ends(&mut notes, ending);

@@ -1,4 +1,4 @@
-//! The text of each.
+//! The texts of public values.
 use alert_wait::Outcome;
 use bounded_buffer::{Over, PutEnd, TakeEnd};
 use command_jobs::JobsFault;
@@ -18,7 +18,7 @@ use trace_core::TextFault;
 use walker::WalkAnswer;
 use word_index::Piece;
 
-// Whether each prints as the text beside it.
+// Whether each value prints as the text beside it.
 fn print_so<T: Display>(rt: HostRuntime, rows: &[(T, &str)]) -> Result<bool, AllocError> {
     for (value, text) in rows {
         let printed = format!(in rt.alloc(); "{value}")?;

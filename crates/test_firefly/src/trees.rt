@@ -23,7 +23,8 @@ fn copy_at(
     copy_failing_at(alloc, tree, paths)
 }
 
-/// As many copies of the tree as a call of the program needs. Those from this place on fail at these paths.
+/// Returns as many copies of the tree as a call of the program needs. Those from this place on fail
+/// at these paths.
 pub fn copies_failing_from(
     alloc: Global,
     tree: &MemTree,
@@ -42,7 +43,7 @@ pub fn copies_failing_from(
     Ok(trees)
 }
 
-/// Copies of the tree, none of which fails.
+/// Returns copies of the tree, none of which fails.
 pub fn copies_of(alloc: Global, tree: &MemTree) -> Result<Vec<Option<MemTree>>, AllocError>
     ensures many { IfOk result (λ v. length v.items ≡ 17) }
     ensures agree { IfOk result (λ v. Agree (looks_of (look_of ⟦<MemTree as Tree>⟧.tree ⟦<MemTree as Tree>⟧.may_fail

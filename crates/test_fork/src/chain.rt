@@ -16,7 +16,7 @@ use std::thread::Threads;
 use sum_uses::SumUses;
 use thread_crew::run_crew;
 
-/// Each thread forks the next one.
+/// Lets each thread fork the next one.
 fn links<R: Wait>(
     rt: &R,
     alloc: Global,
@@ -51,7 +51,7 @@ fn end_after_next<R: Wait>(rt: &R, pkg: &Package<SumUses>, me: Thread<SumUses>) 
     end_thread(rt, pkg, last)
 }
 
-/// Lets all end, each in a thread of its own.
+/// Lets all threads end, each in an operating-system thread of its own.
 fn end_all<R: Threads + Wait + Sync>(
     rt: &R,
     alloc: Global,
@@ -73,7 +73,8 @@ fn end_all<R: Threads + Wait + Sync>(
     Ok(done.results)
 }
 
-/// What a package leaves after a chain of so many. It wants a thread of the system for each.
+/// Runs a chain of `threads` threads, and returns the closed package. It needs an operating-system
+/// thread for each.
 pub fn run_chain<R: Threads + Wait + Sync>(
     rt: &R,
     alloc: Global,

@@ -9,7 +9,7 @@ use nub::{Closed, Ended, Package, Unborn, close_forked};
 use std::test::Fail;
 use sum_uses::SumUses;
 
-/// Whether these are the threads from 0 on, in order.
+/// Returns whether these are the threads from 0 on, in order.
 fn come_in_order(ended: &[Ended<SumUses>]) -> bool
     ensures { result ≡ true → Each (λ n k. k.number ≡ n) ended.now }
 {
@@ -21,7 +21,7 @@ fn come_in_order(ended: &[Ended<SumUses>]) -> bool
     true
 }
 
-/// Whether these are the threads from so many on, in order.
+/// Returns whether these are the threads from `many` on, in order.
 fn follow_in_order(unborn: &[Unborn<SumUses>], many: usize) -> bool
     requires { many + length unborn.now < 1000 }
     ensures { result ≡ true → Each (λ n k. k.number ≡ many + n) unborn.now }
@@ -34,7 +34,7 @@ fn follow_in_order(unborn: &[Unborn<SumUses>], many: usize) -> bool
     true
 }
 
-/// Closes the package, where its threads have all come back in order.
+/// Closes the package, if its threads have all come back in order.
 pub fn close(
     pkg: Package<SumUses>,
     ended: Vec<Ended<SumUses>>,

@@ -1,4 +1,4 @@
-//! Threads with the rights to begin others.
+//! Threads with the rights to fork others.
 ghost use Rattle.std.specs.Prelude.{[], ◌≡◌, ◌<◌, ◌≢◌, IfOk};
 ghost use Rattle.nub.specs.Forks.{IsLeft};
 ghost use Rattle.nub.specs.Idle.{IsIdle};
@@ -9,7 +9,7 @@ use std::alloc::{AllocError, Global};
 use std::sync::Wait;
 use sum_uses::SumUses;
 
-/// A thread, and the rights to begin those that it is to fork.
+/// A thread, and the rights to fork those that it is to fork.
 #[derive(Drop)]
 pub struct Family {
     pub head: Thread<SumUses>,
@@ -34,7 +34,8 @@ pub fn forked<R: Wait>(
     child
 }
 
-/// Waits for the end of the thread with this number, unless it is this one or none of the layout.
+/// Waits for the end of the thread with this number, unless it is this thread or none of the
+/// layout.
 pub fn join_other<R: Wait>(rt: &R, pkg: &Package<SumUses>, me: &mut Thread<SumUses>, who: u32)
     requires idle { IsIdle pkg.now me.old.number [] me.old }
     ensures { IsIdle pkg.now me.old.number [] me.new }
@@ -44,7 +45,8 @@ pub fn join_other<R: Wait>(rt: &R, pkg: &Package<SumUses>, me: &mut Thread<SumUs
     }
 }
 
-/// Forks the last of each so many, which gets the rights to begin those before it. It also answers the rights that are left over.
+/// Forks the last of each `size` threads, which gets the rights to fork those before it. Also
+/// returns the rights that are left over.
 pub fn families<R: Wait>(
     rt: &R,
     alloc: Global,

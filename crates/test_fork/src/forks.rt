@@ -15,7 +15,7 @@ use std::thread::Threads;
 use std::time::Clock;
 use test_support::{event, has_left, has_numbers, has_played};
 
-/// Each of so many threads is started, and does this.
+/// Returns a plan in which each of `threads` threads is started, and does this.
 fn all_started(threads: u32, task: Task, traced: bool) -> Plan
     ensures { result.threads ≡ threads }
 {
@@ -29,7 +29,8 @@ fn all_started(threads: u32, task: Task, traced: bool) -> Plan
     }
 }
 
-/// Sees that the plan leaves this number behind the mutex, and a trace of so many events or none.
+/// Checks that the plan leaves the mutex with this number, and the package with a trace of `events`
+/// events or none.
 fn leaves<R: Threads + Wait + Clock + Abort + Sync>(
     rt: &R,
     alloc: Global,
@@ -46,7 +47,7 @@ fn leaves<R: Threads + Wait + Clock + Abort + Sync>(
     seen
 }
 
-/// Sees that the plan leaves a trace of these events.
+/// Checks that the plan leaves a trace of these events.
 fn plays<R: Threads + Wait + Clock + Abort + Sync>(
     rt: &R,
     alloc: Global,
@@ -62,8 +63,9 @@ fn plays<R: Threads + Wait + Clock + Abort + Sync>(
     seen
 }
 
-// A fork, the child's end, a join and the own end, each stored. The child lives in a thread of its own, or where the system refuses to
-// start one in the thread that forked it, which joins it after its end.
+// A fork, the child's end, a join and the first thread's own end are each stored. The child lives
+// in an operating-system thread of its own, or, if the system refuses to start one, in that of the
+// thread that forked it, which joins it after its end.
 #[test]
 fn each_event_is_stored(rt: HostRuntime) -> Result<(), Fail> {
     let (first, child) = (0, ThreadId(1));
@@ -91,7 +93,7 @@ fn each_event_is_stored(rt: HostRuntime) -> Result<(), Fail> {
     )
 }
 
-// Who waits for the end of another before that ends sleeps, and is woken by the end.
+// A thread that waits for the end of another before that ends sleeps, and is woken by the end.
 #[test]
 fn an_end_wakes_who_waits_for_it(rt: HostRuntime) -> Result<(), Fail> {
     leaves(&rt, rt.alloc(), all_started(2, Task::Late, false), 0, None)?;
@@ -104,7 +106,8 @@ fn an_end_wakes_who_waits_for_it(rt: HostRuntime) -> Result<(), Fail> {
     )
 }
 
-// The largest layout, in which one thread forks all others: no addition is lost, and the trace has every event.
+// The largest layout, in which one thread forks all others: no addition is lost, and the trace has
+// every event.
 #[test]
 fn many_forks_by_one(rt: HostRuntime) -> Result<(), Fail> {
     leaves(
@@ -123,7 +126,7 @@ fn many_forks_by_one(rt: HostRuntime) -> Result<(), Fail> {
     )
 }
 
-/// Sees that a chain of 256 leaves a trace of so many events or none.
+/// Checks that a chain of 256 leaves a trace of `events` events or none.
 fn chain_leaves<R: Threads + Wait + Clock + Abort + Sync>(
     rt: &R,
     alloc: Global,
@@ -157,7 +160,7 @@ fn many_forks_at_once(rt: HostRuntime) -> Result<(), Fail> {
     leaves(&rt, rt.alloc(), traced, 255, Some(1516))
 }
 
-// All but one wait at once for the end of that one.
+// All threads but one wait at once for the end of that one.
 #[test]
 fn joined_by_many(rt: HostRuntime) -> Result<(), Fail> {
     leaves(

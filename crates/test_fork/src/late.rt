@@ -1,4 +1,5 @@
-//! Runs that end in time, or else end the test: what is asked to go on and doesn't would wait for ever.
+//! Runs that end in time, or else end the test: a thread that doesn't go on where it must would
+//! wait for ever.
 ghost use Rattle.std.specs.Prelude.{◌≤◌};
 
 use crate::chain::run_chain;
@@ -18,7 +19,7 @@ fn watch<R: Clock + Abort>(rt: &R, notes: &Notes) {
     assert!(rt; seen_in_time(rt, &notes.over, 1), "a thread still waits");
 }
 
-/// What the package leaves, where its run ends in time.
+/// Returns the closed package, if its run ends in time.
 pub fn run_in_time<R: Threads + Wait + Clock + Abort + Sync>(
     rt: &R,
     alloc: Global,
@@ -41,7 +42,7 @@ pub fn run_in_time<R: Threads + Wait + Clock + Abort + Sync>(
     closed
 }
 
-/// The same of a chain.
+/// Does the same for a chain.
 pub fn chain_in_time<R: Threads + Wait + Clock + Abort + Sync>(
     rt: &R,
     alloc: Global,

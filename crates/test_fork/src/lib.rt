@@ -1,4 +1,5 @@
-//! Tests of packages whose threads begin and end in the history: forks, ends and joins by threads that are at work at once.
+//! Tests of packages whose threads begin and end in the history: forks, ends and joins by threads
+//! that are all at work at once.
 #![tactic(auto)]
 
 #[cfg(test)]

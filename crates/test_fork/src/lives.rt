@@ -1,4 +1,4 @@
-//! What threads do between their fork and their end.
+//! The life of threads between their fork and their end.
 ghost use Rattle.std.specs.Prelude.{[], ◌≡◌, ◌<◌, ◌≤◌};
 ghost use Rattle.larch_actions.specs.declared.event.Version.TheVariants.{Two};
 ghost use Rattle.nub.specs.Ended.{IsDone};
@@ -18,17 +18,16 @@ use std::time::{Clock, Duration};
 use sum_uses::{AddChange, SumUses, add_to};
 use user_mutex::locked;
 
-// So many ms after another is about to wait for its end a thread ends: the other sleeps by then.
+// A thread ends this many ms after another is about to wait for its end: by then, the other sleeps.
 const LATE: u64 = 20;
 
-/// What threads do before their end.
+/// The task of threads before their end.
 #[derive(Clone, Copy)]
 pub enum Task {
-    /// Nothing.
     Nothing,
     /// Each adds 1 under mutex 0.
     Adds,
-    /// So many wait for the end of thread 1, which ends once all are about to.
+    /// This many threads wait for the end of thread 1, which ends once all are about to.
     JoinFirst(u64),
     /// Each ends a while after thread 0 is about to wait for its end.
     Late,
@@ -46,7 +45,7 @@ fn add_one<R: Wait>(rt: &R, pkg: &Package<SumUses>, mut me: Thread<SumUses>) -> 
     me
 }
 
-/// Adds, where that is the task.
+/// Adds, if that is the task.
 fn worked<R: Wait>(
     rt: &R,
     pkg: &Package<SumUses>,
@@ -63,7 +62,7 @@ fn worked<R: Wait>(
     }
 }
 
-/// Keeps what is left of one more, or loses it where there is no memory.
+/// Keeps what is left of one more thread, or loses it if there is no memory.
 pub fn keep(ended: &mut Vec<Ended<SumUses>>, pkg: &Package<SumUses>, one: Ended<SumUses>)
     requires all { AllAre (λ k. IsLeft pkg.now k) ended.old.items }
     requires one { IsLeft pkg.now one }
@@ -72,7 +71,7 @@ pub fn keep(ended: &mut Vec<Ended<SumUses>>, pkg: &Package<SumUses>, one: Ended<
     let _ = ended.push(one);
 }
 
-/// Forks one after the other, works for it, ends it and waits for its end.
+/// Forks the others one after the other; works for each, ends it and waits for its end.
 fn raise<R: Wait>(
     rt: &R,
     alloc: Global,
@@ -99,13 +98,13 @@ fn raise<R: Wait>(
     ended
 }
 
-/// Waits until so many are about to join, and a while longer.
+/// Waits until `number` threads are about to join, and a while longer.
 fn be_late<R: Clock>(rt: &R, note: &AtomicU64, number: u64) {
     let _ = seen_in_time(rt, note, number);
     thread::sleep(rt, Duration::from_millis(LATE));
 }
 
-/// Does the task, as far as that isn't to add.
+/// Does the task, except adding.
 fn meet<R: Wait + Clock>(
     rt: &R,
     pkg: &Package<SumUses>,
@@ -135,8 +134,8 @@ fn meet<R: Wait + Clock>(
     }
 }
 
-/// The head of the family forks the others and waits for their ends, one after the other, does the task, and ends. It answers what is left
-/// of each, of itself last.
+/// Lets the head of the family fork the others and wait for their ends, one after the other, do the
+/// task, and end. Returns what is left of each thread, the head's last.
 pub fn live<R: Wait + Clock>(
     rt: &R,
     alloc: Global,

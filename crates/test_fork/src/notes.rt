@@ -1,4 +1,4 @@
-//! What threads leave for one another and for a test to see.
+//! Notes that threads leave for one another, and for a test to see.
 use std::sync::atomic::{AtomicU64, Ordering};
 use std::thread;
 use std::time::{Clock, Duration};
@@ -29,12 +29,12 @@ impl Notes {
     }
 }
 
-/// One more of the note.
+/// Adds 1 to the note.
 pub fn count(note: &AtomicU64) {
     let _ = note.fetch_add(1, Ordering::SeqCst);
 }
 
-/// Whether the note was seen at this number or above, in ten seconds.
+/// Returns whether the note was seen at this number or above, in ten seconds.
 pub fn seen_in_time<R: Clock>(rt: &R, note: &AtomicU64, number: u64) -> bool {
     for _i in 0..LOOKS {
         if note.load(Ordering::SeqCst) >= number {

@@ -20,13 +20,14 @@ use std::time::Clock;
 use sum_uses::SumUses;
 use thread_crew::{Finished, NotRun, run_crew};
 
-/// What a package does.
+/// The plan of a package.
 #[derive(Clone, Copy)]
 pub struct Plan {
     pub threads: u32,
-    /// How many threads live in one thread of the system.
+    /// How many threads live in one operating-system thread.
     pub family: usize,
-    /// How many families are started. The others live in the thread that forks their heads, as where the system refuses to start them.
+    /// How many families are started. The others live in the operating-system thread of the thread
+    /// that forks their heads, as they do when the system refuses to start them.
     pub starts: usize,
     pub task: Task,
     /// Whether thread 0 alerts thread 1 before it is forked, and after its end.
@@ -34,7 +35,7 @@ pub struct Plan {
     pub traced: bool,
 }
 
-/// So many threads with one mutex.
+/// Returns a layout of `threads` threads with one mutex.
 pub fn layout_of(threads: u32) -> Layout
     requires { (1 ≤ threads) × (threads ≤ 256) }
     ensures lawful { IsLawful result }
@@ -65,14 +66,15 @@ fn alert_first<R: Wait>(rt: &R, pkg: &Package<SumUses>, me: &mut Thread<SumUses>
     }
 }
 
-/// Thread 0 after the families have lived, and whether one couldn't be started.
+/// Thread 0 after the families have lived, and whether one of them couldn't be started.
 #[derive(Drop)]
 struct StoodBy {
     me: Thread<SumUses>,
     refused: bool,
 }
 
-/// What thread 0 does while the families live: it waits for all, unless one can't be started while it does so.
+/// The part of thread 0 while the families live: it waits for all, unless one can't be started
+/// while it does so.
 fn stand_by<R: Wait>(
     rt: &R,
     pkg: &Package<SumUses>,
@@ -94,7 +96,7 @@ fn stand_by<R: Wait>(
     }
 }
 
-/// Waits for all where thread 0 hasn't done so yet. It also answers what the families have left.
+/// Waits for all families if thread 0 hasn't done so yet. Also returns what the families have left.
 fn joined<R: Wait, J: Drop, O: Drop, M: Drop>(
     rt: &R,
     pkg: &Package<SumUses>,
@@ -122,7 +124,8 @@ fn joined<R: Wait, J: Drop, O: Drop, M: Drop>(
     Ok((first, results))
 }
 
-/// Lets all families live, each in a thread of its own, and thread 0 wait for them. It answers thread 0 and what is left of each family.
+/// Lets all families live, each in an operating-system thread of its own, and thread 0 wait for
+/// them. Returns thread 0 and what is left of each family.
 fn let_live<R: Threads + Wait + Clock + Sync>(
     rt: &R,
     alloc: Global,
@@ -163,7 +166,7 @@ fn finish<R: Wait>(rt: &R, pkg: &Package<SumUses>, me: Thread<SumUses>) -> Ended
     end_thread(rt, pkg, me)
 }
 
-/// What is left of thread 0 and of all families, in order.
+/// Returns what is left of thread 0 and of all families, in order.
 fn together(
     alloc: Global,
     pkg: &Package<SumUses>,
@@ -183,7 +186,8 @@ fn together(
     Ok(all)
 }
 
-/// What a package leaves after its threads were forked and have ended.
+/// Runs the plan, and returns the package, which is closed after its threads were forked and have
+/// ended.
 pub fn run<R: Threads + Wait + Clock + Sync>(
     rt: &R,
     alloc: Global,

@@ -4,7 +4,7 @@ use Rattle.firefly_outside.specs.Seen.{tree_of}
 use Rattle.firefly_outside.specs.Trees.{Told}
 use Rattle.firefly_outside.specs.declared.mem_tree.MemTree.{MemTree}
 
--- a tree is there, and it is this one
+-- the place has a tree, and it is this one
 pub record HoldsTree (t : Told) (place : Option MemTree) : Type 0 where
   pub tree : MemTree
   pub is : place ≡ Some tree

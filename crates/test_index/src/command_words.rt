@@ -1,5 +1,5 @@
-//! What is made of words. Those that say no command, and commands of one word, stand in runs/, without a proof; those behind `sample` stand
-//! here, since the program answers usage to each of them.
+//! What is made of words. Words that name no command, and commands of one word, are in runs/,
+//! without a proof. Those after `sample` are here, since the program answers usage to each of them.
 use command_line::{Command, IndexOptions, WordsFault, read_words};
 use std::alloc::{AllocError, Global};
 

@@ -1,4 +1,4 @@
-//! Copies of a tree, one for each worker that has one and one for the closing walk.
+//! Copies of a tree: one for each worker that has a tree, and one for the closing walk.
 ghost use Rattle.std.specs.Prelude.{◌≡◌, ◌+◌, All, IfOk, length};
 ghost use Rattle.firefly_outside.specs.Seen.{tree_of};
 ghost use Rattle.test_index.specs.Copies.{HoldsTree};
@@ -7,7 +7,8 @@ use firefly_outside::{MemTree, Text};
 use std::alloc::{AllocError, Global};
 use test_project::copy_failing_at;
 
-/// Copies of the tree for so many workers, that fail at the first paths, and one for the closing walk, that fails at the last ones.
+/// Returns copies of the tree for `workers` workers, which fail at the first paths, and one for the
+/// closing walk, which fails at the last ones.
 pub fn copies_of(
     alloc: Global,
     tree: &MemTree,
@@ -26,7 +27,7 @@ pub fn copies_of(
     Ok(trees)
 }
 
-/// How many paths were listed, these trees together.
+/// Returns how many paths were listed, in these trees together.
 pub fn listed_by(trees: &[Option<MemTree>]) -> usize {
     let mut many = 0usize;
     for tree in trees {
@@ -37,7 +38,7 @@ pub fn listed_by(trees: &[Option<MemTree>]) -> usize {
     many
 }
 
-/// How many files were read, these trees together.
+/// Returns how many files were read, in these trees together.
 pub fn read_by(trees: &[Option<MemTree>]) -> usize {
     let mut many = 0usize;
     for tree in trees {
@@ -59,7 +60,7 @@ fn times_in(paths: &[Text], path: &str) -> usize {
     many
 }
 
-/// How often the path was listed, and how often it was read, these trees together.
+/// Returns how often the path was listed, and how often it was read, in these trees together.
 pub fn times_asked(trees: &[Option<MemTree>], path: &str) -> (usize, usize) {
     let mut lists = 0usize;
     let mut reads = 0usize;

@@ -1,4 +1,4 @@
-//! Runs at which paths fail, with every number of workers.
+//! Runs in which paths fail, with every number of workers.
 ghost use Rattle.indexer.specs.Plans.{IsPlan};
 
 use crate::runs::{failed_at, has_index, plan_of, run_on, seen_of};
@@ -24,7 +24,7 @@ fn chosen(alloc: Global, bits: u32) -> Result<Vec<&'static str>, Fail> {
     Ok(paths)
 }
 
-// Whether the path lies below the directory.
+// Whether the path is below the directory.
 fn is_below(path: &str, dir: &str) -> bool {
     match path.strip_prefix(dir) {
         Some(rest) => rest.starts_with('/'),
@@ -46,7 +46,8 @@ fn may_be_named(failing: &[&str], path: &str) -> bool {
     fails
 }
 
-// Whether the answer is what it should be where these paths fail: where none fails the index, and else one that fails and is found.
+// Whether the answer is right if these paths fail: the index if none fails, and otherwise one that
+// fails and is found.
 fn is_right(alloc: Global, answer: &IndexAnswer, failing: &[&str]) -> Result<bool, Fail> {
     match failed_at(answer) {
         Some(path) => Ok(may_be_named(failing, path)),
@@ -54,7 +55,7 @@ fn is_right(alloc: Global, answer: &IndexAnswer, failing: &[&str]) -> Result<boo
     }
 }
 
-// Whether a run where these paths fail answers what it should.
+// Whether a run in which these paths fail gives the right answer.
 fn is_answered<R: Threads + Wait + Sync>(
     rt: &R,
     alloc: Global,
@@ -71,7 +72,7 @@ fn is_answered<R: Threads + Wait + Sync>(
     right
 }
 
-// The first set of failing paths that isn't answered as it should be, if there is one.
+// The first set of failing paths for which the answer isn't right, if there is one.
 fn wrong_set<R: Threads + Wait + Sync>(
     rt: &R,
     alloc: Global,
@@ -89,7 +90,8 @@ fn wrong_set<R: Threads + Wait + Sync>(
     Ok(None)
 }
 
-// No set of failing paths is answered wrong, with so many workers of one kind and so many of the others.
+// Checks that no set of failing paths gives a wrong answer, with `many` workers of one kind and
+// `others` of the others.
 fn none_is_wrong(rt: &impl Abort, wrong: Option<u32>, many: u32, others: u32) {
     assert_eq!(rt; wrong, None, "{many} {others}");
 }
@@ -133,7 +135,7 @@ fn a_path_that_fails_is_named_with_each_number_of_mergers(rt: HostRuntime) -> Re
     Ok(())
 }
 
-// Whether the index is found though the closing walk's tree fails at each path.
+// Whether the index is found although the closing walk's tree fails at each path.
 fn is_all_found<R: Threads + Wait + Sync>(
     rt: &R,
     alloc: Global,

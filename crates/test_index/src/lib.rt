@@ -1,6 +1,7 @@
-//! Tests of the index by threads, over trees in memory: runs of several plans that find the whole, that are stopped, at which paths fail,
-//! and at which two workers wait for each other. Below them, tests of what the index stands on: trees in memory and of the system, pieces of
-//! files, walks over small trees, and the words of the command line.
+//! Tests of the index by threads, over trees in memory: runs of several plans that find the whole,
+//! that are stopped, in which paths fail, and in which two workers wait for each other. Further
+//! tests are of what the index is built on: trees in memory and of the system, pieces of files,
+//! walks over small trees, and the words of the command line.
 #![tactic(auto)]
 
 #[cfg(test)]

@@ -1,4 +1,4 @@
-//! A run at which two parsers wait for each other.
+//! A run in which two parsers wait for each other.
 use crate::runs::{plan_of, seen_of};
 use std::test::Fail;
 use test_project::{Meeting, project, project_index, project_paths};

@@ -13,7 +13,8 @@ fn piece(alloc: Global, path: &str, bytes: &[u8]) -> Result<Piece, Fail> {
     Ok(piece_of(alloc, path, &file)?)
 }
 
-// The two pieces in one. In a function of its own the condition of the merge is shown with nothing else alive, which takes the proof far less.
+// Merges the two pieces into one. This is a function of its own so that the condition of the merge
+// is proved with nothing else alive, which takes far less time.
 fn merged(one: Piece, other: Piece) -> Result<Piece, Fail> {
     if one.meets(&other) {
         drop(one);

@@ -19,7 +19,8 @@ fn few(many: u32) -> u32
     many.max(1).min(8)
 }
 
-/// A plan of so many workers, 1 to 8 of each kind, that isn't stopped and isn't traced.
+/// Returns a plan of these numbers of workers, 1 to 8 of each kind, that isn't stopped and isn't
+/// traced.
 pub fn plan_of(walkers: u32, parsers: u32, mergers: u32) -> Plan
     ensures { IsPlan result }
 {
@@ -32,7 +33,7 @@ pub fn plan_of(walkers: u32, parsers: u32, mergers: u32) -> Plan
     }
 }
 
-/// A plan of two workers of each kind that is stopped after so many files.
+/// Returns a plan of two workers of each kind that is stopped after `most` files.
 pub fn stopping_plan(most: u64) -> Plan
     requires { most ≤ 1000 }
     ensures { IsPlan result }
@@ -46,7 +47,7 @@ pub fn stopping_plan(most: u64) -> Plan
     }
 }
 
-/// A plan of so many workers of each kind that is traced.
+/// Returns a plan of `workers` workers of each kind that is traced.
 pub fn traced_plan(workers: u32) -> Plan
     ensures { IsPlan result }
 {
@@ -59,8 +60,8 @@ pub fn traced_plan(workers: u32) -> Plan
     }
 }
 
-/// The answer of a run on copies of the tree, and the copies as they came back. The workers' copies fail at the first paths and the closing
-/// walk's at the last ones.
+/// Runs the plan on copies of the tree. Returns the answer, and the copies as they came back. The
+/// workers' copies fail at the first paths and the closing walk's at the last ones.
 pub fn run_on<'a, R: Threads + Wait + Sync, G: BeforeStart>(
     rt: &R,
     alloc: Global,
@@ -77,21 +78,22 @@ pub fn run_on<'a, R: Threads + Wait + Sync, G: BeforeStart>(
     Ok((answer, trees))
 }
 
-/// What a run answered, and how often its trees were asked.
+/// What came of a run, and how often its trees were asked.
 #[derive(Clone, Copy)]
 pub struct Seen {
-    /// Whether the index is answered, and its text is what was expected.
+    /// Whether there is an index, with the expected text.
     pub found: bool,
-    /// The number of files found, where the run was stopped.
+    /// The number of files found, if the run was stopped.
     pub stop: Option<u64>,
-    /// How many paths were listed, these trees together.
+    /// How many paths were listed, in these trees together.
     pub lists: usize,
     /// How many files were read.
     pub reads: usize,
 }
 
-/// What a run on copies of the tree does, of which the closing walk's fails at these paths, and whether it answers this text. The tests then
-/// compare beside no answer and no trees, which takes the proof far less.
+/// Runs a plan on copies of the tree, of which the closing walk's fails at these paths. Returns
+/// what the run did, and whether the index has this text. So tests compare with no answer and no
+/// trees alive, which makes their proofs far shorter.
 pub fn seen_of<R: Threads + Wait + Sync, G: BeforeStart>(
     rt: &R,
     alloc: Global,
@@ -119,7 +121,7 @@ pub fn seen_of<R: Threads + Wait + Sync, G: BeforeStart>(
     })
 }
 
-/// Whether the index is answered, and this is its text.
+/// Returns whether there is an index, and this is its text.
 pub fn has_index(alloc: Global, answer: &IndexAnswer, text: &str) -> Result<bool, Fail> {
     match answer {
         IndexAnswer::Done(piece, _) => is_text(alloc, piece, text),
@@ -127,7 +129,7 @@ pub fn has_index(alloc: Global, answer: &IndexAnswer, text: &str) -> Result<bool
     }
 }
 
-// The number of files found, where the run was stopped.
+// The number of files found, if the run was stopped.
 fn stopped_at(answer: &IndexAnswer) -> Option<u64> {
     match answer {
         IndexAnswer::Stopped(many) => Some(*many),
@@ -135,7 +137,7 @@ fn stopped_at(answer: &IndexAnswer) -> Option<u64> {
     }
 }
 
-/// The path that failed, where one is answered.
+/// Returns the path that failed, if the answer has one.
 pub fn failed_at(answer: &IndexAnswer) -> Option<&str> {
     match answer {
         IndexAnswer::ReadFault(path) => Some(path.as_str()),

@@ -1,4 +1,4 @@
-//! The sample tree, beside what another reading of its rule gives.
+//! The sample tree, compared with what another reading of its rule gives.
 ghost use Rattle.std.specs.Prelude.{◌≤◌};
 
 use firefly_outside::{Entry, MemTree, Tree, TreeError, sample_tree};
@@ -68,7 +68,7 @@ fn sample_files_are_at_their_paths(rt: HostRuntime) -> Result<(), Fail> {
     Ok(())
 }
 
-// Whether a sample tree has so many directories below its root, and files of so many bytes together.
+// Whether a sample tree has `dirs` directories below its root, and files of `bytes` bytes together.
 fn has_size(alloc: Global, seed: u64, files: u32, dirs: usize, bytes: usize) -> Result<bool, Fail>
     requires some { 1 ≤ files }
     requires few { files ≤ 20000 }

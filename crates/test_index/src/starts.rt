@@ -39,8 +39,8 @@ fn asked(trees: &[Option<MemTree>]) -> usize {
     listed_by(trees).saturating_add(read_by(trees))
 }
 
-// Whether a run of which the first workers are started answers the index of the project; how many paths its workers' trees were asked for,
-// and how many all trees together.
+// Whether a run of which only the first workers are started gives the index of the project; how
+// many paths its workers' trees were asked for, and how many all trees together.
 fn seen_with<R: Threads + Wait + Sync>(
     rt: &R,
     alloc: Global,

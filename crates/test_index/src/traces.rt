@@ -13,7 +13,7 @@ use test_project::project;
 use trace_check::{Summary, Verdict, check};
 use trace_core::{print_end, print_event, print_head};
 
-// The text of a trace, or what there was room for.
+// The text of a trace, as far as there was room for it.
 fn text_of(alloc: Global, plan: &Plan, events: &[Event]) -> Result<MemSink, Fail>
     requires { IsPlan plan.now }
 {
@@ -28,7 +28,7 @@ fn text_of(alloc: Global, plan: &Plan, events: &[Event]) -> Result<MemSink, Fail
     Ok(out)
 }
 
-// What the check says of the trace, and of how many events it is.
+// The verdict of the check on the trace, and the number of its events.
 fn verdict_on(alloc: Global, plan: &Plan, answer: &IndexAnswer) -> Result<(Verdict, u64), Fail>
     requires { IsPlan plan.now }
 {
@@ -43,7 +43,7 @@ fn verdict_on(alloc: Global, plan: &Plan, answer: &IndexAnswer) -> Result<(Verdi
     Ok((check(&mut input, 1_000_000), events.len() as u64))
 }
 
-// The same of the run of a plan.
+// The same for the run of a plan.
 fn verdict_of<R: Threads + Wait + Sync>(
     rt: &R,
     alloc: Global,

@@ -5,7 +5,7 @@ use std::process::Abort;
 use std::test::Fail;
 use test_project::{put_dir, put_file, tree_with};
 
-// What a tree answers. What it tells besides is then not alive in the tests.
+// What a tree lists. What else is known of the tree is then not alive in the tests.
 fn list<S: Tree>(alloc: Global, tree: &mut S, dir: &str) -> Result<Vec<Entry>, TreeError> {
     tree.list(alloc, dir)
 }
@@ -22,7 +22,7 @@ fn are(entries: &[Entry], expected: &[(&str, Kind)]) -> bool {
     entries.len() == expected.len() && same
 }
 
-// How many lists, reads and failures the tree has told.
+// How many lists, reads and failures the tree has reported.
 fn calls(tree: &MemTree) -> (usize, usize, usize) {
     (
         tree.listed().len(),
@@ -60,7 +60,7 @@ fn is_long<S: Tree>(alloc: Global, tree: &mut S, path: &str) -> Result<bool, Tre
     Ok(read(alloc, tree, path)?.long)
 }
 
-// Why no entries are listed, where none are.
+// Why nothing is listed, if nothing is.
 fn list_fault<S: Tree>(alloc: Global, tree: &mut S, dir: &str) -> Option<TreeError> {
     list(alloc, tree, dir).err()
 }
@@ -81,7 +81,8 @@ fn failing_tree(alloc: Global) -> Result<MemTree, AllocError> {
     Ok(tree)
 }
 
-// In these tests no tree is alive where what it answered is compared, which takes the proof far less.
+// In these tests no tree is alive where its answer is compared, which makes their proofs far
+// shorter.
 #[test]
 fn tree_lists_what_was_added(rt: HostRuntime) -> Result<(), Fail> {
     let alloc = rt.alloc();

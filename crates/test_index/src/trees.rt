@@ -9,7 +9,7 @@ pub fn small_paths() -> [&'static str; 5] {
     ["proj", "proj/d", "proj/a", "proj/d/b", "proj/d/c"]
 }
 
-// Adds all below the root of the small tree.
+// Adds everything below the root of the small tree.
 fn fill_small(alloc: Global, tree: &mut MemTree) -> Result<(), Fail> {
     put_dir(tree, "proj/d")?;
     put_file(alloc, tree, "proj/a", b"one\n")?;
@@ -18,14 +18,14 @@ fn fill_small(alloc: Global, tree: &mut MemTree) -> Result<(), Fail> {
     Ok(())
 }
 
-/// Two directories and three files.
+/// Returns a tree of two directories and three files.
 pub fn small(alloc: Global) -> Result<MemTree, Fail> {
     let mut tree = tree_with(alloc, "proj")?;
     fill_small(alloc, &mut tree)?;
     Ok(tree)
 }
 
-/// The index of the small tree.
+/// Returns the index of the small tree.
 pub fn small_index() -> &'static str {
     "one 2
   1 1 a

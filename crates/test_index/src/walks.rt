@@ -1,4 +1,4 @@
-//! Small trees, walked whole, stopped and with a fault.
+//! Small trees: walked whole, stopped, and with a fault.
 use firefly_outside::{MemTree, Text};
 use std::alloc::Global;
 use std::test::Fail;
@@ -27,7 +27,7 @@ fn counts(piece: &Piece) -> (u64, u64, u64) {
     (piece.files(), piece.words(), piece.entries())
 }
 
-// The number of files found, where the walk was stopped.
+// The number of files found, if the walk was stopped.
 fn stopped_at(answer: &WalkAnswer) -> Option<u64> {
     match answer {
         WalkAnswer::Stopped(many) => Some(*many),
@@ -35,7 +35,7 @@ fn stopped_at(answer: &WalkAnswer) -> Option<u64> {
     }
 }
 
-// The path that failed, where one is answered.
+// The path that failed, if the answer has one.
 fn failed_at(answer: WalkAnswer) -> Option<Text> {
     match answer {
         WalkAnswer::ReadFault(path) => Some(path),
@@ -43,7 +43,7 @@ fn failed_at(answer: WalkAnswer) -> Option<Text> {
     }
 }
 
-// What is compared stands beside no tree and no piece, which takes the proof far less.
+// No tree and no piece is alive where values are compared, which makes the proofs far shorter.
 #[test]
 fn whole_tree_is_indexed(rt: HostRuntime) -> Result<(), Fail> {
     let mut tree = small_tree(rt.alloc())?;

@@ -6,7 +6,8 @@ use indexer::BeginsAtOnce;
 use std::test::Fail;
 use test_project::{project, project_index, project_paths};
 
-// How many trees a run of two workers of each kind has, how many paths the walkers' trees listed, and how many files the parsers' read.
+// How many trees a run of two workers of each kind has, how many paths the walkers' trees listed,
+// and how many files the parsers' read.
 fn shares(trees: &[Option<MemTree>]) -> (usize, usize, usize) {
     if trees.len() < 4 {
         return (trees.len(), 0, 0);
@@ -36,7 +37,8 @@ fn each_plan_finds_the_index(rt: HostRuntime) -> Result<(), Fail> {
     Ok(())
 }
 
-// Whether each directory of the project was listed once and never read, and each file read once and never listed, these trees together.
+// Whether each directory of the project was listed once and never read, and each file read once and
+// never listed, in these trees together.
 fn asked_once(trees: &[Option<MemTree>]) -> bool {
     let mut once = true;
     let mut dirs = 3usize;

@@ -1,4 +1,4 @@
-//! Alerts, and waits for a semaphore that they end.
+//! Alerts, and waits for a semaphore that alerts end.
 use crate::alert_part::{AlertPart, AlertTask};
 use crate::notes::Notes;
 use nub::{Action, Event, SemId, ThreadId};
@@ -8,7 +8,7 @@ use std::test::Fail;
 use std::thread::Threads;
 use test_support::{event, few_of_each, has_numbers, leaves, plays, run};
 
-/// Thread 0 raises so often, and leaves a trace of so many events or none.
+/// Checks that thread 0 raises `times` times, and leaves a trace of `events` events or none.
 fn raises<R: Threads + Wait + Sync>(
     rt: &R,
     alloc: Global,
@@ -21,14 +21,15 @@ fn raises<R: Threads + Wait + Sync>(
     has_numbers(&notes.numbers()[..1], &[u64::from(times)])
 }
 
-// A thread that waits for a semaphore which nobody frees raises each time that it is alerted.
+// A thread that waits for a semaphore which no thread makes available raises each time that it is
+// alerted.
 #[test]
 fn raises_each_time(rt: HostRuntime) -> Result<(), Fail> {
     raises(&rt, rt.alloc(), 10_000, None)?;
     raises(&rt, rt.alloc(), 100, Some(402))
 }
 
-/// Thread 0 ends its wait so often, and finds no fault.
+/// Checks that thread 0 ends its wait `times` times, and finds no fault.
 fn ends_each_wait<R: Threads + Wait + Sync>(
     rt: &R,
     alloc: Global,
@@ -42,15 +43,17 @@ fn ends_each_wait<R: Threads + Wait + Sync>(
     has_numbers(&notes.numbers()[..2], &[u64::from(times), 0])
 }
 
-// A semaphore is freed while the thread that waits for it is alerted: either it has the semaphore and is alerted still, or it has raised
-// and the semaphore is free. Nobody is left in the queue: a V and a P follow, and another alertable P that raises.
+// A semaphore becomes available while the thread that waits for it is alerted: either it has the
+// semaphore and is still alerted, or it has raised and the semaphore is available. No thread is
+// left in the queue: a V and a P follow, and another alertable P that raises.
 #[test]
 fn freed_and_alerted_at_once(rt: HostRuntime) -> Result<(), Fail> {
     ends_each_wait(&rt, rt.alloc(), 100_000, false)?;
     ends_each_wait(&rt, rt.alloc(), 200, true)
 }
 
-/// Thread 0 does the task, which leaves a trace of these events, and notes these two numbers.
+/// Checks that thread 0 does the task, which leaves a trace of these events, and notes these two
+/// numbers.
 fn plays_alone<R: Threads + Wait + Sync>(
     rt: &R,
     alloc: Global,
@@ -64,7 +67,7 @@ fn plays_alone<R: Threads + Wait + Sync>(
     has_numbers(&notes.numbers()[..2], &noted)
 }
 
-// A thread that has alerted itself raises where the semaphore isn't available.
+// A thread that has alerted itself raises if the semaphore isn't available.
 #[test]
 fn alerts_itself(rt: HostRuntime) -> Result<(), Fail> {
     let sem = SemId(0);
@@ -75,7 +78,7 @@ fn alerts_itself(rt: HostRuntime) -> Result<(), Fail> {
     plays_alone(&rt, rt.alloc(), AlertTask::Oneself, &expected, [1, 0])
 }
 
-// Two alerts are one: the first test finds it, and the second none.
+// Two alerts are one: the first test finds it, and the second finds none.
 #[test]
 fn two_alerts_are_one(rt: HostRuntime) -> Result<(), Fail> {
     let alerted = event(0, Action::Alert { who: ThreadId(0) });
@@ -85,7 +88,7 @@ fn two_alerts_are_one(rt: HostRuntime) -> Result<(), Fail> {
     plays_alone(&rt, rt.alloc(), AlertTask::Twice, &expected, [1, 0])
 }
 
-// An alert of a thread at rest is there when it tests.
+// A thread that is alerted at rest finds the alert when it tests.
 #[test]
 fn alerted_at_rest(rt: HostRuntime) -> Result<(), Fail> {
     let notes = Notes::new();

@@ -1,4 +1,4 @@
-//! The parts of threads in tests of alerts. Thread 0 is the one that is alerted.
+//! The parts of threads in tests of alerts. Thread 0 is alerted.
 use crate::alerted::{raise_alone, wait_for_wakes};
 use crate::alerting::{alert_often, alert_oneself, raise_often, test_twice, wait_often};
 use crate::notes::Notes;
@@ -10,12 +10,14 @@ use std::sync::atomic::Ordering;
 use sum_uses::SumUses;
 use test_support::Part;
 
-/// What each thread of a test does.
+/// The task of the threads of a test.
 #[derive(Clone, Copy)]
 pub enum AlertTask {
-    /// Thread 1 alerts thread 0 so often, which waits for a semaphore that nobody frees.
+    /// Thread 1 alerts thread 0 this many times, which waits for a semaphore that no thread makes
+    /// available.
     Raises(u32),
-    /// So often thread 1 frees a semaphore for which thread 0 waits, while thread 2 alerts it.
+    /// This many times thread 1 makes a semaphore available for which thread 0 waits, while thread
+    /// 2 alerts thread 0.
     AtOnce(u32),
     /// Thread 0 alerts itself, and waits for a semaphore that it has taken.
     Oneself,
@@ -25,7 +27,8 @@ pub enum AlertTask {
     AtRest,
     /// Thread 0 alerts itself and waits in a condition.
     Alone,
-    /// So often thread 0 waits in a condition while thread 1 signals once and thread 2 alerts it once.
+    /// This many times thread 0 waits in a condition while thread 1 signals once and thread 2
+    /// alerts thread 0 once.
     Race(u32),
 }
 

@@ -9,7 +9,8 @@ use std::thread::Threads;
 use sum_uses::SumUses;
 use test_support::{event, few_of_each, has_numbers, leaves, plays, run};
 
-// A thread that was alerted before it waits raises at once, holds the mutex then, and the alert is gone.
+// A thread that was alerted before it waits raises at once, holds the mutex then, and is no longer
+// alerted.
 #[test]
 fn alone(rt: HostRuntime) -> Result<(), Fail> {
     let notes = Notes::new();
@@ -27,7 +28,8 @@ fn alone(rt: HostRuntime) -> Result<(), Fail> {
     has_numbers(&notes.numbers()[..2], &[1, 0])
 }
 
-// A Signal and an alert race for a wait 100,000 times. Exactly one ends it: the alert is there afterwards where the Signal did, and else gone.
+// A Signal and an alert race for a wait 100,000 times. Exactly one ends it: if the Signal did, the
+// alert is still there, and otherwise it is cleared.
 #[test]
 fn alert_against_signal(rt: HostRuntime) -> Result<(), Fail> {
     let notes = Notes::new();
@@ -36,7 +38,7 @@ fn alert_against_signal(rt: HostRuntime) -> Result<(), Fail> {
     has_numbers(&notes.numbers()[1..2], &[0])
 }
 
-/// How many waits that an alert may end have ended, where there is a trace.
+/// Returns how many waits that an alert may end have ended, if there is a trace.
 fn ended(closed: &Closed<SumUses>) -> Option<u64> {
     let mut ended: u64 = 0;
     for event in closed.trace()? {
@@ -50,7 +52,7 @@ fn ended(closed: &Closed<SumUses>) -> Option<u64> {
     Some(ended)
 }
 
-/// How many waits have ended in the trace of so many races.
+/// Returns how many waits have ended in the trace of `races` races.
 fn ended_in_races<R: Threads + Wait + Sync>(
     rt: &R,
     alloc: Global,
@@ -64,7 +66,7 @@ fn ended_in_races<R: Threads + Wait + Sync>(
     Ok(ended.ok_or("no trace")?)
 }
 
-// The same with a trace, which is legal as a whole: each wait ends by one of its two events.
+// The same race with a trace, which is legal as a whole: each wait ends by one of its two events.
 #[test]
 fn alert_against_signal_traced(rt: HostRuntime) -> Result<(), Fail> {
     let notes = Notes::new();

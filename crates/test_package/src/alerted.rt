@@ -1,4 +1,4 @@
-//! What one thread of a test does with alerts and waits in a condition. Thread 0 is the one that is alerted.
+//! The work of one thread of a test with alerts and waits in a condition. Thread 0 is alerted.
 ghost use Rattle.std.specs.Prelude.{[], ◌≤◌};
 ghost use Rattle.nub.specs.Idle.{IsIdle};
 
@@ -12,7 +12,8 @@ use std::sync::atomic::Ordering;
 use sum_uses::SumUses;
 use user_mutex::{acquire, release};
 
-/// Takes the mutex, waits until it is woken or alerted, and gives the mutex back. It answers whether an alert ended the wait.
+/// Acquires the mutex, waits until it is woken or alerted, and releases the mutex. Returns whether
+/// an alert ended the wait.
 fn wait_once<R: Wait>(rt: &R, pkg: &Package<SumUses>, me: &mut Thread<SumUses>) -> bool
     requires named { (1 ≤ pkg.now.layout.mutexes) × (1 ≤ pkg.now.layout.conditions) }
     requires idle { IsIdle pkg.now me.old.number [] me.old }
@@ -25,7 +26,8 @@ fn wait_once<R: Wait>(rt: &R, pkg: &Package<SumUses>, me: &mut Thread<SumUses>) 
     outcome == Outcome::Alerted
 }
 
-/// Alerts itself and waits, and notes whether it was alerted, and whether it is so still.
+/// Alerts itself and waits, and notes whether an alert ended the wait, and whether it is still
+/// alerted.
 pub fn raise_alone<R: Wait>(rt: &R, pkg: &Package<SumUses>, me: &mut Thread<SumUses>, notes: &Notes)
     requires named { (1 ≤ pkg.now.layout.mutexes) × (1 ≤ pkg.now.layout.conditions) × (1 ≤ pkg.now.layout.threads) }
     requires idle { IsIdle pkg.now me.old.number [] me.old }
@@ -40,8 +42,8 @@ pub fn raise_alone<R: Wait>(rt: &R, pkg: &Package<SumUses>, me: &mut Thread<SumU
     }
 }
 
-/// Waits so often, each time while the other two signal and alert it once. When they have, the alert is there exactly where it didn't end
-/// the wait: the note counts where that is otherwise.
+/// Waits `times` times, each time while the other two signal and alert it once. After that it must
+/// be alerted if and only if the alert didn't end the wait: the note counts where this fails.
 pub fn wait_for_wakes<R: Wait>(
     rt: &R,
     pkg: &Package<SumUses>,

@@ -1,4 +1,4 @@
-//! What one thread of a test does with alerts and waits for a semaphore. Thread 0 is the one that is alerted.
+//! The work of one thread of a test with alerts and waits for a semaphore. Thread 0 is alerted.
 ghost use Rattle.std.specs.Prelude.{[], ◌≤◌};
 ghost use Rattle.nub.specs.Idle.{IsIdle};
 
@@ -12,7 +12,7 @@ use std::sync::Wait;
 use std::sync::atomic::Ordering;
 use sum_uses::SumUses;
 
-/// Alerts thread 0 so often, each time after it has raised for the time before.
+/// Alerts thread 0 `times` times, each time after it has raised for the time before.
 pub fn alert_often<R: Wait>(rt: &R, pkg: &Package<SumUses>, me: &mut Thread<SumUses>, times: u32)
     requires named { (5 ≤ pkg.now.layout.semaphores) × (1 ≤ pkg.now.layout.threads) }
     requires idle { IsIdle pkg.now me.old.number [] me.old }
@@ -25,7 +25,7 @@ pub fn alert_often<R: Wait>(rt: &R, pkg: &Package<SumUses>, me: &mut Thread<SumU
     }
 }
 
-/// Waits for a semaphore that it has taken itself, so often, and counts how often it raises.
+/// Waits `times` times for a semaphore that it has taken itself, and counts how often it raises.
 pub fn raise_often<R: Wait>(
     rt: &R,
     pkg: &Package<SumUses>,
@@ -46,8 +46,9 @@ pub fn raise_often<R: Wait>(
     }
 }
 
-/// Has taken the semaphore, and is alerted where `alerted` says so. It counts a fault where that isn't so: then an alertable P returns,
-/// or the alert is left. Afterwards it isn't alerted, and has the semaphore after a turn of V and P.
+/// Has taken the semaphore, and is alerted if `alerted` is true. Counts a fault if this isn't so:
+/// if an alertable P returns, or the alert is left. Afterwards it isn't alerted, and has the
+/// semaphore after a V and a P.
 fn look_over<R: Wait>(
     rt: &R,
     pkg: &Package<SumUses>,
@@ -70,7 +71,8 @@ fn look_over<R: Wait>(
     p(rt, pkg, me, TRIED);
 }
 
-/// Waits so often for a semaphore that is freed while the thread is alerted: it has the semaphore, or has raised and can take it.
+/// Waits `times` times for a semaphore that becomes available while the thread is alerted: it has
+/// the semaphore, or has raised and can take it.
 pub fn wait_often<R: Wait>(
     rt: &R,
     pkg: &Package<SumUses>,
@@ -95,7 +97,8 @@ pub fn wait_often<R: Wait>(
     }
 }
 
-/// Alerts itself, and then raises out of a P of a semaphore that it has taken. It notes how often it raised.
+/// Alerts itself, and then raises out of a P of a semaphore that it has taken. Notes how often it
+/// raised.
 pub fn alert_oneself<R: Wait>(
     rt: &R,
     pkg: &Package<SumUses>,

@@ -1,6 +1,7 @@
-//! Tests of the package: its calls by threads that are at work at once.
+//! Tests of the package: its calls by threads that are all at work at once.
 //!
-//! Mutexes and semaphores have the same list of tests: `alone`, `contended`, `two_objects_apart`, `many_threads` and `largest_layout`.
+//! The same list of tests covers mutexes and semaphores: `alone`, `contended`, `two_objects_apart`,
+//! `many_threads` and `largest_layout`.
 #![tactic(auto)]
 
 #[cfg(test)]

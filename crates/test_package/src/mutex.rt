@@ -1,10 +1,10 @@
-//! A mutex and the value behind it.
+//! A mutex and the value that it protects.
 use crate::notes::Notes;
 use crate::work::{Task, WorkPart};
 use std::test::Fail;
 use test_support::{few_of_each, has_numbers, largest, leaves};
 
-// A thread gets what it gave back.
+// A thread gets the value with which it released the mutex.
 #[test]
 fn alone(rt: HostRuntime) -> Result<(), Fail> {
     let notes = Notes::new();
@@ -22,8 +22,9 @@ fn contended(rt: HostRuntime) -> Result<(), Fail> {
     leaves(&rt, rt.alloc(), few_of_each(2), &part, &values, Some(4000))
 }
 
-// Nobody waits for the holder of another mutex: the value of mutex 0 is 1 only where its holder saw the other thread go through mutex 1
-// in time. Where no second thread can be started, thread 0 gives up its wait, passes first, and the value is 1 too.
+// No thread waits for the holder of another mutex: the value of mutex 0 is 1 only if its holder saw
+// the other thread go through mutex 1 in time. If no second thread can be started, thread 0 gives
+// up its wait, passes first, and the value is 1 too.
 #[test]
 fn two_objects_apart(rt: HostRuntime) -> Result<(), Fail> {
     let notes = Notes::new();

@@ -1,4 +1,4 @@
-//! What threads leave for one another and for a test to see.
+//! Notes that threads leave for one another, and for a test to see.
 ghost use Rattle.std.specs.Prelude.{◌≤◌};
 
 use std::sync::atomic::{AtomicU64, Ordering};
@@ -23,7 +23,7 @@ impl Notes {
         }
     }
 
-    /// The three numbers.
+    /// Returns the three numbers.
     pub fn numbers(&self) -> [u64; 3] {
         [
             self.first.load(Ordering::SeqCst),
@@ -33,7 +33,7 @@ impl Notes {
     }
 }
 
-/// Whether the note was seen set in time: 1 where it was, else 0.
+/// Returns 1 if the note was seen set in time, and 0 otherwise.
 pub fn seen_in_time(note: &AtomicU64) -> u64
     ensures { result ≤ 1 }
 {
@@ -45,7 +45,7 @@ pub fn seen_in_time(note: &AtomicU64) -> u64
     0
 }
 
-/// Sets the first note, and tells whether the second was seen set in time.
+/// Sets the first note, and returns whether the second was seen set in time.
 pub fn stand(notes: &Notes) -> u64
     ensures { result ≤ 1 }
 {

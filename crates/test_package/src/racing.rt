@@ -1,4 +1,5 @@
-//! What two threads do at once while thread 0 waits, so often, each time after that has told them to go on.
+//! The acts of two threads at once while thread 0 waits, some number of times, each after thread 0
+//! has let them go on.
 ghost use Rattle.std.specs.Prelude.{[], ◌<◌, ◌≤◌};
 ghost use Rattle.nub.specs.Idle.{IsIdle};
 
@@ -17,20 +18,20 @@ pub const ALERTED: ThreadId = ThreadId(0);
 /// The semaphore that an alertable call tries.
 pub const TRIED: SemId = SemId(0);
 
-/// The semaphores by which the first and the last of the two are told to go on.
+/// The semaphores by which thread 0 lets the first and the last of the two go on.
 pub const FIRST_GOES: SemId = SemId(1);
 
 const LAST_GOES: SemId = SemId(2);
 
-// The semaphores by which they tell that they have.
+// The semaphores by which the two announce that they have acted.
 const FIRST_CAME: SemId = SemId(3);
 
 const LAST_CAME: SemId = SemId(4);
 
-/// What a thread does each time.
+/// The act of a thread, each time.
 #[derive(Clone, Copy)]
 pub enum Act {
-    /// The first frees the semaphore that is tried.
+    /// The first makes the semaphore available that is tried.
     Free,
     /// The first signals in condition 0.
     Signal,
@@ -38,7 +39,7 @@ pub enum Act {
     Alert,
 }
 
-/// Does that once.
+/// Acts once.
 fn do_once<R: Wait>(rt: &R, pkg: &Package<SumUses>, me: &mut Thread<SumUses>, what: Act)
     requires named { (1 ≤ pkg.now.layout.threads) × (1 ≤ pkg.now.layout.conditions) × (5 ≤ pkg.now.layout.semaphores) }
     requires idle { IsIdle pkg.now me.old.number [] me.old }
@@ -61,7 +62,8 @@ pub fn await_start<R: Wait>(rt: &R, notes: &Notes) {
     unreachable!()
 }
 
-/// The semaphore by which who does it is told to go on, and the one by which it tells that it has.
+/// Returns the semaphore by which the acting thread is let go on, and the one by which it announces
+/// that it has acted.
 fn told(what: Act) -> (SemId, SemId)
     ensures { (result.0.0 < 5) × (result.1.0 < 5) }
 {
@@ -71,7 +73,7 @@ fn told(what: Act) -> (SemId, SemId)
     }
 }
 
-/// So often does that, as soon as it is told to, and tells that it has.
+/// Acts `times` times, each as soon as it may go on, and then announces that it has acted.
 pub fn act_often<R: Wait>(
     rt: &R,
     pkg: &Package<SumUses>,
@@ -93,7 +95,7 @@ pub fn act_often<R: Wait>(
     }
 }
 
-/// Takes all semaphores, and tells the others to begin.
+/// Takes all semaphores, and lets the others begin.
 pub fn take_all<R: Wait>(rt: &R, pkg: &Package<SumUses>, me: &mut Thread<SumUses>, notes: &Notes)
     requires named { 5 ≤ pkg.now.layout.semaphores }
     requires idle { IsIdle pkg.now me.old.number [] me.old }
@@ -107,7 +109,7 @@ pub fn take_all<R: Wait>(rt: &R, pkg: &Package<SumUses>, me: &mut Thread<SumUses
     notes.third.store(1, Ordering::SeqCst);
 }
 
-/// Tells both others to go on.
+/// Lets both others go on.
 pub fn let_both_go<R: Wait>(rt: &R, pkg: &Package<SumUses>, me: &mut Thread<SumUses>)
     requires named { 5 ≤ pkg.now.layout.semaphores }
     requires idle { IsIdle pkg.now me.old.number [] me.old }
@@ -117,7 +119,7 @@ pub fn let_both_go<R: Wait>(rt: &R, pkg: &Package<SumUses>, me: &mut Thread<SumU
     v(rt, pkg, me, LAST_GOES);
 }
 
-/// Waits until both have.
+/// Waits until both have acted.
 pub fn await_both<R: Wait>(rt: &R, pkg: &Package<SumUses>, me: &mut Thread<SumUses>)
     requires named { 5 ≤ pkg.now.layout.semaphores }
     requires idle { IsIdle pkg.now me.old.number [] me.old }

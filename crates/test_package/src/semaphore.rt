@@ -26,7 +26,8 @@ fn contended(rt: HostRuntime) -> Result<(), Fail> {
     has_numbers(&notes.numbers()[1..2], &[0])
 }
 
-// Nobody waits for who stands between P and V of another semaphore: that one saw the other thread go through semaphore 1 in time.
+// No thread waits for one that is between P and V of another semaphore: that one saw the other
+// thread go through semaphore 1 in time.
 #[test]
 fn two_objects_apart(rt: HostRuntime) -> Result<(), Fail> {
     let notes = Notes::new();

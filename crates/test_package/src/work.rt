@@ -1,4 +1,4 @@
-//! What one thread of a test does.
+//! The work of one thread of a test.
 ghost use Rattle.std.specs.Prelude.{[], ◌≡◌, ◌<◌, ◌≤◌};
 ghost use Rattle.nub.specs.Ended.{IsDone};
 ghost use Rattle.nub.specs.Idle.{IsIdle};
@@ -12,26 +12,26 @@ use sum_uses::{AddChange, SumUses, add_to};
 use test_support::Part;
 use user_mutex::{acquire, locked, release};
 
-/// What each thread of a test does.
+/// The task of the threads of a test.
 #[derive(Clone, Copy)]
 pub enum Task {
-    /// All add so often under one mutex.
+    /// All add this many times under one mutex.
     Together(u32),
-    /// Each adds so often under a mutex of its own, where there are enough.
+    /// Each adds this many times under a mutex of its own, if there are enough.
     Apart(u32),
     /// One turn of the mutex with an addition, and one without.
     TwoTurns,
-    /// Thread 1 stands in mutex 0 until thread 0 has been through mutex 1.
+    /// Thread 1 holds mutex 0 until thread 0 has been through mutex 1.
     PassBy,
-    /// All take turns by one semaphore, so often.
+    /// All take turns by one semaphore, this many times.
     TakeTurns(u32),
-    /// Each takes turns by a semaphore of its own, where there are enough.
+    /// Each takes turns by a semaphore of its own, if there are enough.
     TurnApart(u32),
-    /// Thread 1 stands between P and V of semaphore 0 until thread 0 has been through semaphore 1.
+    /// Thread 1 stays between P and V of semaphore 0 until thread 0 has been through semaphore 1.
     PassBySem,
 }
 
-/// Adds 1 this many times.
+/// Adds 1 `times` times.
 fn add_many<R: Wait>(
     rt: &R,
     pkg: &Package<SumUses>,
@@ -50,7 +50,8 @@ fn add_many<R: Wait>(
     me
 }
 
-/// Adds 5 in one turn and nothing in the next, and notes what it got in each, and whether the thread told that it had the mutex.
+/// Adds 5 in one turn and nothing in the next, and notes what it got in each, and whether the
+/// thread reported that it had the mutex.
 fn two_turns<R: Wait>(
     rt: &R,
     pkg: &Package<SumUses>,
@@ -75,7 +76,7 @@ fn two_turns<R: Wait>(
     me
 }
 
-/// Stands in mutex 0 until it has seen the second note, and adds 1 where that was in time.
+/// Holds mutex 0 until it has seen the second note, and adds 1 if that was in time.
 fn stand_by<R: Wait>(
     rt: &R,
     pkg: &Package<SumUses>,
@@ -93,7 +94,7 @@ fn stand_by<R: Wait>(
     me
 }
 
-/// Waits for thread 1 to stand in mutex 0, goes through mutex 1, and sets the second note.
+/// Waits until thread 1 holds mutex 0, goes through mutex 1, and sets the second note.
 fn pass_by<R: Wait>(
     rt: &R,
     pkg: &Package<SumUses>,
@@ -110,7 +111,7 @@ fn pass_by<R: Wait>(
     me
 }
 
-/// So many times P and V. It notes where another thread was between its own at the same time.
+/// Makes P and V `times` times. Notes whether another thread was between its own at the same time.
 fn turns<R: Wait>(
     rt: &R,
     pkg: &Package<SumUses>,
@@ -134,7 +135,8 @@ fn turns<R: Wait>(
     me
 }
 
-/// Stands between P and V of semaphore 0 until it has seen the second note, and notes whether that was in time.
+/// Stays between P and V of semaphore 0 until it has seen the second note, and notes whether that
+/// was in time.
 fn stand_in<R: Wait>(
     rt: &R,
     pkg: &Package<SumUses>,
@@ -151,7 +153,7 @@ fn stand_in<R: Wait>(
     me
 }
 
-/// Waits for thread 1 to stand in semaphore 0, goes through semaphore 1, and sets the second note.
+/// Waits until thread 1 has semaphore 0, goes through semaphore 1, and sets the second note.
 fn pass_in<R: Wait>(
     rt: &R,
     pkg: &Package<SumUses>,

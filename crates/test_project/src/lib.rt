@@ -1,8 +1,8 @@
-//! A small project in memory with its index, and what else tests of the program and of its index share: trees and copies of them, a walk
-//! by one thread, and a place where two threads meet.
+//! A small project in memory with its index, and what else the tests of the program and of its
+//! index share: trees and copies of them, a walk by one thread, and a place where two threads meet.
 //!
-//! Promises: a copy has the tree that it was made of. Stands on trees in memory, the walk and the printed index. Nothing of the product
-//! stands on it.
+//! Promises: a copy has the tree of which it was made. Built on trees in memory, the walk and the
+//! printed index. No part of the product is built on this crate.
 #![tactic(auto)]
 
 mod copies;

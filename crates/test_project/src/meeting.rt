@@ -4,7 +4,7 @@ ghost use Rattle.std.specs.Prelude.{◌<◌};
 use package_crew::BeforeStart;
 use std::sync::atomic::{AtomicBool, Ordering};
 
-/// Two threads wait here for each other, for at most 50,000,000 turns.
+/// A place where two threads wait for each other, for at most 50,000,000 turns.
 #[derive(Drop)]
 pub struct Meeting {
     // The number of the first of the two that pass; the other's is the next.
@@ -22,7 +22,7 @@ impl Meeting {
         }
     }
 
-    /// Whether the other was seen in time.
+    /// Waits for the other thread, and returns whether it came in time.
     pub fn meet(&self, me: usize) -> bool
         requires { me < 2 }
     {
@@ -35,7 +35,7 @@ impl Meeting {
         false
     }
 
-    /// Whether both have begun, and each has seen the other.
+    /// Returns whether both have come, and each has seen the other.
     pub fn was_kept(&self) -> bool {
         self.here[0].load(Ordering::SeqCst)
             && self.here[1].load(Ordering::SeqCst)

@@ -4,7 +4,7 @@ use firefly_outside::MemTree;
 use std::alloc::Global;
 use std::test::Fail;
 
-// The texts. A function without a clause keeps the bytes out of the proofs.
+// The texts are in a function without a clause, which keeps their bytes out of the proofs.
 
 fn files() -> [(&'static str, &'static [u8]); 5] {
     [
@@ -22,7 +22,7 @@ fn files() -> [(&'static str, &'static [u8]); 5] {
     ]
 }
 
-/// All paths of the project.
+/// Returns all paths of the project.
 pub fn project_paths() -> [&'static str; 8] {
     [
         "proj",
@@ -36,7 +36,7 @@ pub fn project_paths() -> [&'static str; 8] {
     ]
 }
 
-/// The index of the project.
+/// Returns the index of the project.
 pub fn project_index() -> &'static str {
     "1 1
   1 2 src/main.rs
@@ -66,7 +66,7 @@ twice 1
 "
 }
 
-// Adds all below the root. The tree is borrowed, so no early return lets it go.
+// Adds everything below the root. The tree is borrowed, so no early return drops it.
 fn fill(alloc: Global, tree: &mut MemTree) -> Result<(), Fail> {
     put_dir(tree, "proj/src")?;
     put_dir(tree, "proj/doc")?;
@@ -76,7 +76,7 @@ fn fill(alloc: Global, tree: &mut MemTree) -> Result<(), Fail> {
     Ok(())
 }
 
-/// A project of three directories and five files.
+/// Returns a project of three directories and five files.
 pub fn project(alloc: Global) -> Result<MemTree, Fail> {
     let mut tree = tree_with(alloc, "proj")?;
     fill(alloc, &mut tree)?;

@@ -3,7 +3,8 @@ use firefly_outside::MemTree;
 use std::alloc::{AllocError, Global};
 use std::test::Fail;
 
-/// A tree with this directory alone. In a function of its own what is told of the tree isn't alive where more is added.
+/// Returns a tree with only this directory. This is a function of its own so that what is known of
+/// the tree isn't alive where more is added.
 pub fn tree_with(alloc: Global, root: &str) -> Result<MemTree, AllocError> {
     let mut tree = MemTree::new(alloc);
     tree.add_dir(root)?;

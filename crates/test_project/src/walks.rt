@@ -1,4 +1,4 @@
-//! Walks by one thread, and what they give.
+//! Walks by one thread, and what they return.
 ghost use Rattle.std.specs.Prelude.{◌≤◌, IfSome};
 
 use firefly_outside::{MemSink, MemTree, Tree};
@@ -8,7 +8,7 @@ use std::test::Fail;
 use walker::{WalkAnswer, Walked, close_walk};
 use word_index::Piece;
 
-/// The walk of one thread, from nothing.
+/// Walks the tree by one thread, from nothing.
 pub fn walk<S: Tree>(
     alloc: Global,
     tree: &mut S,
@@ -22,7 +22,7 @@ pub fn walk<S: Tree>(
     Ok(close_walk(alloc, tree, root, walked, piece, stop_after))
 }
 
-/// The index of the whole tree.
+/// Returns the index of the whole tree.
 pub fn index_of(alloc: Global, tree: &mut MemTree, root: &str) -> Result<Piece, Fail> {
     match walk(alloc, tree, root, None)? {
         WalkAnswer::Done(piece) => Ok(piece),
@@ -30,12 +30,12 @@ pub fn index_of(alloc: Global, tree: &mut MemTree, root: &str) -> Result<Piece, 
     }
 }
 
-/// How many lists and reads the tree has told.
+/// Returns how many lists and reads the tree has reported.
 pub fn calls(tree: &MemTree) -> (usize, usize) {
     (tree.listed().len(), tree.files_read().len())
 }
 
-/// Whether this is the text of the piece.
+/// Returns whether this is the text of the piece.
 pub fn is_text(alloc: Global, piece: &Piece, text: &str) -> Result<bool, Fail> {
     let mut out = MemSink::with_room(alloc, 1000)?;
     let is_put = print_index(piece, &mut out).is_ok();

@@ -1,7 +1,7 @@
--- What the layouts of tests have.
+-- What tests need of a layout.
 use Rattle.std.specs.Prelude.{◌≤◌}
 use Rattle.larch_actions.specs.declared.event.Layout.{Layout}
 
--- there are two mutexes, two conditions and five semaphores at least
+-- there are at least two mutexes, two conditions and five semaphores
 abbrev pub HasFew : Layout → Type 0
 HasFew l = (2 ≤ l.mutexes) × (2 ≤ l.conditions) × (5 ≤ l.semaphores)

@@ -6,7 +6,7 @@ ghost use Rattle.test_support.specs.Layouts.{HasFew};
 
 use nub::Layout;
 
-/// So many threads, with two mutexes, two conditions and five semaphores.
+/// Returns a layout of `threads` threads, with two mutexes, two conditions and five semaphores.
 pub fn few_of_each(threads: u32) -> Layout
     requires { (1 ≤ threads) × (threads ≤ 64) }
     ensures lawful { IsLawful result }
@@ -16,7 +16,7 @@ pub fn few_of_each(threads: u32) -> Layout
     Layout::of(threads, 2, 2, 5)
 }
 
-/// The largest layout of version one.
+/// Returns the largest layout of version one.
 pub fn largest() -> Layout
     ensures lawful { IsLawful result }
     ensures version { result.version ≡ One }

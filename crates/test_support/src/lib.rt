@@ -1,8 +1,9 @@
-//! Packages that tests run: each of their threads does its part of a test, all at once, and what a package leaves is held against what is
-//! expected of it.
+//! Packages that tests run: each thread does its part of a test, all at once, and what the package
+//! leaves is compared with what is expected.
 //!
-//! Promises: nothing, since a test looks at what it was for. Stands on the package, its crews and its use by sums. The tests of
-//! primitives, of conditions and of forks stand on it, and nothing of the product does.
+//! Promises: nothing, since each test looks at what it is for. Built on the package, its crews and
+//! its use by sums. The tests of primitives, of conditions and of forks use it, and no part of the
+//! product does.
 #![tactic(auto)]
 
 mod layouts;

@@ -1,4 +1,4 @@
-//! What the threads of a test do.
+//! The work of the threads of a test.
 ghost use Rattle.std.specs.Prelude.{[]};
 ghost use Rattle.larch_actions.specs.Layout.{IsLawful};
 ghost use Rattle.nub.specs.Ended.{IsDone};
@@ -9,9 +9,9 @@ use nub::{Package, Thread};
 use std::sync::Wait;
 use sum_uses::SumUses;
 
-/// What each thread of a package does in a test.
+/// The work of each thread of a package in a test.
 pub trait Part: Sync {
-    /// Does it.
+    /// Does the work of this thread.
     fn act<R: Wait>(&self, rt: &R, pkg: &Package<SumUses>, me: Thread<SumUses>) -> Thread<SumUses>
         requires lawful { IsLawful pkg.now.layout }
         requires few { HasFew pkg.now.layout }

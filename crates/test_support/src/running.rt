@@ -1,4 +1,4 @@
-//! A package whose threads do a part, and what it leaves.
+//! Runs a package whose threads do a part, and checks what it leaves.
 ghost use Rattle.std.specs.Prelude.{[], ◌≡◌, replicate, IfOk};
 ghost use Rattle.larch_actions.specs.Layout.{IsLawful};
 ghost use Rattle.larch_actions.specs.declared.event.Version.TheVariants.{One};
@@ -16,14 +16,14 @@ use std::test::Fail;
 use std::thread::Threads;
 use sum_uses::SumUses;
 
-/// The numbers behind the mutexes at first.
+/// The first numbers of the mutexes: zeros.
 fn zeros(alloc: Global, count: u32) -> Result<Vec<u64>, AllocError>
     ensures { IfOk result (λ v. v.items ≡ replicate count 0) }
 {
     vec![in alloc; 0; count as usize]
 }
 
-/// What a package leaves after its threads have done the part, all at once.
+/// Runs the part in each thread, all at once, and returns the closed package.
 pub fn run<R: Threads + Wait + Sync, P: Part>(
     rt: &R,
     alloc: Global,
@@ -52,7 +52,8 @@ pub fn run<R: Threads + Wait + Sync, P: Part>(
     close_package(pkg, threads)
 }
 
-/// Runs the part, and sees that it leaves these numbers behind the mutexes, and a trace of so many events or none.
+/// Runs the part, and checks that the mutexes are left with these numbers, and the package with a
+/// trace of `events` events or none.
 pub fn leaves<R: Threads + Wait + Sync, P: Part>(
     rt: &R,
     alloc: Global,
@@ -71,7 +72,7 @@ pub fn leaves<R: Threads + Wait + Sync, P: Part>(
     seen
 }
 
-/// Runs the part, and sees that it leaves a trace of these events.
+/// Runs the part, and checks that it leaves a trace of these events.
 pub fn plays<R: Threads + Wait + Sync, P: Part>(
     rt: &R,
     alloc: Global,

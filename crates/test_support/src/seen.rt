@@ -1,9 +1,9 @@
-//! What a test sees of what a package leaves.
+//! Checks of what a package leaves.
 use nub::{Action, Closed, Event, ThreadId};
 use std::test::Fail;
 use sum_uses::SumUses;
 
-/// An action of the thread.
+/// Returns the event of this action by the thread.
 pub fn event(thread: u32, action: Action) -> Event {
     Event {
         thread: ThreadId(thread),
@@ -11,7 +11,8 @@ pub fn event(thread: u32, action: Action) -> Event {
     }
 }
 
-/// Sees that these numbers are as expected. Tests compare them here, beside nothing else that is alive, which takes the proof far less.
+/// Checks that these numbers are as expected. Tests compare them here, where nothing else is alive,
+/// so that the proof takes far less time.
 pub fn has_numbers(found: &[u64], expected: &[u64]) -> Result<(), Fail> {
     if found == expected {
         return Ok(());
@@ -19,7 +20,7 @@ pub fn has_numbers(found: &[u64], expected: &[u64]) -> Result<(), Fail> {
     Err(Fail::new(format_args!("{found:?} in place of {expected:?}")))
 }
 
-/// Sees that there are so many events, or no trace.
+/// Checks that there is a trace of this many events, or none.
 fn has_length(closed: &Closed<SumUses>, expected: Option<usize>) -> Result<(), Fail> {
     let length = match closed.trace() {
         Some(events) => Some(events.len()),
@@ -31,7 +32,8 @@ fn has_length(closed: &Closed<SumUses>, expected: Option<usize>) -> Result<(), F
     Err(Fail::new(format_args!("{length:?} events in place of {expected:?}")))
 }
 
-/// Sees that these numbers are behind the mutexes, and that there is a trace of so many events, or none.
+/// Checks that the mutexes have these numbers, and that there is a trace of this many events, or
+/// none.
 pub fn has_left(
     closed: &Closed<SumUses>,
     values: &[u64],
@@ -41,7 +43,7 @@ pub fn has_left(
     has_length(closed, events)
 }
 
-/// Sees that there is a trace of these events.
+/// Checks that there is a trace of these events.
 pub fn has_played(closed: &Closed<SumUses>, expected: &[Event]) -> Result<(), Fail> {
     match closed.trace() {
         Some(events) if events == expected => Ok(()),

@@ -1,4 +1,4 @@
-//! Waiting for a value, adding 1 to it, and waking who waits for the next one.
+//! Waits for a value, adds 1 to it, and wakes the threads that wait for the next one.
 ghost use Rattle.std.specs.Prelude.{◌≡◌, ℕ, ◌<◌, ◌+◌, ◌∷◌, ◌++◌, List, Some, true};
 ghost use Rattle.larch_actions.specs.declared.event.CondId.{CondId};
 ghost use Rattle.nub.specs.Holding.{IsHolding};
@@ -28,8 +28,8 @@ pub enum Wake {
     All(CondId),
 }
 
-/// Where a thread has its turn: the mutex of the sum, the condition in which it waits, and whether it wakes others after it has given the
-/// mutex back.
+/// Where a thread has its turn: the mutex of the sum, the condition in which the thread waits, and
+/// whether it wakes others after it has released the mutex.
 #[derive(Clone, Copy)]
 pub struct Turn {
     pub mutex: MutexId,
@@ -37,7 +37,7 @@ pub struct Turn {
     pub after: bool,
 }
 
-/// Wakes one, all or none of those who wait in the condition.
+/// Wakes one, all or none of the threads that wait in the condition.
 #[inline]
 fn wake_up<R: Wait>(rt: &R, p: &Package<SumUses>, me: &mut Thread<SumUses>, whom: Wake)
     requires rest { AtRest p.now me.old }
@@ -55,7 +55,7 @@ fn wake_up<R: Wait>(rt: &R, p: &Package<SumUses>, me: &mut Thread<SumUses>, whom
     }
 }
 
-/// Gives the mutex back with this value, and wakes: before or after that.
+/// Releases the mutex with this value, and wakes others before or after that.
 #[inline]
 fn end_turn<R: Wait>(
     rt: &R,
@@ -84,10 +84,12 @@ fn end_turn<R: Wait>(
     }
 }
 
-/// Takes the mutex, waits until the test accepts its value, lets `part` do its part while it has the mutex, adds 1, gives the mutex back,
-/// and wakes whom `part` has named. It answers the value that it accepted.
+/// Acquires the mutex, waits until the test accepts its value, lets `part` look at that value, adds
+/// 1, releases the mutex, and wakes the threads that `part` has named. Returns the value that the
+/// test accepted.
 ///
-/// It waits for ever if no such value comes, or nobody wakes it then. Neither the test nor the part may use the package.
+/// Blocks for ever if no such value comes, or if no thread wakes this one then. Neither the test
+/// nor the part may use the package.
 #[inline]
 pub fn take_turn<F: Fn(u64) -> bool, G: Fn(u64) -> Wake, R: Wait>(
     rt: &R,

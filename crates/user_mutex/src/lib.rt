@@ -1,7 +1,8 @@
-//! Acquire and Release of a mutex, and the value behind it.
+//! Acquire and Release of a mutex, and the value that the mutex protects.
 //!
-//! Promises: each call adds exactly its events to those of its thread, and moves the value. Stands on the lock bit with its queue.
-//! Nothing is said of waiting: not that a thread ever gets the mutex, nor that anyone is served before another.
+//! Promises: each call adds exactly its events to those of its thread, and hands the value over.
+//! Built on the lock bit with its queue. Nothing is promised about waiting: not that a thread ever
+//! gets the mutex, nor that any thread is served before another.
 #![tactic(auto)]
 
 ghost use Rattle.std.specs.Prelude.{◌≡◌, ℕ, ◌<◌, ◌∷◌, [], slice_set, Some, None};
@@ -19,10 +20,11 @@ use larch_actions::{Action, Event, MutexId, ThreadId};
 use nub_rule::{Change, Object, Package, Thread, Uses, put_value, take_value};
 use std::sync::Wait;
 
-/// Takes the mutex, and its value.
+/// Acquires the mutex, and returns the value that it protects.
 ///
-/// It blocks while another thread has the mutex, for ever if that one never gives it back: only a `release` of the mutex ends the wait,
-/// and then any of those who wait may get it, or a thread that came later. Nobody may call it for a mutex that it has itself.
+/// Blocks while another thread holds the mutex, for ever if that thread never releases it. Only a
+/// `release` ends the wait, and then any waiting thread, or one that comes later, may get the
+/// mutex. A thread must not call this for a mutex that it holds.
 ///
 /// ```rust
 /// let got = acquire(rt, pkg, me, m);
@@ -51,10 +53,12 @@ pub fn acquire<U: Uses, R: Wait>(rt: &R, p: &Package<U>, me: &mut Thread<U>, m: 
     take_value(p, me, m)
 }
 
-/// Gives the mutex back, with this value, and makes a thread that waits for it try again. Only the thread that has the mutex may call it.
+/// Releases the mutex with this value, and makes a thread that waits for the mutex try again. Only
+/// the thread that holds the mutex may call this.
 ///
-/// It doesn't wait for another thread to give anything back. In the package itself it may wait for a moment, as each call may: for the
-/// spin word of the mutex, where a thread stands in the queue, and in a traced package for its turn to number the event.
+/// Waits for no other thread to release anything. Inside the package it may wait for a moment, as
+/// every call may: for the spin word of the mutex if a thread is in its queue, and in a traced
+/// package for the turn to number the event.
 ///
 /// ```rust
 /// release::<SumUses, AddChange, R>(rt, pkg, &mut me, m, add_to(got, 5));
@@ -89,10 +93,12 @@ pub fn release<U: Uses, C: Change<U>, R: Wait>(
     free::<U, C, R>(rt, p, me, Object::Mutex(m), Some(e));
 }
 
-/// Takes the mutex, lets f work on its value, and gives it back.
+/// Acquires the mutex, lets `f` work on its value, releases the mutex, and returns the result of
+/// `f`.
 ///
-/// It blocks as `acquire` does, and for as long as f runs all others wait for the mutex. Nobody may call it for a mutex that it has
-/// itself, so f can't either: it doesn't get the thread.
+/// Blocks as `acquire` does. While `f` runs, all other threads that want the mutex wait. A thread
+/// must not call this for a mutex that it holds; `f` can't call it at all, since it doesn't get the
+/// thread.
 ///
 /// ```rust
 /// locked::<Post, Leaves, (), _, R>(rt, p, me, MAIL, |mail| mail.senders -= 1);
