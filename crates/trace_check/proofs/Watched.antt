@@ -1,5 +1,5 @@
 -- What holds between two events of a check that shows them.
-use Rattle.std.proofs.Common.{◌≡◌, ℕ, ◌+◌, ◌-◌, ◌^◌, ◌<◌, ◌≤◌, List, [], ◌∷◌, ◌++◌, length, refl, ap, sym, subst, ◌∙◌, Some, None, IfSome, arith}
+use Rattle.std.proofs.Common.{◌≡◌, ℕ, ◌+◌, ◌-◌, ◌^◌, ◌<◌, ◌≤◌, List, [], ◌∷◌, ◌++◌, refl, sym, subst, ◌∙◌, Some, None, IfSome}
 use Rattle.std.specs.List.{AllByRecursion}
 use Rattle.std.specs.declared.option.Option.{Option}
 use Rattle.larch_actions.specs.declared.event.Layout.{Layout}
@@ -12,8 +12,8 @@ use Rattle.trace_core.specs.declared.intake.TextFault.{TextFault}
 use Rattle.trace_core.specs.declared.intake.TextFault.TheVariants as fault
 use Rattle.trace_core.specs.Standing.{Standing}
 use Rattle.trace_core.specs.Steps.{TakesHead, TakesEvent, TakesEnd}
-use Rattle.trace_check.specs.Verdicts.{refusal, IsPrefixText}
-use Rattle.trace_check.specs.Watching.{IsNext, IsReadTo, IsCount, IsFailing, HasSeen, HasStopped}
+use Rattle.trace_check.specs.Verdicts.{refusal}
+use Rattle.trace_check.specs.Watching.{IsNext, Begins, IsReadTo, IsCount, IsFailing, HasSeen, HasStopped}
 use Rattle.trace_check.specs.declared.checker.Summary.{Summary}
 use Rattle.trace_check.specs.declared.checker.Verdict.{Verdict}
 use Rattle.trace_check.specs.declared.checker.Verdict.TheVariants.{Legal, Illegal}
@@ -27,7 +27,7 @@ pub record IsWatching {W : Type 0} (keeps : W → Layout → List Event → W �
 
 -- the events that were read stand at the front of the input, whatever becomes of the rest
 cut_at : {W : Type 0} (keeps : W → Layout → List Event → W → Type 0) (budget : ℕ) (left₀ : Option (List ℕ)) (before now : ℕ) (p : Standing) (m : Moment) (count : ℕ) (w : W) (l : Layout) (w' : W)
-    → (n : IsWatching keeps budget left₀ before p now m count w l w') → IfSome left₀ (λ bytes. (t : IsPrefixText budget bytes) × (t.layout ≡ l) × (t.events ≡ n.under_way.events))
+    → (n : IsWatching keeps budget left₀ before p now m count w l w') → IfSome left₀ (λ bytes. Begins budget bytes l n.under_way.events)
 unfolding prefix_read
 cut_at keeps budget None before now p m count w l w' n = tt
 cut_at keeps budget (Some bytes) before now p m count w l w' n = (prefix_read budget (Some bytes) before now p m count n.under_way bytes refl, sym n.laid, refl)
@@ -50,7 +50,11 @@ illegal_at keeps budget (Some bytes) before now p m count w l w' n p' e why t f 
 pub stopped_at : {W E : Type 0} (keeps : W → Layout → List Event → W → Type 0) (stops : W → Layout → List Event → W → E → Type 0) (budget : ℕ) (left₀ : Option (List ℕ)) (before now : ℕ) (p : Standing) (m : Moment) (count : ℕ) (w : W) (l : Layout) (w' : W) (stop : E)
     → (u : IsUnderWay budget left₀ before p now m count) → l ≡ p.layout → stops w l u.events w' stop → HasStopped stops budget left₀ w w' stop
 stopped_at keeps stops budget left₀ before now p m count w l w' stop u laid s =
-    record { layout = l; events = u.events; stopped = s; read = cut_at (λ _ _ _ _. Unit {0}) budget left₀ before now p m count w l w' (record { under_way = u; laid = laid; kept = tt }) }
+    record { layout = l; events = u.events; stopped = s; front = cut_at (λ _ _ _ _. Unit {0}) budget left₀ before now p m count w l w' (record { under_way = u; laid = laid; kept = tt }) }
+
+nothing : (left : Option (List ℕ)) → IfSome left (λ bytes. Unit {0})
+nothing None = tt
+nothing (Some bytes) = tt
 
 module _ {W : Type 0} (keeps : W → Layout → List Event → W → Type 0) (budget : ℕ) (left₀ : Option (List ℕ)) (before now : ℕ) where
   pub watching_starts : (p p' : Standing) (l : Layout) (m : Moment) (w w' : W) → p.rest ≡ left₀ → p.room ≡ budget → p.lines ≡ 0 → TakesHead p p' l → before ≤ now → m.layout ≡ l → spec_of m ≡ at_first l.version
@@ -110,6 +114,7 @@ module _ {W : Type 0} (keeps : W → Layout → List Event → W → Type 0) (bu
           kept = n.kept;
           counted = subst (IsCount v) (sym u.counted) c;
           fails = f;
+          front = cut_at keeps budget left₀ before now p m count w l w' n;
           read = r;
         }
 
@@ -125,6 +130,6 @@ module _ {W : Type 0} (keeps : W → Layout → List Event → W → Type 0) (bu
     seen_illegal p' e why t f = seen_by (Some e) (Illegal count why) refl (e, refl, subst (λ k. HasNames k e) (sym n.laid) t.names) (illegal_at keeps budget left₀ before now p m count w l w' n p' e why t f)
 
     pub seen_cut : (f : TextFault) → HasSeen keeps budget left₀ w l None (refusal f) w'
-    seen_cut (fault.BadLine k) = seen_by None (refusal (fault.BadLine k)) tt refl (cut_at keeps budget left₀ before now p m count w l w' n)
-    seen_cut fault.TooLong = seen_by None (refusal fault.TooLong) tt refl (cut_at keeps budget left₀ before now p m count w l w' n)
-    seen_cut fault.Read = seen_by None (refusal fault.Read) tt refl (cut_at keeps budget left₀ before now p m count w l w' n)
+    seen_cut (fault.BadLine k) = seen_by None (refusal (fault.BadLine k)) tt refl (nothing left₀)
+    seen_cut fault.TooLong = seen_by None (refusal fault.TooLong) tt refl (nothing left₀)
+    seen_cut fault.Read = seen_by None (refusal fault.Read) tt refl (nothing left₀)

@@ -1,5 +1,5 @@
 -- What is shown of a trace while it is checked.
-use Rattle.std.specs.Prelude.{◌≡◌, ℕ, List, [], ◌∷◌, ◌++◌, length, IfSome, Some, None}
+use Rattle.std.specs.Prelude.{◌≡◌, ℕ, List, length, IfSome, Some, None}
 use Rattle.std.specs.List.{AllByRecursion}
 use Rattle.std.specs.declared.option.Option.{Option}
 use Rattle.larch_actions.specs.declared.event.Layout.{Layout}
@@ -8,7 +8,6 @@ use Rattle.larch_actions.specs.Layout.{IsLawful, HasNames}
 use Rattle.larch_actions.specs.Actions.{Spec, Acts, IsRun}
 use Rattle.trace_check.specs.declared.checker.Verdict.{Verdict}
 use Rattle.trace_check.specs.declared.checker.Verdict.TheVariants.{Legal, Illegal}
-use Rattle.trace_check.specs.declared.checker.Found.{Found}
 use Rattle.trace_core.specs.declared.intake.TextFault.{TextFault}
 use Rattle.trace_check.specs.Verdicts.{refusal, IsPrefixText, IsLegalText, IsIllegalText}
 
@@ -22,13 +21,16 @@ pub record IsNext (l : Layout) (es : List Event) (place : ℕ) (e : Event) : Typ
   pub acts : Acts last e next
   pub counted : place ≡ length es
 
--- The input begins with the head and the lines of exactly these events, of which the verdict speaks: they are all events of a legal trace,
--- those before the one that fails, or whole lines before the input can't be read further.
+-- The input begins with the head and the lines of exactly these events.
+abbrev pub Begins : ℕ → List ℕ → Layout → List Event → Type 0
+Begins budget bytes l es = (t : IsPrefixText budget bytes) × (t.layout ≡ l) × (t.events ≡ es)
+
+-- They are those of which the verdict speaks: all events of a legal trace, or those before the one that fails.
 abbrev pub IsReadTo : ℕ → List ℕ → Layout → List Event → Option Event → Verdict → Type 0
 IsReadTo budget bytes l es failed (Legal s) = (t : IsLegalText budget bytes s) × (t.layout ≡ l) × (t.events ≡ es)
 IsReadTo budget bytes l es failed (Illegal place why) =
     (t : IsIllegalText budget bytes place why) × (t.layout ≡ l) × (t.events ≡ es) × (failed ≡ Some t.event)
-IsReadTo budget bytes l es failed _ = (t : IsPrefixText budget bytes) × (t.layout ≡ l) × (t.events ≡ es)
+IsReadTo budget bytes l es failed _ = Unit {0}
 
 -- the number of events that the verdict tells
 abbrev pub IsCount : Verdict → ℕ → Type 0
@@ -52,6 +54,7 @@ module _ {W : Type 0} (keeps : W → Layout → List Event → W → Type 0) (bu
     pub kept : keeps w l events w'
     pub counted : IsCount v (length events)
     pub fails : IsFailing v l failed
+    pub front : IfSome left (λ bytes. Begins budget bytes l events)
     pub read : IfSome left (λ bytes. IsReadTo budget bytes l events failed v)
 
   -- where the head of the text can't be read, the watcher was shown nothing
@@ -64,4 +67,4 @@ pub record HasStopped {W E : Type 0} (stops : W → Layout → List Event → W 
   pub layout : Layout
   pub events : List Event
   pub stopped : stops w layout events w' stop
-  pub read : IfSome left (λ bytes. (t : IsPrefixText budget bytes) × (t.layout ≡ layout) × (t.events ≡ events))
+  pub front : IfSome left (λ bytes. Begins budget bytes layout events)

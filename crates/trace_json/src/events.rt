@@ -4,48 +4,17 @@ ghost use Rattle.std.specs.Io.KnownBytes.{Appends};
 ghost use Rattle.firefly_outside.specs.Causes.{HasCause, AppendsPrefix};
 ghost use Rattle.larch_actions.specs.Layout.{IsLawful};
 ghost use Rattle.text_output.specs.Sent.{Puts};
-ghost use Rattle.trace_core.specs.declared.reader_state.Phase.TheVariants as phase;
-ghost use Rattle.trace_core.specs.Reader.{standing, input_of};
 ghost use Rattle.trace_check.specs.declared.checker.Verdict.{Verdict};
 ghost use Rattle.trace_check.specs.declared.checker.Verdict.TheVariants as verdict;
-ghost use Rattle.trace_check.specs.Verdicts.{IsJust, refusal};
+ghost use Rattle.trace_check.specs.Verdicts.{IsJust};
 ghost use Rattle.trace_json.specs.Texts.{closing_text, event_text, head_text};
-ghost use Rattle.trace_json.specs.Written.{Answers, IsCutShort, IsWritten};
+ghost use Rattle.trace_json.specs.Written.{Answers, HasFailed, HasWritten, IsCutShort, IsWritten};
 
 use crate::texts::{add_head, add_items};
 use firefly_outside::{Sink, SinkFault, Source};
-use larch_actions::{Event, Layout, State, Totals};
+use larch_actions::{Event, Layout};
 use text_output::{Held, flush, put};
-use trace_check::{Summary, Verdict};
-use trace_core::{EventReader, TextFault};
-
-// The verdict on a text that can't be read.
-fn refused(fault: TextFault) -> Verdict
-    ensures { result ≡ refusal fault }
-{
-    match fault {
-        TextFault::BadLine(line) => Verdict::BadLine(line),
-        TextFault::TooLong => Verdict::TooLong,
-        TextFault::Read => Verdict::ReadFault,
-    }
-}
-
-// The verdict on a legal trace of so many events.
-fn legal(events: u64, totals: &Totals) -> Verdict
-    ensures { result ≡ verdict.Legal (record {
-      events = events;
-      held = totals.now.held;
-      waiting = totals.now.waiting;
-      alerted = totals.now.alerted;
-    }) }
-{
-    Verdict::Legal(Summary {
-        events,
-        held: totals.held,
-        waiting: totals.waiting,
-        alerted: totals.alerted,
-    })
-}
+use trace_check::{Verdict, Watch, check_with};
 
 // Puts what stands before the events.
 fn put_head<O: Sink>(held: &mut Held, layout: &Layout, out: &mut O) -> Result<(), SinkFault>
@@ -81,6 +50,29 @@ fn put_event<O: Sink>(held: &mut Held, place: u64, e: &Event, out: &mut O) -> Re
     let mut buf = [0; 2000];
     let end = add_items(&mut buf, 0, place, e);
     put(held, &buf[..end], out)
+}
+
+// Writes the layout and the events that it is shown, by way of what it holds.
+#[derive(Drop)]
+struct Writing<'a, O: Sink> {
+    held: Held,
+    out: &'a mut O,
+}
+
+impl<'a, O: Sink> Watch for Writing<'a, O> {
+    type Stop = SinkFault;
+
+    ghost keeps = { λ first l es now. HasWritten O.held O.faults first.held.items first.out l es now.held.items now.out };
+
+    ghost stops = { λ first l es now stop. HasFailed O.held O.faults first.held.items first.out l es now.out };
+
+    fn begin(&mut self, layout: &Layout) -> Result<(), SinkFault> {
+        put_head(&mut self.held, layout, self.out)
+    }
+
+    fn see(&mut self, place: u64, e: &Event) -> Result<(), SinkFault> {
+        put_event(&mut self.held, place, e, self.out)
+    }
 }
 
 // Puts the closing, and sends all that is held.
@@ -120,51 +112,30 @@ pub fn write_events<I: Source, O: Sink>(
     ensures told { IfOk result (λ v. v ≢ verdict.ReadFault → I.faults input.new ≡ I.faults input.old) }
     ensures later { I.faults input.old ≤ I.faults input.new }
 {
-    let mut reader = EventReader::new(input, budget);
-    let mut held = Held::new();
-    write_all(&mut reader, &mut held, out)
+    let mut writing = Writing {
+        held: Held::new(),
+        out,
+    };
+    write_all(input, budget, &mut writing)
 }
 
-// Writes what a new reader gives.
+// Checks the input and writes what the check shows, and the closing.
 fn write_all<I: Source, O: Sink>(
-    reader: &mut EventReader<I>,
-    held: &mut Held,
-    out: &mut O,
+    input: &mut I,
+    budget: u64,
+    writing: &mut Writing<O>,
 ) -> Result<Verdict, SinkFault>
-    requires phase { (standing I.left reader.old).phase ≡ phase.Head }
-    requires lines { (standing I.left reader.old).lines ≡ 0 }
-    requires fits { (standing I.left reader.old).room < 2 ^ 64 - 1 }
-    requires empty { held.old.items ≡ [] }
-    ensures answers { Answers (standing I.left reader.old).room (standing I.left reader.old).rest (I.left (input_of reader.new).now)
-        (I.faults (input_of reader.old).now) (I.faults (input_of reader.new).now) (O.held out.old) (O.held out.new)
-        (O.faults out.old) (O.faults out.new) result }
-    ensures same_input { (input_of reader.new).ghost_name ≡ (input_of reader.old).ghost_name }
+    requires budget { budget < 2 ^ 64 - 1 }
+    requires empty { writing.old.held.items ≡ [] }
+    ensures answers { Answers budget (I.left input.old) (I.left input.new) (I.faults input.old) (I.faults input.new)
+        (O.held writing.old.out.now) (O.held writing.new.out.now) (O.faults writing.old.out.now) (O.faults writing.new.out.now) result }
+    ensures same_sink { writing.new.out.ghost_name ≡ writing.old.out.ghost_name }
 {
-    let layout = match reader.head() {
-        Ok(layout) => layout,
-        Err(fault) => return Ok(refused(fault)),
-    };
-    let mut state = State::new(layout);
-    if let Err(fault) = put_head(held, &layout, out) {
-        return Err(fault);
-    }
-    let mut place = 0;
-    loop {
-        match reader.next_event() {
-            Ok(Some(event)) => match state.apply(&event) {
-                Ok(()) => {
-                    if let Err(fault) = put_event(held, place, &event, out) {
-                        return Err(fault);
-                    }
-                    place += 1;
-                }
-                Err(why) => return close(held, Verdict::Illegal { place, why }, out),
-            },
-            Ok(None) => {
-                let totals = state.summary();
-                return close(held, legal(place, &totals), out);
-            }
-            Err(fault) => return close(held, refused(fault), out),
-        }
+    match check_with(input, budget, writing) {
+        Ok(found) => match found.layout {
+            Some(_) => close(&mut writing.held, found.verdict, writing.out),
+            None => Ok(found.verdict),
+        },
+        Err(fault) => Err(fault),
     }
 }
