@@ -94,11 +94,12 @@ static int note_module(struct dl_phdr_info *info, size_t size, void *of) {
     (void)size;
     for (int i = 0; i < info->dlpi_phnum && *name == '/'; i++) {
         const ElfW(Phdr) *part = &info->dlpi_phdr[i];
-        if (part->p_type != PT_LOAD || !(part->p_flags & PF_X) || text->n + 400 > text->room) continue;
+        int is_code = part->p_flags & PF_X;
+        if (part->p_type != PT_LOAD || !(part->p_flags & (PF_X | PF_W)) || text->n + 400 > text->room) continue;
         uint64_t begin = info->dlpi_addr + part->p_vaddr, end = begin + part->p_memsz;
-        if (text->segments < 512) segments[text->segments].begin = begin, segments[text->segments++].end = end;
-        text->n += (size_t)snprintf(text->at + text->n, 400, "%llx %llx %llx %.300s\n", (unsigned long long)info->dlpi_addr,
-                                    (unsigned long long)begin, (unsigned long long)end, name);
+        if (is_code && text->segments < 512) segments[text->segments].begin = begin, segments[text->segments++].end = end;
+        text->n += (size_t)snprintf(text->at + text->n, 400, "%llx %llx %llx %c %.300s\n", (unsigned long long)info->dlpi_addr,
+                                    (unsigned long long)begin, (unsigned long long)end, is_code ? 'x' : '-', name);
     }
     return 0;
 }
