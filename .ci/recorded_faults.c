@@ -201,8 +201,8 @@ static void two_mutexes(void) {
     usleep(200000), pthread_cond_broadcast(&c), pthread_join(t, NULL), pthread_join(u, NULL);
 }
 
-static void *posts_twice(void *of) { return sem_wait(&s), usleep(1000), sem_post(&s), sem_post(&s), of; }
-static void posted_twice(void) { sem_init(&s, 0, 1), at_once(posts_twice, posts_twice); }
+static void *posts_twice(void *of) { return sem_wait(&s), number++, usleep(1000), sem_post(&s), sem_post(&s), of; }
+static void posted_twice(void) { sem_init(&s, 0, 1), at_once(posts_twice, posts_twice), at_once(posts_twice, posts_twice); }
 
 static void *races(void *of) {
     for (int i = 0; i < 1000; i++) (*(volatile int *)&number)++;

@@ -1,7 +1,7 @@
 /* record [--json] [--calls] OUT PROGRAM [ARGUMENTS..] | record --convert FOLDER [OUT]: runs a program with the library loaded before the C library's,
  * and converts the record of each of its processes.
  *
- * INT, TERM and HUP go on to the program. Where it hasn't ended some seconds later it is killed; what was recorded is converted all the same. */
+ * INT, TERM, HUP and QUIT go on to the program. Where it hasn't ended some seconds later it is killed; what was recorded is converted all the same. */
 #define _GNU_SOURCE
 #include "convert.h"
 #include <dirent.h>
@@ -53,7 +53,7 @@ static void keep_records(int signal, siginfo_t *info, void *context) {
 }
 
 static void take_signals(void (*handler)(int, siginfo_t *, void *)) {
-    static const int all[] = { SIGINT, SIGTERM, SIGHUP, SIGALRM };
+    static const int all[] = { SIGINT, SIGTERM, SIGHUP, SIGQUIT, SIGALRM };
     struct sigaction action = { .sa_flags = SA_SIGINFO }, old;
     action.sa_sigaction = handler;
     for (size_t i = 0; i < sizeof all / sizeof *all; i++)

@@ -158,7 +158,7 @@ static void say_left(const struct ends *s) {
         for (int64_t i = 0; s->f->objects.at[other].ended && i < s->o->held[other].now.n && said < 5; i++, said++) {
             describe(s->p, s->f, s->o->held[other].now.at[i].object, what, sizeof what);
             name_thread(s, other, thread, sizeof thread);
-            say(s->text, "  FAULT: %s ended and holds still: %s\n", thread, what);
+            say(s->text, "  NOTE: %s ended and holds still: %s\n", thread, what);
         }
 }
 
