@@ -162,6 +162,7 @@ static void busy(void) {
         pthread_t t;
         pthread_create(&t, NULL, busy_body, NULL);
     }
+    while (!*(volatile int *)&number) nap(100);
     nap(3000);
 }
 static void quick_end(void) {

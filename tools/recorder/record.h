@@ -12,7 +12,7 @@
 #define PAGE 4096ull
 
 /* In place of a chunk's thread. */
-#define MODULES UINT32_MAX      /* the contents are a text: bias, begin, end and file of each executable segment, a line each */
+#define MODULES UINT32_MAX      /* the contents are a text: bias, begin, end, x or - and file of each segment, a line each */
 #define PLACES (UINT32_MAX - 1) /* the contents are places, whose first number is in left_out[0] */
 
 /* Kinds of calls that are left out of traces, and counted; of tries those that got nothing. */

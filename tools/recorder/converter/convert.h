@@ -60,8 +60,10 @@ void name_address(const string *modules, uint64_t address, bool is_call, char *t
 /* The frames of a place, as far as they are known. */
 void name_place(const struct process *p, uint32_t place, char *text, size_t size);
 bool is_code(const string *modules, uint64_t address);
+/* " NAME+0xOFFSET" of a variable, or nothing. */
+void name_variable(const string *modules, uint64_t address, char *text, size_t size);
 /* symbols.c */
-const char *find_symbol(const char *path, uint64_t address, uint64_t *begin);
+const char *find_symbol(const char *path, uint64_t address, bool is_variable, uint64_t *begin);
 const char *readable(const char *symbol);
 
 /* ---- signals.c: where signals take effect ---- */
@@ -108,15 +110,17 @@ struct event { enum action action; int thread, a, b; int64_t entry; };
 struct also { int64_t event; int thread; };
 struct two_mutexes { int condition, first, second; int64_t entry; };
 struct freed { int object; int64_t entry; };
+struct refused { int part; int64_t place, event; };
 struct found {
     LIST(struct object) objects; /* the threads first, then the system, which stands for the clock and for what is not recorded */
     LIST(struct event) events;
     LIST(struct also) also; /* further threads that a signal takes, by its event */
     LIST(struct two_mutexes) two;                     /* conditions whose waits are with two mutexes at once */
+    LIST(struct refused) strange;                     /* releases and waits without the mutex, one of each part: a checker refuses it there */
     LIST(struct freed) freed; /* mutexes whose memory was given back while a thread had them */
     int system;
     int *in_condition; /* of each thread: the condition that it is in at the end, or -1 */
-    int64_t unexplained, from_outside, several, renewed, nobody, signals, timeouts, cancelled, recursive, refused, doubtful, robust, unseen, unposted;
+    int64_t unexplained, from_outside, several, renewed, nobody, signals, timeouts, cancelled, recursive, refused, doubtful, robust, unseen, unreleased, unposted;
     bool is_ended; /* in an orderly way */
     const char *ends_early;
 };

@@ -1,7 +1,7 @@
 /* record [--json] [--calls] OUT PROGRAM [ARGUMENTS..] | record --convert FOLDER [OUT]: runs a program with the library loaded before the C library's,
  * and converts the record of each of its processes.
  *
- * INT, TERM and HUP go on to the program. Where it hasn't ended some seconds later it is killed; what was recorded is converted all the same. */
+ * INT, TERM, HUP and QUIT go on to the program. Where it hasn't ended some seconds later it is killed; what was recorded is converted all the same. */
 #define _GNU_SOURCE
 #include "convert.h"
 #include <dirent.h>
@@ -19,7 +19,7 @@
 #define SYSTEM_STANDS 123
 #define PATIENCE 5 /* seconds from a signal to the end of the program */
 
-struct run { char folder[4200], out[4200]; long main; int status; struct wishes wishes; };
+struct run { char folder[4200], out[4200]; long main; int status; bool keeps_records; struct wishes wishes; };
 
 static int fail(const char *form, const char *of) {
     fprintf(stderr, "record: ");
@@ -31,13 +31,13 @@ static int fail(const char *form, const char *of) {
 /* ---- the program ---- */
 
 static volatile pid_t child;
-static volatile sig_atomic_t signals_got;
+static volatile sig_atomic_t signals_got, was_killed;
 
 /* A signal from the terminal comes to the program by itself, since it is of the same group. */
 static void pass_on(int signal, siginfo_t *info, void *context) {
     (void)context;
     pid_t to = child;
-    if (to > 0 && signal == SIGALRM) kill(to, SIGKILL);
+    if (to > 0 && signal == SIGALRM) was_killed = 1, kill(to, SIGKILL);
     else if (to > 0) {
         if (info->si_code <= 0) kill(to, signal);
         if (signals_got++ == 0) alarm(PATIENCE);
@@ -53,7 +53,7 @@ static void keep_records(int signal, siginfo_t *info, void *context) {
 }
 
 static void take_signals(void (*handler)(int, siginfo_t *, void *)) {
-    static const int all[] = { SIGINT, SIGTERM, SIGHUP, SIGALRM };
+    static const int all[] = { SIGINT, SIGTERM, SIGHUP, SIGQUIT, SIGALRM };
     struct sigaction action = { .sa_flags = SA_SIGINFO }, old;
     action.sa_sigaction = handler;
     for (size_t i = 0; i < sizeof all / sizeof *all; i++)
@@ -114,6 +114,7 @@ static int run_program(struct run *run, const char *library, char **program) {
     while (waitpid(child, &status, 0) < 0 && errno == EINTR) {}
     alarm(0);
     child = 0;
+    if (was_killed) fprintf(stderr, "record: the program was killed, since it went on for %d seconds after the signal\n", PATIENCE);
     run->status = WIFSIGNALED(status) ? 128 + WTERMSIG(status) : WEXITSTATUS(status);
     return 0;
 }
@@ -248,7 +249,7 @@ static int finish(struct run *run, const char *program) {
     convert_all(run, all, &t);
     if (!t.found && !t.lost) fprintf(stderr, "record: nothing was recorded: %s\n", why_nothing(program, all));
     if (t.lost) fprintf(stderr, "record: the records stay in %s: tools/record --convert %s converts them\n", run->folder, run->folder);
-    else remove_folder(run, all);
+    else if (!run->keeps_records) remove_folder(run, all);
     if (run->status) return run->status;
     return t.lost ? CANT_RECORD : !t.found ? NO_CALL : t.early ? EARLY : t.unexplained ? SYSTEM_STANDS : 0;
 }
@@ -283,6 +284,7 @@ static int convert_folder(char **words, struct run *run) {
     if (words[1]) absolute(words[1], run->out, sizeof run->out);
     if (!find_records(run).n) return fail("there are no records in %s", run->folder);
     remove_old(run->out);
+    run->keeps_records = true; /* the program may run still */
     return finish(run, "");
 }
 

@@ -10,6 +10,7 @@ struct ends {
     const struct found *f;
     const struct orders *o;
     int *blocked; /* of each thread: its blocked call, from 1; 0: none */
+    bool *said;   /* and whether it stands in a deadlock */
     string *text;
 };
 
@@ -100,11 +101,13 @@ static void say_deadlocks(const struct ends *s, int *state) {
         if (state[thread] == 0 && s->blocked[thread] && search(s, thread, state, &way)) {
             int64_t begin = 0;
             while (way.at[begin] != way.at[way.n - 1]) begin++;
-            say(s->text, "  DEADLOCK: %lld threads wait for each other:\n", (long long)(way.n - 1 - begin));
+            if (way.n - 1 - begin == 1) say(s->text, "  DEADLOCK: a thread waits for itself:\n");
+            else say(s->text, "  DEADLOCK: %lld threads wait for each other:\n", (long long)(way.n - 1 - begin));
             for (int64_t i = begin; i < way.n - 1; i++) {
                 const struct blocked *b = &s->o->blocked.at[s->blocked[way.at[i]] - 1];
                 say_wait(s, b);
                 say_holders(s, b);
+                s->said[way.at[i]] = true;
             }
         }
         for (int64_t i = 0; i < way.n; i++) state[way.at[i]] = 2;
@@ -129,10 +132,14 @@ static void say_in_condition(const struct ends *s, int thread, int64_t wait) {
 
 static void say_waits(const struct ends *s, const int64_t *wait) {
     int64_t n = 0, said = 0;
-    for (int thread = 0; thread < s->f->system; thread++) n += s->blocked[thread] || wait[thread] >= 0;
-    if (n) say(s->text, "  at the end %lld threads wait:\n", (long long)n);
+    bool others = false;
+    for (int thread = 0; thread < s->f->system; thread++) {
+        n += !s->said[thread] && (s->blocked[thread] || wait[thread] >= 0);
+        others |= s->said[thread];
+    }
+    if (n) say(s->text, "  at the end %lld %sthreads wait:\n", (long long)n, others ? "more " : "");
     for (int thread = 0; thread < s->f->system && said < MOST_SAID; thread++) {
-        if (!s->blocked[thread] && wait[thread] < 0) continue;
+        if (s->said[thread] || (!s->blocked[thread] && wait[thread] < 0)) continue;
         said++;
         if (!s->blocked[thread]) say_in_condition(s, thread, wait[thread]);
         else {
@@ -151,13 +158,13 @@ static void say_left(const struct ends *s) {
         for (int64_t i = 0; s->f->objects.at[other].ended && i < s->o->held[other].now.n && said < 5; i++, said++) {
             describe(s->p, s->f, s->o->held[other].now.at[i].object, what, sizeof what);
             name_thread(s, other, thread, sizeof thread);
-            say(s->text, "  FAULT: %s ended and holds still: %s\n", thread, what);
+            say(s->text, "  NOTE: %s ended and holds still: %s\n", thread, what);
         }
 }
 
 void say_ends(const struct process *p, struct found *f, const struct orders *o, string *text) {
     size_t threads = (size_t)f->system + 1;
-    struct ends s = { p, f, o, clean(threads, sizeof(int)), text };
+    struct ends s = { p, f, o, clean(threads, sizeof(int)), clean(threads, sizeof(bool)), text };
     int64_t *wait = clean(threads, sizeof *wait);
     int *state = clean(threads, sizeof *state);
     for (size_t k = 0; k < threads; k++) wait[k] = -1;
@@ -169,5 +176,5 @@ void say_ends(const struct process *p, struct found *f, const struct orders *o, 
     say_deadlocks(&s, state);
     say_waits(&s, wait);
     say_left(&s);
-    free(s.blocked), free(wait), free(state);
+    free(s.blocked), free(s.said), free(wait), free(state);
 }

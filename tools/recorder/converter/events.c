@@ -148,7 +148,7 @@ static void back_now(struct making *s, const struct entry *e) {
     const struct entry *begin = &s->p->entries.at[e->mate];
     bool alertable = s->waits[e->thread] == 2;
     s->waits[e->thread] = 0;
-    if (e->r.b == EOWNERDEAD && s->owner[e->a] >= 0) add(s, RELEASE, s->owner[e->a], e->a, -1);
+    if (s->owner[e->a] >= 0) add(s, RELEASE, s->owner[e->a], e->a, -1); /* it ended with it, or how it gave it was not recorded */
     if (raises(e)) {
         int64_t i = in_condition(&s->conditions[e->b], e->thread);
         if (i >= 0) take_out(&s->conditions[e->b], i);
@@ -213,7 +213,8 @@ static void event_of(struct making *s, const struct entry *e) {
         break;
     case UNLOCK:
         take_unseen(s, e);
-        add(s, RELEASE, thread, e->a, -1);
+        /* what a signal handler got within a wait it may give after that */
+        add(s, RELEASE, s->owner[e->a] == s->f->system ? s->f->system : thread, e->a, -1);
         s->owner[e->a] = -1;
         break;
     case WAIT:

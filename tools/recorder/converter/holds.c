@@ -125,6 +125,7 @@ static void wait_ends(struct pass *s, struct entry *e) {
     e->a = begin->a, e->b = begin->b;
     struct object *m = object(s, e->a);
     if (m->owner >= 0 && e->r.b == EOWNERDEAD) s->f->robust++;
+    else if (m->owner >= 0) s->f->unreleased++;
     m->owner = e->thread, m->depth = s->depth[e->thread];
     note_mutex(s, e, false);
 }

@@ -103,12 +103,13 @@ static void put_thread_name(struct output *x, int thread) {
 }
 
 static void put_entry(struct output *x, const struct entry *e, bool *is_held) {
-    const struct entry *mate = e->mate >= 0 ? &x->p->entries.at[e->mate] : NULL;
+    /* what never ended lasts to the end */
+    const struct entry *mate = &x->p->entries.at[e->mate >= 0 ? e->mate : x->p->entries.n - 1];
     enum operation operation = OPERATION(&e->r);
     bool gets = operation == LOCK || operation == BACK, gives = operation == UNLOCK || operation == WAIT || operation == TIMED_WAIT;
     if (e->dropped) return;
-    if (operation == BLOCKED && mate) put_span(x, waiting[e->r.b % 6], e, mate);
-    else if ((operation == WAIT || operation == TIMED_WAIT) && mate) put_span(x, words[operation], e, mate);
+    if (operation == BLOCKED) put_span(x, waiting[e->r.b % 6], e, mate);
+    else if ((operation == WAIT || operation == TIMED_WAIT)) put_span(x, words[operation], e, mate);
     else if (operation == SIGNAL || operation == BROADCAST || operation == POST || operation == GOT) {
         begin_item(x, words[operation], "i", e, time_of(x, e));
         fputs(",\"s\":\"t\"", x->out);

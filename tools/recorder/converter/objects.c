@@ -86,7 +86,9 @@ void describe(const struct process *p, const struct found *f, int object, char *
     if (object == f->system) snprintf(text, size, "the system: the clock, and what was not recorded");
     else if (o->kind == THREAD) describe_thread(p, o, text, size);
     else {
+        char variable[600];
         name_place(p, o->place, place, sizeof place);
-        snprintf(text, size, "%s 0x%llx, %s in %s", what[o->kind], (unsigned long long)o->address, o->made ? "made" : "first used", place);
+        name_variable(&p->modules, o->address, variable, sizeof variable);
+        snprintf(text, size, "%s 0x%llx%s, %s in %s", what[o->kind], (unsigned long long)o->address, variable, o->made ? "made" : "first used", place);
     }
 }

@@ -3,13 +3,29 @@
 #include <stdlib.h>
 #include <string.h>
 
-struct module { uint64_t bias, begin, end; char path[304]; };
+struct module { uint64_t bias, begin, end; bool is_code; char path[304]; };
 
-static bool module_at(const string *modules, uint64_t address, struct module *m) {
+/* The segments of one process at a time. */
+static LIST(struct module) segments;
+static const string *segments_of;
+
+static void read_segments(const string *modules) {
+    segments.n = 0, segments_of = modules;
     for (const char *line = modules->at; line && *line; line = strchr(line, '\n'), line += line != NULL) {
         unsigned long long bias, begin, end;
-        if (sscanf(line, "%llx %llx %llx %303[^\n]", &bias, &begin, &end, m->path) < 4 || address < begin || address >= end) continue;
-        m->bias = bias, m->begin = begin, m->end = end;
+        char code;
+        struct module m = { 0 };
+        if (sscanf(line, "%llx %llx %llx %c %303[^\n]", &bias, &begin, &end, &code, m.path) < 5) continue;
+        m.bias = bias, m.begin = begin, m.end = end, m.is_code = code == 'x';
+        ADD(segments, m);
+    }
+}
+
+static bool module_at(const string *modules, uint64_t address, struct module *m) {
+    if (segments_of != modules) read_segments(modules);
+    for (int64_t i = 0; i < segments.n; i++) {
+        if (address < segments.at[i].begin || address >= segments.at[i].end) continue;
+        *m = segments.at[i];
         return true;
     }
     return false;
@@ -17,7 +33,7 @@ static bool module_at(const string *modules, uint64_t address, struct module *m)
 
 bool is_code(const string *modules, uint64_t address) {
     struct module m;
-    return address && module_at(modules, address, &m);
+    return address && module_at(modules, address, &m) && m.is_code;
 }
 
 static void look_up(const string *modules, uint64_t address, char *text, size_t size) {
@@ -27,8 +43,18 @@ static void look_up(const string *modules, uint64_t address, char *text, size_t 
         snprintf(text, size, address ? "0x%llx" : "a place that is not known", (unsigned long long)address);
         return;
     }
-    const char *slash = strrchr(m.path, '/') + 1, *name = find_symbol(m.path, address - m.bias, &begin);
+    const char *slash = strrchr(m.path, '/') + 1, *name = find_symbol(m.path, address - m.bias, false, &begin);
     snprintf(text, size, "%s+0x%llx%s%s", slash, (unsigned long long)(address - m.bias), name ? " " : "", name ? readable(name) : "");
+}
+
+void name_variable(const string *modules, uint64_t address, char *text, size_t size) {
+    struct module m;
+    uint64_t begin = 0;
+    const char *name = module_at(modules, address, &m) && !m.is_code ? find_symbol(m.path, address - m.bias, true, &begin) : NULL;
+    uint64_t offset = name ? address - m.bias - begin : 0;
+    if (!name) *text = 0;
+    else if (offset) snprintf(text, size, " %s+0x%llx", readable(name), (unsigned long long)offset);
+    else snprintf(text, size, " %s", readable(name));
 }
 
 /* What was looked up, by addresses; of one process at a time. */

@@ -25,16 +25,23 @@ static void say_counts(const struct process *p, const struct found *f, string *t
 }
 
 /* What was not seen, so that a verdict says nothing of it. */
-static void say_unseen(const struct process *p, const struct found *f, string *text) {
-    SAY(f->events.n == 0, "no call that a trace has was recorded of this process\n");
+static void say_not_seen(const struct process *p, string *text) {
     uint64_t futexes = atomic_load(&p->head.futex_calls), lost = atomic_load(&p->head.lost_processes);
     SAY(futexes, "NOT SEEN: %lld calls of the kernel's futex by locks of the program's own, as those of GLib and of C++20's semaphores are\n", N(futexes));
     SAY(p->modules.n && (strstr(p->modules.at, "/libgomp.so") || strstr(p->modules.at, "/libomp.so")),
         "NOT SEEN: what OpenMP does, whose locks and barriers are its own\n");
     SAY(lost, "NOT SEEN: %lld processes that it forked, which could make no record file: %s\n", N(lost),
         strerror((int)atomic_load(&p->head.lost_error)));
+}
+
+/* What the system stands for. */
+static void say_unexplained(const struct process *p, const struct found *f, string *text) {
+    SAY(f->events.n == 0, "no call that a trace has was recorded of this process\n");
+    say_not_seen(p, text);
     SAY(f->unseen, "UNEXPLAINED: %lld times a thread gave a mutex that it has by the C library, but that no call which was recorded got (a library "
         "loaded with RTLD_DEEPBIND, or a call by dlsym); it acquires it just before\n", N(f->unseen));
+    SAY(f->unreleased, "UNEXPLAINED: %lld times a wait ended while by the record another thread had the mutex, whose unlock was not recorded; it "
+        "releases it just before\n", N(f->unreleased));
     SAY(f->unposted, "UNEXPLAINED: %lld times a semaphore gave a unit that no recorded call posted; a post by the system stands for each\n", N(f->unposted));
     SAY(f->unexplained, "UNEXPLAINED: %lld waits returned that no recorded signal can have ended; a signal by the system stands for each\n",
         N(f->unexplained));
@@ -43,9 +50,19 @@ static void say_unseen(const struct process *p, const struct found *f, string *t
     SAY(f->ends_early != NULL, "ENDS EARLY: %s\n", f->ends_early);
 }
 
-/* What POSIX forbids and the table doesn't. */
-static void say_faults(const struct process *p, const struct found *f, string *text) {
+/* What POSIX forbids. */
+static void say_faults(const struct process *p, const struct found *f, const char *out, string *text) {
     char what[2600], first[2600], second[2600];
+    for (int64_t i = 0; i < f->strange.n && i < 5; i++) {
+        const struct refused *r = &f->strange.at[i];
+        const struct event *e = &f->events.at[r->event];
+        char number[32] = "";
+        if (r->part > 1) snprintf(number, sizeof number, ".part%d", r->part);
+        describe(p, f, e->a, what, sizeof what);
+        name_place(p, e->entry < 0 ? 0 : p->entries.at[e->entry].r.place, first, sizeof first);
+        SAY(true, "FAULT: a thread %s a mutex that it doesn't have, where `check` refuses %s%s.trace: event %lld, in %s\n    %s\n",
+            e->action == RELEASE ? "releases" : "waits with", out, number, N(r->place), first, what);
+    }
     for (int64_t i = 0; i < f->two.n && i < 5; i++) {
         const struct two_mutexes *two = &f->two.at[i];
         describe(p, f, two->condition, what, sizeof what), describe(p, f, two->first, first, sizeof first), describe(p, f, two->second, second, sizeof second);
@@ -73,6 +90,16 @@ static void say_orders(const struct process *p, struct found *f, const char *out
     say_ends(p, f, &orders, text);
 }
 
+/* Calls besides the beginnings and ends of threads. */
+static bool has_calls(const struct process *p, const struct found *f) {
+    if (f->events.n) return true;
+    for (int64_t i = 0; i < p->entries.n; i++) {
+        const struct record *r = &p->entries.at[i].r;
+        if (OPERATION(r) == RW_LOCK || (OPERATION(r) == BLOCKED && r->b != FOR_THREAD)) return true;
+    }
+    return false;
+}
+
 enum outcome convert(const char *folder, const char *name, const char *out, bool even_if_empty, struct wishes wishes) {
     struct process p = { 0 };
     struct found f = { 0 };
@@ -82,7 +109,11 @@ enum outcome convert(const char *folder, const char *name, const char *out, bool
         return NOT_CONVERTED;
     }
     find_events(&p, &f);
-    if (!f.events.n && !f.ends_early && !even_if_empty) return NO_CALLS;
+    if (!f.ends_early && !even_if_empty && !has_calls(&p, &f)) {
+        say_not_seen(&p, &text);
+        if (text.n) fprintf(stderr, "record: process %lld, %s: no call was recorded\n%s", N(p.head.pid), p.head.program, text.at);
+        return NO_CALLS;
+    }
     struct where *where = wishes.json || wishes.calls ? clean((size_t)f.events.n, sizeof *where) : NULL;
     int parts = write_parts(&p, &f, out, where);
     if (parts < 0 || (wishes.json && !write_json(&p, &f, where, out)) || (wishes.calls && !write_calls(&p, &f, where, out))) {
@@ -92,10 +123,10 @@ enum outcome convert(const char *folder, const char *name, const char *out, bool
     say(&text, "record: %s.trace: %lld events of process %lld, %s", out, N(f.events.n), N(p.head.pid), p.head.program);
     say(&text, parts > 1 ? "; %d parts, for its objects or threads are more than a trace has names for\n" : "\n", parts);
     say_counts(&p, &f, &text);
-    say_unseen(&p, &f, &text);
-    say_faults(&p, &f, &text);
+    say_unexplained(&p, &f, &text);
+    say_faults(&p, &f, out, &text);
     say_orders(&p, &f, out, &text);
     say_times(&p, &f, &text);
     fwrite(text.at, 1, (size_t)text.n, stderr);
-    return f.ends_early ? ENDS_EARLY : f.unexplained || f.renewed || f.unseen || f.unposted ? UNEXPLAINED : CONVERTED;
+    return f.ends_early ? ENDS_EARLY : f.unexplained || f.renewed || f.unseen || f.unreleased || f.unposted ? UNEXPLAINED : CONVERTED;
 }

@@ -1,4 +1,4 @@
-/* The functions of a module, by its file's symbols. */
+/* The functions and variables of a module, by its file's symbols. */
 #define _GNU_SOURCE
 #include "convert.h"
 #include <dlfcn.h>
@@ -11,8 +11,9 @@
 #include <sys/stat.h>
 #include <unistd.h>
 
-struct function { uint64_t begin, end; const char *name; };
-struct symbols { char path[304]; LIST(struct function) functions; };
+struct symbol { uint64_t begin, end; const char *name; };
+typedef LIST(struct symbol) symbols_by_place;
+struct symbols { char path[304]; symbols_by_place functions, variables; };
 static LIST(struct symbols) known;
 
 static void add_section(struct symbols *to, const char *file, size_t size, const ElfW(Shdr) *s, const ElfW(Shdr) *names) {
@@ -21,13 +22,15 @@ static void add_section(struct symbols *to, const char *file, size_t size, const
     for (size_t i = 0; i < s->sh_size / sizeof *symbols; i++) {
         const ElfW(Sym) *it = &symbols[i];
         int type = it->st_info & 15;
-        if ((type != STT_FUNC && type != STT_GNU_IFUNC) || it->st_shndx == SHN_UNDEF || it->st_name >= names->sh_size) continue;
-        ADD(to->functions, (struct function){ it->st_value, it->st_value + (it->st_size ? it->st_size : 1), file + names->sh_offset + it->st_name });
+        if (it->st_shndx == SHN_UNDEF || it->st_name >= names->sh_size) continue;
+        struct symbol new = { it->st_value, it->st_value + (it->st_size ? it->st_size : 1), file + names->sh_offset + it->st_name };
+        if (type == STT_FUNC || type == STT_GNU_IFUNC) ADD(to->functions, new);
+        else if (type == STT_OBJECT) ADD(to->variables, new);
     }
 }
 
 static int by_begin(const void *x, const void *y) {
-    const struct function *a = x, *b = y;
+    const struct symbol *a = x, *b = y;
     return a->begin != b->begin ? (a->begin < b->begin ? -1 : 1) : a->end < b->end ? -1 : a->end > b->end;
 }
 
@@ -41,6 +44,7 @@ static void read_symbols(struct symbols *to, const char *file, size_t size) {
         if ((sections[i].sh_type == SHT_SYMTAB || sections[i].sh_type == SHT_DYNSYM) && sections[i].sh_link < head->e_shnum)
             add_section(to, file, size, &sections[i], &sections[sections[i].sh_link]);
     if (to->functions.n) qsort(to->functions.at, (size_t)to->functions.n, sizeof *to->functions.at, by_begin);
+    if (to->variables.n) qsort(to->variables.at, (size_t)to->variables.n, sizeof *to->variables.at, by_begin);
 }
 
 /* The symbols of a file, which is read once and stays mapped. */
@@ -60,18 +64,19 @@ static const struct symbols *symbols_of(const char *path) {
     return &known.at[known.n - 1];
 }
 
-const char *find_symbol(const char *path, uint64_t address, uint64_t *begin) {
-    const struct symbols *s = symbols_of(path);
-    int64_t low = 0, high = s->functions.n;
+const char *find_symbol(const char *path, uint64_t address, bool is_variable, uint64_t *begin) {
+    const struct symbols *all = symbols_of(path);
+    const symbols_by_place *s = is_variable ? &all->variables : &all->functions;
+    int64_t low = 0, high = s->n;
     while (low < high) {
         int64_t middle = (low + high) / 2;
-        if (s->functions.at[middle].begin <= address) low = middle + 1;
+        if (s->at[middle].begin <= address) low = middle + 1;
         else high = middle;
     }
     for (int64_t i = low - 1; i >= 0 && i >= low - 4; i--)
-        if (address < s->functions.at[i].end) {
-            *begin = s->functions.at[i].begin;
-            return s->functions.at[i].name;
+        if (address < s->at[i].end) {
+            *begin = s->at[i].begin;
+            return s->at[i].name;
         }
     return NULL;
 }

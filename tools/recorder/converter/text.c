@@ -235,8 +235,10 @@ int write_parts(const struct process *p, struct found *f, const char *out, struc
     for (int64_t k = 0; k < f->objects.n; k++) x.use_of[k] = -1;
     for (size_t k = 0; k < threads; k++) x.name[k] = -1;
     for (int k = 0; k < NAMES; k++) x.bearer[k] = -1;
-    for (int part = 0; part < s.parts.n; part++)
+    for (int part = 0; part < s.parts.n; part++) {
         if (!write_part(&x, part, out)) return -1;
+        if (x.legend.refusal.place >= 0) ADD(f->strange, (struct refused){ part + 1, x.legend.refusal.place, x.legend.refusal.event });
+    }
     if (s.ends_early) f->ends_early = s.ends_early;
     if (x.ends_early) f->ends_early = x.ends_early;
     return (int)s.parts.n;

@@ -139,7 +139,8 @@ static int begin_file(const char *forked_from, uint64_t fork_number) {
     atomic_store(&made->next, fork_number);
     memcpy(made->magic, RECORD_MAGIC, sizeof made->magic);
     head = made;
-    put_modules();
+    if (*forked_from) put_modules_again();
+    else put_modules();
     return 0;
 }
 

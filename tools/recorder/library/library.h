@@ -47,6 +47,7 @@ HIDDEN uint32_t place_of(struct site site);
 HIDDEN void forget_places(struct lane *lane);
 HIDDEN void forget_all_places(void);
 HIDDEN void put_modules(void);
+HIDDEN void put_modules_again(void);
 
 /* ---- file.c: the record file of a process ---- */
 

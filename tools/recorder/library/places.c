@@ -94,31 +94,42 @@ static int note_module(struct dl_phdr_info *info, size_t size, void *of) {
     (void)size;
     for (int i = 0; i < info->dlpi_phnum && *name == '/'; i++) {
         const ElfW(Phdr) *part = &info->dlpi_phdr[i];
-        if (part->p_type != PT_LOAD || !(part->p_flags & PF_X) || text->n + 400 > text->room) continue;
+        int is_code = part->p_flags & PF_X;
+        if (part->p_type != PT_LOAD || !(part->p_flags & (PF_X | PF_W)) || text->n + 400 > text->room) continue;
         uint64_t begin = info->dlpi_addr + part->p_vaddr, end = begin + part->p_memsz;
-        if (text->segments < 512) segments[text->segments].begin = begin, segments[text->segments++].end = end;
-        text->n += (size_t)snprintf(text->at + text->n, 400, "%llx %llx %llx %.300s\n", (unsigned long long)info->dlpi_addr,
-                                    (unsigned long long)begin, (unsigned long long)end, name);
+        if (is_code && text->segments < 512) segments[text->segments].begin = begin, segments[text->segments++].end = end;
+        text->n += (size_t)snprintf(text->at + text->n, 400, "%llx %llx %llx %c %.300s\n", (unsigned long long)info->dlpi_addr,
+                                    (unsigned long long)begin, (unsigned long long)end, is_code ? 'x' : '-', name);
     }
     return 0;
 }
 
+static _Atomic int under_way;
+static struct module_text text;
+
+static void put_text(void) {
+    struct chunk *chunk = new_chunk((sizeof(struct chunk) + text.n + PAGE - 1) / PAGE * PAGE, MODULES);
+    if (!chunk) return;
+    memcpy(chunk + 1, text.at, text.n);
+    __atomic_store_n(&chunk->count, (uint32_t)text.n, __ATOMIC_RELEASE);
+    drop_chunk(chunk);
+}
+
 void put_modules(void) {
-    static _Atomic int under_way;
     static char buffer[262144];
-    struct module_text text = { buffer, 0, sizeof buffer, 0 };
     if (!head || atomic_load(&stopped) || atomic_exchange(&under_way, 1)) return;
     unsigned long long now = 0;
+    text = (struct module_text){ buffer, 0, sizeof buffer, 0 };
     dl_iterate_phdr(note_loaded, &now);
     dl_iterate_phdr(note_module, &text);
     atomic_store(&n_segments, text.segments), atomic_store(&loaded, now);
-    struct chunk *chunk = new_chunk((sizeof(struct chunk) + text.n + PAGE - 1) / PAGE * PAGE, MODULES);
-    if (chunk) {
-        memcpy(chunk + 1, buffer, text.n);
-        __atomic_store_n(&chunk->count, (uint32_t)text.n, __ATOMIC_RELEASE);
-        drop_chunk(chunk);
-    }
+    put_text();
     atomic_store(&under_way, 0);
+}
+
+/* A forked process has the same modules. The loader isn't asked again, since another thread may have had its lock. */
+void put_modules_again(void) {
+    if (!atomic_exchange(&under_way, 0)) put_text();
 }
 
 /* A place in no module that is known: where others were loaded since, they are noted. */
