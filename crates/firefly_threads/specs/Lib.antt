@@ -1,5 +1,8 @@
+pub mod Counting
 pub mod Laws
 pub mod Names
+pub mod Traces
+pub mod Tracing
 pub use Rattle.alert_wait.specs.Outcomes
 pub use Rattle.condition.specs.Waits
 pub use Rattle.larch_actions.specs.Layout
