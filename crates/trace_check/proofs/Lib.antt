@@ -5,3 +5,4 @@ pub mod UnderWay
 pub mod Unique
 pub mod Exact
 pub mod Watched
+pub mod OneReading

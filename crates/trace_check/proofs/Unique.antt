@@ -43,7 +43,7 @@ illegal_excludes budget bytes place why i none =
     no_run (at_first i.layout.version) f.0 r.0 i.events i.event why r.1 f.1 f.2
 
 -- a text is its head and the lines of its events, and the rest
-whole_prefix : (l : Layout) (es : List Event) (vs : List MutexValue) → trace_text l es vs ≡ prefix_text l es ++ (end_line (length es) ++ values_text vs)
+pub whole_prefix : (l : Layout) (es : List Event) (vs : List MutexValue) → trace_text l es vs ≡ prefix_text l es ++ (end_line (length es) ++ values_text vs)
 whole_prefix l es vs =
     let z : 0 + length es ≡ length es = omega arith in
     ap (λ t. head_text l ++ t) (rest_text-split 0 es vs ∙ ap (λ n. event_lines 0 es ++ (end_line n ++ values_text vs)) z) ∙ sym (append_assoc (head_text l) (event_lines 0 es) (end_line (length es) ++ values_text vs))
@@ -52,7 +52,7 @@ whole_prefix l es vs =
 legal_text : (budget : ℕ) (bytes : List ℕ) (s : Summary) → (i : IsLegalText budget bytes s) → bytes ≡ prefix_text i.layout i.events ++ (end_line (length i.events) ++ values_text i.values)
 legal_text budget bytes s i = i.text.text ∙ whole_prefix i.layout i.events i.values
 
-end_is_no_event : (l : Layout) (n : ℕ) (tail : List Event) (vs more : List ℕ) → IsLawful l → n + 1 < 2 ^ 64 → AreReadable l tail → 0 < length tail → end_line n ++ vs ≡ event_lines n tail ++ more → ⊥
+pub end_is_no_event : (l : Layout) (n : ℕ) (tail : List Event) (vs more : List ℕ) → IsLawful l → n + 1 < 2 ^ 64 → AreReadable l tail → 0 < length tail → end_line n ++ vs ≡ event_lines n tail ++ more → ⊥
 end_is_no_event l n [] vs more ok fits named some e = omega arith
 end_is_no_event l n (x ∷ tail) vs more ok fits named some e =
     let s = same_line (expect.Events l n) (ok, fits) line.End (line.Event x) vs (event_lines (n + 1) tail ++ more) tt named.0 (e ∙ append_assoc (event_line n x) (event_lines (n + 1) tail) more) in
