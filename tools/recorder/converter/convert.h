@@ -236,6 +236,7 @@ bool write_calls(const struct process *p, const struct found *f, const struct wh
 struct wishes { bool json, calls; };
 enum outcome { CONVERTED = 0, NOT_CONVERTED = 1, NO_CALLS = 2, ENDS_EARLY = 3, UNEXPLAINED = 4 };
 /* Converts one record file, and says on standard error what it found. */
-enum outcome convert(const char *folder, const char *name, const char *out, bool even_if_empty, struct wishes wishes);
+enum need { EVENTS_OR_WAITS, CALLS, NOTHING_NEEDED }; /* without which there is no trace */
+enum outcome convert(const char *folder, const char *name, const char *out, enum need need, struct wishes wishes);
 
 #endif

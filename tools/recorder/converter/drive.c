@@ -149,12 +149,12 @@ static names find_records(const struct run *run) {
 }
 
 /* In a process of its own, so that of the others nothing is lost where one can't be converted. */
-static enum outcome convert_apart(const struct run *run, const char *name, const char *out, bool even_if_empty) {
+static enum outcome convert_apart(const struct run *run, const char *name, const char *out, enum need need) {
     int status = 0;
     fflush(NULL);
     pid_t converter = fork();
     if (converter < 0) return NOT_CONVERTED;
-    if (converter == 0) _exit(convert(run->folder, name, out, even_if_empty, run->wishes));
+    if (converter == 0) _exit(convert(run->folder, name, out, need, run->wishes));
     while (waitpid(converter, &status, 0) < 0 && errno == EINTR) {}
     if (WIFEXITED(status) && WEXITSTATUS(status) <= UNEXPLAINED && WEXITSTATUS(status) != NOT_CONVERTED) return (enum outcome)WEXITSTATUS(status);
     struct file file;
@@ -184,11 +184,11 @@ static void convert_all(const struct run *run, names all, struct totals *t) {
         if (of_main) last_main = i;
         if (of_main && !has_main) snprintf(out, sizeof out, "%s", run->out);
         else snprintf(out, sizeof out, "%s.process%d", run->out, t->found + 1 + !has_main);
-        enum outcome outcome = convert_apart(run, all.at[i], out, false);
+        enum outcome outcome = convert_apart(run, all.at[i], out, of_main ? CALLS : EVENTS_OR_WAITS);
         if (of_main && outcome != NO_CALLS && outcome != NOT_CONVERTED) has_main = true;
         note(t, outcome);
     }
-    if (!has_main && t->found && last_main >= 0) convert_apart(run, all.at[last_main], run->out, true);
+    if (!has_main && t->found && last_main >= 0) convert_apart(run, all.at[last_main], run->out, NOTHING_NEEDED);
 }
 
 static void remove_folder(const struct run *run, names all) {

@@ -91,16 +91,17 @@ static void say_orders(const struct process *p, struct found *f, const char *out
 }
 
 /* Calls besides the beginnings and ends of threads. */
-static bool has_calls(const struct process *p, const struct found *f) {
-    if (f->events.n) return true;
+static bool has_enough(const struct process *p, const struct found *f, enum need need) {
+    if (f->events.n || f->ends_early || need == NOTHING_NEEDED) return true;
     for (int64_t i = 0; i < p->entries.n; i++) {
         const struct record *r = &p->entries.at[i].r;
-        if (OPERATION(r) == RW_LOCK || (OPERATION(r) == BLOCKED && r->b != FOR_THREAD)) return true;
+        if (OPERATION(r) == RW_LOCK && need == CALLS) return true;
+        if (OPERATION(r) == BLOCKED && r->b != FOR_THREAD && (need == CALLS || p->entries.at[i].mate < 0)) return true;
     }
     return false;
 }
 
-enum outcome convert(const char *folder, const char *name, const char *out, bool even_if_empty, struct wishes wishes) {
+enum outcome convert(const char *folder, const char *name, const char *out, enum need need, struct wishes wishes) {
     struct process p = { 0 };
     struct found f = { 0 };
     string text = { 0 };
@@ -109,7 +110,7 @@ enum outcome convert(const char *folder, const char *name, const char *out, bool
         return NOT_CONVERTED;
     }
     find_events(&p, &f);
-    if (!f.ends_early && !even_if_empty && !has_calls(&p, &f)) {
+    if (!has_enough(&p, &f, need)) {
         say_not_seen(&p, &text);
         if (text.n) fprintf(stderr, "record: process %lld, %s: no call was recorded\n%s", N(p.head.pid), p.head.program, text.at);
         return NO_CALLS;
