@@ -77,7 +77,7 @@ static void try_first(void) { in_turn(tried_then_b, b_then_a); }
 static void *a_b(void *of) { return both(&a, &b), of; }
 static void *b_gate(void *of) { return both(&b, &gate), of; }
 static void *gate_a(void *of) { return both(&gate, &a), of; }
-static void circle_of_three(void) { in_turn(a_b, b_gate), in_turn(gate_a, gate_a); }
+static void cycle_of_three(void) { in_turn(a_b, b_gate), in_turn(gate_a, gate_a); }
 
 /* ---- the order of locks: no faults ---- */
 
@@ -108,7 +108,7 @@ static void *a_then_tries_b(void *of) {
 }
 static void try_second(void) { in_turn(a_then_tries_b, b_then_a); }
 
-/* Mutexes that are made and destroyed, before half of them under one and then above it: none of them is in a circle. */
+/* Mutexes that are made and destroyed, before half of them under one and then above it: none of them is in a cycle. */
 static void *short_lived(void *of) {
     pthread_mutex_t *own = &many[(long)of];
     pthread_mutex_init(own, NULL);
@@ -359,7 +359,7 @@ static void own_futex(void) {
 
 #define CASE(f) { #f, f }
 static const struct { const char *name; void (*f)(void); } cases[] = {
-    CASE(inversion), CASE(among_many), CASE(with_rwlock), CASE(try_first), CASE(circle_of_three), CASE(behind_gate), CASE(one_thread), CASE(readers),
+    CASE(inversion), CASE(among_many), CASE(with_rwlock), CASE(try_first), CASE(cycle_of_three), CASE(behind_gate), CASE(one_thread), CASE(readers),
     CASE(try_second), CASE(made_anew), CASE(heap_used_again), CASE(deadlock), CASE(deadlock_unended), CASE(deadlock_rwlock), CASE(deadlock_join),
     CASE(relock), CASE(lost_signal), CASE(left_locked), CASE(no_unit), CASE(stranger), CASE(double_unlock), CASE(destroyed_held), CASE(unheld),
     CASE(freed_held), CASE(two_mutexes), CASE(posted_twice), CASE(race), CASE(counted), CASE(fork_held), CASE(many_forks), CASE(child_only),

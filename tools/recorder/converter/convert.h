@@ -64,7 +64,7 @@ bool is_code(const string *modules, uint64_t address);
 void name_variable(const string *modules, uint64_t address, char *text, size_t size);
 /* symbols.c */
 const char *find_symbol(const char *path, uint64_t address, bool is_variable, uint64_t *begin);
-const char *readable(const char *symbol);
+const char *readable_name(const char *symbol);
 
 /* ---- signals.c: where signals take effect ---- */
 

@@ -53,7 +53,7 @@ static void find_components(struct graph *g) {
 /* ---- what a cycle is ---- */
 
 /* The lock that both examples hold, other than both reading; -1: none. */
-static int common(const struct holdings *a, const struct holdings *b) {
+static int common_lock(const struct holdings *a, const struct holdings *b) {
     for (int64_t i = 0, k = 0; i < a->n && k < b->n;) {
         if (a->at[i].object == b->at[k].object && !(a->at[i].reads && b->at[k].reads)) return a->at[i].object;
         if (a->at[i].object < b->at[k].object) i++;
@@ -80,7 +80,7 @@ static enum sort sort_of(const struct graph *g, const struct cycle *c, int *gate
         for (int64_t k = 0; k < i; k++) {
             const struct witness *a = example(g, c, i), *b = example(g, c, k);
             if (a->thread == b->thread) return ONE_THREAD;
-            int lock = common(a->held, b->held);
+            int lock = common_lock(a->held, b->held);
             if (lock >= 0) worst = UNDER_GATE, *gate = lock;
         }
     for (int64_t i = 0; i < n && n == c->edges.n && worst == CAN_BLOCK; i++) {

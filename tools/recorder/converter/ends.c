@@ -45,9 +45,9 @@ static void find_culprits(const struct ends *s, int thread, numbers *to) {
             }
 }
 
-/* ---- deadlocks: a circle of threads each of which waits for the next ---- */
+/* ---- deadlocks: a cycle of threads each of which waits for the next ---- */
 
-/* Comes from this thread to one that is on the way already; the way from there on is the circle. */
+/* Comes from this thread to one that is on the way already; the way from there on is the cycle. */
 static bool search(const struct ends *s, int thread, int *state, numbers *way) {
     numbers next = { 0 };
     bool found = false;

@@ -76,7 +76,7 @@ static void unlock(struct pass *s, struct entry *e) {
 }
 
 /* POSIX wants that the waits in a condition are with one mutex at a time. */
-static void note_mutex(struct pass *s, const struct entry *e, bool begins) {
+static void note_mutex_of(struct pass *s, const struct entry *e, bool begins) {
     if (s->n_waited_with <= e->b) {
         int64_t n = 2 * (int64_t)e->b + 64;
         s->waited_with = realloc(s->waited_with, (size_t)n * sizeof *s->waited_with);
@@ -111,7 +111,7 @@ static void wait_begins(struct pass *s, struct entry *e) {
     m = object(s, e->a);
     s->depth[e->thread] = m->owner == e->thread ? m->depth : 1;
     m->owner = -1, m->depth = 0;
-    note_mutex(s, e, true);
+    note_mutex_of(s, e, true);
 }
 
 static void wait_ends(struct pass *s, struct entry *e) {
@@ -127,7 +127,7 @@ static void wait_ends(struct pass *s, struct entry *e) {
     if (m->owner >= 0 && e->r.b == EOWNERDEAD) s->f->robust++;
     else if (m->owner >= 0) s->f->unreleased++;
     m->owner = e->thread, m->depth = s->depth[e->thread];
-    note_mutex(s, e, false);
+    note_mutex_of(s, e, false);
 }
 
 static void begin_semaphore(struct pass *s, struct entry *e) {
@@ -147,7 +147,7 @@ static void forget_at(struct pass *s, const struct entry *e, enum kind kind, uin
     renew(s->f, &s->map, kind, address, 0, false);
 }
 
-static void freed(struct pass *s, struct entry *e) {
+static void forget_freed(struct pass *s, struct entry *e) {
     static const enum kind kinds[] = { MUTEX, CONDITION, SEMAPHORE, RWLOCK };
     uint64_t from = ADDRESS(&e->r), to = from + e->r.b;
     if (e->r.b / 8 * 4 < s->map.room) {
@@ -192,7 +192,7 @@ static void pass_over(struct pass *s, struct entry *e) {
         else if (e->r.b == FOR_READ || e->r.b == FOR_WRITE) e->a = object_at(s->f, &s->map, RWLOCK, address, e->r.place);
         else if (e->r.b == FOR_SEMAPHORE) e->a = object_at(s->f, &s->map, SEMAPHORE, address, e->r.place);
         break;
-    case FREED: freed(s, e); break;
+    case FREED: forget_freed(s, e); break;
     case THREAD_BEGIN: {
         struct object *thread = object(s, e->thread);
         thread->function = e->r.b, thread->handle = address, thread->made = true;

@@ -111,10 +111,10 @@ static void say_steps(struct order *x, const struct cycle *c, string *text) {
 
 void say_cycle(const struct process *p, const struct found *f, const struct orders *o, const struct cycle *c, const char *out, int number, string *text) {
     static const char *const words[] = {
-        "threads can stop for ever, each with one of these and waiting for the next",
-        "no fault by itself, since a lock that is only read doesn't exclude; threads can stop where a writer waits between them",
-        "no fault, since all its threads hold one lock more at that time",
-        "no fault, since no two threads make it" };
+        "threads can deadlock, each with one of these locks and waiting for the next",
+        "no fault by itself: two steps only read the same lock, so threads deadlock only if a writer waits between them",
+        "no fault: all its threads hold one further lock at that time",
+        "no fault: one thread alone makes it" };
     char what[2600];
     struct order x = { .p = p, .f = f, .o = o };
     if (number == MOST_SAID + 1) say(text, "  further cycles in the order of locks are left out\n");
@@ -127,7 +127,7 @@ void say_cycle(const struct process *p, const struct found *f, const struct orde
         words[c->sort]);
     if (c->sort == UNDER_GATE && c->gate >= 0) {
         describe(p, f, c->gate, what, sizeof what);
-        say(text, "    that lock: %s\n", what);
+        say(text, "    the further lock: %s\n", what);
     }
     if (c->sort == CAN_BLOCK || c->sort == BY_READING) say_steps(&x, c, text);
     free(x.locks.at), free(x.threads.at), free(x.steps.at);

@@ -145,7 +145,7 @@ void make_parts(struct parts *s, const struct found *f) {
 /* ---- splitting ---- */
 
 /* Objects that have to stand together: a condition, and each mutex of its waits. */
-static int together(struct parts *s, const struct part *p, int *root) {
+static int find_groups(struct parts *s, const struct part *p, int *root) {
     int n = 0;
     for (int64_t i = 0; i < p->objects.n; i++) root[i] = (int)i;
     for (int64_t i = 0; i < p->objects.n; i++) {
@@ -230,7 +230,7 @@ static bool move_condition(struct parts *s, int part) {
 bool split_part(struct parts *s, int part, int most_waits) {
     int64_t n = s->parts.at[part].objects.n;
     if (s->parts.at[part].classes > 1) return false;
-    int *root = clean((size_t)n, sizeof *root), groups = together(s, &s->parts.at[part], root), mutexes = 0;
+    int *root = clean((size_t)n, sizeof *root), groups = find_groups(s, &s->parts.at[part], root), mutexes = 0;
     for (int64_t i = 0; i < n; i++) mutexes += object(s, s->parts.at[part].objects.at[i])->kind == MUTEX;
     bool good = true;
     if (groups > 1) {

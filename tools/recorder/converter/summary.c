@@ -38,7 +38,7 @@ static void say_not_seen(const struct process *p, string *text) {
 static void say_unexplained(const struct process *p, const struct found *f, string *text) {
     SAY(f->events.n == 0, "no call that a trace has was recorded of this process\n");
     say_not_seen(p, text);
-    SAY(f->unseen, "UNEXPLAINED: %lld times a thread gave a mutex that it has by the C library, but that no call which was recorded got (a library "
+    SAY(f->unseen, "UNEXPLAINED: %lld times a thread released a mutex that it has by the C library, though no recorded call got it (a library "
         "loaded with RTLD_DEEPBIND, or a call by dlsym); it acquires it just before\n", N(f->unseen));
     SAY(f->unreleased, "UNEXPLAINED: %lld times a wait ended while by the record another thread had the mutex, whose unlock was not recorded; it "
         "releases it just before\n", N(f->unreleased));

@@ -82,7 +82,7 @@ const char *find_symbol(const char *path, uint64_t address, bool is_variable, ui
 }
 
 /* A C++ name as it is written, where the machine has libstdc++; it is kept by the caller. */
-const char *readable(const char *symbol) {
+const char *readable_name(const char *symbol) {
     static char *(*demangle)(const char *, char *, size_t *, int *);
     static bool asked;
     if (symbol[0] != '_' || symbol[1] != 'Z') return symbol;

@@ -61,7 +61,7 @@ static void put_name(struct text *x, const char *before, int number) {
 
 /* ---- names ---- */
 
-static void used(struct text *x, int object, int kind, int name) {
+static void note_use(struct text *x, int object, int kind, int name) {
     int64_t *k = &x->use_of[object];
     if (*k < 0 || x->legend.uses.at[*k].name != name) {
         *k = x->legend.uses.n;
@@ -142,12 +142,12 @@ static void put_event(struct text *x, int64_t event, enum action action, int thr
         static const char *const letters[] = { "m", "c", "s" };
         int kind = (int)x->f->objects.at[e->a].kind, a = name_in(x->s, e->a, x->part);
         put_name(x, letters[kind], a);
-        used(x, e->a, kind, a);
+        note_use(x, e->a, kind, a);
     }
     if (action >= ENQUEUE && action <= ALERT_RAISE) {
         int b = name_in(x->s, e->b, x->part);
         put_name(x, " c", b);
-        used(x, e->b, CONDITION, b);
+        note_use(x, e->b, CONDITION, b);
     }
     if (action == ALERT_RETURN || action == ALERT_RAISE) put_text(x, action == ALERT_RETURN ? " returns" : " raises");
     if (action == SIGNALS) put_left(x, event);
@@ -176,7 +176,7 @@ static void put_events(struct text *x) {
             x->ends_early = "more threads hold or wait at once than a trace has names for";
             break;
         }
-        used(x, e->thread, THREAD, thread);
+        note_use(x, e->thread, THREAD, thread);
         put_event(x, event, action, thread);
         note_refusal(x, event, action);
         if (x->where && !x->where[event].part) x->where[event] = (struct where){ x->part + 1, x->place };

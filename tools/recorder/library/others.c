@@ -8,7 +8,7 @@
 
 /* ---- read-write locks ---- */
 
-static int got_lock(pthread_rwlock_t *l, int result, uint64_t how, uint32_t place) {
+static int note_rwlock(pthread_rwlock_t *l, int result, uint64_t how, uint32_t place) {
     if (result == 0) note_mutex(l), put(RW_LOCK, l, how, place);
     return result;
 }
@@ -23,7 +23,7 @@ static int got_lock(pthread_rwlock_t *l, int result, uint64_t how, uint32_t plac
             result = REAL(name)(__VA_ARGS__);                                         \
             if (result) put(UNBLOCKED, l, 0, place);                                  \
         }                                                                             \
-        return got_lock(l, result, how, place);                                       \
+        return note_rwlock(l, result, how, place);                                       \
     }
 #define IS_TIME (t->tv_nsec >= 0 && t->tv_nsec < 1000000000)
 #define IS_CLOCK ((clock == CLOCK_REALTIME || clock == CLOCK_MONOTONIC) && IS_TIME)
@@ -39,13 +39,13 @@ GETS(pthread_rwlock_clockwrlock, pthread_rwlock_trywrlock, WRITES | TRIED, FOR_W
 int pthread_rwlock_tryrdlock(pthread_rwlock_t *l) {
     begin();
     uint32_t place = place_of(FROM);
-    return got_lock(l, REAL(pthread_rwlock_tryrdlock)(l), TRIED, place);
+    return note_rwlock(l, REAL(pthread_rwlock_tryrdlock)(l), TRIED, place);
 }
 
 int pthread_rwlock_trywrlock(pthread_rwlock_t *l) {
     begin();
     uint32_t place = place_of(FROM);
-    return got_lock(l, REAL(pthread_rwlock_trywrlock)(l), WRITES | TRIED, place);
+    return note_rwlock(l, REAL(pthread_rwlock_trywrlock)(l), WRITES | TRIED, place);
 }
 
 int pthread_rwlock_unlock(pthread_rwlock_t *l) {
@@ -116,12 +116,12 @@ static struct start announce(void *of) {
     return start;
 }
 
-static void *begun(void *of) {
+static void *run_thread(void *of) {
     struct start start = announce(of);
     return start.function(start.argument);
 }
 
-static int c11_begun(void *of) {
+static int run_c11_thread(void *of) {
     struct start start = announce(of);
     return start.c11_function(start.argument);
 }
@@ -144,7 +144,7 @@ int pthread_create(pthread_t *thread, const pthread_attr_t *a, void *(*function)
     if (!start) return REAL(pthread_create)(thread, a, function, argument);
     *start = (struct start){ .function = function, .argument = argument };
     look_behind(start);
-    int result = REAL(pthread_create)(thread, a, begun, start);
+    int result = REAL(pthread_create)(thread, a, run_thread, start);
     if (result) free(start);
     return result;
 }
@@ -154,7 +154,7 @@ int thrd_create(thrd_t *thread, thrd_start_t function, void *argument) {
     struct start *start = head ? malloc(sizeof *start) : NULL;
     if (!start) return REAL(thrd_create)(thread, function, argument);
     *start = (struct start){ .c11_function = function, .argument = argument };
-    int result = REAL(thrd_create)(thread, c11_begun, start);
+    int result = REAL(thrd_create)(thread, run_c11_thread, start);
     if (result != thrd_success) free(start);
     return result;
 }

@@ -11,6 +11,7 @@
 #include <unwind.h>
 
 #define ENTRIES 128
+#define FAR 32768 /* from the call, in bytes of its stack: where other stacks come to the same place, they are as large */
 struct remembered {
     struct site site;
     int n; /* frames behind the first */
@@ -63,7 +64,7 @@ static _Unwind_Reason_Code step(struct _Unwind_Context *context, void *of) {
         return ++trail->own > 10 ? _URC_END_OF_STACK : _URC_NO_REASON;
     }
     const uint64_t *stands = (const uint64_t *)frame - 1;
-    if (!address || *stands != address) return _URC_END_OF_STACK;
+    if (!address || frame - (uint64_t)to->site.frame > FAR || *stands != address) return _URC_END_OF_STACK;
     to->frames[to->n] = address, to->stands[to->n] = stands;
     return ++to->n == FRAMES - 1 ? _URC_END_OF_STACK : _URC_NO_REASON;
 }
