@@ -1,5 +1,6 @@
-/* Cycles of locks, each got while the one before is held. Those that can't stop the program are told apart: where a lock that all of its threads have
- * at that time lets only one of them there, where one thread alone makes it, or where two of its steps only read the same lock. */
+/* Cycles of locks, each got while the one before is held. Those that can't stop the program are told apart: where a lock that all of its
+ * threads have at that time lets only one of them there, where one thread alone makes it, or where two of its steps only read the same
+ * lock. */
 #include "convert.h"
 #include <stdlib.h>
 #include <string.h>
@@ -17,7 +18,10 @@ struct graph {
 
 /* ---- strongly connected components, without recursion ---- */
 
-struct visit { int object; int64_t next; };
+struct visit {
+    int object;
+    int64_t next;
+};
 
 static void find_components(struct graph *g) {
     int64_t n = g->f->objects.n;
@@ -134,7 +138,7 @@ static bool close_cycle(const struct graph *g, int first, int64_t *by, numbers *
 }
 
 static void take_better(struct cycle *best, struct cycle *new) {
-    if (!best->edges.n || new->sort < best->sort || (new->sort == best->sort && new->edges.n < best->edges.n)) {
+    if (!best->edges.n || new->sort < best->sort || (new->sort == best->sort &&new->edges.n < best->edges.n)) {
         struct cycle old = *best;
         *best = *new, *new = old;
     }

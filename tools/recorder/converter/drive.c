@@ -1,7 +1,8 @@
-/* record [--json] [--calls] OUT PROGRAM [ARGUMENTS..] | record --convert FOLDER [OUT]: runs a program with the library loaded before the C library's,
- * and converts the record of each of its processes.
+/* record [--json] [--calls] OUT PROGRAM [ARGUMENTS..] | record --convert FOLDER [OUT]: runs a program with the library loaded before the C
+ * library's, and converts the record of each of its processes.
  *
- * INT, TERM, HUP and QUIT go on to the program. Where it hasn't ended some seconds later it is killed; what was recorded is converted all the same. */
+ * INT, TERM, HUP and QUIT go on to the program. Where it hasn't ended some seconds later it is killed; what was recorded is converted all
+ * the same. */
 #define _GNU_SOURCE
 #include "convert.h"
 #include <dirent.h>
@@ -19,7 +20,13 @@
 #define SYSTEM_STANDS 123
 #define PATIENCE 5 /* seconds from a signal to the end of the program */
 
-struct run { char folder[4200], out[4200]; long main; int status; bool keeps_records; struct wishes wishes; };
+struct run {
+    char folder[4200], out[4200];
+    long main;
+    int status;
+    bool keeps_records;
+    struct wishes wishes;
+};
 
 static int fail(const char *form, const char *of) {
     fprintf(stderr, "record: ");
@@ -48,7 +55,8 @@ static const char *folder_to_keep;
 static void keep_records(int signal, siginfo_t *info, void *context) {
     static const char words[] = "record: stopped; the records stay in ";
     (void)info, (void)context;
-    if (write(2, words, sizeof words - 1) < 0 || write(2, folder_to_keep, strlen(folder_to_keep)) < 0 || write(2, "\n", 1) < 0) _exit(CANT_RECORD);
+    if (write(2, words, sizeof words - 1) < 0 || write(2, folder_to_keep, strlen(folder_to_keep)) < 0 || write(2, "\n", 1) < 0)
+        _exit(CANT_RECORD);
     _exit(128 + signal);
 }
 
@@ -156,15 +164,20 @@ static enum outcome convert_apart(const struct run *run, const char *name, const
     if (converter < 0) return NOT_CONVERTED;
     if (converter == 0) _exit(convert(run->folder, name, out, need, run->wishes));
     while (waitpid(converter, &status, 0) < 0 && errno == EINTR) {}
-    if (WIFEXITED(status) && WEXITSTATUS(status) <= UNEXPLAINED && WEXITSTATUS(status) != NOT_CONVERTED) return (enum outcome)WEXITSTATUS(status);
+    if (WIFEXITED(status) && WEXITSTATUS(status) <= UNEXPLAINED && WEXITSTATUS(status) != NOT_CONVERTED)
+        return (enum outcome)WEXITSTATUS(status);
     struct file file;
     bool is_readable = open_file(run->folder, name, &file);
-    fprintf(stderr, "record: the record of process %s, %s, is lost: %s %d\n", name + 3, is_readable ? file.head.program : "which can't be read",
-            WIFSIGNALED(status) ? "the converter was ended by signal" : "the converter's status is", WIFSIGNALED(status) ? WTERMSIG(status) : WEXITSTATUS(status));
+    fprintf(stderr, "record: the record of process %s, %s, is lost: %s %d\n", name + 3,
+            is_readable ? file.head.program : "which can't be read",
+            WIFSIGNALED(status) ? "the converter was ended by signal" : "the converter's status is",
+            WIFSIGNALED(status) ? WTERMSIG(status) : WEXITSTATUS(status));
     return NOT_CONVERTED;
 }
 
-struct totals { int found, lost, early, unexplained, empty; };
+struct totals {
+    int found, lost, early, unexplained, empty;
+};
 
 static void note(struct totals *t, enum outcome outcome) {
     t->found += outcome == CONVERTED || outcome == ENDS_EARLY || outcome == UNEXPLAINED;
@@ -174,7 +187,8 @@ static void note(struct totals *t, enum outcome outcome) {
     t->empty += outcome == NO_CALLS;
 }
 
-/* OUT is of the program's own process: of what that ran the first program that made a call. Where none did and other processes did, it is an empty trace. */
+/* OUT is of the program's own process: of what that ran the first program that made a call. Where none did and other processes did, it is
+ * an empty trace. */
 static void convert_all(const struct run *run, names all, struct totals *t) {
     bool has_main = false;
     int64_t last_main = -1;
@@ -232,11 +246,13 @@ static const char *why_nothing(const char *program, names all) {
     static char interpreter[2];
     const char *path = program;
     if (all.n) return "the program made no call of the C library's threads that is recorded";
-    if (stat(path, &info) == 0 && info.st_mode & (S_ISUID | S_ISGID)) return "the system gives the program other rights at its start, and no library is loaded before others then";
+    if (stat(path, &info) == 0 && info.st_mode & (S_ISUID | S_ISGID))
+        return "the system gives the program other rights at its start, and no library is loaded before others then";
     FILE *in = fopen(path, "r");
     size_t n = in ? fread(interpreter, 1, 2, in) : 0;
     if (in) fclose(in);
-    if (n == 2 && memcmp(interpreter, "\177E", 2) == 0) return "the library was not loaded: the program is static, or not for this C library";
+    if (n == 2 && memcmp(interpreter, "\177E", 2) == 0)
+        return "the library was not loaded: the program is static, or not for this C library";
     return "the library was not loaded";
 }
 

@@ -1,6 +1,6 @@
-/* Who has which mutex, and which calls are events. What gets stands at its number, which is from after the call, what gives at its number, from before
- * it. So the times in which a thread has a mutex are as short as they can be, and if any order within the calls' intervals keeps the table, this one
- * does. */
+/* Who has which mutex, and which calls are events. What gets stands at its number, which is from after the call, what gives at its number,
+ * from before it. So the times in which a thread has a mutex are as short as they can be, and if any order within the calls' intervals
+ * keeps the table, this one does. */
 #include "convert.h"
 #include <errno.h>
 #include <stdlib.h>
@@ -13,15 +13,18 @@ struct pass {
     struct process *p;
     struct found *f;
     struct map map;
-    int *depth;                              /* of each thread's wait: how often it had the mutex */
-    struct { int mutex, waits; } *waited_with; /* of each condition: the mutex of the waits in it, and how many */
+    int *depth; /* of each thread's wait: how often it had the mutex */
+    struct {
+        int mutex, waits;
+    } * waited_with; /* of each condition: the mutex of the waits in it, and how many */
     int64_t n_waited_with;
 };
 
 static struct object *object(struct pass *s, int k) { return &s->f->objects.at[k]; }
 
-/* A thread has got a mutex. Of one that it has already only a recursive one can be got again. Where by the record another thread has it, or the same
- * one and it isn't recursive, its memory was set anew (or the lock doesn't exclude, or an unlock wasn't recorded): a new object. */
+/* A thread has got a mutex. Of one that it has already only a recursive one can be got again. Where by the record another thread has it, or
+ * the same one and it isn't recursive, its memory was set anew (or the lock doesn't exclude, or an unlock wasn't recorded): a new object.
+ */
 static void lock(struct pass *s, struct entry *e) {
     uint64_t address = ADDRESS(&e->r);
     e->a = object_at(s->f, &s->map, MUTEX, address, e->r.place);
@@ -42,8 +45,8 @@ static void lock(struct pass *s, struct entry *e) {
     m->owner = e->thread, m->depth = 1;
 }
 
-/* A thread gives a mutex that by the record it doesn't have. False: its last call may have had no effect, so nothing can be said of it. Where the C
- * library knows the thread as the owner, it got the mutex by a call that wasn't recorded. */
+/* A thread gives a mutex that by the record it doesn't have. False: its last call may have had no effect, so nothing can be said of it.
+ * Where the C library knows the thread as the owner, it got the mutex by a call that wasn't recorded. */
 static bool gives_strange(struct pass *s, struct entry *e, struct object *m) {
     if (e->r.b & OWNED) {
         if (m->owner >= 0) { /* and the one who had it gave it back by such a call */

@@ -1,9 +1,14 @@
-/* Names places in the code: the module, the address in it as its file and addr2line count, and the function where the file has its symbol. */
+/* Names places in the code: the module, the address in it as its file and addr2line count, and the function where the file has its symbol.
+ */
 #include "convert.h"
 #include <stdlib.h>
 #include <string.h>
 
-struct module { uint64_t bias, begin, end; bool is_code; char path[304]; };
+struct module {
+    uint64_t bias, begin, end;
+    bool is_code;
+    char path[304];
+};
 
 /* The segments of one process at a time. */
 static LIST(struct module) segments;
@@ -58,7 +63,10 @@ void name_variable(const string *modules, uint64_t address, char *text, size_t s
 }
 
 /* What was looked up, by addresses; of one process at a time. */
-static struct { uint64_t address; char *text; } *kept;
+static struct {
+    uint64_t address;
+    char *text;
+} * kept;
 static size_t room, n_kept;
 static const string *kept_of;
 

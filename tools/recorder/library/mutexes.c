@@ -20,13 +20,13 @@ static int note_lock(pthread_mutex_t *m, int result, uint64_t tried, uint32_t pl
 }
 
 /* `call` waits. */
-#define LOCKS(m, tried, place, call)                                     \
-    int result = REAL(pthread_mutex_trylock)(m);                         \
-    if (result == EBUSY) {                                               \
-        put(BLOCKED, m, FOR_MUTEX, place);                               \
-        result = call;                                                   \
+#define LOCKS(m, tried, place, call) \
+    int result = REAL(pthread_mutex_trylock)(m); \
+    if (result == EBUSY) { \
+        put(BLOCKED, m, FOR_MUTEX, place); \
+        result = call; \
         if (result != 0 && result != EOWNERDEAD) put(UNBLOCKED, m, 0, place); \
-    }                                                                    \
+    } \
     note_lock(m, result, tried, place)
 
 int pthread_mutex_lock(pthread_mutex_t *m) {
@@ -137,15 +137,17 @@ int pthread_cond_destroy(pthread_cond_t *c) {
 
 /* ---- C11's threads: the same objects by other names ---- */
 
-static int of_c11(int result) { return result == thrd_success ? 0 : result == thrd_timedout ? ETIMEDOUT : result == thrd_busy ? EBUSY : EINVAL; }
+static int of_c11(int result) {
+    return result == thrd_success ? 0 : result == thrd_timedout ? ETIMEDOUT : result == thrd_busy ? EBUSY : EINVAL;
+}
 static pthread_mutex_t *mutex_of(mtx_t *m) { return (pthread_mutex_t *)m; }
 static pthread_cond_t *condition_of(cnd_t *c) { return (pthread_cond_t *)c; }
 
 /* `c11` gets what the call itself answers, or success where it wasn't needed. */
-#define LOCKS_C11(m, tried, call)                                                          \
-    uint32_t place = place_of(FROM);                                                       \
-    int c11 = thrd_success;                                                                \
-    LOCKS(mutex_of(m), tried, place, of_c11(c11 = call));                                  \
+#define LOCKS_C11(m, tried, call) \
+    uint32_t place = place_of(FROM); \
+    int c11 = thrd_success; \
+    LOCKS(mutex_of(m), tried, place, of_c11(c11 = call)); \
     return result == 0 ? thrd_success : c11 != thrd_success ? c11 : thrd_error
 
 int mtx_lock(mtx_t *m) {
@@ -187,7 +189,10 @@ int cnd_timedwait(cnd_t *c, mtx_t *m, const struct timespec *t) {
 }
 
 int cnd_signal(cnd_t *c) { begin(); return signals(SIGNAL, condition_of(c), (int (*)(pthread_cond_t *))REAL(cnd_signal), place_of(FROM)); }
-int cnd_broadcast(cnd_t *c) { begin(); return signals(BROADCAST, condition_of(c), (int (*)(pthread_cond_t *))REAL(cnd_broadcast), place_of(FROM)); }
+int cnd_broadcast(cnd_t *c) {
+    begin();
+    return signals(BROADCAST, condition_of(c), (int (*)(pthread_cond_t *))REAL(cnd_broadcast), place_of(FROM));
+}
 int cnd_init(cnd_t *c) { begin(); put(COND_INIT, c, 0, place_of(FROM)); return REAL(cnd_init)(c); }
 void cnd_destroy(cnd_t *c) { begin(); uint32_t place = place_of(FROM); REAL(cnd_destroy)(c); put(COND_GONE, c, 0, place); }
 
@@ -206,14 +211,14 @@ static int take_at_once(sem_t *s, uint32_t place) {
     return 0;
 }
 
-#define TAKES(s, good, call)                                      \
-    begin();                                                      \
-    uint32_t place = place_of(FROM);                              \
-    pthread_testcancel();                                         \
-    if ((good) && take_at_once(s, place)) return 0;               \
-    BLOCKING(s, FOR_SEMAPHORE, place);                            \
-    int result = call;                                            \
-    if (result == 0) blocking.open = 0, put(GOT, s, 0, place);    \
+#define TAKES(s, good, call) \
+    begin(); \
+    uint32_t place = place_of(FROM); \
+    pthread_testcancel(); \
+    if ((good) && take_at_once(s, place)) return 0; \
+    BLOCKING(s, FOR_SEMAPHORE, place); \
+    int result = call; \
+    if (result == 0) blocking.open = 0, put(GOT, s, 0, place); \
     return result
 
 int sem_wait(sem_t *s) { TAKES(s, 1, REAL(sem_wait)(s)); }
