@@ -238,7 +238,8 @@ bool write_calls(const struct process *p, const struct found *f, const struct wh
 struct wishes { bool json, calls; };
 enum outcome { CONVERTED = 0, NOT_CONVERTED = 1, NO_CALLS = 2, ENDS_EARLY = 3, UNEXPLAINED = 4 };
 /* Converts one record file, and says on standard error what it found. */
-enum need { EVENTS_OR_WAITS, CALLS, NOTHING_NEEDED }; /* without which there is no trace */
+/* What a process needs for a trace; of the first nothing is said where it hasn't that. */
+enum need { EVENTS_FIRST, EVENTS, CALLS, NOTHING_NEEDED };
 enum outcome convert(const char *folder, const char *name, const char *out, enum need need, struct wishes wishes);
 
 #endif

@@ -187,22 +187,30 @@ static void note(struct totals *t, enum outcome outcome) {
     t->empty += outcome == NO_CALLS;
 }
 
-/* OUT is of the program's own process: of what that ran the first program that made a call. Where none did and other processes did, it is
- * an empty trace. */
-static void convert_all(const struct run *run, names all, struct totals *t) {
+/* The program's own process: what it ran first that made calls with events, else that made calls, else an empty trace where others made some. */
+static void convert_main(const struct run *run, const names *all, struct totals *t) {
+    int64_t last = -1;
+    for (int64_t i = 0; i < all->n && is_of(all->at[i], run->main); i++) {
+        enum outcome outcome = convert_apart(run, all->at[last = i], run->out, CALLS);
+        note(t, outcome);
+        if (outcome != NO_CALLS) return;
+    }
+    if (last >= 0 && t->found) convert_apart(run, all->at[last], run->out, NOTHING_NEEDED);
+}
+
+/* OUT is of the program's own process, OUT.processK of the others and of what else that process ran. */
+static void convert_all(const struct run *run, const names *all, struct totals *t) {
     bool has_main = false;
-    int64_t last_main = -1;
     char out[4300];
-    for (int64_t i = 0; i < all.n; i++) {
-        bool of_main = is_of(all.at[i], run->main);
-        if (of_main) last_main = i;
+    for (int64_t i = 0; i < all->n; i++) {
+        bool of_main = is_of(all->at[i], run->main);
         if (of_main && !has_main) snprintf(out, sizeof out, "%s", run->out);
         else snprintf(out, sizeof out, "%s.process%d", run->out, t->found + 1 + !has_main);
-        enum outcome outcome = convert_apart(run, all.at[i], out, of_main ? CALLS : EVENTS_OR_WAITS);
-        if (of_main && outcome != NO_CALLS && outcome != NOT_CONVERTED) has_main = true;
+        enum outcome outcome = convert_apart(run, all->at[i], out, of_main && !has_main ? EVENTS_FIRST : EVENTS);
+        if (of_main && outcome != NO_CALLS) has_main = true;
         note(t, outcome);
     }
-    if (!has_main && t->found && last_main >= 0) convert_apart(run, all.at[last_main], run->out, NOTHING_NEEDED);
+    if (!has_main) convert_main(run, all, t);
 }
 
 static void remove_folder(const struct run *run, names all) {
@@ -262,7 +270,7 @@ static int finish(struct run *run, const char *program) {
     folder_to_keep = run->folder;
     take_signals(keep_records);
     find_inheritances(run->folder, all.at, all.n);
-    convert_all(run, all, &t);
+    convert_all(run, &all, &t);
     if (!t.found && !t.lost) fprintf(stderr, "record: nothing was recorded: %s\n", why_nothing(program, all));
     if (t.lost) fprintf(stderr, "record: the records stay in %s: tools/record --convert %s converts them\n", run->folder, run->folder);
     else if (!run->keeps_records) remove_folder(run, all);

@@ -123,7 +123,7 @@ enum outcome convert(const char *folder, const char *name, const char *out, enum
     find_events(&p, &f);
     if (!has_enough(&p, &f, need)) {
         say_not_seen(&p, &text);
-        if (text.n) fprintf(stderr, "record: process %lld, %s: no call was recorded\n%s", N(p.head.pid), p.head.program, text.at);
+        if (text.n && need != EVENTS_FIRST) fprintf(stderr, "record: process %lld, %s: no call was recorded\n%s", N(p.head.pid), p.head.program, text.at);
         return NO_CALLS;
     }
     struct where *where = wishes.json || wishes.calls ? clean((size_t)f.events.n, sizeof *where) : NULL;

@@ -41,7 +41,7 @@ static struct remembered *new_memory(void) {
 void forget_places(struct lane *lane) {
     struct remembered *memory = lane->memory;
     if (!memory) return;
-    if (memory < memories[0] || memory >= memories[MEMORIES]) {
+    if (memory < memories[0] || memory >= memories[0] + MEMORIES * ENTRIES) {
         if (!is_provided()) munmap(memory, sizeof memories[0]);
     } else atomic_store(&taken[(memory - memories[0]) / ENTRIES], 0);
 }
