@@ -24,7 +24,12 @@ static int kept = -1; /* a descriptor of the file, for who gives up the right to
 static struct stat kept_is;
 
 /* Room in the file that is mapped before the program forbids itself system calls. */
-static struct { _Atomic int is_there; char *at; uint64_t size; _Atomic uint64_t used; } provided;
+static struct {
+    _Atomic int is_there;
+    char *at;
+    uint64_t size;
+    _Atomic uint64_t used;
+} provided;
 
 /* From now on records may be missing. */
 void stop(const char *why) {
@@ -57,7 +62,8 @@ static void *reserve(uint64_t size, const char **why) {
     int fd = open_file();
     if (fd < 0) return NULL;
     *why = "the disk is full";
-    void *found = posix_fallocate(fd, (off_t)at, (off_t)size) ? MAP_FAILED : mmap(NULL, size, PROT_READ | PROT_WRITE, MAP_SHARED, fd, (off_t)at);
+    void *found =
+        posix_fallocate(fd, (off_t)at, (off_t)size) ? MAP_FAILED : mmap(NULL, size, PROT_READ | PROT_WRITE, MAP_SHARED, fd, (off_t)at);
     close(fd);
     if (found == MAP_FAILED) return NULL;
     madvise(found, size, MADV_DONTFORK);
@@ -144,8 +150,8 @@ static int begin_file(const char *forked_from, uint64_t fork_number) {
     return 0;
 }
 
-/* In a forked process, which has the one thread that forked: a file of its own. What that thread held it holds still, so nothing can be recorded
- * where its own records were missing already. */
+/* In a forked process, which has the one thread that forked: a file of its own. What that thread held it holds still, so nothing can be
+ * recorded where its own records were missing already. */
 void begin_forked(void) {
     int none = 0, cancel, error;
     char parent[64];

@@ -1,4 +1,5 @@
-/* Memory that is given back with a mutex in it. A std::mutex is made and destroyed without a call, so what has its memory next may be another one. */
+/* Memory that is given back with a mutex in it. A std::mutex is made and destroyed without a call, so what has its memory next may be
+ * another one. */
 #include "library.h"
 
 /* For each 64 bytes of memory, modulo 64 MB: whether a mutex or read-write lock was got there since they were given back. */
@@ -19,8 +20,8 @@ static int was_in(uint64_t from, uint64_t to) {
     return found;
 }
 
-/* Before the calls beneath are known there is no mutex in it. The loader frees memory already then, so they aren't searched for here, and what is
- * freed is lost. */
+/* Before the calls beneath are known there is no mutex in it. The loader frees memory already then, so they aren't searched for here, and
+ * what is freed is lost. */
 void free(void *at) {
     if (!at || atomic_load_explicit(&state, memory_order_acquire) != READY) return;
     if (head) {
