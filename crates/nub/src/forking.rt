@@ -15,11 +15,12 @@ use super::pen::{begin_event, end_event};
 use larch_actions::{Action, Event, ThreadId};
 use nub_rule::{
     Ended, Package, Thread, Unborn, Uses, end_life, fork_life, hand_out, park_for_end, read_life,
-    take_right,
+    take_right, unpark_all,
 };
 use std::sync::Wait;
 
-/// Forks the thread whose right to begin is given. The new thread has seen what the caller has, and has its first share.
+/// Forks the thread whose right to begin is given. The new thread is another than the caller, has seen what the caller has, and has its first
+/// share.
 ///
 /// It always succeeds: what the new thread needs was made when the package opened.
 pub fn fork_thread<U: Uses, R: Wait>(
@@ -30,9 +31,11 @@ pub fn fork_thread<U: Uses, R: Wait>(
 ) -> Result<Thread<U>, Unborn<U>>
     requires rest { AtRest p.now me.old }
     requires of { child.table_id ≡ p.now.table_id }
+    requires named { child.number < p.now.layout.threads }
     ensures forks { is_ok result ≡ true }
     ensures rest { AtRest p.now me.new }
     ensures same { IsSame me.old me.new }
+    ensures apart { child.number ≢ me.old.number }
     ensures event { Adds [] (fork_event me.old.number child.number) me.old me.new }
     ensures held { me.new.held ≡ me.old.held }
     ensures share { me.new.share ≡ me.old.share }
@@ -72,6 +75,9 @@ pub fn end_thread<U: Uses, R: Wait>(rt: &R, p: &Package<U>, mut me: Thread<U>) -
     begin_event(rt, p, &mut me);
     end_life(p, &mut me);
     end_event(p, &mut me, Some(e));
+    // After the word was stored: a thread that wakes up reads it, and would park again if it weren't set yet. And after the pen was given
+    // back, which a joiner needs to read the word.
+    unpark_all(p);
     Ended::of(me)
 }
 
@@ -92,7 +98,7 @@ pub fn join_thread<U: Uses, R: Wait>(rt: &R, p: &Package<U>, me: &mut Thread<U>,
         if try_join(rt, p, me, who) {
             return;
         }
-        // Without the pen, which the other's end may need. An end stores the word first and unparks all then.
+        // Without the pen, which the other's end may need. An end stores the word first, gives the pen back, and unparks all then.
         park_for_end(rt, me);
     }
     unreachable!()
