@@ -1,5 +1,4 @@
 //! What a line says.
-use thiserror::Error;
 
 /// A job.
 #[derive(Clone, Copy, Debug, PartialEq, Eq)]
@@ -8,17 +7,4 @@ pub enum JobLine {
     Sum(u32),
     /// The pool is to stop.
     Stop,
-}
-
-/// Why the lines were not read.
-#[derive(Clone, Copy, Debug, PartialEq, Eq, Error)]
-pub enum JobsFault {
-    #[error("out of memory")]
-    Memory,
-    #[error("bad line {0}")]
-    BadLine(u64),
-    #[error("input too long")]
-    TooLong,
-    #[error("input could not be read")]
-    Read,
 }
