@@ -5,3 +5,4 @@ pub mod IndexRuns
 pub mod Indexed
 pub mod Ran
 pub mod OneIndex
+pub mod Spared
