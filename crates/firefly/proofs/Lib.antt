@@ -6,3 +6,4 @@ pub mod Indexed
 pub mod Ran
 pub mod OneIndex
 pub mod Spared
+pub mod Finding
