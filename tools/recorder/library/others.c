@@ -1,4 +1,4 @@
-/* Read-write locks, which take part in lock orders alone; barriers, spin locks and joins; threads; and calls of the kernel. */
+/* Read-write locks, which take part in lock orders alone; barriers, spin locks and joins; threads; descriptors; and calls of the kernel. */
 #include "library.h"
 #include <dlfcn.h>
 #include <errno.h>
@@ -159,6 +159,31 @@ int thrd_create(thrd_t *thread, thrd_start_t function, void *argument) {
     int result = REAL(thrd_create)(thread, run_c11_thread, start);
     if (result != thrd_success) free(start);
     return result;
+}
+
+/* ---- descriptors: a program that closes all that it doesn't know leaves the record file's open ---- */
+
+static unsigned kept_number(void) { return head && kept_file >= 0 ? (unsigned)kept_file : UINT32_MAX; }
+
+int close(int fd) {
+    begin();
+    return (unsigned)fd == kept_number() ? 0 : REAL(close)(fd);
+}
+
+int close_range(unsigned first, unsigned last, int flags) {
+    begin();
+    unsigned kept = kept_number();
+    if (kept < first || kept > last || kept == UINT32_MAX) return REAL(close_range)(first, last, flags);
+    int below = kept > first ? REAL(close_range)(first, kept - 1, flags) : 0;
+    int above = kept < last ? REAL(close_range)(kept + 1, last, flags) : 0;
+    return below ? below : above;
+}
+
+void closefrom(int first) {
+    begin();
+    unsigned kept = kept_number();
+    if (kept < (unsigned)(first > 0 ? first : 0) || kept == UINT32_MAX) REAL(closefrom)(first);
+    else close_range((unsigned)(first > 0 ? first : 0), UINT32_MAX, 0);
 }
 
 /* ---- calls of the kernel: futexes of others are counted; before a program forbids itself calls, room is reserved ---- */
