@@ -20,6 +20,7 @@ static void say_counts(const struct process *p, const struct found *f, string *t
     SAY(f->from_outside, "waits ended from another process: %lld\n", N(f->from_outside));
     SAY(f->doubtful, "last calls without the mutex, left out since they may have had no effect: %lld\n", N(f->doubtful));
     SAY(p->left_out[LEFT_TRY], "tries and timed locks that got nothing: %lld\n", N(p->left_out[LEFT_TRY]));
+    SAY(f->rwlocks, "read-write locks got, which take part in lock orders, times and waits alone: %lld\n", N(f->rwlocks));
     SAY(p->left_out[LEFT_BARRIER], "waits at barriers, left out: %lld\n", N(p->left_out[LEFT_BARRIER]));
     SAY(p->left_out[LEFT_SPIN], "calls that take spin locks, left out: %lld\n", N(p->left_out[LEFT_SPIN]));
 }
