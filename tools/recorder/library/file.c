@@ -204,6 +204,7 @@ int begin_slowly(void) {
         if (names[i].version) real[i] = dlvsym(RTLD_NEXT, names[i].name, names[i].version);
         if (!real[i]) real[i] = dlsym(RTLD_NEXT, names[i].name);
     }
+    look_at_allocator();
     here = mmap(NULL, PAGE, PROT_READ | PROT_WRITE, MAP_PRIVATE | MAP_ANONYMOUS, -1, 0);
     if ((void *)here != MAP_FAILED && madvise((void *)here, PAGE, MADV_WIPEONFORK) == 0 && pthread_key_create(&key, thread_ended) == 0) {
         atomic_store(here, 1);

@@ -110,6 +110,8 @@ extern HIDDEN void *real[HOW_MANY];
 /* ---- memory.c: memory that is given back with a mutex in it ---- */
 
 HIDDEN void note_mutex(const volatile void *mutex);
+extern HIDDEN int knows_sizes;
+HIDDEN void look_at_allocator(void);
 
 /* A call that has to wait. Where the thread is cancelled in it, that is recorded too. */
 struct blocking { const volatile void *object; uint32_t place; int open; };

@@ -133,7 +133,7 @@ static void look_behind(struct start *start) {
     Dl_info info;
     if (!start->argument || !dladdr((void *)start->function, &info) || !info.dli_fname || !strstr(info.dli_fname, "libstdc++")) return;
     void **object = start->argument, **methods = object[0];
-    size_t words = REAL(malloc_usable_size)(object) / sizeof *object;
+    size_t words = knows_sizes ? REAL(malloc_usable_size)(object) / sizeof *object : 2;
     start->method = methods[2];
     for (size_t i = 1; i < words && i < 8; i++)
         if (dladdr(object[i], &info) && info.dli_fname && !strstr(info.dli_fname, "libstdc++") && object[i] != (void *)methods)
