@@ -33,6 +33,8 @@ static void say_not_seen(const struct process *p, string *text) {
         N(futexes));
     SAY(p->modules.n && (strstr(p->modules.at, "/libgomp.so") || strstr(p->modules.at, "/libomp.so")),
         "NOT SEEN: what OpenMP does, whose locks and barriers are its own\n");
+    uint64_t deep = atomic_load(&p->head.deep_libraries);
+    SAY(deep, "NOT SEEN: calls of %lld libraries that were loaded with RTLD_DEEPBIND\n", N(deep));
     SAY(lost, "NOT SEEN: %lld processes that it forked, which could make no record file: %s\n", N(lost),
         strerror((int)atomic_load(&p->head.lost_error)));
 }

@@ -5,6 +5,7 @@
 #include "../record.h"
 #include <pthread.h>
 #include <semaphore.h>
+#include <dlfcn.h>
 #include <malloc.h>
 #include <stdlib.h>
 #include <threads.h>
@@ -101,7 +102,7 @@ static inline void leave(void) {
     X(pthread_barrier_wait, 0) X(pthread_spin_lock, 0) X(pthread_spin_trylock, 0) X(mtx_lock, 0) \
     X(mtx_unlock, 0) X(mtx_trylock, 0) X(mtx_timedlock, 0) X(mtx_init, 0) X(mtx_destroy, 0) X(cnd_wait, 0) X(cnd_timedwait, 0) X(cnd_signal, 0) \
     X(cnd_broadcast, 0) X(cnd_init, 0) X(cnd_destroy, 0) X(thrd_create, 0) X(thrd_join, 0) X(free, 0) X(malloc_usable_size, 0) X(syscall, 0) \
-    X(prctl, 0) X(close, 0) X(close_range, 0) X(closefrom, 0)
+    X(prctl, 0) X(close, 0) X(close_range, 0) X(closefrom, 0) X(dlopen, 0)
 #define CALL_NUMBER(name, version) R_##name,
 enum { CALLS(CALL_NUMBER) HOW_MANY };
 extern HIDDEN void *real[HOW_MANY];

@@ -186,6 +186,15 @@ void closefrom(int first) {
     else close_range((unsigned)(first > 0 ? first : 0), UINT32_MAX, 0);
 }
 
+/* ---- libraries whose calls don't come here ---- */
+
+/* The C library looks at where it is called from, so the last call has to be a jump, as compilers make it. */
+void *dlopen(const char *file, int mode) {
+    begin();
+    if (mode & RTLD_DEEPBIND && head && atomic_load_explicit(here, memory_order_relaxed) == 1) atomic_fetch_add(&head->deep_libraries, 1);
+    return REAL(dlopen)(file, mode);
+}
+
 /* ---- calls of the kernel: futexes of others are counted; before a program forbids itself calls, room is reserved ---- */
 
 typedef long call_of_kernel(long number, long a, long b, long c, long d, long e, long f);
