@@ -250,6 +250,14 @@ static void other_user(void) {
     child_only();
 }
 
+/* Closes all that it doesn't know, and gives up its rights, as servers do. */
+static void gives_up(void) {
+    closefrom(3);
+    for (int i = 3; i < 1024; i++) close(i);
+    if (getuid() == 0 && setuid(65534)) exit(1);
+    for (int i = 0; i < 20000; i++) lock(&a), unlock(&a);
+}
+
 /* Opens no file from then on, as sandboxed servers do. */
 static void no_files(void) {
     struct sock_filter lines[] = { BPF_STMT(BPF_LD | BPF_W | BPF_ABS, offsetof(struct seccomp_data, nr)),
@@ -363,7 +371,7 @@ static const struct { const char *name; void (*f)(void); } cases[] = {
     CASE(try_second), CASE(made_anew), CASE(heap_used_again), CASE(deadlock), CASE(deadlock_unended), CASE(deadlock_rwlock), CASE(deadlock_join),
     CASE(relock), CASE(lost_signal), CASE(left_locked), CASE(no_unit), CASE(stranger), CASE(double_unlock), CASE(destroyed_held), CASE(unheld),
     CASE(freed_held), CASE(two_mutexes), CASE(posted_twice), CASE(race), CASE(counted), CASE(fork_held), CASE(many_forks), CASE(child_only),
-    CASE(other_user), CASE(no_files), CASE(by_handle), CASE(deep_plugin), CASE(crowd), CASE(own_futex), CASE(kinds), CASE(shares),
+    CASE(other_user), CASE(gives_up), CASE(no_files), CASE(by_handle), CASE(deep_plugin), CASE(crowd), CASE(own_futex), CASE(kinds), CASE(shares),
 };
 
 int main(int argc, char **argv) {

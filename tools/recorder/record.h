@@ -30,6 +30,7 @@ struct head {
     _Atomic uint64_t stop;
     char why[128];
     _Atomic uint64_t futex_calls;    /* by syscall(), which the C library itself doesn't use */
+    _Atomic uint64_t deep_libraries; /* that were loaded with RTLD_DEEPBIND, so that their calls don't come here */
     _Atomic uint64_t lost_processes; /* forked ones that could make no file of their own */
     _Atomic uint64_t lost_error;     /* of the last one */
     /* The next number, in a line of its own. */

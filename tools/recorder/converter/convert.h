@@ -120,7 +120,7 @@ struct found {
     LIST(struct freed) freed; /* mutexes whose memory was given back while a thread had them */
     int system;
     int *in_condition; /* of each thread: the condition that it is in at the end, or -1 */
-    int64_t unexplained, from_outside, several, renewed, nobody, signals, timeouts, cancelled, recursive, refused, doubtful, robust;
+    int64_t unexplained, from_outside, several, renewed, nobody, signals, timeouts, cancelled, recursive, refused, doubtful, robust, rwlocks;
     int64_t unseen, unreleased, unposted;
     bool is_ended; /* in an orderly way */
     const char *ends_early;

@@ -186,7 +186,7 @@ static void pass_over(struct pass *s, struct entry *e) {
     case SEM_GONE: begin_semaphore(s, e); break;
     case GOT:
     case POST: e->a = object_at(s->f, &s->map, SEMAPHORE, address, e->r.place); break;
-    case RW_LOCK:
+    case RW_LOCK: s->f->rwlocks++; /* fall through */
     case RW_UNLOCK: e->a = object_at(s->f, &s->map, RWLOCK, address, e->r.place); break;
     case RW_INIT: renew(s->f, &s->map, RWLOCK, address, e->r.place, true); break;
     case RW_GONE: renew(s->f, &s->map, RWLOCK, address, e->r.place, false); break;

@@ -20,6 +20,7 @@ static void say_counts(const struct process *p, const struct found *f, string *t
     SAY(f->from_outside, "waits ended from another process: %lld\n", N(f->from_outside));
     SAY(f->doubtful, "last calls without the mutex, left out since they may have had no effect: %lld\n", N(f->doubtful));
     SAY(p->left_out[LEFT_TRY], "tries and timed locks that got nothing: %lld\n", N(p->left_out[LEFT_TRY]));
+    SAY(f->rwlocks, "read-write locks got, which take part in lock orders, times and waits alone: %lld\n", N(f->rwlocks));
     SAY(p->left_out[LEFT_BARRIER], "waits at barriers, left out: %lld\n", N(p->left_out[LEFT_BARRIER]));
     SAY(p->left_out[LEFT_SPIN], "calls that take spin locks, left out: %lld\n", N(p->left_out[LEFT_SPIN]));
 }
@@ -32,6 +33,8 @@ static void say_not_seen(const struct process *p, string *text) {
         N(futexes));
     SAY(p->modules.n && (strstr(p->modules.at, "/libgomp.so") || strstr(p->modules.at, "/libomp.so")),
         "NOT SEEN: what OpenMP does, whose locks and barriers are its own\n");
+    uint64_t deep = atomic_load(&p->head.deep_libraries);
+    SAY(deep, "NOT SEEN: calls of %lld libraries that were loaded with RTLD_DEEPBIND\n", N(deep));
     SAY(lost, "NOT SEEN: %lld processes that it forked, which could make no record file: %s\n", N(lost),
         strerror((int)atomic_load(&p->head.lost_error)));
 }

@@ -1,4 +1,4 @@
-/* Read-write locks, which take part in lock orders alone; barriers, spin locks and joins; threads; and calls of the kernel. */
+/* Read-write locks, which take part in lock orders alone; barriers, spin locks and joins; threads; descriptors; and calls of the kernel. */
 #include "library.h"
 #include <dlfcn.h>
 #include <errno.h>
@@ -133,7 +133,7 @@ static void look_behind(struct start *start) {
     Dl_info info;
     if (!start->argument || !dladdr((void *)start->function, &info) || !info.dli_fname || !strstr(info.dli_fname, "libstdc++")) return;
     void **object = start->argument, **methods = object[0];
-    size_t words = REAL(malloc_usable_size)(object) / sizeof *object;
+    size_t words = knows_sizes ? REAL(malloc_usable_size)(object) / sizeof *object : 2;
     start->method = methods[2];
     for (size_t i = 1; i < words && i < 8; i++)
         if (dladdr(object[i], &info) && info.dli_fname && !strstr(info.dli_fname, "libstdc++") && object[i] != (void *)methods)
@@ -159,6 +159,40 @@ int thrd_create(thrd_t *thread, thrd_start_t function, void *argument) {
     int result = REAL(thrd_create)(thread, run_c11_thread, start);
     if (result != thrd_success) free(start);
     return result;
+}
+
+/* ---- descriptors: a program that closes all that it doesn't know leaves the record file's open ---- */
+
+static unsigned kept_number(void) { return head && kept_file >= 0 ? (unsigned)kept_file : UINT32_MAX; }
+
+int close(int fd) {
+    begin();
+    return (unsigned)fd == kept_number() ? 0 : REAL(close)(fd);
+}
+
+int close_range(unsigned first, unsigned last, int flags) {
+    begin();
+    unsigned kept = kept_number();
+    if (kept < first || kept > last || kept == UINT32_MAX) return REAL(close_range)(first, last, flags);
+    int below = kept > first ? REAL(close_range)(first, kept - 1, flags) : 0;
+    int above = kept < last ? REAL(close_range)(kept + 1, last, flags) : 0;
+    return below ? below : above;
+}
+
+void closefrom(int first) {
+    begin();
+    unsigned kept = kept_number();
+    if (kept < (unsigned)(first > 0 ? first : 0) || kept == UINT32_MAX) REAL(closefrom)(first);
+    else close_range((unsigned)(first > 0 ? first : 0), UINT32_MAX, 0);
+}
+
+/* ---- libraries whose calls don't come here ---- */
+
+/* The C library looks at where it is called from, so the last call has to be a jump, as compilers make it. */
+void *dlopen(const char *file, int mode) {
+    begin();
+    if (mode & RTLD_DEEPBIND && head && atomic_load_explicit(here, memory_order_relaxed) == 1) atomic_fetch_add(&head->deep_libraries, 1);
+    return REAL(dlopen)(file, mode);
 }
 
 /* ---- calls of the kernel: futexes of others are counted; before a program forbids itself calls, room is reserved ---- */
