@@ -10,44 +10,46 @@ use Rattle.index_text.specs.declared.fault.IndexFault.{IndexFault}
 use Rattle.index_text.specs.declared.fault.IndexFault.TheVariants as fault
 use Rattle.command_endings.specs.Printing.{Prints}
 use Rattle.index_find.specs.Meaning.{AreMeant}
+use Rattle.command_find.specs.Asking.{Asks}
 use Rattle.command_find.specs.Lines.{lines_of}
 use Rattle.command_find.specs.Find.{Fails, IsTextOf, IsFound, PrintsFound, EndsBy, FindAnswers, SaysFault}
 
-pub ended : (tree : Tree) (input out notes : Change) (status s : Status) → status ≡ s → EndsBy tree input out notes s → EndsBy tree input out notes status
-ended tree input out notes status s e h = subst (λ (x : Status). EndsBy tree input out notes x) (sym e) h
+pub ended : (most : ℕ) (tree : Tree) (input out notes : Change) (status s : Status) → status ≡ s → EndsBy most tree input out notes s → EndsBy most tree input out notes status
+ended most tree input out notes status s e h = subst (λ (x : Status). EndsBy most tree input out notes x) (sym e) h
 
-there : (tree : Tree) (rows : List Row) (paths : List (List ℕ)) (input : Change) → IsTextOf input rows → AreMeant rows tree paths → IsFound tree input (lines_of paths)
-there tree rows paths input read meant = record { rows = rows; paths = paths; read = read; meant = meant; lines = refl }
+there : (most : ℕ) (tree : Tree) (rows : List Row) (paths : List (List ℕ)) (input : Change) → IsTextOf most input rows → AreMeant rows tree paths → IsFound most tree input (lines_of paths)
+there most tree rows paths input read meant = record { rows = rows; paths = paths; read = read; meant = meant; lines = refl }
 
-printed : (tree : Tree) (rows : List Row) (paths : List (List ℕ)) (input out notes : Change) (status : Status) → IsTextOf input rows → AreMeant rows tree paths
-    → Prints (lines_of paths) Done out notes status → EndsBy tree input out notes status
-printed tree rows paths input out notes status read meant (inl h) = ended tree input out notes status Done h.0 (lines_of paths, there tree rows paths input read meant, h.1, h.2)
-printed tree rows paths input out notes status read meant (inr h) = ended tree input out notes status SinkFault h.0 (lines_of paths, there tree rows paths input read meant, h.1, h.2)
+printed : (most : ℕ) (tree : Tree) (rows : List Row) (paths : List (List ℕ)) (input out notes : Change) (status : Status) → IsTextOf most input rows → AreMeant rows tree paths
+    → Prints (lines_of paths) Done out notes status → EndsBy most tree input out notes status
+printed most tree rows paths input out notes status read meant (inl h) = ended most tree input out notes status Done h.0 (lines_of paths, there most tree rows paths input read meant, h.1, h.2)
+printed most tree rows paths input out notes status read meant (inr h) = ended most tree input out notes status SinkFault h.0 (lines_of paths, there most tree rows paths input read meant, h.1, h.2)
 
 -- the index was read
-pub found : (tree : Tree) (rows : List Row) (input out notes : Change) (status : Status) → IsTextOf input rows → PrintsFound tree rows out notes status → EndsBy tree input out notes status
-found tree rows input out notes status read (inl h) = printed tree rows h.0 input out notes status read h.1 h.2
-found tree rows input out notes status read (inr h) = ended tree input out notes status Memory h.0 (h.1, h.2)
+pub found : (most : ℕ) (tree : Tree) (rows : List Row) (input out notes : Change) (status : Status) → IsTextOf most input rows → PrintsFound tree rows out notes status → EndsBy most tree input out notes status
+found most tree rows input out notes status read (inl h) = printed most tree rows h.0 input out notes status read h.1 h.2
+found most tree rows input out notes status read (inr h) = ended most tree input out notes status Memory h.0 (h.1, h.2)
 
 -- the index wasn't read
-pub refused : (tree : Tree) (input out notes : Change) (status : Status) (f : IndexFault) → Fails input f → IsStill out → SaysFault f notes status → EndsBy tree input out notes status
-refused tree input out notes status (fault.BadLine k) why still h = ended tree input out notes status BadText h.0 (k, why, still, h.1)
-refused tree input out notes status fault.TooLong why still h = ended tree input out notes status TooLong h.0 (why, still, h.1)
-refused tree input out notes status fault.Read why still h = ended tree input out notes status ReadFault h.0 (why, still, h.1)
-refused tree input out notes status fault.Memory why still h = ended tree input out notes status Memory h.0 (still, h.1)
+pub refused : (most : ℕ) (tree : Tree) (input out notes : Change) (status : Status) (f : IndexFault) → Fails most input f → IsStill out → SaysFault f notes status → EndsBy most tree input out notes status
+refused most tree input out notes status (fault.BadLine k) why still h = ended most tree input out notes status BadText h.0 (k, why, still, h.1)
+refused most tree input out notes status fault.TooLong why still h = ended most tree input out notes status TooLong h.0 (why, still, h.1)
+refused most tree input out notes status fault.Read why still h = ended most tree input out notes status ReadFault h.0 (why, still, h.1)
+refused most tree input out notes status fault.Memory why still h = ended most tree input out notes status Memory h.0 (still, h.1)
 
 -- the query was read
-pub answered : (tokens : List Token) (tree : Tree) (input out notes : Change) (status : Status) → IsReading tokens tree → EndsBy tree input out notes status → FindAnswers tokens input out notes status
-answered tokens tree input out notes Done reading h = (tree, reading, h)
-answered tokens tree input out notes SinkFault reading h = (tree, reading, h)
-answered tokens tree input out notes BadText reading h = (tree, reading, h)
-answered tokens tree input out notes TooLong reading h = (tree, reading, h)
-answered tokens tree input out notes ReadFault reading h = (tree, reading, h)
-answered tokens tree input out notes Memory reading h = h
-answered tokens tree input out notes Usage reading h = absurd h
-answered tokens tree input out notes Stopped reading h = absurd h
-answered tokens tree input out notes Illegal reading h = absurd h
-answered tokens tree input out notes TooMany reading h = absurd h
+pub answered : (words tokens : List Token) (most : ℕ) (tree : Tree) (input out notes : Change) (status : Status) → Asks words most tokens
+    → IsReading tokens tree → EndsBy most tree input out notes status → FindAnswers words input out notes status
+answered words tokens most tree input out notes Done asks reading h = (most, tokens, tree, asks, reading, h)
+answered words tokens most tree input out notes SinkFault asks reading h = (most, tokens, tree, asks, reading, h)
+answered words tokens most tree input out notes BadText asks reading h = (most, tokens, tree, asks, reading, h)
+answered words tokens most tree input out notes TooLong asks reading h = (most, tokens, tree, asks, reading, h)
+answered words tokens most tree input out notes ReadFault asks reading h = (most, tokens, tree, asks, reading, h)
+answered words tokens most tree input out notes Memory asks reading h = h
+answered words tokens most tree input out notes Usage asks reading h = absurd h
+answered words tokens most tree input out notes Stopped asks reading h = absurd h
+answered words tokens most tree input out notes Illegal asks reading h = absurd h
+answered words tokens most tree input out notes TooMany asks reading h = absurd h
 
-pub answers_so : (tokens : List Token) (input out notes : Change) (status s : Status) → status ≡ s → FindAnswers tokens input out notes s → FindAnswers tokens input out notes status
-answers_so tokens input out notes status s e h = subst (λ (x : Status). FindAnswers tokens input out notes x) (sym e) h
+pub answers_so : (words : List Token) (input out notes : Change) (status s : Status) → status ≡ s → FindAnswers words input out notes s → FindAnswers words input out notes status
+answers_so words input out notes status s e h = subst (λ (x : Status). FindAnswers words input out notes x) (sym e) h

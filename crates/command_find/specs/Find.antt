@@ -6,7 +6,7 @@ use Rattle.trace_core.specs.Intake.{IsShown}
 use Rattle.index_text.specs.declared.fault.IndexFault.{IndexFault}
 use Rattle.index_text.specs.declared.fault.IndexFault.TheVariants as fault
 use Rattle.index_text.specs.Texts.{ReadsAs, IsIndexText}
-use Rattle.index_text.specs.Faults.{budget, HasReason}
+use Rattle.index_text.specs.Faults.{HasReasonIn}
 use Rattle.index_find.specs.Tree.{Tree}
 use Rattle.index_find.specs.Grammar.{Token, Reads, IsReading}
 use Rattle.index_find.specs.Meaning.{AreMeant}
@@ -15,17 +15,18 @@ use Rattle.command_endings.specs.declared.status.Status.TheVariants.{Done, Usage
 use Rattle.command_endings.specs.Changes.{Change, IsStill, Gets, GetsPrefix, Notes}
 use Rattle.command_endings.specs.Messages.{usage_message, input_fault_message, output_fault_message, memory_message, bad_line_message, too_long_message}
 use Rattle.command_endings.specs.Printing.{Prints}
+use Rattle.command_find.specs.Asking.{Asks}
 use Rattle.command_find.specs.Lines.{lines_of}
 
--- the input is the text of these rows and of skipped paths
-abbrev pub IsTextOf : Change → List Row → Type 0
-IsTextOf input rows = (skipped : List (List ℕ)) × IfSome input.old (λ bytes. (length bytes ≤ budget) × ReadsAs bytes rows skipped)
+-- the input is the text of these rows and of skipped paths, and has at most so many bytes
+abbrev pub IsTextOf : ℕ → Change → List Row → Type 0
+IsTextOf most input rows = (skipped : List (List ℕ)) × IfSome input.old (λ bytes. (length bytes ≤ most) × ReadsAs bytes rows skipped)
 
 -- the text has the paths that the tree means in the index that the input is the text of, each on a line
-pub record IsFound (tree : Tree) (input : Change) (text : List ℕ) : Type 0 where
+pub record IsFound (most : ℕ) (tree : Tree) (input : Change) (text : List ℕ) : Type 0 where
   pub rows : List Row
   pub paths : List (List ℕ)
-  pub read : IsTextOf input rows
+  pub read : IsTextOf most input rows
   pub meant : AreMeant rows tree paths
   pub lines : text ≡ lines_of paths
 
@@ -36,8 +37,8 @@ PrintsFound tree rows out notes status =
     ⊎ ((status ≡ Memory) × IsStill out × Notes notes memory_message)
 
 -- why the input can't be read
-abbrev pub Fails : Change → IndexFault → Type 0
-Fails input f = HasReason input.old input.before input.now f
+abbrev pub Fails : ℕ → Change → IndexFault → Type 0
+Fails most input f = HasReasonIn most input.old input.before input.now f
 
 -- the status and the message of each reason
 abbrev pub SaysFault : IndexFault → Change → Status → Type 0
@@ -47,38 +48,40 @@ SaysFault fault.Read notes status = (status ≡ ReadFault) × Notes notes input_
 SaysFault fault.Memory notes status = (status ≡ Memory) × Notes notes memory_message
 
 -- each status by its cause, once the query is read
-abbrev pub EndsBy : Tree → Change → Change → Change → Status → Type 0
-EndsBy tree input out notes Done = (text : List ℕ) × IsFound tree input text × Gets out text × IsStill notes
-EndsBy tree input out notes SinkFault = (text : List ℕ) × IsFound tree input text × GetsPrefix out text × Notes notes output_fault_message
-EndsBy tree input out notes BadText = (k : ℕ) × Fails input (fault.BadLine k) × IsStill out × Notes notes (bad_line_message k)
-EndsBy tree input out notes TooLong = Fails input fault.TooLong × IsStill out × Notes notes too_long_message
-EndsBy tree input out notes ReadFault = Fails input fault.Read × IsStill out × Notes notes input_fault_message
-EndsBy tree input out notes Memory = IsStill out × Notes notes memory_message
-EndsBy tree input out notes Usage = ⊥
-EndsBy tree input out notes Stopped = ⊥
-EndsBy tree input out notes Illegal = ⊥
-EndsBy tree input out notes TooMany = ⊥
+abbrev pub EndsBy : ℕ → Tree → Change → Change → Change → Status → Type 0
+EndsBy most tree input out notes Done = (text : List ℕ) × IsFound most tree input text × Gets out text × IsStill notes
+EndsBy most tree input out notes SinkFault = (text : List ℕ) × IsFound most tree input text × GetsPrefix out text × Notes notes output_fault_message
+EndsBy most tree input out notes BadText = (k : ℕ) × Fails most input (fault.BadLine k) × IsStill out × Notes notes (bad_line_message k)
+EndsBy most tree input out notes TooLong = Fails most input fault.TooLong × IsStill out × Notes notes too_long_message
+EndsBy most tree input out notes ReadFault = Fails most input fault.Read × IsStill out × Notes notes input_fault_message
+EndsBy most tree input out notes Memory = IsStill out × Notes notes memory_message
+EndsBy most tree input out notes Usage = ⊥
+EndsBy most tree input out notes Stopped = ⊥
+EndsBy most tree input out notes Illegal = ⊥
+EndsBy most tree input out notes TooMany = ⊥
 
--- the tokens are a query, and the command ended by it
+-- the words ask for a query, and the command ended by it
 abbrev pub Answers : List Token → Change → Change → Change → Status → Type 0
-Answers tokens input out notes status = (tree : Tree) × IsReading tokens tree × EndsBy tree input out notes status
+Answers words input out notes status =
+    (most : ℕ) × (tokens : List Token) × (tree : Tree) × Asks words most tokens × IsReading tokens tree × EndsBy most tree input out notes status
 
--- each status by its cause: the tokens are no query, memory wants, or as the input is
+-- each status by its cause: the words ask for no query, memory wants, or as the input is
 abbrev pub FindAnswers : List Token → Change → Change → Change → Status → Type 0
-FindAnswers tokens input out notes Usage = ((tree : Tree) → ¬ Reads tokens tree) × IsStill input × IsStill out × Notes notes usage_message
-FindAnswers tokens input out notes Memory = IsStill out × Notes notes memory_message
-FindAnswers tokens input out notes status = Answers tokens input out notes status
+FindAnswers words input out notes Usage =
+    ((most : ℕ) (tokens : List Token) (tree : Tree) → Asks words most tokens → ¬ Reads tokens tree) × IsStill input × IsStill out × Notes notes usage_message
+FindAnswers words input out notes Memory = IsStill out × Notes notes memory_message
+FindAnswers words input out notes status = Answers words input out notes status
 
--- how the command is to end on an input of these bytes
-abbrev pub IsDue : List ℕ → Status → Type 0
-IsDue bytes Done = (length bytes ≤ budget) × IsIndexText bytes
-IsDue bytes BadText = (k : ℕ) × IsShown IsIndexText budget bytes k
-IsDue bytes TooLong = (budget < length bytes) × Begins IsIndexText (take budget bytes)
-IsDue bytes status = ⊥
+-- how the command is to end on an input of these bytes, of which a text may have so many
+abbrev pub IsDue : ℕ → List ℕ → Status → Type 0
+IsDue most bytes Done = (length bytes ≤ most) × IsIndexText bytes
+IsDue most bytes BadText = (k : ℕ) × IsShown IsIndexText most bytes k
+IsDue most bytes TooLong = (most < length bytes) × Begins IsIndexText (take most bytes)
+IsDue most bytes status = ⊥
 
--- where the input tells its bytes, the tokens are a query, memory sufficed and no read failed, the status is the one that is due, unless the sink failed
+-- where the input tells its bytes, the words ask for a query, memory sufficed and no read failed, the status is the one that is due, unless the sink failed
 abbrev pub Decided : List Token → Change → Status → Type 0
-Decided tokens input status =
-    (tree : Tree) (bytes : List ℕ) (due : Status) → Reads tokens tree → input.old ≡ Some bytes → status ≢ Memory → status ≢ ReadFault
-    → IsDue bytes due
+Decided words input status =
+    (most : ℕ) (tokens : List Token) (tree : Tree) (bytes : List ℕ) (due : Status) → Asks words most tokens → Reads tokens tree → input.old ≡ Some bytes → status ≢ Memory → status ≢ ReadFault
+    → IsDue most bytes due
     → (status ≡ due) ⊎ ((due ≡ Done) × (status ≡ SinkFault))

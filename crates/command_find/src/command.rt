@@ -1,15 +1,18 @@
 //! The command `find`.
-ghost use Rattle.std.specs.Prelude.{map};
+ghost use Rattle.std.specs.Prelude.{◌≤◌, map};
 ghost use Rattle.std.specs.String.{string_bytes};
 ghost use Rattle.command_endings.specs.Changes.{change_of};
 ghost use Rattle.index_find.specs.Postfix.{tree_of};
+ghost use Rattle.index_text.specs.Faults.{most_bytes};
 ghost use Rattle.command_endings.specs.Endings.{TellsFault};
 ghost use Rattle.command_find.specs.Find.{PrintsFound, EndsBy, FindAnswers, Decided, SaysFault};
 
 use crate::lines::print_paths;
+use crate::words::read_limit;
 use command_endings::{Ending, Status, ends};
 use firefly_outside::{Sink, Source};
-use index_find::{Index, IndexFault, Query, QueryFault, find, read_index, read_query};
+use index_find::{Index, IndexFault, Query, QueryFault, find, read_query};
+use index_text::read_index_within;
 use std::alloc::Global;
 
 // Prints the paths that the query means in the index.
@@ -41,25 +44,28 @@ fn refused<N: Sink>(notes: &mut N, fault: IndexFault) -> Status
     }
 }
 
-// Answers the query on the index that the input gives.
+// Answers the query on the index that the input gives, which has at most so many bytes.
 fn answer<I: Source, O: Sink, N: Sink>(
     alloc: Global,
     query: &Query,
+    most: usize,
     input: &mut I,
     out: &mut O,
     notes: &mut N,
 ) -> Status
-    ensures ends { EndsBy (tree_of query.now) (change_of I.left I.faults input.old input.new) (change_of O.held O.faults out.old out.new)
+    requires { most ≤ most_bytes }
+    ensures ends { EndsBy most (tree_of query.now) (change_of I.left I.faults input.old input.new) (change_of O.held O.faults out.old out.new)
         (change_of N.held N.faults notes.old notes.new) result }
     ensures told { TellsFault (change_of I.left I.faults input.old input.new) result }
 {
-    match read_index(alloc, input) {
+    match read_index_within(alloc, input, most) {
         Ok(index) => print_found(alloc, query, &index, out, notes),
         Err(fault) => refused(notes, fault),
     }
 }
 
-/// Prints the paths that the words' query means in the index that the input gives. Where the words are no query, nothing is read.
+/// Prints the paths that the words' query means in the index that the input gives, which has at most 67,108,864 bytes, or as many as
+/// stand behind `--limit` in front of the query. Where the words are no such thing, nothing is read.
 pub fn run_find<I: Source, O: Sink, N: Sink>(
     alloc: Global,
     words: &[String],
@@ -72,8 +78,11 @@ pub fn run_find<I: Source, O: Sink, N: Sink>(
     ensures exact { Decided (map string_bytes words.now) (change_of I.left I.faults input.old input.new) result }
     ensures told { TellsFault (change_of I.left I.faults input.old input.new) result }
 {
-    match read_query(alloc, words) {
-        Ok(query) => answer(alloc, &query, input, out, notes),
+    let Some((most, tokens)) = read_limit(words) else {
+        return ends(notes, Ending::Usage);
+    };
+    match read_query(alloc, tokens) {
+        Ok(query) => answer(alloc, &query, most as usize, input, out, notes),
         Err(QueryFault::NotAQuery) => ends(notes, Ending::Usage),
         Err(QueryFault::Memory) => ends(notes, Ending::Memory),
     }

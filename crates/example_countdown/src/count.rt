@@ -50,7 +50,13 @@ pub fn count<R: Threads + Wait + Sync>(
     let layout = Layout::of(threads, 1, 0, 0);
     let left = vec![in alloc; threads]?;
     let (_, closed) = run_package::<Countdown, Counting, R>(
-        rt, alloc, layout, &(), left, false, &Counting,
+        rt,
+        alloc,
+        layout,
+        &(),
+        left,
+        false,
+        &Counting,
     )?;
     Ok(closed)
 }

@@ -9,9 +9,8 @@ mod uses;
 
 use firefly_threads::{WriterSink, write_trace};
 use run::race;
-use std::env;
-use std::io;
 use std::process::ExitCode;
+use std::{env, io};
 
 fn main(rt: HostRuntime) -> io::Result<ExitCode> {
     let closed = race(&rt, rt.alloc())?;
@@ -22,6 +21,9 @@ fn main(rt: HostRuntime) -> io::Result<ExitCode> {
             Err(_) => Ok(ExitCode::FAILURE),
         };
     }
-    println!(rt; "3 runners, {} of them still on the way", closed.values()[0].left)?;
+    println!(rt;
+        "3 runners, {} of them still on the way",
+        closed.values()[0].left
+    )?;
     Ok(ExitCode::SUCCESS)
 }

@@ -65,13 +65,7 @@ impl Work<Race> for Racing {
 
     ghost did = { λ job w n left s. IsPart n s };
 
-    fn work<R: Wait>(
-        &self,
-        rt: &R,
-        _alloc: Global,
-        p: &Package<Race>,
-        me: &mut Thread<Race>,
-    ) {
+    fn work<R: Wait>(&self, rt: &R, _alloc: Global, p: &Package<Race>, me: &mut Thread<Race>) {
         if me.number() == 0 {
             begin(rt, p, me);
             see(rt, p, me);
@@ -93,8 +87,6 @@ pub fn race<R: Threads + Wait + Sync>(rt: &R, alloc: Global) -> Result<Closed<Ra
             left: 3
         },
     ]?;
-    let (_, closed) = run_package::<Race, Racing, R>(
-        rt, alloc, layout, &(), track, true, &Racing,
-    )?;
+    let (_, closed) = run_package::<Race, Racing, R>(rt, alloc, layout, &(), track, true, &Racing)?;
     Ok(closed)
 }

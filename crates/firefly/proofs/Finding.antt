@@ -13,7 +13,6 @@ use Rattle.walker.proofs.ListLemmas.{Contains-map, Contains-unmap}
 use Rattle.index_rule.specs.Counting.{in_all, in_one}
 use Rattle.index_print.specs.Text.{index_text}
 use Rattle.index_table.specs.Rows.{HasFile, HasPath, paths_of}
-use Rattle.index_text.specs.Faults.{budget}
 use Rattle.index_text.specs.Laws.{AreFiles}
 use Rattle.index_text.specs.Texts.{ReadsAs}
 use Rattle.index_text.proofs.OneReading.{one_reading}
@@ -94,9 +93,9 @@ module _ (t : Told) (root : Path) (index : Index) (x : IsTreeIndex t root index)
         λ h. ⊎_elim (λ (k : MeansFile t root y p). inl (a.1 k)) (λ (k : MeansFile t root z p). inr (b.1 k)) h,
       )
 
-  names : ReadsAs (index_text index) index.rows index.skipped → (query : Tree) (input : Change) (text : List ℕ) → input.old ≡ Some (index_text index) → IsFound query input text → NamesFiles t root query text
-  names read query input text old f =
-      let own = subst (λ (o : Option (List ℕ)). IfSome o (λ bytes. (length bytes ≤ budget) × ReadsAs bytes f.rows f.read.0)) old f.read.1 in
+  names : ReadsAs (index_text index) index.rows index.skipped → (most : ℕ) (query : Tree) (input : Change) (text : List ℕ) → input.old ≡ Some (index_text index) → IsFound most query input text → NamesFiles t root query text
+  names read most query input text old f =
+      let own = subst (λ (o : Option (List ℕ)). IfSome o (λ bytes. (length bytes ≤ most) × ReadsAs bytes f.rows f.read.0)) old f.read.1 in
       let same : f.rows ≡ index.rows = (one_reading (index_text index) f.rows index.rows f.read.0 index.skipped own.1 read).0 in
       let meant : AreMeant index.rows query f.paths = subst (λ (r : List Row). AreMeant r query f.paths) same f.meant in
       record {

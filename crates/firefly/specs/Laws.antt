@@ -68,5 +68,5 @@ abbrev pub FindsIndexed : Type 0
 FindsIndexed =
     (t : Told) (root : Path) (index : Index) (x : IsTreeIndex t root index) → AreFiles x.files
     → ReadsAs (index_text index) index.rows index.skipped
-    × ((query : Tree) (input : Change) (text : List ℕ) → input.old ≡ Some (index_text index) → IsFound query input text
+    × ((most : ℕ) (query : Tree) (input : Change) (text : List ℕ) → input.old ≡ Some (index_text index) → IsFound most query input text
     → NamesFiles t root query text)

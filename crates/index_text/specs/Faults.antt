@@ -1,5 +1,5 @@
 -- Why an index isn't read.
-use Rattle.std.specs.Prelude.{◌≡◌, ◌≢◌, ℕ, ◌<◌, ◌≤◌, List, length, take, IfErr, IfSome, OnOk, Result}
+use Rattle.std.specs.Prelude.{◌≡◌, ◌≢◌, ℕ, ◌<◌, ◌≤◌, ◌^◌, List, length, take, IfErr, IfSome, OnOk, Result}
 use Rattle.std.specs.declared.option.Option.{Option}
 use Rattle.firefly_outside.specs.Causes.{Rose}
 use Rattle.trace_core.specs.Prefixes.{Begins}
@@ -10,16 +10,22 @@ use Rattle.index_text.specs.declared.fault.Halt.{Halt}
 use Rattle.index_text.specs.declared.fault.Halt.TheVariants as halts
 use Rattle.index_text.specs.Texts.{IsIndexText}
 
--- how many bytes a text may have
+-- how many bytes a text may have where nothing else is said, and at most
 abbrev pub budget : ℕ
 budget = 67108864
 
--- why the index with these bytes wasn't read
+abbrev pub most_bytes : ℕ
+most_bytes = 2 ^ 40
+
+-- why the index with these bytes wasn't read as a text of at most so many
+abbrev pub HasReasonIn : ℕ → Option (List ℕ) → ℕ → ℕ → IndexFault → Type 0
+HasReasonIn most left before now Memory = Unit {0}
+HasReasonIn most left before now (BadLine k) = IfSome left (λ input. IsShown IsIndexText most input k)
+HasReasonIn most left before now TooLong = IfSome left (λ input. (most < length input) × Begins IsIndexText (take most input))
+HasReasonIn most left before now Read = Rose before now
+
 abbrev pub HasReason : Option (List ℕ) → ℕ → ℕ → IndexFault → Type 0
-HasReason left before now Memory = Unit {0}
-HasReason left before now (BadLine k) = IfSome left (λ input. IsShown IsIndexText budget input k)
-HasReason left before now TooLong = IfSome left (λ input. (budget < length input) × Begins IsIndexText (take budget input))
-HasReason left before now Read = Rose before now
+HasReason = HasReasonIn budget
 
 -- A failed read is told: the count of faults never falls, and rises only where the call tells a failed read.
 pub record IsTold {T : Type 0} (before now : ℕ) (result : Result T IndexFault) : Type 0 where

@@ -1,13 +1,13 @@
 //! The bytes of a source, as far as they are needed.
 ghost use Rattle.std.specs.Prelude.{◌≡◌, ◌<◌, ◌≤◌, length, IfOk, IfErr, IfSome};
-ghost use Rattle.index_text.specs.Faults.{budget, HasReason, IsTold};
+ghost use Rattle.index_text.specs.Faults.{HasReasonIn, IsTold};
 ghost use Rattle.index_text.specs.Input.{IsTaken, Takes};
 
 use crate::fault::IndexFault;
 use firefly_outside::Source;
 use std::alloc::Global;
 
-/// How many bytes a text may have.
+/// How many bytes a text may have where nothing else is said.
 pub const BUDGET: usize = 67_108_864;
 
 // How many bytes are asked for at once.
@@ -35,15 +35,19 @@ fn take_piece<I: Source>(
     }
 }
 
-/// All bytes of the source, or else more than the budget.
-pub fn take_input<I: Source>(alloc: Global, input: &mut I) -> Result<Vec<u8>, IndexFault>
-    ensures bytes { IfOk result (λ v. IfSome (I.left input.old) (IsTaken v.items)) }
-    ensures fault { IfErr result (HasReason (I.left input.old) (I.faults input.old) (I.faults input.new)) }
+/// All bytes of the source, or else more than a text may have.
+pub fn take_input<I: Source>(
+    alloc: Global,
+    input: &mut I,
+    most: usize,
+) -> Result<Vec<u8>, IndexFault>
+    ensures bytes { IfOk result (λ v. IfSome (I.left input.old) (IsTaken most v.items)) }
+    ensures fault { IfErr result (HasReasonIn most (I.left input.old) (I.faults input.old) (I.faults input.new)) }
     ensures told { IsTold (I.faults input.old) (I.faults input.new) result }
 {
     let mut bytes = Vec::new(alloc);
     let mut piece = [0; PIECE];
-    while bytes.len() <= BUDGET {
+    while bytes.len() <= most {
         if !take_piece(input, &mut piece, &mut bytes)? {
             return Ok(bytes);
         }

@@ -1,6 +1,6 @@
 //! An index from a source.
-ghost use Rattle.std.specs.Prelude.{◌≡◌, ◌<◌, ◌≤◌, length, IfOk, IfErr, IfSome};
-ghost use Rattle.index_text.specs.Faults.{budget, HasReason, IsTold, whole_fault_of, prefix_fault_of};
+ghost use Rattle.std.specs.Prelude.{◌≡◌, ◌<◌, ◌≤◌, ◌^◌, length, IfOk, IfErr, IfSome};
+ghost use Rattle.index_text.specs.Faults.{budget, most_bytes, HasReason, HasReasonIn, IsTold, whole_fault_of, prefix_fault_of};
 ghost use Rattle.index_text.specs.Input.{IsDue};
 ghost use Rattle.index_text.specs.Texts.{ReadsAs};
 
@@ -34,10 +34,11 @@ fn prefix_fault(halt: Halt) -> IndexFault
 }
 
 // The index that all bytes of a source are the text of.
-fn read_whole(alloc: Global, bytes: &[u8]) -> Result<Index, IndexFault>
-    requires { length bytes.now ≤ budget }
+fn read_whole(alloc: Global, bytes: &[u8], most: usize) -> Result<Index, IndexFault>
+    requires few { length bytes.now ≤ most }
+    requires most { most ≤ most_bytes }
     ensures index { IfOk result (λ i. ReadsAs bytes.now i.rows i.skipped) }
-    ensures fault { IfErr result (IsDue bytes.now) }
+    ensures fault { IfErr result (IsDue most bytes.now) }
 {
     match parse(alloc, bytes) {
         Ok(index) => Ok(index),
@@ -46,11 +47,12 @@ fn read_whole(alloc: Global, bytes: &[u8]) -> Result<Index, IndexFault>
 }
 
 // Why nothing is read of a source that has more bytes than a text may have, of which these are the first.
-fn prefix_reason(alloc: Global, bytes: &[u8]) -> IndexFault
-    requires { budget < length bytes.now }
-    ensures { IsDue bytes.now result }
+fn prefix_reason(alloc: Global, bytes: &[u8], most: usize) -> IndexFault
+    requires many { most < length bytes.now }
+    requires most { most ≤ most_bytes }
+    ensures { IsDue most bytes.now result }
 {
-    let halt = match parse(alloc, &bytes[..BUDGET]) {
+    let halt = match parse(alloc, &bytes[..most]) {
         Ok(_) => return IndexFault::TooLong,
         Err(halt) => halt,
     };
@@ -67,10 +69,24 @@ pub fn read_index<I: Source>(alloc: Global, input: &mut I) -> Result<Index, Inde
     ensures fault { IfErr result (HasReason (I.left input.old) (I.faults input.old) (I.faults input.new)) }
     ensures told { IsTold (I.faults input.old) (I.faults input.new) result }
 {
-    let bytes = take_input(alloc, input)?;
-    if bytes.len() <= BUDGET {
-        read_whole(alloc, &bytes)
+    read_index_within(alloc, input, BUDGET)
+}
+
+/// As `read_index`, for texts of at most so many bytes.
+pub fn read_index_within<I: Source>(
+    alloc: Global,
+    input: &mut I,
+    most: usize,
+) -> Result<Index, IndexFault>
+    requires { most ≤ most_bytes }
+    ensures index { IfOk result (λ i. IfSome (I.left input.old) (λ bytes. (length bytes ≤ most) × ReadsAs bytes i.rows i.skipped)) }
+    ensures fault { IfErr result (HasReasonIn most (I.left input.old) (I.faults input.old) (I.faults input.new)) }
+    ensures told { IsTold (I.faults input.old) (I.faults input.new) result }
+{
+    let bytes = take_input(alloc, input, most)?;
+    if bytes.len() <= most {
+        read_whole(alloc, &bytes, most)
     } else {
-        Err(prefix_reason(alloc, &bytes))
+        Err(prefix_reason(alloc, &bytes, most))
     }
 }
